@@ -1,0 +1,29 @@
+-- Words on lists.
+use Rattle.std.specs.Prelude.{ℕ, ◌+◌, ◌==◌, Bool, true, ◌&&◌, List, [], ◌∷◌, ◌++◌, count_by, fold, if◌then◌else◌}
+use Rattle.std.specs.List.{range_with_len, list_all, list_any}
+
+-- 0, 1 and so on, n numbers
+abbrev pub numbers_below : ℕ → List ℕ
+numbers_below n = range_with_len 0 n
+
+-- the list has the number
+abbrev pub has : List ℕ → ℕ → Bool
+has ns n = list_any (λ m. m == n) ns
+
+-- each element is related to each later one
+abbrev pub each_two : {X : Type 0} → (X → X → Bool) → List X → Bool
+each_two related [] = true
+each_two related (x ∷ xs) = list_all (related x) xs && each_two related xs
+
+-- how many pairs of an element and a later one are related
+abbrev pub count_pairs : {X : Type 0} → (X → X → Bool) → List X → ℕ
+count_pairs related [] = 0
+count_pairs related (x ∷ xs) = count_by (related x) xs + count_pairs related xs
+
+-- the list with x at its end, if it has none like it
+abbrev pub with_new : {X : Type 0} → (X → X → Bool) → List X → X → List X
+with_new same xs x = if list_any (λ y. same y x) xs then xs else xs ++ x ∷ []
+
+-- each element once, in the order of first mention
+abbrev pub distinct : {X : Type 0} → (X → X → Bool) → List X → List X
+distinct same xs = fold (with_new same) [] xs

@@ -1,0 +1,10 @@
+pub mod Digits
+pub mod Feeding
+pub mod Finding
+pub mod Giving
+pub mod Lines
+pub mod Runs
+pub mod Steps
+pub mod Unlimited
+pub mod Windows
+pub mod Written

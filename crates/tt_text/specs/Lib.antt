@@ -1,0 +1,10 @@
+pub mod Fed
+pub mod Feeds
+pub mod Found
+pub mod Lines
+pub mod Numbers
+pub mod Pieces
+pub mod Reading
+pub mod Sources
+pub mod Texts
+pub mod Tokens

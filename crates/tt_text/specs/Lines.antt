@@ -1,0 +1,39 @@
+-- The text that writes pieces: lines of them, as all three formats are written.
+use Rattle.std.specs.Prelude.{ℕ, ◌<◌, ◌^◌, ◌≡◌, false, List, [], ◌∷◌, ◌++◌}
+use Rattle.std.specs.Fmt.{decimal}
+use Rattle.tt_text.specs.Tokens.{IsToken, is_separator}
+use Rattle.tt_text.specs.Pieces.{Piece, Text, Number, Index}
+
+abbrev pub text_of : Piece → List ℕ
+text_of (Text text) = text
+text_of (Number n) = decimal n
+text_of (Index letter n) = letter ∷ decimal n
+
+-- a line: its pieces with one space between two, and a line feed
+abbrev pub line_text : List Piece → List ℕ
+line_text [] = 10 ∷ []
+line_text (p ∷ []) = text_of p ++ 10 ∷ []
+line_text (p ∷ q ∷ ps) = text_of p ++ 32 ∷ line_text (q ∷ ps)
+
+abbrev pub lines_text : List (List Piece) → List ℕ
+lines_text [] = []
+lines_text (l ∷ ls) = line_text l ++ lines_text ls
+
+-- the pieces of lines, one line after the other
+abbrev pub all_pieces : List (List Piece) → List Piece
+all_pieces [] = []
+all_pieces (l ∷ ls) = l ++ all_pieces ls
+
+-- what can be written as a token
+abbrev pub IsWritable : Piece → Type 0
+IsWritable (Text text) = IsToken text
+IsWritable (Number n) = n < 2 ^ 64
+IsWritable (Index letter n) = (is_separator letter ≡ false) × (n < 2 ^ 64)
+
+abbrev pub AreWritable : List Piece → Type 0
+AreWritable [] = Unit {0}
+AreWritable (p ∷ ps) = IsWritable p × AreWritable ps
+
+abbrev pub LinesWritable : List (List Piece) → Type 0
+LinesWritable [] = Unit {0}
+LinesWritable (l ∷ ls) = AreWritable l × LinesWritable ls

@@ -1,0 +1,91 @@
+//! The tokens of a text, from left to right.
+
+ghost use Rattle.std.specs.Prelude.{◌≡◌, ◌≤◌, ◌∷◌, [], length, MatchOption, IfSome};
+ghost use Rattle.std.specs.List.{prefix_len};
+ghost use Rattle.tt_text.specs.Tokens.{is_separator, in_token, tokens_of, place, IsToken};
+
+use std::marker::Model;
+
+/// A maximal run of bytes that are no separators, and its offset in the text.
+#[derive(Clone, Copy, Debug)]
+pub struct Token<'a> {
+    pub bytes: &'a [u8],
+    pub at: usize,
+}
+
+/// The tokens of a text that are still to come.
+#[derive(Drop)]
+pub struct Tokens<'a> {
+    rest: &'a [u8],
+    at: usize,
+}
+
+impl<'a> Model for Tokens<'a> {
+    ghost use Rattle.std.specs.Prelude.{◌+◌, ◌^◌, ◌<◌, List, false, length};
+    ghost use Rattle.tt_text.specs.Tokens.{Placed, tokens_from};
+
+    ghost Value = { List Placed };
+
+    ghost view = { λ a. tokens_from false a.at a.rest.now };
+
+    ghost invariant = { λ a. a.at + length a.rest.now < 2 ^ 64 };
+}
+
+fn is_space(byte: u8) -> bool
+    ensures { result ≡ is_separator byte }
+{
+    matches!(byte, b' ' | b'\t'..=b'\r')
+}
+
+/// How many separators the bytes begin with.
+pub fn gap_len(bytes: &[u8]) -> usize
+    ensures len { result ≡ prefix_len is_separator bytes.now }
+    ensures within { result ≤ length bytes.now }
+{
+    for (i, byte) in bytes.iter().enumerate() {
+        if !is_space(*byte) {
+            return i;
+        }
+    }
+    bytes.len()
+}
+
+/// How many bytes that are no separators the bytes begin with.
+pub fn token_len(bytes: &[u8]) -> usize
+    ensures len { result ≡ prefix_len in_token bytes.now }
+    ensures within { result ≤ length bytes.now }
+{
+    for (i, byte) in bytes.iter().enumerate() {
+        if is_space(*byte) {
+            return i;
+        }
+    }
+    bytes.len()
+}
+
+impl<'a> Tokens<'a> {
+    /// All tokens of a text.
+    pub fn new(bytes: &'a [u8]) -> Self
+        ensures { result ≡ tokens_of bytes.now }
+    {
+        Tokens { rest: bytes, at: 0 }
+    }
+
+    /// The next token, `None` once there is none.
+    pub fn next(&mut self) -> Option<Token<'a>>
+        ensures gives { MatchOption result ((self.old ≡ []) × (self.new ≡ [])) (λ t. self.old ≡ place t ∷ self.new) }
+        ensures token { IfSome result (λ t. IsToken t.bytes.now) }
+    {
+        let gap = gap_len(self.rest);
+        let (_, begun) = self.rest.split_at(gap);
+        let at = self.at + gap;
+        let len = token_len(begun);
+        let (bytes, rest) = begun.split_at(len);
+        self.rest = rest;
+        self.at = at + len;
+        if len == 0 {
+            return None;
+        }
+        Some(Token { bytes, at })
+    }
+}
