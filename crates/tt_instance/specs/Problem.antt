@@ -1,0 +1,35 @@
+-- An instance of curriculum-based course timetabling: what a `.ctt` file of the Second International Timetabling
+-- Competition says (track 3, technical report of Di Gaspero, McCollum and Schaerf, section 3).
+use Rattle.std.specs.Prelude.{ℕ, List}
+
+pub record Course : Type 0 where
+  pub id : List ℕ
+  pub teacher : List ℕ
+  pub lectures : ℕ
+  pub min_days : ℕ
+  pub students : ℕ
+
+pub record Room : Type 0 where
+  pub id : List ℕ
+  pub capacity : ℕ
+
+-- the members are numbers of courses, each once, in the order of their first mention
+pub record Curriculum : Type 0 where
+  pub id : List ℕ
+  pub members : List ℕ
+
+-- a course that has no lecture in a period of a day
+pub record Bar : Type 0 where
+  pub course : ℕ
+  pub day : ℕ
+  pub period : ℕ
+
+-- an instance; courses, rooms, curricula, days and periods of a day are numbered from 0
+pub record Problem : Type 0 where
+  pub name : List (List ℕ)
+  pub days : ℕ
+  pub periods : ℕ
+  pub courses : List Course
+  pub rooms : List Room
+  pub curricula : List Curriculum
+  pub bars : List Bar

@@ -1,0 +1,254 @@
+-- What reading an instance gives: its parts, or the first fault from the left. All checks of one token come before the next token.
+use Rattle.std.specs.Prelude.{◌≡◌, ℕ, zero, suc, ◌+◌, ◌*◌, ◌-◌, ◌==◌, nat_lt, Bool, true, false, if◌then◌else◌, List, [], ◌∷◌, ◌++◌, length, Option, Some, None, Result, Ok, Err}
+use Rattle.tt_lists.specs.Words.{with_new}
+use Rattle.tt_text.specs.Tokens.{Placed, tokens_of}
+use Rattle.tt_text.specs.Texts.{is_text, has_name, index_of_name}
+use Rattle.tt_text.specs.Numbers.{number_of}
+use Rattle.tt_text.specs.Reading.{◌>>=◌, FailsBut, GivesBut, token_or}
+use Rattle.tt_text.specs.declared.numbers.NumberFault.{NumberFault}
+use Rattle.tt_text.specs.declared.numbers.NumberFault.TheVariants as number
+use Rattle.tt_instance.specs.declared.fault.Word.{Word}
+use Rattle.tt_instance.specs.declared.fault.Word.TheVariants as word
+use Rattle.tt_instance.specs.declared.fault.InstanceFault.{InstanceFault}
+use Rattle.tt_instance.specs.declared.fault.InstanceFault.TheVariants as fault
+use Rattle.tt_instance.specs.Words.{word_text}
+use Rattle.tt_instance.specs.Problem.{Course, Room, Curriculum, Bar, Problem}
+use Rattle.tt_instance.specs.Limits.{ids_of, room_ids_of, curriculum_ids_of, lectures_of, same_bar}
+
+-- want of memory says nothing of the bytes
+abbrev pub is_silent : InstanceFault → Bool
+is_silent fault.OutOfMemory = true
+is_silent _ = false
+
+abbrev pub Fails : {Y : Type 0} → InstanceFault → Result Y InstanceFault → Type 0
+Fails e read = FailsBut is_silent e read
+
+abbrev pub Gives : {X Y : Type 0} → (X → Y) → Result X InstanceFault → Result Y InstanceFault → Type 0
+Gives view result read = GivesBut is_silent view result read
+
+-- the next token of a text of end bytes
+abbrev pub token_at : ℕ → List Placed → Result (Placed × List Placed) InstanceFault
+token_at end ts = token_or (fault.Ended end) ts
+
+-- a fixed word
+unfoldable pub word_at : ℕ → Word → List Placed → Result (List Placed) InstanceFault
+word_at end w ts = do
+  t ← token_at end ts
+  if is_text (word_text w) t.0.text then Ok t.1 else Err (fault.Expected w t.0.at)
+
+-- the fault of a token that is to be a number up to a limit
+abbrev pub numbered : ℕ → Result ℕ NumberFault → Result ℕ InstanceFault
+numbered at (Ok n) = Ok n
+numbered at (Err number.NotANumber) = Err (fault.NotANumber at)
+numbered at (Err number.TooLarge) = Err (fault.OverLimit at)
+
+-- the fault of a token that is to be a number below a bound
+abbrev pub ranged : ℕ → Result ℕ NumberFault → Result ℕ InstanceFault
+ranged at (Ok n) = Ok n
+ranged at (Err number.NotANumber) = Err (fault.NotANumber at)
+ranged at (Err number.TooLarge) = Err (fault.OutOfRange at)
+
+-- a number up to a limit
+unfoldable pub limited_at : ℕ → ℕ → List Placed → Result (ℕ × List Placed) InstanceFault
+limited_at end limit ts = do
+  t ← token_at end ts
+  n ← numbered t.0.at (number_of limit t.0.text)
+  Ok (n, t.1)
+
+-- a number below a bound
+unfoldable pub below_at : ℕ → ℕ → List Placed → Result (ℕ × List Placed) InstanceFault
+below_at end bound ts = do
+  t ← token_at end ts
+  n ← ranged t.0.at (number_of (bound - 1) t.0.text)
+  Ok (n, t.1)
+
+-- the test of a name that must be new
+abbrev pub new_name : List (List ℕ) → Placed → Result (Unit {0}) InstanceFault
+new_name names t = if has_name names t.text then Err (fault.Repeated t.at) else Ok tt
+
+-- ---- courses and rooms
+
+-- one more course behind those before
+unfoldable pub course_at : ℕ → List Course → List Placed → Result (List Course × List Placed) InstanceFault
+course_at end before ts = do
+  id ← token_at end ts
+  new_name (ids_of before) id.0 >>= λ (_ : Unit {0}). do
+    teacher ← token_at end id.1
+    lectures ← limited_at end (4096 - lectures_of before) teacher.1
+    min_days ← limited_at end 512 lectures.1
+    students ← limited_at end 1000000 min_days.1
+    Ok (before ++ record { id = id.0.text; teacher = teacher.0.text; lectures = lectures.0; min_days = min_days.0; students = students.0 } ∷ [], students.1)
+
+-- so many more courses
+unfoldable pub courses_at : ℕ → ℕ → List Course → List Placed → Result (List Course × List Placed) InstanceFault
+courses_at end zero before ts = Ok (before, ts)
+courses_at end (suc n) before ts = do
+  c ← course_at end before ts
+  courses_at end n c.0 c.1
+
+-- one more room behind those before
+unfoldable pub room_at : ℕ → List Room → List Placed → Result (List Room × List Placed) InstanceFault
+room_at end before ts = do
+  id ← token_at end ts
+  new_name (room_ids_of before) id.0 >>= λ (_ : Unit {0}). do
+    capacity ← limited_at end 1000000 id.1
+    Ok (before ++ record { id = id.0.text; capacity = capacity.0 } ∷ [], capacity.1)
+
+-- so many more rooms
+unfoldable pub rooms_at : ℕ → ℕ → List Room → List Placed → Result (List Room × List Placed) InstanceFault
+rooms_at end zero before ts = Ok (before, ts)
+rooms_at end (suc n) before ts = do
+  r ← room_at end before ts
+  rooms_at end n r.0 r.1
+
+-- ---- curricula and unavailabilities
+
+abbrev pub known : ℕ → Option ℕ → Result ℕ InstanceFault
+known at None = Err (fault.UnknownCourse at)
+known at (Some i) = Ok i
+
+-- a course by its name
+unfoldable pub named_at : ℕ → List (List ℕ) → List Placed → Result (ℕ × List Placed) InstanceFault
+named_at end ids ts = do
+  t ← token_at end ts
+  i ← known t.0.at (index_of_name ids t.0.text)
+  Ok (i, t.1)
+
+-- one more member, if it is new
+unfoldable pub member_at : ℕ → List (List ℕ) → List ℕ → List Placed → Result (List ℕ × List Placed) InstanceFault
+member_at end ids before ts = do
+  c ← named_at end ids ts
+  Ok (with_new (λ a b. a == b) before c.0, c.1)
+
+-- so many more members
+unfoldable pub members_at : ℕ → List (List ℕ) → ℕ → List ℕ → List Placed → Result (List ℕ × List Placed) InstanceFault
+members_at end ids zero before ts = Ok (before, ts)
+members_at end ids (suc n) before ts = do
+  m ← member_at end ids before ts
+  members_at end ids n m.0 m.1
+
+-- one more curriculum behind those before
+unfoldable pub curriculum_at : ℕ → List (List ℕ) → List Curriculum → List Placed → Result (List Curriculum × List Placed) InstanceFault
+curriculum_at end ids before ts = do
+  id ← token_at end ts
+  new_name (curriculum_ids_of before) id.0 >>= λ (_ : Unit {0}). do
+    count ← limited_at end 4096 id.1
+    members ← members_at end ids count.0 [] count.1
+    Ok (before ++ record { id = id.0.text; members = members.0 } ∷ [], members.1)
+
+-- so many more curricula
+unfoldable pub curricula_at : ℕ → List (List ℕ) → ℕ → List Curriculum → List Placed → Result (List Curriculum × List Placed) InstanceFault
+curricula_at end ids zero before ts = Ok (before, ts)
+curricula_at end ids (suc n) before ts = do
+  q ← curriculum_at end ids before ts
+  curricula_at end ids n q.0 q.1
+
+-- one more unavailability, if it is new
+unfoldable pub bar_at : ℕ → List (List ℕ) → ℕ → ℕ → List Bar → List Placed → Result (List Bar × List Placed) InstanceFault
+bar_at end ids days periods before ts = do
+  course ← named_at end ids ts
+  day ← below_at end days course.1
+  period ← below_at end periods day.1
+  Ok (with_new same_bar before (record { course = course.0; day = day.0; period = period.0 }), period.1)
+
+-- so many more unavailability lines
+unfoldable pub bars_at : ℕ → List (List ℕ) → ℕ → ℕ → ℕ → List Bar → List Placed → Result (List Bar × List Placed) InstanceFault
+bars_at end ids days periods zero before ts = Ok (before, ts)
+bars_at end ids days periods (suc n) before ts = do
+  b ← bar_at end ids days periods before ts
+  bars_at end ids days periods n b.0 b.1
+
+-- ---- the name and the header
+
+-- the tokens before the word that ends the name
+unfoldable pub name_at : ℕ → List (List ℕ) → List Placed → Result (List (List ℕ) × List Placed) InstanceFault
+name_at end before [] = Err (fault.Ended end)
+name_at end before (t ∷ ts) =
+    if is_text (word_text word.Courses) t.text then Ok (before, ts) else name_at end (before ++ t.text ∷ []) ts
+
+-- the numbers of a header
+pub record Counts : Type 0 where
+  pub courses : ℕ
+  pub rooms : ℕ
+  pub days : ℕ
+  pub periods : ℕ
+  pub curricula : ℕ
+  pub bars : ℕ
+
+-- a fixed word, and a number up to a limit
+unfoldable pub counted_at : ℕ → Word → ℕ → List Placed → Result (ℕ × List Placed) InstanceFault
+counted_at end w limit ts = do
+  rest ← word_at end w ts
+  limited_at end limit rest
+
+-- the days
+unfoldable pub days_at : ℕ → List Placed → Result (ℕ × List Placed) InstanceFault
+days_at end ts = do
+  rest ← word_at end word.Days ts
+  t ← token_at end rest
+  n ← numbered t.0.at (number_of 64 t.0.text)
+  if n == 0 then Err (fault.OutOfRange t.0.at) else Ok (n, t.1)
+
+-- the periods of a day, where so many pairs of a course and a room have cells
+unfoldable pub periods_at : ℕ → ℕ → ℕ → List Placed → Result (ℕ × List Placed) InstanceFault
+periods_at end pairs days ts = do
+  rest ← word_at end word.PeriodsPerDay ts
+  t ← token_at end rest
+  n ← numbered t.0.at (number_of 64 t.0.text)
+  if nat_lt 512 (days * n) then Err (fault.OverLimit t.0.at)
+    else (if nat_lt 67108864 (pairs * (days * n)) then Err (fault.OverLimit t.0.at)
+    else (if n == 0 then Err (fault.OutOfRange t.0.at) else Ok (n, t.1)))
+
+-- the header behind the word that ends the name
+unfoldable pub header_at : ℕ → List Placed → Result (Counts × List Placed) InstanceFault
+header_at end ts = do
+  courses ← limited_at end 2048 ts
+  rooms ← counted_at end word.Rooms 512 courses.1
+  days ← days_at end rooms.1
+  periods ← periods_at end (courses.0 * rooms.0) days.0 days.1
+  curricula ← counted_at end word.Curricula 8192 periods.1
+  bars ← counted_at end word.Constraints 65536 curricula.1
+  Ok (record { courses = courses.0; rooms = rooms.0; days = days.0; periods = periods.0; curricula = curricula.0; bars = bars.0 }, bars.1)
+
+-- ---- the whole
+
+-- the lists behind the header
+pub record Sections : Type 0 where
+  pub courses : List Course
+  pub rooms : List Room
+  pub curricula : List Curriculum
+  pub bars : List Bar
+
+-- the courses and rooms behind the header
+unfoldable pub places_at : ℕ → Counts → List Placed → Result ((List Course × List Room) × List Placed) InstanceFault
+places_at end counts ts = do
+  ts1 ← word_at end word.CoursesPart ts
+  courses ← courses_at end counts.courses [] ts1
+  ts2 ← word_at end word.RoomsPart courses.1
+  rooms ← rooms_at end counts.rooms [] ts2
+  Ok ((courses.0, rooms.0), rooms.1)
+
+-- the curricula and unavailabilities behind them, up to the end
+unfoldable pub groups_at : ℕ → Counts → List (List ℕ) → List Placed → Result ((List Curriculum × List Bar) × List Placed) InstanceFault
+groups_at end counts ids ts = do
+  ts1 ← word_at end word.CurriculaPart ts
+  curricula ← curricula_at end ids counts.curricula [] ts1
+  ts2 ← word_at end word.UnavailabilityPart curricula.1
+  bars ← bars_at end ids counts.days counts.periods counts.bars [] ts2
+  ts3 ← word_at end word.End bars.1
+  Ok ((curricula.0, bars.0), ts3)
+
+unfoldable pub sections_at : ℕ → Counts → List Placed → Result (Sections × List Placed) InstanceFault
+sections_at end counts ts = do
+  places ← places_at end counts ts
+  groups ← groups_at end counts (ids_of places.0.0) places.1
+  Ok (record { courses = places.0.0; rooms = places.0.1; curricula = groups.0.0; bars = groups.0.1 }, groups.1)
+
+-- the instance that bytes spell, or their first fault
+unfoldable pub instance_of : List ℕ → Result Problem InstanceFault
+instance_of bytes = do
+  ts1 ← word_at (length bytes) word.Name (tokens_of bytes)
+  name ← name_at (length bytes) [] ts1
+  header ← header_at (length bytes) name.1
+  sections ← sections_at (length bytes) header.0 header.1
+  Ok (record { name = name.0; days = header.0.days; periods = header.0.periods; courses = sections.0.courses; rooms = sections.0.rooms; curricula = sections.0.curricula; bars = sections.0.bars })

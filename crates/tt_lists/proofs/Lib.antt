@@ -1,0 +1,5 @@
+pub mod All
+pub mod Members
+pub mod Numbers
+pub mod Pairs
+pub mod Sums
