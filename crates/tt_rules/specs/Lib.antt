@@ -1,0 +1,3 @@
+pub mod Hard
+pub mod Score
+pub mod Soft

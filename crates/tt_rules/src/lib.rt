@@ -1,0 +1,6 @@
+//! The validator: the score of a timetable.
+#![tactic(auto)]
+
+mod counts;
+
+pub use counts::Score;
