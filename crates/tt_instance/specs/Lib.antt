@@ -1,8 +1,10 @@
 pub mod Cells
 pub mod Courses
+pub mod Indexed
 pub mod Limits
 pub mod Problem
 pub mod Reading
+pub mod Seen
 pub mod Spelling
 pub mod Words
 pub mod Writing

@@ -196,8 +196,8 @@ periods_at end pairs days ts = do
   t ← token_at end rest
   n ← numbered t.0.at (number_of 64 t.0.text)
   if nat_lt 512 (days * n) then Err (fault.OverLimit t.0.at)
-    else (if nat_lt 67108864 (pairs * (days * n)) then Err (fault.OverLimit t.0.at)
-    else (if n == 0 then Err (fault.OutOfRange t.0.at) else Ok (n, t.1)))
+      else (if nat_lt 67108864 (pairs * (days * n)) then Err (fault.OverLimit t.0.at)
+      else (if n == 0 then Err (fault.OutOfRange t.0.at) else Ok (n, t.1)))
 
 -- the header behind the word that ends the name
 unfoldable pub header_at : ℕ → List Placed → Result (Counts × List Placed) InstanceFault

@@ -1,8 +1,22 @@
 //! Instances of curriculum-based course timetabling, and the files that spell them.
 #![tactic(auto)]
 
+mod bars;
 mod cell;
+mod conflicts;
+mod courses;
+mod curricula;
 mod fault;
+mod fields;
+mod header;
+mod instance;
+mod marks;
+mod names;
+mod parts;
+mod rooms;
+mod rows;
+mod writing;
 
 pub use cell::{Cell, Slot};
 pub use fault::{InstanceFault, Word};
+pub use instance::{Instance, read_instance, write_instance};

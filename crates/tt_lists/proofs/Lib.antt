@@ -1,5 +1,9 @@
 pub mod All
+pub mod Below
+pub mod Distinct
 pub mod Members
 pub mod Numbers
 pub mod Pairs
 pub mod Sums
+pub mod Tests
+pub mod Twos

@@ -9,5 +9,4 @@ ghost use Rattle.std.specs.List.{AllByRecursion};
 pub fn sums_spread()
     ensures { (f : ℕ → ℕ) (w : ℕ → ℕ → ℕ) (xs places : List ℕ) →
         AllByRecursion (λ x. f x ≤ sum_by (λ y. w y x) places) xs → sum_by f xs ≤ sum_by (λ y. sum_by (w y) xs) places }
-{
-}
+{}

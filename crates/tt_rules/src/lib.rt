@@ -1,6 +1,18 @@
 //! The validator: the score of a timetable.
 #![tactic(auto)]
 
+mod availability;
+mod capacity;
+mod compactness;
+mod conflicts;
 mod counts;
+mod lectures;
+mod marks;
+mod occupancy;
+mod scoring;
+mod slots;
+mod stability;
+mod working_days;
 
 pub use counts::Score;
+pub use scoring::score;

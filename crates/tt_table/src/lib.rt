@@ -2,8 +2,12 @@
 #![tactic(auto)]
 
 mod fault;
+mod reading;
 mod table;
+mod writing;
 
 pub use fault::{PushFault, SolutionFault};
+pub use reading::read_solution;
 pub use table::{MAX_ENTRIES, Timetable};
 pub use tt_instance::Cell as Entry;
+pub use writing::write_solution;

@@ -43,7 +43,7 @@ after_gap most at gap len w more scan h =
     let r : List ℕ = drop (gap + len) w in
     let len_g : length g ≡ gap = length-take-le gap w (omega (arith, scan.within)) in
     let parts : w ++ more ≡ g ++ (t ++ (r ++ more)) =
-        ap (λ (l : List ℕ). l ++ more) (cut w gap len) ∙ append_assoc g (t ++ r) more ∙ ap (λ (l : List ℕ). g ++ l) (append_assoc t r more) in
+    ap (λ (l : List ℕ). l ++ more) (cut w gap len) ∙ append_assoc g (t ++ r) more ∙ ap (λ (l : List ℕ). g ++ l) (append_assoc t r more) in
     ap (stream_from most at) parts
     ∙ stream-gap most at g (t ++ (r ++ more)) scan.separators (omega (arith, scan.within))
     ∙ ap (λ (m : ℕ). stream_from most (at + m) (t ++ (r ++ more))) len_g
@@ -134,7 +134,7 @@ found_more most at gap len w more scan below =
 pub finds_inside : (at gap len : ℕ) (ended : Bool) (w past : List ℕ) → IsScan w gap len → len ≤ 32 → gap + len < length w → at + length w ≤ 4294967295 → FindsToken at (w ++ past) ended gap len
 finds_inside at gap len ended w past scan short h below =
     let text : take len (drop gap (w ++ past)) ≡ take len (drop gap w) =
-        ap (take len) (drop-append-le gap w past (omega arith)) ∙ take-append-le len (drop gap w) past (omega (arith, length-drop gap w)) in
+    ap (take len) (drop-append-le gap w past (omega arith)) ∙ take-append-le len (drop gap w) past (omega (arith, length-drop gap w)) in
     let rest : drop (gap + len) (w ++ past) ≡ drop (gap + len) w ++ past = drop-append-le (gap + len) w past (omega arith) in
     record {
       within = omega (arith, length-append w past);

@@ -1,10 +1,14 @@
 pub mod Digits
+pub mod EachToken
 pub mod Feeding
+pub mod Fields
 pub mod Finding
 pub mod Giving
 pub mod Lines
+pub mod Parts
 pub mod Runs
 pub mod Steps
+pub mod Texts
 pub mod Unlimited
 pub mod Windows
 pub mod Written

@@ -1,0 +1,3 @@
+pub mod Certifying
+pub mod Files
+pub mod NeverReads

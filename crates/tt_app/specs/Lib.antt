@@ -1,0 +1,4 @@
+pub mod Checked
+pub mod Lines
+pub mod Told
+pub mod Validated

@@ -1,0 +1,34 @@
+-- The lines that the commands print.
+use Rattle.std.specs.Prelude.{ℕ, ◌==◌, List, [], ◌∷◌, ◌++◌, codes, if◌then◌else◌}
+use Rattle.std.specs.Fmt.{decimal}
+use Rattle.tt_instance.specs.Problem.{Problem}
+use Rattle.tt_instance.specs.declared.cell.Cell.{Cell}
+use Rattle.tt_rules.specs.Hard.{lectures_count, conflicts_count, availability_count, occupancy_count}
+use Rattle.tt_rules.specs.Soft.{capacity_count, days_count, compactness_count, stability_count}
+use Rattle.tt_rules.specs.Score.{hard, cost}
+
+-- a solution that breaks no hard rule, its cost and the bound that is proved
+abbrev pub yes_line : ℕ → ℕ → List ℕ
+yes_line c b = codes "yes cost " ++ decimal c ++ codes " bound " ++ decimal b ++ (if c == b then codes " optimal" else []) ++ 10 ∷ []
+
+-- a solution that breaks a hard rule
+abbrev pub broken_line : ℕ → ℕ → List ℕ
+broken_line h c = codes "broken hard " ++ decimal h ++ codes " cost " ++ decimal c ++ 10 ∷ []
+
+-- a name and its number
+abbrev pub count_line : List ℕ → ℕ → List ℕ
+count_line name n = name ++ 32 ∷ decimal n ++ 10 ∷ []
+
+-- the ten lines of the validator
+abbrev pub score_text : Problem → List Cell → List ℕ
+score_text p t =
+    count_line (codes "lectures") (lectures_count p t)
+    ++ count_line (codes "conflicts") (conflicts_count p t)
+    ++ count_line (codes "availability") (availability_count p t)
+    ++ count_line (codes "room_occupancy") (occupancy_count p t)
+    ++ count_line (codes "room_capacity") (capacity_count p t)
+    ++ count_line (codes "min_working_days") (days_count p t)
+    ++ count_line (codes "compactness") (compactness_count p t)
+    ++ count_line (codes "room_stability") (stability_count p t)
+    ++ count_line (codes "hard") (hard p t)
+    ++ count_line (codes "cost") (cost p t)

@@ -1,0 +1,21 @@
+-- How a fault of a layer is told by a call: want of memory is always one and the same.
+use Rattle.tt_instance.specs.declared.fault.InstanceFault.{InstanceFault}
+use Rattle.tt_instance.specs.declared.fault.InstanceFault.TheVariants as instance
+use Rattle.tt_table.specs.declared.fault.SolutionFault.{SolutionFault}
+use Rattle.tt_table.specs.declared.fault.SolutionFault.TheVariants as solution
+use Rattle.tt_proof_check.specs.declared.fault.CheckFault.{CheckFault}
+use Rattle.tt_proof_check.specs.declared.fault.CheckFault.TheVariants as check
+use Rattle.tt_app.specs.declared.fault.AppFault.{AppFault}
+use Rattle.tt_app.specs.declared.fault.AppFault.TheVariants as fault
+
+abbrev pub told_instance : InstanceFault → AppFault
+told_instance instance.OutOfMemory = fault.OutOfMemory
+told_instance f = fault.Instance f
+
+abbrev pub told_solution : SolutionFault → AppFault
+told_solution solution.OutOfMemory = fault.OutOfMemory
+told_solution f = fault.Solution f
+
+abbrev pub told_check : CheckFault → AppFault
+told_check check.OutOfMemory = fault.OutOfMemory
+told_check f = fault.Proof f

@@ -1,0 +1,64 @@
+-- What `validate` answers of the bytes of an instance and of a solution.
+use Rattle.std.specs.Prelude.{◌≡◌, ℕ, ◌+◌, ◌==◌, ◌++◌, if◌then◌else◌, List, None, Err, ⊤, codes}
+use Rattle.tt_instance.specs.Problem.{Problem}
+use Rattle.tt_instance.specs.Reading.{instance_of}
+use Rattle.tt_instance.specs.Spelling.{Spells}
+use Rattle.tt_instance.specs.declared.cell.Cell.{Cell}
+use Rattle.tt_table.specs.Reading.{solution_of}
+use Rattle.tt_table.specs.Spelling.{SpellsTable}
+use Rattle.tt_table.specs.declared.fault.SolutionFault.{SolutionFault}
+use Rattle.tt_rules.specs.Score.{hard}
+use Rattle.tt_rules.specs.declared.counts.Score.{Score}
+use Rattle.tt_app.specs.Lines.{count_line, score_text}
+use Rattle.tt_app.specs.declared.answer.Answer.{Answer}
+use Rattle.tt_app.specs.declared.fault.AppFault.{AppFault}
+use Rattle.tt_app.specs.declared.fault.AppFault.TheVariants as fault
+
+-- the bytes spell an instance and a timetable of it
+pub record SpellsBoth (instance solution : List ℕ) (p : Problem) (t : List Cell) : Type 0 where
+  pub spelled : Spells instance p
+  pub solved : SpellsTable p solution t
+
+-- the ten lines of a score
+abbrev pub score_lines : Score → List ℕ
+score_lines s =
+    count_line (codes "lectures") s.lectures
+    ++ count_line (codes "conflicts") s.conflicts
+    ++ count_line (codes "availability") s.availability
+    ++ count_line (codes "room_occupancy") s.room_occupancy
+    ++ count_line (codes "room_capacity") s.room_capacity
+    ++ count_line (codes "min_working_days") s.min_working_days
+    ++ count_line (codes "compactness") s.compactness
+    ++ count_line (codes "room_stability") s.room_stability
+    ++ count_line (codes "hard") (s.lectures + s.conflicts + s.availability + s.room_occupancy)
+    ++ count_line (codes "cost") (s.room_capacity + s.min_working_days + s.compactness + s.room_stability)
+
+-- the answer has the lines of a score and its status, and no file
+pub record IsScoreAnswer (s : Score) (a : Answer) : Type 0 where
+  pub text : a.out.items ≡ score_lines s
+  pub status : a.status ≡ (if s.lectures + s.conflicts + s.availability + s.room_occupancy == 0 then 0 else 1)
+  pub no_table : a.table ≡ None
+  pub no_proof : a.proof ≡ None
+
+-- the answer has the timetable's score, and status 1 where a hard rule is broken
+pub record IsValidated (instance solution : List ℕ) (a : Answer) : Type 0 where
+  pub problem : Problem
+  pub table : List Cell
+  pub both : SpellsBoth instance solution problem table
+  pub text : a.out.items ≡ score_text problem table
+  pub status : a.status ≡ (if hard problem table == 0 then 0 else 1)
+  pub no_table : a.table ≡ None
+  pub no_proof : a.proof ≡ None
+
+-- the bytes spell an instance, and those of the solution have this fault
+pub record FailsSolution (instance solution : List ℕ) (f : SolutionFault) : Type 0 where
+  pub problem : Problem
+  pub spelled : Spells instance problem
+  pub fails : solution_of problem solution ≡ Err f
+
+-- a refusal tells the first fault: the instance's, then the solution's
+abbrev pub TellsOfBoth : List ℕ → List ℕ → AppFault → Type 0
+TellsOfBoth instance solution (fault.Instance f) = instance_of instance ≡ Err f
+TellsOfBoth instance solution (fault.Solution f) = FailsSolution instance solution f
+TellsOfBoth instance solution fault.OutOfMemory = ⊤
+TellsOfBoth instance solution _ = ⊥

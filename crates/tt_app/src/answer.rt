@@ -1,0 +1,14 @@
+//! What a call answers.
+
+/// What a command prints, its status, and the files that it writes.
+#[derive(Debug, Drop)]
+pub struct Answer {
+    /// 0 yes or done, 1 a hard rule is broken or no timetable was found.
+    pub status: u8,
+    /// The text for standard output.
+    pub out: Vec<u8>,
+    /// The text of a solution file.
+    pub table: Option<Vec<u8>>,
+    /// The text of a proof file.
+    pub proof: Option<Vec<u8>>,
+}

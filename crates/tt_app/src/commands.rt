@@ -1,0 +1,100 @@
+//! The program: words in, texts and a status out.
+
+use crate::answer::Answer;
+use crate::checking::check;
+use crate::cli::{Request, parse_words};
+use crate::disk::read_file;
+use crate::fault::{AppFault, Input};
+use crate::stored;
+use crate::validation::validate;
+use clap::error::ErrorKind;
+use std::fs;
+use std::io::Write;
+use std::rt::Files;
+use tt_text::{Pieces, Reading};
+
+fn answer_check<R: Files + AllocGlobal>(
+    rt: &R,
+    instance: &str,
+    solution: &str,
+    proof: &str,
+) -> Result<Answer, AppFault> {
+    let instance = read_file(rt, instance, Input::Instance)?;
+    let solution = read_file(rt, solution, Input::Solution)?;
+    let Ok(proof) = fs::open(rt, proof) else {
+        return Err(AppFault::CannotRead(Input::Proof));
+    };
+    check(rt.alloc(), &instance, &solution, &mut Reading::new(proof))
+}
+
+fn answer_validate<R: Files + AllocGlobal>(
+    rt: &R,
+    instance: &str,
+    solution: &str,
+) -> Result<Answer, AppFault> {
+    let instance = read_file(rt, instance, Input::Instance)?;
+    let solution = read_file(rt, solution, Input::Solution)?;
+    validate(rt.alloc(), &instance, &solution)
+}
+
+/// The built-in instance, solution and proof.
+fn answer_stored<R: Files + AllocGlobal>(rt: &R) -> Result<Answer, AppFault> {
+    let mut proof = Pieces::new(stored::PROOF, 64, 0);
+    check(rt.alloc(), stored::INSTANCE, stored::SOLUTION, &mut proof)
+}
+
+fn answer<R: Files + AllocGlobal>(rt: &R, asked: &Request<'_>) -> Result<Answer, AppFault> {
+    match asked {
+        Request::Validate { instance, solution } => answer_validate(rt, instance, solution),
+        Request::Check {
+            instance,
+            solution,
+            proof,
+        } => answer_check(rt, instance, solution, proof),
+    }
+}
+
+/// Prints an answer or a refusal, and gives the status.
+fn told<O: Write, E: Write>(answered: Result<Answer, AppFault>, out: &mut O, err: &mut E) -> u8 {
+    let fault = match answered {
+        Ok(answer) => match out.write_all(&answer.out) {
+            Ok(()) => return answer.status,
+            Err(_) => AppFault::CannotWrite,
+        },
+        Err(fault) => fault,
+    };
+    let _ = writeln!(err, "refused: {fault}");
+    2
+}
+
+/// What clap says of words that it refuses, or of a wish for help.
+fn told_words<O: Write, E: Write>(fault: &clap::Error, out: &mut O, err: &mut E) -> u8 {
+    if fault.kind() == ErrorKind::OutOfMemory {
+        let _ = writeln!(err, "refused: {}", AppFault::OutOfMemory);
+        2
+    } else if fault.use_stderr() {
+        let _ = write!(err, "{fault}");
+        2
+    } else {
+        let _ = write!(out, "{fault}");
+        0
+    }
+}
+
+/// Runs the program on the words of its command line, without its own name, and gives its status: 0 yes or done, 1 a hard rule is
+/// broken or no timetable was found, 2 refused (the text is on `err`). Without words it checks a stored proof.
+pub fn run<R: Files + AllocGlobal, O: Write, E: Write>(
+    rt: &R,
+    words: &[String],
+    out: &mut O,
+    err: &mut E,
+) -> u8 {
+    if words.is_empty() {
+        return told(answer_stored(rt), out, err);
+    }
+    match parse_words(rt.alloc(), words) {
+        Ok(Some(asked)) => told(answer(rt, &asked), out, err),
+        Ok(None) => 2,
+        Err(fault) => told_words(&fault, out, err),
+    }
+}

@@ -1,0 +1,92 @@
+//! Why a call was refused.
+
+use std::alloc::AllocError;
+use thiserror::Error;
+use tt_instance::InstanceFault;
+use tt_proof_check::CheckFault;
+use tt_table::SolutionFault;
+
+/// A file that a command reads.
+#[derive(Clone, Copy, Debug, PartialEq, Eq, Error)]
+pub enum Input {
+    #[error("instance")]
+    Instance,
+    #[error("solution")]
+    Solution,
+    #[error("proof")]
+    Proof,
+}
+
+/// Why a call was refused.
+#[derive(Clone, Copy, Debug, PartialEq, Eq, Error)]
+pub enum AppFault {
+    #[error("instance: {0}")]
+    Instance(InstanceFault),
+    #[error("solution: {0}")]
+    Solution(SolutionFault),
+    #[error("proof: {0}")]
+    Proof(CheckFault),
+    #[error("proof too large")]
+    ProofTooLarge,
+    #[error("out of memory")]
+    OutOfMemory,
+    #[error("{0}: cannot read")]
+    CannotRead(Input),
+    #[error("{0}: too long")]
+    TooLong(Input),
+    #[error("cannot write")]
+    CannotWrite,
+}
+
+impl From<AllocError> for AppFault {
+    ghost use Rattle.std.specs.Prelude.{◌≡◌};
+    ghost use Rattle.tt_app.specs.declared.fault.AppFault.TheVariants as fault;
+
+    ghost from_gives = { λ _ e. e ≡ fault.OutOfMemory };
+
+    fn from(_e: AllocError) -> AppFault {
+        AppFault::OutOfMemory
+    }
+}
+
+impl From<InstanceFault> for AppFault {
+    ghost use Rattle.std.specs.Prelude.{◌≡◌};
+    ghost use Rattle.tt_app.specs.Told.{told_instance};
+
+    ghost from_gives = { λ f e. e ≡ told_instance f };
+
+    fn from(fault: InstanceFault) -> AppFault {
+        match fault {
+            InstanceFault::OutOfMemory => AppFault::OutOfMemory,
+            fault => AppFault::Instance(fault),
+        }
+    }
+}
+
+impl From<SolutionFault> for AppFault {
+    ghost use Rattle.std.specs.Prelude.{◌≡◌};
+    ghost use Rattle.tt_app.specs.Told.{told_solution};
+
+    ghost from_gives = { λ f e. e ≡ told_solution f };
+
+    fn from(fault: SolutionFault) -> AppFault {
+        match fault {
+            SolutionFault::OutOfMemory => AppFault::OutOfMemory,
+            fault => AppFault::Solution(fault),
+        }
+    }
+}
+
+impl From<CheckFault> for AppFault {
+    ghost use Rattle.std.specs.Prelude.{◌≡◌};
+    ghost use Rattle.tt_app.specs.Told.{told_check};
+
+    ghost from_gives = { λ f e. e ≡ told_check f };
+
+    fn from(fault: CheckFault) -> AppFault {
+        match fault {
+            CheckFault::OutOfMemory => AppFault::OutOfMemory,
+            fault => AppFault::Proof(fault),
+        }
+    }
+}

@@ -1,0 +1,49 @@
+//! The whole of a source.
+
+ghost use Rattle.std.specs.Prelude.{◌≡◌, ◌<◌, ◌≤◌, true, length, IfOk, IfSome, IsErrOf, OnOk};
+
+use std::alloc::Global;
+use tt_text::Source;
+
+/// Why a source was not read whole.
+#[derive(Clone, Copy, Debug, PartialEq, Eq)]
+pub enum WholeFault {
+    /// A read failed.
+    Read,
+    /// There are more bytes than the limit.
+    TooLong,
+    OutOfMemory,
+}
+
+const PIECE: usize = 4096;
+
+/// All bytes of a source up to its end, if they are at most limit.
+pub fn read_whole<R: Source>(
+    alloc: Global,
+    source: &mut R,
+    limit: usize,
+) -> Result<Vec<u8>, WholeFault>
+    ensures whole { IfOk result (λ v. IfSome (R.remaining source.old) (λ bytes. v.items ≡ bytes)) }
+    ensures within { IfOk result (λ v. length v.items ≤ limit) }
+    ensures calm { OnOk result (R.has_failed source.new ≡ R.has_failed source.old) }
+    ensures too_long { IsErrOf result WholeFault.TooLong → IfSome (R.remaining source.old) (λ bytes. limit < length bytes) }
+    ensures failed { IsErrOf result WholeFault.Read → R.has_failed source.new ≡ true }
+{
+    let mut bytes = Vec::new(alloc);
+    let mut piece = [0u8; PIECE];
+    loop {
+        let Ok(count) = source.read(&mut piece) else {
+            return Err(WholeFault::Read);
+        };
+        if count == 0 {
+            return Ok(bytes);
+        }
+        if count > limit - bytes.len() {
+            return Err(WholeFault::TooLong);
+        }
+        let (given, _) = piece.split_at(count);
+        if bytes.extend_from_slice(given).is_err() {
+            return Err(WholeFault::OutOfMemory);
+        }
+    }
+}

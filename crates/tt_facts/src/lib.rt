@@ -1,0 +1,9 @@
+//! Facts about timetables, and paths of facts.
+#![tactic(auto)]
+
+mod facts;
+mod path;
+
+pub use facts::{Fact, Pattern, Who};
+pub use path::{MAX_FACTS, Path, PathFault};
+pub use tt_instance::Cell;

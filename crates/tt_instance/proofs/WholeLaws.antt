@@ -1,0 +1,147 @@
+-- A whole file: what is read is spelled, and what is spelled is read.
+use Rattle.std.proofs.Common.{◌≡◌, ℕ, List, [], ◌∷◌, ◌++◌, length, map, Result, Ok, refl, sym, ap, subst, ◌∙◌, append_assoc}
+use Rattle.std.specs.Prelude.{All}
+use Rattle.std.proofs.lemmas.List.{append-nil}
+use Rattle.tt_text.specs.Tokens.{Placed, tokens_of}
+use Rattle.tt_text.specs.Pieces.{Piece, Text, Begins}
+use Rattle.tt_text.proofs.Steps.{done, bind_ok, bind_is, Takes, takes_then}
+use Rattle.tt_instance.specs.declared.fault.InstanceFault.{InstanceFault}
+use Rattle.tt_instance.specs.declared.fault.Word.TheVariants as word
+use Rattle.tt_instance.specs.Problem.{Curriculum, Bar, Problem}
+use Rattle.tt_instance.specs.Limits.{IsWithinLimits}
+use Rattle.tt_instance.specs.Reading.{Counts, Sections, word_at, name_at, header_at, sections_at, instance_of}
+use Rattle.tt_instance.specs.Spelling.{fixed, pieces, kept, Spells}
+use Rattle.tt_instance.proofs.FieldLaws.{word_takes, has_word}
+use Rattle.tt_instance.proofs.HeaderLaws.{IsNamePart, IsHeader, count_pieces, name_takes, name_reads, header_takes, header_reads}
+use Rattle.tt_instance.proofs.CurriculumLaws.{all_kept}
+use Rattle.tt_instance.proofs.BarLaws.{bars_once}
+use Rattle.tt_instance.proofs.SectionLaws.{ArePlaces, AreGroups, section_pieces, sections_take, sections_read}
+
+-- ---- an instance and its counts
+
+-- the numbers of its header
+abbrev counts_of : Problem → Counts
+counts_of w = record { courses = length w.courses; rooms = length w.rooms; days = w.days; periods = w.periods; curricula = length w.curricula; bars = length w.bars }
+
+-- its sections
+abbrev sections_of : Problem → List Piece
+sections_of w = section_pieces w.courses w.rooms w.curricula w.bars
+
+-- a header whose counts are these
+counts_are : (c : Counts) (n m q b : ℕ) → n ≡ c.courses → m ≡ c.rooms → q ≡ c.curricula → b ≡ c.bars → c ≡ record { courses = n; rooms = m; days = c.days; periods = c.periods; curricula = q; bars = b }
+counts_are c n m q b n_is m_is q_is b_is = rw (n_is, m_is, q_is, b_is) refl
+
+-- the limits of the parts are those of the whole
+within_limits : (w : Problem) → All IsNamePart w.name → IsHeader (counts_of w) → ArePlaces (counts_of w) w.courses w.rooms → AreGroups (counts_of w) w.courses w.curricula w.bars → IsWithinLimits w
+within_limits w name header places groups = record {
+  name = name;
+  courses = header.courses;
+  rooms = header.rooms;
+  some_day = header.some_day;
+  days = header.days;
+  some_period = header.periods.some;
+  periods = header.periods.within;
+  slots = header.periods.slots;
+  cells = header.periods.cells;
+  curricula = header.curricula;
+  bars = header.bars;
+  each_course = places.each_course;
+  each_room = places.each_room;
+  each_curriculum = groups.each_curriculum;
+  each_bar = groups.each_bar;
+}
+
+-- the limits of the whole are those of its header
+header_within : (w : Problem) → IsWithinLimits w → IsHeader (counts_of w)
+header_within w within = record {
+  courses = within.courses;
+  rooms = within.rooms;
+  some_day = within.some_day;
+  days = within.days;
+  periods = record { some = within.some_period; within = within.periods; slots = within.slots; cells = within.cells };
+  curricula = within.curricula;
+  bars = within.bars;
+}
+
+-- ---- what is read is spelled
+
+-- all pieces behind the first word, part by part
+abbrev part_pieces : Problem → List Piece
+part_pieces w = (map Text w.name ++ fixed word.Courses ∷ []) ++ (count_pieces (counts_of w) ++ sections_of w)
+
+-- the pieces of a file, part by part
+regrouped : (w : Problem) → pieces w ≡ (fixed word.Name ∷ []) ++ part_pieces w
+regrouped w = simp append_assoc
+
+-- tokens that begin with each part begin with the whole
+parts_begin : (w : Problem) (ts t1 t2 t3 t4 : List Placed) → Takes ts (fixed word.Name ∷ []) t1 → Takes t1 (map Text w.name ++ fixed word.Courses ∷ []) t2
+    → Takes t2 (count_pieces (counts_of w)) t3 → Takes t3 (sections_of w) t4 → Begins (pieces w) ts t4
+parts_begin w ts t1 t2 t3 t4 first name header sections =
+    let whole : Takes ts ((fixed word.Name ∷ []) ++ part_pieces w) t4 = takes_then _ _ _ _ _ first (takes_then _ _ _ _ _ name (takes_then _ _ _ _ _ header sections)) in
+    subst (λ (ps : List Piece). Begins ps ts t4) (append-nil ((fixed word.Name ∷ []) ++ part_pieces w) ∙ sym (regrouped w)) (whole.take [] t4 refl)
+
+-- an instance of what was read
+abbrev problem_of : List (List ℕ) → Counts → Sections → Problem
+problem_of name c s = record { name = name; days = c.days; periods = c.periods; courses = s.courses; rooms = s.rooms; curricula = s.curricula; bars = s.bars }
+
+-- an instance as it is written
+abbrev written_of : List (List ℕ) → Counts → Sections → List Curriculum → List Bar → Problem
+written_of name c s qs bs = record { name = name; days = c.days; periods = c.periods; courses = s.courses; rooms = s.rooms; curricula = qs; bars = bs }
+
+-- what was read is what is kept of what is written
+kept_is : (read name : List (List ℕ)) (c : Counts) (s : Sections) (qs : List Curriculum) (bs : List Bar) → read ≡ name → s.curricula ≡ all_kept qs → s.bars ≡ bars_once bs
+    → problem_of read c s ≡ kept (written_of name c s qs bs)
+kept_is read name c s qs bs name_is qs_is bs_is = rw (name_is, qs_is, bs_is) refl
+
+-- one answer is one instance
+problem_done : (p q : Problem) → (let r : Result Problem InstanceFault = Ok p in r) ≡ Ok q → p ≡ q
+problem_done p q e = cc
+
+-- an instance that was read is spelled
+pub is_spelled : (bytes : List ℕ) (p : Problem) → instance_of bytes ≡ Ok p → Spells bytes p
+unfolding instance_of
+is_spelled bytes p e =
+    let first = bind_ok (word_at (length bytes) word.Name (tokens_of bytes)) _ p e in
+    let name = bind_ok (name_at (length bytes) [] first.0) _ p first.2 in
+    let header = bind_ok (header_at (length bytes) name.0.1) _ p name.2 in
+    let sections = bind_ok (sections_at (length bytes) header.0.0 header.0.1) _ p header.2 in
+    let n = name_takes (length bytes) [] first.0 name.0 name.1 in
+    let h = header_takes (length bytes) name.0.1 header.0 header.1 in
+    let s = sections_take (length bytes) header.0.0 header.0.1 sections.0 h.1.some_day h.1.periods.some sections.1 in
+    let w : Problem = written_of n.name header.0.0 sections.0.0 s.curricula s.bars in
+    let counts : header.0.0 ≡ counts_of w =
+    counts_are header.0.0 (length w.courses) (length w.rooms) (length w.curricula) (length w.bars) s.places.courses s.places.rooms s.groups.curricula s.groups.bars in
+    let name_word : Takes (tokens_of bytes) (fixed word.Name ∷ []) first.0 = word_takes (length bytes) word.Name (tokens_of bytes) first.0 first.1 in
+    let counted : Takes name.0.1 (count_pieces (counts_of w)) header.0.1 = subst (λ (c : Counts). Takes name.0.1 (count_pieces c) header.0.1) counts h.0 in
+    record {
+      written = w;
+      rest = sections.0.1;
+      begins = parts_begin w (tokens_of bytes) first.0 name.0.1 header.0.1 sections.0.1 name_word n.takes counted s.takes;
+      within =
+          within_limits w n.other (subst IsHeader counts h.1) (subst (λ c. ArePlaces c w.courses w.rooms) counts s.places)
+          (subst (λ c. AreGroups c w.courses w.curricula w.bars) counts s.groups);
+      is_kept = sym (problem_done _ p sections.2) ∙ kept_is name.0.0 n.name header.0.0 sections.0.0 s.curricula s.bars n.list s.curricula_kept s.bars_kept;
+    }
+
+-- ---- what is spelled is read
+
+-- an instance that is spelled is read
+pub is_read : (bytes : List ℕ) (p : Problem) → Spells bytes p → instance_of bytes ≡ Ok p
+unfolding instance_of
+is_read bytes p spelled =
+    let w : Problem = spelled.written in
+    let after_name : List Piece = count_pieces (counts_of w) ++ sections_of w in
+    let places : ArePlaces (counts_of w) w.courses w.rooms = record { courses = refl; rooms = refl; each_course = spelled.within.each_course; each_room = spelled.within.each_room } in
+    let groups : AreGroups (counts_of w) w.courses w.curricula w.bars = record { curricula = refl; bars = refl; each_curriculum = spelled.within.each_curriculum; each_bar = spelled.within.each_bar } in
+    let grouped : pieces w ≡ fixed word.Name ∷ (map Text w.name ++ (fixed word.Courses ∷ after_name)) = simp append_assoc in
+    let first =
+    has_word (length bytes) word.Name (tokens_of bytes) (map Text w.name ++ (fixed word.Courses ∷ after_name)) spelled.rest
+    (subst (λ (ps : List Piece). Begins ps (tokens_of bytes) spelled.rest) grouped spelled.begins) in
+    let name = name_reads (length bytes) [] w.name first.mid after_name spelled.rest spelled.within.name first.left in
+    let header = header_reads (length bytes) name.mid (counts_of w) (sections_of w) spelled.rest (header_within w spelled.within) name.left in
+    let sections =
+    sections_read (length bytes) (counts_of w) header.mid w.courses w.rooms w.curricula w.bars [] spelled.rest places groups
+    (subst (λ (ps : List Piece). Begins ps header.mid spelled.rest) (sym (append-nil (sections_of w))) header.left) in
+    let read : Sections = record { courses = w.courses; rooms = w.rooms; curricula = all_kept w.curricula; bars = bars_once w.bars } in
+    bind_is _ first.mid _ _ first.is (bind_is _ (w.name, name.mid) _ _ name.is (bind_is _ (counts_of w, header.mid) _ _ header.is (bind_is _ (read, sections.mid) _ _ sections.is
+    (ap (λ (q : Problem). done q) (sym spelled.is_kept)))))

@@ -1,0 +1,69 @@
+-- What the tables beside the rows of an instance say.
+use Rattle.std.specs.Prelude.{◌≡◌, ℕ, ◌+◌, ◌*◌, ◌≤◌, ◌==◌, nat_lt, Bool, false, ◌&&◌, List, [], length, map, Some, slice_index_or, All}
+use Rattle.std.specs.List.{list_any}
+use Rattle.tt_lists.specs.Words.{has}
+use Rattle.tt_text.specs.Texts.{index_of_name, distinct_names}
+use Rattle.tt_instance.specs.declared.rows.CourseList.{CourseList}
+use Rattle.tt_instance.specs.declared.rows.CourseRow.{CourseRow}
+use Rattle.tt_instance.specs.declared.rows.RoomList.{RoomList}
+use Rattle.tt_instance.specs.declared.rows.MemberList.{MemberList}
+use Rattle.tt_instance.specs.declared.rows.CurriculumList.{CurriculumList}
+use Rattle.tt_instance.specs.declared.rows.BarList.{BarList}
+use Rattle.tt_instance.specs.declared.parts.Parts.{Parts}
+use Rattle.tt_instance.specs.Problem.{Course, Bar, Problem}
+use Rattle.tt_instance.specs.Courses.{conflict}
+use Rattle.tt_instance.specs.Limits.{ids_of, room_ids_of, curriculum_ids_of, lectures_of}
+use Rattle.tt_instance.specs.Seen.{courses_seen, rooms_seen, curricula_seen, bars_seen}
+
+-- the teachers of courses, each once, in the order of their first mention
+abbrev pub teachers_of : List Course → List (List ℕ)
+teachers_of cs = distinct_names (map (λ c. c.teacher) cs)
+
+-- the number of a course's teacher
+abbrev pub IsTeacher : List (List ℕ) → CourseRow → Type 0
+IsTeacher names r = index_of_name names r.teacher_name.now ≡ Some r.teacher
+
+pub record IsIndexed (l : CourseList) : Type 0 where
+  pub ids_are : l.ids ≡ ids_of (courses_seen l.rows.items)
+  pub teachers_are : l.teachers ≡ teachers_of (courses_seen l.rows.items)
+  pub total : l.lectures ≡ lectures_of (courses_seen l.rows.items)
+  pub within : l.lectures ≤ 4096
+  pub few : length l.teachers ≤ length l.rows.items
+  pub numbers : All (IsTeacher l.teachers) l.rows.items
+
+pub record IsRoomsIndexed (l : RoomList) : Type 0 where
+  pub ids_are : l.ids ≡ room_ids_of (rooms_seen l.rows.items)
+
+-- there is a mark for each of so many courses, and the marks say which are members
+pub record IsMarked (count : ℕ) (l : MemberList) : Type 0 where
+  pub len : length l.marks ≡ count
+  pub told : (c : ℕ) → slice_index_or l.marks c false ≡ has l.courses.items c
+
+pub record IsCurriculaIndexed (count : ℕ) (l : CurriculumList) : Type 0 where
+  pub ids_are : l.ids ≡ curriculum_ids_of (curricula_seen l.rows.items)
+  pub marked : All (λ r. IsMarked count r.members) l.rows.items
+
+-- a list of unavailabilities has this one
+abbrev pub has_bar : List Bar → ℕ → ℕ → ℕ → Bool
+has_bar bars c d s = list_any (λ b. (b.course == c) && (b.day == d) && (b.period == s)) bars
+
+-- the mark of a period, where each day has 64 places
+abbrev pub is_marked_at : List (List Bool) → ℕ → ℕ → ℕ → Bool
+is_marked_at rows c d s = nat_lt s 64 && slice_index_or (slice_index_or rows c []) (d * 64 + s) false
+
+-- there are marks for each of so many courses and each day, and they say which periods are barred
+pub record IsBarred (count days : ℕ) (l : BarList) : Type 0 where
+  pub len : length l.marks.items ≡ count
+  pub lens : All (λ m. length m ≡ days * 64) l.marks.items
+  pub told : (c d s : ℕ) → is_marked_at l.marks.items c d s ≡ has_bar (bars_seen l.rows.items) c d s
+
+-- the tables of all parts
+pub record IsIndexedParts (a : Parts) : Type 0 where
+  pub courses : IsIndexed a.courses
+  pub rooms : IsRoomsIndexed a.rooms
+  pub curricula : IsCurriculaIndexed (length a.courses.ids) a.curricula
+  pub bars : IsBarred (length a.courses.ids) a.days a.bars
+
+-- a row of marks for each course says which courses it excludes
+pub record IsExcluding (p : Problem) (rows : List (List Bool)) : Type 0 where
+  pub told : (a b : ℕ) → slice_index_or (slice_index_or rows a []) b false ≡ conflict p a b

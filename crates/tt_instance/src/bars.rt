@@ -1,0 +1,102 @@
+//! The unavailabilities of an instance.
+
+ghost use Rattle.std.specs.Prelude.{◌≡◌, ◌<◌, ◌≤◌, ◌^◌, ◌+◌, ◌*◌, [], false, length, replicate, OnOk, IfOk};
+ghost use Rattle.tt_instance.specs.Reading.{Gives, bar_at, bars_at};
+ghost use Rattle.tt_instance.specs.Indexed.{IsBarred, is_marked_at};
+ghost use Rattle.tt_instance.specs.Seen.{bars_seen};
+
+use crate::fault::InstanceFault;
+use crate::fields::{below, named};
+use crate::header::Header;
+use crate::marks::{Marks, has_at};
+use crate::names::Names;
+use crate::rows::{BarList, BarRow};
+use std::alloc::{AllocError, Global};
+use tt_text::Tokens;
+
+/// The places of a day in the marks of a course.
+const DAY: u32 = 64;
+
+/// The place of a period in the marks of a course.
+fn place(day: u32, period: u32) -> usize
+    ensures { result ≡ day * 64 + period }
+{
+    day as usize * DAY as usize + period as usize
+}
+
+/// Whether a course is barred from a period; false where one of them is not there.
+pub fn is_barred(marks: &[Marks], course: u32, day: u32, period: u32) -> bool
+    ensures { result ≡ is_marked_at marks.now course day period }
+{
+    period < DAY && has_at(marks, course as usize, place(day, period))
+}
+
+/// No marks for each of so many courses and days.
+fn no_marks(alloc: Global, courses: usize, days: u32) -> Result<Vec<Marks>, AllocError>
+    ensures { IfOk result (λ v. v.items ≡ replicate courses (replicate (days * 64) false)) }
+{
+    let mut marks = Vec::new(alloc);
+    for _ in 0..courses {
+        marks.push(Marks::new(alloc, place(days, 0))?)?;
+    }
+    Ok(marks)
+}
+
+/// One more unavailability, if it is new.
+#[tactic(auto, unfolding(crate::specs::Reading::bar_at))]
+fn bar(
+    tokens: &mut Tokens<'_>,
+    end: usize,
+    ids: &Names<'_>,
+    header: Header,
+    list: &mut BarList,
+) -> Result<(), InstanceFault>
+    requires barred { IsBarred (length ids.now) header.days list.old }
+    requires few { length ids.now < 2 ^ 32 }
+    requires days { 0 < header.days }
+    requires some { 0 < header.periods }
+    requires periods { header.periods ≤ 64 }
+    ensures read { Gives (λ _. (bars_seen list.new.rows.items, tokens.new)) result
+        (bar_at end ids.now header.days header.periods (bars_seen list.old.rows.items) tokens.old) }
+    ensures barred { OnOk result (IsBarred (length ids.now) header.days list.new) }
+{
+    let course = named(tokens, end, ids)?;
+    let day = below(tokens, end, header.days)?;
+    let period = below(tokens, end, header.periods)?;
+    if !is_barred(&list.marks, course, day, period) {
+        list.rows.push(BarRow {
+            course,
+            day,
+            period,
+        })?;
+        let row = &mut list.marks[course as usize];
+        row.mark(place(day, period));
+    }
+    Ok(())
+}
+
+/// The unavailabilities that a header announces, of the courses of these names.
+pub fn bars(
+    alloc: Global,
+    tokens: &mut Tokens<'_>,
+    end: usize,
+    ids: &Names<'_>,
+    header: Header,
+) -> Result<BarList, InstanceFault>
+    requires few { length ids.now < 2 ^ 32 }
+    requires days { 0 < header.days }
+    requires some { 0 < header.periods }
+    requires periods { header.periods ≤ 64 }
+    ensures read { Gives (λ l. (bars_seen l.rows.items, tokens.new)) result
+        (bars_at end ids.now header.days header.periods header.bars [] tokens.old) }
+    ensures barred { IfOk result (IsBarred (length ids.now) header.days) }
+{
+    let mut list = BarList {
+        rows: Vec::new(alloc),
+        marks: no_marks(alloc, ids.len(), header.days)?,
+    };
+    for _ in 0..header.bars {
+        bar(tokens, end, ids, header, &mut list)?;
+    }
+    Ok(list)
+}

@@ -1,0 +1,75 @@
+//! The courses of an instance.
+
+ghost use Rattle.std.specs.Prelude.{◌≡◌, ◌+◌, ◌^◌, ◌<◌, ◌≤◌, [], length, OnOk, IfOk};
+ghost use Rattle.tt_instance.specs.Reading.{Gives, course_at, courses_at};
+ghost use Rattle.tt_instance.specs.Indexed.{IsIndexed};
+ghost use Rattle.tt_instance.specs.Seen.{courses_seen};
+
+use crate::fault::InstanceFault;
+use crate::fields::{limited, token};
+use crate::names::Names;
+use crate::rows::{CourseList, CourseRow};
+use std::alloc::Global;
+use tt_text::Tokens;
+
+const MAX_LECTURES: u32 = 4096;
+
+/// One more course behind those of the list.
+#[tactic(auto, unfolding(crate::specs::Reading::course_at))]
+fn course<'a>(
+    tokens: &mut Tokens<'a>,
+    end: usize,
+    list: &mut CourseList<'a>,
+) -> Result<(), InstanceFault>
+    requires indexed { IsIndexed list.old }
+    requires few { length list.old.rows.items < 2 ^ 31 }
+    ensures read { Gives (λ _. (courses_seen list.new.rows.items, tokens.new)) result
+        (course_at end (courses_seen list.old.rows.items) tokens.old) }
+    ensures indexed { OnOk result (IsIndexed list.new) }
+    ensures one_more { OnOk result (length list.new.rows.items ≡ length list.old.rows.items + 1) }
+{
+    let id = token(tokens, end)?;
+    if !list.ids.put(id.bytes)? {
+        return Err(InstanceFault::Repeated(id.at));
+    }
+    let teacher = token(tokens, end)?;
+    let lectures = limited(tokens, end, MAX_LECTURES - list.lectures)?;
+    let min_days = limited(tokens, end, 512)?;
+    let students = limited(tokens, end, 1_000_000)?;
+    let number = list.teachers.number(teacher.bytes)?;
+    list.rows.push(CourseRow {
+        id: id.bytes,
+        teacher_name: teacher.bytes,
+        teacher: number as u32,
+        lectures,
+        min_days,
+        students,
+    })?;
+    list.lectures += lectures;
+    Ok(())
+}
+
+/// So many courses.
+pub fn courses<'a>(
+    alloc: Global,
+    tokens: &mut Tokens<'a>,
+    end: usize,
+    count: u32,
+) -> Result<CourseList<'a>, InstanceFault>
+    requires { count < 2 ^ 31 }
+    ensures read { Gives (λ l. (courses_seen l.rows.items, tokens.new)) result
+        (courses_at end count [] tokens.old) }
+    ensures indexed { IfOk result IsIndexed }
+    ensures len { IfOk result (λ l. length l.ids ≤ count) }
+{
+    let mut list = CourseList {
+        rows: Vec::new(alloc),
+        ids: Names::new(alloc),
+        teachers: Names::new(alloc),
+        lectures: 0,
+    };
+    for _ in 0..count {
+        course(tokens, end, &mut list)?;
+    }
+    Ok(list)
+}

@@ -1,0 +1,110 @@
+//! The curricula of an instance.
+
+ghost use Rattle.std.specs.Prelude.{◌<◌, ◌^◌, [], length, OnOk, IfOk};
+ghost use Rattle.tt_instance.specs.Reading.{Gives, member_at, members_at, curriculum_at, curricula_at};
+ghost use Rattle.tt_instance.specs.Indexed.{IsMarked, IsCurriculaIndexed};
+ghost use Rattle.tt_instance.specs.Seen.{curricula_seen};
+
+use crate::fault::InstanceFault;
+use crate::fields::{limited, named, token};
+use crate::marks::Marks;
+use crate::names::Names;
+use crate::rows::{CurriculumList, CurriculumRow, MemberList};
+use std::alloc::Global;
+use tt_text::Tokens;
+
+/// One more member, if it is new.
+#[tactic(auto, unfolding(crate::specs::Reading::member_at))]
+fn member(
+    tokens: &mut Tokens<'_>,
+    end: usize,
+    ids: &Names<'_>,
+    list: &mut MemberList,
+) -> Result<(), InstanceFault>
+    requires marked { IsMarked (length ids.now) list.old }
+    requires few { length ids.now < 2 ^ 32 }
+    ensures read { Gives (λ _. (list.new.courses.items, tokens.new)) result
+        (member_at end ids.now list.old.courses.items tokens.old) }
+    ensures marked { OnOk result (IsMarked (length ids.now) list.new) }
+{
+    let course = named(tokens, end, ids)?;
+    if !list.marks.has(course as usize) {
+        list.courses.push(course)?;
+        list.marks.mark(course as usize);
+    }
+    Ok(())
+}
+
+/// So many members.
+fn members(
+    alloc: Global,
+    tokens: &mut Tokens<'_>,
+    end: usize,
+    ids: &Names<'_>,
+    count: u32,
+) -> Result<MemberList, InstanceFault>
+    requires { length ids.now < 2 ^ 32 }
+    ensures read { Gives (λ l. (l.courses.items, tokens.new)) result
+        (members_at end ids.now count [] tokens.old) }
+    ensures marked { IfOk result (IsMarked (length ids.now)) }
+{
+    let mut list = MemberList {
+        courses: Vec::new(alloc),
+        marks: Marks::new(alloc, ids.len())?,
+    };
+    for _ in 0..count {
+        member(tokens, end, ids, &mut list)?;
+    }
+    Ok(list)
+}
+
+/// One more curriculum behind those of the list.
+#[tactic(auto, unfolding(crate::specs::Reading::curriculum_at))]
+fn curriculum<'a>(
+    alloc: Global,
+    tokens: &mut Tokens<'a>,
+    end: usize,
+    ids: &Names<'_>,
+    list: &mut CurriculumList<'a>,
+) -> Result<(), InstanceFault>
+    requires indexed { IsCurriculaIndexed (length ids.now) list.old }
+    requires few { length ids.now < 2 ^ 32 }
+    ensures read { Gives (λ _. (curricula_seen list.new.rows.items, tokens.new)) result
+        (curriculum_at end ids.now (curricula_seen list.old.rows.items) tokens.old) }
+    ensures indexed { OnOk result (IsCurriculaIndexed (length ids.now) list.new) }
+{
+    let id = token(tokens, end)?;
+    if !list.ids.put(id.bytes)? {
+        return Err(InstanceFault::Repeated(id.at));
+    }
+    let count = limited(tokens, end, 4096)?;
+    let members = members(alloc, tokens, end, ids, count)?;
+    list.rows.push(CurriculumRow {
+        id: id.bytes,
+        members,
+    })?;
+    Ok(())
+}
+
+/// So many curricula over the courses of these names.
+pub fn curricula<'a>(
+    alloc: Global,
+    tokens: &mut Tokens<'a>,
+    end: usize,
+    ids: &Names<'_>,
+    count: u32,
+) -> Result<CurriculumList<'a>, InstanceFault>
+    requires { length ids.now < 2 ^ 32 }
+    ensures read { Gives (λ l. (curricula_seen l.rows.items, tokens.new)) result
+        (curricula_at end ids.now count [] tokens.old) }
+    ensures indexed { IfOk result (IsCurriculaIndexed (length ids.now)) }
+{
+    let mut list = CurriculumList {
+        rows: Vec::new(alloc),
+        ids: Names::new(alloc),
+    };
+    for _ in 0..count {
+        curriculum(alloc, tokens, end, ids, &mut list)?;
+    }
+    Ok(list)
+}

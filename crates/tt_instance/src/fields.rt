@@ -1,0 +1,101 @@
+//! Single tokens of an instance.
+
+ghost use Rattle.std.specs.Prelude.{◌≤◌, ◌<◌, ◌-◌, ◌^◌, length, IfOk};
+ghost use Rattle.tt_text.specs.Tokens.{place};
+ghost use Rattle.tt_text.specs.Numbers.{number_of};
+ghost use Rattle.tt_instance.specs.Reading.{Gives, token_at, word_at, numbered, limited_at, below_at, counted_at, named_at};
+
+use crate::fault::{InstanceFault, Word};
+use crate::names::Names;
+use tt_text::{NumberFault, Token, Tokens, number};
+
+/// The next token of a text of end bytes.
+#[tactic(auto, unfolding(tt_text::specs::Reading::token_or))]
+pub fn token<'a>(tokens: &mut Tokens<'a>, end: usize) -> Result<Token<'a>, InstanceFault>
+    ensures { Gives (λ t. (place t, tokens.new)) result (token_at end tokens.old) }
+{
+    match tokens.next() {
+        None => Err(InstanceFault::Ended(end)),
+        Some(token) => Ok(token),
+    }
+}
+
+/// A fixed word.
+#[tactic(auto, unfolding(crate::specs::Reading::word_at))]
+pub fn word(tokens: &mut Tokens<'_>, end: usize, word: Word) -> Result<(), InstanceFault>
+    ensures { Gives (λ _. tokens.new) result (word_at end word tokens.old) }
+{
+    let token = token(tokens, end)?;
+    if word.text() == token.bytes {
+        Ok(())
+    } else {
+        Err(InstanceFault::Expected(word, token.at))
+    }
+}
+
+/// The value of a token, up to a limit.
+pub fn value(token: Token<'_>, limit: u32) -> Result<u32, InstanceFault>
+    ensures read { Gives (λ n. n) result
+        (numbered token.entry.at (number_of limit token.entry.bytes.now)) }
+    ensures within { IfOk result (λ n. n ≤ limit) }
+{
+    match number(&token, u64::from(limit)) {
+        Ok(value) => Ok(value as u32),
+        Err(NumberFault::NotANumber) => Err(InstanceFault::NotANumber(token.at)),
+        Err(NumberFault::TooLarge) => Err(InstanceFault::OverLimit(token.at)),
+    }
+}
+
+/// A number up to a limit.
+#[tactic(auto, unfolding(crate::specs::Reading::limited_at))]
+pub fn limited(tokens: &mut Tokens<'_>, end: usize, limit: u32) -> Result<u32, InstanceFault>
+    ensures read { Gives (λ n. (n, tokens.new)) result (limited_at end limit tokens.old) }
+    ensures within { IfOk result (λ n. n ≤ limit) }
+{
+    let token = token(tokens, end)?;
+    value(token, limit)
+}
+
+/// A fixed word, and a number up to a limit.
+#[tactic(auto, unfolding(crate::specs::Reading::counted_at))]
+pub fn counted(
+    tokens: &mut Tokens<'_>,
+    end: usize,
+    name: Word,
+    limit: u32,
+) -> Result<u32, InstanceFault>
+    ensures read { Gives (λ n. (n, tokens.new)) result (counted_at end name limit tokens.old) }
+    ensures within { IfOk result (λ n. n ≤ limit) }
+{
+    word(tokens, end, name)?;
+    limited(tokens, end, limit)
+}
+
+/// A number below a bound.
+#[tactic(auto, unfolding(crate::specs::Reading::below_at))]
+pub fn below(tokens: &mut Tokens<'_>, end: usize, bound: u32) -> Result<u32, InstanceFault>
+    requires { 0 < bound }
+    ensures read { Gives (λ n. (n, tokens.new)) result (below_at end bound tokens.old) }
+    ensures within { IfOk result (λ n. n < bound) }
+{
+    let token = token(tokens, end)?;
+    match number(&token, u64::from(bound - 1)) {
+        Ok(value) => Ok(value as u32),
+        Err(NumberFault::NotANumber) => Err(InstanceFault::NotANumber(token.at)),
+        Err(NumberFault::TooLarge) => Err(InstanceFault::OutOfRange(token.at)),
+    }
+}
+
+/// A course by its name.
+#[tactic(auto, unfolding(crate::specs::Reading::named_at))]
+pub fn named(tokens: &mut Tokens<'_>, end: usize, ids: &Names<'_>) -> Result<u32, InstanceFault>
+    requires { length ids.now < 2 ^ 32 }
+    ensures read { Gives (λ c. (c, tokens.new)) result (named_at end ids.now tokens.old) }
+    ensures within { IfOk result (λ c. c < length ids.now) }
+{
+    let token = token(tokens, end)?;
+    match ids.find(token.bytes) {
+        Some(course) => Ok(course as u32),
+        None => Err(InstanceFault::UnknownCourse(token.at)),
+    }
+}

@@ -1,0 +1,104 @@
+//! The name and the header of an instance.
+
+ghost use Rattle.std.specs.Prelude.{◌≤◌, ◌<◌, [], IfOk};
+ghost use Rattle.tt_instance.specs.Reading.{Gives, name_at, days_at, periods_at, header_at};
+ghost use Rattle.tt_instance.specs.Seen.{counts_seen, name_seen};
+
+use crate::fault::{InstanceFault, Word};
+use crate::fields::{counted, limited, token, value, word};
+use std::alloc::Global;
+use tt_text::Tokens;
+
+/// The numbers of a header.
+#[derive(Clone, Copy, Debug)]
+pub struct Header {
+    pub courses: u32,
+    pub rooms: u32,
+    pub days: u32,
+    pub periods: u32,
+    pub curricula: u32,
+    pub bars: u32,
+}
+
+/// The tokens before the word that ends the name.
+pub fn read_name<'a>(
+    alloc: Global,
+    tokens: &mut Tokens<'a>,
+    end: usize,
+) -> Result<Vec<&'a [u8]>, InstanceFault>
+    ensures { Gives (λ v. (name_seen v.items, tokens.new)) result (name_at end [] tokens.old) }
+{
+    let mut name = Vec::new(alloc);
+    while let Some(token) = tokens.next() {
+        if Word::Courses.text() == token.bytes {
+            return Ok(name);
+        }
+        name.push(token.bytes)?;
+    }
+    Err(InstanceFault::Ended(end))
+}
+
+#[tactic(auto, unfolding(crate::specs::Reading::days_at))]
+fn read_days(tokens: &mut Tokens<'_>, end: usize) -> Result<u32, InstanceFault>
+    ensures read { Gives (λ n. (n, tokens.new)) result (days_at end tokens.old) }
+    ensures some { IfOk result (λ n. 0 < n) }
+    ensures within { IfOk result (λ n. n ≤ 64) }
+{
+    word(tokens, end, Word::Days)?;
+    let token = token(tokens, end)?;
+    let days = value(token, 64)?;
+    if days == 0 {
+        return Err(InstanceFault::OutOfRange(token.at));
+    }
+    Ok(days)
+}
+
+#[tactic(auto, unfolding(crate::specs::Reading::periods_at))]
+fn read_periods(
+    tokens: &mut Tokens<'_>,
+    end: usize,
+    pairs: u32,
+    days: u32,
+) -> Result<u32, InstanceFault>
+    requires pairs { pairs ≤ 1048576 }
+    requires days { days ≤ 64 }
+    ensures read { Gives (λ n. (n, tokens.new)) result (periods_at end pairs days tokens.old) }
+    ensures some { IfOk result (λ n. 0 < n) }
+    ensures within { IfOk result (λ n. n ≤ 64) }
+{
+    word(tokens, end, Word::PeriodsPerDay)?;
+    let token = token(tokens, end)?;
+    let periods = value(token, 64)?;
+    let slots = days * periods;
+    if slots > 512 || pairs * slots > 67_108_864 {
+        return Err(InstanceFault::OverLimit(token.at));
+    }
+    if periods == 0 {
+        return Err(InstanceFault::OutOfRange(token.at));
+    }
+    Ok(periods)
+}
+
+/// The header behind the word that ends the name.
+#[tactic(auto, unfolding(crate::specs::Reading::header_at))]
+pub fn read_header(tokens: &mut Tokens<'_>, end: usize) -> Result<Header, InstanceFault>
+    ensures read { Gives (λ h. (counts_seen h, tokens.new)) result (header_at end tokens.old) }
+    ensures courses { IfOk result (λ h. h.courses ≤ 2048) }
+    ensures days { IfOk result (λ h. (0 < h.days) × (h.days ≤ 64)) }
+    ensures periods { IfOk result (λ h. (0 < h.periods) × (h.periods ≤ 64)) }
+{
+    let courses = limited(tokens, end, 2048)?;
+    let rooms = counted(tokens, end, Word::Rooms, 512)?;
+    let days = read_days(tokens, end)?;
+    let periods = read_periods(tokens, end, courses * rooms, days)?;
+    let curricula = counted(tokens, end, Word::Curricula, 8192)?;
+    let bars = counted(tokens, end, Word::Constraints, 65_536)?;
+    Ok(Header {
+        courses,
+        rooms,
+        days,
+        periods,
+        curricula,
+        bars,
+    })
+}

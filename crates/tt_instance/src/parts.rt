@@ -1,0 +1,104 @@
+//! The parts of an instance, and the bytes that spell them.
+
+ghost use Rattle.std.specs.Prelude.{◌<◌, ◌≤◌, ◌^◌, length, IfOk};
+ghost use Rattle.tt_instance.specs.Reading.{Gives, places_at, groups_at, instance_of};
+ghost use Rattle.tt_instance.specs.Indexed.{IsIndexed, IsRoomsIndexed, IsCurriculaIndexed, IsBarred, IsIndexedParts};
+ghost use Rattle.tt_instance.specs.Seen.{courses_seen, rooms_seen, curricula_seen, bars_seen, counts_seen, problem_seen};
+
+use crate::bars::bars;
+use crate::courses::courses;
+use crate::curricula::curricula;
+use crate::fault::{InstanceFault, Word};
+use crate::fields::word;
+use crate::header::{Header, read_header, read_name};
+use crate::names::Names;
+use crate::rooms::rooms;
+use crate::rows::{BarList, CourseList, CurriculumList, RoomList};
+use std::alloc::Global;
+use tt_text::Tokens;
+
+/// What the bytes of an instance say.
+#[derive(Drop)]
+pub struct Parts<'a> {
+    pub name: Vec<&'a [u8]>,
+    pub days: u32,
+    pub periods: u32,
+    pub courses: CourseList<'a>,
+    pub rooms: RoomList<'a>,
+    pub curricula: CurriculumList<'a>,
+    pub bars: BarList,
+}
+
+/// The courses and rooms behind a header.
+#[tactic(auto, unfolding(crate::specs::Reading::places_at))]
+fn read_places<'a>(
+    alloc: Global,
+    tokens: &mut Tokens<'a>,
+    end: usize,
+    header: Header,
+) -> Result<(CourseList<'a>, RoomList<'a>), InstanceFault>
+    requires { header.courses ≤ 2048 }
+    ensures read { Gives
+        (λ s. ((courses_seen s.0.rows.items, rooms_seen s.1.rows.items), tokens.new))
+        result (places_at end (counts_seen header) tokens.old) }
+    ensures courses { IfOk result (λ s. IsIndexed s.0) }
+    ensures rooms { IfOk result (λ s. IsRoomsIndexed s.1) }
+    ensures few { IfOk result (λ s. length s.0.ids ≤ 2048) }
+{
+    word(tokens, end, Word::CoursesPart)?;
+    let courses = courses(alloc, tokens, end, header.courses)?;
+    word(tokens, end, Word::RoomsPart)?;
+    let rooms = rooms(alloc, tokens, end, header.rooms)?;
+    Ok((courses, rooms))
+}
+
+/// The curricula and unavailabilities behind them, up to the end.
+#[tactic(auto, unfolding(crate::specs::Reading::groups_at))]
+fn read_groups<'a>(
+    alloc: Global,
+    tokens: &mut Tokens<'a>,
+    end: usize,
+    ids: &Names<'_>,
+    header: Header,
+) -> Result<(CurriculumList<'a>, BarList), InstanceFault>
+    requires few { length ids.now < 2 ^ 32 }
+    requires days { 0 < header.days }
+    requires some { 0 < header.periods }
+    requires periods { header.periods ≤ 64 }
+    ensures read { Gives
+        (λ s. ((curricula_seen s.0.rows.items, bars_seen s.1.rows.items), tokens.new))
+        result (groups_at end (counts_seen header) ids.now tokens.old) }
+    ensures curricula { IfOk result (λ s. IsCurriculaIndexed (length ids.now) s.0) }
+    ensures bars { IfOk result (λ s. IsBarred (length ids.now) header.days s.1) }
+{
+    word(tokens, end, Word::CurriculaPart)?;
+    let curricula = curricula(alloc, tokens, end, ids, header.curricula)?;
+    word(tokens, end, Word::UnavailabilityPart)?;
+    let bars = bars(alloc, tokens, end, ids, header)?;
+    word(tokens, end, Word::End)?;
+    Ok((curricula, bars))
+}
+
+/// The parts of the instance that bytes spell.
+#[tactic(auto, unfolding(crate::specs::Reading::instance_of, crate::specs::Reading::sections_at))]
+pub fn read_parts<'a>(alloc: Global, bytes: &'a [u8]) -> Result<Parts<'a>, InstanceFault>
+    ensures read { Gives problem_seen result (instance_of bytes.now) }
+    ensures indexed { IfOk result IsIndexedParts }
+{
+    let end = bytes.len();
+    let mut tokens = Tokens::new(bytes);
+    word(&mut tokens, end, Word::Name)?;
+    let name = read_name(alloc, &mut tokens, end)?;
+    let header = read_header(&mut tokens, end)?;
+    let (courses, rooms) = read_places(alloc, &mut tokens, end, header)?;
+    let (curricula, bars) = read_groups(alloc, &mut tokens, end, &courses.ids, header)?;
+    Ok(Parts {
+        name,
+        days: header.days,
+        periods: header.periods,
+        courses,
+        rooms,
+        curricula,
+        bars,
+    })
+}

@@ -1,0 +1,11 @@
+pub mod Clash
+pub mod Live
+pub mod Contradictions
+pub mod Values
+pub mod MoreValues
+pub mod Totals
+pub mod Soundness
+pub mod Nested
+pub mod Sizes
+pub mod Apart
+pub mod Examples

@@ -1,0 +1,124 @@
+-- The leaf rules as the code goes through them are the rules.
+use Rattle.std.proofs.Common.{◌≡◌, ℕ, Bool, true, false, not, ◌&&◌, ◌||◌, ◌<◌, ◌≤◌, ◌+◌, ◌-◌, ◌%◌, List, refl, sym, ap, ◌∙◌, subst, arith, inl, inr, eqb-true, eq-eqb, ltb-true, lt-ltb, le-leb}
+use Rattle.std.specs.Prelude.{nat_lt, nat_le, ◌==◌}
+use Rattle.std.specs.List.{list_all, list_any, AllByRecursion}
+use Rattle.std.proofs.lemmas.List.Elements.{recursion_from_All}
+use Rattle.std.proofs.lemmas.Bool.{and_parts, and_from, or_cases, or_left, or_right}
+use Rattle.tt_instance.specs.Problem.{Problem}
+use Rattle.tt_instance.specs.Cells.{slot, next_to, cell, all_rooms, all_slots, all_courses}
+use Rattle.tt_instance.specs.Courses.{members, excess}
+use Rattle.tt_instance.specs.declared.cell.Slot.{Slot}
+use Rattle.tt_facts.specs.Facts.{agrees, is_who, matches}
+use Rattle.tt_facts.specs.Live.{is_dead, is_live, live_period}
+use Rattle.tt_facts.specs.declared.facts.Pattern.{Pattern}
+use Rattle.tt_facts.specs.declared.facts.Fact.{Fact}
+use Rattle.tt_lists.proofs.All.{list_all-same}
+use Rattle.tt_lists.proofs.Below.{all_pass}
+use Rattle.tt_lists.proofs.Sums.{list_any_with}
+use Rattle.tt_instance.proofs.Places.{any_slot}
+use Rattle.tt_instance.proofs.Slots.{cells_in_rooms, slot_of_place}
+use Rattle.tt_leaf.specs.Leaves.{all_dead}
+use Rattle.tt_leaf.specs.Claims.{is_alone, price_in}
+use Rattle.tt_leaf.specs.Nested.{course_dead, off_or_dead, live_before, live_after, covered_in}
+
+-- ---- dead cells
+
+module _ (p : Problem) (path : List Fact) (g : Pattern) where
+  dead_cells : (c : ℕ) (b : Bool) → list_all (λ r. list_all (λ s. not (b && agrees g.room r && agrees g.day s.day && agrees g.period s.period) || is_dead p path (cell c r s)) (all_slots p)) (all_rooms p) ≡ (not b || course_dead p path g c)
+  dead_cells c true = refl
+  dead_cells c false = all_pass (λ r. list_all (λ s. true) (all_slots p)) (all_rooms p) (λ r. all_pass (λ s. true) (all_slots p) (λ s. refl))
+
+  pub all_dead-by_course : all_dead p path g ≡ list_all (off_or_dead p path g) (all_courses p)
+  all_dead-by_course =
+      cells_in_rooms p (λ x. not (matches p g x) || is_dead p path x)
+      ∙ list_all-same (λ c. list_all (λ r. list_all (λ s. not (matches p g (cell c r s)) || is_dead p path (cell c r s)) (all_slots p)) (all_rooms p)) (off_or_dead p path g) (all_courses p)
+      (λ c. dead_cells c (is_who p g.who c))
+
+-- ---- the neighbours of a period
+
+same_answer : (a b : Bool) → (a ≡ true → b ≡ true) → (b ≡ true → a ≡ true) → a ≡ b
+same_answer true b f h = sym (f refl)
+same_answer false true f h = h refl
+same_answer false false f h = refl
+
+each_slot_in : (p : Problem) → 0 < p.periods → AllByRecursion (λ s. s.period < p.periods) (all_slots p)
+each_slot_in p some = recursion_from_All (λ s. s.period < p.periods) (all_slots p) (λ k d h.
+    let e = slot_of_place p p.periods k d refl some h in
+    let below : k % p.periods < p.periods = omega arith in
+    subst (λ (s : Slot). s.period < p.periods) e below)
+
+-- a period beside it on its day is before it or behind it
+beside : (p : Problem) (t : Slot → Bool) (s : Slot) → s.day < p.days → s.period < p.periods → list_any (λ n. next_to n s && t n) (all_slots p) ≡ ((nat_lt 0 s.period && t (slot s.day (s.period - 1))) || (nat_lt (s.period + 1) p.periods && t (slot s.day (s.period + 1))))
+beside p t s day period = same_answer (list_any (λ n. next_to n s && t n) (all_slots p)) (left || right) there back
+  where
+    left : Bool
+    left = nat_lt 0 s.period && t (slot s.day (s.period - 1))
+
+    right : Bool
+    right = nat_lt (s.period + 1) p.periods && t (slot s.day (s.period + 1))
+
+    at : (n : Slot) (d i : ℕ) → t n ≡ true → n.day ≡ d → n.period ≡ i → t (slot d i) ≡ true
+    at n d i h ed ei = subst (λ x. t (slot x i) ≡ true) ed (subst (λ x. t (slot n.day x) ≡ true) ei h)
+
+    there : list_any (λ n. next_to n s && t n) (all_slots p) ≡ true → (left || right) ≡ true
+    there e =
+        let w = list_any_with (λ n. n.period < p.periods) (λ n. next_to n s && t n) (all_slots p) (each_slot_in p (omega arith)) e in
+        let n = w.0 in
+        let a = and_parts (next_to n s) (t n) w.2 in
+        let b = and_parts (n.day == s.day) ((n.period == s.period + 1) || (n.period + 1 == s.period)) a.0 in
+        let same = eqb-true n.day s.day b.0 in
+        elim (or_cases (n.period == s.period + 1) (n.period + 1 == s.period) b.1) [
+          | inl k ↦
+              let behind = eqb-true n.period (s.period + 1) k in
+              let below : s.period + 1 < p.periods = omega (arith, w.1) in
+              or_right left right (and_from (nat_lt (s.period + 1) p.periods) (t (slot s.day (s.period + 1))) (lt-ltb (s.period + 1) p.periods below) (at n s.day (s.period + 1) a.1 same behind))
+          | inr k ↦
+              let ahead = eqb-true (n.period + 1) s.period k in
+              let above : 0 < s.period = omega arith in
+              or_left left right (and_from (nat_lt 0 s.period) (t (slot s.day (s.period - 1))) (lt-ltb 0 s.period above) (at n s.day (s.period - 1) a.1 same (omega arith)))
+        ]
+
+    back : (left || right) ≡ true → list_any (λ n. next_to n s && t n) (all_slots p) ≡ true
+    back e = elim (or_cases left right e) [
+      | inl l ↦
+          let a = and_parts (nat_lt 0 s.period) (t (slot s.day (s.period - 1))) l in
+          let above = ltb-true 0 s.period a.0 in
+          let before : s.period - 1 + 1 ≡ s.period = omega arith in
+          let n = slot s.day (s.period - 1) in
+          any_slot p (λ z. next_to z s && t z) s.day (s.period - 1) day (omega arith)
+          (and_from (next_to n s) (t n)
+          (and_from (s.day == s.day) ((s.period - 1 == s.period + 1) || (s.period - 1 + 1 == s.period)) (eq-eqb s.day s.day refl) (or_right (s.period - 1 == s.period + 1) (s.period - 1 + 1 == s.period) (eq-eqb (s.period - 1 + 1) s.period before)))
+          a.1)
+      | inr r ↦
+          let a = and_parts (nat_lt (s.period + 1) p.periods) (t (slot s.day (s.period + 1))) r in
+          let n = slot s.day (s.period + 1) in
+          any_slot p (λ z. next_to z s && t z) s.day (s.period + 1) day (ltb-true (s.period + 1) p.periods a.0)
+          (and_from (next_to n s) (t n)
+          (and_from (s.day == s.day) ((s.period + 1 == s.period + 1) || (s.period + 1 + 1 == s.period)) (eq-eqb s.day s.day refl) (or_left (s.period + 1 == s.period + 1) (s.period + 1 + 1 == s.period) (eq-eqb (s.period + 1) (s.period + 1) refl)))
+          a.1)
+    ]
+
+neither : (a b : Bool) → not (a || b) ≡ (not a && not b)
+neither true b = refl
+neither false b = refl
+
+module _ (p : Problem) (path : List Fact) (q : ℕ) (s : Slot) (day : s.day < p.days) (period : s.period < p.periods) (cs : List ℕ) (are : cs ≡ members p q) where
+  by_sides : is_alone p path q s ≡ (not (live_before p path cs s) && not (live_after p path cs s))
+  by_sides =
+      ap not (beside p (λ n. list_any (λ c. live_period p path c n) (members p q)) s day period)
+      ∙ neither (live_before p path (members p q) s) (live_after p path (members p q) s)
+      ∙ ap (λ ms. not (live_before p path ms s) && not (live_after p path ms s)) (sym are)
+
+  -- where nothing is before it, the period is alone if nothing is behind it
+  pub alone_behind : (after : Bool) → false ≡ live_before p path cs s → after ≡ live_after p path cs s → not after ≡ is_alone p path q s
+  alone_behind after b a = ap not a ∙ ap (λ x. not x && not (live_after p path cs s)) b ∙ sym by_sides
+
+  pub alone_before : (before : Bool) → before ≡ true → true ≡ live_before p path cs s → not before ≡ is_alone p path q s
+  alone_before before e b = ap not e ∙ ap (λ x. not x && not (live_after p path cs s)) b ∙ sym by_sides
+
+-- ---- prices
+
+pub covered_by_price : (p : Problem) (path : List Fact) (rooms : List (ℕ × ℕ)) (k : ℕ × ℕ) (r : ℕ) → k.1 ≤ excess p k.0 r + price_in rooms r → covered_in p path rooms k r ≡ true
+covered_by_price p path rooms k r h =
+    all_pass (λ s. not (is_live p path (cell k.0 r s)) || nat_le k.1 (excess p k.0 r + price_in rooms r)) (all_slots p)
+    (λ s. or_right (not (is_live p path (cell k.0 r s))) (nat_le k.1 (excess p k.0 r + price_in rooms r)) (le-leb k.1 (excess p k.0 r + price_in rooms r) h))

@@ -1,0 +1,6 @@
+pub mod Bounds
+pub mod Claims
+pub mod Leaves
+pub mod Nested
+pub mod Outcomes
+pub mod Ranges

@@ -1,0 +1,125 @@
+-- The leaf rules one number at a time, as the code goes through them.
+use Rattle.std.specs.Prelude.{◌≡◌, ℕ, ◌+◌, ◌-◌, ◌*◌, ◌<◌, nat_lt, nat_le, sum_by, count_by, All, Bool, true, not, ◌&&◌, ◌||◌, List}
+use Rattle.std.specs.List.{list_any, list_all}
+use Rattle.tt_lists.specs.Words.{each_two}
+use Rattle.tt_instance.specs.Problem.{Problem}
+use Rattle.tt_instance.specs.Cells.{slot, cell, all_rooms, all_days, all_slots}
+use Rattle.tt_instance.specs.Courses.{lectures, excess}
+use Rattle.tt_instance.specs.declared.cell.Cell.{Cell}
+use Rattle.tt_instance.specs.declared.cell.Slot.{Slot}
+use Rattle.tt_facts.specs.Facts.{agrees, is_who}
+use Rattle.tt_facts.specs.Live.{is_dead, is_live, live_period, live_day, least_excess, pinned, pinned_room}
+use Rattle.tt_facts.specs.declared.facts.Who.TheVariants.{Curriculum}
+use Rattle.tt_facts.specs.declared.facts.Pattern.{Pattern}
+use Rattle.tt_facts.specs.declared.facts.Fact.{Fact}
+use Rattle.tt_leaf.specs.Claims.{Target, same_target, targets_of, discount, is_alone, price_in, open_in, pinned_day}
+use Rattle.tt_leaf.specs.declared.leaf.Claim.{Claim}
+
+-- ---- dead cells
+
+-- the room, day and period of the cell are the pattern's, where it gives them
+abbrev pub agrees_at : Pattern → Cell → Bool
+agrees_at g x = agrees g.room x.room && agrees g.day x.day && agrees g.period x.period
+
+-- the cell is dead, or its place is not the pattern's
+abbrev pub dead_or_off : Problem → List Fact → Pattern → Cell → Bool
+dead_or_off p path g x =
+    not (agrees_at g x) || is_dead p path x
+
+abbrev pub room_dead : Problem → List Fact → Pattern → ℕ → ℕ → Bool
+room_dead p path g c r = list_all (λ s. dead_or_off p path g (cell c r s)) (all_slots p)
+
+abbrev pub course_dead : Problem → List Fact → Pattern → ℕ → Bool
+course_dead p path g c = list_all (room_dead p path g c) (all_rooms p)
+
+-- the pattern is not of the course, or the course is dead where it matches
+abbrev pub off_or_dead : Problem → List Fact → Pattern → ℕ → Bool
+off_or_dead p path g c = not (is_who p g.who c) || course_dead p path g c
+
+-- ---- courses with a live cell
+
+-- some course of the list has a live cell in the period
+abbrev pub live_for : Problem → List Fact → List ℕ → Slot → Bool
+live_for p path cs s = list_any (λ c. live_period p path c s) cs
+
+-- some course of the list has one in the room in the period
+abbrev pub live_in : Problem → List Fact → List ℕ → ℕ → Slot → Bool
+live_in p path cs r s = list_any (λ c. is_live p path (cell c r s)) cs
+
+-- how many periods have one in the room
+abbrev pub open_in_room : Problem → List Fact → List ℕ → ℕ → ℕ
+open_in_room p path cs r = count_by (live_in p path cs r) (all_slots p)
+
+-- ---- days, rooms and periods of one course or curriculum
+
+abbrev pub live_days : Problem → List Fact → ℕ → ℕ
+live_days p path c = count_by (live_day p path c) (all_days p)
+
+abbrev pub pinned_days : Problem → List Fact → ℕ → ℕ
+pinned_days p path c = count_by (pinned_day p path c) (all_days p)
+
+abbrev pub pinned_rooms : Problem → List Fact → ℕ → ℕ
+pinned_rooms p path c = count_by (pinned_room p path c) (all_rooms p)
+
+-- the pinned periods of the curriculum that are alone
+abbrev pub isolated_periods : Problem → List Fact → ℕ → ℕ
+isolated_periods p path q =
+    count_by (λ s. pinned p path (Curriculum q) s && is_alone p path q s) (all_slots p)
+
+-- the discounts of a price in all periods
+abbrev pub discounts : Problem → List Fact → ℕ → ℕ → ℕ
+discounts p path c u = sum_by (λ s. discount u (least_excess p path c s)) (all_slots p)
+
+-- ---- the neighbours of a period
+
+-- the period before it on its day is live for one of the courses
+abbrev pub live_before : Problem → List Fact → List ℕ → Slot → Bool
+live_before p path cs s = nat_lt 0 s.period && live_for p path cs (slot s.day (s.period - 1))
+
+-- the period behind it is
+abbrev pub live_after : Problem → List Fact → List ℕ → Slot → Bool
+live_after p path cs s =
+    nat_lt (s.period + 1) p.periods && live_for p path cs (slot s.day (s.period + 1))
+
+-- ---- prices
+
+-- each price is of a number below the bound
+abbrev pub PricesBelow : ℕ → List (ℕ × ℕ) → Type 0
+PricesBelow count prices = All (λ k. k.0 < count) prices
+
+-- no cell of the course in the room is live
+abbrev pub dead_in : Problem → List Fact → ℕ → ℕ → Bool
+dead_in p path c r = list_all (λ s. is_dead p path (cell c r s)) (all_slots p)
+
+-- some course of the list has a live cell in the room in the period
+abbrev pub priced_live_in : Problem → List Fact → List (ℕ × ℕ) → ℕ → Slot → Bool
+priced_live_in p path courses r s = list_any (λ k. is_live p path (cell k.0 r s)) courses
+
+-- the lectures of the courses at their prices
+abbrev pub course_prices : Problem → List (ℕ × ℕ) → ℕ
+course_prices p courses = sum_by (λ k. lectures p k.0 * k.1) courses
+
+-- the open periods of the rooms at their prices
+abbrev pub room_prices : Problem → List Fact → List (ℕ × ℕ) → List (ℕ × ℕ) → ℕ
+room_prices p path courses rooms = sum_by (λ k. k.1 * open_in p path courses k.0) rooms
+
+-- in the room, the excess and the room's price cover the price of the course, or none of its cells is live
+abbrev pub covered_in : Problem → List Fact → List (ℕ × ℕ) → ℕ × ℕ → ℕ → Bool
+covered_in p path rooms k r =
+    list_all (λ s. not (is_live p path (cell k.0 r s)) || nat_le k.1 (excess p k.0 r + price_in rooms r)) (all_slots p)
+
+abbrev pub covered : Problem → List Fact → List (ℕ × ℕ) → ℕ × ℕ → Bool
+covered p path rooms k = list_all (covered_in p path rooms k) (all_rooms p)
+
+-- ---- targets
+
+abbrev pub claims_target : Claim → Target → Bool
+claims_target claim t = list_any (same_target t) (targets_of claim)
+
+-- no target of the first is one of the second
+abbrev pub are_apart : Claim → Claim → Bool
+are_apart a b = list_all (λ t. not (claims_target b t)) (targets_of a)
+
+-- the claim has no target twice
+abbrev pub IsOnce : Claim → Type 0
+IsOnce claim = each_two (λ a b. not (same_target a b)) (targets_of claim) ≡ true

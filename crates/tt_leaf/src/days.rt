@@ -1,0 +1,81 @@
+//! The working days that a course lacks.
+
+ghost use Rattle.std.specs.Prelude.{◌≡◌, ◌<◌, ◌≤◌, length};
+ghost use Rattle.tt_leaf.specs.Claims.{pinned_day, value_of};
+ghost use Rattle.tt_leaf.specs.Nested.{live_days, pinned_days};
+ghost use Rattle.tt_leaf.specs.declared.leaf.Claim.TheVariants.{Days, Stacked};
+
+use crate::pinned::pinned_periods;
+use tt_facts::{Path, Who};
+
+/// What a missing day costs, in cost points.
+const DAY_PRICE: u64 = 5;
+
+#[tactic(auto, using(tt_lists::proofs::Numbers::count_more))]
+fn live_days<'i, P: Path<'i>>(path: &P, course: u32) -> u32
+    requires { course < length (P.problem path.now).courses }
+    ensures value { result ≡ live_days (P.problem path.now) (P.facts path.now) course }
+    ensures within { result ≤ 64 }
+{
+    let mut total = 0;
+    for day in 0..path.instance().days() {
+        if path.live_day(course, day) {
+            total += 1;
+        }
+    }
+    total
+}
+
+/// What a claim on the working days of a course is worth, in cost points.
+pub fn days_value<'i, P: Path<'i>>(path: &P, course: u32) -> u64
+    requires { course < length (P.problem path.now).courses }
+    ensures value { result ≡ value_of (P.problem path.now) (P.facts path.now) (Days course) }
+    ensures within { result ≤ 2560 }
+{
+    let instance = path.instance();
+    let most = instance.lectures(course).min(live_days(path, course));
+    DAY_PRICE * u64::from(instance.min_days(course).saturating_sub(most))
+}
+
+#[tactic(auto, using(tt_lists::proofs::Below::any_more))]
+fn is_pinned_day<'i, P: Path<'i>>(path: &P, course: u32, day: u32) -> bool
+    requires course { course < length (P.problem path.now).courses }
+    requires day { day < (P.problem path.now).days }
+    ensures { result ≡ pinned_day (P.problem path.now) (P.facts path.now) course day }
+{
+    for period in 0..path.instance().periods() {
+        if path.pinned(Who::Course(course), day, period) {
+            return true;
+        }
+    }
+    false
+}
+
+#[tactic(auto, using(tt_lists::proofs::Numbers::count_more))]
+fn pinned_days<'i, P: Path<'i>>(path: &P, course: u32) -> u32
+    requires { course < length (P.problem path.now).courses }
+    ensures value { result ≡ pinned_days (P.problem path.now) (P.facts path.now) course }
+    ensures within { result ≤ 64 }
+{
+    let mut total = 0;
+    for day in 0..path.instance().days() {
+        if is_pinned_day(path, course, day) {
+            total += 1;
+        }
+    }
+    total
+}
+
+/// What a claim on the days that the pinned periods of a course share is worth, in cost points.
+pub fn stacked_value<'i, P: Path<'i>>(path: &P, course: u32) -> u64
+    requires { course < length (P.problem path.now).courses }
+    ensures value { result ≡ value_of (P.problem path.now) (P.facts path.now) (Stacked course) }
+    ensures within { result ≤ 2560 }
+{
+    let instance = path.instance();
+    let free = instance
+        .lectures(course)
+        .saturating_sub(pinned_periods(path, Who::Course(course)));
+    let most = live_days(path, course).min(pinned_days(path, course) + free);
+    DAY_PRICE * u64::from(instance.min_days(course).saturating_sub(most))
+}

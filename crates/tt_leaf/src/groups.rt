@@ -1,0 +1,171 @@
+//! Courses that exclude each other, different courses, and the periods and rooms that are open to them.
+
+ghost use Rattle.std.specs.Prelude.{◌≡◌, ◌<◌, ◌≤◌, ◌-◌, ◌^◌, ◌==◌, not, min, nat_lt, length};
+ghost use Rattle.std.specs.List.{list_all};
+ghost use Rattle.tt_lists.specs.Words.{each_two};
+ghost use Rattle.tt_instance.specs.Cells.{slot};
+ghost use Rattle.tt_instance.specs.Courses.{conflict};
+ghost use Rattle.tt_leaf.specs.Leaves.{all_lectures, is_clique, are_distinct, open_periods, open_rooms};
+ghost use Rattle.tt_leaf.specs.Nested.{live_for, live_in, open_in_room};
+ghost use Rattle.tt_leaf.specs.Ranges.{AreBelow};
+
+use crate::slots::{slot_at, slots};
+use tt_facts::Path;
+use tt_instance::{Cell, Instance};
+
+fn excludes_each(instance: &Instance<'_>, course: u32, others: &[u32]) -> bool
+    ensures { result ≡ list_all (conflict instance.now course) others.now }
+{
+    others.iter().all(|other| instance.conflict(course, *other))
+}
+
+fn each_two_exclude(instance: &Instance<'_>, courses: &[u32]) -> bool
+    ensures { result ≡ each_two (conflict instance.now) courses.now }
+{
+    let mut rest = courses;
+    while let Some((first, others)) = rest.split_first() {
+        if !excludes_each(instance, *first, others) {
+            return false;
+        }
+        rest = others;
+    }
+    true
+}
+
+/// Whether there is a course, and each two exclude each other.
+pub fn is_clique(instance: &Instance<'_>, courses: &[u32]) -> bool
+    ensures { result ≡ is_clique instance.now courses.now }
+{
+    !courses.is_empty() && each_two_exclude(instance, courses)
+}
+
+fn differs_from_each(course: u32, others: &[u32]) -> bool
+    ensures { result ≡ list_all (λ other. not (course == other)) others.now }
+{
+    others.iter().all(|other| course != *other)
+}
+
+/// Whether no course stands twice.
+pub fn are_distinct(courses: &[u32]) -> bool
+    ensures { result ≡ are_distinct courses.now }
+{
+    let mut rest = courses;
+    while let Some((first, others)) = rest.split_first() {
+        if !differs_from_each(*first, others) {
+            return false;
+        }
+        rest = others;
+    }
+    true
+}
+
+/// The lectures of courses in all, at most what a u64 holds.
+fn all_lectures(instance: &Instance<'_>, courses: &[u32]) -> u64
+    requires { AreBelow (length instance.now.courses) courses.now }
+    ensures { result ≡ min (all_lectures instance.now courses.now) (2 ^ 64 - 1) }
+{
+    let mut total: u64 = 0;
+    for course in courses {
+        total = total.saturating_add(u64::from(instance.lectures(*course)));
+    }
+    total
+}
+
+/// Whether courses have more lectures than there are places.
+#[tactic(auto, using(crate::proofs::Sizes::below_capped))]
+pub fn have_more_lectures(instance: &Instance<'_>, courses: &[u32], places: u32) -> bool
+    requires { AreBelow (length instance.now.courses) courses.now }
+    ensures { result ≡ nat_lt places (all_lectures instance.now courses.now) }
+{
+    u64::from(places) < all_lectures(instance, courses)
+}
+
+/// Whether one of the courses has a live cell in the period.
+pub fn is_open<'i, P: Path<'i>>(path: &P, courses: &[u32], day: u32, period: u32) -> bool
+    requires courses { AreBelow (length (P.problem path.now).courses) courses.now }
+    requires day { day < (P.problem path.now).days }
+    requires period { period < (P.problem path.now).periods }
+    ensures { result ≡ live_for (P.problem path.now) (P.facts path.now) courses.now (slot day period) }
+{
+    for course in courses {
+        if path.live_period(*course, day, period) {
+            return true;
+        }
+    }
+    false
+}
+
+/// How many periods have a live cell of one of the courses.
+pub fn open_periods<'i, P: Path<'i>>(path: &P, courses: &[u32]) -> u32
+    requires { AreBelow (length (P.problem path.now).courses) courses.now }
+    ensures value { result ≡ open_periods (P.problem path.now) (P.facts path.now) courses.now }
+    ensures within { result ≤ 512 }
+{
+    let instance = path.instance();
+    let mut total = 0;
+    for place in 0..slots(instance) {
+        let slot = slot_at(instance, place);
+        if is_open(path, courses, slot.day, slot.period) {
+            total += 1;
+        }
+    }
+    total
+}
+
+fn is_room_open<'i, P: Path<'i>>(
+    path: &P,
+    courses: &[u32],
+    room: u32,
+    day: u32,
+    period: u32,
+) -> bool
+    requires courses { AreBelow (length (P.problem path.now).courses) courses.now }
+    requires room { room < length (P.problem path.now).rooms }
+    requires day { day < (P.problem path.now).days }
+    requires period { period < (P.problem path.now).periods }
+    ensures { result ≡ live_in (P.problem path.now) (P.facts path.now) courses.now room (slot day period) }
+{
+    for course in courses {
+        let cell = Cell {
+            course: *course,
+            room,
+            day,
+            period,
+        };
+        if !path.dead(cell) {
+            return true;
+        }
+    }
+    false
+}
+
+fn open_in_room<'i, P: Path<'i>>(path: &P, courses: &[u32], room: u32) -> u32
+    requires courses { AreBelow (length (P.problem path.now).courses) courses.now }
+    requires room { room < length (P.problem path.now).rooms }
+    ensures value { result ≡ open_in_room (P.problem path.now) (P.facts path.now) courses.now room }
+    ensures within { result ≤ 512 }
+{
+    let instance = path.instance();
+    let mut total = 0;
+    for place in 0..slots(instance) {
+        let slot = slot_at(instance, place);
+        if is_room_open(path, courses, room, slot.day, slot.period) {
+            total += 1;
+        }
+    }
+    total
+}
+
+/// How many rooms in how many periods have a live cell of one of the courses.
+#[tactic(auto, using(tt_lists::proofs::Numbers::sum_more))]
+pub fn open_rooms<'i, P: Path<'i>>(path: &P, courses: &[u32]) -> u32
+    requires { AreBelow (length (P.problem path.now).courses) courses.now }
+    ensures value { result ≡ open_rooms (P.problem path.now) (P.facts path.now) courses.now }
+    ensures within { result ≤ 262144 }
+{
+    let mut total = 0;
+    for room in 0..path.instance().rooms() {
+        total += open_in_room(path, courses, room);
+    }
+    total
+}

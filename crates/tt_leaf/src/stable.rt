@@ -1,0 +1,32 @@
+//! The rooms of a course but the first.
+
+ghost use Rattle.std.specs.Prelude.{◌≡◌, ◌<◌, ◌≤◌, length};
+ghost use Rattle.tt_leaf.specs.Claims.{value_of};
+ghost use Rattle.tt_leaf.specs.Nested.{pinned_rooms};
+ghost use Rattle.tt_leaf.specs.declared.leaf.Claim.TheVariants.{Stable};
+
+use tt_facts::Path;
+
+#[tactic(auto, using(tt_lists::proofs::Numbers::count_more))]
+fn pinned_rooms<'i, P: Path<'i>>(path: &P, course: u32) -> u32
+    requires { course < length (P.problem path.now).courses }
+    ensures value { result ≡ pinned_rooms (P.problem path.now) (P.facts path.now) course }
+    ensures within { result ≤ 512 }
+{
+    let mut total = 0;
+    for room in 0..path.instance().rooms() {
+        if path.pinned_room(course, room) {
+            total += 1;
+        }
+    }
+    total
+}
+
+/// What a claim on the rooms of a course is worth, in cost points.
+pub fn stable_value<'i, P: Path<'i>>(path: &P, course: u32) -> u64
+    requires { course < length (P.problem path.now).courses }
+    ensures value { result ≡ value_of (P.problem path.now) (P.facts path.now) (Stable course) }
+    ensures within { result ≤ 512 }
+{
+    u64::from(pinned_rooms(path, course).saturating_sub(1))
+}

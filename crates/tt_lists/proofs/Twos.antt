@@ -1,0 +1,56 @@
+-- Tests of each two elements, and tests of the elements of two lists.
+use Rattle.std.proofs.Common.{◌≡◌, Bool, true, false, not, ◌&&◌, ◌||◌, List, [], ◌∷◌, ◌++◌, refl, sym, ap, ◌∙◌}
+use Rattle.std.specs.Prelude.{flat_map}
+use Rattle.std.specs.List.{list_any, list_all}
+use Rattle.std.proofs.lemmas.List.Folds.{list_all-append}
+use Rattle.tt_lists.specs.Words.{each_two}
+use Rattle.tt_lists.proofs.All.{list_all-of_flat_map, list_all-same}
+use Rattle.tt_lists.proofs.Below.{all_pass}
+
+pub neither : (a b : Bool) → not (a || b) ≡ (not a && not b)
+neither true b = refl
+neither false b = refl
+
+-- none passes
+pub list_all-not : {X : Type 0} (p : X → Bool) (xs : List X) → list_all (λ x. not (p x)) xs ≡ not (list_any p xs)
+list_all-not p [] = refl
+list_all-not p (x ∷ xs) = ap (λ b. not (p x) && b) (list_all-not p xs) ∙ sym (neither (p x) (list_any p xs))
+
+list_all-both : {X : Type 0} (p q : X → Bool) (xs : List X) → list_all (λ x. p x && q x) xs ≡ (list_all p xs && list_all q xs)
+list_all-both p q [] = refl
+list_all-both p q (x ∷ xs) = ap (λ b. p x && q x && b) (list_all-both p q xs) ∙ turned (p x) (q x) (list_all p xs) (list_all q xs)
+  where
+    turned : (a b c d : Bool) → (a && b && (c && d)) ≡ ((a && c) && (b && d))
+    turned true true c d = refl
+    turned true false true d = refl
+    turned true false false d = refl
+    turned false b c d = refl
+
+-- a test of the elements of two lists, in the other order
+pub list_all-swap : {X Y : Type 0} (t : X → Y → Bool) (xs : List X) (ys : List Y) → list_all (λ x. list_all (t x) ys) xs ≡ list_all (λ y. list_all (λ x. t x y) xs) ys
+list_all-swap t [] ys = sym (all_pass (λ y. true) ys (λ y. refl))
+list_all-swap t (x ∷ xs) ys =
+    ap (λ b. list_all (t x) ys && b) (list_all-swap t xs ys) ∙ sym (list_all-both (t x) (λ y. list_all (λ z. t z y) xs) ys)
+
+pub each_two-append : {X : Type 0} (related : X → X → Bool) (xs ys : List X) → each_two related (xs ++ ys) ≡ (each_two related xs && (list_all (λ x. list_all (related x) ys) xs && each_two related ys))
+each_two-append related [] ys = refl
+each_two-append related (x ∷ xs) ys =
+    ap (λ b. b && each_two related (xs ++ ys)) (list_all-append (related x) xs ys)
+    ∙ ap (λ b. (list_all (related x) xs && list_all (related x) ys) && b) (each_two-append related xs ys)
+    ∙ turned (list_all (related x) xs) (list_all (related x) ys) (each_two related xs) (list_all (λ z. list_all (related z) ys) xs) (each_two related ys)
+  where
+    turned : (a b c d e : Bool) → ((a && b) && (c && (d && e))) ≡ ((a && c) && ((b && d) && e))
+    turned true true true d e = refl
+    turned true true false d e = refl
+    turned true false true d e = refl
+    turned true false false d e = refl
+    turned false b c d e = refl
+
+-- the first of some lists has no two related elements: then they are apart if it is apart from each other list, and those are
+pub each_two-of_flat_map : {X Y : Type 0} (related : Y → Y → Bool) (h : X → List Y) (x : X) (xs : List X) → each_two related (h x) ≡ true → each_two related (flat_map h (x ∷ xs)) ≡ (list_all (λ z. list_all (λ a. list_all (related a) (h z)) (h x)) xs && each_two related (flat_map h xs))
+each_two-of_flat_map related h x xs once =
+    each_two-append related (h x) (flat_map h xs)
+    ∙ ap (λ b. b && (list_all (λ a. list_all (related a) (flat_map h xs)) (h x) && each_two related (flat_map h xs))) once
+    ∙ ap (λ b. b && each_two related (flat_map h xs))
+    (list_all-same (λ a. list_all (related a) (flat_map h xs)) (λ a. list_all (λ z. list_all (related a) (h z)) xs) (h x) (λ a. list_all-of_flat_map (related a) h xs)
+    ∙ list_all-swap (λ a z. list_all (related a) (h z)) (h x) xs)

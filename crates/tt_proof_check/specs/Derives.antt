@@ -1,0 +1,28 @@
+-- What a tree derives, and what that means.
+use Rattle.std.specs.Prelude.{◌≡◌, List, []}
+use Rattle.tt_instance.specs.Problem.{Problem}
+use Rattle.tt_instance.specs.declared.cell.Cell.{Cell}
+use Rattle.tt_rules.specs.Score.{IsFeasible, cost}
+use Rattle.tt_facts.specs.Facts.{Fits}
+use Rattle.tt_facts.specs.declared.facts.Fact.{Fact}
+use Rattle.tt_leaf.specs.Bounds.{Respects}
+use Rattle.tt_leaf.specs.Leaves.{IsRight}
+use Rattle.tt_leaf.specs.declared.leaf.Bound.{Bound}
+use Rattle.tt_proof_text.specs.Trees.{Tree, AllLeaves, preorder}
+use Rattle.tt_proof_text.specs.declared.node.Node.{Node}
+
+-- each leaf is right on its path
+abbrev pub Derives : Problem → Bound → List Fact → Tree → Type 0
+Derives p b path tree = AllLeaves (λ facts leaf. IsRight p facts b leaf) path tree
+
+-- each feasible timetable that fits the path respects the bound
+abbrev pub HoldsOn : Problem → Bound → List Fact → Type 0
+HoldsOn p b path = (t : List Cell) → IsFeasible p t → Fits p t path → Respects b (cost p t)
+
+-- each feasible timetable respects the bound
+abbrev pub HoldsOfAll : Problem → Bound → Type 0
+HoldsOfAll p b = (t : List Cell) → IsFeasible p t → Respects b (cost p t)
+
+-- the nodes are a tree's, and it derives the bound
+abbrev pub Proves : Problem → Bound → List Node → Type 0
+Proves p b nodes = (tree : Tree) × (preorder tree ≡ nodes) × Derives p b [] tree

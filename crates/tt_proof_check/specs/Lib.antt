@@ -1,0 +1,2 @@
+pub mod Derives
+pub mod Headline

@@ -1,0 +1,92 @@
+//! What the checker answers, and why it refuses.
+
+ghost use Rattle.std.specs.Prelude.{◌≡◌};
+ghost use Rattle.tt_proof_check.specs.declared.fault.CheckFault.TheVariants.{OutOfMemory};
+
+use std::alloc::{AllocError, AllocFailed};
+use std::error::Error;
+use std::fmt;
+use tt_instance::InstanceFault;
+use tt_leaf::RuleFault;
+use tt_proof_text::TextFault;
+use tt_rules::Score;
+use tt_table::SolutionFault;
+
+/// Why a proof is refused. Nodes are numbered from 0 in the order of the file.
+#[derive(Clone, Copy, Debug, PartialEq, Eq)]
+pub enum CheckFault {
+    Text(TextFault),
+    /// The leaf at this node does not close it.
+    Rule(u32, RuleFault),
+    /// This node stands below more than 65,536 splits.
+    TooDeep(u32),
+    OutOfMemory,
+}
+
+impl From<AllocError> for CheckFault {
+    ghost from_gives = { λ _ e. e ≡ OutOfMemory };
+
+    fn from(_e: AllocError) -> CheckFault {
+        CheckFault::OutOfMemory
+    }
+}
+
+impl<T: Drop> From<AllocFailed<T>> for CheckFault {
+    ghost from_gives = { λ _ e. e ≡ OutOfMemory };
+
+    fn from(_e: AllocFailed<T>) -> CheckFault {
+        CheckFault::OutOfMemory
+    }
+}
+
+impl fmt::Display for CheckFault {
+    fn fmt<W: fmt::Write>(&self, f: &mut fmt::Formatter<W>) -> fmt::Result {
+        match self {
+            CheckFault::Text(fault) => write!(f, "{fault}"),
+            CheckFault::Rule(node, fault) => write!(f, "{fault} at node {node}"),
+            CheckFault::TooDeep(node) => write!(f, "TooDeep at node {node}"),
+            CheckFault::OutOfMemory => write!(f, "out of memory"),
+        }
+    }
+}
+
+impl Error for CheckFault {}
+
+/// Why a list of nodes is refused. Nodes are numbered from 0 in the order of the list.
+#[derive(Clone, Copy, Debug, PartialEq, Eq)]
+pub enum NodesFault {
+    /// The nodes are not one tree in preorder.
+    NotATree,
+    Rule(u32, RuleFault),
+    TooDeep(u32),
+    OutOfMemory,
+}
+
+/// What an instance, a solution and a proof come to.
+#[derive(Clone, Copy, Debug, PartialEq, Eq)]
+pub enum Verdict {
+    /// The solution breaks no hard rule, and its cost and the bound are proved; both in cost points.
+    Yes { cost: u64, bound: u64 },
+    /// The solution breaks a hard rule; the proof was not read.
+    Breaks(Score),
+}
+
+/// Why there is no verdict.
+#[derive(Clone, Copy, Debug, PartialEq, Eq)]
+pub enum CertifyFault {
+    Instance(InstanceFault),
+    Solution(SolutionFault),
+    Proof(CheckFault),
+    OutOfMemory,
+}
+
+impl From<AllocError> for CertifyFault {
+    ghost use Rattle.std.specs.Prelude.{◌≡◌};
+    ghost use Rattle.tt_proof_check.specs.declared.fault.CertifyFault.TheVariants as certify;
+
+    ghost from_gives = { λ _ e. e ≡ certify.OutOfMemory };
+
+    fn from(_e: AllocError) -> CertifyFault {
+        CertifyFault::OutOfMemory
+    }
+}

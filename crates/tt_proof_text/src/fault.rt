@@ -1,0 +1,109 @@
+//! Why a text is no proof, or a list of nodes can't be written.
+
+ghost use Rattle.std.specs.Prelude.{◌≡◌};
+ghost use Rattle.tt_proof_text.specs.declared.fault.TextFault.TheVariants.{OutOfMemory};
+ghost use Rattle.tt_proof_text.specs.Words.{word_text};
+
+use std::alloc::{AllocError, AllocFailed};
+use std::error::Error;
+use std::fmt;
+use tt_text::FeedFault;
+
+/// A fixed word of the format.
+#[derive(Clone, Copy, Debug, PartialEq, Eq)]
+pub enum Word {
+    Cttp,
+    One,
+    Bound,
+    End,
+}
+
+impl Word {
+    /// The word as text.
+    pub fn as_str(self) -> &'static str
+        ensures { result.now ≡ word_text self }
+    {
+        match self {
+            Word::Cttp => "CTTP",
+            Word::One => "1",
+            Word::Bound => "bound",
+            Word::End => "end",
+        }
+    }
+
+    /// The bytes of the word.
+    pub fn text(self) -> &'static [u8]
+        ensures { result.now ≡ word_text self }
+    {
+        self.as_str().as_bytes()
+    }
+}
+
+impl fmt::Display for Word {
+    fn fmt<W: fmt::Write>(&self, f: &mut fmt::Formatter<W>) -> fmt::Result {
+        f.write_str(self.as_str())
+    }
+}
+
+/// The first fault from the left, with the offset of its token (of the end, where one is missing), or what the feed met.
+#[derive(Clone, Copy, Debug, PartialEq, Eq)]
+pub enum TextFault {
+    Ended(usize),
+    Expected(Word, usize),
+    UnknownWord(usize),
+    /// No number where one is due, or one above its limit.
+    NotANumber(usize),
+    UnknownIndex(usize),
+    RepeatedIndex(usize),
+    TrailingToken(usize),
+    TooManyNodes(usize),
+    Feed(FeedFault),
+    OutOfMemory,
+}
+
+impl From<AllocError> for TextFault {
+    ghost from_gives = { λ _ e. e ≡ OutOfMemory };
+
+    fn from(_e: AllocError) -> TextFault {
+        TextFault::OutOfMemory
+    }
+}
+
+impl<T: Drop> From<AllocFailed<T>> for TextFault {
+    ghost from_gives = { λ _ e. e ≡ OutOfMemory };
+
+    fn from(_e: AllocFailed<T>) -> TextFault {
+        TextFault::OutOfMemory
+    }
+}
+
+impl fmt::Display for TextFault {
+    fn fmt<W: fmt::Write>(&self, f: &mut fmt::Formatter<W>) -> fmt::Result {
+        match self {
+            TextFault::Ended(at) => write!(f, "Ended at byte {at}"),
+            TextFault::Expected(word, at) => write!(f, "Expected {word} at byte {at}"),
+            TextFault::UnknownWord(at) => write!(f, "UnknownWord at byte {at}"),
+            TextFault::NotANumber(at) => write!(f, "NotANumber at byte {at}"),
+            TextFault::UnknownIndex(at) => write!(f, "UnknownIndex at byte {at}"),
+            TextFault::RepeatedIndex(at) => write!(f, "RepeatedIndex at byte {at}"),
+            TextFault::TrailingToken(at) => write!(f, "TrailingToken at byte {at}"),
+            TextFault::TooManyNodes(at) => write!(f, "TooManyNodes at byte {at}"),
+            TextFault::Feed(fault) => write!(f, "{fault}"),
+            TextFault::OutOfMemory => write!(f, "out of memory"),
+        }
+    }
+}
+
+impl Error for TextFault {}
+
+/// Why a list of nodes can't be written.
+#[derive(Clone, Copy, Debug, PartialEq, Eq)]
+pub enum WriteFault {
+    /// The nodes are not one tree in preorder.
+    NotATree,
+    /// A number, the nodes, the depth or the bytes pass the format's limit.
+    OverLimit,
+    OutOfMemory,
+    /// Version 1 was asked for, and a node has a claim of version 2.
+    NotInVersion,
+}

@@ -1,0 +1,67 @@
+//! Sets of places: of courses, of rooms, of days, or of periods of the week.
+
+ghost use Rattle.std.specs.Prelude.{◌≡◌, ℕ, ◌<◌, ◌≤◌, ◌==◌, ◌||◌, false, slice_index_or, count_by};
+ghost use Rattle.tt_lists.specs.Words.{numbers_below};
+
+use std::marker::Model;
+
+/// Places are numbered from 0; there are as many as courses, and fewer rooms, days and periods.
+pub const PLACES: usize = 2048;
+
+/// Whether each place is marked.
+#[derive(Drop)]
+pub struct Marks {
+    places: [bool; PLACES],
+}
+
+impl Model for Marks {
+    ghost use Rattle.std.specs.Prelude.{List, Bool};
+
+    ghost Value = { List Bool };
+
+    ghost view = { λ m. m.places };
+}
+
+impl Marks {
+    /// No place is marked.
+    pub fn none() -> Self
+        ensures { (k : ℕ) → slice_index_or result k false ≡ false }
+    {
+        Marks {
+            places: [false; PLACES],
+        }
+    }
+
+    /// Whether a place is marked; one that is not there is not.
+    pub fn has(&self, place: usize) -> bool
+        ensures { result ≡ slice_index_or self.now place false }
+    {
+        place < PLACES && self.places[place]
+    }
+
+    /// Marks a place.
+    pub fn add(&mut self, place: usize)
+        requires { place < PLACES }
+        ensures { (k : ℕ) → slice_index_or self.new k false
+            ≡ (slice_index_or self.old k false || (place == k)) }
+    {
+        self.places[place] = true;
+    }
+
+    /// How many places below a bound are marked.
+    #[tactic(auto, using(tt_lists::proofs::Numbers::count_more))]
+    pub fn count(&self, bound: u32) -> u64
+        requires { bound ≤ PLACES }
+        ensures count { result
+            ≡ count_by (λ k. slice_index_or self.now k false) (numbers_below bound) }
+        ensures few { result ≤ bound }
+    {
+        let mut total: u64 = 0;
+        for place in 0..bound {
+            if self.places[place as usize] {
+                total += 1;
+            }
+        }
+        total
+    }
+}

@@ -1,0 +1,25 @@
+//! The periods of the week, numbered from 0, day by day.
+
+ghost use Rattle.std.specs.Prelude.{◌≡◌, ◌+◌, ◌*◌, ◌<◌, ◌≤◌};
+ghost use Rattle.tt_instance.specs.Cells.{InRange};
+
+use tt_instance::Instance;
+use tt_table::Entry;
+
+/// How many periods the week has.
+pub fn in_week(instance: &Instance<'_>) -> u32
+    ensures value { result ≡ instance.now.days * instance.now.periods }
+    ensures within { result ≤ 512 }
+{
+    instance.days() * instance.periods()
+}
+
+/// The number of an entry's period.
+#[tactic(auto, using(crate::proofs::Numbering::number_below_week))]
+pub fn number(instance: &Instance<'_>, entry: &Entry) -> usize
+    requires { InRange instance.now entry.now }
+    ensures value { result ≡ entry.now.day * instance.now.periods + entry.now.period }
+    ensures within { result < 512 }
+{
+    (entry.day * instance.periods() + entry.period) as usize
+}

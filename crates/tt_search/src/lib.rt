@@ -1,0 +1,2 @@
+//! Construction, descent and seeded search of timetables.
+#![tactic(auto)]

@@ -1,0 +1,8 @@
+use Rattle.std.proofs.Common.{◌≡◌, take}
+use Rattle.std.specs.List.{flat_map}
+use Rattle.tt_text.specs.Lines.{line_text}
+use Rattle.tt_table.specs.Spelling.{entry_pieces}
+use Rattle.tt_table.proofs.writing.put_entries.Given as goal
+
+abbrev pub invariant-loop-entry : goal.invariant-loop-entry
+invariant-loop-entry l = l.out.items ≡ flat_map (λ e. line_text (entry_pieces l.instance e)) (take l.entry-index l.entries)

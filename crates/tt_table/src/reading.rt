@@ -1,0 +1,107 @@
+//! Timetables from solution files.
+
+ghost use Rattle.std.specs.Prelude.{◌≡◌, ◌<◌, ◌-◌, List, Ok, IfOk, length};
+ghost use Rattle.tt_text.specs.Tokens.{place};
+ghost use Rattle.tt_instance.specs.declared.cell.Cell.{Cell};
+ghost use Rattle.tt_table.specs.Reading.{Gives, token_at, index_at, entry_at, solution_of};
+ghost use Rattle.tt_table.specs.Spelling.{SpellsTable};
+ghost use Rattle.tt_table.specs.Table.{IsTimetable};
+
+use crate::fault::SolutionFault;
+use crate::table::{MAX_ENTRIES, Timetable};
+use std::alloc::Global;
+use tt_instance::{Cell as Entry, Instance};
+use tt_text::{NumberFault, Token, Tokens, number};
+
+/// The next token of a text of end bytes.
+#[tactic(auto, unfolding(tt_text::specs::Reading::token_or))]
+fn token<'a>(tokens: &mut Tokens<'a>, end: usize) -> Result<Token<'a>, SolutionFault>
+    ensures { Gives (λ t. (place t, tokens.new)) result (token_at end tokens.old) }
+{
+    match tokens.next() {
+        None => Err(SolutionFault::Ended(end)),
+        Some(token) => Ok(token),
+    }
+}
+
+/// A number below a bound.
+#[tactic(auto, unfolding(crate::specs::Reading::index_at))]
+fn index(tokens: &mut Tokens<'_>, end: usize, bound: u32) -> Result<u32, SolutionFault>
+    requires { 0 < bound }
+    ensures { Gives (λ n. (n, tokens.new)) result (index_at end bound tokens.old) }
+{
+    let token = token(tokens, end)?;
+    match number(&token, u64::from(bound - 1)) {
+        Ok(value) => Ok(value as u32),
+        Err(NumberFault::NotANumber) => Err(SolutionFault::NotANumber(token.at)),
+        Err(NumberFault::TooLarge) => Err(SolutionFault::OutOfRange(token.at)),
+    }
+}
+
+/// An entry whose first token has been taken.
+#[tactic(auto, unfolding(crate::specs::Reading::entry_at))]
+fn entry(
+    instance: &Instance<'_>,
+    first: Token<'_>,
+    tokens: &mut Tokens<'_>,
+    end: usize,
+) -> Result<Entry, SolutionFault>
+    ensures { Gives (λ e. (e, tokens.new)) result (entry_at end instance.now (place first.entry) tokens.old) }
+{
+    let Some(course) = instance.course_named(first.bytes) else {
+        return Err(SolutionFault::UnknownCourse(first.at));
+    };
+    let token = token(tokens, end)?;
+    let Some(room) = instance.room_named(token.bytes) else {
+        return Err(SolutionFault::UnknownRoom(token.at));
+    };
+    let day = index(tokens, end, instance.days())?;
+    let period = index(tokens, end, instance.periods())?;
+    Ok(Entry {
+        course,
+        room,
+        day,
+        period,
+    })
+}
+
+fn read_entries(
+    alloc: Global,
+    instance: &Instance<'_>,
+    bytes: &[u8],
+) -> Result<Timetable, SolutionFault>
+    ensures { Gives (λ t. t) result (solution_of instance.now bytes.now) }
+{
+    let end = bytes.len();
+    let mut tokens = Tokens::new(bytes);
+    let mut table = Timetable::new(alloc);
+    while let Some(first) = tokens.next() {
+        if table.len() == MAX_ENTRIES {
+            return Err(SolutionFault::TooMany(first.at));
+        }
+        let entry = entry(instance, first, &mut tokens, end)?;
+        match table.push(entry) {
+            Ok(()) => {}
+            Err(_) => return Err(SolutionFault::OutOfMemory),
+        }
+    }
+    Ok(table)
+}
+
+/// The timetable that the bytes of a solution file spell. It fits the instance.
+pub fn read_solution(
+    alloc: Global,
+    instance: &Instance<'_>,
+    bytes: &[u8],
+) -> Result<Timetable, SolutionFault>
+    // What is read is spelled.
+    ensures found { IfOk result (λ t. SpellsTable instance.now bytes.now t) }
+    // What is spelled is read, unless memory runs out.
+    ensures only { (t : List Cell) → SpellsTable instance.now bytes.now t → Gives (λ r. r) result (Ok t) }
+    // Which fault it is.
+    ensures exact { Gives (λ t. t) result (solution_of instance.now bytes.now) }
+    ensures fits { IfOk result (λ t. IsTimetable instance.now t) }
+{
+    let _days = instance.days();
+    read_entries(alloc, instance, bytes)
+}
