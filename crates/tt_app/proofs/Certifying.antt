@@ -1,5 +1,5 @@
 -- What `check` answers, from what its steps answered.
-use Rattle.std.proofs.Common.{◌≡◌, ℕ, zero, suc, ◌+◌, ◌<◌, ◌≤◌, Bool, true, false, List, [], length, Option, Some, None, Result, Ok, Err, refl, sym, ap, subst, ◌∙◌, arith, inl, inr}
+use Rattle.std.proofs.Common.{◌≡◌, ℕ, zero, suc, ◌+◌, ◌<◌, ◌≤◌, Bool, true, false, List, length, Option, Some, None, Result, Ok, Err, refl, sym, subst, ◌∙◌, arith, inl, inr}
 use Rattle.std.specs.Prelude.{IfSome, ◌⊎◌, ◌↔◌, IsTrue}
 use Rattle.tt_text.specs.declared.feed.FeedFault.TheVariants as feed
 use Rattle.tt_instance.specs.Problem.{Problem}
@@ -16,12 +16,11 @@ use Rattle.tt_proof_check.specs.Derives.{HoldsOfAll}
 use Rattle.tt_proof_check.specs.declared.fault.CheckFault.{CheckFault}
 use Rattle.tt_proof_check.specs.declared.fault.CheckFault.TheVariants as check
 use Rattle.tt_days.specs.Days.{ProvesByDays}
-use Rattle.tt_days.specs.Verdicts.{is_silent, verdict_of}
+use Rattle.tt_days.specs.Verdicts.{is_silent}
 use Rattle.tt_app.specs.Told.{told_check}
 use Rattle.tt_text.specs.Reading.{FailsBut}
-use Rattle.tt_app.specs.Lines.{yes_line, broken_line}
-use Rattle.tt_app.specs.Checked.{CertifiesByDays, Solves, Breaks, BoundsAll, IsYesAnswer, IsBrokenAnswer, IsYes, IsBroken, IsChecked, GivesBytes, TellsBytes, IsProved, TellsBound, GivesBound, TellsOfProof, FailsProof, TellsOfAll, AnswersYes, AnswersBroken, read_failed}
-use Rattle.tt_app.specs.Validated.{SpellsBoth, TellsOfBoth}
+use Rattle.tt_app.specs.Checked.{CertifiesByDays, Breaks, BoundsAll, IsYesAnswer, IsBrokenAnswer, IsChecked, GivesBytes, TellsBytes, IsProved, TellsBound, TellsOfProof, TellsOfAll, AnswersYes, AnswersBroken, read_failed}
+use Rattle.tt_app.specs.Validated.{TellsOfBoth}
 use Rattle.tt_app.specs.declared.answer.Answer.{Answer}
 use Rattle.tt_app.specs.declared.fault.AppFault.{AppFault}
 use Rattle.tt_app.specs.declared.fault.AppFault.TheVariants as fault

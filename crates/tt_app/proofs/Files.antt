@@ -1,5 +1,5 @@
 -- The bytes of an instance and of a solution: what the readers answer of them.
-use Rattle.std.proofs.Common.{◌≡◌, ℕ, true, false, List, Result, Ok, Err, refl, sym, ap, subst, ◌∙◌}
+use Rattle.std.proofs.Common.{◌≡◌, ℕ, List, Ok, Err, refl, sym, subst, ◌∙◌}
 use Rattle.tt_instance.specs.Problem.{Problem}
 use Rattle.tt_instance.specs.Reading.{instance_of, Fails}
 use Rattle.tt_instance.specs.Spelling.{Spells}
@@ -17,7 +17,7 @@ use Rattle.tt_rules.specs.Score.{IsScore}
 use Rattle.tt_rules.specs.declared.counts.Score.{Score}
 use Rattle.tt_rules.proofs.Scores.{hard_is}
 use Rattle.tt_app.specs.Lines.{score_text}
-use Rattle.tt_app.specs.Validated.{TellsOfBoth, SpellsBoth, FailsSolution, score_lines, IsScoreAnswer, IsValidated}
+use Rattle.tt_app.specs.Validated.{TellsOfBoth, SpellsBoth, score_lines, IsScoreAnswer, IsValidated}
 use Rattle.tt_app.specs.declared.answer.Answer.{Answer}
 use Rattle.tt_app.specs.declared.fault.AppFault.{AppFault}
 use Rattle.tt_app.specs.declared.fault.AppFault.TheVariants as fault

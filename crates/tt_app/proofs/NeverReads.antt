@@ -1,6 +1,6 @@
 -- Reading the bytes of a proof that are at hand, no read fails.
 use Rattle.std.proofs.Common.{◌≡◌, ℕ, zero, suc, ◌==◌, nat_lt, Bool, true, false, if◌then◌else◌, List, [], ◌∷◌, ◌++◌, length, Option, Some, None, Result, Ok, Err, refl}
-use Rattle.std.specs.Prelude.{IfErr, ⊤, codes}
+use Rattle.std.specs.Prelude.{IfErr, codes}
 use Rattle.tt_text.specs.Tokens.{Placed, tokens_of}
 use Rattle.tt_text.specs.Texts.{is_text}
 use Rattle.tt_text.specs.Numbers.{number_of}

@@ -1,5 +1,5 @@
 -- What `check` answers of the bytes of an instance, of a solution and of a proof.
-use Rattle.std.specs.Prelude.{◌≡◌, ℕ, ◌<◌, ◌≤◌, ◌⊎◌, List, [], length, Option, Some, None, Result, Ok, Err, IfSome, ⊤}
+use Rattle.std.specs.Prelude.{◌≡◌, ℕ, ◌<◌, ◌≤◌, ◌⊎◌, List, length, Option, None, Result, Ok, Err, IfSome, ⊤}
 use Rattle.tt_text.specs.declared.feed.FeedFault.TheVariants as feed
 use Rattle.tt_instance.specs.Problem.{Problem}
 use Rattle.tt_instance.specs.Reading.{instance_of}
@@ -7,7 +7,6 @@ use Rattle.tt_instance.specs.Spelling.{Spells}
 use Rattle.tt_instance.specs.declared.cell.Cell.{Cell}
 use Rattle.tt_table.specs.Spelling.{SpellsTable}
 use Rattle.tt_rules.specs.Score.{IsFeasible, hard, cost}
-use Rattle.tt_leaf.specs.declared.leaf.Bound.{Bound}
 use Rattle.tt_leaf.specs.declared.leaf.Bound.TheVariants.{AtLeast}
 use Rattle.tt_proof_text.specs.declared.fault.TextFault.TheVariants as text
 use Rattle.tt_proof_check.specs.Derives.{HoldsOfAll}

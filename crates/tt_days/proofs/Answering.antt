@@ -17,6 +17,7 @@ told : {A B : Type 0} (f : TextFault) (r : Result A TextFault) (go : A → Resul
 told text.OutOfMemory r go h = tt
 told f r go h = rw h refl
 
+-- a text that was refused gives its fault
 pub refused : (p : Problem) (bytes : List ℕ) (f : TextFault) (g : CheckFault) → g ≡ refusal_of f → FailsBut is_silent_text f (proof_of p bytes) → FailsBut is_silent g (verdict_of p bytes)
 unfolding verdict_of
 refused p bytes f g is h = rw is (told f (proof_of p bytes) (λ r. ruled r.1 (fault_of p [] r.1 (days_leaf r.2))) h)
@@ -26,5 +27,6 @@ pub judged : (p : Problem) (bytes : List ℕ) (v : ℕ) (b : Bound) (cs : List �
 unfolding verdict_of
 judged p bytes v b cs e = rw e refl
 
+-- the same, of the courses as a slice that the leaf was judged by
 pub judged_as : (p : Problem) (bytes : List ℕ) (v : ℕ) (b : Bound) (cs slice : List ℕ) (f : Option RuleFault) → proof_of p bytes ≡ Ok (v, b, cs) → slice ≡ cs → f ≡ fault_of p [] b (days_leaf slice) → verdict_of p bytes ≡ ruled b f
 judged_as p bytes v b cs slice f e is told_as = judged p bytes v b cs e ∙ ap (λ (l : List ℕ). ruled b (fault_of p [] b (days_leaf l))) (sym is) ∙ ap (ruled b) (sym told_as)

@@ -17,6 +17,7 @@ use Rattle.tt_days.proofs.FieldLaws.{Took, took_then, took_piece, Spelled, has_t
 
 -- ---- the word of the node
 
+-- the word of the node that was read is spelled
 pub leaf_took : (end : ℕ) (ts mid : List Placed) → leaf_at end ts ≡ Ok mid → Took ts (Text (codes "B") ∷ []) mid
 unfolding leaf_at
 leaf_took end ts mid e =
@@ -24,11 +25,13 @@ leaf_took end ts mid e =
     let g = test_ok (is_text (codes "B") a.0.0.text) (fault.UnknownWord a.0.0.at) (Ok a.0.1) mid a.2 in
     subst (Took ts (Text (codes "B") ∷ [])) (ok_is a.0.1 mid g.1) (took_piece end ts a.0 (Text (codes "B")) a.1 (text_is a.0.0.text (codes "B") g.0))
 
+-- the next token is the word of the node, and what follows is these pieces
 pub record HasLeaf (end : ℕ) (qs : List Piece) (ts : List Placed) : Type 0 where
   pub mid : List Placed
   pub is : leaf_at end ts ≡ Ok mid
   pub left : Spelled qs mid
 
+-- the word of the node that is spelled is read
 pub has_leaf : (end : ℕ) (qs : List Piece) (ts : List Placed) → Spelled (Text (codes "B") ∷ qs) ts → HasLeaf end qs ts
 unfolding leaf_at
 has_leaf end qs ts h =
@@ -38,6 +41,7 @@ has_leaf end qs ts h =
 
 -- ---- a claim
 
+-- `D` and a course
 abbrev pub claim_pieces : ℕ → List Piece
 claim_pieces c = Text (codes "D") ∷ course_piece c ∷ []
 
@@ -45,6 +49,7 @@ claim_pieces c = Text (codes "D") ∷ course_piece c ∷ []
 abbrev pub days_pieces : List ℕ → List Piece
 days_pieces cs = flat_map claim_pieces cs
 
+-- the end of the claims
 abbrev end_piece : Piece
 end_piece = Text (codes ";")
 
@@ -53,6 +58,7 @@ abbrev ClaimTook : ℕ → List Placed → Option ℕ → List Placed → Type 0
 ClaimTook count ts None mid = Took ts (end_piece ∷ []) mid
 ClaimTook count ts (Some c) mid = Took ts (claim_pieces c) mid × (c < count)
 
+-- a claim, or the end of the claims, that was read is spelled
 claim_took : (end count : ℕ) (ts : List Placed) (x : Option ℕ × List Placed) → claim_at end count ts ≡ Ok x → ClaimTook count ts x.0 x.1
 unfolding claim_at
 claim_took end count ts x e = by_word (is_text (codes ";") t.0.0.text) (is_text (codes "D") t.0.0.text) refl refl t.2
@@ -125,6 +131,7 @@ claims_took end count (suc n) before ts x e =
     claimed count before ts c.0.1 c.0.0 x (λ a. claims_at end count n (before ++ a ∷ []) c.0.1) (claim_took end count ts c.0 c.1) c.2
     (λ a h. claims_took end count n (before ++ a ∷ []) c.0.1 x h)
 
+-- where a piece is spelled there is a token
 some_token : (p : Piece) (qs : List Piece) (ts : List Placed) → Spelled (p ∷ qs) ts → 0 < length ts
 some_token p qs [] h = absurd h.tokens
 some_token p qs (t ∷ ts) h = omega arith

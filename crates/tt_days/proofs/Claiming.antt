@@ -7,6 +7,7 @@ use Rattle.tt_proof_text.specs.declared.fault.TextFault.{TextFault}
 use Rattle.tt_proof_text.specs.declared.fault.TextFault.TheVariants as fault
 use Rattle.tt_days.specs.Reading.{is_silent_text, token_at, claim_at, claims_at, claimed_then}
 
+-- what reading all claims gives
 abbrev Total : Type 0
 Total = Result (List ℕ × List Placed) TextFault
 
@@ -16,9 +17,11 @@ pub record AreLeft (end count : ℕ) (before : List ℕ) (ts : List Placed) (tot
   pub enough : length ts ≤ most
   pub is : claims_at end count most before ts ≡ total
 
+-- before the first turn all claims are left
 pub all_left : (end count : ℕ) (before : List ℕ) (ts : List Placed) → AreLeft end count before ts (claims_at end count (length ts) before ts)
 all_left end count before ts = record { most = length ts; enough = omega arith; is = refl }
 
+-- one claim, and then the others
 step : (end count n : ℕ) (before : List ℕ) (ts rest : List Placed) (c : Option ℕ) → claim_at end count ts ≡ Ok (c, rest)
     → claims_at end count (suc n) before ts ≡ claimed_then before rest (λ a. claims_at end count n (before ++ a ∷ []) rest) c
 unfolding claims_at

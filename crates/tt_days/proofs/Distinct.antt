@@ -10,6 +10,7 @@ use Rattle.tt_lists.specs.Words.{each_two}
 use Rattle.tt_lists.proofs.Members.{each_two-of_append}
 use Rattle.tt_leaf.specs.Leaves.{are_distinct}
 
+-- four tests in another order
 regrouped : (a b c d : Bool) → ((a && (b && true)) && (c && d)) ≡ ((a && c) && (b && d))
 regrouped false b c d = refl
 regrouped true false false d = refl
@@ -26,14 +27,15 @@ none_any p (x ∷ xs) = ap (λ b. not (p x) && b) (none_any p xs) ∙ by_test (p
     by_test true = refl
     by_test false = refl
 
-all_nothing : {X : Type 0} (related : X → X → Bool) (y : X) (ys : List X) (x : X) → list_all (related y) (ys ++ x ∷ []) ≡ (list_all (related y) ys && (related y x && true))
-all_nothing related y ys x = list_all-append (related y) ys (x ∷ [])
+-- a test of one element more
+list_all_push : {X : Type 0} (related : X → X → Bool) (y : X) (ys : List X) (x : X) → list_all (related y) (ys ++ x ∷ []) ≡ (list_all (related y) ys && (related y x && true))
+list_all_push related y ys x = list_all-append (related y) ys (x ∷ [])
 
 -- one element more at the end
 each_two_push : {X : Type 0} (related : X → X → Bool) (xs : List X) (x : X) → each_two related (xs ++ x ∷ []) ≡ (each_two related xs && list_all (λ y. related y x) xs)
 each_two_push related [] x = refl
 each_two_push related (y ∷ ys) x =
-    ap (λ b. b && each_two related (ys ++ x ∷ [])) (all_nothing related y ys x)
+    ap (λ b. b && each_two related (ys ++ x ∷ [])) (list_all_push related y ys x)
     ∙ ap (λ b. (list_all (related y) ys && (related y x && true)) && b) (each_two_push related ys x)
     ∙ regrouped (list_all (related y) ys) (related y x) (each_two related ys) (list_all (λ z. related z x) ys)
 

@@ -33,6 +33,7 @@ pub record Took (ts : List Placed) (ps : List Piece) (mid : List Placed) : Type 
   pub takes : Takes ts ps mid
   pub short : AreShort mid → AreShort ts
 
+-- pieces, and then more pieces
 pub took_then : (ts mid last : List Placed) (ps qs : List Piece) → Took ts ps mid → Took mid qs last → Took ts (ps ++ qs) last
 took_then ts mid last ps qs p q = record { takes = takes_then ts mid last ps qs p.takes q.takes; short = λ s. p.short (q.short s) }
 
@@ -91,6 +92,7 @@ pub record Reads {A : Type 0} (read : Result (A × List Placed) TextFault) (valu
 
 -- ---- a fixed word
 
+-- a fixed word that was read is spelled
 pub word_took : (end : ℕ) (w : Word) (ts mid : List Placed) → word_at end w ts ≡ Ok mid → Took ts (fixed w ∷ []) mid
 unfolding word_at
 word_took end w ts mid e =
@@ -98,11 +100,13 @@ word_took end w ts mid e =
     let g = test_ok (is_text (word_text w) a.0.0.text) (fault.Expected w a.0.0.at) (Ok a.0.1) mid a.2 in
     subst (Took ts (fixed w ∷ [])) (ok_is a.0.1 mid g.1) (took_piece end ts a.0 (fixed w) a.1 (text_is a.0.0.text (word_text w) g.0))
 
+-- the next token is this word, and what follows is these pieces
 pub record HasWord (end : ℕ) (w : Word) (qs : List Piece) (ts : List Placed) : Type 0 where
   pub mid : List Placed
   pub is : word_at end w ts ≡ Ok mid
   pub left : Spelled qs mid
 
+-- a fixed word that is spelled is read
 pub has_word : (end : ℕ) (w : Word) (qs : List Piece) (ts : List Placed) → Spelled (fixed w ∷ qs) ts → HasWord end w qs ts
 unfolding word_at
 has_word end w qs ts h =
@@ -112,11 +116,13 @@ has_word end w qs ts h =
 
 -- ---- a course
 
+-- a number that was read behind a letter is a number
 numbered_ok : (at : ℕ) (r : Result ℕ NumberFault) (n : ℕ) → numbered at r ≡ Ok n → r ≡ Ok n
 numbered_ok at (Ok m) n e = cc
 numbered_ok at (Err number.NotANumber) n e = absurd cc
 numbered_ok at (Err number.TooLarge) n e = absurd cc
 
+-- a number below a count that was read is spelled
 number_took : (at count : ℕ) (digits : List ℕ) (n : ℕ) → numbered_below at count digits ≡ Ok n → SpellsNumber digits n × (n < count)
 unfolding numbered_below
 number_took at count digits n e =
@@ -125,12 +131,14 @@ number_took at count digits n e =
     let h = test_ok (nat_lt m.0 count) (fault.UnknownIndex at) (Ok m.0) n m.2 in
     subst (λ (k : ℕ). SpellsNumber digits k × (k < count)) (ok_is m.0 n h.1) (s.0, omega (arith, leb-true _ _ h.0))
 
+-- a number below the count that is spelled is read
 number_reads : (at count : ℕ) (digits : List ℕ) (n : ℕ) → count ≤ 4294967295 → n < count → SpellsNumber digits n → numbered_below at count digits ≡ Ok n
 unfolding numbered_below
 number_reads at count digits n few less s =
     let small : nat_lt n count ≡ true = le-leb _ _ (omega arith) in
     rw (number_read 4294967295 digits n s (omega arith), small) refl
 
+-- a token that was read as a course is its piece
 course_is : (at count : ℕ) (text : List ℕ) (n : ℕ) → course_in at count text ≡ Ok n → IsPiece (course_piece n) text × (n < count)
 course_is at count [] n e = absurd cc
 course_is at count (b ∷ bs) n e =
@@ -138,9 +146,11 @@ course_is at count (b ∷ bs) n e =
     let s = number_took at count bs n h.1 in
     ((bs, ap (λ (k : ℕ). k ∷ bs) (eqb-true b 99 h.0), s.0), s.1)
 
+-- the piece of a course is read as it
 is_course : (at count : ℕ) (text : List ℕ) (n : ℕ) → count ≤ 4294967295 → n < count → IsPiece (course_piece n) text → course_in at count text ≡ Ok n
 is_course at count text n few less piece = rw (piece.1, number_reads at count piece.0 n few less piece.2) refl
 
+-- a course that was read is spelled
 pub course_took : (end count : ℕ) (ts : List Placed) (x : ℕ × List Placed) → course_at end count ts ≡ Ok x → Took ts (course_piece x.0 ∷ []) x.1 × (x.0 < count)
 unfolding course_at
 course_took end count ts x e =
@@ -149,12 +159,14 @@ course_took end count ts x e =
     let s = course_is t.0.0.at count t.0.0.text c.0 c.1 in
     subst (λ (y : ℕ × List Placed). Took ts (course_piece y.0 ∷ []) y.1 × (y.0 < count)) (ok_is (c.0, t.0.1) x c.2) (took_piece end ts t.0 (course_piece c.0) t.1 s.0, s.1)
 
+-- the next token is this course, and what follows is these pieces
 pub record HasCourse (end count n : ℕ) (qs : List Piece) (ts : List Placed) : Type 0 where
   pub mid : List Placed
   pub is : course_at end count ts ≡ Ok (n, mid)
   pub left : Spelled qs mid
   pub shorter : length mid < length ts
 
+-- a course that is spelled is read
 pub has_course : (end count n : ℕ) (qs : List Piece) (ts : List Placed) → count ≤ 4294967295 → n < count → Spelled (course_piece n ∷ qs) ts → HasCourse end count n qs ts
 unfolding course_at
 has_course end count n qs ts few less h =
@@ -163,23 +175,27 @@ has_course end count n qs ts few less h =
 
 -- ---- the version
 
+-- what the two tests of a version answered
 told_version : (a b : Bool) (d : TextFault) (v : ℕ) → cond a (Ok 1) (cond b (Ok 2) (Err d)) ≡ Ok v → ((a ≡ true) × (v ≡ 1)) ⊎ ((b ≡ true) × (v ≡ 2))
 told_version true b d v e = inl (refl, cc)
 told_version false true d v e = inr (refl, cc)
 told_version false false d v e = absurd cc
 
+-- a token that was read as a version is its text
 version_is : (at : ℕ) (text : List ℕ) (v : ℕ) → version_of at text ≡ Ok v → (text ≡ version_text v) × (1 ≤ v) × (v ≤ 2)
 version_is at text v e = elim (told_version (is_text (codes "1") text) (is_text (codes "2") text) (fault.Expected word.One at) v e) [
   | inl h ↦ (rw h.1 (text_is text (codes "1") h.0), omega (arith, h.1), omega (arith, h.1))
   | inr h ↦ (rw h.1 (text_is text (codes "2") h.0), omega (arith, h.1), omega (arith, h.1))
 ]
 
+-- the text of a version is read as it
 is_version : (at : ℕ) (text : List ℕ) (v : ℕ) → 1 ≤ v → v ≤ 2 → text ≡ version_text v → version_of at text ≡ Ok v
 is_version at text v low high h = elim (cases_eq v 1) [
   | inl e ↦ rw (h, e) refl
   | inr e ↦ let two : v ≡ 2 = omega arith in rw (h, two) refl
 ]
 
+-- a version that was read is spelled
 pub version_took : (end : ℕ) (ts : List Placed) (x : ℕ × List Placed) → version_at end ts ≡ Ok x → Took ts (Text (version_text x.0) ∷ []) x.1 × (1 ≤ x.0) × (x.0 ≤ 2)
 unfolding version_at
 version_took end ts x e =
@@ -189,6 +205,7 @@ version_took end ts x e =
     subst (λ (y : ℕ × List Placed). Took ts (Text (version_text y.0) ∷ []) y.1 × (1 ≤ y.0) × (y.0 ≤ 2)) (ok_is (v.0, t.0.1) x v.2)
     (took_piece end ts t.0 (Text (version_text v.0)) t.1 s.0, s.1, s.2)
 
+-- a version that is spelled is read
 pub version_reads : (end v : ℕ) (qs : List Piece) (ts : List Placed) → 1 ≤ v → v ≤ 2 → Spelled (Text (version_text v) ∷ qs) ts → Reads (version_at end ts) v qs
 unfolding version_at
 version_reads end v qs ts low high h =
@@ -197,14 +214,17 @@ version_reads end v qs ts low high h =
 
 -- ---- the bound
 
+-- what the test of a bound answered
 told_bound : (a : Bool) (r : Result Bound TextFault) (b : Bound) → cond a (Ok Nothing) r ≡ Ok b → ((a ≡ true) × (Nothing ≡ b)) ⊎ (r ≡ Ok b)
 told_bound true r b e = inl (refl, ok_is Nothing b e)
 told_bound false r b e = inr e
 
+-- a bound that was read as a number is that number
 bounded_ok : (at : ℕ) (r : Result ℕ NumberFault) (b : Bound) → bounded at r ≡ Ok b → (n : ℕ) × (r ≡ Ok n) × (AtLeast n ≡ b)
 bounded_ok at (Ok n) b e = (n, refl, ok_is (AtLeast n) b e)
 bounded_ok at (Err f) b e = absurd cc
 
+-- a token that was read as a bound is its piece
 bound_is : (at : ℕ) (text : List ℕ) (b : Bound) → bound_of at text ≡ Ok b → IsPiece (bound_piece b) text × IsBound b
 bound_is at text b e = elim (told_bound (is_text (codes "none") text) (bounded at (number_of 1000000000000 text)) b e) [
   | inl h ↦ subst (λ (c : Bound). IsPiece (bound_piece c) text × IsBound c) h.1 (text_is text (codes "none") h.0, tt)
@@ -218,10 +238,12 @@ not_none text digits = false_from_ne_true (is_text (codes "none") text) (λ e.
     let none : is_number_text (codes "none") ≡ true = subst (λ (t : List ℕ). is_number_text t ≡ true) (text_is text (codes "none") e) digits in
     cc)
 
+-- the piece of a bound is read as it
 is_bound : (at : ℕ) (text : List ℕ) (b : Bound) → IsBound b → IsPiece (bound_piece b) text → bound_of at text ≡ Ok b
 is_bound at text (AtLeast n) within piece = rw (not_none text piece.digits_only, number_read 1000000000000 text n piece within) refl
 is_bound at text Nothing within piece = rw (is_text_of text (codes "none") piece) refl
 
+-- a bound that was read is spelled
 pub bound_took : (end : ℕ) (ts : List Placed) (x : Bound × List Placed) → bound_at end ts ≡ Ok x → Took ts (bound_piece x.0 ∷ []) x.1 × IsBound x.0
 unfolding bound_at
 bound_took end ts x e =
@@ -230,6 +252,7 @@ bound_took end ts x e =
     let s = bound_is t.0.0.at t.0.0.text b.0 b.1 in
     subst (λ (y : Bound × List Placed). Took ts (bound_piece y.0 ∷ []) y.1 × IsBound y.0) (ok_is (b.0, t.0.1) x b.2) (took_piece end ts t.0 (bound_piece b.0) t.1 s.0, s.1)
 
+-- a bound that is spelled is read
 pub bound_reads : (end : ℕ) (b : Bound) (qs : List Piece) (ts : List Placed) → IsBound b → Spelled (bound_piece b ∷ qs) ts → Reads (bound_at end ts) b qs
 unfolding bound_at
 bound_reads end b qs ts within h =

@@ -39,18 +39,22 @@ fault_is p n cs =
 
 -- ---- for the contract
 
+-- `none` is derived by no claims
 pub no_bound : (p : Problem) (b : Bound) (cs : List ℕ) → b ≡ Nothing → Some NoBound ≡ fault_of p [] b (days_leaf cs)
 no_bound p b cs none = rw none refl
 
+-- a course is claimed twice
 pub claimed_twice : (p : Problem) (b : Bound) (n : ℕ) (cs : List ℕ) → b ≡ AtLeast n → are_distinct cs ≡ false → Some ClaimedTwice ≡ fault_of p [] b (days_leaf cs)
 claimed_twice p b n cs at twice = rw (at, fault_is p n cs, twice) refl
 
+-- the values come to less than the bound
 pub too_cheap : (p : Problem) (b : Bound) (n total : ℕ) (cs : List ℕ) → b ≡ AtLeast n → are_distinct cs ≡ true → total ≡ sum_by (λ c. value_of p [] (Days c)) cs → total < n
     → Some TooCheap ≡ fault_of p [] b (days_leaf cs)
 too_cheap p b n total cs at different is less =
     let small : leb n (sum_by (λ c. value_of p [] (Days c)) cs) ≡ false = lt-leb _ _ (omega (arith, is)) in
     rw (at, fault_is p n cs, different, small) refl
 
+-- the values come to the bound
 pub is_right : (p : Problem) (b : Bound) (n total : ℕ) (cs : List ℕ) → b ≡ AtLeast n → are_distinct cs ≡ true → total ≡ sum_by (λ c. value_of p [] (Days c)) cs → n ≤ total
     → None ≡ fault_of p [] b (days_leaf cs)
 is_right p b n total cs at different is enough =

@@ -9,6 +9,7 @@ use Rattle.tt_instance.specs.declared.cell.Cell.{Cell}
 use Rattle.tt_instance.specs.declared.cell.Slot.{Slot}
 use Rattle.tt_facts.specs.Live.{is_dead, is_live, live_period}
 
+-- a test or none
 or_nothing : (b : Bool) → (b || false) ≡ b
 or_nothing true = refl
 or_nothing false = refl
@@ -23,6 +24,7 @@ any_of_same true x xs = refl
 any_of_same false x [] = refl
 any_of_same false x (y ∷ ys) = any_of_same false y ys
 
+-- the same for the numbers below a bound, of which there are some
 any_number : (b : Bool) (n : ℕ) → 0 < n → list_any (λ r. b) (numbers_below n) ≡ b
 any_number b zero some = absurd (omega arith)
 any_number b (suc n) some = any_of_same b 0 (range_with_len 1 n)

@@ -1,9 +1,11 @@
 -- A whole proof: what is read is spelled, and what is spelled is read.
 use Rattle.std.proofs.Common.{◌≡◌, ℕ, ◌≤◌, ◌<◌, List, [], ◌∷◌, ◌++◌, length, Option, Some, None, Result, Ok, Err, refl, sym, ap, subst, ◌∙◌, append_assoc, arith, codes, lit≤}
-use Rattle.std.specs.Prelude.{All, IfOk}
+use Rattle.std.specs.Prelude.{IfOk, ⊤}
 use Rattle.std.specs.List.{AllByRecursion}
 use Rattle.std.proofs.lemmas.List.{append-nil}
 use Rattle.std.proofs.lemmas.List.Elements.{All-nil, All-cons, All-head, All-map, All-from_recursion, recursion_from_All}
+use Rattle.tt_lists.proofs.Sums.{each}
+use Rattle.tt_lists.proofs.Members.{each_of_map}
 use Rattle.tt_text.specs.Tokens.{Placed, tokens_of}
 use Rattle.tt_text.specs.Pieces.{Piece, Text, Begins, AreTokens}
 use Rattle.tt_text.specs.Reading.{◌>>=◌, GivesBut}
@@ -12,7 +14,6 @@ use Rattle.tt_instance.specs.Problem.{Problem}
 use Rattle.tt_leaf.specs.Leaves.{fault_of}
 use Rattle.tt_leaf.specs.Ranges.{IsClaimOf}
 use Rattle.tt_leaf.specs.declared.leaf.Bound.{Bound}
-use Rattle.tt_leaf.specs.declared.leaf.Claim.{Claim}
 use Rattle.tt_leaf.specs.declared.leaf.Claim.TheVariants.{Days}
 use Rattle.tt_leaf.specs.declared.leaf.RuleFault.{RuleFault}
 use Rattle.tt_proof_text.specs.Spelling.{fixed, bound_piece, version_text, SpellsClaim, SpellsEach, SpellsNode, IsBound, IsShortClaim, IsClaimIn, IsNode, IsWithinLimits, SpellsProof}
@@ -33,14 +34,17 @@ use Rattle.tt_days.proofs.ClaimLaws.{claim_pieces, days_pieces, leaf_took, has_l
 
 -- ---- the header
 
+-- the pieces of the header
 abbrev header_pieces : ℕ → Bound → List Piece
 header_pieces v b = fixed word.Cttp ∷ Text (version_text v) ∷ fixed word.Bound ∷ bound_piece b ∷ []
 
+-- a header that was read is spelled, and within its limits
 record HeaderTook (ts : List Placed) (x : (ℕ × Bound) × List Placed) : Type 0 where
   took : Took ts (header_pieces x.0.0 x.0.1) x.1
   version : (1 ≤ x.0.0) × (x.0.0 ≤ 2)
   bound : IsBound x.0.1
 
+-- what was read as a header is one
 header_took : (end : ℕ) (ts : List Placed) (x : (ℕ × Bound) × List Placed) → header_at end ts ≡ Ok x → HeaderTook ts x
 unfolding header_at
 header_took end ts x e =
@@ -55,6 +59,7 @@ header_took end ts x e =
     let whole : Took ts (header_pieces v.0.0 b.0.0) b.0.1 = took_then _ _ _ _ _ first (took_then _ _ _ _ _ version.0 (took_then _ _ _ _ _ second bound.0)) in
     subst (HeaderTook ts) (ok_is ((v.0.0, b.0.0), b.0.1) x b.2) (record { took = whole; version = (version.1, version.2); bound = bound.1 })
 
+-- a header that is spelled is read
 header_reads : (end v : ℕ) (b : Bound) (qs : List Piece) (ts : List Placed) → 1 ≤ v → v ≤ 2 → IsBound b → Spelled (header_pieces v b ++ qs) ts → Reads (header_at end ts) (v, b) qs
 unfolding header_at
 header_reads end v b qs ts low high within h =
@@ -70,19 +75,23 @@ header_reads end v b qs ts low high within h =
 never : {A : Type 0} (t : Placed) (x : A) → (short t >>= λ s. Err (fault.TrailingToken s.at)) ≡ Ok x → ⊥
 never t x e = let s = bind_ok (short t) (λ s. Err (fault.TrailingToken s.at)) x e in cc
 
+-- where no token is refused there is none
 none_left : (ts : List Placed) (u : Unit {0}) → no_more ts ≡ Ok u → ts ≡ []
 none_left [] u e = refl
 none_left (t ∷ ts) u e = absurd (never t u e)
 
+-- the end that was read is spelled
 end_took : (end : ℕ) (ts : List Placed) (u : Unit {0}) → end_at end ts ≡ Ok u → Took ts (fixed word.End ∷ []) []
 unfolding end_at
 end_took end ts u e =
     let w = bind_ok (word_at end word.End ts) no_more u e in
     subst (Took ts (fixed word.End ∷ [])) (none_left w.0 u w.2) (word_took end word.End ts w.0 w.1)
 
+-- where no piece is spelled there is no token
 no_token : (ts : List Placed) → Spelled [] ts → no_more ts ≡ Ok tt
 no_token ts h = rw h.tokens refl
 
+-- the end that is spelled is read
 end_reads : (end : ℕ) (ts : List Placed) → Spelled (fixed word.End ∷ []) ts → end_at end ts ≡ Ok tt
 unfolding end_at
 end_reads end ts h = let w = has_word end word.End [] ts h in rw w.is (no_token w.mid w.left)
@@ -99,6 +108,7 @@ each_is : (cs : List ℕ) (ps : List Piece) → SpellsEach SpellsClaim (days_cla
 each_is [] ps h = h
 each_is (c ∷ cs) ps h = h.4 ∙ ap (λ (qs : List Piece). qs ++ h.1) h.2 ∙ ap (λ (qs : List Piece). claim_pieces c ++ qs) (each_is cs h.1 h.3)
 
+-- the pieces of the leaf
 abbrev body_pieces : List ℕ → List Piece
 body_pieces cs = Text (codes "B") ∷ (days_pieces cs ++ Text (codes ";") ∷ [])
 
@@ -106,31 +116,20 @@ body_pieces cs = Text (codes "B") ∷ (days_pieces cs ++ Text (codes ";") ∷ []
 abbrev pieces : ℕ → Bound → List Piece → List Piece
 pieces v b body = fixed word.Cttp ∷ Text (version_text v) ∷ fixed word.Bound ∷ bound_piece b ∷ (body ++ fixed word.End ∷ [])
 
+-- the one node is spelled by its pieces
 nodes_spelled : (cs : List ℕ) → SpellsEach SpellsNode (preorder (days_tree cs)) (body_pieces cs)
 nodes_spelled cs = (body_pieces cs, [], (days_pieces cs, each_spelled cs, refl), refl, sym (append-nil (body_pieces cs)))
 
+-- and by no others
 nodes_are : (cs : List ℕ) (body : List Piece) → SpellsEach SpellsNode (preorder (days_tree cs)) body → body ≡ body_pieces cs
 nodes_are cs body h =
     h.4 ∙ ap (λ (qs : List Piece). h.0 ++ qs) h.3 ∙ append-nil h.0 ∙ h.2.2 ∙ ap (λ (qs : List Piece). Text (codes "B") ∷ (qs ++ Text (codes ";") ∷ [])) (each_is cs h.2.0 h.2.1)
 
--- what holds of each claim on a course
-each_claim : (P : Claim → Type 0) (cs : List ℕ) → All (λ c. P (Days c)) cs → All P (days_claims cs)
-each_claim P cs all = All-map P Days cs all
-
--- the numbers of the claims are those of their courses
-claims_below : (p : Problem) (cs : List ℕ) → AllByRecursion (IsClaimOf p) (days_claims cs) → AllByRecursion (λ c. c < length p.courses) cs
-claims_below p [] all = tt
-claims_below p (c ∷ cs) all = (all.0, claims_below p cs all.1)
-
--- where nothing is asked
-nothing_asked : (cs : List ℕ) → AllByRecursion (λ c. Unit {0}) cs
-nothing_asked [] = tt
-nothing_asked (c ∷ cs) = (tt, nothing_asked cs)
-
+-- the one node is right by the limits of the format
 is_node : (p : Problem) (v : ℕ) (cs : List ℕ) → AllByRecursion (λ c. c < length p.courses) cs → IsNode p v (node.Leaf (days_leaf cs))
 is_node p v cs below =
-    let free = All-from_recursion (λ (c : ℕ). Unit {0}) cs (nothing_asked cs) in
-    (each_claim (IsClaimOf p) cs (All-from_recursion (λ c. c < length p.courses) cs below), each_claim IsShortClaim cs free, each_claim (IsClaimIn v) cs free)
+    let free = All-from_recursion (λ (c : ℕ). ⊤) cs (each (λ (c : ℕ). ⊤) (λ c. tt) cs) in
+    (All-map (IsClaimOf p) Days cs (All-from_recursion (λ c. c < length p.courses) cs below), All-map IsShortClaim Days cs free, All-map (IsClaimIn v) Days cs free)
 
 -- a tree of one leaf is within the limits of a tree
 within_limits : (bytes cs : List ℕ) → length bytes ≤ 4294967295 → AreShort (tokens_of bytes) → IsWithinLimits bytes (days_tree cs)
@@ -161,6 +160,7 @@ whole_spelled p bytes v b cs version bound below size took = record {
   within = within_limits bytes cs size (took.short tt);
 }
 
+-- the parts of a proof are spelled
 abbrev IsSpelled : Problem → List ℕ → ℕ × Bound × List ℕ → Type 0
 IsSpelled p bytes x = SpellsProof p bytes x.0 x.1 (days_tree x.2)
 
@@ -195,7 +195,7 @@ proof_read p bytes v b cs few spelled =
       short = recursion_from_All (λ t. length t.text ≤ 32) (tokens_of bytes) spelled.within.tokens;
     } in
     let is = All-head (IsNode p v) (node.Leaf (days_leaf cs)) [] spelled.each in
-    let below = claims_below p cs (recursion_from_All (IsClaimOf p) (days_claims cs) is.0) in
+    let below = each_of_map (IsClaimOf p) Days cs (recursion_from_All (IsClaimOf p) (days_claims cs) is.0) in
     let header = header_reads (length bytes) v b (Text (codes "B") ∷ (days_pieces cs ++ Text (codes ";") ∷ fixed word.End ∷ [])) (tokens_of bytes) spelled.version.0 spelled.version.1 spelled.bound all in
     let leaf = has_leaf (length bytes) (days_pieces cs ++ Text (codes ";") ∷ fixed word.End ∷ []) header.mid header.left in
     let claims = claims_read (length bytes) (length p.courses) (length leaf.mid) cs [] (fixed word.End ∷ []) leaf.mid (omega arith) below (omega arith) leaf.left in
@@ -209,6 +209,7 @@ ruled_ok : (b c : Bound) (o : Option RuleFault) → ruled b o ≡ Ok c → (o �
 ruled_ok b c None e = (refl, ok_is b c e)
 ruled_ok b c (Some f) e = absurd cc
 
+-- a text that was read without a fault
 read_ok : {A : Type 0} (r : Result A TextFault) (x : A) → read_as r ≡ Ok x → r ≡ Ok x
 read_ok (Ok y) x e = cc
 read_ok (Err f) x e = absurd cc
@@ -222,10 +223,12 @@ proved p bytes b size e =
     let spelled = proof_spelled p bytes r.0 size (read_ok (proof_of p bytes) r.0 r.1) in
     subst (ProvesByDays p bytes) h.1 (record { version = r.0.0; courses = r.0.2; spelled = spelled; derived = h.0 })
 
+-- for the contract: what is answered is proved
 pub found_in : (p : Problem) (bytes : List ℕ) (r : Result Bound CheckFault) → length bytes ≤ 4294967295 → GivesBut is_silent (λ b. b) r (verdict_of p bytes) → IfOk r (ProvesByDays p bytes)
 found_in p bytes (Ok b) size given = proved p bytes b size given
 found_in p bytes (Err f) size given = tt
 
+-- for the contract: what is answered holds
 pub holds_in : (p : Problem) (bytes : List ℕ) (r : Result Bound CheckFault) → IfOk r (ProvesByDays p bytes) → IfOk r (HoldsOfAll p)
 holds_in p bytes (Ok b) found = root_sound p b (days_tree found.courses) found.derived
 holds_in p bytes (Err f) found = tt

@@ -22,6 +22,7 @@ abbrev pub is_silent_text : TextFault → Bool
 is_silent_text fault.OutOfMemory = true
 is_silent_text _ = false
 
+-- what was answered, seen by view, is what the text gives, unless memory ran out
 abbrev pub Gives : {X Y : Type 0} → (X → Y) → Result X TextFault → Result Y TextFault → Type 0
 Gives view result read = GivesBut is_silent_text view result read
 
@@ -44,11 +45,13 @@ word_at end w ts = do
   t ← token_at end ts
   if is_text (word_text w) t.0.text then Ok t.1 else Err (fault.Expected w t.0.at)
 
+-- the fault of what is to be a number behind a letter
 abbrev pub numbered : ℕ → Result ℕ NumberFault → Result ℕ TextFault
 numbered at (Ok n) = Ok n
 numbered at (Err number.NotANumber) = Err (fault.UnknownWord at)
 numbered at (Err number.TooLarge) = Err (fault.UnknownIndex at)
 
+-- a number below a count
 abbrev pub below : ℕ → ℕ → ℕ → Result ℕ TextFault
 below at count n = if nat_lt n count then Ok n else Err (fault.UnknownIndex at)
 
@@ -56,11 +59,12 @@ below at count n = if nat_lt n count then Ok n else Err (fault.UnknownIndex at)
 unfoldable pub numbered_below : ℕ → ℕ → List ℕ → Result ℕ TextFault
 numbered_below at count digits = numbered at (number_of 4294967295 digits) >>= below at count
 
+-- `c` and the number of one of so many courses, in one token
 abbrev pub course_in : ℕ → ℕ → List ℕ → Result ℕ TextFault
 course_in at count [] = Err (fault.UnknownWord at)
 course_in at count (b ∷ bs) = if b == 99 then numbered_below at count bs else Err (fault.UnknownWord at)
 
--- `c` and the number of one of so many courses
+-- a course
 unfoldable pub course_at : ℕ → ℕ → List Placed → Result (ℕ × List Placed) TextFault
 course_at end count ts = do
   t ← token_at end ts
@@ -69,15 +73,18 @@ course_at end count ts = do
 
 -- ---- the header
 
+-- `1` or `2`
 abbrev pub version_of : ℕ → List ℕ → Result ℕ TextFault
 version_of at text = if is_text (codes "1") text then Ok 1 else (if is_text (codes "2") text then Ok 2 else Err (fault.Expected word.One at))
 
+-- the version
 unfoldable pub version_at : ℕ → List Placed → Result (ℕ × List Placed) TextFault
 version_at end ts = do
   t ← token_at end ts
   v ← version_of t.0.at t.0.text
   Ok (v, t.1)
 
+-- the fault of what is to be a bound
 abbrev pub bounded : ℕ → Result ℕ NumberFault → Result Bound TextFault
 bounded at (Ok n) = Ok (bound.AtLeast n)
 bounded at (Err e) = Err (fault.NotANumber at)
@@ -86,6 +93,7 @@ bounded at (Err e) = Err (fault.NotANumber at)
 abbrev pub bound_of : ℕ → List ℕ → Result Bound TextFault
 bound_of at text = if is_text (codes "none") text then Ok bound.Nothing else bounded at (number_of 1000000000000 text)
 
+-- the bound
 unfoldable pub bound_at : ℕ → List Placed → Result (Bound × List Placed) TextFault
 bound_at end ts = do
   t ← token_at end ts
@@ -135,6 +143,7 @@ abbrev pub no_more : List Placed → Result (Unit {0}) TextFault
 no_more [] = Ok tt
 no_more (t ∷ ts) = short t >>= λ s. Err (fault.TrailingToken s.at)
 
+-- the last token
 unfoldable pub end_at : ℕ → List Placed → Result (Unit {0}) TextFault
 end_at end ts = word_at end word.End ts >>= no_more
 

@@ -1,8 +1,7 @@
 //! The check of a proof.
 
-ghost use Rattle.std.specs.Prelude.{◌≡◌, ◌≤◌, ℕ, List, [], length, Ok, IfOk, Some, None};
+ghost use Rattle.std.specs.Prelude.{◌≡◌, ◌≤◌, ℕ, List, [], length, Ok, IfOk};
 ghost use Rattle.tt_text.specs.Reading.{GivesBut};
-ghost use Rattle.tt_leaf.specs.Leaves.{fault_of};
 ghost use Rattle.tt_leaf.specs.declared.leaf.Bound.{Bound};
 ghost use Rattle.tt_proof_text.specs.Spelling.{SpellsProof};
 ghost use Rattle.tt_proof_check.specs.Derives.{Derives, HoldsOfAll};
@@ -17,6 +16,7 @@ use tt_leaf::Bound;
 use tt_proof_check::CheckFault;
 use tt_proof_text::TextFault;
 
+/// How a fault of the text is told.
 fn refusal(fault: TextFault) -> CheckFault
     ensures { result ≡ refusal_of fault }
 {
@@ -26,6 +26,7 @@ fn refusal(fault: TextFault) -> CheckFault
     }
 }
 
+/// The answer to a proof.
 fn checked(alloc: Global, instance: &Instance<'_>, proof: &[u8]) -> Result<Bound, CheckFault>
     ensures { GivesBut is_silent (λ b. b) result (verdict_of instance.now proof.now) }
 {
@@ -39,7 +40,7 @@ fn checked(alloc: Global, instance: &Instance<'_>, proof: &[u8]) -> Result<Bound
     }
 }
 
-/// The bound that a proof derives, where the proof is one leaf `B` of claims `D`. Any other node is refused as an unknown word.
+/// The bound, in cost points, that a proof derives: one leaf `B` of claims `D`. Any other node is refused as an unknown word.
 pub fn check_days(alloc: Global, instance: &Instance<'_>, proof: &[u8]) -> Result<Bound, CheckFault>
     requires { length proof.now ≤ 4294967295 }
     // Which answer it is.

@@ -2,7 +2,6 @@
 
 ghost use Rattle.std.specs.Prelude.{◌≡◌, ◌<◌, IfOk, length};
 ghost use Rattle.tt_text.specs.Tokens.{place};
-ghost use Rattle.tt_leaf.specs.declared.leaf.Bound.{Bound};
 ghost use Rattle.tt_days.specs.Reading.{Gives, short, token_at, word_at, numbered_below, course_in, course_at, version_of, version_at, bound_of, bound_at};
 
 use tt_leaf::Bound;
@@ -67,7 +66,7 @@ fn number_below(digits: &[u8], at: usize, count: u32) -> Result<u32, TextFault>
     }
 }
 
-/// `c` and the number of one of so many courses.
+/// `c` and the number of one of so many courses, in one token.
 fn course_of(token: Token<'_>, count: u32) -> Result<u32, TextFault>
     ensures read { Gives (λ n. n) result (course_in token.entry.at count token.entry.bytes.now) }
     ensures within { IfOk result (λ n. n < count) }
@@ -104,6 +103,7 @@ pub fn version(tokens: &mut Tokens<'_>, end: usize) -> Result<u32, TextFault>
     }
 }
 
+/// `none`, or a number of cost points, in one token.
 fn bound_of(token: Token<'_>) -> Result<Bound, TextFault>
     ensures { Gives (λ b. b) result (bound_of token.entry.at token.entry.bytes.now) }
 {
@@ -116,7 +116,7 @@ fn bound_of(token: Token<'_>) -> Result<Bound, TextFault>
     }
 }
 
-/// `none`, or a number of cost points.
+/// The bound.
 #[tactic(auto, unfolding(crate::specs::Reading::bound_at))]
 pub fn bound(tokens: &mut Tokens<'_>, end: usize) -> Result<Bound, TextFault>
     ensures { Gives (λ b. (b, tokens.new)) result (bound_at end tokens.old) }

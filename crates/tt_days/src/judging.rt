@@ -49,6 +49,7 @@ fn total(instance: &Instance<'_>, courses: &[u32]) -> u128
     requires { All (λ c. c < length instance.now.courses) courses.now }
     ensures { result ≡ sum_by (λ c. value_of instance.now [] (Days c)) courses.now }
 {
+    // No list is long enough to overflow it.
     let mut total: u128 = 0;
     for course in courses {
         total += u128::from(value(instance, *course));

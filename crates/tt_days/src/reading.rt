@@ -1,7 +1,7 @@
 //! Proofs that are one leaf of working-day claims, from their bytes.
 
-ghost use Rattle.std.specs.Prelude.{◌≡◌, ◌<◌, IfOk, IfSome, OnSome, length, [], All};
-ghost use Rattle.tt_days.specs.Reading.{Gives, header_at, leaf_at, claim_at, claims_at, no_more, end_at, proof_of};
+ghost use Rattle.std.specs.Prelude.{◌≡◌, ◌<◌, IfOk, IfSome, length, [], All};
+ghost use Rattle.tt_days.specs.Reading.{Gives, header_at, leaf_at, claim_at, claims_at, end_at, proof_of};
 
 use crate::fields::{bound, course, short, token, version, word};
 use std::alloc::Global;

@@ -1,4 +1,4 @@
-use Rattle.std.proofs.Common.{◌≡◌, List, ℕ, refl, sym, subst, ◌∙◌, inl}
+use Rattle.std.proofs.Common.{refl, sym, subst, ◌∙◌, inl}
 use Rattle.std.proofs.lemmas.Result.{err_from_is_err_and}
 use Rattle.tt_leaf.specs.declared.leaf.Bound.TheVariants.{AtLeast}
 use Rattle.tt_days.specs.Days.{ProvesByDays}
