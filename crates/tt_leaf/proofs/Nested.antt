@@ -14,6 +14,7 @@ use Rattle.tt_facts.specs.declared.facts.Pattern.{Pattern}
 use Rattle.tt_facts.specs.declared.facts.Fact.{Fact}
 use Rattle.tt_lists.proofs.All.{list_all-same}
 use Rattle.tt_lists.proofs.Below.{all_pass}
+use Rattle.tt_lists.proofs.Twos.{neither}
 use Rattle.tt_lists.proofs.Sums.{list_any_with}
 use Rattle.tt_instance.proofs.Places.{any_slot}
 use Rattle.tt_instance.proofs.Slots.{cells_in_rooms, slot_of_place}
@@ -36,10 +37,10 @@ module _ (p : Problem) (path : List Fact) (g : Pattern) where
 
 -- ---- the neighbours of a period
 
-same_answer : (a b : Bool) → (a ≡ true → b ≡ true) → (b ≡ true → a ≡ true) → a ≡ b
-same_answer true b f h = sym (f refl)
-same_answer false true f h = h refl
-same_answer false false f h = refl
+same_tests : (a b : Bool) → (a ≡ true → b ≡ true) → (b ≡ true → a ≡ true) → a ≡ b
+same_tests true b f h = sym (f refl)
+same_tests false true f h = h refl
+same_tests false false f h = refl
 
 each_slot_in : (p : Problem) → 0 < p.periods → AllByRecursion (λ s. s.period < p.periods) (all_slots p)
 each_slot_in p some = recursion_from_All (λ s. s.period < p.periods) (all_slots p) (λ k d h.
@@ -49,7 +50,7 @@ each_slot_in p some = recursion_from_All (λ s. s.period < p.periods) (all_slots
 
 -- a period beside it on its day is before it or behind it
 beside : (p : Problem) (t : Slot → Bool) (s : Slot) → s.day < p.days → s.period < p.periods → list_any (λ n. next_to n s && t n) (all_slots p) ≡ ((nat_lt 0 s.period && t (slot s.day (s.period - 1))) || (nat_lt (s.period + 1) p.periods && t (slot s.day (s.period + 1))))
-beside p t s day period = same_answer (list_any (λ n. next_to n s && t n) (all_slots p)) (left || right) there back
+beside p t s day period = same_tests (list_any (λ n. next_to n s && t n) (all_slots p)) (left || right) there back
   where
     left : Bool
     left = nat_lt 0 s.period && t (slot s.day (s.period - 1))
@@ -97,10 +98,6 @@ beside p t s day period = same_answer (list_any (λ n. next_to n s && t n) (all_
           (and_from (s.day == s.day) ((s.period + 1 == s.period + 1) || (s.period + 1 + 1 == s.period)) (eq-eqb s.day s.day refl) (or_left (s.period + 1 == s.period + 1) (s.period + 1 + 1 == s.period) (eq-eqb (s.period + 1) (s.period + 1) refl)))
           a.1)
     ]
-
-neither : (a b : Bool) → not (a || b) ≡ (not a && not b)
-neither true b = refl
-neither false b = refl
 
 module _ (p : Problem) (path : List Fact) (q : ℕ) (s : Slot) (day : s.day < p.days) (period : s.period < p.periods) (cs : List ℕ) (are : cs ≡ members p q) where
   by_sides : is_alone p path q s ≡ (not (live_before p path cs s) && not (live_after p path cs s))

@@ -1,30 +1,26 @@
 -- How many different numbers there are below a bound, and how large sums are.
-use Rattle.std.proofs.Common.{◌≡◌, ℕ, ◌+◌, ◌*◌, ◌≤◌, ◌<◌, Bool, true, not, cond, List, [], ◌∷◌, ◌++◌, map, length, refl, sym, ◌∙◌, arith, inl, inr, length-append, eqb-true, eq-eqb, lt-ltb, le-leb, zero-le}
-use Rattle.std.specs.Prelude.{◌==◌, ◌⊎◌, min, nat_lt, nat_le, sum_by, All}
+use Rattle.std.proofs.Common.{◌≡◌, ℕ, ◌+◌, ◌*◌, ◌≤◌, ◌<◌, Bool, true, not, cond, List, [], ◌∷◌, map, length, refl, sym, ◌∙◌, arith, inl, inr, eqb-true, eq-eqb, lt-ltb, le-leb}
+use Rattle.std.specs.Prelude.{◌==◌, ◌⊎◌, min, nat_lt, nat_le, All}
 use Rattle.std.specs.List.{AllByRecursion, list_any}
 use Rattle.std.proofs.Math.ListN.{get_or-map}
 use Rattle.std.proofs.lemmas.List.{length-map}
 use Rattle.std.proofs.lemmas.List.Elements.{recursion_from_All, All-weaker}
 use Rattle.std.proofs.lemmas.List.FromFn.{length-range_with_len}
-use Rattle.std.proofs.lemmas.List.Sums.{sum_by-cons, count_by-le-length}
+use Rattle.std.proofs.lemmas.List.Sums.{count_by-le-length}
 use Rattle.std.proofs.lemmas.Bool.{cases_lt, le-ltb, lt-leb, cond-true, cond-false, cases_Bool}
 use Rattle.tt_lists.specs.Words.{numbers_below, each_two}
 use Rattle.tt_lists.proofs.Sums.{each_weaker}
 use Rattle.tt_lists.proofs.Numbers.{any_below}
+use Rattle.tt_leaf.proofs.Lengths.{length-le_sum, each_append}
 use Rattle.tt_lists.proofs.Members.{each_two-of_map}
 use Rattle.tt_instance.specs.Problem.{Problem}
-use Rattle.tt_instance.specs.Cells.{all_courses, all_curricula}
-use Rattle.tt_leaf.specs.Claims.{Target, RoomCapacity, WorkingDays, Compactness, Stability, same_target, targets_of, claimed}
+use Rattle.tt_leaf.specs.Claims.{Target, RoomCapacity, same_target, targets_of, claimed}
 use Rattle.tt_leaf.specs.Leaves.{claims_once}
 use Rattle.tt_leaf.specs.Nested.{PricesBelow, IsOnce}
 use Rattle.tt_leaf.specs.Ranges.{AreBelow, ArePrices, IsClaimOf}
 use Rattle.tt_leaf.specs.declared.leaf.Claim.{Claim}
 use Rattle.tt_leaf.specs.declared.leaf.Claim.TheVariants.{Capacity, Days, Compact, Stable, Prices, Stacked}
-use Rattle.tt_leaf.proofs.Totals.{distinct_sum, all_targets, same_target-true, same_target-itself, there_below, in_first, in_rest}
-
-length-le_sum : {X : Type 0} (f : X → ℕ) (xs : List X) → AllByRecursion (λ x. 1 ≤ f x) xs → length xs ≤ sum_by f xs
-length-le_sum f [] a = zero-le
-length-le_sum f (x ∷ xs) a = omega (arith, sum_by-cons f x xs, a.0, length-le_sum f xs a.1)
+use Rattle.tt_leaf.proofs.Totals.{distinct_sum, all_targets, same_target-true, same_target-itself, capacity_there, days_there, compactness_there, stability_there, length-all_targets}
 
 -- different numbers below a bound are no more than the bound
 pub distinct-le : (n : ℕ) (ns : List ℕ) → each_two (λ a b. not (a == b)) ns ≡ true → AreBelow n ns → length ns ≤ n
@@ -81,71 +77,22 @@ each_once p claims h = All-weaker (IsClaimOf p) IsOnce (is_once p) claims h
 abbrev IsThere : Problem → Target → Type 0
 IsThere p t = list_any (same_target t) (all_targets p) ≡ true
 
-each_append : {X : Type 0} (P : X → Type 0) (xs ys : List X) → AllByRecursion P xs → AllByRecursion P ys → AllByRecursion P (xs ++ ys)
-each_append P [] ys a b = b
-each_append P (x ∷ xs) ys a b = (a.0, each_append P xs ys a.1 b)
-
 module _ (p : Problem) where
-  abbrev days : List Target
-  days = map WorkingDays (all_courses p)
-
-  abbrev compactness : List Target
-  compactness = map Compactness (all_curricula p)
-
-  abbrev stability : List Target
-  stability = map Stability (all_courses p)
-
-  capacity_there : (c : ℕ) → c < length p.courses → IsThere p (RoomCapacity c)
-  capacity_there c h =
-      in_first (same_target (RoomCapacity c)) (map RoomCapacity (all_courses p)) (days ++ (compactness ++ stability)) (there_below RoomCapacity (λ i. eq-eqb i i refl) c (length p.courses) h)
-
-  days_there : (c : ℕ) → c < length p.courses → IsThere p (WorkingDays c)
-  days_there c h =
-      in_rest (same_target (WorkingDays c)) (map RoomCapacity (all_courses p)) (days ++ (compactness ++ stability))
-      (in_first (same_target (WorkingDays c)) days (compactness ++ stability) (there_below WorkingDays (λ i. eq-eqb i i refl) c (length p.courses) h))
-
-  compactness_there : (q : ℕ) → q < length p.curricula → IsThere p (Compactness q)
-  compactness_there q h =
-      in_rest (same_target (Compactness q)) (map RoomCapacity (all_courses p)) (days ++ (compactness ++ stability))
-      (in_rest (same_target (Compactness q)) days (compactness ++ stability)
-      (in_first (same_target (Compactness q)) compactness stability (there_below Compactness (λ i. eq-eqb i i refl) q (length p.curricula) h)))
-
-  stability_there : (c : ℕ) → c < length p.courses → IsThere p (Stability c)
-  stability_there c h =
-      in_rest (same_target (Stability c)) (map RoomCapacity (all_courses p)) (days ++ (compactness ++ stability))
-      (in_rest (same_target (Stability c)) days (compactness ++ stability)
-      (in_rest (same_target (Stability c)) compactness stability (there_below Stability (λ i. eq-eqb i i refl) c (length p.courses) h)))
-
   priced_there : (courses : List (ℕ × ℕ)) → AllByRecursion (λ c. c < length p.courses) (map (λ k. k.0) courses) → AllByRecursion (IsThere p) (map (λ k. RoomCapacity k.0) courses)
   priced_there [] a = tt
-  priced_there (k ∷ ks) a = (capacity_there k.0 a.0, priced_there ks a.1)
+  priced_there (k ∷ ks) a = (capacity_there p k.0 a.0, priced_there ks a.1)
 
   targets_there : (claim : Claim) → IsClaimOf p claim → AllByRecursion (IsThere p) (targets_of claim)
-  targets_there (Capacity c u) h = (capacity_there c h, tt)
-  targets_there (Days c) h = (days_there c h, tt)
-  targets_there (Compact q) h = (compactness_there q h, tt)
-  targets_there (Stable c) h = (stability_there c h, tt)
+  targets_there (Capacity c u) h = (capacity_there p c h, tt)
+  targets_there (Days c) h = (days_there p c h, tt)
+  targets_there (Compact q) h = (compactness_there p q h, tt)
+  targets_there (Stable c) h = (stability_there p c h, tt)
   targets_there (Prices courses rooms) h = priced_there courses (recursion_from_All (λ c. c < length p.courses) (map (λ (k : ℕ × ℕ). k.0) courses) h.0.within)
-  targets_there (Stacked c) h = (days_there c h, tt)
+  targets_there (Stacked c) h = (days_there p c h, tt)
 
   claimed_there : (claims : List Claim) → AllByRecursion (IsClaimOf p) claims → AllByRecursion (IsThere p) (claimed claims)
   claimed_there [] a = tt
   claimed_there (c ∷ cs) a = each_append (IsThere p) (targets_of c) (claimed cs) (targets_there c a.0) (claimed_there cs a.1)
-
-  length-all_targets : length (all_targets p) ≡ 3 * length p.courses + length p.curricula
-  length-all_targets =
-      omega (
-        arith,
-        length-append (map RoomCapacity (all_courses p)) (days ++ (compactness ++ stability)),
-        length-append days (compactness ++ stability),
-        length-append compactness stability,
-        length-map (all_courses p) RoomCapacity,
-        length-map (all_courses p) WorkingDays,
-        length-map (all_curricula p) Compactness,
-        length-map (all_courses p) Stability,
-        length-range_with_len 0 (length p.courses),
-        length-range_with_len 0 (length p.curricula),
-      )
 
   -- claims of different targets have no more than there are
   pub claimed-le : (claims : List Claim) → All (IsClaimOf p) claims → claims_once claims ≡ true → length (claimed claims) ≤ 3 * length p.courses + length p.curricula
@@ -158,4 +105,4 @@ module _ (p : Problem) where
         | inr e ↦ inl (cond-false {A = ℕ} (there t) 1 0 e)
       ] in
       let spread = distinct_sum same_target same_target-true same_target-itself one (claimed claims) (all_targets p) apart found in
-      omega (arith, length-le_sum one (claimed claims) each_one, spread, count_by-le-length there (all_targets p), length-all_targets)
+      omega (arith, length-le_sum one (claimed claims) each_one, spread, count_by-le-length there (all_targets p), length-all_targets p)

@@ -23,12 +23,13 @@ agrees_at g x = agrees g.room x.room && agrees g.day x.day && agrees g.period x.
 
 -- the cell is dead, or its place is not the pattern's
 abbrev pub dead_or_off : Problem → List Fact → Pattern → Cell → Bool
-dead_or_off p path g x =
-    not (agrees_at g x) || is_dead p path x
+dead_or_off p path g x = not (agrees_at g x) || is_dead p path x
 
+-- the course is dead in the room, where the pattern matches
 abbrev pub room_dead : Problem → List Fact → Pattern → ℕ → ℕ → Bool
 room_dead p path g c r = list_all (λ s. dead_or_off p path g (cell c r s)) (all_slots p)
 
+-- and in each room
 abbrev pub course_dead : Problem → List Fact → Pattern → ℕ → Bool
 course_dead p path g c = list_all (room_dead p path g c) (all_rooms p)
 
@@ -52,12 +53,15 @@ open_in_room p path cs r = count_by (live_in p path cs r) (all_slots p)
 
 -- ---- days, rooms and periods of one course or curriculum
 
+-- how many days have a live period of the course
 abbrev pub live_days : Problem → List Fact → ℕ → ℕ
 live_days p path c = count_by (live_day p path c) (all_days p)
 
+-- how many days have a pinned period of the course
 abbrev pub pinned_days : Problem → List Fact → ℕ → ℕ
 pinned_days p path c = count_by (pinned_day p path c) (all_days p)
 
+-- how many rooms are pinned for the course
 abbrev pub pinned_rooms : Problem → List Fact → ℕ → ℕ
 pinned_rooms p path c = count_by (pinned_room p path c) (all_rooms p)
 
@@ -103,16 +107,18 @@ course_prices p courses = sum_by (λ k. lectures p k.0 * k.1) courses
 abbrev pub room_prices : Problem → List Fact → List (ℕ × ℕ) → List (ℕ × ℕ) → ℕ
 room_prices p path courses rooms = sum_by (λ k. k.1 * open_in p path courses k.0) rooms
 
--- in the room, the excess and the room's price cover the price of the course, or none of its cells is live
+-- on each live cell of the course in the room, the excess and the room's price cover the course's price
 abbrev pub covered_in : Problem → List Fact → List (ℕ × ℕ) → ℕ × ℕ → ℕ → Bool
 covered_in p path rooms k r =
     list_all (λ s. not (is_live p path (cell k.0 r s)) || nat_le k.1 (excess p k.0 r + price_in rooms r)) (all_slots p)
 
+-- and in each room
 abbrev pub covered : Problem → List Fact → List (ℕ × ℕ) → ℕ × ℕ → Bool
 covered p path rooms k = list_all (covered_in p path rooms k) (all_rooms p)
 
 -- ---- targets
 
+-- the claim has the target
 abbrev pub claims_target : Claim → Target → Bool
 claims_target claim t = list_any (same_target t) (targets_of claim)
 

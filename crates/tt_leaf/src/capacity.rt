@@ -5,7 +5,7 @@ ghost use Rattle.tt_leaf.specs.Claims.{discount, value_of};
 ghost use Rattle.tt_leaf.specs.Nested.{discounts};
 ghost use Rattle.tt_leaf.specs.declared.leaf.Claim.TheVariants.{Capacity};
 
-use crate::slots::{slot_at, slots};
+use crate::slots::{slot_at, slot_count};
 use tt_facts::Path;
 
 fn discount(price: u64, least: Option<u64>) -> u64
@@ -24,7 +24,7 @@ fn all_discounts<'i, P: Path<'i>>(path: &P, course: u32, price: u32) -> u64
 {
     let instance = path.instance();
     let mut total: u64 = 0;
-    for place in 0..slots(instance) {
+    for place in 0..slot_count(instance) {
         let slot = slot_at(instance, place);
         total += discount(
             u64::from(price),

@@ -6,7 +6,7 @@ ghost use Rattle.tt_facts.specs.Facts.{agrees, is_who};
 ghost use Rattle.tt_leaf.specs.Leaves.{all_dead};
 ghost use Rattle.tt_leaf.specs.Nested.{agrees_at, dead_or_off, room_dead, course_dead};
 
-use crate::slots::{slot_at, slots};
+use crate::slots::{slot_at, slot_count};
 use tt_facts::{Path, Pattern, Who};
 use tt_instance::{Cell, Instance};
 
@@ -50,7 +50,7 @@ fn room_dead<'i, P: Path<'i>>(path: &P, pattern: &Pattern, course: u32, room: u3
     ensures { result ≡ room_dead (P.problem path.now) (P.facts path.now) pattern.now course room }
 {
     let instance = path.instance();
-    for place in 0..slots(instance) {
+    for place in 0..slot_count(instance) {
         let slot = slot_at(instance, place);
         let cell = Cell {
             course,

@@ -9,7 +9,7 @@ ghost use Rattle.tt_leaf.specs.Leaves.{all_lectures, is_clique, are_distinct, op
 ghost use Rattle.tt_leaf.specs.Nested.{live_for, live_in, open_in_room};
 ghost use Rattle.tt_leaf.specs.Ranges.{AreBelow};
 
-use crate::slots::{slot_at, slots};
+use crate::slots::{slot_at, slot_count};
 use tt_facts::Path;
 use tt_instance::{Cell, Instance};
 
@@ -103,7 +103,7 @@ pub fn open_periods<'i, P: Path<'i>>(path: &P, courses: &[u32]) -> u32
 {
     let instance = path.instance();
     let mut total = 0;
-    for place in 0..slots(instance) {
+    for place in 0..slot_count(instance) {
         let slot = slot_at(instance, place);
         if is_open(path, courses, slot.day, slot.period) {
             total += 1;
@@ -147,7 +147,7 @@ fn open_in_room<'i, P: Path<'i>>(path: &P, courses: &[u32], room: u32) -> u32
 {
     let instance = path.instance();
     let mut total = 0;
-    for place in 0..slots(instance) {
+    for place in 0..slot_count(instance) {
         let slot = slot_at(instance, place);
         if is_room_open(path, courses, room, slot.day, slot.period) {
             total += 1;

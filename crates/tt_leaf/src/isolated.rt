@@ -8,7 +8,7 @@ ghost use Rattle.tt_leaf.specs.Ranges.{AreBelow};
 ghost use Rattle.tt_leaf.specs.declared.leaf.Claim.TheVariants.{Compact};
 
 use crate::groups::is_open;
-use crate::slots::{slot_at, slots};
+use crate::slots::{slot_at, slot_count};
 use tt_facts::{Path, Who};
 use tt_instance::Slot;
 
@@ -52,7 +52,7 @@ fn isolated_periods<'i, P: Path<'i>>(path: &P, curriculum: u32) -> u32
 {
     let instance = path.instance();
     let mut total = 0;
-    for place in 0..slots(instance) {
+    for place in 0..slot_count(instance) {
         let slot = slot_at(instance, place);
         if path.pinned(Who::Curriculum(curriculum), slot.day, slot.period)
             && is_alone(path, curriculum, slot)

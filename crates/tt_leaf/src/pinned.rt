@@ -4,7 +4,7 @@ ghost use Rattle.std.specs.Prelude.{◌≡◌, ◌≤◌};
 ghost use Rattle.tt_facts.specs.Facts.{IsWho};
 ghost use Rattle.tt_facts.specs.Live.{pinned_periods};
 
-use crate::slots::{slot_at, slots};
+use crate::slots::{slot_at, slot_count};
 use tt_facts::{Path, Who};
 
 /// How many periods of the week are pinned for a course or a curriculum.
@@ -15,7 +15,7 @@ pub fn pinned_periods<'i, P: Path<'i>>(path: &P, who: Who) -> u32
 {
     let instance = path.instance();
     let mut total = 0;
-    for place in 0..slots(instance) {
+    for place in 0..slot_count(instance) {
         let slot = slot_at(instance, place);
         if path.pinned(who, slot.day, slot.period) {
             total += 1;

@@ -8,7 +8,7 @@ ghost use Rattle.tt_leaf.specs.Nested.{PricesBelow, dead_in, priced_live_in, cou
 ghost use Rattle.tt_leaf.specs.Ranges.{ArePrices};
 ghost use Rattle.tt_leaf.specs.declared.leaf.Claim.TheVariants.{Prices};
 
-use crate::slots::{slot_at, slots};
+use crate::slots::{slot_at, slot_count};
 use tt_facts::Path;
 use tt_instance::{Cell, Instance};
 
@@ -33,7 +33,7 @@ fn is_dead_in<'i, P: Path<'i>>(path: &P, course: u32, room: u32) -> bool
     ensures { result ≡ dead_in (P.problem path.now) (P.facts path.now) course room }
 {
     let instance = path.instance();
-    for place in 0..slots(instance) {
+    for place in 0..slot_count(instance) {
         let slot = slot_at(instance, place);
         let cell = Cell {
             course,
@@ -130,7 +130,7 @@ fn open_in<'i, P: Path<'i>>(path: &P, courses: &[(u32, u32)], room: u32) -> u32
 {
     let instance = path.instance();
     let mut total = 0;
-    for place in 0..slots(instance) {
+    for place in 0..slot_count(instance) {
         let slot = slot_at(instance, place);
         if is_room_open(path, courses, room, slot.day, slot.period) {
             total += 1;

@@ -7,7 +7,7 @@ ghost use Rattle.tt_instance.specs.Limits.{IsInstance};
 use tt_instance::{Instance, Slot};
 
 /// How many periods the week has.
-pub fn slots(instance: &Instance<'_>) -> u32
+pub fn slot_count(instance: &Instance<'_>) -> u32
     ensures value { result ≡ length (all_slots instance.now) }
     ensures within { result ≤ 512 }
     ensures instance { IsInstance instance.now }

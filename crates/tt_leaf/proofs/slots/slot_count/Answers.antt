@@ -1,6 +1,6 @@
 use Rattle.std.proofs.Common.{◌*◌, sym, ap, ◌∙◌}
 use Rattle.tt_instance.proofs.Slots.{length-all_slots}
-use Rattle.tt_leaf.proofs.slots.slots.Goals as goal
+use Rattle.tt_leaf.proofs.slots.slot_count.Goals as goal
 
 pub returns-clause-value : goal.returns-clause-value
 returns-clause-value c =
