@@ -1,0 +1,23 @@
+//! Tests that cross the crates: worked examples, through the commands and through the calls.
+#![tactic(auto)]
+
+#[cfg(test)]
+mod checking;
+#[cfg(test)]
+mod commands;
+#[cfg(test)]
+mod disk;
+#[cfg(test)]
+mod faults;
+#[cfg(test)]
+mod files;
+#[cfg(test)]
+mod reading;
+#[cfg(test)]
+mod refusing;
+#[cfg(test)]
+mod samples;
+#[cfg(test)]
+mod tables;
+#[cfg(test)]
+mod validating;
