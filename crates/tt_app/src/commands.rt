@@ -54,30 +54,35 @@ fn answer<R: Files + AllocGlobal>(rt: &R, asked: &Request<'_>) -> Result<Answer,
     }
 }
 
-/// Prints an answer or a refusal, and gives the status.
-fn told<O: Write, E: Write>(answered: Result<Answer, AppFault>, out: &mut O, err: &mut E) -> u8 {
-    let fault = match answered {
-        Ok(answer) => match out.write_all(&answer.out) {
-            Ok(()) => return answer.status,
-            Err(_) => AppFault::CannotWrite,
-        },
-        Err(fault) => fault,
-    };
+/// Tells of a refusal, and gives its status.
+fn refused<E: Write>(fault: AppFault, err: &mut E) -> u8 {
     let _ = writeln!(err, "refused: {fault}");
     2
+}
+
+/// Prints an answer or a refusal, and gives the status.
+fn told<O: Write, E: Write>(answered: Result<Answer, AppFault>, out: &mut O, err: &mut E) -> u8 {
+    match answered {
+        Ok(answer) => match out.write_all(&answer.out) {
+            Ok(()) => answer.status,
+            Err(_) => refused(AppFault::CannotWrite, err),
+        },
+        Err(fault) => refused(fault, err),
+    }
 }
 
 /// What clap says of words that it refuses, or of a wish for help.
 fn told_words<O: Write, E: Write>(fault: &clap::Error, out: &mut O, err: &mut E) -> u8 {
     if fault.kind() == ErrorKind::OutOfMemory {
-        let _ = writeln!(err, "refused: {}", AppFault::OutOfMemory);
-        2
-    } else if fault.use_stderr() {
+        return refused(AppFault::OutOfMemory, err);
+    }
+    if fault.use_stderr() {
         let _ = write!(err, "{fault}");
-        2
-    } else {
-        let _ = write!(out, "{fault}");
-        0
+        return 2;
+    }
+    match write!(out, "{fault}") {
+        Ok(()) => 0,
+        Err(_) => refused(AppFault::CannotWrite, err),
     }
 }
 
