@@ -1,5 +1,6 @@
 #!/usr/bin/env python3
-"""Prints the time and the peak memory of `tt validate` on three pairs of files, which it makes in a folder of its own.
+"""Prints the time and the peak memory of `tt validate` on three pairs of files, which it makes in a folder of its own, and
+beside them those of plain.rs, a program in plain Rust that counts the same, where rustc is there to compile it.
 
 Run by hand, after ./tt has built the program:  python3 bench/validate.py
 Each command is run five times, and the least time counts.
@@ -7,13 +8,15 @@ Each command is run five times, and the least time counts.
 
 import os
 import random
+import shutil
 import subprocess
 import sys
 import tempfile
 import time
 from pathlib import Path
 
-PROGRAM = Path(__file__).resolve().parent.parent / "crates" / "tt" / "out" / "tt"
+HERE = Path(__file__).resolve().parent
+PROGRAM = HERE.parent / "crates" / "tt" / "out" / "tt"
 
 
 def instance(name, courses, rooms, days, periods, curricula, bars):
@@ -52,21 +55,42 @@ def largest(rng, entries):
     return instance("Largest", courses, rooms, 64, 8, curricula, bars), solution(placed)
 
 
-def measure(folder, name, texts):
+def least(name, words):
+    """The least time of five runs in milliseconds, the peak memory in KiB, and what was printed."""
+    best, peak = float("inf"), 0
+    for _ in range(5):
+        with tempfile.TemporaryFile() as out:
+            start = time.perf_counter()
+            child = subprocess.Popen(words, stdout=out)
+            _, status, usage = os.wait4(child.pid, 0)
+            best = min(best, time.perf_counter() - start)
+            peak = max(peak, usage.ru_maxrss)
+            if os.waitstatus_to_exitcode(status) > 1:
+                sys.exit(f"{name}: refused")
+            out.seek(0)
+            text = out.read()
+    return best * 1000, peak, text
+
+
+def measure(folder, plain, name, texts):
     paths = [folder / f"{name}.{kind}" for kind in ("ctt", "sol")]
     for path, text in zip(paths, texts):
         path.write_text(text)
-    best, peak = float("inf"), 0
-    for _ in range(5):
-        start = time.perf_counter()
-        child = subprocess.Popen([PROGRAM, "validate", *paths], stdout=subprocess.DEVNULL)
-        _, status, usage = os.wait4(child.pid, 0)
-        best = min(best, time.perf_counter() - start)
-        peak = max(peak, usage.ru_maxrss)
-        if os.waitstatus_to_exitcode(status) > 1:
-            sys.exit(f"{name}: refused")
     size = sum(path.stat().st_size for path in paths)
-    print(f"{name}: files {size / 1024:.0f} KiB, {best * 1000:.1f} ms, peak {peak} KiB")
+    taken, peak, text = least(name, [PROGRAM, "validate", *paths])
+    print(f"{name}: files {size / 1024:.0f} KiB; tt {taken:.1f} ms, peak {peak} KiB", end="")
+    if plain:
+        taken, peak, other = least(name, [plain, *paths])
+        print(f"; plain {taken:.1f} ms, peak {peak} KiB; {'same' if text == other else 'OTHER'} counts", end="")
+    print()
+
+
+def compiled(folder):
+    """plain.rs, where there is a rustc."""
+    if not shutil.which("rustc"):
+        return None
+    subprocess.run(["rustc", "-O", "-o", folder / "plain", HERE / "plain.rs"], check=True)
+    return folder / "plain"
 
 
 def main():
@@ -74,9 +98,11 @@ def main():
         sys.exit("run ./tt first: the program is not built")
     rng = random.Random(1)
     with tempfile.TemporaryDirectory() as folder:
-        measure(Path(folder), "hundred", hundred(rng))
-        measure(Path(folder), "largest", largest(rng, 4096))
-        measure(Path(folder), "largest-16384", largest(rng, 16384))
+        folder = Path(folder)
+        plain = compiled(folder)
+        measure(folder, plain, "hundred", hundred(rng))
+        measure(folder, plain, "largest", largest(rng, 4096))
+        measure(folder, plain, "largest-16384", largest(rng, 16384))
     print(f"cores: {os.cpu_count()}")
 
 
