@@ -173,15 +173,14 @@ impl Write for Closed {
 
 #[test]
 fn closed_outputs(rt: HostRuntime) -> Result<(), Fail> {
-    let alloc = rt.alloc();
-    let disk = Disk { files: &[] };
-    let help = [String::from_str(alloc, "--help")?];
-    for words in [[].as_slice(), help.as_slice()] {
-        let mut err = Vec::new(alloc);
-        let status = run(&(disk, alloc), words, &mut Closed, &mut err);
-        assert_eq!(rt; status, 2);
-        assert_eq!(rt; err.as_slice(), b"refused: cannot write\n".as_slice());
-    }
-    assert_eq!(rt; run(&(disk, alloc), &[], &mut Closed, &mut Closed), 2);
+    let runtime = (Disk { files: &[] }, rt.alloc());
+    let mut words = Vec::new(rt.alloc());
+    let mut err = Vec::new(rt.alloc());
+    assert_eq!(rt; run(&runtime, &words, &mut Closed, &mut err), 2);
+    words.push(String::from_str(rt.alloc(), "--help")?)?;
+    assert_eq!(rt; run(&runtime, &words, &mut Closed, &mut err), 2);
+    let refused = b"refused: cannot write\nrefused: cannot write\n";
+    assert_eq!(rt; err.as_slice(), refused.as_slice());
+    assert_eq!(rt; run(&runtime, &words, &mut Closed, &mut Closed), 2);
     Ok(())
 }
