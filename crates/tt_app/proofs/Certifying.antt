@@ -19,8 +19,8 @@ use Rattle.tt_days.specs.Days.{ProvesByDays}
 use Rattle.tt_days.specs.Verdicts.{is_silent}
 use Rattle.tt_app.specs.Told.{told_check}
 use Rattle.tt_text.specs.Reading.{FailsBut}
-use Rattle.tt_app.specs.Checked.{CertifiesByDays, Breaks, BoundsAll, IsYesAnswer, IsBrokenAnswer, IsChecked, GivesBytes, TellsBytes, IsProved, TellsBound, TellsOfProof, TellsOfAll, AnswersYes, AnswersBroken, read_failed}
-use Rattle.tt_app.specs.Validated.{TellsOfBoth}
+use Rattle.tt_app.specs.Checked.{CertifiesByDays, Solves, Breaks, BoundsAll, IsYesAnswer, IsBrokenAnswer, IsChecked, GivesBytes, TellsBytes, IsProved, TellsBound, TellsOfProof, TellsOfAll, AnswersYes, AnswersBroken, IsOfFiles, read_failed}
+use Rattle.tt_app.specs.Validated.{SpellsBoth, TellsOfBoth}
 use Rattle.tt_app.specs.declared.answer.Answer.{Answer}
 use Rattle.tt_app.specs.declared.fault.AppFault.{AppFault}
 use Rattle.tt_app.specs.declared.fault.AppFault.TheVariants as fault
@@ -31,11 +31,11 @@ use Rattle.tt_app.proofs.Files.{one_instance, one_table, only_memory}
 
 -- what is certified is refused for want of memory alone
 pub certified_memory : (i s bytes : List ℕ) (c b : ℕ) (f : AppFault) → CertifiesByDays i s bytes c b → TellsOfBoth i s f → AnswersYes (Err f) c b
-certified_memory i s bytes c b f h tells = inl (only_memory i s h.problem h.table f (record { spelled = h.spelled; solved = h.solved }) tells)
+certified_memory i s bytes c b f h tells = inl (only_memory i s h.solves.problem h.solves.table f h.solves.both tells)
 
 -- and so is what breaks a hard rule
 pub broken_memory : (i s : List ℕ) (h c : ℕ) (f : AppFault) → Breaks i s h c → TellsOfBoth i s f → AnswersBroken (Err f) h c
-broken_memory i s h c f k tells = only_memory i s k.problem k.table f (record { spelled = k.spelled; solved = k.solved }) tells
+broken_memory i s h c f k tells = only_memory i s k.problem k.table f k.both tells
 
 -- a test for no points
 pub points : (b : Bool) (n : ℕ) → (IsTrue b ↔ (n ≡ 0)) → b ≡ false → n ≡ 0 → ⊥
@@ -47,6 +47,27 @@ no_points b n both feasible = both.0 feasible
 -- bytes that are at hand never refuse a read
 pub bound_not_read : (p : Problem) (bytes : List ℕ) (f : AppFault) → TellsBound p bytes f → f ≡ read_failed → ⊥
 bound_not_read p bytes f h e = never_reads p bytes (subst (TellsBound p bytes) e h)
+
+-- a fault of the proof is none of the instance or the solution
+pub bytes_not_files : (q : Option (List ℕ)) (f : AppFault) → TellsBytes q f → IsOfFiles f → ⊥
+bytes_not_files q (fault.Instance f) h of = h
+bytes_not_files q (fault.Solution f) h of = h
+bytes_not_files q (fault.Proof f) h of = of
+bytes_not_files q fault.OutOfMemory h of = of
+bytes_not_files q fault.ProofTooLarge h of = of
+bytes_not_files q fault.CannotWrite h of = of
+bytes_not_files q (fault.CannotRead n) h of = of
+bytes_not_files q (fault.TooLong n) h of = of
+
+pub bound_not_files : (p : Problem) (bytes : List ℕ) (f : AppFault) → TellsBound p bytes f → IsOfFiles f → ⊥
+bound_not_files p bytes (fault.Instance f) h of = h
+bound_not_files p bytes (fault.Solution f) h of = h
+bound_not_files p bytes (fault.Proof f) h of = of
+bound_not_files p bytes fault.OutOfMemory h of = of
+bound_not_files p bytes fault.ProofTooLarge h of = of
+bound_not_files p bytes fault.CannotWrite h of = of
+bound_not_files p bytes (fault.CannotRead n) h of = of
+bound_not_files p bytes (fault.TooLong n) h of = of
 
 -- what is derived is refused for want of memory alone
 pub bound_memory : (f : CheckFault) (b : ℕ) (r : Result Bound CheckFault) → r ≡ Ok (AtLeast b) → FailsBut is_silent f r → told_check f ≡ fault.OutOfMemory
@@ -81,21 +102,24 @@ record Broken (p : Problem) (t : List Cell) (h c : ℕ) : Type 0 where
   costs : cost p t ≡ c
 
 module _ (i s : List ℕ) (p : Problem) (t : List Cell) (spelled : Spells i p) (solved : SpellsTable p s t) where
+  both : SpellsBoth i s p t
+  both = record { spelled = spelled; solved = solved }
+
   at_table : (P : List Cell → Type 0) (u : List Cell) → SpellsTable p s u → P u → P t
   at_table P u solves h = subst P (one_table s i p u t spelled solves solved) h
 
   certified_here : (bytes : List ℕ) (c b : ℕ) → CertifiesByDays i s bytes c b → Certified p t bytes c b
   certified_here bytes c b h =
-      let same : h.problem ≡ p = one_instance i h.problem p h.spelled spelled in
-      let there : SpellsTable p s h.table × Certified p h.table bytes c b =
-      subst (λ (q : Problem). SpellsTable q s h.table × Certified q h.table bytes c b) same (h.solved, record { feasible = h.feasible; costs = h.costs; proved = h.proved }) in
-      at_table (λ (u : List Cell). Certified p u bytes c b) h.table there.0 there.1
+      let same : h.solves.problem ≡ p = one_instance i h.solves.problem p h.solves.both.spelled spelled in
+      let there : SpellsTable p s h.solves.table × Certified p h.solves.table bytes c b =
+      subst (λ (q : Problem). SpellsTable q s h.solves.table × Certified q h.solves.table bytes c b) same (h.solves.both.solved, record { feasible = h.solves.feasible; costs = h.solves.costs; proved = h.proved }) in
+      at_table (λ (u : List Cell). Certified p u bytes c b) h.solves.table there.0 there.1
 
   broken_here : (h c : ℕ) → Breaks i s h c → Broken p t h c
   broken_here h c k =
-      let same : k.problem ≡ p = one_instance i k.problem p k.spelled spelled in
+      let same : k.problem ≡ p = one_instance i k.problem p k.both.spelled spelled in
       let there : SpellsTable p s k.table × Broken p k.table h c =
-      subst (λ (q : Problem). SpellsTable q s k.table × Broken q k.table h c) same (k.solved, record { breaks = k.breaks; some = k.some; costs = k.costs }) in
+      subst (λ (q : Problem). SpellsTable q s k.table × Broken q k.table h c) same (k.both.solved, record { breaks = k.breaks; some = k.some; costs = k.costs }) in
       at_table (λ (u : List Cell). Broken p u h c) k.table there.0 there.1
 
   module _ (score : Score) (is : IsScore p t score) where
@@ -115,9 +139,8 @@ module _ (i s : List ℕ) (p : Problem) (t : List Cell) (spelled : Spells i p) (
     broken_checked q a broken answer =
         let breaks : Breaks i s (broken_by score) (costs_of score) = record {
           problem = p;
-          spelled = spelled;
           table = t;
-          solved = solved;
+          both = both;
           breaks = sym (hard_is p t score is);
           some = positive (broken_by score) broken;
           costs = sym (cost_is p t score is);
@@ -142,7 +165,7 @@ module _ (i s : List ℕ) (p : Problem) (t : List Cell) (spelled : Spells i p) (
     -- a refusal of the proof's bytes
     pub bytes_tell : (q : Option (List ℕ)) (f : AppFault) → broken_by score ≡ 0 → TellsBytes q f → TellsOfAll i s q f
     bytes_tell q fault.OutOfMemory e h = tt
-    bytes_tell q (fault.Proof f) e h = record { problem = p; spelled = spelled; table = t; solved = solved; feasible = score_feasible e; fails = told q h }
+    bytes_tell q (fault.Proof f) e h = record { problem = p; table = t; both = both; feasible = score_feasible e; fails = told q h }
       where
         told : (k : Option (List ℕ)) → (f ≡ check.Text (text.Feed feed.Read)) ⊎ ((f ≡ check.Text (text.Feed feed.TooManyBytes)) × IfSome k (λ bytes. 4294967295 < length bytes))
             → IfSome k (λ bytes. TellsOfProof p bytes f)
@@ -159,7 +182,7 @@ module _ (i s : List ℕ) (p : Problem) (t : List Cell) (spelled : Spells i p) (
     -- a refusal of the proof
     pub bound_tells : (q : Option (List ℕ)) (items : List ℕ) (f : AppFault) → broken_by score ≡ 0 → GivesBytes q items → TellsBound p items f → TellsOfAll i s q f
     bound_tells q items fault.OutOfMemory e given h = tt
-    bound_tells q items (fault.Proof f) e given h = record { problem = p; spelled = spelled; table = t; solved = solved; feasible = score_feasible e; fails = told q given.all }
+    bound_tells q items (fault.Proof f) e given h = record { problem = p; table = t; both = both; feasible = score_feasible e; fails = told q given.all }
       where
         told : (k : Option (List ℕ)) → IfSome k (λ bytes. items ≡ bytes) → IfSome k (λ bytes. TellsOfProof p bytes f)
         told None all = tt
@@ -180,32 +203,15 @@ module _ (i s : List ℕ) (p : Problem) (t : List Cell) (spelled : Spells i p) (
     pub certified_cost : (bytes : List ℕ) (c b : ℕ) → CertifiesByDays i s bytes c b → costs_of score ≡ c
     certified_cost bytes c b h = cost_is p t score is ∙ (certified_here bytes c b h).costs
 
+    abbrev solves_here : broken_by score ≡ 0 → Solves i s (costs_of score)
+    solves_here e = record { problem = p; table = t; both = both; feasible = score_feasible e; costs = sym (cost_is p t score is) }
+
     pub yes_checked : (q : Option (List ℕ)) (items : List ℕ) (a : Answer) (b : ℕ) → broken_by score ≡ 0 → GivesBytes q items → IsProved p items b → IsYesAnswer a (costs_of score) b → IsChecked i s q a
     yes_checked q items a b e given proved answer =
-        let feasible = score_feasible e in
-        let costs : cost p t ≡ costs_of score = sym (cost_is p t score is) in
         let all : BoundsAll i b = λ other spells. subst (λ (x : Problem). HoldsOfAll x (AtLeast b)) (one_instance i p other spelled spells) proved.holds in
-        let within : b ≤ costs_of score = subst (λ (n : ℕ). b ≤ n) costs (proved.holds t feasible) in
-        inl (
-          costs_of score,
-          b,
-          record {
-            solves = record { problem = p; spelled = spelled; table = t; solved = solved; feasible = feasible; costs = costs };
-            certified = told q given.all;
-            bounds = all;
-            within = within;
-            answer = answer;
-          },
-        )
+        let within : b ≤ costs_of score = subst (λ (n : ℕ). b ≤ n) (sym (cost_is p t score is)) (proved.holds t (score_feasible e)) in
+        inl (costs_of score, b, record { solves = solves_here e; certified = told q given.all; bounds = all; within = within; answer = answer })
       where
         told : (k : Option (List ℕ)) → IfSome k (λ bytes. items ≡ bytes) → IfSome k (λ bytes. CertifiesByDays i s bytes (costs_of score) b)
         told None h = tt
-        told (Some bytes) h = record {
-          problem = p;
-          spelled = spelled;
-          table = t;
-          solved = solved;
-          feasible = score_feasible e;
-          costs = sym (cost_is p t score is);
-          proved = subst (λ (bs : List ℕ). ProvesByDays p bs (AtLeast b)) h proved.proved;
-        }
+        told (Some bytes) h = record { solves = solves_here e; proved = subst (λ (bs : List ℕ). ProvesByDays p bs (AtLeast b)) h proved.proved }

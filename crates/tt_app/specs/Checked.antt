@@ -5,7 +5,6 @@ use Rattle.tt_instance.specs.Problem.{Problem}
 use Rattle.tt_instance.specs.Reading.{instance_of}
 use Rattle.tt_instance.specs.Spelling.{Spells}
 use Rattle.tt_instance.specs.declared.cell.Cell.{Cell}
-use Rattle.tt_table.specs.Spelling.{SpellsTable}
 use Rattle.tt_rules.specs.Score.{IsFeasible, hard, cost}
 use Rattle.tt_leaf.specs.declared.leaf.Bound.TheVariants.{AtLeast}
 use Rattle.tt_proof_text.specs.declared.fault.TextFault.TheVariants as text
@@ -15,7 +14,7 @@ use Rattle.tt_proof_check.specs.declared.fault.CheckFault.TheVariants as check
 use Rattle.tt_days.specs.Days.{ProvesByDays}
 use Rattle.tt_days.specs.Verdicts.{verdict_of}
 use Rattle.tt_app.specs.Lines.{yes_line, broken_line}
-use Rattle.tt_app.specs.Validated.{FailsSolution}
+use Rattle.tt_app.specs.Validated.{SpellsBoth, FailsSolution}
 use Rattle.tt_app.specs.declared.answer.Answer.{Answer}
 use Rattle.tt_app.specs.declared.fault.AppFault.{AppFault}
 use Rattle.tt_app.specs.declared.fault.AppFault.TheVariants as fault
@@ -25,18 +24,16 @@ use Rattle.tt_app.specs.declared.fault.AppFault.TheVariants as fault
 -- the bytes spell an instance and a timetable of it that breaks no hard rule and costs c
 pub record Solves (instance solution : List ℕ) (c : ℕ) : Type 0 where
   pub problem : Problem
-  pub spelled : Spells instance problem
   pub table : List Cell
-  pub solved : SpellsTable problem solution table
+  pub both : SpellsBoth instance solution problem table
   pub feasible : IsFeasible problem table
   pub costs : cost problem table ≡ c
 
 -- the bytes spell an instance and a timetable of it that breaks hard rules by h and costs c
 pub record Breaks (instance solution : List ℕ) (h c : ℕ) : Type 0 where
   pub problem : Problem
-  pub spelled : Spells instance problem
   pub table : List Cell
-  pub solved : SpellsTable problem solution table
+  pub both : SpellsBoth instance solution problem table
   pub breaks : hard problem table ≡ h
   pub some : 0 < h
   pub costs : cost problem table ≡ c
@@ -46,13 +43,8 @@ pub record Breaks (instance solution : List ℕ) (h c : ℕ) : Type 0 where
 -- The solution breaks no hard rule and costs c by the competition's definition, and the proof (one leaf of working-day claims)
 -- derives b by the written rules.
 pub record CertifiesByDays (instance solution proof : List ℕ) (c b : ℕ) : Type 0 where
-  pub problem : Problem
-  pub spelled : Spells instance problem
-  pub table : List Cell
-  pub solved : SpellsTable problem solution table
-  pub feasible : IsFeasible problem table
-  pub costs : cost problem table ≡ c
-  pub proved : ProvesByDays problem proof (AtLeast b)
+  pub solves : Solves instance solution c
+  pub proved : ProvesByDays solves.problem proof (AtLeast b)
 
 -- every timetable of the instance that breaks no hard rule costs at least b
 abbrev pub BoundsAll : List ℕ → ℕ → Type 0
@@ -132,9 +124,8 @@ TellsOfProof p bytes f =
 -- the solution breaks no hard rule, and the proof has this fault
 pub record FailsProof (instance solution : List ℕ) (proof : Option (List ℕ)) (f : CheckFault) : Type 0 where
   pub problem : Problem
-  pub spelled : Spells instance problem
   pub table : List Cell
-  pub solved : SpellsTable problem solution table
+  pub both : SpellsBoth instance solution problem table
   pub feasible : IsFeasible problem table
   pub fails : IfSome proof (λ bytes. TellsOfProof problem bytes f)
 
@@ -145,6 +136,12 @@ TellsOfAll instance solution proof (fault.Solution f) = FailsSolution instance s
 TellsOfAll instance solution proof (fault.Proof f) = FailsProof instance solution proof f
 TellsOfAll instance solution proof fault.OutOfMemory = ⊤
 TellsOfAll instance solution proof _ = ⊥
+
+-- the instance or the solution is refused
+abbrev pub IsOfFiles : AppFault → Type 0
+IsOfFiles (fault.Instance f) = ⊤
+IsOfFiles (fault.Solution f) = ⊤
+IsOfFiles _ = ⊥
 
 -- ---- what has to be answered
 

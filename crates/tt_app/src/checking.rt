@@ -4,7 +4,7 @@ ghost use Rattle.std.specs.Prelude.{◌≡◌, ◌≤◌, ℕ, ◌+◌, List, le
 ghost use Rattle.tt_rules.specs.Score.{IsFeasible};
 ghost use Rattle.tt_leaf.specs.declared.leaf.Bound.TheVariants.{AtLeast};
 ghost use Rattle.tt_days.specs.Days.{ProvesByDays};
-ghost use Rattle.tt_app.specs.Checked.{CertifiesByDays, Breaks, IsChecked, TellsOfAll, AnswersYes, AnswersBroken, IsYesAnswer, IsBrokenAnswer, GivesBytes, TellsBytes, IsProved, TellsBound, GivesBound, read_failed};
+ghost use Rattle.tt_app.specs.Checked.{CertifiesByDays, Breaks, IsChecked, TellsOfAll, AnswersYes, AnswersBroken, IsYesAnswer, IsBrokenAnswer, GivesBytes, TellsBytes, IsProved, TellsBound, GivesBound, IsOfFiles, read_failed};
 
 use crate::answer::Answer;
 use crate::fault::AppFault;
@@ -100,6 +100,8 @@ pub fn check<R: Source>(
         CertifiesByDays instance.now solution.now bytes c b → AnswersYes result c b }
     // What breaks a hard rule is answered, and the proof isn't read.
     ensures broken { (h c : ℕ) → Breaks instance.now solution.now h c → AnswersBroken result h c × (proof.new ≡ proof.old) }
+    // Nor is it read where the instance or the solution is refused.
+    ensures unread { IfErr result (λ f. IsOfFiles f → proof.new ≡ proof.old) }
     // A read is said to have failed only where one did.
     ensures failed { result ≡ Err read_failed → R.has_failed proof.new ≡ true }
 {

@@ -4,7 +4,7 @@ use Rattle.tt_leaf.specs.declared.leaf.Bound.TheVariants.{AtLeast}
 use Rattle.tt_days.specs.Days.{ProvesByDays}
 use Rattle.tt_app.specs.Checked.{TellsBound, IsProved, IsYesAnswer}
 use Rattle.tt_app.proofs.Files.{tells_instance, tells_solution}
-use Rattle.tt_app.proofs.Certifying.{certified_memory, broken_memory, points, no_points, bound_not_read, same_fault, yes_same, not_certified, broken_checked, broken_answered, is_feasible, not_broken, bytes_tell, bound_tells, certified_proof, certified_cost, yes_checked}
+use Rattle.tt_app.proofs.Certifying.{certified_memory, broken_memory, bytes_not_files, bound_not_files, points, no_points, bound_not_read, same_fault, yes_same, not_certified, broken_checked, broken_answered, is_feasible, not_broken, bytes_tell, bound_tells, certified_proof, certified_cost, yes_checked}
 use Rattle.tt_app.proofs.checking.check.Goals as goal
 
 pub returns-in_err-instance-clause-yes : goal.returns-in_err-instance-clause-yes
@@ -87,3 +87,13 @@ returns-clause-yes g c =
 pub returns-clause-broken : goal.returns-clause-broken
 returns-clause-broken g c =
     λ h n k. absurd (not_broken c.args.instance.now c.args.solution.now c.in_ok-instance.instance c.in_ok-table.table c.in_ok-instance.ensures.found c.in_ok-table.ensures.found c.score-score.result c.score-score.ensures h n (no_points c.feasible.result _ c.feasible.ensures c.if-not-feasible.false) k)
+
+pub returns-in_err-bytes-clause-unread : goal.returns-in_err-bytes-clause-unread
+returns-in_err-bytes-clause-unread g c =
+    let e = err_from_is_err_and c.from_residual-in_err-bytes.result c.from_residual-in_err-bytes.ensures.1 in
+    rw (e.1, e.2) (λ of. absurd (bytes_not_files (g.R.Source.remaining c.args.proof.now) c.in_err-bytes.field-0.0 c.in_err-bytes.ensures.fault of))
+
+pub returns-in_err-bound-clause-unread : goal.returns-in_err-bound-clause-unread
+returns-in_err-bound-clause-unread g c =
+    let e = err_from_is_err_and c.from_residual-in_err-bound.result c.from_residual-in_err-bound.ensures.1 in
+    rw (e.1, e.2) (λ of. absurd (bound_not_files c.in_ok-instance.instance c.deref.result.now c.in_err-bound.field-0.0 c.in_err-bound.ensures.fault of))
