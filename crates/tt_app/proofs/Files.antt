@@ -17,25 +17,12 @@ use Rattle.tt_rules.specs.Score.{IsScore}
 use Rattle.tt_rules.specs.declared.counts.Score.{Score}
 use Rattle.tt_rules.proofs.Scores.{hard_is}
 use Rattle.tt_app.specs.Lines.{score_text}
-use Rattle.tt_app.specs.Validated.{TellsOfBoth, SpellsBoth, score_lines, IsScoreAnswer, IsValidated}
+use Rattle.tt_proof_check.specs.Headline.{SpellsBoth}
+use Rattle.tt_proof_check.proofs.Files.{one_instance}
+use Rattle.tt_app.specs.Validated.{TellsOfBoth, score_lines, IsScoreAnswer, IsValidated}
 use Rattle.tt_app.specs.declared.answer.Answer.{Answer}
 use Rattle.tt_app.specs.declared.fault.AppFault.{AppFault}
 use Rattle.tt_app.specs.declared.fault.AppFault.TheVariants as fault
-
--- bytes spell one instance
-pub one_instance : (bytes : List ℕ) (p q : Problem) → Spells bytes p → Spells bytes q → p ≡ q
-one_instance bytes p q a b =
-    let e : Ok p ≡ instance_of bytes = sym (is_read bytes p a) in
-    let f = is_read bytes q b in
-    cc
-
--- and one timetable of it
-pub one_table : (bytes : List ℕ) (i : List ℕ) (p : Problem) (t u : List Cell) → Spells i p → SpellsTable p bytes t → SpellsTable p bytes u → t ≡ u
-one_table bytes i p t u s a b =
-    let limits = (spelled_instance i p s).within in
-    let e = solution_read p bytes t limits a in
-    let f = solution_read p bytes u limits b in
-    cc
 
 -- a fault of the instance is told
 pub tells_instance : (i s : List ℕ) (f : InstanceFault) → Fails f (instance_of i) → TellsOfBoth i s (told_instance f)

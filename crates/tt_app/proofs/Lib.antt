@@ -1,3 +1,3 @@
-pub mod Certifying
+pub mod Answering
+pub mod DerivedBounds
 pub mod Files
-pub mod NeverReads

@@ -6,6 +6,8 @@ use Rattle.tt_instance.specs.declared.cell.Cell.{Cell}
 use Rattle.tt_rules.specs.Hard.{lectures_count, conflicts_count, availability_count, occupancy_count}
 use Rattle.tt_rules.specs.Soft.{capacity_count, days_count, compactness_count, stability_count}
 use Rattle.tt_rules.specs.Score.{hard, cost}
+use Rattle.tt_leaf.specs.declared.leaf.Bound.{Bound}
+use Rattle.tt_leaf.specs.declared.leaf.Bound.TheVariants.{AtLeast, Nothing}
 
 -- a solution that breaks no hard rule, its cost and the bound that is proved
 abbrev pub yes_line : ℕ → ℕ → List ℕ
@@ -14,6 +16,11 @@ yes_line c b = codes "yes cost " ++ decimal c ++ codes " bound " ++ decimal b ++
 -- a solution that breaks a hard rule
 abbrev pub broken_line : ℕ → ℕ → List ℕ
 broken_line h c = codes "broken hard " ++ decimal h ++ codes " cost " ++ decimal c ++ 10 ∷ []
+
+-- the bound that is derived
+abbrev pub bound_line : Bound → List ℕ
+bound_line (AtLeast b) = codes "bound " ++ decimal b ++ 10 ∷ []
+bound_line Nothing = codes "bound " ++ codes "none" ++ 10 ∷ []
 
 -- a name and its number
 abbrev pub count_line : List ℕ → ℕ → List ℕ

@@ -5,6 +5,10 @@ use Rattle.tt_table.specs.declared.fault.SolutionFault.{SolutionFault}
 use Rattle.tt_table.specs.declared.fault.SolutionFault.TheVariants as solution
 use Rattle.tt_proof_check.specs.declared.fault.CheckFault.{CheckFault}
 use Rattle.tt_proof_check.specs.declared.fault.CheckFault.TheVariants as check
+use Rattle.tt_proof_check.specs.declared.fault.CertifyFault.{CertifyFault}
+use Rattle.tt_proof_check.specs.declared.fault.CertifyFault.TheVariants as certify
+use Rattle.tt_report.specs.declared.fault.ReportFault.{ReportFault}
+use Rattle.tt_report.specs.declared.fault.ReportFault.TheVariants as report
 use Rattle.tt_app.specs.declared.fault.AppFault.{AppFault}
 use Rattle.tt_app.specs.declared.fault.AppFault.TheVariants as fault
 
@@ -19,3 +23,13 @@ told_solution f = fault.Solution f
 abbrev pub told_check : CheckFault → AppFault
 told_check check.OutOfMemory = fault.OutOfMemory
 told_check f = fault.Proof f
+
+abbrev pub told_report : ReportFault → AppFault
+told_report report.Write = fault.CannotWrite
+told_report report.OutOfMemory = fault.OutOfMemory
+
+abbrev pub told_certify : CertifyFault → AppFault
+told_certify (certify.Instance f) = told_instance f
+told_certify (certify.Solution f) = told_solution f
+told_certify (certify.Proof f) = told_check f
+told_certify certify.OutOfMemory = fault.OutOfMemory

@@ -9,15 +9,12 @@ use Rattle.tt_table.specs.Spelling.{SpellsTable}
 use Rattle.tt_table.specs.declared.fault.SolutionFault.{SolutionFault}
 use Rattle.tt_rules.specs.Score.{hard}
 use Rattle.tt_rules.specs.declared.counts.Score.{Score}
+use Rattle.tt_proof_check.specs.Headline.{SpellsBoth}
+use Rattle.tt_proof_check.specs.Verdicts.{FailsSolution}
 use Rattle.tt_app.specs.Lines.{count_line, score_text}
 use Rattle.tt_app.specs.declared.answer.Answer.{Answer}
 use Rattle.tt_app.specs.declared.fault.AppFault.{AppFault}
 use Rattle.tt_app.specs.declared.fault.AppFault.TheVariants as fault
-
--- the bytes spell an instance and a timetable of it
-pub record SpellsBoth (instance solution : List ℕ) (p : Problem) (t : List Cell) : Type 0 where
-  pub spelled : Spells instance p
-  pub solved : SpellsTable p solution t
 
 -- the ten lines of a score
 abbrev pub score_lines : Score → List ℕ
@@ -49,12 +46,6 @@ pub record IsValidated (instance solution : List ℕ) (a : Answer) : Type 0 wher
   pub status : a.status ≡ (if hard problem table == 0 then 0 else 1)
   pub no_table : a.table ≡ None
   pub no_proof : a.proof ≡ None
-
--- the bytes spell an instance, and those of the solution have this fault
-pub record FailsSolution (instance solution : List ℕ) (f : SolutionFault) : Type 0 where
-  pub problem : Problem
-  pub spelled : Spells instance problem
-  pub fails : solution_of problem solution ≡ Err f
 
 -- a refusal tells the first fault: the instance's, then the solution's
 abbrev pub TellsOfBoth : List ℕ → List ℕ → AppFault → Type 0

@@ -1,16 +1,19 @@
 //! The program: words in, texts and a status out.
 
 use crate::answer::Answer;
+use crate::bounding::bound;
 use crate::checking::check;
 use crate::cli::{Request, parse_words};
 use crate::disk::read_file;
 use crate::fault::{AppFault, Input};
+use crate::reporting::report;
 use crate::stored;
 use crate::validation::validate;
 use clap::error::ErrorKind;
 use std::fs;
 use std::io::Write;
 use std::rt::Files;
+use tt_report::{By, Writing};
 use tt_text::{Pieces, Reading};
 
 fn answer_check<R: Files + AllocGlobal>(
@@ -25,6 +28,18 @@ fn answer_check<R: Files + AllocGlobal>(
         return Err(AppFault::CannotRead(Input::Proof));
     };
     check(rt.alloc(), &instance, &solution, &mut Reading::new(proof))
+}
+
+fn answer_bound<R: Files + AllocGlobal>(
+    rt: &R,
+    instance: &str,
+    proof: &str,
+) -> Result<Answer, AppFault> {
+    let instance = read_file(rt, instance, Input::Instance)?;
+    let Ok(proof) = fs::open(rt, proof) else {
+        return Err(AppFault::CannotRead(Input::Proof));
+    };
+    bound(rt.alloc(), &instance, &mut Reading::new(proof))
 }
 
 fn answer_validate<R: Files + AllocGlobal>(
@@ -43,21 +58,31 @@ fn answer_stored<R: Files + AllocGlobal>(rt: &R) -> Result<Answer, AppFault> {
     check(rt.alloc(), stored::INSTANCE, stored::SOLUTION, &mut proof)
 }
 
-fn answer<R: Files + AllocGlobal>(rt: &R, asked: &Request<'_>) -> Result<Answer, AppFault> {
-    match asked {
-        Request::Validate { instance, solution } => answer_validate(rt, instance, solution),
-        Request::Check {
-            instance,
-            solution,
-            proof,
-        } => answer_check(rt, instance, solution, proof),
-    }
+/// Writes a report, and gives the status.
+fn report_to<R: Files + AllocGlobal, O: Write>(
+    rt: &R,
+    instance: &str,
+    solution: &str,
+    by: By,
+    out: &mut O,
+) -> Result<u8, AppFault> {
+    let instance = read_file(rt, instance, Input::Instance)?;
+    let solution = read_file(rt, solution, Input::Solution)?;
+    report(rt.alloc(), &instance, &solution, by, &mut Writing::new(out))
 }
 
 /// Tells of a refusal, and gives its status.
 fn refused<E: Write>(fault: AppFault, err: &mut E) -> u8 {
     let _ = writeln!(err, "refused: {fault}");
     2
+}
+
+/// The status of what was written, or that of a refusal, which is told.
+fn told_status<E: Write>(written: Result<u8, AppFault>, err: &mut E) -> u8 {
+    match written {
+        Ok(status) => status,
+        Err(fault) => refused(fault, err),
+    }
 }
 
 /// Prints an answer or a refusal, and gives the status.
@@ -68,6 +93,31 @@ fn told<O: Write, E: Write>(answered: Result<Answer, AppFault>, out: &mut O, err
             Err(_) => refused(AppFault::CannotWrite, err),
         },
         Err(fault) => refused(fault, err),
+    }
+}
+
+/// Does what the words ask for, and gives the status.
+fn answered<R: Files + AllocGlobal, O: Write, E: Write>(
+    rt: &R,
+    asked: &Request<'_>,
+    out: &mut O,
+    err: &mut E,
+) -> u8 {
+    match asked {
+        Request::Validate { instance, solution } => {
+            told(answer_validate(rt, instance, solution), out, err)
+        }
+        Request::Check {
+            instance,
+            solution,
+            proof,
+        } => told(answer_check(rt, instance, solution, proof), out, err),
+        Request::Bound { instance, proof } => told(answer_bound(rt, instance, proof), out, err),
+        Request::Report {
+            instance,
+            solution,
+            by,
+        } => told_status(report_to(rt, instance, solution, *by, out), err),
     }
 }
 
@@ -98,7 +148,7 @@ pub fn run<R: Files + AllocGlobal, O: Write, E: Write>(
         return told(answer_stored(rt), out, err);
     }
     match parse_words(rt.alloc(), words) {
-        Ok(Some(asked)) => told(answer(rt, &asked), out, err),
+        Ok(Some(asked)) => answered(rt, &asked, out, err),
         Ok(None) => 2,
         Err(fault) => told_words(&fault, out, err),
     }

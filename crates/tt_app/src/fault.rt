@@ -3,7 +3,8 @@
 use std::alloc::AllocError;
 use thiserror::Error;
 use tt_instance::InstanceFault;
-use tt_proof_check::CheckFault;
+use tt_proof_check::{CertifyFault, CheckFault};
+use tt_report::ReportFault;
 use tt_table::SolutionFault;
 
 /// A file that a command reads.
@@ -87,6 +88,36 @@ impl From<CheckFault> for AppFault {
         match fault {
             CheckFault::OutOfMemory => AppFault::OutOfMemory,
             fault => AppFault::Proof(fault),
+        }
+    }
+}
+
+impl From<ReportFault> for AppFault {
+    ghost use Rattle.std.specs.Prelude.{◌≡◌};
+    ghost use Rattle.tt_app.specs.Told.{told_report};
+
+    ghost from_gives = { λ f e. e ≡ told_report f };
+
+    fn from(fault: ReportFault) -> AppFault {
+        match fault {
+            ReportFault::Write => AppFault::CannotWrite,
+            ReportFault::OutOfMemory => AppFault::OutOfMemory,
+        }
+    }
+}
+
+impl From<CertifyFault> for AppFault {
+    ghost use Rattle.std.specs.Prelude.{◌≡◌};
+    ghost use Rattle.tt_app.specs.Told.{told_certify};
+
+    ghost from_gives = { λ f e. e ≡ told_certify f };
+
+    fn from(fault: CertifyFault) -> AppFault {
+        match fault {
+            CertifyFault::Instance(fault) => fault.into(),
+            CertifyFault::Solution(fault) => fault.into(),
+            CertifyFault::Proof(fault) => fault.into(),
+            CertifyFault::OutOfMemory => AppFault::OutOfMemory,
         }
     }
 }

@@ -2,9 +2,10 @@
 
 ghost use Rattle.std.specs.Prelude.{◌≡◌, ◌+◌, ◌++◌, ◌∷◌, [], codes, IfOk, OnOk};
 ghost use Rattle.std.specs.Fmt.{decimal};
-ghost use Rattle.tt_app.specs.Lines.{yes_line, broken_line, count_line};
+ghost use Rattle.tt_app.specs.Lines.{yes_line, broken_line, bound_line, count_line};
 
 use std::alloc::{AllocError, Global};
+use tt_leaf::Bound;
 use tt_text::{put_line_end, put_next_number, put_number, put_token};
 
 /// The line of a solution that breaks no hard rule, with its cost and the bound that is proved.
@@ -32,6 +33,20 @@ pub fn broken(alloc: Global, hard: u64, cost: u64) -> Result<Vec<u8>, AllocError
     put_number(&mut out, hard)?;
     put_token(&mut out, b" cost ")?;
     put_number(&mut out, cost)?;
+    put_line_end(&mut out)?;
+    Ok(out)
+}
+
+/// The line of a bound.
+pub fn bound_line(alloc: Global, bound: Bound) -> Result<Vec<u8>, AllocError>
+    ensures { IfOk result (λ out. out.items ≡ bound_line bound) }
+{
+    let mut out = Vec::new(alloc);
+    put_token(&mut out, b"bound ")?;
+    match bound {
+        Bound::AtLeast(least) => put_number(&mut out, least)?,
+        Bound::Nothing => put_token(&mut out, b"none")?,
+    }
     put_line_end(&mut out)?;
     Ok(out)
 }

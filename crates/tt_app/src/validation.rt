@@ -3,7 +3,8 @@
 ghost use Rattle.std.specs.Prelude.{◌≡◌, List, IfOk, IfErr, MatchResult, ⊤};
 ghost use Rattle.tt_instance.specs.Problem.{Problem};
 ghost use Rattle.tt_instance.specs.declared.cell.Cell.{Cell};
-ghost use Rattle.tt_app.specs.Validated.{SpellsBoth, IsScoreAnswer, IsValidated, TellsOfBoth, score_lines};
+ghost use Rattle.tt_proof_check.specs.Headline.{SpellsBoth};
+ghost use Rattle.tt_app.specs.Validated.{IsScoreAnswer, IsValidated, TellsOfBoth, score_lines};
 ghost use Rattle.tt_app.specs.declared.fault.AppFault.TheVariants as fault;
 
 use crate::answer::Answer;

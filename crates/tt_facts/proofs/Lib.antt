@@ -1,0 +1,4 @@
+pub mod Examples
+pub mod Given
+pub mod Least
+pub mod Lost

@@ -1,5 +1,5 @@
 -- What a path of facts leaves possible: dead and live cells, and what is pinned.
-use Rattle.std.specs.Prelude.{ℕ, ◌==◌, Bool, true, false, not, ◌&&◌, ◌||◌, List, [], ◌∷◌, min, map, filter, Option, Some, None, count_by}
+use Rattle.std.specs.Prelude.{ℕ, ◌==◌, Bool, false, not, ◌&&◌, ◌||◌, List, [], ◌∷◌, min, map, filter, Option, Some, None, count_by}
 use Rattle.std.specs.List.{list_any, list_all}
 use Rattle.tt_lists.specs.Words.{numbers_below}
 use Rattle.tt_instance.specs.Problem.{Problem}

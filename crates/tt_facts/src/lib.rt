@@ -3,7 +3,9 @@
 
 mod facts;
 mod path;
+mod plain;
 
 pub use facts::{Fact, Pattern, Who};
 pub use path::{MAX_FACTS, Path, PathFault};
+pub use plain::PlainPath;
 pub use tt_instance::Cell;

@@ -1,24 +1,27 @@
 -- The rows of conflicts say what the definition of a conflict says.
-use Rattle.std.proofs.Common.{◌≡◌, ◌≢◌, ℕ, ◌≤◌, ◌<◌, Bool, true, false, not, ◌&&◌, ◌||◌, eqb, List, [], ◌∷◌, length, get_or, set, map, Some, None, slice_get, refl, sym, ap, subst, ◌∙◌, inl, inr, get_or-set_other, get_or-set_same, arith}
-use Rattle.std.specs.Prelude.{All}
+use Rattle.std.proofs.Common.{◌≡◌, ℕ, ◌≤◌, ◌<◌, Bool, true, false, not, ◌&&◌, ◌||◌, eqb, List, [], length, get_or, map, Some, None, slice_get, refl, sym, ap, subst, ◌∙◌, inl, inr, arith}
+use Rattle.std.specs.Prelude.{◌==◌, All}
 use Rattle.std.specs.List.{list_any}
 use Rattle.std.specs.Cmp.Lexicographic.{same_text}
 use Rattle.std.proofs.lemmas.List.{get_or-map, get_or_past, length-map, get_or_default}
-use Rattle.std.proofs.lemmas.List.Elements.{All-head, All-tail, All-get_or}
+use Rattle.std.proofs.lemmas.List.Elements.{All-get_or, All-map}
 use Rattle.std.proofs.lemmas.List.Quantifiers.{position-Some}
 use Rattle.std.proofs.lemmas.Option.{slice_get_past, same_Some}
-use Rattle.std.proofs.lemmas.Bool.{cases_lt, ne_eqb, eq-eqb, and_right, false≢true}
-use Rattle.std.proofs.lemmas.Bool.Decides.{eqb_tells}
+use Rattle.std.proofs.lemmas.Bool.{cases_lt, ne_eqb, eq-eqb, false≢true}
 use Rattle.std.proofs.lemmas.Cmp.{nat_list_eq_equiv}
+use Rattle.std.proofs.lemmas.Option.{slice_get_cases}
+use Rattle.std.proofs.lemmas.List.Folds.{list_any_at}
 use Rattle.tt_lists.specs.Words.{has}
+use Rattle.tt_lists.proofs.Sums.{list_any-of_map}
+use Rattle.tt_instance.specs.declared.rows.MemberList.{MemberList}
 use Rattle.tt_text.specs.Texts.{is_text, is_same_text, index_of_name}
 use Rattle.tt_instance.specs.declared.rows.CourseRow.{CourseRow}
 use Rattle.tt_instance.specs.declared.rows.CurriculumRow.{CurriculumRow}
 use Rattle.tt_instance.specs.declared.parts.Parts.{Parts}
 use Rattle.tt_instance.specs.Problem.{Course}
 use Rattle.tt_instance.specs.Courses.{one_teacher, one_curriculum, conflict}
-use Rattle.tt_instance.specs.Seen.{course_seen, courses_seen, curricula_seen, problem_seen}
-use Rattle.tt_instance.specs.Indexed.{IsTeacher, IsMarked, IsIndexedParts}
+use Rattle.tt_instance.specs.Seen.{course_seen, courses_seen, curriculum_seen, problem_seen}
+use Rattle.tt_instance.specs.Indexed.{IsTeacher, IsMarked, IsIndexedParts, IsSquare, mark_at}
 use Rattle.tt_instance.proofs.Getting.{field_at}
 
 -- two teachers are one where their numbers are
@@ -45,10 +48,6 @@ flags_of rows teacher = map (λ r. eqb r.teacher teacher) rows
 abbrev one_name : List CourseRow → ℕ → ℕ → Bool
 one_name rows a b = is_same_text (slice_get (map teacher_of (courses_seen rows)) a) (slice_get (map teacher_of (courses_seen rows)) b)
 
--- some curriculum has marks for both courses
-abbrev both_marked : List CurriculumRow → ℕ → ℕ → Bool
-both_marked rows a b = list_any (λ q. get_or q.members.marks a false && get_or q.members.marks b false) rows
-
 -- the flag of a teacher's course
 teacher_told : (names : List (List ℕ)) (rows : List CourseRow) (a b : ℕ) (x : CourseRow) → All (IsTeacher names) rows → a < length rows → x ≡ get_or rows a x
     → get_or (flags_of rows x.teacher) b false ≡ one_name rows a b
@@ -72,64 +71,71 @@ teacher_told names rows a b x all in_a x_is = elim (cases_lt b (length rows)) [ 
         rw (at_a, at_b) (get_or_past _ b false (simp length-map le))
 
 module _ (count : ℕ) where
-  -- the marks of curricula for two courses
-  curricula_told : (rows : List CurriculumRow) (a b : ℕ) → All (λ r. IsMarked count r.members) rows
-      → both_marked rows a b ≡ list_any (λ q. has q.members a && has q.members b) (curricula_seen rows)
-  curricula_told [] a b all = refl
-  curricula_told (r ∷ rs) a b all =
-      let first = All-head (λ (q : CurriculumRow). IsMarked count q.members) r rs all in
-      rw (first.told a, first.told b, curricula_told rs a b (All-tail (λ (q : CurriculumRow). IsMarked count q.members) r rs all)) refl
+  -- the members of a curriculum are courses
+  members_within : (l : MemberList) → IsMarked count l → All (λ c. c < count) l.courses.items
+  members_within l marked k d h = elim (cases_lt (get_or l.courses.items k d) count) [
+    | inl lt ↦ lt
+    | inr le ↦
+        let c = get_or l.courses.items k d in
+        let there : has l.courses.items c ≡ true = list_any_at (λ m. m == c) l.courses.items k d h (eq-eqb c c refl) in
+        let none : get_or l.marks c false ≡ false = get_or_past l.marks c false (omega (arith, marked.len, le)) in
+        absurd (false≢true (sym none ∙ marked.told c ∙ there))
+  ]
 
-  -- a course that is not there has no mark
-  none_marked : (rows : List CurriculumRow) (a b : ℕ) → count ≤ a → All (λ r. IsMarked count r.members) rows
-      → both_marked rows a b ≡ false
-  none_marked [] a b past all = refl
-  none_marked (r ∷ rs) a b past all =
-      let first = All-head (λ (q : CurriculumRow). IsMarked count q.members) r rs all in
-      let no : get_or r.members.marks a false ≡ false = get_or_past r.members.marks a false (omega (arith, first.len)) in
-      rw (no, none_marked rs a b past (All-tail (λ (q : CurriculumRow). IsMarked count q.members) r rs all)) refl
+  -- and so are those of all
+  pub all_within : (rows : List CurriculumRow) → All (λ r. IsMarked count r.members) rows → All (λ q. All (λ c. c < count) q.members.courses.items) rows
+  all_within rows all k d h = members_within (get_or rows k d).members (all k d h)
 
 -- there are as many names as courses
 ids_count : (a : Parts) → IsIndexedParts a → length a.courses.ids ≡ length a.courses.rows.items
 ids_count a is = ap length is.courses.ids_are ∙ simp length-map
 
--- the row of a course, where its tables are those of the parts
-the_row : (p : Parts) (a : ℕ) (x : CourseRow) (old new : List Bool) → IsIndexedParts p → a < length p.courses.rows.items → x ≡ get_or p.courses.rows.items a x
-    → a < length old → ((b : ℕ) → get_or old b false ≡ (get_or (flags_of p.courses.rows.items x.teacher) b false
-    || both_marked p.curricula.rows.items a b))
-    → new ≡ set old a false → (b : ℕ) → get_or new b false ≡ conflict (problem_seen p) a b
-the_row p a x old new is in_a x_is in_old told new_is b = ap (λ (row : List Bool). get_or row b false) new_is ∙ elim (eqb_tells a b) [ inl h ↦ same h.0 h.1 | inr h ↦ other h.0 h.1 ]
-  where
-    same : eqb a b ≡ true → a ≡ b → get_or (set old a false) b false ≡ conflict (problem_seen p) a b
-    same test e = rw test (subst (λ (k : ℕ). get_or (set old a false) k false ≡ false) e (get_or-set_same old a false false in_old))
+-- for each course the courses that have its teacher
+abbrev teacher_rows_of : List CourseRow → List (List Bool)
+teacher_rows_of rows = map (λ x. flags_of rows x.teacher) rows
 
-    other : eqb a b ≡ false → a ≢ b → get_or (set old a false) b false ≡ conflict (problem_seen p) a b
-    other test ne =
-        let back : b ≢ a = λ e. ne (sym e) in
-        let teacher : get_or (flags_of p.courses.rows.items x.teacher) b false ≡ one_teacher (problem_seen p) a b = teacher_told p.courses.teachers p.courses.rows.items a b x is.courses.numbers in_a x_is in
-        let curriculum : both_marked p.curricula.rows.items a b ≡ one_curriculum (problem_seen p) a b = curricula_told (length p.courses.ids) p.curricula.rows.items a b is.curricula.marked in
-        get_or-set_other old a b false false back ∙ told b ∙ rw (test, teacher, curriculum) refl
+-- each row is as long as there are rows
+pub teacher_rows_square : (rows : List CourseRow) → IsSquare (teacher_rows_of rows)
+teacher_rows_square rows = All-map (λ (row : List Bool). length row ≡ length (teacher_rows_of rows)) (λ x. flags_of rows x.teacher) rows (λ k d h.
+    length-map rows (λ r. eqb r.teacher (get_or rows k d).teacher) ∙ sym (length-map rows (λ x. flags_of rows x.teacher)))
 
--- the row of a course, from the flags of its teacher and the marks of its curricula
-pub row_told : (p : Parts) (a : ℕ) (x : CourseRow) (courses : List CourseRow) (curricula : List CurriculumRow) (flags old new : List Bool) → IsIndexedParts p
-    → courses ≡ p.courses.rows.items → curricula ≡ p.curricula.rows.items → a < length p.courses.rows.items → x ≡ get_or p.courses.rows.items a x
-    → flags ≡ flags_of courses x.teacher → length old ≡ length flags
-    → ((b : ℕ) → get_or old b false ≡ (get_or flags b false || both_marked curricula a b))
-    → new ≡ set old a false → (b : ℕ) → get_or new b false ≡ conflict (problem_seen p) a b
-row_told p a x courses curricula flags old new is courses_are curricula_are in_a x_is flags_are len told new_is =
-    let rows : List CourseRow = p.courses.rows.items in
-    let are : flags ≡ flags_of rows x.teacher = flags_are ∙ ap (map (λ (r : CourseRow). eqb r.teacher x.teacher)) courses_are in
-    the_row p a x old new is in_a x_is
-    (omega (arith, len, ap length are, length-map rows (λ (r : CourseRow). eqb r.teacher x.teacher)))
-    (λ b. told b ∙ rw (are, curricula_are) refl)
-    new_is
+-- each member has a row
+pub members_have_rows : (p : Parts) (courses : List CourseRow) (curricula : List CurriculumRow) (first : List (List Bool)) → IsIndexedParts p
+    → courses ≡ p.courses.rows.items → curricula ≡ p.curricula.rows.items → first ≡ teacher_rows_of courses
+    → All (λ q. All (λ c. c < length first) q.members.courses.items) curricula
+members_have_rows p courses curricula first is courses_are curricula_are first_is =
+    let size : length p.courses.ids ≡ length first =
+    ids_count p is ∙ sym (ap length courses_are) ∙ sym (length-map courses (λ x. flags_of courses x.teacher)) ∙ sym (ap length first_is) in
+    subst (All (λ (q : CurriculumRow). All (λ c. c < length first) q.members.courses.items)) (sym curricula_are)
+    (subst (λ n. All (λ (q : CurriculumRow). All (λ c. c < n) q.members.courses.items) p.curricula.rows.items) size
+    (all_within (length p.courses.ids) p.curricula.rows.items is.curricula.marked))
 
--- a course that is not there excludes none
-pub nothing_past : (p : Parts) (a b : ℕ) → IsIndexedParts p → length p.courses.rows.items ≤ a → conflict (problem_seen p) a b ≡ false
-nothing_past p a b is past =
-    let none : slice_get (map teacher_of (courses_seen p.courses.rows.items)) a ≡ None = slice_get_past _ a (simp length-map past) in
-    let teacher : one_teacher (problem_seen p) a b ≡ false = rw none refl in
-    let curriculum : one_curriculum (problem_seen p) a b ≡ false =
-    sym (curricula_told (length p.courses.ids) p.curricula.rows.items a b is.curricula.marked)
-    ∙ none_marked (length p.courses.ids) p.curricula.rows.items a b (omega (arith, ids_count p is)) is.curricula.marked in
-    and_right (not (eqb a b)) (one_teacher (problem_seen p) a b || one_curriculum (problem_seen p) a b) (rw (teacher, curriculum) refl)
+-- their marks are the courses with one teacher
+teacher_at : (p : Parts) (a b : ℕ) → IsIndexedParts p → mark_at (teacher_rows_of p.courses.rows.items) a b ≡ one_teacher (problem_seen p) a b
+teacher_at p a b is = elim (slice_get_cases p.courses.rows.items a).1 [
+  | inl here ↦
+      let rows = p.courses.rows.items in
+      let x = here.0 in
+      ap (λ (row : List Bool). get_or row b false) (get_or-map (λ y. flags_of rows y.teacher) rows a x [] here.1)
+      ∙ ap (λ (y : CourseRow). get_or (flags_of rows y.teacher) b false) here.3
+      ∙ teacher_told p.courses.teachers rows a b x is.courses.numbers here.1 (sym here.3)
+  | inr past ↦
+      let rows = p.courses.rows.items in
+      let none : slice_get (map teacher_of (courses_seen rows)) a ≡ None = slice_get_past _ a (simp length-map past.0) in
+      ap (λ (row : List Bool). get_or row b false) (get_or_past (teacher_rows_of rows) a [] (simp length-map past.0)) ∙ rw none refl
+]
+
+-- the rows of conflicts, from those of teachers, with the members of curricula, and without each course's own mark
+pub rows_told : (p : Parts) (courses : List CourseRow) (curricula : List CurriculumRow) (first added cleared : List (List Bool)) → IsIndexedParts p
+    → courses ≡ p.courses.rows.items → curricula ≡ p.curricula.rows.items
+    → first ≡ teacher_rows_of courses
+    → ((a b : ℕ) → mark_at added a b ≡ (mark_at first a b || list_any (λ q. has q.members.courses.items a && has q.members.courses.items b) curricula))
+    → ((a b : ℕ) → mark_at cleared a b ≡ (not (a == b) && mark_at added a b))
+    → (a b : ℕ) → mark_at cleared a b ≡ conflict (problem_seen p) a b
+rows_told p courses curricula first added cleared is courses_are curricula_are first_is more less a b =
+    let both : CurriculumRow → Bool = λ q. has q.members.courses.items a && has q.members.courses.items b in
+    let teacher : mark_at first a b ≡ one_teacher (problem_seen p) a b =
+    ap (λ rows. mark_at rows a b) (first_is ∙ ap teacher_rows_of courses_are) ∙ teacher_at p a b is in
+    let curriculum : list_any both curricula ≡ one_curriculum (problem_seen p) a b =
+    ap (list_any both) curricula_are ∙ sym (list_any-of_map (λ q. has q.members a && has q.members b) curriculum_seen p.curricula.rows.items) in
+    less a b ∙ ap (λ x. not (a == b) && x) (more a b ∙ ap (λ x. x || list_any both curricula) teacher ∙ ap (λ x. one_teacher (problem_seen p) a b || x) curriculum)

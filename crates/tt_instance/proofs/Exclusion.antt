@@ -1,13 +1,11 @@
 -- Courses that exclude each other do so in both orders, and no course excludes itself.
-use Rattle.std.proofs.Common.{◌≡◌, ℕ, Bool, true, false, not, ◌&&◌, ◌||◌, List, Option, Some, None, slice_get, refl, sym, ap, ◌∙◌, inl, inr, eqb-true, eq-eqb}
+use Rattle.std.proofs.Common.{◌≡◌, ℕ, true, false, not, ◌&&◌, ◌||◌, List, Option, Some, None, slice_get, refl, sym, ◌∙◌, inl, inr, eqb-true, eq-eqb}
 use Rattle.std.specs.Prelude.{◌==◌}
-use Rattle.std.specs.List.{list_any}
-use Rattle.std.specs.Cmp.{IsEquivalence}
 use Rattle.std.proofs.lemmas.Cmp.{nat_list_eq_equiv}
 use Rattle.std.proofs.lemmas.Bool.{and_parts, and_from, and_left, both_ways, not_from_false, or_cases, or_left, or_right, false_from_ne_true, not-true, not_from_true}
 use Rattle.tt_lists.specs.Words.{has}
 use Rattle.tt_lists.proofs.Members.{any_member, member_from_any}
-use Rattle.tt_text.specs.Texts.{is_text, is_same_text}
+use Rattle.tt_text.specs.Texts.{is_same_text}
 use Rattle.tt_instance.specs.Problem.{Problem}
 use Rattle.tt_instance.specs.Cells.{same_cell}
 use Rattle.tt_instance.specs.Courses.{course_teachers, one_teacher, one_curriculum, conflict}

@@ -1,6 +1,6 @@
 -- The periods and the cells of an instance: each is there, and no more than once; tests and sums of all of them.
-use Rattle.std.proofs.Common.{◌≡◌, ℕ, ◌+◌, ◌≤◌, ◌<◌, Bool, true, cond, map, length, arith, not, ◌&&◌, ◌∷◌, ◌++◌, sym, ap, ◌∙◌}
-use Rattle.std.specs.Prelude.{sum_by, count_by, flat_map, ◌==◌, ◌⊎◌}
+use Rattle.std.proofs.Common.{◌≡◌, ℕ, ◌≤◌, ◌<◌, Bool, true, cond, map, length, arith, not, sym, ap, ◌∙◌}
+use Rattle.std.specs.Prelude.{sum_by, count_by, flat_map, ◌==◌}
 use Rattle.std.specs.List.{list_any, list_all, AllByRecursion}
 use Rattle.std.proofs.lemmas.List.Folds.{list_all-map}
 use Rattle.std.proofs.lemmas.Bool.{not_from_false, true_from_ne_false, both_ways, not-true}

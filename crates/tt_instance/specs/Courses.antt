@@ -1,10 +1,9 @@
 -- What an instance says of a course, a room or a curriculum; one that is not there has nothing.
-use Rattle.std.specs.Prelude.{ℕ, ◌-◌, ◌==◌, Bool, not, ◌&&◌, ◌||◌, List, [], Option, slice_get, slice_index_or, map}
-use Rattle.std.specs.Option.{option_map}
+use Rattle.std.specs.Prelude.{ℕ, ◌-◌, ◌==◌, Bool, not, ◌&&◌, ◌||◌, List, [], slice_get, slice_index_or, map}
 use Rattle.std.specs.List.{list_any}
 use Rattle.tt_lists.specs.Words.{has}
 use Rattle.tt_text.specs.Texts.{is_same_text, distinct_names}
-use Rattle.tt_instance.specs.Problem.{Course, Room, Curriculum, Bar, Problem}
+use Rattle.tt_instance.specs.Problem.{Course, Room, Curriculum, Problem}
 
 abbrev pub no_course : Course
 no_course = record { id = []; teacher = []; lectures = 0; min_days = 0; students = 0 }

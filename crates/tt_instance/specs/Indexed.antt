@@ -64,6 +64,14 @@ pub record IsIndexedParts (a : Parts) : Type 0 where
   pub curricula : IsCurriculaIndexed (length a.courses.ids) a.curricula
   pub bars : IsBarred (length a.courses.ids) a.days a.bars
 
+-- the mark of a number in a row of a table; none where it is not there
+abbrev pub mark_at : List (List Bool) → ℕ → ℕ → Bool
+mark_at rows a b = slice_index_or (slice_index_or rows a []) b false
+
+-- each row has as many marks as there are rows
+abbrev pub IsSquare : List (List Bool) → Type 0
+IsSquare rows = All (λ row. length row ≡ length rows) rows
+
 -- a row of marks for each course says which courses it excludes
 pub record IsExcluding (p : Problem) (rows : List (List Bool)) : Type 0 where
-  pub told : (a b : ℕ) → slice_index_or (slice_index_or rows a []) b false ≡ conflict p a b
+  pub told : (a b : ℕ) → mark_at rows a b ≡ conflict p a b

@@ -1,9 +1,9 @@
 //! Which courses exclude each other.
 
-ghost use Rattle.std.specs.Prelude.{◌≡◌, ◌<◌, ◌==◌, ℕ, false, ◌||◌, ◌&&◌, length, map, All, IfOk, slice_index_or};
+ghost use Rattle.std.specs.Prelude.{◌≡◌, ◌<◌, ◌==◌, ℕ, not, ◌||◌, ◌&&◌, length, map, All, IfOk, slice_index_or};
 ghost use Rattle.std.specs.List.{list_any};
-ghost use Rattle.tt_instance.specs.Courses.{conflict};
-ghost use Rattle.tt_instance.specs.Indexed.{IsIndexedParts, IsExcluding};
+ghost use Rattle.tt_lists.specs.Words.{has};
+ghost use Rattle.tt_instance.specs.Indexed.{IsIndexedParts, IsExcluding, IsSquare, mark_at};
 ghost use Rattle.tt_instance.specs.Seen.{problem_seen};
 
 use crate::marks::Marks;
@@ -25,45 +25,64 @@ fn flags_of_teacher(
         .collect(alloc)
 }
 
-/// Marks the members of each curriculum that has a course.
-fn add_curricula(marks: &mut Marks, curricula: &[CurriculumRow<'_>], course: usize)
-    requires { All (λ q. length q.members.marks ≡ length marks.old) curricula.now }
-    ensures len { length marks.new ≡ length marks.old }
-    ensures marked { (b : ℕ) → slice_index_or marks.new b false
-        ≡ (slice_index_or marks.old b false
-        || list_any (λ q. slice_index_or q.members.marks course false
-        && slice_index_or q.members.marks b false) curricula.now) }
+/// For each course the courses that have its teacher.
+fn teacher_rows(alloc: Global, courses: &[CourseRow<'_>]) -> Result<Vec<Marks>, AllocError>
+    ensures { IfOk result (λ v. v.items ≡ map (λ x. map (λ r. r.teacher == x.teacher) courses.now) courses.now) }
 {
-    for curriculum in curricula {
-        if curriculum.members.marks.has(course) {
-            marks.add(&curriculum.members.marks);
-        }
+    let mut rows = Vec::new(alloc);
+    for course in courses {
+        let flags = flags_of_teacher(alloc, courses, course.teacher)?;
+        rows.push(Marks::from_flags(flags))?;
+    }
+    Ok(rows)
+}
+
+/// Marks the members of a curriculum in the row of each.
+fn add_members(rows: &mut Vec<Marks>, members: &[u32])
+    requires square { IsSquare rows.old.items }
+    requires within { All (λ c. c < length rows.old.items) members.now }
+    ensures len { length rows.new.items ≡ length rows.old.items }
+    ensures square { IsSquare rows.new.items }
+    ensures marked { (a b : ℕ) → mark_at rows.new.items a b
+        ≡ (mark_at rows.old.items a b || (has members.now a && has members.now b)) }
+{
+    for member in members {
+        rows[*member as usize].mark_each(members);
     }
 }
 
-/// The courses that a course excludes.
-fn conflict_row(alloc: Global, parts: &Parts<'_>, course: usize) -> Result<Marks, AllocError>
-    requires indexed { IsIndexedParts parts.now }
-    requires within { course < length parts.now.courses.rows.items }
-    ensures { IfOk result (λ m. (b : ℕ) →
-        slice_index_or m b false ≡ conflict (problem_seen parts.now) course b) }
+/// Marks the members of each curriculum in the row of each.
+fn add_curricula(rows: &mut Vec<Marks>, curricula: &[CurriculumRow<'_>])
+    requires square { IsSquare rows.old.items }
+    requires within { All (λ q. All (λ c. c < length rows.old.items) q.members.courses.items) curricula.now }
+    ensures len { length rows.new.items ≡ length rows.old.items }
+    ensures square { IsSquare rows.new.items }
+    ensures marked { (a b : ℕ) → mark_at rows.new.items a b
+        ≡ (mark_at rows.old.items a b
+        || list_any (λ q. has q.members.courses.items a && has q.members.courses.items b) curricula.now) }
 {
-    let courses = &parts.courses.rows;
-    let flags = flags_of_teacher(alloc, courses, courses[course].teacher)?;
-    let mut marks = Marks::from_flags(flags);
-    add_curricula(&mut marks, &parts.curricula.rows, course);
-    marks.clear(course);
-    Ok(marks)
+    for curriculum in curricula {
+        add_members(rows, &curriculum.members.courses);
+    }
 }
 
-/// For each course the courses that it excludes.
+/// Takes away the mark of each course in its own row.
+fn clear_own(rows: &mut Vec<Marks>)
+    requires { IsSquare rows.old.items }
+    ensures { (a b : ℕ) → mark_at rows.new.items a b ≡ (not (a == b) && mark_at rows.old.items a b) }
+{
+    for course in 0..rows.len() {
+        rows[course].clear(course);
+    }
+}
+
+/// For each course the courses that it excludes: teacher by teacher and curriculum by curriculum.
 pub fn conflict_rows(alloc: Global, parts: &Parts<'_>) -> Result<Vec<Marks>, AllocError>
     requires { IsIndexedParts parts.now }
     ensures { IfOk result (λ v. IsExcluding (problem_seen parts.now) v.items) }
 {
-    let mut rows = Vec::new(alloc);
-    for course in 0..parts.courses.rows.len() {
-        rows.push(conflict_row(alloc, parts, course)?)?;
-    }
+    let mut rows = teacher_rows(alloc, &parts.courses.rows)?;
+    add_curricula(&mut rows, &parts.curricula.rows);
+    clear_own(&mut rows);
     Ok(rows)
 }

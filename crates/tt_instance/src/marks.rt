@@ -1,6 +1,7 @@
 //! Marks of numbers.
 
-ghost use Rattle.std.specs.Prelude.{◌≡◌, ◌<◌, ◌≤◌, ℕ, true, false, [], ◌||◌, length, replicate, slice_index_or, slice_set, IfOk};
+ghost use Rattle.std.specs.Prelude.{◌≡◌, ◌<◌, ℕ, true, false, [], ◌||◌, length, replicate, slice_index_or, slice_set, All, IfOk};
+ghost use Rattle.tt_lists.specs.Words.{has};
 
 use std::alloc::{AllocError, Global};
 use std::marker::Model;
@@ -58,17 +59,15 @@ impl Marks {
         self.marks[number] = false;
     }
 
-    /// Marks the numbers that are marked in other marks too.
-    pub fn add(&mut self, other: &Marks)
-        requires { length other.now ≤ length self.old }
+    /// Marks each of the numbers.
+    pub fn mark_each(&mut self, numbers: &[u32])
+        requires { All (λ n. n < length self.old) numbers.now }
         ensures len { length self.new ≡ length self.old }
         ensures marked { (k : ℕ) → slice_index_or self.new k false
-            ≡ (slice_index_or self.old k false || slice_index_or other.now k false) }
+            ≡ (slice_index_or self.old k false || has numbers.now k) }
     {
-        for (number, mark) in other.marks.iter().enumerate() {
-            if *mark {
-                self.marks[number] = true;
-            }
+        for number in numbers {
+            self.mark(*number as usize);
         }
     }
 }

@@ -1,12 +1,11 @@
 -- Leaves on small instances, as the definitions judge them.
-use Rattle.std.proofs.Common.{◌≡◌, ℕ, true, false, List, [], ◌∷◌, Some, None, refl, codes}
+use Rattle.std.proofs.Common.{◌≡◌, ℕ, List, [], ◌∷◌, Some, None, refl, codes}
 use Rattle.tt_instance.specs.Problem.{Problem}
-use Rattle.tt_instance.specs.Cells.{slot}
-use Rattle.tt_instance.proofs.Examples.{at, course, room, week, mini, gap, wide, same, apart}
-use Rattle.tt_facts.specs.Live.{is_dead, least_excess}
-use Rattle.tt_facts.specs.declared.facts.Who.TheVariants.{Course, Curriculum}
+use Rattle.tt_instance.proofs.Examples.{course, room, week, mini, gap, wide, same, apart}
+use Rattle.tt_facts.specs.declared.facts.Who.TheVariants.{Course}
 use Rattle.tt_facts.specs.declared.facts.Pattern.{Pattern}
 use Rattle.tt_facts.specs.declared.facts.Fact.{Fact}
+use Rattle.tt_facts.proofs.Examples.{first_day, yes, not_first, a_is_taught}
 use Rattle.tt_leaf.specs.Claims.{value_of}
 use Rattle.tt_leaf.specs.Leaves.{fault_of}
 use Rattle.tt_leaf.specs.declared.leaf.Bound.TheVariants.{AtLeast, Nothing}
@@ -16,13 +15,7 @@ use Rattle.tt_leaf.specs.declared.leaf.RuleFault.TheVariants.{NotOnPath, StillAl
 
 -- the course on the first day in this period
 abbrev pub when : ℕ → ℕ → Pattern
-when c s = record { who = Course c; room = None; day = Some 0; period = Some s }
-
-abbrev pub yes : Pattern → Fact
-yes g = record { pattern = g; holds = true }
-
-abbrev pub no : Pattern → Fact
-no g = record { pattern = g; holds = false }
+when c s = first_day (Course c) s
 
 -- ---- from no fact
 
@@ -91,36 +84,9 @@ five = refl
 not_six : fault_of gap outside (AtLeast 6) (Cost (Capacity 1 1 ∷ Compact 0 ∷ [])) ≡ Some TooCheap
 not_six = refl
 
--- ---- live and dead cells
-
-first_is_dead : is_dead gap (yes (when 0 0) ∷ []) (at 1 0 0 0) ≡ true
-first_is_dead = refl
-
-third_is_live : is_dead gap (yes (when 0 0) ∷ []) (at 1 0 0 2) ≡ false
-third_is_live = refl
-
-costs_one : least_excess gap [] 1 (slot 0 0) ≡ Some 1
-costs_one = refl
-
--- no course of the curriculum in the first period
-abbrev not_first : Fact
-not_first = no (record { who = Curriculum 0; room = None; day = Some 0; period = Some 0 })
-
--- a has an entry
-abbrev a_is_taught : Fact
-a_is_taught = yes (record { who = Course 0; room = None; day = None; period = None })
-
-a_takes_the_third : is_dead gap (not_first ∷ a_is_taught ∷ []) (at 1 0 0 2) ≡ true
-a_takes_the_third = refl
-
-where_a_is_live : is_dead gap (not_first ∷ a_is_taught ∷ []) (at 0 0 0 2) ≡ false
-where_a_is_live = refl
-
+-- no course of the curriculum in the first period, and a has an entry
 no_period_for_b : fault_of gap (not_first ∷ a_is_taught ∷ []) Nothing (Clique (1 ∷ [])) ≡ None
 no_period_for_b = refl
-
-live_again : is_dead gap (not_first ∷ []) (at 1 0 0 2) ≡ false
-live_again = refl
 
 -- ---- claims of version 2
 

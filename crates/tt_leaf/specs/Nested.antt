@@ -7,8 +7,9 @@ use Rattle.tt_instance.specs.Cells.{slot, cell, all_rooms, all_days, all_slots}
 use Rattle.tt_instance.specs.Courses.{lectures, excess}
 use Rattle.tt_instance.specs.declared.cell.Cell.{Cell}
 use Rattle.tt_instance.specs.declared.cell.Slot.{Slot}
-use Rattle.tt_facts.specs.Facts.{agrees, is_who}
+use Rattle.tt_facts.specs.Facts.{is_who}
 use Rattle.tt_facts.specs.Live.{is_dead, is_live, live_period, live_day, least_excess, pinned, pinned_room}
+use Rattle.tt_facts.specs.Nested.{agrees_at}
 use Rattle.tt_facts.specs.declared.facts.Who.TheVariants.{Curriculum}
 use Rattle.tt_facts.specs.declared.facts.Pattern.{Pattern}
 use Rattle.tt_facts.specs.declared.facts.Fact.{Fact}
@@ -16,10 +17,6 @@ use Rattle.tt_leaf.specs.Claims.{Target, same_target, targets_of, discount, is_a
 use Rattle.tt_leaf.specs.declared.leaf.Claim.{Claim}
 
 -- ---- dead cells
-
--- the room, day and period of the cell are the pattern's, where it gives them
-abbrev pub agrees_at : Pattern → Cell → Bool
-agrees_at g x = agrees g.room x.room && agrees g.day x.day && agrees g.period x.period
 
 -- the cell is dead, or its place is not the pattern's
 abbrev pub dead_or_off : Problem → List Fact → Pattern → Cell → Bool

@@ -2,45 +2,18 @@
 
 ghost use Rattle.std.specs.Prelude.{◌≡◌, ◌<◌, length};
 ghost use Rattle.tt_instance.specs.Cells.{InRange};
-ghost use Rattle.tt_facts.specs.Facts.{agrees, is_who};
 ghost use Rattle.tt_leaf.specs.Leaves.{all_dead};
-ghost use Rattle.tt_leaf.specs.Nested.{agrees_at, dead_or_off, room_dead, course_dead};
+ghost use Rattle.tt_leaf.specs.Nested.{dead_or_off, room_dead, course_dead};
 
 use crate::slots::{slot_at, slot_count};
-use tt_facts::{Path, Pattern, Who};
-use tt_instance::{Cell, Instance};
-
-fn agrees(given: Option<u32>, number: u32) -> bool
-    ensures { result ≡ agrees given number }
-{
-    match given {
-        None => true,
-        Some(wanted) => wanted == number,
-    }
-}
-
-fn is_who(instance: &Instance<'_>, who: Who, course: u32) -> bool
-    ensures { result ≡ is_who instance.now who course }
-{
-    match who {
-        Who::Course(meant) => course == meant,
-        Who::Curriculum(curriculum) => instance.in_curriculum(curriculum, course),
-    }
-}
-
-fn agrees_at(pattern: &Pattern, cell: Cell) -> bool
-    ensures { result ≡ agrees_at pattern.now cell }
-{
-    agrees(pattern.room, cell.room)
-        && agrees(pattern.day, cell.day)
-        && agrees(pattern.period, cell.period)
-}
+use tt_facts::{Path, Pattern};
+use tt_instance::Cell;
 
 fn dead_or_off<'i, P: Path<'i>>(path: &P, pattern: &Pattern, cell: Cell) -> bool
     requires { InRange (P.problem path.now) cell }
     ensures { result ≡ dead_or_off (P.problem path.now) (P.facts path.now) pattern.now cell }
 {
-    !agrees_at(pattern, cell) || path.dead(cell)
+    !pattern.agrees_at(cell) || path.dead(cell)
 }
 
 #[tactic(auto, using(tt_lists::proofs::Below::all_more))]
@@ -85,7 +58,7 @@ pub fn all_dead<'i, P: Path<'i>>(path: &P, pattern: &Pattern) -> bool
 {
     let instance = path.instance();
     for course in 0..instance.courses() {
-        if is_who(instance, pattern.who, course) && !course_dead(path, pattern, course) {
+        if pattern.who.includes(instance, course) && !course_dead(path, pattern, course) {
             return false;
         }
     }

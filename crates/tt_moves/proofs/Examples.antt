@@ -1,12 +1,7 @@
--- Steps and chains of small timetables.
-use Rattle.std.proofs.Common.{◌≡◌, ℕ, true, false, List, [], ◌∷◌, refl, codes}
-use Rattle.tt_lists.specs.Words.{has}
-use Rattle.tt_instance.specs.Problem.{Problem}
-use Rattle.tt_instance.specs.Cells.{slot}
-use Rattle.tt_instance.specs.Courses.{unavailable}
+-- Steps of a small timetable.
+use Rattle.std.proofs.Common.{◌≡◌, List, [], ◌∷◌, refl}
 use Rattle.tt_instance.specs.declared.cell.Cell.{Cell}
-use Rattle.tt_instance.proofs.Examples.{at, bar, course, week, two_rooms, mini}
-use Rattle.tt_moves.specs.Chains.{linked, swapped}
+use Rattle.tt_instance.proofs.Examples.{at}
 use Rattle.tt_moves.specs.Steps.{stepped}
 use Rattle.tt_moves.specs.declared.step.Step.TheVariants.{Move, Swap}
 
@@ -21,29 +16,3 @@ exchanged = refl
 
 exchanged_with_itself : stepped together (Swap 0 0) ≡ together
 exchanged_with_itself = refl
-
--- ---- chains between the first and the second period
-
--- one room links them, and so does the curriculum
-both_move : linked mini (slot 0 0) (slot 0 1) (at 0 0 0 0) (at 1 0 0 1) ≡ true
-both_move = refl
-
-swapped_both : swapped (slot 0 0) (slot 0 1) (has (0 ∷ 1 ∷ [])) together ≡ at 0 0 0 1 ∷ at 1 0 0 0 ∷ []
-swapped_both = refl
-
--- where b has no lecture in the first period, it can't move there
-b_is_barred : unavailable (record mini { bars = bar 1 0 0 ∷ [] }) 1 0 0 ≡ true
-b_is_barred = refl
-
--- two courses without a teacher or a curriculum in common
-abbrev free : Problem
-free = week 1 2 (course (codes "x") (codes "t1") 1 1 1 ∷ course (codes "y") (codes "t2") 1 1 1 ∷ []) two_rooms []
-
-one_room_links : linked free (slot 0 0) (slot 0 1) (at 0 0 0 0) (at 1 0 0 1) ≡ true
-one_room_links = refl
-
-two_rooms_do_not : linked free (slot 0 0) (slot 0 1) (at 0 0 0 0) (at 1 1 0 1) ≡ false
-two_rooms_do_not = refl
-
-swapped_alone : swapped (slot 0 0) (slot 0 1) (has (0 ∷ [])) (at 0 0 0 0 ∷ at 1 1 0 1 ∷ []) ≡ at 0 0 0 1 ∷ at 1 1 0 1 ∷ []
-swapped_alone = refl

@@ -1,1 +1,5 @@
 pub mod Examples
+pub mod Rests
+pub mod Standings
+pub mod Stepping
+pub mod Undoing

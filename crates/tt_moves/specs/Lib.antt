@@ -1,2 +1,4 @@
-pub mod Chains
+pub mod Around
+pub mod Changes
+pub mod Rests
 pub mod Steps

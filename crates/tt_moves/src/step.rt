@@ -1,5 +1,12 @@
 //! Steps from one timetable to the next.
 
+ghost use Rattle.std.specs.Prelude.{◌≡◌, ◌<◌, length};
+ghost use Rattle.tt_table.specs.Table.{IsTimetable};
+ghost use Rattle.tt_moves.specs.Steps.{CanStep, entry_at, stepped};
+
+use tt_occupancy::Occupied;
+use tt_table::Entry;
+
 /// A change of one entry, or of two. Entries are numbered from 0 in the order of the list.
 #[derive(Clone, Copy, Debug, PartialEq, Eq)]
 pub enum Step {
@@ -15,4 +22,57 @@ pub enum Step {
         first: u32,
         second: u32,
     },
+}
+
+/// The entry at a place.
+pub(crate) fn entry_of(occupied: &Occupied<'_, '_>, index: u32) -> Entry
+    requires { index < length occupied.now.entries }
+    ensures value { result ≡ entry_at occupied.now.entries index }
+    ensures in_range { IsTimetable occupied.now.problem occupied.now.entries }
+{
+    occupied.table().get(index as usize)
+}
+
+/// Makes a step, and answers the one that takes it back.
+pub fn apply(occupied: &mut Occupied<'_, '_>, step: Step) -> Step
+    requires { CanStep occupied.old.problem occupied.old.entries step }
+    ensures stepped { occupied.new ≡ record {
+      problem = occupied.old.problem;
+      entries = stepped occupied.old.entries step;
+    } }
+    ensures possible { CanStep occupied.old.problem (stepped occupied.old.entries step) result }
+    ensures back { stepped (stepped occupied.old.entries step) result ≡ occupied.old.entries }
+{
+    match step {
+        Step::Move {
+            entry,
+            room,
+            day,
+            period,
+        } => {
+            let from = entry_of(occupied, entry);
+            occupied.move_entry(entry as usize, room, day, period);
+            Step::Move {
+                entry,
+                room: from.room,
+                day: from.day,
+                period: from.period,
+            }
+        }
+        Step::Swap { first, second } => {
+            occupied.swap_entries(first as usize, second as usize);
+            step
+        }
+    }
+}
+
+/// Makes the step that `apply` answered.
+pub fn undo(occupied: &mut Occupied<'_, '_>, step: Step)
+    requires { CanStep occupied.old.problem occupied.old.entries step }
+    ensures { occupied.new ≡ record {
+      problem = occupied.old.problem;
+      entries = stepped occupied.old.entries step;
+    } }
+{
+    apply(occupied, step);
 }

@@ -1,2 +1,14 @@
+pub mod Certifying
+pub mod Counting
+pub mod Determined
 pub mod Examples
+pub mod Files
+pub mod Judging
+pub mod Places
+pub mod Reading
+pub mod Sizes
 pub mod Soundness
+pub mod Streaming
+pub mod TextFaults
+pub mod Texts
+pub mod Walking

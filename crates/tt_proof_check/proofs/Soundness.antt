@@ -1,5 +1,5 @@
 -- What a tree derives holds of every feasible timetable that fits.
-use Rattle.std.proofs.Common.{◌≡◌, ℕ, true, false, List, [], inl, inr}
+use Rattle.std.proofs.Common.{true, false, List, [], inl, inr}
 use Rattle.std.specs.List.{list_any}
 use Rattle.std.proofs.lemmas.List.Elements.{All-push, All-nil}
 use Rattle.std.proofs.lemmas.Bool.{cases_Bool}
@@ -11,7 +11,7 @@ use Rattle.tt_facts.specs.declared.facts.Fact.{Fact}
 use Rattle.tt_leaf.specs.Bounds.{Respects}
 use Rattle.tt_leaf.specs.declared.leaf.Bound.{Bound}
 use Rattle.tt_leaf.proofs.Soundness.{leaf_sound}
-use Rattle.tt_proof_text.specs.Trees.{Tree, Close, Branch, with_fact, preorder}
+use Rattle.tt_proof_text.specs.Trees.{Tree, Close, Branch, with_fact}
 use Rattle.tt_proof_text.specs.declared.node.Node.{Node}
 use Rattle.tt_proof_check.specs.Derives.{Derives, HoldsOfAll, Proves}
 
@@ -29,4 +29,4 @@ root_sound p b tree d t ok = tree_sound p t ok b [] tree d (All-nil (Holds p t))
 
 -- what the nodes prove holds of every feasible timetable
 pub proof_sound : (p : Problem) (b : Bound) (nodes : List Node) → Proves p b nodes → HoldsOfAll p b
-proof_sound p b nodes h t ok = root_sound p b h.0 h.2 t ok
+proof_sound p b nodes h t ok = root_sound p b h.0 h.3 t ok

@@ -1,5 +1,5 @@
 -- What a tree derives, and what that means.
-use Rattle.std.specs.Prelude.{◌≡◌, List, []}
+use Rattle.std.specs.Prelude.{◌≡◌, ◌≤◌, List, [], length, All}
 use Rattle.tt_instance.specs.Problem.{Problem}
 use Rattle.tt_instance.specs.declared.cell.Cell.{Cell}
 use Rattle.tt_rules.specs.Score.{IsFeasible, cost}
@@ -8,7 +8,7 @@ use Rattle.tt_facts.specs.declared.facts.Fact.{Fact}
 use Rattle.tt_leaf.specs.Bounds.{Respects}
 use Rattle.tt_leaf.specs.Leaves.{IsRight}
 use Rattle.tt_leaf.specs.declared.leaf.Bound.{Bound}
-use Rattle.tt_proof_text.specs.Trees.{Tree, AllLeaves, preorder}
+use Rattle.tt_proof_text.specs.Trees.{Tree, AllLeaves, preorder, on_paths}
 use Rattle.tt_proof_text.specs.declared.node.Node.{Node}
 
 -- each leaf is right on its path
@@ -23,6 +23,10 @@ HoldsOn p b path = (t : List Cell) → IsFeasible p t → Fits p t path → Resp
 abbrev pub HoldsOfAll : Problem → Bound → Type 0
 HoldsOfAll p b = (t : List Cell) → IsFeasible p t → Respects b (cost p t)
 
--- the nodes are a tree's, and it derives the bound
+-- no node stands below more than 65,536 splits
+abbrev pub IsShallow : Tree → Type 0
+IsShallow tree = All (λ x. length x.path ≤ 65536) (on_paths [] tree)
+
+-- the nodes are a tree's that is not too deep, and it derives the bound
 abbrev pub Proves : Problem → Bound → List Node → Type 0
-Proves p b nodes = (tree : Tree) × (preorder tree ≡ nodes) × Derives p b [] tree
+Proves p b nodes = (tree : Tree) × (preorder tree ≡ nodes) × IsShallow tree × Derives p b [] tree

@@ -1,2 +1,10 @@
 pub mod Derives
+pub mod Faults
 pub mod Headline
+pub mod Judged
+pub mod Nodes
+pub mod Pending
+pub mod Steps
+pub mod Streams
+pub mod Tells
+pub mod Verdicts

@@ -15,6 +15,7 @@ use tt_table::SolutionFault;
 /// Why a proof is refused. Nodes are numbered from 0 in the order of the file.
 #[derive(Clone, Copy, Debug, PartialEq, Eq)]
 pub enum CheckFault {
+    /// The text is no proof; want of memory is told as `OutOfMemory`.
     Text(TextFault),
     /// The leaf at this node does not close it.
     Rule(u32, RuleFault),
@@ -39,6 +40,19 @@ impl<T: Drop> From<AllocFailed<T>> for CheckFault {
     }
 }
 
+impl From<TextFault> for CheckFault {
+    ghost use Rattle.tt_proof_check.specs.Faults.{text_fault};
+
+    ghost from_gives = { λ f e. e ≡ text_fault f };
+
+    fn from(fault: TextFault) -> CheckFault {
+        match fault {
+            TextFault::OutOfMemory => CheckFault::OutOfMemory,
+            fault => CheckFault::Text(fault),
+        }
+    }
+}
+
 impl fmt::Display for CheckFault {
     fn fmt<W: fmt::Write>(&self, f: &mut fmt::Formatter<W>) -> fmt::Result {
         match self {
@@ -57,8 +71,8 @@ impl Error for CheckFault {}
 pub enum NodesFault {
     /// The nodes are not one tree in preorder.
     NotATree,
-    Rule(u32, RuleFault),
-    TooDeep(u32),
+    Rule(usize, RuleFault),
+    TooDeep(usize),
     OutOfMemory,
 }
 
@@ -88,5 +102,47 @@ impl From<AllocError> for CertifyFault {
 
     fn from(_e: AllocError) -> CertifyFault {
         CertifyFault::OutOfMemory
+    }
+}
+
+impl From<InstanceFault> for CertifyFault {
+    ghost use Rattle.std.specs.Prelude.{◌≡◌};
+    ghost use Rattle.tt_proof_check.specs.Verdicts.{told_instance};
+
+    ghost from_gives = { λ f e. e ≡ told_instance f };
+
+    fn from(fault: InstanceFault) -> CertifyFault {
+        match fault {
+            InstanceFault::OutOfMemory => CertifyFault::OutOfMemory,
+            fault => CertifyFault::Instance(fault),
+        }
+    }
+}
+
+impl From<SolutionFault> for CertifyFault {
+    ghost use Rattle.std.specs.Prelude.{◌≡◌};
+    ghost use Rattle.tt_proof_check.specs.Verdicts.{told_solution};
+
+    ghost from_gives = { λ f e. e ≡ told_solution f };
+
+    fn from(fault: SolutionFault) -> CertifyFault {
+        match fault {
+            SolutionFault::OutOfMemory => CertifyFault::OutOfMemory,
+            fault => CertifyFault::Solution(fault),
+        }
+    }
+}
+
+impl From<CheckFault> for CertifyFault {
+    ghost use Rattle.std.specs.Prelude.{◌≡◌};
+    ghost use Rattle.tt_proof_check.specs.Verdicts.{told_check};
+
+    ghost from_gives = { λ f e. e ≡ told_check f };
+
+    fn from(fault: CheckFault) -> CertifyFault {
+        match fault {
+            CheckFault::OutOfMemory => CertifyFault::OutOfMemory,
+            fault => CertifyFault::Proof(fault),
+        }
     }
 }

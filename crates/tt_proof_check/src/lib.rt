@@ -2,7 +2,14 @@
 #![tactic(auto)]
 
 mod fault;
+mod headline;
 mod laws;
+mod preorder;
+mod stream;
+mod walk;
 
 pub use fault::{CertifyFault, CheckFault, NodesFault, Verdict};
+pub use headline::certify;
 pub use laws::derived_bounds_hold;
+pub use preorder::check_nodes;
+pub use stream::check_proof;

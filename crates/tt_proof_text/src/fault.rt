@@ -1,4 +1,4 @@
-//! Why a text is no proof, or a list of nodes can't be written.
+//! Why a text is no proof.
 
 ghost use Rattle.std.specs.Prelude.{◌≡◌};
 ghost use Rattle.tt_proof_text.specs.declared.fault.TextFault.TheVariants.{OutOfMemory};
@@ -61,6 +61,19 @@ pub enum TextFault {
     OutOfMemory,
 }
 
+impl From<FeedFault> for TextFault {
+    ghost use Rattle.tt_proof_text.specs.Faults.{feed_fault};
+
+    ghost from_gives = { λ f e. e ≡ feed_fault f };
+
+    fn from(fault: FeedFault) -> TextFault {
+        match fault {
+            FeedFault::OutOfMemory => TextFault::OutOfMemory,
+            fault => TextFault::Feed(fault),
+        }
+    }
+}
+
 impl From<AllocError> for TextFault {
     ghost from_gives = { λ _ e. e ≡ OutOfMemory };
 
@@ -95,15 +108,3 @@ impl fmt::Display for TextFault {
 }
 
 impl Error for TextFault {}
-
-/// Why a list of nodes can't be written.
-#[derive(Clone, Copy, Debug, PartialEq, Eq)]
-pub enum WriteFault {
-    /// The nodes are not one tree in preorder.
-    NotATree,
-    /// A number, the nodes, the depth or the bytes pass the format's limit.
-    OverLimit,
-    OutOfMemory,
-    /// Version 1 was asked for, and a node has a claim of version 2.
-    NotInVersion,
-}

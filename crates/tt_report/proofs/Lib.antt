@@ -1,1 +1,4 @@
 pub mod Examples
+pub mod Names
+pub mod Parts
+pub mod Written

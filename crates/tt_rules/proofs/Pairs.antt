@@ -1,15 +1,32 @@
 -- Counts of pairs, one element at a time.
-use Rattle.std.proofs.Common.{◌≡◌, ℕ, ◌+◌, ◌-◌, ◌<◌, Bool, List, length, get_or, take, drop, sym, ap, ◌∙◌, arith, length-drop}
-use Rattle.std.specs.Prelude.{count_by}
-use Rattle.std.proofs.Math.Seq.{take-length}
+use Rattle.std.proofs.Common.{◌≡◌, ℕ, ◌+◌, ◌<◌, Bool, List, length, get_or, drop, sym, ap, ◌∙◌, arith}
+use Rattle.std.specs.Prelude.{◌==◌, ◌&&◌, All, filter, count_by}
 use Rattle.std.proofs.lemmas.List.{drop_more}
 use Rattle.tt_lists.specs.Words.{count_pairs}
-
--- the elements from a place to the end are those from the place on
-rest_to_end : {X : Type 0} (xs : List X) (i : ℕ) → take (length xs - i) (drop i xs) ≡ drop i xs
-rest_to_end xs i = ap (λ n. take n (drop i xs)) (sym (length-drop i xs)) ∙ take-length (drop i xs)
+use Rattle.tt_lists.proofs.Tests.{same_test}
+use Rattle.tt_instance.specs.Problem.{Problem}
+use Rattle.tt_instance.specs.Cells.{InRange}
+use Rattle.tt_instance.specs.Courses.{conflict}
+use Rattle.tt_instance.specs.declared.cell.Cell.{Cell}
+use Rattle.tt_rules.specs.Hard.{collide}
+use Rattle.tt_table.specs.Groups.{in_group, group_of}
+use Rattle.tt_table.specs.declared.groups.GroupBy.TheVariants.{Period}
+use Rattle.tt_rules.proofs.Filtered.{count_by-filter, count_by-same_at}
+use Rattle.tt_table.proofs.Numbering.{same_number}
 
 -- the pairs of the elements so far, and those behind them, are all: one element more
-pub pairs_more : {X : Type 0} (related : X → X → Bool) (xs : List X) (i : ℕ) (d : X) (total here : ℕ) → i < length xs → total + count_pairs related (drop i xs) ≡ count_pairs related xs → here ≡ count_by (related (get_or xs i d)) (take (length xs - (i + 1)) (drop (i + 1) xs)) → total + here + count_pairs related (drop (i + 1) xs) ≡ count_pairs related xs
+pub pairs_more : {X : Type 0} (related : X → X → Bool) (xs : List X) (i : ℕ) (d : X) (total here : ℕ) → i < length xs → total + count_pairs related (drop i xs) ≡ count_pairs related xs → here ≡ count_by (related (get_or xs i d)) (drop (i + 1) xs) → total + here + count_pairs related (drop (i + 1) xs) ≡ count_pairs related xs
 pairs_more related xs i d total here h so_far found =
-    omega (arith, ap (count_pairs related) (drop_more xs i d h), ap (count_by (related (get_or xs i d))) (rest_to_end xs (i + 1)))
+    omega (arith, ap (count_pairs related) (drop_more xs i d h), found, so_far)
+
+-- the later entries that collide with one: those of its period whose courses exclude its own
+pub collide_behind : (p : Problem) (e : Cell) (later : List Cell) → InRange p e → All (InRange p) later → count_by (λ other. conflict p e.course other.course) (filter (in_group (Period p.periods) (group_of (Period p.periods) e)) later) ≡ count_by (collide p e) later
+collide_behind p e later here ok =
+    count_by-filter (in_group (Period p.periods) (group_of (Period p.periods) e)) (λ other. conflict p e.course other.course) later
+    ∙ count_by-same_at (InRange p) (λ x. in_group (Period p.periods) (group_of (Period p.periods) e) x && conflict p e.course x.course) (collide p e) later ok
+    (λ x k.
+    ap (λ b. b && conflict p e.course x.course)
+    (same_number x.day x.period e.day e.period p.periods k.period here.period ∙ ap (λ b. b && (x.period == e.period)) (turned x.day e.day) ∙ ap (λ b. (e.day == x.day) && b) (turned x.period e.period)))
+  where
+    turned : (a b : ℕ) → (a == b) ≡ (b == a)
+    turned a b = same_test a b b a sym sym

@@ -1,13 +1,12 @@
 -- The periods of the week: sums over them, and each entry in one of them.
-use Rattle.std.proofs.Common.{◌≡◌, ℕ, ◌+◌, ◌-◌, ◌<◌, ◌≤◌, Bool, true, ◌&&◌, List, map, refl, ◌∙◌, arith, eq-eqb}
+use Rattle.std.proofs.Common.{◌≡◌, ℕ, ◌+◌, ◌-◌, ◌≤◌, Bool, true, ◌&&◌, List, refl, arith, eq-eqb}
 use Rattle.std.specs.Prelude.{◌==◌, sum_by, count_by}
 use Rattle.std.specs.List.{list_any}
 use Rattle.std.proofs.lemmas.List.Elements.{recursion_from_All}
 use Rattle.std.proofs.lemmas.Bool.{and_from}
-use Rattle.tt_lists.specs.Words.{numbers_below}
-use Rattle.tt_lists.proofs.Sums.{one_if, sum_by-le, sum_by-plus, sum_by-same, sum_by-of_map, sum_by-of_flat_map, list_any-of_map, list_any-of_flat_map, each, each_weaker, spread_up, spread_down, once_at_least, once_at_most}
+use Rattle.tt_lists.proofs.Sums.{one_if, sum_by-plus, sum_by-same, each, each_weaker, spread_up, spread_down, once_at_least, once_at_most}
 use Rattle.tt_instance.specs.Problem.{Problem}
-use Rattle.tt_instance.specs.Cells.{InRange, slot, all_days, all_slots, is_at}
+use Rattle.tt_instance.specs.Cells.{InRange, all_slots, is_at}
 use Rattle.tt_instance.specs.declared.cell.Cell.{Cell}
 use Rattle.tt_instance.specs.declared.cell.Slot.{Slot}
 use Rattle.tt_instance.proofs.Places.{any_slot, count_slots}

@@ -1,3 +1,4 @@
 pub mod Hard
+pub mod Places
 pub mod Score
 pub mod Soft

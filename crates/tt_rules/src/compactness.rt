@@ -1,98 +1,112 @@
 //! Curriculum compactness: 2 for each isolated entry of a curriculum.
 
-ghost use Rattle.std.specs.Prelude.{◌≡◌, ℕ, ◌+◌, ◌-◌, ◌*◌, ◌<◌, ◌≤◌, ◌^◌, ◌==◌, ◌&&◌, ◌||◌, not, false, length, slice_index_or, count_by, All};
+ghost use Rattle.std.specs.Prelude.{◌≡◌, ℕ, ◌+◌, ◌-◌, ◌*◌, ◌<◌, ◌≤◌, ◌^◌, ◌==◌, ◌&&◌, ◌||◌, not, false, length, slice_index_or, sum_by, count_by, All};
 ghost use Rattle.std.specs.List.{list_any};
-ghost use Rattle.tt_instance.specs.Cells.{InRange};
+ghost use Rattle.tt_instance.specs.Cells.{InRange, is_of};
 ghost use Rattle.tt_instance.specs.Courses.{in_curriculum};
 ghost use Rattle.tt_rules.specs.Soft.{is_isolated, compactness_count};
+ghost use Rattle.tt_rules.specs.Places.{place_of, is_alone};
+ghost use Rattle.tt_table.specs.declared.groups.GroupBy.TheVariants as by;
 
 use crate::marks::Marks;
 use tt_instance::Instance;
-use tt_table::Entry;
-
-/// The members of a curriculum among the courses.
-fn members_of(instance: &Instance<'_>, curriculum: u32) -> Marks
-    ensures { (c : ℕ) → c < length instance.now.courses
-        → slice_index_or result c false ≡ in_curriculum instance.now curriculum c }
-{
-    let mut marks = Marks::none();
-    for course in 0..instance.courses() {
-        if instance.in_curriculum(curriculum, course) {
-            marks.add(course as usize);
-        }
-    }
-    marks
-}
+use tt_table::{Entry, Group, Groups};
 
 /// The place of an entry's period, from 1: day by day, with one free place between two days, so
 /// that they do not join.
 #[tactic(auto, using(crate::proofs::Neighbours::place_below))]
 fn place(instance: &Instance<'_>, entry: &Entry) -> usize
-    requires { InRange instance.now entry.now }
-    ensures value { result ≡ entry.now.day * (instance.now.periods + 1) + entry.now.period + 1 }
-    ensures within { result < 2048 }
+    ensures value { result ≡ place_of instance.now entry.now }
+    ensures within { result < 2 ^ 40 }
+    ensures few { InRange instance.now entry.now → result < 2048 }
 {
-    (entry.day * (instance.periods() + 1) + entry.period + 1) as usize
+    entry.day as usize * (instance.periods() as usize + 1) + entry.period as usize + 1
 }
 
-/// The places in which a member is taught.
-#[tactic(auto, using(std::proofs::lemmas::List::Folds::list_any_more))]
-fn taught(instance: &Instance<'_>, entries: &[Entry], members: &Marks) -> Marks
-    requires { All (InRange instance.now) entries.now }
+/// Marks the places of a group's entries.
+fn mark_places(instance: &Instance<'_>, group: Group<'_>, marks: &mut Marks)
+    requires { All (InRange instance.now) group }
+    ensures { (k : ℕ) → slice_index_or marks.new k false
+        ≡ (slice_index_or marks.old k false || list_any (λ e. place_of instance.now e == k) group.entry) }
+{
+    for entry in group {
+        marks.add(place(instance, entry));
+    }
+}
+
+/// The places in which some of the courses is taught.
+fn taught(instance: &Instance<'_>, by_course: &Groups<'_>, courses: &[u32]) -> Marks
+    requires by { by_course.now.by ≡ by.Course }
+    requires courses { All (λ c. c < 2048) courses.now }
+    requires in_range { All (InRange instance.now) by_course.now.entries }
     ensures { (k : ℕ) → slice_index_or result k false
-        ≡ list_any (λ e. slice_index_or members.now e.course false
-        && (e.day * (instance.now.periods + 1) + e.period + 1 == k)) entries.now }
+        ≡ list_any (λ c. list_any (λ e. is_of c e && (place_of instance.now e == k)) by_course.now.entries) courses.now }
 {
     let mut marks = Marks::none();
-    for entry in entries {
-        if members.has(entry.course as usize) {
-            marks.add(place(instance, entry));
-        }
+    for course in courses {
+        mark_places(instance, by_course.of_course(*course), &mut marks);
     }
     marks
 }
 
-/// Whether an entry is a member's, and no member is taught right before its period or right after it.
-fn is_isolated(instance: &Instance<'_>, members: &Marks, taught: &Marks, entry: &Entry) -> bool
-    requires { InRange instance.now entry.now }
-    ensures { let place = entry.now.day * (instance.now.periods + 1) + entry.now.period + 1 in
-        result ≡ (slice_index_or members.now entry.now.course false
-        && not (slice_index_or taught.now (place + 1) false
-        || slice_index_or taught.now (place - 1) false)) }
+/// The entries of a group with no mark right before their place or right after it.
+fn alone(instance: &Instance<'_>, group: Group<'_>, taught: &Marks) -> u64
+    requires few { length group ≤ 16384 }
+    ensures count { result ≡ count_by (is_alone instance.now taught.now) group.entry }
+    ensures few { result ≤ length group.entry }
 {
-    let place = place(instance, entry);
-    members.has(entry.course as usize) && !(taught.has(place + 1) || taught.has(place - 1))
+    group
+        .filter(|entry| {
+            let place = place(instance, entry);
+            !(taught.has(place + 1) || taught.has(place - 1))
+        })
+        .count() as u64
 }
 
-/// The isolated entries of a curriculum.
-fn isolated(instance: &Instance<'_>, entries: &[Entry], curriculum: u32) -> u64
-    requires { All (InRange instance.now) entries.now }
-    ensures count { result ≡ count_by (λ e. in_curriculum instance.now curriculum e.course
-        && is_isolated instance.now entries.now curriculum e) entries.now }
-    ensures few { result ≤ length entries.now }
+/// The entries of courses with no mark right before their place or right after it.
+fn alone_of(instance: &Instance<'_>, by_course: &Groups<'_>, courses: &[u32], taught: &Marks) -> u64
+    requires by { by_course.now.by ≡ by.Course }
+    requires courses { All (λ c. c < 2048) courses.now }
+    requires listed { length courses.now ≤ 4096 }
+    requires few { length by_course.now.entries ≤ 16384 }
+    ensures count { result
+        ≡ sum_by (λ c. count_by (λ e. is_of c e && is_alone instance.now taught.now e) by_course.now.entries) courses.now }
 {
-    let members = members_of(instance, curriculum);
-    let taught = taught(instance, entries, &members);
     let mut total: u64 = 0;
-    for entry in entries {
-        if is_isolated(instance, &members, &taught, entry) {
-            total += 1;
-        }
+    for course in courses {
+        total += alone(instance, by_course.of_course(*course), taught);
     }
     total
 }
 
+/// The isolated entries of a curriculum.
+fn isolated(instance: &Instance<'_>, by_course: &Groups<'_>, curriculum: u32) -> u64
+    requires by { by_course.now.by ≡ by.Course }
+    requires curriculum { curriculum < length instance.now.curricula }
+    requires in_range { All (InRange instance.now) by_course.now.entries }
+    requires few { length by_course.now.entries ≤ 16384 }
+    ensures count { result ≡ count_by (λ e. in_curriculum instance.now curriculum e.course
+        && is_isolated instance.now by_course.now.entries curriculum e) by_course.now.entries }
+    ensures few { result ≤ length by_course.now.entries }
+{
+    let _days = instance.days();
+    let members = instance.members(curriculum);
+    let taught = taught(instance, by_course, members);
+    alone_of(instance, by_course, members, &taught)
+}
+
 /// The cost of all curricula.
 #[tactic(auto, using(tt_lists::proofs::Numbers::sum_more))]
-pub fn cost(instance: &Instance<'_>, entries: &[Entry]) -> u64
-    requires in_range { All (InRange instance.now) entries.now }
-    requires few { length entries.now ≤ 16384 }
-    ensures cost { result ≡ compactness_count instance.now entries.now }
+pub fn cost(instance: &Instance<'_>, by_course: &Groups<'_>) -> u64
+    requires by { by_course.now.by ≡ by.Course }
+    requires in_range { All (InRange instance.now) by_course.now.entries }
+    requires few { length by_course.now.entries ≤ 16384 }
+    ensures cost { result ≡ compactness_count instance.now by_course.now.entries }
     ensures within { result ≤ 2 ^ 40 }
 {
     let mut total: u64 = 0;
     for curriculum in 0..instance.curricula() {
-        total += 2 * isolated(instance, entries, curriculum);
+        total += 2 * isolated(instance, by_course, curriculum);
     }
     total
 }

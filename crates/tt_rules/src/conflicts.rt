@@ -1,40 +1,50 @@
 //! Conflicts: no two entries of one period have courses that exclude each other.
 
-ghost use Rattle.std.specs.Prelude.{◌≡◌, ◌≤◌, ◌^◌, length, count_by};
+ghost use Rattle.std.specs.Prelude.{◌≡◌, ◌≤◌, ◌^◌, ◌+◌, length, count_by, drop, All, Some, slice_get};
+ghost use Rattle.tt_instance.specs.Cells.{InRange};
+ghost use Rattle.tt_instance.specs.Courses.{conflict};
 ghost use Rattle.tt_rules.specs.Hard.{collide, conflicts_count};
+ghost use Rattle.tt_table.specs.declared.groups.GroupBy.TheVariants as by;
 
 use tt_instance::Instance;
-use tt_table::Entry;
+use tt_table::{Entry, Group, Groups};
 
-/// Whether two entries share a period, and their courses exclude each other.
-fn collide(instance: &Instance<'_>, first: &Entry, second: &Entry) -> bool
-    ensures { result ≡ collide instance.now first.now second.now }
+/// The entries of a group whose courses exclude an entry's.
+fn excluded(instance: &Instance<'_>, entry: &Entry, group: Group<'_>) -> u64
+    requires few { length group ≤ 16384 }
+    ensures count { result
+        ≡ count_by (λ other. conflict instance.now entry.now.course other.course) group.entry }
+    ensures few { result ≤ length group.entry }
 {
-    first.day == second.day
-        && first.period == second.period
-        && instance.conflict(first.course, second.course)
-}
-
-/// The later entries that collide with an entry.
-fn against(instance: &Instance<'_>, entry: &Entry, later: &[Entry]) -> u64
-    ensures count { result ≡ count_by (collide instance.now entry.now) later.now }
-    ensures few { result ≤ length later.now }
-{
-    later
-        .iter()
-        .filter(|other| collide(instance, entry, other))
+    group
+        .filter(|other| instance.conflict(entry.course, other.course))
         .count() as u64
 }
 
+/// The later entries that collide with one.
+fn against(instance: &Instance<'_>, by_period: &Groups<'_>, entry: &Entry, index: usize) -> u64
+    requires by { by_period.now.by ≡ by.Period instance.now.periods }
+    requires in_range { All (InRange instance.now) by_period.now.entries }
+    requires few { length by_period.now.entries ≤ 16384 }
+    requires there { slice_get by_period.now.entries index ≡ Some entry.now }
+    ensures count { result ≡ count_by (collide instance.now entry.now) (drop (index + 1) by_period.now.entries) }
+    ensures few { result ≤ length by_period.now.entries }
+{
+    excluded(instance, entry, by_period.behind(index))
+}
+
 /// The pairs of entries that collide.
-pub fn count(instance: &Instance<'_>, entries: &[Entry]) -> u64
-    requires { length entries.now ≤ 16384 }
+pub fn count(instance: &Instance<'_>, entries: &[Entry], by_period: &Groups<'_>) -> u64
+    requires by { by_period.now.by ≡ by.Period instance.now.periods }
+    requires same { by_period.now.entries ≡ entries.now }
+    requires in_range { All (InRange instance.now) entries.now }
+    requires few { length entries.now ≤ 16384 }
     ensures count { result ≡ conflicts_count instance.now entries.now }
     ensures within { result ≤ 2 ^ 40 }
 {
     let mut total: u64 = 0;
-    for (i, entry) in entries.iter().enumerate() {
-        total += against(instance, entry, &entries[i + 1..]);
+    for (index, entry) in entries.iter().enumerate() {
+        total += against(instance, by_period, entry, index);
     }
     total
 }

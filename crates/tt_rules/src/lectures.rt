@@ -3,60 +3,61 @@
 ghost use Rattle.std.specs.Prelude.{◌≡◌, ◌<◌, ◌≤◌, ◌^◌, length, All};
 ghost use Rattle.tt_instance.specs.Cells.{InRange};
 ghost use Rattle.tt_rules.specs.Hard.{entries_of, periods_of, lectures_off, lectures_count};
+ghost use Rattle.tt_table.specs.declared.groups.GroupBy.TheVariants as by;
 
-use crate::marks::Marks;
-use crate::slots;
+use crate::distinct;
 use tt_instance::Instance;
-use tt_table::Entry;
+use tt_table::Groups;
 
 /// The entries of a course.
-fn entries_of(entries: &[Entry], course: u32) -> u64
-    ensures count { result ≡ entries_of entries.now course }
-    ensures few { result ≤ length entries.now }
+fn entries_of(by_course: &Groups<'_>, course: u32) -> u64
+    requires by { by_course.now.by ≡ by.Course }
+    requires course { course < 2048 }
+    requires few { length by_course.now.entries ≤ 16384 }
+    ensures count { result ≡ entries_of by_course.now.entries course }
+    ensures few { result ≤ length by_course.now.entries }
 {
-    entries.iter().filter(|e| e.course == course).count() as u64
+    by_course.of_course(course).len()
 }
 
 /// The periods in which the course is taught.
-#[tactic(auto, using(std::proofs::lemmas::List::Folds::list_any_more))]
-fn periods_of(instance: &Instance<'_>, entries: &[Entry], course: u32) -> u64
-    requires { All (InRange instance.now) entries.now }
-    ensures { result ≡ periods_of instance.now entries.now course }
+fn periods_of(instance: &Instance<'_>, by_course: &Groups<'_>, course: u32) -> u64
+    requires by { by_course.now.by ≡ by.Course }
+    requires course { course < 2048 }
+    requires in_range { All (InRange instance.now) by_course.now.entries }
+    ensures { result ≡ periods_of instance.now by_course.now.entries course }
 {
-    let mut marks = Marks::none();
-    for entry in entries {
-        if entry.course == course {
-            marks.add(slots::number(instance, entry));
-        }
-    }
-    marks.count(slots::in_week(instance))
+    distinct::periods(instance, by_course.of_course(course))
 }
 
 /// How far a course is from its lectures, and its entries that share a period with an earlier one.
-fn lectures_off(instance: &Instance<'_>, entries: &[Entry], course: u32) -> u64
+fn lectures_off(instance: &Instance<'_>, by_course: &Groups<'_>, course: u32) -> u64
+    requires by { by_course.now.by ≡ by.Course }
     requires course { course < length instance.now.courses }
-    requires in_range { All (InRange instance.now) entries.now }
-    requires few { length entries.now ≤ 16384 }
-    ensures value { result ≡ lectures_off instance.now entries.now course }
+    requires in_range { All (InRange instance.now) by_course.now.entries }
+    requires few { length by_course.now.entries ≤ 16384 }
+    ensures value { result ≡ lectures_off instance.now by_course.now.entries course }
     ensures within { result ≤ 65536 }
 {
+    let _courses = instance.courses();
     let wanted = u64::from(instance.lectures(course));
-    let placed = entries_of(entries, course);
-    let periods = periods_of(instance, entries, course);
+    let placed = entries_of(by_course, course);
+    let periods = periods_of(instance, by_course, course);
     (wanted.max(placed) - wanted.min(placed)) + placed.saturating_sub(periods)
 }
 
 /// How far the courses are from their lectures, in all.
 #[tactic(auto, using(tt_lists::proofs::Numbers::sum_more))]
-pub fn count(instance: &Instance<'_>, entries: &[Entry]) -> u64
-    requires in_range { All (InRange instance.now) entries.now }
-    requires few { length entries.now ≤ 16384 }
-    ensures count { result ≡ lectures_count instance.now entries.now }
+pub fn count(instance: &Instance<'_>, by_course: &Groups<'_>) -> u64
+    requires by { by_course.now.by ≡ by.Course }
+    requires in_range { All (InRange instance.now) by_course.now.entries }
+    requires few { length by_course.now.entries ≤ 16384 }
+    ensures count { result ≡ lectures_count instance.now by_course.now.entries }
     ensures within { result ≤ 2 ^ 40 }
 {
     let mut total: u64 = 0;
     for course in 0..instance.courses() {
-        total += lectures_off(instance, entries, course);
+        total += lectures_off(instance, by_course, course);
     }
     total
 }

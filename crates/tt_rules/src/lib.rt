@@ -6,6 +6,7 @@ mod capacity;
 mod compactness;
 mod conflicts;
 mod counts;
+mod distinct;
 mod lectures;
 mod marks;
 mod occupancy;

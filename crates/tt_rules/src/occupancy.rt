@@ -1,62 +1,63 @@
 //! Room occupancy: one for each entry of a room and a period but the first.
 
-ghost use Rattle.std.specs.Prelude.{◌≡◌, ◌≤◌, ◌-◌, ◌^◌, ◌&&◌, length, sum_by, count_by, All};
+ghost use Rattle.std.specs.Prelude.{◌≡◌, ◌<◌, ◌≤◌, ◌-◌, ◌^◌, ◌&&◌, length, sum_by, count_by, All};
 ghost use Rattle.std.specs.List.{list_any};
 ghost use Rattle.tt_instance.specs.Cells.{InRange, all_slots, is_in, is_at};
 ghost use Rattle.tt_rules.specs.Hard.{entries_in, occupancy_count};
+ghost use Rattle.tt_table.specs.declared.groups.GroupBy.TheVariants as by;
 
-use crate::marks::Marks;
-use crate::slots;
+use crate::distinct;
 use tt_instance::Instance;
-use tt_table::Entry;
+use tt_table::Groups;
 
 /// The entries in a room.
-fn entries_in(entries: &[Entry], room: u32) -> u64
-    ensures count { result ≡ count_by (is_in room) entries.now }
-    ensures few { result ≤ length entries.now }
+fn entries_in(by_room: &Groups<'_>, room: u32) -> u64
+    requires by { by_room.now.by ≡ by.Room }
+    requires room { room < 2048 }
+    requires few { length by_room.now.entries ≤ 16384 }
+    ensures count { result ≡ count_by (is_in room) by_room.now.entries }
+    ensures few { result ≤ length by_room.now.entries }
 {
-    entries.iter().filter(|e| e.room == room).count() as u64
+    by_room.in_room(room).len()
 }
 
 /// The periods in which the room is used.
-#[tactic(auto, using(std::proofs::lemmas::List::Folds::list_any_more))]
-fn periods_of(instance: &Instance<'_>, entries: &[Entry], room: u32) -> u64
-    requires { All (InRange instance.now) entries.now }
+fn periods_of(instance: &Instance<'_>, by_room: &Groups<'_>, room: u32) -> u64
+    requires by { by_room.now.by ≡ by.Room }
+    requires room { room < 2048 }
+    requires in_range { All (InRange instance.now) by_room.now.entries }
     ensures { result
-        ≡ count_by (λ s. list_any (λ e. is_in room e && is_at s e) entries.now)
+        ≡ count_by (λ s. list_any (λ e. is_in room e && is_at s e) by_room.now.entries)
         (all_slots instance.now) }
 {
-    let mut marks = Marks::none();
-    for entry in entries {
-        if entry.room == room {
-            marks.add(slots::number(instance, entry));
-        }
-    }
-    marks.count(slots::in_week(instance))
+    distinct::periods(instance, by_room.in_room(room))
 }
 
 /// The entries of a room but the first of each period.
-fn doubled(instance: &Instance<'_>, entries: &[Entry], room: u32) -> u64
-    requires in_range { All (InRange instance.now) entries.now }
-    requires few { length entries.now ≤ 16384 }
+fn doubled(instance: &Instance<'_>, by_room: &Groups<'_>, room: u32) -> u64
+    requires by { by_room.now.by ≡ by.Room }
+    requires room { room < 2048 }
+    requires in_range { All (InRange instance.now) by_room.now.entries }
+    requires few { length by_room.now.entries ≤ 16384 }
     ensures count { result
-        ≡ sum_by (λ s. entries_in entries.now room s - 1) (all_slots instance.now) }
+        ≡ sum_by (λ s. entries_in by_room.now.entries room s - 1) (all_slots instance.now) }
     ensures few { result ≤ 16384 }
 {
-    entries_in(entries, room).saturating_sub(periods_of(instance, entries, room))
+    entries_in(by_room, room).saturating_sub(periods_of(instance, by_room, room))
 }
 
 /// The entries of each room and period but the first, in all.
 #[tactic(auto, using(tt_lists::proofs::Numbers::sum_more))]
-pub fn count(instance: &Instance<'_>, entries: &[Entry]) -> u64
-    requires in_range { All (InRange instance.now) entries.now }
-    requires few { length entries.now ≤ 16384 }
-    ensures count { result ≡ occupancy_count instance.now entries.now }
+pub fn count(instance: &Instance<'_>, by_room: &Groups<'_>) -> u64
+    requires by { by_room.now.by ≡ by.Room }
+    requires in_range { All (InRange instance.now) by_room.now.entries }
+    requires few { length by_room.now.entries ≤ 16384 }
+    ensures count { result ≡ occupancy_count instance.now by_room.now.entries }
     ensures within { result ≤ 2 ^ 40 }
 {
     let mut total: u64 = 0;
     for room in 0..instance.rooms() {
-        total += doubled(instance, entries, room);
+        total += doubled(instance, by_room, room);
     }
     total
 }

@@ -1,5 +1,8 @@
 //! The score of a timetable.
 
+ghost use Rattle.std.specs.Prelude.{◌≡◌, ◌≤◌, length, All};
+ghost use Rattle.tt_instance.specs.Cells.{InRange};
+ghost use Rattle.tt_table.specs.declared.groups.GroupBy.TheVariants as by;
 ghost use Rattle.tt_table.specs.Table.{IsTimetable};
 ghost use Rattle.tt_rules.specs.Score.{IsScore};
 
@@ -8,7 +11,36 @@ use crate::{
     availability, capacity, compactness, conflicts, lectures, occupancy, stability, working_days,
 };
 use tt_instance::Instance;
-use tt_table::Timetable;
+use tt_table::{Entry, GroupBy, Groups, Timetable};
+
+/// The entries by course.
+fn by_course<'t>(instance: &Instance<'_>, entries: &'t [Entry]) -> Groups<'t>
+    requires in_range { All (InRange instance.now) entries.now }
+    requires few { length entries.now ≤ 16384 }
+    ensures { result ≡ record { by = by.Course; entries = entries.now } }
+{
+    let _courses = instance.courses();
+    Groups::new(entries, GroupBy::Course)
+}
+
+/// The entries by room.
+fn by_room<'t>(instance: &Instance<'_>, entries: &'t [Entry]) -> Groups<'t>
+    requires in_range { All (InRange instance.now) entries.now }
+    requires few { length entries.now ≤ 16384 }
+    ensures { result ≡ record { by = by.Room; entries = entries.now } }
+{
+    let _rooms = instance.rooms();
+    Groups::new(entries, GroupBy::Room)
+}
+
+/// The entries by the period of the week.
+fn by_period<'t>(instance: &Instance<'_>, entries: &'t [Entry]) -> Groups<'t>
+    requires in_range { All (InRange instance.now) entries.now }
+    requires few { length entries.now ≤ 16384 }
+    ensures { result ≡ record { by = by.Period instance.now.periods; entries = entries.now } }
+{
+    Groups::new(entries, GroupBy::Period(instance.periods()))
+}
 
 /// The eight counts of a timetable, whose entries are all in the instance's range.
 pub fn score(instance: &Instance<'_>, table: &Timetable) -> Score
@@ -16,14 +48,15 @@ pub fn score(instance: &Instance<'_>, table: &Timetable) -> Score
     ensures { IsScore instance.now table.now result }
 {
     let entries = table.entries();
+    let by_course = by_course(instance, entries);
     Score {
-        lectures: lectures::count(instance, entries),
-        conflicts: conflicts::count(instance, entries),
+        lectures: lectures::count(instance, &by_course),
+        conflicts: conflicts::count(instance, entries, &by_period(instance, entries)),
         availability: availability::count(instance, entries),
-        room_occupancy: occupancy::count(instance, entries),
+        room_occupancy: occupancy::count(instance, &by_room(instance, entries)),
         room_capacity: capacity::cost(instance, entries),
-        min_working_days: working_days::cost(instance, entries),
-        compactness: compactness::cost(instance, entries),
-        room_stability: stability::cost(instance, entries),
+        min_working_days: working_days::cost(instance, &by_course),
+        compactness: compactness::cost(instance, &by_course),
+        room_stability: stability::cost(instance, &by_course),
     }
 }

@@ -15,7 +15,7 @@ pub fn in_week(instance: &Instance<'_>) -> u32
 }
 
 /// The number of an entry's period.
-#[tactic(auto, using(crate::proofs::Numbering::number_below_week))]
+#[tactic(auto, using(tt_table::proofs::Numbering::number_below_week))]
 pub fn number(instance: &Instance<'_>, entry: &Entry) -> usize
     requires { InRange instance.now entry.now }
     ensures value { result ≡ entry.now.day * instance.now.periods + entry.now.period }

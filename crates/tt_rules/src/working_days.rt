@@ -3,48 +3,46 @@
 ghost use Rattle.std.specs.Prelude.{◌≡◌, ◌<◌, ◌≤◌, ◌^◌, length, All};
 ghost use Rattle.tt_instance.specs.Cells.{InRange};
 ghost use Rattle.tt_rules.specs.Soft.{days_of, days_cost, days_count};
+ghost use Rattle.tt_table.specs.declared.groups.GroupBy.TheVariants as by;
 
-use crate::marks::Marks;
+use crate::distinct;
 use tt_instance::Instance;
-use tt_table::Entry;
+use tt_table::Groups;
 
 /// The days on which the course is taught.
-#[tactic(auto, using(std::proofs::lemmas::List::Folds::list_any_more))]
-fn days_of(instance: &Instance<'_>, entries: &[Entry], course: u32) -> u64
-    requires { All (InRange instance.now) entries.now }
-    ensures { result ≡ days_of instance.now entries.now course }
+fn days_of(instance: &Instance<'_>, by_course: &Groups<'_>, course: u32) -> u64
+    requires by { by_course.now.by ≡ by.Course }
+    requires course { course < 2048 }
+    requires in_range { All (InRange instance.now) by_course.now.entries }
+    ensures { result ≡ days_of instance.now by_course.now.entries course }
 {
-    let days = instance.days();
-    let mut marks = Marks::none();
-    for entry in entries {
-        if entry.course == course {
-            marks.add(entry.day as usize);
-        }
-    }
-    marks.count(days)
+    distinct::days(instance, by_course.of_course(course))
 }
 
 /// The cost of a course.
-fn cost_of(instance: &Instance<'_>, entries: &[Entry], course: u32) -> u64
+fn cost_of(instance: &Instance<'_>, by_course: &Groups<'_>, course: u32) -> u64
+    requires by { by_course.now.by ≡ by.Course }
     requires course { course < length instance.now.courses }
-    requires in_range { All (InRange instance.now) entries.now }
-    ensures cost { result ≡ days_cost instance.now entries.now course }
+    requires in_range { All (InRange instance.now) by_course.now.entries }
+    ensures cost { result ≡ days_cost instance.now by_course.now.entries course }
     ensures few { result ≤ 2560 }
 {
-    let days = days_of(instance, entries, course);
+    let _courses = instance.courses();
+    let days = days_of(instance, by_course, course);
     5 * u64::from(instance.min_days(course)).saturating_sub(days)
 }
 
 /// The cost of all courses.
 #[tactic(auto, using(tt_lists::proofs::Numbers::sum_more))]
-pub fn cost(instance: &Instance<'_>, entries: &[Entry]) -> u64
-    requires { All (InRange instance.now) entries.now }
-    ensures cost { result ≡ days_count instance.now entries.now }
+pub fn cost(instance: &Instance<'_>, by_course: &Groups<'_>) -> u64
+    requires by { by_course.now.by ≡ by.Course }
+    requires in_range { All (InRange instance.now) by_course.now.entries }
+    ensures cost { result ≡ days_count instance.now by_course.now.entries }
     ensures within { result ≤ 2 ^ 40 }
 {
     let mut total: u64 = 0;
     for course in 0..instance.courses() {
-        total += cost_of(instance, entries, course);
+        total += cost_of(instance, by_course, course);
     }
     total
 }

@@ -7,10 +7,9 @@ use Rattle.tt_text.specs.Tokens.{Placed, tokens_of}
 use Rattle.tt_text.specs.Texts.{index_of_name}
 use Rattle.tt_text.specs.Numbers.{number_of}
 use Rattle.tt_text.specs.Pieces.{Piece, Text, Number, Begins}
-use Rattle.tt_text.specs.Reading.{◌>>=◌}
 use Rattle.tt_text.specs.declared.numbers.NumberFault.{NumberFault}
 use Rattle.tt_text.specs.declared.numbers.NumberFault.TheVariants as number
-use Rattle.tt_text.proofs.Steps.{done, ok_is, bind_ok, bind_is, Takes, takes_then}
+use Rattle.tt_text.proofs.Steps.{done, ok_is, bind_ok, Takes, takes_then}
 use Rattle.tt_text.proofs.Fields.{ReadsOn, takes_piece, has_piece, number_spelled, number_read}
 use Rattle.tt_instance.specs.Problem.{Problem}
 use Rattle.tt_instance.specs.Cells.{InRange}

@@ -1,3 +1,5 @@
 pub mod EntryLaws
+pub mod Grouping
 pub mod Loops
+pub mod Numbering
 pub mod WrittenLaws

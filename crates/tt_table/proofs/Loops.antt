@@ -1,5 +1,5 @@
 -- One turn of the loop that reads entries.
-use Rattle.std.proofs.Common.{◌≡◌, ℕ, zero, suc, ◌-◌, ◌+◌, ◌≤◌, ◌<◌, List, [], ◌∷◌, ◌++◌, length, Result, Ok, Err, refl, sym, ap, ◌∙◌, arith}
+use Rattle.std.proofs.Common.{◌≡◌, ℕ, suc, List, [], ◌∷◌, ◌++◌, Ok, Err, refl, sym}
 use Rattle.tt_text.specs.Tokens.{Placed}
 use Rattle.tt_text.specs.Reading.{◌>>=◌}
 use Rattle.tt_text.proofs.Steps.{fails_then, fails_as}

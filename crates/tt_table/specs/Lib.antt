@@ -1,3 +1,4 @@
+pub mod Groups
 pub mod Reading
 pub mod Spelling
 pub mod Table

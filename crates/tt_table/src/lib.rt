@@ -2,11 +2,13 @@
 #![tactic(auto)]
 
 mod fault;
+mod groups;
 mod reading;
 mod table;
 mod writing;
 
 pub use fault::{PushFault, SolutionFault};
+pub use groups::{Group, GroupBy, Groups};
 pub use reading::read_solution;
 pub use table::{MAX_ENTRIES, Timetable};
 pub use tt_instance::Cell as Entry;

@@ -1,6 +1,6 @@
 //! Lists of entries.
 
-ghost use Rattle.std.specs.Prelude.{◌≡◌, ◌<◌, ◌≤◌, ◌↔◌, [], ◌∷◌, ◌++◌, length, slice_get, Some, IsTrue, All, IfOk, OnOk, OnErr, IsErrOf, IsOkUnless};
+ghost use Rattle.std.specs.Prelude.{◌≡◌, ◌<◌, ◌≤◌, ◌↔◌, [], ◌∷◌, ◌++◌, length, slice_get, slice_set, Some, IsTrue, All, IfOk, OnOk, OnErr, IsErrOf, IsOkUnless};
 ghost use Rattle.tt_instance.specs.Cells.{InRange};
 ghost use Rattle.tt_table.specs.Table.{IsTimetable};
 
@@ -102,6 +102,14 @@ impl Timetable {
             return Err(PushFault::OutOfMemory);
         }
         Ok(())
+    }
+
+    /// Puts an entry at a place, for the one that is there.
+    pub fn set(&mut self, place: usize, entry: Entry)
+        requires { place < length self.old }
+        ensures { self.new ≡ slice_set self.old place entry }
+    {
+        self.entries[place] = entry;
     }
 
     /// The same list once more.

@@ -12,12 +12,22 @@ mod faults;
 #[cfg(test)]
 mod files;
 #[cfg(test)]
+mod leaves;
+#[cfg(test)]
+mod occupancy;
+#[cfg(test)]
+mod paths;
+#[cfg(test)]
 mod reading;
 #[cfg(test)]
 mod refusing;
 #[cfg(test)]
+mod reports;
+#[cfg(test)]
 mod samples;
 #[cfg(test)]
 mod tables;
+#[cfg(test)]
+mod trees;
 #[cfg(test)]
 mod validating;

@@ -19,6 +19,18 @@ pub const LONG: &str =
 pub const WIDE: &str =
     "Name: Wide\nCourses: 1\nRooms: 1\nDays: 5\nPeriods_per_day: 1\nCurricula: 0\nConstraints: 0\n\nCOURSES:\na t1 2 3 10\n\nROOMS:\nR 11\n\nCURRICULA:\n\nUNAVAILABILITY_CONSTRAINTS:\n\nEND.\n";
 
+/// Two courses that exclude each other by nothing, and one room in one period.
+pub const APART: &str =
+    "Name: Apart\nCourses: 2\nRooms: 1\nDays: 1\nPeriods_per_day: 1\nCurricula: 0\nConstraints: 0\n\nCOURSES:\nx t1 1 1 1\ny t2 1 1 1\n\nROOMS:\nA 10\n\nCURRICULA:\n\nUNAVAILABILITY_CONSTRAINTS:\n\nEND.\n";
+
+/// Two courses of one teacher, and two rooms in one period.
+pub const SAME: &str =
+    "Name: Same\nCourses: 2\nRooms: 2\nDays: 1\nPeriods_per_day: 1\nCurricula: 0\nConstraints: 0\n\nCOURSES:\nx t 1 1 1\ny t 1 1 1\n\nROOMS:\nA 10\nB 10\n\nCURRICULA:\n\nUNAVAILABILITY_CONSTRAINTS:\n\nEND.\n";
+
+/// Two courses, and two rooms in one period, of which one is too small for either.
+pub const SEATS: &str =
+    "Name: Seats\nCourses: 2\nRooms: 2\nDays: 1\nPeriods_per_day: 1\nCurricula: 0\nConstraints: 0\n\nCOURSES:\nx t1 1 1 10\ny t2 1 1 10\n\nROOMS:\nA 10\nB 5\n\nCURRICULA:\n\nUNAVAILABILITY_CONSTRAINTS:\n\nEND.\n";
+
 /// Three courses in one curriculum, and one room in one period.
 pub const TRIO: &str =
     "Name: Trio\nCourses: 3\nRooms: 1\nDays: 1\nPeriods_per_day: 1\nCurricula: 1\nConstraints: 0\n\nCOURSES:\nx t1 1 1 1\ny t2 1 1 1\nz t3 1 1 1\n\nROOMS:\nA 10\n\nCURRICULA:\nq 3 x y z\n\nUNAVAILABILITY_CONSTRAINTS:\n\nEND.\n";

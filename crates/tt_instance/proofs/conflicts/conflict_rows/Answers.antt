@@ -1,15 +1,19 @@
-use Rattle.std.proofs.Common.{◌≡◌, Bool, List, [], false, get_or, sym, ap, ◌∙◌, inl, inr, arith}
-use Rattle.std.proofs.lemmas.Bool.{cases_lt}
-use Rattle.std.proofs.lemmas.List.{get_or_past}
-use Rattle.tt_instance.proofs.Excluding.{nothing_past}
+use Rattle.std.proofs.Common.{sym, subst}
+use Rattle.tt_instance.specs.Indexed.{IsSquare}
+use Rattle.tt_instance.proofs.Excluding.{teacher_rows_square, members_have_rows, rows_told}
 use Rattle.tt_instance.proofs.conflicts.conflict_rows.Goals as goal
+
+pub add_curricula-requires-clause-square : goal.add_curricula-requires-clause-square
+add_curricula-requires-clause-square c =
+    subst IsSquare (sym c.in_ok-rows.ensures) (teacher_rows_square c.deref.result.now)
+
+pub add_curricula-requires-clause-within : goal.add_curricula-requires-clause-within
+add_curricula-requires-clause-within c =
+    members_have_rows c.args.parts.now c.deref.result.now c.deref-2.result.now c.in_ok-rows.rows.items
+    c.requires c.deref.ensures.value c.deref-2.ensures.value c.in_ok-rows.ensures
 
 pub returns : goal.returns
 returns c = record {
-  told = λ a b. elim (cases_lt a c.loop-course.course) [
-    | inl lt ↦ c.loop-course.invariant.told a b lt
-    | inr le ↦
-        let none : get_or c.loop-course.rows.items a [] ≡ [] = get_or_past c.loop-course.rows.items a [] (omega (arith, c.loop-course.invariant.len)) in
-        ap (λ (row : List Bool). get_or row b false) none ∙ sym (nothing_past c.args.parts.now a b c.requires (omega (arith, c.len-course-end.ensures)))
-  ];
+  told = rows_told c.args.parts.now c.deref.result.now c.deref-2.result.now c.in_ok-rows.rows.items c.add_curricula.new.rows.items c.clear_own.new.rows.items
+      c.requires c.deref.ensures.value c.deref-2.ensures.value c.in_ok-rows.ensures c.add_curricula.ensures.marked c.clear_own.ensures;
 }

@@ -19,7 +19,7 @@ returns-then-not-course_dead g c =
     let course = c.loop-course.course in
     let there : course < length p.courses = omega (arith, ap (λ q. length q.courses) c.instance-instance.ensures) in
     all_stops (off_or_dead p path pattern) (length p.courses) course there
-    (alive (is_who p pattern.who course) (course_dead p path pattern course) (c.if-is_who.ensures ∙ ap (λ q. is_who q pattern.who course) c.instance-instance.ensures) c.if-not-course_dead.ensures)
+    (alive (is_who p pattern.who course) (course_dead p path pattern course) (c.if-includes.ensures ∙ ap (λ q. is_who q pattern.who course) c.instance-instance.ensures) c.if-not-course_dead.ensures)
     ∙ sym (all_dead-by_course p path pattern)
 
 pub returns : goal.returns

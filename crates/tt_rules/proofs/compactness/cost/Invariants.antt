@@ -6,6 +6,6 @@ use Rattle.tt_rules.proofs.compactness.cost.Given as goal
 
 abbrev pub invariant-loop-curriculum : goal.invariant-loop-curriculum
 invariant-loop-curriculum l = record {
-  summed : l.total ≡ sum_by (compactness_cost l.instance l.entries) (numbers_below l.curriculum);
+  summed : l.total ≡ sum_by (compactness_cost l.instance l.by_course.entries) (numbers_below l.curriculum);
   few : l.total ≤ l.curriculum * 32768;
 }

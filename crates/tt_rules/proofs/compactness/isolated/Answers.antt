@@ -1,26 +1,32 @@
-use Rattle.std.proofs.Common.{◌≡◌, ◌&&◌, Bool, get_or, sym, ◌∙◌, arith}
-use Rattle.std.proofs.lemmas.List.Sums.{count_by_more_yes, count_by_more_no}
+use Rattle.std.proofs.Common.{◌≡◌, ℕ, ◌<◌, ◌&&◌, false, All, slice_index_or, sum_by, count_by, subst, sym}
+use Rattle.std.specs.Prelude.{◌==◌}
+use Rattle.std.specs.List.{list_any}
+use Rattle.tt_instance.specs.Cells.{is_of}
 use Rattle.tt_instance.specs.Courses.{in_curriculum}
-use Rattle.tt_instance.specs.declared.cell.Cell.{Cell}
 use Rattle.tt_rules.specs.Soft.{is_isolated}
-use Rattle.tt_rules.proofs.Neighbours.{isolated_is}
+use Rattle.tt_rules.proofs.Filtered.{few_counted}
+use Rattle.tt_rules.specs.Places.{place_of, is_alone}
+use Rattle.tt_rules.proofs.Neighbours.{isolated_counted, members_few}
 use Rattle.tt_rules.proofs.compactness.isolated.Goals as goal
-use Rattle.tt_rules.proofs.compactness.isolated.Goals.{then-is_isolated, else-is_isolated}
 
-pub loop-entry-preserved : goal.loop-entry-preserved
-loop-entry-preserved c =
+pub taught-taught-requires-clause-courses : goal.taught-taught-requires-clause-courses
+taught-taught-requires-clause-courses c =
+    subst (All (λ a. a < 2048)) (sym c.members-members.ensures.value) (members_few c.args.instance.now c.args.curriculum c.days-days.ensures.instance c.requires.curriculum)
+
+pub alone_of-requires-clause-courses : goal.alone_of-requires-clause-courses
+alone_of-requires-clause-courses c =
+    subst (All (λ a. a < 2048)) (sym c.members-members.ensures.value) (members_few c.args.instance.now c.args.curriculum c.days-days.ensures.instance c.requires.curriculum)
+
+pub returns-clause-count : goal.returns-clause-count
+returns-clause-count c =
     let p = c.args.instance.now in
-    let t = c.args.entries.now in
-    let i = c.loop-entry.entry-index in
-    let none : Cell = record { course = 0; room = 0; day = 0; period = 0 } in
-    let counted : Cell → Bool = λ e. in_curriculum p c.args.curriculum e.course && is_isolated p t c.args.curriculum e in
-    let test : c.is_isolated.result ≡ counted (get_or t i none) =
-    c.is_isolated.ensures ∙ isolated_is p t c.args.curriculum c.members_of-members.result c.taught-taught.result (get_or t i none) c.requires (c.requires i none c.loop-entry-test.true) c.members_of-members.ensures c.taught-taught.ensures in
-    elim c.if-is_isolated.branch [
-      | then-is_isolated w ↦
-          let more = count_by_more_yes counted t i none c.loop-entry-test.true (sym test ∙ w.if-is_isolated.true) in
-          record { counted = omega arith; few = omega arith }
-      | else-is_isolated w ↦
-          let more = count_by_more_no counted t i none c.loop-entry-test.true (sym test ∙ w.if-is_isolated.false) in
-          record { counted = omega arith; few = omega arith }
-    ]
+    let t = c.args.by_course.now.entries in
+    isolated_counted p t c.args.curriculum c.taught-taught.result c.alone_of.result c.days-days.ensures.instance c.requires.curriculum c.requires.in_range
+    (subst (λ cs. (k : ℕ) → slice_index_or c.taught-taught.result k false ≡ list_any (λ a. list_any (λ e. is_of a e && (place_of p e == k)) t) cs) c.members-members.ensures.value c.taught-taught.ensures)
+    (subst (λ cs. c.alone_of.result ≡ sum_by (λ a. count_by (λ e. is_of a e && is_alone p c.taught-taught.result e) t) cs) c.members-members.ensures.value c.alone_of.ensures.count)
+
+pub returns-clause-few : goal.returns-clause-few
+returns-clause-few c =
+    let p = c.args.instance.now in
+    let t = c.args.by_course.now.entries in
+    few_counted (λ e. in_curriculum p c.args.curriculum e.course && is_isolated p t c.args.curriculum e) t c.alone_of.result (returns-clause-count c)

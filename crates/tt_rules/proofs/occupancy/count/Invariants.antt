@@ -7,6 +7,6 @@ use Rattle.tt_rules.proofs.occupancy.count.Given as goal
 
 abbrev pub invariant-loop-room : goal.invariant-loop-room
 invariant-loop-room l = record {
-  summed : l.total ≡ sum_by (λ r. sum_by (λ s. entries_in l.entries r s - 1) (all_slots l.instance)) (numbers_below l.room);
+  summed : l.total ≡ sum_by (λ r. sum_by (λ s. entries_in l.by_room.entries r s - 1) (all_slots l.instance)) (numbers_below l.room);
   few : l.total ≤ l.room * 16384;
 }

@@ -6,6 +6,6 @@ use Rattle.tt_rules.proofs.stability.cost.Given as goal
 
 abbrev pub invariant-loop-course : goal.invariant-loop-course
 invariant-loop-course l = record {
-  summed : l.total ≡ sum_by (stability_cost l.instance l.entries) (numbers_below l.course);
+  summed : l.total ≡ sum_by (stability_cost l.instance l.by_course.entries) (numbers_below l.course);
   few : l.total ≤ l.course * 512;
 }

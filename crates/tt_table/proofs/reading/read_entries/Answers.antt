@@ -1,10 +1,8 @@
-use Rattle.std.proofs.Common.{◌≡◌, ◌-◌, ◌+◌, ◌≤◌, ◌<◌, suc, length, ◌∙◌, sym, ap, [], ◌∷◌, refl, arith, ℕ, List}
+use Rattle.std.proofs.Common.{◌≡◌, ◌-◌, ◌+◌, suc, length, ◌∙◌, sym, ap, [], ◌∷◌, refl, arith, ℕ}
 use Rattle.std.proofs.lemmas.Result.{err_from_is_err_and}
 use Rattle.std.proofs.lemmas.List.{length-append}
-use Rattle.tt_instance.specs.declared.cell.Cell.{Cell}
 use Rattle.tt_table.specs.Reading.{is_silent, entries_at, solution_of}
 use Rattle.tt_text.proofs.Steps.{fails_as}
-use Rattle.tt_text.specs.Tokens.{tokens_of}
 use Rattle.tt_table.proofs.Loops.{entries_none, entries_step, entries_full, entries_fail}
 use Rattle.tt_table.proofs.reading.read_entries.Goals as goal
 

@@ -1,6 +1,3 @@
-use Rattle.std.proofs.Common.{◌≡◌, List, ◌∙◌, subst, sym}
-use Rattle.tt_instance.specs.declared.cell.Cell.{Cell}
-use Rattle.tt_table.specs.Reading.{Gives}
 use Rattle.tt_table.proofs.EntryLaws.{found_in, fits_in, solution_read}
 use Rattle.tt_table.proofs.reading.read_solution.Goals as goal
 

@@ -1,5 +1,4 @@
-use Rattle.std.proofs.Common.{length, ap, arith, ◌≤◌, rules}
-use Rattle.std.specs.Prelude.{IfOk}
+use Rattle.std.proofs.Common.{length, ap, arith, ◌≤◌}
 use Rattle.tt_table.proofs.WrittenLaws.{again_in}
 use Rattle.tt_table.proofs.writing.write_solution.Goals as goal
 

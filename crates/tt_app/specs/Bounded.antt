@@ -1,0 +1,51 @@
+-- What `bound` answers of the bytes of an instance and of a proof.
+use Rattle.std.specs.Prelude.{◌≡◌, ℕ, ◌⊎◌, List, Option, None, Result, Ok, Err, IfSome, ⊤}
+use Rattle.tt_instance.specs.Problem.{Problem}
+use Rattle.tt_instance.specs.Reading.{instance_of}
+use Rattle.tt_instance.specs.Spelling.{Spells}
+use Rattle.tt_leaf.specs.declared.leaf.Bound.{Bound}
+use Rattle.tt_proof_check.specs.Derives.{HoldsOfAll}
+use Rattle.tt_proof_check.specs.Streams.{IsProved, stream_of, TellsOf}
+use Rattle.tt_proof_check.specs.declared.fault.CheckFault.{CheckFault}
+use Rattle.tt_app.specs.Checked.{NoFiles, read_failed}
+use Rattle.tt_app.specs.Lines.{bound_line}
+use Rattle.tt_app.specs.declared.answer.Answer.{Answer}
+use Rattle.tt_app.specs.declared.fault.AppFault.{AppFault}
+use Rattle.tt_app.specs.declared.fault.AppFault.TheVariants as fault
+
+pub record IsBoundAnswer (a : Answer) (b : Bound) : Type 0 where
+  pub text : a.out.items ≡ bound_line b
+  pub status : a.status ≡ 0
+  pub no_files : NoFiles a
+
+-- the proof derives the bound, where its reader tells its bytes, and the bound holds
+pub record IsBounded (instance : List ℕ) (proof : Option (List ℕ)) (a : Answer) : Type 0 where
+  pub problem : Problem
+  pub spelled : Spells instance problem
+  pub bound : Bound
+  pub proved : IfSome proof (λ bytes. IsProved problem bytes bound)
+  pub holds : HoldsOfAll problem bound
+  pub answer : IsBoundAnswer a bound
+
+-- the bytes spell an instance, and those of the proof have this fault
+pub record FailsAlone (instance : List ℕ) (proof : Option (List ℕ)) (f : CheckFault) : Type 0 where
+  pub problem : Problem
+  pub spelled : Spells instance problem
+  pub fails : IfSome proof (λ bytes. TellsOf problem (stream_of bytes) f)
+
+-- a refusal tells the first fault: the instance's, then the proof's
+abbrev pub TellsOfBound : List ℕ → Option (List ℕ) → AppFault → Type 0
+TellsOfBound i proof (fault.Instance f) = instance_of i ≡ Err f
+TellsOfBound i proof (fault.Proof f) = FailsAlone i proof f
+TellsOfBound i proof fault.OutOfMemory = ⊤
+TellsOfBound i proof _ = ⊥
+
+-- the instance is refused
+abbrev pub IsOfInstance : AppFault → Type 0
+IsOfInstance (fault.Instance f) = ⊤
+IsOfInstance _ = ⊥
+
+-- this bound, unless memory runs out or a read of the proof fails
+abbrev pub AnswersBound : Result Answer AppFault → Bound → Type 0
+AnswersBound (Ok a) b = IsBoundAnswer a b
+AnswersBound (Err f) b = (f ≡ fault.OutOfMemory) ⊎ (f ≡ read_failed)

@@ -1,0 +1,6 @@
+pub mod Examples
+pub mod Free
+pub mod Holding
+pub mod Places
+pub mod Swapping
+pub mod Turned

@@ -1,0 +1,11 @@
+//! Kempe chains: entries of two periods that change places together.
+#![tactic(auto)]
+
+mod kempe;
+mod seeking;
+mod spreading;
+mod turning;
+
+pub use kempe::{Chain, ChainFault};
+pub use seeking::chain;
+pub use turning::swap_chain;

@@ -1,0 +1,11 @@
+pub mod Adding
+pub mod Against
+pub mod Bags
+pub mod Chosen
+pub mod Compact
+pub mod Differ
+pub mod Examples
+pub mod Exchange
+pub mod Neighbours
+pub mod Same
+pub mod Sizes

@@ -1,0 +1,27 @@
+-- The entries of a curriculum's courses round a period of a day.
+use Rattle.std.specs.Prelude.{ℕ, ◌+◌, ◌-◌, Bool, cond, not, ◌&&◌, ◌||◌, List, count_by, nat_lt}
+use Rattle.std.specs.List.{list_any}
+use Rattle.tt_instance.specs.Problem.{Problem}
+use Rattle.tt_instance.specs.Cells.{slot, is_at}
+use Rattle.tt_instance.specs.Courses.{in_curriculum}
+use Rattle.tt_instance.specs.declared.cell.Cell.{Cell}
+
+-- how many entries of the curriculum stand in the period
+abbrev pub standing : Problem → List Cell → ℕ → ℕ → ℕ → ℕ
+standing p u q d s = count_by (λ e. in_curriculum p q e.course && is_at (slot d s) e) u
+
+-- some entry of the curriculum stands in the period
+abbrev pub stands : Problem → List Cell → ℕ → ℕ → ℕ → Bool
+stands p u q d s = list_any (λ e. in_curriculum p q e.course && is_at (slot d s) e) u
+
+-- and in a period next to it
+abbrev pub stands_beside : Problem → List Cell → ℕ → ℕ → ℕ → Bool
+stands_beside p u q d s = stands p u q d (s + 1) || (nat_lt 0 s && stands p u q d (s - 1))
+
+-- the isolated entries in the period before, which an entry of the curriculum in this period would join
+abbrev pub joined_before : Problem → List Cell → ℕ → ℕ → ℕ → ℕ
+joined_before p u q d s = cond (nat_lt 0 s && not (stands_beside p u q d (s - 1))) (standing p u q d (s - 1)) 0
+
+-- and those in the period after
+abbrev pub joined_after : Problem → List Cell → ℕ → ℕ → ℕ → ℕ
+joined_after p u q d s = cond (not (stands_beside p u q d (s + 1))) (standing p u q d (s + 1)) 0

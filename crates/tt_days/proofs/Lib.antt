@@ -1,9 +1,0 @@
-pub mod Answering
-pub mod ClaimLaws
-pub mod Claiming
-pub mod Distinct
-pub mod Examples
-pub mod FieldLaws
-pub mod Leaf
-pub mod Live
-pub mod ProofLaws

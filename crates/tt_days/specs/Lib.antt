@@ -1,3 +1,0 @@
-pub mod Days
-pub mod Reading
-pub mod Verdicts

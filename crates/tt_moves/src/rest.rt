@@ -1,0 +1,184 @@
+//! A timetable less an entry, read without writing.
+
+ghost use Rattle.std.specs.Prelude.{◌≡◌, ◌+◌, ◌-◌, ◌<◌, ◌≤◌, ◌==◌, ◌&&◌, true, cond, List, ◌∷◌, length};
+ghost use Rattle.tt_instance.specs.Cells.{InRange, slot, slot_of, is_at, is_in};
+ghost use Rattle.tt_instance.specs.Courses.{in_curriculum, conflict};
+ghost use Rattle.tt_instance.specs.declared.cell.Cell.{Cell};
+ghost use Rattle.tt_rules.specs.Soft.{days_of};
+ghost use Rattle.tt_tallies.specs.Tallies.{rooms_of};
+ghost use Rattle.tt_change.specs.Standing.{standing};
+ghost use Rattle.tt_change.specs.Weight.{repeats, shares, against};
+ghost use Rattle.tt_moves.specs.Rests.{IsRest};
+
+use tt_instance::Instance;
+use tt_occupancy::Occupied;
+use tt_table::Entry;
+
+/// The entries of a timetable, but that one may stand elsewhere and one is left out.
+#[derive(Clone, Copy)]
+pub struct Rest<'b, 'a, 'i> {
+    pub occupied: &'b Occupied<'a, 'i>,
+    /// The entry that stands elsewhere.
+    pub from: Entry,
+    /// That entry in its new place.
+    pub to: Entry,
+    /// The entry left out.
+    pub gone: Entry,
+}
+
+/// Whether an entry stands in a period.
+fn stands_at(entry: Entry, day: u32, period: u32) -> bool
+    ensures { result ≡ is_at (slot day period) entry }
+{
+    entry.day == day && entry.period == period
+}
+
+/// Whether an entry stands in the room and the period of another one.
+fn stands_in(entry: Entry, place: Entry) -> bool
+    ensures { result ≡ (is_in place.room entry && is_at (slot_of place) entry) }
+{
+    entry.room == place.room && stands_at(entry, place.day, place.period)
+}
+
+/// Whether an entry stands in the period of another one, and their courses exclude each other.
+fn collides(instance: &Instance<'_>, entry: Entry, place: Entry) -> bool
+    ensures { result ≡ (conflict instance.now place.course entry.course && is_at (slot_of place) entry) }
+{
+    instance.conflict(place.course, entry.course) && stands_at(entry, place.day, place.period)
+}
+
+/// 1 or 0.
+pub fn one_if(test: bool) -> u32
+    ensures { result ≡ cond test 1 0 }
+{
+    u32::from(test)
+}
+
+/// A count over the timetable, as one over the rest.
+fn adjusted(count: u32, to: bool, from: bool, gone: bool) -> u32
+    requires few { count ≤ 16384 }
+    requires enough { cond from 1 0 + cond gone 1 0 ≤ count + cond to 1 0 }
+    ensures value { result + cond from 1 0 + cond gone 1 0 ≡ count + cond to 1 0 }
+    ensures few { result ≤ 16385 }
+{
+    count + one_if(to) - one_if(from) - one_if(gone)
+}
+
+/// The places used, once an entry of one place stands in another.
+fn used_anew(used: u32, at_old: u32, at_new: u32, is_same: bool) -> u32
+    requires few { used ≤ 512 }
+    requires some { cond (at_old == 1) 1 0 ≤ used }
+    requires counted { cond is_same 1 0 ≤ at_new }
+    ensures value { result ≡ (used - cond (at_old == 1) 1 0)
+        + cond ((at_new - cond is_same 1 0) == 0) 1 0 }
+    ensures few { result ≤ 513 }
+{
+    used - one_if(at_old == 1) + one_if(at_new - one_if(is_same) == 0)
+}
+
+impl Rest<'_, '_, '_> {
+    /// The entries of a curriculum of the course left out, in a period; none past the day's end.
+    pub fn standing(&self, curriculum: u32, other: bool, day: u32, period: u32) -> u32
+        requires curriculum { curriculum < length self.now.occupied.now.problem.curricula }
+        requires day { day < self.now.occupied.now.problem.days }
+        requires gone { in_curriculum self.now.occupied.now.problem curriculum self.now.gone.course ≡ true }
+        // Whether the course that may stand elsewhere belongs to the curriculum too.
+        requires other { other ≡ in_curriculum self.now.occupied.now.problem curriculum self.now.from.course }
+        requires rest { (u : List Cell) × IsRest self.now u }
+        ensures value { (u : List Cell) → IsRest self.now u
+            → result ≡ standing self.now.occupied.now.problem u curriculum day period }
+        ensures few { result ≤ 16385 }
+    {
+        if period >= self.occupied.instance().periods() {
+            return 0;
+        }
+        adjusted(
+            self.occupied.of_curriculum(curriculum, day, period),
+            other && stands_at(self.to, day, period),
+            other && stands_at(self.from, day, period),
+            stands_at(self.gone, day, period),
+        )
+    }
+
+    /// Whether an entry of the course left out would share a period with another one of it.
+    pub fn repeats(&self, entry: Entry) -> bool
+        requires in_range { InRange self.now.occupied.now.problem entry }
+        requires course { entry.course ≡ self.now.gone.course }
+        requires rest { (u : List Cell) × IsRest self.now u }
+        ensures { (u : List Cell) → IsRest self.now u → result ≡ repeats u entry }
+    {
+        let count = self
+            .occupied
+            .of_course(entry.course, entry.day, entry.period);
+        count > one_if(stands_at(self.gone, entry.day, entry.period))
+    }
+
+    /// Whether an entry of the course left out would share a room with another one.
+    pub fn shares(&self, entry: Entry) -> bool
+        requires in_range { InRange self.now.occupied.now.problem entry }
+        requires rest { (u : List Cell) × IsRest self.now u }
+        ensures { (u : List Cell) → IsRest self.now u → result ≡ shares u entry }
+    {
+        let count = self.occupied.in_room(entry.room, entry.day, entry.period);
+        adjusted(
+            count,
+            stands_in(self.to, entry),
+            stands_in(self.from, entry),
+            stands_in(self.gone, entry),
+        ) > 0
+    }
+
+    /// The entries with which an entry would collide.
+    pub fn against(&self, entry: Entry) -> u32
+        requires in_range { InRange self.now.occupied.now.problem entry }
+        requires rest { (u : List Cell) × IsRest self.now u }
+        ensures value { (u : List Cell) → IsRest self.now u
+            → result ≡ against self.now.occupied.now.problem u entry }
+        ensures few { result ≤ 16385 }
+    {
+        let instance = self.occupied.instance();
+        let count = self
+            .occupied
+            .opposing(entry.course, entry.day, entry.period);
+        adjusted(
+            count,
+            collides(instance, self.to, entry),
+            collides(instance, self.from, entry),
+            collides(instance, self.gone, entry),
+        )
+    }
+
+    /// The days of the course left out, with an entry of it.
+    pub fn days_with(&self, entry: Entry) -> u32
+        requires in_range { InRange self.now.occupied.now.problem entry }
+        requires course { entry.course ≡ self.now.gone.course }
+        requires rest { (u : List Cell) × IsRest self.now u }
+        ensures value { (u : List Cell) → IsRest self.now u
+            → result ≡ days_of self.now.occupied.now.problem (entry ∷ u) entry.course }
+        ensures few { result ≤ 513 }
+    {
+        used_anew(
+            self.occupied.days_used(entry.course),
+            self.occupied.on_day(entry.course, self.gone.day),
+            self.occupied.on_day(entry.course, entry.day),
+            self.gone.day == entry.day,
+        )
+    }
+
+    /// The rooms of the course left out, with an entry of it.
+    pub fn rooms_with(&self, entry: Entry) -> u32
+        requires in_range { InRange self.now.occupied.now.problem entry }
+        requires course { entry.course ≡ self.now.gone.course }
+        requires rest { (u : List Cell) × IsRest self.now u }
+        ensures value { (u : List Cell) → IsRest self.now u
+            → result ≡ rooms_of self.now.occupied.now.problem (entry ∷ u) entry.course }
+        ensures few { result ≤ 513 }
+    {
+        used_anew(
+            self.occupied.rooms_used(entry.course),
+            self.occupied.course_in_room(entry.course, self.gone.room),
+            self.occupied.course_in_room(entry.course, entry.room),
+            self.gone.room == entry.room,
+        )
+    }
+}

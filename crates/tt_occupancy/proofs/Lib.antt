@@ -1,0 +1,4 @@
+pub mod Around
+pub mod Examples
+pub mod Exchanging
+pub mod Replaced

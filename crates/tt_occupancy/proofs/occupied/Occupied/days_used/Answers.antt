@@ -1,0 +1,19 @@
+use Rattle.std.proofs.Common.{◌<◌, length, sym, ap, ◌∙◌, subst, arith}
+use Rattle.tt_rules.specs.Soft.{days_of}
+use Rattle.tt_tallies.proofs.Spreads.{spread_free}
+use Rattle.tt_occupancy.specs.Filled.{Filled}
+use Rattle.tt_occupancy.proofs.occupied.Occupied.days_used.Goals as goal
+
+pub returns-clause-count : goal.returns-clause-count
+returns-clause-count c =
+    let course = subst (λ (z : Filled). c.args.course < length z.problem.courses) (sym c.self.view_is) c.requires in
+    c.from.ensures ∙ c.used.ensures ∙ c.self.invariant.tables.days.used c.args.course course
+    ∙ ap (λ (z : Filled). days_of z.problem z.entries c.args.course) c.self.view_is
+
+pub returns-clause-few : goal.returns-clause-few
+returns-clause-few c =
+    let s = c.self.inside in
+    let p = s.instance.now in
+    let course = subst (λ (z : Filled). c.args.course < length z.problem.courses) (sym c.self.view_is) c.requires in
+    let free = spread_free p.days (λ z. z.day) p s.table s.tables.days c.self.invariant.tables.days c.args.course course in
+    omega (arith, free, c.from.ensures, c.used.ensures, c.self.invariant.instance.within.days)

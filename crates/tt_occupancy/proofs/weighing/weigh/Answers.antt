@@ -1,0 +1,51 @@
+use Rattle.std.proofs.Common.{◌&&◌, length, ap, ◌∙◌, arith}
+use Rattle.std.specs.Prelude.{nat_lt}
+use Rattle.tt_lists.proofs.Sums.{one_if}
+use Rattle.tt_instance.specs.Cells.{slot_of, is_of, is_at, is_in}
+use Rattle.tt_instance.specs.Courses.{in_curriculum}
+use Rattle.tt_tallies.specs.Tallies.{of_curriculum}
+use Rattle.tt_tallies.proofs.Rows.{rows_below, passing_few}
+use Rattle.tt_occupancy.proofs.Around.{rows_alone, rows_joined}
+use Rattle.tt_change.proofs.Against.{against_is}
+use Rattle.tt_change.proofs.Chosen.{any_counted}
+use Rattle.tt_occupancy.proofs.weighing.weigh.Goals as goal
+
+pub gaps_round-gaps-requires-clause-rows : goal.gaps_round-gaps-requires-clause-rows
+gaps_round-gaps-requires-clause-rows c =
+    let p = c.args.instance.now in
+    let e = c.args.entry in
+    let r = c.requires.in_range in
+    let ok = c.requires.counted.1 in
+    let rows = c.curricula_of-curricula in
+    rows_below p (length p.curricula) (of_curriculum p) e rows.result.now (rows.ensures ∙ ok.links.curricula e.course r.course) r c.requires.counted.0 c.args.tables.now.curricula ok.curricula
+
+pub gaps_round-gaps-requires-clause-few : goal.gaps_round-gaps-requires-clause-few
+gaps_round-gaps-requires-clause-few c =
+    let p = c.args.instance.now in
+    let e = c.args.entry in
+    let ok = c.requires.counted.1 in
+    let rows = c.curricula_of-curricula in
+    let w = c.args.tables.now.curricula in
+    omega (arith, w.few, ok.curricula.rows, passing_few (λ q. in_curriculum p q e.course) (length p.curricula) rows.result.now (rows.ensures ∙ ok.links.curricula e.course c.requires.in_range.course))
+
+pub returns : goal.returns
+returns c = λ t timetable ok.
+    let p = c.args.instance.now in
+    let e = c.args.entry in
+    let r = c.requires.in_range in
+    let rows = c.curricula_of-curricula in
+    let are = rows.ensures ∙ ok.links.curricula e.course r.course in
+    let w = c.args.tables.now.curricula in
+    record {
+      repeats = c.one_if.ensures ∙ ap (λ n. one_if (nat_lt 0 n)) (c.get.ensures ∙ ok.courses.counts e.course e.day e.period r.course r.day r.period)
+          ∙ ap one_if (any_counted (λ z. is_of e.course z && is_at (slot_of e) z) t);
+      against = c.from.ensures ∙ c.get-2.ensures ∙ ok.opponents.counts e.course e.day e.period r.course r.day r.period ∙ against_is p t e;
+      barred = c.one_if-2.ensures ∙ ap one_if c.unavailable.ensures;
+      shares = c.one_if-3.ensures ∙ ap (λ n. one_if (nat_lt 0 n)) (c.get-3.ensures ∙ ok.rooms.counts e.room e.day e.period r.room r.day r.period)
+          ∙ ap one_if (any_counted (λ z. is_in e.room z && is_at (slot_of e) z) t);
+      excess = omega arith;
+      days = c.days_with.ensures t ok;
+      alone = c.gaps_round-gaps.ensures.alone ∙ rows_alone p t w timetable ok.curricula e r rows.result.now are;
+      joined = c.gaps_round-gaps.ensures.joined ∙ rows_joined p t w timetable ok.curricula e r rows.result.now are;
+      rooms = c.rooms_with.ensures t ok;
+    }

@@ -1,0 +1,18 @@
+-- What is kept of a list of entries.
+use Rattle.std.specs.Prelude.{◌≤◌, List, length}
+use Rattle.tt_instance.specs.Problem.{Problem}
+use Rattle.tt_instance.specs.Limits.{IsInstance}
+use Rattle.tt_instance.specs.declared.cell.Cell.{Cell}
+use Rattle.tt_table.specs.Table.{IsTimetable}
+use Rattle.tt_rules.specs.Score.{IsScore}
+use Rattle.tt_rules.specs.declared.counts.Score.{Score}
+use Rattle.tt_tallies.specs.Tables.{AreTables}
+use Rattle.tt_tallies.specs.declared.tables.Tables.{Tables}
+
+-- the tables and the score of a timetable of an instance
+pub record IsCounted (p : Problem) (t : List Cell) (x : Tables) (s : Score) : Type 0 where
+  pub instance : IsInstance p
+  pub in_range : IsTimetable p t
+  pub few : length t ≤ 16384
+  pub tables : AreTables p t x
+  pub score : IsScore p t s

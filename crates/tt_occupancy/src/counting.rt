@@ -1,0 +1,30 @@
+//! The tables of a whole list of entries.
+
+ghost use Rattle.std.specs.Prelude.{◌≤◌, length, IfOk};
+ghost use Rattle.tt_instance.specs.Limits.{IsInstance};
+ghost use Rattle.tt_table.specs.Table.{IsTimetable};
+ghost use Rattle.tt_tallies.specs.Tables.{AreTables};
+
+use std::alloc::{AllocError, Global};
+use tt_instance::Instance;
+use tt_table::Entry;
+use tt_tallies::Tables;
+
+/// The tables of the entries.
+pub fn tables_of(
+    alloc: Global,
+    instance: &Instance<'_>,
+    entries: &[Entry],
+) -> Result<Tables, AllocError>
+    requires in_range { IsTimetable instance.now entries.now }
+    requires few { length entries.now ≤ 16384 }
+    ensures tables { IfOk result (AreTables instance.now entries.now) }
+    // What is true of every instance.
+    ensures instance { IsInstance instance.now }
+{
+    let mut tables = Tables::new(alloc, instance)?;
+    for entry in entries {
+        tables.add(instance, *entry);
+    }
+    Ok(tables)
+}

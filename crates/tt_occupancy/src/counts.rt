@@ -1,0 +1,131 @@
+//! How many entries stand in a place.
+
+ghost use Rattle.std.specs.Prelude.{◌≡◌, ◌<◌, ◌≤◌, ◌&&◌, length, filter, count_by};
+ghost use Rattle.tt_instance.specs.Cells.{all_curricula, slot, is_of, is_at, is_in, is_on};
+ghost use Rattle.tt_instance.specs.Courses.{teachers, in_curriculum, conflict};
+ghost use Rattle.tt_rules.specs.Soft.{days_of};
+ghost use Rattle.tt_tallies.specs.Tallies.{teaches, rooms_of};
+
+use crate::occupied::Occupied;
+use tt_instance::Instance;
+
+impl<'a, 'i> Occupied<'a, 'i> {
+    /// The instance.
+    pub fn instance(&self) -> &'a Instance<'i>
+        ensures { result.now ≡ self.now.problem }
+    {
+        self.instance
+    }
+
+    /// The curricula of a course, each once.
+    pub fn curricula_of(&self, course: u32) -> &[u32]
+        requires { course < length self.now.problem.courses }
+        ensures { result.now ≡ filter (λ q. in_curriculum self.now.problem q course)
+            (all_curricula self.now.problem) }
+    {
+        self.tables.links.curricula_of(course)
+    }
+
+    /// The entries of a room in a period.
+    pub fn in_room(&self, room: u32, day: u32, period: u32) -> u32
+        requires room { room < length self.now.problem.rooms }
+        requires day { day < self.now.problem.days }
+        requires period { period < self.now.problem.periods }
+        ensures count { result
+            ≡ count_by (λ e. is_in room e && is_at (slot day period) e)
+            self.now.entries }
+        ensures few { result ≤ 16384 }
+    {
+        u32::from(self.tables.rooms.get(room, day, period))
+    }
+
+    /// The entries of a teacher in a period.
+    pub fn of_teacher(&self, teacher: u32, day: u32, period: u32) -> u32
+        requires teacher { teacher < length (teachers self.now.problem) }
+        requires day { day < self.now.problem.days }
+        requires period { period < self.now.problem.periods }
+        ensures count { result
+            ≡ count_by (λ e. teaches self.now.problem teacher e.course && is_at (slot day period) e)
+            self.now.entries }
+        ensures few { result ≤ 16384 }
+    {
+        u32::from(self.tables.teachers.get(teacher, day, period))
+    }
+
+    /// The entries of the courses of a curriculum in a period.
+    pub fn of_curriculum(&self, curriculum: u32, day: u32, period: u32) -> u32
+        requires curriculum { curriculum < length self.now.problem.curricula }
+        requires day { day < self.now.problem.days }
+        requires period { period < self.now.problem.periods }
+        ensures count { result
+            ≡ count_by (λ e. in_curriculum self.now.problem curriculum e.course && is_at (slot day period) e)
+            self.now.entries }
+        ensures few { result ≤ 16384 }
+    {
+        u32::from(self.tables.curricula.get(curriculum, day, period))
+    }
+
+    /// The entries of a course in a period.
+    pub fn of_course(&self, course: u32, day: u32, period: u32) -> u32
+        requires course { course < length self.now.problem.courses }
+        requires day { day < self.now.problem.days }
+        requires period { period < self.now.problem.periods }
+        ensures count { result
+            ≡ count_by (λ e. is_of course e && is_at (slot day period) e)
+            self.now.entries }
+        ensures few { result ≤ 16384 }
+    {
+        u32::from(self.tables.courses.get(course, day, period))
+    }
+
+    /// The entries of a period whose courses exclude a course.
+    pub fn opposing(&self, course: u32, day: u32, period: u32) -> u32
+        requires course { course < length self.now.problem.courses }
+        requires day { day < self.now.problem.days }
+        requires period { period < self.now.problem.periods }
+        ensures count { result
+            ≡ count_by (λ e. conflict self.now.problem course e.course && is_at (slot day period) e)
+            self.now.entries }
+        ensures few { result ≤ 16384 }
+    {
+        u32::from(self.tables.opponents.get(course, day, period))
+    }
+
+    /// The entries of a course on a day.
+    pub fn on_day(&self, course: u32, day: u32) -> u32
+        requires course { course < length self.now.problem.courses }
+        requires day { day < self.now.problem.days }
+        ensures count { result ≡ count_by (λ e. is_of course e && is_on day e) self.now.entries }
+        ensures few { result ≤ 16384 }
+    {
+        u32::from(self.tables.days.get(course, day))
+    }
+
+    /// The entries of a course in a room.
+    pub fn course_in_room(&self, course: u32, room: u32) -> u32
+        requires course { course < length self.now.problem.courses }
+        requires room { room < length self.now.problem.rooms }
+        ensures count { result ≡ count_by (λ e. is_of course e && is_in room e) self.now.entries }
+        ensures few { result ≤ 16384 }
+    {
+        u32::from(self.tables.halls.get(course, room))
+    }
+
+    /// The days on which a course is taught.
+    pub fn days_used(&self, course: u32) -> u32
+        requires { course < length self.now.problem.courses }
+        ensures count { result ≡ days_of self.now.problem self.now.entries course }
+        ensures few { result ≤ 64 }
+    {
+        u32::from(self.tables.days.used(course))
+    }
+
+    /// The rooms in which a course is taught.
+    pub fn rooms_used(&self, course: u32) -> u32
+        requires { course < length self.now.problem.courses }
+        ensures count { result ≡ rooms_of self.now.problem self.now.entries course }
+        ensures few { result ≤ 512 }
+    {
+        u32::from(self.tables.halls.used(course))
+    }
+}

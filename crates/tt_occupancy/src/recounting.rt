@@ -1,0 +1,34 @@
+//! The tables and the score of entries of which one is replaced.
+
+ghost use Rattle.std.specs.Prelude.{◌≡◌, List, ◌∷◌};
+ghost use Rattle.tt_instance.specs.Cells.{InRange};
+ghost use Rattle.tt_instance.specs.declared.cell.Cell.{Cell};
+ghost use Rattle.tt_occupancy.specs.Counted.{IsCounted};
+
+use crate::rescoring::rescored;
+use crate::weighing::weigh;
+use tt_instance::Instance;
+use tt_rules::Score;
+use tt_table::Entry;
+use tt_tallies::Tables;
+
+/// Counts another entry of its course in the place of one, and gives the score with it.
+pub fn recount(
+    instance: &Instance<'_>,
+    tables: &mut Tables,
+    score: Score,
+    from: Entry,
+    to: Entry,
+) -> Score
+    requires counted { (u : List Cell) × IsCounted instance.now (from ∷ u) tables.old score }
+    requires in_range { InRange instance.now to }
+    requires course { from.course ≡ to.course }
+    ensures { (u : List Cell) → IsCounted instance.now (from ∷ u) tables.old score
+        → IsCounted instance.now (to ∷ u) tables.new result }
+{
+    tables.take(instance, from);
+    let before = weigh(instance, tables, from);
+    let after = weigh(instance, tables, to);
+    tables.add(instance, to);
+    rescored(score, before, after)
+}

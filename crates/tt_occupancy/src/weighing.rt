@@ -1,0 +1,73 @@
+//! What an entry weighs beside a list of entries.
+
+ghost use Rattle.std.specs.Prelude.{◌≡◌, List, ◌∷◌, cond};
+ghost use Rattle.tt_instance.specs.Cells.{InRange};
+ghost use Rattle.tt_instance.specs.declared.cell.Cell.{Cell};
+ghost use Rattle.tt_table.specs.Table.{IsTimetable};
+ghost use Rattle.tt_rules.specs.Soft.{days_cost, stability_cost};
+ghost use Rattle.tt_tallies.specs.Tables.{AreTables};
+ghost use Rattle.tt_occupancy.specs.Weights.{IsWeight};
+
+use crate::gaps::gaps_round;
+use crate::weight::Weight;
+use tt_instance::Instance;
+use tt_table::Entry;
+use tt_tallies::Tables;
+
+/// 1 or 0.
+fn one_if(test: bool) -> u64
+    ensures { result ≡ cond test 1 0 }
+{
+    u64::from(test)
+}
+
+/// What the days of a course cost, with an entry of it more.
+fn days_with(instance: &Instance<'_>, tables: &Tables, entry: Entry) -> u64
+    requires in_range { InRange instance.now entry }
+    requires counted { (t : List Cell) × AreTables instance.now t tables.now }
+    ensures { (t : List Cell) → AreTables instance.now t tables.now
+        → result ≡ days_cost instance.now (entry ∷ t) entry.course }
+{
+    let is_new = tables.days.get(entry.course, entry.day) == 0;
+    let used = u64::from(tables.days.used(entry.course)) + one_if(is_new);
+    5 * u64::from(instance.min_days(entry.course)).saturating_sub(used)
+}
+
+/// What the rooms of a course cost, with an entry of it more.
+fn rooms_with(instance: &Instance<'_>, tables: &Tables, entry: Entry) -> u64
+    requires in_range { InRange instance.now entry }
+    requires counted { (t : List Cell) × AreTables instance.now t tables.now }
+    ensures { (t : List Cell) → AreTables instance.now t tables.now
+        → result ≡ stability_cost instance.now (entry ∷ t) entry.course }
+{
+    let is_new = tables.halls.get(entry.course, entry.room) == 0;
+    let used = u64::from(tables.halls.used(entry.course)) + one_if(is_new);
+    used.saturating_sub(1)
+}
+
+/// The weight of an entry beside the entries counted.
+pub fn weigh(instance: &Instance<'_>, tables: &Tables, entry: Entry) -> Weight
+    requires in_range { InRange instance.now entry }
+    requires counted { (t : List Cell) × AreTables instance.now t tables.now }
+    ensures { (t : List Cell) → IsTimetable instance.now t → AreTables instance.now t tables.now
+        → IsWeight instance.now t entry result }
+{
+    let (course, room, day, period) = (entry.course, entry.room, entry.day, entry.period);
+    let curricula = tables.links.curricula_of(course);
+    let gaps = gaps_round(&tables.curricula, curricula, day, period);
+    Weight {
+        repeats: one_if(tables.courses.get(course, day, period) > 0),
+        against: u64::from(tables.opponents.get(course, day, period)),
+        barred: one_if(instance.unavailable(course, day, period)),
+        shares: one_if(tables.rooms.get(room, day, period) > 0),
+        excess: u64::from(
+            instance
+                .students(course)
+                .saturating_sub(instance.capacity(room)),
+        ),
+        days: days_with(instance, tables, entry),
+        alone: gaps.alone,
+        joined: gaps.joined,
+        rooms: rooms_with(instance, tables, entry),
+    }
+}

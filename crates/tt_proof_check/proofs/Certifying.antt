@@ -1,0 +1,146 @@
+-- What `certify` answers, from what its steps answered.
+use Rattle.std.proofs.Common.{◌≡◌, ℕ, zero, suc, ◌+◌, ◌<◌, ◌≤◌, Bool, true, false, List, Option, Some, None, Result, Ok, Err, refl, sym, subst, ◌∙◌, arith, inl, inr}
+use Rattle.std.specs.Prelude.{IfSome, ◌⊎◌, ◌↔◌, IsTrue, MatchResult}
+use Rattle.tt_instance.specs.Problem.{Problem}
+use Rattle.tt_instance.specs.Spelling.{Spells}
+use Rattle.tt_instance.specs.declared.cell.Cell.{Cell}
+use Rattle.tt_table.specs.Spelling.{SpellsTable}
+use Rattle.tt_rules.specs.Score.{IsScore, IsFeasible, hard, cost}
+use Rattle.tt_rules.specs.declared.counts.Score.{Score}
+use Rattle.tt_rules.proofs.Scores.{hard_is, cost_is, feasible_is}
+use Rattle.tt_leaf.specs.declared.leaf.Bound.{Bound}
+use Rattle.tt_leaf.specs.declared.leaf.Bound.TheVariants.{AtLeast}
+use Rattle.tt_proof_check.specs.Derives.{HoldsOfAll}
+use Rattle.tt_proof_check.specs.Headline.{SpellsBoth, Solves, BreaksARule, Certifies, BoundsAll}
+use Rattle.tt_proof_check.specs.Streams.{IsProved, IsSilent, stream_of, TellsOf}
+use Rattle.tt_proof_check.specs.Verdicts.{IsYes, IsBroken, TellsOfAll, IsOfFiles, AnswersYes, AnswersBroken, GivesBound, TellsBound, told_check, read_failed}
+use Rattle.tt_proof_check.specs.declared.fault.CheckFault.{CheckFault}
+use Rattle.tt_proof_check.specs.declared.fault.CheckFault.TheVariants as check
+use Rattle.tt_proof_check.specs.declared.fault.CertifyFault.{CertifyFault}
+use Rattle.tt_proof_check.specs.declared.fault.CertifyFault.TheVariants as fault
+use Rattle.tt_proof_check.proofs.Files.{TellsOfBoth, one_instance, one_table, only_memory}
+
+-- ---- before the score is known
+
+-- what is certified is refused for want of memory alone
+pub certified_memory : (i s bytes : List ℕ) (c b : ℕ) (f : CertifyFault) → Certifies i s bytes c b → TellsOfBoth i s f → AnswersYes (Err f) c b
+certified_memory i s bytes c b f h tells = inl (only_memory i s h.solves.problem h.solves.table f h.solves.both tells)
+
+-- and so is what breaks a hard rule
+pub broken_memory : (i s : List ℕ) (f : CertifyFault) → BreaksARule i s → TellsOfBoth i s f → AnswersBroken (Err f)
+broken_memory i s f k tells = only_memory i s k.problem k.table f k.both tells
+
+-- a test for no points
+pub points : (b : Bool) (n : ℕ) → (IsTrue b ↔ (n ≡ 0)) → b ≡ false → n ≡ 0 → ⊥
+points b n both broken e = let feasible : IsTrue b = both.1 e in absurd cc
+
+pub no_points : (b : Bool) (n : ℕ) → (IsTrue b ↔ (n ≡ 0)) → b ≡ true → n ≡ 0
+no_points b n both feasible = both.0 feasible
+
+-- ---- the proof's bound
+
+-- a fault of the check is told
+pub check_told : (p : Problem) (bytes : List ℕ) (f : CheckFault) → TellsOf p (stream_of bytes) f → TellsBound p bytes (told_check f)
+check_told p bytes check.OutOfMemory h = tt
+check_told p bytes (check.Text f) h = h
+check_told p bytes (check.Rule n f) h = h
+check_told p bytes (check.TooDeep n) h = h
+
+-- a silent fault says nothing of the bytes
+pub silent_told : (f : CheckFault) (b : ℕ) → IsSilent f → GivesBound (Err (told_check f)) b
+silent_told f b (inl e) = subst (λ g. GivesBound (Err (told_check g)) b) (sym e) (inl refl)
+silent_told f b (inr e) = subst (λ g. GivesBound (Err (told_check g)) b) (sym e) (inr refl)
+
+-- a fault of the proof is none of the instance or the solution
+pub bound_not_files : (f : CheckFault) → IsOfFiles (told_check f) → ⊥
+bound_not_files check.OutOfMemory of = of
+bound_not_files (check.Text f) of = of
+bound_not_files (check.Rule n f) of = of
+bound_not_files (check.TooDeep n) of = of
+
+abbrev broken_by : Score → ℕ
+broken_by s = s.lectures + s.conflicts + s.availability + s.room_occupancy
+
+abbrev costs_of : Score → ℕ
+costs_of s = s.room_capacity + s.min_working_days + s.compactness + s.room_stability
+
+-- what certifies, of the instance and the timetable that were read
+record Certified (p : Problem) (t : List Cell) (bytes : List ℕ) (c b : ℕ) : Type 0 where
+  feasible : IsFeasible p t
+  costs : cost p t ≡ c
+  proved : IsProved p bytes (AtLeast b)
+
+module _ (i s : List ℕ) (p : Problem) (t : List Cell) (spelled : Spells i p) (solved : SpellsTable p s t) where
+  both : SpellsBoth i s p t
+  both = record { spelled = spelled; solved = solved }
+
+  at_table : (P : List Cell → Type 0) (u : List Cell) → SpellsTable p s u → P u → P t
+  at_table P u solves h = subst P (one_table s i p u t spelled solves solved) h
+
+  certified_here : (bytes : List ℕ) (c b : ℕ) → Certifies i s bytes c b → Certified p t bytes c b
+  certified_here bytes c b h =
+      let same : h.solves.problem ≡ p = one_instance i h.solves.problem p h.solves.both.spelled spelled in
+      let there : SpellsTable p s h.solves.table × Certified p h.solves.table bytes c b =
+      subst (λ (q : Problem). SpellsTable q s h.solves.table × Certified q h.solves.table bytes c b) same (h.solves.both.solved, record { feasible = h.solves.feasible; costs = h.solves.costs; proved = h.proved }) in
+      at_table (λ (u : List Cell). Certified p u bytes c b) h.solves.table there.0 there.1
+
+  broken_here : BreaksARule i s → 0 < hard p t
+  broken_here k =
+      let same : k.problem ≡ p = one_instance i k.problem p k.both.spelled spelled in
+      let there : SpellsTable p s k.table × (0 < hard p k.table) =
+      subst (λ (q : Problem). SpellsTable q s k.table × (0 < hard q k.table)) same (k.both.solved, k.some) in
+      at_table (λ (u : List Cell). 0 < hard p u) k.table there.0 there.1
+
+  module _ (score : Score) (is : IsScore p t score) where
+    pub is_feasible : broken_by score ≡ 0 → IsFeasible p t
+    is_feasible e = (feasible_is p t score solved.in_range is).0 e
+
+    -- ---- where a hard rule is broken
+
+    pub not_certified : (bytes : List ℕ) (c b : ℕ) → (broken_by score ≡ 0 → ⊥) → Certifies i s bytes c b → ⊥
+    not_certified bytes c b broken h = broken ((feasible_is p t score solved.in_range is).1 (certified_here bytes c b h).feasible)
+
+    positive : (n : ℕ) → (n ≡ 0 → ⊥) → 0 < n
+    positive zero some = absurd (some refl)
+    positive (suc n) some = omega arith
+
+    pub broken_found : (broken_by score ≡ 0 → ⊥) → IsBroken i s score
+    broken_found broken = record {
+      breaks = record { problem = p; table = t; both = both; some = subst (λ n. 0 < n) (hard_is p t score is) (positive (broken_by score) broken) };
+      score_is = is;
+    }
+
+    -- ---- where none is
+
+    pub not_broken : broken_by score ≡ 0 → BreaksARule i s → ⊥
+    not_broken e k = omega (arith, e, hard_is p t score is, broken_here k)
+
+    -- a refusal of the proof
+    pub bound_tells : (q : Option (List ℕ)) (f : CertifyFault) → broken_by score ≡ 0 → (IsOfFiles f → ⊥) → ((bytes : List ℕ) → q ≡ Some bytes → TellsBound p bytes f) → TellsOfAll i s q f
+    bound_tells q (fault.Proof f) e own h = record { problem = p; table = t; both = both; feasible = is_feasible e; fails = told q h }
+      where
+        told : (k : Option (List ℕ)) → ((bytes : List ℕ) → k ≡ Some bytes → TellsOf p (stream_of bytes) f) → IfSome k (λ bytes. TellsOf p (stream_of bytes) f)
+        told None h = tt
+        told (Some bytes) h = h bytes refl
+    bound_tells q fault.OutOfMemory e own h = tt
+    bound_tells q (fault.Instance f) e own h = absurd (own tt)
+    bound_tells q (fault.Solution f) e own h = absurd (own tt)
+
+    pub certified_proof : (bytes : List ℕ) (c b : ℕ) → Certifies i s bytes c b → IsProved p bytes (AtLeast b)
+    certified_proof bytes c b h = (certified_here bytes c b h).proved
+
+    pub certified_cost : (bytes : List ℕ) (c b : ℕ) → Certifies i s bytes c b → costs_of score ≡ c
+    certified_cost bytes c b h = cost_is p t score is ∙ (certified_here bytes c b h).costs
+
+    abbrev solves_here : broken_by score ≡ 0 → Solves i s (costs_of score)
+    solves_here e = record { problem = p; table = t; both = both; feasible = is_feasible e; costs = sym (cost_is p t score is) }
+
+    pub yes_found : (q : Option (List ℕ)) (b : ℕ) → broken_by score ≡ 0 → ((bytes : List ℕ) → q ≡ Some bytes → IsProved p bytes (AtLeast b)) → HoldsOfAll p (AtLeast b) → IsYes i s q (costs_of score) b
+    yes_found q b e proved holds =
+        let all : BoundsAll i b = λ other spells. subst (λ (x : Problem). HoldsOfAll x (AtLeast b)) (one_instance i p other spelled spells) holds in
+        let within : b ≤ costs_of score = subst (λ (n : ℕ). b ≤ n) (sym (cost_is p t score is)) (holds t (is_feasible e)) in
+        record { solves = solves_here e; certified = told q proved; bounds = all; within = within }
+      where
+        told : (k : Option (List ℕ)) → ((bytes : List ℕ) → k ≡ Some bytes → IsProved p bytes (AtLeast b)) → IfSome k (λ bytes. Certifies i s bytes (costs_of score) b)
+        told None h = tt
+        told (Some bytes) h = record { solves = solves_here e; proved = h bytes refl }

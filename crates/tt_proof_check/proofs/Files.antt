@@ -1,0 +1,61 @@
+-- The bytes of an instance and of a solution: what the readers answer of them.
+use Rattle.std.proofs.Common.{◌≡◌, ℕ, List, Ok, Err, refl, sym, subst}
+use Rattle.tt_instance.specs.Problem.{Problem}
+use Rattle.tt_instance.specs.Reading.{instance_of, Fails}
+use Rattle.tt_instance.specs.Spelling.{Spells}
+use Rattle.tt_instance.specs.declared.cell.Cell.{Cell}
+use Rattle.tt_instance.specs.declared.fault.InstanceFault.{InstanceFault}
+use Rattle.tt_instance.specs.declared.fault.InstanceFault.TheVariants as instance
+use Rattle.tt_instance.proofs.Laws.{is_read, spelled_instance}
+use Rattle.tt_table.specs.Reading.{solution_of, Fails as FailsTable}
+use Rattle.tt_table.specs.Spelling.{SpellsTable}
+use Rattle.tt_table.specs.declared.fault.SolutionFault.{SolutionFault}
+use Rattle.tt_table.specs.declared.fault.SolutionFault.TheVariants as solution
+use Rattle.tt_table.proofs.EntryLaws.{solution_read}
+use Rattle.tt_proof_check.specs.Headline.{SpellsBoth}
+use Rattle.tt_proof_check.specs.Verdicts.{told_instance, told_solution, FailsSolution}
+use Rattle.tt_proof_check.specs.declared.fault.CertifyFault.{CertifyFault}
+use Rattle.tt_proof_check.specs.declared.fault.CertifyFault.TheVariants as fault
+
+-- bytes spell one instance
+pub one_instance : (bytes : List ℕ) (p q : Problem) → Spells bytes p → Spells bytes q → p ≡ q
+one_instance bytes p q a b =
+    let e : Ok p ≡ instance_of bytes = sym (is_read bytes p a) in
+    let f = is_read bytes q b in
+    cc
+
+-- and one timetable of it
+pub one_table : (bytes i : List ℕ) (p : Problem) (t u : List Cell) → Spells i p → SpellsTable p bytes t → SpellsTable p bytes u → t ≡ u
+one_table bytes i p t u s a b =
+    let limits = (spelled_instance i p s).within in
+    let e = solution_read p bytes t limits a in
+    let f = solution_read p bytes u limits b in
+    cc
+
+-- a fault of the instance or of the solution
+abbrev pub TellsOfBoth : List ℕ → List ℕ → CertifyFault → Type 0
+TellsOfBoth i s (fault.Instance f) = instance_of i ≡ Err f
+TellsOfBoth i s (fault.Solution f) = FailsSolution i s f
+TellsOfBoth i s (fault.Proof f) = ⊥
+TellsOfBoth i s fault.OutOfMemory = Unit {0}
+
+-- a fault of the instance is told
+pub tells_instance : (i s : List ℕ) (f : InstanceFault) → Fails f (instance_of i) → TellsOfBoth i s (told_instance f)
+tells_instance i s instance.OutOfMemory h = tt
+tells_instance i s f h = h
+
+-- a fault of the solution is told
+pub tells_solution : (i s : List ℕ) (p : Problem) (f : SolutionFault) → Spells i p → FailsTable f (solution_of p s) → TellsOfBoth i s (told_solution f)
+tells_solution i s p solution.OutOfMemory spelled h = tt
+tells_solution i s p f spelled h = record { problem = p; spelled = spelled; fails = h }
+
+-- where both are spelled, the only refusal is want of memory
+pub only_memory : (i s : List ℕ) (p : Problem) (t : List Cell) (f : CertifyFault) → SpellsBoth i s p t → TellsOfBoth i s f → f ≡ fault.OutOfMemory
+only_memory i s p t (fault.Instance f) both h = let e = is_read i p both.spelled in absurd cc
+only_memory i s p t (fault.Solution f) both h =
+    let same : h.problem ≡ p = one_instance i h.problem p h.spelled both.spelled in
+    let e = solution_read p s t (spelled_instance i p both.spelled).within both.solved in
+    let g : solution_of p s ≡ Err f = subst (λ (q : Problem). solution_of q s ≡ Err f) same h.fails in
+    absurd cc
+only_memory i s p t (fault.Proof f) both h = absurd h
+only_memory i s p t fault.OutOfMemory both h = refl

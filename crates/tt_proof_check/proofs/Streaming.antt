@@ -1,0 +1,207 @@
+-- Nodes that are judged as they are read.
+use Rattle.std.proofs.Common.{◌≡◌, ℕ, ◌+◌, ◌<◌, ◌≤◌, Bool, true, false, List, [], ◌∷◌, ◌++◌, length, take, Some, None, Result, Ok, Err, refl, sym, ap, subst, ◌∙◌, arith, add-zero, append_assoc, length-append, take_at}
+use Rattle.std.specs.Prelude.{All}
+use Rattle.tt_text.specs.Feeds.{Stream}
+use Rattle.tt_instance.specs.Problem.{Problem}
+use Rattle.tt_facts.specs.declared.facts.Fact.{Fact}
+use Rattle.tt_leaf.specs.declared.leaf.Bound.{Bound}
+use Rattle.tt_leaf.specs.declared.leaf.RuleFault.{RuleFault}
+use Rattle.tt_proof_text.specs.Reading.{node_at}
+use Rattle.tt_proof_text.specs.Readers.{Reader, Goes, Says}
+use Rattle.tt_proof_text.specs.Sizes.{AreSizes}
+use Rattle.tt_proof_text.specs.Reads.{ReadsNodes}
+use Rattle.tt_proof_text.specs.Trees.{preorder, OnPath}
+use Rattle.tt_proof_text.specs.declared.fault.TextFault.{TextFault}
+use Rattle.tt_proof_text.specs.declared.node.Node.{Node}
+use Rattle.tt_proof_text.specs.declared.node.Node.TheVariants.{Leaf}
+use Rattle.tt_leaf.specs.declared.leaf.Leaf.TheVariants.{Many}
+use Rattle.tt_proof_text.specs.declared.sizes.Sizes.{Sizes}
+use Rattle.tt_proof_check.specs.declared.walk.Stop.TheVariants.{Rule, TooDeep}
+use Rattle.tt_proof_check.specs.declared.fault.CheckFault.{CheckFault}
+use Rattle.tt_proof_check.specs.declared.fault.CheckFault.TheVariants as told
+use Rattle.tt_proof_check.specs.Faults.{text_fault}
+use Rattle.tt_proof_check.specs.Pending.{pending}
+use Rattle.tt_proof_check.specs.Steps.{Steps, Stops}
+use Rattle.tt_proof_check.specs.Judged.{Judged, TellsNodes, TellsChild}
+use Rattle.tt_proof_check.specs.Streams.{sizes_of, Fails, NodeFails}
+use Rattle.tt_proof_check.specs.Tells.{Passes, FailsAt, IsDeepAt}
+use Rattle.tt_proof_check.proofs.Counting.{next_places}
+use Rattle.tt_proof_check.proofs.Reading.{Stack, root, next_stack, stack_after, at, places_of, stack_after-push, length-places_of, closing, some_tree, tree_goes_on}
+use Rattle.tt_proof_check.proofs.Sizes.{sizes_are}
+use Rattle.tt_proof_check.proofs.TextFaults.{text_cases}
+use Rattle.tt_proof_check.proofs.Walking.{stack_of, Walked, walked_start, walked_next, walked_end, fails_at, IsDeepNext, too_deep, deep_at}
+
+pub reads_push : (sizes : Sizes) (v count : ℕ) (s t u : Stream) (nodes : List Node) (n : Node) → ReadsNodes sizes v count s nodes t → node_at sizes v (count + length nodes) t ≡ Ok (n, u) → ReadsNodes sizes v count s (nodes ++ n ∷ []) u
+reads_push sizes v count s t u [] n r e =
+    (u, subst (λ (x : Stream). node_at sizes v count x ≡ Ok (n, u)) (sym r) (ap (λ (k : ℕ). node_at sizes v k t) (sym (add-zero count)) ∙ e), refl)
+reads_push sizes v count s t u (m ∷ ms) n r e =
+    let here : count + length (m ∷ ms) ≡ (count + 1) + length ms = omega arith in
+    (r.0, r.1, reads_push sizes v (count + 1) r.0 t u ms n r.2 (ap (λ (k : ℕ). node_at sizes v k t) (sym here) ∙ e))
+
+-- What has been read and judged, in this state of the reader, with this stream behind it and the path of the node that is due.
+pub record Sofar (p : Problem) (v : ℕ) (b : Bound) (known : Bool) (s : Stream) (reader : Reader) (t : Stream) (path : List Fact) : Type 0 where
+  pub nodes : List Node
+  pub due : Bool
+  pub walked : Walked p b nodes path due
+  pub reads : known ≡ true → ReadsNodes (sizes_of p) v 0 s nodes t
+  pub count : length nodes ≡ reader.count
+  pub places : length (stack_of due path) ≡ reader.places
+  pub sizes : AreSizes p reader.sizes
+  pub version : reader.version ≡ v
+  pub sound : reader.fault ≡ None
+
+pub sofar_start : (p : Problem) (b : Bound) (known : Bool) (s : Stream) (reader : Reader) (path : List Fact) → path ≡ [] → reader.count ≡ 0 → reader.places ≡ 1 → AreSizes p reader.sizes → reader.fault ≡ None
+    → Sofar p reader.version b known s reader s path
+sofar_start p b known s reader path e c d sizes sound = record {
+  nodes = [];
+  due = true;
+  walked = walked_start p b path e;
+  reads = λ k. refl;
+  count = sym c;
+  places = ap (λ (l : List Fact). length (stack_of true l)) e ∙ sym d;
+  sizes = sizes;
+  version = refl;
+  sound = sound;
+}
+
+pub same_length : (x y : Stack) → Some x ≡ Some y → length x ≡ length y
+same_length x y e = let same : x ≡ y = cc in ap length same
+
+-- behind nodes that pass, a node is due, and its text fails
+node_fails : (p : Problem) (v : ℕ) (b : Bound) (s t : Stream) (f : TextFault) (nodes : List Node) (path : List Fact) (others : Stack) → stack_after root nodes ≡ Some (path ∷ others) → All (Passes p b) (places_of root nodes)
+    → ReadsNodes (sizes_of p) v 0 s nodes t → Fails f (node_at (sizes_of p) v (length nodes) t) → NodeFails p v b s f
+node_fails p v b s t f nodes path others stack passed reads fails =
+    let h = some_tree nodes (path ∷ others) stack in
+    let all = tree_goes_on h.0 path others nodes (Leaf (Many 0)) (closing others) h.1 stack in
+    let behind = at path (Leaf (Many 0)) ∷ places_of others (closing others) in
+    record {
+      nodes = nodes;
+      rest = t;
+      reads = reads;
+      tree = h.0;
+      next = Leaf (Many 0);
+      more = closing others;
+      begins = h.1;
+      passed = subst (λ (l : List OnPath). All (Passes p b) l) (sym (ap (take (length nodes)) all ∙ take_at (places_of root nodes) behind (length nodes) (length-places_of root (path ∷ others) nodes stack))) passed;
+      fails = fails;
+    }
+
+node_as : (a c : Sizes) (v w count : ℕ) (s : Stream) (P : Result (Node × Stream) TextFault → Type 0) → a ≡ c → v ≡ w → P (node_at a v count s) → P (node_at c w count s)
+node_as a c v w count s P e d h = subst (λ (k : ℕ). P (node_at c k count s)) d (subst (λ (x : Sizes). P (node_at x v count s)) e h)
+
+child_as : (a c : Sizes) (v w count more : ℕ) (s : Stream) (i : ℕ) (e : CheckFault) → a ≡ c → v ≡ w → count ≡ more → TellsChild a v count s i e → TellsChild c w more s i e
+child_as a c v w count more s i e same_sizes same_version same_count h =
+    subst (λ (k : ℕ). TellsChild c w k s i e) same_count
+    (subst (λ (k : ℕ). TellsChild c k count s i e) same_version (subst (λ (x : Sizes). TellsChild x v count s i e) same_sizes h))
+
+-- behind nodes that pass, a node is due on a path that is too long; it has been read, or its text fails
+told_child : (p : Problem) (v : ℕ) (b : Bound) (s t : Stream) (nodes : List Node) (i : ℕ) → IsDeepNext p b nodes → length nodes ≡ i → ReadsNodes (sizes_of p) v 0 s nodes t → (e : CheckFault) → TellsChild (sizes_of p) v i t i e
+    → TellsNodes p v b s e
+told_child p v b s t nodes i d len reads (told.Text f) c =
+    (c.0, node_fails p v b s t f nodes d.path d.others d.stack d.passed reads (subst (λ (k : ℕ). Fails f (node_at (sizes_of p) v k t)) (sym len) c.1))
+told_child p v b s t nodes i d len reads (told.Rule j f) c = absurd c
+told_child p v b s t nodes i d len reads (told.TooDeep j) c =
+    let stack = next_stack d.path d.others c.1 in
+    let h = some_tree (nodes ++ c.1 ∷ []) stack (stack_after-push d.path d.others nodes c.1 d.stack) in
+    let deep = deep_at p b nodes (closing stack) c.1 h.0 (h.1 ∙ append_assoc nodes (c.1 ∷ []) (closing stack)) d in
+    let here : 0 + length nodes ≡ i = omega (arith, len) in
+    let number : length nodes ≡ j = len ∙ sym c.0 in
+    record {
+      nodes = nodes ++ c.1 ∷ [];
+      rest = c.2;
+      reads = reads_push (sizes_of p) v 0 s t c.2 nodes c.1 reads (ap (λ (k : ℕ). node_at (sizes_of p) v k t) here ∙ c.3);
+      tree = h.0;
+      more = closing stack;
+      begins = h.1;
+      last = omega (arith, length-append nodes (c.1 ∷ []), number);
+      is = subst (IsDeepAt p b h.0) number deep;
+    }
+told_child p v b s t nodes i d len reads told.OutOfMemory c = tt
+
+module _ (p : Problem) (v : ℕ) (b : Bound) (known : Bool) (s : Stream) (old : Reader) (t : Stream) (path : List Fact) (m : Sofar p v b known s old t path) where
+  -- where a place is open, a node is due
+  is_due : 0 < old.places → Walked p b m.nodes path true × (length (path ∷ pending path) ≡ old.places)
+  is_due some = on m.due m.walked m.places
+    where
+      on : (due : Bool) → Walked p b m.nodes path due → length (stack_of due path) ≡ old.places → Walked p b m.nodes path true × (length (path ∷ pending path) ≡ old.places)
+      on true w e = (w, e)
+      on false w e = absurd (omega (arith, e, some))
+
+  one_more : (n : Node) → length (m.nodes ++ n ∷ []) ≡ old.count + 1
+  one_more n = omega (arith, length-append m.nodes (n ∷ []), m.count)
+
+  same_sizes : old.sizes ≡ sizes_of p
+  same_sizes = sizes_are p old.sizes m.sizes
+
+  -- a node was read, which is judged next
+  module _ (new : Reader) (u : Stream) (n : Node) (goes : Goes old (Ok (Some n)) new) (says : known ≡ true → Says old t (Ok (Some n)) u) where
+    read_one : known ≡ true → ReadsNodes (sizes_of p) v 0 s (m.nodes ++ n ∷ []) u
+    read_one k =
+        let here : 0 + length m.nodes ≡ old.count = omega (arith, m.count) in
+        let text = node_as old.sizes (sizes_of p) old.version v old.count t (λ r. r ≡ Ok (n, u)) same_sizes m.version (says k) in
+        reads_push (sizes_of p) v 0 s t u m.nodes n (m.reads k) (ap (λ (i : ℕ). node_at (sizes_of p) v i t) here ∙ text)
+
+    pub sofar_next : (next : List Fact) → Steps p b path n next → length next ≤ 65536 → Sofar p v b known s new u next
+    sofar_next next step within =
+        let w = is_due goes.0 in
+        let h = walked_next p b m.nodes path next n w.0 step within in
+        record {
+          nodes = m.nodes ++ n ∷ [];
+          due = h.0;
+          walked = h.1;
+          reads = read_one;
+          count = one_more n ∙ ap (λ (r : Reader). r.count) (sym goes.1);
+          places = same_length (stack_of h.0 next) (next_stack path (pending path) n) (sym h.1.stack ∙ stack_after-push path (pending path) m.nodes n w.0.stack)
+              ∙ next_places path (pending path) n old.places w.1 ∙ ap (λ (r : Reader). r.places) (sym goes.1);
+          sizes = subst (AreSizes p) (ap (λ (r : Reader). r.sizes) (sym goes.1)) m.sizes;
+          version = ap (λ (r : Reader). r.version) goes.1 ∙ m.version;
+          sound = ap (λ (r : Reader). r.fault) goes.1 ∙ m.sound;
+        }
+
+    -- it is a leaf that is not right
+    pub sofar_wrong : (i : ℕ) (f : RuleFault) → i ≡ old.count → Stops p b path n (Rule f) → known ≡ true → TellsNodes p v b s (told.Rule i f)
+    sofar_wrong i f number stops k =
+        let w = (is_due goes.0).0 in
+        let stack = next_stack path (pending path) n in
+        let h = some_tree (m.nodes ++ n ∷ []) stack (stack_after-push path (pending path) m.nodes n w.stack) in
+        let fails = fails_at p b m.nodes (closing stack) path n f h.0 (h.1 ∙ append_assoc m.nodes (n ∷ []) (closing stack)) w stops in
+        record {
+          nodes = m.nodes ++ n ∷ [];
+          rest = u;
+          reads = read_one k;
+          tree = h.0;
+          more = closing stack;
+          begins = h.1;
+          last = one_more n ∙ ap (λ (j : ℕ). j + 1) (sym number);
+          is = subst (λ (j : ℕ). FailsAt p b h.0 j f) (m.count ∙ sym number) fails;
+        }
+
+    -- it is a split whose children are too deep
+    pub sofar_deep : (i : ℕ) (e : CheckFault) → i ≡ old.count → Stops p b path n TooDeep → known ≡ true → TellsChild new.sizes new.version new.count u (i + 1) e → TellsNodes p v b s e
+    sofar_deep i e number stops k child =
+        let here : new.count ≡ i + 1 = ap (λ (r : Reader). r.count) goes.1 ∙ ap (λ (j : ℕ). j + 1) (sym number) in
+        told_child p v b s u (m.nodes ++ n ∷ []) (i + 1) (too_deep p b m.nodes path n (is_due goes.0).0 stops) (one_more n ∙ ap (λ (j : ℕ). j + 1) (sym number)) (read_one k) e
+        (child_as new.sizes (sizes_of p) new.version v new.count (i + 1) u (i + 1) e (ap (λ (r : Reader). r.sizes) goes.1 ∙ same_sizes) (ap (λ (r : Reader). r.version) goes.1 ∙ m.version) here child)
+
+  -- the tree is whole: it derives the bound
+  pub sofar_end : (new : Reader) (u : Stream) → Goes old (Ok None) new → (known ≡ true → Says old t (Ok None) u) → Judged p v b known s u
+  sofar_end new u goes says = on m.due m.walked m.places
+    where
+      on : (due : Bool) → Walked p b m.nodes path due → length (stack_of due path) ≡ old.places → Judged p v b known s u
+      on true w e = absurd (omega (arith, e, goes.0))
+      on false w e =
+          let h = walked_end p b m.nodes path w in
+          record {
+            tree = h.0;
+            reads = λ k. subst (λ (x : Stream). ReadsNodes (sizes_of p) v 0 s (preorder h.0) x) (sym (says k)) (subst (λ (l : List Node). ReadsNodes (sizes_of p) v 0 s l t) (sym h.1) (m.reads k));
+            shallow = h.2;
+            derives = h.3;
+          }
+
+  -- the text of the node that is due fails
+  pub sofar_unread : (new : Reader) (u : Stream) (f : TextFault) → Goes old (Err f) new → known ≡ true → Says old t (Err f) u → TellsNodes p v b s (text_fault f)
+  sofar_unread new u f goes k says =
+      let w = (is_due goes.0).0 in
+      let fails = node_as old.sizes (sizes_of p) old.version v old.count t (Fails f) same_sizes m.version says in
+      text_cases f (TellsNodes p v b s) tt
+      (λ n. (n, node_fails p v b s t f m.nodes path (pending path) w.stack w.passed (m.reads k) (subst (λ (i : ℕ). Fails f (node_at (sizes_of p) v i t)) (sym m.count) fails)))

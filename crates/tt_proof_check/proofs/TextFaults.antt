@@ -1,0 +1,60 @@
+-- What a fault of the text is called, and which faults say nothing of the bytes.
+use Rattle.std.proofs.Common.{◌≡◌, Bool, true, false, Result, Ok, Err, IfErr, refl, sym, subst, ◌⊎◌, inl, inr}
+use Rattle.std.specs.Prelude.{IsErrAnd}
+use Rattle.std.specs.Bool.{OnFalse}
+use Rattle.tt_text.specs.declared.feed.FeedFault.TheVariants as feed
+use Rattle.tt_proof_text.specs.Faults.{is_silent}
+use Rattle.tt_proof_text.specs.declared.fault.TextFault.{TextFault}
+use Rattle.tt_proof_text.specs.declared.fault.TextFault.TheVariants as text
+use Rattle.tt_proof_check.specs.declared.fault.CheckFault.{CheckFault}
+use Rattle.tt_proof_check.specs.declared.fault.CheckFault.TheVariants as told
+use Rattle.tt_proof_check.specs.Faults.{text_fault}
+use Rattle.tt_proof_check.specs.Streams.{Fails, IsSilent}
+
+-- a fault of the text is want of memory, or is told as it is
+pub text_cases : (f : TextFault) (Q : CheckFault → Type 0) → Q told.OutOfMemory → (¬ (f ≡ text.OutOfMemory) → Q (told.Text f)) → Q (text_fault f)
+text_cases (text.Ended at) Q a b = b (λ e. cc)
+text_cases (text.Expected w at) Q a b = b (λ e. cc)
+text_cases (text.UnknownWord at) Q a b = b (λ e. cc)
+text_cases (text.NotANumber at) Q a b = b (λ e. cc)
+text_cases (text.UnknownIndex at) Q a b = b (λ e. cc)
+text_cases (text.RepeatedIndex at) Q a b = b (λ e. cc)
+text_cases (text.TrailingToken at) Q a b = b (λ e. cc)
+text_cases (text.TooManyNodes at) Q a b = b (λ e. cc)
+text_cases (text.Feed f) Q a b = b (λ e. cc)
+text_cases text.OutOfMemory Q a b = a
+
+-- an error that was made of a fault
+pub err_gives : {A : Type 0} (r : Result A CheckFault) (f : TextFault) (Q : CheckFault → Type 0) → IsErrAnd r (λ e. e ≡ text_fault f) → Q (text_fault f) → IfErr r Q
+err_gives (Ok x) f Q e h = tt
+err_gives (Err x) f Q e h = subst Q (sym e) h
+
+on_false : (b : Bool) (P : Type 0) → OnFalse b P → (b ≡ true) ⊎ P
+on_false true P h = inl refl
+on_false false P h = inr h
+
+-- a silent fault is a failed read or want of memory
+silent_is : (f : TextFault) → is_silent f ≡ true → ¬ (f ≡ text.OutOfMemory) → IsSilent (told.Text f)
+silent_is (text.Ended at) e n = cc
+silent_is (text.Expected w at) e n = cc
+silent_is (text.UnknownWord at) e n = cc
+silent_is (text.NotANumber at) e n = cc
+silent_is (text.UnknownIndex at) e n = cc
+silent_is (text.RepeatedIndex at) e n = cc
+silent_is (text.TrailingToken at) e n = cc
+silent_is (text.TooManyNodes at) e n = cc
+silent_is (text.Feed feed.Read) e n = inr refl
+silent_is (text.Feed (feed.TokenTooLong at)) e n = cc
+silent_is (text.Feed feed.TooManyBytes) e n = cc
+silent_is (text.Feed feed.OutOfMemory) e n = cc
+silent_is text.OutOfMemory e n = absurd (n refl)
+
+abbrev read_fault : {Y : Type 0} → TextFault → Result Y TextFault
+read_fault f = Err f
+
+-- a fault of a text that is read is silent
+pub fails_silently : {Y : Type 0} (f : TextFault) (read : Result Y TextFault) (y : Y) → read ≡ Ok y → ¬ (f ≡ text.OutOfMemory) → Fails f read → IsSilent (told.Text f)
+fails_silently f read y e n h = elim (on_false (is_silent f) (read ≡ Err f) h) [
+  | inl s ↦ silent_is f s n
+  | inr err ↦ absurd cc
+]

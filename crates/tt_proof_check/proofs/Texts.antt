@@ -1,0 +1,129 @@
+-- What a proof that was read whole, or a fault of it, says of the bytes.
+use Rattle.std.proofs.Common.{◌≡◌, ℕ, ◌+◌, ◌<◌, Bool, true, List, [], ◌∷◌, ◌++◌, length, Some, Option, Result, Ok, Err, IfOk, IfErr, refl, sym, ap, subst, ◌∙◌, arith, append_assoc, append-nil, ◌⊎◌, inl, inr, is_some}
+use Rattle.std.specs.Prelude.{slice_get, MatchResult}
+use Rattle.tt_text.specs.Feeds.{Stream, stream_at, fresh}
+use Rattle.tt_instance.specs.Problem.{Problem}
+use Rattle.tt_instance.specs.Limits.{IsInstance}
+use Rattle.tt_leaf.specs.declared.leaf.Bound.{Bound}
+use Rattle.tt_proof_text.specs.Reading.{header_at, node_at, end_at}
+use Rattle.tt_proof_text.specs.Reads.{ReadsNodes, Reads}
+use Rattle.tt_proof_text.specs.Trees.{Tree, preorder, on_paths}
+use Rattle.tt_proof_text.specs.declared.fault.TextFault.{TextFault}
+use Rattle.tt_proof_text.specs.declared.fault.TextFault.TheVariants as text
+use Rattle.tt_proof_text.specs.declared.node.Node.{Node}
+use Rattle.tt_proof_text.proofs.ProofLaws.{reads_spelled, spelled_reads}
+use Rattle.tt_proof_text.proofs.Small.{are_small}
+use Rattle.tt_proof_check.specs.declared.fault.CheckFault.{CheckFault}
+use Rattle.tt_proof_check.specs.declared.fault.CheckFault.TheVariants as told
+use Rattle.tt_proof_check.specs.Derives.{Derives, IsShallow, HoldsOfAll}
+use Rattle.tt_proof_check.specs.Judged.{Proved}
+use Rattle.tt_proof_check.specs.Streams.{IsProved, IsSilent, stream_of, sizes_of, Fails, NodeFails, EndFails, IsReadTo, HasHeader, TellsOf}
+use Rattle.tt_proof_check.specs.Tells.{FailsAt, IsDeepAt}
+use Rattle.tt_proof_check.proofs.Determined.{begins_whole, same_header, compare, same_place}
+use Rattle.tt_proof_check.proofs.Judging.{tree_passes, never_fails, never_deep}
+use Rattle.tt_proof_check.proofs.Sizes.{are_sizes_of}
+use Rattle.tt_proof_check.proofs.Soundness.{root_sound}
+use Rattle.tt_proof_check.proofs.TextFaults.{fails_silently}
+
+-- ---- a tree that is read and derives the bound leaves silent faults alone
+
+module _ (p : Problem) (v : ℕ) (s noded : Stream) (tree : Tree) (reads : ReadsNodes (sizes_of p) v 0 s (preorder tree) noded) where
+  -- no node is due behind a whole tree
+  none_due : (nodes more : List Node) (other : Tree) (next : Node) (behind : List Node) → preorder tree ++ more ≡ nodes → preorder other ≡ nodes ++ next ∷ behind → ⊥
+  none_due nodes more other next behind e begins =
+      nothing more (begins_whole other tree (more ++ next ∷ behind) (begins ∙ ap (λ l. l ++ next ∷ behind) (sym e) ∙ append_assoc (preorder tree) more (next ∷ behind))).1
+    where
+      nothing : (xs : List Node) → [] ≡ xs ++ next ∷ behind → ⊥
+      nothing [] h = cc
+      nothing (x ∷ xs) h = cc
+
+  -- behind nodes that some tree goes on from, the text of a node fails silently
+  pub node_silent : (f : TextFault) → ¬ (f ≡ text.OutOfMemory) → (nodes : List Node) (rest : Stream) (other : Tree) (next : Node) (behind : List Node) → ReadsNodes (sizes_of p) v 0 s nodes rest → preorder other ≡ nodes ++ next ∷ behind
+      → Fails f (node_at (sizes_of p) v (length nodes) rest) → IsSilent (told.Text f)
+  node_silent f n nodes rest other next behind reads_these begins fails = elim (compare (sizes_of p) v 0 s rest noded nodes (preorder tree) reads_these reads) [
+    | inl m ↦ onward m.0 m.1 m.2
+    | inr m ↦ absurd (none_due nodes m.0 other next behind m.1 begins)
+  ]
+    where
+      onward : (more : List Node) → nodes ++ more ≡ preorder tree → ReadsNodes (sizes_of p) v (0 + length nodes) rest more noded → IsSilent (told.Text f)
+      onward [] e r = absurd (none_due nodes [] other next behind (append-nil (preorder tree) ∙ sym e ∙ append-nil nodes) begins)
+      onward (x ∷ xs) e r =
+          let here : length nodes ≡ 0 + length nodes = omega arith in
+          fails_silently f (node_at (sizes_of p) v (length nodes) rest) (x, r.0) (ap (λ (k : ℕ). node_at (sizes_of p) v k rest) here ∙ r.1) n fails
+
+  -- behind a whole tree, the end fails silently
+  pub end_silent : (ended : Stream) → end_at noded ≡ Ok ended → (f : TextFault) → ¬ (f ≡ text.OutOfMemory) → (other : Tree) (rest : Stream) → ReadsNodes (sizes_of p) v 0 s (preorder other) rest → Fails f (end_at rest) → IsSilent (told.Text f)
+  end_silent ended finish f n other rest reads_these fails = fails_silently f (end_at rest) ended (ap end_at same ∙ finish) n fails
+    where
+      none : (k : ℕ) (x y : Stream) (more : List Node) → [] ≡ more → ReadsNodes (sizes_of p) v k x more y → x ≡ y
+      none k x y more e r = subst (λ (l : List Node). ReadsNodes (sizes_of p) v k x l y) (sym e) r
+
+      same : rest ≡ noded
+      same = elim (compare (sizes_of p) v 0 s rest noded (preorder other) (preorder tree) reads_these reads) [
+        | inl m ↦ none (0 + length (preorder other)) rest noded m.0 (begins_whole tree other m.0 (sym m.1)).1 m.2
+        | inr m ↦ sym (none (0 + length (preorder tree)) noded rest m.0 (begins_whole other tree m.0 (sym m.1)).1 m.2)
+      ]
+
+  place_read : (i : ℕ) (P : Tree → Type 0) (h : IsReadTo p v s i P) → slice_get (on_paths [] tree) i ≡ slice_get (on_paths [] h.tree) i
+  place_read i P h =
+      let inside : i < length h.nodes = omega (arith, h.last) in
+      elim (compare (sizes_of p) v 0 s h.rest noded h.nodes (preorder tree) h.reads reads) [
+        | inl m ↦ same_place tree h.tree h.nodes m.0 h.more i (sym m.1) h.begins inside
+        | inr m ↦ ap (λ (t : Tree). slice_get (on_paths [] t) i)
+            (sym (begins_whole h.tree tree (m.0 ++ h.more) (h.begins ∙ ap (λ l. l ++ h.more) (sym m.1) ∙ append_assoc (preorder tree) m.0 h.more)).0)
+      ]
+
+module _ (p : Problem) (s : Stream) (v : ℕ) (b : Bound) (tree : Tree) (r : Reads (sizes_of p) s v b tree) where
+  -- the header is this one
+  header_is : (P : ℕ → Bound → Stream → Type 0) → HasHeader s P → P v b r.headed
+  header_is P h = subst (λ (x : (ℕ × Bound) × Stream). P x.0.0 x.0.1 x.1) (same_header ((h.0, h.1), h.2) ((v, b), r.headed) (sym h.3 ∙ r.header)) h.4
+
+  pub bound_is : (known : Bool) (c : Bound) → known ≡ true → Proved p known s c → c ≡ b
+  bound_is known c k h = ap (λ (x : (ℕ × Bound) × Stream). x.0.1) (same_header ((h.version, c), (h.reads k).headed) ((v, b), r.headed) (sym (h.reads k).header ∙ r.header))
+
+  pub only_silent : IsShallow tree → Derives p b [] tree → (e : CheckFault) → TellsOf p s e → IsSilent e
+  only_silent shallow d (told.Text f) (n, inl h) = fails_silently f (header_at s) ((v, b), r.headed) r.header n h
+  only_silent shallow d (told.Text f) (n, inr h) = elim (header_is (λ w c rest. NodeFails p w c rest f ⊎ EndFails p w c rest f) h) [
+    | inl a ↦ node_silent p v r.headed r.noded tree r.nodes f n a.nodes a.rest a.tree a.next a.more a.reads a.begins a.fails
+    | inr a ↦ end_silent p v r.headed r.noded tree r.nodes r.ended r.finish f n a.tree a.rest a.reads a.fails
+  ]
+  only_silent shallow d (told.Rule i f) h =
+      let a = header_is (λ w c rest. IsReadTo p w rest i (λ t. FailsAt p c t i f)) h in
+      absurd (never_fails p b tree a.tree i f (tree_passes p b tree shallow d) (place_read p v r.headed r.noded tree r.nodes i (λ t. FailsAt p b t i f) a) a.is)
+  only_silent shallow d (told.TooDeep i) h =
+      let a = header_is (λ w c rest. IsReadTo p w rest i (λ t. IsDeepAt p c t i)) h in
+      absurd (never_deep p b tree a.tree i (tree_passes p b tree shallow d) (place_read p v r.headed r.noded tree r.nodes i (λ t. IsDeepAt p b t i) a) a.is)
+  only_silent shallow d told.OutOfMemory h = inl refl
+
+-- ---- the bytes
+
+module _ (p : Problem) (remaining : Option (List ℕ)) where
+  proved_in : (bytes : List ℕ) → remaining ≡ Some bytes → (b : Bound) → Proved p (is_some remaining) (stream_at fresh remaining) b → Proved p true (stream_of bytes) b
+  proved_in bytes e b h = subst (λ (k : Option (List ℕ)). Proved p (is_some k) (stream_at fresh k) b) e h
+
+  found_in : (bytes : List ℕ) → remaining ≡ Some bytes → (b : Bound) → Proved p (is_some remaining) (stream_at fresh remaining) b → IsProved p bytes b
+  found_in bytes e b h =
+      let k = proved_in bytes e b h in
+      (k.version, k.tree, reads_spelled p (sizes_of p) (are_sizes_of p) bytes k.version b k.tree k.shallow (k.reads refl), k.derives)
+
+  told_in : (bytes : List ℕ) → remaining ≡ Some bytes → (x : CheckFault) → TellsOf p (stream_at fresh remaining) x → TellsOf p (stream_of bytes) x
+  told_in bytes e x h = subst (λ (k : Option (List ℕ)). TellsOf p (stream_at fresh k) x) e h
+
+  pub proof_found : (r : Result Bound CheckFault) → IfOk r (λ b. Proved p (is_some remaining) (stream_at fresh remaining) b) → IfOk r (λ b. (bytes : List ℕ) → remaining ≡ Some bytes → IsProved p bytes b)
+  proof_found (Ok b) h = λ bytes e. found_in bytes e b h
+  proof_found (Err x) h = tt
+
+  pub proof_holds : (r : Result Bound CheckFault) → IfOk r (λ b. Proved p (is_some remaining) (stream_at fresh remaining) b) → IfOk r (HoldsOfAll p)
+  proof_holds (Ok b) h = root_sound p b h.tree h.derives
+  proof_holds (Err x) h = tt
+
+  pub proof_only : IsInstance p → (r : Result Bound CheckFault) → IfOk r (λ b. Proved p (is_some remaining) (stream_at fresh remaining) b) → (is_some remaining ≡ true → IfErr r (λ x. TellsOf p (stream_at fresh remaining) x))
+      → (bytes : List ℕ) (b : Bound) → remaining ≡ Some bytes → IsProved p bytes b → MatchResult r (λ c. c ≡ b) IsSilent
+  proof_only is r proved fault bytes b e h =
+      let reads = spelled_reads p (sizes_of p) (are_sizes_of p) (are_small p (sizes_of p) is (are_sizes_of p)) bytes h.0 b h.1 h.2 in
+      on r proved fault reads
+    where
+      on : (x : Result Bound CheckFault) → IfOk x (λ c. Proved p (is_some remaining) (stream_at fresh remaining) c) → (is_some remaining ≡ true → IfErr x (λ y. TellsOf p (stream_at fresh remaining) y))
+          → Reads (sizes_of p) (stream_of bytes) h.0 b h.1 → MatchResult x (λ c. c ≡ b) IsSilent
+      on (Ok c) done told reads = bound_is p (stream_of bytes) h.0 b h.1 reads true c refl (proved_in bytes e c done)
+      on (Err x) done told reads = only_silent p (stream_of bytes) h.0 b h.1 reads h.2.within.depth h.3 x (told_in bytes e x (told (ap is_some e)))

@@ -1,0 +1,68 @@
+use Rattle.std.proofs.Common.{refl, sym, subst, ◌∙◌, inl}
+use Rattle.std.proofs.lemmas.Result.{err_from_is_err_and}
+use Rattle.tt_proof_check.specs.Verdicts.{IsYes}
+use Rattle.tt_proof_check.proofs.Files.{tells_instance, tells_solution}
+use Rattle.tt_proof_check.proofs.Certifying.{certified_memory, broken_memory, points, no_points, not_certified, broken_found, is_feasible, not_broken, bound_tells, certified_proof, certified_cost, yes_found}
+use Rattle.tt_proof_check.proofs.headline.certify.Goals as goal
+
+pub returns-in_err-instance-clause-yes : goal.returns-in_err-instance-clause-yes
+returns-in_err-instance-clause-yes g c =
+    let e = err_from_is_err_and c.from_residual.result c.from_residual.ensures.1 in
+    λ n b bytes known h. rw (e.1, e.2) (certified_memory c.args.instance.now c.args.solution.now bytes n b _ h (tells_instance c.args.instance.now c.args.solution.now c.in_err-instance.field-0.0 c.in_err-instance.ensures.exact))
+
+pub returns-in_err-instance-clause-broken : goal.returns-in_err-instance-clause-broken
+returns-in_err-instance-clause-broken g c =
+    let e = err_from_is_err_and c.from_residual.result c.from_residual.ensures.1 in
+    λ k. (rw (e.1, e.2) (broken_memory c.args.instance.now c.args.solution.now _ k (tells_instance c.args.instance.now c.args.solution.now c.in_err-instance.field-0.0 c.in_err-instance.ensures.exact)), refl)
+
+pub returns-in_err-table-clause-yes : goal.returns-in_err-table-clause-yes
+returns-in_err-table-clause-yes g c =
+    let e = err_from_is_err_and c.from_residual-in_err-table.result c.from_residual-in_err-table.ensures.1 in
+    λ n b bytes known h. rw (e.1, e.2) (certified_memory c.args.instance.now c.args.solution.now bytes n b _ h (tells_solution c.args.instance.now c.args.solution.now c.in_ok-instance.instance c.in_err-table.field-0.0 c.in_ok-instance.ensures.found c.in_err-table.ensures.exact))
+
+pub returns-in_err-table-clause-broken : goal.returns-in_err-table-clause-broken
+returns-in_err-table-clause-broken g c =
+    let e = err_from_is_err_and c.from_residual-in_err-table.result c.from_residual-in_err-table.ensures.1 in
+    λ k. (rw (e.1, e.2) (broken_memory c.args.instance.now c.args.solution.now _ k (tells_solution c.args.instance.now c.args.solution.now c.in_ok-instance.instance c.in_err-table.field-0.0 c.in_ok-instance.ensures.found c.in_err-table.ensures.exact)), refl)
+
+pub returns-then-not-feasible-clause-found : goal.returns-then-not-feasible-clause-found
+returns-then-not-feasible-clause-found g c =
+    broken_found c.args.instance.now c.args.solution.now c.in_ok-instance.instance c.in_ok-table.table c.in_ok-instance.ensures.found c.in_ok-table.ensures.found c.score-score.result c.score-score.ensures (points c.feasible.result _ c.feasible.ensures c.if-not-feasible.true)
+
+pub returns-then-not-feasible-clause-yes : goal.returns-then-not-feasible-clause-yes
+returns-then-not-feasible-clause-yes g c =
+    λ n b bytes known h. absurd (not_certified c.args.instance.now c.args.solution.now c.in_ok-instance.instance c.in_ok-table.table c.in_ok-instance.ensures.found c.in_ok-table.ensures.found c.score-score.result c.score-score.ensures bytes n b (points c.feasible.result _ c.feasible.ensures c.if-not-feasible.true) h)
+
+pub proved_bound-requires : goal.proved_bound-requires
+proved_bound-requires g c =
+    is_feasible c.args.instance.now c.args.solution.now c.in_ok-instance.instance c.in_ok-table.table c.in_ok-instance.ensures.found c.in_ok-table.ensures.found c.score-score.result c.score-score.ensures (no_points c.feasible.result _ c.feasible.ensures c.if-not-feasible.false)
+
+pub returns-in_err-bound-clause-fault : goal.returns-in_err-bound-clause-fault
+returns-in_err-bound-clause-fault g c =
+    let e = err_from_is_err_and c.from_residual-in_err-bound.result c.from_residual-in_err-bound.ensures.1 in
+    rw (e.1, e.2) (bound_tells c.args.instance.now c.args.solution.now c.in_ok-instance.instance c.in_ok-table.table c.in_ok-instance.ensures.found c.in_ok-table.ensures.found c.score-score.result c.score-score.ensures (g.R.Source.remaining c.args.proof.now) c.in_err-bound.field-0.0 (no_points c.feasible.result _ c.feasible.ensures c.if-not-feasible.false) c.in_err-bound.ensures.own c.in_err-bound.ensures.fault)
+
+pub returns-in_err-bound-clause-yes : goal.returns-in_err-bound-clause-yes
+returns-in_err-bound-clause-yes g c =
+    let e = err_from_is_err_and c.from_residual-in_err-bound.result c.from_residual-in_err-bound.ensures.1 in
+    λ n b bytes known h. rw (e.1, e.2) (c.in_err-bound.ensures.only bytes b known (certified_proof c.args.instance.now c.args.solution.now c.in_ok-instance.instance c.in_ok-table.table c.in_ok-instance.ensures.found c.in_ok-table.ensures.found c.score-score.result c.score-score.ensures bytes n b h))
+
+pub returns-in_err-bound-clause-broken : goal.returns-in_err-bound-clause-broken
+returns-in_err-bound-clause-broken g c =
+    λ k. absurd (not_broken c.args.instance.now c.args.solution.now c.in_ok-instance.instance c.in_ok-table.table c.in_ok-instance.ensures.found c.in_ok-table.ensures.found c.score-score.result c.score-score.ensures (no_points c.feasible.result _ c.feasible.ensures c.if-not-feasible.false) k)
+
+pub returns-clause-found : goal.returns-clause-found
+returns-clause-found g c =
+    subst (λ n. IsYes c.args.instance.now c.args.solution.now (g.R.Source.remaining c.args.proof.now) n c.in_ok-bound.bound) (sym c.cost.ensures)
+    (yes_found c.args.instance.now c.args.solution.now c.in_ok-instance.instance c.in_ok-table.table c.in_ok-instance.ensures.found c.in_ok-table.ensures.found c.score-score.result c.score-score.ensures (g.R.Source.remaining c.args.proof.now) c.in_ok-bound.bound (no_points c.feasible.result _ c.feasible.ensures c.if-not-feasible.false) c.in_ok-bound.ensures.found c.in_ok-bound.ensures.holds)
+
+pub returns-clause-yes : goal.returns-clause-yes
+returns-clause-yes g c =
+    λ n b bytes known h. (
+      (c.cost.ensures ∙ certified_cost c.args.instance.now c.args.solution.now c.in_ok-instance.instance c.in_ok-table.table c.in_ok-instance.ensures.found c.in_ok-table.ensures.found c.score-score.result c.score-score.ensures bytes n b h),
+      c.in_ok-bound.ensures.only bytes b known (certified_proof c.args.instance.now c.args.solution.now c.in_ok-instance.instance c.in_ok-table.table c.in_ok-instance.ensures.found c.in_ok-table.ensures.found c.score-score.result c.score-score.ensures bytes n b h),
+    )
+
+pub returns-clause-broken : goal.returns-clause-broken
+returns-clause-broken g c =
+    λ k. absurd (not_broken c.args.instance.now c.args.solution.now c.in_ok-instance.instance c.in_ok-table.table c.in_ok-instance.ensures.found c.in_ok-table.ensures.found c.score-score.result c.score-score.ensures (no_points c.feasible.result _ c.feasible.ensures c.if-not-feasible.false) k)

@@ -1,0 +1,28 @@
+use Rattle.std.proofs.Common.{◌≡◌, ℕ, true, List, Some, IfOk, subst, is_some}
+use Rattle.std.specs.Prelude.{IfErr}
+use Rattle.tt_text.specs.Feeds.{stream_at, fresh}
+use Rattle.tt_instance.specs.Problem.{Problem}
+use Rattle.tt_proof_check.specs.Derives.{HoldsOfAll}
+use Rattle.tt_proof_check.specs.Judged.{Proved}
+use Rattle.tt_proof_check.specs.Streams.{IsProved, TellsOf}
+use Rattle.tt_proof_check.proofs.Texts.{proof_found, proof_holds, proof_only}
+use Rattle.tt_proof_check.proofs.stream.check_proof.Goals as goal
+
+pub returns-clause-found : goal.returns-clause-found
+returns-clause-found g c =
+    let remaining = g.R.Source.remaining c.args.source.now in
+    subst (λ (p : Problem). IfOk c.read_proof.result (λ b. (bytes : List ℕ) → remaining ≡ Some bytes → IsProved p bytes b)) c.new-path.ensures.problem
+    (proof_found c.new-path.result.problem remaining c.read_proof.result c.read_proof.ensures.proved)
+
+pub returns-clause-only : goal.returns-clause-only
+returns-clause-only g c =
+    let remaining = g.R.Source.remaining c.args.source.now in
+    let r = c.read_proof.result in
+    let proved = subst (λ (p : Problem). IfOk r (λ b. Proved p (is_some remaining) (stream_at fresh remaining) b)) c.new-path.ensures.problem c.read_proof.ensures.proved in
+    let fault = subst (λ (p : Problem). is_some remaining ≡ true → IfErr r (λ x. TellsOf p (stream_at fresh remaining) x)) c.new-path.ensures.problem c.read_proof.ensures.fault in
+    proof_only c.args.instance.now remaining c.days.ensures.instance r proved fault
+
+pub returns-clause-holds : goal.returns-clause-holds
+returns-clause-holds g c =
+    subst (λ (p : Problem). IfOk c.read_proof.result (HoldsOfAll p)) c.new-path.ensures.problem
+    (proof_holds c.new-path.result.problem (g.R.Source.remaining c.args.source.now) c.read_proof.result c.read_proof.ensures.proved)

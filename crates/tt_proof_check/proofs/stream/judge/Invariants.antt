@@ -1,0 +1,17 @@
+use Rattle.std.proofs.Common.{◌≡◌, ◌-◌, ◌≤◌, true, is_some}
+use Rattle.tt_text.specs.Feeds.{stream_at}
+use Rattle.tt_proof_check.proofs.Streaming.{Sofar}
+use Rattle.tt_proof_check.proofs.stream.judge.Given as goal
+
+abbrev pub invariant-loop-node : goal.invariant-loop-node
+invariant-loop-node g l = record {
+  sofar : Sofar (g.P.Path.problem l.fn.path) l.fn.reader.version l.fn.reader.bound (is_some (g.R.Source.remaining l.fn.source))
+      (stream_at l.fn.reader.fed (g.R.Source.remaining l.fn.source)) l.reader (stream_at l.reader.fed (g.R.Source.remaining l.source)) (g.P.Path.facts l.path);
+  problem : g.P.Path.problem l.path ≡ g.P.Path.problem l.fn.path;
+  count : l.count ≡ l.reader.count;
+  few : l.reader.count ≤ 16777216;
+  known : is_some (g.R.Source.remaining l.fn.source) ≡ true → is_some (g.R.Source.remaining l.source) ≡ true;
+}
+
+abbrev pub decreases-loop-node : goal.decreases-loop-node
+decreases-loop-node g l = 16777217 - l.reader.count

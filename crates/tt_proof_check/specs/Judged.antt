@@ -1,0 +1,45 @@
+-- What has been judged of a proof that is being read, behind a header with this version and bound.
+use Rattle.std.specs.Prelude.{◌≡◌, ℕ, Bool, true, [], Ok, ⊤}
+use Rattle.tt_text.specs.Feeds.{Stream}
+use Rattle.tt_instance.specs.Problem.{Problem}
+use Rattle.tt_leaf.specs.declared.leaf.Bound.{Bound}
+use Rattle.tt_proof_text.specs.Reading.{node_at}
+use Rattle.tt_proof_text.specs.Reads.{ReadsNodes, Reads}
+use Rattle.tt_proof_text.specs.Trees.{Tree, preorder}
+use Rattle.tt_proof_text.specs.declared.fault.TextFault.TheVariants as text
+use Rattle.tt_proof_text.specs.declared.node.Node.{Node}
+use Rattle.tt_proof_text.specs.declared.sizes.Sizes.{Sizes}
+use Rattle.tt_proof_check.specs.declared.fault.CheckFault.{CheckFault}
+use Rattle.tt_proof_check.specs.declared.fault.CheckFault.TheVariants.{Text, Rule, TooDeep, OutOfMemory}
+use Rattle.tt_proof_check.specs.Derives.{Derives, IsShallow}
+use Rattle.tt_proof_check.specs.Streams.{sizes_of, Fails, NodeFails, IsReadTo}
+use Rattle.tt_proof_check.specs.Tells.{FailsAt, IsDeepAt}
+
+-- a tree was read whole, where the bytes are known, and derives the bound
+pub record Judged (p : Problem) (v : ℕ) (b : Bound) (known : Bool) (s after : Stream) : Type 0 where
+  pub tree : Tree
+  pub reads : known ≡ true → ReadsNodes (sizes_of p) v 0 s (preorder tree) after
+  pub shallow : IsShallow tree
+  pub derives : Derives p b [] tree
+
+-- what a fault of the nodes says
+abbrev pub TellsNodes : Problem → ℕ → Bound → Stream → CheckFault → Type 0
+TellsNodes p v b s (Text f) = ¬ (f ≡ text.OutOfMemory) × NodeFails p v b s f
+TellsNodes p v b s (Rule i f) = IsReadTo p v s i (λ tree. FailsAt p b tree i f)
+TellsNodes p v b s (TooDeep i) = IsReadTo p v s i (λ tree. IsDeepAt p b tree i)
+TellsNodes p v b s OutOfMemory = ⊤
+
+-- the child that is too deep was read, or its text fails
+abbrev pub TellsChild : Sizes → ℕ → ℕ → Stream → ℕ → CheckFault → Type 0
+TellsChild sizes v count s i (Text f) = ¬ (f ≡ text.OutOfMemory) × Fails f (node_at sizes v count s)
+TellsChild sizes v count s i (Rule k f) = ⊥
+TellsChild sizes v count s i (TooDeep k) = (k ≡ i) × (child : Node) × (after : Stream) × (node_at sizes v count s ≡ Ok (child, after))
+TellsChild sizes v count s i OutOfMemory = ⊤
+
+-- a tree that derives the bound, which the text is, where it is known
+pub record Proved (p : Problem) (known : Bool) (s : Stream) (b : Bound) : Type 0 where
+  pub version : ℕ
+  pub tree : Tree
+  pub reads : known ≡ true → Reads (sizes_of p) s version b tree
+  pub shallow : IsShallow tree
+  pub derives : Derives p b [] tree

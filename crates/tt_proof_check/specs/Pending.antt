@@ -1,0 +1,20 @@
+-- The places that a path leaves open.
+use Rattle.std.specs.Prelude.{◌≡◌, ◌⊎◌, false, List, [], ◌∷◌, ◌++◌, if◌then◌else◌}
+use Rattle.tt_facts.specs.declared.facts.Fact.{Fact}
+use Rattle.tt_proof_text.specs.Trees.{with_fact}
+
+-- the second child of the split that added the fact, if its first child is on the path
+abbrev pub other_side : List Fact → Fact → List (List Fact)
+other_side before f = if f.holds then with_fact before f.pattern false ∷ [] else []
+
+abbrev pub pending_after : List Fact → List Fact → List (List Fact)
+pending_after before [] = []
+pending_after before (f ∷ fs) = pending_after (before ++ f ∷ []) fs ++ other_side before f
+
+-- the second children that are still to come, the deepest first, each by its path
+abbrev pub pending : List Fact → List (List Fact)
+pending path = pending_after [] path
+
+-- the deepest second child that is still to come is the next, if one is
+abbrev pub GoesOn : List Fact → List Fact → Type 0
+GoesOn path next = (pending path ≡ []) ⊎ (pending path ≡ next ∷ pending next)

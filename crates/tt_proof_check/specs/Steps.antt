@@ -1,0 +1,32 @@
+-- What one node does to a path.
+use Rattle.std.specs.Prelude.{◌≡◌, true, List, length, Some, ⊤}
+use Rattle.tt_instance.specs.Problem.{Problem}
+use Rattle.tt_facts.specs.declared.facts.Fact.{Fact}
+use Rattle.tt_facts.specs.declared.path.PathFault.{PathFault}
+use Rattle.tt_facts.specs.declared.path.PathFault.TheVariants as path
+use Rattle.tt_leaf.specs.Leaves.{IsRight, fault_of}
+use Rattle.tt_leaf.specs.declared.leaf.Bound.{Bound}
+use Rattle.tt_proof_text.specs.Trees.{with_fact}
+use Rattle.tt_proof_text.specs.declared.node.Node.{Node}
+use Rattle.tt_proof_text.specs.declared.node.Node.TheVariants.{Split, Leaf}
+use Rattle.tt_proof_check.specs.declared.walk.Stop.{Stop}
+use Rattle.tt_proof_check.specs.declared.walk.Stop.TheVariants.{Rule, TooDeep, OutOfMemory}
+use Rattle.tt_proof_check.specs.Pending.{GoesOn}
+
+-- a split goes down to its first child, and a right leaf on to the next place
+abbrev pub Steps : Problem → Bound → List Fact → Node → List Fact → Type 0
+Steps p b facts (Split g) next = next ≡ with_fact facts g true
+Steps p b facts (Leaf leaf) next = IsRight p facts b leaf × GoesOn facts next
+
+-- only a leaf breaks a rule, and only a split can be too deep
+abbrev pub Stops : Problem → Bound → List Fact → Node → Stop → Type 0
+Stops p b facts (Split g) (Rule f) = ⊥
+Stops p b facts (Leaf leaf) (Rule f) = fault_of p facts b leaf ≡ Some f
+Stops p b facts (Split g) TooDeep = length facts ≡ 65536
+Stops p b facts (Leaf leaf) TooDeep = ⊥
+Stops p b facts node OutOfMemory = ⊤
+
+-- what stops where a fact was not added
+abbrev pub stop_of : PathFault → Stop
+stop_of path.TooDeep = TooDeep
+stop_of path.OutOfMemory = OutOfMemory

@@ -1,0 +1,93 @@
+-- What the answers of a checker that reads node by node say of the text.
+use Rattle.std.specs.Prelude.{◌≡◌, ℕ, ◌+◌, List, [], ◌∷◌, ◌++◌, length, take, All, Result, Ok, ⊤, ◌⊎◌}
+use Rattle.tt_text.specs.Feeds.{Stream, stream_from, most_bytes}
+use Rattle.tt_text.specs.Reading.{FailsBut}
+use Rattle.tt_text.specs.declared.feed.FeedFault.TheVariants as feed
+use Rattle.tt_instance.specs.Problem.{Problem}
+use Rattle.tt_leaf.specs.declared.leaf.Bound.{Bound}
+use Rattle.tt_proof_text.specs.Faults.{is_silent}
+use Rattle.tt_proof_text.specs.Reading.{header_at, node_at, end_at}
+use Rattle.tt_proof_text.specs.Reads.{ReadsNodes}
+use Rattle.tt_proof_text.specs.Spelling.{SpellsProof}
+use Rattle.tt_proof_text.specs.Trees.{Tree, preorder, on_paths}
+use Rattle.tt_proof_text.specs.declared.fault.TextFault.{TextFault}
+use Rattle.tt_proof_text.specs.declared.fault.TextFault.TheVariants as text
+use Rattle.tt_proof_text.specs.declared.node.Node.{Node}
+use Rattle.tt_proof_text.specs.declared.sizes.Sizes.{Sizes}
+use Rattle.tt_proof_check.specs.declared.fault.CheckFault.{CheckFault}
+use Rattle.tt_proof_check.specs.declared.fault.CheckFault.TheVariants.{Text, Rule, TooDeep, OutOfMemory}
+use Rattle.tt_proof_check.specs.Derives.{Derives, IsShallow}
+use Rattle.tt_proof_check.specs.Tells.{Passes, FailsAt, IsDeepAt}
+
+-- the bytes spell a tree that derives the bound
+abbrev pub IsProved : Problem → List ℕ → Bound → Type 0
+IsProved p bytes b = (version : ℕ) × (tree : Tree) × SpellsProof p bytes version b tree × Derives p b [] tree
+
+-- want of memory or a failed read, which say nothing of the bytes
+abbrev pub IsSilent : CheckFault → Type 0
+IsSilent e = (e ≡ OutOfMemory) ⊎ (e ≡ Text (text.Feed feed.Read))
+
+-- what a feed gives of the bytes
+abbrev pub stream_of : List ℕ → Stream
+stream_of bytes = stream_from most_bytes 0 bytes
+
+-- how many there are of each thing
+abbrev pub sizes_of : Problem → Sizes
+sizes_of p = record {
+  courses = length p.courses;
+  curricula = length p.curricula;
+  rooms = length p.rooms;
+  days = p.days;
+  periods = p.periods;
+}
+
+-- the text has this very fault; a silent one says nothing of it
+abbrev pub Fails : {Y : Type 0} → TextFault → Result Y TextFault → Type 0
+Fails f read = FailsBut is_silent f read
+
+-- ---- the nodes, behind a header with this version and bound
+
+-- some tree goes on from the nodes that have been read, each of which passes, and the text of the next node fails
+pub record NodeFails (p : Problem) (v : ℕ) (b : Bound) (s : Stream) (f : TextFault) : Type 0 where
+  pub nodes : List Node
+  pub rest : Stream
+  pub reads : ReadsNodes (sizes_of p) v 0 s nodes rest
+  pub tree : Tree
+  pub next : Node
+  pub more : List Node
+  pub begins : preorder tree ≡ nodes ++ next ∷ more
+  pub passed : All (Passes p b) (take (length nodes) (on_paths [] tree))
+  pub fails : Fails f (node_at (sizes_of p) v (length nodes) rest)
+
+-- the nodes up to the one at i have been read, and some tree that begins with them has the property
+pub record IsReadTo (p : Problem) (v : ℕ) (s : Stream) (i : ℕ) (P : Tree → Type 0) : Type 0 where
+  pub nodes : List Node
+  pub rest : Stream
+  pub reads : ReadsNodes (sizes_of p) v 0 s nodes rest
+  pub tree : Tree
+  pub more : List Node
+  pub begins : preorder tree ≡ nodes ++ more
+  pub last : length nodes ≡ i + 1
+  pub is : P tree
+
+-- ---- the whole text
+
+-- a header with some version and bound, and behind it what P says
+abbrev pub HasHeader : Stream → (ℕ → Bound → Stream → Type 0) → Type 0
+HasHeader s P = (v : ℕ) × (b : Bound) × (rest : Stream) × (header_at s ≡ Ok ((v, b), rest)) × P v b rest
+
+-- the tree is whole and derives the bound, and the text of the end fails
+pub record EndFails (p : Problem) (v : ℕ) (b : Bound) (s : Stream) (f : TextFault) : Type 0 where
+  pub tree : Tree
+  pub rest : Stream
+  pub reads : ReadsNodes (sizes_of p) v 0 s (preorder tree) rest
+  pub shallow : IsShallow tree
+  pub derives : Derives p b [] tree
+  pub fails : Fails f (end_at rest)
+
+-- what a fault says of a text, of which a feed gives this stream
+abbrev pub TellsOf : Problem → Stream → CheckFault → Type 0
+TellsOf p s (Text f) = ¬ (f ≡ text.OutOfMemory) × (Fails f (header_at s) ⊎ HasHeader s (λ v b rest. NodeFails p v b rest f ⊎ EndFails p v b rest f))
+TellsOf p s (Rule i f) = HasHeader s (λ v b rest. IsReadTo p v rest i (λ tree. FailsAt p b tree i f))
+TellsOf p s (TooDeep i) = HasHeader s (λ v b rest. IsReadTo p v rest i (λ tree. IsDeepAt p b tree i))
+TellsOf p s OutOfMemory = ⊤

@@ -1,0 +1,115 @@
+-- What `certify` answers, and what has to be answered.
+use Rattle.std.specs.Prelude.{◌≡◌, ℕ, ◌≤◌, ◌⊎◌, List, Option, Result, Ok, Err, IfSome, ⊤}
+use Rattle.tt_text.specs.declared.feed.FeedFault.TheVariants as feed
+use Rattle.tt_instance.specs.Problem.{Problem}
+use Rattle.tt_instance.specs.Reading.{instance_of}
+use Rattle.tt_instance.specs.Spelling.{Spells}
+use Rattle.tt_instance.specs.declared.cell.Cell.{Cell}
+use Rattle.tt_instance.specs.declared.fault.InstanceFault.{InstanceFault}
+use Rattle.tt_instance.specs.declared.fault.InstanceFault.TheVariants as instance
+use Rattle.tt_table.specs.Reading.{solution_of}
+use Rattle.tt_table.specs.declared.fault.SolutionFault.{SolutionFault}
+use Rattle.tt_table.specs.declared.fault.SolutionFault.TheVariants as solution
+use Rattle.tt_rules.specs.Score.{IsScore, IsFeasible}
+use Rattle.tt_rules.specs.declared.counts.Score.{Score}
+use Rattle.tt_proof_text.specs.declared.fault.TextFault.TheVariants as text
+use Rattle.tt_proof_check.specs.Headline.{SpellsBoth, Solves, BreaksARule, Certifies, BoundsAll}
+use Rattle.tt_proof_check.specs.Streams.{stream_of, TellsOf}
+use Rattle.tt_proof_check.specs.declared.fault.CheckFault.{CheckFault}
+use Rattle.tt_proof_check.specs.declared.fault.CheckFault.TheVariants as check
+use Rattle.tt_proof_check.specs.declared.fault.Verdict.{Verdict}
+use Rattle.tt_proof_check.specs.declared.fault.Verdict.TheVariants.{Yes, Breaks}
+use Rattle.tt_proof_check.specs.declared.fault.CertifyFault.{CertifyFault}
+use Rattle.tt_proof_check.specs.declared.fault.CertifyFault.TheVariants as fault
+
+-- ---- what is answered
+
+-- yes with c and b: what it says of the bytes (of the proof's, where its reader tells them), and what it means
+pub record IsYes (instance solution : List ℕ) (proof : Option (List ℕ)) (c b : ℕ) : Type 0 where
+  pub solves : Solves instance solution c
+  pub certified : IfSome proof (λ bytes. Certifies instance solution bytes c b)
+  pub bounds : BoundsAll instance b
+  pub within : b ≤ c
+
+-- a hard rule is broken, and this is the score
+pub record IsBroken (instance solution : List ℕ) (score : Score) : Type 0 where
+  pub breaks : BreaksARule instance solution
+  pub score_is : IsScore breaks.problem breaks.table score
+
+abbrev pub IsVerdict : List ℕ → List ℕ → Option (List ℕ) → Verdict → Type 0
+IsVerdict i s proof (Yes c b) = IsYes i s proof c b
+IsVerdict i s proof (Breaks score) = IsBroken i s score
+
+-- ---- refusals
+
+-- the bytes spell an instance, and those of the solution have this fault
+pub record FailsSolution (instance solution : List ℕ) (f : SolutionFault) : Type 0 where
+  pub problem : Problem
+  pub spelled : Spells instance problem
+  pub fails : solution_of problem solution ≡ Err f
+
+-- the solution breaks no hard rule, and the proof has this fault
+pub record FailsProof (instance solution : List ℕ) (proof : Option (List ℕ)) (f : CheckFault) : Type 0 where
+  pub problem : Problem
+  pub table : List Cell
+  pub both : SpellsBoth instance solution problem table
+  pub feasible : IsFeasible problem table
+  pub fails : IfSome proof (λ bytes. TellsOf problem (stream_of bytes) f)
+
+-- a refusal tells the first fault: the instance's, then the solution's, then the proof's
+abbrev pub TellsOfAll : List ℕ → List ℕ → Option (List ℕ) → CertifyFault → Type 0
+TellsOfAll i s proof (fault.Instance f) = instance_of i ≡ Err f
+TellsOfAll i s proof (fault.Solution f) = FailsSolution i s f
+TellsOfAll i s proof (fault.Proof f) = FailsProof i s proof f
+TellsOfAll i s proof fault.OutOfMemory = ⊤
+
+-- the instance or the solution is refused
+abbrev pub IsOfFiles : CertifyFault → Type 0
+IsOfFiles (fault.Instance f) = ⊤
+IsOfFiles (fault.Solution f) = ⊤
+IsOfFiles (fault.Proof f) = ⊥
+IsOfFiles fault.OutOfMemory = ⊥
+
+-- ---- what has to be answered
+
+-- a read of the proof failed
+abbrev pub read_failed : CertifyFault
+read_failed = fault.Proof (check.Text (text.Feed feed.Read))
+
+-- yes with c and b, unless memory runs out or a read of the proof fails
+abbrev pub AnswersYes : Result Verdict CertifyFault → ℕ → ℕ → Type 0
+AnswersYes (Ok (Yes n m)) c b = (n ≡ c) × (m ≡ b)
+AnswersYes (Ok (Breaks score)) c b = ⊥
+AnswersYes (Err f) c b = (f ≡ fault.OutOfMemory) ⊎ (f ≡ read_failed)
+
+-- that a hard rule is broken, unless memory runs out
+abbrev pub AnswersBroken : Result Verdict CertifyFault → Type 0
+AnswersBroken (Ok (Yes n m)) = ⊥
+AnswersBroken (Ok (Breaks score)) = ⊤
+AnswersBroken (Err f) = f ≡ fault.OutOfMemory
+
+-- ---- how a fault is told: want of memory is always one and the same
+
+abbrev pub told_instance : InstanceFault → CertifyFault
+told_instance instance.OutOfMemory = fault.OutOfMemory
+told_instance f = fault.Instance f
+
+abbrev pub told_solution : SolutionFault → CertifyFault
+told_solution solution.OutOfMemory = fault.OutOfMemory
+told_solution f = fault.Solution f
+
+abbrev pub told_check : CheckFault → CertifyFault
+told_check check.OutOfMemory = fault.OutOfMemory
+told_check f = fault.Proof f
+
+-- this bound, unless memory runs out or a read fails
+abbrev pub GivesBound : Result ℕ CertifyFault → ℕ → Type 0
+GivesBound (Ok c) b = c ≡ b
+GivesBound (Err f) b = (f ≡ fault.OutOfMemory) ⊎ (f ≡ read_failed)
+
+-- a fault of the proof
+abbrev pub TellsBound : Problem → List ℕ → CertifyFault → Type 0
+TellsBound p bytes (fault.Instance f) = ⊥
+TellsBound p bytes (fault.Solution f) = ⊥
+TellsBound p bytes (fault.Proof f) = TellsOf p (stream_of bytes) f
+TellsBound p bytes fault.OutOfMemory = ⊤

@@ -1,0 +1,74 @@
+//! Lists of nodes: whether they are a tree, and what it derives.
+
+ghost use Rattle.std.specs.Prelude.{◌≡◌, [], IsOkUnless, IfErr, OnOk, IsTrue, ◌↔◌, All};
+ghost use Rattle.tt_proof_check.specs.Derives.{Proves, HoldsOfAll};
+ghost use Rattle.tt_proof_check.specs.Nodes.{IsATree, IsNodeOf};
+ghost use Rattle.tt_proof_check.specs.Tells.{Tells};
+
+use crate::fault::NodesFault;
+use crate::walk::{Stop, take_node};
+use std::alloc::Global;
+use tt_facts::{Path, PlainPath};
+use tt_instance::Instance;
+use tt_leaf::Bound;
+use tt_proof_text::Node;
+
+/// Whether the nodes are one tree in preorder.
+fn is_tree(nodes: &[Node]) -> bool
+    ensures { IsTrue result ↔ IsATree nodes.now }
+{
+    let mut places: usize = 1;
+    for node in nodes {
+        if places == 0 {
+            return false;
+        }
+        match node {
+            Node::Split(_) => places += 1,
+            Node::Leaf(_) => places -= 1,
+        }
+    }
+    places == 0
+}
+
+/// Judges the nodes of a tree, each on its path.
+fn judge_tree<'i, P: Path<'i>>(path: &mut P, bound: Bound, nodes: &[Node]) -> Result<(), NodesFault>
+    requires root { P.facts path.old ≡ [] }
+    requires tree { IsATree nodes.now }
+    requires nodes { All (IsNodeOf (P.problem path.old)) nodes.now }
+    ensures derived { OnOk result (Proves (P.problem path.old) bound nodes.now) }
+    ensures fault { IfErr result (λ e. Tells (P.problem path.old) bound nodes.now e) }
+{
+    for (i, node) in nodes.iter().enumerate() {
+        match take_node(path, bound, node) {
+            Ok(()) => {}
+            Err(Stop::Rule(fault)) => return Err(NodesFault::Rule(i, fault)),
+            Err(Stop::TooDeep) => return Err(NodesFault::TooDeep(i + 1)),
+            Err(Stop::OutOfMemory) => return Err(NodesFault::OutOfMemory),
+        }
+    }
+    Ok(())
+}
+
+/// Whether the nodes prove a bound: they are one tree in preorder, and each leaf closes its node on its path.
+pub fn check_nodes(
+    alloc: Global,
+    instance: &Instance<'_>,
+    bound: Bound,
+    nodes: &[Node],
+) -> Result<(), NodesFault>
+    requires { All (IsNodeOf instance.now) nodes.now }
+
+    ensures derived { OnOk result (Proves instance.now bound nodes.now) }
+    ensures only { Proves instance.now bound nodes.now → IsOkUnless result NodesFault.OutOfMemory }
+    ensures holds { OnOk result (HoldsOfAll instance.now bound) }
+
+    // That they are no tree is told before anything else.
+    ensures only_trees { ¬ (IsATree nodes.now) → result ≡ Err NodesFault.NotATree }
+    ensures fault { IfErr result (λ e. Tells instance.now bound nodes.now e) }
+{
+    if !is_tree(nodes) {
+        return Err(NodesFault::NotATree);
+    }
+    let mut path = PlainPath::new(alloc, instance);
+    judge_tree(&mut path, bound, nodes)
+}

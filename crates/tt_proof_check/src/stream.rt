@@ -1,0 +1,125 @@
+//! Proofs that are judged as they are read.
+
+ghost use Rattle.std.specs.Prelude.{◌≡◌, ◌<◌, ◌≤◌, ℕ, List, [], length, true, is_some, Some, None, Err, OnOk, IfOk, IfErr, MatchResult};
+ghost use Rattle.tt_leaf.specs.declared.leaf.Bound.{Bound};
+ghost use Rattle.tt_text.specs.Feeds.{stream_at, fresh};
+ghost use Rattle.tt_proof_text.specs.Answers.{StaysKnown};
+ghost use Rattle.tt_proof_text.specs.Faults.{read_failed};
+ghost use Rattle.tt_proof_text.specs.Sizes.{AreSizes};
+ghost use Rattle.tt_proof_check.specs.Derives.{HoldsOfAll};
+ghost use Rattle.tt_proof_check.specs.Nodes.{IsNodeOf};
+ghost use Rattle.tt_proof_check.specs.Steps.{Steps, Stops};
+ghost use Rattle.tt_proof_check.specs.Judged.{Judged, Proved, TellsNodes, TellsChild};
+ghost use Rattle.tt_proof_check.specs.Streams.{stream_of, IsProved, IsSilent, TellsOf};
+
+use crate::fault::CheckFault;
+use crate::walk::{Stop, take_node};
+use std::alloc::Global;
+use tt_facts::{Path, PlainPath};
+use tt_instance::Instance;
+use tt_leaf::Bound;
+use tt_proof_text::{Node, NodeReader};
+use tt_text::Source;
+
+/// Takes a node and lets it go.
+fn take<'i, P: Path<'i>>(path: &mut P, bound: Bound, node: Node) -> Result<(), Stop>
+    requires node { IsNodeOf (P.problem path.old) node }
+    requires within { length (P.facts path.old) ≤ 65536 }
+    ensures steps { OnOk result (Steps (P.problem path.old) bound (P.facts path.old) node (P.facts path.new)) }
+    ensures within { OnOk result (length (P.facts path.new) ≤ 65536) }
+    ensures stops { IfErr result (λ stop. Stops (P.problem path.old) bound (P.facts path.old) node stop) }
+    ensures same { P.problem path.new ≡ P.problem path.old }
+{
+    take_node(path, bound, &node)
+}
+
+/// The fault of a split whose children are too deep: its first child is read before it is told.
+fn deep_fault<R: Source>(reader: &mut NodeReader, source: &mut R, node: u32) -> CheckFault
+    requires sound { reader.old.fault ≡ None }
+    requires room { 0 < reader.old.places }
+    ensures known { StaysKnown (R.remaining source.old) (R.remaining source.new) }
+    ensures failed { result ≡ CheckFault.Text read_failed → R.has_failed source.new ≡ true }
+    ensures fault { is_some (R.remaining source.old) ≡ true →
+        TellsChild reader.old.sizes reader.old.version reader.old.count (stream_at reader.old.fed (R.remaining source.old)) node result }
+{
+    match reader.next_node(source) {
+        Ok(_) => CheckFault::TooDeep(node),
+        Err(fault) => CheckFault::from(fault),
+    }
+}
+
+/// Reads the nodes of a tree, and judges each before it reads the next.
+fn judge<'i, P: Path<'i>, R: Source>(
+    path: &mut P,
+    reader: &mut NodeReader,
+    source: &mut R,
+) -> Result<(), CheckFault>
+    requires root { P.facts path.old ≡ [] }
+    requires sizes { AreSizes (P.problem path.old) reader.old.sizes }
+    requires unread { reader.old.count ≡ 0 }
+    requires place { reader.old.places ≡ 1 }
+    requires sound { reader.old.fault ≡ None }
+    ensures known { StaysKnown (R.remaining source.old) (R.remaining source.new) }
+    ensures judged { OnOk result (Judged (P.problem path.old) reader.old.version reader.old.bound (is_some (R.remaining source.old))
+        (stream_at reader.old.fed (R.remaining source.old)) (stream_at reader.new.fed (R.remaining source.new))) }
+    ensures whole { OnOk result (reader.new.places ≡ 0) }
+    ensures sound { OnOk result (reader.new.fault ≡ None) }
+    ensures failed { result ≡ Err (CheckFault.Text read_failed) → R.has_failed source.new ≡ true }
+    ensures fault { is_some (R.remaining source.old) ≡ true →
+        IfErr result (λ e. TellsNodes (P.problem path.old) reader.old.version reader.old.bound (stream_at reader.old.fed (R.remaining source.old)) e) }
+{
+    let bound = reader.bound();
+    let mut count: u32 = 0;
+    while let Some(node) = reader.next_node(source)? {
+        match take(path, bound, node) {
+            Ok(()) => count += 1,
+            Err(Stop::Rule(fault)) => return Err(CheckFault::Rule(count, fault)),
+            Err(Stop::TooDeep) => return Err(deep_fault(reader, source, count + 1)),
+            Err(Stop::OutOfMemory) => return Err(CheckFault::OutOfMemory),
+        }
+    }
+    Ok(())
+}
+
+/// Reads a proof and judges it on a path.
+fn read_proof<'i, P: Path<'i>, R: Source>(
+    alloc: Global,
+    path: &mut P,
+    source: &mut R,
+) -> Result<Bound, CheckFault>
+    requires { P.facts path.old ≡ [] }
+    ensures proved { IfOk result (λ b. Proved (P.problem path.old) (is_some (R.remaining source.old)) (stream_at fresh (R.remaining source.old)) b) }
+    ensures failed { result ≡ Err (CheckFault.Text read_failed) → R.has_failed source.new ≡ true }
+    ensures fault { is_some (R.remaining source.old) ≡ true →
+        IfErr result (λ e. TellsOf (P.problem path.old) (stream_at fresh (R.remaining source.old)) e) }
+{
+    let mut reader = NodeReader::new(alloc, path.instance(), source)?;
+    let bound = reader.bound();
+    judge(path, &mut reader, source)?;
+    reader.finish(source)?;
+    Ok(bound)
+}
+
+/// Checks a proof as it is read, node by node, and answers the bound that it proves. It keeps no node.
+pub fn check_proof<R: Source>(
+    alloc: Global,
+    instance: &Instance<'_>,
+    source: &mut R,
+) -> Result<Bound, CheckFault>
+    // The bytes spell a tree that derives the bound.
+    ensures found { IfOk result (λ b. (bytes : List ℕ) → R.remaining source.old ≡ Some bytes → IsProved instance.now bytes b) }
+
+    // Where they spell one, its bound is found, unless memory or a read fails.
+    ensures only { (bytes : List ℕ) (b : Bound) → R.remaining source.old ≡ Some bytes → IsProved instance.now bytes b →
+        MatchResult result (λ c. c ≡ b) IsSilent }
+
+    // This holds whatever the source gives.
+    ensures holds { IfOk result (HoldsOfAll instance.now) }
+    ensures failed { result ≡ Err (CheckFault.Text read_failed) → R.has_failed source.new ≡ true }
+    ensures fault { IfErr result (λ e. (bytes : List ℕ) → R.remaining source.old ≡ Some bytes → TellsOf instance.now (stream_of bytes) e) }
+{
+    // What is true of every instance: its numbers are small enough to be read.
+    prove!(instance.days() > 0);
+    let mut path = PlainPath::new(alloc, instance);
+    read_proof(alloc, &mut path, source)
+}

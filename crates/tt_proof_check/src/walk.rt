@@ -1,0 +1,87 @@
+//! Nodes in preorder, one after another. One path is the whole stack: a yes-fact on it has its second child still to come.
+
+ghost use Rattle.std.specs.Prelude.{◌≡◌, ◌≤◌, length, OnOk, IfErr, IsOkUnless};
+ghost use Rattle.tt_proof_check.specs.Nodes.{IsNodeOf};
+ghost use Rattle.tt_proof_check.specs.Pending.{GoesOn};
+ghost use Rattle.tt_proof_check.specs.Steps.{Steps, Stops};
+
+use tt_facts::{Fact, Path, PathFault};
+use tt_leaf::{Bound, RuleFault, holds};
+use tt_proof_text::Node;
+
+/// Why a node was not taken.
+#[derive(Clone, Copy, Debug)]
+pub enum Stop {
+    /// The leaf does not close its node.
+    Rule(RuleFault),
+    /// The children of this split stand too deep.
+    TooDeep,
+    OutOfMemory,
+}
+
+impl From<RuleFault> for Stop {
+    ghost use Rattle.std.specs.Prelude.{◌≡◌};
+    ghost use Rattle.tt_proof_check.specs.declared.walk.Stop.TheVariants.{Rule};
+
+    ghost from_gives = { λ f s. s ≡ Rule f };
+
+    fn from(fault: RuleFault) -> Stop {
+        Stop::Rule(fault)
+    }
+}
+
+impl From<PathFault> for Stop {
+    ghost use Rattle.std.specs.Prelude.{◌≡◌};
+    ghost use Rattle.tt_proof_check.specs.Steps.{stop_of};
+
+    ghost from_gives = { λ f s. s ≡ stop_of f };
+
+    fn from(fault: PathFault) -> Stop {
+        match fault {
+            PathFault::TooDeep => Stop::TooDeep,
+            PathFault::OutOfMemory => Stop::OutOfMemory,
+        }
+    }
+}
+
+/// Goes on to the second child of the newest split that has one still to come.
+fn go_on<'i, P: Path<'i>>(path: &mut P) -> Result<(), PathFault>
+    requires { length (P.facts path.old) ≤ 65536 }
+    ensures next { OnOk result (GoesOn (P.facts path.old) (P.facts path.new)) }
+    ensures within { length (P.facts path.new) ≤ 65536 }
+    ensures memory { IsOkUnless result PathFault.OutOfMemory }
+    ensures same { P.problem path.new ≡ P.problem path.old }
+{
+    while path.depth() > 0 {
+        let fact = path.pop();
+        if fact.holds {
+            return path.push(Fact {
+                pattern: fact.pattern,
+                holds: false,
+            });
+        }
+    }
+    Ok(())
+}
+
+/// Takes the node that is due, and goes on to the next place.
+pub fn take_node<'i, P: Path<'i>>(path: &mut P, bound: Bound, node: &Node) -> Result<(), Stop>
+    requires node { IsNodeOf (P.problem path.old) node.now }
+    requires within { length (P.facts path.old) ≤ 65536 }
+    ensures steps { OnOk result (Steps (P.problem path.old) bound (P.facts path.old) node.now (P.facts path.new)) }
+    ensures within { OnOk result (length (P.facts path.new) ≤ 65536) }
+    ensures stops { IfErr result (λ stop. Stops (P.problem path.old) bound (P.facts path.old) node.now stop) }
+    ensures same { P.problem path.new ≡ P.problem path.old }
+{
+    match node {
+        Node::Split(pattern) => path.push(Fact {
+            pattern: *pattern,
+            holds: true,
+        })?,
+        Node::Leaf(leaf) => {
+            holds(path, leaf, bound)?;
+            go_on(path)?;
+        }
+    }
+    Ok(())
+}

@@ -1,0 +1,23 @@
+-- A proof that a stream gives node by node.
+use Rattle.std.specs.Prelude.{◌≡◌, ℕ, ◌+◌, List, [], ◌∷◌, Ok}
+use Rattle.tt_leaf.specs.declared.leaf.Bound.{Bound}
+use Rattle.tt_text.specs.Feeds.{Stream}
+use Rattle.tt_proof_text.specs.Reading.{header_at, node_at, end_at}
+use Rattle.tt_proof_text.specs.Trees.{Tree, preorder}
+use Rattle.tt_proof_text.specs.declared.node.Node.{Node}
+use Rattle.tt_proof_text.specs.declared.sizes.Sizes.{Sizes}
+
+-- The stream goes on with these nodes, and this is what comes behind them. So many nodes come before.
+abbrev pub ReadsNodes : Sizes → ℕ → ℕ → Stream → List Node → Stream → Type 0
+ReadsNodes sizes version count s [] after = s ≡ after
+ReadsNodes sizes version count s (node ∷ nodes) after =
+    (mid : Stream) × (node_at sizes version count s ≡ Ok (node, mid)) × ReadsNodes sizes version (count + 1) mid nodes after
+
+-- the stream is a header, the nodes of a tree and the end
+pub record Reads (sizes : Sizes) (s : Stream) (version : ℕ) (bound : Bound) (tree : Tree) : Type 0 where
+  pub headed : Stream
+  pub noded : Stream
+  pub ended : Stream
+  pub header : header_at s ≡ Ok ((version, bound), headed)
+  pub nodes : ReadsNodes sizes version 0 headed (preorder tree) noded
+  pub finish : end_at noded ≡ Ok ended

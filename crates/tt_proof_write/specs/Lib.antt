@@ -1,0 +1,3 @@
+pub mod Numbers
+pub mod Within
+pub mod Written

@@ -1,0 +1,71 @@
+//! Parts of a line behind its first token, each behind a space.
+
+ghost use Rattle.std.specs.Prelude.{◌≡◌, ◌++◌, ◌∷◌, [], IfSome, OnOk, All};
+ghost use Rattle.tt_text.specs.Pieces.{Number, Index};
+ghost use Rattle.tt_proof_text.specs.Spelling.{given_piece, who_piece, pattern_pieces, listed_pieces};
+ghost use Rattle.tt_proof_write.specs.Numbers.{IsNarrow, IsNarrowWho, IsNarrowPattern};
+ghost use Rattle.tt_proof_write.specs.Written.{tail_text};
+
+use std::alloc::AllocError;
+use tt_facts::{Pattern, Who};
+use tt_text::{put_next_number, put_next_token, put_number, put_token};
+
+/// A letter and a number.
+pub fn put_index(out: &mut Vec<u8>, letter: u8, number: u32) -> Result<(), AllocError>
+    ensures text { OnOk result (out.new.items ≡ out.old.items ++ tail_text (Index letter number ∷ [])) }
+    ensures narrow { IsNarrow number }
+{
+    put_token(out, &[b' ', letter])?;
+    put_number(out, u64::from(number))
+}
+
+/// A price in cost points.
+pub fn put_price(out: &mut Vec<u8>, price: u32) -> Result<(), AllocError>
+    ensures text { OnOk result (out.new.items ≡ out.old.items ++ tail_text (Number price ∷ [])) }
+    ensures narrow { IsNarrow price }
+{
+    put_next_number(out, u64::from(price))
+}
+
+/// A letter and a number, or `*`.
+fn put_given(out: &mut Vec<u8>, letter: u8, number: Option<u32>) -> Result<(), AllocError>
+    ensures text { OnOk result (out.new.items ≡ out.old.items ++ tail_text (given_piece letter number ∷ [])) }
+    ensures narrow { IfSome number IsNarrow }
+{
+    match number {
+        Some(number) => put_index(out, letter, number),
+        None => put_next_token(out, b"*"),
+    }
+}
+
+fn put_who(out: &mut Vec<u8>, who: Who) -> Result<(), AllocError>
+    ensures text { OnOk result (out.new.items ≡ out.old.items ++ tail_text (who_piece who ∷ [])) }
+    ensures narrow { IsNarrowWho who }
+{
+    match who {
+        Who::Course(course) => put_index(out, b'c', course),
+        Who::Curriculum(curriculum) => put_index(out, b'q', curriculum),
+    }
+}
+
+/// Who, room, day and period.
+pub fn put_pattern(out: &mut Vec<u8>, pattern: &Pattern) -> Result<(), AllocError>
+    ensures text { OnOk result (out.new.items ≡ out.old.items ++ tail_text (pattern_pieces pattern.now)) }
+    ensures narrow { OnOk result (IsNarrowPattern pattern.now) }
+{
+    put_who(out, pattern.who)?;
+    put_given(out, b'r', pattern.room)?;
+    put_given(out, b'd', pattern.day)?;
+    put_given(out, b'p', pattern.period)
+}
+
+/// Courses up to `;`.
+pub fn put_courses(out: &mut Vec<u8>, courses: &[u32]) -> Result<(), AllocError>
+    ensures text { OnOk result (out.new.items ≡ out.old.items ++ tail_text (listed_pieces courses.now)) }
+    ensures narrow { OnOk result (All IsNarrow courses.now) }
+{
+    for course in courses {
+        put_index(out, b'c', *course)?;
+    }
+    put_next_token(out, b";")
+}

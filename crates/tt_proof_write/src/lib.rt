@@ -1,0 +1,14 @@
+//! Proofs of lower bounds to text.
+#![tactic(auto)]
+
+mod claims;
+mod depth;
+mod fault;
+mod fields;
+mod limits;
+mod nodes;
+mod tree;
+mod writing;
+
+pub use fault::WriteFault;
+pub use writing::write_proof;

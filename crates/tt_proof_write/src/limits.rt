@@ -1,0 +1,106 @@
+//! The limits of a file, and the claims of a version.
+
+ghost use Rattle.std.specs.Prelude.{◌↔◌, ◌≤◌, IsTrue, IfOk, All};
+ghost use Rattle.tt_proof_text.specs.Spelling.{IsShortClaim, IsClaimIn, IsBound};
+ghost use Rattle.tt_proof_write.specs.Within.{IsPreorder, HasShortPrices, IsNodeIn, AreWithin};
+
+use crate::depth::is_shallow;
+use std::alloc::{AllocError, Global};
+use tt_leaf::{Bound, Claim, Leaf};
+use tt_proof_text::Node;
+
+const MOST_PRICE: u32 = 1_000_000;
+
+const MOST_POINTS: u64 = 1_000_000_000_000;
+
+const MOST_NODES: usize = 16_777_216;
+
+fn are_short_prices(prices: &[(u32, u32)]) -> bool
+    ensures { IsTrue result ↔ All (λ k. k.1 ≤ 1000000) prices.now }
+{
+    prices.iter().all(|priced| priced.1 <= MOST_PRICE)
+}
+
+fn is_short_claim(claim: &Claim) -> bool
+    ensures { IsTrue result ↔ IsShortClaim claim.now }
+{
+    match claim {
+        Claim::Capacity { price, .. } => *price <= MOST_PRICE,
+        Claim::Prices { courses, rooms } => {
+            are_short_prices(courses.as_slice()) && are_short_prices(rooms.as_slice())
+        }
+        _ => true,
+    }
+}
+
+fn are_short_claims(claims: &[Claim]) -> bool
+    ensures { IsTrue result ↔ All IsShortClaim claims.now }
+{
+    claims.iter().all(is_short_claim)
+}
+
+fn is_short_node(node: &Node) -> bool
+    ensures { IsTrue result ↔ HasShortPrices node.now }
+{
+    match node {
+        Node::Leaf(Leaf::Cost(claims)) => are_short_claims(claims.as_slice()),
+        _ => true,
+    }
+}
+
+fn have_short_prices(nodes: &[Node]) -> bool
+    ensures { IsTrue result ↔ All HasShortPrices nodes.now }
+{
+    nodes.iter().all(is_short_node)
+}
+
+fn is_bound(bound: Bound) -> bool
+    ensures { IsTrue result ↔ IsBound bound }
+{
+    match bound {
+        Bound::AtLeast(points) => points <= MOST_POINTS,
+        Bound::Nothing => true,
+    }
+}
+
+/// Whether a bound and the nodes of a tree are within the limits of a file.
+pub fn are_within(alloc: Global, bound: Bound, nodes: &[Node]) -> Result<bool, AllocError>
+    requires { IsPreorder nodes.now }
+    ensures { IfOk result (λ b. IsTrue b ↔ AreWithin bound nodes.now) }
+{
+    if !is_bound(bound) || nodes.len() > MOST_NODES || !have_short_prices(nodes) {
+        return Ok(false);
+    }
+    is_shallow(alloc, nodes)
+}
+
+fn is_claim_in(version: u8, claim: &Claim) -> bool
+    ensures { IsTrue result ↔ IsClaimIn version claim.now }
+{
+    match claim {
+        Claim::Prices { .. } | Claim::Stacked(_) => version == 2,
+        _ => true,
+    }
+}
+
+fn are_claims_in(version: u8, claims: &[Claim]) -> bool
+    ensures { IsTrue result ↔ All (IsClaimIn version) claims.now }
+{
+    claims.iter().all(|claim| is_claim_in(version, claim))
+}
+
+fn is_node_in(version: u8, node: &Node) -> bool
+    ensures { IsTrue result ↔ IsNodeIn version node.now }
+{
+    match node {
+        Node::Leaf(Leaf::Cost(claims)) => are_claims_in(version, claims.as_slice()),
+        _ => true,
+    }
+}
+
+/// Whether each claim of the nodes is of the version.
+pub fn are_nodes_in(version: u8, nodes: &[Node]) -> bool
+    ensures { IsTrue result ↔ All (IsNodeIn version) nodes.now }
+{
+    nodes.iter().all(|node| is_node_in(version, node))
+}

@@ -1,0 +1,107 @@
+//! The blocks of a report: one for each room, teacher or curriculum.
+
+ghost use Rattle.std.specs.Prelude.{◌≡◌, ◌<◌, [], ◌++◌, length, slice_index_or, OnOk};
+ghost use Rattle.tt_text.specs.Lines.{line_text};
+ghost use Rattle.tt_instance.specs.Cells.{InRange};
+ghost use Rattle.tt_instance.specs.Courses.{no_course, no_room, no_curriculum, teachers};
+ghost use Rattle.tt_report.specs.Blocks.{IsBlock, head_of, shown_in, belongs_to, next_texts};
+
+use std::alloc::AllocError;
+use tt_instance::Instance;
+use tt_table::Entry;
+use tt_text::{put_line_end, put_next_token, put_token};
+
+/// Whose week a block shows, by number.
+#[derive(Clone, Copy)]
+pub enum Block {
+    Room(u32),
+    Teacher(u32),
+    Curriculum(u32),
+}
+
+fn course_id<'a>(instance: &Instance<'a>, course: u32) -> &'a [u8]
+    requires { course < length instance.now.courses }
+    ensures { result.now ≡ (slice_index_or instance.now.courses course no_course).id }
+{
+    instance.course_id(course)
+}
+
+fn room_id<'a>(instance: &Instance<'a>, room: u32) -> &'a [u8]
+    requires { room < length instance.now.rooms }
+    ensures { result.now ≡ (slice_index_or instance.now.rooms room no_room).id }
+{
+    instance.room_id(room)
+}
+
+fn curriculum_id<'a>(instance: &Instance<'a>, curriculum: u32) -> &'a [u8]
+    requires { curriculum < length instance.now.curricula }
+    ensures { result.now ≡ (slice_index_or instance.now.curricula curriculum no_curriculum).id }
+{
+    instance.curriculum_id(curriculum)
+}
+
+fn teacher_name<'a>(instance: &Instance<'a>, teacher: u32) -> &'a [u8]
+    requires { teacher < length (teachers instance.now) }
+    ensures { result.now ≡ slice_index_or (teachers instance.now) teacher [] }
+{
+    instance.teacher_name(teacher)
+}
+
+/// The name of a course's teacher.
+fn name_of_teacher<'a>(instance: &Instance<'a>, course: u32) -> &'a [u8]
+    requires { course < length instance.now.courses }
+    ensures { result.now ≡ (slice_index_or instance.now.courses course no_course).teacher }
+{
+    teacher_name(instance, instance.teacher_of(course))
+}
+
+impl Block {
+    /// Whether an entry belongs to the block.
+    pub fn has(self, instance: &Instance<'_>, entry: &Entry) -> bool
+        requires block { IsBlock instance.now self }
+        requires entry { InRange instance.now entry.now }
+        ensures { result ≡ belongs_to instance.now self entry.now }
+    {
+        match self {
+            Block::Room(room) => entry.room == room,
+            Block::Teacher(teacher) => {
+                teacher_name(instance, teacher) == name_of_teacher(instance, entry.course)
+            }
+            Block::Curriculum(curriculum) => instance.in_curriculum(curriculum, entry.course),
+        }
+    }
+
+    /// The head line.
+    pub fn put_head(self, out: &mut Vec<u8>, instance: &Instance<'_>) -> Result<(), AllocError>
+        requires { IsBlock instance.now self }
+        ensures { OnOk result (out.new.items ≡ out.old.items ++ line_text (head_of instance.now self)) }
+    {
+        let (kind, name) = match self {
+            Block::Room(room) => ("room", room_id(instance, room)),
+            Block::Teacher(teacher) => ("teacher", teacher_name(instance, teacher)),
+            Block::Curriculum(curriculum) => ("curriculum", curriculum_id(instance, curriculum)),
+        };
+        put_token(out, kind.as_bytes())?;
+        put_next_token(out, name)?;
+        put_line_end(out)
+    }
+
+    /// What is shown of an entry.
+    pub fn put_entry(
+        self,
+        out: &mut Vec<u8>,
+        instance: &Instance<'_>,
+        entry: &Entry,
+    ) -> Result<(), AllocError>
+        requires { InRange instance.now entry.now }
+        ensures { OnOk result (out.new.items ≡ out.old.items ++ next_texts (shown_in instance.now self entry.now)) }
+    {
+        put_next_token(out, course_id(instance, entry.course))?;
+        match self {
+            Block::Room(_) => Ok(()),
+            Block::Teacher(_) | Block::Curriculum(_) => {
+                put_next_token(out, room_id(instance, entry.room))
+            }
+        }
+    }
+}

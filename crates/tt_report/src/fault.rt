@@ -1,0 +1,52 @@
+//! Why there is no report.
+
+ghost use Rattle.std.specs.Prelude.{◌≡◌};
+ghost use Rattle.tt_report.specs.declared.fault.ReportFault.TheVariants as fault;
+
+use crate::sink::WriteFailed;
+use std::alloc::{AllocError, AllocFailed};
+use std::error::Error;
+use std::fmt;
+
+/// Why a report was not written whole.
+#[derive(Clone, Copy, Debug, PartialEq, Eq)]
+pub enum ReportFault {
+    /// A write failed; a prefix of the report was taken.
+    Write,
+    OutOfMemory,
+}
+
+impl From<AllocError> for ReportFault {
+    ghost from_gives = { λ _ e. e ≡ fault.OutOfMemory };
+
+    fn from(_e: AllocError) -> ReportFault {
+        ReportFault::OutOfMemory
+    }
+}
+
+impl<T: Drop> From<AllocFailed<T>> for ReportFault {
+    ghost from_gives = { λ _ e. e ≡ fault.OutOfMemory };
+
+    fn from(_e: AllocFailed<T>) -> ReportFault {
+        ReportFault::OutOfMemory
+    }
+}
+
+impl From<WriteFailed> for ReportFault {
+    ghost from_gives = { λ _ e. e ≡ fault.Write };
+
+    fn from(_e: WriteFailed) -> ReportFault {
+        ReportFault::Write
+    }
+}
+
+impl fmt::Display for ReportFault {
+    fn fmt<W: fmt::Write>(&self, f: &mut fmt::Formatter<W>) -> fmt::Result {
+        f.write_str(match self {
+            ReportFault::Write => "cannot write",
+            ReportFault::OutOfMemory => "out of memory",
+        })
+    }
+}
+
+impl Error for ReportFault {}

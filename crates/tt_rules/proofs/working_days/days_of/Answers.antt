@@ -1,0 +1,14 @@
+use Rattle.std.proofs.Common.{All, count_by, sym, ap, ◌∙◌, subst}
+use Rattle.std.specs.List.{list_any}
+use Rattle.tt_instance.specs.Cells.{InRange, is_of, is_on, all_days}
+use Rattle.tt_rules.proofs.Filtered.{filtered_all, distinct_filtered}
+use Rattle.tt_rules.proofs.working_days.days_of.Goals as goal
+
+pub days-requires : goal.days-requires
+days-requires c =
+    subst (All (InRange c.args.instance.now)) (sym c.of_course.ensures.group) (filtered_all (is_of c.args.course) (InRange c.args.instance.now) c.args.by_course.now.entries c.requires.in_range)
+
+pub returns : goal.returns
+returns c =
+    c.days.ensures ∙ ap (λ group. count_by (λ x. list_any (is_on x) group) (all_days c.args.instance.now)) c.of_course.ensures.group
+    ∙ distinct_filtered (is_of c.args.course) is_on c.args.by_course.now.entries (all_days c.args.instance.now)

@@ -1,0 +1,52 @@
+//! How many periods, days or rooms the entries of a group have, each once.
+
+ghost use Rattle.std.specs.Prelude.{◌≡◌, ◌≤◌, count_by, All};
+ghost use Rattle.std.specs.List.{list_any};
+ghost use Rattle.tt_instance.specs.Cells.{InRange, all_slots, all_days, all_rooms, is_at, is_on, is_in};
+
+use crate::marks::Marks;
+use crate::slots;
+use tt_instance::Instance;
+use tt_table::Group;
+
+/// The periods of the week in which some entry stands.
+#[tactic(auto, using(crate::proofs::Marking::marks_first))]
+pub fn periods(instance: &Instance<'_>, group: Group<'_>) -> u64
+    requires { All (InRange instance.now) group }
+    ensures { result ≡ count_by (λ s. list_any (is_at s) group.entry) (all_slots instance.now) }
+{
+    let mut marks = Marks::none();
+    for entry in group {
+        marks.add(slots::number(instance, entry));
+    }
+    marks.count(slots::in_week(instance))
+}
+
+/// The days on which some entry stands.
+#[tactic(auto, using(crate::proofs::Marking::marks_first, crate::proofs::Marking::marks_counted))]
+pub fn days(instance: &Instance<'_>, group: Group<'_>) -> u64
+    requires { All (InRange instance.now) group }
+    ensures { result ≡ count_by (λ d. list_any (is_on d) group.entry) (all_days instance.now) }
+{
+    let days = instance.days();
+    let mut marks = Marks::none();
+    for entry in group {
+        marks.add(entry.day as usize);
+    }
+    marks.count(days)
+}
+
+/// The rooms in which some entry stands.
+#[tactic(auto, using(crate::proofs::Marking::marks_first, crate::proofs::Marking::marks_counted))]
+pub fn rooms(instance: &Instance<'_>, group: Group<'_>) -> u64
+    requires { All (InRange instance.now) group }
+    ensures count { result ≡ count_by (λ r. list_any (is_in r) group.entry) (all_rooms instance.now) }
+    ensures few { result ≤ 512 }
+{
+    let rooms = instance.rooms();
+    let mut marks = Marks::none();
+    for entry in group {
+        marks.add(entry.room as usize);
+    }
+    marks.count(rooms)
+}

@@ -1,2 +1,0 @@
-//! Construction, descent and seeded search of timetables.
-#![tactic(auto)]

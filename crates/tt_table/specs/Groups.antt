@@ -1,0 +1,49 @@
+-- The entries of a timetable in groups.
+use Rattle.std.specs.Prelude.{◌≡◌, ℕ, ◌+◌, ◌*◌, ◌<◌, ◌≤◌, ◌==◌, Bool, not, List, [], ◌∷◌, length, drop, filter, slice_index_or}
+use Rattle.std.specs.List.{prefix_len}
+use Rattle.tt_instance.specs.declared.cell.Cell.{Cell}
+use Rattle.tt_table.specs.declared.groups.GroupBy.{GroupBy}
+use Rattle.tt_table.specs.declared.groups.GroupBy.TheVariants.{Course, Room, Period}
+
+-- the number of an entry's group
+abbrev pub group_of : GroupBy → Cell → ℕ
+group_of Course e = e.course
+group_of Room e = e.room
+group_of (Period periods) e = e.day * periods + e.period
+
+abbrev pub in_group : GroupBy → ℕ → Cell → Bool
+in_group by g e = group_of by e == g
+
+-- the first entry and those behind it that are of its group
+abbrev pub led_group : GroupBy → List Cell → List Cell
+led_group by [] = []
+led_group by (e ∷ es) = e ∷ filter (in_group by (group_of by e)) es
+
+-- entries and by what they are grouped
+pub record Grouped : Type 0 where
+  pub by : GroupBy
+  pub entries : List Cell
+
+-- the place of the first entry of a group from a place on, or the number of entries
+abbrev pub first_at : GroupBy → List Cell → ℕ → ℕ → ℕ
+first_at by t g i = i + prefix_len (λ e. not (in_group by g e)) (drop i t)
+
+abbrev pub nobody : Cell
+nobody = record { course = 0; room = 0; day = 0; period = 0 }
+
+-- behind each entry from a place on the next one of its group is named
+abbrev pub NamesNext : GroupBy → List Cell → List ℕ → ℕ → Type 0
+NamesNext by t next i = (j : ℕ) → i ≤ j → j < length t → slice_index_or next j 0 ≡ first_at by t (group_of by (slice_index_or t j nobody)) (j + 1)
+
+-- the first entry of each group from a place on is named
+abbrev pub NamesFirst : GroupBy → List Cell → List ℕ → ℕ → Type 0
+NamesFirst by t first i = (g : ℕ) → g < 2048 → slice_index_or first g 0 ≡ first_at by t g i
+
+pub record IsChained (by : GroupBy) (t : List Cell) (next : List ℕ) : Type 0 where
+  pub room : length t ≤ length next
+  pub named : NamesNext by t next 0
+
+pub record IsLinked (by : GroupBy) (t : List Cell) (first next : List ℕ) : Type 0 where
+  pub groups : length first ≡ 2048
+  pub begins : NamesFirst by t first 0
+  pub chained : IsChained by t next

@@ -1,0 +1,5 @@
+pub mod Examples
+pub mod Places
+pub mod Rows
+pub mod Spreads
+pub mod Tallies

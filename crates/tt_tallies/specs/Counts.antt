@@ -1,0 +1,31 @@
+-- What tables of counts hold.
+use Rattle.std.specs.Prelude.{◌≡◌, ℕ, ◌+◌, ◌*◌, ◌<◌, ◌==◌, ◌&&◌, slice_index, cond}
+use Rattle.tt_tallies.specs.declared.grid.Grid.{Grid}
+use Rattle.tt_tallies.specs.declared.spread.Spread.{Spread}
+use Rattle.tt_tallies.specs.declared.week.Week.{Week}
+
+-- the count at row i and column j
+abbrev pub at : Grid → ℕ → ℕ → ℕ
+at g i j = slice_index g.counts.items (i * g.columns + j)
+
+-- the count of row i in period s of day d
+abbrev pub in_period : Week → ℕ → ℕ → ℕ → ℕ
+in_period w i d s = at w.grid i (d * w.periods + s)
+
+-- the second table is the first with so many more at each place
+pub record IsMore (old new : Week) (more : ℕ → ℕ → ℕ → ℕ) : Type 0 where
+  pub rows : new.grid.rows ≡ old.grid.rows
+  pub days : new.days ≡ old.days
+  pub periods : new.periods ≡ old.periods
+  pub counts : (i d s : ℕ) → d < old.days → s < old.periods → in_period new i d s ≡ in_period old i d s + more i d s
+
+-- how many places of row i have a count above 0
+abbrev pub used_at : Spread → ℕ → ℕ
+used_at x i = slice_index x.used.items i
+
+-- the second table is the first with one more at a place of a row
+pub record IsOneMore (old new : Spread) (row place : ℕ) : Type 0 where
+  pub rows : new.counts.rows ≡ old.counts.rows
+  pub places : new.counts.columns ≡ old.counts.columns
+  pub counts : (i j : ℕ) → j < old.counts.columns → at new.counts i j ≡ at old.counts i j + cond ((row == i) && (place == j)) 1 0
+  pub used : (i : ℕ) → used_at new i ≡ used_at old i + cond ((row == i) && (at old.counts row place == 0)) 1 0

@@ -1,0 +1,4 @@
+pub mod Counts
+pub mod Links
+pub mod Tables
+pub mod Tallies

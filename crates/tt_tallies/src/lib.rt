@@ -1,0 +1,13 @@
+//! Tables of counts over the entries of a timetable.
+#![tactic(auto)]
+
+mod grid;
+mod links;
+mod spread;
+mod tables;
+mod week;
+
+pub use links::Links;
+pub use spread::Spread;
+pub use tables::Tables;
+pub use week::Week;
