@@ -1,6 +1,6 @@
 -- What `bound` answers, from what its steps answered.
-use Rattle.std.proofs.Common.{◌≡◌, ℕ, List, Option, Some, None, Ok, Err, refl, sym, subst, inl, inr}
-use Rattle.std.specs.Prelude.{IfSome, ◌⊎◌}
+use Rattle.std.proofs.Common.{◌≡◌, ℕ, List, Option, Some, None, Err, refl, sym, subst, inl, inr}
+use Rattle.std.specs.Prelude.{IfSome}
 use Rattle.tt_instance.specs.Problem.{Problem}
 use Rattle.tt_instance.specs.Reading.{instance_of, Fails}
 use Rattle.tt_instance.specs.Spelling.{Spells}
@@ -29,7 +29,7 @@ spelled_memory i p (instance.UnknownCourse n) b spells h = let e = is_read i p s
 spelled_memory i p (instance.OutOfRange n) b spells h = let e = is_read i p spells in absurd cc
 
 -- what is said of known bytes
-told : (q : Option (List ℕ)) (P : List ℕ → Type 0) → ((bytes : List ℕ) → q ≡ Some bytes → P bytes) → IfSome q P
+pub told : (q : Option (List ℕ)) (P : List ℕ → Type 0) → ((bytes : List ℕ) → q ≡ Some bytes → P bytes) → IfSome q P
 told None P h = tt
 told (Some bytes) P h = h bytes refl
 

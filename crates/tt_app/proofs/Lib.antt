@@ -1,3 +1,4 @@
 pub mod Answering
 pub mod DerivedBounds
 pub mod Files
+pub mod Rewriting

@@ -22,6 +22,10 @@ abbrev pub bound_line : Bound → List ℕ
 bound_line (AtLeast b) = codes "bound " ++ decimal b ++ 10 ∷ []
 bound_line Nothing = codes "bound " ++ codes "none" ++ 10 ∷ []
 
+-- how many hard rules a timetable breaks, and its cost
+abbrev pub pair_line : ℕ → ℕ → List ℕ
+pair_line h c = codes "hard " ++ decimal h ++ codes " cost " ++ decimal c ++ 10 ∷ []
+
 -- a name and its number
 abbrev pub count_line : List ℕ → ℕ → List ℕ
 count_line name n = name ++ 32 ∷ decimal n ++ 10 ∷ []

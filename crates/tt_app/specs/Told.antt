@@ -7,6 +7,8 @@ use Rattle.tt_proof_check.specs.declared.fault.CheckFault.{CheckFault}
 use Rattle.tt_proof_check.specs.declared.fault.CheckFault.TheVariants as check
 use Rattle.tt_proof_check.specs.declared.fault.CertifyFault.{CertifyFault}
 use Rattle.tt_proof_check.specs.declared.fault.CertifyFault.TheVariants as certify
+use Rattle.tt_upgrade.specs.declared.fault.UpgradeFault.{UpgradeFault}
+use Rattle.tt_upgrade.specs.declared.fault.UpgradeFault.TheVariants as upgrade
 use Rattle.tt_report.specs.declared.fault.ReportFault.{ReportFault}
 use Rattle.tt_report.specs.declared.fault.ReportFault.TheVariants as report
 use Rattle.tt_app.specs.declared.fault.AppFault.{AppFault}
@@ -33,3 +35,8 @@ told_certify (certify.Instance f) = told_instance f
 told_certify (certify.Solution f) = told_solution f
 told_certify (certify.Proof f) = told_check f
 told_certify certify.OutOfMemory = fault.OutOfMemory
+
+abbrev pub told_upgrade : UpgradeFault → AppFault
+told_upgrade (upgrade.Proof f) = told_check f
+told_upgrade upgrade.TooLarge = fault.ProofTooLarge
+told_upgrade upgrade.OutOfMemory = fault.OutOfMemory

@@ -8,6 +8,16 @@ use tt_report::By;
 /// By what a report may have its blocks.
 const KINDS: [&str; 3] = ["room", "teacher", "curriculum"];
 
+/// The most steps of a search.
+const MAX_STEPS: u64 = 1_000_000;
+
+/// A seed, and how many steps a search makes.
+#[derive(Clone, Copy, Debug)]
+pub struct Search {
+    pub seed: u64,
+    pub steps: u64,
+}
+
 /// What a command line asks for; files are paths.
 #[derive(Debug, Drop)]
 pub enum Request<'a> {
@@ -23,6 +33,17 @@ pub enum Request<'a> {
     Bound {
         instance: &'a str,
         proof: &'a str,
+    },
+    Improve {
+        instance: &'a str,
+        solution: &'a str,
+        out: &'a str,
+        search: Search,
+    },
+    Upgrade {
+        instance: &'a str,
+        proof: &'a str,
+        out: &'a str,
     },
     Report {
         instance: &'a str,
@@ -57,6 +78,33 @@ fn bound_command<'a>(alloc: Global) -> Result<Command<'a>, AllocError> {
         .arg(file(alloc, "PROOF"))
 }
 
+/// An option with a number in a range, and the one that is taken where it isn't given.
+fn number<'a>(alloc: Global, id: &'a str, most: u64, default: &'a str) -> Arg<'a> {
+    Arg::new(alloc, id)
+        .long(id)
+        .action(ArgAction::Set)
+        .value_parser(ValueParser::Unsigned(0, most))
+        .default_value(default)
+}
+
+fn improve_command<'a>(alloc: Global) -> Result<Command<'a>, AllocError> {
+    Command::new(alloc, "improve")
+        .about("Searches from a solution, and writes a timetable that is no worse")
+        .arg(file(alloc, "INSTANCE"))?
+        .arg(file(alloc, "SOLUTION"))?
+        .arg(file(alloc, "OUT"))?
+        .arg(number(alloc, "seed", u64::MAX, "1"))?
+        .arg(number(alloc, "steps", MAX_STEPS, "10000"))
+}
+
+fn upgrade_command<'a>(alloc: Global) -> Result<Command<'a>, AllocError> {
+    Command::new(alloc, "upgrade")
+        .about("Checks a proof, and writes it in version 2")
+        .arg(file(alloc, "INSTANCE"))?
+        .arg(file(alloc, "PROOF"))?
+        .arg(file(alloc, "OUT"))
+}
+
 fn by_option<'a>(alloc: Global) -> Arg<'a> {
     Arg::new(alloc, "by")
         .long("by")
@@ -81,6 +129,8 @@ fn command<'a>(alloc: Global) -> Result<Command<'a>, AllocError> {
         .subcommand(validate_command(alloc)?)?
         .subcommand(check_command(alloc)?)?
         .subcommand(bound_command(alloc)?)?
+        .subcommand(improve_command(alloc)?)?
+        .subcommand(upgrade_command(alloc)?)?
         .subcommand(report_command(alloc)?)
 }
 
@@ -103,6 +153,26 @@ fn bound_request<'a>(found: &ArgMatches<'a>) -> Option<Request<'a>> {
     Some(Request::Bound {
         instance: found.get_str("INSTANCE")?,
         proof: found.get_str("PROOF")?,
+    })
+}
+
+fn improve_request<'a>(found: &ArgMatches<'a>) -> Option<Request<'a>> {
+    Some(Request::Improve {
+        instance: found.get_str("INSTANCE")?,
+        solution: found.get_str("SOLUTION")?,
+        out: found.get_str("OUT")?,
+        search: Search {
+            seed: found.get_one("seed")?,
+            steps: found.get_one("steps")?,
+        },
+    })
+}
+
+fn upgrade_request<'a>(found: &ArgMatches<'a>) -> Option<Request<'a>> {
+    Some(Request::Upgrade {
+        instance: found.get_str("INSTANCE")?,
+        proof: found.get_str("PROOF")?,
+        out: found.get_str("OUT")?,
     })
 }
 
@@ -133,6 +203,8 @@ pub fn parse_words<'a>(alloc: Global, words: &'a [String]) -> Result<Option<Requ
         "validate" => validate_request(found),
         "check" => check_request(found),
         "bound" => bound_request(found),
+        "improve" => improve_request(found),
+        "upgrade" => upgrade_request(found),
         "report" => report_request(found),
         _ => None,
     })

@@ -1,75 +1,15 @@
 //! The program: words in, texts and a status out.
 
 use crate::answer::Answer;
-use crate::bounding::bound;
-use crate::checking::check;
 use crate::cli::{Request, parse_words};
-use crate::disk::read_file;
-use crate::fault::{AppFault, Input};
-use crate::reporting::report;
-use crate::stored;
-use crate::validation::validate;
+use crate::fault::AppFault;
+use crate::requests::{
+    answer_bound, answer_check, answer_improve, answer_stored, answer_upgrade, answer_validate,
+    report_to,
+};
 use clap::error::ErrorKind;
-use std::fs;
 use std::io::Write;
 use std::rt::Files;
-use tt_report::{By, Writing};
-use tt_text::{Pieces, Reading};
-
-fn answer_check<R: Files + AllocGlobal>(
-    rt: &R,
-    instance: &str,
-    solution: &str,
-    proof: &str,
-) -> Result<Answer, AppFault> {
-    let instance = read_file(rt, instance, Input::Instance)?;
-    let solution = read_file(rt, solution, Input::Solution)?;
-    let Ok(proof) = fs::open(rt, proof) else {
-        return Err(AppFault::CannotRead(Input::Proof));
-    };
-    check(rt.alloc(), &instance, &solution, &mut Reading::new(proof))
-}
-
-fn answer_bound<R: Files + AllocGlobal>(
-    rt: &R,
-    instance: &str,
-    proof: &str,
-) -> Result<Answer, AppFault> {
-    let instance = read_file(rt, instance, Input::Instance)?;
-    let Ok(proof) = fs::open(rt, proof) else {
-        return Err(AppFault::CannotRead(Input::Proof));
-    };
-    bound(rt.alloc(), &instance, &mut Reading::new(proof))
-}
-
-fn answer_validate<R: Files + AllocGlobal>(
-    rt: &R,
-    instance: &str,
-    solution: &str,
-) -> Result<Answer, AppFault> {
-    let instance = read_file(rt, instance, Input::Instance)?;
-    let solution = read_file(rt, solution, Input::Solution)?;
-    validate(rt.alloc(), &instance, &solution)
-}
-
-/// The built-in instance, solution and proof.
-fn answer_stored<R: Files + AllocGlobal>(rt: &R) -> Result<Answer, AppFault> {
-    let mut proof = Pieces::new(stored::PROOF, 64, 0);
-    check(rt.alloc(), stored::INSTANCE, stored::SOLUTION, &mut proof)
-}
-
-/// Writes a report, and gives the status.
-fn report_to<R: Files + AllocGlobal, O: Write>(
-    rt: &R,
-    instance: &str,
-    solution: &str,
-    by: By,
-    out: &mut O,
-) -> Result<u8, AppFault> {
-    let instance = read_file(rt, instance, Input::Instance)?;
-    let solution = read_file(rt, solution, Input::Solution)?;
-    report(rt.alloc(), &instance, &solution, by, &mut Writing::new(out))
-}
 
 /// Tells of a refusal, and gives its status.
 fn refused<E: Write>(fault: AppFault, err: &mut E) -> u8 {
@@ -113,6 +53,21 @@ fn answered<R: Files + AllocGlobal, O: Write, E: Write>(
             proof,
         } => told(answer_check(rt, instance, solution, proof), out, err),
         Request::Bound { instance, proof } => told(answer_bound(rt, instance, proof), out, err),
+        Request::Improve {
+            instance,
+            solution,
+            out: path,
+            search,
+        } => told(
+            answer_improve(rt, instance, solution, path, *search),
+            out,
+            err,
+        ),
+        Request::Upgrade {
+            instance,
+            proof,
+            out: path,
+        } => told(answer_upgrade(rt, instance, proof, path), out, err),
         Request::Report {
             instance,
             solution,

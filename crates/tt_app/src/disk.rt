@@ -1,13 +1,18 @@
-//! The files that a command reads.
+//! The files that a command reads and writes.
 
 use crate::fault::{AppFault, Input};
 use crate::whole::{WholeFault, read_whole};
 use std::fs;
+use std::fs::OpenOptions;
+use std::io::{ErrorKind, Write};
 use std::rt::Files;
 use tt_text::Reading;
 
 /// The most bytes of an instance file and of a solution file.
 pub const MAX_BYTES: usize = 67_108_864;
+
+/// How many names beside a path are tried for a new file.
+const MAX_BESIDE: u32 = 100;
 
 /// All bytes of a file.
 pub fn read_file<R: Files + AllocGlobal>(
@@ -24,4 +29,52 @@ pub fn read_file<R: Files + AllocGlobal>(
         Err(WholeFault::TooLong) => Err(AppFault::TooLong(input)),
         Err(WholeFault::OutOfMemory) => Err(AppFault::OutOfMemory),
     }
+}
+
+/// A new file beside a path, and its own path.
+fn create_beside<R: Files + AllocGlobal>(
+    rt: &R,
+    path: &str,
+) -> Result<(String, R::File), AppFault> {
+    let mut options = OpenOptions::new();
+    options.write(true).create_new(true);
+    for n in 0..MAX_BESIDE {
+        let beside = format!(in rt.alloc(); "{path}.new{n}")?;
+        match options.open(rt, &beside) {
+            Ok(file) => return Ok((beside, file)),
+            Err(fault) if fault.kind() == ErrorKind::AlreadyExists => {}
+            Err(_) => return Err(AppFault::CannotWrite),
+        }
+    }
+    Err(AppFault::CannotWrite)
+}
+
+/// Writes a whole file, and lets it go.
+fn write_whole<F: Write + Drop>(mut file: F, bytes: &[u8]) -> Result<(), AppFault> {
+    match file.write_all(bytes).and_then(|()| file.flush()) {
+        Ok(()) => Ok(()),
+        Err(_) => Err(AppFault::CannotWrite),
+    }
+}
+
+/// Puts a file in the place of another.
+fn put<R: Files>(rt: &R, from: &str, to: &str) -> Result<(), AppFault> {
+    match fs::rename(rt, from, to) {
+        Ok(()) => Ok(()),
+        Err(_) => Err(AppFault::CannotWrite),
+    }
+}
+
+/// Writes a file beside its place, and puts it there by a rename: after a refusal an older file stands as it was.
+pub fn write_file<R: Files + AllocGlobal>(
+    rt: &R,
+    path: &str,
+    bytes: &[u8],
+) -> Result<(), AppFault> {
+    let (beside, file) = create_beside(rt, path)?;
+    let written = write_whole(file, bytes).and_then(|()| put(rt, &beside, path));
+    if written.is_err() {
+        let _ = fs::remove_file(rt, &beside);
+    }
+    written
 }

@@ -6,6 +6,7 @@ use tt_instance::InstanceFault;
 use tt_proof_check::{CertifyFault, CheckFault};
 use tt_report::ReportFault;
 use tt_table::SolutionFault;
+use tt_upgrade::UpgradeFault;
 
 /// A file that a command reads.
 #[derive(Clone, Copy, Debug, PartialEq, Eq, Error)]
@@ -118,6 +119,21 @@ impl From<CertifyFault> for AppFault {
             CertifyFault::Solution(fault) => fault.into(),
             CertifyFault::Proof(fault) => fault.into(),
             CertifyFault::OutOfMemory => AppFault::OutOfMemory,
+        }
+    }
+}
+
+impl From<UpgradeFault> for AppFault {
+    ghost use Rattle.std.specs.Prelude.{◌≡◌};
+    ghost use Rattle.tt_app.specs.Told.{told_upgrade};
+
+    ghost from_gives = { λ f e. e ≡ told_upgrade f };
+
+    fn from(fault: UpgradeFault) -> AppFault {
+        match fault {
+            UpgradeFault::Proof(fault) => fault.into(),
+            UpgradeFault::TooLarge => AppFault::ProofTooLarge,
+            UpgradeFault::OutOfMemory => AppFault::OutOfMemory,
         }
     }
 }

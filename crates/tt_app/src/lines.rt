@@ -2,7 +2,7 @@
 
 ghost use Rattle.std.specs.Prelude.{◌≡◌, ◌+◌, ◌++◌, ◌∷◌, [], codes, IfOk, OnOk};
 ghost use Rattle.std.specs.Fmt.{decimal};
-ghost use Rattle.tt_app.specs.Lines.{yes_line, broken_line, bound_line, count_line};
+ghost use Rattle.tt_app.specs.Lines.{yes_line, broken_line, bound_line, pair_line, count_line};
 
 use std::alloc::{AllocError, Global};
 use tt_leaf::Bound;
@@ -47,6 +47,19 @@ pub fn bound_line(alloc: Global, bound: Bound) -> Result<Vec<u8>, AllocError>
         Bound::AtLeast(least) => put_number(&mut out, least)?,
         Bound::Nothing => put_token(&mut out, b"none")?,
     }
+    put_line_end(&mut out)?;
+    Ok(out)
+}
+
+/// The line of a timetable's hard count and cost.
+pub fn pair_line(alloc: Global, hard: u64, cost: u64) -> Result<Vec<u8>, AllocError>
+    ensures { IfOk result (λ out. out.items ≡ pair_line hard cost) }
+{
+    let mut out = Vec::new(alloc);
+    put_token(&mut out, b"hard ")?;
+    put_number(&mut out, hard)?;
+    put_token(&mut out, b" cost ")?;
+    put_number(&mut out, cost)?;
     put_line_end(&mut out)?;
     Ok(out)
 }

@@ -23,6 +23,7 @@ fn excludes(instance: &Instance<'_>, x: &Entry, y: &Entry) -> bool
     x.room == y.room || x.course == y.course || instance.conflict(x.course, y.course)
 }
 
+/// Whether two entries are linked between two periods: one stands in each, and they exclude each other.
 pub fn is_linked(instance: &Instance<'_>, a: Slot, b: Slot, x: &Entry, y: &Entry) -> bool
     ensures { result ≡ linked instance.now a b x.now y.now }
 {

@@ -11,5 +11,5 @@ mod weight;
 
 pub use changing::{change, lowers};
 pub use exchanging::Change;
-pub use step::{Step, apply, undo};
+pub use step::{Step, apply, can_step, undo};
 pub use tt_chain::{Chain, ChainFault, chain, swap_chain};

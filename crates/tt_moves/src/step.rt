@@ -1,6 +1,6 @@
 //! Steps from one timetable to the next.
 
-ghost use Rattle.std.specs.Prelude.{◌≡◌, ◌<◌, length};
+ghost use Rattle.std.specs.Prelude.{◌≡◌, ◌<◌, ◌↔◌, length, IsTrue};
 ghost use Rattle.tt_table.specs.Table.{IsTimetable};
 ghost use Rattle.tt_moves.specs.Steps.{CanStep, entry_at, stepped};
 
@@ -22,6 +22,28 @@ pub enum Step {
         first: u32,
         second: u32,
     },
+}
+
+/// Whether a step can be made: its numbers are an entry's, a room's and a period's.
+pub fn can_step(occupied: &Occupied<'_, '_>, step: Step) -> bool
+    ensures { IsTrue result ↔ CanStep occupied.now.problem occupied.now.entries step }
+{
+    let instance = occupied.instance();
+    let entries = occupied.table().len();
+    match step {
+        Step::Move {
+            entry,
+            room,
+            day,
+            period,
+        } => {
+            (entry as usize) < entries
+                && room < instance.rooms()
+                && day < instance.days()
+                && period < instance.periods()
+        }
+        Step::Swap { first, second } => (first as usize) < entries && (second as usize) < entries,
+    }
 }
 
 /// The entry at a place.

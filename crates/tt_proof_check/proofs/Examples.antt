@@ -1,6 +1,11 @@
 -- A tree that derives its bound and no greater one, and the places that a path leaves open.
-use Rattle.std.proofs.Common.{◌≡◌, Bool, true, false, [], ◌∷◌, take, refl, lit≤}
+use Rattle.std.proofs.Common.{◌≡◌, ℕ, List, Bool, true, false, [], ◌∷◌, take, codes, Ok, Err, inl, inr, refl, lit≤}
 use Rattle.std.proofs.lemmas.List.Elements.{All-from_recursion}
+use Rattle.tt_text.specs.Tokens.{Placed, tokens_from}
+use Rattle.tt_text.specs.Numbers.{number_of}
+use Rattle.tt_text.specs.Feeds.{Stream, fault_from, stream_from}
+use Rattle.tt_text.specs.Broken.{broken}
+use Rattle.tt_text.specs.declared.feed.FeedFault.TheVariants.{Read}
 use Rattle.tt_instance.proofs.Examples.{gap}
 use Rattle.tt_facts.specs.declared.facts.Fact.{Fact}
 use Rattle.tt_facts.specs.declared.facts.Pattern.{Pattern}
@@ -10,9 +15,14 @@ use Rattle.tt_leaf.specs.declared.leaf.Leaf.{Leaf}
 use Rattle.tt_leaf.specs.declared.leaf.Leaf.TheVariants.{Clique, Cost}
 use Rattle.tt_leaf.specs.declared.leaf.RuleFault.TheVariants.{TooCheap}
 use Rattle.tt_leaf.proofs.Examples.{when}
+use Rattle.tt_proof_text.specs.Faults.{read_failed}
+use Rattle.tt_proof_text.specs.Reading.{token_at, word_at, numbered_below, index_of, who_at, given_of, given_at, pattern_at, node_behind, node_at, version_at, bound_of, bound_at, header_at}
+use Rattle.tt_proof_text.specs.declared.node.Node.TheVariants as node
 use Rattle.tt_proof_text.specs.Trees.{Tree, Close, Branch, on_paths}
 use Rattle.tt_proof_check.specs.Derives.{Derives}
+use Rattle.tt_proof_check.specs.FailedReads.{BreaksOff}
 use Rattle.tt_proof_check.specs.Pending.{pending}
+use Rattle.tt_proof_check.specs.Streams.{stream_of, sizes_of}
 use Rattle.tt_proof_check.specs.Tells.{Passes, FailsAt}
 
 -- a seat that lacks and two isolated entries
@@ -46,3 +56,53 @@ fact g holds = record { pattern = g; holds = holds }
 two_to_come : pending (fact (when 0 0) true ∷ fact (when 1 2) false ∷ fact (when 1 1) true ∷ [])
     ≡ (fact (when 0 0) true ∷ fact (when 1 2) false ∷ fact (when 1 1) false ∷ []) ∷ (fact (when 0 0) false ∷ []) ∷ []
 two_to_come = refl
+
+-- the first split has come whole, and the failure of a read breaks the second off
+abbrev begun : List ℕ
+begun = codes "CTTP 1 bound 5 S c0 * d0 p0 S c1"
+
+abbrev token : List ℕ → ℕ → Placed
+token text at = record { text = text; at = at }
+
+abbrev off_with : List Placed → Stream
+off_with ts = record { tokens = ts; stop = Err Read }
+
+abbrev second : Stream
+second = off_with (token (codes "S") 28 ∷ [])
+
+abbrev first : Stream
+first = off_with (token (codes "S") 15 ∷ token (codes "c0") 17 ∷ token (codes "*") 20 ∷ token (codes "d0") 22 ∷ token (codes "p0") 25 ∷ second.tokens)
+
+begun_header : header_at (broken (stream_of begun)) ≡ Ok ((1, AtLeast 5), first)
+unfolding stream_from fault_from tokens_from number_of token_at word_at version_at bound_of bound_at header_at
+begun_header = refl
+
+begun_split : node_at (sizes_of gap) 1 0 first ≡ Ok (node.Split (when 0 0), second)
+unfolding number_of token_at numbered_below index_of who_at given_of given_at pattern_at node_behind node_at
+begun_split = refl
+
+no_second : node_at (sizes_of gap) 1 1 second ≡ Err read_failed
+unfolding token_at who_at pattern_at node_behind node_at
+no_second = refl
+
+a_split_breaks_off : BreaksOff gap (broken (stream_of begun))
+a_split_breaks_off = inr (
+  1,
+  AtLeast 5,
+  first,
+  begun_header,
+  inl (
+    record {
+      nodes = node.Split (when 0 0) ∷ [];
+      rest = second;
+      reads = (second, begun_split, refl);
+      tree = gap_tree;
+      next = node.Split (when 1 2);
+      more = node.Leaf five ∷ node.Leaf (Clique (1 ∷ [])) ∷ node.Split (when 0 2) ∷ node.Split (when 1 0) ∷ node.Leaf five ∷ node.Leaf (Clique (1 ∷ [])) ∷ node.Leaf (Clique (0 ∷ [])) ∷ [];
+      begins = refl;
+      passed = All-from_recursion (Passes gap (AtLeast 5)) (take 1 (on_paths [] gap_tree)) ((lit≤ tt, tt), tt);
+      fails = tt;
+    },
+    no_second,
+  ),
+)

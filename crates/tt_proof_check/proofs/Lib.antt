@@ -2,6 +2,7 @@ pub mod Certifying
 pub mod Counting
 pub mod Determined
 pub mod Examples
+pub mod FailedReads
 pub mod Files
 pub mod Judging
 pub mod Places

@@ -6,6 +6,7 @@ use Rattle.tt_instance.specs.Problem.{Problem}
 use Rattle.tt_facts.specs.declared.facts.Fact.{Fact}
 use Rattle.tt_leaf.specs.declared.leaf.Bound.{Bound}
 use Rattle.tt_leaf.specs.declared.leaf.RuleFault.{RuleFault}
+use Rattle.tt_proof_text.specs.Faults.{read_failed}
 use Rattle.tt_proof_text.specs.Reading.{node_at}
 use Rattle.tt_proof_text.specs.Readers.{Reader, Goes, Says}
 use Rattle.tt_proof_text.specs.Sizes.{AreSizes}
@@ -19,6 +20,7 @@ use Rattle.tt_proof_text.specs.declared.sizes.Sizes.{Sizes}
 use Rattle.tt_proof_check.specs.declared.walk.Stop.TheVariants.{Rule, TooDeep}
 use Rattle.tt_proof_check.specs.declared.fault.CheckFault.{CheckFault}
 use Rattle.tt_proof_check.specs.declared.fault.CheckFault.TheVariants as told
+use Rattle.tt_proof_check.specs.FailedReads.{NodeBreaksOff}
 use Rattle.tt_proof_check.specs.Faults.{text_fault}
 use Rattle.tt_proof_check.specs.Pending.{pending}
 use Rattle.tt_proof_check.specs.Steps.{Steps, Stops}
@@ -85,6 +87,12 @@ node_fails p v b s t f nodes path others stack passed reads fails =
       passed = subst (λ (l : List OnPath). All (Passes p b) l) (sym (ap (take (length nodes)) all ∙ take_at (places_of root nodes) behind (length nodes) (length-places_of root (path ∷ others) nodes stack))) passed;
       fails = fails;
     }
+
+-- behind nodes that pass, a node is due, and the failure of a read breaks it off
+node_breaks : (p : Problem) (v : ℕ) (b : Bound) (s t : Stream) (nodes : List Node) (path : List Fact) (others : Stack) → stack_after root nodes ≡ Some (path ∷ others) → All (Passes p b) (places_of root nodes)
+    → ReadsNodes (sizes_of p) v 0 s nodes t → node_at (sizes_of p) v (length nodes) t ≡ Err read_failed → NodeBreaksOff p v b s
+unfolding node_fails
+node_breaks p v b s t nodes path others stack passed reads breaks = (node_fails p v b s t read_failed nodes path others stack passed reads tt, breaks)
 
 node_as : (a c : Sizes) (v w count : ℕ) (s : Stream) (P : Result (Node × Stream) TextFault → Type 0) → a ≡ c → v ≡ w → P (node_at a v count s) → P (node_at c w count s)
 node_as a c v w count s P e d h = subst (λ (k : ℕ). P (node_at c k count s)) d (subst (λ (x : Sizes). P (node_at x v count s)) e h)
@@ -183,6 +191,14 @@ module _ (p : Problem) (v : ℕ) (b : Bound) (known : Bool) (s : Stream) (old : 
         told_child p v b s u (m.nodes ++ n ∷ []) (i + 1) (too_deep p b m.nodes path n (is_due goes.0).0 stops) (one_more n ∙ ap (λ (j : ℕ). j + 1) (sym number)) (read_one k) e
         (child_as new.sizes (sizes_of p) new.version v new.count (i + 1) u (i + 1) e (ap (λ (r : Reader). r.sizes) goes.1 ∙ same_sizes) (ap (λ (r : Reader). r.version) goes.1 ∙ m.version) here child)
 
+    -- it is a split whose children are too deep, and the failure of a read breaks the first of them off
+    pub sofar_deep_breaks : Stops p b path n TooDeep → known ≡ true → node_at new.sizes new.version new.count u ≡ Err read_failed → NodeBreaksOff p v b s
+    sofar_deep_breaks stops k breaks =
+        let d = too_deep p b m.nodes path n (is_due goes.0).0 stops in
+        let count : length (m.nodes ++ n ∷ []) ≡ new.count = one_more n ∙ ap (λ (r : Reader). r.count) (sym goes.1) in
+        let fails = node_as new.sizes (sizes_of p) new.version v new.count u (λ r. r ≡ Err read_failed) (ap (λ (r : Reader). r.sizes) goes.1 ∙ same_sizes) (ap (λ (r : Reader). r.version) goes.1 ∙ m.version) breaks in
+        node_breaks p v b s u (m.nodes ++ n ∷ []) d.path d.others d.stack d.passed (read_one k) (ap (λ (i : ℕ). node_at (sizes_of p) v i u) count ∙ fails)
+
   -- the tree is whole: it derives the bound
   pub sofar_end : (new : Reader) (u : Stream) → Goes old (Ok None) new → (known ≡ true → Says old t (Ok None) u) → Judged p v b known s u
   sofar_end new u goes says = on m.due m.walked m.places
@@ -205,3 +221,10 @@ module _ (p : Problem) (v : ℕ) (b : Bound) (known : Bool) (s : Stream) (old : 
       let fails = node_as old.sizes (sizes_of p) old.version v old.count t (Fails f) same_sizes m.version says in
       text_cases f (TellsNodes p v b s) tt
       (λ n. (n, node_fails p v b s t f m.nodes path (pending path) w.stack w.passed (m.reads k) (subst (λ (i : ℕ). Fails f (node_at (sizes_of p) v i t)) (sym m.count) fails)))
+
+  -- the failure of a read breaks the node off that is due
+  pub sofar_breaks : 0 < old.places → known ≡ true → node_at old.sizes old.version old.count t ≡ Err read_failed → NodeBreaksOff p v b s
+  sofar_breaks some k breaks =
+      let w = (is_due some).0 in
+      let fails = node_as old.sizes (sizes_of p) old.version v old.count t (λ r. r ≡ Err read_failed) same_sizes m.version breaks in
+      node_breaks p v b s t m.nodes path (pending path) w.stack w.passed (m.reads k) (ap (λ (i : ℕ). node_at (sizes_of p) v i t) m.count ∙ fails)

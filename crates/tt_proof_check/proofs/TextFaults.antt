@@ -1,9 +1,9 @@
 -- What a fault of the text is called, and which faults say nothing of the bytes.
-use Rattle.std.proofs.Common.{◌≡◌, Bool, true, false, Result, Ok, Err, IfErr, refl, sym, subst, ◌⊎◌, inl, inr}
+use Rattle.std.proofs.Common.{◌≡◌, Bool, true, false, Result, Ok, Err, IfErr, refl, sym, subst, ◌∙◌, ◌⊎◌, inl, inr}
 use Rattle.std.specs.Prelude.{IsErrAnd}
 use Rattle.std.specs.Bool.{OnFalse}
 use Rattle.tt_text.specs.declared.feed.FeedFault.TheVariants as feed
-use Rattle.tt_proof_text.specs.Faults.{is_silent}
+use Rattle.tt_proof_text.specs.Faults.{is_silent, read_failed}
 use Rattle.tt_proof_text.specs.declared.fault.TextFault.{TextFault}
 use Rattle.tt_proof_text.specs.declared.fault.TextFault.TheVariants as text
 use Rattle.tt_proof_check.specs.declared.fault.CheckFault.{CheckFault}
@@ -23,6 +23,29 @@ text_cases (text.TrailingToken at) Q a b = b (λ e. cc)
 text_cases (text.TooManyNodes at) Q a b = b (λ e. cc)
 text_cases (text.Feed f) Q a b = b (λ e. cc)
 text_cases text.OutOfMemory Q a b = a
+
+-- only a failed read is told as one
+pub read_told : (f : TextFault) → text_fault f ≡ told.Text read_failed → f ≡ read_failed
+read_told (text.Ended at) e = cc
+read_told (text.Expected w at) e = cc
+read_told (text.UnknownWord at) e = cc
+read_told (text.NotANumber at) e = cc
+read_told (text.UnknownIndex at) e = cc
+read_told (text.RepeatedIndex at) e = cc
+read_told (text.TrailingToken at) e = cc
+read_told (text.TooManyNodes at) e = cc
+read_told (text.Feed f) e = cc
+read_told text.OutOfMemory e = cc
+
+-- an error that was made of a fault, and is a failed read
+pub err_read : {A : Type 0} (r : Result A CheckFault) (f : TextFault) → IsErrAnd r (λ e. e ≡ text_fault f) → r ≡ Err (told.Text read_failed) → f ≡ read_failed
+err_read (Ok x) f e h = absurd cc
+err_read (Err x) f e h = read_told f (let same : x ≡ told.Text read_failed = cc in sym e ∙ same)
+
+-- an error that was handed on
+pub err_same : {A : Type 0} (r : Result A CheckFault) (x : CheckFault) (y : CheckFault) → IsErrAnd r (λ e. e ≡ x) → r ≡ Err y → x ≡ y
+err_same (Ok a) x y e h = absurd cc
+err_same (Err z) x y e h = let same : z ≡ y = cc in sym e ∙ same
 
 -- an error that was made of a fault
 pub err_gives : {A : Type 0} (r : Result A CheckFault) (f : TextFault) (Q : CheckFault → Type 0) → IsErrAnd r (λ e. e ≡ text_fault f) → Q (text_fault f) → IfErr r Q

@@ -1,4 +1,5 @@
 pub mod Derives
+pub mod FailedReads
 pub mod Faults
 pub mod Headline
 pub mod Judged

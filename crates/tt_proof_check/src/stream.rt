@@ -5,8 +5,10 @@ ghost use Rattle.tt_leaf.specs.declared.leaf.Bound.{Bound};
 ghost use Rattle.tt_text.specs.Feeds.{stream_at, fresh};
 ghost use Rattle.tt_proof_text.specs.Answers.{StaysKnown};
 ghost use Rattle.tt_proof_text.specs.Faults.{read_failed};
+ghost use Rattle.tt_proof_text.specs.Reading.{node_at};
 ghost use Rattle.tt_proof_text.specs.Sizes.{AreSizes};
 ghost use Rattle.tt_proof_check.specs.Derives.{HoldsOfAll};
+ghost use Rattle.tt_proof_check.specs.FailedReads.{NodeBreaksOff, BreaksOff, TellsRead, UpToFailure, BeforeFailure};
 ghost use Rattle.tt_proof_check.specs.Nodes.{IsNodeOf};
 ghost use Rattle.tt_proof_check.specs.Steps.{Steps, Stops};
 ghost use Rattle.tt_proof_check.specs.Judged.{Judged, Proved, TellsNodes, TellsChild};
@@ -41,6 +43,8 @@ fn deep_fault<R: Source>(reader: &mut NodeReader, source: &mut R, node: u32) -> 
     ensures failed { result ≡ CheckFault.Text read_failed → R.has_failed source.new ≡ true }
     ensures fault { is_some (R.remaining source.old) ≡ true →
         TellsChild reader.old.sizes reader.old.version reader.old.count (stream_at reader.old.fed (R.remaining source.old)) node result }
+    ensures unread { result ≡ CheckFault.Text read_failed → UpToFailure reader.old.fed (R.remaining source.old) (R.remaining source.new)
+        (λ s. node_at reader.old.sizes reader.old.version reader.old.count s ≡ Err read_failed) }
 {
     match reader.next_node(source) {
         Ok(_) => CheckFault::TooDeep(node),
@@ -67,6 +71,10 @@ fn judge<'i, P: Path<'i>, R: Source>(
     ensures failed { result ≡ Err (CheckFault.Text read_failed) → R.has_failed source.new ≡ true }
     ensures fault { is_some (R.remaining source.old) ≡ true →
         IfErr result (λ e. TellsNodes (P.problem path.old) reader.old.version reader.old.bound (stream_at reader.old.fed (R.remaining source.old)) e) }
+    ensures broken { OnOk result (BeforeFailure reader.old.fed (R.remaining source.old) reader.new.fed (R.remaining source.new)
+        (Judged (P.problem path.old) reader.old.version reader.old.bound true)) }
+    ensures unread { result ≡ Err (CheckFault.Text read_failed) → UpToFailure reader.old.fed (R.remaining source.old) (R.remaining source.new)
+        (NodeBreaksOff (P.problem path.old) reader.old.version reader.old.bound) }
 {
     let bound = reader.bound();
     let mut count: u32 = 0;
@@ -88,10 +96,13 @@ fn read_proof<'i, P: Path<'i>, R: Source>(
     source: &mut R,
 ) -> Result<Bound, CheckFault>
     requires { P.facts path.old ≡ [] }
+    ensures known { StaysKnown (R.remaining source.old) (R.remaining source.new) }
     ensures proved { IfOk result (λ b. Proved (P.problem path.old) (is_some (R.remaining source.old)) (stream_at fresh (R.remaining source.old)) b) }
     ensures failed { result ≡ Err (CheckFault.Text read_failed) → R.has_failed source.new ≡ true }
     ensures fault { is_some (R.remaining source.old) ≡ true →
         IfErr result (λ e. TellsOf (P.problem path.old) (stream_at fresh (R.remaining source.old)) e) }
+    ensures unread { result ≡ Err (CheckFault.Text read_failed) →
+        UpToFailure fresh (R.remaining source.old) (R.remaining source.new) (BreaksOff (P.problem path.old)) }
 {
     let mut reader = NodeReader::new(alloc, path.instance(), source)?;
     let bound = reader.bound();
@@ -117,6 +128,9 @@ pub fn check_proof<R: Source>(
     ensures holds { IfOk result (HoldsOfAll instance.now) }
     ensures failed { result ≡ Err (CheckFault.Text read_failed) → R.has_failed source.new ≡ true }
     ensures fault { IfErr result (λ e. (bytes : List ℕ) → R.remaining source.old ≡ Some bytes → TellsOf instance.now (stream_of bytes) e) }
+    // Where a read fails, all that the bytes before it say has been judged.
+    ensures unread { result ≡ Err (CheckFault.Text read_failed) → (bytes : List ℕ) → R.remaining source.old ≡ Some bytes →
+        TellsRead instance.now bytes (R.remaining source.new) }
 {
     // What is true of every instance: its numbers are small enough to be read.
     prove!(instance.days() > 0);

@@ -2,13 +2,17 @@
 use Rattle.std.proofs.Common.{◌≡◌, ℕ, List, [], ◌∷◌, Some, None, Ok, Err, codes, refl}
 use Rattle.tt_text.specs.Tokens.{tokens_from, tokens_of}
 use Rattle.tt_text.specs.Numbers.{number_of}
-use Rattle.tt_text.specs.Feeds.{Stream, stopped}
+use Rattle.tt_text.specs.Feeds.{Stream, fault_from, stream_from, most_bytes, stopped}
+use Rattle.tt_text.specs.Broken.{broken}
+use Rattle.tt_text.specs.declared.feed.FeedFault.TheVariants.{Read}
 use Rattle.tt_facts.specs.declared.facts.Who.TheVariants.{Curriculum}
 use Rattle.tt_leaf.specs.declared.leaf.Bound.TheVariants.{AtLeast}
 use Rattle.tt_leaf.specs.declared.leaf.Claim.TheVariants as claim
 use Rattle.tt_leaf.specs.declared.leaf.Leaf.TheVariants as leaf
+use Rattle.tt_proof_text.specs.Faults.{read_failed}
 use Rattle.tt_proof_text.specs.Reading.{token_at, word_at, numbered_below, index_of, course_at, price_at, who_at, given_of, given_at, pattern_at, up_to_end, listed_at, list_at, pair_at, prices_at, claim_behind, claim_at, claims_at, node_behind, node_at, version_at, bound_of, bound_at, header_at, end_at}
 use Rattle.tt_proof_text.specs.declared.fault.TextFault.TheVariants as fault
+use Rattle.tt_proof_text.specs.declared.fault.Word.TheVariants as word
 use Rattle.tt_proof_text.specs.declared.node.Node.TheVariants as node
 use Rattle.tt_proof_text.specs.declared.sizes.Sizes.{Sizes}
 
@@ -64,3 +68,20 @@ signed = refl
 trailing : end_at (behind (codes "end end")) ≡ Err (fault.TrailingToken 4)
 unfolding tokens_from token_at word_at end_at
 trailing = refl
+
+-- ---- bytes behind which a read fails
+
+-- the number may go on
+bound_goes_on : header_at (broken (stream_from most_bytes 0 (codes "CTTP 1 bound 5"))) ≡ Err read_failed
+unfolding stream_from fault_from tokens_from number_of token_at word_at version_at bound_of bound_at header_at
+bound_goes_on = refl
+
+-- it has come whole
+bound_is_whole : header_at (broken (stream_from most_bytes 0 (codes "CTTP 1 bound 5 "))) ≡ Ok ((1, AtLeast 5), stopped (Err Read))
+unfolding stream_from fault_from tokens_from number_of token_at word_at version_at bound_of bound_at header_at
+bound_is_whole = refl
+
+-- a fault before it is told
+fault_first : header_at (broken (stream_from most_bytes 0 (codes "CTTP 3 bound 5"))) ≡ Err (fault.Expected word.One 5)
+unfolding stream_from fault_from tokens_from number_of token_at word_at version_at bound_of bound_at header_at
+fault_first = refl

@@ -1,9 +1,8 @@
 -- Parts up to their end, one after the other.
-use Rattle.std.proofs.Common.{◌≡◌, ℕ, zero, suc, ◌<◌, length, Option, Some, None, Result, Ok, refl, sym, ap, subst, ◌∙◌, arith}
+use Rattle.std.proofs.Common.{◌≡◌, ℕ, zero, suc, ◌<◌, Bool, length, Option, Some, None, Result, Ok, refl, sym, ap, subst, ◌∙◌, arith}
 use Rattle.tt_text.specs.Feeds.{Stream}
 use Rattle.tt_text.specs.Reading.{FailsBut}
 use Rattle.tt_text.proofs.Steps.{fails_then, fails_as, ok_is, bind_ok}
-use Rattle.tt_proof_text.specs.Faults.{is_silent}
 use Rattle.tt_proof_text.specs.Reading.{up_to_end, kept_then}
 use Rattle.tt_proof_text.specs.declared.fault.TextFault.{TextFault}
 
@@ -52,14 +51,14 @@ module _ {S X : Type 0} (add : S → X → S) (part : S → Stream → Result (O
       by_most (suc n) enough is = sym is ∙ step n kept s rest o e ∙ ap (kept_then add kept rest (λ now. up_to_end add part n now rest)) none
 
   -- a part is refused
-  pub left_fails : (f : TextFault) (kept : S) (s : Stream) (total : Result (S × Stream) TextFault) → FailsBut is_silent f (part kept s) → IsLeft kept s total → FailsBut is_silent f total
+  pub left_fails : (silent : TextFault → Bool) (f : TextFault) (kept : S) (s : Stream) (total : Result (S × Stream) TextFault) → FailsBut silent f (part kept s) → IsLeft kept s total → FailsBut silent f total
   unfolding up_to_end
-  left_fails f kept s total fails left = by_most left.most left.enough left.is
+  left_fails silent f kept s total fails left = by_most left.most left.enough left.is
     where
-      by_most : (n : ℕ) → length s.tokens < n → up_to_end add part n kept s ≡ total → FailsBut is_silent f total
+      by_most : (n : ℕ) → length s.tokens < n → up_to_end add part n kept s ≡ total → FailsBut silent f total
       by_most zero enough is = absurd (omega arith)
       by_most (suc n) enough is =
-          fails_as is_silent f _ _ is (fails_then is_silent f (part kept s) (λ x. kept_then add kept x.1 (λ now. up_to_end add part n now x.1) x.0) fails)
+          fails_as silent f _ _ is (fails_then silent f (part kept s) (λ x. kept_then add kept x.1 (λ now. up_to_end add part n now x.1) x.0) fails)
 
   -- one part, and then the others, of which each takes a token
   rest_less : (n : ℕ) (kept : S) (s rest : Stream) (o : Option X) (x : S × Stream) → length rest.tokens < length s.tokens

@@ -1,5 +1,5 @@
 -- One turn of the loop that reads prices.
-use Rattle.std.proofs.Common.{◌≡◌, ℕ, ◌<◌, ◌≤◌, ◌==◌, ◌||◌, false, List, [], ◌∷◌, ◌++◌, Option, Some, None, Result, Ok, refl, sym, ap, subst, append_assoc, ◌∙◌}
+use Rattle.std.proofs.Common.{◌≡◌, ℕ, ◌<◌, ◌≤◌, ◌==◌, ◌||◌, Bool, false, List, [], ◌∷◌, ◌++◌, Option, Some, None, Result, Ok, refl, sym, ap, subst, append_assoc, ◌∙◌}
 use Rattle.std.specs.Prelude.{map, All}
 use Rattle.std.specs.List.{list_any}
 use Rattle.tt_lists.specs.Words.{has}
@@ -9,7 +9,6 @@ use Rattle.tt_lists.proofs.Members.{each_of_append}
 use Rattle.tt_leaf.specs.Ranges.{ArePrices, AreBelow}
 use Rattle.tt_text.specs.Feeds.{Stream}
 use Rattle.tt_text.specs.Reading.{FailsBut}
-use Rattle.tt_proof_text.specs.Faults.{is_silent}
 use Rattle.tt_proof_text.specs.Pricing.{with_seen, IsUnseen, AreKept}
 use Rattle.tt_proof_text.specs.Reading.{Kept, Seen, seen_in, with_priced, with_pair, pair_at, next_pair_at, prices_at}
 use Rattle.tt_proof_text.specs.declared.fault.TextFault.{TextFault}
@@ -117,6 +116,6 @@ pub prices_end : (sizes : Sizes) (listed : Seen) (kept : Kept) (s rest : Stream)
 prices_end sizes listed kept s rest o total same e none left = left_end with_pair (next_pair_at sizes) kept s rest o total (ap (λ l. pair_at sizes l s) (sym same) ∙ e) none left
 
 -- a token is refused
-pub prices_fail : (f : TextFault) (sizes : Sizes) (listed : Seen) (kept : Kept) (s : Stream) (total : Total) → listed ≡ seen_in kept → FailsBut is_silent f (pair_at sizes listed s) → ArePricesLeft sizes kept s total
-    → FailsBut is_silent f total
-prices_fail f sizes listed kept s total same fails left = left_fails with_pair (next_pair_at sizes) f kept s total (subst (λ l. FailsBut is_silent f (pair_at sizes l s)) same fails) left
+pub prices_fail : (silent : TextFault → Bool) (f : TextFault) (sizes : Sizes) (listed : Seen) (kept : Kept) (s : Stream) (total : Total) → listed ≡ seen_in kept → FailsBut silent f (pair_at sizes listed s) → ArePricesLeft sizes kept s total
+    → FailsBut silent f total
+prices_fail silent f sizes listed kept s total same fails left = left_fails with_pair (next_pair_at sizes) silent f kept s total (subst (λ l. FailsBut silent f (pair_at sizes l s)) same fails) left

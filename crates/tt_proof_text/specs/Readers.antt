@@ -1,13 +1,15 @@
 -- What a reader of nodes has read, and what it says.
-use Rattle.std.specs.Prelude.{◌≡◌, ℕ, ◌+◌, ◌-◌, ◌<◌, Option, Some, None, Result, Ok, Err, ⊤}
+use Rattle.std.specs.Prelude.{◌≡◌, ℕ, ◌+◌, ◌-◌, ◌<◌, true, is_some, List, Option, Some, None, Result, Ok, Err, ⊤}
 use Rattle.tt_instance.specs.Problem.{Problem}
 use Rattle.tt_leaf.specs.Ranges.{IsClaimOf}
 use Rattle.tt_leaf.specs.declared.leaf.Bound.{Bound}
 use Rattle.tt_leaf.specs.declared.leaf.Claim.{Claim}
-use Rattle.tt_text.specs.Feeds.{Fed, Stream}
+use Rattle.tt_text.specs.Feeds.{Fed, Stream, fresh}
+use Rattle.tt_text.specs.Broken.{broken_at, MayFail}
 use Rattle.tt_text.specs.Reading.{FailsBut}
+use Rattle.tt_proof_text.specs.Answers.{BreaksAs}
 use Rattle.tt_proof_text.specs.Faults.{is_silent}
-use Rattle.tt_proof_text.specs.Reading.{node_at}
+use Rattle.tt_proof_text.specs.Reading.{header_at, node_at}
 use Rattle.tt_proof_text.specs.Sizes.{AreSizes}
 use Rattle.tt_proof_text.specs.Spelling.{IsShortClaim, IsClaimIn, IsNode}
 use Rattle.tt_proof_text.specs.declared.claims.ClaimWord.{ClaimWord}
@@ -60,3 +62,15 @@ abbrev pub Says : Reader → Stream → Result (Option Node) TextFault → Strea
 Says old s (Ok None) after = after ≡ s
 Says old s (Ok (Some node)) after = node_at old.sizes old.version old.count s ≡ Ok (node, after)
 Says old s (Err f) after = FailsBut is_silent f (node_at old.sizes old.version old.count s)
+
+-- what a reader that has read its header, or has not, says of the failure of a read
+abbrev pub HeaderBreaks : Option (List ℕ) → Result Reader TextFault → Option (List ℕ) → Type 0
+HeaderBreaks before (Ok r) after = BreaksAs {X = ℕ × Bound} fresh before r.fed after (λ h. h) (Ok (r.version, r.bound)) header_at
+HeaderBreaks before (Err f) after = BreaksAs {X = ℕ × Bound} fresh before fresh after (λ h. h) (Err f) header_at
+
+-- what a reader that has read a node, or has not, says of the failure of a read
+abbrev pub NodeBreaks : Reader → Option (List ℕ) → Result (Option Node) TextFault → Fed → Option (List ℕ) → Type 0
+NodeBreaks old before (Ok None) new after =
+    is_some before ≡ true → (rest : List ℕ) → MayFail rest new after → MayFail rest old.fed before × (broken_at rest new after ≡ broken_at rest old.fed before)
+NodeBreaks old before (Ok (Some node)) new after = BreaksAs {X = Node} old.fed before new after (λ n. n) (Ok node) (node_at old.sizes old.version old.count)
+NodeBreaks old before (Err f) new after = BreaksAs {X = Node} old.fed before new after (λ n. n) (Err f) (node_at old.sizes old.version old.count)

@@ -2,7 +2,7 @@
 
 ghost use Rattle.std.specs.Prelude.{◌<◌, IfOk, IfSome, All};
 ghost use Rattle.tt_text.specs.Feeds.{room_of};
-ghost use Rattle.tt_proof_text.specs.Answers.{StaysKnown, TellsReads, ReadsAs};
+ghost use Rattle.tt_proof_text.specs.Answers.{StaysKnown, TellsReads, ReadsAs, BreaksAs};
 ghost use Rattle.tt_proof_text.specs.Faults.{TellsNoRead, Gives};
 ghost use Rattle.tt_proof_text.specs.Pricing.{AreTables};
 ghost use Rattle.tt_proof_text.specs.Readers.{IsWordIn, IsClaimAt};
@@ -64,6 +64,7 @@ fn read_claim_behind<R: Source>(
     ensures failed { TellsReads feed.old.fault (R.has_failed source.old) feed.new.fault (R.has_failed source.new) result }
     ensures forward { IfOk result (λ _. room_of feed.new < room_of feed.old) }
     ensures read { ReadsAs feed.old (R.remaining source.old) feed.new (R.remaining source.new) (λ c. c) result (claim_behind sizes word) }
+    ensures broken { BreaksAs feed.old (R.remaining source.old) feed.new (R.remaining source.new) (λ c. c) result (claim_behind sizes word) }
     ensures within { IfOk result (IsClaimAt sizes version) }
 {
     match word {
@@ -114,6 +115,7 @@ fn read_claim<R: Source>(
     ensures failed { TellsReads feed.old.fault (R.has_failed source.old) feed.new.fault (R.has_failed source.new) result }
     ensures forward { IfOk result (λ _. room_of feed.new < room_of feed.old) }
     ensures read { ReadsAs feed.old (R.remaining source.old) feed.new (R.remaining source.new) (λ c. c) result (claim_at sizes version) }
+    ensures broken { BreaksAs feed.old (R.remaining source.old) feed.new (R.remaining source.new) (λ c. c) result (claim_at sizes version) }
     ensures within { IfOk result (λ c. IfSome c (IsClaimAt sizes version)) }
 {
     let at = token(feed, source)?;
@@ -138,6 +140,7 @@ pub fn read_claims<R: Source>(
     ensures known { StaysKnown (R.remaining source.old) (R.remaining source.new) }
     ensures failed { TellsReads feed.old.fault (R.has_failed source.old) feed.new.fault (R.has_failed source.new) result }
     ensures read { ReadsAs feed.old (R.remaining source.old) feed.new (R.remaining source.new) (λ v. v.items) result (claims_at sizes version) }
+    ensures broken { BreaksAs feed.old (R.remaining source.old) feed.new (R.remaining source.new) (λ v. v.items) result (claims_at sizes version) }
     ensures within { IfOk result (λ v. All (IsClaimAt sizes version) v.items) }
 {
     let mut claims = Vec::new(alloc);

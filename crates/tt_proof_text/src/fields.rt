@@ -3,7 +3,7 @@
 ghost use Rattle.std.specs.Prelude.{◌≡◌, ◌≤◌, ◌<◌, true, is_some, IfOk};
 ghost use Rattle.tt_text.specs.Feeds.{stream_at, room_of};
 ghost use Rattle.tt_text.specs.Numbers.{number_of};
-ghost use Rattle.tt_proof_text.specs.Answers.{StaysKnown, TellsReads, ReadsAs};
+ghost use Rattle.tt_proof_text.specs.Answers.{StaysKnown, TellsReads, ReadsAs, Breaks, BreaksAs};
 ghost use Rattle.tt_proof_text.specs.Faults.{TellsNoRead, Gives};
 ghost use Rattle.tt_proof_text.specs.Reading.{token_at, word_at, numbered_below, index_of, course_at, curriculum_at, priced_as, price_at};
 
@@ -20,6 +20,7 @@ pub fn token<R: Source>(feed: &mut Feed, source: &mut R) -> Result<usize, TextFa
     ensures failed { TellsReads feed.old.fault (R.has_failed source.old) feed.new.fault (R.has_failed source.new) result }
     ensures forward { IfOk result (λ _. room_of feed.new < room_of feed.old) }
     ensures read { ReadsAs feed.old (R.remaining source.old) feed.new (R.remaining source.new) (λ at. record { text = feed.new.token; at = at }) result token_at }
+    ensures broken { BreaksAs feed.old (R.remaining source.old) feed.new (R.remaining source.new) (λ at. record { text = feed.new.token; at = at }) result token_at }
 {
     match feed.next(source) {
         Ok(Some(at)) => Ok(at),
@@ -38,6 +39,7 @@ pub fn read_word<R: Source>(feed: &mut Feed, source: &mut R, word: Word) -> Resu
     ensures failed { TellsReads feed.old.fault (R.has_failed source.old) feed.new.fault (R.has_failed source.new) result }
     ensures read { is_some (R.remaining source.old) ≡ true →
         Gives (λ _. stream_at feed.new (R.remaining source.new)) result (word_at word (stream_at feed.old (R.remaining source.old))) }
+    ensures broken { Breaks feed.old (R.remaining source.old) feed.new (R.remaining source.new) (λ _ s. s) result (word_at word) }
 {
     let at = token(feed, source)?;
     if word.text() == feed.token() {
@@ -97,6 +99,7 @@ pub fn read_course<R: Source>(
     ensures failed { TellsReads feed.old.fault (R.has_failed source.old) feed.new.fault (R.has_failed source.new) result }
     ensures forward { IfOk result (λ _. room_of feed.new < room_of feed.old) }
     ensures read { ReadsAs feed.old (R.remaining source.old) feed.new (R.remaining source.new) (λ c. c) result (course_at sizes) }
+    ensures broken { BreaksAs feed.old (R.remaining source.old) feed.new (R.remaining source.new) (λ c. c) result (course_at sizes) }
     ensures within { IfOk result (λ c. c < sizes.courses) }
 {
     let at = token(feed, source)?;
@@ -114,6 +117,7 @@ pub fn read_curriculum<R: Source>(
     ensures failed { TellsReads feed.old.fault (R.has_failed source.old) feed.new.fault (R.has_failed source.new) result }
     ensures forward { IfOk result (λ _. room_of feed.new < room_of feed.old) }
     ensures read { ReadsAs feed.old (R.remaining source.old) feed.new (R.remaining source.new) (λ q. q) result (curriculum_at sizes) }
+    ensures broken { BreaksAs feed.old (R.remaining source.old) feed.new (R.remaining source.new) (λ q. q) result (curriculum_at sizes) }
     ensures within { IfOk result (λ q. q < sizes.curricula) }
 {
     let at = token(feed, source)?;
@@ -139,6 +143,7 @@ pub fn read_price<R: Source>(feed: &mut Feed, source: &mut R) -> Result<u32, Tex
     ensures failed { TellsReads feed.old.fault (R.has_failed source.old) feed.new.fault (R.has_failed source.new) result }
     ensures forward { IfOk result (λ _. room_of feed.new < room_of feed.old) }
     ensures read { ReadsAs feed.old (R.remaining source.old) feed.new (R.remaining source.new) (λ u. u) result price_at }
+    ensures broken { BreaksAs feed.old (R.remaining source.old) feed.new (R.remaining source.new) (λ u. u) result price_at }
     ensures within { IfOk result (λ u. u ≤ 1000000) }
 {
     let at = token(feed, source)?;

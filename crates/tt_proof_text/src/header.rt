@@ -2,7 +2,7 @@
 
 ghost use Rattle.std.specs.Prelude.{◌≡◌, true, is_some};
 ghost use Rattle.tt_text.specs.Feeds.{stream_at};
-ghost use Rattle.tt_proof_text.specs.Answers.{StaysKnown, TellsReads, ReadsAs};
+ghost use Rattle.tt_proof_text.specs.Answers.{StaysKnown, TellsReads, ReadsAs, Breaks, BreaksAs};
 ghost use Rattle.tt_proof_text.specs.Faults.{TellsNoRead, Gives};
 ghost use Rattle.tt_proof_text.specs.Reading.{version_of, version_at, bound_of, bound_at, header_at, end_at};
 
@@ -30,6 +30,7 @@ fn read_version<R: Source>(feed: &mut Feed, source: &mut R) -> Result<u8, TextFa
     ensures known { StaysKnown (R.remaining source.old) (R.remaining source.new) }
     ensures failed { TellsReads feed.old.fault (R.has_failed source.old) feed.new.fault (R.has_failed source.new) result }
     ensures read { ReadsAs feed.old (R.remaining source.old) feed.new (R.remaining source.new) (λ v. v) result version_at }
+    ensures broken { BreaksAs feed.old (R.remaining source.old) feed.new (R.remaining source.new) (λ v. v) result version_at }
 {
     let at = token(feed, source)?;
     version(feed.token(), at)
@@ -55,6 +56,7 @@ fn read_bound<R: Source>(feed: &mut Feed, source: &mut R) -> Result<Bound, TextF
     ensures known { StaysKnown (R.remaining source.old) (R.remaining source.new) }
     ensures failed { TellsReads feed.old.fault (R.has_failed source.old) feed.new.fault (R.has_failed source.new) result }
     ensures read { ReadsAs feed.old (R.remaining source.old) feed.new (R.remaining source.new) (λ b. b) result bound_at }
+    ensures broken { BreaksAs feed.old (R.remaining source.old) feed.new (R.remaining source.new) (λ b. b) result bound_at }
 {
     let at = token(feed, source)?;
     bound(feed.token(), at)
@@ -66,6 +68,7 @@ pub fn read_header<R: Source>(feed: &mut Feed, source: &mut R) -> Result<(u8, Bo
     ensures known { StaysKnown (R.remaining source.old) (R.remaining source.new) }
     ensures failed { TellsReads feed.old.fault (R.has_failed source.old) feed.new.fault (R.has_failed source.new) result }
     ensures read { ReadsAs feed.old (R.remaining source.old) feed.new (R.remaining source.new) (λ h. h) result header_at }
+    ensures broken { BreaksAs feed.old (R.remaining source.old) feed.new (R.remaining source.new) (λ h. h) result header_at }
 {
     read_word(feed, source, Word::Cttp)?;
     let version = read_version(feed, source)?;
@@ -81,6 +84,7 @@ pub fn read_end<R: Source>(feed: &mut Feed, source: &mut R) -> Result<(), TextFa
     ensures failed { TellsReads feed.old.fault (R.has_failed source.old) feed.new.fault (R.has_failed source.new) result }
     ensures read { is_some (R.remaining source.old) ≡ true →
         Gives (λ _. stream_at feed.new (R.remaining source.new)) result (end_at (stream_at feed.old (R.remaining source.old))) }
+    ensures broken { Breaks feed.old (R.remaining source.old) feed.new (R.remaining source.new) (λ _ s. s) result end_at }
 {
     read_word(feed, source, Word::End)?;
     match feed.next(source) {

@@ -4,7 +4,7 @@ ghost use Rattle.std.specs.Prelude.{◌≡◌, ◌<◌, ◌==◌, not, true, fal
 ghost use Rattle.tt_lists.specs.Words.{each_two, has};
 ghost use Rattle.tt_leaf.specs.Ranges.{AreBelow};
 ghost use Rattle.tt_text.specs.Feeds.{room_of};
-ghost use Rattle.tt_proof_text.specs.Answers.{StaysKnown, TellsReads, ReadsAs};
+ghost use Rattle.tt_proof_text.specs.Answers.{StaysKnown, TellsReads, ReadsAs, BreaksAs};
 ghost use Rattle.tt_proof_text.specs.Faults.{TellsNoRead, Gives};
 ghost use Rattle.tt_proof_text.specs.Reading.{listed_of, listed_at, list_at};
 
@@ -42,6 +42,7 @@ fn read_listed<R: Source>(
     ensures failed { TellsReads feed.old.fault (R.has_failed source.old) feed.new.fault (R.has_failed source.new) result }
     ensures forward { IfOk result (λ _. room_of feed.new < room_of feed.old) }
     ensures read { ReadsAs feed.old (R.remaining source.old) feed.new (R.remaining source.new) (λ c. c) result (listed_at sizes seen.now.numbers) }
+    ensures broken { BreaksAs feed.old (R.remaining source.old) feed.new (R.remaining source.new) (λ c. c) result (listed_at sizes seen.now.numbers) }
     ensures within { IfOk result (λ c. IfSome c (λ n. n < sizes.courses)) }
     ensures new { IfOk result (λ c. IfSome c (λ n. has seen.now.numbers n ≡ false)) }
 {
@@ -62,6 +63,7 @@ pub fn read_list<R: Source>(
     ensures known { StaysKnown (R.remaining source.old) (R.remaining source.new) }
     ensures failed { TellsReads feed.old.fault (R.has_failed source.old) feed.new.fault (R.has_failed source.new) result }
     ensures read { ReadsAs feed.old (R.remaining source.old) feed.new (R.remaining source.new) (λ v. v.items) result (list_at sizes) }
+    ensures broken { BreaksAs feed.old (R.remaining source.old) feed.new (R.remaining source.new) (λ v. v.items) result (list_at sizes) }
     ensures within { IfOk result (λ v. AreBelow sizes.courses v.items) }
     ensures once { IfOk result (λ v. each_two (λ a b. not (a == b)) v.items ≡ true) }
 {

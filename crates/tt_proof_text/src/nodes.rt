@@ -1,7 +1,7 @@
 //! Single nodes.
 
 ghost use Rattle.std.specs.Prelude.{◌<◌, IfOk};
-ghost use Rattle.tt_proof_text.specs.Answers.{StaysKnown, TellsReads, ReadsAs};
+ghost use Rattle.tt_proof_text.specs.Answers.{StaysKnown, TellsReads, ReadsAs, BreaksAs};
 ghost use Rattle.tt_proof_text.specs.Faults.{TellsNoRead, Gives};
 ghost use Rattle.tt_proof_text.specs.Pricing.{AreTables};
 ghost use Rattle.tt_proof_text.specs.Readers.{IsNodeAt};
@@ -64,6 +64,7 @@ fn read_node_behind<R: Source>(
     ensures known { StaysKnown (R.remaining source.old) (R.remaining source.new) }
     ensures failed { TellsReads feed.old.fault (R.has_failed source.old) feed.new.fault (R.has_failed source.new) result }
     ensures read { ReadsAs feed.old (R.remaining source.old) feed.new (R.remaining source.new) (λ n. n) result (node_behind sizes version word) }
+    ensures broken { BreaksAs feed.old (R.remaining source.old) feed.new (R.remaining source.new) (λ n. n) result (node_behind sizes version word) }
     ensures node { IfOk result (IsNodeAt sizes version) }
 {
     match word {
@@ -110,6 +111,7 @@ pub fn read_node<R: Source>(
     ensures known { StaysKnown (R.remaining source.old) (R.remaining source.new) }
     ensures failed { TellsReads feed.old.fault (R.has_failed source.old) feed.new.fault (R.has_failed source.new) result }
     ensures read { ReadsAs feed.old (R.remaining source.old) feed.new (R.remaining source.new) (λ n. n) result (node_at sizes version count) }
+    ensures broken { BreaksAs feed.old (R.remaining source.old) feed.new (R.remaining source.new) (λ n. n) result (node_at sizes version count) }
     ensures node { IfOk result (IsNodeAt sizes version) }
     ensures room { IfOk result (λ _. count < 16777216) }
 {

@@ -3,7 +3,7 @@
 ghost use Rattle.std.specs.Prelude.{◌<◌, IfOk};
 ghost use Rattle.tt_instance.specs.Problem.{Problem};
 ghost use Rattle.tt_facts.specs.Facts.{IsWho, IsGiven, IsPattern};
-ghost use Rattle.tt_proof_text.specs.Answers.{StaysKnown, TellsReads, ReadsAs};
+ghost use Rattle.tt_proof_text.specs.Answers.{StaysKnown, TellsReads, ReadsAs, BreaksAs};
 ghost use Rattle.tt_proof_text.specs.Faults.{TellsNoRead, Gives};
 ghost use Rattle.tt_proof_text.specs.Sizes.{AreSizes};
 ghost use Rattle.tt_proof_text.specs.Reading.{who_in, who_at, given_of, given_at, pattern_at};
@@ -38,6 +38,7 @@ fn read_who<R: Source>(feed: &mut Feed, source: &mut R, sizes: Sizes) -> Result<
     ensures known { StaysKnown (R.remaining source.old) (R.remaining source.new) }
     ensures failed { TellsReads feed.old.fault (R.has_failed source.old) feed.new.fault (R.has_failed source.new) result }
     ensures read { ReadsAs feed.old (R.remaining source.old) feed.new (R.remaining source.new) (λ w. w) result (who_at sizes) }
+    ensures broken { BreaksAs feed.old (R.remaining source.old) feed.new (R.remaining source.new) (λ w. w) result (who_at sizes) }
     ensures within { (p : Problem) → AreSizes p sizes → IfOk result (IsWho p) }
 {
     let at = token(feed, source)?;
@@ -68,6 +69,7 @@ fn read_given<R: Source>(
     ensures known { StaysKnown (R.remaining source.old) (R.remaining source.new) }
     ensures failed { TellsReads feed.old.fault (R.has_failed source.old) feed.new.fault (R.has_failed source.new) result }
     ensures read { ReadsAs feed.old (R.remaining source.old) feed.new (R.remaining source.new) (λ n. n) result (given_at letter count) }
+    ensures broken { BreaksAs feed.old (R.remaining source.old) feed.new (R.remaining source.new) (λ n. n) result (given_at letter count) }
     ensures within { IfOk result (IsGiven count) }
 {
     let at = token(feed, source)?;
@@ -84,6 +86,7 @@ pub fn read_pattern<R: Source>(
     ensures known { StaysKnown (R.remaining source.old) (R.remaining source.new) }
     ensures failed { TellsReads feed.old.fault (R.has_failed source.old) feed.new.fault (R.has_failed source.new) result }
     ensures read { ReadsAs feed.old (R.remaining source.old) feed.new (R.remaining source.new) (λ g. g) result (pattern_at sizes) }
+    ensures broken { BreaksAs feed.old (R.remaining source.old) feed.new (R.remaining source.new) (λ g. g) result (pattern_at sizes) }
     ensures within { (p : Problem) → AreSizes p sizes → IfOk result (IsPattern p) }
 {
     let who = read_who(feed, source, sizes)?;

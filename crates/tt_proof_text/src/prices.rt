@@ -2,7 +2,7 @@
 
 ghost use Rattle.std.specs.Prelude.{◌≡◌, ◌≤◌, ◌<◌, IfOk, IfSome, OnOk};
 ghost use Rattle.tt_text.specs.Feeds.{room_of};
-ghost use Rattle.tt_proof_text.specs.Answers.{StaysKnown, TellsReads, ReadsAs};
+ghost use Rattle.tt_proof_text.specs.Answers.{StaysKnown, TellsReads, ReadsAs, BreaksAs};
 ghost use Rattle.tt_proof_text.specs.Faults.{TellsNoRead, Gives};
 ghost use Rattle.tt_proof_text.specs.Pricing.{kept_of, seen_of, AreTables, IsUnseen, AreKept};
 ghost use Rattle.tt_proof_text.specs.Reading.{priced_in, priced_of, pair_at, prices_at};
@@ -105,6 +105,7 @@ fn read_pair<R: Source>(
     ensures failed { TellsReads feed.old.fault (R.has_failed source.old) feed.new.fault (R.has_failed source.new) result }
     ensures forward { IfOk result (λ _. room_of feed.new < room_of feed.old) }
     ensures read { ReadsAs feed.old (R.remaining source.old) feed.new (R.remaining source.new) (λ x. x) result (pair_at sizes (seen_of tables.now)) }
+    ensures broken { BreaksAs feed.old (R.remaining source.old) feed.new (R.remaining source.new) (λ x. x) result (pair_at sizes (seen_of tables.now)) }
     ensures within { IfOk result (λ x. IfSome x (λ k. IsUnseen sizes (seen_of tables.now) k.0 × (k.1 ≤ 1000000))) }
 {
     let at = token(feed, source)?;
@@ -129,6 +130,7 @@ pub fn read_prices<R: Source>(
     ensures failed { TellsReads feed.old.fault (R.has_failed source.old) feed.new.fault (R.has_failed source.new) result }
     ensures forward { IfOk result (λ _. room_of feed.new < room_of feed.old) }
     ensures read { ReadsAs feed.old (R.remaining source.old) feed.new (R.remaining source.new) (λ k. kept_of k) result (prices_at sizes) }
+    ensures broken { BreaksAs feed.old (R.remaining source.old) feed.new (R.remaining source.new) (λ k. kept_of k) result (prices_at sizes) }
     ensures within { IfOk result (λ k. AreKept sizes (kept_of k)) }
 {
     let mut prices = Prices {

@@ -2,10 +2,10 @@
 
 ghost use Rattle.std.specs.Prelude.{◌≡◌, ◌<◌, ◌==◌, true, is_some, Some, None, Ok, Err, IfOk, IfErr, IfSome};
 ghost use Rattle.tt_text.specs.Feeds.{stream_at, fresh};
-ghost use Rattle.tt_proof_text.specs.Answers.{StaysKnown};
+ghost use Rattle.tt_proof_text.specs.Answers.{StaysKnown, Breaks};
 ghost use Rattle.tt_proof_text.specs.Faults.{read_failed, TellsNoRead, Gives};
 ghost use Rattle.tt_proof_text.specs.Reading.{header_at, end_at};
-ghost use Rattle.tt_proof_text.specs.Readers.{IsNodeAt, Goes, Says};
+ghost use Rattle.tt_proof_text.specs.Readers.{IsNodeAt, Goes, Says, HeaderBreaks, NodeBreaks};
 ghost use Rattle.tt_proof_text.specs.Sizes.{AreSizes};
 
 use crate::fault::TextFault;
@@ -58,6 +58,8 @@ impl NodeReader {
         ensures unfailed { TellsNoRead result → R.has_failed source.new ≡ R.has_failed source.old }
         ensures read { is_some (R.remaining source.old) ≡ true →
             Gives (λ r. ((r.version, r.bound), stream_at r.fed (R.remaining source.new))) result (header_at (stream_at fresh (R.remaining source.old))) }
+        // A failed read is told where the bytes before it give a part of the header and no fault.
+        ensures broken { HeaderBreaks (R.remaining source.old) result (R.remaining source.new) }
         ensures start { IfOk result (λ r. (r.count ≡ 0) × (r.places ≡ 1) × (r.fault ≡ None)) }
         ensures sizes { IfOk result (λ r. AreSizes instance.now r.sizes) }
     {
@@ -111,6 +113,8 @@ impl NodeReader {
         ensures room { IfOk result (λ o. IfSome o (λ _. self.old.count < 16777216)) }
         ensures says { self.old.fault ≡ None → is_some (R.remaining source.old) ≡ true →
             Says self.old (stream_at self.old.fed (R.remaining source.old)) result (stream_at self.new.fed (R.remaining source.new)) }
+        // A failed read is told where the bytes before it give a part of the node and no fault.
+        ensures broken { self.old.fault ≡ None → NodeBreaks self.old (R.remaining source.old) result self.new.fed (R.remaining source.new) }
         // Its numbers are the instance's, and its claims are of the version.
         ensures node { IfOk result (λ o. IfSome o (IsNodeAt self.old.sizes self.old.version)) }
     {
@@ -155,6 +159,7 @@ impl NodeReader {
         ensures fault { IfErr result (λ f. self.new.fault ≡ Some f) }
         ensures read { self.old.fault ≡ None → is_some (R.remaining source.old) ≡ true →
             Gives (λ _. stream_at self.new.fed (R.remaining source.new)) result (end_at (stream_at self.old.fed (R.remaining source.old))) }
+        ensures broken { self.old.fault ≡ None → Breaks self.old.fed (R.remaining source.old) self.new.fed (R.remaining source.new) (λ _ s. s) result end_at }
     {
         if let Some(fault) = self.fault {
             return Err(fault);

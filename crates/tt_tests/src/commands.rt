@@ -2,6 +2,7 @@
 
 use crate::disk::{Disk, StoredFile};
 use std::alloc::Global;
+use std::rt::Files;
 use std::test::Fail;
 use tt_app::run;
 
@@ -20,20 +21,25 @@ impl Outcome {
     }
 }
 
-/// Runs the program on words, over files.
-pub fn run_words(alloc: Global, words: &[&str], files: &[StoredFile<'_>]) -> Result<Outcome, Fail> {
+/// Runs the program on words, over a file system.
+pub fn run_on<F: Files + Drop>(alloc: Global, words: &[&str], files: F) -> Result<Outcome, Fail> {
     let mut owned = Vec::new(alloc);
     for word in words {
         owned.push(String::from_str(alloc, word)?)?;
     }
     let mut out = Vec::new(alloc);
     let mut err = Vec::new(alloc);
-    let status = run(&(Disk { files }, alloc), &owned, &mut out, &mut err);
+    let status = run(&(files, alloc), &owned, &mut out, &mut err);
     Ok(Outcome {
         status,
         out: String::from_utf8(out)?,
         err: String::from_utf8(err)?,
     })
+}
+
+/// Runs the program on words, over files that can be read.
+pub fn run_words(alloc: Global, words: &[&str], files: &[StoredFile<'_>]) -> Result<Outcome, Fail> {
+    run_on(alloc, words, Disk { files })
 }
 
 /// What `validate` makes of an instance and a solution.

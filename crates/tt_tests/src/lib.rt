@@ -14,6 +14,8 @@ mod files;
 #[cfg(test)]
 mod leaves;
 #[cfg(test)]
+mod moving;
+#[cfg(test)]
 mod occupancy;
 #[cfg(test)]
 mod paths;
@@ -26,8 +28,16 @@ mod reports;
 #[cfg(test)]
 mod samples;
 #[cfg(test)]
+mod searching;
+#[cfg(test)]
+mod shelf;
+#[cfg(test)]
 mod tables;
 #[cfg(test)]
 mod trees;
 #[cfg(test)]
+mod upgrades;
+#[cfg(test)]
 mod validating;
+#[cfg(test)]
+mod writing;

@@ -14,7 +14,7 @@ use tt_proof_text::Node;
 use tt_text::Pieces;
 
 /// Gap costs at least 5: whichever periods its courses take.
-const GAP_PROOF: &str =
+pub const GAP_PROOF: &str =
     "CTTP 1 bound 5\nS c0 * d0 p0\nS c1 * d0 p2\nB C c1 1 Q q0 ;\nK c1 ;\nS c0 * d0 p2\nS c1 * d0 p0\nB C c1 1 Q q0 ;\nK c1 ;\nK c0 ;\nend\n";
 
 fn bounded(alloc: Global, instance: &str, proof: &str) -> Result<Outcome, Fail> {

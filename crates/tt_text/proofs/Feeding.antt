@@ -96,7 +96,7 @@ while-yes p x xs e =
     let n : cond (p x) (1 + prefix_len p xs) 0 ≡ suc (prefix_len p xs) = rw e (omega arith) in
     ap (λ (m : ℕ). take m (x ∷ xs)) n
 
-while-no : {X : Type 0} (p : X → Bool) (x : X) (xs : List X) → p x ≡ false → take_while p (x ∷ xs) ≡ []
+pub while-no : {X : Type 0} (p : X → Bool) (x : X) (xs : List X) → p x ≡ false → take_while p (x ∷ xs) ≡ []
 while-no p x xs e =
     let n : cond (p x) (1 + prefix_len p xs) 0 ≡ zero = rw e refl in
     ap (λ (m : ℕ). take m (x ∷ xs)) n

@@ -1,15 +1,15 @@
 -- What is found at the front of the bytes that are held, by a scan of those within the limit.
-use Rattle.std.proofs.Common.{◌≡◌, ℕ, zero, suc, ◌+◌, ◌-◌, ◌<◌, ◌≤◌, Bool, true, false, ltb, List, [], ◌∷◌, ◌++◌, length, take, drop, Result, Ok, Err, refl, sym, ap, subst, ◌∙◌, add-zero, append_assoc, append-nil, length-append, arith}
+use Rattle.std.proofs.Common.{◌≡◌, ℕ, zero, suc, ◌+◌, ◌<◌, ◌≤◌, Bool, true, false, ltb, List, [], ◌∷◌, ◌++◌, length, take, drop, Some, Ok, Err, refl, sym, ap, subst, ◌∙◌, add-zero, append_assoc, append-nil, length-append, arith}
 use Rattle.std.specs.List.{list_all, prefix_len}
 use Rattle.std.proofs.lemmas.List.{drop-drop, drop_all, length-drop, take-append-drop, take-append-le, drop-append-le, length-take-le}
 use Rattle.std.proofs.lemmas.Bool.{le-ltb, and_parts}
 use Rattle.std.proofs.Math.Seq.{drop-append_seam}
 use Rattle.tt_text.specs.Tokens.{is_separator, in_token, Placed}
-use Rattle.tt_text.specs.Feeds.{Stream, stream_from, with_token, stopped}
+use Rattle.tt_text.specs.Feeds.{stream_from, ends_before, with_token, stopped}
+use Rattle.tt_text.specs.Broken.{broken}
 use Rattle.tt_text.specs.Found.{AtGap, IsScan, FindsToken, FindsMore, MayFollow, has_token}
-use Rattle.tt_text.specs.declared.feed.FeedFault.{FeedFault}
-use Rattle.tt_text.specs.declared.feed.FeedFault.TheVariants.{TokenTooLong, TooManyBytes}
-use Rattle.tt_text.proofs.Feeding.{not_false, stream-gap, stream-nothing, stream-token, stream-last, stream-long, stream-past}
+use Rattle.tt_text.specs.declared.feed.FeedFault.TheVariants.{Read, TokenTooLong, TooManyBytes}
+use Rattle.tt_text.proofs.Feeding.{not_false, while-no, stream-gap, stream-nothing, stream-token, stream-last, stream-long, stream-past}
 
 -- a gap and a token have no byte behind them
 run_of : (p : ℕ → Bool) (xs ys : List ℕ) → list_all p xs ≡ true → prefix_len p (xs ++ ys) ≡ length xs + prefix_len p ys
@@ -140,6 +140,7 @@ finds_inside at gap len ended w past scan short h below =
       within = omega (arith, length-append w past);
       below = omega arith;
       some = some_token w gap len scan (omega arith);
+      followed = λ (e : ended ≡ false). omega (arith, length-append w past);
       given = λ (tail : List ℕ) (m : MayFollow ended tail).
           ap (stream_from 4294967295 at) (append_assoc w past tail)
           ∙ found_inside 4294967295 at gap len w (past ++ tail) scan short h below
@@ -153,6 +154,7 @@ finds_last at gap len ended w scan short h some e below =
       within = scan.within;
       below = omega (arith, scan.within);
       some = some;
+      followed = λ (no : ended ≡ false). absurd (let h : true ≡ false = sym e ∙ no in cc);
       given = λ (tail : List ℕ) (m : MayFollow ended tail).
           ap (λ (l : List ℕ). stream_from 4294967295 at (w ++ l)) (m e) ∙ ap (stream_from 4294967295 at) (append-nil w)
           ∙ found_last 4294967295 at gap len w scan short h some below
@@ -168,6 +170,17 @@ partial_of w gap len scan h =
     let parts : w ≡ g ++ t = cut w gap len ∙ ap (λ (l : List ℕ). g ++ (t ++ l)) r ∙ ap (λ (l : List ℕ). g ++ l) (append-nil t) in
     ap has_token parts ∙ whole_partial g t scan.separators scan.token
 
+-- a token at the end of what was read is still open
+found_open : (at gap len : ℕ) (w : List ℕ) → IsScan w gap len → len ≤ 32 → length w ≤ gap + len → at + length w ≤ 4294967295 → broken (stream_from 4294967295 at w) ≡ stopped (Err Read)
+found_open at gap zero w scan short h below = ap broken (found_end 4294967295 at gap w scan h below)
+found_open at gap (suc len) w scan short h below =
+    let t : List ℕ = take (suc len) (drop gap w) in
+    let n : length t ≡ suc len = token_len_is w gap (suc len) scan in
+    let last = found_last 4294967295 at gap (suc len) w scan short h (omega arith) below ∙ ap (with_token (record { text = t; at = at + gap })) (stream-nothing 4294967295 (at + gap + suc len)) in
+    let open_end : ltb ((at + gap) + length t) (at + gap + suc len) ≡ false = le-ltb _ _ (omega arith) in
+    ap broken last
+    ∙ ap (λ (ts : List Placed). record { tokens = ts; stop = Err Read }) (while-no (ends_before (Some (record { byte = at + gap + suc len; told = Read }))) (record { text = t; at = at + gap }) [] open_end)
+
 pub finds_more : (at gap len : ℕ) (ended : Bool) (w : List ℕ) → IsScan w gap len → len ≤ 32 → length w ≤ gap + len → ended ≡ false → at + length w ≤ 4294967295 → FindsMore at w ended gap
 finds_more at gap len ended w scan short h e below =
     record {
@@ -177,6 +190,7 @@ finds_more at gap len ended w scan short h e below =
       partial = partial_of w gap len scan h;
       goes_on = e;
       same = λ (tail : List ℕ). found_more 4294967295 at gap len w tail scan below;
+      open_token = found_open at gap len w scan short h below;
     }
 
 pub held_long : (at gap len : ℕ) (ended : Bool) (held w past : List ℕ) → held ≡ w ++ past → IsScan w gap len → 32 < len → at + length w ≤ 4294967295

@@ -1,3 +1,4 @@
+pub mod Breaking
 pub mod Digits
 pub mod EachToken
 pub mod Feeding

@@ -1,3 +1,4 @@
+pub mod Broken
 pub mod Fed
 pub mod Feeds
 pub mod Found

@@ -3,8 +3,10 @@ use Rattle.std.specs.Prelude.{IfErr}
 use Rattle.tt_text.specs.Feeds.{stream_at, fresh}
 use Rattle.tt_instance.specs.Problem.{Problem}
 use Rattle.tt_proof_check.specs.Derives.{HoldsOfAll}
+use Rattle.tt_proof_check.specs.FailedReads.{BreaksOff, UpToFailure}
 use Rattle.tt_proof_check.specs.Judged.{Proved}
 use Rattle.tt_proof_check.specs.Streams.{IsProved, TellsOf}
+use Rattle.tt_proof_check.proofs.FailedReads.{tells_read}
 use Rattle.tt_proof_check.proofs.Texts.{proof_found, proof_holds, proof_only}
 use Rattle.tt_proof_check.proofs.stream.check_proof.Goals as goal
 
@@ -26,3 +28,11 @@ pub returns-clause-holds : goal.returns-clause-holds
 returns-clause-holds g c =
     subst (λ (p : Problem). IfOk c.read_proof.result (HoldsOfAll p)) c.new-path.ensures.problem
     (proof_holds c.new-path.result.problem (g.R.Source.remaining c.args.source.now) c.read_proof.result c.read_proof.ensures.proved)
+
+pub returns-clause-unread : goal.returns-clause-unread
+returns-clause-unread g c =
+    λ told.
+    let before = g.R.Source.remaining c.args.source.now in
+    let after = g.R.Source.remaining c.read_proof.new.source in
+    let up = subst (λ (p : Problem). UpToFailure fresh before after (BreaksOff p)) c.new-path.ensures.problem (c.read_proof.ensures.unread told) in
+    tells_read c.args.instance.now before after c.read_proof.ensures.known up

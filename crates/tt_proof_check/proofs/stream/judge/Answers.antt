@@ -1,10 +1,13 @@
-use Rattle.std.proofs.Common.{◌≡◌, ◌+◌, sym, ap, ◌∙◌, arith, refl, is_some}
+use Rattle.std.proofs.Common.{◌≡◌, ◌+◌, sym, ap, ◌∙◌, arith, refl, true, Err, is_some}
 use Rattle.tt_text.specs.Feeds.{stream_at}
+use Rattle.tt_text.specs.Broken.{broken_at}
+use Rattle.tt_proof_text.specs.Faults.{read_failed, is_failed_read}
 use Rattle.tt_proof_text.specs.Readers.{Reader}
+use Rattle.tt_proof_check.specs.declared.fault.CheckFault.TheVariants.{Text}
 use Rattle.tt_proof_check.specs.declared.walk.Stop.TheVariants.{Rule, TooDeep}
 use Rattle.tt_proof_check.specs.Judged.{TellsNodes}
-use Rattle.tt_proof_check.proofs.Streaming.{sofar_start, sofar_next, sofar_wrong, sofar_deep, sofar_end, sofar_unread}
-use Rattle.tt_proof_check.proofs.TextFaults.{err_gives}
+use Rattle.tt_proof_check.proofs.Streaming.{sofar_start, sofar_next, sofar_wrong, sofar_deep, sofar_end, sofar_unread, sofar_breaks, sofar_deep_breaks}
+use Rattle.tt_proof_check.proofs.TextFaults.{err_gives, err_read}
 use Rattle.tt_proof_check.proofs.Walking.{steps_as, stops_as}
 use Rattle.tt_proof_check.proofs.stream.judge.Goals as goal
 
@@ -14,6 +17,10 @@ loop-node-init g c =
     record {
       sofar = sofar_start (g.P.Path.problem c.args.path.now) c.args.reader.now.bound (is_some (g.R.Source.remaining c.args.source.now))
           (stream_at c.args.reader.now.fed (g.R.Source.remaining c.args.source.now)) c.args.reader.now (g.P.Path.facts c.args.path.now) r.root r.unread r.place r.sizes r.sound;
+      failing = λ k rest m. (
+        m,
+        sofar_start (g.P.Path.problem c.args.path.now) c.args.reader.now.bound true (broken_at rest c.args.reader.now.fed (g.R.Source.remaining c.args.source.now)) c.args.reader.now (g.P.Path.facts c.args.path.now) r.root r.unread r.place r.sizes r.sound,
+      );
       problem = refl;
       count = sym r.unread;
       few = omega (arith, r.unread);
@@ -41,6 +48,12 @@ loop-node-preserved g c =
     record {
       sofar = sofar_next p v b known s old t path inv.sofar new u n goes (λ k. e.says inv.sofar.sound (inv.known k)) next
           (steps_as _ p c.bound-bound.result b path n next inv.problem c.bound-bound.ensures c.in-Ok.ensures.steps) c.in-Ok.ensures.within;
+      failing = λ k rest m.
+          let here = e.broken inv.sofar.sound (inv.known k) rest m in
+          let first = inv.failing k rest here.0 in (
+            first.0,
+            sofar_next p v b true _ old _ path first.1 new _ n goes (λ _. here.1) next (steps_as _ p c.bound-bound.result b path n next inv.problem c.bound-bound.ensures c.in-Ok.ensures.steps) c.in-Ok.ensures.within,
+          );
       problem = c.in-Ok.ensures.same ∙ inv.problem;
       count = omega (arith, count, inv.count);
       few = omega (arith, count, e.room);
@@ -127,3 +140,48 @@ returns-clause-judged g c =
     let new = c.next_node.new.self in
     let u = stream_at new.fed (g.R.Source.remaining c.next_node.new.source) in
     sofar_end p v b known s old t path inv.sofar new u (e.goes inv.sofar.sound) (λ k. e.says inv.sofar.sound (inv.known k))
+
+pub returns-in_err-node-clause-unread : goal.returns-in_err-node-clause-unread
+returns-in_err-node-clause-unread g c =
+    λ told k.
+    let e = c.in_err-node.ensures in
+    let f = c.in_err-node.field-0.0 in
+    let inv = c.loop-node.invariant in
+    let old = c.loop-node.reader in
+    let path = g.P.Path.facts c.loop-node.path in
+    let is : f ≡ read_failed = err_read c.from_residual.result f c.from_residual.ensures.1 told in
+    let here = e.broken inv.sofar.sound (inv.known k) (ap is_failed_read is) in
+    let first = inv.failing k _ here.0 in
+    (first.0, sofar_breaks _ _ _ true _ old _ path first.1 (e.goes inv.sofar.sound).0 refl (here.1 ∙ ap (λ x. Err x) is))
+
+pub returns-in-Err-TooDeep-clause-unread : goal.returns-in-Err-TooDeep-clause-unread
+returns-in-Err-TooDeep-clause-unread g c =
+    λ told k.
+    let e = rw c.in-Some.is at c.in_ok-node.ensures in
+    let taken = rw c.in-Err-TooDeep.field-0-is at c.in-Err-TooDeep.ensures in
+    let n = c.in-Some.node in
+    let inv = c.loop-node.invariant in
+    let p = g.P.Path.problem c.args.path.now in
+    let b = c.args.reader.now.bound in
+    let old = c.loop-node.reader in
+    let path = g.P.Path.facts c.loop-node.path in
+    let new = c.next_node.new.self in
+    let is : c.deep_fault.result ≡ Text read_failed = cc in
+    let child = c.deep_fault.ensures.unread is (e.known (inv.known k)) in
+    let here = e.broken inv.sofar.sound (inv.known k) _ child.0 in
+    let first = inv.failing k _ here.0 in (
+      first.0,
+      sofar_deep_breaks p _ b true _ old _ path first.1 new _ n (e.goes inv.sofar.sound) (λ _. here.1) (stops_as _ p c.bound-bound.result b path n TooDeep inv.problem c.bound-bound.ensures taken.stops) refl child.1,
+    )
+
+pub returns-clause-broken : goal.returns-clause-broken
+returns-clause-broken g c =
+    λ k rest m.
+    let e = rw c.in_default.is at c.in_ok-node.ensures in
+    let inv = c.loop-node.invariant in
+    let old = c.loop-node.reader in
+    let path = g.P.Path.facts c.loop-node.path in
+    let new = c.next_node.new.self in
+    let here = e.broken inv.sofar.sound (inv.known k) rest m in
+    let first = inv.failing k rest here.0 in
+    (first.0, sofar_end _ _ _ true _ old _ path first.1 new _ (e.goes inv.sofar.sound) (λ _. here.1))

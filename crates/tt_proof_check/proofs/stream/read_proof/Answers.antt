@@ -1,9 +1,11 @@
-use Rattle.std.proofs.Common.{inr, sym, subst, is_some}
+use Rattle.std.proofs.Common.{◌≡◌, ◌∙◌, Err, inl, inr, refl, ap, sym, subst, is_some}
 use Rattle.tt_text.specs.Feeds.{stream_at, fresh}
+use Rattle.tt_proof_text.specs.Faults.{read_failed, is_failed_read}
 use Rattle.tt_leaf.specs.declared.leaf.Bound.{Bound}
+use Rattle.tt_proof_check.specs.declared.fault.CheckFault.TheVariants.{Text}
 use Rattle.tt_proof_check.specs.Judged.{Proved}
 use Rattle.tt_proof_check.specs.Streams.{TellsOf}
-use Rattle.tt_proof_check.proofs.TextFaults.{text_cases, err_gives}
+use Rattle.tt_proof_check.proofs.TextFaults.{text_cases, err_gives, err_read, err_same}
 use Rattle.tt_proof_check.proofs.stream.read_proof.Goals as goal
 
 pub returns-in_err-finish-clause-fault : goal.returns-in_err-finish-clause-fault
@@ -56,3 +58,37 @@ returns-clause-proved g c =
       shallow = judged.judged.shallow;
       derives = judged.judged.derives;
     })
+
+pub returns-in_err-judge-clause-unread : goal.returns-in_err-judge-clause-unread
+returns-in_err-judge-clause-unread g c =
+    λ told k.
+    let reader = c.in_ok-reader.reader in
+    let start = c.in_ok-reader.ensures in
+    let is = err_same c.from_residual-in_err-judge.result c.in_err-judge.field-0.0 (Text read_failed) c.from_residual-in_err-judge.ensures.1 told in
+    let here = c.in_err-judge.ensures.unread (ap (λ x. Err x) is) (start.known k) in
+    let first = start.broken k _ here.0 in
+    (first.0, inr (reader.version, reader.bound, _, first.1, inl here.1))
+
+pub returns-in_err-finish-clause-unread : goal.returns-in_err-finish-clause-unread
+returns-in_err-finish-clause-unread g c =
+    λ told k.
+    let reader = c.in_ok-reader.reader in
+    let start = c.in_ok-reader.ensures in
+    let judged = c.in_ok-judge.ensures in
+    let f = c.in_err-finish.field-0.0 in
+    let is : f ≡ read_failed = err_read c.from_residual-in_err-finish.result f c.from_residual-in_err-finish.ensures.1 told in
+    let here = c.in_err-finish.ensures.broken judged.sound (judged.known (start.known k)) (ap is_failed_read is) in
+    let tree = judged.broken (start.known k) _ here.0 in
+    let first = start.broken k _ tree.0 in (
+      first.0,
+      inr (
+        reader.version,
+        reader.bound,
+        _,
+        first.1,
+        inr (
+          record { tree = tree.1.tree; rest = _; reads = tree.1.reads refl; shallow = tree.1.shallow; derives = tree.1.derives; fails = tt },
+          here.1 ∙ ap (λ x. Err x) is,
+        ),
+      ),
+    )

@@ -1,5 +1,6 @@
-use Rattle.std.proofs.Common.{◌∙◌}
+use Rattle.std.proofs.Common.{refl, ◌∙◌}
 use Rattle.std.proofs.lemmas.Result.{err_from_is_err_and}
+use Rattle.tt_proof_text.specs.Reading.{pattern_at}
 use Rattle.tt_proof_text.proofs.patterns.read_pattern.Goals as goal
 
 pub returns-in_err-period-clause-failed : goal.returns-in_err-period-clause-failed
@@ -11,3 +12,16 @@ returns-in_err-period-clause-failed g c =
     let room = c.in_ok-room.ensures.failed who.0 in
     let day = c.in_ok-day.ensures.failed room.0 in
     rw (day.1 ∙ room.1 ∙ who.1) at (c.in_err-period.ensures.failed day.0))
+
+pub returns-clause-broken : goal.returns-clause-broken
+unfolding pattern_at
+returns-clause-broken g c =
+    λ k rest m.
+    let known_who = c.in_ok-who.ensures.known k in
+    let known_room = c.in_ok-room.ensures.known known_who in
+    let known_day = c.in_ok-day.ensures.known known_room in
+    let period = c.in_ok-period.ensures.broken known_day rest m in
+    let day = c.in_ok-day.ensures.broken known_room rest period.0 in
+    let room = c.in_ok-room.ensures.broken known_who rest day.0 in
+    let who = c.in_ok-who.ensures.broken k rest room.0 in
+    (who.0, rw (who.1, room.1, day.1, period.1) refl)

@@ -1,5 +1,6 @@
-use Rattle.std.proofs.Common.{◌≡◌, [], refl, sym, ap, subst, arith, ◌∙◌}
+use Rattle.std.proofs.Common.{◌≡◌, false, [], refl, sym, ap, subst, arith, ◌∙◌}
 use Rattle.std.proofs.lemmas.Result.{err_from_is_err_and}
+use Rattle.tt_proof_text.specs.Faults.{is_silent}
 use Rattle.tt_proof_text.specs.Listed.{Listed}
 use Rattle.tt_proof_text.specs.Pricing.{kept_of, seen_of, with_seen, IsUnseen}
 use Rattle.tt_proof_text.specs.Reading.{seen_in}
@@ -17,6 +18,7 @@ loop-prices-init g c =
       tables = record { courses = ap (λ (l : Listed). l.count) c.clear.ensures ∙ c.requires.courses; rooms = ap (λ (l : Listed). l.count) c.clear-2.ensures ∙ c.requires.rooms };
       seen = clear ∙ sym (ap seen_in none);
       left = λ k. prices_left c.args.sizes _ _ none;
+      failing = λ k rest m. (m, prices_left c.args.sizes _ _ none);
       within = kept_nothing c.args.sizes _ none;
     }
 
@@ -24,7 +26,16 @@ pub returns-in_err-priced-clause-read : goal.returns-in_err-priced-clause-read
 returns-in_err-priced-clause-read g c = λ k.
     let p = err_from_is_err_and c.from_residual.result c.from_residual.ensures.1 in
     rw (p.1, p.2)
-    (prices_fail c.in_err-priced.field-0.0 c.args.sizes _ _ _ _ c.loop-prices.invariant.seen (c.in_err-priced.ensures.read (c.loop-prices.invariant.known k)) (c.loop-prices.invariant.left k))
+    (prices_fail is_silent c.in_err-priced.field-0.0 c.args.sizes _ _ _ _ c.loop-prices.invariant.seen (c.in_err-priced.ensures.read (c.loop-prices.invariant.known k)) (c.loop-prices.invariant.left k))
+
+pub returns-in_err-priced-clause-broken : goal.returns-in_err-priced-clause-broken
+returns-in_err-priced-clause-broken g c =
+    let p = err_from_is_err_and c.from_residual.result c.from_residual.ensures.1 in
+    rw (p.1, p.2)
+    (λ k failure.
+    let here = c.in_err-priced.ensures.broken (c.loop-prices.invariant.known k) failure in
+    let first = c.loop-prices.invariant.failing k _ here.0 in
+    (first.0, prices_fail (λ _. false) c.in_err-priced.field-0.0 c.args.sizes _ _ _ _ c.loop-prices.invariant.seen here.1 first.1))
 
 pub loop-prices-preserved : goal.loop-prices-preserved
 loop-prices-preserved g c =
@@ -39,9 +50,21 @@ loop-prices-preserved g c =
       seen = c.in_ok-add.ensures.seen ∙ ap (λ listed. with_seen listed c.in-Some.priced) c.loop-prices.invariant.seen ∙ seen_push (kept_of c.loop-prices.prices) c.in-Some.priced c.in-Some.points ∙ sym (ap seen_in added);
       left = λ k. rw added
           (prices_then c.args.sizes _ _ _ _ c.in_ok-priced.field-0 (c.in-Some.priced, c.in-Some.points) _ c.loop-prices.invariant.seen (c.in_ok-priced.ensures.read (c.loop-prices.invariant.known k)) c.in-Some.is (c.loop-prices.invariant.left k));
+      failing = λ k rest m.
+          rw added
+          (let here = c.in_ok-priced.ensures.broken (c.loop-prices.invariant.known k) rest m in
+          let first = c.loop-prices.invariant.failing k rest here.0 in
+          (first.0, prices_then c.args.sizes _ _ _ _ c.in_ok-priced.field-0 (c.in-Some.priced, c.in-Some.points) _ c.loop-prices.invariant.seen here.1 c.in-Some.is first.1));
       within = rw added (kept_push c.args.sizes _ c.in-Some.priced c.in-Some.points c.loop-prices.invariant.within new next.1);
     }
 
 pub returns-clause-read : goal.returns-clause-read
 returns-clause-read g c = λ k.
     prices_end c.args.sizes _ _ _ _ c.in_ok-priced.field-0 _ c.loop-prices.invariant.seen (c.in_ok-priced.ensures.read (c.loop-prices.invariant.known k)) c.in_default.is (c.loop-prices.invariant.left k)
+
+pub returns-clause-broken : goal.returns-clause-broken
+returns-clause-broken g c =
+    λ k rest m.
+    let here = c.in_ok-priced.ensures.broken (c.loop-prices.invariant.known k) rest m in
+    let first = c.loop-prices.invariant.failing k rest here.0 in
+    (first.0, prices_end c.args.sizes _ _ _ _ c.in_ok-priced.field-0 _ c.loop-prices.invariant.seen here.1 c.in_default.is first.1)

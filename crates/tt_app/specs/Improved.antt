@@ -1,0 +1,26 @@
+-- What `improve` answers of the bytes of an instance and of a solution.
+use Rattle.std.specs.Prelude.{◌≡◌, ℕ, ◌==◌, if◌then◌else◌, List, None, IsSomeAnd}
+use Rattle.tt_instance.specs.Problem.{Problem}
+use Rattle.tt_instance.specs.declared.cell.Cell.{Cell}
+use Rattle.tt_table.specs.Spelling.{solution_text}
+use Rattle.tt_rules.specs.Score.{hard, cost}
+use Rattle.tt_search.specs.Improved.{IsNoWorse}
+use Rattle.tt_proof_check.specs.Headline.{SpellsBoth}
+use Rattle.tt_app.specs.Lines.{pair_line}
+use Rattle.tt_app.specs.declared.answer.Answer.{Answer}
+
+-- the line of a timetable, its status, and its text as the solution's file
+pub record IsTableAnswer (p : Problem) (t : List Cell) (a : Answer) : Type 0 where
+  pub text : a.out.items ≡ pair_line (hard p t) (cost p t)
+  pub status : a.status ≡ (if hard p t == 0 then 0 else 1)
+  pub file : IsSomeAnd a.table (λ v. v.items ≡ solution_text p t)
+  pub no_proof : a.proof ≡ None
+
+-- the answer is that of a timetable which is no worse than the one that is spelled
+pub record IsImproved (instance solution : List ℕ) (a : Answer) : Type 0 where
+  pub problem : Problem
+  pub table : List Cell
+  pub both : SpellsBoth instance solution problem table
+  pub better : List Cell
+  pub no_worse : IsNoWorse problem table better
+  pub answer : IsTableAnswer problem better a

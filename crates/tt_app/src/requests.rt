@@ -1,0 +1,116 @@
+//! What each command does with its files.
+
+use crate::answer::Answer;
+use crate::bounding::bound;
+use crate::checking::check;
+use crate::cli::Search;
+use crate::disk::{read_file, write_file};
+use crate::fault::{AppFault, Input};
+use crate::improving::improve;
+use crate::reporting::report;
+use crate::stored;
+use crate::upgrading::upgrade;
+use crate::validation::validate;
+use std::fs;
+use std::io::Write;
+use std::rt::Files;
+use tt_report::{By, Writing};
+use tt_text::{Pieces, Reading};
+
+pub fn answer_check<R: Files + AllocGlobal>(
+    rt: &R,
+    instance: &str,
+    solution: &str,
+    proof: &str,
+) -> Result<Answer, AppFault> {
+    let instance = read_file(rt, instance, Input::Instance)?;
+    let solution = read_file(rt, solution, Input::Solution)?;
+    let Ok(proof) = fs::open(rt, proof) else {
+        return Err(AppFault::CannotRead(Input::Proof));
+    };
+    check(rt.alloc(), &instance, &solution, &mut Reading::new(proof))
+}
+
+pub fn answer_bound<R: Files + AllocGlobal>(
+    rt: &R,
+    instance: &str,
+    proof: &str,
+) -> Result<Answer, AppFault> {
+    let instance = read_file(rt, instance, Input::Instance)?;
+    let Ok(proof) = fs::open(rt, proof) else {
+        return Err(AppFault::CannotRead(Input::Proof));
+    };
+    bound(rt.alloc(), &instance, &mut Reading::new(proof))
+}
+
+pub fn answer_validate<R: Files + AllocGlobal>(
+    rt: &R,
+    instance: &str,
+    solution: &str,
+) -> Result<Answer, AppFault> {
+    let instance = read_file(rt, instance, Input::Instance)?;
+    let solution = read_file(rt, solution, Input::Solution)?;
+    validate(rt.alloc(), &instance, &solution)
+}
+
+/// The built-in instance, solution and proof.
+pub fn answer_stored<R: Files + AllocGlobal>(rt: &R) -> Result<Answer, AppFault> {
+    let mut proof = Pieces::new(stored::PROOF, 64, 0);
+    check(rt.alloc(), stored::INSTANCE, stored::SOLUTION, &mut proof)
+}
+
+/// The answer, once the timetable is written to its file.
+pub fn answer_improve<R: Files + AllocGlobal>(
+    rt: &R,
+    instance: &str,
+    solution: &str,
+    out: &str,
+    search: Search,
+) -> Result<Answer, AppFault> {
+    let instance = read_file(rt, instance, Input::Instance)?;
+    let solution = read_file(rt, solution, Input::Solution)?;
+    let answer = improve(rt.alloc(), &instance, &solution, search.seed, search.steps)?;
+    write_given(rt, out, &answer.table)?;
+    Ok(answer)
+}
+
+/// The answer, once the proof is written to its file.
+pub fn answer_upgrade<R: Files + AllocGlobal>(
+    rt: &R,
+    instance: &str,
+    proof: &str,
+    out: &str,
+) -> Result<Answer, AppFault> {
+    let instance = read_file(rt, instance, Input::Instance)?;
+    let Ok(proof) = fs::open(rt, proof) else {
+        return Err(AppFault::CannotRead(Input::Proof));
+    };
+    let answer = upgrade(rt.alloc(), &instance, &mut Reading::new(proof))?;
+    write_given(rt, out, &answer.proof)?;
+    Ok(answer)
+}
+
+/// Writes a file, where there is one to write.
+fn write_given<R: Files + AllocGlobal>(
+    rt: &R,
+    path: &str,
+    bytes: &Option<Vec<u8>>,
+) -> Result<(), AppFault> {
+    match bytes {
+        Some(bytes) => write_file(rt, path, bytes),
+        None => Ok(()),
+    }
+}
+
+/// Writes a report, and gives the status.
+pub fn report_to<R: Files + AllocGlobal, O: Write>(
+    rt: &R,
+    instance: &str,
+    solution: &str,
+    by: By,
+    out: &mut O,
+) -> Result<u8, AppFault> {
+    let instance = read_file(rt, instance, Input::Instance)?;
+    let solution = read_file(rt, solution, Input::Solution)?;
+    report(rt.alloc(), &instance, &solution, by, &mut Writing::new(out))
+}

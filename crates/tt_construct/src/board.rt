@@ -1,0 +1,160 @@
+//! The lectures placed so far, as counts.
+
+use crate::counts::Counts;
+use crate::place::Place;
+use crate::setting::{Course, Setting};
+use std::alloc::{AllocError, Global};
+use tt_instance::Instance;
+
+/// A course on its way to its lectures.
+#[derive(Clone, Copy)]
+pub struct Waiting {
+    /// The lectures still to place.
+    pub left: u32,
+    /// The periods in which one more would break nothing but for its room.
+    pub open: u32,
+    /// The days with a lecture.
+    pub days: u32,
+}
+
+impl Waiting {
+    const NONE: Waiting = Waiting {
+        left: 0,
+        open: 0,
+        days: 0,
+    };
+}
+
+/// What stands where.
+#[derive(Drop)]
+pub struct Board {
+    waiting: Vec<Waiting>,
+    /// What a lecture of each course would break in each period, but for its room.
+    broken: Counts,
+    /// The lectures in each room and period.
+    pub rooms: Counts,
+    /// Those of each curriculum in each period.
+    pub curricula: Counts,
+    /// Those of each course on each day.
+    pub days: Counts,
+    /// Those of each course in each room.
+    pub halls: Counts,
+}
+
+/// The courses, none of their lectures placed.
+fn all_waiting(alloc: Global, setting: &Setting) -> Result<Vec<Waiting>, AllocError> {
+    let mut waiting = Vec::new(alloc);
+    for course in &setting.courses {
+        waiting.push(Waiting {
+            left: course.lectures,
+            open: setting.slots,
+            days: 0,
+        })?;
+    }
+    Ok(waiting)
+}
+
+impl Board {
+    /// No lecture is placed, and no period barred.
+    fn empty(alloc: Global, setting: &Setting) -> Result<Board, AllocError> {
+        let (courses, rooms) = (setting.course_count, setting.room_count);
+        Ok(Board {
+            waiting: all_waiting(alloc, setting)?,
+            broken: Counts::new(alloc, courses, setting.slots)?,
+            rooms: Counts::new(alloc, rooms, setting.slots)?,
+            curricula: Counts::new(alloc, setting.curriculum_count, setting.slots)?,
+            days: Counts::new(alloc, courses, setting.days)?,
+            halls: Counts::new(alloc, courses, rooms)?,
+        })
+    }
+
+    /// No lecture is placed.
+    pub fn new(
+        alloc: Global,
+        instance: &Instance<'_>,
+        setting: &Setting,
+    ) -> Result<Board, AllocError> {
+        let periods = instance.periods();
+        let mut board = Board::empty(alloc, setting)?;
+        for index in 0..instance.bars() {
+            let (course, day, period) = instance.bar(index);
+            board.close(course, day.saturating_mul(periods).saturating_add(period));
+        }
+        Ok(board)
+    }
+
+    /// A course on its way; one that is not there has no lecture left.
+    pub fn waiting_of(&self, course: u32) -> Waiting {
+        self.waiting
+            .get(course as usize)
+            .copied()
+            .unwrap_or(Waiting::NONE)
+    }
+
+    /// What a lecture of a course would break in a period, but for its room.
+    pub fn broken(&self, course: u32, slot: u32) -> u32 {
+        u32::from(self.broken.get(course, slot))
+    }
+
+    /// How much a course wants a period: its lectures left for each open period, in 256ths.
+    fn wanted_by(&self, course: u32, slot: u32) -> u32 {
+        if self.broken(course, slot) > 0 {
+            return 0;
+        }
+        let waiting = self.waiting_of(course);
+        waiting
+            .left
+            .saturating_mul(256)
+            .checked_div(waiting.open)
+            .unwrap_or(0)
+    }
+
+    /// How much a period is wanted by the courses to which a lecture of the course would close it.
+    pub fn wanted(&self, course: &Course, slot: u32) -> u32 {
+        let mut wanted: u32 = 0;
+        for opponent in &course.opponents {
+            wanted = wanted.saturating_add(self.wanted_by(*opponent, slot));
+        }
+        wanted
+    }
+
+    /// A lecture of the course would break one rule more in the period.
+    fn close(&mut self, course: u32, slot: u32) {
+        if self.broken.add(course, slot)
+            && let Some(waiting) = self.waiting.get_mut(course as usize)
+        {
+            waiting.open = waiting.open.saturating_sub(1);
+        }
+    }
+
+    /// Closes the period to a course and to its opponents.
+    fn close_round(&mut self, number: u32, course: &Course, slot: u32) {
+        self.close(number, slot);
+        for opponent in &course.opponents {
+            self.close(*opponent, slot);
+        }
+    }
+
+    /// One lecture less waits, since it is placed on a day.
+    fn take(&mut self, course: u32, day: u32) {
+        let is_new = self.days.add(course, day);
+        if let Some(waiting) = self.waiting.get_mut(course as usize) {
+            waiting.left = waiting.left.saturating_sub(1);
+            if is_new {
+                waiting.days = waiting.days.saturating_add(1);
+            }
+        }
+    }
+
+    /// Counts a lecture of a course at a place.
+    pub fn put(&mut self, setting: &Setting, number: u32, course: &Course, place: Place) {
+        let day = place.slot.checked_div(setting.periods).unwrap_or(0);
+        self.take(number, day);
+        self.close_round(number, course, place.slot);
+        let _ = self.rooms.add(place.room, place.slot);
+        let _ = self.halls.add(number, place.room);
+        for curriculum in &course.curricula {
+            let _ = self.curricula.add(*curriculum, place.slot);
+        }
+    }
+}

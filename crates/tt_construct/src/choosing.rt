@@ -1,0 +1,62 @@
+//! The choice of a place for a lecture.
+
+use crate::board::Board;
+use crate::place::Place;
+use crate::pricing::{Lecture, Price, period_price, place_price};
+use crate::setting::Setting;
+use rand_core::Rng;
+use rand_pcg::Pcg32;
+
+/// A place and its price.
+#[derive(Clone, Copy)]
+pub struct Choice {
+    pub place: Place,
+    pub price: Price,
+}
+
+impl Choice {
+    /// Worse than any place.
+    const WORST: Choice = Choice {
+        place: Place { room: 0, slot: 0 },
+        price: Price::HIGHEST,
+    };
+}
+
+/// The best room in a period.
+fn best_room(
+    setting: &Setting,
+    board: &Board,
+    lecture: Lecture<'_>,
+    slot: u32,
+    rng: &mut Pcg32,
+) -> Choice {
+    let period = period_price(setting, board, lecture, slot);
+    let mut best = Choice::WORST;
+    for room in 0..setting.room_count {
+        let place = Place { room, slot };
+        let price = place_price(setting, board, lecture, place, period, rng.next_u32());
+        if price < best.price {
+            best = Choice { place, price };
+        }
+    }
+    best
+}
+
+/// The best place for a lecture.
+pub fn best_place(
+    setting: &Setting,
+    board: &Board,
+    lecture: Lecture<'_>,
+    rng: &mut Pcg32,
+) -> Choice {
+    let mut best = Choice::WORST;
+    for slot in 0..setting.slots {
+        if board.broken(lecture.number, slot) <= best.price.broken {
+            let here = best_room(setting, board, lecture, slot, rng);
+            if here.price < best.price {
+                best = here;
+            }
+        }
+    }
+    best
+}

@@ -1,0 +1,81 @@
+//! A place for each lecture.
+
+use crate::board::Board;
+use crate::choosing::best_place;
+use crate::order::next_course;
+use crate::place::Place;
+use crate::pricing::Lecture;
+use crate::setting::{Course, Setting};
+use rand_pcg::Pcg32;
+use std::alloc::{AllocError, Global};
+use tt_instance::Instance;
+
+/// In the rounds from this one on, what other courses want counts before the cost.
+const AHEAD: u32 = 3;
+
+/// A place for each lecture, course by course. It may break rules.
+#[derive(Drop)]
+pub struct Plan {
+    pub places: Vec<Place>,
+    /// How often each course broke a rule in the rounds so far.
+    failures: Vec<u32>,
+    /// The rounds so far.
+    rounds: u32,
+}
+
+impl Plan {
+    /// All lectures at one place.
+    pub fn new(alloc: Global, setting: &Setting) -> Result<Plan, AllocError> {
+        let nowhere = Place { room: 0, slot: 0 };
+        Ok(Plan {
+            places: vec![in alloc; nowhere; setting.lectures]?,
+            failures: vec![in alloc; 0u32; setting.courses.len()]?,
+            rounds: 0,
+        })
+    }
+
+    /// Notes a lecture's place, the lectures of its course behind it being placed.
+    fn note(&mut self, course: &Course, left: u32, place: Place) {
+        let index = course.first.saturating_add(left.saturating_sub(1) as usize);
+        if let Some(there) = self.places.get_mut(index) {
+            *there = place;
+        }
+    }
+
+    /// Places a lecture of a course.
+    fn place(&mut self, setting: &Setting, board: &mut Board, number: u32, rng: &mut Pcg32) {
+        let Some(course) = setting.courses.get(number as usize) else {
+            return;
+        };
+        let waiting = board.waiting_of(number);
+        let looks_ahead = self.rounds >= AHEAD;
+        let lecture = Lecture::new(number, course, waiting.days, looks_ahead);
+        let choice = best_place(setting, board, lecture, rng);
+        if choice.price.broken > 0
+            && let Some(failures) = self.failures.get_mut(number as usize)
+        {
+            *failures = failures.saturating_add(1);
+        }
+        self.note(course, waiting.left, choice.place);
+        board.put(setting, number, course, choice.place);
+    }
+
+    /// Places all lectures anew, those of the courses sooner that broke rules before.
+    pub fn renew(
+        &mut self,
+        alloc: Global,
+        instance: &Instance<'_>,
+        setting: &Setting,
+        rng: &mut Pcg32,
+    ) -> Result<(), AllocError> {
+        let mut board = Board::new(alloc, instance, setting)?;
+        for _ in 0..setting.lectures {
+            let Some(number) = next_course(setting, &board, &self.failures, rng) else {
+                break;
+            };
+            self.place(setting, &mut board, number, rng);
+        }
+        self.rounds = self.rounds.saturating_add(1);
+        Ok(())
+    }
+}

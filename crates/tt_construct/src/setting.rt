@@ -1,0 +1,103 @@
+//! What the choices read of an instance.
+
+use std::alloc::{AllocError, Global};
+use tt_instance::Instance;
+
+/// A course, as the choices see it.
+#[derive(Drop)]
+pub struct Course {
+    pub lectures: u32,
+    pub students: u32,
+    pub min_days: u32,
+    /// Where its lectures begin among those of all courses.
+    pub first: usize,
+    pub curricula: Vec<u32>,
+    /// The courses that exclude it.
+    pub opponents: Vec<u32>,
+}
+
+/// An instance, as the choices see it.
+#[derive(Drop)]
+pub struct Setting {
+    pub courses: Vec<Course>,
+    /// The seats of each room.
+    pub seats: Vec<u32>,
+    pub course_count: u32,
+    pub room_count: u32,
+    pub curriculum_count: u32,
+    pub days: u32,
+    /// The periods of a day.
+    pub periods: u32,
+    /// The periods of the week.
+    pub slots: u32,
+    /// The lectures of all courses.
+    pub lectures: usize,
+}
+
+/// The curricula of a course.
+fn curricula_of(
+    alloc: Global,
+    instance: &Instance<'_>,
+    course: u32,
+) -> Result<Vec<u32>, AllocError> {
+    (0..instance.curricula())
+        .filter(|curriculum| instance.in_curriculum(*curriculum, course))
+        .collect(alloc)
+}
+
+/// The courses that exclude a course.
+fn opponents_of(
+    alloc: Global,
+    instance: &Instance<'_>,
+    course: u32,
+) -> Result<Vec<u32>, AllocError> {
+    (0..instance.courses())
+        .filter(|other| instance.conflict(*other, course))
+        .collect(alloc)
+}
+
+/// The seats of each room.
+fn seats_of(alloc: Global, instance: &Instance<'_>) -> Result<Vec<u32>, AllocError> {
+    let mut seats = Vec::new(alloc);
+    for room in 0..instance.rooms() {
+        seats.push(instance.capacity(room))?;
+    }
+    Ok(seats)
+}
+
+impl Setting {
+    /// An instance, with no course of it yet.
+    fn empty(alloc: Global, instance: &Instance<'_>) -> Result<Setting, AllocError> {
+        let days = instance.days();
+        let periods = instance.periods();
+        Ok(Setting {
+            courses: Vec::new(alloc),
+            seats: seats_of(alloc, instance)?,
+            course_count: instance.courses(),
+            room_count: instance.rooms(),
+            curriculum_count: instance.curricula(),
+            days,
+            periods,
+            slots: days * periods,
+            lectures: 0,
+        })
+    }
+
+    /// What the choices read of the instance.
+    pub fn new(alloc: Global, instance: &Instance<'_>) -> Result<Setting, AllocError> {
+        let mut setting = Setting::empty(alloc, instance)?;
+        for course in 0..instance.courses() {
+            let lectures = instance.lectures(course);
+            setting.courses.push(Course {
+                lectures,
+                students: instance.students(course),
+                min_days: instance.min_days(course),
+                first: setting.lectures,
+                curricula: curricula_of(alloc, instance, course)?,
+                opponents: opponents_of(alloc, instance, course)?,
+            })?;
+            setting.lectures = setting.lectures.saturating_add(lectures as usize);
+        }
+        Ok(setting)
+    }
+}

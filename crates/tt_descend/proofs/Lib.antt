@@ -1,0 +1,4 @@
+pub mod Descents
+pub mod Examples
+pub mod Scans
+pub mod Settling

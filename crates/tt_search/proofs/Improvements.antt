@@ -1,0 +1,32 @@
+-- Laws of improvements.
+use Rattle.std.proofs.Common.{◌≡◌, ℕ, Bool, List, ◌∙◌, ap, subst, refl, inl, inr}
+use Rattle.tt_instance.specs.Problem.{Problem}
+use Rattle.tt_instance.specs.declared.cell.Cell.{Cell}
+use Rattle.tt_table.specs.Table.{IsTimetable}
+use Rattle.tt_moves.specs.Changes.{IsBelow}
+use Rattle.tt_occupancy.specs.Filled.{Filled}
+use Rattle.tt_descend.specs.Descent.{Descends, IsDescent}
+use Rattle.tt_descend.proofs.Descents.{IsTimetable-descends, courses-descends, descends_lower, IsBelow-irrefl, IsBelow-trans}
+use Rattle.tt_search.specs.Improved.{IsNoWorse}
+
+-- a timetable is no worse than itself
+pub IsNoWorse-refl : (p : Problem) (t : List Cell) → IsTimetable p t → IsNoWorse p t t
+IsNoWorse-refl p t ok = record { timetable = ok; courses = refl; no_higher = IsBelow-irrefl p t }
+
+-- nor is the end of a descent from one that is no worse
+pub IsNoWorse-descends : {p : Problem} {t u v : List Cell} {n : ℕ} → IsNoWorse p t u → Descends p u n v → IsNoWorse p t v
+IsNoWorse-descends {p} {t} {u} {v} kept down = record {
+  timetable = IsTimetable-descends down kept.timetable;
+  courses = courses-descends down ∙ kept.courses;
+  no_higher = λ below. elim (descends_lower down) [
+    | inl is ↦ kept.no_higher (subst (IsBelow p t) is below)
+    | inr lower ↦ kept.no_higher (IsBelow-trans p t v u below lower)
+  ];
+}
+
+-- from a first timetable to one that is no worse, and down from there
+pub no_worse_then_down : (p : Problem) (t v : List Cell) (first best : Filled) (steps : ℕ) (settled : Bool) → first ≡ record { problem = p; entries = t } → best.problem ≡ first.problem → IsNoWorse first.problem first.entries best.entries → IsDescent best.problem best.entries steps v settled → IsNoWorse p t v
+no_worse_then_down p t v first best steps settled is problem kept down =
+    let near : IsNoWorse p t best.entries = subst (λ (o : Filled). IsNoWorse o.problem o.entries best.entries) is kept in
+    let same : best.problem ≡ p = problem ∙ ap (λ o. o.problem) is in
+    IsNoWorse-descends near (subst (λ (q : Problem). Descends q best.entries down.made v) same down.path)

@@ -1,0 +1,2 @@
+pub mod Improvements
+pub mod Restored

@@ -1,0 +1,2 @@
+pub mod Improved
+pub mod Pairs

@@ -1,0 +1,45 @@
+//! The best timetable that a search has found.
+
+ghost use Rattle.std.specs.Prelude.{◌≡◌, IfOk, List};
+ghost use Rattle.tt_instance.specs.declared.cell.Cell.{Cell};
+ghost use Rattle.tt_search.specs.Improved.{courses_of};
+ghost use Rattle.tt_search.specs.Pairs.{IsBest};
+
+use crate::pair::Pair;
+use std::alloc::{AllocError, Global};
+use tt_occupancy::Occupied;
+use tt_table::Entry;
+
+/// The entries of the best timetable so far, and its pair.
+#[derive(Drop)]
+pub struct Best {
+    pub entries: Vec<Entry>,
+    pub pair: Pair,
+}
+
+impl Best {
+    /// The first timetable is the best one so far.
+    pub fn new(alloc: Global, occupied: &Occupied<'_, '_>) -> Result<Best, AllocError>
+        ensures { IfOk result (IsBest occupied.now.problem occupied.now.entries) }
+    {
+        let entries = Vec::from_slice(alloc, occupied.table().entries())?;
+        Ok(Best {
+            entries,
+            pair: Pair::of(occupied),
+        })
+    }
+
+    /// Keeps a timetable where it is better. No memory is taken.
+    pub fn keep(&mut self, occupied: &Occupied<'_, '_>)
+        requires { (t : List Cell) × (courses_of occupied.now.entries ≡ courses_of t)
+            × IsBest occupied.now.problem t self.old }
+        ensures { (t : List Cell) → courses_of occupied.now.entries ≡ courses_of t
+            → IsBest occupied.now.problem t self.old → IsBest occupied.now.problem t self.new }
+    {
+        let pair = Pair::of(occupied);
+        if pair.is_below(self.pair) {
+            self.entries.copy_from_slice(occupied.table().entries());
+            self.pair = pair;
+        }
+    }
+}

@@ -1,0 +1,21 @@
+//! Numbers drawn from a generator.
+
+ghost use Rattle.std.specs.Prelude.{◌<◌};
+
+use rand::RngExt;
+use rand_core::Rng;
+use rand_pcg::Pcg32;
+
+/// A number below a bound.
+pub fn below(rng: &mut Pcg32, bound: u32) -> u32
+    requires { 0 < bound }
+    ensures { result < bound }
+{
+    rng.random_range(0..bound)
+}
+
+/// A number of which each 16 more are half as likely.
+pub fn luck(rng: &mut Pcg32) -> u32 {
+    let word = rng.next_u32();
+    word.leading_zeros().saturating_mul(16) + word % 16
+}

@@ -1,0 +1,33 @@
+//! Pairs of a hard count and a cost.
+
+ghost use Rattle.std.specs.Prelude.{◌≡◌, ◌<◌, ◌⊎◌, ◌↔◌, IsTrue};
+ghost use Rattle.tt_search.specs.Pairs.{IsPairOf, IsLower};
+
+use tt_occupancy::Occupied;
+
+/// How many hard rules a timetable breaks, and what it costs.
+#[derive(Clone, Copy, Debug, PartialEq, Eq)]
+pub struct Pair {
+    pub hard: u64,
+    pub cost: u64,
+}
+
+impl Pair {
+    /// The pair of a timetable.
+    pub fn of(occupied: &Occupied<'_, '_>) -> Pair
+        ensures { IsPairOf occupied.now.problem occupied.now.entries result }
+    {
+        let score = occupied.score();
+        Pair {
+            hard: score.hard(),
+            cost: score.cost(),
+        }
+    }
+
+    /// Whether it has a lower hard count, or the same at a lower cost.
+    pub fn is_below(self, other: Pair) -> bool
+        ensures { IsTrue result ↔ IsLower self other }
+    {
+        self.hard < other.hard || (self.hard == other.hard && self.cost < other.cost)
+    }
+}

@@ -1,0 +1,21 @@
+//! The way back to a timetable.
+
+ghost use Rattle.std.specs.Prelude.{◌≡◌};
+ghost use Rattle.tt_table.specs.Table.{IsTimetable};
+ghost use Rattle.tt_search.specs.Improved.{courses_of};
+
+use tt_occupancy::Occupied;
+use tt_table::Entry;
+
+/// Moves each entry to where it stood. No memory is taken.
+pub fn restore(occupied: &mut Occupied<'_, '_>, entries: &[Entry])
+    requires in_range { IsTimetable occupied.old.problem entries.now }
+    requires courses { courses_of occupied.old.entries ≡ courses_of entries.now }
+    ensures { occupied.new ≡ record { problem = occupied.old.problem; entries = entries.now } }
+{
+    let size = occupied.table().len();
+    for index in 0..size {
+        let entry = entries[index];
+        occupied.move_entry(index, entry.room, entry.day, entry.period);
+    }
+}

@@ -1,0 +1,37 @@
+-- The faults of the nodes of a tree.
+use Rattle.std.proofs.Common.{◌≡◌, ℕ, ◌≤◌, ◌<◌, List, [], length, Some, sym, ap, ◌∙◌, arith}
+use Rattle.std.specs.Prelude.{slice_get}
+use Rattle.std.proofs.lemmas.Option.{slice_get_within}
+use Rattle.tt_instance.specs.Problem.{Problem}
+use Rattle.tt_leaf.specs.declared.leaf.Bound.{Bound}
+use Rattle.tt_proof_text.specs.Trees.{Tree, preorder, OnPath, on_paths}
+use Rattle.tt_proof_text.specs.declared.node.Node.{Node}
+use Rattle.tt_proof_check.specs.Nodes.{IsATree}
+use Rattle.tt_proof_check.specs.Tells.{Tells}
+use Rattle.tt_proof_check.specs.declared.fault.NodesFault.{NodesFault}
+use Rattle.tt_proof_check.specs.declared.fault.NodesFault.TheVariants.{NotATree, Rule, TooDeep, OutOfMemory}
+use Rattle.tt_proof_check.proofs.Reading.{root, length-places_of, whole_places, whole_stack}
+use Rattle.tt_upgrade.specs.Faults.{IsOfNode, told_node, TellsOfNodes}
+
+-- a tree has a path for each of its nodes
+paths_of : (tree : Tree) (nodes : List Node) → preorder tree ≡ nodes → length (on_paths [] tree) ≡ length nodes
+paths_of tree nodes e = ap length (sym (whole_places tree nodes e)) ∙ length-places_of root [] nodes (whole_stack tree nodes e)
+
+place_small : (tree : Tree) (nodes : List Node) (i : ℕ) (x : OnPath) → preorder tree ≡ nodes → length nodes ≤ 16777216 → slice_get (on_paths [] tree) i ≡ Some x → i < 4294967296
+place_small tree nodes i x e few found =
+    let h = slice_get_within (on_paths [] tree) i x found in
+    let k = paths_of tree nodes e in
+    omega (arith, h, k, few)
+
+-- the number of the node that is wrong has 32 bits
+pub is_of_node : (p : Problem) (b : Bound) (nodes : List Node) → IsATree nodes → length nodes ≤ 16777216 → (e : NodesFault) → Tells p b nodes e → IsOfNode e
+is_of_node p b nodes tree few NotATree t = absurd (t tree)
+is_of_node p b nodes tree few (Rule i f) t = place_small t.0 nodes i _ t.1 few t.2.found
+is_of_node p b nodes tree few (TooDeep i) t = place_small t.0 nodes i _ t.1 few t.2.found
+is_of_node p b nodes tree few OutOfMemory t = tt
+
+pub told_of_node : (p : Problem) (b : Bound) (nodes : List Node) (e : NodesFault) → IsOfNode e → Tells p b nodes e → TellsOfNodes p b nodes (told_node e)
+told_of_node p b nodes NotATree is t = absurd is
+told_of_node p b nodes (Rule i f) is t = t
+told_of_node p b nodes (TooDeep i) is t = t
+told_of_node p b nodes OutOfMemory is t = tt

@@ -1,0 +1,4 @@
+pub mod Collected
+pub mod Faults
+pub mod Written
+pub mod Whole

@@ -1,0 +1,53 @@
+-- Texts that are read whole before anything is judged.
+use Rattle.std.specs.Prelude.{◌≡◌, ℕ, ◌≤◌, ◌⊎◌, Bool, true, List, ◌∷◌, ◌++◌, length, All}
+use Rattle.tt_text.specs.Feeds.{Stream}
+use Rattle.tt_instance.specs.Problem.{Problem}
+use Rattle.tt_leaf.specs.declared.leaf.Bound.{Bound}
+use Rattle.tt_proof_text.specs.Reading.{header_at, node_at, end_at}
+use Rattle.tt_proof_text.specs.Reads.{ReadsNodes, Reads}
+use Rattle.tt_proof_text.specs.Spelling.{IsNode}
+use Rattle.tt_proof_text.specs.Trees.{Tree, preorder}
+use Rattle.tt_proof_text.specs.declared.fault.TextFault.{TextFault}
+use Rattle.tt_proof_text.specs.declared.node.Node.{Node}
+use Rattle.tt_proof_text.specs.declared.sizes.Sizes.{Sizes}
+use Rattle.tt_proof_check.specs.Nodes.{IsATree}
+use Rattle.tt_proof_check.specs.Streams.{sizes_of, Fails, HasHeader}
+
+-- the text is a proof of this version with this bound, and these are the nodes of its tree in preorder
+pub record IsRead (p : Problem) (s : Stream) (v : ℕ) (b : Bound) (nodes : List Node) : Type 0 where
+  pub tree : Tree
+  pub nodes_are : preorder tree ≡ nodes
+  pub reads : Reads (sizes_of p) s v b tree
+
+-- they are one tree, of at most 16,777,216 nodes, and each is the instance's and of the version
+pub record AreNodesOf (p : Problem) (v : ℕ) (nodes : List Node) : Type 0 where
+  pub tree : IsATree nodes
+  pub few : length nodes ≤ 16777216
+  pub each : All (IsNode p v) nodes
+
+-- the nodes are one tree, and were read, where the bytes are known
+pub record IsCollected (sizes : Sizes) (v : ℕ) (known : Bool) (s after : Stream) (nodes : List Node) : Type 0 where
+  pub tree : IsATree nodes
+  pub reads : known ≡ true → ReadsNodes sizes v 0 s nodes after
+
+-- some tree goes on from the nodes that have been read, and the text of the next node fails
+pub record NodesBreak (sizes : Sizes) (v : ℕ) (s : Stream) (f : TextFault) : Type 0 where
+  pub nodes : List Node
+  pub rest : Stream
+  pub reads : ReadsNodes sizes v 0 s nodes rest
+  pub tree : Tree
+  pub next : Node
+  pub more : List Node
+  pub begins : preorder tree ≡ nodes ++ next ∷ more
+  pub fails : Fails f (node_at sizes v (length nodes) rest)
+
+-- the tree is whole, and the text of the end fails
+pub record EndBreaks (p : Problem) (v : ℕ) (s : Stream) (f : TextFault) : Type 0 where
+  pub tree : Tree
+  pub rest : Stream
+  pub reads : ReadsNodes (sizes_of p) v 0 s (preorder tree) rest
+  pub fails : Fails f (end_at rest)
+
+-- the first fault of the text; want of memory and a failed read say nothing of it
+abbrev pub TextBreaks : Problem → Stream → TextFault → Type 0
+TextBreaks p s f = Fails f (header_at s) ⊎ HasHeader s (λ v b rest. NodesBreak (sizes_of p) v rest f ⊎ EndBreaks p v rest f)

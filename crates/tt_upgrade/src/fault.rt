@@ -1,0 +1,73 @@
+//! Why a proof is not written anew.
+
+ghost use Rattle.std.specs.Prelude.{◌≡◌, ◌<◌};
+ghost use Rattle.tt_upgrade.specs.Faults.{IsOfNode, told_node};
+
+use std::error::Error;
+use std::fmt;
+use tt_proof_check::{CheckFault, NodesFault};
+use tt_proof_text::TextFault;
+use tt_proof_write::WriteFault;
+
+/// Why a proof is not written anew.
+#[derive(Clone, Copy, Debug, PartialEq, Eq)]
+pub enum UpgradeFault {
+    /// The proof is refused; want of memory is told as `OutOfMemory`.
+    Proof(CheckFault),
+    /// The text in version 2 has more than 4,294,967,295 bytes.
+    TooLarge,
+    OutOfMemory,
+}
+
+impl From<TextFault> for UpgradeFault {
+    ghost use Rattle.std.specs.Prelude.{◌≡◌};
+    ghost use Rattle.tt_upgrade.specs.Faults.{told_text};
+
+    ghost from_gives = { λ f e. e ≡ told_text f };
+
+    fn from(fault: TextFault) -> UpgradeFault {
+        match fault {
+            TextFault::OutOfMemory => UpgradeFault::OutOfMemory,
+            fault => UpgradeFault::Proof(CheckFault::Text(fault)),
+        }
+    }
+}
+
+impl From<WriteFault> for UpgradeFault {
+    ghost use Rattle.std.specs.Prelude.{◌≡◌};
+    ghost use Rattle.tt_upgrade.specs.Faults.{told_write};
+
+    ghost from_gives = { λ f e. e ≡ told_write f };
+
+    fn from(fault: WriteFault) -> UpgradeFault {
+        match fault {
+            WriteFault::OutOfMemory => UpgradeFault::OutOfMemory,
+            // The nodes are a tree, and each claim is of version 2.
+            _ => UpgradeFault::TooLarge,
+        }
+    }
+}
+
+impl fmt::Display for UpgradeFault {
+    fn fmt<W: fmt::Write>(&self, f: &mut fmt::Formatter<W>) -> fmt::Result {
+        match self {
+            UpgradeFault::Proof(fault) => write!(f, "{fault}"),
+            UpgradeFault::TooLarge => write!(f, "too large"),
+            UpgradeFault::OutOfMemory => write!(f, "out of memory"),
+        }
+    }
+}
+
+impl Error for UpgradeFault {}
+
+/// What a fault of the nodes of a tree is called; a file's nodes are numbered with 32 bits.
+pub fn node_fault(fault: NodesFault) -> UpgradeFault
+    requires { IsOfNode fault }
+    ensures { result ≡ told_node fault }
+{
+    match fault {
+        NodesFault::Rule(node, fault) => UpgradeFault::Proof(CheckFault::Rule(node as u32, fault)),
+        NodesFault::TooDeep(node) => UpgradeFault::Proof(CheckFault::TooDeep(node as u32)),
+        NodesFault::NotATree | NodesFault::OutOfMemory => UpgradeFault::OutOfMemory,
+    }
+}

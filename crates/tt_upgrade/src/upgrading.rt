@@ -1,0 +1,73 @@
+//! Proofs that are written anew.
+
+ghost use Rattle.std.specs.Prelude.{◌≡◌, ◌≤◌, List, ℕ, length, All, true, Some, Err, IfOk, IfErr, OnOk, MatchResult};
+ghost use Rattle.tt_leaf.specs.declared.leaf.Bound.{Bound};
+ghost use Rattle.tt_proof_check.specs.Derives.{HoldsOfAll, Proves};
+ghost use Rattle.tt_proof_check.specs.Nodes.{IsATree, IsNodeOf};
+ghost use Rattle.tt_proof_check.specs.Streams.{IsProved, stream_of};
+ghost use Rattle.tt_upgrade.specs.Faults.{read_failed, TellsOfNodes};
+ghost use Rattle.tt_upgrade.specs.Upgrades.{IsUpgraded, IsSilent, TellsOf};
+
+use crate::fault::{UpgradeFault, node_fault};
+use crate::reading::read_proof;
+use std::alloc::Global;
+use tt_instance::Instance;
+use tt_leaf::Bound;
+use tt_proof_check::check_nodes;
+use tt_proof_text::Node;
+use tt_proof_write::write_proof;
+use tt_text::Source;
+
+/// The bound that a proof derives, and the text of the same proof in version 2.
+#[derive(Debug, Drop)]
+pub struct Upgraded {
+    pub bound: Bound,
+    pub bytes: Vec<u8>,
+}
+
+/// Judges the nodes of a tree.
+fn judge(
+    alloc: Global,
+    instance: &Instance<'_>,
+    bound: Bound,
+    nodes: &[Node],
+) -> Result<(), UpgradeFault>
+    requires nodes { All (IsNodeOf instance.now) nodes.now }
+    requires tree { IsATree nodes.now }
+    requires few { length nodes.now ≤ 16777216 }
+    ensures proves { OnOk result (Proves instance.now bound nodes.now) }
+    ensures fault { IfErr result (TellsOfNodes instance.now bound nodes.now) }
+{
+    match check_nodes(alloc, instance, bound, nodes) {
+        Ok(()) => Ok(()),
+        Err(fault) => Err(node_fault(fault)),
+    }
+}
+
+/// Reads a proof of either version whole, checks it, and writes its bound and its tree in version 2. Since it is read whole, a fault of
+/// the text is told before one of its nodes.
+pub fn upgrade<R: Source>(
+    alloc: Global,
+    instance: &Instance<'_>,
+    source: &mut R,
+) -> Result<Upgraded, UpgradeFault>
+    // The bytes spell a tree that derives the bound, and what was written spells the same tree.
+    ensures found { IfOk result (λ u. (bytes : List ℕ) → R.remaining source.old ≡ Some bytes → IsUpgraded instance.now bytes u.bound u.bytes.items) }
+    // Where they spell one, it is found, unless memory or a read fails or the text grows too large.
+    ensures only { (bytes : List ℕ) (b : Bound) → R.remaining source.old ≡ Some bytes → IsProved instance.now bytes b →
+        MatchResult result (λ u. u.bound ≡ b) IsSilent }
+    // This holds whatever the source gives.
+    ensures holds { IfOk result (λ u. HoldsOfAll instance.now u.bound) }
+    ensures failed { result ≡ Err read_failed → R.has_failed source.new ≡ true }
+    ensures fault { IfErr result (λ f. (bytes : List ℕ) → R.remaining source.old ≡ Some bytes → TellsOf instance.now (stream_of bytes) f) }
+{
+    // What is true of every instance: its numbers are small enough to be read.
+    prove!(instance.days() > 0);
+    let read = read_proof(alloc, instance, source)?;
+    judge(alloc, instance, read.bound, &read.nodes)?;
+    let bytes = write_proof(alloc, 2, read.bound, &read.nodes)?;
+    Ok(Upgraded {
+        bound: read.bound,
+        bytes,
+    })
+}
