@@ -4,6 +4,7 @@ pub mod Contradictions
 pub mod Examples
 pub mod Lengths
 pub mod Live
+pub mod Meeting
 pub mod MoreValues
 pub mod Nested
 pub mod Sizes

@@ -1,6 +1,7 @@
 pub mod Bounds
 pub mod Claims
 pub mod Leaves
+pub mod Met
 pub mod Nested
 pub mod Outcomes
 pub mod Ranges

@@ -9,6 +9,7 @@ ghost use Rattle.tt_leaf.specs.Leaves.{all_lectures, is_clique, are_distinct, op
 ghost use Rattle.tt_leaf.specs.Nested.{live_for, live_in, open_in_room};
 ghost use Rattle.tt_leaf.specs.Ranges.{AreBelow};
 
+use crate::met::{FEW, Met};
 use crate::slots::{slot_at, slot_count};
 use tt_facts::Path;
 use tt_instance::{Cell, Instance};
@@ -45,8 +46,7 @@ fn differs_from_each(course: u32, others: &[u32]) -> bool
     others.iter().all(|other| course != *other)
 }
 
-/// Whether no course stands twice.
-pub fn are_distinct(courses: &[u32]) -> bool
+fn each_two_differ(courses: &[u32]) -> bool
     ensures { result ≡ are_distinct courses.now }
 {
     let mut rest = courses;
@@ -57,6 +57,34 @@ pub fn are_distinct(courses: &[u32]) -> bool
         rest = others;
     }
     true
+}
+
+/// The same by marks: no course is compared with each other one.
+fn each_is_new(courses: &[u32]) -> bool
+    requires { AreBelow 2048 courses.now }
+    ensures { result ≡ are_distinct courses.now }
+{
+    let mut met = Met::none();
+    let mut rest = courses;
+    while let Some((first, others)) = rest.split_first() {
+        if !met.meet(*first as usize) {
+            return false;
+        }
+        rest = others;
+    }
+    true
+}
+
+/// Whether no course stands twice.
+pub fn are_distinct(courses: &[u32]) -> bool
+    requires { AreBelow 2048 courses.now }
+    ensures { result ≡ are_distinct courses.now }
+{
+    if courses.len() <= FEW {
+        each_two_differ(courses)
+    } else {
+        each_is_new(courses)
+    }
 }
 
 /// The lectures of courses in all, at most what a u64 holds.

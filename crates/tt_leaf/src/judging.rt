@@ -56,6 +56,8 @@ fn fault_of_slots<'i, P: Path<'i>>(path: &P, courses: &[u32]) -> Option<RuleFaul
     requires { AreBelow (length (P.problem path.now).courses) courses.now }
     ensures { result ≡ fault_of (P.problem path.now) (P.facts path.now) Nothing (Slots courses.now) }
 {
+    // What is true of every instance: its courses have marks.
+    prove!(path.instance().courses() <= 2048);
     if !are_distinct(courses) {
         Some(RuleFault::ClaimedTwice)
     } else if !have_more_lectures(path.instance(), courses, open_rooms(path, courses)) {
@@ -69,6 +71,10 @@ fn fault_of_sum<'i, P: Path<'i>>(path: &P, claims: &[Claim], least: u64) -> Opti
     requires { All (IsClaimOf (P.problem path.now)) claims.now }
     ensures { result ≡ fault_of (P.problem path.now) (P.facts path.now) (AtLeast least) (Cost claims.now) }
 {
+    let instance = path.instance();
+    // What is true of every instance: its targets have marks.
+    prove!(instance.courses() <= 2048);
+    prove!(instance.curricula() <= 8192);
     if !claims_once(claims) {
         Some(RuleFault::ClaimedTwice)
     } else if !are_fair(path, claims) {

@@ -11,6 +11,7 @@ mod judging;
 mod laws;
 mod leaf;
 mod lists;
+mod met;
 mod pinned;
 mod prices;
 mod slots;

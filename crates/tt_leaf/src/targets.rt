@@ -1,12 +1,14 @@
 //! The targets of claims, none of which two claims may have.
 
-ghost use Rattle.std.specs.Prelude.{◌≡◌, ◌==◌, not, All};
+ghost use Rattle.std.specs.Prelude.{◌≡◌, ℕ, ◌*◌, ◌<◌, ◌==◌, ◌&&◌, ◌++◌, not, map, List, All};
 ghost use Rattle.std.specs.List.{list_any, list_all};
 ghost use Rattle.tt_leaf.specs.Claims.{RoomCapacity, WorkingDays, Compactness, Stability};
 ghost use Rattle.tt_leaf.specs.Leaves.{claims_once};
+ghost use Rattle.tt_leaf.specs.Met.{are_new, places_of, IsPlaced};
 ghost use Rattle.tt_leaf.specs.Nested.{claims_target, are_apart, IsOnce};
 
 use crate::leaf::Claim;
+use crate::met::{FEW, Met};
 
 fn is_priced(courses: &[(u32, u32)], course: u32) -> bool
     ensures { result ≡ list_any (λ k. course == k.0) courses.now }
@@ -80,8 +82,7 @@ fn is_apart_from_each(claim: &Claim, others: &[Claim]) -> bool
     others.iter().all(|other| are_apart(claim, other))
 }
 
-/// Whether no target is claimed twice.
-pub fn claims_once(claims: &[Claim]) -> bool
+fn each_two_apart(claims: &[Claim]) -> bool
     requires { All IsOnce claims.now }
     ensures { result ≡ claims_once claims.now }
 {
@@ -93,4 +94,71 @@ pub fn claims_once(claims: &[Claim]) -> bool
         rest = others;
     }
     true
+}
+
+/// Meets the room capacity of each course, until one has been met; whether none had been.
+fn meet_capacities(met: &mut Met, courses: &[(u32, u32)]) -> bool
+    requires { All (λ n. n < 32768) (map (λ k. 4 * k.0) courses.now) }
+    ensures { (behind : List ℕ) → are_new met.old (map (λ k. 4 * k.0) courses.now ++ behind) ≡ (result && are_new met.new behind) }
+{
+    let mut rest = courses;
+    while let Some((first, others)) = rest.split_first() {
+        if !met.meet(4 * first.0 as usize) {
+            return false;
+        }
+        rest = others;
+    }
+    true
+}
+
+/// Meets the targets of a claim, until one has been met; whether none had been.
+fn meet_targets(met: &mut Met, claim: &Claim) -> bool
+    requires { IsPlaced claim.now }
+    ensures { (behind : List ℕ) → are_new met.old (places_of claim.now ++ behind) ≡ (result && are_new met.new behind) }
+{
+    match claim {
+        Claim::Capacity { course, .. } => met.meet(4 * *course as usize),
+        Claim::Days(course) | Claim::Stacked(course) => met.meet(4 * *course as usize + 1),
+        Claim::Compact(curriculum) => met.meet(4 * *curriculum as usize + 2),
+        Claim::Stable(course) => met.meet(4 * *course as usize + 3),
+        Claim::Prices { courses, .. } => meet_capacities(met, courses.as_slice()),
+    }
+}
+
+/// The same by marks: no target is compared with each other one.
+fn each_is_new(claims: &[Claim]) -> bool
+    requires { All IsPlaced claims.now }
+    ensures { result ≡ claims_once claims.now }
+{
+    let mut met = Met::none();
+    let mut rest = claims;
+    while let Some((first, others)) = rest.split_first() {
+        if !meet_targets(&mut met, first) {
+            return false;
+        }
+        rest = others;
+    }
+    true
+}
+
+/// Whether the claims have so few targets that to compare each two is quick.
+fn are_few(claims: &[Claim]) -> bool {
+    claims.len() <= 1
+        || claims.len() <= FEW
+            && claims
+                .iter()
+                .all(|claim| !matches!(claim, Claim::Prices { .. }))
+}
+
+/// Whether no target is claimed twice.
+pub fn claims_once(claims: &[Claim]) -> bool
+    requires once { All IsOnce claims.now }
+    requires placed { All IsPlaced claims.now }
+    ensures { result ≡ claims_once claims.now }
+{
+    if are_few(claims) {
+        each_two_apart(claims)
+    } else {
+        each_is_new(claims)
+    }
 }

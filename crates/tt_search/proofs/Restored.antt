@@ -1,6 +1,6 @@
 -- One more entry of a list moved to where it stands in another list with the same courses.
-use Rattle.std.proofs.Common.{◌≡◌, ℕ, ◌+◌, ◌<◌, List, ◌∷◌, [], ◌++◌, length, get_or, take, refl, sym, ap, ◌∙◌, subst, arith}
-use Rattle.std.proofs.lemmas.List.{take_more, take_more_set, take_all, length-map, get_or-map}
+use Rattle.std.proofs.Common.{◌≡◌, ℕ, ◌+◌, ◌<◌, List, ◌∷◌, [], ◌++◌, length, get_or, take, sym, ap, ◌∙◌, arith}
+use Rattle.std.proofs.lemmas.List.{take_more, take_more_set, length-map, get_or-map}
 use Rattle.tt_instance.specs.declared.cell.Cell.{Cell}
 use Rattle.tt_descend.proofs.Descents.{courses-stepped}
 use Rattle.tt_moves.specs.Steps.{no_entry, entry_at, stepped}

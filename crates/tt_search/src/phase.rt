@@ -8,13 +8,9 @@ pub struct Phase {
 }
 
 impl Phase {
-    /// So much of an amount as is left of the draws, squared.
+    /// An amount times the square of the share of the draws that is left.
     pub fn share(self, amount: u64) -> u64 {
-        let thousandths = match (self.draws / 1000, self.draws) {
-            (0, 0) => 0,
-            (0, draws) => self.left.saturating_mul(1000) / draws,
-            (thousandth, _) => (self.left / thousandth).min(1000),
-        };
+        let thousandths = (self.left.saturating_mul(1000) / self.draws.max(1)).min(1000);
         amount.saturating_mul(thousandths.saturating_mul(thousandths)) / 1_000_000
     }
 }

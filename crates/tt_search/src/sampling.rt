@@ -6,7 +6,7 @@ ghost use Rattle.tt_moves.specs.Steps.{CanStep};
 
 use crate::lots::below;
 use crate::places::{TRIES, entry_of, may_stand, room_in, slot_for};
-use crate::trouble::trouble;
+use crate::trouble::is_in_trouble;
 use rand_pcg::Pcg32;
 use tt_instance::Slot;
 use tt_moves::Step;
@@ -31,7 +31,7 @@ fn troubled_entry(occupied: &Occupied<'_, '_>, rng: &mut Pcg32) -> u32
 {
     for _ in 0..LOOKS {
         let index = any_entry(occupied, rng);
-        if trouble(occupied, entry_of(occupied, index)) > 0 {
+        if is_in_trouble(occupied, entry_of(occupied, index)) {
             return index;
         }
     }

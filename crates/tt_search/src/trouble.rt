@@ -1,4 +1,4 @@
-//! What an entry breaks and costs where it stands.
+//! Entries that another place may be better for.
 
 ghost use Rattle.std.specs.Prelude.{◌<◌, length};
 ghost use Rattle.tt_instance.specs.Cells.{InRange};
@@ -53,15 +53,9 @@ fn is_misplaced(occupied: &Occupied<'_, '_>, entry: Entry) -> bool
             && occupied.on_day(course, entry.day) > 1)
 }
 
-/// Whether another place may be better for an entry: 2 where it breaks a hard rule, 1 where it costs, 0 otherwise.
-pub fn trouble(occupied: &Occupied<'_, '_>, entry: Entry) -> u32
+/// Whether an entry breaks a hard rule or costs something where it stands.
+pub fn is_in_trouble(occupied: &Occupied<'_, '_>, entry: Entry) -> bool
     requires { InRange occupied.now.problem entry }
 {
-    if is_broken(occupied, entry) {
-        2
-    } else if is_misplaced(occupied, entry) || is_isolated(occupied, entry) {
-        1
-    } else {
-        0
-    }
+    is_broken(occupied, entry) || is_misplaced(occupied, entry) || is_isolated(occupied, entry)
 }

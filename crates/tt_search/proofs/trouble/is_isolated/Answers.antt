@@ -1,4 +1,4 @@
-use Rattle.std.proofs.Common.{◌<◌, length}
+use Rattle.std.proofs.Common.{length}
 use Rattle.tt_instance.specs.Courses.{in_curriculum}
 use Rattle.tt_tallies.proofs.Rows.{passing_below}
 use Rattle.tt_search.proofs.trouble.is_isolated.Goals as goal

@@ -2,7 +2,7 @@ use Rattle.std.proofs.Common.{◌≡◌, length}
 use Rattle.std.specs.Prelude.{All}
 use Rattle.tt_leaf.specs.Leaves.{claims_once}
 use Rattle.tt_leaf.specs.Nested.{IsOnce}
-use Rattle.tt_leaf.proofs.targets.claims_once.Given as goal
+use Rattle.tt_leaf.proofs.targets.each_two_apart.Given as goal
 
 abbrev pub invariant-loop-first : goal.invariant-loop-first
 invariant-loop-first l = record { same : claims_once l.claims ≡ claims_once l.rest; once : All IsOnce l.rest }

@@ -1,5 +1,5 @@
 use Rattle.tt_leaf.proofs.Apart.{once_fails, once_goes_on, others_once}
-use Rattle.tt_leaf.proofs.targets.claims_once.Goals as goal
+use Rattle.tt_leaf.proofs.targets.each_two_apart.Goals as goal
 
 pub returns-then-not-is_apart_from_each : goal.returns-then-not-is_apart_from_each
 returns-then-not-is_apart_from_each c =

@@ -1,7 +1,7 @@
 use Rattle.std.proofs.Common.{◌≡◌, not, length}
 use Rattle.std.specs.Prelude.{◌==◌}
 use Rattle.tt_lists.specs.Words.{each_two}
-use Rattle.tt_leaf.proofs.groups.are_distinct.Given as goal
+use Rattle.tt_leaf.proofs.groups.each_two_differ.Given as goal
 
 abbrev pub invariant-loop-first : goal.invariant-loop-first
 invariant-loop-first l = each_two (λ a b. not (a == b)) l.courses ≡ each_two (λ a b. not (a == b)) l.rest
