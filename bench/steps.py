@@ -59,7 +59,11 @@ def repository(folder):
         for part in ("src", "specs", "proofs", "out/rlib"):
             if (PROJECT / "crates" / name / part).exists():
                 shutil.copytree(PROJECT / "crates" / name / part, folder / "crates" / name / part)
-    shutil.copytree(HERE / "steps", folder / "crates" / "tt_steps", ignore=shutil.ignore_patterns("out"))
+    program = folder / "crates" / "tt_steps" / "src"
+    program.mkdir(parents=True)
+    # Only a crate's own files may end in .rt, so these end in .rt.txt.
+    for source in (HERE / "steps").glob("*.rt.txt"):
+        shutil.copy(source, program / source.name.removesuffix(".txt"))
     shutil.copy(PROJECT / "HANDLES", folder)
     listed = [f"{name}: {' '.join(below[name])}" for name in crates] + [f"tt_steps: {' '.join(crates)} anyhow"]
     (folder / "crates.txt").write_text("\n".join(listed) + "\n")
