@@ -69,8 +69,8 @@ def shapes(rng):
     prices = listed(rng, "B P", " r0 9 r1 9 /", lambda course: f" c{course} {rng.randrange(10)}")
     yield "a split or `B ;` each", 100, 18, few, ["B ;\n"], (21, 23)
     yield "leaves `B P` with the prices of 2,048 courses", 2048, 2, many, prices, (12, 14)
-    yield "leaves `H` with 2,048 courses", 2048, 2, many, listed(rng, "H", "", lambda course: f" c{course}"), (12,)
-    yield "leaves `B` with 2,048 claims", 2048, 2, many, listed(rng, "B", "", lambda course: f" R c{course}"), (12,)
+    yield "leaves `H` with 2,048 courses", 2048, 2, many, listed(rng, "H", "", lambda course: f" c{course}"), (12, 14)
+    yield "leaves `B` with 2,048 claims", 2048, 2, many, listed(rng, "B", "", lambda course: f" R c{course}"), (12, 14)
 
 
 def run(words, locale):

@@ -32,6 +32,7 @@ struct Course {
 struct Tables {
     days: usize,
     periods: usize,
+    slots: usize,
     courses: Vec<Course>,
     capacities: Vec<u32>,
     members: Vec<Vec<bool>>,
@@ -104,6 +105,7 @@ fn read(text: &str, solution: &str) -> Tables {
     let mut tables = Tables {
         days,
         periods,
+        slots,
         courses,
         capacities,
         members,
@@ -150,13 +152,9 @@ impl Tables {
         day * self.periods + period
     }
 
-    fn slots(&self) -> usize {
-        self.days * self.periods
-    }
-
     /// Counts one entry more.
     fn count(&mut self, entry: Entry) {
-        let (slots, slot) = (self.slots(), self.slot(entry.day, entry.period));
+        let (slots, slot) = (self.slots, self.slot(entry.day, entry.period));
         self.in_room[entry.room * slots + slot] += 1;
         self.of_course[entry.course * slots + slot] += 1;
         for curriculum in &self.courses[entry.course].curricula {
@@ -215,7 +213,7 @@ impl Rest<'_> {
         if period >= tables.periods {
             return 0;
         }
-        let count = tables.of_curriculum[curriculum * tables.slots() + tables.slot(day, period)];
+        let count = tables.of_curriculum[curriculum * tables.slots + tables.slot(day, period)];
         u32::from(count) + u32::from(other && stands_at(self.to, day, period))
             - u32::from(other && stands_at(self.from, day, period))
             - u32::from(stands_at(self.gone, day, period))
@@ -240,7 +238,7 @@ impl Rest<'_> {
     fn weigh(&self, entry: Entry) -> Weight {
         let tables = self.tables;
         let course = &tables.courses[entry.course];
-        let (slots, slot) = (tables.slots(), tables.slot(entry.day, entry.period));
+        let (slots, slot) = (tables.slots, tables.slot(entry.day, entry.period));
         let of_course = tables.of_course[entry.course * slots + slot];
         let repeats = u32::from(of_course) > u32::from(stands_at(self.gone, entry.day, entry.period));
         let against = self.adjusted(tables.opposing[entry.course * slots + slot], |e| {

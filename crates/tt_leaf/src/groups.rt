@@ -59,7 +59,8 @@ fn each_two_differ(courses: &[u32]) -> bool
     true
 }
 
-/// The same by marks: no course is compared with each other one.
+/// The same by marks: no course is compared with each other one. Kept apart, since its marks stand on the stack.
+#[inline(never)]
 fn each_is_new(courses: &[u32]) -> bool
     requires { AreBelow 2048 courses.now }
     ensures { result ≡ are_distinct courses.now }

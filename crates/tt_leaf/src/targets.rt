@@ -125,7 +125,8 @@ fn meet_targets(met: &mut Met, claim: &Claim) -> bool
     }
 }
 
-/// The same by marks: no target is compared with each other one.
+/// The same by marks: no target is compared with each other one. Kept apart, since its marks stand on the stack.
+#[inline(never)]
 fn each_is_new(claims: &[Claim]) -> bool
     requires { All IsPlaced claims.now }
     ensures { result ≡ claims_once claims.now }

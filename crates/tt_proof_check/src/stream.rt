@@ -24,6 +24,7 @@ use tt_proof_text::{Node, NodeReader};
 use tt_text::Source;
 
 /// Takes a node and lets it go.
+#[inline(always)]
 fn take<'i, P: Path<'i>>(path: &mut P, bound: Bound, node: Node) -> Result<(), Stop>
     requires node { IsNodeOf (P.problem path.old) node }
     requires within { length (P.facts path.old) ≤ 65536 }

@@ -7,7 +7,7 @@ use Rattle.tt_moves.specs.Changes.{IsBelow}
 use Rattle.tt_occupancy.specs.Filled.{Filled}
 use Rattle.tt_descend.specs.Descent.{Descends, IsDescent}
 use Rattle.tt_descend.proofs.Descents.{IsTimetable-descends, courses-descends, descends_lower, IsBelow-irrefl, IsBelow-trans}
-use Rattle.tt_search.specs.Improved.{IsNoWorse}
+use Rattle.tt_search.specs.Improved.{IsNoWorse, IsDescended}
 
 -- a timetable is no worse than itself
 pub IsNoWorse-refl : (p : Problem) (t : List Cell) → IsTimetable p t → IsNoWorse p t t
@@ -25,8 +25,14 @@ IsNoWorse-descends {p} {t} {u} {v} kept down = record {
 }
 
 -- from a first timetable to one that is no worse, and down from there
-pub no_worse_then_down : (p : Problem) (t v : List Cell) (first best : Filled) (steps : ℕ) (settled : Bool) → first ≡ record { problem = p; entries = t } → best.problem ≡ first.problem → IsNoWorse first.problem first.entries best.entries → IsDescent best.problem best.entries steps v settled → IsNoWorse p t v
-no_worse_then_down p t v first best steps settled is problem kept down =
-    let near : IsNoWorse p t best.entries = subst (λ (o : Filled). IsNoWorse o.problem o.entries best.entries) is kept in
-    let same : best.problem ≡ p = problem ∙ ap (λ o. o.problem) is in
-    IsNoWorse-descends near (subst (λ (q : Problem). Descends q best.entries down.made v) same down.path)
+pub no_worse_then_down : (p : Problem) (t v : List Cell) (first best : Filled) (steps : ℕ) (settled : Bool) → first ≡ record { problem = p; entries = t } → best.problem ≡ first.problem → IsNoWorse first.problem first.entries best.entries → IsDescent best.problem best.entries steps v settled → IsDescended p t steps v
+no_worse_then_down p t v first best steps settled is problem kept down = record {
+  best = best.entries;
+  found = subst (λ (o : Filled). IsNoWorse o.problem o.entries best.entries) is kept;
+  settled = settled;
+  descent = subst (λ (q : Problem). IsDescent q best.entries steps v settled) (problem ∙ ap (λ o. o.problem) is) down;
+}
+
+-- what a descent from a timetable that is no worse leads to is no worse either
+pub no_worse_down : {p : Problem} {t v : List Cell} {steps : ℕ} → IsDescended p t steps v → IsNoWorse p t v
+no_worse_down down = IsNoWorse-descends down.found down.descent.path

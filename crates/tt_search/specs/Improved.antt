@@ -1,8 +1,9 @@
 -- What an improvement keeps.
-use Rattle.std.specs.Prelude.{◌≡◌, ℕ, List, map}
+use Rattle.std.specs.Prelude.{◌≡◌, ℕ, Bool, List, map}
 use Rattle.tt_instance.specs.Problem.{Problem}
 use Rattle.tt_instance.specs.declared.cell.Cell.{Cell}
 use Rattle.tt_table.specs.Table.{IsTimetable}
+use Rattle.tt_descend.specs.Descent.{IsDescent}
 use Rattle.tt_moves.specs.Changes.{IsBelow}
 
 -- the courses of the entries, place by place
@@ -14,3 +15,10 @@ pub record IsNoWorse (p : Problem) (t u : List Cell) : Type 0 where
   pub timetable : IsTimetable p u
   pub courses : courses_of u ≡ courses_of t
   pub no_higher : IsBelow p t u → ⊥
+
+-- u is the end of a descent of at most so many steps from a timetable that is no worse than t: if some step lowers u's pair, all of them were made
+pub record IsDescended (p : Problem) (t : List Cell) (steps : ℕ) (u : List Cell) : Type 0 where
+  pub best : List Cell
+  pub found : IsNoWorse p t best
+  pub settled : Bool
+  pub descent : IsDescent p best steps u settled

@@ -1,8 +1,8 @@
 //! The improvement of a timetable.
 
-ghost use Rattle.std.specs.Prelude.{◌≡◌, IfOk, OnOk};
+ghost use Rattle.std.specs.Prelude.{◌≡◌, ◌-◌, ◌/◌, IfOk, OnOk};
 ghost use Rattle.tt_table.specs.Table.{IsTimetable};
-ghost use Rattle.tt_search.specs.Improved.{IsNoWorse};
+ghost use Rattle.tt_search.specs.Improved.{IsNoWorse, IsDescended};
 
 use crate::best::Best;
 use crate::restoring::restore;
@@ -43,7 +43,8 @@ pub fn improve(
     steps: u64,
 ) -> Result<Timetable, AllocError>
     requires { IsTimetable instance.now table }
-    ensures { IfOk result (IsNoWorse instance.now table) }
+    ensures kept { IfOk result (IsNoWorse instance.now table) }
+    ensures descended { IfOk result (IsDescended instance.now table (steps - steps / 2)) }
 {
     let draws = steps / 2;
     let Ok(mut occupied) = Occupied::new(alloc, instance, table) else {

@@ -41,6 +41,6 @@ returns-clause-found c = record {
   table = c.in_ok-table.table;
   both = record { spelled = c.in_ok-instance.ensures.found; solved = c.in_ok-table.ensures.found };
   better = c.in_ok-better.better;
-  no_worse = c.in_ok-better.ensures;
+  no_worse = c.in_ok-better.ensures.kept;
   answer = c.in_ok-table_answer.ensures;
 }
