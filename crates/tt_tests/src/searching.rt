@@ -128,13 +128,18 @@ fn broken_rules_and_refusals(rt: HostRuntime) -> Result<(), Fail> {
     Ok(())
 }
 
+/// The text of what `improve` makes of Mini's solution in 50 steps.
+fn improved_text(alloc: Global, seed: u64) -> Result<Vec<u8>, Fail> {
+    let instance = read_instance(alloc, MINI.as_bytes())?;
+    let table = read_solution(alloc, &instance, MINI_SOLUTION.as_bytes())?;
+    let better = improve(alloc, &instance, table, seed, 50)?;
+    Ok(write_solution(alloc, &instance, &better)?)
+}
+
 #[test]
 fn a_seed_gives_one_answer(rt: HostRuntime) -> Result<(), Fail> {
-    let instance = read_instance(rt.alloc(), MINI.as_bytes())?;
-    let first = read_solution(rt.alloc(), &instance, MINI_SOLUTION.as_bytes())?;
-    let second = first.copy()?;
-    let first = improve(rt.alloc(), &instance, first, 3, 50)?;
-    let second = improve(rt.alloc(), &instance, second, 3, 50)?;
-    assert_eq!(rt; first.entries(), second.entries());
+    let first = improved_text(rt.alloc(), 3)?;
+    let second = improved_text(rt.alloc(), 3)?;
+    assert_eq!(rt; first.as_slice(), second.as_slice());
     Ok(())
 }
