@@ -1,4 +1,5 @@
 pub mod Answering
 pub mod DerivedBounds
+pub mod FailedReads
 pub mod Files
 pub mod Rewriting

@@ -6,6 +6,7 @@ use Rattle.tt_instance.specs.Spelling.{Spells}
 use Rattle.tt_leaf.specs.declared.leaf.Bound.{Bound}
 use Rattle.tt_proof_check.specs.Derives.{HoldsOfAll}
 use Rattle.tt_proof_check.specs.Streams.{stream_of}
+use Rattle.tt_upgrade.specs.Texts.{TellsTextRead}
 use Rattle.tt_upgrade.specs.Upgrades.{IsUpgraded, TellsOf}
 use Rattle.tt_upgrade.specs.declared.fault.UpgradeFault.{UpgradeFault}
 use Rattle.tt_upgrade.specs.declared.fault.UpgradeFault.TheVariants as upgrade
@@ -50,3 +51,9 @@ TellsOfUpgrade i proof _ = ⊥
 abbrev pub AnswersUpgrade : Result Answer AppFault → Bound → Type 0
 AnswersUpgrade (Ok a) b = a.out.items ≡ bound_line b
 AnswersUpgrade (Err f) b = (f ≡ fault.OutOfMemory) ⊎ (f ≡ read_failed) ⊎ (f ≡ fault.ProofTooLarge)
+
+-- A read of the proof failed: the bytes of the instance spell one, and all that the source gave of the proof before has been read for it.
+pub record IsCutShort (instance proof : List ℕ) (left : Option (List ℕ)) : Type 0 where
+  pub problem : Problem
+  pub spelled : Spells instance problem
+  pub tells : TellsTextRead problem proof left

@@ -4,6 +4,7 @@ ghost use Rattle.std.specs.Prelude.{◌≡◌, ℕ, List, Some, Err, true, IfOk,
 ghost use Rattle.tt_instance.specs.Problem.{Problem};
 ghost use Rattle.tt_instance.specs.Spelling.{Spells};
 ghost use Rattle.tt_leaf.specs.declared.leaf.Bound.{Bound};
+ghost use Rattle.tt_proof_check.specs.FailedReads.{IsBrokenOff};
 ghost use Rattle.tt_proof_check.specs.Streams.{IsProved};
 ghost use Rattle.tt_app.specs.Checked.{read_failed};
 ghost use Rattle.tt_app.specs.Bounded.{IsBounded, IsBoundAnswer, TellsOfBound, AnswersBound, IsOfInstance};
@@ -41,6 +42,9 @@ pub fn bound<R: Source>(alloc: Global, instance: &[u8], proof: &mut R) -> Result
     ensures unread { IfErr result (λ f. IsOfInstance f → proof.new ≡ proof.old) }
     // A read is said to have failed only where one did.
     ensures failed { result ≡ Err read_failed → R.has_failed proof.new ≡ true }
+    // Where one failed, all that the proof's bytes before it say has been judged.
+    ensures broken_off { result ≡ Err read_failed → (bytes : List ℕ) → R.remaining proof.old ≡ Some bytes →
+        IsBrokenOff instance.now bytes (R.remaining proof.new) }
 {
     let instance = read_instance(alloc, instance)?;
     let bound = check_proof(alloc, &instance, proof)?;

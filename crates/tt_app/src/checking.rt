@@ -1,6 +1,7 @@
 //! The call `check`.
 
 ghost use Rattle.std.specs.Prelude.{◌≡◌, ◌+◌, ℕ, List, Some, Err, true, IfOk, IfErr};
+ghost use Rattle.tt_proof_check.specs.FailedReads.{IsBrokenOff};
 ghost use Rattle.tt_proof_check.specs.Headline.{BreaksARule, Certifies};
 ghost use Rattle.tt_app.specs.Checked.{IsChecked, TellsOfCheck, IsOfFiles, AnswersYes, AnswersBroken, IsYesAnswer, IsBrokenAnswer, read_failed};
 
@@ -57,6 +58,9 @@ pub fn check<R: Source>(
     ensures unread { IfErr result (λ f. IsOfFiles f → proof.new ≡ proof.old) }
     // A read is said to have failed only where one did.
     ensures failed { result ≡ Err read_failed → R.has_failed proof.new ≡ true }
+    // Where one failed, all that the proof's bytes before it say has been judged.
+    ensures broken_off { result ≡ Err read_failed → (bytes : List ℕ) → R.remaining proof.old ≡ Some bytes →
+        IsBrokenOff instance.now bytes (R.remaining proof.new) }
 {
     match certify(alloc, instance, solution, proof)? {
         Verdict::Yes { cost, bound } => Ok(yes_answer(alloc, cost, bound)?),

@@ -7,7 +7,7 @@ ghost use Rattle.tt_leaf.specs.declared.leaf.Bound.{Bound};
 ghost use Rattle.tt_proof_check.specs.Streams.{IsProved};
 ghost use Rattle.tt_app.specs.Checked.{read_failed};
 ghost use Rattle.tt_app.specs.Bounded.{IsOfInstance};
-ghost use Rattle.tt_app.specs.Rewritten.{IsRewritten, IsUpgradeAnswer, TellsOfUpgrade, AnswersUpgrade};
+ghost use Rattle.tt_app.specs.Rewritten.{IsRewritten, IsUpgradeAnswer, IsCutShort, TellsOfUpgrade, AnswersUpgrade};
 
 use crate::answer::Answer;
 use crate::fault::AppFault;
@@ -41,6 +41,9 @@ pub fn upgrade<R: Source>(alloc: Global, instance: &[u8], proof: &mut R) -> Resu
     ensures unread { IfErr result (λ f. IsOfInstance f → proof.new ≡ proof.old) }
     // A read is said to have failed only where one did.
     ensures failed { result ≡ Err read_failed → R.has_failed proof.new ≡ true }
+    // Where one failed, all that the proof's bytes before it say has been read.
+    ensures broken_off { result ≡ Err read_failed → (bytes : List ℕ) → R.remaining proof.old ≡ Some bytes →
+        IsCutShort instance.now bytes (R.remaining proof.new) }
 {
     let instance = read_instance(alloc, instance)?;
     let upgraded = tt_upgrade::upgrade(alloc, &instance, proof)?;

@@ -1,6 +1,7 @@
 -- What `certify` answers, from what its steps answered.
-use Rattle.std.proofs.Common.{◌≡◌, ℕ, zero, suc, ◌+◌, ◌<◌, ◌≤◌, Bool, true, false, List, Option, Some, None, Result, Ok, Err, refl, sym, subst, ◌∙◌, arith, inl, inr}
-use Rattle.std.specs.Prelude.{IfSome, ◌⊎◌, ◌↔◌, IsTrue, MatchResult}
+use Rattle.std.proofs.Common.{◌≡◌, ℕ, zero, suc, ◌+◌, ◌<◌, ◌≤◌, Bool, true, false, List, Option, Some, None, Err, refl, sym, subst, ◌∙◌, arith, inl, inr}
+use Rattle.std.specs.Prelude.{IfSome, ◌↔◌, IsTrue}
+use Rattle.tt_text.specs.declared.feed.FeedFault.TheVariants as feed
 use Rattle.tt_instance.specs.Problem.{Problem}
 use Rattle.tt_instance.specs.Spelling.{Spells}
 use Rattle.tt_instance.specs.declared.cell.Cell.{Cell}
@@ -8,8 +9,8 @@ use Rattle.tt_table.specs.Spelling.{SpellsTable}
 use Rattle.tt_rules.specs.Score.{IsScore, IsFeasible, hard, cost}
 use Rattle.tt_rules.specs.declared.counts.Score.{Score}
 use Rattle.tt_rules.proofs.Scores.{hard_is, cost_is, feasible_is}
-use Rattle.tt_leaf.specs.declared.leaf.Bound.{Bound}
 use Rattle.tt_leaf.specs.declared.leaf.Bound.TheVariants.{AtLeast}
+use Rattle.tt_proof_text.specs.declared.fault.TextFault.TheVariants as text
 use Rattle.tt_proof_check.specs.Derives.{HoldsOfAll}
 use Rattle.tt_proof_check.specs.Headline.{SpellsBoth, Solves, BreaksARule, Certifies, BoundsAll}
 use Rattle.tt_proof_check.specs.Streams.{IsProved, IsSilent, stream_of, TellsOf}
@@ -57,6 +58,13 @@ bound_not_files check.OutOfMemory of = of
 bound_not_files (check.Text f) of = of
 bound_not_files (check.Rule n f) of = of
 bound_not_files (check.TooDeep n) of = of
+
+-- only a failed read is told as one
+pub read_checked : (f : CheckFault) → told_check f ≡ read_failed → f ≡ check.Text (text.Feed feed.Read)
+read_checked check.OutOfMemory e = cc
+read_checked (check.Text f) e = cc
+read_checked (check.Rule n f) e = cc
+read_checked (check.TooDeep n) e = cc
 
 abbrev broken_by : Score → ℕ
 broken_by s = s.lectures + s.conflicts + s.availability + s.room_occupancy

@@ -2,10 +2,9 @@
 use Rattle.std.proofs.Common.{◌≡◌, ℕ, List, ◌++◌, true, Option, Some, None, is_some, refl, sym, ap, subst, ◌∙◌}
 use Rattle.std.specs.Io.KnownBytes.{Consumes}
 use Rattle.tt_text.specs.Broken.{rest_of}
-use Rattle.tt_text.specs.Feeds.{fresh}
+use Rattle.tt_text.specs.Feeds.{Stream, fresh}
 use Rattle.tt_text.proofs.Breaking.{broken_is}
-use Rattle.tt_instance.specs.Problem.{Problem}
-use Rattle.tt_proof_check.specs.FailedReads.{BreaksOff, TellsRead, UpToFailure}
+use Rattle.tt_proof_check.specs.FailedReads.{HoldsOfGiven, UpToFailure}
 
 -- the bytes that were given, and those that are left
 given_left : (bytes given : List ℕ) (after : Option (List ℕ)) → is_some after ≡ true → Some bytes ≡ Some (given ++ rest_of after) → Consumes (Some bytes) after given
@@ -13,12 +12,12 @@ given_left bytes given None k e = absurd cc
 given_left bytes given (Some rest) k e = cc
 
 -- what is so of a feed that has read nothing before is so of the bytes
-pub tells_read : (p : Problem) (before after : Option (List ℕ)) → (is_some before ≡ true → is_some after ≡ true) → UpToFailure fresh before after (BreaksOff p) → (bytes : List ℕ) → before ≡ Some bytes → TellsRead p bytes after
-tells_read p before after known up bytes e =
+pub of_given : (P : Stream → Type 0) (before after : Option (List ℕ)) → (is_some before ≡ true → is_some after ≡ true) → UpToFailure fresh before after P → (bytes : List ℕ) → before ≡ Some bytes → HoldsOfGiven bytes after P
+of_given P before after known up bytes e =
     let k : is_some before ≡ true = ap is_some e in
     let h = up k in
     let given = h.0.given in (
       given,
       given_left bytes given after (known k) (sym e ∙ h.0.bytes),
-      subst (BreaksOff p) (broken_is (rest_of after) fresh before given refl refl h.0.bytes) h.1,
+      subst P (broken_is (rest_of after) fresh before given refl refl h.0.bytes) h.1,
     )

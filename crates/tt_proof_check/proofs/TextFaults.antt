@@ -43,7 +43,7 @@ err_read (Ok x) f e h = absurd cc
 err_read (Err x) f e h = read_told f (let same : x ≡ told.Text read_failed = cc in sym e ∙ same)
 
 -- an error that was handed on
-pub err_same : {A : Type 0} (r : Result A CheckFault) (x : CheckFault) (y : CheckFault) → IsErrAnd r (λ e. e ≡ x) → r ≡ Err y → x ≡ y
+pub err_same : {A E : Type 0} (r : Result A E) (x y : E) → IsErrAnd r (λ e. e ≡ x) → r ≡ Err y → x ≡ y
 err_same (Ok a) x y e h = absurd cc
 err_same (Err z) x y e h = let same : z ≡ y = cc in sym e ∙ same
 

@@ -4,6 +4,7 @@ use Rattle.std.specs.Io.KnownBytes.{Consumes}
 use Rattle.tt_text.specs.Broken.{broken, rest_of, broken_at, MayFail}
 use Rattle.tt_text.specs.Feeds.{Stream, Fed}
 use Rattle.tt_instance.specs.Problem.{Problem}
+use Rattle.tt_instance.specs.Spelling.{Spells}
 use Rattle.tt_leaf.specs.declared.leaf.Bound.{Bound}
 use Rattle.tt_proof_text.specs.Faults.{read_failed}
 use Rattle.tt_proof_text.specs.Reading.{header_at, node_at, end_at}
@@ -21,9 +22,19 @@ EndBreaksOff p v b s = (x : EndFails p v b s read_failed) × (end_at x.rest ≡ 
 abbrev pub BreaksOff : Problem → Stream → Type 0
 BreaksOff p s = (header_at s ≡ Err read_failed) ⊎ HasHeader s (λ v b rest. NodeBreaksOff p v b rest ⊎ EndBreaksOff p v b rest)
 
--- The source gave some of the bytes before the read failed, and the others are left. All that those which it gave say has been read and judged.
+-- The source gave some of the bytes before the read failed, and the others are left. P holds of what a feed gives of those which it gave.
+abbrev pub HoldsOfGiven : List ℕ → Option (List ℕ) → (Stream → Type 0) → Type 0
+HoldsOfGiven bytes left P = (given : List ℕ) × Consumes (Some bytes) left given × P (broken (stream_of given))
+
+-- All that the bytes which the source gave say has been read and judged.
 abbrev pub TellsRead : Problem → List ℕ → Option (List ℕ) → Type 0
-TellsRead p bytes left = (given : List ℕ) × Consumes (Some bytes) left given × BreaksOff p (broken (stream_of given))
+TellsRead p bytes left = HoldsOfGiven bytes left (BreaksOff p)
+
+-- The same, of the instance that the bytes spell.
+pub record IsBrokenOff (instance proof : List ℕ) (left : Option (List ℕ)) : Type 0 where
+  pub problem : Problem
+  pub spelled : Spells instance problem
+  pub tells : TellsRead problem proof left
 
 -- P holds of what a feed gives, where the read fails before what is left now
 abbrev pub UpToFailure : Fed → Option (List ℕ) → Option (List ℕ) → (Stream → Type 0) → Type 0

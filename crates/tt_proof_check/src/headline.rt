@@ -4,6 +4,7 @@ ghost use Rattle.std.specs.Prelude.{◌≡◌, ℕ, List, Some, Err, true, IfOk,
 ghost use Rattle.tt_rules.specs.Score.{IsFeasible};
 ghost use Rattle.tt_leaf.specs.declared.leaf.Bound.TheVariants.{AtLeast};
 ghost use Rattle.tt_proof_check.specs.Derives.{HoldsOfAll};
+ghost use Rattle.tt_proof_check.specs.FailedReads.{TellsRead, IsBrokenOff};
 ghost use Rattle.tt_proof_check.specs.Headline.{BreaksARule, Certifies};
 ghost use Rattle.tt_proof_check.specs.Streams.{IsProved};
 ghost use Rattle.tt_proof_check.specs.Verdicts.{IsVerdict, TellsOfAll, IsOfFiles, AnswersYes, AnswersBroken, GivesBound, TellsBound, read_failed};
@@ -31,6 +32,8 @@ fn proved_bound<R: Source>(
     ensures fault { IfErr result (λ e. (bytes : List ℕ) → R.remaining proof.old ≡ Some bytes → TellsBound instance.now bytes e) }
     ensures own { IfErr result (λ e. IsOfFiles e → ⊥) }
     ensures failed { result ≡ Err read_failed → R.has_failed proof.new ≡ true }
+    ensures broken_off { result ≡ Err read_failed → (bytes : List ℕ) → R.remaining proof.old ≡ Some bytes →
+        TellsRead instance.now bytes (R.remaining proof.new) }
 {
     match check_proof(alloc, instance, proof)? {
         Bound::AtLeast(bound) => Ok(bound),
@@ -59,6 +62,9 @@ pub fn certify<R: Source>(
     ensures unread { IfErr result (λ f. IsOfFiles f → proof.new ≡ proof.old) }
     // A read is said to have failed only where one did.
     ensures failed { result ≡ Err read_failed → R.has_failed proof.new ≡ true }
+    // Where one failed, all that the proof's bytes before it say has been judged.
+    ensures broken_off { result ≡ Err read_failed → (bytes : List ℕ) → R.remaining proof.old ≡ Some bytes →
+        IsBrokenOff instance.now bytes (R.remaining proof.new) }
 {
     let instance = read_instance(alloc, instance)?;
     let table = read_solution(alloc, &instance, solution)?;

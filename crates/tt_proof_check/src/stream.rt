@@ -44,7 +44,7 @@ fn deep_fault<R: Source>(reader: &mut NodeReader, source: &mut R, node: u32) -> 
     ensures failed { result ≡ CheckFault.Text read_failed → R.has_failed source.new ≡ true }
     ensures fault { is_some (R.remaining source.old) ≡ true →
         TellsChild reader.old.sizes reader.old.version reader.old.count (stream_at reader.old.fed (R.remaining source.old)) node result }
-    ensures unread { result ≡ CheckFault.Text read_failed → UpToFailure reader.old.fed (R.remaining source.old) (R.remaining source.new)
+    ensures broken_off { result ≡ CheckFault.Text read_failed → UpToFailure reader.old.fed (R.remaining source.old) (R.remaining source.new)
         (λ s. node_at reader.old.sizes reader.old.version reader.old.count s ≡ Err read_failed) }
 {
     match reader.next_node(source) {
@@ -74,7 +74,7 @@ fn judge<'i, P: Path<'i>, R: Source>(
         IfErr result (λ e. TellsNodes (P.problem path.old) reader.old.version reader.old.bound (stream_at reader.old.fed (R.remaining source.old)) e) }
     ensures broken { OnOk result (BeforeFailure reader.old.fed (R.remaining source.old) reader.new.fed (R.remaining source.new)
         (Judged (P.problem path.old) reader.old.version reader.old.bound true)) }
-    ensures unread { result ≡ Err (CheckFault.Text read_failed) → UpToFailure reader.old.fed (R.remaining source.old) (R.remaining source.new)
+    ensures broken_off { result ≡ Err (CheckFault.Text read_failed) → UpToFailure reader.old.fed (R.remaining source.old) (R.remaining source.new)
         (NodeBreaksOff (P.problem path.old) reader.old.version reader.old.bound) }
 {
     let bound = reader.bound();
@@ -102,7 +102,7 @@ fn read_proof<'i, P: Path<'i>, R: Source>(
     ensures failed { result ≡ Err (CheckFault.Text read_failed) → R.has_failed source.new ≡ true }
     ensures fault { is_some (R.remaining source.old) ≡ true →
         IfErr result (λ e. TellsOf (P.problem path.old) (stream_at fresh (R.remaining source.old)) e) }
-    ensures unread { result ≡ Err (CheckFault.Text read_failed) →
+    ensures broken_off { result ≡ Err (CheckFault.Text read_failed) →
         UpToFailure fresh (R.remaining source.old) (R.remaining source.new) (BreaksOff (P.problem path.old)) }
 {
     let mut reader = NodeReader::new(alloc, path.instance(), source)?;
@@ -130,7 +130,7 @@ pub fn check_proof<R: Source>(
     ensures failed { result ≡ Err (CheckFault.Text read_failed) → R.has_failed source.new ≡ true }
     ensures fault { IfErr result (λ e. (bytes : List ℕ) → R.remaining source.old ≡ Some bytes → TellsOf instance.now (stream_of bytes) e) }
     // Where a read fails, all that the bytes before it say has been judged.
-    ensures unread { result ≡ Err (CheckFault.Text read_failed) → (bytes : List ℕ) → R.remaining source.old ≡ Some bytes →
+    ensures broken_off { result ≡ Err (CheckFault.Text read_failed) → (bytes : List ℕ) → R.remaining source.old ≡ Some bytes →
         TellsRead instance.now bytes (R.remaining source.new) }
 {
     // What is true of every instance: its numbers are small enough to be read.

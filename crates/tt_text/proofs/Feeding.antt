@@ -1,16 +1,15 @@
 -- What a feed gives of bytes that begin with a gap, with a token, or with a byte that passes a limit.
-use Rattle.std.proofs.Common.{◌≡◌, ℕ, zero, suc, ◌+◌, ◌-◌, ◌<◌, ◌≤◌, Bool, true, false, not, ◌&&◌, cond, leb, ltb, List, [], ◌∷◌, ◌++◌, length, take, drop, min, Option, Some, None, Result, Ok, Err, refl, sym, ap, subst, ◌∙◌, add-zero, length-append, arith}
+use Rattle.std.proofs.Common.{◌≡◌, ℕ, zero, suc, ◌+◌, ◌-◌, ◌<◌, ◌≤◌, Bool, true, false, not, cond, leb, ltb, List, [], ◌∷◌, ◌++◌, length, take, drop, min, Option, Some, None, Ok, Err, refl, sym, ap, subst, ◌∙◌, add-zero, length-append, arith}
 use Rattle.std.specs.Prelude.{take_while}
 use Rattle.std.specs.List.{prefix_len, list_all}
-use Rattle.std.proofs.lemmas.Bool.{ltb-true, lt-leb, lt-ltb, le-ltb, le-leb, and_parts}
-use Rattle.std.proofs.lemmas.List.{take_min, take-take, drop-drop, length-drop, length-take, take-append-drop, take-append-le, drop-append-le, length-take-le}
+use Rattle.std.proofs.lemmas.Bool.{lt-leb, lt-ltb, le-ltb, le-leb, and_parts}
+use Rattle.std.proofs.lemmas.List.{take_min, take-take, drop-drop, length-drop, length-take}
 use Rattle.std.proofs.lemmas.List.Sums.{prefix_len-le-length}
 use Rattle.std.proofs.lemmas.List.Folds.{length-prefix_len}
-use Rattle.tt_text.specs.Tokens.{is_separator, in_token, Placed, tokens_from, IsToken}
-use Rattle.tt_text.specs.Feeds.{Fault, fault_from, ends_before, stop_of, Stream, stream_with, stream_from, with_token, stopped}
+use Rattle.tt_text.specs.Tokens.{is_separator, in_token, Placed, tokens_from}
+use Rattle.tt_text.specs.Feeds.{Fault, fault_from, ends_before, stop_of, stream_with, stream_from, with_token, stopped}
 use Rattle.tt_text.specs.Found.{AtGap, IsScan}
-use Rattle.tt_text.specs.declared.feed.FeedFault.{FeedFault}
-use Rattle.tt_text.specs.declared.feed.FeedFault.TheVariants.{Read, TokenTooLong, TooManyBytes}
+use Rattle.tt_text.specs.declared.feed.FeedFault.TheVariants.{TokenTooLong, TooManyBytes}
 use Rattle.tt_text.proofs.Runs.{tokens-begins, ended}
 use Rattle.tt_text.proofs.Written.{tokens-written, after_separator}
 

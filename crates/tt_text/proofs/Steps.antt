@@ -1,8 +1,8 @@
 -- Steps of a reading: those that fail, and those that do not.
-use Rattle.std.proofs.Common.{◌≡◌, ℕ, Bool, true, false, cond, List, [], ◌∷◌, ◌++◌, Result, Ok, Err, refl, sym, ap, subst, ◌∙◌, append_assoc}
+use Rattle.std.proofs.Common.{◌≡◌, Bool, true, false, cond, List, [], ◌∷◌, ◌++◌, Result, Ok, Err, refl, sym, ap, subst, ◌∙◌, append_assoc}
 use Rattle.std.specs.Bool.{OnFalse}
 use Rattle.tt_text.specs.Tokens.{Placed}
-use Rattle.tt_text.specs.Pieces.{Piece, Text, Begins}
+use Rattle.tt_text.specs.Pieces.{Piece, Begins}
 use Rattle.tt_text.specs.Reading.{◌>>=◌, FailsBut, token_or}
 
 module _ {F : Type 0} where

@@ -1,8 +1,8 @@
 -- A token that was written before a separator is read again.
-use Rattle.std.proofs.Common.{◌≡◌, ℕ, suc, ◌+◌, ◌<◌, Bool, true, false, not, ◌&&◌, cond, List, [], ◌∷◌, ◌++◌, length, take, drop, refl, sym, ap, subst, ◌∙◌, arith}
+use Rattle.std.proofs.Common.{◌≡◌, ℕ, ◌+◌, true, false, List, [], ◌∷◌, ◌++◌, length, refl, ap, ◌∙◌, arith}
 use Rattle.std.specs.List.{prefix_len, list_all}
 use Rattle.std.proofs.lemmas.List.{take_at, drop_at}
-use Rattle.tt_text.specs.Tokens.{is_separator, in_token, Placed, tokens_from, IsToken}
+use Rattle.tt_text.specs.Tokens.{is_separator, in_token, tokens_from, IsToken}
 use Rattle.tt_text.proofs.Runs.{tokens-begins}
 use Rattle.std.proofs.lemmas.Bool.{and_parts}
 

@@ -1,12 +1,14 @@
 -- Nodes that are read and kept.
-use Rattle.std.proofs.Common.{◌≡◌, ℕ, ◌+◌, ◌<◌, Bool, true, List, [], ◌∷◌, ◌++◌, length, Some, None, Ok, refl, sym, ap, subst, ◌∙◌, arith, length-append}
+use Rattle.std.proofs.Common.{◌≡◌, ℕ, ◌+◌, ◌<◌, Bool, true, List, [], ◌∷◌, ◌++◌, length, Some, None, Result, Ok, Err, refl, sym, ap, subst, ◌∙◌, arith, length-append}
 use Rattle.std.specs.Prelude.{All}
 use Rattle.std.proofs.lemmas.List.Elements.{All-push}
 use Rattle.tt_text.specs.Feeds.{Stream}
 use Rattle.tt_leaf.specs.declared.leaf.Leaf.TheVariants.{Many}
+use Rattle.tt_proof_text.specs.Faults.{read_failed}
 use Rattle.tt_proof_text.specs.Reading.{node_at}
 use Rattle.tt_proof_text.specs.Readers.{Reader, IsNodeAt, Goes, Says}
 use Rattle.tt_proof_text.specs.Reads.{ReadsNodes}
+use Rattle.tt_proof_text.specs.Trees.{Tree, preorder}
 use Rattle.tt_proof_text.specs.declared.fault.TextFault.{TextFault}
 use Rattle.tt_proof_text.specs.declared.node.Node.{Node}
 use Rattle.tt_proof_text.specs.declared.node.Node.TheVariants.{Leaf}
@@ -15,7 +17,7 @@ use Rattle.tt_proof_check.specs.Streams.{Fails}
 use Rattle.tt_proof_check.proofs.Counting.{next_places}
 use Rattle.tt_proof_check.proofs.Reading.{Stack, root, next_stack, stack_after, stack_after-push, closing, some_tree, stack_whole}
 use Rattle.tt_proof_check.proofs.Streaming.{reads_push}
-use Rattle.tt_upgrade.specs.Texts.{IsCollected, NodesBreak}
+use Rattle.tt_upgrade.specs.Texts.{IsCollected, NodesBreak, NodeBreaksOff}
 
 -- What has been kept, in this state of the reader, with this stream behind it.
 pub record Collected (sizes : Sizes) (v : ℕ) (known : Bool) (s : Stream) (reader : Reader) (t : Stream) (nodes : List Node) : Type 0 where
@@ -76,25 +78,25 @@ module _ (sizes : Sizes) (v : ℕ) (known : Bool) (s : Stream) (old : Reader) (t
       on [] after places = after
       on (path ∷ others) after places = absurd (omega (arith, none, places))
 
-  pub collected_breaks : (f : TextFault) → 0 < old.places → known ≡ true → Fails f (node_at old.sizes old.version old.count t) → NodesBreak sizes v s f
-  collected_breaks f some k fails = on m.stack m.after m.places
+  -- some tree goes on from the nodes
+  goes_on : 0 < old.places → (tree : Tree) × (more : List Node) × (preorder tree ≡ nodes ++ Leaf (Many 0) ∷ more)
+  goes_on some = on m.stack m.after m.places
     where
-      here : Fails f (node_at sizes v (length nodes) t)
-      here =
-          subst (λ (i : ℕ). Fails f (node_at sizes v i t)) (sym m.count)
-          (subst (λ (i : ℕ). Fails f (node_at sizes i old.count t)) m.version (subst (λ (x : Sizes). Fails f (node_at x old.version old.count t)) m.sizes_are fails))
-
-      on : (stack : Stack) → stack_after root nodes ≡ Some stack → length stack ≡ old.places → NodesBreak sizes v s f
+      on : (stack : Stack) → stack_after root nodes ≡ Some stack → length stack ≡ old.places → (tree : Tree) × (more : List Node) × (preorder tree ≡ nodes ++ Leaf (Many 0) ∷ more)
       on [] after places = absurd (omega (arith, some, places))
-      on (path ∷ others) after places =
-          let h = some_tree nodes (path ∷ others) after in
-          record {
-            nodes = nodes;
-            rest = t;
-            reads = m.reads k;
-            tree = h.0;
-            next = Leaf (Many 0);
-            more = closing others;
-            begins = h.1;
-            fails = here;
-          }
+      on (path ∷ others) after places = let h = some_tree nodes (path ∷ others) after in (h.0, closing others, h.1)
+
+  here : (P : Result (Node × Stream) TextFault → Type 0) → P (node_at old.sizes old.version old.count t) → P (node_at sizes v (length nodes) t)
+  here P h =
+      subst (λ (i : ℕ). P (node_at sizes v i t)) (sym m.count)
+      (subst (λ (i : ℕ). P (node_at sizes i old.count t)) m.version (subst (λ (x : Sizes). P (node_at x old.version old.count t)) m.sizes_are h))
+
+  pub collected_breaks : (f : TextFault) → 0 < old.places → known ≡ true → Fails f (node_at old.sizes old.version old.count t) → NodesBreak sizes v s f
+  collected_breaks f some k fails =
+      let w = goes_on some in
+      record { nodes = nodes; rest = t; reads = m.reads k; tree = w.0; next = Leaf (Many 0); more = w.1; begins = w.2; fails = here (Fails f) fails }
+
+  pub collected_breaks_off : 0 < old.places → known ≡ true → node_at old.sizes old.version old.count t ≡ Err read_failed → NodeBreaksOff sizes v s
+  collected_breaks_off some k breaks =
+      let w = goes_on some in
+      (record { nodes = nodes; rest = t; reads = m.reads k; tree = w.0; next = Leaf (Many 0); more = w.1; begins = w.2; fails = tt }, here (λ r. r ≡ Err read_failed) breaks)

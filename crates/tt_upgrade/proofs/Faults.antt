@@ -2,16 +2,19 @@
 use Rattle.std.proofs.Common.{◌≡◌, ℕ, ◌≤◌, ◌<◌, List, [], length, Some, sym, ap, ◌∙◌, arith}
 use Rattle.std.specs.Prelude.{slice_get}
 use Rattle.std.proofs.lemmas.Option.{slice_get_within}
+use Rattle.tt_text.specs.declared.feed.FeedFault.TheVariants as feed
 use Rattle.tt_instance.specs.Problem.{Problem}
 use Rattle.tt_leaf.specs.declared.leaf.Bound.{Bound}
 use Rattle.tt_proof_text.specs.Trees.{Tree, preorder, OnPath, on_paths}
+use Rattle.tt_proof_text.specs.declared.fault.TextFault.{TextFault}
+use Rattle.tt_proof_text.specs.declared.fault.TextFault.TheVariants as text
 use Rattle.tt_proof_text.specs.declared.node.Node.{Node}
 use Rattle.tt_proof_check.specs.Nodes.{IsATree}
 use Rattle.tt_proof_check.specs.Tells.{Tells}
 use Rattle.tt_proof_check.specs.declared.fault.NodesFault.{NodesFault}
 use Rattle.tt_proof_check.specs.declared.fault.NodesFault.TheVariants.{NotATree, Rule, TooDeep, OutOfMemory}
 use Rattle.tt_proof_check.proofs.Reading.{root, length-places_of, whole_places, whole_stack}
-use Rattle.tt_upgrade.specs.Faults.{IsOfNode, told_node, TellsOfNodes}
+use Rattle.tt_upgrade.specs.Faults.{told_text, read_failed, IsOfNode, told_node, TellsOfNodes}
 
 -- a tree has a path for each of its nodes
 paths_of : (tree : Tree) (nodes : List Node) → preorder tree ≡ nodes → length (on_paths [] tree) ≡ length nodes
@@ -35,3 +38,16 @@ told_of_node p b nodes NotATree is t = absurd is
 told_of_node p b nodes (Rule i f) is t = t
 told_of_node p b nodes (TooDeep i) is t = t
 told_of_node p b nodes OutOfMemory is t = tt
+
+-- only a failed read is told as one
+pub read_told : (f : TextFault) → told_text f ≡ read_failed → f ≡ text.Feed feed.Read
+read_told (text.Ended at) e = cc
+read_told (text.Expected w at) e = cc
+read_told (text.UnknownWord at) e = cc
+read_told (text.NotANumber at) e = cc
+read_told (text.UnknownIndex at) e = cc
+read_told (text.RepeatedIndex at) e = cc
+read_told (text.TrailingToken at) e = cc
+read_told (text.TooManyNodes at) e = cc
+read_told (text.Feed f) e = cc
+read_told text.OutOfMemory e = cc

@@ -1,8 +1,9 @@
 -- Proofs that were read whole.
-use Rattle.std.proofs.Common.{◌≡◌, ℕ, Bool, true, List, Some, Option, Ok, sym, ap, subst, inl, inr, is_some}
+use Rattle.std.proofs.Common.{◌≡◌, ℕ, Bool, true, List, Some, Option, Ok, Err, sym, ap, subst, inl, inr, is_some}
 use Rattle.tt_text.specs.Feeds.{Stream, stream_at, fresh}
 use Rattle.tt_instance.specs.Problem.{Problem}
 use Rattle.tt_leaf.specs.declared.leaf.Bound.{Bound}
+use Rattle.tt_proof_text.specs.Faults.{read_failed}
 use Rattle.tt_proof_text.specs.Reading.{header_at, end_at}
 use Rattle.tt_proof_text.specs.Reads.{ReadsNodes}
 use Rattle.tt_proof_text.specs.Sizes.{AreSizes}
@@ -12,12 +13,15 @@ use Rattle.tt_proof_text.specs.declared.node.Node.{Node}
 use Rattle.tt_proof_text.specs.declared.sizes.Sizes.{Sizes}
 use Rattle.tt_proof_check.specs.Streams.{sizes_of, Fails}
 use Rattle.tt_proof_check.proofs.Sizes.{sizes_are}
-use Rattle.tt_upgrade.specs.Texts.{IsRead, IsCollected, NodesBreak, TextBreaks}
+use Rattle.tt_upgrade.specs.Texts.{IsRead, IsCollected, NodesBreak, NodeBreaksOff, TextBreaks, TextBreaksOff}
 
 module _ (p : Problem) (sizes : Sizes) (are : AreSizes p sizes) (s : Stream) (v : ℕ) (b : Bound) (headed : Stream) (header : header_at s ≡ Ok ((v, b), headed)) where
   -- the nodes fail
   pub nodes_break : (f : TextFault) → NodesBreak sizes v headed f → TextBreaks p s f
   nodes_break f h = inr (v, b, headed, header, inl (subst (λ (x : Sizes). NodesBreak x v headed f) (sizes_are p sizes are) h))
+
+  pub nodes_break_off : NodeBreaksOff sizes v headed → TextBreaksOff p s
+  nodes_break_off h = inr (v, b, headed, header, inl (subst (λ (x : Sizes). NodeBreaksOff x v headed) (sizes_are p sizes are) h))
 
   module _ (known : Bool) (k : known ≡ true) (noded : Stream) (nodes : List Node) (c : IsCollected sizes v known headed noded nodes) where
     reads : ReadsNodes (sizes_of p) v 0 headed (preorder c.tree.0) noded
@@ -26,6 +30,9 @@ module _ (p : Problem) (sizes : Sizes) (are : AreSizes p sizes) (s : Stream) (v 
 
     pub end_breaks : (f : TextFault) → Fails f (end_at noded) → TextBreaks p s f
     end_breaks f fails = inr (v, b, headed, header, inr (record { tree = c.tree.0; rest = noded; reads = reads; fails = fails }))
+
+    pub end_breaks_off : end_at noded ≡ Err read_failed → TextBreaksOff p s
+    end_breaks_off breaks = inr (v, b, headed, header, inr (record { tree = c.tree.0; rest = noded; reads = reads; fails = tt }, breaks))
 
     pub is_read : (ended : Stream) → end_at noded ≡ Ok ended → IsRead p s v b nodes
     is_read ended finish = record {

@@ -1,8 +1,9 @@
 -- Texts that are read whole before anything is judged.
-use Rattle.std.specs.Prelude.{◌≡◌, ℕ, ◌≤◌, ◌⊎◌, Bool, true, List, ◌∷◌, ◌++◌, length, All}
+use Rattle.std.specs.Prelude.{◌≡◌, ℕ, ◌≤◌, ◌⊎◌, Bool, true, List, ◌∷◌, ◌++◌, length, All, Option, Err}
 use Rattle.tt_text.specs.Feeds.{Stream}
 use Rattle.tt_instance.specs.Problem.{Problem}
 use Rattle.tt_leaf.specs.declared.leaf.Bound.{Bound}
+use Rattle.tt_proof_text.specs.Faults.{read_failed}
 use Rattle.tt_proof_text.specs.Reading.{header_at, node_at, end_at}
 use Rattle.tt_proof_text.specs.Reads.{ReadsNodes, Reads}
 use Rattle.tt_proof_text.specs.Spelling.{IsNode}
@@ -10,6 +11,7 @@ use Rattle.tt_proof_text.specs.Trees.{Tree, preorder}
 use Rattle.tt_proof_text.specs.declared.fault.TextFault.{TextFault}
 use Rattle.tt_proof_text.specs.declared.node.Node.{Node}
 use Rattle.tt_proof_text.specs.declared.sizes.Sizes.{Sizes}
+use Rattle.tt_proof_check.specs.FailedReads.{HoldsOfGiven}
 use Rattle.tt_proof_check.specs.Nodes.{IsATree}
 use Rattle.tt_proof_check.specs.Streams.{sizes_of, Fails, HasHeader}
 
@@ -51,3 +53,21 @@ pub record EndBreaks (p : Problem) (v : ℕ) (s : Stream) (f : TextFault) : Type
 -- the first fault of the text; want of memory and a failed read say nothing of it
 abbrev pub TextBreaks : Problem → Stream → TextFault → Type 0
 TextBreaks p s f = Fails f (header_at s) ⊎ HasHeader s (λ v b rest. NodesBreak (sizes_of p) v rest f ⊎ EndBreaks p v rest f)
+
+-- ---- what a failed read leaves known
+
+-- nodes have been read, and the failure breaks the next one off
+abbrev pub NodeBreaksOff : Sizes → ℕ → Stream → Type 0
+NodeBreaksOff sizes v s = (x : NodesBreak sizes v s read_failed) × (node_at sizes v (length x.nodes) x.rest ≡ Err read_failed)
+
+-- the tree is whole, and the failure breaks the end off
+abbrev pub EndBreaksOff : Problem → ℕ → Stream → Type 0
+EndBreaksOff p v s = (x : EndBreaks p v s read_failed) × (end_at x.rest ≡ Err read_failed)
+
+-- All of the stream has been read, up to the failure at its end.
+abbrev pub TextBreaksOff : Problem → Stream → Type 0
+TextBreaksOff p s = (header_at s ≡ Err read_failed) ⊎ HasHeader s (λ v b rest. NodeBreaksOff (sizes_of p) v rest ⊎ EndBreaksOff p v rest)
+
+-- All that the bytes which the source gave say has been read, and nothing of it was judged.
+abbrev pub TellsTextRead : Problem → List ℕ → Option (List ℕ) → Type 0
+TellsTextRead p bytes left = HoldsOfGiven bytes left (TextBreaksOff p)

@@ -6,6 +6,7 @@ ghost use Rattle.tt_proof_check.specs.Derives.{HoldsOfAll, Proves};
 ghost use Rattle.tt_proof_check.specs.Nodes.{IsATree, IsNodeOf};
 ghost use Rattle.tt_proof_check.specs.Streams.{IsProved, stream_of};
 ghost use Rattle.tt_upgrade.specs.Faults.{read_failed, TellsOfNodes};
+ghost use Rattle.tt_upgrade.specs.Texts.{TellsTextRead};
 ghost use Rattle.tt_upgrade.specs.Upgrades.{IsUpgraded, IsSilent, TellsOf};
 
 use crate::fault::{UpgradeFault, node_fault};
@@ -60,6 +61,9 @@ pub fn upgrade<R: Source>(
     ensures holds { IfOk result (λ u. HoldsOfAll instance.now u.bound) }
     ensures failed { result ≡ Err read_failed → R.has_failed source.new ≡ true }
     ensures fault { IfErr result (λ f. (bytes : List ℕ) → R.remaining source.old ≡ Some bytes → TellsOf instance.now (stream_of bytes) f) }
+    // Where a read fails, all that the bytes before it say has been read.
+    ensures broken_off { result ≡ Err read_failed → (bytes : List ℕ) → R.remaining source.old ≡ Some bytes →
+        TellsTextRead instance.now bytes (R.remaining source.new) }
 {
     // What is true of every instance: its numbers are small enough to be read.
     prove!(instance.days() > 0);

@@ -1,4 +1,8 @@
+use Rattle.std.proofs.Common.{Err, ap}
 use Rattle.std.proofs.lemmas.Result.{err_from_is_err_and}
+use Rattle.tt_proof_check.proofs.TextFaults.{err_same}
+use Rattle.tt_app.specs.Checked.{read_failed}
+use Rattle.tt_app.proofs.FailedReads.{read_checked}
 use Rattle.tt_app.proofs.DerivedBounds.{spelled_memory, proof_tells, silent_bound, proved_here, bounded}
 use Rattle.tt_app.proofs.bounding.bound.Goals as goal
 
@@ -20,3 +24,9 @@ returns-in_err-bound-clause-only g c =
 pub returns-clause-found : goal.returns-clause-found
 returns-clause-found g c =
     bounded c.args.instance.now c.in_ok-instance.instance (g.R.Source.remaining c.args.proof.now) c.in_ok-bound_answer.field-0 c.in_ok-bound.bound c.in_ok-instance.ensures.found c.in_ok-bound.ensures.found c.in_ok-bound.ensures.holds c.in_ok-bound_answer.ensures
+
+pub returns-in_err-bound-clause-broken_off : goal.returns-in_err-bound-clause-broken_off
+returns-in_err-bound-clause-broken_off g c =
+    λ told bytes known.
+    let is = read_checked c.in_err-bound.field-0.0 (err_same c.from_residual-in_err-bound.result _ read_failed c.from_residual-in_err-bound.ensures.1 told) in
+    record { problem = c.in_ok-instance.instance; spelled = c.in_ok-instance.ensures.found; tells = c.in_err-bound.ensures.broken_off (ap (λ f. Err f) is) bytes known }

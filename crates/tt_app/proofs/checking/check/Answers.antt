@@ -1,6 +1,9 @@
-use Rattle.std.proofs.Common.{Ok, subst}
+use Rattle.std.proofs.Common.{Ok, Err, ap, subst}
 use Rattle.tt_proof_check.specs.Verdicts.{AnswersYes as AnswersYesBelow}
 use Rattle.std.proofs.lemmas.Result.{err_from_is_err_and}
+use Rattle.tt_proof_check.proofs.TextFaults.{err_same}
+use Rattle.tt_app.specs.Checked.{read_failed}
+use Rattle.tt_app.proofs.FailedReads.{read_certified}
 use Rattle.tt_app.proofs.Answering.{tells, yes_told, yes_same}
 use Rattle.tt_app.proofs.checking.check.Goals as goal
 
@@ -22,3 +25,7 @@ returns-in_ok-yes_answer-in-Yes-clause-yes g c =
 pub returns-in_ok-broken_answer-in-Breaks-clause-yes : goal.returns-in_ok-broken_answer-in-Breaks-clause-yes
 returns-in_ok-broken_answer-in-Breaks-clause-yes g c =
     λ n b bytes known h. absurd (subst (λ v. AnswersYesBelow (Ok v) n b) c.in-Breaks.is (c.in_ok-cost.ensures.yes n b bytes known h))
+
+pub returns-in_err-cost-clause-broken_off : goal.returns-in_err-cost-clause-broken_off
+returns-in_err-cost-clause-broken_off g c =
+    λ told. c.in_err-cost.ensures.broken_off (ap (λ f. Err f) (read_certified c.in_err-cost.field-0.0 (err_same c.from_residual.result _ read_failed c.from_residual.ensures.1 told)))

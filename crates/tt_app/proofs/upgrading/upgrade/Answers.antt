@@ -1,6 +1,9 @@
-use Rattle.std.proofs.Common.{ap, ◌∙◌}
+use Rattle.std.proofs.Common.{Err, ap, ◌∙◌}
 use Rattle.std.proofs.lemmas.Result.{err_from_is_err_and}
+use Rattle.tt_proof_check.proofs.TextFaults.{err_same}
+use Rattle.tt_app.specs.Checked.{read_failed}
 use Rattle.tt_app.specs.Lines.{bound_line}
+use Rattle.tt_app.proofs.FailedReads.{read_upgraded}
 use Rattle.tt_app.proofs.DerivedBounds.{spelled_memory, proved_here}
 use Rattle.tt_app.proofs.Rewriting.{as_bound, upgrade_tells, rewritten, silent_upgrade}
 use Rattle.tt_app.proofs.upgrading.upgrade.Goals as goal
@@ -28,3 +31,9 @@ returns-clause-found g c =
 pub returns-clause-only : goal.returns-clause-only
 returns-clause-only g c =
     λ p bytes b spells known h. c.in_ok-upgraded_answer.ensures.text ∙ ap bound_line (c.in_ok-upgraded.ensures.only bytes b known (proved_here c.args.instance.now bytes p c.in_ok-instance.instance b spells c.in_ok-instance.ensures.found h))
+
+pub returns-in_err-upgraded-clause-broken_off : goal.returns-in_err-upgraded-clause-broken_off
+returns-in_err-upgraded-clause-broken_off g c =
+    λ told bytes known.
+    let is = read_upgraded c.in_err-upgraded.field-0.0 (err_same c.from_residual-in_err-upgraded.result _ read_failed c.from_residual-in_err-upgraded.ensures.1 told) in
+    record { problem = c.in_ok-instance.instance; spelled = c.in_ok-instance.ensures.found; tells = c.in_err-upgraded.ensures.broken_off (ap (λ f. Err f) is) bytes known }

@@ -1,6 +1,7 @@
-use Rattle.std.proofs.Common.{refl, sym, subst, ◌∙◌, inl}
+use Rattle.std.proofs.Common.{Err, refl, sym, ap, subst, ◌∙◌}
 use Rattle.std.proofs.lemmas.Result.{err_from_is_err_and}
-use Rattle.tt_proof_check.specs.Verdicts.{IsYes}
+use Rattle.tt_proof_check.specs.Verdicts.{IsYes, read_failed}
+use Rattle.tt_proof_check.proofs.TextFaults.{err_same}
 use Rattle.tt_proof_check.proofs.Files.{tells_instance, tells_solution}
 use Rattle.tt_proof_check.proofs.Certifying.{certified_memory, broken_memory, points, no_points, not_certified, broken_found, is_feasible, not_broken, bound_tells, certified_proof, certified_cost, yes_found}
 use Rattle.tt_proof_check.proofs.headline.certify.Goals as goal
@@ -66,3 +67,9 @@ returns-clause-yes g c =
 pub returns-clause-broken : goal.returns-clause-broken
 returns-clause-broken g c =
     λ k. absurd (not_broken c.args.instance.now c.args.solution.now c.in_ok-instance.instance c.in_ok-table.table c.in_ok-instance.ensures.found c.in_ok-table.ensures.found c.score-score.result c.score-score.ensures (no_points c.feasible.result _ c.feasible.ensures c.if-not-feasible.false) k)
+
+pub returns-in_err-bound-clause-broken_off : goal.returns-in_err-bound-clause-broken_off
+returns-in_err-bound-clause-broken_off g c =
+    λ told bytes known.
+    let is = err_same c.from_residual-in_err-bound.result c.in_err-bound.field-0.0 read_failed c.from_residual-in_err-bound.ensures.1 told in
+    record { problem = c.in_ok-instance.instance; spelled = c.in_ok-instance.ensures.found; tells = c.in_err-bound.ensures.broken_off (ap (λ x. Err x) is) bytes known }

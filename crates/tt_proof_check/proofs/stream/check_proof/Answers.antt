@@ -6,7 +6,7 @@ use Rattle.tt_proof_check.specs.Derives.{HoldsOfAll}
 use Rattle.tt_proof_check.specs.FailedReads.{BreaksOff, UpToFailure}
 use Rattle.tt_proof_check.specs.Judged.{Proved}
 use Rattle.tt_proof_check.specs.Streams.{IsProved, TellsOf}
-use Rattle.tt_proof_check.proofs.FailedReads.{tells_read}
+use Rattle.tt_proof_check.proofs.FailedReads.{of_given}
 use Rattle.tt_proof_check.proofs.Texts.{proof_found, proof_holds, proof_only}
 use Rattle.tt_proof_check.proofs.stream.check_proof.Goals as goal
 
@@ -29,10 +29,10 @@ returns-clause-holds g c =
     subst (λ (p : Problem). IfOk c.read_proof.result (HoldsOfAll p)) c.new-path.ensures.problem
     (proof_holds c.new-path.result.problem (g.R.Source.remaining c.args.source.now) c.read_proof.result c.read_proof.ensures.proved)
 
-pub returns-clause-unread : goal.returns-clause-unread
-returns-clause-unread g c =
+pub returns-clause-broken_off : goal.returns-clause-broken_off
+returns-clause-broken_off g c =
     λ told.
     let before = g.R.Source.remaining c.args.source.now in
     let after = g.R.Source.remaining c.read_proof.new.source in
-    let up = subst (λ (p : Problem). UpToFailure fresh before after (BreaksOff p)) c.new-path.ensures.problem (c.read_proof.ensures.unread told) in
-    tells_read c.args.instance.now before after c.read_proof.ensures.known up
+    let up = subst (λ (p : Problem). UpToFailure fresh before after (BreaksOff p)) c.new-path.ensures.problem (c.read_proof.ensures.broken_off told) in
+    of_given (BreaksOff c.args.instance.now) before after c.read_proof.ensures.known up

@@ -141,8 +141,8 @@ returns-clause-judged g c =
     let u = stream_at new.fed (g.R.Source.remaining c.next_node.new.source) in
     sofar_end p v b known s old t path inv.sofar new u (e.goes inv.sofar.sound) (λ k. e.says inv.sofar.sound (inv.known k))
 
-pub returns-in_err-node-clause-unread : goal.returns-in_err-node-clause-unread
-returns-in_err-node-clause-unread g c =
+pub returns-in_err-node-clause-broken_off : goal.returns-in_err-node-clause-broken_off
+returns-in_err-node-clause-broken_off g c =
     λ told k.
     let e = c.in_err-node.ensures in
     let f = c.in_err-node.field-0.0 in
@@ -154,8 +154,8 @@ returns-in_err-node-clause-unread g c =
     let first = inv.failing k _ here.0 in
     (first.0, sofar_breaks _ _ _ true _ old _ path first.1 (e.goes inv.sofar.sound).0 refl (here.1 ∙ ap (λ x. Err x) is))
 
-pub returns-in-Err-TooDeep-clause-unread : goal.returns-in-Err-TooDeep-clause-unread
-returns-in-Err-TooDeep-clause-unread g c =
+pub returns-in-Err-TooDeep-clause-broken_off : goal.returns-in-Err-TooDeep-clause-broken_off
+returns-in-Err-TooDeep-clause-broken_off g c =
     λ told k.
     let e = rw c.in-Some.is at c.in_ok-node.ensures in
     let taken = rw c.in-Err-TooDeep.field-0-is at c.in-Err-TooDeep.ensures in
@@ -167,7 +167,7 @@ returns-in-Err-TooDeep-clause-unread g c =
     let path = g.P.Path.facts c.loop-node.path in
     let new = c.next_node.new.self in
     let is : c.deep_fault.result ≡ Text read_failed = cc in
-    let child = c.deep_fault.ensures.unread is (e.known (inv.known k)) in
+    let child = c.deep_fault.ensures.broken_off is (e.known (inv.known k)) in
     let here = e.broken inv.sofar.sound (inv.known k) _ child.0 in
     let first = inv.failing k _ here.0 in (
       first.0,

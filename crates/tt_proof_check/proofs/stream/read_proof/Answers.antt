@@ -59,18 +59,18 @@ returns-clause-proved g c =
       derives = judged.judged.derives;
     })
 
-pub returns-in_err-judge-clause-unread : goal.returns-in_err-judge-clause-unread
-returns-in_err-judge-clause-unread g c =
+pub returns-in_err-judge-clause-broken_off : goal.returns-in_err-judge-clause-broken_off
+returns-in_err-judge-clause-broken_off g c =
     λ told k.
     let reader = c.in_ok-reader.reader in
     let start = c.in_ok-reader.ensures in
     let is = err_same c.from_residual-in_err-judge.result c.in_err-judge.field-0.0 (Text read_failed) c.from_residual-in_err-judge.ensures.1 told in
-    let here = c.in_err-judge.ensures.unread (ap (λ x. Err x) is) (start.known k) in
+    let here = c.in_err-judge.ensures.broken_off (ap (λ x. Err x) is) (start.known k) in
     let first = start.broken k _ here.0 in
     (first.0, inr (reader.version, reader.bound, _, first.1, inl here.1))
 
-pub returns-in_err-finish-clause-unread : goal.returns-in_err-finish-clause-unread
-returns-in_err-finish-clause-unread g c =
+pub returns-in_err-finish-clause-broken_off : goal.returns-in_err-finish-clause-broken_off
+returns-in_err-finish-clause-broken_off g c =
     λ told k.
     let reader = c.in_ok-reader.reader in
     let start = c.in_ok-reader.ensures in

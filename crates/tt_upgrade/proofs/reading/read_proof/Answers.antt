@@ -1,8 +1,11 @@
-use Rattle.std.proofs.Common.{is_some}
+use Rattle.std.proofs.Common.{◌∙◌, true, Err, ap, refl, inl, is_some}
 use Rattle.std.proofs.lemmas.Result.{err_from_is_err_and}
 use Rattle.tt_text.specs.Feeds.{stream_at, fresh}
-use Rattle.tt_upgrade.specs.Texts.{IsRead, TextBreaks}
-use Rattle.tt_upgrade.proofs.Whole.{nodes_break, end_breaks, is_read, of_bytes}
+use Rattle.tt_proof_text.specs.Faults.{read_failed, is_failed_read}
+use Rattle.tt_proof_check.proofs.FailedReads.{of_given}
+use Rattle.tt_proof_check.proofs.TextFaults.{err_same}
+use Rattle.tt_upgrade.specs.Texts.{IsRead, TextBreaks, TextBreaksOff}
+use Rattle.tt_upgrade.proofs.Whole.{nodes_break, nodes_break_off, end_breaks, end_breaks_off, is_read, of_bytes}
 use Rattle.tt_upgrade.proofs.reading.read_proof.Goals as goal
 
 pub returns-in_err-nodes-clause-fault : goal.returns-in_err-nodes-clause-fault
@@ -44,3 +47,41 @@ returns-clause-read g c =
     rw (c.version-version.ensures, c.bound-bound.ensures)
     (of_bytes (λ s. IsRead p s reader.version reader.bound c.in_ok-nodes.nodes.items) bytes remaining known (λ k. is_read p reader.sizes start.sizes (stream_at fresh remaining) reader.version reader.bound headed (start.read k)
     (is_some (g.R.Source.remaining c.new.new.source)) (start.known k) noded c.in_ok-nodes.nodes.items collected.collected ended (c.in_ok-finish.ensures.read collected.sound (collected.known (start.known k)))))
+
+pub returns-in_err-reader-clause-broken_off : goal.returns-in_err-reader-clause-broken_off
+returns-in_err-reader-clause-broken_off g c =
+    let before = g.R.Source.remaining c.args.source.now in
+    let after = g.R.Source.remaining c.new.new.source in
+    let start = c.in_err-reader.ensures in
+    λ told. of_given (TextBreaksOff c.args.instance.now) before after start.known (λ k.
+    let is = err_same c.from_residual.result c.in_err-reader.field-0.0 read_failed c.from_residual.ensures.1 told in
+    let here = start.broken k (ap is_failed_read is) in
+    (here.0, inl (here.1 ∙ ap (λ x. Err x) is)))
+
+pub returns-in_err-nodes-clause-broken_off : goal.returns-in_err-nodes-clause-broken_off
+returns-in_err-nodes-clause-broken_off g c =
+    let reader = c.in_ok-reader.reader in
+    let start = c.in_ok-reader.ensures in
+    let before = g.R.Source.remaining c.args.source.now in
+    let after = g.R.Source.remaining c.collect.new.source in
+    let p = c.args.instance.now in
+    λ told. of_given (TextBreaksOff p) before after (λ k. c.in_err-nodes.ensures.known (start.known k)) (λ k.
+    let is = err_same c.from_residual-in_err-nodes.result c.in_err-nodes.field-0.0 read_failed c.from_residual-in_err-nodes.ensures.1 told in
+    let here = c.in_err-nodes.ensures.broken_off (ap (λ x. Err x) is) (start.known k) in
+    let first = start.broken k _ here.0 in
+    (first.0, nodes_break_off p reader.sizes start.sizes _ reader.version reader.bound _ first.1 here.1))
+
+pub returns-in_err-finish-clause-broken_off : goal.returns-in_err-finish-clause-broken_off
+returns-in_err-finish-clause-broken_off g c =
+    let reader = c.in_ok-reader.reader in
+    let start = c.in_ok-reader.ensures in
+    let collected = c.in_ok-nodes.ensures in
+    let before = g.R.Source.remaining c.args.source.now in
+    let after = g.R.Source.remaining c.finish.new.source in
+    let p = c.args.instance.now in
+    λ told. of_given (TextBreaksOff p) before after (λ k. c.in_err-finish.ensures.known (collected.known (start.known k))) (λ k.
+    let is = err_same c.from_residual-in_err-finish.result c.in_err-finish.field-0.0 read_failed c.from_residual-in_err-finish.ensures.1 told in
+    let here = c.in_err-finish.ensures.broken collected.sound (collected.known (start.known k)) (ap is_failed_read is) in
+    let nodes = collected.broken (start.known k) _ here.0 in
+    let first = start.broken k _ nodes.0 in
+    (first.0, end_breaks_off p reader.sizes start.sizes _ reader.version reader.bound _ first.1 true refl _ c.in_ok-nodes.nodes.items nodes.1 (here.1 ∙ ap (λ x. Err x) is)))

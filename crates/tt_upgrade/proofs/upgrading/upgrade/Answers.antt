@@ -1,10 +1,13 @@
-use Rattle.std.proofs.Common.{subst, sym, ◌∙◌}
+use Rattle.std.proofs.Common.{Err, ap, subst, sym, ◌∙◌}
 use Rattle.std.proofs.lemmas.Result.{err_from_is_err_and}
 use Rattle.std.specs.Prelude.{All}
 use Rattle.tt_proof_text.specs.Spelling.{IsNode}
 use Rattle.tt_proof_check.specs.Derives.{Proves}
 use Rattle.tt_proof_check.specs.Streams.{stream_of}
 use Rattle.tt_proof_check.proofs.Soundness.{proof_sound}
+use Rattle.tt_proof_check.proofs.TextFaults.{err_same}
+use Rattle.tt_upgrade.specs.Faults.{read_failed}
+use Rattle.tt_upgrade.proofs.Faults.{read_told}
 use Rattle.tt_upgrade.proofs.Written.{nodes_tell, write_tells, upgraded, text_tells, bound_read, silent}
 use Rattle.tt_upgrade.proofs.upgrading.upgrade.Goals as goal
 
@@ -55,3 +58,7 @@ returns-clause-holds g c =
     let p = c.args.instance.now in
     let read = c.in_ok-read.read in
     proof_sound p read.bound read.nodes.items (subst (Proves p read.bound) c.deref.ensures.value c.in_ok-judge.ensures.proves)
+
+pub returns-in_err-read-clause-broken_off : goal.returns-in_err-read-clause-broken_off
+returns-in_err-read-clause-broken_off g c =
+    λ told. c.in_err-read.ensures.broken_off (ap (λ f. Err f) (read_told c.in_err-read.field-0.0 (err_same c.from_residual.result _ read_failed c.from_residual.ensures.1 told)))

@@ -1,4 +1,4 @@
-use Rattle.std.proofs.Common.{◌≡◌, ◌<◌, ◌∙◌, sym, arith}
+use Rattle.std.proofs.Common.{◌∙◌, sym, arith}
 use Rattle.tt_text.proofs.Runs.{tokens-none, tokens-some, is_a_token}
 use Rattle.tt_text.proofs.token.Tokens.next.Goals as goal
 
