@@ -3,3 +3,4 @@ pub mod DerivedBounds
 pub mod FailedReads
 pub mod Files
 pub mod Rewriting
+pub mod ToldMemory

@@ -1,8 +1,10 @@
 -- How a fault of a layer is told by a call: want of memory is always one and the same.
+use Rattle.std.specs.Prelude.{◌≡◌, ⊤}
 use Rattle.tt_instance.specs.declared.fault.InstanceFault.{InstanceFault}
 use Rattle.tt_instance.specs.declared.fault.InstanceFault.TheVariants as instance
 use Rattle.tt_table.specs.declared.fault.SolutionFault.{SolutionFault}
 use Rattle.tt_table.specs.declared.fault.SolutionFault.TheVariants as solution
+use Rattle.tt_proof_check.specs.Faults.{TellsMemoryOfText}
 use Rattle.tt_proof_check.specs.declared.fault.CheckFault.{CheckFault}
 use Rattle.tt_proof_check.specs.declared.fault.CheckFault.TheVariants as check
 use Rattle.tt_proof_check.specs.declared.fault.CertifyFault.{CertifyFault}
@@ -40,3 +42,10 @@ abbrev pub told_upgrade : UpgradeFault → AppFault
 told_upgrade (upgrade.Proof f) = told_check f
 told_upgrade upgrade.TooLarge = fault.ProofTooLarge
 told_upgrade upgrade.OutOfMemory = fault.OutOfMemory
+
+-- Want of memory is told as itself, wherever it comes from.
+abbrev pub TellsMemory : AppFault → Type 0
+TellsMemory (fault.Instance f) = ¬ (f ≡ instance.OutOfMemory)
+TellsMemory (fault.Solution f) = ¬ (f ≡ solution.OutOfMemory)
+TellsMemory (fault.Proof f) = ¬ (f ≡ check.OutOfMemory) × TellsMemoryOfText f
+TellsMemory _ = ⊤

@@ -8,6 +8,7 @@ ghost use Rattle.tt_proof_check.specs.FailedReads.{IsBrokenOff};
 ghost use Rattle.tt_proof_check.specs.Streams.{IsProved};
 ghost use Rattle.tt_app.specs.Checked.{read_failed};
 ghost use Rattle.tt_app.specs.Bounded.{IsBounded, IsBoundAnswer, TellsOfBound, AnswersBound, IsOfInstance};
+ghost use Rattle.tt_app.specs.Told.{TellsMemory};
 
 use crate::answer::Answer;
 use crate::fault::AppFault;
@@ -45,6 +46,8 @@ pub fn bound<R: Source>(alloc: Global, instance: &[u8], proof: &mut R) -> Result
     // Where one failed, all that the proof's bytes before it say has been judged.
     ensures broken_off { result ≡ Err read_failed → (bytes : List ℕ) → R.remaining proof.old ≡ Some bytes →
         IsBrokenOff instance.now bytes (R.remaining proof.new) }
+    // Want of memory is one answer, wherever it comes from.
+    ensures memory { IfErr result TellsMemory }
 {
     let instance = read_instance(alloc, instance)?;
     let bound = check_proof(alloc, &instance, proof)?;

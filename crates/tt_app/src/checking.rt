@@ -4,6 +4,7 @@ ghost use Rattle.std.specs.Prelude.{◌≡◌, ◌+◌, ℕ, List, Some, Err, tr
 ghost use Rattle.tt_proof_check.specs.FailedReads.{IsBrokenOff};
 ghost use Rattle.tt_proof_check.specs.Headline.{BreaksARule, Certifies};
 ghost use Rattle.tt_app.specs.Checked.{IsChecked, TellsOfCheck, IsOfFiles, AnswersYes, AnswersBroken, IsYesAnswer, IsBrokenAnswer, read_failed};
+ghost use Rattle.tt_app.specs.Told.{TellsMemory};
 
 use crate::answer::Answer;
 use crate::fault::AppFault;
@@ -61,6 +62,8 @@ pub fn check<R: Source>(
     // Where one failed, all that the proof's bytes before it say has been judged.
     ensures broken_off { result ≡ Err read_failed → (bytes : List ℕ) → R.remaining proof.old ≡ Some bytes →
         IsBrokenOff instance.now bytes (R.remaining proof.new) }
+    // Want of memory is one answer, wherever it comes from.
+    ensures memory { IfErr result TellsMemory }
 {
     match certify(alloc, instance, solution, proof)? {
         Verdict::Yes { cost, bound } => Ok(yes_answer(alloc, cost, bound)?),

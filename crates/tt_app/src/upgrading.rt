@@ -8,6 +8,7 @@ ghost use Rattle.tt_proof_check.specs.Streams.{IsProved};
 ghost use Rattle.tt_app.specs.Checked.{read_failed};
 ghost use Rattle.tt_app.specs.Bounded.{IsOfInstance};
 ghost use Rattle.tt_app.specs.Rewritten.{IsRewritten, IsUpgradeAnswer, IsCutShort, TellsOfUpgrade, AnswersUpgrade};
+ghost use Rattle.tt_app.specs.Told.{TellsMemory};
 
 use crate::answer::Answer;
 use crate::fault::AppFault;
@@ -44,6 +45,8 @@ pub fn upgrade<R: Source>(alloc: Global, instance: &[u8], proof: &mut R) -> Resu
     // Where one failed, all that the proof's bytes before it say has been read.
     ensures broken_off { result ≡ Err read_failed → (bytes : List ℕ) → R.remaining proof.old ≡ Some bytes →
         IsCutShort instance.now bytes (R.remaining proof.new) }
+    // Want of memory is one answer, wherever it comes from.
+    ensures memory { IfErr result TellsMemory }
 {
     let instance = read_instance(alloc, instance)?;
     let upgraded = tt_upgrade::upgrade(alloc, &instance, proof)?;

@@ -5,16 +5,21 @@ use Rattle.tt_text.specs.declared.feed.FeedFault.TheVariants as feed
 use Rattle.tt_instance.specs.Problem.{Problem}
 use Rattle.tt_instance.specs.Spelling.{Spells}
 use Rattle.tt_instance.specs.declared.cell.Cell.{Cell}
+use Rattle.tt_instance.specs.declared.fault.InstanceFault.{InstanceFault}
+use Rattle.tt_instance.specs.declared.fault.InstanceFault.TheVariants as instance
 use Rattle.tt_table.specs.Spelling.{SpellsTable}
+use Rattle.tt_table.specs.declared.fault.SolutionFault.{SolutionFault}
+use Rattle.tt_table.specs.declared.fault.SolutionFault.TheVariants as solution
 use Rattle.tt_rules.specs.Score.{IsScore, IsFeasible, hard, cost}
 use Rattle.tt_rules.specs.declared.counts.Score.{Score}
 use Rattle.tt_rules.proofs.Scores.{hard_is, cost_is, feasible_is}
 use Rattle.tt_leaf.specs.declared.leaf.Bound.TheVariants.{AtLeast}
 use Rattle.tt_proof_text.specs.declared.fault.TextFault.TheVariants as text
 use Rattle.tt_proof_check.specs.Derives.{HoldsOfAll}
+use Rattle.tt_proof_check.specs.Faults.{TellsMemoryOfText}
 use Rattle.tt_proof_check.specs.Headline.{SpellsBoth, Solves, BreaksARule, Certifies, BoundsAll}
 use Rattle.tt_proof_check.specs.Streams.{IsProved, IsSilent, stream_of, TellsOf}
-use Rattle.tt_proof_check.specs.Verdicts.{IsYes, IsBroken, TellsOfAll, IsOfFiles, AnswersYes, AnswersBroken, GivesBound, TellsBound, told_check, read_failed}
+use Rattle.tt_proof_check.specs.Verdicts.{IsYes, IsBroken, TellsOfAll, IsOfFiles, AnswersYes, AnswersBroken, GivesBound, TellsBound, TellsMemory, told_instance, told_solution, told_check, read_failed}
 use Rattle.tt_proof_check.specs.declared.fault.CheckFault.{CheckFault}
 use Rattle.tt_proof_check.specs.declared.fault.CheckFault.TheVariants as check
 use Rattle.tt_proof_check.specs.declared.fault.CertifyFault.{CertifyFault}
@@ -58,6 +63,21 @@ bound_not_files check.OutOfMemory of = of
 bound_not_files (check.Text f) of = of
 bound_not_files (check.Rule n f) of = of
 bound_not_files (check.TooDeep n) of = of
+
+-- want of memory is told as itself
+pub memory_instance : (f : InstanceFault) → TellsMemory (told_instance f)
+memory_instance instance.OutOfMemory = tt
+memory_instance f = λ e. cc
+
+pub memory_solution : (f : SolutionFault) → TellsMemory (told_solution f)
+memory_solution solution.OutOfMemory = tt
+memory_solution f = λ e. cc
+
+pub memory_check : (f : CheckFault) → TellsMemoryOfText f → TellsMemory (told_check f)
+memory_check check.OutOfMemory h = tt
+memory_check (check.Text f) h = (λ e. cc, h)
+memory_check (check.Rule n f) h = (λ e. cc, h)
+memory_check (check.TooDeep n) h = (λ e. cc, h)
 
 -- only a failed read is told as one
 pub read_checked : (f : CheckFault) → told_check f ≡ read_failed → f ≡ check.Text (text.Feed feed.Read)

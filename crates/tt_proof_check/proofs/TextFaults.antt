@@ -8,7 +8,7 @@ use Rattle.tt_proof_text.specs.declared.fault.TextFault.{TextFault}
 use Rattle.tt_proof_text.specs.declared.fault.TextFault.TheVariants as text
 use Rattle.tt_proof_check.specs.declared.fault.CheckFault.{CheckFault}
 use Rattle.tt_proof_check.specs.declared.fault.CheckFault.TheVariants as told
-use Rattle.tt_proof_check.specs.Faults.{text_fault}
+use Rattle.tt_proof_check.specs.Faults.{text_fault, TellsMemoryOfText}
 use Rattle.tt_proof_check.specs.Streams.{Fails, IsSilent}
 
 -- a fault of the text is want of memory, or is told as it is
@@ -23,6 +23,10 @@ text_cases (text.TrailingToken at) Q a b = b (λ e. cc)
 text_cases (text.TooManyNodes at) Q a b = b (λ e. cc)
 text_cases (text.Feed f) Q a b = b (λ e. cc)
 text_cases text.OutOfMemory Q a b = a
+
+-- want of memory is told as itself
+pub memory_text : (f : TextFault) → TellsMemoryOfText (text_fault f)
+memory_text f = text_cases f TellsMemoryOfText tt (λ n. n)
 
 -- only a failed read is told as one
 pub read_told : (f : TextFault) → text_fault f ≡ told.Text read_failed → f ≡ read_failed

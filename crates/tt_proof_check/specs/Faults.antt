@@ -1,4 +1,5 @@
--- What a fault of the text is called.
+-- What a fault of the text is called, and how want of memory is told.
+use Rattle.std.specs.Prelude.{◌≡◌, ⊤}
 use Rattle.tt_proof_text.specs.declared.fault.TextFault.{TextFault}
 use Rattle.tt_proof_text.specs.declared.fault.TextFault.TheVariants as text
 use Rattle.tt_proof_check.specs.declared.fault.CheckFault.{CheckFault}
@@ -7,3 +8,8 @@ use Rattle.tt_proof_check.specs.declared.fault.CheckFault.TheVariants.{Text, Out
 abbrev pub text_fault : TextFault → CheckFault
 text_fault text.OutOfMemory = OutOfMemory
 text_fault f = Text f
+
+-- Want of memory is told as itself, and not as a fault of the text.
+abbrev pub TellsMemoryOfText : CheckFault → Type 0
+TellsMemoryOfText (Text f) = ¬ (f ≡ text.OutOfMemory)
+TellsMemoryOfText _ = ⊤

@@ -13,6 +13,7 @@ use Rattle.tt_table.specs.declared.fault.SolutionFault.TheVariants as solution
 use Rattle.tt_rules.specs.Score.{IsScore, IsFeasible}
 use Rattle.tt_rules.specs.declared.counts.Score.{Score}
 use Rattle.tt_proof_text.specs.declared.fault.TextFault.TheVariants as text
+use Rattle.tt_proof_check.specs.Faults.{TellsMemoryOfText}
 use Rattle.tt_proof_check.specs.Headline.{SpellsBoth, Solves, BreaksARule, Certifies, BoundsAll}
 use Rattle.tt_proof_check.specs.Streams.{stream_of, TellsOf}
 use Rattle.tt_proof_check.specs.declared.fault.CheckFault.{CheckFault}
@@ -101,6 +102,13 @@ told_solution f = fault.Solution f
 abbrev pub told_check : CheckFault → CertifyFault
 told_check check.OutOfMemory = fault.OutOfMemory
 told_check f = fault.Proof f
+
+-- Want of memory is told as itself, wherever it comes from.
+abbrev pub TellsMemory : CertifyFault → Type 0
+TellsMemory (fault.Instance f) = ¬ (f ≡ instance.OutOfMemory)
+TellsMemory (fault.Solution f) = ¬ (f ≡ solution.OutOfMemory)
+TellsMemory (fault.Proof f) = ¬ (f ≡ check.OutOfMemory) × TellsMemoryOfText f
+TellsMemory fault.OutOfMemory = ⊤
 
 -- this bound, unless memory runs out or a read fails
 abbrev pub GivesBound : Result ℕ CertifyFault → ℕ → Type 0

@@ -7,7 +7,7 @@ ghost use Rattle.tt_proof_check.specs.Derives.{HoldsOfAll};
 ghost use Rattle.tt_proof_check.specs.FailedReads.{TellsRead, IsBrokenOff};
 ghost use Rattle.tt_proof_check.specs.Headline.{BreaksARule, Certifies};
 ghost use Rattle.tt_proof_check.specs.Streams.{IsProved};
-ghost use Rattle.tt_proof_check.specs.Verdicts.{IsVerdict, TellsOfAll, IsOfFiles, AnswersYes, AnswersBroken, GivesBound, TellsBound, read_failed};
+ghost use Rattle.tt_proof_check.specs.Verdicts.{IsVerdict, TellsOfAll, IsOfFiles, AnswersYes, AnswersBroken, GivesBound, TellsBound, TellsMemory, read_failed};
 
 use crate::fault::{CertifyFault, Verdict};
 use crate::stream::check_proof;
@@ -32,6 +32,7 @@ fn proved_bound<R: Source>(
     ensures fault { IfErr result (λ e. (bytes : List ℕ) → R.remaining proof.old ≡ Some bytes → TellsBound instance.now bytes e) }
     ensures own { IfErr result (λ e. IsOfFiles e → ⊥) }
     ensures failed { result ≡ Err read_failed → R.has_failed proof.new ≡ true }
+    ensures memory { IfErr result TellsMemory }
     ensures broken_off { result ≡ Err read_failed → (bytes : List ℕ) → R.remaining proof.old ≡ Some bytes →
         TellsRead instance.now bytes (R.remaining proof.new) }
 {
@@ -65,6 +66,8 @@ pub fn certify<R: Source>(
     // Where one failed, all that the proof's bytes before it say has been judged.
     ensures broken_off { result ≡ Err read_failed → (bytes : List ℕ) → R.remaining proof.old ≡ Some bytes →
         IsBrokenOff instance.now bytes (R.remaining proof.new) }
+    // Want of memory is one answer, wherever it comes from.
+    ensures memory { IfErr result TellsMemory }
 {
     let instance = read_instance(alloc, instance)?;
     let table = read_solution(alloc, &instance, solution)?;

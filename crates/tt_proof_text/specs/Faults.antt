@@ -28,6 +28,10 @@ is_failed_read _ = false
 abbrev pub TellsNoRead : {X : Type 0} → Result X TextFault → Type 0
 TellsNoRead result = IfErr result (λ f. is_failed_read f ≡ false)
 
+-- no want of memory is told
+abbrev pub TellsNoWant : {X : Type 0} → Result X TextFault → Type 0
+TellsNoWant result = IfErr result (λ f. ¬ (f ≡ fault.OutOfMemory))
+
 -- what was answered, seen by view, is what the text gives, silent faults aside
 abbrev pub Gives : {X Y : Type 0} → (X → Y) → Result X TextFault → Result Y TextFault → Type 0
 Gives view result read = GivesBut is_silent view result read

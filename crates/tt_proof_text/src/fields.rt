@@ -1,10 +1,10 @@
 //! Single tokens of a proof.
 
-ghost use Rattle.std.specs.Prelude.{◌≡◌, ◌≤◌, ◌<◌, true, is_some, IfOk};
+ghost use Rattle.std.specs.Prelude.{◌≡◌, ◌≤◌, ◌<◌, true, is_some, None, IfOk};
 ghost use Rattle.tt_text.specs.Feeds.{stream_at, room_of};
 ghost use Rattle.tt_text.specs.Numbers.{number_of};
 ghost use Rattle.tt_proof_text.specs.Answers.{StaysKnown, TellsReads, ReadsAs, Breaks, BreaksAs};
-ghost use Rattle.tt_proof_text.specs.Faults.{TellsNoRead, Gives};
+ghost use Rattle.tt_proof_text.specs.Faults.{TellsNoRead, TellsNoWant, Gives};
 ghost use Rattle.tt_proof_text.specs.Reading.{token_at, word_at, numbered_below, index_of, course_at, curriculum_at, priced_as, price_at};
 
 use crate::fault::{TextFault, Word};
@@ -18,6 +18,7 @@ const MOST_PRICE: u64 = 1_000_000;
 pub fn token<R: Source>(feed: &mut Feed, source: &mut R) -> Result<usize, TextFault>
     ensures known { StaysKnown (R.remaining source.old) (R.remaining source.new) }
     ensures failed { TellsReads feed.old.fault (R.has_failed source.old) feed.new.fault (R.has_failed source.new) result }
+    ensures memory { feed.old.fault ≡ None → TellsNoWant result }
     ensures forward { IfOk result (λ _. room_of feed.new < room_of feed.old) }
     ensures read { ReadsAs feed.old (R.remaining source.old) feed.new (R.remaining source.new) (λ at. record { text = feed.new.token; at = at }) result token_at }
     ensures broken { BreaksAs feed.old (R.remaining source.old) feed.new (R.remaining source.new) (λ at. record { text = feed.new.token; at = at }) result token_at }
@@ -37,6 +38,7 @@ pub fn token<R: Source>(feed: &mut Feed, source: &mut R) -> Result<usize, TextFa
 pub fn read_word<R: Source>(feed: &mut Feed, source: &mut R, word: Word) -> Result<(), TextFault>
     ensures known { StaysKnown (R.remaining source.old) (R.remaining source.new) }
     ensures failed { TellsReads feed.old.fault (R.has_failed source.old) feed.new.fault (R.has_failed source.new) result }
+    ensures memory { feed.old.fault ≡ None → TellsNoWant result }
     ensures read { is_some (R.remaining source.old) ≡ true →
         Gives (λ _. stream_at feed.new (R.remaining source.new)) result (word_at word (stream_at feed.old (R.remaining source.old))) }
     ensures broken { Breaks feed.old (R.remaining source.old) feed.new (R.remaining source.new) (λ _ s. s) result (word_at word) }

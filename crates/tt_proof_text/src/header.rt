@@ -1,9 +1,9 @@
 //! The header and the end of a proof.
 
-ghost use Rattle.std.specs.Prelude.{◌≡◌, true, is_some};
+ghost use Rattle.std.specs.Prelude.{◌≡◌, true, is_some, None};
 ghost use Rattle.tt_text.specs.Feeds.{stream_at};
 ghost use Rattle.tt_proof_text.specs.Answers.{StaysKnown, TellsReads, ReadsAs, Breaks, BreaksAs};
-ghost use Rattle.tt_proof_text.specs.Faults.{TellsNoRead, Gives};
+ghost use Rattle.tt_proof_text.specs.Faults.{TellsNoRead, TellsNoWant, Gives};
 ghost use Rattle.tt_proof_text.specs.Reading.{version_of, version_at, bound_of, bound_at, header_at, end_at};
 
 use crate::fault::{TextFault, Word};
@@ -82,6 +82,7 @@ pub fn read_header<R: Source>(feed: &mut Feed, source: &mut R) -> Result<(u8, Bo
 pub fn read_end<R: Source>(feed: &mut Feed, source: &mut R) -> Result<(), TextFault>
     ensures known { StaysKnown (R.remaining source.old) (R.remaining source.new) }
     ensures failed { TellsReads feed.old.fault (R.has_failed source.old) feed.new.fault (R.has_failed source.new) result }
+    ensures memory { feed.old.fault ≡ None → TellsNoWant result }
     ensures read { is_some (R.remaining source.old) ≡ true →
         Gives (λ _. stream_at feed.new (R.remaining source.new)) result (end_at (stream_at feed.old (R.remaining source.old))) }
     ensures broken { Breaks feed.old (R.remaining source.old) feed.new (R.remaining source.new) (λ _ s. s) result end_at }

@@ -1,9 +1,9 @@
 //! A proof, node by node.
 
-ghost use Rattle.std.specs.Prelude.{◌≡◌, ◌<◌, ◌==◌, true, is_some, Some, None, Ok, Err, IfOk, IfErr, IfSome};
+ghost use Rattle.std.specs.Prelude.{◌≡◌, ◌<◌, ◌==◌, true, is_some, Some, None, Ok, Err, IfOk, IfErr, IfSome, MatchResult};
 ghost use Rattle.tt_text.specs.Feeds.{stream_at, fresh};
 ghost use Rattle.tt_proof_text.specs.Answers.{StaysKnown, Breaks};
-ghost use Rattle.tt_proof_text.specs.Faults.{read_failed, TellsNoRead, Gives};
+ghost use Rattle.tt_proof_text.specs.Faults.{read_failed, TellsNoRead, TellsNoWant, Gives};
 ghost use Rattle.tt_proof_text.specs.Reading.{header_at, end_at};
 ghost use Rattle.tt_proof_text.specs.Readers.{IsNodeAt, Goes, Says, HeaderBreaks, NodeBreaks};
 ghost use Rattle.tt_proof_text.specs.Sizes.{AreSizes};
@@ -109,6 +109,7 @@ impl NodeReader {
         ensures failed { self.old.fault ≡ None → result ≡ Err read_failed → R.has_failed source.new ≡ true }
         ensures unfailed { self.old.fault ≡ None → TellsNoRead result → R.has_failed source.new ≡ R.has_failed source.old }
         ensures again { IfSome self.old.fault (λ f. (result ≡ Err f) × (self.new ≡ self.old)) }
+        ensures still { IfSome self.old.fault (λ _. source.new ≡ source.old) }
         ensures goes { self.old.fault ≡ None → Goes self.old result self.new }
         ensures room { IfOk result (λ o. IfSome o (λ _. self.old.count < 16777216)) }
         ensures says { self.old.fault ≡ None → is_some (R.remaining source.old) ≡ true →
@@ -156,7 +157,12 @@ impl NodeReader {
         ensures failed { self.old.fault ≡ None → result ≡ Err read_failed → R.has_failed source.new ≡ true }
         ensures unfailed { self.old.fault ≡ None → TellsNoRead result → R.has_failed source.new ≡ R.has_failed source.old }
         ensures again { IfSome self.old.fault (λ f. (result ≡ Err f) × (self.new ≡ self.old)) }
+        ensures still { IfSome self.old.fault (λ _. source.new ≡ source.old) }
         ensures fault { IfErr result (λ f. self.new.fault ≡ Some f) }
+        ensures goes { self.old.fault ≡ None → MatchResult result
+            (λ _. self.new ≡ record self.old { fed = self.new.fed })
+            (λ f. self.new ≡ record self.old { fed = self.new.fed; fault = Some f }) }
+        ensures memory { self.old.fault ≡ None → TellsNoWant result }
         ensures read { self.old.fault ≡ None → is_some (R.remaining source.old) ≡ true →
             Gives (λ _. stream_at self.new.fed (R.remaining source.new)) result (end_at (stream_at self.old.fed (R.remaining source.old))) }
         ensures broken { self.old.fault ≡ None → Breaks self.old.fed (R.remaining source.old) self.new.fed (R.remaining source.new) (λ _ s. s) result end_at }

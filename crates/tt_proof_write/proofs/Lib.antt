@@ -1,4 +1,5 @@
 pub mod AgainLaws
+pub mod ByteLaws
 pub mod DepthLaws
 pub mod Examples
 pub mod FitLaws

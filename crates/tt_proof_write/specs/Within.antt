@@ -45,12 +45,12 @@ abbrev pub IsNodeIn : ℕ → Node → Type 0
 IsNodeIn v (node.Split g) = ⊤
 IsNodeIn v (node.Leaf leaf) = IsLeafIn v leaf
 
--- why nodes were not written: the first of the faults that applies, unless memory is wanting
+-- why nodes were not written: the first of the faults that applies, want of memory last
 abbrev pub Refuses : ℕ → Bound → List Node → WriteFault → Type 0
 Refuses v b nodes NotATree = ¬ IsPreorder nodes
 Refuses v b nodes OverLimit = IsPreorder nodes × ¬ FitsFile v b nodes
 Refuses v b nodes NotInVersion = IsPreorder nodes × FitsFile v b nodes × ¬ All (IsNodeIn v) nodes
-Refuses v b nodes OutOfMemory = IsPreorder nodes
+Refuses v b nodes OutOfMemory = IsPreorder nodes × FitsFile v b nodes × All (IsNodeIn v) nodes
 
 -- what was written
 pub record Writes (v : ℕ) (b : Bound) (nodes : List Node) (bytes : List ℕ) : Type 0 where

@@ -1,32 +1,36 @@
 //! How deep the nodes of a tree stand.
 
-ghost use Rattle.std.specs.Prelude.{◌↔◌, IsTrue, IfOk};
+ghost use Rattle.std.specs.Prelude.{◌↔◌, IsTrue};
 ghost use Rattle.tt_proof_write.specs.Within.{IsPreorder, IsShallow};
 
-use std::alloc::{AllocError, Global};
+use arrayvec::ArrayVec;
 use tt_proof_text::Node;
 
 const MOST_DEPTH: u32 = 65_536;
 
+/// As many second children as can be to come at once.
+const MOST_PENDING: usize = MOST_DEPTH as usize;
+
 /// Whether no node of a tree stands below more splits than a file may have.
-pub fn is_shallow(alloc: Global, nodes: &[Node]) -> Result<bool, AllocError>
+pub fn is_shallow(nodes: &[Node]) -> bool
     requires { IsPreorder nodes.now }
-    ensures { IfOk result (λ b. IsTrue b ↔ IsShallow nodes.now) }
+    ensures { IsTrue result ↔ IsShallow nodes.now }
 {
     let mut depth: u32 = 0;
     // The depths of the second children that are still to come.
-    let mut pending = Vec::new(alloc);
+    let mut pending: ArrayVec<u32, MOST_PENDING> = ArrayVec::new();
     for node in nodes {
-        if depth > MOST_DEPTH {
-            return Ok(false);
-        }
         match node {
             Node::Split(_) => {
+                // Its children would stand too deep.
+                if depth == MOST_DEPTH {
+                    return false;
+                }
                 depth += 1;
-                pending.push(depth)?;
+                pending.push(depth);
             }
             Node::Leaf(_) => depth = pending.pop().unwrap_or(0),
         }
     }
-    Ok(true)
+    true
 }

@@ -7,7 +7,7 @@ use std::alloc::AllocError;
 use std::error::Error;
 use std::fmt;
 
-/// Why a list of nodes can't be written: the first that applies.
+/// Why a list of nodes can't be written: the first in this order that applies.
 #[derive(Clone, Copy, Debug, PartialEq, Eq)]
 pub enum WriteFault {
     /// The nodes are not one tree in preorder.
@@ -16,7 +16,7 @@ pub enum WriteFault {
     OverLimit,
     /// Version 1 was asked for, and a node has a claim of version 2.
     NotInVersion,
-    /// A growth was refused.
+    /// Memory for the text was refused.
     OutOfMemory,
 }
 

@@ -2,13 +2,20 @@
 
 ghost use Rattle.std.specs.Prelude.{◌≡◌, ◌++◌, ◌∷◌, [], IfSome, OnOk, All};
 ghost use Rattle.tt_text.specs.Pieces.{Number, Index};
-ghost use Rattle.tt_proof_text.specs.Spelling.{given_piece, who_piece, pattern_pieces, listed_pieces};
+ghost use Rattle.tt_proof_text.specs.Spelling.{given_piece, who_piece, pattern_pieces, listed_pieces, version_text};
 ghost use Rattle.tt_proof_write.specs.Numbers.{IsNarrow, IsNarrowWho, IsNarrowPattern};
 ghost use Rattle.tt_proof_write.specs.Written.{tail_text};
 
 use std::alloc::AllocError;
 use tt_facts::{Pattern, Who};
 use tt_text::{put_next_number, put_next_token, put_number, put_token};
+
+/// The number of a version.
+pub fn version_text(version: u8) -> &'static [u8]
+    ensures { result.now ≡ version_text version }
+{
+    if version == 1 { b"1" } else { b"2" }
+}
 
 /// A letter and a number.
 pub fn put_index(out: &mut Vec<u8>, letter: u8, number: u32) -> Result<(), AllocError>

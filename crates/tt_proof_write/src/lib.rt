@@ -1,6 +1,7 @@
 //! Proofs of lower bounds to text.
 #![tactic(auto)]
 
+mod bytes;
 mod claims;
 mod depth;
 mod fault;

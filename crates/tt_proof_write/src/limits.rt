@@ -1,11 +1,10 @@
-//! The limits of a file, and the claims of a version.
+//! The limits of a file, and the claims of a version. What is asked here takes no memory.
 
-ghost use Rattle.std.specs.Prelude.{◌↔◌, ◌≤◌, IsTrue, IfOk, All};
+ghost use Rattle.std.specs.Prelude.{◌↔◌, ◌≤◌, IsTrue, All};
 ghost use Rattle.tt_proof_text.specs.Spelling.{IsShortClaim, IsClaimIn, IsBound};
 ghost use Rattle.tt_proof_write.specs.Within.{IsPreorder, HasShortPrices, IsNodeIn, AreWithin};
 
 use crate::depth::is_shallow;
-use std::alloc::{AllocError, Global};
 use tt_leaf::{Bound, Claim, Leaf};
 use tt_proof_text::Node;
 
@@ -63,15 +62,12 @@ fn is_bound(bound: Bound) -> bool
     }
 }
 
-/// Whether a bound and the nodes of a tree are within the limits of a file.
-pub fn are_within(alloc: Global, bound: Bound, nodes: &[Node]) -> Result<bool, AllocError>
+/// Whether a bound and the nodes of a tree are within the limits of a file, its bytes aside.
+pub fn are_within(bound: Bound, nodes: &[Node]) -> bool
     requires { IsPreorder nodes.now }
-    ensures { IfOk result (λ b. IsTrue b ↔ AreWithin bound nodes.now) }
+    ensures { IsTrue result ↔ AreWithin bound nodes.now }
 {
-    if !is_bound(bound) || nodes.len() > MOST_NODES || !have_short_prices(nodes) {
-        return Ok(false);
-    }
-    is_shallow(alloc, nodes)
+    is_bound(bound) && nodes.len() <= MOST_NODES && have_short_prices(nodes) && is_shallow(nodes)
 }
 
 fn is_claim_in(version: u8, claim: &Claim) -> bool

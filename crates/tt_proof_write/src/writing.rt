@@ -9,7 +9,9 @@ ghost use Rattle.tt_proof_write.specs.Numbers.{IsNarrowNode};
 ghost use Rattle.tt_proof_write.specs.Written.{header_pieces, proof_text};
 ghost use Rattle.tt_proof_write.specs.Within.{Refuses, Writes};
 
+use crate::bytes::proof_bytes;
 use crate::fault::WriteFault;
+use crate::fields::version_text;
 use crate::limits::{are_nodes_in, are_within};
 use crate::nodes::put_nodes;
 use crate::tree::is_tree;
@@ -18,13 +20,13 @@ use tt_leaf::Bound;
 use tt_proof_text::{Node, Word};
 use tt_text::{put_line_end, put_next_number, put_next_token, put_token};
 
-const MOST_BYTES: usize = 4_294_967_295;
+const MOST_BYTES: u64 = 4_294_967_295;
 
 fn put_header(out: &mut Vec<u8>, version: u8, bound: Bound) -> Result<(), AllocError>
     ensures { OnOk result (out.new.items ≡ out.old.items ++ line_text (header_pieces version bound)) }
 {
     put_token(out, Word::Cttp.text())?;
-    put_next_token(out, if version == 1 { b"1" } else { b"2" })?;
+    put_next_token(out, version_text(version))?;
     put_next_token(out, Word::Bound.text())?;
     match bound {
         Bound::AtLeast(points) => put_next_number(out, points)?,
@@ -33,16 +35,18 @@ fn put_header(out: &mut Vec<u8>, version: u8, bound: Bound) -> Result<(), AllocE
     put_line_end(out)
 }
 
+/// The text of a proof, in bytes for which there is room from the start.
 fn put_proof(
     alloc: Global,
     version: u8,
     bound: Bound,
     nodes: &[Node],
+    room: usize,
 ) -> Result<Vec<u8>, AllocError>
     ensures text { IfOk result (λ out. out.items ≡ proof_text version bound nodes.now) }
     ensures narrow { OnOk result (All IsNarrowNode nodes.now) }
 {
-    let mut out = Vec::new(alloc);
+    let mut out = Vec::with_capacity(alloc, room)?;
     put_header(&mut out, version, bound)?;
     put_nodes(&mut out, nodes)?;
     put_token(&mut out, Word::End.text())?;
@@ -67,15 +71,12 @@ pub fn write_proof(
     if !is_tree(nodes) {
         return Err(WriteFault::NotATree);
     }
-    if !are_within(alloc, bound, nodes)? {
-        return Err(WriteFault::OverLimit);
-    }
-    let out = put_proof(alloc, version, bound, nodes)?;
-    if out.len() > MOST_BYTES {
+    let bytes = proof_bytes(version, bound, nodes);
+    if bytes > MOST_BYTES || !are_within(bound, nodes) {
         return Err(WriteFault::OverLimit);
     }
     if !are_nodes_in(version, nodes) {
         return Err(WriteFault::NotInVersion);
     }
-    Ok(out)
+    Ok(put_proof(alloc, version, bound, nodes, bytes as usize)?)
 }

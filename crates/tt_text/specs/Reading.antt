@@ -1,5 +1,5 @@
 -- What a reader's answer says of what the text gives: a value, or the first fault from the left.
-use Rattle.std.specs.Prelude.{◌≡◌, ℕ, Bool, Result, Ok, Err, List, [], ◌∷◌}
+use Rattle.std.specs.Prelude.{◌≡◌, Bool, Result, Ok, Err, List, [], ◌∷◌}
 use Rattle.std.specs.Bool.{OnFalse}
 use Rattle.tt_text.specs.Tokens.{Placed}
 

@@ -11,10 +11,15 @@ use Rattle.tt_proof_text.specs.declared.fault.TextFault.TheVariants as text
 use Rattle.tt_proof_text.specs.declared.node.Node.{Node}
 use Rattle.tt_proof_check.specs.Nodes.{IsATree}
 use Rattle.tt_proof_check.specs.Tells.{Tells}
+use Rattle.tt_proof_check.specs.declared.fault.CheckFault.TheVariants as check
 use Rattle.tt_proof_check.specs.declared.fault.NodesFault.{NodesFault}
 use Rattle.tt_proof_check.specs.declared.fault.NodesFault.TheVariants.{NotATree, Rule, TooDeep, OutOfMemory}
 use Rattle.tt_proof_check.proofs.Reading.{root, length-places_of, whole_places, whole_stack}
-use Rattle.tt_upgrade.specs.Faults.{told_text, read_failed, IsOfNode, told_node, TellsOfNodes}
+use Rattle.tt_proof_write.specs.declared.fault.WriteFault.{WriteFault}
+use Rattle.tt_proof_write.specs.declared.fault.WriteFault.TheVariants as write
+use Rattle.tt_upgrade.specs.Faults.{told_text, told_write, read_failed, IsOfNode, told_node, TellsOfNodes, TellsMemory}
+use Rattle.tt_upgrade.specs.declared.fault.UpgradeFault.{UpgradeFault}
+use Rattle.tt_upgrade.specs.declared.fault.UpgradeFault.TheVariants as upgrade
 
 -- a tree has a path for each of its nodes
 paths_of : (tree : Tree) (nodes : List Node) → preorder tree ≡ nodes → length (on_paths [] tree) ≡ length nodes
@@ -51,3 +56,22 @@ read_told (text.TrailingToken at) e = cc
 read_told (text.TooManyNodes at) e = cc
 read_told (text.Feed f) e = cc
 read_told text.OutOfMemory e = cc
+
+-- want of memory is told as itself
+pub memory_text : (f : TextFault) → TellsMemory (told_text f)
+memory_text text.OutOfMemory = tt
+memory_text f = (λ e. cc, λ e. cc)
+
+pub memory_nodes : (p : Problem) (b : Bound) (nodes : List Node) (f : UpgradeFault) → TellsOfNodes p b nodes f → TellsMemory f
+memory_nodes p b nodes (upgrade.Proof (check.Text f)) t = absurd t
+memory_nodes p b nodes (upgrade.Proof (check.Rule i f)) t = (λ e. cc, tt)
+memory_nodes p b nodes (upgrade.Proof (check.TooDeep i)) t = (λ e. cc, tt)
+memory_nodes p b nodes (upgrade.Proof check.OutOfMemory) t = absurd t
+memory_nodes p b nodes upgrade.TooLarge t = tt
+memory_nodes p b nodes upgrade.OutOfMemory t = tt
+
+pub memory_write : (f : WriteFault) → TellsMemory (told_write f)
+memory_write write.NotATree = tt
+memory_write write.OverLimit = tt
+memory_write write.NotInVersion = tt
+memory_write write.OutOfMemory = tt

@@ -7,6 +7,7 @@ use Rattle.tt_proof_text.specs.Trees.{Tree, preorder}
 use Rattle.tt_proof_text.specs.declared.fault.TextFault.{TextFault}
 use Rattle.tt_proof_text.specs.declared.fault.TextFault.TheVariants as text
 use Rattle.tt_proof_text.specs.declared.node.Node.{Node}
+use Rattle.tt_proof_check.specs.Faults.{TellsMemoryOfText}
 use Rattle.tt_proof_check.specs.Tells.{FailsAt, IsDeepAt}
 use Rattle.tt_proof_check.specs.declared.fault.CheckFault.TheVariants as check
 use Rattle.tt_proof_check.specs.declared.fault.NodesFault.{NodesFault}
@@ -47,3 +48,8 @@ TellsOfNodes p b nodes (Proof (check.Rule i f)) = (tree : Tree) × (preorder tre
 TellsOfNodes p b nodes (Proof (check.TooDeep i)) = (tree : Tree) × (preorder tree ≡ nodes) × IsDeepAt p b tree i
 TellsOfNodes p b nodes OutOfMemory = ⊤
 TellsOfNodes p b nodes _ = ⊥
+
+-- Want of memory is told as itself, wherever it comes from.
+abbrev pub TellsMemory : UpgradeFault → Type 0
+TellsMemory (Proof f) = ¬ (f ≡ check.OutOfMemory) × TellsMemoryOfText f
+TellsMemory _ = ⊤

@@ -5,7 +5,7 @@ ghost use Rattle.tt_leaf.specs.declared.leaf.Bound.{Bound};
 ghost use Rattle.tt_proof_check.specs.Derives.{HoldsOfAll, Proves};
 ghost use Rattle.tt_proof_check.specs.Nodes.{IsATree, IsNodeOf};
 ghost use Rattle.tt_proof_check.specs.Streams.{IsProved, stream_of};
-ghost use Rattle.tt_upgrade.specs.Faults.{read_failed, TellsOfNodes};
+ghost use Rattle.tt_upgrade.specs.Faults.{read_failed, TellsOfNodes, TellsMemory};
 ghost use Rattle.tt_upgrade.specs.Texts.{TellsTextRead};
 ghost use Rattle.tt_upgrade.specs.Upgrades.{IsUpgraded, IsSilent, TellsOf};
 
@@ -64,6 +64,8 @@ pub fn upgrade<R: Source>(
     // Where a read fails, all that the bytes before it say has been read.
     ensures broken_off { result ≡ Err read_failed → (bytes : List ℕ) → R.remaining source.old ≡ Some bytes →
         TellsTextRead instance.now bytes (R.remaining source.new) }
+    // Want of memory is one answer, wherever it comes from.
+    ensures memory { IfErr result TellsMemory }
 {
     // What is true of every instance: its numbers are small enough to be read.
     prove!(instance.days() > 0);

@@ -3,6 +3,7 @@ use Rattle.std.proofs.lemmas.Result.{err_from_is_err_and}
 use Rattle.tt_proof_check.proofs.TextFaults.{err_same}
 use Rattle.tt_app.specs.Checked.{read_failed}
 use Rattle.tt_app.proofs.FailedReads.{read_checked}
+use Rattle.tt_app.proofs.ToldMemory.{memory_instance, memory_check}
 use Rattle.tt_app.proofs.DerivedBounds.{spelled_memory, proof_tells, silent_bound, proved_here, bounded}
 use Rattle.tt_app.proofs.bounding.bound.Goals as goal
 
@@ -30,3 +31,13 @@ returns-in_err-bound-clause-broken_off g c =
     λ told bytes known.
     let is = read_checked c.in_err-bound.field-0.0 (err_same c.from_residual-in_err-bound.result _ read_failed c.from_residual-in_err-bound.ensures.1 told) in
     record { problem = c.in_ok-instance.instance; spelled = c.in_ok-instance.ensures.found; tells = c.in_err-bound.ensures.broken_off (ap (λ f. Err f) is) bytes known }
+
+pub returns-in_err-instance-clause-memory : goal.returns-in_err-instance-clause-memory
+returns-in_err-instance-clause-memory g c =
+    let e = err_from_is_err_and c.from_residual.result c.from_residual.ensures.1 in
+    rw (e.1, e.2) (memory_instance c.in_err-instance.field-0.0)
+
+pub returns-in_err-bound-clause-memory : goal.returns-in_err-bound-clause-memory
+returns-in_err-bound-clause-memory g c =
+    let e = err_from_is_err_and c.from_residual-in_err-bound.result c.from_residual-in_err-bound.ensures.1 in
+    rw (e.1, e.2) (memory_check c.in_err-bound.field-0.0 c.in_err-bound.ensures.memory)

@@ -4,6 +4,7 @@ use Rattle.std.proofs.lemmas.Result.{err_from_is_err_and}
 use Rattle.tt_proof_check.proofs.TextFaults.{err_same}
 use Rattle.tt_app.specs.Checked.{read_failed}
 use Rattle.tt_app.proofs.FailedReads.{read_certified}
+use Rattle.tt_app.proofs.ToldMemory.{memory_certify}
 use Rattle.tt_app.proofs.Answering.{tells, yes_told, yes_same}
 use Rattle.tt_app.proofs.checking.check.Goals as goal
 
@@ -29,3 +30,8 @@ returns-in_ok-broken_answer-in-Breaks-clause-yes g c =
 pub returns-in_err-cost-clause-broken_off : goal.returns-in_err-cost-clause-broken_off
 returns-in_err-cost-clause-broken_off g c =
     λ told. c.in_err-cost.ensures.broken_off (ap (λ f. Err f) (read_certified c.in_err-cost.field-0.0 (err_same c.from_residual.result _ read_failed c.from_residual.ensures.1 told)))
+
+pub returns-in_err-cost-clause-memory : goal.returns-in_err-cost-clause-memory
+returns-in_err-cost-clause-memory g c =
+    let e = err_from_is_err_and c.from_residual.result c.from_residual.ensures.1 in
+    rw (e.1, e.2) (memory_certify c.in_err-cost.field-0.0 c.in_err-cost.ensures.memory)

@@ -4,6 +4,7 @@ use Rattle.tt_proof_check.proofs.TextFaults.{err_same}
 use Rattle.tt_app.specs.Checked.{read_failed}
 use Rattle.tt_app.specs.Lines.{bound_line}
 use Rattle.tt_app.proofs.FailedReads.{read_upgraded}
+use Rattle.tt_app.proofs.ToldMemory.{memory_instance, memory_upgrade}
 use Rattle.tt_app.proofs.DerivedBounds.{spelled_memory, proved_here}
 use Rattle.tt_app.proofs.Rewriting.{as_bound, upgrade_tells, rewritten, silent_upgrade}
 use Rattle.tt_app.proofs.upgrading.upgrade.Goals as goal
@@ -37,3 +38,13 @@ returns-in_err-upgraded-clause-broken_off g c =
     λ told bytes known.
     let is = read_upgraded c.in_err-upgraded.field-0.0 (err_same c.from_residual-in_err-upgraded.result _ read_failed c.from_residual-in_err-upgraded.ensures.1 told) in
     record { problem = c.in_ok-instance.instance; spelled = c.in_ok-instance.ensures.found; tells = c.in_err-upgraded.ensures.broken_off (ap (λ f. Err f) is) bytes known }
+
+pub returns-in_err-instance-clause-memory : goal.returns-in_err-instance-clause-memory
+returns-in_err-instance-clause-memory g c =
+    let e = err_from_is_err_and c.from_residual.result c.from_residual.ensures.1 in
+    rw (e.1, e.2) (memory_instance c.in_err-instance.field-0.0)
+
+pub returns-in_err-upgraded-clause-memory : goal.returns-in_err-upgraded-clause-memory
+returns-in_err-upgraded-clause-memory g c =
+    let e = err_from_is_err_and c.from_residual-in_err-upgraded.result c.from_residual-in_err-upgraded.ensures.1 in
+    rw (e.1, e.2) (memory_upgrade c.in_err-upgraded.field-0.0 c.in_err-upgraded.ensures.memory)

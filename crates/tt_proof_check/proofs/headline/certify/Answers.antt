@@ -3,7 +3,7 @@ use Rattle.std.proofs.lemmas.Result.{err_from_is_err_and}
 use Rattle.tt_proof_check.specs.Verdicts.{IsYes, read_failed}
 use Rattle.tt_proof_check.proofs.TextFaults.{err_same}
 use Rattle.tt_proof_check.proofs.Files.{tells_instance, tells_solution}
-use Rattle.tt_proof_check.proofs.Certifying.{certified_memory, broken_memory, points, no_points, not_certified, broken_found, is_feasible, not_broken, bound_tells, certified_proof, certified_cost, yes_found}
+use Rattle.tt_proof_check.proofs.Certifying.{memory_instance, memory_solution, certified_memory, broken_memory, points, no_points, not_certified, broken_found, is_feasible, not_broken, bound_tells, certified_proof, certified_cost, yes_found}
 use Rattle.tt_proof_check.proofs.headline.certify.Goals as goal
 
 pub returns-in_err-instance-clause-yes : goal.returns-in_err-instance-clause-yes
@@ -73,3 +73,13 @@ returns-in_err-bound-clause-broken_off g c =
     λ told bytes known.
     let is = err_same c.from_residual-in_err-bound.result c.in_err-bound.field-0.0 read_failed c.from_residual-in_err-bound.ensures.1 told in
     record { problem = c.in_ok-instance.instance; spelled = c.in_ok-instance.ensures.found; tells = c.in_err-bound.ensures.broken_off (ap (λ x. Err x) is) bytes known }
+
+pub returns-in_err-instance-clause-memory : goal.returns-in_err-instance-clause-memory
+returns-in_err-instance-clause-memory g c =
+    let e = err_from_is_err_and c.from_residual.result c.from_residual.ensures.1 in
+    rw (e.1, e.2) (memory_instance c.in_err-instance.field-0.0)
+
+pub returns-in_err-table-clause-memory : goal.returns-in_err-table-clause-memory
+returns-in_err-table-clause-memory g c =
+    let e = err_from_is_err_and c.from_residual-in_err-table.result c.from_residual-in_err-table.ensures.1 in
+    rw (e.1, e.2) (memory_solution c.in_err-table.field-0.0)

@@ -5,9 +5,10 @@ use Rattle.tt_proof_text.specs.Faults.{read_failed, is_failed_read}
 use Rattle.tt_proof_text.specs.Readers.{Reader}
 use Rattle.tt_proof_check.specs.declared.fault.CheckFault.TheVariants.{Text}
 use Rattle.tt_proof_check.specs.declared.walk.Stop.TheVariants.{Rule, TooDeep}
+use Rattle.tt_proof_check.specs.Faults.{TellsMemoryOfText}
 use Rattle.tt_proof_check.specs.Judged.{TellsNodes}
 use Rattle.tt_proof_check.proofs.Streaming.{sofar_start, sofar_next, sofar_wrong, sofar_deep, sofar_end, sofar_unread, sofar_breaks, sofar_deep_breaks}
-use Rattle.tt_proof_check.proofs.TextFaults.{err_gives, err_read}
+use Rattle.tt_proof_check.proofs.TextFaults.{memory_text, err_gives, err_read}
 use Rattle.tt_proof_check.proofs.Walking.{steps_as, stops_as}
 use Rattle.tt_proof_check.proofs.stream.judge.Goals as goal
 
@@ -185,3 +186,8 @@ returns-clause-broken g c =
     let here = e.broken inv.sofar.sound (inv.known k) rest m in
     let first = inv.failing k rest here.0 in
     (first.0, sofar_end _ _ _ true _ old _ path first.1 new _ (e.goes inv.sofar.sound) (λ _. here.1))
+
+pub returns-in_err-node-clause-memory : goal.returns-in_err-node-clause-memory
+returns-in_err-node-clause-memory g c =
+    let f = c.in_err-node.field-0.0 in
+    err_gives c.from_residual.result f TellsMemoryOfText c.from_residual.ensures.1 (memory_text f)

@@ -3,9 +3,10 @@ use Rattle.tt_text.specs.Feeds.{stream_at, fresh}
 use Rattle.tt_proof_text.specs.Faults.{read_failed, is_failed_read}
 use Rattle.tt_leaf.specs.declared.leaf.Bound.{Bound}
 use Rattle.tt_proof_check.specs.declared.fault.CheckFault.TheVariants.{Text}
+use Rattle.tt_proof_check.specs.Faults.{TellsMemoryOfText}
 use Rattle.tt_proof_check.specs.Judged.{Proved}
 use Rattle.tt_proof_check.specs.Streams.{TellsOf}
-use Rattle.tt_proof_check.proofs.TextFaults.{text_cases, err_gives, err_read, err_same}
+use Rattle.tt_proof_check.proofs.TextFaults.{memory_text, text_cases, err_gives, err_read, err_same}
 use Rattle.tt_proof_check.proofs.stream.read_proof.Goals as goal
 
 pub returns-in_err-finish-clause-fault : goal.returns-in_err-finish-clause-fault
@@ -92,3 +93,13 @@ returns-in_err-finish-clause-broken_off g c =
         ),
       ),
     )
+
+pub returns-in_err-reader-clause-memory : goal.returns-in_err-reader-clause-memory
+returns-in_err-reader-clause-memory g c =
+    let f = c.in_err-reader.field-0.0 in
+    err_gives c.from_residual.result f TellsMemoryOfText c.from_residual.ensures.1 (memory_text f)
+
+pub returns-in_err-finish-clause-memory : goal.returns-in_err-finish-clause-memory
+returns-in_err-finish-clause-memory g c =
+    let f = c.in_err-finish.field-0.0 in
+    err_gives c.from_residual-in_err-finish.result f TellsMemoryOfText c.from_residual-in_err-finish.ensures.1 (memory_text f)

@@ -16,5 +16,5 @@ returns-clause-narrow c = on_ok c.put_next_token.result (All_done IsNarrowClaim 
 
 pub returns-clause-text : goal.returns-clause-text
 returns-clause-text c =
-    IfOk-equal c.put_next_token.result _ _ _ c.put_next_token.ensures
+    IfOk-equal c.put_next_token.result _ _ _ c.put_next_token.ensures.ok
     (pieces_behind _ _ _ _ _ (rows_written claim_pieces c.args.claims.now c.loop-claim.claim-index c.args.out.now.items c.loop-claim.out.items c.loop-claim.invariant.text c.loop-claim-test.false) refl)

@@ -14,5 +14,5 @@ loop-course-preserved c = record {
 
 pub returns-clause-text : goal.returns-clause-text
 returns-clause-text c =
-    IfOk-equal c.put_next_token.result _ _ _ c.put_next_token.ensures
+    IfOk-equal c.put_next_token.result _ _ _ c.put_next_token.ensures.ok
     (pieces_behind _ _ _ _ _ (pieces_written course_piece c.args.courses.now c.loop-course.course-index c.args.out.now.items c.loop-course.out.items c.loop-course.invariant.text c.loop-course-test.false) refl)

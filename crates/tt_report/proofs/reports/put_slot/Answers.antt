@@ -13,4 +13,4 @@ pub returns : goal.returns
 returns c =
     on_ok_weaker c.put_line_end.result (slot_put c.args.instance.now c.args.block c.args.by_period.now.entries c.in_period-entries.result c.args.day c.args.period c.from.result c.from-2.result
     c.args.out.now.items c.put_number.new.out.items c.put_next_number.new.out.items c.put_entries.new.out.items c.put_line_end.new.out.items
-    c.from.ensures c.from-2.ensures c.in_ok-put_number.ensures.ok c.in_ok-put_next_number.ensures c.in_period-entries.ensures.group c.in_ok-put_entries.ensures) c.put_line_end.ensures
+    c.from.ensures c.from-2.ensures c.in_ok-put_number.ensures.ok c.in_ok-put_next_number.ensures.ok c.in_period-entries.ensures.group c.in_ok-put_entries.ensures) c.put_line_end.ensures.ok

@@ -7,7 +7,7 @@ use Rattle.tt_proof_check.specs.Streams.{stream_of}
 use Rattle.tt_proof_check.proofs.Soundness.{proof_sound}
 use Rattle.tt_proof_check.proofs.TextFaults.{err_same}
 use Rattle.tt_upgrade.specs.Faults.{read_failed}
-use Rattle.tt_upgrade.proofs.Faults.{read_told}
+use Rattle.tt_upgrade.proofs.Faults.{read_told, memory_text, memory_nodes, memory_write}
 use Rattle.tt_upgrade.proofs.Written.{nodes_tell, write_tells, upgraded, text_tells, bound_read, silent}
 use Rattle.tt_upgrade.proofs.upgrading.upgrade.Goals as goal
 
@@ -62,3 +62,18 @@ returns-clause-holds g c =
 pub returns-in_err-read-clause-broken_off : goal.returns-in_err-read-clause-broken_off
 returns-in_err-read-clause-broken_off g c =
     λ told. c.in_err-read.ensures.broken_off (ap (λ f. Err f) (read_told c.in_err-read.field-0.0 (err_same c.from_residual.result _ read_failed c.from_residual.ensures.1 told)))
+
+pub returns-in_err-read-clause-memory : goal.returns-in_err-read-clause-memory
+returns-in_err-read-clause-memory g c =
+    let e = err_from_is_err_and c.from_residual.result c.from_residual.ensures.1 in
+    rw (e.1, e.2) (memory_text c.in_err-read.field-0.0)
+
+pub returns-in_err-judge-clause-memory : goal.returns-in_err-judge-clause-memory
+returns-in_err-judge-clause-memory g c =
+    let e = err_from_is_err_and c.from_residual-in_err-judge.result c.from_residual-in_err-judge.ensures.1 in
+    rw (e.1, e.2) (memory_nodes _ _ _ c.in_err-judge.field-0.0 c.in_err-judge.ensures.fault)
+
+pub returns-in_err-bytes-clause-memory : goal.returns-in_err-bytes-clause-memory
+returns-in_err-bytes-clause-memory g c =
+    let e = err_from_is_err_and c.from_residual-in_err-bytes.result c.from_residual-in_err-bytes.ensures.1 in
+    rw (e.1, e.2) (memory_write c.in_err-bytes.field-0.0)
