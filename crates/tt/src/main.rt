@@ -1,14 +1,34 @@
 //! The program `tt`: the words of its command line go to `tt_app::run`.
 #![tactic(auto)]
 
+use std::io::{ErrorKind, Write};
 use std::process::ExitCode;
+use std::rt::Env;
 use std::{env, io};
+use tt_app::AppFault;
 
-fn main(rt: HostRuntime) -> io::Result<ExitCode> {
+/// The words of the command line, without the program's own name.
+fn words<R: Env + AllocGlobal>(rt: &R) -> io::Result<Vec<String>> {
     let mut words = Vec::new(rt.alloc());
-    for word in env::args(&rt)?.skip(1) {
+    for word in env::args(rt)?.skip(1) {
         words.push(word)?;
     }
-    let status = tt_app::run(&rt, &words, &mut rt.stdout(), &mut rt.stderr());
-    Ok(ExitCode::from(status))
+    Ok(words)
+}
+
+/// Tells why there are no words, and gives the status.
+fn refused<E: Write>(fault: io::Error, err: &mut E) -> u8 {
+    let _ = match fault.kind() {
+        ErrorKind::OutOfMemory => writeln!(err, "refused: {}", AppFault::OutOfMemory),
+        _ => writeln!(err, "error: a word is not UTF-8"),
+    };
+    2
+}
+
+fn main(rt: HostRuntime) -> ExitCode {
+    let status = match words(&rt) {
+        Ok(words) => tt_app::run(&rt, &words, &mut rt.stdout(), &mut rt.stderr()),
+        Err(fault) => refused(fault, &mut rt.stderr()),
+    };
+    ExitCode::from(status)
 }

@@ -75,6 +75,10 @@ fn missing_files(rt: HostRuntime) -> Result<(), Fail> {
             "refused: solution: UnknownCourse at byte 0\n",
         ),
         (
+            ["check", "a.ctt", "a.sol", "none"].as_slice(),
+            "refused: proof: cannot read\n",
+        ),
+        (
             ["validate", "none", "a.sol"].as_slice(),
             "refused: instance: cannot read\n",
         ),
@@ -85,6 +89,32 @@ fn missing_files(rt: HostRuntime) -> Result<(), Fail> {
     ] {
         let outcome = run_words(rt.alloc(), words, &files)?;
         assert_eq!(rt; outcome.told(), (2, "", err));
+    }
+    Ok(())
+}
+
+#[test]
+fn missing_files_of_proofs(rt: HostRuntime) -> Result<(), Fail> {
+    let bad = StoredFile::new("bad", b"bad");
+    let [instance, _, _] = wide_files([0, 0, 0]);
+    let files = [bad, instance];
+    for (instance, proof, err) in [
+        ("none", "none", "refused: instance: cannot read\n"),
+        ("a.ctt", "none", "refused: proof: cannot read\n"),
+        ("bad", "none", "refused: proof: cannot read\n"),
+        (
+            "bad",
+            "bad",
+            "refused: instance: Expected Name: at byte 0\n",
+        ),
+    ] {
+        for words in [
+            ["bound", instance, proof].as_slice(),
+            ["upgrade", instance, proof, "a.out"].as_slice(),
+        ] {
+            let outcome = run_words(rt.alloc(), words, &files)?;
+            assert_eq!(rt; outcome.told(), (2, "", err), "{words:?}");
+        }
     }
     Ok(())
 }
@@ -133,6 +163,10 @@ fn words_that_ask_for_nothing(rt: HostRuntime) -> Result<(), Fail> {
         ["validate", "a.ctt"].as_slice(),
         ["validate", "a.ctt", "a.sol", "a.proof"].as_slice(),
         ["check", "a.ctt", "a.sol"].as_slice(),
+        ["bound"].as_slice(),
+        ["bound", "a.ctt"].as_slice(),
+        ["upgrade"].as_slice(),
+        ["upgrade", "a.ctt", "a.proof"].as_slice(),
         ["--loud"].as_slice(),
         [""].as_slice(),
     ] {
@@ -149,6 +183,8 @@ fn help_is_no_refusal(rt: HostRuntime) -> Result<(), Fail> {
         ["--help"].as_slice(),
         ["validate", "--help"].as_slice(),
         ["check", "--help"].as_slice(),
+        ["bound", "--help"].as_slice(),
+        ["upgrade", "--help"].as_slice(),
     ] {
         let outcome = run_words(rt.alloc(), words, &[])?;
         assert_eq!(rt; (outcome.status, outcome.err.as_str()), (0, ""));

@@ -32,6 +32,8 @@ mod searching;
 #[cfg(test)]
 mod shelf;
 #[cfg(test)]
+mod sources;
+#[cfg(test)]
 mod tables;
 #[cfg(test)]
 mod trees;

@@ -97,13 +97,12 @@ fn solutions(rt: HostRuntime) -> Result<(), Fail> {
         ("a R 0 0 b R", "Ended at byte 11"),
         ("a R 0 0 b R \n", "Ended at byte 13"),
     ] {
-        let outcome = validated(rt.alloc(), MINI, solution)?;
         let refused = format!(in rt.alloc(); "refused: solution: {fault}\n")?;
-        assert_eq!(rt;
-            outcome.told(),
-            (2, "", refused.as_str()),
-            "with {solution}"
-        );
+        let told = (2, "", refused.as_str());
+        let outcome = validated(rt.alloc(), MINI, solution)?;
+        assert_eq!(rt; outcome.told(), told, "with {solution}");
+        let outcome = checked(rt.alloc(), MINI, solution, "CTTP 1 bound 0 B ; end")?;
+        assert_eq!(rt; outcome.told(), told, "with {solution}");
     }
     Ok(())
 }

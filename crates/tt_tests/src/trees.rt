@@ -82,6 +82,7 @@ fn bounds_that_hold(rt: HostRuntime) -> Result<(), Fail> {
             "bound 5\n",
         ),
         (WIDE, "CTTP 2 bound 5 B T c0 ; end", "bound 5\n"),
+        (MINI, "CTTP 2 bound 0 B P / P r0 7 / P / ; end", "bound 0\n"),
     ] {
         let outcome = bounded(rt.alloc(), instance, proof)?;
         assert_eq!(rt; outcome.told(), (0, out, ""), "of {proof}");
@@ -171,8 +172,10 @@ fn a_second_child_that_is_wrong(rt: HostRuntime) -> Result<(), Fail> {
 
 #[test]
 fn texts_that_are_wrong(rt: HostRuntime) -> Result<(), Fail> {
+    let longer = format!(in rt.alloc(); "{GAP_PROOF}x")?;
     for (instance, proof, fault) in [
         (GAP, &GAP_PROOF[..64], "Ended at byte 64"),
+        (GAP, longer.as_str(), "TrailingToken at byte 124"),
         (MINI, "CTTP 1 bound 1 M c2 end", "UnknownIndex at byte 17"),
         (
             MINI,
