@@ -1,12 +1,11 @@
 //! The files that a command reads and writes.
 
 use crate::fault::{AppFault, Input};
-use crate::whole::{WholeFault, read_whole};
 use std::fs;
 use std::fs::OpenOptions;
 use std::io::{ErrorKind, Write};
 use std::rt::Files;
-use tt_text::Reading;
+use tt_text::{Reading, WholeFault, read_whole};
 
 /// The most bytes of an instance file and of a solution file.
 pub const MAX_BYTES: usize = 67_108_864;

@@ -15,7 +15,6 @@ mod requests;
 mod stored;
 mod upgrading;
 mod validation;
-mod whole;
 
 pub use answer::Answer;
 pub use bounding::bound;
@@ -26,4 +25,3 @@ pub use improving::improve;
 pub use reporting::report;
 pub use upgrading::upgrade;
 pub use validation::validate;
-pub use whole::{WholeFault, read_whole};

@@ -3,7 +3,7 @@
 use crate::samples::{GAP, MINI, TOUR, TRIO, WIDE, edited};
 use std::alloc::{AllocError, Global};
 use std::test::Fail;
-use tt_app::{WholeFault, read_whole};
+use tt_text::{WholeFault, read_whole};
 use tt_instance::{InstanceFault, read_instance, write_instance};
 use tt_text::{Pieces, Source};
 

@@ -4,7 +4,7 @@ use crate::samples::{MINI, WIDE};
 use std::io;
 use std::io::{Error, ErrorKind, Read};
 use std::test::Fail;
-use tt_app::{WholeFault, read_whole};
+use tt_text::{WholeFault, read_whole};
 use tt_instance::read_instance;
 use tt_leaf::Bound;
 use tt_proof_text::{NodeReader, TextFault};

@@ -1,9 +1,9 @@
 //! The whole of a source.
 
-ghost use Rattle.std.specs.Prelude.{◌≡◌, ◌<◌, ◌≤◌, true, length, IfOk, IfSome, IsErrOf, OnOk};
+ghost use Rattle.std.specs.Prelude.{◌≡◌, ◌<◌, ◌≤◌, true, length, IfOk, IfSome, IsErrOf};
 
+use crate::source::Source;
 use std::alloc::Global;
-use tt_text::Source;
 
 /// Why a source was not read whole.
 #[derive(Clone, Copy, Debug, PartialEq, Eq)]
@@ -25,9 +25,9 @@ pub fn read_whole<R: Source>(
 ) -> Result<Vec<u8>, WholeFault>
     ensures whole { IfOk result (λ v. IfSome (R.remaining source.old) (λ bytes. v.items ≡ bytes)) }
     ensures within { IfOk result (λ v. length v.items ≤ limit) }
-    ensures calm { OnOk result (R.has_failed source.new ≡ R.has_failed source.old) }
     ensures too_long { IsErrOf result WholeFault.TooLong → IfSome (R.remaining source.old) (λ bytes. limit < length bytes) }
     ensures failed { IsErrOf result WholeFault.Read → R.has_failed source.new ≡ true }
+    ensures unfailed { ¬ (IsErrOf result WholeFault.Read) → R.has_failed source.new ≡ R.has_failed source.old }
 {
     let mut bytes = Vec::new(alloc);
     let mut piece = [0u8; PIECE];
