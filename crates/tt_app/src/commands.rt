@@ -1,7 +1,6 @@
 //! The program: words in, texts and a status out.
 
 use crate::answer::Answer;
-use crate::cli::{Request, parse_words};
 use crate::fault::AppFault;
 use crate::requests::{
     answer_bound, answer_check, answer_improve, answer_stored, answer_upgrade, answer_validate,
@@ -10,6 +9,7 @@ use crate::requests::{
 use clap::error::ErrorKind;
 use std::io::Write;
 use std::rt::Files;
+use tt_arguments::{Request, parse_arguments};
 
 /// Tells of a refusal, and gives its status.
 fn refused<E: Write>(fault: AppFault, err: &mut E) -> u8 {
@@ -102,7 +102,7 @@ pub fn run<R: Files + AllocGlobal, O: Write, E: Write>(
     if words.is_empty() {
         return told(answer_stored(rt), out, err);
     }
-    match parse_words(rt.alloc(), words) {
+    match parse_arguments(rt.alloc(), words) {
         Ok(Some(asked)) => answered(rt, &asked, out, err),
         Ok(None) => 2,
         Err(fault) => told_words(&fault, out, err),

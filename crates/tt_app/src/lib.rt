@@ -4,7 +4,6 @@
 mod answer;
 mod bounding;
 mod checking;
-mod cli;
 mod commands;
 mod disk;
 mod fault;

@@ -3,7 +3,6 @@
 use crate::answer::Answer;
 use crate::bounding::bound;
 use crate::checking::check;
-use crate::cli::Search;
 use crate::disk::{read_file, write_file};
 use crate::fault::{AppFault, Input};
 use crate::improving::improve;
@@ -14,6 +13,7 @@ use crate::validation::validate;
 use std::fs;
 use std::io::Write;
 use std::rt::Files;
+use tt_arguments::Search;
 use tt_report::{By, Writing};
 use tt_text::{Pieces, Reading};
 

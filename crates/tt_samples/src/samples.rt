@@ -1,0 +1,70 @@
+//! Instances and solutions that several tests share.
+
+use std::alloc::{AllocError, Global};
+use std::test::Fail;
+
+/// Two courses in one curriculum, a room that is too small for the second, and three periods of one day.
+pub const MINI: &str =
+    "Name: Mini\nCourses: 2\nRooms: 1\nDays: 1\nPeriods_per_day: 3\nCurricula: 1\nConstraints: 0\n\nCOURSES:\na t1 1 1 10\nb t2 1 1 12\n\nROOMS:\nR 11\n\nCURRICULA:\nq 2 a b\n\nUNAVAILABILITY_CONSTRAINTS:\n\nEND.\n";
+
+/// Mini, where no course has a lecture in the middle period.
+pub const GAP: &str =
+    "Name: Gap\nCourses: 2\nRooms: 1\nDays: 1\nPeriods_per_day: 3\nCurricula: 1\nConstraints: 2\n\nCOURSES:\na t1 1 1 10\nb t2 1 1 12\n\nROOMS:\nR 11\n\nCURRICULA:\nq 2 a b\n\nUNAVAILABILITY_CONSTRAINTS:\na 0 1\nb 0 1\n\nEND.\n";
+
+/// Mini over two days of one period.
+pub const LONG: &str =
+    "Name: Long\nCourses: 2\nRooms: 1\nDays: 2\nPeriods_per_day: 1\nCurricula: 1\nConstraints: 0\n\nCOURSES:\na t1 1 1 10\nb t2 1 1 12\n\nROOMS:\nR 11\n\nCURRICULA:\nq 2 a b\n\nUNAVAILABILITY_CONSTRAINTS:\n\nEND.\n";
+
+/// One course of two lectures, wanted on three of five days.
+pub const WIDE: &str =
+    "Name: Wide\nCourses: 1\nRooms: 1\nDays: 5\nPeriods_per_day: 1\nCurricula: 0\nConstraints: 0\n\nCOURSES:\na t1 2 3 10\n\nROOMS:\nR 11\n\nCURRICULA:\n\nUNAVAILABILITY_CONSTRAINTS:\n\nEND.\n";
+
+/// Two courses that exclude each other by nothing, and one room in one period.
+pub const APART: &str =
+    "Name: Apart\nCourses: 2\nRooms: 1\nDays: 1\nPeriods_per_day: 1\nCurricula: 0\nConstraints: 0\n\nCOURSES:\nx t1 1 1 1\ny t2 1 1 1\n\nROOMS:\nA 10\n\nCURRICULA:\n\nUNAVAILABILITY_CONSTRAINTS:\n\nEND.\n";
+
+/// Two courses of one teacher, and two rooms in one period.
+pub const SAME: &str =
+    "Name: Same\nCourses: 2\nRooms: 2\nDays: 1\nPeriods_per_day: 1\nCurricula: 0\nConstraints: 0\n\nCOURSES:\nx t 1 1 1\ny t 1 1 1\n\nROOMS:\nA 10\nB 10\n\nCURRICULA:\n\nUNAVAILABILITY_CONSTRAINTS:\n\nEND.\n";
+
+/// Two courses, and two rooms in one period, of which one is too small for either.
+pub const SEATS: &str =
+    "Name: Seats\nCourses: 2\nRooms: 2\nDays: 1\nPeriods_per_day: 1\nCurricula: 0\nConstraints: 0\n\nCOURSES:\nx t1 1 1 10\ny t2 1 1 10\n\nROOMS:\nA 10\nB 5\n\nCURRICULA:\n\nUNAVAILABILITY_CONSTRAINTS:\n\nEND.\n";
+
+/// Three courses in one curriculum, and one room in one period.
+pub const TRIO: &str =
+    "Name: Trio\nCourses: 3\nRooms: 1\nDays: 1\nPeriods_per_day: 1\nCurricula: 1\nConstraints: 0\n\nCOURSES:\nx t1 1 1 1\ny t2 1 1 1\nz t3 1 1 1\n\nROOMS:\nA 10\n\nCURRICULA:\nq 3 x y z\n\nUNAVAILABILITY_CONSTRAINTS:\n\nEND.\n";
+
+/// One course of three lectures, and two rooms on three days of one period.
+pub const TOUR: &str =
+    "Name: Tour\nCourses: 1\nRooms: 2\nDays: 3\nPeriods_per_day: 1\nCurricula: 0\nConstraints: 0\n\nCOURSES:\nx t1 3 3 1\n\nROOMS:\nA 10\nB 10\n\nCURRICULA:\n\nUNAVAILABILITY_CONSTRAINTS:\n\nEND.\n";
+
+/// Both lectures of Wide, on days of their own.
+pub const WIDE_SOLUTION: &str = "a R 0 0\na R 1 0\n";
+
+/// A course of four lectures, four periods of one day and two rooms.
+pub const FLAT: &str =
+    "Name: Flat\nCourses: 1\nRooms: 2\nDays: 1\nPeriods_per_day: 4\nCurricula: 0\nConstraints: 0\n\nCOURSES:\nx t 4 1 1\n\nROOMS:\nA 10\nB 10\n\nCURRICULA:\n\nUNAVAILABILITY_CONSTRAINTS:\n\nEND.\n";
+
+/// Its lectures in both rooms, which no single step makes better.
+pub const FLAT_SOLUTION: &str = "x A 0 0\nx A 0 1\nx B 0 2\nx B 0 3\n";
+
+/// Both lectures of Mini, each alone.
+pub const MINI_SOLUTION: &str = "a R 0 0\nb R 0 2\n";
+
+/// A text with other words at the first place of some.
+pub fn edited(alloc: Global, text: &str, old: &str, new: &str) -> Result<String, Fail> {
+    match text.split_once(old) {
+        Some((before, after)) => Ok(format!(in alloc; "{before}{new}{after}")?),
+        None => Err(Fail::new(format_args!("{old} is not there"))),
+    }
+}
+
+/// A text so many times.
+pub fn repeated(alloc: Global, text: &str, times: usize) -> Result<String, AllocError> {
+    let mut all = String::new(alloc);
+    for _ in 0..times {
+        all.push_str(text)?;
+    }
+    Ok(all)
+}

@@ -1,0 +1,222 @@
+//! The files and the words of a command line.
+
+use crate::commands::run_words;
+use crate::disk::{Disk, StoredFile};
+use tt_samples::{WIDE, WIDE_SOLUTION};
+use std::alloc::{AllocError, Global};
+use std::io;
+use std::io::{Error, ErrorKind, Write};
+use std::test::Fail;
+use tt_app::run;
+
+const PROOF: &[u8] = b"CTTP 1 bound 5 B D c0 ; end";
+
+const WORDS: [&str; 4] = ["check", "a.ctt", "a.sol", "a.proof"];
+
+/// The files of a check by their reads that fail.
+fn wide_files(fails_at: [u64; 3]) -> [StoredFile<'static>; 3] {
+    let [instance, solution, proof] = fails_at;
+    [
+        StoredFile {
+            path: "a.ctt",
+            bytes: WIDE.as_bytes(),
+            fails_at: instance,
+        },
+        StoredFile {
+            path: "a.sol",
+            bytes: WIDE_SOLUTION.as_bytes(),
+            fails_at: solution,
+        },
+        StoredFile {
+            path: "a.proof",
+            bytes: PROOF,
+            fails_at: proof,
+        },
+    ]
+}
+
+#[test]
+fn failed_reads(rt: HostRuntime) -> Result<(), Fail> {
+    for (fails_at, status, out, err) in [
+        ([0, 0, 0], 0, "yes cost 5 bound 5 optimal\n", ""),
+        ([1, 1, 1], 2, "", "refused: instance: cannot read\n"),
+        ([2, 0, 0], 2, "", "refused: instance: cannot read\n"),
+        ([0, 1, 1], 2, "", "refused: solution: cannot read\n"),
+        ([0, 2, 0], 2, "", "refused: solution: cannot read\n"),
+        ([0, 0, 1], 2, "", "refused: proof: Read\n"),
+        ([0, 0, 2], 2, "", "refused: proof: Read\n"),
+    ] {
+        let outcome = run_words(rt.alloc(), &WORDS, &wide_files(fails_at))?;
+        assert_eq!(rt; outcome.told(), (status, out, err), "at {fails_at:?}");
+    }
+    Ok(())
+}
+
+#[test]
+fn missing_files(rt: HostRuntime) -> Result<(), Fail> {
+    let bad = StoredFile::new("bad", b"bad");
+    let [instance, solution, _] = wide_files([0, 0, 0]);
+    let files = [bad, instance, solution];
+    for (words, err) in [
+        (
+            ["check", "none", "none", "none"].as_slice(),
+            "refused: instance: cannot read\n",
+        ),
+        (
+            ["check", "bad", "none", "none"].as_slice(),
+            "refused: solution: cannot read\n",
+        ),
+        (
+            ["check", "bad", "bad", "none"].as_slice(),
+            "refused: proof: cannot read\n",
+        ),
+        (
+            ["check", "a.ctt", "bad", "bad"].as_slice(),
+            "refused: solution: UnknownCourse at byte 0\n",
+        ),
+        (
+            ["check", "a.ctt", "a.sol", "none"].as_slice(),
+            "refused: proof: cannot read\n",
+        ),
+        (
+            ["validate", "none", "a.sol"].as_slice(),
+            "refused: instance: cannot read\n",
+        ),
+        (
+            ["validate", "a.ctt", "none"].as_slice(),
+            "refused: solution: cannot read\n",
+        ),
+    ] {
+        let outcome = run_words(rt.alloc(), words, &files)?;
+        assert_eq!(rt; outcome.told(), (2, "", err));
+    }
+    Ok(())
+}
+
+#[test]
+fn missing_files_of_proofs(rt: HostRuntime) -> Result<(), Fail> {
+    let bad = StoredFile::new("bad", b"bad");
+    let [instance, _, _] = wide_files([0, 0, 0]);
+    let files = [bad, instance];
+    for (instance, proof, err) in [
+        ("none", "none", "refused: instance: cannot read\n"),
+        ("a.ctt", "none", "refused: proof: cannot read\n"),
+        ("bad", "none", "refused: proof: cannot read\n"),
+        (
+            "bad",
+            "bad",
+            "refused: instance: Expected Name: at byte 0\n",
+        ),
+    ] {
+        for words in [
+            ["bound", instance, proof].as_slice(),
+            ["upgrade", instance, proof, "a.out"].as_slice(),
+        ] {
+            let outcome = run_words(rt.alloc(), words, &files)?;
+            assert_eq!(rt; outcome.told(), (2, "", err), "{words:?}");
+        }
+    }
+    Ok(())
+}
+
+/// The most bytes of an instance or of a solution file.
+const LONGEST: usize = 67_108_864;
+
+/// Wide with so many bytes behind its end that the file is as long as it may be.
+fn longest_instance(alloc: Global) -> Result<Vec<u8>, AllocError> {
+    let mut bytes = WIDE.as_bytes().to_vec(alloc)?;
+    bytes.resize(LONGEST, b' ')?;
+    Ok(bytes)
+}
+
+#[test]
+fn the_longest_files(rt: HostRuntime) -> Result<(), Fail> {
+    let mut long = longest_instance(rt.alloc())?;
+    let words = ["validate", "a.ctt", "a.sol"];
+    let files = [
+        StoredFile::new("a.ctt", &long),
+        StoredFile::new("a.sol", WIDE_SOLUTION.as_bytes()),
+    ];
+    let outcome = run_words(rt.alloc(), &words, &files)?;
+    assert_eq!(rt; (outcome.status, outcome.err.as_str()), (0, ""));
+    long.push(b' ')?;
+    let files = [
+        StoredFile::new("a.ctt", &long),
+        StoredFile::new("a.sol", &long),
+    ];
+    let outcome = run_words(rt.alloc(), &words, &files)?;
+    assert_eq!(rt; outcome.told(), (2, "", "refused: instance: too long\n"));
+    let files = [
+        StoredFile::new("a.ctt", WIDE.as_bytes()),
+        StoredFile::new("a.sol", &long),
+    ];
+    let outcome = run_words(rt.alloc(), &words, &files)?;
+    assert_eq!(rt; outcome.told(), (2, "", "refused: solution: too long\n"));
+    Ok(())
+}
+
+#[test]
+fn words_that_ask_for_nothing(rt: HostRuntime) -> Result<(), Fail> {
+    for words in [
+        ["grade"].as_slice(),
+        ["validate"].as_slice(),
+        ["validate", "a.ctt"].as_slice(),
+        ["validate", "a.ctt", "a.sol", "a.proof"].as_slice(),
+        ["check", "a.ctt", "a.sol"].as_slice(),
+        ["bound"].as_slice(),
+        ["bound", "a.ctt"].as_slice(),
+        ["upgrade"].as_slice(),
+        ["upgrade", "a.ctt", "a.proof"].as_slice(),
+        ["--loud"].as_slice(),
+        [""].as_slice(),
+    ] {
+        let outcome = run_words(rt.alloc(), words, &wide_files([0, 0, 0]))?;
+        assert_eq!(rt; (outcome.status, outcome.out.as_str()), (2, ""));
+        assert!(rt; !outcome.err.is_empty());
+    }
+    Ok(())
+}
+
+#[test]
+fn help_is_no_refusal(rt: HostRuntime) -> Result<(), Fail> {
+    for words in [
+        ["--help"].as_slice(),
+        ["validate", "--help"].as_slice(),
+        ["check", "--help"].as_slice(),
+        ["bound", "--help"].as_slice(),
+        ["upgrade", "--help"].as_slice(),
+    ] {
+        let outcome = run_words(rt.alloc(), words, &[])?;
+        assert_eq!(rt; (outcome.status, outcome.err.as_str()), (0, ""));
+        assert!(rt; !outcome.out.is_empty());
+    }
+    Ok(())
+}
+
+/// A writer that takes nothing.
+#[derive(Drop)]
+struct Closed;
+
+impl Write for Closed {
+    fn write(&mut self, _buffer: &[u8]) -> io::Result<usize> {
+        Err(Error::from(ErrorKind::BrokenPipe))
+    }
+
+    fn flush(&mut self) -> io::Result<()> {
+        Err(Error::from(ErrorKind::BrokenPipe))
+    }
+}
+
+#[test]
+fn closed_outputs(rt: HostRuntime) -> Result<(), Fail> {
+    let runtime = (Disk { files: &[] }, rt.alloc());
+    let mut words = Vec::new(rt.alloc());
+    let mut err = Vec::new(rt.alloc());
+    assert_eq!(rt; run(&runtime, &words, &mut Closed, &mut err), 2);
+    words.push(String::from_str(rt.alloc(), "--help")?)?;
+    assert_eq!(rt; run(&runtime, &words, &mut Closed, &mut err), 2);
+    let refused = b"refused: cannot write\nrefused: cannot write\n";
+    assert_eq!(rt; err.as_slice(), refused.as_slice());
+    assert_eq!(rt; run(&runtime, &words, &mut Closed, &mut Closed), 2);
+    Ok(())
+}

@@ -1,0 +1,105 @@
+//! What `report` prints.
+
+use crate::commands::{Outcome, run_words};
+use crate::disk::StoredFile;
+use tt_samples::MINI;
+use std::alloc::Global;
+use std::io;
+use std::io::Write;
+use std::test::Fail;
+use tt_app::{AppFault, report};
+use tt_report::{By, Sink, Writing};
+
+/// Mini's first course in the first period, and its second in the next.
+const SOLUTION: &str = "a R 0 0 b R 0 1";
+
+const BY_ROOM: &str = "room R\n0 0 a\n0 1 b\n0 2\n";
+
+fn reported(alloc: Global, instance: &str, by: &str) -> Result<Outcome, Fail> {
+    let files = [
+        StoredFile::new("a.ctt", instance.as_bytes()),
+        StoredFile::new("a.sol", SOLUTION.as_bytes()),
+    ];
+    run_words(alloc, &["report", "a.ctt", "a.sol", "--by", by], &files)
+}
+
+#[test]
+fn weeks_of_each_kind(rt: HostRuntime) -> Result<(), Fail> {
+    for (by, out) in [
+        ("room", BY_ROOM),
+        (
+            "teacher",
+            "teacher t1\n0 0 a R\n0 1\n0 2\nteacher t2\n0 0\n0 1 b R\n0 2\n",
+        ),
+        ("curriculum", "curriculum q\n0 0 a R\n0 1 b R\n0 2\n"),
+    ] {
+        let outcome = reported(rt.alloc(), MINI, by)?;
+        assert_eq!(rt; outcome.told(), (0, out, ""), "by {by}");
+    }
+    Ok(())
+}
+
+#[test]
+fn kinds_that_are_none(rt: HostRuntime) -> Result<(), Fail> {
+    for words in [
+        ["report", "a.ctt", "a.sol", "--by", "Room"].as_slice(),
+        ["report", "a.ctt", "a.sol"].as_slice(),
+    ] {
+        let outcome = run_words(rt.alloc(), words, &[])?;
+        assert_eq!(rt; (outcome.status, outcome.out.as_str()), (2, ""));
+        assert!(rt; !outcome.err.is_empty());
+    }
+    Ok(())
+}
+
+/// Takes one byte a write, and fails, or takes none, at the write `stops_at`, counted from 1.
+#[derive(Drop)]
+struct Narrow {
+    bytes: Vec<u8>,
+    stops_in: usize,
+}
+
+impl Write for Narrow {
+    fn write(&mut self, bytes: &[u8]) -> io::Result<usize> {
+        self.stops_in = self.stops_in.saturating_sub(1);
+        if self.stops_in == 0 {
+            return Ok(0);
+        }
+        match bytes.first() {
+            Some(byte) => {
+                self.bytes.push(*byte)?;
+                Ok(1)
+            }
+            None => Ok(0),
+        }
+    }
+
+    fn flush(&mut self) -> io::Result<()> {
+        Ok(())
+    }
+}
+
+#[test]
+fn writes_that_stop(rt: HostRuntime) -> Result<(), Fail> {
+    for stops_at in 1..=BY_ROOM.len() {
+        let mut narrow = Narrow {
+            bytes: Vec::new(rt.alloc()),
+            stops_in: stops_at,
+        };
+        let mut sink = Writing::new(&mut narrow);
+        let answer = report(
+            rt.alloc(),
+            MINI.as_bytes(),
+            SOLUTION.as_bytes(),
+            By::Room,
+            &mut sink,
+        );
+        assert_eq!(rt; answer, Err(AppFault::CannotWrite));
+        assert!(rt; sink.failed());
+        assert_eq!(rt;
+            narrow.bytes.as_slice(),
+            &BY_ROOM.as_bytes()[..stops_at - 1]
+        );
+    }
+    Ok(())
+}

@@ -1,0 +1,96 @@
+//! What `upgrade` makes of proofs, and of the files that it writes.
+
+use crate::commands::{Outcome, run_on};
+use tt_samples::{GAP, SEATS, edited};
+use crate::shelf::{Refusal, Shelf};
+use crate::trees::GAP_PROOF;
+use std::alloc::Global;
+use std::test::Fail;
+use tt_instance::read_instance;
+use tt_leaf::Bound;
+use tt_proof_check::check_nodes;
+use tt_proof_write::write_proof;
+use tt_text::Pieces;
+use tt_upgrade::read_proof;
+
+const OLDER: &str = "an older file";
+
+fn upgraded(alloc: Global, shelf: &Shelf) -> Result<Outcome, Fail> {
+    run_on(alloc, &["upgrade", "a.ctt", "a.proof", "a.out"], shelf)
+}
+
+/// A shelf with an instance, a proof and an older file where the new one is to stand.
+fn filled(alloc: Global, instance: &str, proof: &str, refusal: Refusal) -> Result<Shelf, Fail> {
+    let shelf = Shelf::new(alloc, refusal);
+    shelf.put("a.ctt", instance)?;
+    shelf.put("a.proof", proof)?;
+    shelf.put("a.out", OLDER)?;
+    Ok(shelf)
+}
+
+#[test]
+fn proofs_are_written_in_version_two(rt: HostRuntime) -> Result<(), Fail> {
+    let gap = edited(rt.alloc(), GAP_PROOF, "CTTP 1", "CTTP 2")?;
+    let seats = "CTTP 2 bound 5\nB P c0 5 c1 5 r0 5 / ;\nend\n";
+    for (instance, proof, out) in [
+        (GAP, GAP_PROOF, gap.as_str()),
+        (SEATS, "CTTP 2 bound 05 B P r0 5 c0 5 c1 5 / ; end", seats),
+    ] {
+        let shelf = filled(rt.alloc(), instance, proof, Refusal::Nothing)?;
+        let outcome = upgraded(rt.alloc(), &shelf)?;
+        assert_eq!(rt; outcome.told(), (0, "bound 5\n", ""));
+        assert_eq!(rt; shelf.text("a.out")?.as_deref(), Some(out));
+        assert_eq!(rt; shelf.count(), 3);
+    }
+    Ok(())
+}
+
+#[test]
+fn refused_proofs_leave_the_older_file(rt: HostRuntime) -> Result<(), Fail> {
+    for (proof, told) in [
+        (
+            "CTTP 2 bound 5 B P c0 5 c1 5 r0 4 / ; end",
+            "refused: proof: BadPrice at node 0\n",
+        ),
+        // Since the proof is read whole, its text is judged before its nodes.
+        (
+            "CTTP 2 bound 5 B P c0 5 c1 5 r0 4 / ; end x",
+            "refused: proof: TrailingToken at byte 42\n",
+        ),
+    ] {
+        let shelf = filled(rt.alloc(), SEATS, proof, Refusal::Nothing)?;
+        let outcome = upgraded(rt.alloc(), &shelf)?;
+        assert_eq!(rt; outcome.told(), (2, "", told));
+        assert_eq!(rt; shelf.text("a.out")?.as_deref(), Some(OLDER));
+        assert_eq!(rt; shelf.count(), 3);
+    }
+    Ok(())
+}
+
+#[test]
+fn refused_writes_leave_the_older_file(rt: HostRuntime) -> Result<(), Fail> {
+    for refusal in [Refusal::NewFiles, Refusal::Writes, Refusal::Renames] {
+        let shelf = filled(rt.alloc(), GAP, GAP_PROOF, refusal)?;
+        let outcome = upgraded(rt.alloc(), &shelf)?;
+        assert_eq!(rt; outcome.told(), (2, "", "refused: cannot write\n"));
+        assert_eq!(rt; shelf.text("a.out")?.as_deref(), Some(OLDER));
+        assert_eq!(rt; shelf.count(), 3);
+    }
+    Ok(())
+}
+
+#[test]
+fn a_proof_is_read_checked_and_written(rt: HostRuntime) -> Result<(), Fail> {
+    let instance = read_instance(rt.alloc(), GAP.as_bytes())?;
+    let mut pieces = Pieces::new(GAP_PROOF.as_bytes(), 7, 0);
+    let proof = read_proof(rt.alloc(), &instance, &mut pieces)?;
+    assert_eq!(rt; (proof.version, proof.bound), (1, Bound::AtLeast(5)));
+    assert_eq!(rt; proof.nodes.len(), 9);
+    assert_eq!(rt;
+        check_nodes(rt.alloc(), &instance, proof.bound, &proof.nodes),
+        Ok(())
+    );
+    let text = write_proof(rt.alloc(), 1, proof.bound, &proof.nodes)?;
+    assert_eq!(rt; text.as_slice(), GAP_PROOF.as_bytes());
+    Ok(())
+}

@@ -1,0 +1,11 @@
+//! Tests of timetables that move: their counts, steps, chains and searches, by the calls.
+#![tactic(auto)]
+
+#[cfg(test)]
+mod moving;
+#[cfg(test)]
+mod occupancy;
+#[cfg(test)]
+mod searching;
+#[cfg(test)]
+mod timetables;
