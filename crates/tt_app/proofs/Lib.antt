@@ -3,4 +3,5 @@ pub mod DerivedBounds
 pub mod FailedReads
 pub mod Files
 pub mod Rewriting
+pub mod Searching
 pub mod ToldMemory

@@ -4,5 +4,6 @@ pub mod Improved
 pub mod Lines
 pub mod Reported
 pub mod Rewritten
+pub mod Solved
 pub mod Told
 pub mod Validated

@@ -1,5 +1,5 @@
 -- The lines that the commands print.
-use Rattle.std.specs.Prelude.{ℕ, ◌==◌, List, [], ◌∷◌, ◌++◌, codes, if◌then◌else◌}
+use Rattle.std.specs.Prelude.{ℕ, ◌==◌, Bool, List, [], ◌∷◌, ◌++◌, Option, Some, None, codes, if◌then◌else◌}
 use Rattle.std.specs.Fmt.{decimal}
 use Rattle.tt_instance.specs.Problem.{Problem}
 use Rattle.tt_instance.specs.declared.cell.Cell.{Cell}
@@ -21,6 +21,21 @@ broken_line h c = codes "broken hard " ++ decimal h ++ codes " cost " ++ decimal
 abbrev pub bound_line : Bound → List ℕ
 bound_line (AtLeast b) = codes "bound " ++ decimal b ++ 10 ∷ []
 bound_line Nothing = codes "bound " ++ codes "none" ++ 10 ∷ []
+
+-- the cost of the best timetable, if there is one
+abbrev pub best_cost : Problem → Option (List Cell) → List ℕ
+best_cost p None = codes "none"
+best_cost p (Some t) = decimal (cost p t)
+
+abbrev pub bound_points : Bound → List ℕ
+bound_points (AtLeast b) = decimal b
+bound_points Nothing = codes "none"
+
+-- what a search found, and whether it is finished
+abbrev pub solve_line : Problem → Option (List Cell) → Bound → Bool → List ℕ
+solve_line p best b finished =
+    codes "cost " ++ best_cost p best ++ codes " bound " ++ bound_points b
+    ++ (if finished then codes " finished" else codes " unfinished") ++ 10 ∷ []
 
 -- how many hard rules a timetable breaks, and its cost
 abbrev pub pair_line : ℕ → ℕ → List ℕ

@@ -9,6 +9,8 @@ use Rattle.tt_proof_check.specs.declared.fault.CheckFault.{CheckFault}
 use Rattle.tt_proof_check.specs.declared.fault.CheckFault.TheVariants as check
 use Rattle.tt_proof_check.specs.declared.fault.CertifyFault.{CertifyFault}
 use Rattle.tt_proof_check.specs.declared.fault.CertifyFault.TheVariants as certify
+use Rattle.tt_proof_write.specs.declared.fault.WriteFault.{WriteFault}
+use Rattle.tt_proof_write.specs.declared.fault.WriteFault.TheVariants as write
 use Rattle.tt_upgrade.specs.declared.fault.UpgradeFault.{UpgradeFault}
 use Rattle.tt_upgrade.specs.declared.fault.UpgradeFault.TheVariants as upgrade
 use Rattle.tt_report.specs.declared.fault.ReportFault.{ReportFault}
@@ -42,6 +44,10 @@ abbrev pub told_upgrade : UpgradeFault → AppFault
 told_upgrade (upgrade.Proof f) = told_check f
 told_upgrade upgrade.TooLarge = fault.ProofTooLarge
 told_upgrade upgrade.OutOfMemory = fault.OutOfMemory
+
+abbrev pub told_write : WriteFault → AppFault
+told_write write.OutOfMemory = fault.OutOfMemory
+told_write _ = fault.ProofTooLarge
 
 -- Want of memory is told as itself, wherever it comes from.
 abbrev pub TellsMemory : AppFault → Type 0

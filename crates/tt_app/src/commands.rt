@@ -3,8 +3,8 @@
 use crate::answer::Answer;
 use crate::fault::AppFault;
 use crate::requests::{
-    answer_bound, answer_check, answer_improve, answer_stored, answer_upgrade, answer_validate,
-    report_to,
+    answer_bound, answer_check, answer_improve, answer_solve, answer_stored, answer_upgrade,
+    answer_validate, report_to,
 };
 use clap::error::ErrorKind;
 use std::io::Write;
@@ -68,6 +68,12 @@ fn answered<R: Files + AllocGlobal, O: Write, E: Write>(
             proof,
             out: path,
         } => told(answer_upgrade(rt, instance, proof, path), out, err),
+        Request::Solve {
+            instance,
+            out: path,
+            proof,
+            tree,
+        } => told(answer_solve(rt, instance, path, proof, *tree), out, err),
         Request::Report {
             instance,
             solution,

@@ -4,6 +4,7 @@ use std::alloc::AllocError;
 use thiserror::Error;
 use tt_instance::InstanceFault;
 use tt_proof_check::{CertifyFault, CheckFault};
+use tt_proof_write::WriteFault;
 use tt_report::ReportFault;
 use tt_table::SolutionFault;
 use tt_upgrade::UpgradeFault;
@@ -134,6 +135,21 @@ impl From<UpgradeFault> for AppFault {
             UpgradeFault::Proof(fault) => fault.into(),
             UpgradeFault::TooLarge => AppFault::ProofTooLarge,
             UpgradeFault::OutOfMemory => AppFault::OutOfMemory,
+        }
+    }
+}
+
+impl From<WriteFault> for AppFault {
+    ghost use Rattle.std.specs.Prelude.{◌≡◌};
+    ghost use Rattle.tt_app.specs.Told.{told_write};
+
+    ghost from_gives = { λ f e. e ≡ told_write f };
+
+    fn from(fault: WriteFault) -> AppFault {
+        match fault {
+            WriteFault::OutOfMemory => AppFault::OutOfMemory,
+            // The nodes of a search are a tree, and each claim is of version 2.
+            _ => AppFault::ProofTooLarge,
         }
     }
 }

@@ -7,13 +7,14 @@ use crate::disk::{read_file, write_file};
 use crate::fault::{AppFault, Input};
 use crate::improving::improve;
 use crate::reporting::report;
+use crate::solving::solve;
 use crate::stored;
 use crate::upgrading::upgrade;
 use crate::validation::validate;
 use std::fs;
 use std::io::Write;
 use std::rt::Files;
-use tt_arguments::Search;
+use tt_arguments::{MAX_NODES, Search, TreeSearch};
 use tt_report::{By, Writing};
 use tt_text::{Pieces, Reading};
 
@@ -87,6 +88,22 @@ pub fn answer_upgrade<R: Files + AllocGlobal>(
     };
     let answer = upgrade(rt.alloc(), &instance, &mut Reading::new(proof))?;
     write_given(rt, out, &answer.proof)?;
+    Ok(answer)
+}
+
+/// The answer, once the best timetable and then the proof are written to their files.
+pub fn answer_solve<R: Files + AllocGlobal>(
+    rt: &R,
+    instance: &str,
+    out: &str,
+    proof: &str,
+    tree: TreeSearch,
+) -> Result<Answer, AppFault> {
+    let instance = read_file(rt, instance, Input::Instance)?;
+    let nodes = tree.nodes.clamp(1, MAX_NODES);
+    let answer = solve(rt.alloc(), &instance, tree.seed, nodes)?;
+    write_given(rt, out, &answer.table)?;
+    write_given(rt, proof, &answer.proof)?;
     Ok(answer)
 }
 

@@ -18,6 +18,16 @@ pub struct Search {
     pub steps: u64,
 }
 
+/// The most nodes of a tree that a search opens.
+pub const MAX_NODES: u32 = 65_536;
+
+/// A seed, and how many nodes of its tree a search opens at most: 1 to MAX_NODES.
+#[derive(Clone, Copy, Debug)]
+pub struct TreeSearch {
+    pub seed: u64,
+    pub nodes: u32,
+}
+
 /// What a command line asks for; files are paths.
 #[derive(Debug, Drop)]
 pub enum Request<'a> {
@@ -44,6 +54,12 @@ pub enum Request<'a> {
         instance: &'a str,
         proof: &'a str,
         out: &'a str,
+    },
+    Solve {
+        instance: &'a str,
+        out: &'a str,
+        proof: &'a str,
+        tree: TreeSearch,
     },
     Report {
         instance: &'a str,
@@ -79,11 +95,11 @@ fn bound_command<'a>(alloc: Global) -> Result<Command<'a>, AllocError> {
 }
 
 /// An option with a number in a range, and the one that is taken where it isn't given.
-fn number<'a>(alloc: Global, id: &'a str, most: u64, default: &'a str) -> Arg<'a> {
+fn number<'a>(alloc: Global, id: &'a str, least: u64, most: u64, default: &'a str) -> Arg<'a> {
     Arg::new(alloc, id)
         .long(id)
         .action(ArgAction::Set)
-        .value_parser(ValueParser::Unsigned(0, most))
+        .value_parser(ValueParser::Unsigned(least, most))
         .default_value(default)
 }
 
@@ -93,8 +109,8 @@ fn improve_command<'a>(alloc: Global) -> Result<Command<'a>, AllocError> {
         .arg(file(alloc, "INSTANCE"))?
         .arg(file(alloc, "SOLUTION"))?
         .arg(file(alloc, "OUT"))?
-        .arg(number(alloc, "seed", u64::MAX, "1"))?
-        .arg(number(alloc, "steps", MAX_STEPS, "10000"))
+        .arg(number(alloc, "seed", 0, u64::MAX, "1"))?
+        .arg(number(alloc, "steps", 0, MAX_STEPS, "10000"))
 }
 
 fn upgrade_command<'a>(alloc: Global) -> Result<Command<'a>, AllocError> {
@@ -103,6 +119,16 @@ fn upgrade_command<'a>(alloc: Global) -> Result<Command<'a>, AllocError> {
         .arg(file(alloc, "INSTANCE"))?
         .arg(file(alloc, "PROOF"))?
         .arg(file(alloc, "OUT"))
+}
+
+fn solve_command<'a>(alloc: Global) -> Result<Command<'a>, AllocError> {
+    Command::new(alloc, "solve")
+        .about("Searches for a best timetable, and writes it with a proof of a lower bound")
+        .arg(file(alloc, "INSTANCE"))?
+        .arg(file(alloc, "OUT"))?
+        .arg(file(alloc, "PROOF"))?
+        .arg(number(alloc, "seed", 0, u64::MAX, "1"))?
+        .arg(number(alloc, "nodes", 1, u64::from(MAX_NODES), "1000"))
 }
 
 fn by_option<'a>(alloc: Global) -> Arg<'a> {
@@ -131,6 +157,7 @@ fn command<'a>(alloc: Global) -> Result<Command<'a>, AllocError> {
         .subcommand(bound_command(alloc)?)?
         .subcommand(improve_command(alloc)?)?
         .subcommand(upgrade_command(alloc)?)?
+        .subcommand(solve_command(alloc)?)?
         .subcommand(report_command(alloc)?)
 }
 
@@ -176,6 +203,23 @@ fn upgrade_request<'a>(found: &ArgMatches<'a>) -> Option<Request<'a>> {
     })
 }
 
+/// A number of nodes; none where it has no place in 32 bits.
+fn nodes_of(number: u64) -> Option<u32> {
+    u32::try_from(number).ok()
+}
+
+fn solve_request<'a>(found: &ArgMatches<'a>) -> Option<Request<'a>> {
+    Some(Request::Solve {
+        instance: found.get_str("INSTANCE")?,
+        out: found.get_str("OUT")?,
+        proof: found.get_str("PROOF")?,
+        tree: TreeSearch {
+            seed: found.get_one("seed")?,
+            nodes: nodes_of(found.get_one("nodes")?)?,
+        },
+    })
+}
+
 fn by_of(word: &str) -> Option<By> {
     match word {
         "room" => Some(By::Room),
@@ -194,7 +238,10 @@ fn report_request<'a>(found: &ArgMatches<'a>) -> Option<Request<'a>> {
 }
 
 /// What the arguments ask for; `None` never comes for arguments that the command takes.
-pub fn parse_arguments<'a>(alloc: Global, words: &'a [String]) -> Result<Option<Request<'a>>, Error> {
+pub fn parse_arguments<'a>(
+    alloc: Global,
+    words: &'a [String],
+) -> Result<Option<Request<'a>>, Error> {
     let matches = command(alloc)?.try_get_matches_from(words)?;
     let Some((name, found)) = matches.subcommand() else {
         return Ok(None);
@@ -205,6 +252,7 @@ pub fn parse_arguments<'a>(alloc: Global, words: &'a [String]) -> Result<Option<
         "bound" => bound_request(found),
         "improve" => improve_request(found),
         "upgrade" => upgrade_request(found),
+        "solve" => solve_request(found),
         "report" => report_request(found),
         _ => None,
     })

@@ -3,4 +3,4 @@
 
 mod arguments;
 
-pub use arguments::{Request, Search, parse_arguments};
+pub use arguments::{MAX_NODES, Request, Search, TreeSearch, parse_arguments};

@@ -76,6 +76,16 @@ pub enum NodesFault {
     OutOfMemory,
 }
 
+impl From<AllocError> for NodesFault {
+    ghost use Rattle.tt_proof_check.specs.declared.fault.NodesFault.TheVariants as nodes;
+
+    ghost from_gives = { λ _ e. e ≡ nodes.OutOfMemory };
+
+    fn from(_e: AllocError) -> NodesFault {
+        NodesFault::OutOfMemory
+    }
+}
+
 /// What an instance, a solution and a proof come to.
 #[derive(Clone, Copy, Debug, PartialEq, Eq)]
 pub enum Verdict {

@@ -8,10 +8,11 @@ ghost use Rattle.tt_proof_check.specs.Tells.{Tells};
 use crate::fault::NodesFault;
 use crate::walk::{Stop, take_node};
 use std::alloc::Global;
-use tt_facts::{Path, PlainPath};
+use tt_facts::Path;
 use tt_instance::Instance;
 use tt_leaf::Bound;
 use tt_proof_text::Node;
+use tt_trail_path::TrailPath;
 
 /// Whether the nodes are one tree in preorder.
 fn is_tree(nodes: &[Node]) -> bool
@@ -69,6 +70,6 @@ pub fn check_nodes(
     if !is_tree(nodes) {
         return Err(NodesFault::NotATree);
     }
-    let mut path = PlainPath::new(alloc, instance);
+    let mut path = TrailPath::new(alloc, instance)?;
     judge_tree(&mut path, bound, nodes)
 }

@@ -18,11 +18,12 @@ ghost use Rattle.tt_proof_check.specs.Streams.{stream_of, IsProved, IsSilent, Te
 use crate::fault::CheckFault;
 use crate::walk::{Stop, take_node};
 use std::alloc::Global;
-use tt_facts::{Path, PlainPath};
+use tt_facts::Path;
 use tt_instance::Instance;
 use tt_leaf::Bound;
 use tt_proof_text::{Node, NodeReader};
 use tt_text::Source;
+use tt_trail_path::TrailPath;
 
 /// Takes a node and lets it go.
 #[inline(always)]
@@ -140,6 +141,6 @@ pub fn check_proof<R: Source>(
 {
     // What is true of every instance: its numbers are small enough to be read.
     prove!(instance.days() > 0);
-    let mut path = PlainPath::new(alloc, instance);
+    let mut path = TrailPath::new(alloc, instance)?;
     read_proof(alloc, &mut path, source)
 }

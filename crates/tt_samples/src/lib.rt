@@ -4,5 +4,6 @@
 mod samples;
 
 pub use samples::{
-    APART, FLAT, FLAT_SOLUTION, GAP, LONG, MINI, MINI_SOLUTION, SAME, SEATS, TOUR, TRIO, WIDE, WIDE_SOLUTION, edited, repeated,
+    APART, FLAT, FLAT_SOLUTION, GAP, LONG, MINI, MINI_SOLUTION, SAME, SEATS, TOUR, TRIO, WIDE,
+    WIDE_SOLUTION, edited, repeated,
 };

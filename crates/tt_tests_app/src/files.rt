@@ -2,12 +2,12 @@
 
 use crate::commands::run_words;
 use crate::disk::{Disk, StoredFile};
-use tt_samples::{WIDE, WIDE_SOLUTION};
 use std::alloc::{AllocError, Global};
 use std::io;
 use std::io::{Error, ErrorKind, Write};
 use std::test::Fail;
 use tt_app::run;
+use tt_samples::{WIDE, WIDE_SOLUTION};
 
 const PROOF: &[u8] = b"CTTP 1 bound 5 B D c0 ; end";
 

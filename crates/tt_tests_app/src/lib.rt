@@ -20,6 +20,8 @@ mod reports;
 #[cfg(test)]
 mod shelf;
 #[cfg(test)]
+mod solving;
+#[cfg(test)]
 mod trees;
 #[cfg(test)]
 mod upgrades;

@@ -1,8 +1,8 @@
 //! Refusals: the first fault, on standard error, with status 2.
 
 use crate::commands::{checked, validated};
-use tt_samples::{MINI, WIDE, WIDE_SOLUTION, edited};
 use std::test::Fail;
+use tt_samples::{MINI, WIDE, WIDE_SOLUTION, edited};
 
 /// Mini with other words in one place, and why it is refused.
 const INSTANCES: [(&str, &str, &str); 15] = [

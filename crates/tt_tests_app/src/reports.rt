@@ -2,13 +2,13 @@
 
 use crate::commands::{Outcome, run_words};
 use crate::disk::StoredFile;
-use tt_samples::MINI;
 use std::alloc::Global;
 use std::io;
 use std::io::Write;
 use std::test::Fail;
 use tt_app::{AppFault, report};
 use tt_report::{By, Sink, Writing};
+use tt_samples::MINI;
 
 /// Mini's first course in the first period, and its second in the next.
 const SOLUTION: &str = "a R 0 0 b R 0 1";

@@ -2,7 +2,6 @@
 
 use crate::commands::{Outcome, checked, run_words};
 use crate::disk::StoredFile;
-use tt_samples::{APART, GAP, MINI, SAME, SEATS, WIDE, edited};
 use std::alloc::Global;
 use std::test::Fail;
 use tt_app::check;
@@ -11,6 +10,7 @@ use tt_instance::read_instance;
 use tt_leaf::{Bound, Leaf, RuleFault};
 use tt_proof_check::{NodesFault, check_nodes};
 use tt_proof_text::Node;
+use tt_samples::{APART, GAP, MINI, SAME, SEATS, WIDE, edited};
 use tt_text::Pieces;
 
 /// Gap costs at least 5: whichever periods its courses take.

@@ -1,7 +1,6 @@
 //! What `upgrade` makes of proofs, and of the files that it writes.
 
 use crate::commands::{Outcome, run_on};
-use tt_samples::{GAP, SEATS, edited};
 use crate::shelf::{Refusal, Shelf};
 use crate::trees::GAP_PROOF;
 use std::alloc::Global;
@@ -10,6 +9,7 @@ use tt_instance::read_instance;
 use tt_leaf::Bound;
 use tt_proof_check::check_nodes;
 use tt_proof_write::write_proof;
+use tt_samples::{GAP, SEATS, edited};
 use tt_text::Pieces;
 use tt_upgrade::read_proof;
 

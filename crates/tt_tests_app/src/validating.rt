@@ -1,8 +1,8 @@
 //! What `validate` prints of a solution.
 
 use crate::commands::validated;
-use tt_samples::{LONG, MINI, TOUR, TRIO, edited, repeated};
 use std::test::Fail;
+use tt_samples::{LONG, MINI, TOUR, TRIO, edited, repeated};
 use tt_table::MAX_ENTRIES;
 
 #[test]

@@ -1,9 +1,9 @@
 //! Paths by the calls.
 
-use tt_samples::{GAP, MINI};
 use std::test::Fail;
 use tt_facts::{Cell, Fact, MAX_FACTS, Path, PathFault, Pattern, PlainPath, Who};
 use tt_instance::read_instance;
+use tt_samples::{GAP, MINI};
 
 /// A fact of all cells of a course or of a curriculum's members.
 pub fn fact_of(who: Who, holds: bool) -> Fact {

@@ -1,11 +1,10 @@
 //! Instances and whole sources by the calls.
 
-use tt_samples::{GAP, MINI, TOUR, TRIO, WIDE, edited};
 use std::alloc::{AllocError, Global};
 use std::test::Fail;
-use tt_text::{WholeFault, read_whole};
 use tt_instance::{InstanceFault, read_instance, write_instance};
-use tt_text::{Pieces, Source};
+use tt_samples::{GAP, MINI, TOUR, TRIO, WIDE, edited};
+use tt_text::{Pieces, Source, WholeFault, read_whole};
 
 /// What is written of the instance that a text spells.
 fn rewritten(alloc: Global, text: &str) -> Result<String, Fail> {

@@ -1,14 +1,13 @@
 //! Readers, feeds and readers of proofs by the calls.
 
-use tt_samples::{MINI, WIDE};
 use std::io;
 use std::io::{Error, ErrorKind, Read};
 use std::test::Fail;
-use tt_text::{WholeFault, read_whole};
 use tt_instance::read_instance;
 use tt_leaf::Bound;
 use tt_proof_text::{NodeReader, TextFault};
-use tt_text::{Feed, FeedFault, Pieces, ReadFailed, Reading, Source};
+use tt_samples::{MINI, WIDE};
+use tt_text::{Feed, FeedFault, Pieces, ReadFailed, Reading, Source, WholeFault, read_whole};
 
 /// A reader whose first read is interrupted.
 #[derive(Drop)]

@@ -1,9 +1,9 @@
 //! Timetables by the calls.
 
-use tt_samples::{MINI, repeated};
 use std::test::Fail;
 use tt_instance::read_instance;
 use tt_rules::score;
+use tt_samples::{MINI, repeated};
 use tt_table::{Entry, MAX_ENTRIES, PushFault, Timetable, read_solution, write_solution};
 
 /// A lecture of Mini's first course, and one of its second.

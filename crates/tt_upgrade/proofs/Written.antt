@@ -57,7 +57,7 @@ leaf_in_two (Clique cs) = tt
 leaf_in_two (Slots cs) = tt
 leaf_in_two (Cost claims) = λ k x h. claim_in_two _
 
-node_in_two : (n : Node) → IsNodeIn 2 n
+pub node_in_two : (n : Node) → IsNodeIn 2 n
 node_in_two (node.Split g) = tt
 node_in_two (node.Leaf leaf) = leaf_in_two leaf
 

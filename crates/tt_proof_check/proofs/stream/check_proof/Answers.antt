@@ -13,26 +13,26 @@ use Rattle.tt_proof_check.proofs.stream.check_proof.Goals as goal
 pub returns-clause-found : goal.returns-clause-found
 returns-clause-found g c =
     let remaining = g.R.Source.remaining c.args.source.now in
-    subst (λ (p : Problem). IfOk c.read_proof.result (λ b. (bytes : List ℕ) → remaining ≡ Some bytes → IsProved p bytes b)) c.new-path.ensures.problem
-    (proof_found c.new-path.result.problem remaining c.read_proof.result c.read_proof.ensures.proved)
+    subst (λ (p : Problem). IfOk c.read_proof.result (λ b. (bytes : List ℕ) → remaining ≡ Some bytes → IsProved p bytes b)) c.in_ok-path.ensures.problem
+    (proof_found c.in_ok-path.path.problem remaining c.read_proof.result c.read_proof.ensures.proved)
 
 pub returns-clause-only : goal.returns-clause-only
 returns-clause-only g c =
     let remaining = g.R.Source.remaining c.args.source.now in
     let r = c.read_proof.result in
-    let proved = subst (λ (p : Problem). IfOk r (λ b. Proved p (is_some remaining) (stream_at fresh remaining) b)) c.new-path.ensures.problem c.read_proof.ensures.proved in
-    let fault = subst (λ (p : Problem). is_some remaining ≡ true → IfErr r (λ x. TellsOf p (stream_at fresh remaining) x)) c.new-path.ensures.problem c.read_proof.ensures.fault in
+    let proved = subst (λ (p : Problem). IfOk r (λ b. Proved p (is_some remaining) (stream_at fresh remaining) b)) c.in_ok-path.ensures.problem c.read_proof.ensures.proved in
+    let fault = subst (λ (p : Problem). is_some remaining ≡ true → IfErr r (λ x. TellsOf p (stream_at fresh remaining) x)) c.in_ok-path.ensures.problem c.read_proof.ensures.fault in
     proof_only c.args.instance.now remaining c.days.ensures.instance r proved fault
 
 pub returns-clause-holds : goal.returns-clause-holds
 returns-clause-holds g c =
-    subst (λ (p : Problem). IfOk c.read_proof.result (HoldsOfAll p)) c.new-path.ensures.problem
-    (proof_holds c.new-path.result.problem (g.R.Source.remaining c.args.source.now) c.read_proof.result c.read_proof.ensures.proved)
+    subst (λ (p : Problem). IfOk c.read_proof.result (HoldsOfAll p)) c.in_ok-path.ensures.problem
+    (proof_holds c.in_ok-path.path.problem (g.R.Source.remaining c.args.source.now) c.read_proof.result c.read_proof.ensures.proved)
 
 pub returns-clause-broken_off : goal.returns-clause-broken_off
 returns-clause-broken_off g c =
     λ told.
     let before = g.R.Source.remaining c.args.source.now in
     let after = g.R.Source.remaining c.read_proof.new.source in
-    let up = subst (λ (p : Problem). UpToFailure fresh before after (BreaksOff p)) c.new-path.ensures.problem (c.read_proof.ensures.broken_off told) in
+    let up = subst (λ (p : Problem). UpToFailure fresh before after (BreaksOff p)) c.in_ok-path.ensures.problem (c.read_proof.ensures.broken_off told) in
     of_given (BreaksOff c.args.instance.now) before after c.read_proof.ensures.known up

@@ -1,0 +1,219 @@
+#!/usr/bin/env python3
+"""Prints how fast `tt bound` judges proofs that are as searches write them: trees over random paths of an instance of realistic shape,
+which split on cells that are live as far as this script can see, and whose leaves are right for the bound 0.
+
+Run by hand, after ./tt has built the program:  python3 bench/facts.py [NODES]
+NODES is how many nodes each proof has at most (default 300,000). Beside each time stands that of `wc -w` on the same bytes. Every
+command is run three times, in turn, and the least time counts; one that takes more than 120 seconds is stopped and says so.
+"""
+
+import os
+import random
+import subprocess
+import sys
+import tempfile
+import time
+from pathlib import Path
+
+HERE = Path(__file__).resolve().parent
+PROGRAM = HERE.parent / "crates" / "tt" / "out" / "tt"
+EXAMPLES = HERE.parent / "examples"
+RUNS, MOST_SECONDS = 3, 120
+
+
+class Instance:
+    """What of an instance the choice of splits looks at."""
+
+    def __init__(self, path):
+        words = path.read_text().split("END.")[0].split()
+        number = {name: int(words[words.index(name) + 1]) for name in ("Courses:", "Rooms:", "Days:", "Periods_per_day:", "Curricula:", "Constraints:")}
+        self.days, self.periods = number["Days:"], number["Periods_per_day:"]
+        at = words.index("COURSES:") + 1
+        rows = [words[at + 5 * i:at + 5 * i + 5] for i in range(number["Courses:"])]
+        self.names = {row[0]: i for i, row in enumerate(rows)}
+        self.courses, self.rooms, self.curricula = len(rows), number["Rooms:"], number["Curricula:"]
+        self.lectures = [int(row[2]) for row in rows]
+        teachers = [row[1] for row in rows]
+        self.conflicts = [{j for j in range(self.courses) if j != i and teachers[i] == teachers[j]} for i in range(self.courses)]
+        at = words.index("CURRICULA:") + 1
+        for _ in range(self.curricula):
+            size = int(words[at + 1])
+            members = [self.names[it] for it in words[at + 2:at + 2 + size]]
+            at += 2 + size
+            for course in members:
+                self.conflicts[course] |= {it for it in members if it != course}
+        at = words.index("UNAVAILABILITY_CONSTRAINTS:") + 1
+        rows = [words[at + 3 * i:at + 3 * i + 3] for i in range(number["Constraints:"])]
+        self.barred = {(self.names[c], int(d), int(p)) for c, d, p in rows}
+
+
+class Tree:
+    """Writes a tree node by node; the path is held as what it pins and bars of courses and periods."""
+
+    def __init__(self, instance, rng, out, pattern, leaf):
+        self.instance, self.rng, self.out, self.pattern, self.leaf = instance, rng, out, pattern, leaf
+        self.gone = [dict() for _ in range(instance.courses)]
+        self.nodes = 0
+
+    def live_period(self):
+        """A course and a period that seem live, after at most 20 tries."""
+        for _ in range(20):
+            course = self.rng.randrange(self.instance.courses)
+            day, period = self.rng.randrange(self.instance.days), self.rng.randrange(self.instance.periods)
+            if (day, period) not in self.gone[course] and (course, day, period) not in self.instance.barred:
+                break
+        return course, day, period
+
+    def mark(self, courses, slot, by):
+        for course in courses:
+            self.gone[course][slot] = self.gone[course].get(slot, 0) + by
+            if not self.gone[course][slot]:
+                del self.gone[course][slot]
+
+    def grow(self, depth):
+        """Writes whole trees of this depth below the path, without recursion: a list of what is still to be done."""
+        todo = [("open", depth)]
+        while todo:
+            what, *rest = todo.pop()
+            if what == "open":
+                self.nodes += 1
+                (left,) = rest
+                if left == 0:
+                    self.out.write(self.leaf(self.rng, self.instance))
+                    continue
+                course, day, period = self.live_period()
+                self.out.write("S " + self.pattern(self.rng, self.instance, course, day, period) + "\n")
+                beside = self.instance.conflicts[course]
+                todo.append(("unmark", [course], (day, period)))
+                todo.append(("open", left - 1))
+                todo.append(("mark", [course], (day, period)))
+                todo.append(("unmark", beside, (day, period)))
+                todo.append(("open", left - 1))
+                todo.append(("mark", beside, (day, period)))
+            else:
+                courses, slot = rest
+                self.mark(courses, slot, 1 if what == "mark" else -1)
+
+
+def by_period(rng, instance, course, day, period):
+    return f"c{course} * d{day} p{period}"
+
+
+def mixed(rng, instance, course, day, period):
+    """Half of the patterns give course, day and period; the others leave something out, give a room or speak of a curriculum."""
+    kind = rng.randrange(10)
+    room = rng.randrange(instance.rooms)
+    if kind < 5:
+        return f"c{course} * d{day} p{period}"
+    if kind == 5:
+        return f"c{course} r{room} d{day} p{period}"
+    if kind == 6:
+        return f"c{course} * d{day} *"
+    if kind == 7:
+        return f"c{course} r{room} * *"
+    if kind == 8:
+        return f"q{rng.randrange(instance.curricula)} * d{day} p{period}" if instance.curricula else f"c{course} * * p{period}"
+    return f"c{course} * * p{period}"
+
+
+def no_claim(rng, instance):
+    return "B ;\n"
+
+
+def all_claims(rng, instance):
+    claims = [f"C c{c} {rng.randrange(1, 20)}" for c in range(instance.courses)] + [f"D c{c}" for c in range(instance.courses)]
+    claims += [f"Q q{q}" for q in range(instance.curricula)] + [f"R c{c}" for c in range(instance.courses)]
+    return "B " + " ".join(claims) + " ;\n"
+
+
+def write_tree(path, instance, pattern, leaf, depth, nodes):
+    """Trees of this depth below a comb, until there are about so many nodes."""
+    rng = random.Random(1)
+    with path.open("w") as out:
+        out.write("CTTP 2 bound 0\n")
+        tree = Tree(instance, rng, out, pattern, leaf)
+        # A comb: the first child of each of its splits is a whole tree, the second the rest of the comb.
+        while tree.nodes + 2 ** (depth + 1) < nodes:
+            course, day, period = tree.live_period()
+            out.write(f"S c{course} * d{day} p{period}\n")
+            tree.nodes += 1
+            beside = instance.conflicts[course]
+            tree.mark(beside, (day, period), 1)
+            tree.grow(depth)
+            tree.mark(beside, (day, period), -1)
+        out.write("B ;\nend\n")
+    return tree.nodes + 1
+
+
+def write_deep(path, instance, facts, nodes):
+    """A comb of facts, and below it small trees."""
+    rng = random.Random(2)
+    cells = [(c, r, d, p) for c in range(instance.courses) for r in range(instance.rooms) for d in range(instance.days) for p in range(instance.periods)]
+    rng.shuffle(cells)
+    count = 0
+    with path.open("w") as out:
+        out.write("CTTP 2 bound 0\n")
+        for c, r, d, p in cells[:facts]:
+            out.write(f"S c{c} r{r} d{d} p{p}\nB ;\n")
+            count += 2
+        tree = Tree(instance, rng, out, by_period, no_claim)
+        tree.grow(max(nodes.bit_length() - 2, 1))
+        out.write("end\n")
+    return count + tree.nodes
+
+
+def least_time(words):
+    best = None
+    for _ in range(RUNS):
+        start = time.perf_counter()
+        try:
+            done = subprocess.run(words, capture_output=True, text=True, timeout=MOST_SECONDS, env={**os.environ, "LC_ALL": "C.UTF-8"})
+        except subprocess.TimeoutExpired:
+            return None, ""
+        taken = time.perf_counter() - start
+        if done.returncode:
+            sys.exit(f"{words}: {done.stderr}")
+        best = taken if best is None else min(best, taken)
+        if taken > 20:
+            break
+    return best, done.stdout
+
+
+def row(name, instance, proof, nodes):
+    taken, printed = least_time([PROGRAM, "bound", instance, proof])
+    words, _ = least_time(["wc", "-w", proof])
+    size = proof.stat().st_size / 1e6
+    if taken is None:
+        print(f"| {name} | {nodes:,} nodes, {size:.1f} MB | stopped at {MOST_SECONDS} s | | {size / words:.0f} MB/s |", flush=True)
+        return
+    if printed != "bound 0\n":
+        sys.exit(f"{name}: tt bound printed {printed}")
+    print(f"| {name} | {nodes:,} nodes, {size:.1f} MB | {taken:.2f} s, {size / taken:.0f} MB/s | {1e6 * taken / nodes:.2f} µs | {size / words:.0f} MB/s |", flush=True)
+
+
+def main():
+    if not PROGRAM.exists():
+        sys.exit("run ./tt first: the program is not built")
+    nodes = int(sys.argv[1]) if len(sys.argv) > 1 else 300_000
+    print("| Proof | Size | `tt bound` | A node | `wc -w` |\n|---|---|---|---|---|")
+    with tempfile.TemporaryDirectory() as folder:
+        proof = Path(folder) / "long.proof"
+        for name, file, pattern, leaf, depth, share in [
+            ("`c * d p`, like01", "like01", by_period, no_claim, 12, 1),
+            ("`c * d p`, like02", "like02", by_period, no_claim, 12, 1),
+            ("mixed patterns, like02", "like02", mixed, no_claim, 12, 1),
+            ("long Cost leaves, like01", "like01", by_period, all_claims, 6, 20),
+            ("long Cost leaves, like02", "like02", by_period, all_claims, 6, 20),
+        ]:
+            path = EXAMPLES / f"{file}.ctt"
+            count = write_tree(proof, Instance(path), pattern, leaf, depth, nodes // share)
+            row(name, path, proof, count)
+        path = EXAMPLES / "like05.ctt"
+        for facts in (1_500, 50_000):
+            count = write_deep(proof, Instance(path), facts, nodes)
+            row(f"{facts:,} facts above, like05", path, proof, count)
+    print(f"cores: {os.cpu_count()}")
+
+
+if __name__ == "__main__":
+    main()

@@ -1,0 +1,75 @@
+-- What `solve` answers of the bytes of an instance.
+use Rattle.std.specs.Prelude.{◌≡◌, ℕ, ◌⊎◌, Bool, List, Option, Some, Err, All, option_map, if◌then◌else◌, is_some, IsSomeAnd, ⊤}
+use Rattle.tt_instance.specs.Problem.{Problem}
+use Rattle.tt_instance.specs.Reading.{instance_of}
+use Rattle.tt_instance.specs.Spelling.{Spells}
+use Rattle.tt_instance.specs.declared.cell.Cell.{Cell}
+use Rattle.tt_table.specs.Spelling.{solution_text}
+use Rattle.tt_leaf.specs.declared.leaf.Bound.{Bound}
+use Rattle.tt_proof_text.specs.declared.node.Node.{Node}
+use Rattle.tt_proof_write.specs.Within.{FitsFile, IsNodeIn}
+use Rattle.tt_proof_write.specs.Written.{proof_text}
+use Rattle.tt_proof_write.specs.declared.fault.WriteFault.{WriteFault}
+use Rattle.tt_proof_write.specs.declared.fault.WriteFault.TheVariants as write
+use Rattle.tt_branch.specs.Outcomes.{IsOutcome}
+use Rattle.tt_app.specs.Lines.{solve_line}
+use Rattle.tt_app.specs.declared.answer.Answer.{Answer}
+use Rattle.tt_app.specs.declared.fault.AppFault.{AppFault}
+use Rattle.tt_app.specs.declared.fault.AppFault.TheVariants as fault
+
+-- version 1 where no node has a claim of version 2, else version 2
+abbrev pub IsLeastVersion : List Node → ℕ → Type 0
+IsLeastVersion nodes v = ((v ≡ 1) × All (IsNodeIn 1) nodes) ⊎ ((v ≡ 2) × ¬ All (IsNodeIn 1) nodes)
+
+-- the text of the proof as its file, in the least version that has its claims
+pub record IsProofFile (b : Bound) (nodes : List Node) (bytes : List ℕ) : Type 0 where
+  pub version : ℕ
+  pub least : IsLeastVersion nodes version
+  pub text : bytes ≡ proof_text version b nodes
+
+-- the text of the proof is longer than a file may be
+pub record IsOverLong (b : Bound) (nodes : List Node) : Type 0 where
+  pub version : ℕ
+  pub large : ¬ FitsFile version b nodes
+
+-- why the text of a proof was not written
+abbrev pub TellsOfText : Bound → List Node → WriteFault → Type 0
+TellsOfText b nodes write.OverLimit = IsOverLong b nodes
+TellsOfText b nodes write.OutOfMemory = ⊤
+TellsOfText b nodes _ = ⊥
+
+-- the line of a search, its status, and its files: that of the best timetable, if there is one, and that of the proof
+pub record IsSearchAnswer (p : Problem) (best : Option (List Cell)) (b : Bound) (nodes : List Node) (finished : Bool) (a : Answer) : Type 0 where
+  pub text : a.out.items ≡ solve_line p best b finished
+  pub status : a.status ≡ (if is_some best then 0 else 1)
+  pub table : option_map (λ v. v.items) a.table ≡ option_map (solution_text p) best
+  pub proof : IsSomeAnd a.proof (λ v. IsProofFile b nodes v.items)
+
+-- the answer is that of a search of the instance that is spelled
+pub record IsSolved (instance : List ℕ) (limit : ℕ) (a : Answer) : Type 0 where
+  pub problem : Problem
+  pub spelled : Spells instance problem
+  pub best : Option (List Cell)
+  pub bound : Bound
+  pub nodes : List Node
+  pub finished : Bool
+  pub outcome : IsOutcome problem limit best bound (Some nodes) finished
+  pub answer : IsSearchAnswer problem best bound nodes finished a
+
+-- the proof of such a search is larger than a file may be
+pub record IsTooLarge (instance : List ℕ) (limit : ℕ) : Type 0 where
+  pub problem : Problem
+  pub spelled : Spells instance problem
+  pub best : Option (List Cell)
+  pub bound : Bound
+  pub nodes : List Node
+  pub finished : Bool
+  pub outcome : IsOutcome problem limit best bound (Some nodes) finished
+  pub large : IsOverLong bound nodes
+
+-- a refusal tells the instance's fault, or that the proof is too large
+abbrev pub TellsOfSolve : List ℕ → ℕ → AppFault → Type 0
+TellsOfSolve i limit (fault.Instance f) = instance_of i ≡ Err f
+TellsOfSolve i limit fault.ProofTooLarge = IsTooLarge i limit
+TellsOfSolve i limit fault.OutOfMemory = ⊤
+TellsOfSolve i limit _ = ⊥

@@ -1,0 +1,88 @@
+//! Words as sets of numbers below 64.
+
+ghost use Rattle.std.specs.Prelude.{◌≡◌, ◌<◌, ◌==◌, ◌&&◌, ℕ, not, true, nat_lt, length, OnOk, OnErr};
+ghost use Rattle.std.specs.List.{list_any};
+ghost use Rattle.tt_bits.specs.Bits.{has_bit, bits, Clears};
+
+use std::alloc::AllocError;
+use tt_trail::Trail;
+
+/// Whether a number is in the set.
+pub fn has_bit(word: u64, number: u32) -> bool
+    requires { number < 64 }
+    ensures { result ≡ has_bit word number }
+{
+    word >> number & 1 == 1
+}
+
+/// The set of one number.
+pub fn one(number: u32) -> u64
+    requires { number < 64 }
+    ensures { (r : ℕ) → r < 64 → has_bit result r ≡ (r == number) }
+{
+    1 << number
+}
+
+/// The numbers that are in the first set and not in the second.
+pub fn without(word: u64, mask: u64) -> u64
+    ensures { (r : ℕ) → r < 64 → has_bit result r ≡ (has_bit word r && not (has_bit mask r)) }
+{
+    word & !mask
+}
+
+/// The numbers below 64 that are not in the set.
+pub fn others(word: u64) -> u64
+    ensures { (r : ℕ) → r < 64 → has_bit result r ≡ not (has_bit word r) }
+{
+    !word
+}
+
+/// The numbers that are in both sets.
+pub fn both(word: u64, other: u64) -> u64
+    ensures { (r : ℕ) → r < 64 → has_bit result r ≡ (has_bit word r && has_bit other r) }
+{
+    word & other
+}
+
+/// Whether no number is in the set.
+pub fn is_empty(word: u64) -> bool
+    ensures { result ≡ not (list_any (has_bit word) bits) }
+{
+    word == 0
+}
+
+/// The least number of the set.
+pub fn lowest(word: u64) -> u32
+    requires { 0 < word }
+    ensures within { result < 64 }
+    ensures there { has_bit word result ≡ true }
+    ensures least { (r : ℕ) → r < result → has_bit word r ≡ not true }
+{
+    word.trailing_zeros()
+}
+
+/// The set of the numbers below a bound.
+pub fn below(bound: u32) -> u64
+    ensures { (r : ℕ) → r < 64 → has_bit result r ≡ nat_lt r bound }
+{
+    if bound < 64 {
+        (1 << bound) - 1
+    } else {
+        u64::MAX
+    }
+}
+
+/// Takes the numbers of a mask out of the set at a place of a table.
+pub fn clear(table: &mut Trail, place: usize, mask: u64) -> Result<(), AllocError>
+    requires { place < length table.old.words }
+    ensures ok { OnOk result (Clears table.old.words place mask table.new.words) }
+    ensures err { OnErr result (table.new.words ≡ table.old.words) }
+    ensures same { table.new.earlier ≡ table.old.earlier }
+{
+    let old = table.word(place);
+    let new = without(old, mask);
+    if new != old {
+        table.set(place, new)?;
+    }
+    Ok(())
+}

@@ -1,0 +1,6 @@
+//! Words as sets of numbers below 64.
+#![tactic(auto)]
+
+mod bits;
+
+pub use bits::{below, both, clear, has_bit, is_empty, lowest, one, others, without};

@@ -1,0 +1,204 @@
+-- A better timetable, and nodes that are opened.
+use Rattle.std.proofs.Common.{◌≡◌, ℕ, zero, suc, ◌+◌, ◌*◌, ◌≤◌, Bool, true, false, List, [], ◌∷◌, ◌++◌, length, length-append, Option, Some, None, refl, sym, ap, ◌∙◌, subst, arith}
+use Rattle.std.proofs.Common.{not, get_or}
+use Rattle.std.specs.Prelude.{slice_get, slice_set, IfSome, IsNone}
+use Rattle.std.specs.Option.{is_some}
+use Rattle.tt_facts.specs.declared.facts.Fact.{Fact}
+use Rattle.tt_branch.proofs.Dividing.{get_is}
+use Rattle.std.specs.List.{AllZip, AllByRecursion, list_any}
+use Rattle.std.proofs.lemmas.List.Sums.{sum_by-append, count_by-le-length}
+use Rattle.std.proofs.lemmas.Bool.{or_parts, or_left, or_right}
+use Rattle.tt_lists.proofs.Sums.{one_if, count_by-cons}
+use Rattle.tt_instance.specs.Problem.{Problem}
+use Rattle.tt_instance.specs.declared.cell.Cell.{Cell}
+use Rattle.tt_rules.specs.Score.{IsFeasible, cost}
+use Rattle.tt_facts.specs.declared.facts.Pattern.{Pattern}
+use Rattle.tt_find.specs.Found.{ArePatterns}
+use Rattle.tt_leaf.specs.declared.leaf.Leaf.{Leaf}
+use Rattle.tt_proof_text.specs.Trees.{on_paths}
+use Rattle.tt_proof_text.specs.declared.node.Node.TheVariants as node
+use Rattle.tt_find.specs.Best.{best_leaf}
+use Rattle.tt_branch.specs.declared.best.Best.{Best}
+use Rattle.tt_branch.specs.declared.entry.Mark.{Mark}
+use Rattle.tt_branch.specs.declared.entry.Mark.TheVariants.{Divided, Closed, Opened, Waiting}
+use Rattle.tt_branch.specs.declared.entry.Entry.{Entry}
+use Rattle.tt_branch.specs.declared.links.Link.{Link}
+use Rattle.tt_branch.specs.declared.search.Search.{Search}
+use Rattle.tt_branch.specs.Growing.{node_of, IsKnown, Stands, IsGrown, was_opened, is_open, IsSingle, HasMark, IsOpenAt, opened_in}
+use Rattle.tt_branch.specs.Kept.{IsKept, table_of, Advances}
+use Rattle.tt_branch.specs.Links.{path_at, AreLinks, link_of, divided_links}
+use Rattle.tt_branch.specs.State.{IsSplitAt, MakesWait, EndsAt}
+use Rattle.tt_branch.specs.Written.{IsReached}
+use Rattle.tt_branch.proofs.Chains.{links_more}
+use Rattle.tt_branch.proofs.Growing.{zip_cut, zip_other, cut_at, set_cut, get_next}
+use Rattle.tt_branch.proofs.Searching.{IsBetter, grow_better, grow_mark, grow_split}
+use Rattle.tt_branch.proofs.Ending.{shallow}
+
+-- ---- the best timetable
+
+pub advance_same : (p : Problem) (old : Option Best) → IsKept p old → Advances p old old
+advance_same p old k = record { kept = k; grown = λ links entries g. g; no_dearer = λ t w. w }
+
+pub advance_twice : (p : Problem) (old mid new : Option Best) → Advances p old mid → Advances p mid new → Advances p old new
+advance_twice p old mid new a b = record {
+  kept = b.kept;
+  grown = λ links entries g. b.grown links entries (a.grown links entries g);
+  no_dearer = λ t w. b.no_dearer t (a.no_dearer t w);
+}
+
+pub advance_to : (p : Problem) (old : Option Best) (new : Best) → IsBetter p (table_of old) new.table → IsFeasible p new.table → new.cost ≡ cost p new.table → Advances p old (Some new)
+advance_to p old new better feasible costs = record {
+  kept = record { feasible = feasible; cost = costs };
+  grown = λ links entries g. grow_better p (table_of old) new.table links entries better g;
+  no_dearer = λ t w.
+      let b = subst (λ o. IsBetter p o new.table) w.1 better in
+      (new.table, refl, omega (arith, b, w.2));
+}
+
+-- ---- nodes that are reached
+
+zip_and : {A B : Type 0} (R : A → B → Type 0) (P : A → Type 0) (xs : List A) (bs : List B) → AllByRecursion P xs → AllZip R xs bs → AllZip (λ x b. R x b × P x) xs bs
+zip_and R P [] [] a h = tt
+zip_and R P [] (b ∷ bs) a h = absurd h
+zip_and R P (x ∷ xs) [] a h = absurd h
+zip_and R P (x ∷ xs) (b ∷ bs) a h = ((h.0, a.0), zip_and R P xs bs a.1 h.1)
+
+pub each_at : {X : Type 0} (P : X → Type 0) (xs : List X) (k : ℕ) (x : X) → AllByRecursion P xs → slice_get xs k ≡ Some x → P x
+each_at P [] k x a e = cc
+each_at P (y ∷ ys) zero x a e = let same : y ≡ x = cc in subst P same a.0
+each_at P (y ∷ ys) (suc k) x a e = each_at P ys k x a.1 e
+
+-- the facts of a node fit on a path, and their numbers are the instance's
+pub record IsThere (p : Problem) (links : List Link) (e : Entry) : Type 0 where
+  pub reached : IsReached links e.link
+  pub patterns : ArePatterns p (path_at links e.link)
+
+pub each_there : (p : Problem) (best : Option (List Cell)) (links : List Link) (entries : List Entry) → IsGrown p best links entries → length entries ≤ 131073 → AllByRecursion (IsThere p links) entries
+each_there p best links entries grown few =
+    zip_other (λ x e. Stands p best links x e × (length x.path ≤ 65536)) (IsThere p links) (λ x e h. record {
+      reached = record { within = h.0.link; depth = subst (λ q. length q ≤ 65536) (sym h.0.path) h.1 };
+      patterns = subst (ArePatterns p) (sym h.0.path) h.0.patterns;
+    }) (on_paths [] grown.tree) entries
+    (zip_and (Stands p best links) (λ x. length x.path ≤ 65536) (on_paths [] grown.tree) entries (shallow p best links entries grown few) grown.together)
+
+-- ---- opened nodes
+
+count_cut : (before : List Entry) (e : Entry) (after : List Entry) → opened_in (before ++ e ∷ after) ≡ opened_in before + (one_if (was_opened e.mark) + opened_in after)
+count_cut before e after = omega (arith, sum_by-append (λ (k : Entry). one_if (was_opened k.mark)) before (e ∷ after), count_by-cons (λ (k : Entry). was_opened k.mark) e after)
+
+one_opened : (m : Mark) → was_opened m ≡ true → one_if (was_opened m) ≡ 1
+one_opened m e = ap one_if e
+
+-- the mark of a node that waits is put in its place
+pub record IsOpening (p : Problem) (old new : Option Best) (links : List Link) (entries more : List Entry) : Type 0 where
+  pub grown : IsGrown p (table_of new) links more
+  pub opened : opened_in more ≡ opened_in entries + 1
+  pub many : length more ≡ length entries
+
+shown_leaf : (p : Problem) (links : List Link) (e : Entry) (m : Mark) → IsSingle m → (leaf : Leaf) × (node_of p (path_at links e.link) m ≡ node.Leaf leaf)
+shown_leaf p links e (Divided g) s = absurd s
+shown_leaf p links e (Closed leaf) s = (leaf, refl)
+shown_leaf p links e (Opened g) s = (best_leaf p (path_at links e.link), refl)
+shown_leaf p links e Waiting s = (best_leaf p (path_at links e.link), refl)
+
+pub opening : (p : Problem) (old new : Option Best) (links : List Link) (entries more : List Entry) (place : ℕ) (e put : Entry) → IsGrown p (table_of old) links entries → Advances p old new → slice_get entries place ≡ Some e → e.mark ≡ Waiting → put.link ≡ e.link
+    → IsKnown p (table_of new) (path_at links e.link) put.mark → was_opened put.mark ≡ true → IsSingle put.mark → more ≡ slice_set entries place put → IsOpening p old new links entries more
+opening p old new links entries more place e put grown better at waits same known opened single is =
+    let cut = cut_at entries place e at in
+    let before = cut.before in
+    let after = cut.after in
+    let made : more ≡ before ++ put ∷ after = is ∙ ap (λ l. slice_set l place put) cut.whole ∙ ap (λ n. slice_set (before ++ e ∷ after) n put) (sym cut.place) ∙ set_cut before e after put in
+    let here = subst (IsGrown p (table_of new) links) cut.whole (better.grown links entries grown) in
+    let leaf = shown_leaf p links e put.mark single in
+    record {
+      grown = subst (IsGrown p (table_of new) links) (sym made) (grow_mark p (table_of new) links before e put after here (ap is_open waits) same known leaf.0 leaf.1);
+      opened = omega (arith, ap opened_in made, ap opened_in cut.whole, count_cut before put after, count_cut before e after, one_opened put.mark opened, ap (λ m. one_if (was_opened m)) waits);
+      many = omega (arith, ap length made, ap length cut.whole, length-append before (put ∷ after), length-append before (e ∷ after));
+    }
+
+-- ---- nodes that are split
+
+pub waits_split : (place : ℕ) (g : Pattern) (old new : Search) → IsSplitAt place g old new → MakesWait place old (place + 1) new
+waits_split place g old new s =
+    let links = old.links.items in
+    let yes = link_of s.was.link g true in
+    let no = link_of s.was.link g false in
+    record {
+      under_way = λ p u.
+          let here = subst (IsGrown p (table_of old.best) links) s.old_entries u.grown in
+          let w = zip_cut (Stands p (table_of old.best) links) (on_paths [] here.tree) s.before s.was s.after here.together in
+          let inside : s.was.link ≤ length links = w.5.link in
+          let ok = links_more (links ++ yes ∷ []) no (links_more links yes u.links inside) (omega (arith, length-append links (yes ∷ []))) in
+          record {
+            kept = subst (IsKept p) (sym s.best) u.kept;
+            links = subst AreLinks (sym s.links) ok;
+            grown = subst (λ b. IsGrown p (table_of b) new.links.items new.entries.items) (sym s.best)
+                (subst (λ l. IsGrown p (table_of old.best) l new.entries.items) (sym s.links)
+                (subst (IsGrown p (table_of old.best) (divided_links links s.was.link g)) (sym s.entries)
+                (grow_split p (table_of old.best) links s.before s.was s.after g s.divided s.first s.second u.links here s.opened s.division)));
+          };
+      waiting =
+          (s.first, ap (λ (l : List Entry). slice_get l (place + 1)) s.entries ∙ ap (slice_get (s.before ++ s.divided ∷ s.first ∷ s.second ∷ s.after)) (omega (arith, s.place_is)) ∙ get_next s.before s.divided s.first (s.second ∷ s.after), s.division.first);
+      opened =
+          omega (
+            arith,
+            ap opened_in s.entries,
+            ap opened_in s.old_entries,
+            count_cut s.before s.divided (s.first ∷ s.second ∷ s.after),
+            count_cut s.before s.was s.after,
+            count_by-cons (λ (k : Entry). was_opened k.mark) s.first (s.second ∷ s.after),
+            count_by-cons (λ (k : Entry). was_opened k.mark) s.second s.after,
+            ap (λ m. one_if (was_opened m)) s.division.divided,
+            ap (λ m. one_if (was_opened m)) s.opened,
+            ap (λ m. one_if (was_opened m)) s.division.first,
+            ap (λ m. one_if (was_opened m)) s.division.second,
+          );
+      many = omega (arith, ap length s.entries, ap length s.old_entries, length-append s.before (s.divided ∷ s.first ∷ s.second ∷ s.after), length-append s.before (s.was ∷ s.after));
+      best = s.best;
+    }
+
+pub waits_same : (place : ℕ) (old : Search) → HasMark old.entries.items place Waiting → MakesWait place old place old
+waits_same place old h = record { under_way = λ p u. u; waiting = h; opened = refl; many = omega arith; best = refl }
+
+-- ---- the end of the rounds
+
+opened_unless : (m : Mark) → is_open m ≡ false → was_opened m ≡ true
+opened_unless (Divided g) e = refl
+opened_unless (Closed leaf) e = refl
+opened_unless (Opened g) e = refl
+opened_unless Waiting e = cc
+
+-- where no node is open, each was opened
+all_opened : (entries : List Entry) → list_any (λ e. is_open e.mark) entries ≡ false → opened_in entries ≡ length entries
+all_opened [] h = refl
+all_opened (e ∷ es) h =
+    let a = or_parts (is_open e.mark) (list_any (λ k. is_open k.mark) es) h in
+    omega (arith, count_by-cons (λ (k : Entry). was_opened k.mark) e es, one_opened e.mark (opened_unless e.mark a.0), all_opened es a.1)
+
+pub ends_closed : (limit opened : ℕ) (entries : List Entry) → opened_in entries ≡ opened → opened ≤ limit → list_any (λ e. is_open e.mark) entries ≡ false → EndsAt limit entries true
+ends_closed limit opened entries e h none = (none, omega (arith, all_opened entries none))
+
+pub ends_open : (limit : ℕ) (entries : List Entry) → list_any (λ e. is_open e.mark) entries ≡ true → opened_in entries ≡ limit → length entries + 1 ≤ 2 * limit → EndsAt limit entries false
+ends_open limit entries some e h = (some, omega (arith, count_by-le-length (λ (k : Entry). was_opened k.mark) entries), h)
+
+-- the same, as the code reads the entry and moves the path
+pub opening_there : (p q : Problem) (facts : List Fact) (old new : Option Best) (links : List Link) (entries more : List Entry) (place : ℕ) (read put : Entry) → q ≡ p → facts ≡ path_at links read.link → read ≡ get_or entries place read → HasMark entries place Waiting → IsGrown p (table_of old) links entries
+    → Advances q old new → IsKnown q (table_of new) facts put.mark → was_opened put.mark ≡ true → IsSingle put.mark → put.link ≡ read.link → more ≡ slice_set entries place put → IsOpening p old new links entries more
+opening_there p q facts old new links entries more place read put same there is waits grown better known opened single link made =
+    let e = waits.0 in
+    let met : read.link ≡ e.link = ap (λ (x : Entry). x.link) (is ∙ get_is entries place e read waits.1) in
+    opening p old new links entries more place e put grown (subst (λ (r : Problem). Advances r old new) same better) waits.1 waits.2 (link ∙ met)
+    (subst (λ (l : List Fact). IsKnown p (table_of new) l put.mark) (there ∙ ap (path_at links) met) (subst (λ (r : Problem). IsKnown r (table_of new) facts put.mark) same known))
+    opened single made
+
+open_any : (q : Entry → Bool) (entries : List Entry) (k : ℕ) (e : Entry) → slice_get entries k ≡ Some e → q e ≡ true → list_any q entries ≡ true
+open_any q [] k e at o = cc
+open_any q (x ∷ xs) zero e at o = let same : x ≡ e = cc in or_left (q x) (list_any q xs) (ap q same ∙ o)
+open_any q (x ∷ xs) (suc k) e at o = or_right (q x) (list_any q xs) (open_any q xs k e at o)
+
+-- the end, by the next open node
+pub ends_by : (limit : ℕ) (entries : List Entry) (o : Option ℕ) (r : Bool) → is_some o ≡ not r → IfSome o (IsOpenAt entries) → (IsNone o → list_any (λ e. is_open e.mark) entries ≡ false) → opened_in entries ≡ limit → length entries + 1 ≤ 2 * limit → EndsAt limit entries r
+ends_by limit entries None true d some none e h = ends_closed limit limit entries e (omega arith) (none refl)
+ends_by limit entries None false d some none e h = cc
+ends_by limit entries (Some k) true d some none e h = cc
+ends_by limit entries (Some k) false d some none e h = ends_open limit entries (open_any (λ x. is_open x.mark) entries k some.0 some.1 some.2) e h

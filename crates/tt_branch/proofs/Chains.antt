@@ -1,0 +1,99 @@
+-- Paths by links to the parent, one link at a time.
+use Rattle.std.proofs.Common.{◌≡◌, ℕ, zero, suc, ◌+◌, ◌-◌, ◌<◌, ◌≤◌, inl, inr, List, [], ◌∷◌, ◌++◌, Option, Some, None, refl, sym, ap, ◌∙◌, subst, arith, append_assoc, length, get_or}
+use Rattle.std.specs.Prelude.{slice_get, reverse, ◌⊎◌}
+use Rattle.std.proofs.lemmas.List.{reverse-append}
+use Rattle.std.proofs.lemmas.Option.{slice_get-get_or}
+use Rattle.tt_facts.specs.declared.facts.Fact.{Fact}
+use Rattle.tt_branch.specs.declared.links.Link.{Link}
+use Rattle.tt_branch.specs.Links.{chain, path_at, AreLinks}
+
+-- it does not matter how far back one may go, if it is far enough
+pub chain-same : (links : List Link) → AreLinks links → (n m at : ℕ) → at ≤ n → at ≤ m → chain n links at ≡ chain m links at
+chain-same links ok zero zero at h k = refl
+chain-same links ok zero (suc m) zero h k = refl
+chain-same links ok zero (suc m) (suc i) h k = absurd (omega arith)
+chain-same links ok (suc n) zero zero h k = refl
+chain-same links ok (suc n) zero (suc i) h k = absurd (omega arith)
+chain-same links ok (suc n) (suc m) zero h k = refl
+chain-same links ok (suc n) (suc m) (suc i) h k = by_link (slice_get links i) (ok i) (chain-same links ok n m)
+  where
+    by_link : (o : Option Link) → ((l : Link) → o ≡ Some l → l.parent ≤ i) → ((at : ℕ) → at ≤ n → at ≤ m → chain n links at ≡ chain m links at) → (elim o as (λ _. List Fact) [ None ↦ [] | Some l ↦ chain n links l.parent ++ l.fact ∷ [] ]) ≡ (elim o as (λ _. List Fact) [ None ↦ [] | Some l ↦ chain m links l.parent ++ l.fact ∷ [] ])
+    by_link None p f = refl
+    by_link (Some l) p f = let q = p l refl in ap (λ z. z ++ l.fact ∷ []) (f l.parent (omega arith) (omega arith))
+
+-- the facts of a node are those of its parent and its own
+pub path_at-next : (links : List Link) → AreLinks links → (i : ℕ) (l : Link) → slice_get links i ≡ Some l → path_at links (suc i) ≡ path_at links l.parent ++ l.fact ∷ []
+path_at-next links ok i l e =
+    let q = ok i l e in
+    subst (λ o. (elim o as (λ _. List Fact) [ None ↦ [] | Some k ↦ chain i links k.parent ++ k.fact ∷ [] ]) ≡ path_at links l.parent ++ l.fact ∷ []) (sym e)
+    (ap (λ z. z ++ l.fact ∷ []) (chain-same links ok i l.parent l.parent q (omega arith)))
+
+-- one step to the parent, with the facts found so far, the newest first
+pub step_back : (links : List Link) → AreLinks links → (place at : ℕ) (l : Link) (found : List Fact) → 0 < at → slice_get links (at - 1) ≡ Some l → path_at links place ≡ path_at links at ++ reverse found → path_at links place ≡ path_at links l.parent ++ reverse (found ++ l.fact ∷ [])
+step_back links ok place zero l found h e k = absurd (omega arith)
+step_back links ok place (suc i) l found h e k =
+    let same : suc i - 1 ≡ i = omega arith in
+    k ∙ ap (λ z. z ++ reverse found) (path_at-next links ok i l (subst (λ j. slice_get links j ≡ Some l) same e))
+    ∙ append_assoc (path_at links l.parent) (l.fact ∷ []) (reverse found) ∙ ap (λ z. path_at links l.parent ++ z) (sym (reverse-append found (l.fact ∷ [])))
+
+-- the same, as the code reads the link
+pub step_at : (links : List Link) → AreLinks links → (place at : ℕ) (found new : List Fact) (d : Link) → 0 < at → at ≤ length links → new ≡ found ++ (get_or links (at - 1) d).fact ∷ [] → path_at links place ≡ path_at links at ++ reverse found → path_at links place ≡ path_at links (get_or links (at - 1) d).parent ++ reverse new
+step_at links ok place at found new d h l e k =
+    step_back links ok place at (get_or links (at - 1) d) found h (slice_get-get_or links (at - 1) d (omega arith)) k
+    ∙ ap (λ z. path_at links (get_or links (at - 1) d).parent ++ reverse z) (sym e)
+
+pub within_at : (links : List Link) → AreLinks links → (at : ℕ) (d : Link) → 0 < at → at ≤ length links → (get_or links (at - 1) d).parent ≤ length links
+within_at links ok at d h l =
+    let k = ok (at - 1) (get_or links (at - 1) d) (slice_get-get_or links (at - 1) d (omega arith)) in
+    omega arith
+
+-- ---- more links
+
+-- an element of two lists, one behind the other
+pub at_cases : {X : Type 0} (xs ys : List X) (i : ℕ) (x : X) → slice_get (xs ++ ys) i ≡ Some x → (slice_get xs i ≡ Some x) ⊎ ((j : ℕ) × (i ≡ length xs + j) × (slice_get ys j ≡ Some x))
+at_cases [] ys i x e = inr (i, omega arith, e)
+at_cases (y ∷ xs) ys zero x e = inl e
+at_cases (y ∷ xs) ys (suc i) x e = elim (at_cases xs ys i x e) [
+  | inl h ↦ inl h
+  | inr w ↦ inr (w.0, omega (arith, w.1), w.2)
+]
+
+-- a place of the first list is the same in both
+pub at_first : {X : Type 0} (xs ys : List X) (i : ℕ) → i < length xs → slice_get (xs ++ ys) i ≡ slice_get xs i
+at_first [] ys i h = absurd (omega arith)
+at_first (x ∷ xs) ys zero h = refl
+at_first (x ∷ xs) ys (suc i) h = at_first xs ys i (omega (arith, h))
+
+-- the element behind the first list
+pub at_next : {X : Type 0} (xs : List X) (x : X) (ys : List X) → slice_get (xs ++ x ∷ ys) (length xs) ≡ Some x
+at_next [] x ys = refl
+at_next (y ∷ xs) x ys = at_next xs x ys
+
+pub links_more : (links : List Link) (l : Link) → AreLinks links → l.parent ≤ length links → AreLinks (links ++ l ∷ [])
+links_more links l ok h i k e = elim (at_cases links (l ∷ []) i k e) [
+  | inl a ↦ ok i k a
+  | inr w ↦ last w.0 w.1 w.2
+]
+  where
+    last : (j : ℕ) → i ≡ length links + j → slice_get (l ∷ []) j ≡ Some k → k.parent ≤ i
+    last zero a b = let same : l ≡ k = cc in let p : l.parent ≡ k.parent = ap (λ z. z.parent) same in omega arith
+    last (suc j) a b = cc
+
+chain-more : (links more : List Link) → AreLinks links → (n at : ℕ) → at ≤ length links → chain n (links ++ more) at ≡ chain n links at
+chain-more links more ok zero at h = refl
+chain-more links more ok (suc n) zero h = refl
+chain-more links more ok (suc n) (suc i) h =
+    subst (λ o. (elim o as (λ _. List Fact) [ None ↦ [] | Some l ↦ chain n (links ++ more) l.parent ++ l.fact ∷ [] ]) ≡ (elim (slice_get links i) as (λ _. List Fact) [ None ↦ [] | Some l ↦ chain n links l.parent ++ l.fact ∷ [] ]))
+    (sym (at_first links more i (omega arith)))
+    (by_link (slice_get links i) (ok i) (chain-more links more ok n))
+  where
+    by_link : (o : Option Link) → ((l : Link) → o ≡ Some l → l.parent ≤ i) → ((at : ℕ) → at ≤ length links → chain n (links ++ more) at ≡ chain n links at) → (elim o as (λ _. List Fact) [ None ↦ [] | Some l ↦ chain n (links ++ more) l.parent ++ l.fact ∷ [] ]) ≡ (elim o as (λ _. List Fact) [ None ↦ [] | Some l ↦ chain n links l.parent ++ l.fact ∷ [] ])
+    by_link None q f = refl
+    by_link (Some l) q f = let k = q l refl in ap (λ z. z ++ l.fact ∷ []) (f l.parent (omega arith))
+
+-- more links change no path
+pub path_at-more : (links more : List Link) → AreLinks links → (at : ℕ) → at ≤ length links → path_at (links ++ more) at ≡ path_at links at
+path_at-more links more ok at h = chain-more links more ok at at h
+
+pub no_links : AreLinks []
+no_links = λ i l e. cc

@@ -1,0 +1,267 @@
+-- What a search answers when it has ended.
+use Rattle.std.proofs.Common.{◌≡◌, ℕ, ◌≤◌, Bool, true, false, List, [], ◌∷◌, map, length, Option, Some, None, refl, sym, ap, ◌∙◌, subst, arith, ◌||◌}
+use Rattle.std.specs.Prelude.{All, IfSome}
+use Rattle.std.specs.List.{AllZip, AllByRecursion, list_any, cons_option}
+use Rattle.std.proofs.lemmas.List.Elements.{All-from_recursion}
+use Rattle.std.proofs.lemmas.List.{length-map}
+use Rattle.tt_lists.proofs.Sums.{each_both, each_weaker}
+use Rattle.tt_instance.specs.Problem.{Problem}
+use Rattle.tt_instance.specs.Limits.{IsInstance}
+use Rattle.tt_instance.specs.declared.cell.Cell.{Cell}
+use Rattle.tt_rules.specs.Score.{IsFeasible}
+use Rattle.tt_facts.specs.Live.{least, least_with}
+use Rattle.tt_facts.specs.declared.facts.Fact.{Fact}
+use Rattle.tt_leaf.specs.Claims.{is_fair, total_of}
+use Rattle.tt_leaf.specs.Leaves.{claims_once, demand, IsRight}
+use Rattle.tt_leaf.specs.Outcomes.{IsClaimedOnce}
+use Rattle.tt_leaf.specs.declared.leaf.Bound.{Bound}
+use Rattle.tt_leaf.specs.declared.leaf.Bound.TheVariants.{AtLeast, Nothing}
+use Rattle.tt_leaf.specs.declared.leaf.Claim.TheVariants.{Days}
+use Rattle.tt_leaf.specs.declared.leaf.Leaf.{Leaf}
+use Rattle.tt_leaf.specs.declared.leaf.Leaf.TheVariants.{Empty, Many, Clique, Slots, Cost}
+use Rattle.tt_leaf.specs.declared.leaf.RuleFault.TheVariants.{ClaimedTwice, TooCheap, BadPrice}
+use Rattle.std.specs.Prelude.{nat_le}
+use Rattle.std.specs.List.{list_all}
+use Rattle.tt_leaf.proofs.Soundness.{demand_none}
+use Rattle.tt_proof_text.specs.Spelling.{IsBound}
+use Rattle.tt_proof_text.specs.Trees.{preorder, OnPath, on_paths}
+use Rattle.tt_proof_text.specs.declared.node.Node.{Node}
+use Rattle.tt_proof_text.specs.declared.node.Node.TheVariants as node
+use Rattle.tt_proof_write.specs.Within.{HasShortPrices}
+use Rattle.tt_proof_check.specs.Derives.{Derives, HoldsOfAll}
+use Rattle.tt_proof_check.specs.Nodes.{IsNodeOf}
+use Rattle.tt_proof_check.proofs.Reading.{whole_places}
+use Rattle.tt_find.specs.Best.{best_claims}
+use Rattle.tt_find.proofs.Answering.{best_answer}
+use Rattle.tt_find.proofs.Claims.{once}
+use Rattle.tt_find.proofs.Lists.{each_map}
+use Rattle.tt_branch.specs.declared.best.Best.{Best}
+use Rattle.tt_branch.specs.declared.entry.Mark.{Mark}
+use Rattle.tt_branch.specs.declared.entry.Mark.TheVariants.{Divided, Closed, Opened, Waiting}
+use Rattle.tt_branch.specs.declared.entry.Entry.{Entry}
+use Rattle.tt_branch.specs.declared.links.Link.{Link}
+use Rattle.tt_branch.specs.declared.search.Search.{Search}
+use Rattle.tt_branch.specs.Growing.{node_of, IsKnown, Stands, IsGrown, is_open, node_at, worth_at, nodes_of, worths_of}
+use Rattle.tt_branch.specs.Kept.{IsKept, table_of, Advances}
+use Rattle.tt_branch.specs.Links.{path_at}
+use Rattle.tt_branch.specs.Outcomes.{BeginsWell, final_bound, IsOutcome}
+use Rattle.tt_branch.specs.Proofs.{node_worth, worths, IsShortNode, IsSearched, shown_bound}
+use Rattle.tt_branch.specs.State.{IsUnderWay, EndsAt}
+use Rattle.tt_branch.specs.Written.{IsOnceNode, IsWritable}
+use Rattle.tt_branch.proofs.Growing.{zip_other}
+use Rattle.tt_branch.proofs.Ending.{preorder-on_paths, shallow, well_split, finished_proves, unfinished_proves, greedy}
+use Rattle.tt_branch.proofs.Advancing.{IsThere, each_there}
+use Rattle.tt_branch.proofs.Limits.{cost_limit, total_limit}
+
+-- ---- what is written
+
+once_closed : (p : Problem) (path : List Fact) (b : Bound) (leaf : Leaf) → IsRight p path b leaf → IsClaimedOnce leaf
+once_closed p path b (Empty g) e = tt
+once_closed p path b (Many c) e = tt
+once_closed p path b (Clique cs) e = tt
+once_closed p path b (Slots cs) e = tt
+once_closed p path Nothing (Cost claims) e = cc
+once_closed p path (AtLeast m) (Cost claims) e =
+    (demand_none (claims_once claims) ClaimedTwice (demand (list_all (is_fair p path) claims) BadPrice (demand (nat_le m (total_of p path claims)) TooCheap None)) e).0
+
+-- what is true of the node of a mark
+pub record IsFit (p : Problem) (n : Node) : Type 0 where
+  pub numbers : IsNodeOf p n
+  pub once : IsOnceNode n
+  pub short : IsShortNode n
+
+module _ (p : Problem) (ok : IsInstance p) where
+  pub fit_mark : (best : Option (List Cell)) (path : List Fact) (m : Mark) → IsKnown p best path m → IsFit p (node_of p path m)
+  fit_mark best path (Divided g) k = record { numbers = k.numbers; once = tt; short = tt }
+  fit_mark best path (Closed leaf) k = record { numbers = k.answer.numbers; once = once_closed p path (final_bound p best) leaf k.right; short = k.answer.short }
+  fit_mark best path (Opened g) k = let a = best_answer p path ok in record { numbers = a.numbers; once = once Days (λ c. refl) p path; short = a.short }
+  fit_mark best path Waiting k = let a = best_answer p path ok in record { numbers = a.numbers; once = once Days (λ c. refl) p path; short = a.short }
+
+  module _ (best : Option (List Cell)) (links : List Link) (entries : List Entry) (grown : IsGrown p best links entries) where
+    abbrev xs : List OnPath
+    xs = on_paths [] grown.tree
+
+    fit_entry : (x : OnPath) (e : Entry) → Stands p best links x e → IsFit p (node_at p links e)
+    fit_entry x e s = subst (λ q. IsFit p (node_of p q e.mark)) (sym s.path) (fit_mark best x.path e.mark s.known)
+
+    each_fit : AllByRecursion (λ e. IsFit p (node_at p links e)) entries
+    each_fit = zip_other (Stands p best links) (λ e. IsFit p (node_at p links e)) fit_entry xs entries grown.together
+
+    pub writable : length entries ≤ 131073 → All (IsWritable p links) entries
+    writable few = All-from_recursion (IsWritable p links) entries
+        (each_weaker (λ e. IsThere p links e × IsFit p (node_at p links e)) (IsWritable p links) (λ e h. record { reached = h.0.reached; numbers = h.1.numbers; once = h.1.once }) entries
+        (each_both (IsThere p links) (λ e. IsFit p (node_at p links e)) entries (each_there p best links entries grown few) each_fit))
+
+    -- the nodes that are written are the tree's
+    same_nodes : (ys : List OnPath) (es : List Entry) → AllZip (Stands p best links) ys es → nodes_of p links es ≡ map (λ x. x.node) ys
+    same_nodes [] [] h = refl
+    same_nodes [] (e ∷ es) h = absurd h
+    same_nodes (y ∷ ys) [] h = absurd h
+    same_nodes (y ∷ ys) (e ∷ es) h =
+        let a = ap (λ q. node_of p q e.mark) h.0.path ∙ sym h.0.node in
+        ap (λ n. n ∷ nodes_of p links es) a ∙ ap (λ l. y.node ∷ l) (same_nodes ys es h.1)
+
+    pub nodes_are : preorder grown.tree ≡ nodes_of p links entries
+    nodes_are = sym (preorder-on_paths [] grown.tree) ∙ sym (same_nodes xs entries grown.together)
+
+    same_worths : (ys : List OnPath) (es : List Entry) → AllZip (Stands p best links) ys es → worths_of p links es ≡ worths p ys
+    same_worths [] [] h = refl
+    same_worths [] (e ∷ es) h = absurd h
+    same_worths (y ∷ ys) [] h = absurd h
+    same_worths (y ∷ ys) (e ∷ es) h =
+        let a = ap (λ q. node_of p q e.mark) h.0.path ∙ sym h.0.node in
+        let b : worth_at p links e ≡ node_worth p y.path y.node = ap (λ q. node_worth p q (node_at p links e)) h.0.path ∙ ap (node_worth p y.path) a in
+        ap (λ o. cons_option o (worths_of p links es)) b ∙ ap (cons_option (node_worth p y.path y.node)) (same_worths ys es h.1)
+
+    pub worths_are : worths_of p links entries ≡ worths p xs
+    worths_are = same_worths xs entries grown.together
+
+    pub fit_nodes : AllByRecursion (IsFit p) (nodes_of p links entries)
+    fit_nodes = each_map (IsFit p) (node_at p links) entries each_fit
+
+  -- ---- the least worth
+
+  -- an open node is worth something, and no more than a bound may be
+  worth_open : (links : List Link) (e : Entry) → is_open e.mark ≡ true → (n : ℕ) × (worth_at p links e ≡ Some n) × (n ≤ 1000000000000)
+  worth_open links e o = by_mark e.mark o
+    where
+      path : List Fact
+      path = path_at links e.link
+
+      by_mark : (m : Mark) → is_open m ≡ true → (n : ℕ) × (node_worth p (path_at links e.link) (node_of p (path_at links e.link) m) ≡ Some n) × (n ≤ 1000000000000)
+      by_mark (Divided g) k = cc
+      by_mark (Closed leaf) k = cc
+      by_mark (Opened g) k = (total_of p (path_at links e.link) (best_claims p (path_at links e.link)), refl, total_limit p ok (path_at links e.link))
+      by_mark Waiting k = (total_of p (path_at links e.link) (best_claims p (path_at links e.link)), refl, total_limit p ok (path_at links e.link))
+
+  least_with-le : (n : ℕ) (o : Option ℕ) → least_with n o ≤ n
+  least_with-le n None = omega arith
+  least_with-le n (Some m) = omega arith
+
+  least_of : (o : Option ℕ) (ns : List ℕ) (v : ℕ) → least ns ≡ Some v → v ≤ 1000000000000 → (w : ℕ) × (least (cons_option o ns) ≡ Some w) × (w ≤ 1000000000000)
+  least_of None ns v e h = (v, e, h)
+  least_of (Some n) ns v e h = let k = ap (least_with n) e in (least_with n (least ns), refl, omega arith)
+
+  -- where a node is open, some leaf is worth least
+  pub least_worth : (links : List Link) (entries : List Entry) → list_any (λ e. is_open e.mark) entries ≡ true → (v : ℕ) × (least (worths_of p links entries) ≡ Some v) × (v ≤ 1000000000000)
+  least_worth links [] e = cc
+  least_worth links (x ∷ es) e = by_mark (is_open x.mark) refl e (least_worth links es)
+    where
+      by_mark : (b : Bool) → is_open x.mark ≡ b → (b || list_any (λ k. is_open k.mark) es) ≡ true → (list_any (λ k. is_open k.mark) es ≡ true → (v : ℕ) × (least (worths_of p links es) ≡ Some v) × (v ≤ 1000000000000)) → (v : ℕ) × (least (worths_of p links (x ∷ es)) ≡ Some v) × (v ≤ 1000000000000)
+      by_mark true o k rest =
+          let w = worth_open links x o in
+          let h = least_with-le w.0 (least (worths_of p links es)) in
+          (least_with w.0 (least (worths_of p links es)), ap (λ j. least (cons_option j (worths_of p links es))) w.1, omega (arith, w.2))
+      by_mark false o k rest =
+          let w = rest k in
+          least_of (worth_at p links x) (worths_of p links es) w.0 w.1 w.2
+
+  -- ---- the outcome
+
+  short_prices : (n : Node) → IsShortNode n → HasShortPrices n
+  short_prices (node.Split g) s = tt
+  short_prices (node.Leaf (Empty g)) s = tt
+  short_prices (node.Leaf (Many c)) s = tt
+  short_prices (node.Leaf (Clique cs)) s = tt
+  short_prices (node.Leaf (Slots cs)) s = tt
+  short_prices (node.Leaf (Cost claims)) s = s
+
+  bound_final : (best : Option Best) → IsKept p best → IsBound (final_bound p (table_of best))
+  bound_final None k = tt
+  bound_final (Some b) k = cost_limit p ok b.table k.feasible
+
+  best_feasible : (best : Option Best) → IsKept p best → IfSome (table_of best) (IsFeasible p)
+  best_feasible None k = tt
+  best_feasible (Some b) k = k.feasible
+
+  module _ (s : Search) (u : IsUnderWay p s) (limit : ℕ) (small : limit ≤ 65536) (nodes : List Node) (is : nodes ≡ nodes_of p s.links.items s.entries.items) where
+    abbrev links : List Link
+    links = s.links.items
+
+    abbrev entries : List Entry
+    entries = s.entries.items
+
+    abbrev best : Option (List Cell)
+    best = table_of s.best
+
+    spelled : preorder u.grown.tree ≡ nodes
+    spelled = nodes_are best links entries u.grown ∙ sym is
+
+    as_long : length nodes ≡ length entries
+    as_long = ap length is ∙ length-map entries (node_at p links)
+
+    fits : AllByRecursion (IsFit p) nodes
+    fits = subst (AllByRecursion (IsFit p)) (sym is) (fit_nodes best links entries u.grown)
+
+    pub each_numbers : All (IsNodeOf p) nodes
+    each_numbers = All-from_recursion (IsNodeOf p) nodes (each_weaker (IsFit p) (IsNodeOf p) (λ n f. f.numbers) nodes fits)
+
+    searched : (b : Bound) → length entries ≤ 131071 → IsBound b → Derives p b [] u.grown.tree → IsSearched p b u.grown.tree nodes
+    searched b few bound derives = record {
+      spelled = spelled;
+      derives = derives;
+      splits = well_split p best links entries u.grown;
+      numbers = each_numbers;
+      short = All-from_recursion IsShortNode nodes (each_weaker (IsFit p) IsShortNode (λ n f. f.short) nodes fits);
+      within = record {
+        bound = bound;
+        count = omega (arith, as_long);
+        prices = All-from_recursion HasShortPrices nodes (each_weaker (IsFit p) HasShortPrices (λ n f. short_prices n f.short) nodes fits);
+        depth = λ tree e.
+            subst (λ l. All (λ x. length x.path ≤ 65536) l) (sym (whole_places u.grown.tree nodes spelled) ∙ whole_places tree nodes e)
+            (All-from_recursion (λ x. length x.path ≤ 65536) (on_paths [] u.grown.tree) (shallow p best links entries u.grown (omega arith)));
+      };
+    }
+
+    -- the end of a search whose proof was checked
+    pub concluded : (finished : Bool) (lowest : Option ℕ) → BeginsWell p best → EndsAt limit entries finished → (finished ≡ false → lowest ≡ least (worths_of p links entries)) → HoldsOfAll p (shown_bound (final_bound p best) lowest finished) → IsOutcome p limit best (shown_bound (final_bound p best) lowest finished) (Some nodes) finished
+    concluded true lowest begun ends same holds = record {
+      feasible = best_feasible s.best u.kept;
+      begun = begun;
+      nodes = nodes;
+      answered = refl;
+      tree = u.grown.tree;
+      searched = searched (final_bound p best) (omega (arith, ends.1)) (bound_final s.best u.kept) (finished_proves p best links entries u.grown (omega (arith, ends.1)) ends.0).1;
+      ends = record { few = omega (arith, as_long, ends.1); bound = refl };
+      holds = holds;
+    }
+    concluded false lowest begun ends same holds =
+        let w = least_worth links entries ends.0 in
+        let told : lowest ≡ Some w.0 = same refl ∙ w.1 in
+        let shown : shown_bound (final_bound p best) lowest false ≡ AtLeast w.0 = ap (λ o. shown_bound (final_bound p best) o false) told in
+        let found : least (worths p (on_paths [] u.grown.tree)) ≡ Some w.0 = sym (ap least (worths_are best links entries u.grown)) ∙ w.1 in
+        let bound : IsBound (shown_bound (final_bound p best) lowest false) = subst IsBound (sym shown) w.2 in
+        let derives = (unfinished_proves p best links entries u.grown w.0 found (omega (arith, ends.2))).1 in
+        record {
+          feasible = best_feasible s.best u.kept;
+          begun = begun;
+          nodes = nodes;
+          answered = refl;
+          tree = u.grown.tree;
+          searched = searched (shown_bound (final_bound p best) lowest false) (omega (arith, ends.2)) bound (subst (λ b. Derives p b [] u.grown.tree) (sym shown) derives);
+          ends = record {
+            enough = omega (arith, as_long, ends.1);
+            few = omega (arith, as_long, ends.2);
+            least_worth = w.0;
+            some_cost_leaf = found;
+            bound = shown;
+            greedy = greedy p best links entries u.grown;
+          };
+          holds = holds;
+        }
+
+-- a search that has ended has few nodes
+pub few_ended : (limit : ℕ) (entries : List Entry) (finished : Bool) → limit ≤ 65536 → EndsAt limit entries finished → length entries ≤ 131073
+few_ended limit entries true small ends = omega (arith, ends.1)
+few_ended limit entries false small ends = omega (arith, ends.2)
+
+-- what was begun well goes on well
+pub begun_still : (p : Problem) (old new : Option Best) → BeginsWell p (table_of old) → Advances p old new → BeginsWell p (table_of new)
+begun_still p old new b a = record {
+  start = b.start;
+  constructed = b.constructed;
+  end = b.end;
+  settled = b.settled;
+  descent = b.descent;
+  kept = λ f. a.no_dearer b.end (b.kept f);
+}

@@ -1,0 +1,82 @@
+-- The entries and links of a node that is split, as the code puts them in.
+use Rattle.std.proofs.Common.{◌≡◌, ℕ, suc, ◌+◌, List, [], ◌∷◌, ◌++◌, length, length-append, Some, refl, sym, ap, ◌∙◌, arith, get_or}
+use Rattle.std.specs.Prelude.{slice_get, slice_set, true, false}
+use Rattle.std.specs.List.{insert}
+use Rattle.std.proofs.Common.{zero, ◌<◌}
+use Rattle.tt_facts.specs.declared.facts.Pattern.{Pattern}
+use Rattle.tt_branch.specs.declared.entry.Mark.TheVariants.{Divided, Opened, Waiting}
+use Rattle.tt_branch.specs.declared.entry.Entry.{Entry}
+use Rattle.tt_branch.specs.declared.links.Link.{Link}
+use Rattle.tt_branch.specs.declared.search.Search.{Search}
+use Rattle.tt_branch.specs.Growing.{HasMark}
+use Rattle.tt_branch.specs.Links.{link_of, divided_links}
+use Rattle.tt_branch.specs.State.{IsSplitAt}
+use Rattle.tt_branch.proofs.Growing.{IsCut, cut_at, set_cut, insert_cut}
+
+pub get_is : {X : Type 0} (xs : List X) (k : ℕ) (x d : X) → slice_get xs k ≡ Some x → get_or xs k d ≡ x
+get_is [] k x d e = cc
+get_is (y ∷ ys) zero x d e = cc
+get_is (y ∷ ys) (suc k) x d e = get_is ys k x d e
+
+split_items : (items one two three : List Entry) (k : ℕ) (e d a b : Entry) (cut : IsCut items k e) → one ≡ insert items (k + 1) b → two ≡ insert one (k + 1) a → three ≡ slice_set two k d → three ≡ cut.before ++ d ∷ a ∷ b ∷ cut.after
+split_items items one two three k e d a b cut h i j =
+    let at : k + 1 ≡ suc (length cut.before) = omega (arith, cut.place) in
+    let first : one ≡ cut.before ++ e ∷ b ∷ cut.after = h ∙ ap (λ l. insert l (k + 1) b) cut.whole ∙ ap (λ n. insert (cut.before ++ e ∷ cut.after) n b) at ∙ insert_cut cut.before e cut.after b in
+    let second : two ≡ cut.before ++ e ∷ a ∷ b ∷ cut.after = i ∙ ap (λ l. insert l (k + 1) a) first ∙ ap (λ n. insert (cut.before ++ e ∷ b ∷ cut.after) n a) at ∙ insert_cut cut.before e (b ∷ cut.after) a in
+    j ∙ ap (λ l. slice_set l k d) second ∙ ap (λ n. slice_set (cut.before ++ e ∷ a ∷ b ∷ cut.after) n d) (sym cut.place) ∙ set_cut cut.before e (a ∷ b ∷ cut.after) d
+
+-- what the code does, in its steps
+pub record AreSteps (place : ℕ) (g : Pattern) (old new : Search) : Type 0 where
+  pub read : Entry
+  pub read_is : read ≡ get_or old.entries.items place read
+  pub one : List Link
+  pub yes : ℕ
+  pub no : ℕ
+  pub first_link : one ≡ old.links.items ++ link_of read.link g true ∷ []
+  pub yes_is : yes ≡ length old.links.items + 1
+  pub second_link : new.links.items ≡ one ++ link_of read.link g false ∷ []
+  pub no_is : no ≡ length one + 1
+  pub a : Entry
+  pub b : Entry
+  pub a_is : a ≡ record { mark = Waiting; link = yes; key = read.key }
+  pub b_is : b ≡ record { mark = Waiting; link = no; key = read.key }
+  pub more : List Entry
+  pub most : List Entry
+  pub put_b : more ≡ insert old.entries.items (place + 1) b
+  pub put_a : most ≡ insert more (place + 1) a
+  pub put_d : new.entries.items ≡ slice_set most place (record { mark = Divided g; link = read.link; key = read.key })
+  pub best : new.best ≡ old.best
+
+pub split_by_steps : (place : ℕ) (g : Pattern) (old new : Search) → HasMark old.entries.items place (Opened g) → AreSteps place g old new → IsSplitAt place g old new
+split_by_steps place g old new h s =
+    let cut = cut_at old.entries.items place h.0 h.1 in
+    let same : s.read ≡ h.0 = s.read_is ∙ get_is old.entries.items place h.0 s.read h.1 in
+    let link = ap (λ (e : Entry). e.link) same in
+    let d : Entry = record { mark = Divided g; link = s.read.link; key = s.read.key } in
+    record {
+      before = cut.before;
+      after = cut.after;
+      was = h.0;
+      divided = d;
+      first = s.a;
+      second = s.b;
+      old_entries = cut.whole;
+      place_is = cut.place;
+      opened = h.2;
+      division = record {
+        divided = refl;
+        same_link = link;
+        first = ap (λ (e : Entry). e.mark) s.a_is;
+        first_link = ap (λ (e : Entry). e.link) s.a_is ∙ s.yes_is;
+        second = ap (λ (e : Entry). e.mark) s.b_is;
+        second_link = ap (λ (e : Entry). e.link) s.b_is ∙ s.no_is ∙ omega (arith, ap length s.first_link, length-append old.links.items (link_of s.read.link g true ∷ []));
+      };
+      entries = split_items old.entries.items s.more s.most new.entries.items place h.0 d s.a s.b cut s.put_b s.put_a s.put_d;
+      links = s.second_link ∙ ap (λ l. l ++ link_of s.read.link g false ∷ []) s.first_link ∙ ap (λ n. divided_links old.links.items n g) link;
+      best = s.best;
+    }
+
+pub get_inside : {X : Type 0} (xs : List X) (k : ℕ) (x : X) → slice_get xs k ≡ Some x → k < length xs
+get_inside [] k x e = cc
+get_inside (y ∷ ys) zero x e = omega arith
+get_inside (y ∷ ys) (suc k) x e = omega (arith, get_inside ys k x e)

@@ -1,0 +1,191 @@
+-- What the tree of a search proves at its end.
+use Rattle.std.proofs.Common.{◌≡◌, ℕ, suc, ◌+◌, ◌*◌, ◌≤◌, Bool, true, false, List, [], ◌∷◌, ◌++◌, map, Option, Some, None, length, length-append, refl, sym, ap, ◌∙◌, subst, arith, inl, inr, min}
+use Rattle.std.specs.Prelude.{All, Contains}
+use Rattle.std.specs.List.{AllZip, list_any, filter_map, cons_option, AllByRecursion}
+use Rattle.std.proofs.lemmas.Bool.{or_parts}
+use Rattle.std.proofs.lemmas.List.{map-append}
+use Rattle.std.proofs.lemmas.List.Elements.{All-from_recursion}
+use Rattle.tt_lists.proofs.Sums.{each_weaker, each_both}
+use Rattle.tt_lists.proofs.Members.{member_cases, each_member, at_member}
+use Rattle.tt_leaf.proofs.Lengths.{each_append}
+use Rattle.tt_instance.specs.Problem.{Problem}
+use Rattle.tt_instance.specs.declared.cell.Cell.{Cell}
+use Rattle.tt_rules.specs.Score.{cost}
+use Rattle.tt_facts.specs.declared.facts.Fact.{Fact}
+use Rattle.tt_facts.specs.Live.{least, least_with}
+use Rattle.tt_leaf.specs.Claims.{total_of}
+use Rattle.tt_leaf.specs.declared.leaf.Bound.{Bound}
+use Rattle.tt_leaf.specs.declared.leaf.Bound.TheVariants.{AtLeast}
+use Rattle.tt_leaf.specs.declared.leaf.Leaf.{Leaf}
+use Rattle.tt_proof_text.specs.Trees.{Tree, Close, Branch, OnPath, on_paths, preorder, with_fact}
+use Rattle.tt_proof_text.specs.declared.node.Node.TheVariants as node
+use Rattle.tt_proof_check.specs.Derives.{Derives, IsShallow}
+use Rattle.tt_proof_check.specs.Tells.{IsRightOn, Passes}
+use Rattle.tt_proof_check.proofs.Walking.{passed_tree}
+use Rattle.tt_find.specs.Best.{best_claims, best_leaf}
+use Rattle.tt_branch.specs.declared.entry.Mark.{Mark}
+use Rattle.tt_branch.specs.declared.entry.Mark.TheVariants.{Divided, Closed, Opened, Waiting}
+use Rattle.tt_branch.specs.declared.entry.Entry.{Entry}
+use Rattle.tt_branch.specs.declared.links.Link.{Link}
+use Rattle.tt_branch.specs.Growing.{node_of, IsKnown, Stands, IsGrown, is_open}
+use Rattle.tt_branch.specs.Outcomes.{final_bound}
+use Rattle.tt_branch.specs.Proofs.{SplitsWell, node_worth, worths, IsCheaper, IsGreedy}
+use Rattle.tt_branch.proofs.Growing.{zip_each, zip_length}
+use Rattle.tt_branch.proofs.Searching.{right_for, best_right, no_worth, worth_reaches, splits_well}
+
+-- ---- the shape of a tree
+
+abbrev splits : Tree → ℕ
+splits (Close leaf) = 0
+splits (Branch g a b) = splits a + splits b + 1
+
+pub length-on_paths : (root : List Fact) (tree : Tree) → length (on_paths root tree) ≡ 2 * splits tree + 1
+length-on_paths root (Close leaf) = refl
+length-on_paths root (Branch g a b) =
+    omega (
+      arith,
+      length-append (on_paths (with_fact root g true) a) (on_paths (with_fact root g false) b),
+      length-on_paths (with_fact root g true) a,
+      length-on_paths (with_fact root g false) b,
+    )
+
+depth-le : (root : List Fact) (tree : Tree) → AllByRecursion (λ x. length x.path ≤ length root + splits tree) (on_paths root tree)
+depth-le root (Close leaf) = (omega arith, tt)
+depth-le root (Branch g a b) =
+    let P : OnPath → Type 0 = λ x. length x.path ≤ length root + splits (Branch g a b) in
+    let one = λ (holds : Bool). length-append root (record { pattern = g; holds = holds } ∷ []) in
+    let first = each_weaker (λ x. length x.path ≤ length (with_fact root g true) + splits a) P (λ x h. omega (arith, one true)) (on_paths (with_fact root g true) a) (depth-le (with_fact root g true) a) in
+    let second = each_weaker (λ x. length x.path ≤ length (with_fact root g false) + splits b) P (λ x h. omega (arith, one false)) (on_paths (with_fact root g false) b) (depth-le (with_fact root g false) b) in
+    (omega arith, each_append P (on_paths (with_fact root g true) a) (on_paths (with_fact root g false) b) first second)
+
+pub preorder-on_paths : (root : List Fact) (tree : Tree) → map (λ x. x.node) (on_paths root tree) ≡ preorder tree
+preorder-on_paths root (Close leaf) = refl
+preorder-on_paths root (Branch g a b) =
+    ap (λ l. node.Split g ∷ l) (map-append (λ x. x.node) (on_paths (with_fact root g true) a) (on_paths (with_fact root g false) b)
+    ∙ ap (λ l. l ++ map (λ x. x.node) (on_paths (with_fact root g false) b)) (preorder-on_paths (with_fact root g true) a)
+    ∙ ap (λ l. preorder a ++ l) (preorder-on_paths (with_fact root g false) b))
+
+-- ---- the least worth
+
+least-le : (ns : List ℕ) (v w : ℕ) → least ns ≡ Some v → Contains ns w → v ≤ w
+least-le [] v w e m = absurd (omega (arith, m.1))
+least-le (n ∷ ns) v w e m = by_rest (least ns) refl e (λ u k h. least-le ns u w k h)
+  where
+    by_rest : (o : Option ℕ) → least ns ≡ o → Some (least_with n o) ≡ Some v → ((u : ℕ) → least ns ≡ Some u → Contains ns w → u ≤ w) → v ≤ w
+    by_rest None k h rest =
+        let same : n ≡ v = cc in
+        elim (member_cases n ns w m) [
+          | inl i ↦ omega arith
+          | inr i ↦ absurd (some_least ns w i k)
+        ]
+      where
+        some_least : (ms : List ℕ) (z : ℕ) → Contains ms z → least ms ≡ None → ⊥
+        some_least [] z i j = omega (arith, i.1)
+        some_least (x ∷ xs) z i j = cc
+    by_rest (Some u) k h rest =
+        let same : min n u ≡ v = cc in
+        elim (member_cases n ns w m) [
+          | inl i ↦ omega arith
+          | inr i ↦ omega (arith, rest u k i)
+        ]
+
+given_member : {X : Type 0} (h : X → Option ℕ) (xs : List X) (x : X) (w : ℕ) → Contains xs x → h x ≡ Some w → Contains (filter_map h xs) w
+given_member h [] x w m e = absurd (omega (arith, m.1))
+given_member {X} h (y ∷ ys) x w m e = elim (member_cases y ys x m) [
+  | inl same ↦ first (h y) (ap h same ∙ e)
+  | inr k ↦ behind (h y) (given_member h ys x w k e)
+]
+  where
+    first : (o : Option ℕ) → o ≡ Some w → Contains (cons_option o (filter_map h ys)) w
+    first None k = cc
+    first (Some n) k = let same : n ≡ w = cc in (0, omega arith, same)
+
+    behind : (o : Option ℕ) → Contains (filter_map h ys) w → Contains (cons_option o (filter_map h ys)) w
+    behind None k = k
+    behind (Some n) k = (suc k.0, omega (arith, k.1), k.2)
+
+-- ---- the end
+
+module _ (p : Problem) (best : Option (List Cell)) (links : List Link) (entries : List Entry) (grown : IsGrown p best links entries) where
+  abbrev xs : List OnPath
+  xs = on_paths [] grown.tree
+
+  pub as_many : length xs ≡ length entries
+  as_many = zip_length (Stands p best links) xs entries grown.together
+
+  -- no node is too deep, where there are no more nodes than a search makes
+  pub shallow : length entries ≤ 131073 → AllByRecursion (λ x. length x.path ≤ 65536) xs
+  shallow h = each_weaker (λ x. length x.path ≤ 0 + splits grown.tree) (λ x. length x.path ≤ 65536) (λ x k. omega (arith, as_many, length-on_paths [] grown.tree)) xs (depth-le [] grown.tree)
+
+  pub well_split : All (SplitsWell p) xs
+  well_split = All-from_recursion (SplitsWell p) xs (zip_each (Stands p best links) (SplitsWell p) (splits_well p best links) xs entries grown.together)
+
+  proved_by : (b : Bound) → length entries ≤ 131073 → AllByRecursion (λ x. IsRightOn p b x.path x.node) xs → IsShallow grown.tree × Derives p b [] grown.tree
+  proved_by b h right =
+      passed_tree p b grown.tree (All-from_recursion (Passes p b) xs (each_both (λ x. length x.path ≤ 65536) (λ x. IsRightOn p b x.path x.node) xs (shallow h) right))
+
+  -- ---- each node is closed
+
+  closed_right : (x : OnPath) (m : Mark) → x.node ≡ node_of p x.path m → IsKnown p best x.path m → is_open m ≡ false → IsRightOn p (final_bound p best) x.path x.node
+  closed_right x (Divided g) n k e = subst (IsRightOn p (final_bound p best) x.path) (sym n) tt
+  closed_right x (Closed leaf) n k e = subst (IsRightOn p (final_bound p best) x.path) (sym n) k.right
+  closed_right x (Opened g) n k e = cc
+  closed_right x Waiting n k e = cc
+
+  all_closed : (ys : List OnPath) (es : List Entry) → AllZip (Stands p best links) ys es → list_any (λ e. is_open e.mark) es ≡ false → AllByRecursion (λ x. IsRightOn p (final_bound p best) x.path x.node) ys
+  all_closed [] [] h e = tt
+  all_closed [] (m ∷ es) h e = absurd h
+  all_closed (y ∷ ys) [] h e = absurd h
+  all_closed (y ∷ ys) (m ∷ es) h e =
+      let a = or_parts (is_open m.mark) (list_any (λ k. is_open k.mark) es) e in
+      (closed_right y m.mark h.0.node h.0.known a.0, all_closed ys es h.1 a.1)
+
+  -- where no node is open, the tree derives the cost of the best, or that there is none
+  pub finished_proves : length entries ≤ 131073 → list_any (λ e. is_open e.mark) entries ≡ false → IsShallow grown.tree × Derives p (final_bound p best) [] grown.tree
+  finished_proves h e = proved_by (final_bound p best) h (all_closed xs entries grown.together e)
+
+  -- ---- some nodes are open
+
+  module _ (v : ℕ) (is_least : least (worths p xs) ≡ Some v) where
+    known_right : (x : OnPath) (m : Mark) → x.node ≡ node_of p x.path m → IsKnown p best x.path m → Contains xs x → IsRightOn p (AtLeast v) x.path x.node
+    known_right x m is known i = by_mark m is known
+      where
+        below : (n : ℕ) → node_worth p x.path x.node ≡ Some n → v ≤ n
+        below n k = least-le (worths p xs) v n is_least (given_member (λ y. node_worth p y.path y.node) xs x n i k)
+
+        by_best : x.node ≡ node.Leaf (best_leaf p x.path) → IsRightOn p (AtLeast v) x.path x.node
+        by_best e = subst (IsRightOn p (AtLeast v) x.path) (sym e) (best_right p x.path v (below (total_of p x.path (best_claims p x.path)) (ap (node_worth p x.path) e)))
+
+        by_mark : (n : Mark) → x.node ≡ node_of p x.path n → IsKnown p best x.path n → IsRightOn p (AtLeast v) x.path x.node
+        by_mark (Divided g) e k = subst (IsRightOn p (AtLeast v) x.path) (sym e) tt
+        by_mark (Closed leaf) e k =
+            subst (IsRightOn p (AtLeast v) x.path) (sym e) (right_for p x.path (final_bound p best) leaf v k.right (λ n w. below n (ap (node_worth p x.path) e ∙ w)))
+        by_mark (Opened g) e k = by_best e
+        by_mark Waiting e k = by_best e
+
+    all_known : AllByRecursion (λ x. IsRightOn p (AtLeast v) x.path x.node) xs
+    all_known = each_member (λ x. IsRightOn p (AtLeast v) x.path x.node) xs (λ x i.
+        let w = at_member (λ y. (e : Entry) × Stands p best links y e) xs x (zip_each (Stands p best links) (λ y. (e : Entry) × Stands p best links y e) (λ y e s. (e, s)) xs entries grown.together) i in
+        known_right x w.0.mark w.1.node w.1.known i)
+
+    -- the tree derives the least that a Cost leaf is worth
+    pub unfinished_proves : length entries ≤ 131073 → IsShallow grown.tree × Derives p (AtLeast v) [] grown.tree
+    unfinished_proves h = proved_by (AtLeast v) h all_known
+
+  -- ---- cheap leaves are those of the best claims
+
+  greedy_at : (x : OnPath) (e : Entry) → Stands p best links x e → IsGreedy p best x
+  greedy_at x e s n k c = by_mark e.mark s.node s.known
+    where
+      dear : (o : Option (List Cell)) (leaf : Leaf) → x.node ≡ node.Leaf leaf → IsCheaper p o n → (right : IsRightOn p (final_bound p o) x.path (node.Leaf leaf)) → ⊥
+      dear None leaf e d right = no_worth p x.path leaf n right (sym (ap (node_worth p x.path) e) ∙ k)
+      dear (Some t) leaf e d right = let l = worth_reaches p x.path (cost p t) leaf n right (sym (ap (node_worth p x.path) e) ∙ k) in omega arith
+
+      by_mark : (j : Mark) → x.node ≡ node_of p x.path j → IsKnown p best x.path j → x.node ≡ node.Leaf (best_leaf p x.path)
+      by_mark (Divided g) e j = let a = sym (ap (node_worth p x.path) e) ∙ k in cc
+      by_mark (Closed leaf) e j = absurd (dear best leaf e c j.right)
+      by_mark (Opened g) e j = e
+      by_mark Waiting e j = e
+
+  pub greedy : All (IsGreedy p best) xs
+  greedy = All-from_recursion (IsGreedy p best) xs (zip_each (Stands p best links) (IsGreedy p best) greedy_at xs entries grown.together)

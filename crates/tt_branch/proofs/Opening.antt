@@ -1,0 +1,96 @@
+-- What an opened node comes to.
+use Rattle.std.proofs.Common.{◌≡◌, ℕ, true, false, not, ◌&&◌, List, Option, Some, None, refl, sym, subst, arith, eq-eqb}
+use Rattle.std.specs.Prelude.{◌==◌}
+use Rattle.std.specs.List.{list_any}
+use Rattle.std.proofs.Common.{Bool, inl, inr}
+use Rattle.std.proofs.lemmas.Bool.{and_parts, and_from, or_right, not_from_false, false_from_ne_true, cases_lt}
+use Rattle.tt_lists.proofs.Members.{member_from_any, any_member}
+use Rattle.tt_instance.specs.Problem.{Problem}
+use Rattle.tt_instance.specs.Limits.{IsInstance}
+use Rattle.tt_instance.specs.Cells.{InRange, slot, cell}
+use Rattle.tt_facts.specs.declared.facts.Who.TheVariants.{Course}
+use Rattle.tt_instance.specs.Courses.{unavailable}
+use Rattle.tt_instance.specs.declared.cell.Cell.{Cell}
+use Rattle.tt_rules.specs.Score.{IsFeasible, cost}
+use Rattle.tt_facts.specs.Facts.{matches, same_answer, same_pattern, has_fact}
+use Rattle.tt_facts.specs.Live.{is_live}
+use Rattle.tt_facts.specs.declared.facts.Pattern.{Pattern}
+use Rattle.tt_facts.specs.declared.facts.Fact.{Fact}
+use Rattle.tt_leaf.specs.declared.leaf.Bound.{Bound}
+use Rattle.tt_leaf.specs.declared.leaf.Bound.TheVariants.{AtLeast}
+use Rattle.tt_leaf.proofs.Contradictions.{same_pattern-true}
+use Rattle.tt_find.specs.Best.{best_leaf}
+use Rattle.tt_find.specs.Found.{Closes}
+use Rattle.tt_find.specs.Pinned.{own_pattern, IsPinnedDown, IsOpen}
+use Rattle.tt_find.proofs.LiveCells.{live_cells, live_not_barred}
+use Rattle.tt_find.proofs.Fitting.{is_feasible}
+use Rattle.tt_find.proofs.Closing.{cost-le_total}
+use Rattle.tt_find.proofs.Answering.{best_answer}
+use Rattle.tt_branch.specs.Outcomes.{final_bound}
+use Rattle.tt_branch.specs.Proofs.{IsFree, IsSplitOn}
+use Rattle.tt_branch.specs.Choice.{IsNewSplit}
+use Rattle.tt_branch.proofs.Searching.{IsBetter, best_right}
+
+pub own_matched : (p : Problem) (x : Cell) → matches p (own_pattern x) x ≡ true
+own_matched p x =
+    and_from ((x.course == x.course) && (x.room == x.room) && (x.day == x.day)) (x.period == x.period)
+    (and_from ((x.course == x.course) && (x.room == x.room)) (x.day == x.day)
+    (and_from (x.course == x.course) (x.room == x.room) (eq-eqb x.course x.course refl) (eq-eqb x.room x.room refl)) (eq-eqb x.day x.day refl))
+    (eq-eqb x.period x.period refl)
+
+answer_no : (b : Bool) → same_answer b false ≡ true → b ≡ false
+answer_no true e = absurd cc
+answer_no false e = refl
+
+-- a no-fact of a pattern bars each cell that it matches
+not_denied : (p : Problem) (path : List Fact) (g : Pattern) (x : Cell) → matches p g x ≡ true → is_live p path x ≡ true → has_fact path g false ≡ true → ⊥
+not_denied p path g x matched l e =
+    let w = member_from_any (λ f. same_answer f.holds false && same_pattern f.pattern g) path e in
+    let a = and_parts (same_answer w.0.holds false) (same_pattern w.0.pattern g) w.2 in
+    let m = subst (λ k. matches p k x ≡ true) (sym (same_pattern-true w.0.pattern g a.1)) matched in
+    live_not_barred p path x l
+    (or_right (unavailable p x.course x.day x.period) (list_any (λ f. not f.holds && matches p f.pattern x) path)
+    (any_member (λ f. not f.holds && matches p f.pattern x) path w.0 w.1 (and_from (not w.0.holds) (matches p w.0.pattern x) (not_from_false w.0.holds (answer_no w.0.holds a.0)) m)))
+
+-- a new pattern that aims at a free cell splits a node that is not closed
+pub splits_on : (p : Problem) (path : List Fact) (g : Pattern) (b : Bound) → IsNewSplit p path g → IsOpen p path b → IsSplitOn p path g
+splits_on p path g b s none = record {
+  numbers = s.numbers;
+  not_yes = s.not_yes;
+  not_no = false_from_ne_true (has_fact path g false) (not_denied p path g s.aims.cell s.aims.matched s.aims.is_free.live);
+  unclosed = record { empty = none.empty; many = none.many; clique = none.clique };
+  aims = s.aims;
+}
+
+-- the own pattern of a free cell is new, and aims at it
+pub own_new : (p : Problem) (path : List Fact) (x : Cell) → InRange p x → IsFree p path x → IsNewSplit p path (own_pattern x)
+own_new p path x r f = record {
+  numbers = record { who = r.course; room = r.room; day = r.day; period = r.period };
+  not_yes = f.free;
+  aims = record { cell = x; in_range = r; matched = own_matched p x; is_free = f };
+}
+
+-- where no cell is free, the live cells are a timetable without a broken hard rule, better than the best, and the best claims close the node for its cost
+pub record IsSolved (p : Problem) (path : List Fact) (best : Option (List Cell)) (t : List Cell) : Type 0 where
+  pub feasible : IsFeasible p t
+  pub better : IsBetter p best t
+  pub closes : Closes p path (AtLeast (cost p t)) (best_leaf p path)
+
+better : (p : Problem) (path : List Fact) (best : Option (List Cell)) → IsInstance p → IsPinnedDown p path → IsOpen p path (final_bound p best) → IsBetter p best (live_cells p path)
+better p path None ok pins none = tt
+better p path (Some u) ok pins none = elim (cases_lt (cost p (live_cells p path)) (cost p u)) [
+  | inl h ↦ omega arith
+  | inr h ↦ absurd (none.best (best_right p path (cost p u) (omega (arith, cost-le_total p path pins ok (AtLeast (cost p u)) none))))
+]
+
+pub solved : (p : Problem) (path : List Fact) (best : Option (List Cell)) → IsInstance p → IsPinnedDown p path → IsOpen p path (final_bound p best) → IsSolved p path best (live_cells p path)
+solved p path best ok pins none = record {
+  feasible = is_feasible p path pins (final_bound p best) none;
+  better = better p path best ok pins none;
+  closes = record { right = best_right p path (cost p (live_cells p path)) (cost-le_total p path pins ok (final_bound p best) none); answer = best_answer p path ok };
+}
+
+-- a course in a period matches each of its cells there
+pub period_matched : (p : Problem) (c r d s : ℕ) → matches p (record { who = Course c; room = None; day = Some d; period = Some s }) (cell c r (slot d s)) ≡ true
+period_matched p c r d s =
+    and_from ((c == c) && true && (d == d)) (s == s) (and_from ((c == c) && true) (d == d) (and_from (c == c) true (eq-eqb c c refl) refl) (eq-eqb d d refl)) (eq-eqb s s refl)

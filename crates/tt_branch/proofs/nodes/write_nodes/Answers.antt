@@ -1,0 +1,28 @@
+use Rattle.std.proofs.Common.{refl, sym, ap, ◌∙◌, subst}
+use Rattle.tt_instance.specs.Problem.{Problem}
+use Rattle.tt_proof_check.specs.Nodes.{IsNodeOf}
+use Rattle.tt_branch.specs.Growing.{node_at}
+use Rattle.tt_branch.specs.Written.{IsOnceNode}
+use Rattle.tt_branch.proofs.Taking.{writable_last}
+use Rattle.tt_branch.proofs.nodes.write_nodes.Goals as goal
+
+pub worth_of-requires : goal.worth_of-requires
+worth_of-requires g c = λ κs.
+    let p = g.P.Path.problem c.args.path.now in
+    let links = c.args.links.now in
+    let e = c.in-Some.entry in
+    let same = c.in_ok-node.ensures.same ∙ c.loop-entry.invariant.same in
+    let w = writable_last p links c.args.entries.items c.loop-entry.entries.items c.pop.new.self.items c.loop-entry.invariant.taken.done e c.requires.each c.loop-entry.invariant.taken.split c.in-Some.ensures.items in
+    let node = c.in_ok-node.ensures.node ∙ ap (λ (q : Problem). node_at q links e) c.loop-entry.invariant.same in (
+      (refl, tt),
+      (
+        c.requires.links,
+        (
+          w.reached,
+          (
+            subst (λ (q : Problem). IsNodeOf q c.in_ok-node.node) (sym same) (subst (IsNodeOf p) (sym node) w.numbers),
+            subst IsOnceNode (sym node) w.once,
+          ),
+        ),
+      ),
+    )

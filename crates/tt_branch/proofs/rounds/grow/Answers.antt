@@ -1,0 +1,40 @@
+use Rattle.std.proofs.Common.{◌≡◌, false, List, rules, subst, ◌∙◌, arith}
+use Rattle.std.specs.Prelude.{IfSome, IsNone}
+use Rattle.std.specs.List.{list_any}
+use Rattle.tt_instance.specs.Problem.{Problem}
+use Rattle.tt_branch.specs.declared.entry.Entry.{Entry}
+use Rattle.tt_branch.specs.Growing.{is_open, IsOpenAt}
+use Rattle.tt_branch.specs.Kept.{Advances}
+use Rattle.tt_branch.specs.State.{IsUnderWay}
+use Rattle.tt_branch.proofs.Advancing.{advance_twice, ends_closed, ends_by}
+use Rattle.tt_branch.proofs.rounds.grow.Goals as goal
+
+pub returns-in_default-clause-ends : goal.returns-in_default-clause-ends
+returns-in_default-clause-ends g c =
+    let entries = c.loop-opened.search.entries.items in
+    let none : IsNone c.next_open.result = search rules in
+    let closed = subst (λ (l : List Entry). list_any (λ e. is_open e.mark) l ≡ false) c.as_slice.ensures.value (c.next_open.ensures.none none) in
+    ends_closed c.args.limit c.loop-opened._opened entries c.loop-opened.invariant.opened (omega arith) closed
+
+pub loop-opened-preserved : goal.loop-opened-preserved
+loop-opened-preserved g c =
+    let p = g.P.Path.problem c.args.path.now in
+    let i = c.loop-opened.invariant in
+    let e = c.in_ok-open_next.ensures in
+    let new = c.open_next.new.search in
+    record {
+      same = e.same ∙ i.same;
+      under_way = subst (λ (q : Problem). IsUnderWay q new) i.same e.under_way;
+      better = advance_twice p c.args.search.now.best c.loop-opened.search.best new.best i.better (subst (λ (q : Problem). Advances q c.loop-opened.search.best new.best) i.same e.better);
+      opened = omega (arith, e.opened, i.opened);
+      few = omega (arith, e.many, i.few);
+    }
+
+pub returns-clause-ends : goal.returns-clause-ends
+returns-clause-ends g c =
+    let entries = c.loop-opened.search.entries.items in
+    let value = c.as_slice-2.ensures.value in
+    ends_by c.args.limit entries c.next_open-2.result c.is_none.result c.is_none.ensures
+    (subst (λ (l : List Entry). IfSome c.next_open-2.result (IsOpenAt l)) value c.next_open-2.ensures.some)
+    (subst (λ (l : List Entry). IsNone c.next_open-2.result → list_any (λ e. is_open e.mark) l ≡ false) value c.next_open-2.ensures.none)
+    (omega (arith, c.loop-opened.invariant.opened)) (omega (arith, c.loop-opened.invariant.few))

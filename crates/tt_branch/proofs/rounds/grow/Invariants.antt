@@ -1,0 +1,16 @@
+use Rattle.std.proofs.Common.{◌≡◌, ◌+◌, ◌*◌, ◌≤◌, length}
+use Rattle.tt_branch.specs.Growing.{opened_in}
+use Rattle.tt_branch.specs.Kept.{Advances}
+use Rattle.tt_branch.specs.State.{IsUnderWay}
+use Rattle.tt_branch.proofs.rounds.grow.Given as goal
+
+abbrev pub invariant-loop-opened : goal.invariant-loop-opened
+invariant-loop-opened g l =
+    let p = g.P.Path.problem l.fn.path in
+    record {
+      same : g.P.Path.problem l.path ≡ p;
+      under_way : IsUnderWay p l.search;
+      better : Advances p l.fn.search.best l.search.best;
+      opened : opened_in l.search.entries.items ≡ l._opened;
+      few : length l.search.entries.items + 1 ≤ 2 * l._opened;
+    }

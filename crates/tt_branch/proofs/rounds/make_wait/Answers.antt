@@ -1,0 +1,17 @@
+use Rattle.std.proofs.Common.{refl, sym, ap, ◌∙◌}
+use Rattle.tt_branch.specs.declared.entry.Entry.{Entry}
+use Rattle.tt_branch.specs.Growing.{is_open}
+use Rattle.tt_branch.proofs.Dividing.{get_is}
+use Rattle.tt_branch.proofs.Advancing.{waits_split, waits_same}
+use Rattle.tt_branch.proofs.rounds.make_wait.Goals as goal
+
+pub returns-in_ok-split-in-Some : goal.returns-in_ok-split-in-Some
+returns-in_ok-split-in-Some c = record { made = waits_split c.args.place c.in-Some.pattern c.args.search.now c.split.new.search c.in_ok-split-in-Some.ensures }
+
+pub returns-in-None : goal.returns-in-None
+returns-in-None c =
+    let e = c.requires.0 in
+    let read = c.index.result.now in
+    let same = ap (λ (x : Entry). x.mark) (c.index.ensures ∙ get_is c.args.search.now.entries.items c.args.place e read c.requires.1) in
+    let waits = c.in-None.ensures.none refl (ap is_open same ∙ c.requires.2) in
+    record { made = waits_same c.args.place c.args.search.now (e, c.requires.1, sym same ∙ waits) }

@@ -1,0 +1,28 @@
+use Rattle.std.proofs.Common.{◌∷◌, ◌++◌, [], sym, ap, ◌∙◌, subst, refl, List}
+use Rattle.std.specs.Prelude.{slice_get}
+use Rattle.tt_branch.specs.declared.entry.Entry.{Entry}
+use Rattle.tt_branch.specs.declared.entry.Mark.TheVariants.{Waiting}
+use Rattle.tt_branch.specs.Growing.{IsGrown}
+use Rattle.tt_branch.specs.Kept.{table_of}
+use Rattle.tt_branch.specs.Links.{AreLinks}
+use Rattle.tt_branch.proofs.Chains.{no_links}
+use Rattle.tt_branch.proofs.Searching.{grow_root}
+use Rattle.tt_branch.proofs.search.Search.new.Goals as goal
+
+abbrev root : Entry
+root = record { mark = Waiting; link = 0; key = 0 }
+
+pub returns-clause-under_way : goal.returns-clause-under_way
+returns-clause-under_way c = λ p k.
+    let items = c.in_ok-push.ensures.items ∙ ap (λ l. l ++ root ∷ []) c.new-entries.ensures.items in
+    let links = c.new.ensures.items in
+    record {
+      kept = k;
+      links = subst AreLinks (sym links) no_links;
+      grown = subst (λ l. IsGrown p (table_of c.args.best) l c.push.new.self.items) (sym links) (subst (λ es. IsGrown p (table_of c.args.best) [] es) (sym items) (grow_root p (table_of c.args.best) root refl refl));
+    }
+
+pub returns-clause-waiting : goal.returns-clause-waiting
+returns-clause-waiting c =
+    let items = c.in_ok-push.ensures.items ∙ ap (λ l. l ++ root ∷ []) c.new-entries.ensures.items in
+    (root, ap (λ (l : List Entry). slice_get l 0) items, refl)

@@ -1,0 +1,59 @@
+use Rattle.std.proofs.Common.{List, Option, Some, refl, sym, ap, ◌∙◌, subst}
+use Rattle.std.specs.Prelude.{All}
+use Rattle.std.proofs.lemmas.Bool.{not_from_false}
+use Rattle.tt_instance.specs.Problem.{Problem}
+use Rattle.tt_instance.specs.Limits.{IsInstance}
+use Rattle.tt_instance.specs.declared.cell.Cell.{Cell}
+use Rattle.tt_facts.specs.Live.{least}
+use Rattle.tt_leaf.specs.declared.leaf.Bound.{Bound}
+use Rattle.tt_proof_check.specs.Derives.{HoldsOfAll}
+use Rattle.tt_proof_check.specs.Nodes.{IsNodeOf}
+use Rattle.tt_branch.specs.declared.links.Link.{Link}
+use Rattle.tt_branch.specs.Growing.{nodes_of, worths_of}
+use Rattle.tt_branch.specs.Kept.{table_of}
+use Rattle.tt_branch.specs.Links.{AreLinks}
+use Rattle.tt_branch.specs.Outcomes.{IsOutcome}
+use Rattle.tt_branch.specs.Written.{IsWritable}
+use Rattle.tt_branch.proofs.Concluding.{writable, few_ended, each_numbers, concluded}
+use Rattle.tt_branch.proofs.solving.conclude.Goals as goal
+
+pub write_nodes-requires : goal.write_nodes-requires
+write_nodes-requires g c = λ κs.
+    let p = g.P.Path.problem c.args.path.now in
+    let s = c.args.search in
+    let ok = subst IsInstance c.instance.ensures c.days.ensures.instance in
+    let few = few_ended c.args.limit s.entries.items c.args.finished c.requires.few c.requires.ends in
+    let links = sym c.as_slice.ensures.value in (
+      (refl, tt),
+      (
+        subst AreLinks links c.requires.under_way.links,
+        subst (λ (l : List Link). All (IsWritable p l) s.entries.items) links (writable p ok (table_of s.best) s.links.items s.entries.items c.requires.under_way.grown few),
+      ),
+    )
+
+pub prove_bound-requires : goal.prove_bound-requires
+prove_bound-requires g c = λ κs.
+    let p = g.P.Path.problem c.args.path.now in
+    let s = c.args.search in
+    let ok = subst IsInstance c.instance.ensures c.days.ensures.instance in
+    let is = c.in_ok-nodes.ensures.nodes ∙ ap (λ (l : List Link). nodes_of p l s.entries.items) c.as_slice.ensures.value in
+    let all = each_numbers p ok s c.requires.under_way c.args.limit c.requires.few c.in_ok-nodes.field-0.nodes.items is in (
+      (refl, tt),
+      subst (λ (q : Problem). All (IsNodeOf q) c.as_slice-2.result.now) (sym c.in_ok-nodes.ensures.same) (subst (All (IsNodeOf p)) (sym c.as_slice-2.ensures.value) all),
+    )
+
+pub returns : goal.returns
+returns g c =
+    let p = g.P.Path.problem c.args.path.now in
+    let s = c.args.search in
+    let ok = subst IsInstance c.instance.ensures c.days.ensures.instance in
+    let nodes = c.in_ok-nodes.field-0.nodes.items in
+    let is = c.in_ok-nodes.ensures.nodes ∙ ap (λ (l : List Link). nodes_of p l s.entries.items) c.as_slice.ensures.value in
+    let lowest = c.in_ok-nodes.field-0.least in
+    let shown = c.shown-bound.ensures p c.requires.under_way.kept in
+    let holds = subst (λ (q : Problem). HoldsOfAll q c.shown-bound.result) c.in_ok-nodes.ensures.same c.in_ok-prove_bound.ensures in
+    let done = concluded p ok s c.requires.under_way c.args.limit c.requires.few nodes is c.args.finished lowest c.requires.begun c.requires.ends
+    (λ e. c.in_ok-nodes.ensures.least (not_from_false c.args.finished e) ∙ ap (λ (l : List Link). least (worths_of p l s.entries.items)) c.as_slice.ensures.value)
+    (subst (HoldsOfAll p) shown holds) in
+    subst (λ (t : Option (List Cell)). IsOutcome p c.args.limit t c.shown-bound.result (Some nodes) c.args.finished) (sym c.table_in.ensures)
+    (subst (λ (b : Bound). IsOutcome p c.args.limit (table_of s.best) b (Some nodes) c.args.finished) (sym shown) done)

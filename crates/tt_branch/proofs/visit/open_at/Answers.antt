@@ -1,0 +1,79 @@
+use Rattle.std.proofs.Common.{◌≡◌, ℕ, ◌≤◌, List, length, refl, sym, ap, ◌∙◌, subst, arith}
+use Rattle.tt_instance.specs.Problem.{Problem}
+use Rattle.tt_facts.specs.declared.facts.Fact.{Fact}
+use Rattle.tt_find.specs.Found.{ArePatterns}
+use Rattle.tt_branch.specs.declared.entry.Entry.{Entry}
+use Rattle.tt_branch.specs.declared.links.Link.{Link}
+use Rattle.tt_branch.specs.Kept.{IsKept, table_of}
+use Rattle.tt_branch.specs.Links.{path_at, AreLinks}
+use Rattle.tt_branch.proofs.Dividing.{get_is, get_inside}
+use Rattle.tt_branch.proofs.Advancing.{IsThere, each_at, each_there, opening_there}
+use Rattle.tt_branch.proofs.visit.open_at.Goals as goal
+
+pub go_to-requires : goal.go_to-requires
+go_to-requires g c = λ κs.
+    let p = g.P.Path.problem c.args.path.now in
+    let s = c.args.search.now in
+    let e = c.requires.waiting.0 in
+    let there = each_at (IsThere p s.links.items) s.entries.items c.args.place e (each_there p (table_of s.best) s.links.items s.entries.items c.requires.under_way.grown c.requires.few) c.requires.waiting.1 in
+    let read = c.index.result.now in
+    let link = ap (λ (x : Entry). x.link) (c.index.ensures ∙ get_is s.entries.items c.args.place e read c.requires.waiting.1) in
+    let links = sym c.as_slice.ensures.value in (
+      (refl, tt),
+      (
+        subst AreLinks links c.requires.under_way.links,
+        (
+          subst (λ (l : List Link). read.link ≤ length l) links (subst (λ (n : ℕ). n ≤ length s.links.items) (sym link) there.reached.within),
+          subst (λ (l : List Link). length (path_at l read.link) ≤ 65536) links (subst (λ (n : ℕ). length (path_at s.links.items n) ≤ 65536) (sym link) there.reached.depth),
+        ),
+      ),
+    )
+
+pub open-requires : goal.open-requires
+open-requires g c = λ κs.
+    let p = g.P.Path.problem c.args.path.now in
+    let s = c.args.search.now in
+    let e = c.requires.waiting.0 in
+    let there = each_at (IsThere p s.links.items) s.entries.items c.args.place e (each_there p (table_of s.best) s.links.items s.entries.items c.requires.under_way.grown c.requires.few) c.requires.waiting.1 in
+    let read = c.index.result.now in
+    let link = ap (λ (x : Entry). x.link) (c.index.ensures ∙ get_is s.entries.items c.args.place e read c.requires.waiting.1) in
+    let same = sym c.in_ok-go_to.ensures.same in
+    let facts : path_at s.links.items e.link ≡ g.P.Path.facts c.go_to.new.path =
+    sym (c.in_ok-go_to.ensures.there ∙ ap (λ (l : List Link). path_at l read.link) c.as_slice.ensures.value ∙ ap (path_at s.links.items) link) in (
+      (refl, tt),
+      (
+        subst (λ (q : Problem). IsKept q s.best) same c.requires.under_way.kept,
+        subst (λ (q : Problem). ArePatterns q (g.P.Path.facts c.go_to.new.path)) same (subst (λ (l : List Fact). ArePatterns p l) facts there.patterns),
+      ),
+    )
+
+pub put-requires : goal.put-requires
+put-requires g c =
+    let s = c.args.search.now in
+    omega (arith, get_inside s.entries.items c.args.place c.requires.waiting.0 c.requires.waiting.1, s.entries.ok.0)
+
+pub returns-clause-under_way : goal.returns-clause-under_way
+returns-clause-under_way g c =
+    let p = g.P.Path.problem c.args.path.now in
+    let s = c.args.search.now in
+    let read = c.index.result.now in
+    let put : Entry = record { mark = c.in_ok-mark.field-0.mark; link = read.link; key = c.in_ok-mark.field-0.key } in
+    let there = c.in_ok-go_to.ensures.there ∙ ap (λ (l : List Link). path_at l read.link) c.as_slice.ensures.value in
+    let made = opening_there p (g.P.Path.problem c.go_to.new.path) (g.P.Path.facts c.go_to.new.path) s.best c.open.new.best s.links.items s.entries.items c.put.new.entries.items c.args.place read put
+    c.in_ok-go_to.ensures.same there c.index.ensures c.requires.waiting c.requires.under_way.grown c.in_ok-mark.ensures.better c.in_ok-mark.ensures.known c.in_ok-mark.ensures.opened c.in_ok-mark.ensures.single refl c.put.ensures in
+    record {
+      kept = subst (λ (q : Problem). IsKept q c.open.new.best) c.in_ok-go_to.ensures.same c.in_ok-mark.ensures.better.kept;
+      links = c.requires.under_way.links;
+      grown = made.grown;
+    }
+
+pub returns-clause-opened : goal.returns-clause-opened
+returns-clause-opened g c =
+    let p = g.P.Path.problem c.args.path.now in
+    let s = c.args.search.now in
+    let read = c.index.result.now in
+    let put : Entry = record { mark = c.in_ok-mark.field-0.mark; link = read.link; key = c.in_ok-mark.field-0.key } in
+    let there = c.in_ok-go_to.ensures.there ∙ ap (λ (l : List Link). path_at l read.link) c.as_slice.ensures.value in
+    let made = opening_there p (g.P.Path.problem c.go_to.new.path) (g.P.Path.facts c.go_to.new.path) s.best c.open.new.best s.links.items s.entries.items c.put.new.entries.items c.args.place read put
+    c.in_ok-go_to.ensures.same there c.index.ensures c.requires.waiting c.requires.under_way.grown c.in_ok-mark.ensures.better c.in_ok-mark.ensures.known c.in_ok-mark.ensures.opened c.in_ok-mark.ensures.single refl c.put.ensures in
+    made.opened

@@ -1,0 +1,27 @@
+-- The best timetable of a search, and what a better one leaves true.
+use Rattle.std.specs.Prelude.{◌≡◌, List, Option, IfSome, option_map}
+use Rattle.tt_instance.specs.Problem.{Problem}
+use Rattle.tt_instance.specs.declared.cell.Cell.{Cell}
+use Rattle.tt_rules.specs.Score.{IsFeasible, cost}
+use Rattle.tt_branch.specs.declared.best.Best.{Best}
+use Rattle.tt_branch.specs.declared.entry.Entry.{Entry}
+use Rattle.tt_branch.specs.declared.links.Link.{Link}
+use Rattle.tt_branch.specs.Growing.{IsGrown}
+use Rattle.tt_branch.specs.Outcomes.{IsNoDearer}
+
+-- it breaks no hard rule, and its cost is the one that is told
+pub record IsCosted (p : Problem) (b : Best) : Type 0 where
+  pub feasible : IsFeasible p b.table
+  pub cost : b.cost ≡ cost p b.table
+
+abbrev pub IsKept : Problem → Option Best → Type 0
+IsKept p best = IfSome best (IsCosted p)
+
+abbrev pub table_of : Option Best → Option (List Cell)
+table_of best = option_map (λ b. b.table) best
+
+-- What was true of the nodes by the old best is true of them by the new one, and it is no dearer.
+pub record Advances (p : Problem) (old new : Option Best) : Type 0 where
+  pub kept : IsKept p new
+  pub grown : (links : List Link) (entries : List Entry) → IsGrown p (table_of old) links entries → IsGrown p (table_of new) links entries
+  pub no_dearer : (t : List Cell) → IsNoDearer p (table_of old) t → IsNoDearer p (table_of new) t

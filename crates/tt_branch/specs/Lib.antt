@@ -1,0 +1,9 @@
+pub mod Choice
+pub mod Growing
+pub mod Kept
+pub mod Links
+pub mod Outcomes
+pub mod Proofs
+pub mod State
+pub mod Steps
+pub mod Written

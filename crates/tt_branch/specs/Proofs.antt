@@ -1,0 +1,103 @@
+-- What is true of the proof that a search answers.
+use Rattle.std.specs.Prelude.{◌≡◌, ℕ, ◌<◌, Bool, true, false, List, [], ◌∷◌, Option, Some, None, length, All, Contains, ⊤}
+use Rattle.std.specs.List.{filter_map}
+use Rattle.tt_instance.specs.Problem.{Problem}
+use Rattle.tt_instance.specs.Cells.{InRange}
+use Rattle.tt_instance.specs.declared.cell.Cell.{Cell}
+use Rattle.tt_rules.specs.Score.{cost}
+use Rattle.tt_facts.specs.Facts.{IsPattern, matches, has_fact}
+use Rattle.tt_facts.specs.Live.{is_live}
+use Rattle.tt_facts.specs.declared.facts.Pattern.{Pattern}
+use Rattle.tt_facts.specs.declared.facts.Fact.{Fact}
+use Rattle.tt_leaf.specs.Claims.{total_of}
+use Rattle.tt_leaf.specs.Leaves.{IsRight}
+use Rattle.tt_leaf.specs.declared.leaf.Bound.{Bound}
+use Rattle.tt_leaf.specs.declared.leaf.Bound.TheVariants.{AtLeast, Nothing}
+use Rattle.tt_leaf.specs.declared.leaf.Leaf.{Leaf}
+use Rattle.tt_leaf.specs.declared.leaf.Leaf.TheVariants.{Empty, Many, Clique, Slots, Cost}
+use Rattle.tt_proof_text.specs.Spelling.{IsShortLeaf}
+use Rattle.tt_proof_text.specs.Trees.{Tree, preorder, OnPath, on_paths}
+use Rattle.tt_proof_text.specs.declared.node.Node.{Node}
+use Rattle.tt_proof_text.specs.declared.node.Node.TheVariants as node
+use Rattle.tt_proof_write.specs.Within.{AreWithin}
+use Rattle.tt_proof_check.specs.Derives.{Derives}
+use Rattle.tt_proof_check.specs.Nodes.{IsNodeOf}
+use Rattle.tt_find.specs.Best.{best_leaf}
+use Rattle.tt_find.specs.Pinned.{own_pattern}
+
+-- ---- splits
+
+-- the cell is live, and its own pattern does not stand on the path as yes
+pub record IsFree (p : Problem) (path : List Fact) (x : Cell) : Type 0 where
+  pub live : is_live p path x ≡ true
+  pub free : has_fact path (own_pattern x) true ≡ false
+
+-- the pattern matches a live cell whose own pattern does not stand on the path as yes
+pub record Aims (p : Problem) (path : List Fact) (g : Pattern) : Type 0 where
+  pub cell : Cell
+  pub in_range : InRange p cell
+  pub matched : matches p g cell ≡ true
+  pub is_free : IsFree p path cell
+
+-- No Empty leaf of a yes-fact is right there, no Many leaf and no Clique of one course; the bound says nothing for these.
+pub record IsUnclosed (p : Problem) (path : List Fact) : Type 0 where
+  pub empty : (f : Fact) → Contains path f → f.holds ≡ true → ¬ IsRight p path Nothing (Empty f.pattern)
+  pub many : (c : ℕ) → c < length p.courses → ¬ IsRight p path Nothing (Many c)
+  pub clique : (c : ℕ) → c < length p.courses → ¬ IsRight p path Nothing (Clique (c ∷ []))
+
+-- The pattern is new on the path and aims at a free cell, and the node was not closed.
+pub record IsSplitOn (p : Problem) (path : List Fact) (g : Pattern) : Type 0 where
+  pub numbers : IsPattern p g
+  pub not_yes : has_fact path g true ≡ false
+  pub not_no : has_fact path g false ≡ false
+  pub unclosed : IsUnclosed p path
+  pub aims : Aims p path g
+
+abbrev pub SplitsWell : Problem → OnPath → Type 0
+SplitsWell p x = (g : Pattern) → x.node ≡ node.Split g → IsSplitOn p x.path g
+
+abbrev pub IsShortNode : Node → Type 0
+IsShortNode (node.Split g) = ⊤
+IsShortNode (node.Leaf leaf) = IsShortLeaf leaf
+
+-- A proof of the bound: its numbers are the instance's, and only its bytes can be too many for a file.
+pub record IsSearched (p : Problem) (b : Bound) (tree : Tree) (nodes : List Node) : Type 0 where
+  pub spelled : preorder tree ≡ nodes
+  pub derives : Derives p b [] tree
+  pub splits : All (SplitsWell p) (on_paths [] tree)
+  pub numbers : All (IsNodeOf p) nodes
+  pub short : All IsShortNode nodes
+  pub within : AreWithin b nodes
+
+-- ---- cost leaves
+
+-- what a Cost leaf is worth on its path
+abbrev pub leaf_worth : Problem → List Fact → Leaf → Option ℕ
+leaf_worth p path (Empty g) = None
+leaf_worth p path (Many c) = None
+leaf_worth p path (Clique cs) = None
+leaf_worth p path (Slots cs) = None
+leaf_worth p path (Cost claims) = Some (total_of p path claims)
+
+abbrev pub node_worth : Problem → List Fact → Node → Option ℕ
+node_worth p path (node.Split g) = None
+node_worth p path (node.Leaf leaf) = leaf_worth p path leaf
+
+-- what the Cost leaves are worth, in preorder
+abbrev pub worths : Problem → List OnPath → List ℕ
+worths p xs = filter_map (λ x. node_worth p x.path x.node) xs
+
+-- less than the best timetable costs; any number is where there is none
+abbrev pub IsCheaper : Problem → Option (List Cell) → ℕ → Type 0
+IsCheaper p None n = ⊤
+IsCheaper p (Some t) n = n < cost p t
+
+-- a Cost leaf that is worth less than the best costs is that of the best claims
+abbrev pub IsGreedy : Problem → Option (List Cell) → OnPath → Type 0
+IsGreedy p best x = (n : ℕ) → node_worth p x.path x.node ≡ Some n → IsCheaper p best n → x.node ≡ node.Leaf (best_leaf p x.path)
+
+-- what is proved in the end: of a finished search its own bound, else the least worth
+abbrev pub shown_bound : Bound → Option ℕ → Bool → Bound
+shown_bound b least true = b
+shown_bound b None false = AtLeast 0
+shown_bound b (Some n) false = AtLeast n

@@ -1,0 +1,47 @@
+-- The state of a search.
+use Rattle.std.specs.Prelude.{◌≡◌, ℕ, ◌+◌, ◌*◌, ◌≤◌, Bool, true, false, List, ◌∷◌, ◌++◌, length}
+use Rattle.std.specs.List.{list_any}
+use Rattle.tt_instance.specs.Problem.{Problem}
+use Rattle.tt_facts.specs.declared.facts.Pattern.{Pattern}
+use Rattle.tt_branch.specs.declared.entry.Mark.TheVariants.{Opened, Waiting}
+use Rattle.tt_branch.specs.declared.entry.Entry.{Entry}
+use Rattle.tt_branch.specs.declared.search.Search.{Search}
+use Rattle.tt_branch.specs.Growing.{IsGrown, HasMark, is_open, opened_in}
+use Rattle.tt_branch.specs.Kept.{IsKept, table_of}
+use Rattle.tt_branch.specs.Links.{AreLinks, divided_links}
+use Rattle.tt_branch.specs.Steps.{IsDivision}
+
+-- the best is one, the links lead back, and the entries are a tree's
+pub record IsUnderWay (p : Problem) (s : Search) : Type 0 where
+  pub kept : IsKept p s.best
+  pub links : AreLinks s.links.items
+  pub grown : IsGrown p (table_of s.best) s.links.items s.entries.items
+
+-- the opened node at the place is split: its two children stand behind it
+pub record IsSplitAt (place : ℕ) (g : Pattern) (old new : Search) : Type 0 where
+  pub before : List Entry
+  pub after : List Entry
+  pub was : Entry
+  pub divided : Entry
+  pub first : Entry
+  pub second : Entry
+  pub old_entries : old.entries.items ≡ before ++ was ∷ after
+  pub place_is : length before ≡ place
+  pub opened : was.mark ≡ Opened g
+  pub division : IsDivision old.links.items was g divided first second
+  pub entries : new.entries.items ≡ before ++ divided ∷ first ∷ second ∷ after
+  pub links : new.links.items ≡ divided_links old.links.items was.link g
+  pub best : new.best ≡ old.best
+
+-- the open node at the place waits, or it was split and its first child waits; nothing else is new
+pub record MakesWait (place : ℕ) (old : Search) (next : ℕ) (new : Search) : Type 0 where
+  pub under_way : (p : Problem) → IsUnderWay p old → IsUnderWay p new
+  pub waiting : HasMark new.entries.items next Waiting
+  pub opened : opened_in new.entries.items ≡ opened_in old.entries.items
+  pub many : length new.entries.items ≤ length old.entries.items + 2
+  pub best : new.best ≡ old.best
+
+-- No node is open, and no more were made than may be opened; or some node is open, so many were opened, and the others are few.
+abbrev pub EndsAt : ℕ → List Entry → Bool → Type 0
+EndsAt limit entries true = (list_any (λ e. is_open e.mark) entries ≡ false) × (length entries ≤ limit)
+EndsAt limit entries false = (list_any (λ e. is_open e.mark) entries ≡ true) × (limit ≤ length entries) × (length entries + 1 ≤ 2 * limit)

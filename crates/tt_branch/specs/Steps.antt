@@ -1,0 +1,36 @@
+-- The steps of a search, as the code makes them. Nobody has to believe them.
+use Rattle.std.specs.Prelude.{◌≡◌, ℕ, ◌+◌, List, length, map, flat_map, Option, Some, None}
+use Rattle.tt_lists.specs.Words.{numbers_below}
+use Rattle.tt_instance.specs.Problem.{Problem}
+use Rattle.tt_instance.specs.Cells.{slot, cell, all_days, all_rooms}
+use Rattle.tt_instance.specs.declared.cell.Cell.{Cell}
+use Rattle.tt_facts.specs.Live.{least_with}
+use Rattle.tt_facts.specs.declared.facts.Pattern.{Pattern}
+use Rattle.tt_branch.specs.declared.entry.Mark.TheVariants.{Divided, Waiting}
+use Rattle.tt_branch.specs.declared.entry.Entry.{Entry}
+use Rattle.tt_branch.specs.declared.links.Link.{Link}
+
+-- the entries of a node that is split and of its children, which wait
+pub record IsDivision (links : List Link) (e : Entry) (g : Pattern) (d a b : Entry) : Type 0 where
+  pub divided : d.mark ≡ Divided g
+  pub same_link : d.link ≡ e.link
+  pub first : a.mark ≡ Waiting
+  pub first_link : a.link ≡ length links + 1
+  pub second : b.mark ≡ Waiting
+  pub second_link : b.link ≡ length links + 2
+
+-- the lesser of what is worth and the least so far
+abbrev pub lower : Option ℕ → Option ℕ → Option ℕ
+lower None least = least
+lower (Some n) least = Some (least_with n least)
+
+-- ---- the cells of an instance, one number at a time
+
+abbrev pub cells_on : Problem → ℕ → ℕ → ℕ → List Cell
+cells_on p c r d = map (λ s. cell c r (slot d s)) (numbers_below p.periods)
+
+abbrev pub cells_in : Problem → ℕ → ℕ → List Cell
+cells_in p c r = flat_map (cells_on p c r) (all_days p)
+
+abbrev pub cells_of : Problem → ℕ → List Cell
+cells_of p c = flat_map (cells_in p c) (all_rooms p)

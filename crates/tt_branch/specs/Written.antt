@@ -1,0 +1,34 @@
+-- Entries that can be written as nodes of a proof.
+use Rattle.std.specs.Prelude.{◌≡◌, ℕ, ◌≤◌, Bool, true, List, ◌++◌, length, reverse, Option, ⊤}
+use Rattle.tt_facts.specs.Live.{least}
+use Rattle.tt_instance.specs.Problem.{Problem}
+use Rattle.tt_leaf.specs.Outcomes.{IsClaimedOnce}
+use Rattle.tt_proof_text.specs.declared.node.Node.{Node}
+use Rattle.tt_proof_text.specs.declared.node.Node.TheVariants as node
+use Rattle.tt_proof_check.specs.Nodes.{IsNodeOf}
+use Rattle.tt_branch.specs.declared.entry.Entry.{Entry}
+use Rattle.tt_branch.specs.declared.links.Link.{Link}
+use Rattle.tt_branch.specs.Growing.{node_at, nodes_of, worths_of}
+use Rattle.tt_branch.specs.Links.{path_at}
+
+-- there is such a node, and its facts fit on a path
+pub record IsReached (links : List Link) (place : ℕ) : Type 0 where
+  pub within : place ≤ length links
+  pub depth : length (path_at links place) ≤ 65536
+
+-- a leaf claims no target twice
+abbrev pub IsOnceNode : Node → Type 0
+IsOnceNode (node.Split g) = ⊤
+IsOnceNode (node.Leaf leaf) = IsClaimedOnce leaf
+
+pub record IsWritable (p : Problem) (links : List Link) (e : Entry) : Type 0 where
+  pub reached : IsReached links e.link
+  pub numbers : IsNodeOf p (node_at p links e)
+  pub once : IsOnceNode (node_at p links e)
+
+-- the entries behind those that are left are written, the last one first
+pub record IsTaken (p : Problem) (links : List Link) (valued : Bool) (all left : List Entry) (nodes : List Node) (lowest : Option ℕ) : Type 0 where
+  pub done : List Entry
+  pub split : all ≡ left ++ done
+  pub written : nodes ≡ reverse (nodes_of p links done)
+  pub lowest_is : valued ≡ true → lowest ≡ least (worths_of p links done)

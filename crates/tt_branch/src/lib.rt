@@ -1,0 +1,18 @@
+//! Branch and bound.
+#![tactic(auto)]
+
+mod best;
+mod choice;
+mod entry;
+mod free;
+mod leeway;
+mod links;
+mod live;
+mod moves;
+mod nodes;
+mod rounds;
+mod search;
+mod solving;
+mod visit;
+
+pub use solving::{Outcome, solve};

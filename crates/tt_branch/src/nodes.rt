@@ -1,0 +1,115 @@
+//! The proof that a tree is.
+
+ghost use Rattle.std.specs.Prelude.{◌≡◌, ◌≤◌, length, true, IfOk, All, IsTrue};
+ghost use Rattle.tt_facts.specs.Live.{least};
+ghost use Rattle.tt_proof_check.specs.Nodes.{IsNodeOf};
+ghost use Rattle.tt_branch.specs.Growing.{node_at, worth_at, nodes_of, worths_of};
+ghost use Rattle.tt_branch.specs.Links.{path_at, AreLinks};
+ghost use Rattle.tt_branch.specs.Proofs.{node_worth};
+ghost use Rattle.tt_branch.specs.Steps.{lower};
+ghost use Rattle.tt_branch.specs.Written.{IsReached, IsWritable, IsOnceNode};
+
+use crate::entry::{Entry, Mark};
+use crate::links::Link;
+use crate::visit::go_to;
+use std::alloc::{AllocError, Global};
+use tt_facts::Path;
+use tt_find::best_claims;
+use tt_leaf::{Leaf, leaf_value};
+use tt_proof_text::Node;
+
+/// The nodes of a proof in preorder, and the least that a Cost leaf is worth, where that was asked.
+#[derive(Drop)]
+pub struct Written {
+    pub nodes: Vec<Node>,
+    pub least: Option<u64>,
+}
+
+/// The node of an entry; an open one is closed by the best claims.
+fn node_for<'i, P: Path<'i>>(
+    alloc: Global,
+    path: &mut P,
+    links: &[Link],
+    entry: Entry,
+) -> Result<Node, AllocError>
+    requires links { AreLinks links.now }
+    requires reached { IsReached links.now entry.link }
+    ensures node { IfOk result (λ n. n ≡ node_at (P.problem path.old) links.now entry) }
+    ensures same { P.problem path.new ≡ P.problem path.old }
+{
+    let Entry { mark, link, .. } = entry;
+    match mark {
+        Mark::Divided(pattern) => Ok(Node::Split(pattern)),
+        Mark::Closed(leaf) => Ok(Node::Leaf(leaf)),
+        Mark::Opened(_) | Mark::Waiting => {
+            go_to(alloc, path, links, link)?;
+            Ok(Node::Leaf(best_claims(alloc, path)?))
+        }
+    }
+}
+
+/// What a node is worth on its path, where it is a Cost leaf.
+fn worth_of<'i, P: Path<'i>>(
+    alloc: Global,
+    path: &mut P,
+    links: &[Link],
+    link: usize,
+    node: &Node,
+) -> Result<Option<u64>, AllocError>
+    requires links { AreLinks links.now }
+    requires reached { IsReached links.now link }
+    requires numbers { IsNodeOf (P.problem path.old) node.now }
+    requires once { IsOnceNode node.now }
+    ensures worth { IfOk result (λ w. w ≡ node_worth (P.problem path.old) (path_at links.now link) node.now) }
+    ensures same { P.problem path.new ≡ P.problem path.old }
+{
+    match node {
+        Node::Leaf(leaf) => {
+            if !matches!(leaf, Leaf::Cost(_)) {
+                return Ok(None);
+            }
+            go_to(alloc, path, links, link)?;
+            Ok(Some(leaf_value(path, leaf)))
+        }
+        Node::Split(_) => Ok(None),
+    }
+}
+
+fn lower(worth: Option<u64>, least: Option<u64>) -> Option<u64>
+    ensures { result ≡ lower worth least }
+{
+    match (worth, least) {
+        (None, _) => least,
+        (Some(n), None) => Some(n),
+        (Some(n), Some(m)) => Some(n.min(m)),
+    }
+}
+
+/// The proof that entries are, and what its cheapest Cost leaf is worth, if that is asked.
+pub fn write_nodes<'i, P: Path<'i>>(
+    alloc: Global,
+    path: &mut P,
+    links: &[Link],
+    entries: Vec<Entry>,
+    valued: bool,
+) -> Result<Written, AllocError>
+    requires links { AreLinks links.now }
+    requires each { All (IsWritable (P.problem path.old) links.now) entries.items }
+    ensures nodes { IfOk result (λ w. w.nodes.items ≡ nodes_of (P.problem path.old) links.now entries.items) }
+    ensures least { IfOk result (λ w. valued ≡ true → w.least ≡ least (worths_of (P.problem path.old) links.now entries.items)) }
+    ensures same { P.problem path.new ≡ P.problem path.old }
+{
+    let mut entries = entries;
+    let mut nodes = Vec::new(alloc);
+    let mut least = None;
+    while let Some(entry) = entries.pop() {
+        let link = entry.link;
+        let node = node_for(alloc, path, links, entry)?;
+        if valued {
+            least = lower(worth_of(alloc, path, links, link, &node)?, least);
+        }
+        nodes.push(node)?;
+    }
+    nodes.as_mut_slice().reverse();
+    Ok(Written { nodes, least })
+}

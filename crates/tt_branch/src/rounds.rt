@@ -1,0 +1,83 @@
+//! The rounds of a search: each opens one node.
+
+ghost use Rattle.std.specs.Prelude.{◌≡◌, ◌<◌, ◌≤◌, ◌+◌, ◌*◌, length, true, IfOk, OnOk, IfSome, IsNone};
+ghost use Rattle.tt_branch.specs.Growing.{IsOpenAt, is_open, opened_in};
+ghost use Rattle.tt_branch.specs.Kept.{Advances};
+ghost use Rattle.tt_branch.specs.State.{IsUnderWay, MakesWait, EndsAt};
+
+use crate::entry::{Entry, Mark};
+use crate::search::{Search, next_open, split};
+use crate::visit::open_at;
+use std::alloc::{AllocError, Global};
+use tt_facts::{Path, Pattern};
+
+/// The pattern by which an opened node will be split.
+fn pattern_of(entry: &Entry) -> Option<Pattern>
+    ensures some { IfSome result (λ g. entry.now.mark ≡ Mark.Opened g) }
+    ensures none { IsNone result → is_open entry.now.mark ≡ true → entry.now.mark ≡ Mark.Waiting }
+{
+    match entry.mark {
+        Mark::Opened(pattern) => Some(pattern),
+        _ => None,
+    }
+}
+
+/// Splits a node that was opened; where the node is that is opened next.
+fn make_wait(search: &mut Search, place: usize) -> Result<usize, AllocError>
+    requires { IsOpenAt search.old.entries.items place }
+    ensures made { IfOk result (λ next. MakesWait place search.old next search.new) }
+{
+    match pattern_of(&search.entries[place]) {
+        Some(pattern) => {
+            split(search, place, pattern)?;
+            Ok(place + 1)
+        }
+        None => Ok(place),
+    }
+}
+
+/// Opens a node: an open one that waits, or the first child of one that is split for it.
+fn open_next<'i, P: Path<'i>>(
+    alloc: Global,
+    path: &mut P,
+    search: &mut Search,
+    place: usize,
+) -> Result<(), AllocError>
+    requires under_way { IsUnderWay (P.problem path.old) search.old }
+    requires place { IsOpenAt search.old.entries.items place }
+    requires few { length search.old.entries.items ≤ 131071 }
+    ensures under_way { OnOk result (IsUnderWay (P.problem path.old) search.new) }
+    ensures better { OnOk result (Advances (P.problem path.old) search.old.best search.new.best) }
+    ensures opened { OnOk result (opened_in search.new.entries.items ≡ opened_in search.old.entries.items + 1) }
+    ensures many { OnOk result (length search.new.entries.items ≤ length search.old.entries.items + 2) }
+    ensures same { P.problem path.new ≡ P.problem path.old }
+{
+    let next = make_wait(search, place)?;
+    open_at(alloc, path, search, next)
+}
+
+/// Opens nodes until none is open, or so many were opened, the root among them; whether none is open.
+pub fn grow<'i, P: Path<'i>>(
+    alloc: Global,
+    path: &mut P,
+    search: &mut Search,
+    limit: u32,
+) -> Result<bool, AllocError>
+    requires under_way { IsUnderWay (P.problem path.old) search.old }
+    requires root { opened_in search.old.entries.items ≡ 1 }
+    requires alone { length search.old.entries.items ≡ 1 }
+    requires some { 1 ≤ limit }
+    requires few { limit ≤ 65536 }
+    ensures under_way { OnOk result (IsUnderWay (P.problem path.old) search.new) }
+    ensures better { OnOk result (Advances (P.problem path.old) search.old.best search.new.best) }
+    ensures ends { IfOk result (EndsAt limit search.new.entries.items) }
+    ensures same { P.problem path.new ≡ P.problem path.old }
+{
+    for _opened in 1..limit {
+        let Some(place) = next_open(search.entries.as_slice()) else {
+            return Ok(true);
+        };
+        open_next(alloc, path, search, place)?;
+    }
+    Ok(next_open(search.entries.as_slice()).is_none())
+}

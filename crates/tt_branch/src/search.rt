@@ -1,0 +1,118 @@
+//! The state of a search: a tree that grows, and the best timetable.
+
+ghost use Rattle.std.specs.Prelude.{◌≡◌, ◌<◌, ◌+◌, [], ◌∷◌, ◌++◌, length, IfOk, OnOk, IfSome, IsNone, true, false, slice_set, vec_len};
+ghost use Rattle.std.specs.List.{list_any};
+ghost use Rattle.tt_instance.specs.Problem.{Problem};
+ghost use Rattle.tt_branch.specs.Growing.{IsOpenAt, HasMark, is_open, opened_in};
+ghost use Rattle.tt_branch.specs.Kept.{IsKept};
+ghost use Rattle.tt_branch.specs.Links.{link_of};
+ghost use Rattle.tt_branch.specs.State.{IsUnderWay, IsSplitAt};
+
+use crate::best::Best;
+use crate::entry::{Entry, Mark};
+use crate::links::Link;
+use std::alloc::{AllocError, Global};
+use tt_facts::{Fact, Pattern};
+
+/// A tree that grows, in preorder, the links to the facts of its nodes, and the best timetable so far.
+#[derive(Drop)]
+pub struct Search {
+    pub entries: Vec<Entry>,
+    pub links: Vec<Link>,
+    pub best: Option<Best>,
+}
+
+impl Search {
+    /// The root alone, which waits.
+    pub fn new(alloc: Global, best: Option<Best>) -> Result<Search, AllocError>
+        ensures under_way { IfOk result (λ s. (p : Problem) → IsKept p best → IsUnderWay p s) }
+        ensures best { IfOk result (λ s. s.best ≡ best) }
+        ensures alone { IfOk result (λ s. length s.entries.items ≡ 1) }
+        ensures unopened { IfOk result (λ s. opened_in s.entries.items ≡ 0) }
+        ensures waiting { IfOk result (λ s. HasMark s.entries.items 0 Mark.Waiting) }
+    {
+        let mut entries = Vec::new(alloc);
+        entries.push(Entry {
+            mark: Mark::Waiting,
+            link: 0,
+            key: 0,
+        })?;
+        Ok(Search {
+            entries,
+            links: Vec::new(alloc),
+            best,
+        })
+    }
+}
+
+/// Whether an entry is open, and no open one was met or its key is less than the least.
+fn is_next(entry: &Entry, first: bool, least: u64) -> bool
+    ensures open { result ≡ true → is_open entry.now.mark ≡ true }
+    ensures first { first ≡ true → result ≡ false → is_open entry.now.mark ≡ false }
+{
+    entry.is_open() && (first || entry.key < least)
+}
+
+/// The open node with the least key, the first of several.
+pub fn next_open(entries: &[Entry]) -> Option<usize>
+    ensures some { IfSome result (λ place. IsOpenAt entries.now place) }
+    ensures none { IsNone result → list_any (λ e. is_open e.mark) entries.now ≡ false }
+{
+    let mut found = None;
+    let mut least = u64::MAX;
+    for (place, entry) in entries.iter().enumerate() {
+        if is_next(entry, found.is_none(), least) {
+            found = Some(place);
+            least = entry.key;
+        }
+    }
+    found
+}
+
+/// Adds the link of a child; where it is among the links.
+fn push_link(
+    links: &mut Vec<Link>,
+    parent: usize,
+    pattern: Pattern,
+    holds: bool,
+) -> Result<usize, AllocError>
+    ensures links { OnOk result (links.new.items ≡ links.old.items ++ link_of parent pattern holds ∷ []) }
+    ensures place { IfOk result (λ place. place ≡ length links.old.items + 1) }
+{
+    links.push(Link {
+        parent,
+        fact: Fact { pattern, holds },
+    })?;
+    Ok(links.len())
+}
+
+/// Puts an entry at a place, for the one that is there.
+pub fn put(entries: &mut Vec<Entry>, place: usize, entry: Entry)
+    requires { place < vec_len entries.old }
+    ensures { entries.new.items ≡ slice_set entries.old.items place entry }
+{
+    entries[place] = entry;
+}
+
+/// Splits an opened node by its pattern: its children stand behind it, and wait.
+pub fn split(search: &mut Search, place: usize, pattern: Pattern) -> Result<(), AllocError>
+    requires { HasMark search.old.entries.items place (Mark.Opened pattern) }
+    ensures { OnOk result (IsSplitAt place pattern search.old search.new) }
+{
+    let Entry { link, key, .. } = &search.entries[place];
+    let (link, key) = (*link, *key);
+    let yes = push_link(&mut search.links, link, pattern, true)?;
+    let no = push_link(&mut search.links, link, pattern, false)?;
+    search.entries.insert(place + 1, Entry::waiting(no, key))?;
+    search.entries.insert(place + 1, Entry::waiting(yes, key))?;
+    put(
+        &mut search.entries,
+        place,
+        Entry {
+            mark: Mark::Divided(pattern),
+            link,
+            key,
+        },
+    );
+    Ok(())
+}

@@ -1,0 +1,142 @@
+//! The search for a best timetable and a proof of a lower bound.
+
+ghost use Rattle.std.specs.Prelude.{◌≡◌, ◌≤◌, All, IfOk, OnOk, option_map};
+ghost use Rattle.tt_instance.specs.Problem.{Problem};
+ghost use Rattle.tt_proof_check.specs.Derives.{HoldsOfAll};
+ghost use Rattle.tt_proof_check.specs.Nodes.{IsNodeOf};
+ghost use Rattle.tt_branch.specs.Kept.{IsKept, table_of};
+ghost use Rattle.tt_branch.specs.Outcomes.{IsOutcome, BeginsWell, final_bound};
+ghost use Rattle.tt_branch.specs.Proofs.{shown_bound};
+ghost use Rattle.tt_branch.specs.State.{IsUnderWay, EndsAt};
+
+use crate::best::{Best, bound_of, first_best};
+use crate::nodes::{Written, write_nodes};
+use crate::rounds::grow;
+use crate::search::Search;
+use crate::visit::open_at;
+use std::alloc::{AllocError, Global};
+use tt_facts::Path;
+use tt_instance::Instance;
+use tt_leaf::Bound;
+use tt_proof_check::check_nodes;
+use tt_proof_text::Node;
+use tt_table::Timetable;
+use tt_trail_path::TrailPath;
+
+/// What a search found.
+#[derive(Drop)]
+pub struct Outcome {
+    /// The best timetable without a broken hard rule.
+    pub best: Option<Timetable>,
+    /// What the proof shows of every timetable without a broken hard rule.
+    pub bound: Bound,
+    /// The nodes of the proof, in preorder.
+    pub proof: Option<Vec<Node>>,
+    /// Whether each node is closed, so that the best is best among all.
+    pub finished: bool,
+}
+
+/// What the proof of a search shows: of a finished one that nothing is better than the best, else what
+/// the cheapest Cost leaf is worth.
+fn shown(best: &Option<Best>, least: Option<u64>, finished: bool) -> Bound
+    ensures { (p : Problem) → IsKept p best.now → result ≡ shown_bound (final_bound p (table_of best.now)) least finished }
+{
+    if finished {
+        return bound_of(best);
+    }
+    Bound::AtLeast(least.unwrap_or(0))
+}
+
+/// Passes a proof through the checker, which has no fault to tell but want of memory.
+fn prove_bound<'i, P: Path<'i>>(
+    alloc: Global,
+    path: &P,
+    bound: Bound,
+    nodes: &[Node],
+) -> Result<(), AllocError>
+    requires { All (IsNodeOf (P.problem path.now)) nodes.now }
+    ensures { OnOk result (HoldsOfAll (P.problem path.now) bound) }
+{
+    match check_nodes(alloc, path.instance(), bound, nodes) {
+        Ok(()) => Ok(()),
+        Err(_) => Err(AllocError),
+    }
+}
+
+/// The outcome of a search that has ended.
+fn conclude<'i, P: Path<'i>>(
+    alloc: Global,
+    path: &mut P,
+    search: Search,
+    limit: u32,
+    finished: bool,
+) -> Result<Outcome, AllocError>
+    requires under_way { IsUnderWay (P.problem path.old) search }
+    requires begun { BeginsWell (P.problem path.old) (table_of search.best) }
+    requires ends { EndsAt limit search.entries.items finished }
+    requires few { limit ≤ 65536 }
+    ensures { IfOk result (λ o. IsOutcome (P.problem path.old) limit o.best o.bound (option_map (λ v. v.items) o.proof) o.finished) }
+{
+    // What is true of every instance: its numbers are within the limits.
+    prove!(path.instance().days() <= 64);
+    let Search {
+        entries,
+        links,
+        best,
+    } = search;
+    let Written { nodes, least } = write_nodes(alloc, path, links.as_slice(), entries, !finished)?;
+    let bound = shown(&best, least, finished);
+    prove_bound(alloc, path, bound, nodes.as_slice())?;
+    Ok(Outcome {
+        best: table_in(best),
+        bound,
+        proof: Some(nodes),
+        finished,
+    })
+}
+
+fn table_in(best: Option<Best>) -> Option<Timetable>
+    ensures { result ≡ table_of best }
+{
+    match best {
+        Some(kept) => Some(kept.table),
+        None => None,
+    }
+}
+
+/// Searches over a path, from a first best timetable.
+fn solve_over<'i, P: Path<'i>>(
+    alloc: Global,
+    path: &mut P,
+    best: Option<Best>,
+    limit: u32,
+) -> Result<Outcome, AllocError>
+    requires kept { IsKept (P.problem path.old) best }
+    requires begun { BeginsWell (P.problem path.old) (table_of best) }
+    requires some { 1 ≤ limit }
+    requires few { limit ≤ 65536 }
+    ensures { IfOk result (λ o. IsOutcome (P.problem path.old) limit o.best o.bound (option_map (λ v. v.items) o.proof) o.finished) }
+{
+    let mut search = Search::new(alloc, best)?;
+    open_at(alloc, path, &mut search, 0)?;
+    let finished = grow(alloc, path, &mut search, limit)?;
+    conclude(alloc, path, search, limit, finished)
+}
+
+/// Searches for a best timetable, with at most so many nodes of the tree opened. It answers the best
+/// timetable that it found and a proof of a lower bound; where each node is closed the two meet, or there
+/// is no timetable without a broken hard rule. Which nodes are opened is not promised.
+pub fn solve(
+    alloc: Global,
+    instance: &Instance<'_>,
+    nodes: u32,
+    seed: u64,
+) -> Result<Outcome, AllocError>
+    requires some { 1 ≤ nodes }
+    requires few { nodes ≤ 65536 }
+    ensures { IfOk result (λ o. IsOutcome instance.now nodes o.best o.bound (option_map (λ v. v.items) o.proof) o.finished) }
+{
+    let best = first_best(alloc, instance, seed)?;
+    let mut path = TrailPath::new(alloc, instance)?;
+    solve_over(alloc, &mut path, best, nodes)
+}

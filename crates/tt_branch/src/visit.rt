@@ -1,0 +1,135 @@
+//! Nodes that are opened.
+
+ghost use Rattle.std.specs.Prelude.{◌≡◌, ◌<◌, ◌≤◌, ◌+◌, length, true, IfOk, OnOk};
+ghost use Rattle.tt_instance.specs.Problem.{Problem};
+ghost use Rattle.tt_find.specs.Found.{ArePatterns};
+ghost use Rattle.tt_find.specs.Pinned.{IsPinnedDown, IsOpen};
+ghost use Rattle.tt_branch.specs.Growing.{IsKnown, IsSingle, HasMark, was_opened, opened_in};
+ghost use Rattle.tt_branch.specs.Kept.{IsKept, table_of, Advances};
+ghost use Rattle.tt_branch.specs.Links.{path_at, AreLinks};
+ghost use Rattle.tt_branch.specs.Outcomes.{final_bound};
+ghost use Rattle.tt_branch.specs.State.{IsUnderWay};
+
+use crate::best::{Best, bound_of};
+use crate::choice::choose_split;
+use crate::entry::{Entry, Mark};
+use crate::links::{Link, facts_to};
+use crate::live::live_table;
+use crate::moves::move_to;
+use crate::search::{Search, put};
+use std::alloc::{AllocError, Global};
+use tt_facts::Path;
+use tt_find::{best_claims, find_leaf};
+use tt_leaf::{Leaf, leaf_value};
+use tt_rules::score;
+
+/// Makes the facts of a path those of a node.
+pub fn go_to<'i, P: Path<'i>>(
+    alloc: Global,
+    path: &mut P,
+    links: &[Link],
+    place: usize,
+) -> Result<(), AllocError>
+    requires links { AreLinks links.now }
+    requires place { place ≤ length links.now }
+    requires depth { length (path_at links.now place) ≤ 65536 }
+    ensures there { OnOk result (P.facts path.new ≡ path_at links.now place) }
+    ensures same { P.problem path.new ≡ P.problem path.old }
+{
+    let facts = facts_to(alloc, links, place)?;
+    if move_to(path, facts.as_slice()).is_err() {
+        return Err(AllocError);
+    }
+    Ok(())
+}
+
+/// What the best claims are worth on a path, in cost points.
+fn best_worth<'i, P: Path<'i>>(alloc: Global, path: &P) -> Result<u64, AllocError> {
+    let leaf = best_claims(alloc, path)?;
+    Ok(leaf_value(path, &leaf))
+}
+
+/// Makes the live cells of a path the best timetable; the leaf of the best claims, which closes the node then.
+fn take_live<'i, P: Path<'i>>(
+    alloc: Global,
+    path: &P,
+    best: &mut Option<Best>,
+) -> Result<Leaf, AllocError>
+    requires kept { IsKept (P.problem path.now) best.old }
+    requires pinned { IsPinnedDown (P.problem path.now) (P.facts path.now) }
+    requires unclosed { IsOpen (P.problem path.now) (P.facts path.now) (final_bound (P.problem path.now) (table_of best.old)) }
+    ensures known { IfOk result (λ leaf. IsKnown (P.problem path.now) (table_of best.new) (P.facts path.now) (Mark.Closed leaf)) }
+    ensures better { OnOk result (Advances (P.problem path.now) best.old best.new) }
+{
+    // What is true of every instance: there are few lectures.
+    prove!(path.instance().days() <= 64);
+    let table = live_table(alloc, path)?;
+    let leaf = best_claims(alloc, path)?;
+    let cost = score(path.instance(), &table).cost();
+    *best = Some(Best { table, cost });
+    Ok(leaf)
+}
+
+/// What opening a node came to.
+#[derive(Drop)]
+struct Opening {
+    mark: Mark,
+    key: u64,
+}
+
+/// Opens the node of a path: a leaf that closes it, or the pattern by which it will be split.
+fn open<'i, P: Path<'i>>(
+    alloc: Global,
+    path: &P,
+    best: &mut Option<Best>,
+) -> Result<Opening, AllocError>
+    requires kept { IsKept (P.problem path.now) best.old }
+    requires patterns { ArePatterns (P.problem path.now) (P.facts path.now) }
+    ensures known { IfOk result (λ o. IsKnown (P.problem path.now) (table_of best.new) (P.facts path.now) o.mark) }
+    ensures opened { IfOk result (λ o. was_opened o.mark ≡ true) }
+    ensures single { IfOk result (λ o. IsSingle o.mark) }
+    ensures better { OnOk result (Advances (P.problem path.now) best.old best.new) }
+{
+    let bound = bound_of(best);
+    if let Some(leaf) = find_leaf(alloc, path, bound)? {
+        return Ok(Opening {
+            mark: Mark::Closed(leaf),
+            key: 0,
+        });
+    }
+    if let Some(pattern) = choose_split(alloc, path)? {
+        let key = best_worth(alloc, path)?;
+        return Ok(Opening {
+            mark: Mark::Opened(pattern),
+            key,
+        });
+    }
+    let leaf = take_live(alloc, path, best)?;
+    Ok(Opening {
+        mark: Mark::Closed(leaf),
+        key: 0,
+    })
+}
+
+/// Opens a node that waits.
+pub fn open_at<'i, P: Path<'i>>(
+    alloc: Global,
+    path: &mut P,
+    search: &mut Search,
+    place: usize,
+) -> Result<(), AllocError>
+    requires under_way { IsUnderWay (P.problem path.old) search.old }
+    requires waiting { HasMark search.old.entries.items place Mark.Waiting }
+    requires few { length search.old.entries.items ≤ 131073 }
+    ensures under_way { OnOk result (IsUnderWay (P.problem path.old) search.new) }
+    ensures better { OnOk result (Advances (P.problem path.old) search.old.best search.new.best) }
+    ensures opened { OnOk result (opened_in search.new.entries.items ≡ opened_in search.old.entries.items + 1) }
+    ensures many { OnOk result (length search.new.entries.items ≡ length search.old.entries.items) }
+    ensures same { P.problem path.new ≡ P.problem path.old }
+{
+    let link = search.entries[place].link;
+    go_to(alloc, path, search.links.as_slice(), link)?;
+    let Opening { mark, key } = open(alloc, path, &mut search.best)?;
+    put(&mut search.entries, place, Entry { mark, link, key });
+    Ok(())
+}

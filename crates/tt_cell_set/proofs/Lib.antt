@@ -1,0 +1,4 @@
+pub mod Grid
+pub mod Dropping
+pub mod Reading
+pub mod FirstTable

@@ -1,0 +1,57 @@
+-- How a table of cells lies in words of 64 bits. Nobody has to believe this: what a table has is said by has_cell alone.
+use Rattle.std.specs.Prelude.{◌≡◌, ℕ, ◌+◌, ◌*◌, ◌/◌, ◌%◌, ◌<◌, ◌==◌, Bool, not, ◌&&◌, List, length, slice_index_or}
+use Rattle.tt_instance.specs.Problem.{Problem}
+use Rattle.tt_instance.specs.declared.cell.Cell.{Cell}
+use Rattle.tt_bits.specs.Bits.{has_bit}
+
+-- how many words the rooms take
+abbrev pub width : Problem → ℕ
+width p = (length p.rooms + 63) / 64
+
+-- one bit: a course, a day and a period, and a bit of one of the words of rooms there
+pub record Bit : Type 0 where
+  pub course : ℕ
+  pub day : ℕ
+  pub period : ℕ
+  pub block : ℕ
+  pub number : ℕ
+
+pub record IsBit (p : Problem) (b : Bit) : Type 0 where
+  pub course : b.course < length p.courses
+  pub day : b.day < p.days
+  pub period : b.period < p.periods
+  pub block : b.block < width p
+  pub number : b.number < 64
+
+-- where the words of a course in a period begin
+abbrev pub place : Problem → ℕ → ℕ → ℕ → ℕ
+place p c d s = ((c * p.days + d) * p.periods + s) * width p
+
+-- how many words of rooms there are; behind them stands one word more
+abbrev pub size : Problem → ℕ
+size p = length p.courses * p.days * p.periods * width p
+
+abbrev pub room_of : Bit → ℕ
+room_of b = b.block * 64 + b.number
+
+abbrev pub bit_of : Cell → Bit
+bit_of x = record { course = x.course; day = x.day; period = x.period; block = x.room / 64; number = x.room % 64 }
+
+abbrev pub word_at : Problem → List ℕ → ℕ → ℕ → ℕ → ℕ → ℕ
+word_at p words c d s w = slice_index_or words (place p c d s + w) 0
+
+abbrev pub is_set : Problem → List ℕ → Bit → Bool
+is_set p words b = has_bit (word_at p words b.course b.day b.period b.block) b.number
+
+-- the last word is 0 as long as the bits are in force
+abbrev pub in_force : Problem → List ℕ → Bool
+in_force p words = slice_index_or words (size p) 0 == 0
+
+abbrev pub is_here : ℕ → ℕ → ℕ → Bit → Bool
+is_here c d s b = (b.course == c) && (b.day == d) && (b.period == s)
+
+-- the bits that are gone have been taken away, and nothing else
+pub record Drops (p : Problem) (old new : List ℕ) (gone : Bit → Bool) : Type 0 where
+  pub len : length new ≡ length old
+  pub last : slice_index_or new (size p) 0 ≡ slice_index_or old (size p) 0
+  pub bits : (b : Bit) → IsBit p b → is_set p new b ≡ (is_set p old b && not (gone b))

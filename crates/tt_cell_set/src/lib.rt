@@ -1,0 +1,13 @@
+//! Tables of cells: a bit for each course, period and room, in words that a trail keeps.
+#![tactic(auto)]
+
+mod asking;
+mod first;
+mod places;
+mod removing;
+mod rooms;
+
+pub use asking::{common_rooms, has_cell, has_period};
+pub use first::first_table;
+pub use removing::{keep_rooms, remove_all, remove_rooms};
+pub use rooms::Rooms;

@@ -1,0 +1,9 @@
+pub mod Losing
+pub mod Struck
+pub mod Settled
+pub mod Barred
+pub mod Renewed
+pub mod Kept
+pub mod Asked
+pub mod Below
+pub mod Linked

@@ -1,0 +1,26 @@
+use Rattle.std.proofs.Common.{◌≡◌, [], ◌∷◌, ◌++◌, length, ap, ◌∙◌, subst, arith}
+use Rattle.std.proofs.Common.{length-append}
+use Rattle.tt_facts.specs.Paths.{Facts}
+use Rattle.tt_cells.specs.Shown.{AreTables}
+use Rattle.tt_cells.proofs.Kept.{earlier_pushed}
+use Rattle.tt_cells.proofs.cells.Cells.push.Goals as goal
+
+pub invariant_of-self-in_default : goal.invariant_of-self-in_default
+invariant_of-self-in_default c =
+    let s = c.self.inside in
+    let p = s.instance.now in
+    let f = c.args.fact in
+    let old = s.facts.items in
+    let facts = c.push.new.self.items in
+    let free = c.add.new.free.words in
+    let live = c.add.new.live.words in
+    let e : facts ≡ old ++ f ∷ [] = c.in_ok-push.ensures.items in
+    let given : c.as_slice-facts.result.now ≡ old ++ f ∷ [] = c.as_slice-facts.ensures.value ∙ e in
+    let before = c.self.invariant.tables in
+    let kept = earlier_pushed p old f s.free.earlier s.live.earlier s.free.words s.live.words before c.self.invariant.earlier in
+    record {
+      links = c.self.invariant.links;
+      depth = omega (arith, ap length e, length-append old (f ∷ []), ap (λ (v : Facts). length v.facts) c.self.view_is);
+      tables = subst (λ l. AreTables p l free live) c.as_slice-facts.ensures.value (c.in_default.ensures.ok.added old given before);
+      earlier = rw (e, c.in_default.ensures.kept_free, c.in_default.ensures.kept_live) kept;
+    }

@@ -1,0 +1,4 @@
+pub mod Struck
+pub mod Slots
+pub mod Shown
+pub mod Touching

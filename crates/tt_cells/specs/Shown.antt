@@ -1,0 +1,43 @@
+-- What the tables of a path say.
+use Rattle.std.specs.Prelude.{◌≡◌, ℕ, ◌<◌, ◌==◌, Bool, false, not, ◌&&◌, List, [], ◌∷◌, ◌++◌, length, take, slice_index_or}
+use Rattle.tt_instance.specs.Problem.{Problem}
+use Rattle.tt_instance.specs.declared.cell.Cell.{Cell}
+use Rattle.tt_facts.specs.Facts.{matches}
+use Rattle.tt_facts.specs.Live.{is_barred, is_live, excludes}
+use Rattle.tt_facts.specs.declared.facts.Fact.{Fact}
+use Rattle.tt_facts.specs.declared.facts.Pattern.{Pattern}
+use Rattle.tt_cell_set.specs.Tables.{IsTable, Shows, Loses}
+use Rattle.tt_cells.specs.Struck.{loses_room}
+
+abbrev pub is_free_of : Problem → List Fact → Cell → Bool
+is_free_of p path x = not (is_barred p path x)
+
+-- the tables of a path: the cells that nothing bars, and the live ones
+pub record AreTables (p : Problem) (path : List Fact) (free live : List ℕ) : Type 0 where
+  pub free_cells : Shows p (is_free_of p path) free
+  pub live_cells : Shows p (is_live p path) live
+
+-- the tables that were kept are those of the path before each of its facts
+pub record AreEarlier (p : Problem) (path : List Fact) (frees lives : List (List ℕ)) : Type 0 where
+  pub frees_len : length frees ≡ length path
+  pub lives_len : length lives ≡ length path
+  pub each : (i : ℕ) → i < length path → AreTables p (take i path) (slice_index_or frees i []) (slice_index_or lives i [])
+
+-- the cells that a fact takes from the courses in one period
+abbrev pub is_struck : Problem → List ℕ → Pattern → ℕ → ℕ → List ℕ → Cell → Bool
+is_struck p free g d s ks x = (x.day == d) && (x.period == s) && loses_room p free g d s ks x.course x.room
+
+-- the cells that the pattern excludes have gone, on any path whose free cells these are
+pub record Settles (p : Problem) (free old : List ℕ) (g : Pattern) (new : List ℕ) : Type 0 where
+  pub table : IsTable p new
+  pub settled : (path : List Fact) → Shows p (is_free_of p path) free → Loses p old (excludes p path g) new
+
+-- After the free cells have lost what a no-fact g, the last of the facts, matches, and the live cells too: the live cells
+-- are again those of the path.
+pub record Renews (p : Problem) (facts : List Fact) (free old : List ℕ) (g : Pattern) (new : List ℕ) : Type 0 where
+  pub table : IsTable p new
+  pub renewed : (path : List Fact) → (f : Fact) → facts ≡ path ++ f ∷ [] → f.holds ≡ false → f.pattern ≡ g → Shows p (is_free_of p facts) free → Shows p (λ x. is_live p path x && not (matches p g x)) old → Shows p (is_live p facts) new
+
+-- the tables of a path have become those of the path with one fact more
+pub record Adds (p : Problem) (facts : List Fact) (free live : List ℕ) (f : Fact) (free' live' : List ℕ) : Type 0 where
+  pub added : (path : List Fact) → facts ≡ path ++ f ∷ [] → AreTables p path free live → AreTables p facts free' live'

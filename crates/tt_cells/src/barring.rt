@@ -1,0 +1,64 @@
+//! What a no-fact takes from the tables.
+
+ghost use Rattle.std.specs.Prelude.{◌≡◌, ◌<◌, ◌==◌, ◌&&◌, length, OnOk};
+ghost use Rattle.tt_facts.specs.Facts.{matches};
+ghost use Rattle.tt_facts.specs.Nested.{agrees_at};
+ghost use Rattle.tt_cell_set.specs.Tables.{IsTable, Loses};
+
+use crate::courses::courses_of;
+use crate::periods::{allows, slots_of};
+use std::alloc::AllocError;
+use tt_cell_set::remove_rooms;
+use tt_facts::Pattern;
+use tt_instance::Instance;
+use tt_trail::Trail;
+
+/// Takes a course's cells away that agree with the pattern.
+fn remove_of(
+    instance: &Instance<'_>,
+    table: &mut Trail,
+    pattern: &Pattern,
+    course: u32,
+) -> Result<(), AllocError>
+    requires course { course < length instance.now.courses }
+    requires table { IsTable instance.now table.old.words }
+    ensures ok { OnOk result (Loses instance.now table.old.words
+        (λ x. (x.course == course) && agrees_at pattern.now x) table.new.words) }
+    ensures same { table.new.earlier ≡ table.old.earlier }
+{
+    let periods = instance.periods();
+    let (from, to) = slots_of(instance, pattern);
+    for slot in from..to {
+        if !allows(instance, pattern, slot) {
+            continue;
+        }
+        remove_rooms(
+            instance,
+            table,
+            pattern.room,
+            course,
+            slot / periods,
+            slot % periods,
+        )?;
+    }
+    Ok(())
+}
+
+/// Takes the cells away that the pattern matches.
+pub fn remove_matched(
+    instance: &Instance<'_>,
+    table: &mut Trail,
+    pattern: &Pattern,
+) -> Result<(), AllocError>
+    requires table { IsTable instance.now table.old.words }
+    ensures ok { OnOk result (Loses instance.now table.old.words (matches instance.now pattern.now) table.new.words) }
+    ensures same { table.new.earlier ≡ table.old.earlier }
+{
+    for course in courses_of(instance, &pattern.who) {
+        if *course >= instance.courses() {
+            continue;
+        }
+        remove_of(instance, table, pattern, *course)?;
+    }
+    Ok(())
+}

@@ -1,0 +1,222 @@
+//! The facts of a path, and tables of what they leave possible.
+
+ghost use Rattle.std.specs.Prelude.{◌≡◌, ◌<◌, ◌≤◌, length};
+ghost use Rattle.tt_facts.specs.Live.{least_with};
+
+use crate::adding::add;
+use std::alloc::{AllocError, Global};
+use std::marker::Model;
+use tt_bits::{below, one, without};
+use tt_cell_set::{first_table, has_cell, has_period};
+use tt_facts::{Cell, Fact};
+use tt_instance::Instance;
+use tt_links::Links;
+use tt_trail::Trail;
+
+/// The facts, the cells that nothing bars, and the live ones.
+#[derive(Drop)]
+pub struct Cells<'p, 'i> {
+    instance: &'p Instance<'i>,
+    links: Links,
+    facts: Vec<Fact>,
+    free: Trail,
+    live: Trail,
+}
+
+impl<'p, 'i> Model for Cells<'p, 'i> {
+    ghost use Rattle.std.specs.Prelude.{◌≤◌, length};
+    ghost use Rattle.tt_facts.specs.Paths.{Facts};
+    ghost use Rattle.tt_links.specs.Linked.{AreLinks};
+    ghost use Rattle.tt_cells.specs.Shown.{AreTables, AreEarlier};
+
+    ghost Value = { Facts };
+
+    ghost view = { λ s. record { problem = s.instance.now; facts = s.facts.items } };
+
+    ghost invariant = { λ s. record {
+      links : AreLinks s.instance.now s.links;
+      depth : length s.facts.items ≤ 65536;
+      tables : AreTables s.instance.now s.facts.items s.free.words s.live.words;
+      earlier : AreEarlier s.instance.now s.facts.items s.free.earlier s.live.earlier;
+    } };
+}
+
+impl<'p, 'i> Cells<'p, 'i> {
+    ghost use Rattle.std.specs.Prelude.{ℕ, ◌&&◌, nat_lt, [], ◌∷◌, ◌++◌, slice_get, Some, OnOk, OnErr, IfOk, IfSome};
+    ghost use Rattle.tt_bits.specs.Bits.{has_bit};
+    ghost use Rattle.tt_instance.specs.Cells.{InRange, slot, cell};
+    ghost use Rattle.tt_instance.specs.Courses.{excess};
+    ghost use Rattle.tt_facts.specs.Live.{is_dead, is_live, live_period, live_day, least_excess};
+
+    /// A path with no facts. The tables take their memory at once.
+    pub fn new(alloc: Global, instance: &'p Instance<'i>) -> Result<Cells<'p, 'i>, AllocError>
+        ensures problem { IfOk result (λ t. t.problem ≡ instance.now) }
+        ensures facts { IfOk result (λ t. t.facts ≡ []) }
+    {
+        let links = Links::new(alloc, instance)?;
+        let free = first_table(alloc, instance)?;
+        let live = first_table(alloc, instance)?;
+        Ok(Cells {
+            instance,
+            links,
+            facts: Vec::new(alloc),
+            free,
+            live,
+        })
+    }
+
+    /// The instance that the facts speak of.
+    pub fn instance(&self) -> &Instance<'i>
+        ensures { result.now ≡ self.now.problem }
+    {
+        self.instance
+    }
+
+    /// How many facts there are.
+    pub fn depth(&self) -> usize
+        ensures value { result ≡ length self.now.facts }
+        ensures within { result ≤ 65536 }
+    {
+        self.facts.len()
+    }
+
+    /// The fact at a place, counted from the oldest.
+    pub fn fact(&self, index: usize) -> Fact
+        requires { index < length self.now.facts }
+        ensures { slice_get self.now.facts index ≡ Some result }
+    {
+        self.facts[index]
+    }
+
+    /// Adds a fact behind the others.
+    pub fn push(&mut self, fact: Fact) -> Result<(), AllocError>
+        requires { length self.old.facts < 65536 }
+        ensures ok { OnOk result (self.new.facts ≡ self.old.facts ++ fact ∷ []) }
+        ensures err { OnErr result (self.new.facts ≡ self.old.facts) }
+        ensures same { self.new.problem ≡ self.old.problem }
+    {
+        self.facts.push(fact)?;
+        let facts = self.facts.as_slice();
+        if let Err(fault) = add(
+            self.instance,
+            &self.links,
+            &mut self.free,
+            &mut self.live,
+            facts,
+            &fact,
+        ) {
+            let _ = self.facts.pop();
+            return Err(fault);
+        }
+        Ok(())
+    }
+
+    /// Takes the newest fact away.
+    pub fn pop(&mut self) -> Fact
+        requires { 0 < length self.old.facts }
+        ensures fact { self.old.facts ≡ self.new.facts ++ result ∷ [] }
+        ensures same { self.new.problem ≡ self.old.problem }
+    {
+        self.free.undo();
+        self.live.undo();
+        self.facts.pop().unwrap()
+    }
+
+    /// Whether a cell is barred, or left no place beside it by some yes-fact.
+    pub fn dead(&self, cell: Cell) -> bool
+        requires { InRange self.now.problem cell }
+        ensures { result ≡ is_dead self.now.problem self.now.facts cell }
+    {
+        !has_cell(self.instance, &self.live, cell)
+    }
+
+    /// Whether some room gives a live cell of the course in the period.
+    pub fn live_period(&self, course: u32, day: u32, period: u32) -> bool
+        requires course { course < length self.now.problem.courses }
+        requires day { day < self.now.problem.days }
+        requires period { period < self.now.problem.periods }
+        ensures { result ≡ live_period self.now.problem self.now.facts course (slot day period) }
+    {
+        has_period(self.instance, &self.live, None, course, day, period)
+    }
+
+    /// The live periods of a course on a day, as a set of bits.
+    pub fn live_periods(&self, course: u32, day: u32) -> u64
+        requires course { course < length self.now.problem.courses }
+        requires day { day < self.now.problem.days }
+        ensures { (s : ℕ) → s < 64 → has_bit result s
+            ≡ (nat_lt s self.now.problem.periods && live_period self.now.problem self.now.facts course (slot day s)) }
+    {
+        let mut live = below(self.instance.periods());
+        for period in 0..self.instance.periods() {
+            if self.live_period(course, day, period) {
+                continue;
+            }
+            live = without(live, one(period));
+        }
+        live
+    }
+
+    /// Whether the course has a live period on the day.
+    pub fn live_day(&self, course: u32, day: u32) -> bool
+        requires course { course < length self.now.problem.courses }
+        requires day { day < self.now.problem.days }
+        ensures { result ≡ live_day self.now.problem self.now.facts course day }
+    {
+        (0..self.instance.periods()).any(|period| self.live_period(course, day, period))
+    }
+
+    /// Whether the cell of these numbers is live.
+    fn is_live(&self, course: u32, room: u32, day: u32, period: u32) -> bool
+        requires { InRange self.now.problem (cell course room (slot day period)) }
+        ensures { result ≡ is_live self.now.problem self.now.facts (cell course room (slot day period)) }
+    {
+        let cell = Cell {
+            course,
+            room,
+            day,
+            period,
+        };
+        !self.dead(cell)
+    }
+
+    /// The students of a course for whom a room has no seat.
+    fn excess(&self, course: u32, room: u32) -> u64
+        requires course { course < length self.now.problem.courses }
+        requires room { room < length self.now.problem.rooms }
+        ensures value { result ≡ excess self.now.problem course room }
+        ensures within { result ≤ 1000000 }
+    {
+        let students = self.instance.students(course);
+        u64::from(students.saturating_sub(self.instance.capacity(room)))
+    }
+
+    /// The least excess, in students, of the course's live cells in the period; none where no cell is live.
+    #[tactic(auto, using(crate::proofs::Below::least_more))]
+    pub fn least_excess(&self, course: u32, day: u32, period: u32) -> Option<u64>
+        requires course { course < length self.now.problem.courses }
+        requires day { day < self.now.problem.days }
+        requires period { period < self.now.problem.periods }
+        ensures value { result ≡ least_excess self.now.problem self.now.facts course (slot day period) }
+        ensures within { IfSome result (λ n. n ≤ 1000000) }
+    {
+        let mut least = None;
+        for room in 0..self.instance.rooms() {
+            if self.is_live(course, room, day, period) {
+                least = Some(least_with(self.excess(course, room), least));
+            }
+        }
+        least
+    }
+}
+
+/// The lesser of a number and the least so far.
+fn least_with(number: u64, least: Option<u64>) -> u64
+    ensures value { result ≡ least_with number least }
+    ensures within { result ≤ number }
+{
+    match least {
+        None => number,
+        Some(found) => number.min(found),
+    }
+}

@@ -1,0 +1,308 @@
+//! What a yes-fact takes from the courses in one period, where it has to have one of its free cells there.
+
+ghost use Rattle.std.specs.Prelude.{◌≡◌, ◌<◌, ◌==◌, ◌&&◌, ℕ, [], ◌∷◌, length, OnOk, not, ◌||◌};
+ghost use Rattle.std.specs.List.{list_all};
+ghost use Rattle.tt_lists.specs.Words.{has};
+ghost use Rattle.tt_links.specs.Linked.{AreLinks};
+ghost use Rattle.tt_cell_set.specs.Rooms.{has_room};
+ghost use Rattle.tt_instance.specs.Cells.{all_rooms};
+ghost use Rattle.tt_cell_set.specs.Tables.{is_open, is_placed, IsTable, Loses};
+ghost use Rattle.tt_cells.specs.Struck.{is_beside, loses_room};
+ghost use Rattle.tt_cells.specs.Shown.{is_struck};
+
+use crate::courses::is_one;
+use std::alloc::AllocError;
+use tt_cell_set::{Rooms, common_rooms, keep_rooms, remove_rooms};
+use tt_facts::Pattern;
+use tt_instance::Instance;
+use tt_links::Links;
+use tt_trail::Trail;
+
+/// The rooms that a course loses in the period where another has to have one of its free rooms.
+fn rooms_beside(
+    instance: &Instance<'_>,
+    free: &Trail,
+    pattern: &Pattern,
+    day: u32,
+    period: u32,
+    other: u32,
+    course: u32,
+) -> Rooms
+    requires day { day < instance.now.days }
+    requires period { period < instance.now.periods }
+    requires free { IsTable instance.now free.now.words }
+    ensures { (r : ℕ) → has_room result r
+        ≡ is_beside instance.now free.now.words pattern.now day period course r other }
+{
+    if other >= instance.courses() || instance.conflict(other, course) {
+        return Rooms::All;
+    }
+    common_rooms(instance, free, pattern.room, other, day, period)
+}
+
+/// The rooms that a course loses in the period where one of the courses, none of them this one, has to have one of its
+/// free rooms.
+fn lost_rooms(
+    instance: &Instance<'_>,
+    free: &Trail,
+    pattern: &Pattern,
+    day: u32,
+    period: u32,
+    courses: &[u32],
+    course: u32,
+) -> Rooms
+    requires day { day < instance.now.days }
+    requires period { period < instance.now.periods }
+    requires free { IsTable instance.now free.now.words }
+    ensures { (r : ℕ) → has_room result r
+        ≡ list_all (is_beside instance.now free.now.words pattern.now day period course r) courses.now }
+{
+    let mut lost = Rooms::All;
+    for other in courses {
+        lost = lost.both(rooms_beside(instance, free, pattern, day, period, *other, course));
+    }
+    lost
+}
+
+/// Takes a course's cells in these rooms away.
+fn remove_lost(
+    instance: &Instance<'_>,
+    live: &mut Trail,
+    lost: Rooms,
+    course: u32,
+    day: u32,
+    period: u32,
+) -> Result<(), AllocError>
+    requires course { course < length instance.now.courses }
+    requires day { day < instance.now.days }
+    requires period { period < instance.now.periods }
+    requires live { IsTable instance.now live.old.words }
+    ensures ok { OnOk result (Loses instance.now live.old.words
+        (λ x. is_placed course day period x && has_room lost x.room) live.new.words) }
+    ensures same { live.new.earlier ≡ live.old.earlier }
+{
+    match lost {
+        Rooms::All => {
+            remove_rooms(instance, live, None, course, day, period)?;
+            Ok(())
+        }
+        Rooms::One(room) => {
+            remove_rooms(instance, live, Some(room), course, day, period)?;
+            Ok(())
+        }
+        Rooms::Nothing => Ok(()),
+    }
+}
+
+/// Takes from a course what it loses in the period where one of the courses has to have one of its free rooms.
+fn strike(
+    instance: &Instance<'_>,
+    free: &Trail,
+    live: &mut Trail,
+    pattern: &Pattern,
+    day: u32,
+    period: u32,
+    courses: &[u32],
+    course: u32,
+) -> Result<(), AllocError>
+    requires day { day < instance.now.days }
+    requires period { period < instance.now.periods }
+    requires free { IsTable instance.now free.now.words }
+    requires live { IsTable instance.now live.old.words }
+    requires course { course < length instance.now.courses }
+    ensures ok { OnOk result (Loses instance.now live.old.words
+        (λ x. is_placed course day period x
+        && loses_room instance.now free.now.words pattern.now day period courses.now x.course x.room)
+        live.new.words) }
+    ensures same { live.new.earlier ≡ live.old.earlier }
+{
+    if is_one(courses, course) {
+        keep_rooms(instance, live, free, pattern.room, course, day, period)?;
+        return Ok(());
+    }
+    let lost = lost_rooms(instance, free, pattern, day, period, courses, course);
+    remove_lost(instance, live, lost, course, day, period)?;
+    Ok(())
+}
+
+/// Takes from each course what it loses in the period where one of the courses has to have one of its free rooms.
+fn kill(
+    instance: &Instance<'_>,
+    free: &Trail,
+    live: &mut Trail,
+    pattern: &Pattern,
+    day: u32,
+    period: u32,
+    courses: &[u32],
+) -> Result<(), AllocError>
+    requires day { day < instance.now.days }
+    requires period { period < instance.now.periods }
+    requires free { IsTable instance.now free.now.words }
+    requires live { IsTable instance.now live.old.words }
+    ensures ok { OnOk result (Loses instance.now live.old.words
+        (is_struck instance.now free.now.words pattern.now day period courses.now) live.new.words) }
+    ensures same { live.new.earlier ≡ live.old.earlier }
+{
+    for course in 0..instance.courses() {
+        strike(instance, free, live, pattern, day, period, courses, course)?;
+    }
+    Ok(())
+}
+
+/// Takes a period away from the courses that are given.
+fn strike_period(
+    instance: &Instance<'_>,
+    live: &mut Trail,
+    courses: &[u32],
+    day: u32,
+    period: u32,
+) -> Result<(), AllocError>
+    requires day { day < instance.now.days }
+    requires period { period < instance.now.periods }
+    requires live { IsTable instance.now live.old.words }
+    ensures ok { OnOk result (Loses instance.now live.old.words
+        (λ x. has courses.now x.course && ((x.day == day) && (x.period == period))) live.new.words) }
+    ensures same { live.new.earlier ≡ live.old.earlier }
+{
+    for course in courses {
+        if *course >= instance.courses() {
+            continue;
+        }
+        remove_rooms(instance, live, None, *course, day, period)?;
+    }
+    Ok(())
+}
+
+/// Takes from a course what it loses where another, or itself, has to have one of its free rooms, and these are each of them.
+fn strike_beside(
+    instance: &Instance<'_>,
+    free: &Trail,
+    live: &mut Trail,
+    pattern: &Pattern,
+    day: u32,
+    period: u32,
+    course: u32,
+    common: Rooms,
+    other: u32,
+) -> Result<(), AllocError>
+    requires day { day < instance.now.days }
+    requires period { period < instance.now.periods }
+    requires course { course < length instance.now.courses }
+    requires common { (r : ℕ) → has_room common r ≡ list_all
+        (λ k. not (is_open instance.now free.now.words pattern.now.room course day period k) || (k == r)) (all_rooms instance.now) }
+    requires other { other < length instance.now.courses }
+    requires free { IsTable instance.now free.now.words }
+    requires live { IsTable instance.now live.old.words }
+    ensures ok { OnOk result (Loses instance.now live.old.words
+        (λ x. is_placed other day period x
+        && loses_room instance.now free.now.words pattern.now day period (course ∷ []) x.course x.room)
+        live.new.words) }
+    ensures same { live.new.earlier ≡ live.old.earlier }
+{
+    if other == course {
+        keep_rooms(instance, live, free, pattern.room, other, day, period)?;
+        return Ok(());
+    }
+    let lost = if instance.conflict(course, other) {
+        Rooms::All
+    } else {
+        common
+    };
+    remove_lost(instance, live, lost, other, day, period)?;
+    Ok(())
+}
+
+/// The same as `kill` for one course, whose free rooms are each of these.
+fn kill_beside(
+    instance: &Instance<'_>,
+    free: &Trail,
+    live: &mut Trail,
+    pattern: &Pattern,
+    day: u32,
+    period: u32,
+    course: u32,
+    common: Rooms,
+) -> Result<(), AllocError>
+    requires day { day < instance.now.days }
+    requires period { period < instance.now.periods }
+    requires course { course < length instance.now.courses }
+    requires common { (r : ℕ) → has_room common r ≡ list_all
+        (λ k. not (is_open instance.now free.now.words pattern.now.room course day period k) || (k == r)) (all_rooms instance.now) }
+    requires free { IsTable instance.now free.now.words }
+    requires live { IsTable instance.now live.old.words }
+    ensures ok { OnOk result (Loses instance.now live.old.words
+        (is_struck instance.now free.now.words pattern.now day period (course ∷ [])) live.new.words) }
+    ensures same { live.new.earlier ≡ live.old.earlier }
+{
+    for other in 0..instance.courses() {
+        strike_beside(
+            instance, free, live, pattern, day, period, course, common, other,
+        )?;
+    }
+    Ok(())
+}
+
+/// The same as `kill` for one course: where it has two free rooms, only those lose that conflict with it.
+fn kill_one(
+    instance: &Instance<'_>,
+    links: &Links,
+    free: &Trail,
+    live: &mut Trail,
+    pattern: &Pattern,
+    day: u32,
+    period: u32,
+    course: u32,
+) -> Result<(), AllocError>
+    requires links { AreLinks instance.now links.now }
+    requires day { day < instance.now.days }
+    requires period { period < instance.now.periods }
+    requires course { course < length instance.now.courses }
+    requires free { IsTable instance.now free.now.words }
+    requires live { IsTable instance.now live.old.words }
+    ensures ok { OnOk result (Loses instance.now live.old.words
+        (is_struck instance.now free.now.words pattern.now day period (course ∷ [])) live.new.words) }
+    ensures same { live.new.earlier ≡ live.old.earlier }
+{
+    let common = common_rooms(instance, free, pattern.room, course, day, period);
+    match common {
+        Rooms::Nothing => {
+            strike_period(instance, live, links.conflicts_of(course), day, period)?;
+            keep_rooms(instance, live, free, pattern.room, course, day, period)?;
+            Ok(())
+        }
+        _ => {
+            kill_beside(instance, free, live, pattern, day, period, course, common)?;
+            Ok(())
+        }
+    }
+}
+
+/// The same as `kill`, by the lists of conflicts where that is quicker.
+pub fn kill_by_links(
+    instance: &Instance<'_>,
+    links: &Links,
+    free: &Trail,
+    live: &mut Trail,
+    pattern: &Pattern,
+    day: u32,
+    period: u32,
+    courses: &[u32],
+) -> Result<(), AllocError>
+    requires links { AreLinks instance.now links.now }
+    requires day { day < instance.now.days }
+    requires period { period < instance.now.periods }
+    requires free { IsTable instance.now free.now.words }
+    requires live { IsTable instance.now live.old.words }
+    ensures ok { OnOk result (Loses instance.now live.old.words
+        (is_struck instance.now free.now.words pattern.now day period courses.now) live.new.words) }
+    ensures same { live.new.earlier ≡ live.old.earlier }
+{
+    if courses.len() == 1 && courses[0] < instance.courses() {
+        kill_one(
+            instance, links, free, live, pattern, day, period, courses[0],
+        )?;
+        return Ok(());
+    }
+    kill(instance, free, live, pattern, day, period, courses)?;
+    Ok(())
+}

@@ -1,0 +1,13 @@
+//! The live cells of a path of facts, in tables that take each fact back.
+#![tactic(auto)]
+
+mod adding;
+mod again;
+mod barring;
+mod cells;
+mod courses;
+mod killing;
+mod periods;
+mod settling;
+
+pub use cells::Cells;

@@ -1,0 +1,88 @@
+//! What a yes-fact takes from the live cells.
+
+ghost use Rattle.std.specs.Prelude.{◌≡◌, ◌≤◌, ◌*◌, OnOk};
+ghost use Rattle.tt_facts.specs.Nested.{courses_of};
+ghost use Rattle.tt_links.specs.Linked.{AreLinks};
+ghost use Rattle.tt_cell_set.specs.Tables.{IsTable};
+ghost use Rattle.tt_cells.specs.Slots.{is_left_in, Covers, IsFirst};
+ghost use Rattle.tt_cells.specs.Shown.{Settles};
+
+use crate::courses::courses_of;
+use crate::killing::kill_by_links;
+use crate::periods::{first_left, slots_of};
+use std::alloc::AllocError;
+use tt_cell_set::remove_all;
+use tt_facts::Pattern;
+use tt_instance::Instance;
+use tt_links::Links;
+use tt_trail::Trail;
+
+/// Takes away the live cells that a pattern excludes whose first free period is this one.
+fn settle_from(
+    instance: &Instance<'_>,
+    links: &Links,
+    free: &Trail,
+    live: &mut Trail,
+    pattern: &Pattern,
+    courses: &[u32],
+    from: u32,
+    slot: u32,
+    to: u32,
+) -> Result<(), AllocError>
+    requires links { AreLinks instance.now links.now }
+    requires courses { courses.now ≡ courses_of instance.now pattern.now.who }
+    requires covers { Covers instance.now pattern.now from to }
+    requires first { IsFirst (is_left_in instance.now free.now.words pattern.now courses.now) from to slot }
+    requires free { IsTable instance.now free.now.words }
+    requires live { IsTable instance.now live.old.words }
+    ensures ok { OnOk result (Settles instance.now free.now.words live.old.words pattern.now live.new.words) }
+    ensures same { live.new.earlier ≡ live.old.earlier }
+{
+    let periods = instance.periods();
+    match first_left(instance, free, pattern, courses, slot + 1, to) {
+        Some(_) => Ok(()),
+        None => {
+            kill_by_links(
+                instance,
+                links,
+                free,
+                live,
+                pattern,
+                slot / periods,
+                slot % periods,
+                courses,
+            )?;
+            Ok(())
+        }
+    }
+}
+
+/// Takes away the live cells that a pattern excludes.
+pub fn settle(
+    instance: &Instance<'_>,
+    links: &Links,
+    free: &Trail,
+    live: &mut Trail,
+    pattern: &Pattern,
+) -> Result<(), AllocError>
+    requires links { AreLinks instance.now links.now }
+    requires free { IsTable instance.now free.now.words }
+    requires live { IsTable instance.now live.old.words }
+    ensures ok { OnOk result (Settles instance.now free.now.words live.old.words pattern.now live.new.words) }
+    ensures same { live.new.earlier ≡ live.old.earlier }
+{
+    let courses = courses_of(instance, &pattern.who);
+    let (from, to) = slots_of(instance, pattern);
+    match first_left(instance, free, pattern, courses, from, to) {
+        None => {
+            remove_all(instance, live)?;
+            Ok(())
+        }
+        Some(slot) => {
+            settle_from(
+                instance, links, free, live, pattern, courses, from, slot, to,
+            )?;
+            Ok(())
+        }
+    }
+}

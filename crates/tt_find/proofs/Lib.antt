@@ -1,0 +1,12 @@
+pub mod Lists
+pub mod Cells
+pub mod LiveCells
+pub mod Fitting
+pub mod Capacity
+pub mod Claims
+pub mod Closing
+pub mod Smallest
+pub mod Steps
+pub mod Answering
+pub mod Pricing
+pub mod Examples

@@ -1,0 +1,16 @@
+//! Leaves that close a node: the claims that are worth something, and the search for a right leaf.
+#![tactic(auto)]
+
+mod best;
+mod crowds;
+mod find;
+mod grid;
+mod group_prices;
+mod laws;
+mod priced;
+mod prices;
+mod slots;
+
+pub use best::best_claims;
+pub use find::find_leaf;
+pub use laws::pinned_paths_close;

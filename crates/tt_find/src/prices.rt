@@ -1,0 +1,80 @@
+//! Prices of capacity claims.
+
+ghost use Rattle.std.specs.Prelude.{◌≡◌, ◌<◌, ◌≤◌, [], ◌++◌, length, All, Contains, IfOk, IfSome, OnOk};
+ghost use Rattle.std.specs.List.{cons_option};
+ghost use Rattle.std.specs.Ordering.{nat_cmp};
+ghost use Rattle.std.specs.Vec.Iter.{into_iter_items};
+ghost use Rattle.itertools.specs.Extremes.{IsKLeast, by_cmp};
+ghost use Rattle.tt_find.specs.Best.{kth_smallest, least_excesses, price_of};
+
+use crate::slots::{slot_at, slot_count};
+use itertools::Itertools;
+use std::alloc::{AllocError, Global};
+use std::vec::IntoIter;
+use tt_facts::Path;
+
+/// The `k` smallest numbers, in rising order.
+fn smallest(alloc: Global, numbers: &[u32], k: usize) -> Result<IntoIter<u32>, AllocError>
+    ensures { IfOk result (λ it. IsKLeast (by_cmp nat_cmp) k numbers.now (into_iter_items it)) }
+{
+    numbers.iter().copied().k_smallest(alloc, k)
+}
+
+/// The `k`-th smallest number, counted from 1, or the greatest where there are fewer.
+fn kth_smallest(alloc: Global, numbers: &[u32], k: usize) -> Result<Option<u32>, AllocError>
+    ensures value { IfOk result (λ found. found ≡ kth_smallest k numbers.now) }
+    ensures member { IfOk result (λ found. IfSome found (Contains numbers.now)) }
+{
+    Ok(smallest(alloc, numbers, k)?.next_back())
+}
+
+/// Adds the excess, if there is one.
+fn push_some(excesses: &mut Vec<u32>, found: Option<u64>) -> Result<(), AllocError>
+    requires { IfSome found (λ n. n ≤ 1000000) }
+    ensures { OnOk result (excesses.new.items ≡ excesses.old.items ++ cons_option found []) }
+{
+    if let Some(excess) = found {
+        excesses.push(excess as u32)?;
+    }
+    Ok(())
+}
+
+/// The least excesses of a course's live periods, in students.
+fn least_excesses<'i, P: Path<'i>>(
+    alloc: Global,
+    path: &P,
+    course: u32,
+) -> Result<Vec<u32>, AllocError>
+    requires { course < length (P.problem path.now).courses }
+    ensures value { IfOk result (λ found. found.items ≡ least_excesses (P.problem path.now) (P.facts path.now) course) }
+    ensures within { IfOk result (λ found. All (λ n. n ≤ 1000000) found.items) }
+{
+    let instance = path.instance();
+    let mut excesses = Vec::new(alloc);
+    for place in 0..slot_count(instance) {
+        let slot = slot_at(instance, place);
+        push_some(
+            &mut excesses,
+            path.least_excess(course, slot.day, slot.period),
+        )?;
+    }
+    Ok(excesses)
+}
+
+/// The price at which a course's capacity is claimed.
+pub fn price_of<'i, P: Path<'i>>(
+    alloc: Global,
+    path: &P,
+    course: u32,
+) -> Result<Option<u32>, AllocError>
+    requires { course < length (P.problem path.now).courses }
+    ensures value { IfOk result (λ price. price ≡ price_of (P.problem path.now) (P.facts path.now) course) }
+    ensures within { IfOk result (λ price. IfSome price (λ n. n ≤ 1000000)) }
+{
+    let excesses = least_excesses(alloc, path, course)?;
+    kth_smallest(
+        alloc,
+        excesses.as_slice(),
+        path.instance().lectures(course) as usize,
+    )
+}

@@ -1,0 +1,11 @@
+//! Tests that the path with tables answers what the plain path does.
+#![tactic(auto)]
+
+#[cfg(test)]
+mod agreement;
+#[cfg(test)]
+mod answers;
+#[cfg(test)]
+mod dice;
+#[cfg(test)]
+mod large;

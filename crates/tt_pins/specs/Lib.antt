@@ -1,0 +1,4 @@
+pub mod Kept
+pub mod Sets
+pub mod Standing
+pub mod Tables

@@ -1,0 +1,119 @@
+//! What `solve` finds, and the files that it writes.
+
+use crate::commands::{Outcome, run_on};
+use crate::shelf::{Refusal, Shelf};
+use std::alloc::Global;
+use std::test::Fail;
+use tt_samples::{GAP, MINI, SAME, WIDE, edited};
+
+fn filled(alloc: Global, instance: &str, refusal: Refusal) -> Result<Shelf, Fail> {
+    let shelf = Shelf::new(alloc, refusal);
+    shelf.put("a.ctt", instance)?;
+    Ok(shelf)
+}
+
+fn solved(alloc: Global, shelf: &Shelf, nodes: &str) -> Result<Outcome, Fail> {
+    let words = ["solve", "a.ctt", "a.out", "a.proof", "--nodes", nodes];
+    run_on(alloc, &words, shelf)
+}
+
+fn bounded(alloc: Global, shelf: &Shelf) -> Result<Outcome, Fail> {
+    run_on(alloc, &["bound", "a.ctt", "a.proof"], shelf)
+}
+
+/// One course of two lectures, wanted on three days, and no room.
+fn roomless(alloc: Global) -> Result<String, Fail> {
+    let text = edited(alloc, WIDE, "Rooms: 1", "Rooms: 0")?;
+    edited(alloc, &text, "R 11\n", "")
+}
+
+#[test]
+fn searches_that_end(rt: HostRuntime) -> Result<(), Fail> {
+    let roomless = roomless(rt.alloc())?;
+    for (instance, nodes, status, line, bound) in [
+        (MINI, "1", 0, "cost 1 bound 1 finished\n", "bound 1\n"),
+        (WIDE, "1", 0, "cost 5 bound 5 finished\n", "bound 5\n"),
+        (GAP, "100", 0, "cost 5 bound 5 finished\n", "bound 5\n"),
+        (
+            SAME,
+            "100",
+            1,
+            "cost none bound none finished\n",
+            "bound none\n",
+        ),
+        (
+            roomless.as_str(),
+            "1",
+            1,
+            "cost none bound none finished\n",
+            "bound none\n",
+        ),
+    ] {
+        let shelf = filled(rt.alloc(), instance, Refusal::Nothing)?;
+        let outcome = solved(rt.alloc(), &shelf, nodes)?;
+        assert_eq!(rt; outcome.told(), (status, line, ""));
+        // A file of the best timetable stands there only with one.
+        assert_eq!(rt; shelf.text("a.out")?.is_some(), status == 0);
+        assert_eq!(rt; bounded(rt.alloc(), &shelf)?.told(), (0, bound, ""));
+    }
+    Ok(())
+}
+
+#[test]
+fn a_search_of_one_node(rt: HostRuntime) -> Result<(), Fail> {
+    let shelf = filled(rt.alloc(), GAP, Refusal::Nothing)?;
+    let outcome = solved(rt.alloc(), &shelf, "1")?;
+    assert_eq!(rt; outcome.told(), (0, "cost 5 bound 1 unfinished\n", ""));
+    assert_eq!(rt; bounded(rt.alloc(), &shelf)?.told(), (0, "bound 1\n", ""));
+    Ok(())
+}
+
+/// Whether a line of a search says this cost and this bound, finished or not.
+fn says(alloc: Global, line: &str, bound: &str) -> Result<bool, Fail> {
+    let finished = format!(in alloc; "cost 5 {bound} finished")?;
+    let unfinished = format!(in alloc; "cost 5 {bound} unfinished")?;
+    Ok(line.trim_end() == finished.as_str() || line.trim_end() == unfinished.as_str())
+}
+
+#[test]
+fn each_limit_up_to_a_hundred(rt: HostRuntime) -> Result<(), Fail> {
+    for limit in 1usize..=100 {
+        let shelf = filled(rt.alloc(), GAP, Refusal::Nothing)?;
+        let nodes = format!(in rt.alloc(); "{limit}")?;
+        let outcome = solved(rt.alloc(), &shelf, &nodes)?;
+        assert_eq!(rt; (outcome.status, outcome.err.as_str()), (0, ""));
+        let bound = bounded(rt.alloc(), &shelf)?;
+        assert_eq!(rt; (bound.status, bound.err.as_str()), (0, ""));
+        assert!(rt;
+            says(rt.alloc(), &outcome.out, bound.out.trim_end())?,
+            "{}",
+            outcome.out
+        );
+        let proof = shelf.text("a.proof")?.unwrap_or(String::new(rt.alloc()));
+        // The header and the end are no nodes.
+        let written = proof.lines().count().saturating_sub(2);
+        if outcome.out.ends_with("unfinished\n") {
+            assert!(rt; limit <= written && written < 2 * limit, "{limit}");
+        } else {
+            assert!(rt; written <= limit, "{limit}");
+        }
+    }
+    Ok(())
+}
+
+#[test]
+fn searches_that_are_refused(rt: HostRuntime) -> Result<(), Fail> {
+    for nodes in ["0", "65537", "-1", "x"] {
+        let shelf = filled(rt.alloc(), GAP, Refusal::Nothing)?;
+        let outcome = solved(rt.alloc(), &shelf, nodes)?;
+        assert_eq!(rt; (outcome.status, outcome.out.as_str()), (2, ""));
+        assert_eq!(rt; shelf.count(), 1);
+    }
+    for refusal in [Refusal::NewFiles, Refusal::Writes, Refusal::Renames] {
+        let shelf = filled(rt.alloc(), GAP, refusal)?;
+        let outcome = solved(rt.alloc(), &shelf, "100")?;
+        assert_eq!(rt; outcome.told(), (2, "", "refused: cannot write\n"));
+        assert_eq!(rt; shelf.text("a.proof")?, None);
+    }
+    Ok(())
+}

@@ -1,0 +1,7 @@
+//! Paths that answer from tables and take changes back by trails.
+#![tactic(auto)]
+
+mod both;
+mod trail_path;
+
+pub use trail_path::TrailPath;

@@ -1,0 +1,141 @@
+//! A path that answers from tables.
+
+ghost use Rattle.std.specs.Prelude.{◌≡◌, ◌<◌, ◌+◌, ◌*◌, ◌&&◌, ℕ, nat_lt, List, length};
+ghost use Rattle.tt_bits.specs.Bits.{has_bit};
+ghost use Rattle.tt_instance.specs.Cells.{slot};
+ghost use Rattle.tt_facts.specs.Facts.{IsWho};
+ghost use Rattle.tt_facts.specs.Live.{live_period, pinned, pinned_room};
+
+use crate::both::{pop_both, push_both};
+use std::alloc::{AllocError, Global};
+use std::marker::Model;
+use tt_cells::Cells;
+use tt_facts::{Cell, Fact, MAX_FACTS, Path, PathFault, Pattern, Who};
+use tt_instance::Instance;
+use tt_pins::Pins;
+
+/// The facts with tables of the live cells and of what is pinned: no answer looks at each fact, and a pop writes back
+/// what the push wrote.
+pub struct TrailPath<'p, 'i> {
+    cells: Cells<'p, 'i>,
+    pins: Pins<'p, 'i>,
+}
+
+impl<'p, 'i> Model for TrailPath<'p, 'i> {
+    ghost use Rattle.std.specs.Prelude.{◌≡◌};
+    ghost use Rattle.tt_facts.specs.Paths.{Facts};
+
+    ghost Value = { Facts };
+
+    ghost view = { λ s. s.cells };
+
+    ghost invariant = { λ s. s.pins ≡ s.cells };
+}
+
+impl<'p, 'i> Drop for TrailPath<'p, 'i> {
+    fn drop(self) {
+        let TrailPath { cells: _, pins: _ } = self;
+    }
+}
+
+impl<'p, 'i> TrailPath<'p, 'i> {
+    ghost use Rattle.std.specs.Prelude.{[], IfOk};
+
+    /// A path with no facts.
+    pub fn new(alloc: Global, instance: &'p Instance<'i>) -> Result<TrailPath<'p, 'i>, AllocError>
+        ensures problem { IfOk result (λ s. s.problem ≡ instance.now) }
+        ensures facts { IfOk result (λ s. s.facts ≡ []) }
+    {
+        let cells = Cells::new(alloc, instance)?;
+        let pins = Pins::new(alloc, instance)?;
+        Ok(TrailPath { cells, pins })
+    }
+
+    /// The live periods of a course on a day, as a set.
+    pub fn live_periods(&self, course: u32, day: u32) -> u64
+        requires course { course < length self.now.problem.courses }
+        requires day { day < self.now.problem.days }
+        ensures { (s : ℕ) → s < 64 → has_bit result s
+            ≡ (nat_lt s self.now.problem.periods && live_period self.now.problem self.now.facts course (slot day s)) }
+    {
+        self.cells.live_periods(course, day)
+    }
+
+    /// The pinned periods of a course or a curriculum on a day, as a set.
+    pub fn pinned_periods(&self, who: Who, day: u32) -> u64
+        requires who { IsWho self.now.problem who }
+        requires day { day < self.now.problem.days }
+        ensures { (s : ℕ) → s < 64 → has_bit result s
+            ≡ (nat_lt s self.now.problem.periods && pinned self.now.problem self.now.facts who (slot day s)) }
+    {
+        self.pins.pinned_periods(who, day)
+    }
+
+    /// The pinned rooms of a course in a block, as a set: the block's number times 64 and the 63 that follow.
+    pub fn pinned_rooms(&self, course: u32, block: u32) -> u64
+        requires course { course < length self.now.problem.courses }
+        requires block { block * 64 < length self.now.problem.rooms }
+        ensures { (n : ℕ) → n < 64 → has_bit result n
+            ≡ (nat_lt (block * 64 + n) (length self.now.problem.rooms)
+            && pinned_room self.now.problem self.now.facts course (block * 64 + n)) }
+    {
+        self.pins.pinned_rooms(course, block)
+    }
+}
+
+impl<'p, 'i> Path<'i> for TrailPath<'p, 'i> {
+    ghost problem = { λ s. s.problem };
+
+    ghost facts = { λ s. s.facts };
+
+    fn instance(&self) -> &Instance<'i> {
+        self.cells.instance()
+    }
+
+    fn depth(&self) -> usize {
+        self.cells.depth()
+    }
+
+    fn fact(&self, index: usize) -> Fact {
+        self.cells.fact(index)
+    }
+
+    fn push(&mut self, fact: Fact) -> Result<(), PathFault> {
+        if self.depth() == MAX_FACTS {
+            return Err(PathFault::TooDeep);
+        }
+        push_both(&mut self.cells, &mut self.pins, fact).map_err(|_| PathFault::OutOfMemory)
+    }
+
+    fn pop(&mut self) -> Fact {
+        pop_both(&mut self.cells, &mut self.pins)
+    }
+
+    fn has(&self, pattern: &Pattern, holds: bool) -> bool {
+        self.pins.has(pattern, holds)
+    }
+
+    fn dead(&self, cell: Cell) -> bool {
+        self.cells.dead(cell)
+    }
+
+    fn live_period(&self, course: u32, day: u32, period: u32) -> bool {
+        self.cells.live_period(course, day, period)
+    }
+
+    fn live_day(&self, course: u32, day: u32) -> bool {
+        self.cells.live_day(course, day)
+    }
+
+    fn least_excess(&self, course: u32, day: u32, period: u32) -> Option<u64> {
+        self.cells.least_excess(course, day, period)
+    }
+
+    fn pinned(&self, who: Who, day: u32, period: u32) -> bool {
+        self.pins.pinned(who, day, period)
+    }
+
+    fn pinned_room(&self, course: u32, room: u32) -> bool {
+        self.pins.pinned_room(course, room)
+    }
+}
