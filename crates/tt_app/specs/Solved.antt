@@ -17,7 +17,7 @@ use Rattle.tt_app.specs.declared.answer.Answer.{Answer}
 use Rattle.tt_app.specs.declared.fault.AppFault.{AppFault}
 use Rattle.tt_app.specs.declared.fault.AppFault.TheVariants as fault
 
--- version 1 where no node has a claim of version 2, else version 2
+-- the first version, unless some claim is of the second
 abbrev pub IsLeastVersion : List Node → ℕ → Type 0
 IsLeastVersion nodes v = ((v ≡ 1) × All (IsNodeIn 1) nodes) ⊎ ((v ≡ 2) × ¬ All (IsNodeIn 1) nodes)
 

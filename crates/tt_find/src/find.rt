@@ -115,9 +115,9 @@ fn find_priced<'i, P: Path<'i>>(
     }
 }
 
-/// A leaf that is right on a path, if one of those that are tried is: an Empty leaf for each yes-fact,
-/// Many and a Clique of one for each course, and the leaf of the best claims, with Days or with Stacked.
-/// Leaves with prices over groups of courses are tried too.
+/// A leaf that is right on a path, if one of those that are tried is: that the cells of some yes-fact are all
+/// dead, that a course has too many pinned periods or too few live ones, the best claims, and the best claims
+/// with stacked days. Leaves with prices over groups of courses are tried too.
 /// Where each live cell's own pattern stands on the path as yes, one is right for each bound that all
 /// feasible timetables on the path respect.
 pub fn find_leaf<'i, P: Path<'i>>(
