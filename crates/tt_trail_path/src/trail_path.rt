@@ -14,8 +14,8 @@ use tt_facts::{Cell, Fact, MAX_FACTS, Path, PathFault, Pattern, Who};
 use tt_instance::Instance;
 use tt_pins::Pins;
 
-/// The facts with tables of the live cells and of what is pinned: no answer looks at each fact, and a pop writes back
-/// what the push wrote.
+/// The facts with tables of the live cells and of what is pinned. Of the answers only `has` may look through facts, where
+/// the pattern leaves out its day or its period or speaks of a curriculum. A pop writes back what the push wrote.
 pub struct TrailPath<'p, 'i> {
     cells: Cells<'p, 'i>,
     pins: Pins<'p, 'i>,
