@@ -1,5 +1,5 @@
 -- Only a failed read is told as one.
-use Rattle.std.proofs.Common.{◌≡◌}
+use Rattle.std.proofs.Common.{◌≡◌, ap}
 use Rattle.tt_text.specs.declared.feed.FeedFault.TheVariants as feed
 use Rattle.tt_instance.specs.declared.fault.InstanceFault.TheVariants as instance
 use Rattle.tt_table.specs.declared.fault.SolutionFault.TheVariants as solution
@@ -13,7 +13,7 @@ use Rattle.tt_upgrade.specs.declared.fault.UpgradeFault.TheVariants as upgrade
 use Rattle.tt_app.specs.Checked.{read_failed}
 use Rattle.tt_app.specs.Told.{told_check, told_certify, told_upgrade}
 
-abbrev failed_text : CheckFault
+abbrev pub failed_text : CheckFault
 failed_text = check.Text (text.Feed feed.Read)
 
 pub read_checked : (f : CheckFault) → told_check f ≡ read_failed → f ≡ failed_text
@@ -29,6 +29,10 @@ read_certified (certify.Solution solution.OutOfMemory) e = cc
 read_certified (certify.Solution f) e = cc
 read_certified (certify.Proof f) e = let is = read_checked f e in cc
 read_certified certify.OutOfMemory e = cc
+
+-- a failed read of certify is told as one
+pub certified_read : (f : CertifyFault) → f ≡ certify.Proof failed_text → told_certify f ≡ read_failed
+certified_read f e = ap told_certify e
 
 pub read_upgraded : (f : UpgradeFault) → told_upgrade f ≡ read_failed → f ≡ upgrade.Proof failed_text
 read_upgraded (upgrade.Proof f) e = let is = read_checked f e in cc

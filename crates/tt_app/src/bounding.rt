@@ -41,8 +41,9 @@ pub fn bound<R: Source>(alloc: Global, instance: &[u8], proof: &mut R) -> Result
         IsProved p bytes b → AnswersBound result b }
     // The proof isn't read where the instance is refused.
     ensures unread { IfErr result (λ f. IsOfInstance f → proof.new ≡ proof.old) }
-    // A read is said to have failed only where one did.
+    // A read is said to have failed exactly where one did.
     ensures failed { result ≡ Err read_failed → R.has_failed proof.new ≡ true }
+    ensures unfailed { ¬ (result ≡ Err read_failed) → R.has_failed proof.new ≡ R.has_failed proof.old }
     // Where one failed, all that the proof's bytes before it say has been judged.
     ensures broken_off { result ≡ Err read_failed → (bytes : List ℕ) → R.remaining proof.old ≡ Some bytes →
         IsBrokenOff instance.now bytes (R.remaining proof.new) }

@@ -57,8 +57,9 @@ pub fn check<R: Source>(
     ensures broken { BreaksARule instance.now solution.now → AnswersBroken result × (proof.new ≡ proof.old) }
     // Nor is it read where the instance or the solution is refused.
     ensures unread { IfErr result (λ f. IsOfFiles f → proof.new ≡ proof.old) }
-    // A read is said to have failed only where one did.
+    // A read is said to have failed exactly where one did.
     ensures failed { result ≡ Err read_failed → R.has_failed proof.new ≡ true }
+    ensures unfailed { ¬ (result ≡ Err read_failed) → R.has_failed proof.new ≡ R.has_failed proof.old }
     // Where one failed, all that the proof's bytes before it say has been judged.
     ensures broken_off { result ≡ Err read_failed → (bytes : List ℕ) → R.remaining proof.old ≡ Some bytes →
         IsBrokenOff instance.now bytes (R.remaining proof.new) }

@@ -43,7 +43,7 @@ pub fn improve(
     steps: u64,
 ) -> Result<Answer, AppFault>
     // What is answered is no worse, and each entry keeps its course.
-    ensures found { IfOk result (IsImproved instance.now solution.now) }
+    ensures found { IfOk result (IsImproved instance.now solution.now steps) }
     // A refusal tells the first fault.
     ensures fault { IfErr result (TellsOfBoth instance.now solution.now) }
     // What is spelled is answered, unless memory runs out.

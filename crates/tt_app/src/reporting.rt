@@ -30,8 +30,9 @@ pub fn report<W: Sink>(
         MatchResult result (λ _. ⊤) (λ f. (f ≡ fault.OutOfMemory) ⊎ (f ≡ fault.CannotWrite)) }
     // Nothing is written where anything else is refused.
     ensures unwritten { IfErr result (λ f. IsUnwritten f → sink.new ≡ sink.old) }
-    // A write is said to have failed only where one did.
+    // A write is said to have failed exactly where one did.
     ensures failed { result ≡ Err fault.CannotWrite → W.has_failed sink.new ≡ true }
+    ensures unfailed { ¬ (result ≡ Err fault.CannotWrite) → W.has_failed sink.new ≡ W.has_failed sink.old }
 {
     let instance = read_instance(alloc, instance)?;
     let table = read_solution(alloc, &instance, solution)?;

@@ -7,10 +7,12 @@ use Rattle.std.proofs.lemmas.List.Elements.{All-push, All-weaker}
 use Rattle.tt_text.specs.Texts.{has_name, with_name, index_of_name}
 use Rattle.tt_instance.specs.declared.rows.CourseRow.{CourseRow}
 use Rattle.tt_instance.specs.declared.rows.CourseList.{CourseList}
-use Rattle.tt_instance.specs.Problem.{Course}
-use Rattle.tt_instance.specs.Limits.{ids_of, lectures_of}
-use Rattle.tt_instance.specs.Seen.{course_seen, courses_seen}
-use Rattle.tt_instance.specs.Indexed.{IsIndexed, IsTeacher, teachers_of}
+use Rattle.tt_instance.specs.declared.rows.RoomList.{RoomList}
+use Rattle.tt_instance.specs.declared.rows.RoomRow.{RoomRow}
+use Rattle.tt_instance.specs.Problem.{Course, Room}
+use Rattle.tt_instance.specs.Limits.{ids_of, room_ids_of, lectures_of}
+use Rattle.tt_instance.specs.Seen.{course_seen, courses_seen, room_seen, rooms_seen}
+use Rattle.tt_instance.specs.Indexed.{IsIndexed, IsRoomsIndexed, IsTeacher, teachers_of}
 use Rattle.tt_instance.proofs.Naming.{length-with_name, index_of_name-with_name}
 
 -- a name that is not there comes last
@@ -37,3 +39,11 @@ one_more old new row was rows_are is_new ids_are teachers_are number_is total wi
           (All-weaker (IsTeacher old.teachers) (IsTeacher new.teachers) (λ r at. rw teachers_are (index_of_name-with_name old.teachers r.teacher_name.now row.teacher_name.now r.teacher at)) old.rows.items was.numbers)
           number_is);
     }
+
+-- the names with one room more
+pub one_room_more : (old new : RoomList) (row : RoomRow) → IsRoomsIndexed old → new.rows.items ≡ old.rows.items ++ row ∷ [] → not (has_name old.ids row.id.now) ≡ true
+    → new.ids ≡ with_name old.ids row.id.now → IsRoomsIndexed new
+one_room_more old new row was rows_are is_new ids_are = record {
+  ids_are = ids_are ∙ fresh old.ids row.id.now (has_name old.ids row.id.now) refl is_new ∙ ap (λ (ns : List (List ℕ)). ns ++ row.id.now ∷ []) was.ids_are
+      ∙ sym (ap room_ids_of (ap rooms_seen rows_are ∙ map_push room_seen old.rows.items row) ∙ map_push (λ (r : Room). r.id) (rooms_seen old.rows.items) (room_seen row));
+}

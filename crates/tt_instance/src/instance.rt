@@ -69,6 +69,10 @@ pub fn read_instance<'a>(alloc: Global, bytes: &'a [u8]) -> Result<Instance<'a>,
     ensures only { (p : Problem) → Spells bytes.now p → Gives (λ i. i) result (Ok p) }
     // Which fault it is.
     ensures exact { Gives (λ i. i) result (instance_of bytes.now) }
+    // So `instance_of` gives an instance exactly where the bytes spell it, and they spell at most one.
+    ensures spelled { (p : Problem) → Spells bytes.now p → instance_of bytes.now ≡ Ok p }
+    ensures spells { (p : Problem) → instance_of bytes.now ≡ Ok p → Spells bytes.now p }
+    ensures one { (p q : Problem) → Spells bytes.now p → Spells bytes.now q → p ≡ q }
 {
     read_all(alloc, bytes)
 }

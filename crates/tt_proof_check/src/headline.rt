@@ -32,6 +32,7 @@ fn proved_bound<R: Source>(
     ensures fault { IfErr result (λ e. (bytes : List ℕ) → R.remaining proof.old ≡ Some bytes → TellsBound instance.now bytes e) }
     ensures own { IfErr result (λ e. IsOfFiles e → ⊥) }
     ensures failed { result ≡ Err read_failed → R.has_failed proof.new ≡ true }
+    ensures unfailed { ¬ (result ≡ Err read_failed) → R.has_failed proof.new ≡ R.has_failed proof.old }
     ensures memory { IfErr result TellsMemory }
     ensures broken_off { result ≡ Err read_failed → (bytes : List ℕ) → R.remaining proof.old ≡ Some bytes →
         TellsRead instance.now bytes (R.remaining proof.new) }
@@ -63,6 +64,7 @@ pub fn certify<R: Source>(
     ensures unread { IfErr result (λ f. IsOfFiles f → proof.new ≡ proof.old) }
     // A read is said to have failed only where one did.
     ensures failed { result ≡ Err read_failed → R.has_failed proof.new ≡ true }
+    ensures unfailed { ¬ (result ≡ Err read_failed) → R.has_failed proof.new ≡ R.has_failed proof.old }
     // Where one failed, all that the proof's bytes before it say has been judged.
     ensures broken_off { result ≡ Err read_failed → (bytes : List ℕ) → R.remaining proof.old ≡ Some bytes →
         IsBrokenOff instance.now bytes (R.remaining proof.new) }

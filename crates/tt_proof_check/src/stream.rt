@@ -44,6 +44,7 @@ fn deep_fault<R: Source>(reader: &mut NodeReader, source: &mut R, node: u32) -> 
     requires room { 0 < reader.old.places }
     ensures known { StaysKnown (R.remaining source.old) (R.remaining source.new) }
     ensures failed { result ≡ CheckFault.Text read_failed → R.has_failed source.new ≡ true }
+    ensures unfailed { ¬ (result ≡ CheckFault.Text read_failed) → R.has_failed source.new ≡ R.has_failed source.old }
     ensures memory { TellsMemoryOfText result }
     ensures fault { is_some (R.remaining source.old) ≡ true →
         TellsChild reader.old.sizes reader.old.version reader.old.count (stream_at reader.old.fed (R.remaining source.old)) node result }
@@ -73,6 +74,7 @@ fn judge<'i, P: Path<'i>, R: Source>(
     ensures whole { OnOk result (reader.new.places ≡ 0) }
     ensures sound { OnOk result (reader.new.fault ≡ None) }
     ensures failed { result ≡ Err (CheckFault.Text read_failed) → R.has_failed source.new ≡ true }
+    ensures unfailed { ¬ (result ≡ Err (CheckFault.Text read_failed)) → R.has_failed source.new ≡ R.has_failed source.old }
     ensures memory { IfErr result TellsMemoryOfText }
     ensures fault { is_some (R.remaining source.old) ≡ true →
         IfErr result (λ e. TellsNodes (P.problem path.old) reader.old.version reader.old.bound (stream_at reader.old.fed (R.remaining source.old)) e) }
@@ -104,6 +106,7 @@ fn read_proof<'i, P: Path<'i>, R: Source>(
     ensures known { StaysKnown (R.remaining source.old) (R.remaining source.new) }
     ensures proved { IfOk result (λ b. Proved (P.problem path.old) (is_some (R.remaining source.old)) (stream_at fresh (R.remaining source.old)) b) }
     ensures failed { result ≡ Err (CheckFault.Text read_failed) → R.has_failed source.new ≡ true }
+    ensures unfailed { ¬ (result ≡ Err (CheckFault.Text read_failed)) → R.has_failed source.new ≡ R.has_failed source.old }
     ensures memory { IfErr result TellsMemoryOfText }
     ensures fault { is_some (R.remaining source.old) ≡ true →
         IfErr result (λ e. TellsOf (P.problem path.old) (stream_at fresh (R.remaining source.old)) e) }
@@ -133,6 +136,7 @@ pub fn check_proof<R: Source>(
     // This holds whatever the source gives.
     ensures holds { IfOk result (HoldsOfAll instance.now) }
     ensures failed { result ≡ Err (CheckFault.Text read_failed) → R.has_failed source.new ≡ true }
+    ensures unfailed { ¬ (result ≡ Err (CheckFault.Text read_failed)) → R.has_failed source.new ≡ R.has_failed source.old }
     ensures memory { IfErr result TellsMemoryOfText }
     ensures fault { IfErr result (λ e. (bytes : List ℕ) → R.remaining source.old ≡ Some bytes → TellsOf instance.now (stream_of bytes) e) }
     // Where a read fails, all that the bytes before it say has been judged.

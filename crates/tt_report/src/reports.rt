@@ -190,6 +190,7 @@ pub fn report<W: Sink>(
     // After a failed write a part from its front was taken.
     ensures part { result ≡ Err fault.Write → TakesPart (W.contents sink.old) (W.contents sink.new) (report_text instance.now table.now by) }
     ensures failed { result ≡ Err fault.Write → W.has_failed sink.new ≡ true }
+    ensures unfailed { ¬ (result ≡ Err fault.Write) → W.has_failed sink.new ≡ W.has_failed sink.old }
     // Where memory ran out nothing was written.
     ensures unwritten { result ≡ Err fault.OutOfMemory → sink.new ≡ sink.old }
 {

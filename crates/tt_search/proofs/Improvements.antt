@@ -1,5 +1,5 @@
 -- Laws of improvements.
-use Rattle.std.proofs.Common.{◌≡◌, ℕ, Bool, List, ◌∙◌, ap, subst, refl, inl, inr}
+use Rattle.std.proofs.Common.{◌≡◌, ℕ, ◌+◌, Bool, List, ◌∙◌, ap, subst, refl, inl, inr, arith}
 use Rattle.tt_instance.specs.Problem.{Problem}
 use Rattle.tt_instance.specs.declared.cell.Cell.{Cell}
 use Rattle.tt_table.specs.Table.{IsTimetable}
@@ -7,7 +7,10 @@ use Rattle.tt_moves.specs.Changes.{IsBelow}
 use Rattle.tt_occupancy.specs.Filled.{Filled}
 use Rattle.tt_descend.specs.Descent.{Descends, IsDescent}
 use Rattle.tt_descend.proofs.Descents.{IsTimetable-descends, courses-descends, descends_lower, IsBelow-irrefl, IsBelow-trans}
-use Rattle.tt_search.specs.Improved.{IsNoWorse, IsDescended}
+use Rattle.tt_moves.specs.Steps.{CanStep, stepped}
+use Rattle.tt_moves.specs.declared.step.Step.{Step}
+use Rattle.tt_search.specs.Improved.{IsNoWorse, IsDescended, LeadsWithin}
+use Rattle.tt_search.specs.Improved.Leads.{here, step}
 
 -- a timetable is no worse than itself
 pub IsNoWorse-refl : (p : Problem) (t : List Cell) → IsTimetable p t → IsNoWorse p t t
@@ -24,15 +27,28 @@ IsNoWorse-descends {p} {t} {u} {v} kept down = record {
   ];
 }
 
+-- no step leads to where one stands
+pub leads_here : (p : Problem) (t : List Cell) (n : ℕ) → LeadsWithin p t n t
+leads_here p t n = record { made = 0; path = here p t; within = omega arith }
+
+-- a step more, or none
+pub leads_on : {p : Problem} {t u : List Cell} {n : ℕ} (s : Step) → LeadsWithin p t n u → CanStep p u s → LeadsWithin p t (n + 1) (stepped u s)
+leads_on {p} {t} {u} {n} s led able = record { made = led.made + 1; path = step p t u led.made s led.path able; within = omega (arith, led.within) }
+
+pub leads_longer : {p : Problem} {t u : List Cell} {n : ℕ} → LeadsWithin p t n u → LeadsWithin p t (n + 1) u
+leads_longer led = record { made = led.made; path = led.path; within = omega (arith, led.within) }
+
 -- from a first timetable to one that is no worse, and down from there
-pub no_worse_then_down : (p : Problem) (t v : List Cell) (first best : Filled) (steps : ℕ) (settled : Bool) → first ≡ record { problem = p; entries = t } → best.problem ≡ first.problem → IsNoWorse first.problem first.entries best.entries → IsDescent best.problem best.entries steps v settled → IsDescended p t steps v
-no_worse_then_down p t v first best steps settled is problem kept down = record {
+pub no_worse_then_down : (p : Problem) (t v : List Cell) (first best : Filled) (draws steps : ℕ) (settled : Bool) → first ≡ record { problem = p; entries = t } → best.problem ≡ first.problem → IsNoWorse first.problem first.entries best.entries → LeadsWithin first.problem first.entries draws best.entries
+    → IsDescent best.problem best.entries steps v settled → IsDescended p t draws steps v
+no_worse_then_down p t v first best draws steps settled is problem kept led down = record {
   best = best.entries;
   found = subst (λ (o : Filled). IsNoWorse o.problem o.entries best.entries) is kept;
+  reached = subst (λ (o : Filled). LeadsWithin o.problem o.entries draws best.entries) is led;
   settled = settled;
   descent = subst (λ (q : Problem). IsDescent q best.entries steps v settled) (problem ∙ ap (λ o. o.problem) is) down;
 }
 
 -- what a descent from a timetable that is no worse leads to is no worse either
-pub no_worse_down : {p : Problem} {t v : List Cell} {steps : ℕ} → IsDescended p t steps v → IsNoWorse p t v
+pub no_worse_down : {p : Problem} {t v : List Cell} {draws steps : ℕ} → IsDescended p t draws steps v → IsNoWorse p t v
 no_worse_down down = IsNoWorse-descends down.found down.descent.path

@@ -1,6 +1,6 @@
 //! The best timetable that a search has found.
 
-ghost use Rattle.std.specs.Prelude.{◌≡◌, IfOk, List};
+ghost use Rattle.std.specs.Prelude.{◌≡◌, ◌⊎◌, IfOk, List};
 ghost use Rattle.tt_instance.specs.declared.cell.Cell.{Cell};
 ghost use Rattle.tt_search.specs.Improved.{courses_of};
 ghost use Rattle.tt_search.specs.Pairs.{IsBest};
@@ -20,7 +20,8 @@ pub struct Best {
 impl Best {
     /// The first timetable is the best one so far.
     pub fn new(alloc: Global, occupied: &Occupied<'_, '_>) -> Result<Best, AllocError>
-        ensures { IfOk result (IsBest occupied.now.problem occupied.now.entries) }
+        ensures best { IfOk result (IsBest occupied.now.problem occupied.now.entries) }
+        ensures entries { IfOk result (λ b. b.entries.items ≡ occupied.now.entries) }
     {
         let entries = Vec::from_slice(alloc, occupied.table().entries())?;
         Ok(Best {
@@ -33,8 +34,9 @@ impl Best {
     pub fn keep(&mut self, occupied: &Occupied<'_, '_>)
         requires { (t : List Cell) × (courses_of occupied.now.entries ≡ courses_of t)
             × IsBest occupied.now.problem t self.old }
-        ensures { (t : List Cell) → courses_of occupied.now.entries ≡ courses_of t
+        ensures best { (t : List Cell) → courses_of occupied.now.entries ≡ courses_of t
             → IsBest occupied.now.problem t self.old → IsBest occupied.now.problem t self.new }
+        ensures either { (self.new ≡ self.old) ⊎ (self.new.entries.items ≡ occupied.now.entries) }
     {
         let pair = Pair::of(occupied);
         if pair.is_below(self.pair) {

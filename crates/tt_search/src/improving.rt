@@ -2,7 +2,7 @@
 
 ghost use Rattle.std.specs.Prelude.{◌≡◌, ◌-◌, ◌/◌, IfOk, OnOk};
 ghost use Rattle.tt_table.specs.Table.{IsTimetable};
-ghost use Rattle.tt_search.specs.Improved.{IsNoWorse, IsDescended};
+ghost use Rattle.tt_search.specs.Improved.{IsNoWorse, LeadsWithin, IsDescended};
 
 use crate::best::Best;
 use crate::restoring::restore;
@@ -22,6 +22,7 @@ fn walk_to_best(
 ) -> Result<(), AllocError>
     ensures problem { occupied.new.problem ≡ occupied.old.problem }
     ensures best { OnOk result (IsNoWorse occupied.old.problem occupied.old.entries occupied.new.entries) }
+    ensures reached { OnOk result (LeadsWithin occupied.old.problem occupied.old.entries draws occupied.new.entries) }
 {
     if occupied.table().is_empty() {
         return Ok(());
@@ -44,7 +45,7 @@ pub fn improve(
 ) -> Result<Timetable, AllocError>
     requires { IsTimetable instance.now table }
     ensures kept { IfOk result (IsNoWorse instance.now table) }
-    ensures descended { IfOk result (IsDescended instance.now table (steps - steps / 2)) }
+    ensures descended { IfOk result (IsDescended instance.now table (steps / 2) (steps - steps / 2)) }
 {
     let draws = steps / 2;
     let Ok(mut occupied) = Occupied::new(alloc, instance, table) else {

@@ -154,6 +154,10 @@ pub solution_read : (p : Problem) (bytes : List ℕ) (t : List Cell) → IsWithi
 unfolding solution_of
 solution_read p bytes t limits spelled = entries_read (length bytes) p 16384 [] t (tokens_of bytes) limits spelled.in_range spelled.few spelled.tokens
 
+-- bytes spell at most one timetable
+pub solution_once : (p : Problem) (bytes : List ℕ) (t u : List Cell) → IsWithinLimits p → SpellsTable p bytes t → SpellsTable p bytes u → t ≡ u
+solution_once p bytes t u limits first second = ok_is t u (sym (solution_read p bytes t limits first) ∙ solution_read p bytes u limits second)
+
 -- for the contract
 pub found_in : (p : Problem) (bytes : List ℕ) (r : Result (List Cell) SolutionFault) → IsWithinLimits p → Gives (λ t. t) r (solution_of p bytes) → IfOk r (SpellsTable p bytes)
 found_in p bytes (Ok t) limits given = solution_spelled p bytes t limits given

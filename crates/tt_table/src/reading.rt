@@ -100,6 +100,10 @@ pub fn read_solution(
     ensures only { (t : List Cell) → SpellsTable instance.now bytes.now t → Gives (λ r. r) result (Ok t) }
     // Which fault it is.
     ensures exact { Gives (λ t. t) result (solution_of instance.now bytes.now) }
+    // So `solution_of` gives a timetable exactly where the bytes spell it, and they spell at most one.
+    ensures spelled { (t : List Cell) → SpellsTable instance.now bytes.now t → solution_of instance.now bytes.now ≡ Ok t }
+    ensures spells { (t : List Cell) → solution_of instance.now bytes.now ≡ Ok t → SpellsTable instance.now bytes.now t }
+    ensures one { (t u : List Cell) → SpellsTable instance.now bytes.now t → SpellsTable instance.now bytes.now u → t ≡ u }
     ensures fits { IfOk result (λ t. IsTimetable instance.now t) }
 {
     let _days = instance.days();

@@ -41,6 +41,7 @@ fn collect<R: Source>(
     ensures collected { IfOk result (λ nodes. IsCollected reader.old.sizes reader.old.version (is_some (R.remaining source.old))
         (stream_at reader.old.fed (R.remaining source.old)) (stream_at reader.new.fed (R.remaining source.new)) nodes.items) }
     ensures failed { result ≡ Err read_failed → R.has_failed source.new ≡ true }
+    ensures unfailed { ¬ (result ≡ Err read_failed) → R.has_failed source.new ≡ R.has_failed source.old }
     ensures fault { is_some (R.remaining source.old) ≡ true →
         IfErr result (λ f. ¬ (f ≡ TextFault.OutOfMemory) → NodesBreak reader.old.sizes reader.old.version (stream_at reader.old.fed (R.remaining source.old)) f) }
     ensures broken { IfOk result (λ nodes. BeforeFailure reader.old.fed (R.remaining source.old) reader.new.fed (R.remaining source.new)
@@ -65,6 +66,7 @@ pub fn read_proof<R: Source>(
     // Whatever the source gives, they are nodes of the instance and one tree.
     ensures nodes { IfOk result (λ r. AreNodesOf instance.now r.version r.nodes.items) }
     ensures failed { result ≡ Err read_failed → R.has_failed source.new ≡ true }
+    ensures unfailed { ¬ (result ≡ Err read_failed) → R.has_failed source.new ≡ R.has_failed source.old }
     // The first fault of the text is told, unless memory is wanting.
     ensures fault { IfErr result (λ f. ¬ (f ≡ TextFault.OutOfMemory) → (bytes : List ℕ) → R.remaining source.old ≡ Some bytes → TextBreaks instance.now (stream_of bytes) f) }
     // Where a read fails, all that the bytes before it say has been read.

@@ -59,7 +59,9 @@ pub fn upgrade<R: Source>(
         MatchResult result (λ u. u.bound ≡ b) IsSilent }
     // This holds whatever the source gives.
     ensures holds { IfOk result (λ u. HoldsOfAll instance.now u.bound) }
+    // A read is said to have failed exactly where one did.
     ensures failed { result ≡ Err read_failed → R.has_failed source.new ≡ true }
+    ensures unfailed { ¬ (result ≡ Err read_failed) → R.has_failed source.new ≡ R.has_failed source.old }
     ensures fault { IfErr result (λ f. (bytes : List ℕ) → R.remaining source.old ≡ Some bytes → TellsOf instance.now (stream_of bytes) f) }
     // Where a read fails, all that the bytes before it say has been read.
     ensures broken_off { result ≡ Err read_failed → (bytes : List ℕ) → R.remaining source.old ≡ Some bytes →

@@ -42,5 +42,6 @@ returns-clause-found c = record {
   both = record { spelled = c.in_ok-instance.ensures.found; solved = c.in_ok-table.ensures.found };
   better = c.in_ok-better.better;
   no_worse = c.in_ok-better.ensures.kept;
+  descended = c.in_ok-better.ensures.descended;
   answer = c.in_ok-table_answer.ensures;
 }

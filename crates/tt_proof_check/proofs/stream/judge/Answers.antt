@@ -26,6 +26,7 @@ loop-node-init g c =
       count = sym r.unread;
       few = omega (arith, r.unread);
       known = λ k. k;
+      unfailed = refl;
     }
 
 pub loop-node-preserved : goal.loop-node-preserved
@@ -59,6 +60,7 @@ loop-node-preserved g c =
       count = omega (arith, count, inv.count);
       few = omega (arith, count, e.room);
       known = λ k. e.known (inv.known k);
+      unfailed = e.unfailed inv.sofar.sound tt ∙ inv.unfailed;
     }
 
 pub returns-in_err-node-clause-fault : goal.returns-in_err-node-clause-fault

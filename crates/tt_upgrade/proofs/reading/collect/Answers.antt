@@ -19,6 +19,7 @@ loop-nodes-init g c =
       );
       few = omega (arith, r.unread);
       known = λ k. k;
+      unfailed = refl;
     }
 
 pub returns-in_err-node-clause-fault : goal.returns-in_err-node-clause-fault
@@ -51,6 +52,7 @@ loop-nodes-preserved g c =
           );
       few = omega (arith, count, e.room);
       known = λ k. e.known (inv.known k);
+      unfailed = e.unfailed inv.sofar.sound tt ∙ inv.unfailed;
     }
 
 pub returns-in_err-push-clause-fault : goal.returns-in_err-push-clause-fault
