@@ -41,5 +41,5 @@ pub returns-in_err-cost-clause-unfailed : goal.returns-in_err-cost-clause-unfail
 returns-in_err-cost-clause-unfailed g c =
     let e = err_from_is_err_and c.from_residual.result c.from_residual.ensures.1 in
     rw (e.1, e.2) (λ told. c.in_err-cost.ensures.unfailed (λ failed.
-        let is : c.in_err-cost.field-0.0 ≡ certify.Proof failed_text = cc in
-        told (ap (λ f. Err f) (certified_read c.in_err-cost.field-0.0 is))))
+    let is : c.in_err-cost.field-0.0 ≡ certify.Proof failed_text = cc in
+    told (ap (λ f. Err f) (certified_read c.in_err-cost.field-0.0 is))))
