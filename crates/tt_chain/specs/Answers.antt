@@ -1,5 +1,6 @@
 -- What the search for a chain answers, and when a chain is one of a timetable.
 use Rattle.std.specs.Prelude.{◌≡◌, ℕ, ◌≤◌, ◌<◌, ◌==◌, Bool, true, false, ◌&&◌, ◌||◌, List, length, All, Result, Ok, Err}
+use Rattle.std.specs.List.Sorted.{IsStrictlyIncreasing}
 use Rattle.tt_lists.specs.Words.{has}
 use Rattle.tt_instance.specs.Problem.{Problem}
 use Rattle.tt_instance.specs.Cells.{is_at}
@@ -7,13 +8,17 @@ use Rattle.tt_instance.specs.Courses.{unavailable}
 use Rattle.tt_instance.specs.declared.cell.Cell.{Cell}
 use Rattle.tt_instance.specs.declared.cell.Slot.{Slot}
 use Rattle.tt_occupancy.specs.Filled.{entry_at}
-use Rattle.tt_chain.specs.Chains.{linked, IsClosed, IsChain, IsOpen, other}
-use Rattle.tt_chain.specs.declared.kempe.Chain.{Chain}
+use Rattle.tt_chain.specs.Chains.{Kempe, linked, IsClosed, IsChain, IsOpen, other}
 use Rattle.tt_chain.specs.declared.kempe.ChainFault.{ChainFault}
 use Rattle.tt_chain.specs.declared.kempe.ChainFault.TheVariants.{SamePeriod, Unavailable, OutOfMemory}
 
 abbrev pub same_slot : Slot → Slot → Bool
 same_slot a b = (a.day == b.day) && (a.period == b.period)
+
+-- the members of a chain in rising order, between two periods
+pub record IsTurnable (a b : Slot) (members : List ℕ) : Type 0 where
+  pub apart : same_slot a b ≡ false
+  pub rising : IsStrictlyIncreasing members
 
 -- the other period of the entry at a place is unavailable
 abbrev pub is_shut : Problem → List Cell → Slot → Slot → ℕ → Bool
@@ -38,23 +43,23 @@ pub record MayTurn (p : Problem) (t : List Cell) (a b : Slot) (members : List �
   pub links : (j : ℕ) → j < length t → linked p a b (entry_at t i) (entry_at t j) ≡ true → has members j ≡ true
 
 -- its members can change places in the timetable: they hold each entry that is linked to one, and their other periods are available
-pub record IsOf (p : Problem) (t : List Cell) (c : Chain) : Type 0 where
+pub record IsOf (p : Problem) (t : List Cell) (c : Kempe) : Type 0 where
   pub from : IsPeriod p c.from
   pub to : IsPeriod p c.to
   pub apart : same_slot c.from c.to ≡ false
-  pub inside : All (λ i. i < length t) c.members.items
-  pub closed : IsClosed p t c.from c.to (has c.members.items)
-  pub free : IsOpen p t c.from c.to (has c.members.items)
+  pub inside : All (λ i. i < length t) c.members
+  pub closed : IsClosed p t c.from c.to (has c.members)
+  pub free : IsOpen p t c.from c.to (has c.members)
 
 -- the chain between two periods that starts at an entry
-pub record IsFound (p : Problem) (t : List Cell) (a b : Slot) (entry : ℕ) (c : Chain) : Type 0 where
+pub record IsFound (p : Problem) (t : List Cell) (a b : Slot) (entry : ℕ) (c : Kempe) : Type 0 where
   pub from : c.from ≡ a
   pub to : c.to ≡ b
-  pub chain : IsChain p t a b entry c.members.items
+  pub chain : IsChain p t a b entry c.members
   pub of : IsOf p t c
 
 -- the chain, or why there is none
-abbrev pub IsAnswer : Problem → List Cell → Slot → Slot → ℕ → Result Chain ChainFault → Type 0
+abbrev pub IsAnswer : Problem → List Cell → Slot → Slot → ℕ → Result Kempe ChainFault → Type 0
 IsAnswer p t a b entry (Ok c) = IsFound p t a b entry c
 IsAnswer p t a b entry (Err SamePeriod) = same_slot a b ≡ true
 IsAnswer p t a b entry (Err (Unavailable i)) =

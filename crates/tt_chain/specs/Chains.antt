@@ -7,6 +7,12 @@ use Rattle.tt_instance.specs.Courses.{conflict, unavailable}
 use Rattle.tt_instance.specs.declared.cell.Cell.{Cell}
 use Rattle.tt_instance.specs.declared.cell.Slot.{Slot}
 
+-- entries of two periods that change places together, by their numbers
+pub record Kempe : Type 0 where
+  pub from : Slot
+  pub to : Slot
+  pub members : List ℕ
+
 -- two entries that may not stand in one period
 abbrev pub exclude : Problem → Cell → Cell → Bool
 exclude p x y = (x.room == y.room) || (x.course == y.course) || conflict p x.course y.course

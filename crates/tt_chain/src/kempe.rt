@@ -3,6 +3,7 @@
 ghost use Rattle.std.specs.Prelude.{◌≡◌};
 ghost use Rattle.std.specs.List.Sorted.{IsStrictlyIncreasing};
 
+use std::marker::Model;
 use tt_instance::Slot;
 
 /// Why there is no chain.
@@ -21,13 +22,23 @@ pub struct Chain {
     pub(crate) from: Slot,
     pub(crate) to: Slot,
     pub(crate) members: Vec<u32>,
-    ghost rising: { IsStrictlyIncreasing members.items },
+}
+
+impl Model for Chain {
+    ghost use Rattle.tt_chain.specs.Chains.{Kempe};
+    ghost use Rattle.tt_chain.specs.Answers.{IsTurnable};
+
+    ghost Value = { Kempe };
+
+    ghost view = { λ a. record { from = a.from; to = a.to; members = a.members.items } };
+
+    ghost invariant = { λ a. IsTurnable a.from a.to a.members.items };
 }
 
 impl Chain {
     /// The entries, in rising order.
     pub fn members(&self) -> &[u32]
-        ensures value { result.now ≡ self.now.members.items }
+        ensures value { result.now ≡ self.now.members }
         ensures rising { IsStrictlyIncreasing result.now }
     {
         self.members.as_slice()

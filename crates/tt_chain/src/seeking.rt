@@ -43,7 +43,7 @@ pub fn other_period(from: Slot, to: Slot, entry: Entry) -> Slot
 }
 
 /// Whether two periods are one.
-pub fn is_same_slot(a: Slot, b: Slot) -> bool
+fn is_same_slot(a: Slot, b: Slot) -> bool
     ensures { result ≡ same_slot a b }
 {
     a.day == b.day && a.period == b.period

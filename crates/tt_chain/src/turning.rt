@@ -9,7 +9,7 @@ ghost use Rattle.tt_chain.specs.Answers.{IsOf, IsPeriod, MayTurn};
 ghost use Rattle.tt_chain.specs.Chains.{linked, swapped};
 
 use crate::kempe::Chain;
-use crate::seeking::{entry_of, is_barred, is_same_slot, other_period};
+use crate::seeking::{entry_of, is_barred, other_period};
 use crate::spreading::{is_linked, stands_at};
 use tt_instance::{Instance, Slot};
 use tt_occupancy::Occupied;
@@ -24,7 +24,7 @@ fn is_period(instance: &Instance<'_>, slot: Slot) -> bool
 impl Chain {
     /// Whether an entry is a member.
     fn has(&self, index: u32) -> bool
-        ensures { result ≡ has self.now.members.items index }
+        ensures { result ≡ has self.now.members index }
     {
         self.members.contains(&index)
     }
@@ -35,7 +35,7 @@ impl Chain {
         requires other { other < length occupied.now.entries }
         ensures { IsTrue result ↔ (linked occupied.now.problem self.now.from self.now.to
             (entry_at occupied.now.entries index) (entry_at occupied.now.entries other) ≡ true
-            → has self.now.members.items other ≡ true) }
+            → has self.now.members other ≡ true) }
     {
         let one = entry_of(occupied, index);
         let two = entry_of(occupied, other);
@@ -48,7 +48,7 @@ impl Chain {
         ensures { IsTrue result ↔ ((j : ℕ) → j < length occupied.now.entries
             → linked occupied.now.problem self.now.from self.now.to
             (entry_at occupied.now.entries index) (entry_at occupied.now.entries j) ≡ true
-            → has self.now.members.items j ≡ true) }
+            → has self.now.members j ≡ true) }
     {
         for other in 0..occupied.table().len() as u32 {
             if !self.holds_link(occupied, index, other) {
@@ -61,7 +61,7 @@ impl Chain {
     /// Whether a member may change its place.
     fn may_turn(&self, occupied: &Occupied<'_, '_>, index: u32) -> bool
         ensures { IsTrue result ↔ MayTurn occupied.now.problem occupied.now.entries self.now.from self.now.to
-            self.now.members.items index }
+            self.now.members index }
     {
         if index as usize >= occupied.table().len() {
             return false;
@@ -79,10 +79,7 @@ impl Chain {
         ensures { IsTrue result ↔ IsOf occupied.now.problem occupied.now.entries self.now }
     {
         let instance = occupied.instance();
-        if is_same_slot(self.from, self.to)
-            || !is_period(instance, self.from)
-            || !is_period(instance, self.to)
-        {
+        if !is_period(instance, self.from) || !is_period(instance, self.to) {
             return false;
         }
         for member in self.members() {
@@ -99,7 +96,7 @@ pub fn swap_chain(occupied: &mut Occupied<'_, '_>, chain: &Chain)
     requires { IsOf occupied.old.problem occupied.old.entries chain.now }
     ensures swapped { occupied.new ≡ record {
       problem = occupied.old.problem;
-      entries = swapped chain.now.from chain.now.to (has chain.now.members.items) occupied.old.entries;
+      entries = swapped chain.now.from chain.now.to (has chain.now.members) occupied.old.entries;
     } }
     ensures courses { (c : ℕ) → entries_of occupied.new.entries c ≡ entries_of occupied.old.entries c }
     ensures feasible { IsFeasible occupied.old.problem occupied.old.entries

@@ -6,7 +6,7 @@ use Rattle.tt_instance.specs.Cells.{InRange}
 use Rattle.tt_rules.specs.Hard.{entries_of}
 use Rattle.tt_rules.specs.Score.{IsFeasible}
 use Rattle.tt_occupancy.specs.Filled.{Filled, no_entry}
-use Rattle.tt_chain.specs.Chains.{swapped}
+use Rattle.tt_chain.specs.Chains.{Kempe, swapped, other}
 use Rattle.tt_chain.proofs.Swapping.{filled, swapped_none, still_inside, swapped_next}
 use Rattle.tt_chain.proofs.Turned.{entries-swapped, chain_feasible}
 use Rattle.tt_chain.proofs.turning.swap_chain.Goals as goal
@@ -53,7 +53,8 @@ loop-member-preserved c =
     let k = c.loop-member.member-index in
     let inside_here = subst (λ (l : List ℕ). All (λ i. i < length o.entries) l) (sym c.members-member-items.ensures.value) c.requires.inside k 0 c.loop-member-test.true in
     c.move_entry.ensures
-    ∙ swapped_next x.from x.to o.problem o.entries ms c.members-member-items.ensures.rising k c.loop-member-test.true c.loop-member.occupied c.loop-member.invariant inside_here c.entry_of-entry.result c.entry_of-entry.ensures.value c.other_period-place.result c.other_period-place.ensures
+    ∙ swapped_next x.from x.to o.problem o.entries ms c.members-member-items.ensures.rising k c.loop-member-test.true c.loop-member.occupied c.loop-member.invariant inside_here c.entry_of-entry.result c.entry_of-entry.ensures.value c.other_period-place.result
+    (subst (λ (z : Kempe). c.other_period-place.result ≡ other z.from z.to c.entry_of-entry.result) c.chain.view_is c.other_period-place.ensures)
 
 pub returns-clause-courses : goal.returns-clause-courses
 returns-clause-courses c = λ course.
@@ -62,7 +63,7 @@ returns-clause-courses c = λ course.
     let all = take_all c.loop-member.member-index c.members-member-items.result.now c.loop-member-test.false ∙ c.members-member-items.ensures.value in
     ap (λ (z : Filled). entries_of z.entries course) c.loop-member.invariant
     ∙ ap (λ ms. entries_of (swapped x.from x.to (has ms) t) course) all
-    ∙ entries-swapped x.from x.to (has x.members.items) 0 course t
+    ∙ entries-swapped x.from x.to (has x.members) 0 course t
 
 pub returns-clause-feasible : goal.returns-clause-feasible
 returns-clause-feasible c = λ feasible.
@@ -71,4 +72,4 @@ returns-clause-feasible c = λ feasible.
     let r = c.requires in
     let all = take_all c.loop-member.member-index c.members-member-items.result.now c.loop-member-test.false ∙ c.members-member-items.ensures.value in
     let is = ap (λ (z : Filled). z.entries) c.loop-member.invariant ∙ ap (λ ms. swapped x.from x.to (has ms) o.entries) all in
-    subst (IsFeasible o.problem) (sym is) (chain_feasible o.problem o.entries x.from x.to (has x.members.items) r.apart r.from.day r.from.period r.to.day r.to.period feasible r.closed r.free)
+    subst (IsFeasible o.problem) (sym is) (chain_feasible o.problem o.entries x.from x.to (has x.members) r.apart r.from.day r.from.period r.to.day r.to.period feasible r.closed r.free)
