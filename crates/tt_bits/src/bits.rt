@@ -1,6 +1,6 @@
 //! Words as sets of numbers below 64.
 
-ghost use Rattle.std.specs.Prelude.{◌≡◌, ◌<◌, ◌==◌, ◌&&◌, ℕ, not, true, nat_lt, length, OnOk, OnErr};
+ghost use Rattle.std.specs.Prelude.{◌≡◌, ◌<◌, ◌≤◌, ◌==◌, ◌&&◌, ◌||◌, ℕ, not, true, nat_lt, length, count_by, OnOk, OnErr};
 ghost use Rattle.std.specs.List.{list_any};
 ghost use Rattle.tt_bits.specs.Bits.{has_bit, bits, Clears};
 
@@ -21,6 +21,29 @@ pub fn one(number: u32) -> u64
     ensures { (r : ℕ) → r < 64 → has_bit result r ≡ (r == number) }
 {
     1 << number
+}
+
+/// The set with one number more, if it is to have it.
+pub fn with_if(word: u64, number: u32, is_in: bool) -> u64
+    requires { number < 64 }
+    ensures { (r : ℕ) → r < 64 → has_bit result r ≡ (has_bit word r || (is_in && (r == number))) }
+{
+    if is_in { word | 1 << number } else { word }
+}
+
+/// The numbers that are in some of both sets.
+pub fn either(word: u64, other: u64) -> u64
+    ensures { (r : ℕ) → r < 64 → has_bit result r ≡ (has_bit word r || has_bit other r) }
+{
+    word | other
+}
+
+/// How many numbers the set has.
+pub fn count(word: u64) -> u32
+    ensures value { result ≡ count_by (has_bit word) bits }
+    ensures within { result ≤ 64 }
+{
+    word.count_ones()
 }
 
 /// The numbers that are in the first set and not in the second.

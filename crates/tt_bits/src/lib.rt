@@ -3,4 +3,6 @@
 
 mod bits;
 
-pub use bits::{below, both, clear, has_bit, is_empty, lowest, one, others, without};
+pub use bits::{
+    below, both, clear, count, either, has_bit, is_empty, lowest, one, others, with_if, without,
+};

@@ -1,17 +1,17 @@
 //! What a table has.
 
-ghost use Rattle.std.specs.Prelude.{◌≡◌, ◌<◌, ◌+◌, ◌*◌, ◌==◌, ◌||◌, ℕ, not, length};
+ghost use Rattle.std.specs.Prelude.{◌≡◌, ◌<◌, ◌+◌, ◌*◌, ◌==◌, ◌||◌, ◌&&◌, ℕ, not, nat_lt, length, None};
 ghost use Rattle.std.specs.List.{list_any, list_all};
 ghost use Rattle.tt_instance.specs.Cells.{slot, cell, all_rooms, InRange};
 ghost use Rattle.tt_lists.specs.Words.{numbers_below};
-ghost use Rattle.tt_bits.specs.Bits.{bits};
+ghost use Rattle.tt_bits.specs.Bits.{has_bit, bits};
 ghost use Rattle.tt_cell_set.specs.Words.{width};
 ghost use Rattle.tt_cell_set.specs.Rooms.{has_room};
 ghost use Rattle.tt_cell_set.specs.Tables.{has_cell, is_open, IsTable};
 
 use crate::places::{cells_word, open_word, width};
 use crate::rooms::{Rooms, common_of};
-use tt_bits::{has_bit, is_empty};
+use tt_bits::{has_bit, is_empty, with_if};
 use tt_instance::{Cell, Instance};
 use tt_trail::Trail;
 
@@ -89,6 +89,22 @@ pub fn has_period(
         (all_rooms instance.now) }
 {
     has_blocks(instance, table, room, course, day, period)
+}
+
+/// The periods of a day in which the table has some cell of the course, as a set.
+pub fn periods_of(instance: &Instance<'_>, table: &Trail, course: u32, day: u32) -> u64
+    requires course { course < length instance.now.courses }
+    requires day { day < instance.now.days }
+    requires table { IsTable instance.now table.now.words }
+    ensures { (s : ℕ) → s < 64 → has_bit result s ≡ (nat_lt s instance.now.periods
+        && list_any (is_open instance.now table.now.words None course day s) (all_rooms instance.now)) }
+{
+    let mut periods = 0;
+    for period in 0..instance.periods() {
+        let is_in = has_period(instance, table, None, course, day, period);
+        periods = with_if(periods, period, is_in);
+    }
+    periods
 }
 
 /// The rooms that are each room of the course's cells in the period, in the given room if one is given.

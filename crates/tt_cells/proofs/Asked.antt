@@ -1,7 +1,7 @@
 -- What the table of live cells answers.
-use Rattle.std.proofs.Common.{◌≡◌, ℕ, ◌+◌, inl, inr, eq-eqb, ne_eqb, ◌<◌, ◌≤◌, Bool, true, false, not, ◌&&◌, ◌||◌, List, [], length, None, refl, sym, ap, ◌∙◌, arith}
+use Rattle.std.proofs.Common.{◌≡◌, ℕ, ◌+◌, ◌*◌, inl, inr, ◌<◌, ◌≤◌, Bool, true, false, not, ◌&&◌, ◌||◌, List, [], length, None, refl, sym, ap, ◌∙◌, arith}
 use Rattle.std.specs.Prelude.{◌==◌, nat_lt}
-use Rattle.std.proofs.lemmas.Bool.{cases_eq, and_parts, and_from, or_right, lt-ltb, ltb-true}
+use Rattle.std.proofs.lemmas.Bool.{cases_lt, lt-ltb}
 use Rattle.std.specs.List.{list_any}
 use Rattle.tt_lists.proofs.Numbers.{any_below}
 use Rattle.tt_lists.proofs.Members.{member_from_any}
@@ -14,10 +14,11 @@ use Rattle.tt_facts.specs.declared.facts.Fact.{Fact}
 use Rattle.tt_kills.proofs.Each.{same_truth}
 use Rattle.tt_bits.proofs.BitLaws.{numbers_under, not_below}
 use Rattle.tt_cell_set.specs.Tables.{has_cell, is_open, Shows}
+use Rattle.tt_cell_set.proofs.Reading.{spare-cell}
 use Rattle.tt_cells.specs.Shown.{is_free_of, AreTables, AreEarlier}
 use Rattle.tt_cells.proofs.Losing.{shows-same, below_next}
 
-not_not : (b : Bool) → not (not b) ≡ b
+pub not_not : (b : Bool) → not (not b) ≡ b
 not_not true = refl
 not_not false = refl
 
@@ -47,6 +48,18 @@ module _ (p : Problem) (facts : List Fact) (live : List ℕ) (shows : Shows p (i
       at : (r : ℕ) → r < length p.rooms → is_open p live None c d s r ≡ is_live p facts (cell c r (slot d s))
       at r h = and_true (has_cell p live (cell c r (slot d s))) ∙ shows.cells (cell c r (slot d s)) (record { course = hc; room = h; day = hd; period = hs })
 
+  pub live-periods : (c d s : ℕ) → c < length p.courses → d < p.days → (nat_lt s p.periods && list_any (is_open p live None c d s) (all_rooms p)) ≡ (nat_lt s p.periods && live_period p facts c (slot d s))
+  live-periods c d s hc hd = elim (cases_lt s p.periods) [
+    | inl h ↦ ap (λ b. nat_lt s p.periods && b) (live-cells c d s hc hd h)
+    | inr h ↦ ap (λ b. b && list_any (is_open p live None c d s) (all_rooms p)) (not_below s p.periods h) ∙ sym (ap (λ b. b && live_period p facts c (slot d s)) (not_below s p.periods h))
+  ]
+
+  pub live-rooms : (c d s w k : ℕ) → c < length p.courses → d < p.days → s < p.periods → w * 64 < length p.rooms → k < 64 → has_cell p live (cell c (w * 64 + k) (slot d s)) ≡ (nat_lt (w * 64 + k) (length p.rooms) && is_live p facts (cell c (w * 64 + k) (slot d s)))
+  live-rooms c d s w k hc hd hs hw hk = elim (cases_lt (w * 64 + k) (length p.rooms)) [
+    | inl h ↦ shows.cells (cell c (w * 64 + k) (slot d s)) (record { course = hc; room = h; day = hd; period = hs }) ∙ sym (ap (λ b. b && is_live p facts (cell c (w * 64 + k) (slot d s))) (lt-ltb (w * 64 + k) (length p.rooms) h))
+    | inr h ↦ spare-cell p live c d s w k shows.table hc hd hs (omega arith) hk h ∙ sym (ap (λ b. b && is_live p facts (cell c (w * 64 + k) (slot d s))) (not_below (w * 64 + k) (length p.rooms) h))
+  ]
+
 -- ---- with no facts
 
 pub first_tables : (p : Problem) (free live : List ℕ) → Shows p (λ x. not (unavailable p x.course x.day x.period)) free → Shows p (λ x. not (unavailable p x.course x.day x.period)) live → AreTables p [] free live
@@ -57,36 +70,3 @@ first_tables p free live a b = record {
 
 pub none_earlier : (p : Problem) → AreEarlier p [] [] []
 none_earlier p = record { frees_len = refl; lives_len = refl; each = λ i h. absurd (omega arith) }
-
--- ---- the live periods of a day
-
--- the bits with the periods before n cleared that are not live
-abbrev pub bits_so_far : (ℕ → Bool) → ℕ → ℕ → ℕ → Bool
-bits_so_far live count n s = nat_lt s count && (not (nat_lt s n) || live s)
-
-pub none_cleared : (live : ℕ → Bool) (count s : ℕ) → nat_lt s count ≡ bits_so_far live count 0 s
-none_cleared live count s = sym (ap (λ b. nat_lt s count && (not b || live s)) (not_below s 0 (omega arith)) ∙ and_true (nat_lt s count))
-
-pub all_cleared : (live : ℕ → Bool) (count n s : ℕ) → count ≤ n → bits_so_far live count n s ≡ (nat_lt s count && live s)
-all_cleared live count n s h = same_truth (bits_so_far live count n s) (nat_lt s count && live s)
-    (λ e. let a = and_parts (nat_lt s count) (not (nat_lt s n) || live s) e in let l = ltb-true s count a.0 in
-    and_from (nat_lt s count) (live s) a.0 (sym (ap (λ b. not b || live s) (lt-ltb s n (omega arith))) ∙ a.1))
-    (λ e. let a = and_parts (nat_lt s count) (live s) e in and_from (nat_lt s count) (not (nat_lt s n) || live s) a.0 (or_right (not (nat_lt s n)) (live s) a.1))
-
-pub one_kept : (live : ℕ → Bool) (count n s : ℕ) → live n ≡ true → bits_so_far live count n s ≡ bits_so_far live count (n + 1) s
-one_kept live count n s e = elim (cases_eq s n) [
-  | inl q ↦ ap (λ b. nat_lt s count && b) (or_right (not (nat_lt s n)) (live s) (ap live q ∙ e) ∙ sym (or_right (not (nat_lt s (n + 1))) (live s) (ap live q ∙ e)))
-  | inr q ↦ ap (λ b. nat_lt s count && (not b || live s)) (sym (below_next s n ∙ ap (λ b. nat_lt s n || b) (ne_eqb s n q) ∙ or_false (nat_lt s n)))
-]
-
-pub one_cleared : (live : ℕ → Bool) (count n s : ℕ) → live n ≡ false → (bits_so_far live count n s && not (s == n)) ≡ bits_so_far live count (n + 1) s
-one_cleared live count n s e = elim (cases_eq s n) [
-  | inl q ↦ ap (λ b. bits_so_far live count n s && not b) (eq-eqb s n q) ∙ nothing (bits_so_far live count n s)
-      ∙ sym (ap (λ b. nat_lt s count && (not b || live s)) (lt-ltb s (n + 1) (omega arith)) ∙ ap (λ b. nat_lt s count && b) (ap live q ∙ e) ∙ nothing (nat_lt s count))
-  | inr q ↦ ap (λ b. bits_so_far live count n s && not b) (ne_eqb s n q) ∙ and_true (bits_so_far live count n s)
-      ∙ ap (λ b. nat_lt s count && (not b || live s)) (sym (below_next s n ∙ ap (λ b. nat_lt s n || b) (ne_eqb s n q) ∙ or_false (nat_lt s n)))
-]
-  where
-    nothing : (b : Bool) → (b && false) ≡ false
-    nothing true = refl
-    nothing false = refl

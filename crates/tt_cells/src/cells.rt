@@ -6,8 +6,8 @@ ghost use Rattle.tt_facts.specs.Live.{least_with};
 use crate::adding::add;
 use std::alloc::{AllocError, Global};
 use std::marker::Model;
-use tt_bits::{below, one, without};
-use tt_cell_set::{first_table, has_cell, has_period};
+use tt_bits::is_empty;
+use tt_cell_set::{cells_word, first_table, has_cell, has_period, periods_of};
 use tt_facts::{Cell, Fact};
 use tt_instance::Instance;
 use tt_links::Links;
@@ -42,7 +42,7 @@ impl<'p, 'i> Model for Cells<'p, 'i> {
 }
 
 impl<'p, 'i> Cells<'p, 'i> {
-    ghost use Rattle.std.specs.Prelude.{ℕ, ◌&&◌, nat_lt, [], ◌∷◌, ◌++◌, slice_get, Some, OnOk, OnErr, IfOk, IfSome};
+    ghost use Rattle.std.specs.Prelude.{ℕ, ◌+◌, ◌*◌, ◌&&◌, nat_lt, [], ◌∷◌, ◌++◌, slice_get, Some, OnOk, OnErr, IfOk, IfSome};
     ghost use Rattle.tt_bits.specs.Bits.{has_bit};
     ghost use Rattle.tt_instance.specs.Cells.{InRange, slot, cell};
     ghost use Rattle.tt_instance.specs.Courses.{excess};
@@ -147,14 +147,21 @@ impl<'p, 'i> Cells<'p, 'i> {
         ensures { (s : ℕ) → s < 64 → has_bit result s
             ≡ (nat_lt s self.now.problem.periods && live_period self.now.problem self.now.facts course (slot day s)) }
     {
-        let mut live = below(self.instance.periods());
-        for period in 0..self.instance.periods() {
-            if self.live_period(course, day, period) {
-                continue;
-            }
-            live = without(live, one(period));
-        }
-        live
+        periods_of(self.instance, &self.live, course, day)
+    }
+
+    /// The rooms of a block whose cells of the course in the period are live, as a set: the block's number times 64 and the
+    /// 63 that follow.
+    pub fn live_rooms(&self, course: u32, day: u32, period: u32, block: u32) -> u64
+        requires course { course < length self.now.problem.courses }
+        requires day { day < self.now.problem.days }
+        requires period { period < self.now.problem.periods }
+        requires block { block * 64 < length self.now.problem.rooms }
+        ensures { (n : ℕ) → n < 64 → has_bit result n
+            ≡ (nat_lt (block * 64 + n) (length self.now.problem.rooms)
+            && is_live self.now.problem self.now.facts (cell course (block * 64 + n) (slot day period))) }
+    {
+        cells_word(self.instance, &self.live, course, day, period, block)
     }
 
     /// Whether the course has a live period on the day.
@@ -163,7 +170,9 @@ impl<'p, 'i> Cells<'p, 'i> {
         requires day { day < self.now.problem.days }
         ensures { result ≡ live_day self.now.problem self.now.facts course day }
     {
-        (0..self.instance.periods()).any(|period| self.live_period(course, day, period))
+        // What is true of every instance: the periods of a day are the numbers of a word.
+        prove!(self.instance.periods() <= 64);
+        !is_empty(self.live_periods(course, day))
     }
 
     /// Whether the cell of these numbers is live.

@@ -1,10 +1,11 @@
 //! Paths: lists of facts over one instance, and what they leave possible.
 
-ghost use Rattle.std.specs.Prelude.{◌≡◌, ◌<◌, ◌≤◌, [], ◌∷◌, ◌++◌, List, length, slice_get, Some, IfSome, OnOk, OnErr, IsErrOf, IsOkUnless};
+ghost use Rattle.std.specs.Prelude.{◌≡◌, ◌<◌, ◌≤◌, ◌+◌, ◌*◌, ◌&&◌, ℕ, nat_lt, [], ◌∷◌, ◌++◌, List, length, slice_get, Some, IfSome, OnOk, OnErr, IsErrOf, IsOkUnless};
 ghost use Rattle.tt_instance.specs.Problem.{Problem};
-ghost use Rattle.tt_instance.specs.Cells.{InRange, slot};
+ghost use Rattle.tt_bits.specs.Bits.{has_bit};
+ghost use Rattle.tt_instance.specs.Cells.{InRange, slot, cell};
 ghost use Rattle.tt_facts.specs.Facts.{IsWho, has_fact};
-ghost use Rattle.tt_facts.specs.Live.{is_dead, live_period, live_day, least_excess, pinned, pinned_room};
+ghost use Rattle.tt_facts.specs.Live.{is_dead, is_live, live_period, live_day, least_excess, pinned, pinned_room};
 ghost use Rattle.tt_facts.specs.declared.facts.Fact.{Fact};
 
 use crate::facts::{Fact, Pattern, Who};
@@ -73,6 +74,24 @@ pub trait Path<'i> {
         requires period { period < (problem self.now).periods }
         ensures { result ≡ live_period (problem self.now) (facts self.now) course (slot day period) };
 
+    /// The live periods of a course on a day, as a set.
+    fn live_periods(&self, course: u32, day: u32) -> u64
+        requires course { course < length (problem self.now).courses }
+        requires day { day < (problem self.now).days }
+        ensures { (s : ℕ) → s < 64 → has_bit result s
+            ≡ (nat_lt s (problem self.now).periods && live_period (problem self.now) (facts self.now) course (slot day s)) };
+
+    /// The rooms of a block whose cells of the course in the period are live, as a set: the block's number times 64 and the
+    /// 63 that follow.
+    fn live_rooms(&self, course: u32, day: u32, period: u32, block: u32) -> u64
+        requires course { course < length (problem self.now).courses }
+        requires day { day < (problem self.now).days }
+        requires period { period < (problem self.now).periods }
+        requires block { block * 64 < length (problem self.now).rooms }
+        ensures { (n : ℕ) → n < 64 → has_bit result n
+            ≡ (nat_lt (block * 64 + n) (length (problem self.now).rooms)
+            && is_live (problem self.now) (facts self.now) (cell course (block * 64 + n) (slot day period))) };
+
     /// Whether the course has a live period on the day.
     fn live_day(&self, course: u32, day: u32) -> bool
         requires course { course < length (problem self.now).courses }
@@ -94,9 +113,24 @@ pub trait Path<'i> {
         requires period { period < (problem self.now).periods }
         ensures { result ≡ pinned (problem self.now) (facts self.now) who (slot day period) };
 
+    /// The pinned periods of a course or a curriculum on a day, as a set.
+    fn pinned_periods(&self, who: Who, day: u32) -> u64
+        requires who { IsWho (problem self.now) who }
+        requires day { day < (problem self.now).days }
+        ensures { (s : ℕ) → s < 64 → has_bit result s
+            ≡ (nat_lt s (problem self.now).periods && pinned (problem self.now) (facts self.now) who (slot day s)) };
+
     /// Whether a yes-fact of the course gives this room.
     fn pinned_room(&self, course: u32, room: u32) -> bool
         requires course { course < length (problem self.now).courses }
         requires room { room < length (problem self.now).rooms }
         ensures { result ≡ pinned_room (problem self.now) (facts self.now) course room };
+
+    /// The pinned rooms of a course in a block, as a set: the block's number times 64 and the 63 that follow.
+    fn pinned_rooms(&self, course: u32, block: u32) -> u64
+        requires course { course < length (problem self.now).courses }
+        requires block { block * 64 < length (problem self.now).rooms }
+        ensures { (n : ℕ) → n < 64 → has_bit result n
+            ≡ (nat_lt (block * 64 + n) (length (problem self.now).rooms)
+            && pinned_room (problem self.now) (facts self.now) course (block * 64 + n)) };
 }

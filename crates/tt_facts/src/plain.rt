@@ -10,6 +10,7 @@ use crate::facts::{Fact, Pattern, Who, gives};
 use crate::path::{MAX_FACTS, Path, PathFault};
 use std::alloc::Global;
 use std::marker::Model;
+use tt_bits::with_if;
 use tt_instance::{Cell, Instance};
 
 /// The facts as a list. No table stands beside it, so an answer looks at each fact.
@@ -96,6 +97,28 @@ impl<'p, 'i> Path<'i> for PlainPath<'p, 'i> {
         self.is_live_period(course, day, period)
     }
 
+    fn live_periods(&self, course: u32, day: u32) -> u64 {
+        let mut live = 0;
+        for period in 0..self.instance.periods() {
+            live = with_if(live, period, self.is_live_period(course, day, period));
+        }
+        live
+    }
+
+    fn live_rooms(&self, course: u32, day: u32, period: u32, block: u32) -> u64 {
+        let rooms = self.instance.rooms();
+        let first = block * 64;
+        let mut live = 0;
+        for number in 0..(rooms - first).min(64) {
+            live = with_if(
+                live,
+                number,
+                self.is_live(course, first + number, day, period),
+            );
+        }
+        live
+    }
+
     fn live_day(&self, course: u32, day: u32) -> bool {
         (0..self.instance.periods()).any(|period| self.is_live_period(course, day, period))
     }
@@ -120,11 +143,29 @@ impl<'p, 'i> Path<'i> for PlainPath<'p, 'i> {
         })
     }
 
+    fn pinned_periods(&self, who: Who, day: u32) -> u64 {
+        let mut pinned = 0;
+        for period in 0..self.instance.periods() {
+            pinned = with_if(pinned, period, self.pinned(who, day, period));
+        }
+        pinned
+    }
+
     fn pinned_room(&self, course: u32, room: u32) -> bool {
         self.facts.iter().any(|fact| {
             fact.holds
                 && Who::Course(course).is_spoken_of(self.instance, fact.pattern.who)
                 && gives(fact.pattern.room, room)
         })
+    }
+
+    fn pinned_rooms(&self, course: u32, block: u32) -> u64 {
+        let rooms = self.instance.rooms();
+        let first = block * 64;
+        let mut pinned = 0;
+        for number in 0..(rooms - first).min(64) {
+            pinned = with_if(pinned, number, self.pinned_room(course, first + number));
+        }
+        pinned
     }
 }

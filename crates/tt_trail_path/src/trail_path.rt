@@ -1,10 +1,6 @@
 //! A path that answers from tables.
 
-ghost use Rattle.std.specs.Prelude.{◌≡◌, ◌<◌, ◌+◌, ◌*◌, ◌&&◌, ℕ, nat_lt, List, length};
-ghost use Rattle.tt_bits.specs.Bits.{has_bit};
-ghost use Rattle.tt_instance.specs.Cells.{slot};
-ghost use Rattle.tt_facts.specs.Facts.{IsWho};
-ghost use Rattle.tt_facts.specs.Live.{live_period, pinned, pinned_room};
+ghost use Rattle.std.specs.Prelude.{◌≡◌};
 
 use crate::both::{pop_both, push_both};
 use std::alloc::{AllocError, Global};
@@ -50,37 +46,6 @@ impl<'p, 'i> TrailPath<'p, 'i> {
         let pins = Pins::new(alloc, instance)?;
         Ok(TrailPath { cells, pins })
     }
-
-    /// The live periods of a course on a day, as a set.
-    pub fn live_periods(&self, course: u32, day: u32) -> u64
-        requires course { course < length self.now.problem.courses }
-        requires day { day < self.now.problem.days }
-        ensures { (s : ℕ) → s < 64 → has_bit result s
-            ≡ (nat_lt s self.now.problem.periods && live_period self.now.problem self.now.facts course (slot day s)) }
-    {
-        self.cells.live_periods(course, day)
-    }
-
-    /// The pinned periods of a course or a curriculum on a day, as a set.
-    pub fn pinned_periods(&self, who: Who, day: u32) -> u64
-        requires who { IsWho self.now.problem who }
-        requires day { day < self.now.problem.days }
-        ensures { (s : ℕ) → s < 64 → has_bit result s
-            ≡ (nat_lt s self.now.problem.periods && pinned self.now.problem self.now.facts who (slot day s)) }
-    {
-        self.pins.pinned_periods(who, day)
-    }
-
-    /// The pinned rooms of a course in a block, as a set: the block's number times 64 and the 63 that follow.
-    pub fn pinned_rooms(&self, course: u32, block: u32) -> u64
-        requires course { course < length self.now.problem.courses }
-        requires block { block * 64 < length self.now.problem.rooms }
-        ensures { (n : ℕ) → n < 64 → has_bit result n
-            ≡ (nat_lt (block * 64 + n) (length self.now.problem.rooms)
-            && pinned_room self.now.problem self.now.facts course (block * 64 + n)) }
-    {
-        self.pins.pinned_rooms(course, block)
-    }
 }
 
 impl<'p, 'i> Path<'i> for TrailPath<'p, 'i> {
@@ -123,6 +88,14 @@ impl<'p, 'i> Path<'i> for TrailPath<'p, 'i> {
         self.cells.live_period(course, day, period)
     }
 
+    fn live_periods(&self, course: u32, day: u32) -> u64 {
+        self.cells.live_periods(course, day)
+    }
+
+    fn live_rooms(&self, course: u32, day: u32, period: u32, block: u32) -> u64 {
+        self.cells.live_rooms(course, day, period, block)
+    }
+
     fn live_day(&self, course: u32, day: u32) -> bool {
         self.cells.live_day(course, day)
     }
@@ -135,7 +108,15 @@ impl<'p, 'i> Path<'i> for TrailPath<'p, 'i> {
         self.pins.pinned(who, day, period)
     }
 
+    fn pinned_periods(&self, who: Who, day: u32) -> u64 {
+        self.pins.pinned_periods(who, day)
+    }
+
     fn pinned_room(&self, course: u32, room: u32) -> bool {
         self.pins.pinned_room(course, room)
+    }
+
+    fn pinned_rooms(&self, course: u32, block: u32) -> u64 {
+        self.pins.pinned_rooms(course, block)
     }
 }
