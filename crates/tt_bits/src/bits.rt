@@ -1,6 +1,6 @@
 //! Words as sets of numbers below 64.
 
-ghost use Rattle.std.specs.Prelude.{◌≡◌, ◌<◌, ◌≤◌, ◌==◌, ◌&&◌, ◌||◌, ℕ, not, true, nat_lt, length, count_by, OnOk, OnErr};
+ghost use Rattle.std.specs.Prelude.{◌≡◌, ◌<◌, ◌≤◌, ◌+◌, ◌-◌, ◌==◌, ◌&&◌, ◌||◌, ℕ, not, true, nat_lt, length, count_by, OnOk, OnErr};
 ghost use Rattle.std.specs.List.{list_any};
 ghost use Rattle.tt_bits.specs.Bits.{has_bit, bits, Clears};
 
@@ -65,6 +65,20 @@ pub fn both(word: u64, other: u64) -> u64
     ensures { (r : ℕ) → r < 64 → has_bit result r ≡ (has_bit word r && has_bit other r) }
 {
     word & other
+}
+
+/// The numbers that follow those of the set.
+pub fn next(word: u64) -> u64
+    ensures { (r : ℕ) → r < 64 → has_bit result r ≡ (nat_lt 0 r && has_bit word (r - 1)) }
+{
+    word << 1
+}
+
+/// The numbers that those of the set follow.
+pub fn previous(word: u64) -> u64
+    ensures { (r : ℕ) → r < 64 → has_bit result r ≡ (nat_lt (r + 1) 64 && has_bit word (r + 1)) }
+{
+    word >> 1
 }
 
 /// Whether no number is in the set.

@@ -4,5 +4,6 @@
 mod bits;
 
 pub use bits::{
-    below, both, clear, count, either, has_bit, is_empty, lowest, one, others, with_if, without,
+    below, both, clear, count, either, has_bit, is_empty, lowest, next, one, others, previous,
+    with_if, without,
 };

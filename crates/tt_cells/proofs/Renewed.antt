@@ -1,12 +1,13 @@
 -- The live cells after one fact more.
-use Rattle.std.proofs.Common.{◌≡◌, ℕ, zero, suc, ◌+◌, ◌<◌, Bool, true, false, not, ◌&&◌, ◌||◌, List, [], ◌∷◌, ◌++◌, length, take, Option, Some, None, refl, sym, ap, ◌∙◌, subst, arith, eq-eqb}
-use Rattle.std.specs.Prelude.{Contains, slice_index_or}
+use Rattle.std.proofs.Common.{◌≡◌, ℕ, zero, suc, ◌+◌, ◌<◌, Bool, true, false, not, ◌&&◌, ◌||◌, List, [], ◌∷◌, ◌++◌, length, take, map, cond, Option, Some, None, refl, sym, ap, ◌∙◌, subst, arith, eq-eqb}
+use Rattle.std.specs.Prelude.{Contains, filter, slice_index_or}
 use Rattle.std.specs.List.{list_any}
 use Rattle.std.proofs.lemmas.Bool.{and_parts, and_from, eqb-true, or_right, both_ways, false_from_ne_true}
-use Rattle.std.proofs.lemmas.List.{take_more}
+use Rattle.std.proofs.lemmas.List.{take_more, map-append}
 use Rattle.std.proofs.lemmas.List.Folds.{list_any-append}
 use Rattle.std.proofs.Math.Bool.{or-false}
 use Rattle.tt_lists.proofs.Members.{any_member}
+use Rattle.tt_lists.proofs.Sums.{list_any-of_map}
 use Rattle.tt_instance.specs.Problem.{Problem}
 use Rattle.tt_instance.specs.Cells.{InRange}
 use Rattle.tt_instance.specs.Courses.{in_curriculum}
@@ -22,7 +23,7 @@ use Rattle.tt_kills.proofs.More.{is_barred-yes, is_barred-no, is_dead-yes}
 use Rattle.tt_kills.proofs.Recomputed.{excludes-untouched, is_dead-no-more}
 use Rattle.tt_cell_set.specs.Tables.{Shows, Loses}
 use Rattle.tt_cells.specs.Touching.{may_agree, may_share, may_touch}
-use Rattle.tt_cells.specs.Shown.{is_free_of, AreTables, Settles, Renews, Adds}
+use Rattle.tt_cells.specs.Shown.{is_free_of, yes_facts, AreTables, Settles, Renews, Adds}
 use Rattle.tt_cells.proofs.Losing.{shows-less, shows-same}
 
 -- ---- patterns that touch
@@ -51,6 +52,19 @@ touching p f g x e h =
     (and_from (may_agree f.room g.room) (may_agree f.day g.day) (agree f.room g.room x.room c.1 w.1) (agree f.day g.day x.day b.1 v.1))
     (agree f.period g.period x.period a.1 u.1))
     (share p f.who g.who x.course c.0 w.0)
+
+-- ---- the patterns of the yes-facts
+
+pub list_any_yes : (t : Pattern → Bool) (facts : List Fact) → list_any (λ f. f.holds && t f.pattern) facts ≡ list_any t (yes_facts facts)
+list_any_yes t [] = refl
+list_any_yes t (f ∷ fs) = ap (λ b. (f.holds && t f.pattern) || b) (list_any_yes t fs) ∙ by_answer f.holds
+  where
+    by_answer : (b : Bool) → ((b && t f.pattern) || list_any t (yes_facts fs)) ≡ list_any t (map (λ h. h.pattern) (cond b (f ∷ filter (λ h. h.holds) fs) (filter (λ h. h.holds) fs)))
+    by_answer true = refl
+    by_answer false = refl
+
+abbrev pub as_yes : Pattern → Fact
+as_yes g = record { pattern = g; holds = true }
 
 -- ---- after a no-fact
 
@@ -93,19 +107,16 @@ module _ (p : Problem) (path : List Fact) (f : Fact) (live : List ℕ) (some : L
       already (is_live p path x && not (matches p f.pattern x)) (is_shut p (path ++ f ∷ []) some x) (h.holds && excludes p (path ++ f ∷ []) h.pattern x) (λ e. ap (λ b. b && not (matches p f.pattern x)) (gone x k e))
       ∙ ap (λ b. (is_live p path x && not (matches p f.pattern x)) && not b) (sym (shut_next p (path ++ f ∷ []) some h x)))
 
-  pub skipped_no : h.holds ≡ false → Shows p (so_far p path f (some ++ h ∷ [])) live
-  skipped_no it_denies = skip (λ x k e. absurd (both_ways h.holds it_denies (and_parts h.holds (excludes p (path ++ f ∷ []) h.pattern x) e).0))
-
-  -- a fact of the path that does not touch the no-fact: what it excludes is dead already
-  pub skipped_apart : Contains (path ++ f ∷ []) h → f.holds ≡ false → may_touch p h.pattern f.pattern ≡ false → Shows p (so_far p path f (some ++ h ∷ [])) live
-  skipped_apart member it_denies apart = skip (λ x k e.
+  -- a yes-fact of the path that does not touch the no-fact: what it excludes is dead already
+  pub skipped_apart : (wanted : List Pattern) → wanted ≡ yes_facts (path ++ f ∷ []) → Contains wanted h.pattern → f.holds ≡ false → may_touch p h.pattern f.pattern ≡ false → Shows p (so_far p path f (some ++ h ∷ [])) live
+  skipped_apart wanted listed member it_denies apart = skip (λ x k e.
       let a = and_parts h.holds (excludes p (path ++ f ∷ []) h.pattern x) e in
       let u = excludes-untouched p path (path ++ f ∷ []) h.pattern x (λ y hy m.
       is_barred-no p path f y it_denies
       ∙ ap (λ b. is_barred p path y || b) (false_from_ne_true (matches p f.pattern y) (λ q. both_ways (may_touch p h.pattern f.pattern) apart (touching p h.pattern f.pattern y m q)))
       ∙ or-false (is_barred p path y)) in
       let t = λ (j : Fact). j.holds && excludes p path j.pattern x in
-      let all = any_member t (path ++ f ∷ []) h member (and_from h.holds (excludes p path h.pattern x) a.0 (sym u ∙ a.1)) in
+      let all = list_any_yes (λ g. excludes p path g x) (path ++ f ∷ []) ∙ ap (list_any (λ g. excludes p path g x)) (sym listed) ∙ any_member (λ g. excludes p path g x) wanted h.pattern member (sym u ∙ a.1) in
       let here : list_any t path ≡ true = sym (list_any-append t path (f ∷ []) ∙ ap (λ b. list_any t path || b) (or-false (t f) ∙ ap (λ b. b && excludes p path f.pattern x) it_denies) ∙ or-false (list_any t path)) ∙ all in
       ap not (or_right (is_barred p path x) (is_excluded p path x) here))
 
@@ -128,20 +139,20 @@ neither : (a b : Bool) → not (a || b) ≡ (not a && not b)
 neither true b = refl
 neither false b = refl
 
-pub adds_yes : (p : Problem) (facts : List Fact) (f : Fact) (free live new : List ℕ) → f.holds ≡ true → Settles p free live f.pattern new → Adds p facts free live f free new
-adds_yes p facts f free live new it_holds s = record {
-  added = λ path e t. subst (λ l. AreTables p l free new) (sym e) (record {
+pub adds_yes : (p : Problem) (wanted : List Pattern) (f : Fact) (free live new : List ℕ) → f.holds ≡ true → Settles p free live f.pattern new → Adds p wanted free live f free new
+adds_yes p wanted f free live new it_holds s = record {
+  added = λ path e t. record {
     free_cells = shows-same p free (is_free_of p path) (is_free_of p (path ++ f ∷ [])) t.free_cells (λ x k. ap not (sym (is_barred-yes p path f x it_holds)));
     live_cells = shows-same p new (λ x. is_live p path x && not (excludes p path f.pattern x)) (is_live p (path ++ f ∷ [])) (shows-less p live (is_live p path) (excludes p path f.pattern) new t.live_cells (s.settled path t.free_cells))
         (λ x k. sym (ap not (is_dead-yes p path f x it_holds) ∙ neither (is_dead p path x) (excludes p path f.pattern x)));
-  });
+  };
 }
 
-pub adds_no : (p : Problem) (facts : List Fact) (f : Fact) (free live free' mid new : List ℕ) → f.holds ≡ false → Loses p free (matches p f.pattern) free' → Loses p live (matches p f.pattern) mid → Renews p facts free' mid f.pattern new → Adds p facts free live f free' new
-adds_no p facts f free live free' mid new it_denies a b r = record {
+pub adds_no : (p : Problem) (wanted : List Pattern) (f : Fact) (free live free' mid new : List ℕ) → f.holds ≡ false → Loses p free (matches p f.pattern) free' → Loses p live (matches p f.pattern) mid → Renews p wanted free' mid f.pattern new → Adds p wanted free live f free' new
+adds_no p wanted f free live free' mid new it_denies a b r = record {
   added = λ path e t.
-      let open_cells = subst (λ l. Shows p (is_free_of p l) free') (sym e) (shows-same p free' (λ x. is_free_of p path x && not (matches p f.pattern x)) (is_free_of p (path ++ f ∷ [])) (shows-less p free (is_free_of p path) (matches p f.pattern) free' t.free_cells a)
-      (λ x k. sym (ap not (is_barred-no p path f x it_denies) ∙ neither (is_barred p path x) (matches p f.pattern x)))) in
+      let open_cells = shows-same p free' (λ x. is_free_of p path x && not (matches p f.pattern x)) (is_free_of p (path ++ f ∷ [])) (shows-less p free (is_free_of p path) (matches p f.pattern) free' t.free_cells a)
+      (λ x k. sym (ap not (is_barred-no p path f x it_denies) ∙ neither (is_barred p path x) (matches p f.pattern x))) in
       record {
         free_cells = open_cells;
         live_cells = r.renewed path f e it_denies refl open_cells (shows-less p live (is_live p path) (matches p f.pattern) mid t.live_cells b);
@@ -150,7 +161,7 @@ adds_no p facts f free live free' mid new it_denies a b r = record {
 
 -- ---- fact by fact
 
-same_default : {X : Type 0} (xs : List X) (i : ℕ) (d e : X) → i < length xs → slice_index_or xs i d ≡ slice_index_or xs i e
+pub same_default : {X : Type 0} (xs : List X) (i : ℕ) (d e : X) → i < length xs → slice_index_or xs i d ≡ slice_index_or xs i e
 same_default [] i d e h = absurd (omega arith)
 same_default (x ∷ xs) zero d e h = refl
 same_default (x ∷ xs) (suc i) d e h = same_default xs i d e (omega arith)
@@ -158,18 +169,23 @@ same_default (x ∷ xs) (suc i) d e h = same_default xs i d e (omega arith)
 contains_at : {X : Type 0} (xs : List X) (i : ℕ) (d : X) → i < length xs → Contains xs (slice_index_or xs i d)
 contains_at xs i d h = (i, h, same_default xs i (slice_index_or xs i d) d h)
 
-module _ (p : Problem) (facts path : List Fact) (f : Fact) (e : facts ≡ path ++ f ∷ []) (i : ℕ) (d : Fact) (hi : i < length facts) (live : List ℕ) (shows : Shows p (so_far p path f (take i facts)) live) where
-  one_more : (words : List ℕ) → Shows p (so_far p path f (take i facts ++ slice_index_or facts i d ∷ [])) words → Shows p (so_far p path f (take (i + 1) facts)) words
-  one_more words s = subst (λ l. Shows p (so_far p path f l) words) (sym (take_more facts i d hi)) s
+module _ (p : Problem) (wanted : List Pattern) (path : List Fact) (f : Fact) (i : ℕ) (d : Pattern) (hi : i < length wanted) (live : List ℕ) (shows : Shows p (so_far p path f (map as_yes (take i wanted))) live) where
+  one_more : (words : List ℕ) → Shows p (so_far p path f (map as_yes (take i wanted) ++ as_yes (slice_index_or wanted i d) ∷ [])) words → Shows p (so_far p path f (map as_yes (take (i + 1) wanted))) words
+  one_more words s = subst (λ l. Shows p (so_far p path f l) words) (sym (ap (map as_yes) (take_more wanted i d hi) ∙ map-append as_yes (take i wanted) (slice_index_or wanted i d ∷ []))) s
 
-  pub next_settled : (free new : List ℕ) → (slice_index_or facts i d).holds ≡ true → Shows p (is_free_of p facts) free → Settles p free live (slice_index_or facts i d).pattern new → Shows p (so_far p path f (take (i + 1) facts)) new
-  next_settled free new holds open_cells s = one_more new (settled_one p path f live (take i facts) (slice_index_or facts i d) shows free new holds (subst (λ l. Shows p (is_free_of p l) free) e open_cells) s)
+  pub next_settled : (free new : List ℕ) → Shows p (is_free_of p (path ++ f ∷ [])) free → Settles p free live (slice_index_or wanted i d) new → Shows p (so_far p path f (map as_yes (take (i + 1) wanted))) new
+  next_settled free new open_cells s = one_more new (settled_one p path f live (map as_yes (take i wanted)) (as_yes (slice_index_or wanted i d)) shows free new refl open_cells s)
 
-  pub next_denied : (slice_index_or facts i d).holds ≡ false → Shows p (so_far p path f (take (i + 1) facts)) live
-  next_denied denies = one_more live (skipped_no p path f live (take i facts) (slice_index_or facts i d) shows denies)
+  pub next_apart : wanted ≡ yes_facts (path ++ f ∷ []) → f.holds ≡ false → may_touch p (slice_index_or wanted i d) f.pattern ≡ false → Shows p (so_far p path f (map as_yes (take (i + 1) wanted))) live
+  next_apart e denies apart = one_more live (skipped_apart p path f live (map as_yes (take i wanted)) (as_yes (slice_index_or wanted i d)) shows wanted e (contains_at wanted i d hi) denies apart)
 
-  pub next_apart : f.holds ≡ false → may_touch p (slice_index_or facts i d).pattern f.pattern ≡ false → Shows p (so_far p path f (take (i + 1) facts)) live
-  next_apart denies apart = one_more live (skipped_apart p path f live (take i facts) (slice_index_or facts i d) shows (subst (λ l. Contains l (slice_index_or facts i d)) e (contains_at facts i d hi)) denies apart)
+-- after the last
+pub all_settled : (p : Problem) (wanted : List Pattern) (path : List Fact) (f : Fact) (live : List ℕ) → wanted ≡ yes_facts (path ++ f ∷ []) → f.holds ≡ false → Shows p (so_far p path f (map as_yes wanted)) live → Shows p (is_live p (path ++ f ∷ [])) live
+all_settled p wanted path f live e denies shows = renewed_all p path f live denies (shows-same p live (so_far p path f (map as_yes wanted)) (so_far p path f (path ++ f ∷ [])) shows (λ x k.
+    ap (λ b. (is_live p path x && not (matches p f.pattern x)) && not b)
+    (list_any-of_map (λ h. h.holds && excludes p (path ++ f ∷ []) h.pattern x) as_yes wanted
+    ∙ ap (list_any (λ g. excludes p (path ++ f ∷ []) g x)) e
+    ∙ sym (list_any_yes (λ g. excludes p (path ++ f ∷ []) g x) (path ++ f ∷ [])))))
 
 -- before the first
 pub so_far_none : (p : Problem) (path : List Fact) (f : Fact) (g : Pattern) (live : List ℕ) → f.pattern ≡ g → Shows p (λ x. is_live p path x && not (matches p g x)) live → Shows p (so_far p path f []) live

@@ -2,3 +2,4 @@ pub mod Struck
 pub mod Slots
 pub mod Shown
 pub mod Touching
+pub mod Order

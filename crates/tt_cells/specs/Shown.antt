@@ -1,5 +1,5 @@
 -- What the tables of a path say.
-use Rattle.std.specs.Prelude.{◌≡◌, ℕ, ◌<◌, ◌==◌, Bool, false, not, ◌&&◌, List, [], ◌∷◌, ◌++◌, length, take, slice_index_or}
+use Rattle.std.specs.Prelude.{◌≡◌, ℕ, ◌<◌, ◌==◌, Bool, false, not, ◌&&◌, List, [], ◌∷◌, ◌++◌, length, take, map, filter, slice_index_or}
 use Rattle.tt_instance.specs.Problem.{Problem}
 use Rattle.tt_instance.specs.declared.cell.Cell.{Cell}
 use Rattle.tt_facts.specs.Facts.{matches}
@@ -32,12 +32,16 @@ pub record Settles (p : Problem) (free old : List ℕ) (g : Pattern) (new : List
   pub table : IsTable p new
   pub settled : (path : List Fact) → Shows p (is_free_of p path) free → Loses p old (excludes p path g) new
 
+-- the patterns of the yes-facts
+abbrev pub yes_facts : List Fact → List Pattern
+yes_facts facts = map (λ f. f.pattern) (filter (λ f. f.holds) facts)
+
 -- After the free cells have lost what a no-fact g, the last of the facts, matches, and the live cells too: the live cells
 -- are again those of the path.
-pub record Renews (p : Problem) (facts : List Fact) (free old : List ℕ) (g : Pattern) (new : List ℕ) : Type 0 where
+pub record Renews (p : Problem) (yes : List Pattern) (free old : List ℕ) (g : Pattern) (new : List ℕ) : Type 0 where
   pub table : IsTable p new
-  pub renewed : (path : List Fact) → (f : Fact) → facts ≡ path ++ f ∷ [] → f.holds ≡ false → f.pattern ≡ g → Shows p (is_free_of p facts) free → Shows p (λ x. is_live p path x && not (matches p g x)) old → Shows p (is_live p facts) new
+  pub renewed : (path : List Fact) → (f : Fact) → yes ≡ yes_facts (path ++ f ∷ []) → f.holds ≡ false → f.pattern ≡ g → Shows p (is_free_of p (path ++ f ∷ [])) free → Shows p (λ x. is_live p path x && not (matches p g x)) old → Shows p (is_live p (path ++ f ∷ [])) new
 
--- the tables of a path have become those of the path with one fact more
-pub record Adds (p : Problem) (facts : List Fact) (free live : List ℕ) (f : Fact) (free' live' : List ℕ) : Type 0 where
-  pub added : (path : List Fact) → facts ≡ path ++ f ∷ [] → AreTables p path free live → AreTables p facts free' live'
+-- the tables of a path have become those of the path with one fact more, where these are the yes-facts of all
+pub record Adds (p : Problem) (yes : List Pattern) (free live : List ℕ) (f : Fact) (free' live' : List ℕ) : Type 0 where
+  pub added : (path : List Fact) → yes ≡ yes_facts (path ++ f ∷ []) → AreTables p path free live → AreTables p (path ++ f ∷ []) free' live'

@@ -9,32 +9,32 @@ use crate::again::settle_again;
 use crate::barring::remove_matched;
 use crate::settling::settle;
 use std::alloc::AllocError;
-use tt_facts::Fact;
+use tt_facts::{Fact, Pattern};
 use tt_instance::Instance;
 use tt_links::Links;
 use tt_trail::Trail;
 
-/// Changes both tables for a no-fact, the last of the facts.
+/// Changes both tables for a no-fact, the last of the facts, whose yes-facts have these patterns.
 fn deny(
     instance: &Instance<'_>,
     links: &Links,
     free: &mut Trail,
     live: &mut Trail,
-    facts: &[Fact],
+    yes: &[Pattern],
     fact: &Fact,
 ) -> Result<(), AllocError>
     requires links { AreLinks instance.now links.now }
     requires no { fact.now.holds ≡ false }
     requires free { IsTable instance.now free.old.words }
     requires live { IsTable instance.now live.old.words }
-    ensures ok { OnOk result (Adds instance.now facts.now free.old.words live.old.words fact.now
+    ensures ok { OnOk result (Adds instance.now yes.now free.old.words live.old.words fact.now
         free.new.words live.new.words) }
     ensures same_free { free.new.earlier ≡ free.old.earlier }
     ensures same_live { live.new.earlier ≡ live.old.earlier }
 {
     remove_matched(instance, free, &fact.pattern)?;
     remove_matched(instance, live, &fact.pattern)?;
-    settle_again(instance, links, free, live, facts, &fact.pattern)?;
+    settle_again(instance, links, free, live, yes, &fact.pattern)?;
     Ok(())
 }
 
@@ -44,13 +44,13 @@ fn change(
     links: &Links,
     free: &mut Trail,
     live: &mut Trail,
-    facts: &[Fact],
+    yes: &[Pattern],
     fact: &Fact,
 ) -> Result<(), AllocError>
     requires links { AreLinks instance.now links.now }
     requires free { IsTable instance.now free.old.words }
     requires live { IsTable instance.now live.old.words }
-    ensures ok { OnOk result (Adds instance.now facts.now free.old.words live.old.words fact.now
+    ensures ok { OnOk result (Adds instance.now yes.now free.old.words live.old.words fact.now
         free.new.words live.new.words) }
     ensures same_free { free.new.earlier ≡ free.old.earlier }
     ensures same_live { live.new.earlier ≡ live.old.earlier }
@@ -59,7 +59,7 @@ fn change(
         settle(instance, links, free, live, &fact.pattern)?;
         Ok(())
     } else {
-        deny(instance, links, free, live, facts, fact)?;
+        deny(instance, links, free, live, yes, fact)?;
         Ok(())
     }
 }
@@ -70,13 +70,13 @@ pub fn add(
     links: &Links,
     free: &mut Trail,
     live: &mut Trail,
-    facts: &[Fact],
+    yes: &[Pattern],
     fact: &Fact,
 ) -> Result<(), AllocError>
     requires links { AreLinks instance.now links.now }
     requires free { IsTable instance.now free.old.words }
     requires live { IsTable instance.now live.old.words }
-    ensures ok { OnOk result (Adds instance.now facts.now free.old.words live.old.words fact.now
+    ensures ok { OnOk result (Adds instance.now yes.now free.old.words live.old.words fact.now
         free.new.words live.new.words) }
     ensures kept_free { OnOk result (free.new.earlier ≡ free.old.earlier ++ free.old.words ∷ []) }
     ensures kept_live { OnOk result (live.new.earlier ≡ live.old.earlier ++ live.old.words ∷ []) }
@@ -88,7 +88,7 @@ pub fn add(
         free.undo();
         return Err(fault);
     }
-    if let Err(fault) = change(instance, links, free, live, facts, fact) {
+    if let Err(fault) = change(instance, links, free, live, yes, fact) {
         free.undo();
         live.undo();
         return Err(fault);

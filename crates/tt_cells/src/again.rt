@@ -8,7 +8,7 @@ ghost use Rattle.tt_cells.specs.Shown.{Renews};
 
 use crate::settling::settle;
 use std::alloc::AllocError;
-use tt_facts::{Fact, Pattern, Who};
+use tt_facts::{Pattern, Who};
 use tt_instance::Instance;
 use tt_links::Links;
 use tt_trail::Trail;
@@ -47,26 +47,26 @@ fn may_touch(instance: &Instance<'_>, first: &Pattern, second: &Pattern) -> bool
         && may_share(instance, first.who, second.who)
 }
 
-/// Takes away the live cells that the yes-facts exclude now, after a no-fact of this pattern.
+/// Takes away the live cells that the yes-facts of these patterns exclude now, after a no-fact of this pattern.
 pub fn settle_again(
     instance: &Instance<'_>,
     links: &Links,
     free: &Trail,
     live: &mut Trail,
-    facts: &[Fact],
+    yes: &[Pattern],
     pattern: &Pattern,
 ) -> Result<(), AllocError>
     requires links { AreLinks instance.now links.now }
     requires free { IsTable instance.now free.now.words }
     requires live { IsTable instance.now live.old.words }
-    ensures ok { OnOk result (Renews instance.now facts.now free.now.words live.old.words pattern.now live.new.words) }
+    ensures ok { OnOk result (Renews instance.now yes.now free.now.words live.old.words pattern.now live.new.words) }
     ensures same { live.new.earlier ≡ live.old.earlier }
 {
-    for fact in facts {
-        if !fact.holds || !may_touch(instance, &fact.pattern, pattern) {
+    for older in yes {
+        if !may_touch(instance, older, pattern) {
             continue;
         }
-        settle(instance, links, free, live, &fact.pattern)?;
+        settle(instance, links, free, live, older)?;
     }
     Ok(())
 }

@@ -1,33 +1,37 @@
 //! The facts of a path, and tables of what they leave possible.
 
 ghost use Rattle.std.specs.Prelude.{◌≡◌, ◌<◌, ◌≤◌, length};
-ghost use Rattle.tt_facts.specs.Live.{least_with};
 
 use crate::adding::add;
+use crate::listing::{list_fact, unlist_fact};
+use crate::order::{Ranked, RoomOrder};
 use std::alloc::{AllocError, Global};
 use std::marker::Model;
 use tt_bits::is_empty;
 use tt_cell_set::{cells_word, first_table, has_cell, has_period, periods_of};
-use tt_facts::{Cell, Fact};
+use tt_facts::{Cell, Fact, Pattern};
 use tt_instance::Instance;
 use tt_links::Links;
 use tt_trail::Trail;
 
-/// The facts, the cells that nothing bars, and the live ones.
+/// The facts, the patterns of the yes-facts, the cells that nothing bars, and the live ones.
 #[derive(Drop)]
 pub struct Cells<'p, 'i> {
     instance: &'p Instance<'i>,
     links: Links,
+    order: RoomOrder,
     facts: Vec<Fact>,
+    yes: Vec<Pattern>,
     free: Trail,
     live: Trail,
 }
 
 impl<'p, 'i> Model for Cells<'p, 'i> {
-    ghost use Rattle.std.specs.Prelude.{◌≤◌, length};
+    ghost use Rattle.std.specs.Prelude.{◌≡◌, ◌≤◌, length};
     ghost use Rattle.tt_facts.specs.Paths.{Facts};
     ghost use Rattle.tt_links.specs.Linked.{AreLinks};
-    ghost use Rattle.tt_cells.specs.Shown.{AreTables, AreEarlier};
+    ghost use Rattle.tt_cells.specs.Order.{IsRoomOrder};
+    ghost use Rattle.tt_cells.specs.Shown.{yes_facts, AreTables, AreEarlier};
 
     ghost Value = { Facts };
 
@@ -35,17 +39,19 @@ impl<'p, 'i> Model for Cells<'p, 'i> {
 
     ghost invariant = { λ s. record {
       links : AreLinks s.instance.now s.links;
+      order : IsRoomOrder s.instance.now s.order;
       depth : length s.facts.items ≤ 65536;
+      yes : s.yes.items ≡ yes_facts s.facts.items;
       tables : AreTables s.instance.now s.facts.items s.free.words s.live.words;
       earlier : AreEarlier s.instance.now s.facts.items s.free.earlier s.live.earlier;
     } };
 }
 
 impl<'p, 'i> Cells<'p, 'i> {
-    ghost use Rattle.std.specs.Prelude.{ℕ, ◌+◌, ◌*◌, ◌&&◌, nat_lt, [], ◌∷◌, ◌++◌, slice_get, Some, OnOk, OnErr, IfOk, IfSome};
+    ghost use Rattle.std.specs.Prelude.{ℕ, ◌+◌, ◌*◌, ◌&&◌, nat_lt, [], ◌∷◌, ◌++◌, slice_get, Some, OnOk, OnErr, IfOk, IfSome, MatchOption, false};
     ghost use Rattle.tt_bits.specs.Bits.{has_bit};
     ghost use Rattle.tt_instance.specs.Cells.{InRange, slot, cell};
-    ghost use Rattle.tt_instance.specs.Courses.{excess};
+    ghost use Rattle.tt_cells.specs.Order.{IsRoomiest};
     ghost use Rattle.tt_facts.specs.Live.{is_dead, is_live, live_period, live_day, least_excess};
 
     /// A path with no facts. The tables take their memory at once.
@@ -54,12 +60,17 @@ impl<'p, 'i> Cells<'p, 'i> {
         ensures facts { IfOk result (λ t. t.facts ≡ []) }
     {
         let links = Links::new(alloc, instance)?;
+        let order = RoomOrder::new(alloc, instance)?;
+        let facts = Vec::new(alloc);
+        let yes = Vec::new(alloc);
         let free = first_table(alloc, instance)?;
         let live = first_table(alloc, instance)?;
         Ok(Cells {
             instance,
             links,
-            facts: Vec::new(alloc),
+            order,
+            facts,
+            yes,
             free,
             live,
         })
@@ -95,17 +106,16 @@ impl<'p, 'i> Cells<'p, 'i> {
         ensures err { OnErr result (self.new.facts ≡ self.old.facts) }
         ensures same { self.new.problem ≡ self.old.problem }
     {
-        self.facts.push(fact)?;
-        let facts = self.facts.as_slice();
+        list_fact(&mut self.facts, &mut self.yes, fact)?;
         if let Err(fault) = add(
             self.instance,
             &self.links,
             &mut self.free,
             &mut self.live,
-            facts,
+            self.yes.as_slice(),
             &fact,
         ) {
-            let _ = self.facts.pop();
+            let _ = unlist_fact(&mut self.facts, &mut self.yes);
             return Err(fault);
         }
         Ok(())
@@ -119,7 +129,7 @@ impl<'p, 'i> Cells<'p, 'i> {
     {
         self.free.undo();
         self.live.undo();
-        self.facts.pop().unwrap()
+        unlist_fact(&mut self.facts, &mut self.yes)
     }
 
     /// Whether a cell is barred, or left no place beside it by some yes-fact.
@@ -189,19 +199,24 @@ impl<'p, 'i> Cells<'p, 'i> {
         !self.dead(cell)
     }
 
-    /// The students of a course for whom a room has no seat.
-    fn excess(&self, course: u32, room: u32) -> u64
+    /// The room with the most seats of those that have a live cell of the course in the period.
+    fn roomiest(&self, course: u32, day: u32, period: u32) -> Option<Ranked>
         requires course { course < length self.now.problem.courses }
-        requires room { room < length self.now.problem.rooms }
-        ensures value { result ≡ excess self.now.problem course room }
-        ensures within { result ≤ 1000000 }
+        requires day { day < self.now.problem.days }
+        requires period { period < self.now.problem.periods }
+        ensures { MatchOption result
+            ((r : ℕ) → r < length self.now.problem.rooms → is_live self.now.problem self.now.facts (cell course r (slot day period)) ≡ false)
+            (IsRoomiest self.now.problem self.now.facts course (slot day period)) }
     {
-        let students = self.instance.students(course);
-        u64::from(students.saturating_sub(self.instance.capacity(room)))
+        for ranked in self.order.as_slice() {
+            if self.is_live(course, ranked.room, day, period) {
+                return Some(*ranked);
+            }
+        }
+        None
     }
 
     /// The least excess, in students, of the course's live cells in the period; none where no cell is live.
-    #[tactic(auto, using(crate::proofs::Below::least_more))]
     pub fn least_excess(&self, course: u32, day: u32, period: u32) -> Option<u64>
         requires course { course < length self.now.problem.courses }
         requires day { day < self.now.problem.days }
@@ -209,23 +224,10 @@ impl<'p, 'i> Cells<'p, 'i> {
         ensures value { result ≡ least_excess self.now.problem self.now.facts course (slot day period) }
         ensures within { IfSome result (λ n. n ≤ 1000000) }
     {
-        let mut least = None;
-        for room in 0..self.instance.rooms() {
-            if self.is_live(course, room, day, period) {
-                least = Some(least_with(self.excess(course, room), least));
-            }
+        let students = self.instance.students(course);
+        match self.roomiest(course, day, period) {
+            None => None,
+            Some(ranked) => Some(u64::from(students.saturating_sub(ranked.seats))),
         }
-        least
-    }
-}
-
-/// The lesser of a number and the least so far.
-fn least_with(number: u64, least: Option<u64>) -> u64
-    ensures value { result ≡ least_with number least }
-    ensures within { result ≤ number }
-{
-    match least {
-        None => number,
-        Some(found) => number.min(found),
     }
 }

@@ -7,6 +7,8 @@ mod barring;
 mod cells;
 mod courses;
 mod killing;
+mod listing;
+mod order;
 mod periods;
 mod settling;
 

@@ -1,4 +1,5 @@
-use Rattle.std.proofs.Common.{arith}
+use Rattle.std.proofs.Common.{refl, ap, ◌∙◌, sym, arith}
+use Rattle.tt_cells.specs.Shown.{yes_facts}
 use Rattle.tt_cells.proofs.Asked.{first_tables, none_earlier}
 use Rattle.tt_cells.proofs.cells.Cells.new.Goals as goal
 
@@ -7,7 +8,9 @@ invariant_of-result c =
     let p = c.args.instance.now in
     record {
       links = c.in_ok-links.ensures;
-      depth = rw c.new-2.ensures.items (omega arith);
-      tables = rw c.new-2.ensures.items (first_tables p c.in_ok-free.free.words c.in_ok-live.live.words c.in_ok-free.ensures.shows c.in_ok-live.ensures.shows);
-      earlier = rw (c.new-2.ensures.items, c.in_ok-free.ensures.earlier, c.in_ok-live.ensures.earlier) (none_earlier p);
+      order = c.in_ok-order.ensures;
+      depth = rw c.new-facts.ensures.items (omega arith);
+      yes = c.new-yes.ensures.items ∙ sym (ap yes_facts c.new-facts.ensures.items);
+      tables = rw c.new-facts.ensures.items (first_tables p c.in_ok-free.free.words c.in_ok-live.live.words c.in_ok-free.ensures.shows c.in_ok-live.ensures.shows);
+      earlier = rw (c.new-facts.ensures.items, c.in_ok-free.ensures.earlier, c.in_ok-live.ensures.earlier) (none_earlier p);
     }

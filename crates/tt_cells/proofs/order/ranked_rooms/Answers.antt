@@ -1,0 +1,21 @@
+use Rattle.std.proofs.Common.{◌≡◌, ℕ, ◌+◌, ◌<◌, ◌^◌, [], ◌∷◌, ◌++◌, map, sym, ap, ◌∙◌, arith, below_more}
+use Rattle.std.proofs.lemmas.List.{map-append}
+use Rattle.tt_lists.specs.Words.{numbers_below}
+use Rattle.tt_lists.proofs.Below.{numbers_below_more}
+use Rattle.tt_instance.specs.Courses.{capacity}
+use Rattle.tt_cells.specs.Order.{ranked}
+use Rattle.tt_cells.specs.declared.order.Ranked.{Ranked}
+use Rattle.tt_cells.proofs.order.ranked_rooms.Goals as goal
+
+pub loop-room-preserved : goal.loop-room-preserved
+loop-room-preserved c =
+    let p = c.args.instance.now in
+    let r = c.loop-room.room in
+    let seats = c.capacity-seats.ensures in
+    record {
+      rooms = c.in_ok-push.ensures.items
+          ∙ ap (λ l. l ++ record { room = r; seats = c.capacity-seats.result } ∷ []) c.loop-room.invariant.rooms
+          ∙ ap (λ n. map (ranked p) (numbers_below r) ++ record { room = r; seats = n } ∷ []) seats.value
+          ∙ sym (ap (map (ranked p)) (numbers_below_more r) ∙ map-append (ranked p) (numbers_below r) (r ∷ []));
+      few = below_more _ _ c.loop-room.invariant.few (omega (arith, seats.value, seats.within));
+    }
