@@ -38,13 +38,18 @@ pub record AreSteps (place : ℕ) (g : Pattern) (old new : Search) : Type 0 wher
   pub no_is : no ≡ length one + 1
   pub a : Entry
   pub b : Entry
-  pub a_is : a ≡ record { mark = Waiting; link = yes; key = read.key }
-  pub b_is : b ≡ record { mark = Waiting; link = no; key = read.key }
+  pub a_mark : a.mark ≡ Waiting
+  pub a_link : a.link ≡ yes
+  pub b_mark : b.mark ≡ Waiting
+  pub b_link : b.link ≡ no
+  pub d : Entry
+  pub d_mark : d.mark ≡ Divided g
+  pub d_link : d.link ≡ read.link
   pub more : List Entry
   pub most : List Entry
   pub put_b : more ≡ insert old.entries.items (place + 1) b
   pub put_a : most ≡ insert more (place + 1) a
-  pub put_d : new.entries.items ≡ slice_set most place (record { mark = Divided g; link = read.link; key = read.key })
+  pub put_d : new.entries.items ≡ slice_set most place d
   pub best : new.best ≡ old.best
 
 pub split_by_steps : (place : ℕ) (g : Pattern) (old new : Search) → HasMark old.entries.items place (Opened g) → AreSteps place g old new → IsSplitAt place g old new
@@ -52,26 +57,25 @@ split_by_steps place g old new h s =
     let cut = cut_at old.entries.items place h.0 h.1 in
     let same : s.read ≡ h.0 = s.read_is ∙ get_is old.entries.items place h.0 s.read h.1 in
     let link = ap (λ (e : Entry). e.link) same in
-    let d : Entry = record { mark = Divided g; link = s.read.link; key = s.read.key } in
     record {
       before = cut.before;
       after = cut.after;
       was = h.0;
-      divided = d;
+      divided = s.d;
       first = s.a;
       second = s.b;
       old_entries = cut.whole;
       place_is = cut.place;
       opened = h.2;
       division = record {
-        divided = refl;
-        same_link = link;
-        first = ap (λ (e : Entry). e.mark) s.a_is;
-        first_link = ap (λ (e : Entry). e.link) s.a_is ∙ s.yes_is;
-        second = ap (λ (e : Entry). e.mark) s.b_is;
-        second_link = ap (λ (e : Entry). e.link) s.b_is ∙ s.no_is ∙ omega (arith, ap length s.first_link, length-append old.links.items (link_of s.read.link g true ∷ []));
+        divided = s.d_mark;
+        same_link = s.d_link ∙ link;
+        first = s.a_mark;
+        first_link = s.a_link ∙ s.yes_is;
+        second = s.b_mark;
+        second_link = s.b_link ∙ s.no_is ∙ omega (arith, ap length s.first_link, length-append old.links.items (link_of s.read.link g true ∷ []));
       };
-      entries = split_items old.entries.items s.more s.most new.entries.items place h.0 d s.a s.b cut s.put_b s.put_a s.put_d;
+      entries = split_items old.entries.items s.more s.most new.entries.items place h.0 s.d s.a s.b cut s.put_b s.put_a s.put_d;
       links = s.second_link ∙ ap (λ l. l ++ link_of s.read.link g false ∷ []) s.first_link ∙ ap (λ n. divided_links old.links.items n g) link;
       best = s.best;
     }

@@ -11,3 +11,5 @@ pub mod Advancing
 pub mod Limits
 pub mod Taking
 pub mod Concluding
+pub mod Improving
+pub mod Moving

@@ -1,10 +1,12 @@
 //! The best timetable that a search has found.
 
-ghost use Rattle.std.specs.Prelude.{◌≡◌, IfOk, IfSome, OnOk, IsNone};
+ghost use Rattle.std.specs.Prelude.{◌≡◌, IfOk, IfSome, OnOk, IsNone, List};
 ghost use Rattle.tt_instance.specs.Problem.{Problem};
+ghost use Rattle.tt_instance.specs.declared.cell.Cell.{Cell};
 ghost use Rattle.tt_table.specs.Table.{IsTimetable};
 ghost use Rattle.tt_rules.specs.Score.{IsFeasible};
-ghost use Rattle.tt_branch.specs.Outcomes.{final_bound, BeginsWell};
+ghost use Rattle.tt_search.specs.Improved.{IsNoWorse};
+ghost use Rattle.tt_branch.specs.Outcomes.{final_bound, BeginsWell, IsNoDearer};
 ghost use Rattle.tt_branch.specs.Kept.{IsKept, table_of, IsCosted};
 
 use std::alloc::{AllocError, Global};
@@ -13,10 +15,19 @@ use tt_descend::descend;
 use tt_instance::Instance;
 use tt_leaf::Bound;
 use tt_rules::score;
+use tt_search::improve;
 use tt_table::Timetable;
 
 /// The most steps of the descent that a search begins with.
 const FIRST_STEPS: u64 = 10_000;
+
+/// The steps of a turn of the improvement behind it, about a quarter of a second on an instance of real size.
+const TURN_STEPS: u64 = 15_000;
+
+/// The turns of the improvement at least, and how many nodes of the limit bring one more.
+const LEAST_TURNS: u32 = 4;
+
+const NODES_OF_A_TURN: u32 = 1024;
 
 /// A timetable that breaks no hard rule.
 #[derive(Drop)]
@@ -32,6 +43,7 @@ fn if_feasible(instance: &Instance<'_>, table: Timetable) -> Option<Best>
     ensures some { IfSome result (λ b. IsCosted instance.now b) }
     ensures same { IfSome result (λ b. b.table ≡ table) }
     ensures none { IsNone result → ¬ IsFeasible instance.now table }
+    ensures no_dearer { (t : List Cell) → IsNoWorse instance.now t table → IsFeasible instance.now t → IsNoDearer instance.now (table_of result) t }
 {
     let counts = score(instance, &table);
     if !counts.feasible() {
@@ -43,18 +55,58 @@ fn if_feasible(instance: &Instance<'_>, table: Timetable) -> Option<Best>
     })
 }
 
-/// The timetable that a search begins with: where a descent from a constructed one leads, if that breaks no hard rule.
+/// How many turns the improvement has at most, by the limit of nodes.
+pub fn turns_for(nodes: u32) -> u32 {
+    (nodes / NODES_OF_A_TURN).max(LEAST_TURNS)
+}
+
+/// Whether a timetable breaks no hard rule and costs no more than a goal.
+fn reaches(instance: &Instance<'_>, table: &Timetable, goal: u64) -> bool
+    requires { IsTimetable instance.now table.now }
+{
+    let counts = score(instance, table);
+    counts.feasible() && counts.cost() <= goal
+}
+
+/// Improves a timetable turn by turn, until it reaches the goal.
+fn improve_to(
+    alloc: Global,
+    instance: &Instance<'_>,
+    table: Timetable,
+    seed: u64,
+    goal: u64,
+    turns: u32,
+) -> Result<Timetable, AllocError>
+    requires { IsTimetable instance.now table }
+    ensures { IfOk result (IsNoWorse instance.now table) }
+{
+    let mut table = table;
+    for turn in 0..turns {
+        if reaches(instance, &table, goal) {
+            break;
+        }
+        let turn_seed = seed.wrapping_add(u64::from(turn));
+        table = improve(alloc, instance, table, turn_seed, TURN_STEPS)?;
+    }
+    Ok(table)
+}
+
+/// The timetable that a search begins with: where a descent from a constructed one leads, improved in so many turns
+/// or until it costs no more than a goal, if it breaks no hard rule. The same seed gives the same one.
 pub fn first_best(
     alloc: Global,
     instance: &Instance<'_>,
     seed: u64,
+    goal: u64,
+    turns: u32,
 ) -> Result<Option<Best>, AllocError>
     ensures kept { IfOk result (IsKept instance.now) }
     ensures begun { IfOk result (λ best. BeginsWell instance.now (table_of best)) }
 {
     let table = construct(alloc, instance, seed)?;
     let descent = descend(alloc, instance, table, FIRST_STEPS)?;
-    Ok(if_feasible(instance, descent.table))
+    let improved = improve_to(alloc, instance, descent.table, seed, goal, turns)?;
+    Ok(if_feasible(instance, improved))
 }
 
 /// The bound that closes a node: no timetable is cheaper than the best, or there is none at all.

@@ -1,15 +1,33 @@
 //! The choice of a pattern to split a node by. Of the choice nothing is proved but that it aims at a free cell.
 
-ghost use Rattle.std.specs.Prelude.{◌<◌, length, IfOk, IfSome, IsNone};
+ghost use Rattle.std.specs.Prelude.{◌≡◌, ◌<◌, length, IfOk, IfSome, IsNone};
 ghost use Rattle.tt_instance.specs.Cells.{InRange};
 ghost use Rattle.tt_find.specs.Pinned.{IsPinnedDown};
 ghost use Rattle.tt_branch.specs.Choice.{IsNewSplit};
 ghost use Rattle.tt_branch.specs.Proofs.{IsFree};
 
+use crate::entry::Rises;
 use crate::free::{find_free, is_free, own_pattern};
 use crate::leeway::Freedom;
+use crate::prospects::Prospects;
+use crate::strong::{Candidate, best_candidate};
 use std::alloc::{AllocError, Global};
 use tt_facts::{Cell, Path, Pattern, Who};
+use tt_instance::Instance;
+
+/// The most ways to choose the periods of all courses, as a logarithm in sixteenths, where one curriculum is fixed
+/// after the other: a search below is likely to end.
+const FEW_WAYS: u64 = 1_850;
+
+/// The most pairs of courses, period by period, that are looked at for one choice.
+const MOST_PAIRS: u64 = 4_194_304;
+
+/// A pattern to split by, and what its children are thought to be worth.
+#[derive(Clone, Copy)]
+pub struct Split {
+    pub pattern: Pattern,
+    pub rises: Rises,
+}
 
 // ---- which course
 
@@ -124,6 +142,24 @@ fn aim_at<'i, P: Path<'i>>(path: &P, course: u32, day: u32, period: u32) -> Opti
     None
 }
 
+/// The split of a candidate, if it is one of the instance's.
+fn aim_within<'i, P: Path<'i>>(path: &P, found: Candidate) -> Option<Split>
+    ensures { IfSome result (λ s. IsNewSplit (P.problem path.now) (P.facts path.now) s.pattern) }
+{
+    let instance = path.instance();
+    if found.course >= instance.courses()
+        || found.day >= instance.days()
+        || found.period >= instance.periods()
+    {
+        return None;
+    }
+    let pattern = aim_at(path, found.course, found.day, found.period)?;
+    Some(Split {
+        pattern,
+        rises: found.rises,
+    })
+}
+
 fn split_by_period<'i, P: Path<'i>>(path: &P, freedom: &Freedom) -> Option<Pattern>
     ensures { IfSome result (IsNewSplit (P.problem path.now) (P.facts path.now)) }
 {
@@ -133,6 +169,44 @@ fn split_by_period<'i, P: Path<'i>>(path: &P, freedom: &Freedom) -> Option<Patte
     }
     let estimate = cheapest_period(path, course)?;
     aim_at(path, course, estimate.day, estimate.period)
+}
+
+// ---- by what both children come to
+
+/// A split of whose children nothing is thought.
+fn plain(pattern: Pattern) -> Split
+    ensures { result.pattern ≡ pattern }
+{
+    Split {
+        pattern,
+        rises: Rises::NONE,
+    }
+}
+
+/// Whether each course can be tried in each period.
+fn is_small(instance: &Instance<'_>) -> bool {
+    let courses = u64::from(instance.courses());
+    let periods = u64::from(instance.days()).saturating_mul(u64::from(instance.periods()));
+    courses.saturating_mul(courses).saturating_mul(periods) <= MOST_PAIRS
+}
+
+/// Where a search is not likely to end: the course and the period whose children gain most.
+fn split_strongly<'i, P: Path<'i>>(
+    alloc: Global,
+    path: &P,
+    prospects: &Prospects,
+    freedom: &Freedom,
+) -> Result<Option<Split>, AllocError>
+    ensures { IfOk result (λ found. IfSome found (λ s. IsNewSplit (P.problem path.now) (P.facts path.now) s.pattern)) }
+{
+    let instance = path.instance();
+    if freedom.total() <= FEW_WAYS || !is_small(instance) {
+        return Ok(None);
+    }
+    match best_candidate(alloc, instance, prospects)? {
+        Some(found) => Ok(aim_within(path, found)),
+        None => Ok(None),
+    }
 }
 
 // ---- which room
@@ -166,25 +240,29 @@ fn cheapest_room<'i, P: Path<'i>>(path: &P, cell: Cell) -> Cell
 }
 
 /// The own pattern of a free cell.
-fn split_by_cell<'i, P: Path<'i>>(path: &P) -> Option<Pattern>
-    ensures some { IfSome result (IsNewSplit (P.problem path.now) (P.facts path.now)) }
+fn split_by_cell<'i, P: Path<'i>>(path: &P) -> Option<Split>
+    ensures some { IfSome result (λ s. IsNewSplit (P.problem path.now) (P.facts path.now) s.pattern) }
     ensures none { IsNone result → IsPinnedDown (P.problem path.now) (P.facts path.now) }
 {
     match find_free(path) {
-        Some(cell) => Some(own_pattern(cheapest_room(path, cell))),
+        Some(cell) => Some(plain(own_pattern(cheapest_room(path, cell)))),
         None => None,
     }
 }
 
 /// A pattern that splits a node which no leaf closes: of a course and a period, or of one cell once no
 /// course has an open period.
-pub fn choose_split<'i, P: Path<'i>>(alloc: Global, path: &P) -> Result<Option<Pattern>, AllocError>
-    ensures some { IfOk result (λ found. IfSome found (IsNewSplit (P.problem path.now) (P.facts path.now))) }
+pub fn choose_split<'i, P: Path<'i>>(alloc: Global, path: &P) -> Result<Option<Split>, AllocError>
+    ensures some { IfOk result (λ found. IfSome found (λ s. IsNewSplit (P.problem path.now) (P.facts path.now) s.pattern)) }
     ensures none { IfOk result (λ found. IsNone found → IsPinnedDown (P.problem path.now) (P.facts path.now)) }
 {
-    let freedom = Freedom::new(alloc, path)?;
+    let prospects = Prospects::new(alloc, path)?;
+    let freedom = Freedom::new(alloc, &prospects)?;
+    if let Some(split) = split_strongly(alloc, path, &prospects, &freedom)? {
+        return Ok(Some(split));
+    }
     if let Some(pattern) = split_by_period(path, &freedom) {
-        return Ok(Some(pattern));
+        return Ok(Some(plain(pattern)));
     }
     Ok(split_by_cell(path))
 }

@@ -19,25 +19,39 @@ pub enum Mark {
     Waiting,
 }
 
+/// How much more the children of a node are thought to be worth, in cost points.
+#[derive(Clone, Copy)]
+pub struct Rises {
+    pub yes: u64,
+    pub no: u64,
+}
+
+impl Rises {
+    pub const NONE: Rises = Rises { yes: 0, no: 0 };
+}
+
 /// A node.
 #[derive(Drop)]
 pub struct Entry {
     pub mark: Mark,
     /// Where its facts are, by the links.
     pub link: usize,
-    /// The open node with the least key is next.
+    /// The open node with the least key is next: what it is worth, or is thought to be worth.
     pub key: u64,
+    pub rises: Rises,
 }
 
 impl Entry {
     /// A node that waits.
     pub fn waiting(link: usize, key: u64) -> Entry
-        ensures { result ≡ record { mark = Mark.Waiting; link = link; key = key } }
+        ensures mark { result.mark ≡ Mark.Waiting }
+        ensures link { result.link ≡ link }
     {
         Entry {
             mark: Mark::Waiting,
             link,
             key,
+            rises: Rises::NONE,
         }
     }
 

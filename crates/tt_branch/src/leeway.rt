@@ -1,15 +1,13 @@
 //! How free the courses of a path still are.
 
-ghost use Rattle.std.specs.Prelude.{◌<◌, length};
-
+use crate::prospects::Prospects;
 use std::alloc::{AllocError, Global};
-use tt_facts::{Path, Who};
 
 /// The periods of a course that are live and not pinned, and its lectures that are not pinned.
 #[derive(Clone, Copy)]
-struct Leeway {
-    open: u32,
-    left: u32,
+pub struct Leeway {
+    pub open: u32,
+    pub left: u32,
 }
 
 /// How free a course without an open period counts.
@@ -24,48 +22,33 @@ fn logarithm(number: u32) -> u32 {
         .saturating_add(scaled.saturating_sub(16))
 }
 
-/// Counts the live periods of a course on a day: open ones, and pinned ones as lectures that are not left.
-fn count_day<'i, P: Path<'i>>(path: &P, course: u32, day: u32, leeway: Leeway) -> Leeway
-    requires course { course < length (P.problem path.now).courses }
-    requires day { day < (P.problem path.now).days }
-{
-    let Leeway { mut open, mut left } = leeway;
-    for period in 0..path.instance().periods() {
-        if path.pinned(Who::Course(course), day, period) {
-            left = left.saturating_sub(1);
-        } else if path.live_period(course, day, period) {
-            open = open.saturating_add(1);
+impl Leeway {
+    /// The logarithm of the ways to choose the periods that a course still wants, in sixteenths; 0 where they are forced.
+    pub fn ways(self) -> u32 {
+        let mut total: u32 = 0;
+        for chosen in 0..self.left.min(self.open.saturating_sub(self.left)) {
+            let more = logarithm(self.open.saturating_sub(chosen));
+            let fewer = logarithm(chosen.saturating_add(1));
+            total = total.saturating_add(more).saturating_sub(fewer);
+        }
+        total
+    }
+
+    /// One open period less.
+    pub fn barred(self) -> Leeway {
+        Leeway {
+            open: self.open.saturating_sub(1),
+            left: self.left,
         }
     }
-    Leeway { open, left }
-}
 
-fn leeway_of<'i, P: Path<'i>>(path: &P, course: u32) -> Leeway
-    requires { course < length (P.problem path.now).courses }
-{
-    let instance = path.instance();
-    let mut leeway = Leeway {
-        open: 0,
-        left: instance.lectures(course),
-    };
-    for day in 0..instance.days() {
-        leeway = count_day(path, course, day, leeway);
+    /// One open period less, with a lecture in it.
+    pub fn pinned(self) -> Leeway {
+        Leeway {
+            open: self.open.saturating_sub(1),
+            left: self.left.saturating_sub(1),
+        }
     }
-    leeway
-}
-
-/// The logarithm of the ways to choose the periods that a course still wants, in sixteenths; 0 where they are forced.
-fn ways(leeway: Leeway) -> u32 {
-    if leeway.open == 0 {
-        return DONE;
-    }
-    let mut total: u32 = 0;
-    for chosen in 0..leeway.left.min(leeway.open.saturating_sub(leeway.left)) {
-        let more = logarithm(leeway.open.saturating_sub(chosen));
-        let fewer = logarithm(chosen.saturating_add(1));
-        total = total.saturating_add(more).saturating_sub(fewer);
-    }
-    total
 }
 
 /// How free each course is, by number.
@@ -76,16 +59,32 @@ pub struct Freedom {
 
 impl Freedom {
     /// How free the courses of a path are.
-    pub fn new<'i, P: Path<'i>>(alloc: Global, path: &P) -> Result<Freedom, AllocError> {
+    pub fn new(alloc: Global, prospects: &Prospects) -> Result<Freedom, AllocError> {
         let mut all = Vec::new(alloc);
-        for course in 0..path.instance().courses() {
-            all.push(ways(leeway_of(path, course)))?;
+        for prospect in prospects.courses() {
+            let leeway = prospect.leeway;
+            all.push(if leeway.open == 0 {
+                DONE
+            } else {
+                leeway.ways()
+            })?;
         }
         Ok(Freedom { ways: all })
     }
 
     fn of(&self, course: u32) -> u32 {
         self.ways.get(course as usize).copied().unwrap_or(DONE)
+    }
+
+    /// The logarithm of the ways to choose all periods that are wanted, in sixteenths.
+    pub fn total(&self) -> u64 {
+        let mut total: u64 = 0;
+        for ways in &self.ways {
+            if *ways < DONE {
+                total = total.saturating_add(u64::from(*ways));
+            }
+        }
+        total
     }
 
     /// The least free of some courses that has an open period.

@@ -9,10 +9,13 @@ mod leeway;
 mod links;
 mod live;
 mod moves;
+mod neighbours;
 mod nodes;
+mod prospects;
 mod rounds;
 mod search;
 mod solving;
+mod strong;
 mod visit;
 
 pub use solving::{Outcome, solve};

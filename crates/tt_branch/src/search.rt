@@ -9,7 +9,7 @@ ghost use Rattle.tt_branch.specs.Links.{link_of};
 ghost use Rattle.tt_branch.specs.State.{IsUnderWay, IsSplitAt};
 
 use crate::best::Best;
-use crate::entry::{Entry, Mark};
+use crate::entry::{Entry, Mark, Rises};
 use crate::links::Link;
 use std::alloc::{AllocError, Global};
 use tt_facts::{Fact, Pattern};
@@ -36,6 +36,7 @@ impl Search {
             mark: Mark::Waiting,
             link: 0,
             key: 0,
+            rises: Rises::NONE,
         })?;
         Ok(Search {
             entries,
@@ -99,12 +100,19 @@ pub fn split(search: &mut Search, place: usize, pattern: Pattern) -> Result<(), 
     requires { HasMark search.old.entries.items place (Mark.Opened pattern) }
     ensures { OnOk result (IsSplitAt place pattern search.old search.new) }
 {
-    let Entry { link, key, .. } = &search.entries[place];
-    let (link, key) = (*link, *key);
+    let Entry {
+        link,
+        key,
+        rises,
+        ..
+    } = &search.entries[place];
+    let (link, key, rises) = (*link, *key, *rises);
     let yes = push_link(&mut search.links, link, pattern, true)?;
     let no = push_link(&mut search.links, link, pattern, false)?;
-    search.entries.insert(place + 1, Entry::waiting(no, key))?;
-    search.entries.insert(place + 1, Entry::waiting(yes, key))?;
+    let second = Entry::waiting(no, key.saturating_add(rises.no));
+    let first = Entry::waiting(yes, key.saturating_add(rises.yes));
+    search.entries.insert(place + 1, second)?;
+    search.entries.insert(place + 1, first)?;
     put(
         &mut search.entries,
         place,
@@ -112,6 +120,7 @@ pub fn split(search: &mut Search, place: usize, pattern: Pattern) -> Result<(), 
             mark: Mark::Divided(pattern),
             link,
             key,
+            rises,
         },
     );
     Ok(())

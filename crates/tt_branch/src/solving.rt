@@ -9,11 +9,11 @@ ghost use Rattle.tt_branch.specs.Outcomes.{IsOutcome, BeginsWell, final_bound};
 ghost use Rattle.tt_branch.specs.Proofs.{shown_bound};
 ghost use Rattle.tt_branch.specs.State.{IsUnderWay, EndsAt};
 
-use crate::best::{Best, bound_of, first_best};
+use crate::best::{Best, bound_of, first_best, turns_for};
 use crate::nodes::{Written, write_nodes};
 use crate::rounds::grow;
 use crate::search::Search;
-use crate::visit::open_at;
+use crate::visit::{best_worth, open_at};
 use std::alloc::{AllocError, Global};
 use tt_facts::Path;
 use tt_instance::Instance;
@@ -136,7 +136,8 @@ pub fn solve(
     requires few { nodes ≤ 65536 }
     ensures { IfOk result (λ o. IsOutcome instance.now nodes o.best o.bound (option_map (λ v. v.items) o.proof) o.finished) }
 {
-    let best = first_best(alloc, instance, seed)?;
     let mut path = TrailPath::new(alloc, instance)?;
+    let goal = best_worth(alloc, &path)?;
+    let best = first_best(alloc, instance, seed, goal, turns_for(nodes))?;
     solve_over(alloc, &mut path, best, nodes)
 }

@@ -12,7 +12,7 @@ ghost use Rattle.tt_branch.specs.State.{IsUnderWay};
 
 use crate::best::{Best, bound_of};
 use crate::choice::choose_split;
-use crate::entry::{Entry, Mark};
+use crate::entry::{Entry, Mark, Rises};
 use crate::links::{Link, facts_to};
 use crate::live::live_table;
 use crate::moves::move_to;
@@ -44,7 +44,7 @@ pub fn go_to<'i, P: Path<'i>>(
 }
 
 /// What the best claims are worth on a path, in cost points.
-fn best_worth<'i, P: Path<'i>>(alloc: Global, path: &P) -> Result<u64, AllocError> {
+pub fn best_worth<'i, P: Path<'i>>(alloc: Global, path: &P) -> Result<u64, AllocError> {
     let leaf = best_claims(alloc, path)?;
     Ok(leaf_value(path, &leaf))
 }
@@ -75,6 +75,18 @@ fn take_live<'i, P: Path<'i>>(
 struct Opening {
     mark: Mark,
     key: u64,
+    rises: Rises,
+}
+
+/// A node that a leaf closes.
+fn closed(leaf: Leaf) -> Opening
+    ensures { result.mark ≡ Mark.Closed leaf }
+{
+    Opening {
+        mark: Mark::Closed(leaf),
+        key: 0,
+        rises: Rises::NONE,
+    }
 }
 
 /// Opens the node of a path: a leaf that closes it, or the pattern by which it will be split.
@@ -92,23 +104,18 @@ fn open<'i, P: Path<'i>>(
 {
     let bound = bound_of(best);
     if let Some(leaf) = find_leaf(alloc, path, bound)? {
-        return Ok(Opening {
-            mark: Mark::Closed(leaf),
-            key: 0,
-        });
+        return Ok(closed(leaf));
     }
-    if let Some(pattern) = choose_split(alloc, path)? {
+    if let Some(split) = choose_split(alloc, path)? {
         let key = best_worth(alloc, path)?;
         return Ok(Opening {
-            mark: Mark::Opened(pattern),
+            mark: Mark::Opened(split.pattern),
             key,
+            rises: split.rises,
         });
     }
     let leaf = take_live(alloc, path, best)?;
-    Ok(Opening {
-        mark: Mark::Closed(leaf),
-        key: 0,
-    })
+    Ok(closed(leaf))
 }
 
 /// Opens a node that waits.
@@ -129,7 +136,13 @@ pub fn open_at<'i, P: Path<'i>>(
 {
     let link = search.entries[place].link;
     go_to(alloc, path, search.links.as_slice(), link)?;
-    let Opening { mark, key } = open(alloc, path, &mut search.best)?;
-    put(&mut search.entries, place, Entry { mark, link, key });
+    let Opening { mark, key, rises } = open(alloc, path, &mut search.best)?;
+    let entry = Entry {
+        mark,
+        link,
+        key,
+        rises,
+    };
+    put(&mut search.entries, place, entry);
     Ok(())
 }

@@ -1,4 +1,5 @@
 use Rattle.std.proofs.Common.{refl}
+use Rattle.tt_branch.specs.declared.entry.Mark.TheVariants.{Divided}
 use Rattle.tt_branch.proofs.Dividing.{split_by_steps}
 use Rattle.tt_branch.proofs.search.split.Goals as goal
 
@@ -13,10 +14,15 @@ returns c = split_by_steps c.args.place c.args.pattern _ _ c.requires (record {
   yes_is = c.in_ok-yes.ensures.place;
   second_link = c.in_ok-no.ensures.links;
   no_is = c.in_ok-no.ensures.place;
-  a = c.waiting-2.result;
-  b = c.waiting.result;
-  a_is = c.waiting-2.ensures;
-  b_is = c.waiting.ensures;
+  a = c.waiting-first.result;
+  b = c.waiting-second.result;
+  a_mark = c.waiting-first.ensures.mark;
+  a_link = c.waiting-first.ensures.link;
+  b_mark = c.waiting-second.ensures.mark;
+  b_link = c.waiting-second.ensures.link;
+  d = record { mark = Divided c.args.pattern; link = c.index.result.now.link; key = c.index.result.now.key; rises = c.index.result.now.rises };
+  d_mark = refl;
+  d_link = refl;
   more = c.insert.new.self.items;
   most = c.insert-2.new.self.items;
   put_b = c.in_ok-insert.ensures.items;

@@ -10,7 +10,7 @@ use Rattle.tt_branch.proofs.Searching.{grow_root}
 use Rattle.tt_branch.proofs.search.Search.new.Goals as goal
 
 abbrev root : Entry
-root = record { mark = Waiting; link = 0; key = 0 }
+root = record { mark = Waiting; link = 0; key = 0; rises = record { yes = 0; no = 0 } }
 
 pub returns-clause-under_way : goal.returns-clause-under_way
 returns-clause-under_way c = λ p k.

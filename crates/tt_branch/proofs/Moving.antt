@@ -1,0 +1,76 @@
+-- The facts that two paths begin with.
+use Rattle.std.proofs.Common.{◌≡◌, ℕ, ◌+◌, ◌-◌, ◌<◌, ◌≤◌, List, [], ◌∷◌, ◌++◌, length, take, drop, get_or, append_assoc, length-append, Some, refl, sym, ap, ◌∙◌, arith}
+use Rattle.std.proofs.Common.{Bool, true, false, ◌&&◌, Option, None, eqb-true}
+use Rattle.std.proofs.lemmas.Bool.{and_parts}
+use Rattle.std.specs.Prelude.{reverse, slice_get}
+use Rattle.std.proofs.lemmas.List.{reverse-append, take-append-drop, take_more, drop_more}
+use Rattle.std.proofs.Math.Seq.{take-append_seam}
+use Rattle.tt_facts.specs.Facts.{same_answer, same_option, same_who, same_pattern}
+use Rattle.tt_facts.specs.declared.facts.Who.{Who}
+use Rattle.tt_facts.specs.declared.facts.Who.TheVariants.{Course, Curriculum}
+use Rattle.tt_facts.specs.declared.facts.Fact.{Fact}
+use Rattle.tt_branch.proofs.Dividing.{get_is}
+
+same_option-true : (a b : Option ℕ) → same_option a b ≡ true → a ≡ b
+same_option-true None None e = refl
+same_option-true None (Some n) e = cc
+same_option-true (Some m) None e = cc
+same_option-true (Some m) (Some n) e = ap Some (eqb-true m n e)
+
+same_who-true : (a b : Who) → same_who a b ≡ true → a ≡ b
+same_who-true (Course a) (Course b) e = ap Course (eqb-true a b e)
+same_who-true (Course a) (Curriculum b) e = cc
+same_who-true (Curriculum a) (Course b) e = cc
+same_who-true (Curriculum a) (Curriculum b) e = ap Curriculum (eqb-true a b e)
+
+same_answer-true : (a b : Bool) → same_answer a b ≡ true → a ≡ b
+same_answer-true true b e = sym e
+same_answer-true false true e = cc
+same_answer-true false false e = refl
+
+abbrev fact_of : Bool → Who → Option ℕ → Option ℕ → Option ℕ → Fact
+fact_of holds who room day period = record { pattern = record { who = who; room = room; day = day; period = period }; holds = holds }
+
+-- facts that are found to be the same are
+pub same_fact : (f g : Fact) → (same_answer f.holds g.holds && same_pattern f.pattern g.pattern) ≡ true → f ≡ g
+same_fact f g e =
+    let a = and_parts (same_answer f.holds g.holds) (same_pattern f.pattern g.pattern) e in
+    let b = and_parts (same_who f.pattern.who g.pattern.who && same_option f.pattern.room g.pattern.room && same_option f.pattern.day g.pattern.day) (same_option f.pattern.period g.pattern.period) a.1 in
+    let d = and_parts (same_who f.pattern.who g.pattern.who && same_option f.pattern.room g.pattern.room) (same_option f.pattern.day g.pattern.day) b.0 in
+    let r = and_parts (same_who f.pattern.who g.pattern.who) (same_option f.pattern.room g.pattern.room) d.0 in
+    let holds = same_answer-true f.holds g.holds a.0 in
+    let who = same_who-true f.pattern.who g.pattern.who r.0 in
+    let room = same_option-true f.pattern.room g.pattern.room r.1 in
+    let day = same_option-true f.pattern.day g.pattern.day d.1 in
+    let period = same_option-true f.pattern.period g.pattern.period b.1 in
+    ap (λ x. fact_of x f.pattern.who f.pattern.room f.pattern.day f.pattern.period) holds
+    ∙ ap (λ x. fact_of g.holds x f.pattern.room f.pattern.day f.pattern.period) who
+    ∙ ap (λ x. fact_of g.holds g.pattern.who x f.pattern.day f.pattern.period) room
+    ∙ ap (λ x. fact_of g.holds g.pattern.who g.pattern.room x f.pattern.period) day
+    ∙ ap (fact_of g.holds g.pattern.who g.pattern.room g.pattern.day) period
+
+-- one fewer
+pub one_fewer : {X : Type 0} (all xs ys : List X) (x : X) → xs ≡ take (length xs) all → xs ≡ ys ++ x ∷ [] → ys ≡ take (length ys) all
+one_fewer all xs ys x whole last =
+    let rest = drop (length xs) all in
+    let split : all ≡ ys ++ (x ∷ rest) = sym (take-append-drop (length xs) all) ∙ ap (λ l. l ++ rest) (sym whole ∙ last) ∙ append_assoc ys (x ∷ []) rest in
+    sym (ap (take (length ys)) split ∙ take-append_seam ys (x ∷ rest))
+
+pub shorter : {X : Type 0} (xs ys : List X) (x : X) → xs ≡ ys ++ x ∷ [] → length xs ≡ length ys + 1
+shorter xs ys x last = ap length last ∙ length-append ys (x ∷ [])
+
+-- what both begin with, and the others
+pub joined : {X : Type 0} (old facts : List X) (kept : ℕ) → take kept old ≡ reverse (drop (length facts - kept) facts) → take kept old ++ reverse (take (length facts - kept) facts) ≡ reverse facts
+joined old facts kept same =
+    let n = length facts - kept in
+    ap (λ l. l ++ reverse (take n facts)) same ∙ sym (reverse-append (take n facts) (drop n facts)) ∙ ap reverse (take-append-drop n facts)
+
+-- one more fact is the same
+pub one_more : {X : Type 0} (old facts : List X) (index left : ℕ) (x d : X) → index < length old → 0 < left → left ≤ length facts → slice_get old index ≡ Some x → x ≡ get_or facts (left - 1) d → take index old ≡ reverse (drop left facts) → take (index + 1) old ≡ reverse (drop (left - 1) facts)
+one_more old facts index left x d inside some within at is same =
+    let m = left - 1 in
+    let back : m + 1 ≡ left = omega arith in
+    let y = get_or facts m d in
+    let lower : m < length facts = omega arith in
+    let dropped : drop m facts ≡ y ∷ drop left facts = drop_more facts m d lower ∙ ap (λ n. y ∷ drop n facts) back in
+    take_more old index x inside ∙ ap (λ z. take index old ++ z ∷ []) (get_is old index x x at ∙ is) ∙ ap (λ l. l ++ y ∷ []) same ∙ sym (ap reverse dropped ∙ reverse-append (y ∷ []) (drop left facts))
