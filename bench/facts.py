@@ -3,12 +3,14 @@
 which split on cells that are live as far as this script can see, and whose leaves are right for the bound 0.
 
 Run by hand, after ./tt has built the program:  python3 bench/facts.py [NODES]
-NODES is how many nodes each proof has at most (default 300,000). Beside each time stands that of `wc -w` on the same bytes. Every
-command is run three times, in turn, and the least time counts; one that takes more than 120 seconds is stopped and says so.
+NODES is how many nodes each proof has at most (default 1,000,000). Beside each time stand those of bench/paths.rs, a checker of the same
+proofs in plain Rust (`rustc -O`), and of `wc -w` on the same bytes. Every command is run five times, in turn with the others, and the least
+time counts; one that takes more than 120 seconds is stopped and says so.
 """
 
 import os
 import random
+import shutil
 import subprocess
 import sys
 import tempfile
@@ -18,7 +20,7 @@ from pathlib import Path
 HERE = Path(__file__).resolve().parent
 PROGRAM = HERE.parent / "crates" / "tt" / "out" / "tt"
 EXAMPLES = HERE.parent / "examples"
-RUNS, MOST_SECONDS = 3, 120
+RUNS, MOST_SECONDS = 5, 120
 
 
 class Instance:
@@ -162,41 +164,48 @@ def write_deep(path, instance, facts, nodes):
     return count + tree.nodes
 
 
-def least_time(words):
-    best = None
+def run(words):
+    """The seconds of a run, none where it was stopped, and what it printed."""
+    start = time.perf_counter()
+    try:
+        done = subprocess.run(words, capture_output=True, text=True, timeout=MOST_SECONDS, env={**os.environ, "LC_ALL": "C.UTF-8"})
+    except subprocess.TimeoutExpired:
+        return None, ""
+    taken = time.perf_counter() - start
+    if done.returncode:
+        sys.exit(f"{words}: {done.stderr}")
+    return taken, done.stdout
+
+
+def row(name, instance, proof, nodes, plain):
+    commands = {"tt": [PROGRAM, "bound", instance, proof], "plain": [plain, instance, proof], "wc": ["wc", "-w", proof]}
+    best = {}
     for _ in range(RUNS):
-        start = time.perf_counter()
-        try:
-            done = subprocess.run(words, capture_output=True, text=True, timeout=MOST_SECONDS, env={**os.environ, "LC_ALL": "C.UTF-8"})
-        except subprocess.TimeoutExpired:
-            return None, ""
-        taken = time.perf_counter() - start
-        if done.returncode:
-            sys.exit(f"{words}: {done.stderr}")
-        best = taken if best is None else min(best, taken)
-        if taken > 20:
+        for key, words in commands.items():
+            taken, printed = run(words)
+            if key != "wc" and taken is not None and printed != "bound 0\n":
+                sys.exit(f"{name}: {words[0]} printed {printed}")
+            best[key] = taken if taken is None or key not in best else min(best[key], taken)
+        if None in best.values():
             break
-    return best, done.stdout
-
-
-def row(name, instance, proof, nodes):
-    taken, printed = least_time([PROGRAM, "bound", instance, proof])
-    words, _ = least_time(["wc", "-w", proof])
     size = proof.stat().st_size / 1e6
-    if taken is None:
-        print(f"| {name} | {nodes:,} nodes, {size:.1f} MB | stopped at {MOST_SECONDS} s | | {size / words:.0f} MB/s |", flush=True)
+    rate = lambda key: f"stopped at {MOST_SECONDS} s" if best[key] is None else f"{size / best[key]:.0f} MB/s"
+    if best["tt"] is None or best["plain"] is None:
+        print(f"| {name} | {nodes:,} nodes, {size:.1f} MB | {rate('tt')} | | {rate('plain')} | | |", flush=True)
         return
-    if printed != "bound 0\n":
-        sys.exit(f"{name}: tt bound printed {printed}")
-    print(f"| {name} | {nodes:,} nodes, {size:.1f} MB | {taken:.2f} s, {size / taken:.0f} MB/s | {1e6 * taken / nodes:.2f} µs | {size / words:.0f} MB/s |", flush=True)
+    print(f"| {name} | {nodes:,} nodes, {size:.1f} MB | {best['tt']:.2f} s, {rate('tt')} | {1e6 * best['tt'] / nodes:.2f} µs | {best['plain']:.2f} s, {rate('plain')} | {best['tt'] / best['plain']:.1f} | {rate('wc')} |", flush=True)
 
 
 def main():
     if not PROGRAM.exists():
         sys.exit("run ./tt first: the program is not built")
-    nodes = int(sys.argv[1]) if len(sys.argv) > 1 else 300_000
-    print("| Proof | Size | `tt bound` | A node | `wc -w` |\n|---|---|---|---|---|")
+    nodes = int(sys.argv[1]) if len(sys.argv) > 1 else 1_000_000
+    if not shutil.which("rustc"):
+        sys.exit("there is no rustc")
+    print("| Proof | Size | `tt bound` | A node | Plain Rust | Times its time | `wc -w` |\n|---|---|---|---|---|---|---|")
     with tempfile.TemporaryDirectory() as folder:
+        plain = Path(folder) / "plain"
+        subprocess.run(["rustc", "-O", "-o", plain, HERE / "paths.rs"], check=True)
         proof = Path(folder) / "long.proof"
         for name, file, pattern, leaf, depth, share in [
             ("`c * d p`, like01", "like01", by_period, no_claim, 12, 1),
@@ -207,11 +216,11 @@ def main():
         ]:
             path = EXAMPLES / f"{file}.ctt"
             count = write_tree(proof, Instance(path), pattern, leaf, depth, nodes // share)
-            row(name, path, proof, count)
+            row(name, path, proof, count, plain)
         path = EXAMPLES / "like05.ctt"
         for facts in (1_500, 50_000):
             count = write_deep(proof, Instance(path), facts, nodes)
-            row(f"{facts:,} facts above, like05", path, proof, count)
+            row(f"{facts:,} facts above, like05", path, proof, count, plain)
     print(f"cores: {os.cpu_count()}")
 
 

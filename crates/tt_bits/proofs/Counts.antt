@@ -64,7 +64,7 @@ count-same f g (suc n) h =
     ∙ ap (λ b. count_by g (numbers_below n) + cond b 1 0) (h n (omega arith))
     ∙ sym (count_more g n) ∙ sym (ap (λ m. count_by g (numbers_below m)) e)
 
-count-past : (t : ℕ → Bool) (n more : ℕ) → count_by (λ s. nat_lt s n && t s) (numbers_below (n + more)) ≡ count_by t (numbers_below n)
+pub count-past : (t : ℕ → Bool) (n more : ℕ) → count_by (λ s. nat_lt s n && t s) (numbers_below (n + more)) ≡ count_by t (numbers_below n)
 count-past t n zero =
     let e : n + 0 ≡ n = omega arith in
     ap (λ m. count_by (λ s. nat_lt s n && t s) (numbers_below m)) e ∙ count-same (λ s. nat_lt s n && t s) t n (λ k l. ap (λ b. b && t k) (lt-ltb k n l))
@@ -73,6 +73,10 @@ count-past t n (suc more) =
     ap (λ m. count_by (λ s. nat_lt s n && t s) (numbers_below m)) e ∙ count_more (λ s. nat_lt s n && t s) (n + more)
     ∙ ap (λ b. count_by (λ s. nat_lt s n && t s) (numbers_below (n + more)) + cond (b && t (n + more)) 1 0) (not_below (n + more) n (omega arith))
     ∙ omega (arith, count-past t n more)
+
+pub count-bits : (f g : ℕ → Bool) → ((r : ℕ) → r < 64 → f r ≡ g r) → count_by f bits ≡ count_by g (numbers_below 64)
+unfolding bits
+count-bits f g h = count-same f g 64 h
 
 module _ (w n : ℕ) (t : ℕ → Bool) (few : n ≤ 64) (set : (s : ℕ) → s < 64 → has_bit w s ≡ (nat_lt s n && t s)) where
   pub count-set : count_by (has_bit w) bits ≡ count_by t (numbers_below n)

@@ -208,6 +208,9 @@ impl<'p, 'i> Cells<'p, 'i> {
             ((r : ℕ) → r < length self.now.problem.rooms → is_live self.now.problem self.now.facts (cell course r (slot day period)) ≡ false)
             (IsRoomiest self.now.problem self.now.facts course (slot day period)) }
     {
+        if !self.live_period(course, day, period) {
+            return None;
+        }
         for ranked in self.order.as_slice() {
             if self.is_live(course, ranked.room, day, period) {
                 return Some(*ranked);

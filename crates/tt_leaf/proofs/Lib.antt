@@ -11,3 +11,6 @@ pub mod Sizes
 pub mod Soundness
 pub mod Totals
 pub mod Values
+pub mod Week
+pub mod Blocks
+pub mod Alone

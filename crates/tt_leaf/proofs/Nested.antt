@@ -100,18 +100,11 @@ beside p t s day period = same_tests (list_any (λ n. next_to n s && t n) (all_s
     ]
 
 module _ (p : Problem) (path : List Fact) (q : ℕ) (s : Slot) (day : s.day < p.days) (period : s.period < p.periods) (cs : List ℕ) (are : cs ≡ members p q) where
-  by_sides : is_alone p path q s ≡ (not (live_before p path cs s) && not (live_after p path cs s))
+  pub by_sides : is_alone p path q s ≡ (not (live_before p path cs s) && not (live_after p path cs s))
   by_sides =
       ap not (beside p (λ n. list_any (λ c. live_period p path c n) (members p q)) s day period)
       ∙ neither (live_before p path (members p q) s) (live_after p path (members p q) s)
       ∙ ap (λ ms. not (live_before p path ms s) && not (live_after p path ms s)) (sym are)
-
-  -- where nothing is before it, the period is alone if nothing is behind it
-  pub alone_behind : (after : Bool) → false ≡ live_before p path cs s → after ≡ live_after p path cs s → not after ≡ is_alone p path q s
-  alone_behind after b a = ap not a ∙ ap (λ x. not x && not (live_after p path cs s)) b ∙ sym by_sides
-
-  pub alone_before : (before : Bool) → before ≡ true → true ≡ live_before p path cs s → not before ≡ is_alone p path q s
-  alone_before before e b = ap not e ∙ ap (λ x. not x && not (live_after p path cs s)) b ∙ sym by_sides
 
 -- ---- prices
 

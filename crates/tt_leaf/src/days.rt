@@ -6,6 +6,7 @@ ghost use Rattle.tt_leaf.specs.Nested.{live_days, pinned_days};
 ghost use Rattle.tt_leaf.specs.declared.leaf.Claim.TheVariants.{Days, Stacked};
 
 use crate::pinned::pinned_periods;
+use tt_bits::is_empty;
 use tt_facts::{Path, Who};
 
 /// What a missing day costs, in cost points.
@@ -37,18 +38,14 @@ pub fn days_value<'i, P: Path<'i>>(path: &P, course: u32) -> u64
     DAY_PRICE * u64::from(instance.min_days(course).saturating_sub(most))
 }
 
-#[tactic(auto, using(tt_lists::proofs::Below::any_more))]
 fn is_pinned_day<'i, P: Path<'i>>(path: &P, course: u32, day: u32) -> bool
     requires course { course < length (P.problem path.now).courses }
     requires day { day < (P.problem path.now).days }
     ensures { result ≡ pinned_day (P.problem path.now) (P.facts path.now) course day }
 {
-    for period in 0..path.instance().periods() {
-        if path.pinned(Who::Course(course), day, period) {
-            return true;
-        }
-    }
-    false
+    // What is true of every instance: the periods of a day are the numbers of a word.
+    prove!(path.instance().periods() <= 64);
+    !is_empty(path.pinned_periods(Who::Course(course), day))
 }
 
 #[tactic(auto, using(tt_lists::proofs::Numbers::count_more))]

@@ -1,8 +1,9 @@
 //! Courses that exclude each other, different courses, and the periods and rooms that are open to them.
 
-ghost use Rattle.std.specs.Prelude.{◌≡◌, ◌<◌, ◌≤◌, ◌-◌, ◌^◌, ◌==◌, not, min, nat_lt, length};
+ghost use Rattle.std.specs.Prelude.{◌≡◌, ◌<◌, ◌≤◌, ◌-◌, ◌^◌, ◌==◌, ◌&&◌, ℕ, not, min, nat_lt, length};
 ghost use Rattle.std.specs.List.{list_all};
 ghost use Rattle.tt_lists.specs.Words.{each_two};
+ghost use Rattle.tt_bits.specs.Bits.{has_bit};
 ghost use Rattle.tt_instance.specs.Cells.{slot};
 ghost use Rattle.tt_instance.specs.Courses.{conflict};
 ghost use Rattle.tt_leaf.specs.Leaves.{all_lectures, is_clique, are_distinct, open_periods, open_rooms};
@@ -11,6 +12,7 @@ ghost use Rattle.tt_leaf.specs.Ranges.{AreBelow};
 
 use crate::met::{FEW, Met};
 use crate::slots::{slot_at, slot_count};
+use tt_bits::{count, either};
 use tt_facts::Path;
 use tt_instance::{Cell, Instance};
 
@@ -109,19 +111,18 @@ pub fn have_more_lectures(instance: &Instance<'_>, courses: &[u32], places: u32)
     u64::from(places) < all_lectures(instance, courses)
 }
 
-/// Whether one of the courses has a live cell in the period.
-pub fn is_open<'i, P: Path<'i>>(path: &P, courses: &[u32], day: u32, period: u32) -> bool
+/// The periods of a day in which one of the courses has a live cell, as a set.
+pub fn open_on<'i, P: Path<'i>>(path: &P, courses: &[u32], day: u32) -> u64
     requires courses { AreBelow (length (P.problem path.now).courses) courses.now }
     requires day { day < (P.problem path.now).days }
-    requires period { period < (P.problem path.now).periods }
-    ensures { result ≡ live_for (P.problem path.now) (P.facts path.now) courses.now (slot day period) }
+    ensures { (s : ℕ) → s < 64 → has_bit result s ≡ (nat_lt s (P.problem path.now).periods
+        && live_for (P.problem path.now) (P.facts path.now) courses.now (slot day s)) }
 {
+    let mut open = 0;
     for course in courses {
-        if path.live_period(*course, day, period) {
-            return true;
-        }
+        open = either(open, path.live_periods(*course, day));
     }
-    false
+    open
 }
 
 /// How many periods have a live cell of one of the courses.
@@ -130,13 +131,11 @@ pub fn open_periods<'i, P: Path<'i>>(path: &P, courses: &[u32]) -> u32
     ensures value { result ≡ open_periods (P.problem path.now) (P.facts path.now) courses.now }
     ensures within { result ≤ 512 }
 {
-    let instance = path.instance();
+    // What is true of every instance: the periods of a day are the numbers of a word.
+    prove!(path.instance().periods() <= 64);
     let mut total = 0;
-    for place in 0..slot_count(instance) {
-        let slot = slot_at(instance, place);
-        if is_open(path, courses, slot.day, slot.period) {
-            total += 1;
-        }
+    for day in 0..path.instance().days() {
+        total += count(open_on(path, courses, day));
     }
     total
 }

@@ -1,48 +1,40 @@
 //! The isolated entries of a curriculum.
 
-ghost use Rattle.std.specs.Prelude.{◌≡◌, ◌<◌, ◌≤◌, length};
-ghost use Rattle.tt_instance.specs.Courses.{members};
+ghost use Rattle.std.specs.Prelude.{◌≡◌, ◌<◌, ◌≤◌, ◌&&◌, ℕ, nat_lt, length};
+ghost use Rattle.tt_bits.specs.Bits.{has_bit};
+ghost use Rattle.tt_instance.specs.Cells.{slot};
+ghost use Rattle.tt_facts.specs.Live.{pinned};
+ghost use Rattle.tt_facts.specs.declared.facts.Who.TheVariants.{Curriculum};
 ghost use Rattle.tt_leaf.specs.Claims.{is_alone, value_of};
-ghost use Rattle.tt_leaf.specs.Nested.{live_before, live_after, isolated_periods};
-ghost use Rattle.tt_leaf.specs.Ranges.{AreBelow};
+ghost use Rattle.tt_leaf.specs.Nested.{isolated_periods};
 ghost use Rattle.tt_leaf.specs.declared.leaf.Claim.TheVariants.{Compact};
 
-use crate::groups::is_open;
-use crate::slots::{slot_at, slot_count};
+use crate::groups::open_on;
+use tt_bits::{count, next, previous, without};
 use tt_facts::{Path, Who};
-use tt_instance::Slot;
 
 /// What an isolated entry costs, in cost points.
 const ISOLATED_PRICE: u64 = 2;
 
-fn is_live_before<'i, P: Path<'i>>(path: &P, courses: &[u32], slot: Slot) -> bool
-    requires courses { AreBelow (length (P.problem path.now).courses) courses.now }
-    requires day { slot.day < (P.problem path.now).days }
-    requires period { slot.period < (P.problem path.now).periods }
-    ensures { result ≡ live_before (P.problem path.now) (P.facts path.now) courses.now slot }
-{
-    slot.period > 0 && is_open(path, courses, slot.day, slot.period - 1)
-}
-
-fn is_live_after<'i, P: Path<'i>>(path: &P, courses: &[u32], slot: Slot) -> bool
-    requires courses { AreBelow (length (P.problem path.now).courses) courses.now }
-    requires day { slot.day < (P.problem path.now).days }
-    requires period { slot.period < (P.problem path.now).periods }
-    ensures { result ≡ live_after (P.problem path.now) (P.facts path.now) courses.now slot }
-{
-    let periods = path.instance().periods();
-    slot.period + 1 < periods && is_open(path, courses, slot.day, slot.period + 1)
-}
-
-fn is_alone<'i, P: Path<'i>>(path: &P, curriculum: u32, slot: Slot) -> bool
+/// The pinned periods of a curriculum on a day beside which none is live, as a set.
+fn isolated_on<'i, P: Path<'i>>(path: &P, curriculum: u32, day: u32) -> u64
     requires curriculum { curriculum < length (P.problem path.now).curricula }
-    requires courses { AreBelow (length (P.problem path.now).courses) (members (P.problem path.now) curriculum) }
-    requires day { slot.day < (P.problem path.now).days }
-    requires period { slot.period < (P.problem path.now).periods }
-    ensures { result ≡ is_alone (P.problem path.now) (P.facts path.now) curriculum slot }
+    requires day { day < (P.problem path.now).days }
+    ensures { (s : ℕ) → s < 64 → has_bit result s ≡ (nat_lt s (P.problem path.now).periods
+        && (pinned (P.problem path.now) (P.facts path.now) (Curriculum curriculum) (slot day s)
+        && is_alone (P.problem path.now) (P.facts path.now) curriculum (slot day s))) }
 {
-    let members = path.instance().members(curriculum);
-    !is_live_before(path, members, slot) && !is_live_after(path, members, slot)
+    let instance = path.instance();
+    // What is true of every instance: its members are courses, and the periods of a day are the numbers of a word.
+    prove!(instance.days() <= 64);
+    prove!(instance.periods() <= 64);
+    let pinned = path.pinned_periods(Who::Curriculum(curriculum), day);
+    if pinned == 0 {
+        return 0;
+    }
+    let members = instance.members(curriculum);
+    let live = open_on(path, members, day);
+    without(without(pinned, next(live)), previous(live))
 }
 
 fn isolated_periods<'i, P: Path<'i>>(path: &P, curriculum: u32) -> u32
@@ -50,15 +42,11 @@ fn isolated_periods<'i, P: Path<'i>>(path: &P, curriculum: u32) -> u32
     ensures value { result ≡ isolated_periods (P.problem path.now) (P.facts path.now) curriculum }
     ensures within { result ≤ 512 }
 {
-    let instance = path.instance();
+    // What is true of every instance: the periods of a day are the numbers of a word.
+    prove!(path.instance().periods() <= 64);
     let mut total = 0;
-    for place in 0..slot_count(instance) {
-        let slot = slot_at(instance, place);
-        if path.pinned(Who::Curriculum(curriculum), slot.day, slot.period)
-            && is_alone(path, curriculum, slot)
-        {
-            total += 1;
-        }
+    for day in 0..path.instance().days() {
+        total += count(isolated_on(path, curriculum, day));
     }
     total
 }

@@ -4,7 +4,7 @@ ghost use Rattle.std.specs.Prelude.{◌≡◌, ◌≤◌};
 ghost use Rattle.tt_facts.specs.Facts.{IsWho};
 ghost use Rattle.tt_facts.specs.Live.{pinned_periods};
 
-use crate::slots::{slot_at, slot_count};
+use tt_bits::count;
 use tt_facts::{Path, Who};
 
 /// How many periods of the week are pinned for a course or a curriculum.
@@ -13,13 +13,11 @@ pub fn pinned_periods<'i, P: Path<'i>>(path: &P, who: Who) -> u32
     ensures value { result ≡ pinned_periods (P.problem path.now) (P.facts path.now) who }
     ensures within { result ≤ 512 }
 {
-    let instance = path.instance();
+    // What is true of every instance: the periods of a day are the numbers of a word.
+    prove!(path.instance().periods() <= 64);
     let mut total = 0;
-    for place in 0..slot_count(instance) {
-        let slot = slot_at(instance, place);
-        if path.pinned(who, slot.day, slot.period) {
-            total += 1;
-        }
+    for day in 0..path.instance().days() {
+        total += count(path.pinned_periods(who, day));
     }
     total
 }

@@ -5,19 +5,17 @@ ghost use Rattle.tt_leaf.specs.Claims.{value_of};
 ghost use Rattle.tt_leaf.specs.Nested.{pinned_rooms};
 ghost use Rattle.tt_leaf.specs.declared.leaf.Claim.TheVariants.{Stable};
 
+use tt_bits::count;
 use tt_facts::Path;
 
-#[tactic(auto, using(tt_lists::proofs::Numbers::count_more))]
 fn pinned_rooms<'i, P: Path<'i>>(path: &P, course: u32) -> u32
     requires { course < length (P.problem path.now).courses }
     ensures value { result ≡ pinned_rooms (P.problem path.now) (P.facts path.now) course }
     ensures within { result ≤ 512 }
 {
     let mut total = 0;
-    for room in 0..path.instance().rooms() {
-        if path.pinned_room(course, room) {
-            total += 1;
-        }
+    for block in 0..(path.instance().rooms() + 63) / 64 {
+        total += count(path.pinned_rooms(course, block));
     }
     total
 }

@@ -1,27 +1,25 @@
-use Rattle.std.proofs.Common.{◌<◌, length, arith}
-use Rattle.std.specs.List.{list_any}
-use Rattle.tt_instance.specs.Cells.{all_slots}
-use Rattle.tt_instance.specs.declared.cell.Slot.{Slot}
-use Rattle.tt_instance.proofs.Slots.{slots_count_yes, slots_count_no}
-use Rattle.tt_facts.specs.Live.{live_period}
+use Rattle.std.proofs.Common.{◌≡◌, ◌+◌, ◌*◌, ◌≤◌, ap, ◌∙◌, subst, arith}
+use Rattle.tt_leaf.specs.Nested.{live_for}
+use Rattle.tt_leaf.proofs.Week.{week_next, week_whole, week_within}
 use Rattle.tt_leaf.proofs.groups.open_periods.Goals as goal
-use Rattle.tt_leaf.proofs.groups.open_periods.Goals.{then-is_open, else-is_open}
 
-pub loop-place-preserved : goal.loop-place-preserved
-loop-place-preserved g c =
+pub loop-day-preserved : goal.loop-day-preserved
+loop-day-preserved g c =
     let p = g.P.Path.problem c.args.path.now in
-    let q = c.instance-instance.result.now in
-    let test = λ (s : Slot). list_any (λ i. live_period p (g.P.Path.facts c.args.path.now) i s) c.args.courses.now in
-    let i = c.loop-place.place in
-    let s = c.slot_at-slot.result in
-    let there : i < length (all_slots q) = omega arith in
-    elim c.if-is_open.branch [
-      | then-is_open w ↦ record {
-        counted = slots_count_yes p q test i c.loop-place.total c.if-is_open.total s c.instance-instance.ensures there c.slot_at-slot.ensures.value c.loop-place.invariant.counted w.if-is_open.ensures w.total-is;
-        few = omega arith;
-      }
-      | else-is_open w ↦ record {
-        counted = slots_count_no p q test i c.loop-place.total c.if-is_open.total s c.instance-instance.ensures there c.slot_at-slot.ensures.value c.loop-place.invariant.counted w.if-is_open.ensures w.total-is;
-        few = omega arith;
-      }
-    ]
+    let few : p.periods ≤ 64 = omega (arith, c.periods.ensures.value, c.periods.ensures.within, ap (λ q. q.periods) c.instance.ensures) in
+    record {
+      counted = week_next p (live_for p (g.P.Path.facts c.args.path.now) c.args.courses.now) c.loop-day.day c.open_on.result c.loop-day.total c.count-total.result few c.open_on.ensures c.loop-day.invariant.counted c.count-total.ensures.value;
+      few = omega (arith, c.loop-day.invariant.few, c.count-total.ensures.within);
+    }
+
+pub returns-clause-value : goal.returns-clause-value
+returns-clause-value g c =
+    let p = g.P.Path.problem c.args.path.now in
+    week_whole p (live_for p (g.P.Path.facts c.args.path.now) c.args.courses.now) c.loop-day.day c.loop-day.total c.loop-day.invariant.counted (omega (arith, c.days-day-end.ensures.value, ap (λ q. q.days) c.instance-2.ensures))
+
+pub returns-clause-within : goal.returns-clause-within
+returns-clause-within g c =
+    let p = g.P.Path.problem c.args.path.now in
+    let week : p.days * p.periods ≤ 512 = subst (λ q. q.days * q.periods ≤ 512) c.instance.ensures (subst (λ n. c.instance.result.now.days * n ≤ 512) c.periods.ensures.value c.periods.ensures.week) in
+    week_within p (live_for p (g.P.Path.facts c.args.path.now) c.args.courses.now) c.loop-day.total week
+    (week_whole p (live_for p (g.P.Path.facts c.args.path.now) c.args.courses.now) c.loop-day.day c.loop-day.total c.loop-day.invariant.counted (omega (arith, c.days-day-end.ensures.value, ap (λ q. q.days) c.instance-2.ensures)))

@@ -1,10 +1,11 @@
-use Rattle.std.proofs.Common.{◌≡◌, ◌≤◌, take}
-use Rattle.std.specs.Prelude.{count_by}
-use Rattle.tt_instance.specs.Cells.{all_slots}
+use Rattle.std.proofs.Common.{◌≡◌, ◌≤◌, ◌*◌}
+use Rattle.std.specs.Prelude.{sum_by}
+use Rattle.tt_lists.specs.Words.{numbers_below}
 use Rattle.tt_facts.specs.Live.{pinned}
+use Rattle.tt_leaf.proofs.Week.{on_day}
 use Rattle.tt_leaf.proofs.pinned.pinned_periods.Given as goal
 
-abbrev pub invariant-loop-place : goal.invariant-loop-place
-invariant-loop-place g l =
+abbrev pub invariant-loop-day : goal.invariant-loop-day
+invariant-loop-day g l =
     let p = g.P.Path.problem l.path in
-    record { counted : l.total ≡ count_by (pinned p (g.P.Path.facts l.path) l.who) (take l.place (all_slots p)); few : l.total ≤ l.place }
+    record { counted : l.total ≡ sum_by (on_day p (pinned p (g.P.Path.facts l.path) l.who)) (numbers_below l.day); few : l.total ≤ l.day * 64 }

@@ -1,10 +1,20 @@
-use Rattle.std.proofs.Common.{◌≡◌, ◌<◌, ◌≤◌, length, sym, ap, ◌∙◌, subst, arith}
-use Rattle.tt_instance.specs.Cells.{slot}
+use Rattle.std.proofs.Common.{◌≡◌, ℕ, ◌<◌, ◌≤◌, length, sym, ap, ◌∙◌, subst, arith}
+use Rattle.std.proofs.lemmas.Bool.{both_ways, false_from_ne_true}
+use Rattle.tt_lists.proofs.Numbers.{any_below}
+use Rattle.tt_instance.specs.Cells.{slot, cell}
+use Rattle.tt_facts.specs.Live.{is_live, live_period}
 use Rattle.tt_facts.specs.Paths.{Facts}
 use Rattle.tt_cells.specs.Order.{IsRoomOrder}
 use Rattle.tt_cells.specs.declared.order.Ranked.{Ranked}
 use Rattle.tt_cells.proofs.Ranked.{is_ranked, roomiest_at, none_live}
 use Rattle.tt_cells.proofs.cells.Cells.roomiest.Goals as goal
+
+pub returns-then-not-live_period : goal.returns-then-not-live_period
+returns-then-not-live_period c = λ r h.
+    let a = c.args in
+    let v = a.self.now in
+    let live = λ (k : ℕ). is_live v.problem v.facts (cell a.course k (slot a.day a.period)) in
+    false_from_ne_true (live r) (λ t. both_ways (live_period v.problem v.facts a.course (slot a.day a.period)) (sym c.live_period.ensures ∙ c.if-not-live_period.true) (any_below live (length v.problem.rooms) r h t))
 
 pub is_live-requires : goal.is_live-requires
 is_live-requires c =
