@@ -3,7 +3,7 @@
 /// What a command prints, its status, and the files that it writes.
 #[derive(Debug, Drop)]
 pub struct Answer {
-    /// 0 yes or done, 1 a hard rule is broken or no timetable was found.
+    /// 0 says yes, or that the work is done; 1 that a hard rule is broken, or that there is no timetable.
     pub status: u8,
     /// The text for standard output.
     pub out: Vec<u8>,

@@ -97,8 +97,8 @@ fn told_words<O: Write, E: Write>(fault: &clap::Error, out: &mut O, err: &mut E)
     }
 }
 
-/// Runs the program on the words of its command line, without its own name, and gives its status: 0 yes or done, 1 a hard rule is
-/// broken or no timetable was found, 2 refused (the text is on `err`). Without words it checks a stored proof.
+/// Runs the program on the words of its command line, without its own name, and gives its status: 0 says yes, or that the work is
+/// done; 1 that a hard rule is broken, or that there is no timetable; 2 that it refused (why is on `err`). Without words it checks a stored proof.
 pub fn run<R: Files + AllocGlobal, O: Write, E: Write>(
     rt: &R,
     words: &[String],

@@ -68,67 +68,134 @@ pub enum Request<'a> {
     },
 }
 
-fn file<'a>(alloc: Global, id: &'a str) -> Arg<'a> {
-    Arg::new(alloc, id).required(true).action(ArgAction::Set)
+/// The toolchain that proves and builds the program, as `rt version` names it.
+const VERSION: &str = "0.1 (rattle-kit-13b logic dac8208d650f15bf)";
+
+/// A file that has to be named.
+fn file<'a>(alloc: Global, id: &'a str, help: &'a str) -> Arg<'a> {
+    Arg::new(alloc, id)
+        .required(true)
+        .action(ArgAction::Set)
+        .help(help)
+}
+
+fn instance<'a>(alloc: Global) -> Arg<'a> {
+    file(
+        alloc,
+        "INSTANCE",
+        "What there is to plan: a .ctt file of the competition",
+    )
+}
+
+fn solution<'a>(alloc: Global) -> Arg<'a> {
+    file(
+        alloc,
+        "SOLUTION",
+        "A timetable: lines of a course, a room, a day and a period",
+    )
+}
+
+fn proof<'a>(alloc: Global) -> Arg<'a> {
+    file(
+        alloc,
+        "PROOF",
+        "A proof of a lower bound: a CTTP file, of either version",
+    )
+}
+
+fn out<'a>(alloc: Global) -> Arg<'a> {
+    file(
+        alloc,
+        "OUT",
+        "The file that is written; an older one is replaced",
+    )
 }
 
 fn validate_command<'a>(alloc: Global) -> Result<Command<'a>, AllocError> {
     Command::new(alloc, "validate")
         .about("Prints the eight counts of a solution")
-        .arg(file(alloc, "INSTANCE"))?
-        .arg(file(alloc, "SOLUTION"))
+        .after_help("Example: tt validate week.ctt week.sol")
+        .arg(instance(alloc))?
+        .arg(solution(alloc))
 }
 
 fn check_command<'a>(alloc: Global) -> Result<Command<'a>, AllocError> {
     Command::new(alloc, "check")
         .about("Checks a solution, and a proof of a lower bound")
-        .arg(file(alloc, "INSTANCE"))?
-        .arg(file(alloc, "SOLUTION"))?
-        .arg(file(alloc, "PROOF"))
+        .after_help("Example: tt check week.ctt week.sol week.proof")
+        .arg(instance(alloc))?
+        .arg(solution(alloc))?
+        .arg(proof(alloc))
 }
 
 fn bound_command<'a>(alloc: Global) -> Result<Command<'a>, AllocError> {
     Command::new(alloc, "bound")
         .about("Checks a proof of a lower bound, and prints the bound")
-        .arg(file(alloc, "INSTANCE"))?
-        .arg(file(alloc, "PROOF"))
+        .after_help("Example: tt bound week.ctt week.proof")
+        .arg(instance(alloc))?
+        .arg(proof(alloc))
 }
 
 /// An option with a number in a range, and the one that is taken where it isn't given.
-fn number<'a>(alloc: Global, id: &'a str, least: u64, most: u64, default: &'a str) -> Arg<'a> {
+fn number<'a>(alloc: Global, id: &'a str, range: (u64, u64), default: &'a str) -> Arg<'a> {
+    let (least, most) = range;
     Arg::new(alloc, id)
         .long(id)
         .action(ArgAction::Set)
+        .value_name("N")
         .value_parser(ValueParser::Unsigned(least, most))
         .default_value(default)
+}
+
+fn seed<'a>(alloc: Global) -> Arg<'a> {
+    number(alloc, "seed", (0, u64::MAX), "1").help(
+        "Begins the drawn steps: the same number gives the same answer, 0 to 2^64 - 1",
+    )
+}
+
+fn steps<'a>(alloc: Global) -> Arg<'a> {
+    number(alloc, "steps", (0, MAX_STEPS), "10000").help("How long to search, 0 to 1000000 steps")
+}
+
+fn nodes<'a>(alloc: Global) -> Arg<'a> {
+    number(alloc, "nodes", (1, u64::from(MAX_NODES)), "1000").help(
+        "How many nodes of the tree to open at most, 1 to 65536",
+    )
 }
 
 fn improve_command<'a>(alloc: Global) -> Result<Command<'a>, AllocError> {
     Command::new(alloc, "improve")
         .about("Searches from a solution, and writes a timetable that is no worse")
-        .arg(file(alloc, "INSTANCE"))?
-        .arg(file(alloc, "SOLUTION"))?
-        .arg(file(alloc, "OUT"))?
-        .arg(number(alloc, "seed", 0, u64::MAX, "1"))?
-        .arg(number(alloc, "steps", 0, MAX_STEPS, "10000"))
+        .after_help("Example: tt improve week.ctt week.sol better.sol --steps 100000")
+        .arg(instance(alloc))?
+        .arg(solution(alloc))?
+        .arg(out(alloc))?
+        .arg(seed(alloc))?
+        .arg(steps(alloc))
 }
 
 fn upgrade_command<'a>(alloc: Global) -> Result<Command<'a>, AllocError> {
     Command::new(alloc, "upgrade")
         .about("Checks a proof, and writes it in version 2")
-        .arg(file(alloc, "INSTANCE"))?
-        .arg(file(alloc, "PROOF"))?
-        .arg(file(alloc, "OUT"))
+        .after_help("Example: tt upgrade week.ctt old.proof new.proof")
+        .arg(instance(alloc))?
+        .arg(proof(alloc))?
+        .arg(out(alloc))
 }
 
 fn solve_command<'a>(alloc: Global) -> Result<Command<'a>, AllocError> {
     Command::new(alloc, "solve")
         .about("Searches for a best timetable, and writes it with a proof of a lower bound")
-        .arg(file(alloc, "INSTANCE"))?
-        .arg(file(alloc, "OUT"))?
-        .arg(file(alloc, "PROOF"))?
-        .arg(number(alloc, "seed", 0, u64::MAX, "1"))?
-        .arg(number(alloc, "nodes", 1, u64::from(MAX_NODES), "1000"))
+        .after_help("Example: tt solve week.ctt week.sol week.proof --nodes 5000")
+        .arg(instance(alloc))?
+        .arg(out(alloc))?
+        .arg(file(
+            alloc,
+            "PROOF",
+            "The proof that is written, after OUT; an older one is replaced",
+        ))?
+        .arg(seed(alloc))?
+        .arg(nodes(alloc))
 }
 
 fn by_option<'a>(alloc: Global) -> Arg<'a> {
@@ -136,20 +203,28 @@ fn by_option<'a>(alloc: Global) -> Arg<'a> {
         .long("by")
         .required(true)
         .action(ArgAction::Set)
+        .value_name("KIND")
         .value_parser(ValueParser::Names(&KINDS))
+        .help("Whose weeks are shown")
 }
 
 fn report_command<'a>(alloc: Global) -> Result<Command<'a>, AllocError> {
     Command::new(alloc, "report")
         .about("Prints the week of each room, teacher or curriculum")
-        .arg(file(alloc, "INSTANCE"))?
-        .arg(file(alloc, "SOLUTION"))?
+        .after_help("Example: tt report week.ctt week.sol --by teacher")
+        .arg(instance(alloc))?
+        .arg(solution(alloc))?
         .arg(by_option(alloc))
 }
 
 fn command<'a>(alloc: Global) -> Result<Command<'a>, AllocError> {
     Command::new(alloc, "tt")
         .about("Course timetables with proved bounds")
+        .version(VERSION)
+        .after_help(
+            "Without a command: checks an instance, a solution and a proof that are built in.",
+        )
+        .bin_name("tt")?
         .no_binary_name(true)
         .subcommand_required(true)
         .subcommand(validate_command(alloc)?)?

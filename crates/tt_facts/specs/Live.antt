@@ -13,7 +13,7 @@ use Rattle.tt_facts.specs.declared.facts.Pattern.{Pattern}
 use Rattle.tt_facts.specs.declared.facts.Fact.{Fact}
 use Rattle.tt_facts.specs.Facts.{matches}
 
--- two different cells with one day and period, and also one room, one course or conflicting courses
+-- two different cells in one period of the week that share the room or the course, or whose courses conflict
 abbrev pub clash : Problem → Cell → Cell → Bool
 clash p a b =
     not (same_cell a b) && (a.day == b.day) && (a.period == b.period)

@@ -1,4 +1,4 @@
--- No entry of a feasible timetable that fits the path is a dead cell.
+-- Where a feasible timetable fits the path, each of its entries is a live cell.
 use Rattle.std.proofs.Common.{◌≡◌, ℕ, true, not, ◌&&◌, ◌||◌, List, length, Option, Some, None, sym, ◌∙◌, inl, inr, eqb-true, eq-eqb}
 use Rattle.std.specs.Prelude.{Contains, ◌==◌}
 use Rattle.std.specs.List.{list_any}
