@@ -30,7 +30,7 @@ use Rattle.tt_branch.specs.Links.{path_at, AreLinks, link_of, divided_links}
 use Rattle.tt_branch.specs.State.{IsSplitAt, MakesWait, EndsAt}
 use Rattle.tt_branch.specs.Written.{IsReached}
 use Rattle.tt_branch.proofs.Chains.{links_more}
-use Rattle.tt_branch.proofs.Growing.{zip_cut, zip_other, cut_at, set_cut, get_next}
+use Rattle.tt_branch.proofs.Growing.{zip_cut, zip_other, cut_at, set_cut, get_next, get_after}
 use Rattle.tt_branch.proofs.Searching.{IsBetter, grow_better, grow_mark, grow_split}
 use Rattle.tt_branch.proofs.Ending.{shallow}
 
@@ -155,6 +155,19 @@ waits_split place g old new s =
           );
       many = omega (arith, ap length s.entries, ap length s.old_entries, length-append s.before (s.divided ∷ s.first ∷ s.second ∷ s.after), length-append s.before (s.was ∷ s.after));
       best = s.best;
+    }
+
+-- the second child waits too
+pub waits_second : (place : ℕ) (g : Pattern) (old new : Search) → IsSplitAt place g old new → MakesWait place old (place + 2) new
+waits_second place g old new s =
+    let first = waits_split place g old new s in
+    record {
+      under_way = first.under_way;
+      waiting =
+          (s.second, ap (λ (l : List Entry). slice_get l (place + 2)) s.entries ∙ ap (slice_get (s.before ++ s.divided ∷ s.first ∷ s.second ∷ s.after)) (omega (arith, s.place_is)) ∙ get_after s.before s.divided s.first s.second s.after, s.division.second);
+      opened = first.opened;
+      many = first.many;
+      best = first.best;
     }
 
 pub waits_same : (place : ℕ) (old : Search) → HasMark old.entries.items place Waiting → MakesWait place old place old

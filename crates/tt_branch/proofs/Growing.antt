@@ -150,3 +150,7 @@ get_cut (b ∷ before) x after = get_cut before x after
 pub get_next : {X : Type 0} (before : List X) (x y : X) (after : List X) → slice_get (before ++ x ∷ y ∷ after) (suc (length before)) ≡ Some y
 get_next [] x y after = refl
 get_next (b ∷ before) x y after = get_next before x y after
+
+pub get_after : {X : Type 0} (before : List X) (x y z : X) (after : List X) → slice_get (before ++ x ∷ y ∷ z ∷ after) (suc (suc (length before))) ≡ Some z
+get_after [] x y z after = refl
+get_after (b ∷ before) x y z after = get_after before x y z after

@@ -33,7 +33,7 @@ pub record IsSplitAt (place : ℕ) (g : Pattern) (old new : Search) : Type 0 whe
   pub links : new.links.items ≡ divided_links old.links.items was.link g
   pub best : new.best ≡ old.best
 
--- the open node at the place waits, or it was split and its first child waits; nothing else is new
+-- the open node at the place waits, or it was split and the child at the next place waits; nothing else is new
 pub record MakesWait (place : ℕ) (old : Search) (next : ℕ) (new : Search) : Type 0 where
   pub under_way : (p : Problem) → IsUnderWay p old → IsUnderWay p new
   pub waiting : HasMark new.entries.items next Waiting

@@ -21,13 +21,16 @@ use tt_table::Timetable;
 /// The most steps of the descent that a search begins with.
 const FIRST_STEPS: u64 = 10_000;
 
-/// The steps of a turn of the improvement behind it, about a quarter of a second on an instance of real size.
-const TURN_STEPS: u64 = 15_000;
+/// The steps of a turn of the improvement behind it, at least and at most, and for each entry in each cell of a room:
+/// one or two seconds on an instance of real size.
+const LEAST_STEPS: u64 = 2_000;
 
-/// The turns of the improvement at least, and how many nodes of the limit bring one more.
-const LEAST_TURNS: u32 = 4;
+const MOST_STEPS: u64 = 100_000;
 
-const NODES_OF_A_TURN: u32 = 1024;
+const STEPS_OF_A_CELL: u64 = 4;
+
+/// How many nodes of the limit bring one more turn.
+const NODES_OF_A_TURN: u32 = 8_192;
 
 /// A timetable that breaks no hard rule.
 #[derive(Drop)]
@@ -57,7 +60,17 @@ fn if_feasible(instance: &Instance<'_>, table: Timetable) -> Option<Best>
 
 /// How many turns the improvement has at most, by the limit of nodes.
 pub fn turns_for(nodes: u32) -> u32 {
-    (nodes / NODES_OF_A_TURN).max(LEAST_TURNS)
+    (nodes / NODES_OF_A_TURN).saturating_add(1)
+}
+
+/// The steps of a turn.
+fn turn_steps(instance: &Instance<'_>, table: &Timetable) -> u64 {
+    let periods = u64::from(instance.days()).saturating_mul(u64::from(instance.periods()));
+    let cells = periods.saturating_mul(u64::from(instance.rooms()));
+    (table.len() as u64)
+        .saturating_mul(cells)
+        .saturating_mul(STEPS_OF_A_CELL)
+        .clamp(LEAST_STEPS, MOST_STEPS)
 }
 
 /// Whether a timetable breaks no hard rule and costs no more than a goal.
@@ -80,13 +93,14 @@ fn improve_to(
     requires { IsTimetable instance.now table }
     ensures { IfOk result (IsNoWorse instance.now table) }
 {
+    let steps = turn_steps(instance, &table);
     let mut table = table;
     for turn in 0..turns {
         if reaches(instance, &table, goal) {
             break;
         }
         let turn_seed = seed.wrapping_add(u64::from(turn));
-        table = improve(alloc, instance, table, turn_seed, TURN_STEPS)?;
+        table = improve(alloc, instance, table, turn_seed, steps)?;
     }
     Ok(table)
 }

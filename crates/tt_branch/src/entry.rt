@@ -28,6 +28,11 @@ pub struct Rises {
 
 impl Rises {
     pub const NONE: Rises = Rises { yes: 0, no: 0 };
+
+    /// Whether the second child is thought to be worth less than the first.
+    pub fn are_falling(self) -> bool {
+        self.no < self.yes
+    }
 }
 
 /// A node.

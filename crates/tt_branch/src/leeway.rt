@@ -121,17 +121,21 @@ impl Freedom {
         self.of(course) == 0
     }
 
-    /// How free the courses with an open period are in the mean, in 256ths; nothing where there is none.
+    /// How free courses are in the mean, in 256ths, where one without an open period is not free at all; nothing
+    /// where none has one.
     pub fn mean(&self, courses: &[u32]) -> Option<u64> {
         let mut total: u64 = 0;
-        let mut count: u64 = 0;
+        let mut any = false;
         for course in courses {
             let ways = self.of(*course);
             if ways < DONE {
                 total = total.saturating_add(u64::from(ways));
-                count = count.saturating_add(1);
+                any = true;
             }
         }
-        total.saturating_mul(256).checked_div(count)
+        if !any {
+            return None;
+        }
+        total.saturating_mul(256).checked_div(courses.len() as u64)
     }
 }

@@ -22,21 +22,23 @@ fn pattern_of(entry: &Entry) -> Option<Pattern>
     }
 }
 
-/// Splits a node that was opened; where the node is that is opened next.
+/// Splits a node that was opened; where the node is that is opened next, of two children the one that is thought to
+/// be worth less.
 fn make_wait(search: &mut Search, place: usize) -> Result<usize, AllocError>
     requires { IsOpenAt search.old.entries.items place }
     ensures made { IfOk result (λ next. MakesWait place search.old next search.new) }
 {
     match pattern_of(&search.entries[place]) {
         Some(pattern) => {
+            let second_first = search.entries[place].rises.are_falling();
             split(search, place, pattern)?;
-            Ok(place + 1)
+            Ok(if second_first { place + 2 } else { place + 1 })
         }
         None => Ok(place),
     }
 }
 
-/// Opens a node: an open one that waits, or the first child of one that is split for it.
+/// Opens a node: an open one that waits, or a child of one that is split for it.
 fn open_next<'i, P: Path<'i>>(
     alloc: Global,
     path: &mut P,

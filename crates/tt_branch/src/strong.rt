@@ -18,8 +18,8 @@ const CLOSED: u64 = 64 * POINT;
 const ISOLATED: u64 = 2;
 
 /// What a pinned period is worth that may still be left alone, by how many live members are beside it, in
-/// parts: 0.03 points, and 0.4 as much for each of them.
-const NEARLY_ALONE: [u64; 8] = [369, 147, 59, 24, 9, 4, 2, 1];
+/// parts: a hundredth of a point, and 0.4 as much for each of them.
+const NEARLY_ALONE: [u64; 6] = [123, 49, 20, 8, 3, 1];
 
 /// What a child gains on its parent.
 #[derive(Clone, Copy)]

@@ -2,11 +2,14 @@ use Rattle.std.proofs.Common.{refl, sym, ap, ◌∙◌}
 use Rattle.tt_branch.specs.declared.entry.Entry.{Entry}
 use Rattle.tt_branch.specs.Growing.{is_open}
 use Rattle.tt_branch.proofs.Dividing.{get_is}
-use Rattle.tt_branch.proofs.Advancing.{waits_split, waits_same}
+use Rattle.tt_branch.proofs.Advancing.{waits_split, waits_second, waits_same}
 use Rattle.tt_branch.proofs.rounds.make_wait.Goals as goal
 
-pub returns-in_ok-split-in-Some : goal.returns-in_ok-split-in-Some
-returns-in_ok-split-in-Some c = record { made = waits_split c.args.place c.in-Some.pattern c.args.search.now c.split.new.search c.in_ok-split-in-Some.ensures }
+pub returns-then-second_first : goal.returns-then-second_first
+returns-then-second_first c = record { made = waits_second c.args.place c.in-Some.pattern c.args.search.now c.split.new.search c.in_ok-split-in-Some.ensures }
+
+pub returns-else-second_first : goal.returns-else-second_first
+returns-else-second_first c = record { made = waits_split c.args.place c.in-Some.pattern c.args.search.now c.split.new.search c.in_ok-split-in-Some.ensures }
 
 pub returns-in-None : goal.returns-in-None
 returns-in-None c =
