@@ -62,6 +62,29 @@ fn is_pinned_in<'i, P: Path<'i>>(path: &P, course: u32, room: u32) -> bool {
     course < instance.courses() && room < instance.rooms() && path.pinned_room(course, room)
 }
 
+/// The sets that tell of a course on a day, in a period and in the block of a room.
+fn words_told<'i, P: Path<'i>>(path: &P, cell: Cell) -> u64 {
+    let instance = path.instance();
+    if cell.course >= instance.courses()
+        || cell.room >= instance.rooms()
+        || cell.day >= instance.days()
+        || cell.period >= instance.periods()
+    {
+        return 0;
+    }
+    let block = cell.room / 64;
+    let mut told = path.live_periods(cell.course, cell.day);
+    told = mixed(
+        told,
+        path.live_rooms(cell.course, cell.day, cell.period, block),
+    );
+    told = mixed(
+        told,
+        path.pinned_periods(Who::Course(cell.course), cell.day),
+    );
+    mixed(told, path.pinned_rooms(cell.course, block))
+}
+
 /// The newest fact.
 fn newest<'i, P: Path<'i>>(path: &P) -> Option<Fact> {
     let depth = path.depth();
@@ -79,6 +102,7 @@ fn cell_told<'i, P: Path<'i>>(path: &P, cell: Cell) -> u64 {
         Some(students) => students.wrapping_add(1),
     };
     let mut told = mixed(excess, u64::from(live));
+    told = mixed(told, words_told(path, cell));
     told = mixed(told, u64::from(is_dead(path, cell)));
     told = mixed(told, u64::from(is_live_on(path, cell.course, cell.day)));
     told = mixed(
