@@ -15,7 +15,7 @@ from pathlib import Path
 HERE = Path(__file__).resolve().parent
 PROGRAM = HERE.parent / "crates" / "tt" / "out" / "tt"
 EXAMPLES = HERE.parent / "examples"
-LIMITS = [1, 1_000, 10_000, 65_536]
+LIMITS = [1, 10, 100, 1_000, 10_000, 65_536]
 
 
 def timed(*words):

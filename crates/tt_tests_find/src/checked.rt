@@ -1,0 +1,148 @@
+//! Leaves found and judged on paths whose facts are the instance's.
+
+ghost use Rattle.std.specs.Prelude.{◌≡◌, ◌<◌, length, true};
+ghost use Rattle.tt_facts.specs.Facts.{IsPattern, IsGiven, IsWho};
+ghost use Rattle.tt_find.specs.Found.{ArePatterns};
+ghost use Rattle.tt_leaf.specs.Ranges.{IsLeafOf};
+
+use std::alloc::{AllocError, Global};
+use tt_facts::{Fact, Path, Pattern, Who};
+use tt_find::{best_claims, find_leaf};
+use tt_instance::Instance;
+use tt_leaf::{Bound, CourseList, Leaf, holds};
+
+fn is_given(given: Option<u32>, count: u32) -> bool
+    ensures { result ≡ true → IsGiven count given }
+{
+    match given {
+        None => true,
+        Some(number) => number < count,
+    }
+}
+
+fn is_there(instance: &Instance<'_>, who: Who) -> bool
+    ensures { result ≡ true → IsWho instance.now who }
+{
+    match who {
+        Who::Course(course) => course < instance.courses(),
+        Who::Curriculum(curriculum) => curriculum < instance.curricula(),
+    }
+}
+
+/// Whether the numbers of a pattern are the instance's.
+fn is_pattern(instance: &Instance<'_>, pattern: Pattern) -> bool
+    ensures { result ≡ true → IsPattern instance.now pattern }
+{
+    is_there(instance, pattern.who)
+        && is_given(pattern.room, instance.rooms())
+        && is_given(pattern.day, instance.days())
+        && is_given(pattern.period, instance.periods())
+}
+
+/// Adds a fact, if its numbers are the instance's; whether it was added.
+pub fn push<'i, P: Path<'i>>(path: &mut P, fact: Fact) -> bool
+    requires { ArePatterns (P.problem path.old) (P.facts path.old) }
+    ensures patterns { ArePatterns (P.problem path.new) (P.facts path.new) }
+    ensures same { P.problem path.new ≡ P.problem path.old }
+{
+    if !is_pattern(path.instance(), fact.pattern) {
+        return false;
+    }
+    match path.push(fact) {
+        Ok(()) => true,
+        Err(_) => false,
+    }
+}
+
+/// Whether a found leaf is right by the judge.
+fn is_right<'i, P: Path<'i>>(path: &P, leaf: &Leaf, bound: Bound) -> bool
+    requires { IsLeafOf (P.problem path.now) leaf.now }
+{
+    holds(path, leaf, bound).is_ok()
+}
+
+/// What was found on a path.
+#[derive(Clone, Copy, Debug, PartialEq, Eq)]
+pub enum Found {
+    Nothing,
+    Right,
+    Wrong,
+}
+
+/// Looks for a leaf on a path, and judges it on another one of the same facts.
+pub fn find<'i, P: Path<'i>, Q: Path<'i>>(
+    alloc: Global,
+    path: &P,
+    judge: &Q,
+    bound: Bound,
+) -> Result<Found, AllocError>
+    requires patterns { ArePatterns (P.problem path.now) (P.facts path.now) }
+    requires same { Q.problem judge.now ≡ P.problem path.now }
+{
+    match find_leaf(alloc, path, bound)? {
+        None => Ok(Found::Nothing),
+        Some(leaf) => {
+            if is_right(judge, &leaf, bound) {
+                Ok(Found::Right)
+            } else {
+                Ok(Found::Wrong)
+            }
+        }
+    }
+}
+
+fn is_clique<'i, P: Path<'i>>(
+    alloc: Global,
+    path: &P,
+    course: u32,
+    bound: Bound,
+) -> Result<bool, AllocError>
+    requires { course < length (P.problem path.now).courses }
+{
+    let mut courses = Vec::new(alloc);
+    courses.push(course)?;
+    Ok(is_right(path, &Leaf::Clique(CourseList::new(courses)), bound))
+}
+
+fn is_closed_by_course<'i, P: Path<'i>>(
+    alloc: Global,
+    path: &P,
+    course: u32,
+    bound: Bound,
+) -> Result<bool, AllocError>
+    requires { course < length (P.problem path.now).courses }
+{
+    Ok(is_right(path, &Leaf::Many(course), bound) || is_clique(alloc, path, course, bound)?)
+}
+
+/// Whether a Many, a Clique of one course or the leaf of the best claims is right by the judge.
+pub fn is_closed<'i, P: Path<'i>>(
+    alloc: Global,
+    path: &P,
+    bound: Bound,
+) -> Result<bool, AllocError> {
+    for course in 0..path.instance().courses() {
+        if is_closed_by_course(alloc, path, course, bound)? {
+            return Ok(true);
+        }
+    }
+    let best = best_claims(alloc, path)?;
+    Ok(is_right(path, &best, bound))
+}
+
+/// A leaf that is found behind some facts, each of which has to be the instance's.
+pub fn leaf_after<'i, P: Path<'i>>(
+    alloc: Global,
+    path: &mut P,
+    facts: &[Fact],
+    bound: Bound,
+) -> Result<Option<Leaf>, AllocError>
+    requires { ArePatterns (P.problem path.old) (P.facts path.old) }
+{
+    for fact in facts {
+        if !push(path, *fact) {
+            return Err(AllocError);
+        }
+    }
+    find_leaf(alloc, path, bound)
+}
