@@ -56,24 +56,44 @@ fn write_whole<F: Write + Drop>(mut file: F, bytes: &[u8]) -> Result<(), AppFaul
     }
 }
 
-/// Puts a file in the place of another.
-fn put<R: Files>(rt: &R, from: &str, to: &str) -> Result<(), AppFault> {
-    match fs::rename(rt, from, to) {
-        Ok(()) => Ok(()),
-        Err(_) => Err(AppFault::CannotWrite),
-    }
+/// A file that is written whole, beside the place where it is to stand.
+#[derive(Drop)]
+pub struct Beside<'p> {
+    path: String,
+    place: &'p str,
 }
 
-/// Writes a file beside its place, and puts it there by a rename: after a refusal an older file stands as it was.
-pub fn write_file<R: Files + AllocGlobal>(
-    rt: &R,
-    path: &str,
-    bytes: &[u8],
-) -> Result<(), AppFault> {
-    let (beside, file) = create_beside(rt, path)?;
-    let written = write_whole(file, bytes).and_then(|()| put(rt, &beside, path));
-    if written.is_err() {
-        let _ = fs::remove_file(rt, &beside);
+impl<'p> Beside<'p> {
+    /// Writes a file beside its place; after a refusal there is none.
+    pub fn write<R: Files + AllocGlobal>(
+        rt: &R,
+        place: &'p str,
+        bytes: &[u8],
+    ) -> Result<Beside<'p>, AppFault> {
+        let (path, file) = create_beside(rt, place)?;
+        let beside = Beside { path, place };
+        match write_whole(file, bytes) {
+            Ok(()) => Ok(beside),
+            Err(fault) => {
+                beside.remove(rt);
+                Err(fault)
+            }
+        }
     }
-    written
+
+    /// Puts the file in its place by a rename. After a refusal it is gone, and an older file stands as it was.
+    pub fn put<R: Files>(self, rt: &R) -> Result<(), AppFault> {
+        match fs::rename(rt, &self.path, self.place) {
+            Ok(()) => Ok(()),
+            Err(_) => {
+                self.remove(rt);
+                Err(AppFault::CannotWrite)
+            }
+        }
+    }
+
+    /// Takes the file away.
+    pub fn remove<R: Files>(&self, rt: &R) {
+        let _ = fs::remove_file(rt, &self.path);
+    }
 }

@@ -3,7 +3,7 @@
 use crate::answer::Answer;
 use crate::bounding::bound;
 use crate::checking::check;
-use crate::disk::{read_file, write_file};
+use crate::disk::{Beside, read_file};
 use crate::fault::{AppFault, Input};
 use crate::improving::improve;
 use crate::reporting::report;
@@ -91,7 +91,7 @@ pub fn answer_upgrade<R: Files + AllocGlobal>(
     Ok(answer)
 }
 
-/// The answer, once the best timetable and then the proof are written to their files.
+/// The answer, once the best timetable and then the proof stand in their places; neither does before both are written.
 pub fn answer_solve<R: Files + AllocGlobal>(
     rt: &R,
     instance: &str,
@@ -102,21 +102,64 @@ pub fn answer_solve<R: Files + AllocGlobal>(
     let instance = read_file(rt, instance, Input::Instance)?;
     let nodes = tree.nodes.clamp(1, MAX_NODES);
     let answer = solve(rt.alloc(), &instance, tree.seed, nodes)?;
-    write_given(rt, out, &answer.table)?;
-    write_given(rt, proof, &answer.proof)?;
+    let table = write_beside(rt, out, &answer.table)?;
+    match write_beside(rt, proof, &answer.proof) {
+        Ok(proof) => put_both(rt, table, proof)?,
+        Err(fault) => {
+            remove_given(rt, &table);
+            return Err(fault);
+        }
+    }
     Ok(answer)
+}
+
+/// Writes a file beside its place, where there is one to write.
+fn write_beside<'p, R: Files + AllocGlobal>(
+    rt: &R,
+    place: &'p str,
+    bytes: &Option<Vec<u8>>,
+) -> Result<Option<Beside<'p>>, AppFault> {
+    match bytes {
+        Some(bytes) => Ok(Some(Beside::write(rt, place, bytes)?)),
+        None => Ok(None),
+    }
+}
+
+/// Puts a file in its place, where there is one.
+fn put_given<R: Files>(rt: &R, file: Option<Beside<'_>>) -> Result<(), AppFault> {
+    match file {
+        Some(file) => file.put(rt),
+        None => Ok(()),
+    }
+}
+
+/// Takes a file away that isn't in its place yet, where there is one.
+fn remove_given<R: Files>(rt: &R, file: &Option<Beside<'_>>) {
+    if let Some(file) = file {
+        file.remove(rt);
+    }
+}
+
+/// Puts two files in their places. Where the first can't be put there, the second isn't.
+fn put_both<R: Files>(
+    rt: &R,
+    first: Option<Beside<'_>>,
+    second: Option<Beside<'_>>,
+) -> Result<(), AppFault> {
+    if let Err(fault) = put_given(rt, first) {
+        remove_given(rt, &second);
+        return Err(fault);
+    }
+    put_given(rt, second)
 }
 
 /// Writes a file, where there is one to write.
 fn write_given<R: Files + AllocGlobal>(
     rt: &R,
-    path: &str,
+    place: &str,
     bytes: &Option<Vec<u8>>,
 ) -> Result<(), AppFault> {
-    match bytes {
-        Some(bytes) => write_file(rt, path, bytes),
-        None => Ok(()),
-    }
+    put_given(rt, write_beside(rt, place, bytes)?)
 }
 
 /// Writes a report, and gives the status.
