@@ -1,0 +1,174 @@
+"""Cut files, numbers at their limits, and files that aren't there or are something else, through the program."""
+
+import re
+import subprocess
+from dataclasses import dataclass
+
+from program import PROGRAM
+from refusing import READ_ERROR, Refusal
+from samples import APART, CROWDED, GAP, GAP_PROOF, MINI, NEXT_TO_EACH_OTHER
+
+SPACES = b" " * 65_536
+SPLIT = b"S c0 * d0 p0\n"
+LEAF = b"B ;\n"
+
+
+@dataclass
+class Desk:
+    """A folder, and the program run in it."""
+
+    folder: object
+    refuser: object
+
+    def put(self, **texts):
+        for name, text in texts.items():
+            (self.folder / name).write_bytes(text)
+
+    def told(self, words, given=b""):
+        """The status and the two outputs of a run."""
+        done = subprocess.run([PROGRAM, *words.split()], cwd=self.folder, input=given, capture_output=True, timeout=600)
+        return done.returncode, done.stdout, done.stderr
+
+    def told_of_proof(self, instance, proof):
+        self.put(instance=instance, proof=proof)
+        return self.told("bound instance proof")
+
+    def told_of_stream(self, words, pieces):
+        """The same, where the standard input is a pipe that gives the pieces until it is closed."""
+        program = subprocess.Popen([PROGRAM, *words.split()], cwd=self.folder, stdin=subprocess.PIPE, stdout=subprocess.PIPE, stderr=subprocess.PIPE)
+        try:
+            for piece in pieces:
+                program.stdin.write(piece)
+            program.stdin.close()
+        except BrokenPipeError:
+            program.stdin = None
+        out, err = program.communicate(timeout=600)
+        return program.returncode, out, err
+
+
+def refused(why):
+    return 2, b"", b"refused: " + why + b"\n"
+
+
+def same(told, wanted):
+    assert told == wanted, f"{told}, and not {wanted}"
+
+
+def at_byte(told, what, most):
+    """A refusal of a text, at one of its first bytes or at its end."""
+    found = re.fullmatch(rb"refused: " + what + rb": [A-Za-z]+( [A-Za-z_]+[:.]| CTTP| 1| bound| end)? at byte (\d+)\n", told[2])
+    assert told[:2] == (2, b"") and found and int(found[2]) <= most, f"{told}"
+
+
+def cut_instances(desk):
+    for count in range(len(MINI) + 1):
+        desk.put(instance=MINI[:count], solution=NEXT_TO_EACH_OTHER)
+        told = desk.told("validate instance solution")
+        if count < 187:
+            at_byte(told, b"instance", count)
+        else:
+            assert told[0] == 0 and told[1].endswith(b"cost 1\n"), f"{told}"
+
+
+def cut_proofs(desk):
+    for count in range(len(GAP_PROOF) + 1):
+        desk.put(instance=GAP, solution=APART, proof=GAP_PROOF[:count])
+        told = desk.told("check instance solution proof")
+        if count < 123:
+            at_byte(told, b"proof", count)
+        else:
+            same(told, (0, b"yes cost 5 bound 5 optimal\n", b""))
+
+
+def failed_reads_of_a_proof(desk):
+    """One byte a read: 124 reads give a byte, and one finds the end."""
+    desk.put(instance=GAP, solution=APART, proof=GAP_PROOF)
+    words = [PROGRAM, "check", "instance", "solution", "proof"]
+    calls = desk.refuser.run(words, Refusal(narrow=1), desk.folder).counted.calls
+    told = [desk.refuser.run(words, Refusal(narrow=1, call=it + 1, fault=READ_ERROR), desk.folder).told() for it in range(calls)]
+    assert told.count(refused(b"proof: Read")) == 125, f"{told.count(refused(b'proof: Read'))} reads"
+
+
+def endless_spaces(desk):
+    def spaces():
+        while True:
+            yield SPACES
+
+    desk.put(instance=MINI, solution=APART)
+    same(desk.told_of_stream("validate /dev/stdin solution", spaces()), refused(b"instance: too long"))
+    same(desk.told_of_stream("validate instance /dev/stdin", spaces()), refused(b"solution: too long"))
+    same(desk.told_of_stream("bound instance /dev/stdin", spaces()), refused(b"proof: TooManyBytes"))
+
+
+def nested_splits(desk):
+    for splits, wanted in [(65_536, (0, b"bound 0\n", b"")), (65_537, refused(b"proof: TooDeep at node 65537"))]:
+        proof = b"CTTP 1 bound 0\n" + SPLIT * splits + LEAF * (splits + 1) + b"end\n"
+        same(desk.told_of_proof(MINI, proof), wanted)
+
+
+def bounds_and_prices(desk):
+    for proof, wanted in [
+        (b"CTTP 1 bound 1000000000000 B ; end", refused(b"proof: TooCheap at node 0")),
+        (b"CTTP 1 bound 1000000000001 B ; end", refused(b"proof: NotANumber at byte 13")),
+        (b"CTTP 1 bound " + b"9" * 23 + b" B ; end", refused(b"proof: NotANumber at byte 13")),
+        (b"CTTP 1 bound " + b"0" * 31 + b"1 B C c1 1 ; end", (0, b"bound 1\n", b"")),
+        (b"CTTP 1 bound " + b"0" * 32 + b"1 B C c1 1 ; end", refused(b"proof: TokenTooLong at byte 13")),
+        (b"CTTP 1 bound 0 B C c1 1000000 ; end", (0, b"bound 0\n", b"")),
+        (b"CTTP 1 bound 0 B C c1 1000001 ; end", refused(b"proof: NotANumber at byte 22")),
+    ]:
+        same(desk.told_of_proof(MINI, proof), wanted)
+
+
+def many_dear_lectures(desk):
+    same(desk.told_of_proof(CROWDED, b"CTTP 1 bound 4096000000 B C c0 1000000 ; end"), (0, b"bound 4096000000\n", b""))
+    same(desk.told_of_proof(CROWDED, b"CTTP 1 bound 4096000001 B C c0 1000000 ; end"), refused(b"proof: TooCheap at node 0"))
+
+
+def missing_files(desk):
+    desk.put(instance=GAP, solution=APART, proof=GAP_PROOF)
+    for words, what in [
+        ("validate none solution", b"instance"),
+        ("validate instance none", b"solution"),
+        ("check instance none proof", b"solution"),
+        ("check instance solution none", b"proof"),
+        ("bound instance none", b"proof"),
+        ("upgrade instance none out", b"proof"),
+        ("improve instance none out", b"solution"),
+        ("solve none out proof", b"instance"),
+        ("report instance none --by room", b"solution"),
+    ]:
+        same(desk.told(words), refused(what + b": cannot read"))
+    assert not (desk.folder / "out").exists()
+
+
+def folders_in_the_place_of_files(desk):
+    desk.put(instance=GAP, solution=APART, proof=GAP_PROOF)
+    (desk.folder / "folder").mkdir()
+    before = {it.name for it in desk.folder.iterdir()}
+    same(desk.told("validate folder solution"), refused(b"instance: cannot read"))
+    same(desk.told("bound instance folder"), refused(b"proof: Read"))
+    for words in ["upgrade instance proof folder", "improve instance solution folder", "solve instance folder other"]:
+        same(desk.told(words), refused(b"cannot write"))
+        assert {it.name for it in desk.folder.iterdir()} == before, f"{words} leaves something"
+
+
+def a_closed_output(desk):
+    desk.put(instance=GAP, solution=APART, proof=GAP_PROOF)
+    for words in ["", "--help", "check instance solution proof", "report instance solution --by room"]:
+        with open("/dev/full", "wb") as full:
+            done = subprocess.run([PROGRAM, *words.split()], cwd=desk.folder, stdout=full, stderr=subprocess.PIPE, timeout=60)
+        same((done.returncode, done.stderr), (2, b"refused: cannot write\n"))
+
+
+ROWS = [
+    ("Mini cut to each length", cut_instances),
+    ("the proof of Gap cut to each length", cut_proofs),
+    ("each read of a proof fails", failed_reads_of_a_proof),
+    ("spaces without end", endless_spaces),
+    ("65,536 nested splits, and one more", nested_splits),
+    ("bounds and prices at their limits and above", bounds_and_prices),
+    ("4,096 lectures at the greatest price", many_dear_lectures),
+    ("files that aren't there", missing_files),
+    ("folders in the place of files", folders_in_the_place_of_files),
+    ("an output that takes nothing", a_closed_output),
+]

@@ -1,0 +1,162 @@
+"""The commands of the program, each growth and each call to the system refused in turn."""
+
+import re
+from collections import Counter
+from dataclasses import dataclass, field
+
+from refusing import ENDS_THERE, INTERRUPTED, TAKES_NOTHING, NOTHING, READ_ERROR, ROOT, STOPPED, Refusal
+from samples import APART, GAP, GAP_PROOF, GAP_UPGRADED, MINI, MINI_COUNTS, NEXT_TO_EACH_OTHER, SAME
+
+PROGRAM = ROOT / "crates" / "tt" / "out" / "tt"
+OLDER = b"an older file\n"
+# How a call fails, and whether the later ones fail too. What goes on being interrupted goes on being tried.
+FAILURES = [(READ_ERROR, 0), (READ_ERROR, 1), (INTERRUPTED, 0), (TAKES_NOTHING, 0), (ENDS_THERE, 0)]
+OUT_OF_MEMORY = (2, b"", b"refused: out of memory\n")
+CANNOT = re.compile(rb"refused: ((instance|solution|proof): cannot read|proof: Read|cannot write)\n")
+
+
+@dataclass
+class Command:
+    """A command line with the files that it reads, what it answers, and the files that it writes."""
+
+    words: str
+    status: int = 0
+    out: bytes | None = None  # None: some text
+    err: bytes | None = b""
+    written: dict = field(default_factory=dict)  # None: some text
+
+    def name(self):
+        return f"tt {self.words}".strip()
+
+
+FILES = {
+    "mini": MINI,
+    "gap": GAP,
+    "same": SAME,
+    "mini.sol": NEXT_TO_EACH_OTHER,
+    "gap.sol": APART,
+    "gap.proof": GAP_PROOF,
+    "bad": b"bad",
+}
+SOLVE_GAP = {"out": None, "out.proof": None}
+COMMANDS = [
+    Command("", out=b"yes cost 5 bound 5 optimal\n"),
+    Command("validate mini gap.sol", out=MINI_COUNTS),
+    Command("check gap gap.sol gap.proof", out=b"yes cost 5 bound 5 optimal\n"),
+    Command("check mini bad gap.proof", 2, b"", b"refused: solution: UnknownCourse at byte 0\n"),
+    Command("bound gap gap.proof", out=b"bound 5\n"),
+    Command("improve mini gap.sol out --seed 1 --steps 100", out=b"hard 0 cost 1\n", written={"out": None}),
+    Command("upgrade gap gap.proof out.proof", out=b"bound 5\n", written={"out.proof": GAP_UPGRADED}),
+    Command("solve gap out out.proof --nodes 100", out=b"cost 5 bound 5 finished\n", written=SOLVE_GAP),
+    Command("solve gap out out.proof --nodes 1", out=b"cost 5 bound 1 unfinished\n", written=SOLVE_GAP),
+    Command("solve same out out.proof", 1, b"cost none bound none finished\n", written={"out": OLDER, "out.proof": None}),
+    Command("report mini mini.sol --by room", out=b"room R\n0 0 a\n0 1 b\n0 2\n"),
+    Command("report mini mini.sol --by teacher", out=b"teacher t1\n0 0 a R\n0 1\n0 2\nteacher t2\n0 0\n0 1 b R\n0 2\n"),
+    Command("report mini mini.sol --by curriculum", out=b"curriculum q\n0 0 a R\n0 1 b R\n0 2\n"),
+    Command("--help"),
+    Command("solve --help"),
+    Command("grade", 2, b"", None),
+    Command("validate mini", 2, b"", None),
+    Command("report mini mini.sol --by day", 2, b"", None),
+    Command("solve gap out out.proof --nodes 65537", 2, b"", None),
+    Command("improve mini gap.sol out --steps x", 2, b"", None),
+]
+WRITTEN = ["out", "out.proof"]
+
+
+class Shelf:
+    """A folder with the files of the commands, and with older files where they write."""
+
+    def __init__(self, folder):
+        self.folder = folder
+        self.files = {**FILES, **{it: OLDER for it in WRITTEN}}
+
+    def fill(self):
+        for path in self.folder.iterdir():
+            if path.name not in self.files or path.name in WRITTEN:
+                path.unlink()
+        for name, text in self.files.items():
+            path = self.folder / name
+            if name in WRITTEN or not path.exists():
+                path.write_bytes(text)
+
+    def texts(self):
+        return {it.name: it.read_bytes() for it in self.folder.iterdir()}
+
+
+class Runs:
+    """Runs of one command on a shelf."""
+
+    def __init__(self, refuser, shelf, command):
+        self.refuser, self.shelf, self.command = refuser, shelf, command
+        self.own, self.own_files = self.run(NOTHING)
+        self.judge_own()
+
+    def run(self, refusal):
+        self.shelf.fill()
+        words = [PROGRAM, *self.command.words.split()]
+        return self.refuser.run(words, refusal, self.shelf.folder), self.shelf.texts()
+
+    def judge_own(self):
+        """Without a refusal the command gives its own answer."""
+        command, own = self.command, self.own
+        assert own.status == command.status, f"answers {own.told()}"
+        assert command.out is None or own.out == command.out, f"answers {own.told()}"
+        assert command.err is None or own.err == command.err, f"answers {own.told()}"
+        assert own.out or own.err
+        wanted = {**self.shelf.files, **command.written}
+        assert wanted.keys() == self.own_files.keys(), f"leaves {sorted(self.own_files)}"
+        for name, text in wanted.items():
+            assert self.own_files[name] == text or (text is None and self.own_files[name] != OLDER), f"writes {name}"
+
+    def is_own(self, outcome, files):
+        return outcome.told() == self.own.told() and files == self.own_files
+
+    def growths(self):
+        """Refuses the first growth, the second and so on, until none is met; answers how often which answer came."""
+        answers = Counter()
+        while True:
+            growth = answers.total() + 1
+            outcome, files = self.run(Refusal(growth=growth))
+            if not outcome.counted.refused:
+                assert self.is_own(outcome, files)
+                return answers
+            if self.is_own(outcome, files):
+                answers["as without a refusal"] += 1
+                continue
+            assert outcome.told() == OUT_OF_MEMORY, f"growth {growth}: a third answer {outcome.told()}"
+            assert files == self.shelf.files, f"growth {growth}: the files are not as they were"
+            answers["out of memory"] += 1
+
+    def calls(self):
+        """Has each call to the system fail in turn, in each way; answers how many runs that took."""
+        runs = 0
+        for narrow in (0, 1):
+            outcome, files = self.run(Refusal(narrow=narrow))
+            assert self.is_own(outcome, files), f"with {narrow=}: {outcome.told()}"
+            for call in range(1, outcome.counted.calls + 1):
+                for fault, from_there in FAILURES:
+                    refusal = Refusal(call=call, from_there=from_there, fault=fault, narrow=narrow)
+                    self.judge(refusal, *self.run(refusal))
+                    runs += 1
+        return runs
+
+    def judge(self, refusal, outcome, files):
+        """After a failed call the answer is the command's own, or a refusal of the file that failed; each file that it writes is the
+        older one or the new one, whole."""
+        where = f"with {refusal}: {outcome.told()}, files {sorted(files)}"
+        for name, text in self.shelf.files.items():
+            assert name in files, f"{name} is lost {where}"
+            assert files[name] in (text, self.own_files[name]), f"{name} is neither old nor new {where}"
+        if refusal.fault == ENDS_THERE:
+            assert outcome.status in (STOPPED, self.own.status), where
+            return
+        if outcome.status != 2:
+            assert outcome.told()[:2] == self.own.told()[:2], where
+            assert all(files[it] == self.own_files[it] for it in self.shelf.files), f"not written {where}"
+        else:
+            assert self.own.out.startswith(outcome.out), where
+            told = CANNOT.fullmatch(outcome.err) or (self.own.status == 2 and self.own.err.startswith(outcome.err))
+            assert told or (refusal.from_there and not outcome.err), where
+        if not refusal.from_there:
+            assert files.keys() == self.own_files.keys(), f"something is left {where}"

@@ -1,0 +1,163 @@
+// Stands between a program and the C library: counts the growths and the calls to the system, and refuses those that a page of
+// memory names, which refusing.py shares with the program. refusing.py builds it with the toolchain's clang, without headers, and has
+// it loaded before the C library. It is no part of the program.
+
+typedef unsigned long size_t;
+typedef long ssize_t;
+
+extern void *dlsym(void *handle, const char *name);
+extern char *getenv(const char *name);
+extern void *mmap(void *address, size_t length, int protection, int flags, int file, long offset);
+extern int *__errno_location(void);
+extern void _exit(int status);
+
+#define NEXT ((void *)-1L)
+#define READ_AND_WRITE 3
+#define SHARED 1
+#define INPUT_OUTPUT 5
+#define OUT_OF_MEMORY 12
+#define STOPPED 86
+
+// The numbers of the page, in the order of refusing.py.
+struct page {
+  long between_marks; // whether growths count only between the first and the second write to standard output
+  long growth;        // which growth is refused, counted from 1; 0: none
+  long call;          // which call to the system fails, counted from 1; 0: none
+  long from_there;    // whether the later ones fail too
+  long fault;         // its error number; 0: a write takes no byte; -1: the process ends there
+  long narrow;        // whether a read or a write moves one byte at most
+  long growths;       // counted here
+  long calls;
+  long refused;
+  long marks;
+};
+
+static struct page none;
+static struct page *page = &none;
+
+__attribute__((constructor)) static void find_page(void) {
+  const char *digit = getenv("REFUSE_PAGE");
+  if (!digit) return;
+  int file = 0;
+  for (; *digit; digit++) file = 10 * file + (*digit - '0');
+  void *found = mmap(0, sizeof none, READ_AND_WRITE, SHARED, file, 0);
+  if (found != NEXT) page = found;
+}
+
+static int refuses_growth(void) {
+  if (page->between_marks && page->marks != 1) return 0;
+  page->growths++;
+  if (page->growths != page->growth) return 0;
+  page->refused++;
+  *__errno_location() = OUT_OF_MEMORY;
+  return 1;
+}
+
+static int fails(void) {
+  page->calls++;
+  if (!page->call || page->calls < page->call || (page->calls > page->call && !page->from_there)) return 0;
+  page->refused++;
+  if (page->fault < 0) _exit(STOPPED);
+  *__errno_location() = page->fault ? (int)page->fault : INPUT_OUTPUT;
+  return 1;
+}
+
+static size_t part(size_t count) { return page->narrow && count > 1 ? 1 : count; }
+
+#define REAL(type, name) \
+  static type real; \
+  if (!real) real = (type)dlsym(NEXT, name)
+
+typedef void *growing(size_t);
+typedef void *regrowing(void *, size_t);
+typedef ssize_t reading(int, void *, size_t);
+typedef ssize_t writing(int, const void *, size_t);
+typedef int opening(const char *, int, unsigned);
+typedef int opening_at(int, const char *, int, unsigned);
+typedef int renaming(const char *, const char *);
+typedef int renaming_at(int, const char *, int, const char *);
+typedef int removing(const char *);
+typedef int removing_at(int, const char *, int);
+typedef int syncing(int);
+
+void *malloc(size_t count) {
+  REAL(growing *, "malloc");
+  return refuses_growth() ? 0 : real(count);
+}
+
+void *realloc(void *block, size_t count) {
+  REAL(regrowing *, "realloc");
+  return refuses_growth() ? 0 : real(block, count);
+}
+
+ssize_t read(int file, void *bytes, size_t count) {
+  REAL(reading *, "read");
+  if (fails()) return -1;
+  return real(file, bytes, part(count));
+}
+
+static ssize_t counted_write(writing *real, int file, const void *bytes, size_t count) {
+  if (file == 1) page->marks++;
+  if (fails()) return page->fault ? -1 : 0;
+  return real(file, bytes, part(count));
+}
+
+ssize_t write(int file, const void *bytes, size_t count) {
+  REAL(writing *, "write");
+  return counted_write(real, file, bytes, count);
+}
+
+ssize_t __write(int file, const void *bytes, size_t count) {
+  REAL(writing *, "__write");
+  return counted_write(real, file, bytes, count);
+}
+
+int open(const char *path, int how, unsigned mode) {
+  REAL(opening *, "open");
+  return fails() ? -1 : real(path, how, mode);
+}
+
+int open64(const char *path, int how, unsigned mode) {
+  REAL(opening *, "open64");
+  return fails() ? -1 : real(path, how, mode);
+}
+
+int openat(int folder, const char *path, int how, unsigned mode) {
+  REAL(opening_at *, "openat");
+  return fails() ? -1 : real(folder, path, how, mode);
+}
+
+int rename(const char *from, const char *to) {
+  REAL(renaming *, "rename");
+  return fails() ? -1 : real(from, to);
+}
+
+int renameat(int from_folder, const char *from, int to_folder, const char *to) {
+  REAL(renaming_at *, "renameat");
+  return fails() ? -1 : real(from_folder, from, to_folder, to);
+}
+
+int unlink(const char *path) {
+  REAL(removing *, "unlink");
+  return fails() ? -1 : real(path);
+}
+
+int unlinkat(int folder, const char *path, int how) {
+  REAL(removing_at *, "unlinkat");
+  return fails() ? -1 : real(folder, path, how);
+}
+
+int fsync(int file) {
+  REAL(syncing *, "fsync");
+  return fails() ? -1 : real(file);
+}
+
+int fdatasync(int file) {
+  REAL(syncing *, "fdatasync");
+  return fails() ? -1 : real(file);
+}
+
+int close(int file) {
+  REAL(syncing *, "close");
+  return fails() ? -1 : real(file);
+}
