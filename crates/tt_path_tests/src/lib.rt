@@ -9,3 +9,5 @@ mod answers;
 mod dice;
 #[cfg(test)]
 mod large;
+#[cfg(test)]
+mod memory;

@@ -42,6 +42,10 @@ pub const TOUR: &str =
 /// Both lectures of Wide, on days of their own.
 pub const WIDE_SOLUTION: &str = "a R 0 0\na R 1 0\n";
 
+/// As many lectures of one course as there may be, and a room without a seat.
+pub const CROWDED: &str =
+    "Name: Crowded\nCourses: 1\nRooms: 1\nDays: 1\nPeriods_per_day: 1\nCurricula: 0\nConstraints: 0\n\nCOURSES:\nx t 4096 1 1000000\n\nROOMS:\nA 0\n\nCURRICULA:\n\nUNAVAILABILITY_CONSTRAINTS:\n\nEND.\n";
+
 /// A course of four lectures, four periods of one day and two rooms.
 pub const FLAT: &str =
     "Name: Flat\nCourses: 1\nRooms: 2\nDays: 1\nPeriods_per_day: 4\nCurricula: 0\nConstraints: 0\n\nCOURSES:\nx t 4 1 1\n\nROOMS:\nA 10\nB 10\n\nCURRICULA:\n\nUNAVAILABILITY_CONSTRAINTS:\n\nEND.\n";
@@ -51,6 +55,13 @@ pub const FLAT_SOLUTION: &str = "x A 0 0\nx A 0 1\nx B 0 2\nx B 0 3\n";
 
 /// Both lectures of Mini, each alone.
 pub const MINI_SOLUTION: &str = "a R 0 0\nb R 0 2\n";
+
+/// Gap costs at least 5: whichever periods its courses take.
+pub const GAP_PROOF: &str =
+    "CTTP 1 bound 5\nS c0 * d0 p0\nS c1 * d0 p2\nB C c1 1 Q q0 ;\nK c1 ;\nS c0 * d0 p2\nS c1 * d0 p0\nB C c1 1 Q q0 ;\nK c1 ;\nK c0 ;\nend\n";
+
+/// A line that a test of memory prints before its call and behind it: between the two hostile/run.py refuses growths.
+pub const MARK: &str = "mark";
 
 /// A text with other words at the first place of some.
 pub fn edited(alloc: Global, text: &str, old: &str, new: &str) -> Result<String, Fail> {

@@ -4,6 +4,8 @@
 #[cfg(test)]
 mod leaves;
 #[cfg(test)]
+mod memory;
+#[cfg(test)]
 mod paths;
 #[cfg(test)]
 mod reading;

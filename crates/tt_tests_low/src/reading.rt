@@ -110,6 +110,15 @@ fn instances_that_end_between_tokens(rt: HostRuntime) {
 }
 
 #[test]
+fn instances_that_end_anywhere(rt: HostRuntime) {
+    let text = MINI.as_bytes();
+    for end in 0..=text.len() {
+        let read = read_instance(rt.alloc(), &text[..end]);
+        assert_eq!(rt; read.is_ok(), 187 <= end, "{end} bytes");
+    }
+}
+
+#[test]
 fn whole_sources(rt: HostRuntime) -> Result<(), Fail> {
     for (limit, fail_at, wanted) in [
         (188, 0, Ok(MINI.as_bytes())),

@@ -60,6 +60,23 @@ fn an_interrupted_read_is_told(rt: HostRuntime) -> Result<(), Fail> {
     Ok(())
 }
 
+/// A reader that never ends.
+#[derive(Drop)]
+struct Spaces;
+
+impl Read for Spaces {
+    fn read(&mut self, buffer: &mut [u8]) -> io::Result<usize> {
+        buffer.fill(b' ');
+        Ok(buffer.len())
+    }
+}
+
+#[test]
+fn a_source_without_end(rt: HostRuntime) {
+    let whole = read_whole(rt.alloc(), &mut Reading::new(Spaces), 188);
+    assert_eq!(rt; whole.err(), Some(WholeFault::TooLong));
+}
+
 #[test]
 fn a_feed_behind_its_fault(rt: HostRuntime) -> Result<(), Fail> {
     for (text, fail_at, fault) in [

@@ -2,6 +2,8 @@
 #![tactic(auto)]
 
 #[cfg(test)]
+mod memory;
+#[cfg(test)]
 mod moving;
 #[cfg(test)]
 mod occupancy;

@@ -1,0 +1,49 @@
+//! The path with tables, between two marks: hostile/run.py refuses its growths in turn. After a refusal each of its answers is as before.
+
+use crate::answers::all_told;
+use crate::dice::{Dice, Ranges, ranges_of};
+use std::test::Fail;
+use tt_facts::{Path, PathFault, PlainPath};
+use tt_instance::read_instance;
+use tt_samples::{GAP, MARK};
+use tt_trail_path::TrailPath;
+
+/// How many facts are pushed at most.
+const FACTS: u32 = 100;
+
+#[test]
+fn the_call_trail_path_new(rt: HostRuntime) -> Result<(), Fail> {
+    let instance = read_instance(rt.alloc(), GAP.as_bytes())?;
+    println!(rt; "{MARK}")?;
+    let path = TrailPath::new(rt.alloc(), &instance);
+    println!(rt; "{MARK}")?;
+    assert_eq!(rt; path?.depth(), 0);
+    Ok(())
+}
+
+/// Pushes facts that are drawn from a seed, until so many are there or one is refused.
+fn push_drawn<'i, P: Path<'i>>(path: &mut P, ranges: Ranges, most: u32) -> Result<(), PathFault> {
+    let mut dice = Dice { state: 3 };
+    for _ in 0..most {
+        path.push(dice.fact(ranges))?;
+    }
+    Ok(())
+}
+
+#[test]
+fn the_call_push_of_trail_paths(rt: HostRuntime) -> Result<(), Fail> {
+    let instance = read_instance(rt.alloc(), GAP.as_bytes())?;
+    let ranges = ranges_of(&instance);
+    let mut path = TrailPath::new(rt.alloc(), &instance)?;
+    println!(rt; "{MARK}")?;
+    let pushed = push_drawn(&mut path, ranges, FACTS);
+    println!(rt; "{MARK}")?;
+    // A plain path with as many of the same facts answers the same.
+    let mut plain = PlainPath::new(rt.alloc(), &instance);
+    push_drawn(&mut plain, ranges, path.depth() as u32)?;
+    assert_eq!(rt; path.depth(), plain.depth());
+    assert_eq!(rt; all_told(&path, ranges, 5), all_told(&plain, ranges, 5));
+    pushed?;
+    assert_eq!(rt; path.depth(), FACTS as usize);
+    Ok(())
+}
