@@ -4,18 +4,14 @@ use crate::commands::{Outcome, checked, run_words};
 use crate::disk::StoredFile;
 use std::alloc::Global;
 use std::test::Fail;
-use tt_app::check;
+use tt_app::{AppFault, check};
 use tt_facts::{Pattern, Who};
 use tt_instance::read_instance;
 use tt_leaf::{Bound, Leaf, RuleFault};
-use tt_proof_check::{NodesFault, check_nodes};
-use tt_proof_text::Node;
-use tt_samples::{APART, GAP, MINI, SAME, SEATS, WIDE, edited};
-use tt_text::Pieces;
-
-/// Gap costs at least 5: whichever periods its courses take.
-pub const GAP_PROOF: &str =
-    "CTTP 1 bound 5\nS c0 * d0 p0\nS c1 * d0 p2\nB C c1 1 Q q0 ;\nK c1 ;\nS c0 * d0 p2\nS c1 * d0 p0\nB C c1 1 Q q0 ;\nK c1 ;\nK c0 ;\nend\n";
+use tt_proof_check::{CheckFault, NodesFault, check_nodes};
+use tt_proof_text::{Node, TextFault};
+use tt_samples::{APART, CROWDED, GAP, GAP_PROOF, MINI, SAME, SEATS, WIDE, edited};
+use tt_text::{FeedFault, Pieces};
 
 fn bounded(alloc: Global, instance: &str, proof: &str) -> Result<Outcome, Fail> {
     let files = [
@@ -71,6 +67,41 @@ fn a_tree_in_pieces_of_each_size(rt: HostRuntime) -> Result<(), Fail> {
 }
 
 #[test]
+fn a_tree_cut_to_each_length(rt: HostRuntime) -> Result<(), Fail> {
+    for count in 0..=GAP_PROOF.len() {
+        let files = [
+            StoredFile::new("a.ctt", GAP.as_bytes()),
+            StoredFile::new("a.sol", b"a R 0 0 b R 0 2"),
+            StoredFile::new("a.proof", &GAP_PROOF.as_bytes()[..count]),
+        ];
+        let outcome = run_words(rt.alloc(), &["check", "a.ctt", "a.sol", "a.proof"], &files)?;
+        if count < 123 {
+            assert_eq!(rt; (outcome.status, outcome.out.as_str()), (2, ""));
+            assert!(rt; outcome.err.starts_with("refused: proof: "), "{count}");
+            assert!(rt; outcome.err.contains(" at byte "), "{count}");
+        } else {
+            assert_eq!(rt; outcome.told(), (0, "yes cost 5 bound 5 optimal\n", ""));
+        }
+    }
+    Ok(())
+}
+
+#[test]
+fn each_read_of_a_tree_fails(rt: HostRuntime) -> Result<(), Fail> {
+    let solution = b"a R 0 0 b R 0 2".as_slice();
+    // One byte a read; the last one finds the end.
+    for fail_at in 1..=125 {
+        let mut proof = Pieces::new(GAP_PROOF.as_bytes(), 1, fail_at);
+        let answer = check(rt.alloc(), GAP.as_bytes(), solution, &mut proof);
+        assert_eq!(rt;
+            answer.err(),
+            Some(AppFault::Proof(CheckFault::Text(TextFault::Feed(FeedFault::Read))))
+        );
+    }
+    Ok(())
+}
+
+#[test]
 fn bounds_that_hold(rt: HostRuntime) -> Result<(), Fail> {
     for (instance, proof, out) in [
         (GAP, GAP_PROOF, "bound 5\n"),
@@ -83,6 +114,18 @@ fn bounds_that_hold(rt: HostRuntime) -> Result<(), Fail> {
         ),
         (WIDE, "CTTP 2 bound 5 B T c0 ; end", "bound 5\n"),
         (MINI, "CTTP 2 bound 0 B P / P r0 7 / P / ; end", "bound 0\n"),
+        // The most digits of a token.
+        (
+            MINI,
+            "CTTP 1 bound 00000000000000000000000000000001 B C c1 1 ; end",
+            "bound 1\n",
+        ),
+        (MINI, "CTTP 1 bound 0 B C c1 1000000 ; end", "bound 0\n"),
+        (
+            CROWDED,
+            "CTTP 1 bound 4096000000 B C c0 1000000 ; end",
+            "bound 4096000000\n",
+        ),
     ] {
         let outcome = bounded(rt.alloc(), instance, proof)?;
         assert_eq!(rt; outcome.told(), (0, out, ""), "of {proof}");
@@ -110,6 +153,16 @@ fn leaves_that_are_wrong(rt: HostRuntime) -> Result<(), Fail> {
         ),
         (MINI, "CTTP 1 bound 1 E c0 * d0 p0 x", "NotOnPath at node 0"),
         (MINI, "CTTP 1 bound 1 M c0 end", "NotTooMany at node 0"),
+        (
+            MINI,
+            "CTTP 1 bound 1000000000000 B ; end",
+            "TooCheap at node 0",
+        ),
+        (
+            CROWDED,
+            "CTTP 1 bound 4096000001 B C c0 1000000 ; end",
+            "TooCheap at node 0",
+        ),
         (MINI, "CTTP 1 bound 1 K c0 ; end", "EnoughRoom at node 0"),
         (
             MINI,
@@ -205,6 +258,16 @@ fn numbers_and_ends_that_are_wrong(rt: HostRuntime) -> Result<(), Fail> {
             MINI,
             "CTTP 1 bound 1000000000001 B ; end",
             "NotANumber at byte 13",
+        ),
+        (
+            MINI,
+            "CTTP 1 bound 99999999999999999999999 B ; end",
+            "NotANumber at byte 13",
+        ),
+        (
+            MINI,
+            "CTTP 1 bound 000000000000000000000000000000001 B C c1 1 ; end",
+            "TokenTooLong at byte 13",
         ),
         (
             MINI,

@@ -2,14 +2,13 @@
 
 use crate::commands::{Outcome, run_on};
 use crate::shelf::{Refusal, Shelf};
-use crate::trees::GAP_PROOF;
 use std::alloc::Global;
 use std::test::Fail;
 use tt_instance::read_instance;
 use tt_leaf::Bound;
 use tt_proof_check::check_nodes;
 use tt_proof_write::write_proof;
-use tt_samples::{GAP, SEATS, edited};
+use tt_samples::{GAP, GAP_PROOF, SEATS, edited};
 use tt_text::Pieces;
 use tt_upgrade::read_proof;
 
