@@ -138,7 +138,12 @@ def largest_files(table):
     same(none.told(), (0, b"bound none\n", b""))
     reported = table.run("report instance solution --by room")
     assert reported.status == 0 and reported.out.count(b"\n") == ROOMS * (DAYS * PERIODS + 1), f"{reported.err}"
-    return f"validate {validated.figures()}; bound 0 by one leaf {bound.figures()}; none by a clique of all {none.figures()}; report by room {reported.figures()}"
+    improved = table.run("improve instance solution out --steps 1")
+    assert improved.status == 1 and improved.out.startswith(b"hard ") and not improved.err, f"{improved}"
+    assert (table.folder / "out").read_bytes().count(b"\n") == ENTRIES
+    timed = {"validate": validated, "bound 0 by one leaf": bound, "none by a clique of all": none, "report by room": reported}
+    timed["improve by one step"] = improved
+    return "; ".join(f"{what} {run.figures()}" for what, run in timed.items())
 
 
 def one_byte_more(table):

@@ -11,7 +11,7 @@ disk     the program, each command with each call to the system failing in turn,
 inputs   cut files, endless files, numbers at their limits, files that aren't there
 largest  the largest inputs that are taken, and what is one above a limit; prints times and peak memory
 
-All of them take some five minutes, the largest inputs half of that; the last line but one says how long it took. It needs what `rt ci`, or
+All of them take some eight minutes, the largest inputs less than a third of that; the last line but one says how long it took. It needs what `rt ci`, or
 `./tt` and `rt all test`, have built. The last line is `N passed, M failed`; the status is 1 where something failed.
 """
 
