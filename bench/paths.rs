@@ -1,8 +1,11 @@
 //! Checks a proof of a lower bound with leaves `B`, as plain Rust over words of live rooms: what bench/facts.py runs beside `tt bound`.
-//! At most 64 rooms; the faults of a proof are panics.
+//! At most 64 rooms; the faults of a proof are panics. With `claims` in the place of a proof it finds the best claims of a drawn path,
+//! many times over: what bench/claims.py runs beside `best_claims`.
 
 use std::env;
 use std::fs;
+use std::hint::black_box;
+use std::time::Instant;
 
 const NONE: u32 = u32::MAX;
 
@@ -416,9 +419,75 @@ fn leaf(path: &Path, tokens: &mut Tokens, met: &mut [u32], stamp: u32, bound: u6
     assert!(total >= bound, "too cheap");
 }
 
+/// The price of a course's seats: the l-th smallest of the least excesses of its live periods, l being its lectures, or the greatest.
+fn price(path: &Path, course: usize, excesses: &mut Vec<u64>) -> u64 {
+    let (instance, slots) = (path.instance, path.instance.slots());
+    excesses.clear();
+    let lectures = instance.lectures[course] as usize;
+    let mut seated = 0;
+    if path.is_in_force() {
+        for rooms in &path.words[path.live + course * slots..path.live + (course + 1) * slots] {
+            if *rooms != 0 {
+                let excess = instance.students[course].saturating_sub(instance.seats[rooms.trailing_zeros() as usize]);
+                seated += usize::from(excess == 0);
+                if seated >= lectures {
+                    return 0;
+                }
+                excesses.push(excess);
+            }
+        }
+    }
+    excesses.sort_unstable();
+    let place = lectures.min(excesses.len());
+    if place == 0 { 0 } else { excesses[place - 1] }
+}
+
+/// Finds the best claims: how many there are, and the sum of their prices.
+fn best_claims(path: &Path, excesses: &mut Vec<u64>, claims: &mut Vec<(u8, usize, u64)>) -> (usize, u64) {
+    let instance = path.instance;
+    claims.clear();
+    for course in 0..instance.courses() {
+        let price = price(path, course, excesses);
+        if price > 0 && path.capacity(course, price) > 0 {
+            claims.push((b'C', course, price));
+        }
+    }
+    claims.extend((0..instance.courses()).filter(|course| path.days(*course) > 0).map(|course| (b'D', course, 0)));
+    claims.extend((0..instance.members.len()).filter(|q| path.compact(*q) > 0).map(|q| (b'Q', q, 0)));
+    claims.extend((0..instance.courses()).filter(|course| path.stable(*course) > 0).map(|course| (b'R', course, 0)));
+    (claims.len(), claims.iter().map(|claim| claim.2).sum())
+}
+
+/// Draws sixteen facts, and finds the best claims of their path.
+fn find_claims(instance: &Instance) {
+    const ROUNDS: u32 = 20_000;
+    let mut path = Path::new(instance);
+    let mut state: u64 = 1;
+    let mut below = |bound: usize| {
+        state = state.wrapping_mul(6_364_136_223_846_793_005).wrapping_add(1_442_695_040_888_963_407);
+        ((state >> 33) % bound as u64) as usize
+    };
+    for _ in 0..16 {
+        let (course, day, period) = (below(instance.courses()), below(instance.days), below(instance.periods));
+        if path.live_periods(course, day) >> period & 1 != 0 {
+            path.push(Pattern { who: Who::Course(course), room: NONE, day: day as u32, period: period as u32 }, true);
+        }
+    }
+    let (mut excesses, mut claims, mut found) = (Vec::new(), Vec::new(), (0, 0));
+    let start = Instant::now();
+    for _ in 0..ROUNDS {
+        found = best_claims(black_box(&path), &mut excesses, &mut claims);
+    }
+    let taken = start.elapsed().as_nanos() / u128::from(ROUNDS);
+    println!("{} {} {} {taken}", path.facts.len(), found.0, found.1);
+}
+
 fn main() {
     let files: Vec<String> = env::args().skip(1).collect();
     let instance = Instance::read(&fs::read_to_string(&files[0]).unwrap());
+    if files[1] == "claims" {
+        return find_claims(&instance);
+    }
     let proof = fs::read(&files[1]).unwrap();
     let mut tokens = Tokens { bytes: &proof };
     let head: Vec<&[u8]> = (0..4).map(|_| tokens.next()).collect();

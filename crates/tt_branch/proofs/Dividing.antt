@@ -1,5 +1,5 @@
 -- The entries and links of a node that is split, as the code puts them in.
-use Rattle.std.proofs.Common.{◌≡◌, ℕ, suc, ◌+◌, List, [], ◌∷◌, ◌++◌, length, length-append, Some, refl, sym, ap, ◌∙◌, arith, get_or}
+use Rattle.std.proofs.Common.{◌≡◌, ℕ, suc, ◌+◌, List, [], ◌∷◌, ◌++◌, length, length-append, Some, sym, ap, ◌∙◌, arith, get_or}
 use Rattle.std.specs.Prelude.{slice_get, slice_set, true, false}
 use Rattle.std.specs.List.{insert}
 use Rattle.std.proofs.Common.{zero, ◌<◌}

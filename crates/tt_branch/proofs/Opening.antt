@@ -1,14 +1,11 @@
 -- What an opened node comes to.
-use Rattle.std.proofs.Common.{◌≡◌, ℕ, true, false, not, ◌&&◌, List, Option, Some, None, refl, sym, subst, arith, eq-eqb}
-use Rattle.std.specs.Prelude.{◌==◌}
+use Rattle.std.proofs.Common.{◌≡◌, true, false, not, ◌&&◌, List, Option, Some, None, refl, sym, subst, arith}
 use Rattle.std.specs.List.{list_any}
 use Rattle.std.proofs.Common.{Bool, inl, inr}
 use Rattle.std.proofs.lemmas.Bool.{and_parts, and_from, or_right, not_from_false, false_from_ne_true, cases_lt}
 use Rattle.tt_lists.proofs.Members.{member_from_any, any_member}
 use Rattle.tt_instance.specs.Problem.{Problem}
 use Rattle.tt_instance.specs.Limits.{IsInstance}
-use Rattle.tt_instance.specs.Cells.{InRange, slot, cell}
-use Rattle.tt_facts.specs.declared.facts.Who.TheVariants.{Course}
 use Rattle.tt_instance.specs.Courses.{unavailable}
 use Rattle.tt_instance.specs.declared.cell.Cell.{Cell}
 use Rattle.tt_rules.specs.Score.{IsFeasible, cost}
@@ -21,22 +18,15 @@ use Rattle.tt_leaf.specs.declared.leaf.Bound.TheVariants.{AtLeast}
 use Rattle.tt_leaf.proofs.Contradictions.{same_pattern-true}
 use Rattle.tt_find.specs.Best.{best_leaf}
 use Rattle.tt_find.specs.Found.{Closes}
-use Rattle.tt_find.specs.Pinned.{own_pattern, IsPinnedDown, IsOpen}
+use Rattle.tt_find.specs.Pinned.{IsPinnedDown, IsOpen}
 use Rattle.tt_find.proofs.LiveCells.{live_cells, live_not_barred}
 use Rattle.tt_find.proofs.Fitting.{is_feasible}
 use Rattle.tt_find.proofs.Closing.{cost-le_total}
 use Rattle.tt_find.proofs.Answering.{best_answer}
 use Rattle.tt_branch.specs.Outcomes.{final_bound}
-use Rattle.tt_branch.specs.Proofs.{IsFree, IsSplitOn}
-use Rattle.tt_branch.specs.Choice.{IsNewSplit}
+use Rattle.tt_choice.specs.Choice.{IsNewSplit}
+use Rattle.tt_branch.specs.Proofs.{IsSplitOn}
 use Rattle.tt_branch.proofs.Searching.{IsBetter, best_right}
-
-pub own_matched : (p : Problem) (x : Cell) → matches p (own_pattern x) x ≡ true
-own_matched p x =
-    and_from ((x.course == x.course) && (x.room == x.room) && (x.day == x.day)) (x.period == x.period)
-    (and_from ((x.course == x.course) && (x.room == x.room)) (x.day == x.day)
-    (and_from (x.course == x.course) (x.room == x.room) (eq-eqb x.course x.course refl) (eq-eqb x.room x.room refl)) (eq-eqb x.day x.day refl))
-    (eq-eqb x.period x.period refl)
 
 answer_no : (b : Bool) → same_answer b false ≡ true → b ≡ false
 answer_no true e = absurd cc
@@ -62,14 +52,6 @@ splits_on p path g b s none = record {
   aims = s.aims;
 }
 
--- the own pattern of a free cell is new, and aims at it
-pub own_new : (p : Problem) (path : List Fact) (x : Cell) → InRange p x → IsFree p path x → IsNewSplit p path (own_pattern x)
-own_new p path x r f = record {
-  numbers = record { who = r.course; room = r.room; day = r.day; period = r.period };
-  not_yes = f.free;
-  aims = record { cell = x; in_range = r; matched = own_matched p x; is_free = f };
-}
-
 -- where no cell is free, the live cells are a timetable without a broken hard rule, better than the best, and the best claims close the node for its cost
 pub record IsSolved (p : Problem) (path : List Fact) (best : Option (List Cell)) (t : List Cell) : Type 0 where
   pub feasible : IsFeasible p t
@@ -89,8 +71,3 @@ solved p path best ok pins none = record {
   better = better p path best ok pins none;
   closes = record { right = best_right p path (cost p (live_cells p path)) (cost-le_total p path pins ok (final_bound p best) none); answer = best_answer p path ok };
 }
-
--- a course in a period matches each of its cells there
-pub period_matched : (p : Problem) (c r d s : ℕ) → matches p (record { who = Course c; room = None; day = Some d; period = Some s }) (cell c r (slot d s)) ≡ true
-period_matched p c r d s =
-    and_from ((c == c) && true && (d == d)) (s == s) (and_from ((c == c) && true) (d == d) (and_from (c == c) true (eq-eqb c c refl) refl) (eq-eqb d d refl)) (eq-eqb s s refl)

@@ -1,4 +1,3 @@
-pub mod Choice
 pub mod Growing
 pub mod Kept
 pub mod Links

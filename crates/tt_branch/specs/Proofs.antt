@@ -2,11 +2,9 @@
 use Rattle.std.specs.Prelude.{◌≡◌, ℕ, ◌<◌, Bool, true, false, List, [], ◌∷◌, Option, Some, None, length, All, Contains, ⊤}
 use Rattle.std.specs.List.{filter_map}
 use Rattle.tt_instance.specs.Problem.{Problem}
-use Rattle.tt_instance.specs.Cells.{InRange}
 use Rattle.tt_instance.specs.declared.cell.Cell.{Cell}
 use Rattle.tt_rules.specs.Score.{cost}
-use Rattle.tt_facts.specs.Facts.{IsPattern, matches, has_fact}
-use Rattle.tt_facts.specs.Live.{is_live}
+use Rattle.tt_facts.specs.Facts.{IsPattern, has_fact}
 use Rattle.tt_facts.specs.declared.facts.Pattern.{Pattern}
 use Rattle.tt_facts.specs.declared.facts.Fact.{Fact}
 use Rattle.tt_leaf.specs.Claims.{total_of}
@@ -23,21 +21,9 @@ use Rattle.tt_proof_write.specs.Within.{AreWithin}
 use Rattle.tt_proof_check.specs.Derives.{Derives}
 use Rattle.tt_proof_check.specs.Nodes.{IsNodeOf}
 use Rattle.tt_find.specs.Best.{best_leaf}
-use Rattle.tt_find.specs.Pinned.{own_pattern}
+use Rattle.tt_choice.specs.Choice.{Aims}
 
 -- ---- splits
-
--- the cell is live, and its own pattern does not stand on the path as yes
-pub record IsFree (p : Problem) (path : List Fact) (x : Cell) : Type 0 where
-  pub live : is_live p path x ≡ true
-  pub free : has_fact path (own_pattern x) true ≡ false
-
--- the pattern matches a live cell whose own pattern does not stand on the path as yes
-pub record Aims (p : Problem) (path : List Fact) (g : Pattern) : Type 0 where
-  pub cell : Cell
-  pub in_range : InRange p cell
-  pub matched : matches p g cell ≡ true
-  pub is_free : IsFree p path cell
 
 -- No Empty leaf of a yes-fact is right there, no Many leaf and no Clique of one course; the bound says nothing for these.
 pub record IsUnclosed (p : Problem) (path : List Fact) : Type 0 where

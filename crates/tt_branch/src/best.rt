@@ -21,16 +21,23 @@ use tt_table::Timetable;
 /// The most steps of the descent that a search begins with.
 const FIRST_STEPS: u64 = 10_000;
 
-/// The steps of a turn of the improvement behind it, at least and at most, and for each entry in each cell of a room:
-/// one or two seconds on an instance of real size.
+/// The steps of a turn of the improvement behind it, at least and at most, and for each entry in each cell of a room: one
+/// or two seconds on an instance of real size.
 const LEAST_STEPS: u64 = 2_000;
 
 const MOST_STEPS: u64 = 100_000;
 
 const STEPS_OF_A_CELL: u64 = 4;
 
-/// How many nodes of the limit bring one more turn.
-const NODES_OF_A_TURN: u32 = 8_192;
+/// The same of every second turn: whether a short or a long walk does better differs between instances.
+const MOST_LONG_STEPS: u64 = 400_000;
+
+const LONG_STEPS_OF_A_CELL: u64 = 12;
+
+/// How many turns there are at least, and how many nodes of the limit bring one more.
+const FIRST_TURNS: u32 = 2;
+
+const NODES_OF_A_TURN: u32 = 32_768;
 
 /// A timetable that breaks no hard rule.
 #[derive(Drop)]
@@ -60,17 +67,14 @@ fn if_feasible(instance: &Instance<'_>, table: Timetable) -> Option<Best>
 
 /// How many turns the improvement has at most, by the limit of nodes.
 pub fn turns_for(nodes: u32) -> u32 {
-    (nodes / NODES_OF_A_TURN).saturating_add(1)
+    (nodes / NODES_OF_A_TURN).saturating_add(FIRST_TURNS)
 }
 
-/// The steps of a turn.
-fn turn_steps(instance: &Instance<'_>, table: &Timetable) -> u64 {
+/// How many entries in how many cells of a room a timetable has.
+fn size_of(instance: &Instance<'_>, table: &Timetable) -> u64 {
     let periods = u64::from(instance.days()).saturating_mul(u64::from(instance.periods()));
     let cells = periods.saturating_mul(u64::from(instance.rooms()));
-    (table.len() as u64)
-        .saturating_mul(cells)
-        .saturating_mul(STEPS_OF_A_CELL)
-        .clamp(LEAST_STEPS, MOST_STEPS)
+    (table.len() as u64).saturating_mul(cells)
 }
 
 /// Whether a timetable breaks no hard rule and costs no more than a goal.
@@ -81,7 +85,28 @@ fn reaches(instance: &Instance<'_>, table: &Timetable, goal: u64) -> bool
     counts.feasible() && counts.cost() <= goal
 }
 
-/// Improves a timetable turn by turn, until it reaches the goal.
+/// The steps of a turn.
+fn steps_of(turn: u32, size: u64) -> u64 {
+    if turn % 2 == 0 {
+        size.saturating_mul(STEPS_OF_A_CELL)
+            .clamp(LEAST_STEPS, MOST_STEPS)
+    } else {
+        size.saturating_mul(LONG_STEPS_OF_A_CELL)
+            .clamp(LEAST_STEPS, MOST_LONG_STEPS)
+    }
+}
+
+/// Whether a timetable breaks fewer hard rules than another one, or as many at a lower cost.
+fn is_cheaper(instance: &Instance<'_>, one: &Timetable, other: &Timetable) -> bool
+    requires one { IsTimetable instance.now one.now }
+    requires other { IsTimetable instance.now other.now }
+{
+    let first = score(instance, one);
+    let second = score(instance, other);
+    first.hard() < second.hard() || (first.hard() == second.hard() && first.cost() < second.cost())
+}
+
+/// Improves a timetable in turns, each from the start, until one reaches the goal; the best of all.
 fn improve_to(
     alloc: Global,
     instance: &Instance<'_>,
@@ -93,16 +118,26 @@ fn improve_to(
     requires { IsTimetable instance.now table }
     ensures { IfOk result (IsNoWorse instance.now table) }
 {
-    let steps = turn_steps(instance, &table);
-    let mut table = table;
+    let size = size_of(instance, &table);
+    let start = table.copy()?;
+    let mut best = table;
     for turn in 0..turns {
-        if reaches(instance, &table, goal) {
+        if reaches(instance, &best, goal) {
             break;
         }
-        let turn_seed = seed.wrapping_add(u64::from(turn));
-        table = improve(alloc, instance, table, turn_seed, steps)?;
+        let turn_seed = seed.wrapping_add(u64::from(turn / 2));
+        let found = improve(
+            alloc,
+            instance,
+            start.copy()?,
+            turn_seed,
+            steps_of(turn, size),
+        )?;
+        if is_cheaper(instance, &found, &best) {
+            best = found;
+        }
     }
-    Ok(table)
+    Ok(best)
 }
 
 /// The timetable that a search begins with: where a descent from a constructed one leads, improved in so many turns

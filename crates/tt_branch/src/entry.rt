@@ -1,6 +1,6 @@
 //! The nodes of a tree that grows.
 
-ghost use Rattle.std.specs.Prelude.{◌≡◌};
+ghost use Rattle.std.specs.Prelude.{◌≡◌, true, IfSome, IsNone};
 ghost use Rattle.tt_branch.specs.Growing.{is_open};
 
 use tt_facts::Pattern;
@@ -19,7 +19,20 @@ pub enum Mark {
     Waiting,
 }
 
-/// How much more the children of a node are thought to be worth, in cost points.
+impl Mark {
+    /// The pattern by which an opened node will be split.
+    pub fn pattern(&self) -> Option<Pattern>
+        ensures some { IfSome result (λ g. self.now ≡ Mark.Opened g) }
+        ensures none { IsNone result → is_open self.now ≡ true → self.now ≡ Mark.Waiting }
+    {
+        match self {
+            Mark::Opened(pattern) => Some(*pattern),
+            _ => None,
+        }
+    }
+}
+
+/// How much more the children of a node are worth by the best claims, in cost points.
 #[derive(Clone, Copy)]
 pub struct Rises {
     pub yes: u64,
@@ -29,7 +42,7 @@ pub struct Rises {
 impl Rises {
     pub const NONE: Rises = Rises { yes: 0, no: 0 };
 
-    /// Whether the second child is thought to be worth less than the first.
+    /// Whether the second child is worth less than the first.
     pub fn are_falling(self) -> bool {
         self.no < self.yes
     }
@@ -41,7 +54,7 @@ pub struct Entry {
     pub mark: Mark,
     /// Where its facts are, by the links.
     pub link: usize,
-    /// The open node with the least key is next: what it is worth, or is thought to be worth.
+    /// What it is worth by the best claims: the open node with the least key is next.
     pub key: u64,
     pub rises: Rises,
 }

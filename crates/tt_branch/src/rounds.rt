@@ -5,22 +5,11 @@ ghost use Rattle.tt_branch.specs.Growing.{IsOpenAt, is_open, opened_in};
 ghost use Rattle.tt_branch.specs.Kept.{Advances};
 ghost use Rattle.tt_branch.specs.State.{IsUnderWay, MakesWait, EndsAt};
 
-use crate::entry::{Entry, Mark};
+use crate::entry::Mark;
 use crate::search::{Search, next_open, split};
 use crate::visit::open_at;
 use std::alloc::{AllocError, Global};
 use tt_facts::{Path, Pattern};
-
-/// The pattern by which an opened node will be split.
-fn pattern_of(entry: &Entry) -> Option<Pattern>
-    ensures some { IfSome result (λ g. entry.now.mark ≡ Mark.Opened g) }
-    ensures none { IsNone result → is_open entry.now.mark ≡ true → entry.now.mark ≡ Mark.Waiting }
-{
-    match entry.mark {
-        Mark::Opened(pattern) => Some(pattern),
-        _ => None,
-    }
-}
 
 /// Splits a node that was opened; where the node is that is opened next, of two children the one that is thought to
 /// be worth less.
@@ -28,7 +17,7 @@ fn make_wait(search: &mut Search, place: usize) -> Result<usize, AllocError>
     requires { IsOpenAt search.old.entries.items place }
     ensures made { IfOk result (λ next. MakesWait place search.old next search.new) }
 {
-    match pattern_of(&search.entries[place]) {
+    match search.entries[place].mark.pattern() {
         Some(pattern) => {
             let second_first = search.entries[place].rises.are_falling();
             split(search, place, pattern)?;

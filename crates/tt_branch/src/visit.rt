@@ -11,14 +11,14 @@ ghost use Rattle.tt_branch.specs.Outcomes.{final_bound};
 ghost use Rattle.tt_branch.specs.State.{IsUnderWay};
 
 use crate::best::{Best, bound_of};
-use crate::choice::choose_split;
 use crate::entry::{Entry, Mark, Rises};
 use crate::links::{Link, facts_to};
 use crate::live::live_table;
 use crate::moves::move_to;
 use crate::search::{Search, put};
 use std::alloc::{AllocError, Global};
-use tt_facts::Path;
+use tt_choice::choose_split;
+use tt_facts::{Fact, Path, PathFault, Pattern};
 use tt_find::{best_claims, find_leaf};
 use tt_leaf::{Leaf, leaf_value};
 use tt_rules::score;
@@ -75,7 +75,6 @@ fn take_live<'i, P: Path<'i>>(
 struct Opening {
     mark: Mark,
     key: u64,
-    rises: Rises,
 }
 
 /// A node that a leaf closes.
@@ -85,7 +84,6 @@ fn closed(leaf: Leaf) -> Opening
     Opening {
         mark: Mark::Closed(leaf),
         key: 0,
-        rises: Rises::NONE,
     }
 }
 
@@ -106,16 +104,59 @@ fn open<'i, P: Path<'i>>(
     if let Some(leaf) = find_leaf(alloc, path, bound)? {
         return Ok(closed(leaf));
     }
-    if let Some(split) = choose_split(alloc, path)? {
+    if let Some(pattern) = choose_split(alloc, path)? {
         let key = best_worth(alloc, path)?;
         return Ok(Opening {
-            mark: Mark::Opened(split.pattern),
+            mark: Mark::Opened(pattern),
             key,
-            rises: split.rises,
         });
     }
     let leaf = take_live(alloc, path, best)?;
     Ok(closed(leaf))
+}
+
+/// How much more than so many points the best claims are worth behind one more fact.
+fn rise<'i, P: Path<'i>>(
+    alloc: Global,
+    path: &mut P,
+    fact: Fact,
+    points: u64,
+) -> Result<u64, AllocError>
+    ensures { P.problem path.new ≡ P.problem path.old }
+{
+    match path.push(fact) {
+        Ok(()) => {}
+        Err(PathFault::TooDeep) => return Ok(0),
+        Err(PathFault::OutOfMemory) => return Err(AllocError),
+    }
+    let worth = best_worth(alloc, path)?;
+    let _ = path.pop();
+    Ok(worth.saturating_sub(points))
+}
+
+/// How much more the children of a node will be worth, if it will be split.
+fn rises_of<'i, P: Path<'i>>(
+    alloc: Global,
+    path: &mut P,
+    split: Option<Pattern>,
+    points: u64,
+) -> Result<Rises, AllocError>
+    ensures { P.problem path.new ≡ P.problem path.old }
+{
+    let Some(pattern) = split else {
+        return Ok(Rises::NONE);
+    };
+    let first = Fact {
+        pattern,
+        holds: true,
+    };
+    let second = Fact {
+        pattern,
+        holds: false,
+    };
+    let yes = rise(alloc, path, first, points)?;
+    let no = rise(alloc, path, second, points)?;
+    Ok(Rises { yes, no })
 }
 
 /// Opens a node that waits.
@@ -136,7 +177,8 @@ pub fn open_at<'i, P: Path<'i>>(
 {
     let link = search.entries[place].link;
     go_to(alloc, path, search.links.as_slice(), link)?;
-    let Opening { mark, key, rises } = open(alloc, path, &mut search.best)?;
+    let Opening { mark, key } = open(alloc, path, &mut search.best)?;
+    let rises = rises_of(alloc, path, mark.pattern(), key)?;
     let entry = Entry {
         mark,
         link,

@@ -5,6 +5,5 @@ pub mod Barred
 pub mod Renewed
 pub mod Kept
 pub mod Asked
-pub mod Below
 pub mod Linked
 pub mod Ranked

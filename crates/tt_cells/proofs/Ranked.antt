@@ -13,7 +13,7 @@ use Rattle.tt_facts.specs.Live.{least, least_with, is_live, least_excess}
 use Rattle.tt_facts.specs.declared.facts.Fact.{Fact}
 use Rattle.tt_cells.specs.Order.{ranked, rank, IsRoomOrder, IsRoomiest}
 use Rattle.tt_cells.specs.declared.order.Ranked.{Ranked}
-use Rattle.tt_cells.proofs.Below.{least_more}
+use Rattle.tt_facts.proofs.Least.{least_more}
 use Rattle.tt_cells.proofs.Renewed.{same_default}
 
 -- ---- the least value of the numbers that pass

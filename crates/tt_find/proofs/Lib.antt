@@ -9,4 +9,5 @@ pub mod Smallest
 pub mod Steps
 pub mod Answering
 pub mod Pricing
+pub mod Seated
 pub mod Examples

@@ -4,7 +4,8 @@ ghost use Rattle.std.specs.Prelude.{◌<◌, length};
 
 use crate::grid::Grid;
 use crate::group_prices::{Pricing, price_group};
-use crate::prices::price_of;
+use crate::prices::{has_seats, price_of};
+use crate::rivals::rivals_of;
 use std::alloc::{AllocError, Global};
 use tt_facts::Path;
 use tt_instance::Instance;
@@ -79,6 +80,70 @@ fn take_out(left: &mut [bool], members: &[bool]) {
     }
 }
 
+/// A group, and how much more it is worth than its courses apart.
+#[derive(Drop)]
+struct Group {
+    members: Vec<bool>,
+    gain: u64,
+}
+
+fn group_of(
+    alloc: Global,
+    instance: &Instance<'_>,
+    grid: &Grid,
+    alone: &[u64],
+    members: Vec<bool>,
+) -> Result<Group, AllocError> {
+    let pricing = price_group(alloc, instance, grid, members.as_slice())?;
+    let gain = pricing
+        .worth
+        .saturating_sub(worth_apart(alone, members.as_slice()));
+    Ok(Group { members, gain })
+}
+
+/// The best group that grows from one of the courses that are left and needs more seats than so many, if it is better.
+fn better_group(
+    alloc: Global,
+    instance: &Instance<'_>,
+    grid: &Grid,
+    alone: &[u64],
+    left: &[bool],
+    seats: Option<u32>,
+    found: Group,
+) -> Result<Group, AllocError> {
+    let mut best = found;
+    for (seed, is_left) in left.iter().enumerate() {
+        if !*is_left {
+            continue;
+        }
+        if let Some(members) = rivals_of(alloc, instance, grid, left, seats, seed)? {
+            let group = group_of(alloc, instance, grid, alone, members)?;
+            if best.gain < group.gain {
+                best = group;
+            }
+        }
+    }
+    Ok(best)
+}
+
+/// The best of the groups that grow from one of the courses that are left, and of all of these together.
+fn best_group(
+    alloc: Global,
+    instance: &Instance<'_>,
+    grid: &Grid,
+    alone: &[u64],
+    left: &[bool],
+) -> Result<Group, AllocError> {
+    let all = left.to_vec(alloc)?;
+    let whole = group_of(alloc, instance, grid, alone, all)?;
+    let mut best = better_group(alloc, instance, grid, alone, left, None, whole)?;
+    for room in 0..instance.rooms() {
+        let seats = Some(instance.capacity(room));
+        best = better_group(alloc, instance, grid, alone, left, seats, best)?;
+    }
+    Ok(best)
+}
+
 /// Adds a group of the courses that are left; whether there was one that is worth more than its courses apart.
 fn add_group(
     alloc: Global,
@@ -87,7 +152,7 @@ fn add_group(
     alone: &[u64],
     crowd: &mut Crowd,
 ) -> Result<bool, AllocError> {
-    let mut members = crowd.left.as_slice().to_vec(alloc)?;
+    let mut members = best_group(alloc, instance, grid, alone, crowd.left.as_slice())?.members;
     let pricing = shrink(alloc, instance, grid, alone, members.as_mut_slice())?;
     if pricing.worth <= worth_apart(alone, members.as_slice()) {
         return Ok(false);
@@ -100,6 +165,9 @@ fn add_group(
 fn worth_alone<'i, P: Path<'i>>(alloc: Global, path: &P, course: u32) -> Result<u64, AllocError>
     requires { course < length (P.problem path.now).courses }
 {
+    if has_seats(path, course) {
+        return Ok(0);
+    }
     match price_of(alloc, path, course)? {
         Some(price) => Ok(claim_value(path, &Claim::Capacity { course, price })),
         None => Ok(0),

@@ -84,12 +84,18 @@ impl Grid {
         })
     }
 
-    /// How many rooms a course may be in.
+    /// How many rooms there are.
     pub fn rooms(&self) -> usize {
         self.rooms
     }
 
-    fn word(&self, course: usize, room: usize, word: usize) -> u64 {
+    /// How many words a row has.
+    pub fn words(&self) -> usize {
+        self.words
+    }
+
+    /// A word of the periods in which a course has a live cell in a room.
+    pub fn word(&self, course: usize, room: usize, word: usize) -> u64 {
         let row = course.saturating_mul(self.rooms).saturating_add(room);
         let place = row.saturating_mul(self.words).saturating_add(word);
         self.bits.get(place).copied().unwrap_or(0)

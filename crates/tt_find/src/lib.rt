@@ -9,6 +9,7 @@ mod group_prices;
 mod laws;
 mod priced;
 mod prices;
+mod rivals;
 mod slots;
 
 pub use best::best_claims;

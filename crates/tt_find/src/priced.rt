@@ -6,7 +6,7 @@ ghost use Rattle.tt_find.specs.Found.{IsAnswer, IsFitClaim};
 
 use crate::crowds::{Crowd, find_crowds};
 use crate::group_prices::Pricing;
-use crate::prices::price_of;
+use crate::prices::{has_seats, price_of};
 use std::alloc::{AllocError, Global};
 use tt_facts::Path;
 use tt_leaf::{Claim, ClaimList, Leaf, PriceList, claim_value};
@@ -93,6 +93,9 @@ fn add_capacity<'i, P: Path<'i>>(
     requires all { All (IsFitClaim (P.problem path.now)) claims.old.items }
     ensures { OnOk result (All (IsFitClaim (P.problem path.now)) claims.new.items) }
 {
+    if has_seats(path, course) {
+        return Ok(());
+    }
     if let Some(price) = price_of(alloc, path, course)? {
         add(path, claims, Claim::Capacity { course, price })?;
     }

@@ -1,17 +1,21 @@
 //! Prices of capacity claims.
 
-ghost use Rattle.std.specs.Prelude.{◌≡◌, ◌<◌, ◌≤◌, [], ◌++◌, length, All, Contains, IfOk, IfSome, OnOk};
+ghost use Rattle.std.specs.Prelude.{◌≡◌, ◌<◌, ◌≤◌, [], ◌++◌, true, length, All, Contains, IfOk, IfSome, OnOk};
 ghost use Rattle.std.specs.List.{cons_option};
 ghost use Rattle.std.specs.Ordering.{nat_cmp};
 ghost use Rattle.std.specs.Vec.Iter.{into_iter_items};
 ghost use Rattle.itertools.specs.Extremes.{IsKLeast, by_cmp};
+ghost use Rattle.tt_instance.specs.Cells.{slot};
+ghost use Rattle.tt_instance.specs.Courses.{lectures};
 ghost use Rattle.tt_find.specs.Best.{kth_smallest, least_excesses, price_of};
+ghost use Rattle.tt_find.specs.Seated.{is_seated, seated_periods};
 
 use crate::slots::{slot_at, slot_count};
 use itertools::Itertools;
 use std::alloc::{AllocError, Global};
 use std::vec::IntoIter;
 use tt_facts::Path;
+use tt_instance::Slot;
 
 /// The `k` smallest numbers, in rising order.
 fn smallest(alloc: Global, numbers: &[u32], k: usize) -> Result<IntoIter<u32>, AllocError>
@@ -77,4 +81,33 @@ pub fn price_of<'i, P: Path<'i>>(
         excesses.as_slice(),
         path.instance().lectures(course) as usize,
     )
+}
+
+/// Whether some live cell of the course in the period seats its students.
+fn is_seated<'i, P: Path<'i>>(path: &P, course: u32, slot: Slot) -> bool
+    requires course { course < length (P.problem path.now).courses }
+    requires day { slot.day < (P.problem path.now).days }
+    requires period { slot.period < (P.problem path.now).periods }
+    ensures { result ≡ is_seated (P.problem path.now) (P.facts path.now) course slot }
+{
+    path.least_excess(course, slot.day, slot.period) == Some(0)
+}
+
+/// Whether a course has as many periods that seat its students as lectures. Its seats are worth nothing then.
+pub fn has_seats<'i, P: Path<'i>>(path: &P, course: u32) -> bool
+    requires { course < length (P.problem path.now).courses }
+    ensures { result ≡ true → lectures (P.problem path.now) course ≤ seated_periods (P.problem path.now) (P.facts path.now) course }
+{
+    let instance = path.instance();
+    let wanted = instance.lectures(course);
+    let mut seated = 0;
+    for place in 0..slot_count(instance) {
+        if is_seated(path, course, slot_at(instance, place)) {
+            seated += 1;
+            if wanted <= seated {
+                return true;
+            }
+        }
+    }
+    false
 }

@@ -1,15 +1,15 @@
 //! Leaves found and judged on paths whose facts are the instance's.
 
-ghost use Rattle.std.specs.Prelude.{◌≡◌, ◌<◌, length, true};
+ghost use Rattle.std.specs.Prelude.{◌≡◌, ◌<◌, true};
 ghost use Rattle.tt_facts.specs.Facts.{IsPattern, IsGiven, IsWho};
 ghost use Rattle.tt_find.specs.Found.{ArePatterns};
 ghost use Rattle.tt_leaf.specs.Ranges.{IsLeafOf};
 
 use std::alloc::{AllocError, Global};
 use tt_facts::{Fact, Path, Pattern, Who};
-use tt_find::{best_claims, find_leaf};
+use tt_find::find_leaf;
 use tt_instance::Instance;
-use tt_leaf::{Bound, CourseList, Leaf, holds};
+use tt_leaf::{Bound, Leaf, holds};
 
 fn is_given(given: Option<u32>, count: u32) -> bool
     ensures { result ≡ true → IsGiven count given }
@@ -54,8 +54,8 @@ pub fn push<'i, P: Path<'i>>(path: &mut P, fact: Fact) -> bool
     }
 }
 
-/// Whether a found leaf is right by the judge.
-fn is_right<'i, P: Path<'i>>(path: &P, leaf: &Leaf, bound: Bound) -> bool
+/// Whether a leaf is right by the judge.
+pub fn is_right<'i, P: Path<'i>>(path: &P, leaf: &Leaf, bound: Bound) -> bool
     requires { IsLeafOf (P.problem path.now) leaf.now }
 {
     holds(path, leaf, bound).is_ok()
@@ -89,45 +89,6 @@ pub fn find<'i, P: Path<'i>, Q: Path<'i>>(
             }
         }
     }
-}
-
-fn is_clique<'i, P: Path<'i>>(
-    alloc: Global,
-    path: &P,
-    course: u32,
-    bound: Bound,
-) -> Result<bool, AllocError>
-    requires { course < length (P.problem path.now).courses }
-{
-    let mut courses = Vec::new(alloc);
-    courses.push(course)?;
-    Ok(is_right(path, &Leaf::Clique(CourseList::new(courses)), bound))
-}
-
-fn is_closed_by_course<'i, P: Path<'i>>(
-    alloc: Global,
-    path: &P,
-    course: u32,
-    bound: Bound,
-) -> Result<bool, AllocError>
-    requires { course < length (P.problem path.now).courses }
-{
-    Ok(is_right(path, &Leaf::Many(course), bound) || is_clique(alloc, path, course, bound)?)
-}
-
-/// Whether a Many, a Clique of one course or the leaf of the best claims is right by the judge.
-pub fn is_closed<'i, P: Path<'i>>(
-    alloc: Global,
-    path: &P,
-    bound: Bound,
-) -> Result<bool, AllocError> {
-    for course in 0..path.instance().courses() {
-        if is_closed_by_course(alloc, path, course, bound)? {
-            return Ok(true);
-        }
-    }
-    let best = best_claims(alloc, path)?;
-    Ok(is_right(path, &best, bound))
 }
 
 /// A leaf that is found behind some facts, each of which has to be the instance's.

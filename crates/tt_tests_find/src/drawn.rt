@@ -3,7 +3,8 @@
 ghost use Rattle.std.specs.Prelude.{◌≡◌, []};
 ghost use Rattle.tt_find.specs.Found.{ArePatterns};
 
-use crate::checked::{Found, find, is_closed, push};
+use crate::checked::{Found, find, push};
+use crate::judged::is_closed;
 use std::alloc::{AllocError, Global};
 use std::test::Fail;
 use tt_facts::{Fact, Path, Pattern, PlainPath, Who};
@@ -76,7 +77,7 @@ fn push_drawn<'i, P: Path<'i>>(path: &mut P, seed: u64)
     }
 }
 
-/// Whether both paths find a leaf that is right, or neither finds one and none of the simple leaves is right.
+/// Whether both paths find a leaf that is right, or neither finds one and none of the listed leaves is right, by both.
 fn is_same<'i, P: Path<'i>, Q: Path<'i>>(
     alloc: Global,
     plain: &P,
@@ -89,7 +90,7 @@ fn is_same<'i, P: Path<'i>, Q: Path<'i>>(
 {
     let first = find(alloc, plain, plain, bound)?;
     let second = find(alloc, trail, plain, bound)?;
-    let closed = is_closed(alloc, plain, bound)?;
+    let closed = is_closed(alloc, plain, bound)? || is_closed(alloc, trail, bound)?;
     Ok(match (first, second) {
         (Found::Right, Found::Right) => true,
         (Found::Nothing, Found::Nothing) => !closed,

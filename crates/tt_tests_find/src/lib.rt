@@ -7,3 +7,5 @@ mod checked;
 mod drawn;
 #[cfg(test)]
 mod finding;
+#[cfg(test)]
+mod judged;

@@ -1,5 +1,4 @@
-use Rattle.std.proofs.Common.{◌≡◌, ◌<◌, ◌≤◌, ◌-◌, get_or, length, sym, ◌∙◌, arith}
-use Rattle.tt_facts.specs.declared.facts.Fact.{Fact}
+use Rattle.std.proofs.Common.{sym, ◌∙◌, arith}
 use Rattle.tt_branch.proofs.Moving.{one_more, same_fact}
 use Rattle.tt_branch.proofs.moves.shared.Goals as goal
 

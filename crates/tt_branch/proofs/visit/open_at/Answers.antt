@@ -57,7 +57,7 @@ returns-clause-under_way g c =
     let p = g.P.Path.problem c.args.path.now in
     let s = c.args.search.now in
     let read = c.index.result.now in
-    let put : Entry = record { mark = c.in_ok-mark.field-0.mark; link = read.link; key = c.in_ok-mark.field-0.key; rises = c.in_ok-mark.field-0.rises } in
+    let put : Entry = record { mark = c.in_ok-mark.field-0.mark; link = read.link; key = c.in_ok-mark.field-0.key; rises = c.in_ok-rises.rises } in
     let there = c.in_ok-go_to.ensures.there ∙ ap (λ (l : List Link). path_at l read.link) c.as_slice.ensures.value in
     let made = opening_there p (g.P.Path.problem c.go_to.new.path) (g.P.Path.facts c.go_to.new.path) s.best c.open.new.best s.links.items s.entries.items c.put.new.entries.items c.args.place read put
     c.in_ok-go_to.ensures.same there c.index.ensures c.requires.waiting c.requires.under_way.grown c.in_ok-mark.ensures.better c.in_ok-mark.ensures.known c.in_ok-mark.ensures.opened c.in_ok-mark.ensures.single refl c.put.ensures in
@@ -72,7 +72,7 @@ returns-clause-opened g c =
     let p = g.P.Path.problem c.args.path.now in
     let s = c.args.search.now in
     let read = c.index.result.now in
-    let put : Entry = record { mark = c.in_ok-mark.field-0.mark; link = read.link; key = c.in_ok-mark.field-0.key; rises = c.in_ok-mark.field-0.rises } in
+    let put : Entry = record { mark = c.in_ok-mark.field-0.mark; link = read.link; key = c.in_ok-mark.field-0.key; rises = c.in_ok-rises.rises } in
     let there = c.in_ok-go_to.ensures.there ∙ ap (λ (l : List Link). path_at l read.link) c.as_slice.ensures.value in
     let made = opening_there p (g.P.Path.problem c.go_to.new.path) (g.P.Path.facts c.go_to.new.path) s.best c.open.new.best s.links.items s.entries.items c.put.new.entries.items c.args.place read put
     c.in_ok-go_to.ensures.same there c.index.ensures c.requires.waiting c.requires.under_way.grown c.in_ok-mark.ensures.better c.in_ok-mark.ensures.known c.in_ok-mark.ensures.opened c.in_ok-mark.ensures.single refl c.put.ensures in

@@ -1,0 +1,408 @@
+//! The choice of a course and a period by what both children would come to. Of the choice nothing is proved.
+
+ghost use Rattle.std.specs.Prelude.{◌<◌, length};
+
+use crate::conflicts::{Conflicts, CourseSet, bit_in, first_course};
+use crate::neighbours::Neighbours;
+use crate::prospects::{Prospects, bit_of};
+use std::alloc::{AllocError, Global};
+use tt_instance::{Instance, Slot};
+
+/// The parts of a cost point in which a gain is counted: a sixteenth of a bit of the ways to choose is worth 16 of them.
+const POINT: u64 = 12_288;
+
+/// The gain of a child that a leaf closes, in parts.
+const CLOSED: u64 = 64 * POINT;
+
+/// The cost of an isolated lecture.
+const ISOLATED: u64 = 2;
+
+/// What a pinned period is worth that may still be left alone, by how many live members are beside it, in
+/// parts: a hundredth of a point, and 0.8 as much for each of them.
+const NEARLY_ALONE: [u64; 9] = [123, 98, 79, 63, 50, 40, 32, 26, 21];
+
+/// What a child gains on its parent.
+#[derive(Clone, Copy)]
+struct Gain {
+    /// How much more its claims are worth, in cost points.
+    cost: u64,
+    /// What makes it likely to be worth more below, in parts.
+    hope: u64,
+}
+
+impl Gain {
+    const NONE: Gain = Gain { cost: 0, hope: 0 };
+
+    fn add(&mut self, more: Gain) {
+        self.cost = self.cost.saturating_add(more.cost);
+        self.hope = self.hope.saturating_add(more.hope);
+    }
+
+    /// In parts, and never nothing.
+    fn parts(self) -> u64 {
+        self.cost
+            .saturating_mul(POINT)
+            .saturating_add(self.hope)
+            .max(1)
+    }
+}
+
+/// What the two children of a split would gain.
+#[derive(Clone, Copy)]
+struct Gains {
+    yes: Gain,
+    no: Gain,
+}
+
+/// A course and a period to split by.
+#[derive(Clone, Copy)]
+pub struct Candidate {
+    pub course: u32,
+    pub day: u32,
+    pub period: u32,
+    score: u64,
+}
+
+/// The tables that a choice is made from.
+#[derive(Clone, Copy)]
+struct Scene<'s, 'i> {
+    instance: &'s Instance<'i>,
+    prospects: &'s Prospects,
+    neighbours: &'s Neighbours,
+    conflicts: &'s Conflicts,
+}
+
+fn weight(beside: u32) -> u64 {
+    NEARLY_ALONE.get(beside as usize).copied().unwrap_or(0)
+}
+
+/// What a fall of the ways to choose is worth, in parts.
+fn worth_of_fall(fall: u32) -> u64 {
+    u64::from(fall).saturating_mul(16)
+}
+
+/// What it is worth that a course loses an open period.
+fn loss(prospects: &Prospects, course: u32, slot: Slot) -> Gain {
+    let Some(prospect) = prospects.of(course) else {
+        return Gain::NONE;
+    };
+    let leeway = prospect.leeway;
+    let is_last = prospects.on(course, slot.day).live() == bit_of(slot.period);
+    Gain {
+        cost: if is_last {
+            prospect.days_less.saturating_sub(prospect.days)
+        } else {
+            0
+        },
+        hope: if leeway.open <= leeway.left {
+            CLOSED
+        } else {
+            worth_of_fall(prospect.fall_barred)
+        },
+    }
+}
+
+/// What it is worth for the course itself that it is in an open period.
+fn hold(prospects: &Prospects, course: u32) -> Gain {
+    let Some(prospect) = prospects.of(course) else {
+        return Gain::NONE;
+    };
+    Gain {
+        cost: 0,
+        hope: if prospect.leeway.left == 0 {
+            CLOSED
+        } else {
+            worth_of_fall(prospect.fall_pinned)
+        },
+    }
+}
+
+/// What a pinned period of a curriculum gains when so many members beside it lose a period.
+fn isolation(beside: u32, lost: u32) -> Gain {
+    let left = beside.saturating_sub(lost);
+    if left == beside {
+        return Gain::NONE;
+    }
+    if left == 0 {
+        return Gain {
+            cost: ISOLATED,
+            hope: 0,
+        };
+    }
+    Gain {
+        cost: 0,
+        hope: weight(left).saturating_sub(weight(beside)),
+    }
+}
+
+/// What the pinned periods beside a period gain when so many members lose it.
+fn thin_out(neighbours: &Neighbours, curriculum: u32, slot: Slot, lost: u32) -> Gain {
+    let mut gain = Gain::NONE;
+    let pinned = neighbours.pinned(curriculum, slot.day);
+    if let Some(before) = slot.period.checked_sub(1)
+        && pinned & bit_of(before) != 0
+    {
+        let beside = neighbours.beside(curriculum, slot.day, before);
+        gain.add(isolation(beside, lost));
+    }
+    let after = slot.period.saturating_add(1);
+    if pinned & bit_of(after) != 0 {
+        let beside = neighbours.beside(curriculum, slot.day, after);
+        gain.add(isolation(beside, lost));
+    }
+    gain
+}
+
+/// What it is worth that a period of a curriculum is pinned.
+fn pin(neighbours: &Neighbours, curriculum: u32, slot: Slot) -> Gain {
+    if neighbours.pinned(curriculum, slot.day) & bit_of(slot.period) != 0 {
+        return Gain::NONE;
+    }
+    let beside = neighbours.beside(curriculum, slot.day, slot.period);
+    if beside == 0 {
+        return Gain {
+            cost: ISOLATED,
+            hope: 0,
+        };
+    }
+    Gain {
+        cost: 0,
+        hope: weight(beside),
+    }
+}
+
+impl Gains {
+    const NONE: Gains = Gains {
+        yes: Gain::NONE,
+        no: Gain::NONE,
+    };
+}
+
+fn gains_of(gains: &[Gains], course: u32) -> Gains {
+    gains.get(course as usize).copied().unwrap_or(Gains::NONE)
+}
+
+fn add_yes(gains: &mut [Gains], course: u32, gain: Gain) {
+    if let Some(both) = gains.get_mut(course as usize) {
+        both.yes.add(gain);
+    }
+}
+
+fn add_no(gains: &mut [Gains], course: u32, gain: Gain) {
+    if let Some(both) = gains.get_mut(course as usize) {
+        both.no.add(gain);
+    }
+}
+
+/// What the courses of a word gain without a period, in all.
+fn sum_of_no(gains: &[Gains], word: u32, set: u64) -> Gain {
+    let mut gain = Gain::NONE;
+    let mut left = set;
+    for _ in 0..set.count_ones() {
+        gain.add(gains_of(gains, first_course(word, left)).no);
+        left &= left.wrapping_sub(1);
+    }
+    gain
+}
+
+/// The periods beside a period, as bits.
+fn beside(period: u32) -> u64 {
+    let before = period.checked_sub(1).map_or(0, bit_of);
+    before | bit_of(period.saturating_add(1))
+}
+
+impl Scene<'_, '_> {
+    /// The courses with an open period there.
+    fn open_at(&self, alloc: Global, slot: Slot) -> Result<Vec<u32>, AllocError> {
+        (0..self.instance.courses())
+            .filter(|course| self.prospects.is_open(*course, slot.day, slot.period))
+            .collect(alloc)
+    }
+
+    /// Starts with what each course itself gains.
+    fn start(&self, slot: Slot, open: &[u32], gains: &mut [Gains]) {
+        for course in open {
+            if let Some(both) = gains.get_mut(*course as usize) {
+                *both = Gains {
+                    yes: hold(self.prospects, *course),
+                    no: loss(self.prospects, *course, slot),
+                };
+            }
+        }
+    }
+
+    /// What the courses that conflict with one gain when it is in the period.
+    fn rivals(&self, course: u32, set: &CourseSet, gains: &[Gains]) -> Gain {
+        let mut gain = Gain::NONE;
+        for word in 0..self.conflicts.words() {
+            let rivals = self.conflicts.word(course, word) & set.word(word);
+            gain.add(sum_of_no(gains, word, rivals));
+        }
+        gain
+    }
+
+    fn add_rivals(&self, open: &[u32], set: &CourseSet, gains: &mut [Gains]) {
+        for course in open {
+            let gain = self.rivals(*course, set, gains);
+            add_yes(gains, *course, gain);
+        }
+    }
+
+    /// How many members of a curriculum lose a period to a course of another.
+    fn lost(&self, curriculum: u32, course: u32, slot: Slot) -> u32
+        requires { curriculum < length self.now.instance.now.curricula }
+    {
+        let mut lost: u32 = 0;
+        for member in self.instance.members(curriculum) {
+            if self.instance.conflict(course, *member)
+                && self.prospects.is_open(*member, slot.day, slot.period)
+            {
+                lost = lost.saturating_add(1);
+            }
+        }
+        lost
+    }
+
+    /// The courses of a word that conflict with a member whose period is open, and are no members.
+    fn others_in(&self, curriculum: u32, slot: Slot, word: u32) -> u64
+        requires { curriculum < length self.now.instance.now.curricula }
+    {
+        let mut rivals: u64 = 0;
+        let mut members: u64 = 0;
+        for member in self.instance.members(curriculum) {
+            members |= bit_in(word, *member);
+            if self.prospects.is_open(*member, slot.day, slot.period) {
+                rivals |= self.conflicts.word(*member, word);
+            }
+        }
+        rivals & !members
+    }
+
+    /// Adds what the pinned periods of a curriculum gain from some courses of a word.
+    fn add_word(&self, curriculum: u32, slot: Slot, word: u32, others: u64, gains: &mut [Gains])
+        requires { curriculum < length self.now.instance.now.curricula }
+    {
+        let mut left = others;
+        for _ in 0..others.count_ones() {
+            let course = first_course(word, left);
+            left &= left.wrapping_sub(1);
+            let lost = self.lost(curriculum, course, slot);
+            add_yes(
+                gains,
+                course,
+                thin_out(self.neighbours, curriculum, slot, lost),
+            );
+        }
+    }
+
+    /// Adds what the pinned periods of a curriculum gain from courses of others.
+    fn add_others(&self, curriculum: u32, slot: Slot, set: &CourseSet, gains: &mut [Gains])
+        requires { curriculum < length self.now.instance.now.curricula }
+    {
+        for word in 0..self.conflicts.words() {
+            let others = self.others_in(curriculum, slot, word) & set.word(word);
+            self.add_word(curriculum, slot, word, others, gains);
+        }
+    }
+
+    /// Adds what a curriculum gains.
+    fn add_curriculum(&self, curriculum: u32, slot: Slot, set: &CourseSet, gains: &mut [Gains])
+        requires { curriculum < length self.now.instance.now.curricula }
+    {
+        let others = self
+            .neighbours
+            .live(curriculum, slot.day, slot.period)
+            .saturating_sub(1);
+        let mut yes = pin(self.neighbours, curriculum, slot);
+        yes.add(thin_out(self.neighbours, curriculum, slot, others));
+        let no = thin_out(self.neighbours, curriculum, slot, 1);
+        for member in self.instance.members(curriculum) {
+            add_yes(gains, *member, yes);
+            add_no(gains, *member, no);
+        }
+        if self.neighbours.pinned(curriculum, slot.day) & beside(slot.period) != 0 {
+            self.add_others(curriculum, slot, set, gains);
+        }
+    }
+
+    fn add_curricula(&self, slot: Slot, set: &CourseSet, gains: &mut [Gains]) {
+        for curriculum in 0..self.instance.curricula() {
+            self.add_curriculum(curriculum, slot, set, gains);
+        }
+    }
+
+    /// The best candidate of a period, if it is better.
+    fn best_at(
+        &self,
+        alloc: Global,
+        slot: Slot,
+        gains: &mut [Gains],
+        found: Option<Candidate>,
+    ) -> Result<Option<Candidate>, AllocError> {
+        let open = self.open_at(alloc, slot)?;
+        let set = CourseSet::new(alloc, self.instance, &open)?;
+        self.start(slot, &open, gains);
+        self.add_rivals(&open, &set, gains);
+        self.add_curricula(slot, &set, gains);
+        Ok(best_of(slot, &open, gains, found))
+    }
+
+    fn best_on(
+        &self,
+        alloc: Global,
+        day: u32,
+        gains: &mut [Gains],
+        found: Option<Candidate>,
+    ) -> Result<Option<Candidate>, AllocError> {
+        let mut found = found;
+        for period in 0..self.instance.periods() {
+            found = self.best_at(alloc, Slot { day, period }, gains, found)?;
+        }
+        Ok(found)
+    }
+}
+
+/// The best of the open courses of a period, or the one that was found before.
+fn best_of(
+    slot: Slot,
+    open: &[u32],
+    gains: &[Gains],
+    found: Option<Candidate>,
+) -> Option<Candidate> {
+    let mut found = found;
+    for course in open {
+        let Gains { yes, no } = gains_of(gains, *course);
+        let score = yes.parts().saturating_mul(no.parts());
+        if found.is_none_or(|best| score > best.score) {
+            found = Some(Candidate {
+                course: *course,
+                day: slot.day,
+                period: slot.period,
+                score,
+            });
+        }
+    }
+    found
+}
+
+/// The course and the period whose children gain most, one with the other.
+pub fn best_candidate(
+    alloc: Global,
+    instance: &Instance<'_>,
+    prospects: &Prospects,
+) -> Result<Option<Candidate>, AllocError> {
+    let neighbours = Neighbours::new(alloc, instance, prospects)?;
+    let conflicts = Conflicts::new(alloc, instance)?;
+    let mut gains = vec![in alloc; Gains::NONE; instance.courses() as usize]?;
+    let scene = Scene {
+        instance,
+        prospects,
+        neighbours: &neighbours,
+        conflicts: &conflicts,
+    };
+    let mut found = None;
+    for day in 0..instance.days() {
+        found = scene.best_on(alloc, day, gains.as_mut_slice(), found)?;
+    }
+    Ok(found)
+}
