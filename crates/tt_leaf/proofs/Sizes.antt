@@ -31,7 +31,7 @@ distinct-le n ns apart below =
       | inl h ↦ inr (any_below (λ m. k == m) n k h (eq-eqb k k refl))
       | inr h ↦ inl (cond-false {A = ℕ} (nat_lt k n) 1 0 (le-ltb k n h))
     ] in
-    let spread = distinct_sum (λ a b. a == b) eqb-true (λ a. eq-eqb a a refl) one ns (numbers_below n) apart there in
+    let spread = distinct_sum (λ a b. a == b) eqb-true (λ a. eq-eqb a a refl) one ns (numbers_below n) apart (λ y m. there y) in
     omega (arith, length-le_sum one ns each_one, spread, count_by-le-length (λ k. nat_lt k n) (numbers_below n), length-range_with_len 0 n)
 
 -- no more prices than numbers
@@ -104,5 +104,5 @@ module _ (p : Problem) where
         | inl e ↦ inr e
         | inr e ↦ inl (cond-false {A = ℕ} (there t) 1 0 e)
       ] in
-      let spread = distinct_sum same_target same_target-true same_target-itself one (claimed claims) (all_targets p) apart found in
+      let spread = distinct_sum same_target same_target-true same_target-itself one (claimed claims) (all_targets p) apart (λ y m. found y) in
       omega (arith, length-le_sum one (claimed claims) each_one, spread, count_by-le-length there (all_targets p), length-all_targets p)

@@ -40,14 +40,14 @@ nothing_if true k h = absurd (h refl)
 nothing_if false k h = zero-le
 
 -- a sum over different elements is at most the sum over a list that has each of them, but for those that add nothing
-pub distinct_sum : {X : Type 0} (same : X → X → Bool) → ((x y : X) → same x y ≡ true → x ≡ y) → ((x : X) → same x x ≡ true) → (f : X → ℕ) (ys xs : List X) → each_two (λ a b. not (same a b)) ys ≡ true → ((y : X) → (f y ≡ 0) ⊎ (list_any (same y) xs ≡ true)) → sum_by f ys ≤ sum_by f xs
+pub distinct_sum : {X : Type 0} (same : X → X → Bool) → ((x y : X) → same x y ≡ true → x ≡ y) → ((x : X) → same x x ≡ true) → (f : X → ℕ) (ys xs : List X) → each_two (λ a b. not (same a b)) ys ≡ true → ((y : X) → Contains ys y → (f y ≡ 0) ⊎ (list_any (same y) xs ≡ true)) → sum_by f ys ≤ sum_by f xs
 distinct_sum {X} same is itself f ys xs apart there =
-    let up = spread_up f (λ x y. cond (same y x) (f x) 0) ys xs (each (λ y. f y ≤ sum_by (λ x. cond (same y x) (f x) 0) xs) found ys) in
+    let up = spread_up f (λ x y. cond (same y x) (f x) 0) ys xs (each_member (λ y. f y ≤ sum_by (λ x. cond (same y x) (f x) 0) xs) ys found) in
     let down = sum_by-le (λ x. sum_by (λ y. cond (same y x) (f x) 0) ys) f xs (each (λ x. sum_by (λ y. cond (same y x) (f x) 0) ys ≤ f x) once xs) in
     omega arith
   where
-    found : (y : X) → f y ≤ sum_by (λ x. cond (same y x) (f x) 0) xs
-    found y = elim (there y) [
+    found : (y : X) → Contains ys y → f y ≤ sum_by (λ x. cond (same y x) (f x) 0) xs
+    found y m = elim (there y m) [
       | inl e ↦ omega arith
       | inr a ↦
           let w = member_from_any (same y) xs a in
@@ -163,7 +163,7 @@ module _ (p : Problem) where
 
   module _ (t : List Cell) (ok : IsFeasible p t) where
     -- the parts of all targets together are the cost
-    parts_of_cost : sum_by (part p t) (all_targets p) ≤ cost p t
+    pub parts_of_cost : sum_by (part p t) (all_targets p) ≤ cost p t
     parts_of_cost =
         let f = part p t in
         let a = sum_by-append f capacity (days ++ (compactness ++ stability)) in
@@ -178,7 +178,7 @@ module _ (p : Problem) where
     no_entry c h x m e = let r = in_range p t ok x m in let k = eqb-true x.course c e in absurd (omega (arith, r.course))
 
     -- a target is there, or its part is 0
-    target_there : (y : Target) → (part p t y ≡ 0) ⊎ (list_any (same_target y) (all_targets p) ≡ true)
+    pub target_there : (y : Target) → (part p t y ≡ 0) ⊎ (list_any (same_target y) (all_targets p) ≡ true)
     target_there (RoomCapacity c) = elim (cases_lt c (length p.courses)) [
       | inl h ↦ inr (capacity_there c h)
       | inr h ↦ inl (let k = sum_by-le (λ e. cond (is_of c e) (excess p e.course e.room) 0) (λ e. 0) t
@@ -211,17 +211,23 @@ module _ (p : Problem) where
       claim_sound (Prices courses rooms) once fair = priced_sound p t ok path fits courses rooms once fair
       claim_sound (Stacked c) once fair = omega (arith, stacked_sound p t ok path fits c)
 
-      each_claim_sound : (claims : List Claim) → claims_once claims ≡ true → list_all (is_fair p path) claims ≡ true → AllByRecursion (λ c. value_of p path c ≤ sum_by (part p t) (targets_of c)) claims
+      pub each_claim_sound : (claims : List Claim) → claims_once claims ≡ true → list_all (is_fair p path) claims ≡ true → AllByRecursion (λ c. value_of p path c ≤ sum_by (part p t) (targets_of c)) claims
       each_claim_sound [] once fair = tt
       each_claim_sound (c ∷ cs) once fair =
           let a = each_two-of_append (λ a b. not (same_target a b)) (targets_of c) (claimed cs) once in
           let b = and_parts (is_fair p path c) (list_all (is_fair p path) cs) fair in
           (claim_sound c a.0 b.0, each_claim_sound cs a.1 b.1)
 
-      pub claims_sound : (claims : List Claim) → claims_once claims ≡ true → list_all (is_fair p path) claims ≡ true → total_of p path claims ≤ cost p t
-      claims_sound claims once fair =
+      -- claims of different targets are together worth no more than the parts of a list that has each of these, but for those whose part is 0
+      pub claims_sound_over : (claims : List Claim) (targets : List Target) → claims_once claims ≡ true → list_all (is_fair p path) claims ≡ true → ((y : Target) → Contains (claimed claims) y → (part p t y ≡ 0) ⊎ (list_any (same_target y) targets ≡ true)) → total_of p path claims ≤ sum_by (part p t) targets
+      claims_sound_over claims targets once fair there =
           let values = sum_by-le (value_of p path) (λ c. sum_by (part p t) (targets_of c)) claims (each_claim_sound claims once fair) in
           let joined = sum_by-of_flat_map (part p t) targets_of claims in
-          let distinct = distinct_sum same_target same_target-true same_target-itself (part p t) (claimed claims) (all_targets p) once target_there in
+          let distinct = distinct_sum same_target same_target-true same_target-itself (part p t) (claimed claims) targets once there in
+          omega arith
+
+      pub claims_sound : (claims : List Claim) → claims_once claims ≡ true → list_all (is_fair p path) claims ≡ true → total_of p path claims ≤ cost p t
+      claims_sound claims once fair =
+          let own = claims_sound_over claims (all_targets p) once fair (λ y m. target_there y) in
           let all = parts_of_cost in
           omega arith

@@ -22,6 +22,7 @@ use Rattle.tt_proof_check.specs.declared.fault.CheckFault.{CheckFault}
 use Rattle.tt_proof_check.specs.declared.fault.CheckFault.TheVariants as told
 use Rattle.tt_proof_check.specs.FailedReads.{NodeBreaksOff}
 use Rattle.tt_proof_check.specs.Faults.{text_fault}
+use Rattle.tt_proof_check.specs.Heard.{Heard}
 use Rattle.tt_proof_check.specs.Pending.{pending}
 use Rattle.tt_proof_check.specs.Steps.{Steps, Stops}
 use Rattle.tt_proof_check.specs.Judged.{Judged, TellsNodes, TellsChild}
@@ -40,8 +41,17 @@ reads_push sizes v count s t u (m ∷ ms) n r e =
     let here : count + length (m ∷ ms) ≡ (count + 1) + length ms = omega arith in
     (r.0, r.1, reads_push sizes v (count + 1) r.0 t u ms n r.2 (ap (λ (k : ℕ). node_at sizes v k t) (sym here) ∙ e))
 
--- What has been read and judged, in this state of the reader, with this stream behind it and the path of the node that is due.
-pub record Sofar (p : Problem) (v : ℕ) (b : Bound) (known : Bool) (s : Stream) (reader : Reader) (t : Stream) (path : List Fact) : Type 0 where
+-- one more is heard
+pub heard_push : {X : Type 0} (hears : X → ℕ → Node → X → Type 0) (i : ℕ) (old mid new : X) (k : ℕ) (n : Node) → hears mid k n new → (nodes : List Node) → k ≡ i + length nodes → Heard hears i old mid nodes → Heard hears i old new (nodes ++ n ∷ [])
+heard_push hears i old mid new k n h [] c e =
+    let here : k ≡ i = omega (arith, c) in
+    (new, subst (λ x. hears x i n new) e (subst (λ j. hears mid j n new) here h), refl)
+heard_push hears i old mid new k n h (m ∷ ms) c e =
+    let here : k ≡ (i + 1) + length ms = omega (arith, c) in
+    (e.0, e.1, heard_push hears (i + 1) e.0 mid new k n h ms here e.2)
+
+-- What has been read, judged and heard, in this state of the reader, with this stream behind it and the path of the node that is due.
+pub record Sofar (p : Problem) (v : ℕ) (b : Bound) (known : Bool) (H : List Node → Type 0) (s : Stream) (reader : Reader) (t : Stream) (path : List Fact) : Type 0 where
   pub nodes : List Node
   pub due : Bool
   pub walked : Walked p b nodes path due
@@ -51,10 +61,11 @@ pub record Sofar (p : Problem) (v : ℕ) (b : Bound) (known : Bool) (s : Stream)
   pub sizes : AreSizes p reader.sizes
   pub version : reader.version ≡ v
   pub sound : reader.fault ≡ None
+  pub heard : H nodes
 
-pub sofar_start : (p : Problem) (b : Bound) (known : Bool) (s : Stream) (reader : Reader) (path : List Fact) → path ≡ [] → reader.count ≡ 0 → reader.places ≡ 1 → AreSizes p reader.sizes → reader.fault ≡ None
-    → Sofar p reader.version b known s reader s path
-sofar_start p b known s reader path e c d sizes sound = record {
+pub sofar_start : (p : Problem) (b : Bound) (known : Bool) (H : List Node → Type 0) (s : Stream) (reader : Reader) (path : List Fact) → path ≡ [] → reader.count ≡ 0 → reader.places ≡ 1 → AreSizes p reader.sizes → reader.fault ≡ None → H []
+    → Sofar p reader.version b known H s reader s path
+sofar_start p b known H s reader path e c d sizes sound heard = record {
   nodes = [];
   due = true;
   walked = walked_start p b path e;
@@ -64,6 +75,7 @@ sofar_start p b known s reader path e c d sizes sound = record {
   sizes = sizes;
   version = refl;
   sound = sound;
+  heard = heard;
 }
 
 pub same_length : (x y : Stack) → Some x ≡ Some y → length x ≡ length y
@@ -126,7 +138,7 @@ told_child p v b s t nodes i d len reads (told.TooDeep j) c =
     }
 told_child p v b s t nodes i d len reads told.OutOfMemory c = tt
 
-module _ (p : Problem) (v : ℕ) (b : Bound) (known : Bool) (s : Stream) (old : Reader) (t : Stream) (path : List Fact) (m : Sofar p v b known s old t path) where
+module _ (p : Problem) (v : ℕ) (b : Bound) (known : Bool) (H : List Node → Type 0) (s : Stream) (old : Reader) (t : Stream) (path : List Fact) (m : Sofar p v b known H s old t path) where
   -- where a place is open, a node is due
   is_due : 0 < old.places → Walked p b m.nodes path true × (length (path ∷ pending path) ≡ old.places)
   is_due some = on m.due m.walked m.places
@@ -149,8 +161,8 @@ module _ (p : Problem) (v : ℕ) (b : Bound) (known : Bool) (s : Stream) (old : 
         let text = node_as old.sizes (sizes_of p) old.version v old.count t (λ r. r ≡ Ok (n, u)) same_sizes m.version (says k) in
         reads_push (sizes_of p) v 0 s t u m.nodes n (m.reads k) (ap (λ (i : ℕ). node_at (sizes_of p) v i t) here ∙ text)
 
-    pub sofar_next : (next : List Fact) → Steps p b path n next → length next ≤ 65536 → Sofar p v b known s new u next
-    sofar_next next step within =
+    pub sofar_next : (G : List Node → Type 0) → ((nodes : List Node) → length nodes ≡ old.count → H nodes → G (nodes ++ n ∷ [])) → (next : List Fact) → Steps p b path n next → length next ≤ 65536 → Sofar p v b known G s new u next
+    sofar_next G hear next step within =
         let w = is_due goes.0 in
         let h = walked_next p b m.nodes path next n w.0 step within in
         record {
@@ -164,6 +176,7 @@ module _ (p : Problem) (v : ℕ) (b : Bound) (known : Bool) (s : Stream) (old : 
           sizes = subst (AreSizes p) (ap (λ (r : Reader). r.sizes) (sym goes.1)) m.sizes;
           version = ap (λ (r : Reader). r.version) goes.1 ∙ m.version;
           sound = ap (λ (r : Reader). r.fault) goes.1 ∙ m.sound;
+          heard = hear m.nodes m.count m.heard;
         }
 
     -- it is a leaf that is not right
@@ -200,10 +213,10 @@ module _ (p : Problem) (v : ℕ) (b : Bound) (known : Bool) (s : Stream) (old : 
         node_breaks p v b s u (m.nodes ++ n ∷ []) d.path d.others d.stack d.passed (read_one k) (ap (λ (i : ℕ). node_at (sizes_of p) v i u) count ∙ fails)
 
   -- the tree is whole: it derives the bound
-  pub sofar_end : (new : Reader) (u : Stream) → Goes old (Ok None) new → (known ≡ true → Says old t (Ok None) u) → Judged p v b known s u
+  pub sofar_end : (new : Reader) (u : Stream) → Goes old (Ok None) new → (known ≡ true → Says old t (Ok None) u) → Judged p v b known H s u
   sofar_end new u goes says = on m.due m.walked m.places
     where
-      on : (due : Bool) → Walked p b m.nodes path due → length (stack_of due path) ≡ old.places → Judged p v b known s u
+      on : (due : Bool) → Walked p b m.nodes path due → length (stack_of due path) ≡ old.places → Judged p v b known H s u
       on true w e = absurd (omega (arith, e, goes.0))
       on false w e =
           let h = walked_end p b m.nodes path w in
@@ -212,6 +225,7 @@ module _ (p : Problem) (v : ℕ) (b : Bound) (known : Bool) (s : Stream) (old : 
             reads = λ k. subst (λ (x : Stream). ReadsNodes (sizes_of p) v 0 s (preorder h.0) x) (sym (says k)) (subst (λ (l : List Node). ReadsNodes (sizes_of p) v 0 s l t) (sym h.1) (m.reads k));
             shallow = h.2;
             derives = h.3;
+            heard = subst H (sym h.1) m.heard;
           }
 
   -- the text of the node that is due fails

@@ -7,6 +7,7 @@ use Rattle.tt_instance.specs.Limits.{IsInstance}
 use Rattle.tt_leaf.specs.declared.leaf.Bound.{Bound}
 use Rattle.tt_proof_text.specs.Reading.{header_at, node_at, end_at}
 use Rattle.tt_proof_text.specs.Reads.{ReadsNodes, Reads}
+use Rattle.tt_proof_text.specs.Spelling.{SpellsProof}
 use Rattle.tt_proof_text.specs.Trees.{Tree, preorder, on_paths}
 use Rattle.tt_proof_text.specs.declared.fault.TextFault.{TextFault}
 use Rattle.tt_proof_text.specs.declared.fault.TextFault.TheVariants as text
@@ -16,6 +17,7 @@ use Rattle.tt_proof_text.proofs.Small.{are_small}
 use Rattle.tt_proof_check.specs.declared.fault.CheckFault.{CheckFault}
 use Rattle.tt_proof_check.specs.declared.fault.CheckFault.TheVariants as told
 use Rattle.tt_proof_check.specs.Derives.{Derives, IsShallow, HoldsOfAll}
+use Rattle.tt_proof_check.specs.Heard.{IsHeardProof}
 use Rattle.tt_proof_check.specs.Judged.{Proved}
 use Rattle.tt_proof_check.specs.Streams.{IsProved, IsSilent, stream_of, sizes_of, Fails, NodeFails, EndFails, IsReadTo, HasHeader, TellsOf}
 use Rattle.tt_proof_check.specs.Tells.{FailsAt, IsDeepAt}
@@ -78,8 +80,8 @@ module _ (p : Problem) (s : Stream) (v : ℕ) (b : Bound) (tree : Tree) (r : Rea
   header_is : (P : ℕ → Bound → Stream → Type 0) → HasHeader s P → P v b r.headed
   header_is P h = subst (λ (x : (ℕ × Bound) × Stream). P x.0.0 x.0.1 x.1) (same_header ((h.0, h.1), h.2) ((v, b), r.headed) (sym h.3 ∙ r.header)) h.4
 
-  pub bound_is : (known : Bool) (c : Bound) → known ≡ true → Proved p known s c → c ≡ b
-  bound_is known c k h = ap (λ (x : (ℕ × Bound) × Stream). x.0.1) (same_header ((h.version, c), (h.reads k).headed) ((v, b), r.headed) (sym (h.reads k).header ∙ r.header))
+  pub bound_is : (known : Bool) (H : List Node → Type 0) (c : Bound) → known ≡ true → Proved p known H s c → c ≡ b
+  bound_is known H c k h = ap (λ (x : (ℕ × Bound) × Stream). x.0.1) (same_header ((h.version, c), (h.reads k).headed) ((v, b), r.headed) (sym (h.reads k).header ∙ r.header))
 
   pub only_silent : IsShallow tree → Derives p b [] tree → (e : CheckFault) → TellsOf p s e → IsSilent e
   only_silent shallow d (told.Text f) (n, inl h) = fails_silently f (header_at s) ((v, b), r.headed) r.header n h
@@ -97,11 +99,11 @@ module _ (p : Problem) (s : Stream) (v : ℕ) (b : Bound) (tree : Tree) (r : Rea
 
 -- ---- the bytes
 
-module _ (p : Problem) (remaining : Option (List ℕ)) where
-  proved_in : (bytes : List ℕ) → remaining ≡ Some bytes → (b : Bound) → Proved p (is_some remaining) (stream_at fresh remaining) b → Proved p true (stream_of bytes) b
-  proved_in bytes e b h = subst (λ (k : Option (List ℕ)). Proved p (is_some k) (stream_at fresh k) b) e h
+module _ (p : Problem) (remaining : Option (List ℕ)) (H : List Node → Type 0) where
+  proved_in : (bytes : List ℕ) → remaining ≡ Some bytes → (b : Bound) → Proved p (is_some remaining) H (stream_at fresh remaining) b → Proved p true H (stream_of bytes) b
+  proved_in bytes e b h = subst (λ (k : Option (List ℕ)). Proved p (is_some k) H (stream_at fresh k) b) e h
 
-  found_in : (bytes : List ℕ) → remaining ≡ Some bytes → (b : Bound) → Proved p (is_some remaining) (stream_at fresh remaining) b → IsProved p bytes b
+  found_in : (bytes : List ℕ) → remaining ≡ Some bytes → (b : Bound) → Proved p (is_some remaining) H (stream_at fresh remaining) b → IsProved p bytes b
   found_in bytes e b h =
       let k = proved_in bytes e b h in
       (k.version, k.tree, reads_spelled p (sizes_of p) (are_sizes_of p) bytes k.version b k.tree k.shallow (k.reads refl), k.derives)
@@ -109,21 +111,55 @@ module _ (p : Problem) (remaining : Option (List ℕ)) where
   told_in : (bytes : List ℕ) → remaining ≡ Some bytes → (x : CheckFault) → TellsOf p (stream_at fresh remaining) x → TellsOf p (stream_of bytes) x
   told_in bytes e x h = subst (λ (k : Option (List ℕ)). TellsOf p (stream_at fresh k) x) e h
 
-  pub proof_found : (r : Result Bound CheckFault) → IfOk r (λ b. Proved p (is_some remaining) (stream_at fresh remaining) b) → IfOk r (λ b. (bytes : List ℕ) → remaining ≡ Some bytes → IsProved p bytes b)
+  pub proof_found : (r : Result Bound CheckFault) → IfOk r (λ b. Proved p (is_some remaining) H (stream_at fresh remaining) b) → IfOk r (λ b. (bytes : List ℕ) → remaining ≡ Some bytes → IsProved p bytes b)
   proof_found (Ok b) h = λ bytes e. found_in bytes e b h
   proof_found (Err x) h = tt
 
-  pub proof_holds : (r : Result Bound CheckFault) → IfOk r (λ b. Proved p (is_some remaining) (stream_at fresh remaining) b) → IfOk r (HoldsOfAll p)
+  pub proof_heard : (r : Result Bound CheckFault) → IfOk r (λ b. Proved p (is_some remaining) H (stream_at fresh remaining) b) → IfOk r (IsHeardProof p remaining H)
+  proof_heard (Ok b) h = record {
+    version = h.version;
+    tree = h.tree;
+    spelled = λ bytes e. reads_spelled p (sizes_of p) (are_sizes_of p) bytes h.version b h.tree h.shallow
+        (subst (λ (k : Option (List ℕ)). Reads (sizes_of p) (stream_at fresh k) h.version b h.tree) e (h.reads (ap is_some e)));
+    derives = h.derives;
+    heard = h.heard;
+  }
+  proof_heard (Err x) h = tt
+
+  pub proof_holds : (r : Result Bound CheckFault) → IfOk r (λ b. Proved p (is_some remaining) H (stream_at fresh remaining) b) → IfOk r (HoldsOfAll p)
   proof_holds (Ok b) h = root_sound p b h.tree h.derives
   proof_holds (Err x) h = tt
 
-  pub proof_only : IsInstance p → (r : Result Bound CheckFault) → IfOk r (λ b. Proved p (is_some remaining) (stream_at fresh remaining) b) → (is_some remaining ≡ true → IfErr r (λ x. TellsOf p (stream_at fresh remaining) x))
+  pub proof_only : IsInstance p → (r : Result Bound CheckFault) → IfOk r (λ b. Proved p (is_some remaining) H (stream_at fresh remaining) b) → (is_some remaining ≡ true → IfErr r (λ x. TellsOf p (stream_at fresh remaining) x))
       → (bytes : List ℕ) (b : Bound) → remaining ≡ Some bytes → IsProved p bytes b → MatchResult r (λ c. c ≡ b) IsSilent
   proof_only is r proved fault bytes b e h =
       let reads = spelled_reads p (sizes_of p) (are_sizes_of p) (are_small p (sizes_of p) is (are_sizes_of p)) bytes h.0 b h.1 h.2 in
       on r proved fault reads
     where
-      on : (x : Result Bound CheckFault) → IfOk x (λ c. Proved p (is_some remaining) (stream_at fresh remaining) c) → (is_some remaining ≡ true → IfErr x (λ y. TellsOf p (stream_at fresh remaining) y))
+      on : (x : Result Bound CheckFault) → IfOk x (λ c. Proved p (is_some remaining) H (stream_at fresh remaining) c) → (is_some remaining ≡ true → IfErr x (λ y. TellsOf p (stream_at fresh remaining) y))
           → Reads (sizes_of p) (stream_of bytes) h.0 b h.1 → MatchResult x (λ c. c ≡ b) IsSilent
-      on (Ok c) done told reads = bound_is p (stream_of bytes) h.0 b h.1 reads true c refl (proved_in bytes e c done)
+      on (Ok c) done told reads = bound_is p (stream_of bytes) h.0 b h.1 reads true H c refl (proved_in bytes e c done)
       on (Err x) done told reads = only_silent p (stream_of bytes) h.0 b h.1 reads h.2.within.depth h.3 x (told_in bytes e x (told (ap is_some e)))
+
+-- a fault of bytes that spell a proof is silent
+pub proved_silent : (p : Problem) → IsInstance p → (bytes : List ℕ) (b : Bound) → IsProved p bytes b → (e : CheckFault) → TellsOf p (stream_of bytes) e → IsSilent e
+proved_silent p is bytes b h e told =
+    only_silent p (stream_of bytes) h.0 b h.1 (spelled_reads p (sizes_of p) (are_sizes_of p) (are_small p (sizes_of p) is (are_sizes_of p)) bytes h.0 b h.1 h.2) h.2.within.depth h.3 e told
+
+-- bytes spell one version, one bound and one tree at most
+pub spelled_once : (p : Problem) → IsInstance p → (bytes : List ℕ) (v w : ℕ) (b c : Bound) (x y : Tree) → SpellsProof p bytes v b x → SpellsProof p bytes w c y → ((v ≡ w) × (b ≡ c)) × (x ≡ y)
+spelled_once p is bytes v w b c x y h k =
+    let small = are_small p (sizes_of p) is (are_sizes_of p) in
+    let r = spelled_reads p (sizes_of p) (are_sizes_of p) small bytes v b x h in
+    let q = spelled_reads p (sizes_of p) (are_sizes_of p) small bytes w c y k in
+    let same = same_header ((v, b), r.headed) ((w, c), q.headed) (sym r.header ∙ q.header) in
+    let version : v ≡ w = ap (λ (z : (ℕ × Bound) × Stream). z.0.0) same in
+    let headed : r.headed ≡ q.headed = ap (λ (z : (ℕ × Bound) × Stream). z.1) same in
+    let nodes : ReadsNodes (sizes_of p) w 0 q.headed (preorder x) r.noded =
+    subst (λ (s : Stream). ReadsNodes (sizes_of p) w 0 s (preorder x) r.noded) headed (subst (λ (u : ℕ). ReadsNodes (sizes_of p) u 0 r.headed (preorder x) r.noded) version r.nodes) in (
+      (version, ap (λ (z : (ℕ × Bound) × Stream). z.0.1) same),
+      elim (compare (sizes_of p) w 0 q.headed r.noded q.noded (preorder x) (preorder y) nodes q.nodes) [
+        | inl m ↦ sym (begins_whole y x m.0 (sym m.1)).0
+        | inr m ↦ (begins_whole x y m.0 (sym m.1)).0
+      ],
+    )

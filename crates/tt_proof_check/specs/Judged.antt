@@ -1,5 +1,5 @@
 -- What has been judged of a proof that is being read, behind a header with this version and bound.
-use Rattle.std.specs.Prelude.{◌≡◌, ℕ, Bool, true, [], Ok, ⊤}
+use Rattle.std.specs.Prelude.{◌≡◌, ℕ, Bool, true, List, [], Ok, ⊤}
 use Rattle.tt_text.specs.Feeds.{Stream}
 use Rattle.tt_instance.specs.Problem.{Problem}
 use Rattle.tt_leaf.specs.declared.leaf.Bound.{Bound}
@@ -15,12 +15,13 @@ use Rattle.tt_proof_check.specs.Derives.{Derives, IsShallow}
 use Rattle.tt_proof_check.specs.Streams.{sizes_of, Fails, NodeFails, IsReadTo}
 use Rattle.tt_proof_check.specs.Tells.{FailsAt, IsDeepAt}
 
--- a tree was read whole, where the bytes are known, and derives the bound
-pub record Judged (p : Problem) (v : ℕ) (b : Bound) (known : Bool) (s after : Stream) : Type 0 where
+-- a tree was read whole, where the bytes are known, and derives the bound; its nodes were heard
+pub record Judged (p : Problem) (v : ℕ) (b : Bound) (known : Bool) (H : List Node → Type 0) (s after : Stream) : Type 0 where
   pub tree : Tree
   pub reads : known ≡ true → ReadsNodes (sizes_of p) v 0 s (preorder tree) after
   pub shallow : IsShallow tree
   pub derives : Derives p b [] tree
+  pub heard : H (preorder tree)
 
 -- what a fault of the nodes says
 abbrev pub TellsNodes : Problem → ℕ → Bound → Stream → CheckFault → Type 0
@@ -36,10 +37,11 @@ TellsChild sizes v count s i (Rule k f) = ⊥
 TellsChild sizes v count s i (TooDeep k) = (k ≡ i) × (child : Node) × (after : Stream) × (node_at sizes v count s ≡ Ok (child, after))
 TellsChild sizes v count s i OutOfMemory = ⊤
 
--- a tree that derives the bound, which the text is, where it is known
-pub record Proved (p : Problem) (known : Bool) (s : Stream) (b : Bound) : Type 0 where
+-- a tree that derives the bound, which the text is, where it is known; its nodes were heard
+pub record Proved (p : Problem) (known : Bool) (H : List Node → Type 0) (s : Stream) (b : Bound) : Type 0 where
   pub version : ℕ
   pub tree : Tree
   pub reads : known ≡ true → Reads (sizes_of p) s version b tree
   pub shallow : IsShallow tree
   pub derives : Derives p b [] tree
+  pub heard : H (preorder tree)

@@ -2,6 +2,7 @@ pub mod Derives
 pub mod FailedReads
 pub mod Faults
 pub mod Headline
+pub mod Heard
 pub mod Judged
 pub mod Nodes
 pub mod Pending

@@ -4,6 +4,7 @@
 mod fault;
 mod headline;
 mod laws;
+mod listener;
 mod preorder;
 mod stream;
 mod walk;
@@ -11,5 +12,6 @@ mod walk;
 pub use fault::{CertifyFault, CheckFault, NodesFault, Verdict};
 pub use headline::certify;
 pub use laws::derived_bounds_hold;
+pub use listener::{Deaf, Listener};
 pub use preorder::check_nodes;
-pub use stream::check_proof;
+pub use stream::{check_proof, hear_proof};

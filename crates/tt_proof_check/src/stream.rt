@@ -10,12 +10,14 @@ ghost use Rattle.tt_proof_text.specs.Sizes.{AreSizes};
 ghost use Rattle.tt_proof_check.specs.Derives.{HoldsOfAll};
 ghost use Rattle.tt_proof_check.specs.FailedReads.{NodeBreaksOff, BreaksOff, TellsRead, UpToFailure, BeforeFailure};
 ghost use Rattle.tt_proof_check.specs.Faults.{TellsMemoryOfText};
+ghost use Rattle.tt_proof_check.specs.Heard.{Heard, Unheard, IsHeardProof};
 ghost use Rattle.tt_proof_check.specs.Nodes.{IsNodeOf};
 ghost use Rattle.tt_proof_check.specs.Steps.{Steps, Stops};
 ghost use Rattle.tt_proof_check.specs.Judged.{Judged, Proved, TellsNodes, TellsChild};
 ghost use Rattle.tt_proof_check.specs.Streams.{stream_of, IsProved, IsSilent, TellsOf};
 
 use crate::fault::CheckFault;
+use crate::listener::{Deaf, Listener};
 use crate::walk::{Stop, take_node};
 use std::alloc::Global;
 use tt_facts::Path;
@@ -57,9 +59,10 @@ fn deep_fault<R: Source>(reader: &mut NodeReader, source: &mut R, node: u32) -> 
     }
 }
 
-/// Reads the nodes of a tree, and judges each before it reads the next.
-fn judge<'i, P: Path<'i>, R: Source>(
+/// Reads the nodes of a tree, and judges each before it reads the next. The listener hears each before it is judged.
+fn judge<'i, P: Path<'i>, R: Source, L: Listener>(
     path: &mut P,
+    listener: &mut L,
     reader: &mut NodeReader,
     source: &mut R,
 ) -> Result<(), CheckFault>
@@ -69,7 +72,7 @@ fn judge<'i, P: Path<'i>, R: Source>(
     requires place { reader.old.places ≡ 1 }
     requires sound { reader.old.fault ≡ None }
     ensures known { StaysKnown (R.remaining source.old) (R.remaining source.new) }
-    ensures judged { OnOk result (Judged (P.problem path.old) reader.old.version reader.old.bound (is_some (R.remaining source.old))
+    ensures judged { OnOk result (Judged (P.problem path.old) reader.old.version reader.old.bound (is_some (R.remaining source.old)) (Heard L.hears 0 listener.old listener.new)
         (stream_at reader.old.fed (R.remaining source.old)) (stream_at reader.new.fed (R.remaining source.new))) }
     ensures whole { OnOk result (reader.new.places ≡ 0) }
     ensures sound { OnOk result (reader.new.fault ≡ None) }
@@ -79,13 +82,14 @@ fn judge<'i, P: Path<'i>, R: Source>(
     ensures fault { is_some (R.remaining source.old) ≡ true →
         IfErr result (λ e. TellsNodes (P.problem path.old) reader.old.version reader.old.bound (stream_at reader.old.fed (R.remaining source.old)) e) }
     ensures broken { OnOk result (BeforeFailure reader.old.fed (R.remaining source.old) reader.new.fed (R.remaining source.new)
-        (Judged (P.problem path.old) reader.old.version reader.old.bound true)) }
+        (Judged (P.problem path.old) reader.old.version reader.old.bound true Unheard)) }
     ensures broken_off { result ≡ Err (CheckFault.Text read_failed) → UpToFailure reader.old.fed (R.remaining source.old) (R.remaining source.new)
         (NodeBreaksOff (P.problem path.old) reader.old.version reader.old.bound) }
 {
     let bound = reader.bound();
     let mut count: u32 = 0;
     while let Some(node) = reader.next_node(source)? {
+        listener.hear(count, &node);
         match take(path, bound, node) {
             Ok(()) => count += 1,
             Err(Stop::Rule(fault)) => return Err(CheckFault::Rule(count, fault)),
@@ -97,14 +101,15 @@ fn judge<'i, P: Path<'i>, R: Source>(
 }
 
 /// Reads a proof and judges it on a path.
-fn read_proof<'i, P: Path<'i>, R: Source>(
+fn read_proof<'i, P: Path<'i>, R: Source, L: Listener>(
     alloc: Global,
     path: &mut P,
+    listener: &mut L,
     source: &mut R,
 ) -> Result<Bound, CheckFault>
     requires { P.facts path.old ≡ [] }
     ensures known { StaysKnown (R.remaining source.old) (R.remaining source.new) }
-    ensures proved { IfOk result (λ b. Proved (P.problem path.old) (is_some (R.remaining source.old)) (stream_at fresh (R.remaining source.old)) b) }
+    ensures proved { IfOk result (λ b. Proved (P.problem path.old) (is_some (R.remaining source.old)) (Heard L.hears 0 listener.old listener.new) (stream_at fresh (R.remaining source.old)) b) }
     ensures failed { result ≡ Err (CheckFault.Text read_failed) → R.has_failed source.new ≡ true }
     ensures unfailed { ¬ (result ≡ Err (CheckFault.Text read_failed)) → R.has_failed source.new ≡ R.has_failed source.old }
     ensures memory { IfErr result TellsMemoryOfText }
@@ -115,9 +120,40 @@ fn read_proof<'i, P: Path<'i>, R: Source>(
 {
     let mut reader = NodeReader::new(alloc, path.instance(), source)?;
     let bound = reader.bound();
-    judge(path, &mut reader, source)?;
+    judge(path, listener, &mut reader, source)?;
     reader.finish(source)?;
     Ok(bound)
+}
+
+/// Checks a proof as it is read, node by node, and answers the bound that it proves; the listener hears each node. It keeps no node.
+pub fn hear_proof<R: Source, L: Listener>(
+    alloc: Global,
+    instance: &Instance<'_>,
+    listener: &mut L,
+    source: &mut R,
+) -> Result<Bound, CheckFault>
+    // A tree derives the bound, the bytes spell it, and the listener has heard its nodes.
+    ensures heard { IfOk result (IsHeardProof instance.now (R.remaining source.old) (Heard L.hears 0 listener.old listener.new)) }
+    ensures found { IfOk result (λ b. (bytes : List ℕ) → R.remaining source.old ≡ Some bytes → IsProved instance.now bytes b) }
+
+    // Where they spell one, its bound is found, unless memory or a read fails.
+    ensures only { (bytes : List ℕ) (b : Bound) → R.remaining source.old ≡ Some bytes → IsProved instance.now bytes b →
+        MatchResult result (λ c. c ≡ b) IsSilent }
+
+    // This holds whatever the source gives.
+    ensures holds { IfOk result (HoldsOfAll instance.now) }
+    ensures failed { result ≡ Err (CheckFault.Text read_failed) → R.has_failed source.new ≡ true }
+    ensures unfailed { ¬ (result ≡ Err (CheckFault.Text read_failed)) → R.has_failed source.new ≡ R.has_failed source.old }
+    ensures memory { IfErr result TellsMemoryOfText }
+    ensures fault { IfErr result (λ e. (bytes : List ℕ) → R.remaining source.old ≡ Some bytes → TellsOf instance.now (stream_of bytes) e) }
+    // Where a read fails, all that the bytes before it say has been judged.
+    ensures broken_off { result ≡ Err (CheckFault.Text read_failed) → (bytes : List ℕ) → R.remaining source.old ≡ Some bytes →
+        TellsRead instance.now bytes (R.remaining source.new) }
+{
+    // What is true of every instance: its numbers are small enough to be read.
+    prove!(instance.days() > 0);
+    let mut path = TrailPath::new(alloc, instance)?;
+    read_proof(alloc, &mut path, listener, source)
 }
 
 /// Checks a proof as it is read, node by node, and answers the bound that it proves. It keeps no node.
@@ -143,8 +179,5 @@ pub fn check_proof<R: Source>(
     ensures broken_off { result ≡ Err (CheckFault.Text read_failed) → (bytes : List ℕ) → R.remaining source.old ≡ Some bytes →
         TellsRead instance.now bytes (R.remaining source.new) }
 {
-    // What is true of every instance: its numbers are small enough to be read.
-    prove!(instance.days() > 0);
-    let mut path = TrailPath::new(alloc, instance)?;
-    read_proof(alloc, &mut path, source)
+    hear_proof(alloc, instance, &mut Deaf, source)
 }

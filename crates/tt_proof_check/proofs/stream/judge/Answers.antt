@@ -6,8 +6,9 @@ use Rattle.tt_proof_text.specs.Readers.{Reader}
 use Rattle.tt_proof_check.specs.declared.fault.CheckFault.TheVariants.{Text}
 use Rattle.tt_proof_check.specs.declared.walk.Stop.TheVariants.{Rule, TooDeep}
 use Rattle.tt_proof_check.specs.Faults.{TellsMemoryOfText}
+use Rattle.tt_proof_check.specs.Heard.{Heard, Unheard}
 use Rattle.tt_proof_check.specs.Judged.{TellsNodes}
-use Rattle.tt_proof_check.proofs.Streaming.{sofar_start, sofar_next, sofar_wrong, sofar_deep, sofar_end, sofar_unread, sofar_breaks, sofar_deep_breaks}
+use Rattle.tt_proof_check.proofs.Streaming.{sofar_start, sofar_next, sofar_wrong, sofar_deep, sofar_end, sofar_unread, sofar_breaks, sofar_deep_breaks, heard_push}
 use Rattle.tt_proof_check.proofs.TextFaults.{memory_text, err_gives, err_read}
 use Rattle.tt_proof_check.proofs.Walking.{steps_as, stops_as}
 use Rattle.tt_proof_check.proofs.stream.judge.Goals as goal
@@ -16,11 +17,11 @@ pub loop-node-init : goal.loop-node-init
 loop-node-init g c =
     let r = c.requires in
     record {
-      sofar = sofar_start (g.P.Path.problem c.args.path.now) c.args.reader.now.bound (is_some (g.R.Source.remaining c.args.source.now))
-          (stream_at c.args.reader.now.fed (g.R.Source.remaining c.args.source.now)) c.args.reader.now (g.P.Path.facts c.args.path.now) r.root r.unread r.place r.sizes r.sound;
+      sofar = sofar_start (g.P.Path.problem c.args.path.now) c.args.reader.now.bound (is_some (g.R.Source.remaining c.args.source.now)) (Heard g.L.Listener.hears 0 c.args.listener.now c.args.listener.now)
+          (stream_at c.args.reader.now.fed (g.R.Source.remaining c.args.source.now)) c.args.reader.now (g.P.Path.facts c.args.path.now) r.root r.unread r.place r.sizes r.sound refl;
       failing = λ k rest m. (
         m,
-        sofar_start (g.P.Path.problem c.args.path.now) c.args.reader.now.bound true (broken_at rest c.args.reader.now.fed (g.R.Source.remaining c.args.source.now)) c.args.reader.now (g.P.Path.facts c.args.path.now) r.root r.unread r.place r.sizes r.sound,
+        sofar_start (g.P.Path.problem c.args.path.now) c.args.reader.now.bound true Unheard (broken_at rest c.args.reader.now.fed (g.R.Source.remaining c.args.source.now)) c.args.reader.now (g.P.Path.facts c.args.path.now) r.root r.unread r.place r.sizes r.sound tt,
       );
       problem = refl;
       count = sym r.unread;
@@ -48,13 +49,13 @@ loop-node-preserved g c =
     let goes = e.goes inv.sofar.sound in
     let count : old.count + 1 ≡ new.count = ap (λ (r : Reader). r.count) (sym goes.1) in
     record {
-      sofar = sofar_next p v b known s old t path inv.sofar new u n goes (λ k. e.says inv.sofar.sound (inv.known k)) next
+      sofar = sofar_next p v b known _ s old t path inv.sofar new u n goes (λ k. e.says inv.sofar.sound (inv.known k)) _ (λ nodes long heard. heard_push g.L.Listener.hears 0 c.args.listener.now c.loop-node.listener c.hear.new.self c.loop-node.count n c.hear.ensures nodes (omega (arith, long, inv.count)) heard) next
           (steps_as _ p c.bound-bound.result b path n next inv.problem c.bound-bound.ensures c.in-Ok.ensures.steps) c.in-Ok.ensures.within;
       failing = λ k rest m.
           let here = e.broken inv.sofar.sound (inv.known k) rest m in
           let first = inv.failing k rest here.0 in (
             first.0,
-            sofar_next p v b true _ old _ path first.1 new _ n goes (λ _. here.1) next (steps_as _ p c.bound-bound.result b path n next inv.problem c.bound-bound.ensures c.in-Ok.ensures.steps) c.in-Ok.ensures.within,
+            sofar_next p v b true Unheard _ old _ path first.1 new _ n goes (λ _. here.1) Unheard (λ nodes long h. tt) next (steps_as _ p c.bound-bound.result b path n next inv.problem c.bound-bound.ensures c.in-Ok.ensures.steps) c.in-Ok.ensures.within,
           );
       problem = c.in-Ok.ensures.same ∙ inv.problem;
       count = omega (arith, count, inv.count);
@@ -80,7 +81,7 @@ returns-in_err-node-clause-fault g c =
     let new = c.next_node.new.self in
     let u = stream_at new.fed (g.R.Source.remaining c.next_node.new.source) in
     err_gives c.from_residual.result f (TellsNodes p v b s) c.from_residual.ensures.1
-    (sofar_unread p v b known s old t path inv.sofar new u f (e.goes inv.sofar.sound) k (e.says inv.sofar.sound (inv.known k)))
+    (sofar_unread p v b known _ s old t path inv.sofar new u f (e.goes inv.sofar.sound) k (e.says inv.sofar.sound (inv.known k)))
 
 pub returns-in-Err-Rule-clause-fault : goal.returns-in-Err-Rule-clause-fault
 returns-in-Err-Rule-clause-fault g c =
@@ -100,7 +101,7 @@ returns-in-Err-Rule-clause-fault g c =
     let path = g.P.Path.facts c.loop-node.path in
     let new = c.next_node.new.self in
     let u = stream_at new.fed (g.R.Source.remaining c.next_node.new.source) in
-    rw c.in-Err-Rule.field-0-is (sofar_wrong p v b known s old t path inv.sofar new u n (e.goes inv.sofar.sound) (λ j. e.says inv.sofar.sound (inv.known j)) c.loop-node.count f inv.count
+    rw c.in-Err-Rule.field-0-is (sofar_wrong p v b known _ s old t path inv.sofar new u n (e.goes inv.sofar.sound) (λ j. e.says inv.sofar.sound (inv.known j)) c.loop-node.count f inv.count
     (stops_as _ p c.bound-bound.result b path n (Rule f) inv.problem c.bound-bound.ensures taken.stops) k)
 
 pub returns-in-Err-TooDeep-clause-known : goal.returns-in-Err-TooDeep-clause-known
@@ -125,7 +126,7 @@ returns-in-Err-TooDeep-clause-fault g c =
     let path = g.P.Path.facts c.loop-node.path in
     let new = c.next_node.new.self in
     let u = stream_at new.fed (g.R.Source.remaining c.next_node.new.source) in
-    sofar_deep p v b known s old t path inv.sofar new u n (e.goes inv.sofar.sound) (λ j. e.says inv.sofar.sound (inv.known j)) c.loop-node.count c.deep_fault.result inv.count
+    sofar_deep p v b known _ s old t path inv.sofar new u n (e.goes inv.sofar.sound) (λ j. e.says inv.sofar.sound (inv.known j)) c.loop-node.count c.deep_fault.result inv.count
     (stops_as _ p c.bound-bound.result b path n TooDeep inv.problem c.bound-bound.ensures taken.stops) k (c.deep_fault.ensures.fault (e.known (inv.known k)))
 
 pub returns-clause-judged : goal.returns-clause-judged
@@ -142,7 +143,7 @@ returns-clause-judged g c =
     let path = g.P.Path.facts c.loop-node.path in
     let new = c.next_node.new.self in
     let u = stream_at new.fed (g.R.Source.remaining c.next_node.new.source) in
-    sofar_end p v b known s old t path inv.sofar new u (e.goes inv.sofar.sound) (λ k. e.says inv.sofar.sound (inv.known k))
+    sofar_end p v b known _ s old t path inv.sofar new u (e.goes inv.sofar.sound) (λ k. e.says inv.sofar.sound (inv.known k))
 
 pub returns-in_err-node-clause-broken_off : goal.returns-in_err-node-clause-broken_off
 returns-in_err-node-clause-broken_off g c =
@@ -155,7 +156,7 @@ returns-in_err-node-clause-broken_off g c =
     let is : f ≡ read_failed = err_read c.from_residual.result f c.from_residual.ensures.1 told in
     let here = e.broken inv.sofar.sound (inv.known k) (ap is_failed_read is) in
     let first = inv.failing k _ here.0 in
-    (first.0, sofar_breaks _ _ _ true _ old _ path first.1 (e.goes inv.sofar.sound).0 refl (here.1 ∙ ap (λ x. Err x) is))
+    (first.0, sofar_breaks _ _ _ true Unheard _ old _ path first.1 (e.goes inv.sofar.sound).0 refl (here.1 ∙ ap (λ x. Err x) is))
 
 pub returns-in-Err-TooDeep-clause-broken_off : goal.returns-in-Err-TooDeep-clause-broken_off
 returns-in-Err-TooDeep-clause-broken_off g c =
@@ -174,7 +175,7 @@ returns-in-Err-TooDeep-clause-broken_off g c =
     let here = e.broken inv.sofar.sound (inv.known k) _ child.0 in
     let first = inv.failing k _ here.0 in (
       first.0,
-      sofar_deep_breaks p _ b true _ old _ path first.1 new _ n (e.goes inv.sofar.sound) (λ _. here.1) (stops_as _ p c.bound-bound.result b path n TooDeep inv.problem c.bound-bound.ensures taken.stops) refl child.1,
+      sofar_deep_breaks p _ b true Unheard _ old _ path first.1 new _ n (e.goes inv.sofar.sound) (λ _. here.1) (stops_as _ p c.bound-bound.result b path n TooDeep inv.problem c.bound-bound.ensures taken.stops) refl child.1,
     )
 
 pub returns-clause-broken : goal.returns-clause-broken
@@ -187,7 +188,7 @@ returns-clause-broken g c =
     let new = c.next_node.new.self in
     let here = e.broken inv.sofar.sound (inv.known k) rest m in
     let first = inv.failing k rest here.0 in
-    (first.0, sofar_end _ _ _ true _ old _ path first.1 new _ (e.goes inv.sofar.sound) (λ _. here.1))
+    (first.0, sofar_end _ _ _ true Unheard _ old _ path first.1 new _ (e.goes inv.sofar.sound) (λ _. here.1))
 
 pub returns-in_err-node-clause-memory : goal.returns-in_err-node-clause-memory
 returns-in_err-node-clause-memory g c =

@@ -4,6 +4,7 @@ use Rattle.tt_proof_text.specs.Faults.{read_failed, is_failed_read}
 use Rattle.tt_leaf.specs.declared.leaf.Bound.{Bound}
 use Rattle.tt_proof_check.specs.declared.fault.CheckFault.TheVariants.{Text}
 use Rattle.tt_proof_check.specs.Faults.{TellsMemoryOfText}
+use Rattle.tt_proof_check.specs.Heard.{Heard}
 use Rattle.tt_proof_check.specs.Judged.{Proved}
 use Rattle.tt_proof_check.specs.Streams.{TellsOf}
 use Rattle.tt_proof_check.proofs.TextFaults.{memory_text, text_cases, err_gives, err_read, err_same}
@@ -45,7 +46,7 @@ returns-clause-proved g c =
     let judged = c.in_ok-judge.ensures in
     let known = is_some (g.R.Source.remaining c.args.source.now) in
     let s = stream_at fresh (g.R.Source.remaining c.args.source.now) in
-    subst (λ (b : Bound). Proved (g.P.Path.problem c.args.path.now) known s b) (sym c.bound-bound.ensures) (record {
+    subst (λ (b : Bound). Proved (g.P.Path.problem c.args.path.now) known (Heard g.L.Listener.hears 0 c.args.listener.now c.judge.new.listener) s b) (sym c.bound-bound.ensures) (record {
       version = reader.version;
       tree = judged.judged.tree;
       reads = λ k. record {
@@ -58,6 +59,7 @@ returns-clause-proved g c =
       };
       shallow = judged.judged.shallow;
       derives = judged.judged.derives;
+      heard = judged.judged.heard;
     })
 
 pub returns-in_err-judge-clause-broken_off : goal.returns-in_err-judge-clause-broken_off

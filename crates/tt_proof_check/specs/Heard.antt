@@ -1,0 +1,25 @@
+-- What hears nodes, one after another.
+use Rattle.std.specs.Prelude.{◌≡◌, ℕ, ◌+◌, List, [], ◌∷◌, Option, Some, ⊤}
+use Rattle.tt_instance.specs.Problem.{Problem}
+use Rattle.tt_leaf.specs.declared.leaf.Bound.{Bound}
+use Rattle.tt_proof_text.specs.Spelling.{SpellsProof}
+use Rattle.tt_proof_text.specs.Trees.{Tree, preorder}
+use Rattle.tt_proof_text.specs.declared.node.Node.{Node}
+use Rattle.tt_proof_check.specs.Derives.{Derives}
+
+-- from the old state it has heard these nodes, the first by the number i and each further one by the next, and come to the new one
+abbrev pub Heard : {X : Type 0} → (X → ℕ → Node → X → Type 0) → ℕ → X → X → List Node → Type 0
+Heard hears i old new [] = new ≡ old
+Heard {X} hears i old new (n ∷ ns) = (mid : X) × hears old i n mid × Heard hears (i + 1) mid new ns
+
+-- nothing is said of what was heard
+abbrev pub Unheard : List Node → Type 0
+Unheard nodes = ⊤
+
+-- A tree derives the bound, the bytes spell it where they are known, and H holds of its nodes.
+pub record IsHeardProof (p : Problem) (remaining : Option (List ℕ)) (H : List Node → Type 0) (b : Bound) : Type 0 where
+  pub version : ℕ
+  pub tree : Tree
+  pub spelled : (bytes : List ℕ) → remaining ≡ Some bytes → SpellsProof p bytes version b tree
+  pub derives : Derives p b [] tree
+  pub heard : H (preorder tree)

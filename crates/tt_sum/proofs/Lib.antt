@@ -1,0 +1,6 @@
+pub mod Added
+pub mod Joining
+pub mod Lists
+pub mod Over
+pub mod Tables
+pub mod Together

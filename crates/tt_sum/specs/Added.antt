@@ -1,0 +1,41 @@
+-- Proofs that have been added, and one more.
+use Rattle.std.specs.Prelude.{◌≡◌, ℕ, ◌+◌, true, List, [], ◌∷◌, ◌++◌, Option, Some}
+use Rattle.std.specs.List.{list_all, AllZip}
+use Rattle.tt_instance.specs.Problem.{Problem}
+use Rattle.tt_leaf.specs.declared.leaf.Bound.{Bound}
+use Rattle.tt_proof_check.specs.Derives.{Derives}
+use Rattle.tt_proof_text.specs.Spelling.{SpellsProof}
+use Rattle.tt_sum.specs.declared.summed.Sum.{Sum}
+use Rattle.tt_sum.specs.Sums.{are_apart, Part, claims_of, AreApart, sum_of}
+use Rattle.tt_sum.specs.Tables.{State, IsTableOf}
+
+-- the part is what the bytes spell, where they are known, and derives its bound
+pub record IsPartOf (p : Problem) (remaining : Option (List ℕ)) (part : Part) : Type 0 where
+  pub spelled : (bytes : List ℕ) → remaining ≡ Some bytes → SpellsProof p bytes part.version part.bound part.tree
+  pub derives : Derives p part.bound [] part.tree
+
+-- A part with this bound claims nothing that these do, and the table is theirs and its.
+pub record Joins (p : Problem) (remaining : Option (List ℕ)) (parts : List Part) (a : State) (b : Bound) : Type 0 where
+  pub part : Part
+  pub is : IsPartOf p remaining part
+  pub bound : part.bound ≡ b
+  pub apart : list_all (λ k. are_apart (claims_of k) (claims_of part)) parts ≡ true
+  pub table : IsTableOf a (parts ++ part ∷ [])
+
+-- the sum is of these parts
+pub record IsSumOf (s : Sum) (parts : List Part) : Type 0 where
+  pub table : IsTableOf s.table parts
+  pub apart : AreApart parts
+  pub total : s.total ≡ sum_of parts
+
+-- the number of the proof that is due, from 1 on
+abbrev pub due : Sum → ℕ
+due s = s.table.proof + 1
+
+-- the sum is of these parts and one more
+abbrev pub Adds : Problem → Option (List ℕ) → List Part → Sum → Type 0
+Adds p remaining parts s = (part : Part) × IsPartOf p remaining part × IsSumOf s (parts ++ part ∷ [])
+
+-- what each source gives, where all are known
+abbrev pub Give : {R : Type 0} → (R → Option (List ℕ)) → List R → List (List ℕ) → Type 0
+Give remaining sources proofs = AllZip (λ r bytes. remaining r ≡ Some bytes) sources proofs

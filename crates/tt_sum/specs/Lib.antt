@@ -1,0 +1,4 @@
+pub mod Added
+pub mod Faults
+pub mod Sums
+pub mod Tables

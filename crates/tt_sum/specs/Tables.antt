@@ -1,0 +1,63 @@
+-- A table of the targets that proofs have claimed.
+use Rattle.std.specs.Prelude.{◌≡◌, ℕ, ◌+◌, ◌<◌, ◌==◌, nat_le, Bool, not, ◌&&◌, ◌||◌, List, [], ◌∷◌, length, map, Option, Some, None, slice_index_or, if◌then◌else◌}
+use Rattle.std.specs.Option.{option_or}
+use Rattle.tt_lists.specs.Words.{has}
+use Rattle.tt_leaf.specs.Claims.{Target}
+use Rattle.tt_leaf.specs.Met.{place}
+use Rattle.tt_proof_text.specs.declared.node.Node.{Node}
+use Rattle.tt_proof_text.specs.declared.node.Node.TheVariants.{Split, Leaf}
+use Rattle.tt_sum.specs.declared.table.Clash.{Clash}
+use Rattle.tt_sum.specs.Sums.{claimed_in, Part, claims_of}
+
+-- For each place of a target the number of the proof that claimed it first, 0 for none; the number of the newest proof, from 1 on,
+-- and 0 before the first; and the first claim of that proof that another had.
+pub record State : Type 0 where
+  pub owners : List ℕ
+  pub proof : ℕ
+  pub clash : Option Clash
+
+abbrev pub owner : State → ℕ → ℕ
+owner a k = slice_index_or a.owners k 0
+
+-- a node that claims a place with this owner, past the table or not, while the proof q is read
+abbrev pub clash_with : Bool → ℕ → ℕ → ℕ → Option Clash
+clash_with past n o q =
+    if not past && ((o == 0) || (o == q)) then None else Some (record { node = n; earlier = if past then 0 else o })
+
+-- A place beyond the table counts as another proof's.
+abbrev pub clash_at : State → ℕ → ℕ → Option Clash
+clash_at a n k = clash_with (nat_le 32768 k) n (owner a k) a.proof
+
+-- the first clash of these places, each with the node that claims it
+abbrev pub first_clash : State → List (ℕ × ℕ) → Option Clash
+first_clash a [] = None
+first_clash a (x ∷ xs) = option_or (clash_at a x.0 x.1) (first_clash a xs)
+
+-- what a claim of these places does, each with the node that claims it
+pub record Claims (a : State) (xs : List (ℕ × ℕ)) (b : State) : Type 0 where
+  pub proof : b.proof ≡ a.proof
+  pub clash : b.clash ≡ option_or a.clash (first_clash a xs)
+  pub owners : (k : ℕ) → k < 32768 → owner b k ≡ (if (owner a k == 0) && has (map (λ x. x.1) xs) k then a.proof else owner a k)
+
+abbrev pub at_node : ℕ → List ℕ → List (ℕ × ℕ)
+at_node n ks = map (λ k. (n, k)) ks
+
+-- the targets that a node claims
+abbrev pub claims_at : Node → List Target
+claims_at (Split g) = []
+claims_at (Leaf leaf) = claimed_in leaf
+
+-- the places that a node claims
+abbrev pub places_in : Node → List ℕ
+places_in node = map place (claims_at node)
+
+-- the number of the first proof that claims the place, counted from n; 0 for none
+abbrev pub first_claim : ℕ → List Part → ℕ → ℕ
+first_claim n [] k = 0
+first_claim n (part ∷ parts) k = if has (map place (claims_of part)) k then n else first_claim (n + 1) parts k
+
+-- The owner of each place is the first of these proofs that claims it, and the last of them is the newest.
+pub record IsTableOf (a : State) (parts : List Part) : Type 0 where
+  pub owners : (k : ℕ) → k < 32768 → owner a k ≡ first_claim 1 parts k
+  pub number : a.proof ≡ length parts
+  pub free : a.clash ≡ None

@@ -1,0 +1,35 @@
+//! What proofs over disjoint targets mean.
+
+ghost use Rattle.std.specs.Prelude.{◌≡◌, true, List, ℕ, All};
+ghost use Rattle.tt_instance.specs.Problem.{Problem};
+ghost use Rattle.tt_instance.specs.declared.cell.Cell.{Cell};
+ghost use Rattle.tt_rules.specs.Score.{IsFeasible};
+ghost use Rattle.tt_facts.specs.declared.facts.Fact.{Fact};
+ghost use Rattle.tt_leaf.specs.Claims.{Target};
+ghost use Rattle.tt_leaf.specs.declared.leaf.Bound.{Bound};
+ghost use Rattle.tt_proof_text.specs.Trees.{Tree};
+ghost use Rattle.tt_proof_check.specs.Derives.{Derives, HoldsOn, HoldsOfAll};
+ghost use Rattle.tt_sum.specs.Sums.{claimed_by, are_among, every_target, HoldsOver, IsWithinCost, Part, AreApart, sum_of, IsSum};
+
+/// What a tree derives on a path holds of the part of the cost that is the targets' which its leaves claim.
+pub fn bounds_hold_over()
+    ensures { (p : Problem) (b : Bound) (path : List Fact) (tree : Tree) (targets : List Target) →
+        are_among targets (claimed_by tree) ≡ true → Derives p b path tree → HoldsOver p b path targets }
+{}
+
+/// With all targets of the instance it holds of the cost, and whatever a tree claims, it holds of all targets.
+pub fn bounds_hold_over_all()
+    ensures within { (p : Problem) (t : List Cell) → IsFeasible p t → IsWithinCost p t }
+    ensures holds { (p : Problem) (b : Bound) (path : List Fact) (tree : Tree) → Derives p b path tree → HoldsOver p b path (every_target p) }
+{}
+
+/// Bounds of trees that claim different targets add up.
+pub fn apart_bounds_add()
+    ensures { (p : Problem) (path : List Fact) (parts : List Part) →
+        All (λ k. Derives p k.bound path k.tree) parts → AreApart parts → HoldsOn p (sum_of parts) path }
+{}
+
+/// The sum of proofs holds of every feasible timetable.
+pub fn sums_hold()
+    ensures { (p : Problem) (proofs : List (List ℕ)) (s : Bound) → IsSum p proofs s → HoldsOfAll p s }
+{}

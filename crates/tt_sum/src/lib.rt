@@ -1,0 +1,15 @@
+//! Proofs whose bounds add up.
+#![tactic(auto)]
+
+mod fault;
+mod laws;
+mod one_more;
+mod several;
+mod summed;
+mod table;
+
+pub use fault::SumFault;
+pub use laws::{apart_bounds_add, bounds_hold_over, bounds_hold_over_all, sums_hold};
+pub use several::sum_proofs;
+pub use summed::Sum;
+pub use table::{Clash, Table};

@@ -1,0 +1,89 @@
+//! A sum of proofs that takes one proof after the other.
+
+ghost use Rattle.std.specs.Prelude.{◌≡◌, ◌+◌, ◌<◌, ◌≤◌, ◌^◌, ℕ, List, [], ◌++◌, ◌∷◌, Some, Err, true, IfOk, IfErr, MatchOption};
+ghost use Rattle.tt_proof_check.specs.FailedReads.{TellsRead};
+ghost use Rattle.tt_sum.specs.Added.{IsSumOf, Adds, due};
+ghost use Rattle.tt_sum.specs.Faults.{TellsAdded, IsNumbered, TellsMemory, IsSilentSum, read_failed_at, points, all_points};
+ghost use Rattle.tt_sum.specs.Sums.{Part, IsPart, AreApart, both_bounds, sum_of};
+
+use crate::fault::SumFault;
+use crate::one_more::take_proof;
+use crate::table::Table;
+use std::alloc::{AllocError, Global};
+use tt_instance::Instance;
+use tt_leaf::Bound;
+use tt_text::Source;
+
+/// The sum of two bounds, where it is below 2^64.
+fn both(a: Bound, b: Bound) -> Option<Bound>
+    ensures { MatchOption result (2 ^ 64 ≤ points a + points b) (λ c. c ≡ both_bounds a b) }
+{
+    match (a, b) {
+        (Bound::AtLeast(a), Bound::AtLeast(b)) => Some(Bound::AtLeast(a.checked_add(b)?)),
+        _ => Some(Bound::Nothing),
+    }
+}
+
+/// The sum of the bounds of proofs that claim different targets.
+#[derive(Drop)]
+pub struct Sum {
+    table: Table,
+    total: Bound,
+}
+
+impl Sum {
+    /// The sum of no proofs.
+    pub fn new(alloc: Global) -> Result<Sum, AllocError>
+        ensures { IfOk result (λ s. IsSumOf s []) }
+    {
+        Ok(Sum {
+            table: Table::new(alloc)?,
+            total: Bound::AtLeast(0),
+        })
+    }
+
+    /// The bound that the proofs so far derive together.
+    pub fn bound(&self) -> Bound
+        ensures { (parts : List Part) → IsSumOf self.now parts → result ≡ sum_of parts }
+    {
+        self.total
+    }
+
+    /// Checks one more proof, and adds its bound where it claims no target that an earlier proof claims.
+    pub fn add<R: Source>(
+        mut self,
+        alloc: Global,
+        instance: &Instance<'_>,
+        source: &mut R,
+    ) -> Result<Sum, SumFault>
+        requires room { due self < 2 ^ 64 }
+        // The source's bytes spell a proof that is apart from the others, and its bound is added.
+        ensures added { IfOk result (λ s. (parts : List Part) → IsSumOf self parts → Adds instance.now (R.remaining source.old) parts s) }
+        ensures next { IfOk result (λ s. due s ≡ due self + 1) }
+        // What spells one that is apart is added, if the sum stays below 2^64, unless memory or a read fails.
+        ensures only { (parts : List Part) (bytes : List ℕ) (part : Part) → IsSumOf self parts → R.remaining source.old ≡ Some bytes →
+            IsPart instance.now bytes part → AreApart (parts ++ part ∷ []) → all_points (parts ++ part ∷ []) < 2 ^ 64 → IfErr result IsSilentSum }
+        // A refusal tells the first fault.
+        ensures fault { IfErr result (λ e. (parts : List Part) (bytes : List ℕ) → IsSumOf self parts → R.remaining source.old ≡ Some bytes →
+            TellsAdded instance.now parts bytes e) }
+        ensures numbered { IfErr result (IsNumbered (due self)) }
+        // A read is said to have failed exactly where one did.
+        ensures failed { result ≡ Err (read_failed_at (due self)) → R.has_failed source.new ≡ true }
+        ensures unfailed { ¬ (result ≡ Err (read_failed_at (due self))) → R.has_failed source.new ≡ R.has_failed source.old }
+        ensures memory { IfErr result TellsMemory }
+        // Where one failed, all that the bytes before it say has been judged.
+        ensures broken_off { result ≡ Err (read_failed_at (due self)) → (bytes : List ℕ) → R.remaining source.old ≡ Some bytes →
+            TellsRead instance.now bytes (R.remaining source.new) }
+    {
+        // What is true of every instance: its numbers are small enough to be read.
+        prove!(instance.days() > 0);
+        let bound = take_proof(alloc, instance, &mut self.table, source)?;
+        match both(self.total, bound) {
+            Some(total) => {
+                self.total = total;
+                Ok(self)
+            }
+            None => Err(SumFault::TooLarge(self.table.proof())),
+        }
+    }
+}
