@@ -10,4 +10,4 @@ mod sink;
 pub use by::By;
 pub use fault::ReportFault;
 pub use reports::report;
-pub use sink::{Sink, WriteFailed, Writing};
+pub use sink::{Sink, WriteFailed, Writing, write_all};

@@ -1,0 +1,62 @@
+-- The row of a course: what belongs to no one cell stands here.
+use Rattle.std.specs.Prelude.{ℕ, ◌-◌, Bool, ◌&&◌, List, [], ◌∷◌, ◌++◌, length, flat_map, codes, if◌then◌else◌}
+use Rattle.std.specs.List.{list_any}
+use Rattle.tt_text.specs.Pieces.{Text, Number}
+use Rattle.tt_instance.specs.Problem.{Problem}
+use Rattle.tt_instance.specs.Cells.{all_courses, all_rooms, is_of, is_in}
+use Rattle.tt_instance.specs.Courses.{lectures, min_days, students}
+use Rattle.tt_instance.specs.declared.cell.Cell.{Cell}
+use Rattle.tt_rules.specs.Hard.{entries_of, lectures_off}
+use Rattle.tt_rules.specs.Soft.{days_of, stability_cost}
+use Rattle.tt_page.specs.Shown.{shown}
+use Rattle.tt_page.specs.Markup.{markup, counted}
+use Rattle.tt_page.specs.Kinds.{course_name, teacher_of}
+use Rattle.tt_page.specs.Lectures.{week_link}
+use Rattle.tt_page.specs.declared.kind.Kind.TheVariants.{Room, Teacher}
+
+-- whether a course is taught in a room
+abbrev pub is_taught_in : List Cell → ℕ → ℕ → Bool
+is_taught_in t c r = list_any (λ e. is_of c e && is_in r e) t
+
+-- a room, where the course is taught in it
+unfoldable pub room_text : Problem → List Cell → ℕ → ℕ → List ℕ
+room_text p t c r = if is_taught_in t c r then codes " " ++ week_link p Room r else []
+
+-- the rooms of a course, in the order of the instance
+unfoldable pub rooms_text : Problem → List Cell → ℕ → List ℕ
+rooms_text p t c = flat_map (room_text p t c) (all_rooms p)
+
+-- what is wrong with all lectures of a course together
+unfoldable pub course_marks : Problem → List Cell → ℕ → List ℕ
+course_marks p t c =
+    counted (codes " <strong>lectures: ") (lectures_off p t c) (codes "</strong>")
+    ++ counted (codes " <mark>missing days: ") (min_days p c - days_of p t c) (codes "</mark>")
+    ++ counted (codes " <mark>other rooms: ") (stability_cost p t c) (codes "</mark>")
+
+-- its numbers: students, lectures that it wants and has, days that it wants and has
+unfoldable pub course_numbers : Problem → List Cell → ℕ → List ℕ
+course_numbers p t c = markup (
+    Text (codes "</td>\n<td>") ∷ Number (students p c) ∷ Text (codes "</td>\n<td>") ∷ Number (lectures p c)
+    ∷ Text (codes "</td>\n<td>") ∷ Number (entries_of t c) ∷ Text (codes "</td>\n<td>") ∷ Number (min_days p c)
+    ∷ Text (codes "</td>\n<td>") ∷ Number (days_of p t c) ∷ Text (codes "</td>\n<td>") ∷ [])
+
+unfoldable pub course_head : Problem → ℕ → List ℕ
+course_head p c = markup (
+    Text (codes "<tr id=\"course") ∷ Number c ∷ Text (codes "\">\n<th scope=\"row\">") ∷ Text (shown (course_name p c)) ∷ Text (codes "</th>\n<td>") ∷ [])
+
+unfoldable pub course_row : Problem → List Cell → ℕ → List ℕ
+course_row p t c =
+    course_head p c ++ week_link p Teacher (teacher_of p c) ++ course_numbers p t c
+    ++ rooms_text p t c ++ codes "</td>\n<td>" ++ course_marks p t c ++ codes "</td>\n</tr>\n"
+
+-- the heads of the columns, as the rows have them
+unfoldable pub courses_head : List ℕ
+courses_head = codes "</small></h2></summary>\n<div class=\"list\">\n<table>\n<caption>Courses</caption>\n<thead>\n<tr>\n<th scope=\"col\">Course</th>\n<th scope=\"col\">Teacher</th>\n<th scope=\"col\">Students</th>\n<th scope=\"col\">Wanted</th>\n<th scope=\"col\">Placed</th>\n<th scope=\"col\">Least days</th>\n<th scope=\"col\">Days</th>\n<th scope=\"col\">Rooms</th>\n<th scope=\"col\">Marks</th>\n</tr>\n</thead>\n<tbody>\n"
+
+unfoldable pub courses_head_text : ℕ → List ℕ
+courses_head_text n = markup (Text (codes "<details open id=\"courses\">\n<summary><h2>Courses <small>") ∷ Number n ∷ Text courses_head ∷ [])
+
+unfoldable pub courses_text : Problem → List Cell → List ℕ
+courses_text p t =
+    courses_head_text (length p.courses)
+    ++ flat_map (course_row p t) (all_courses p) ++ codes "</tbody>\n</table>\n</div>\n</details>\n"

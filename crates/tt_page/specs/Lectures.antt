@@ -1,0 +1,64 @@
+-- A lecture as it stands in a week: its course, where or with whom it is, and its marks.
+use Rattle.std.specs.Prelude.{ℕ, Bool, List, [], ◌∷◌, ◌++◌, codes, if◌then◌else◌}
+use Rattle.tt_text.specs.Pieces.{Text, Number}
+use Rattle.tt_instance.specs.Problem.{Problem}
+use Rattle.tt_instance.specs.Courses.{unavailable, excess}
+use Rattle.tt_instance.specs.declared.cell.Cell.{Cell}
+use Rattle.tt_rules.specs.Soft.{is_isolated}
+use Rattle.tt_page.specs.Shown.{shown}
+use Rattle.tt_page.specs.Markup.{markup, counted}
+use Rattle.tt_page.specs.Kinds.{name_of, course_name, teacher_of, word_of}
+use Rattle.tt_page.specs.Marks.{in_conflict, room_taken, repeated, in_other_room}
+use Rattle.tt_page.specs.declared.kind.Kind.{Kind}
+use Rattle.tt_page.specs.declared.kind.Kind.TheVariants.{Room, Teacher, Curriculum}
+
+-- ---- links
+
+-- to the row of a course
+unfoldable pub course_link : Problem → ℕ → List ℕ
+course_link p c = markup (Text (codes "<a href=\"#course") ∷ Number c ∷ Text (codes "\">") ∷ Text (shown (course_name p c)) ∷ Text (codes "</a>") ∷ [])
+
+-- to a week
+unfoldable pub week_link : Problem → Kind → ℕ → List ℕ
+week_link p kind n = markup (Text (codes "<a href=\"#") ∷ Text (word_of kind) ∷ Number n ∷ Text (codes "\">") ∷ Text (shown (name_of p kind n)) ∷ Text (codes "</a>") ∷ [])
+
+-- from an entry to where it stands in a week
+unfoldable pub cell_link : Problem → Kind → ℕ → Cell → List ℕ
+cell_link p kind n e = markup (
+    Text (codes "<a href=\"#") ∷ Text (word_of kind) ∷ Number n ∷ Text (codes "-") ∷ Number e.day ∷ Text (codes "-") ∷ Number e.period
+    ∷ Text (codes "\">") ∷ Text (shown (course_name p e.course)) ∷ Text (codes "</a>") ∷ [])
+
+-- ---- a lecture
+
+-- what a week doesn't say of its lectures by itself: a room's week shows teachers, a teacher's shows rooms, a curriculum's both
+unfoldable pub beside_text : Problem → Kind → Cell → List ℕ
+beside_text p Room e = week_link p Teacher (teacher_of p e.course)
+beside_text p Teacher e = week_link p Room e.room
+beside_text p Curriculum e = week_link p Room e.room ++ codes " " ++ week_link p Teacher (teacher_of p e.course)
+
+-- a mark, where it holds
+abbrev pub mark : Bool → List ℕ → List ℕ
+mark holds text = if holds then text else []
+
+-- `isolated` is said of a curriculum, in its own week
+unfoldable pub isolated_mark : Problem → List Cell → Kind → ℕ → Cell → List ℕ
+isolated_mark p t Curriculum q e = mark (is_isolated p t q e) (codes " <mark>isolated</mark>")
+isolated_mark p t _ n e = []
+
+unfoldable pub marks_text : Problem → List Cell → Kind → ℕ → Cell → List ℕ
+marks_text p t kind n e =
+    mark (in_conflict p t e) (codes " <strong>conflict</strong>")
+    ++ mark (unavailable p e.course e.day e.period) (codes " <strong>unavailable</strong>")
+    ++ mark (room_taken t e) (codes " <strong>room taken</strong>")
+    ++ mark (repeated t e) (codes " <strong>repeated</strong>")
+    ++ isolated_mark p t kind n e
+    ++ counted (codes " <mark>no seat: ") (excess p e.course e.room) (codes "</mark>")
+    ++ mark (in_other_room t e) (codes " <mark>other room</mark>")
+
+unfoldable pub lecture_head : Problem → ℕ → List ℕ
+lecture_head p c = markup (
+    Text (codes "<div class=\"lecture\"><a class=\"course\" href=\"#course") ∷ Number c ∷ Text (codes "\">") ∷ Text (shown (course_name p c)) ∷ Text (codes "</a> ") ∷ [])
+
+unfoldable pub lecture_text : Problem → List Cell → Kind → ℕ → Cell → List ℕ
+lecture_text p t kind n e =
+    lecture_head p e.course ++ beside_text p kind e ++ marks_text p t kind n e ++ codes "</div>\n"

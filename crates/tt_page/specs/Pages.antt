@@ -1,0 +1,21 @@
+-- The text of a page.
+use Rattle.std.specs.Prelude.{ℕ, List, ◌++◌, codes}
+use Rattle.tt_instance.specs.Problem.{Problem}
+use Rattle.tt_instance.specs.declared.cell.Cell.{Cell}
+use Rattle.tt_page.specs.Heading.{head_text, header_text, legend_text}
+use Rattle.tt_page.specs.Lists.{hard_table, cost_table, lists_text}
+use Rattle.tt_page.specs.Grids.{section_text}
+use Rattle.tt_page.specs.Courses.{courses_text}
+use Rattle.tt_page.specs.declared.kind.Kind.TheVariants.{Room, Teacher, Curriculum}
+
+-- what the timetable counts, and a list for each count above 0
+unfoldable pub counts_text : Problem → List Cell → List ℕ
+counts_text p t = header_text p t ++ hard_table p t ++ cost_table p t ++ legend_text ++ lists_text p t
+
+-- a grid for each room, teacher and curriculum, and a row for each course
+unfoldable pub weeks_text : Problem → List Cell → List ℕ
+weeks_text p t = section_text p t Room ++ section_text p t Teacher ++ section_text p t Curriculum ++ courses_text p t
+
+-- One page of HTML, with its style in it.
+unfoldable pub page_text : Problem → List Cell → List ℕ → List ℕ
+page_text p t style = head_text p style ++ counts_text p t ++ weeks_text p t ++ codes "</main>\n</body>\n</html>\n"

@@ -1,0 +1,8 @@
+-- A timetable of an instance.
+use Rattle.std.specs.Prelude.{List}
+use Rattle.tt_instance.specs.Problem.{Problem}
+use Rattle.tt_instance.specs.declared.cell.Cell.{Cell}
+
+pub record Planned : Type 0 where
+  pub problem : Problem
+  pub table : List Cell

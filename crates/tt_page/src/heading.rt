@@ -1,0 +1,144 @@
+//! The head of a page, and its header.
+
+ghost use Rattle.std.specs.Prelude.{◌≡◌, ◌++◌, OnOk};
+ghost use Rattle.tt_rules.specs.Score.{IsScore};
+ghost use Rattle.tt_page.specs.Heading.{name_text, next_shown, head_text, contents_text, verdict_text, sizes_text, header_text, legend_text};
+
+use crate::part::{Part, put};
+use crate::plan::Plan;
+use crate::shown::put_shown;
+use std::alloc::AllocError;
+use tt_instance::Instance;
+use tt_rules::Score;
+use tt_text::put_token;
+
+#[tactic(auto, unfolding(crate::specs::Heading::next_shown))]
+fn put_next_shown(out: &mut Vec<u8>, token: &[u8]) -> Result<(), AllocError>
+    ensures { OnOk result (out.new.items ≡ out.old.items ++ next_shown token.now) }
+{
+    put_token(out, b" ")?;
+    put_shown(out, token)
+}
+
+/// The name of the instance, each of its tokens behind a space.
+#[tactic(auto, using(crate::proofs::Growing::taken_further), unfolding(crate::specs::Heading::name_text))]
+fn put_name(out: &mut Vec<u8>, instance: &Instance<'_>) -> Result<(), AllocError>
+    ensures { OnOk result (out.new.items ≡ out.old.items ++ name_text instance.now) }
+{
+    for index in 0..instance.name_len() {
+        put_next_shown(out, instance.name_token(index))?;
+    }
+    Ok(())
+}
+
+/// What stands before the title.
+const BEFORE_TITLE: &str =
+    "<!DOCTYPE html>\n<html lang=\"en\">\n<head>\n<meta charset=\"utf-8\">\n<meta name=\"viewport\" content=\"width=device-width, initial-scale=1\">\n<meta name=\"color-scheme\" content=\"light dark\">\n<title>Timetable";
+
+/// The head, with the page's style.
+#[tactic(auto, unfolding(crate::specs::Heading::head_text))]
+pub fn put_head(out: &mut Vec<u8>, instance: &Instance<'_>, style: &str) -> Result<(), AllocError>
+    ensures { OnOk result (out.new.items ≡ out.old.items ++ head_text instance.now style.now) }
+{
+    put_token(out, BEFORE_TITLE.as_bytes())?;
+    put_name(out, instance)?;
+    put_token(out, b"</title>\n<style>\n")?;
+    put_token(out, style.as_bytes())?;
+    put_token(out, b"</style>\n</head>\n<body>\n")
+}
+
+/// The links to the parts of the page.
+const CONTENTS: &str =
+    "<nav aria-label=\"Contents\">\n<ul>\n<li><a href=\"#summary\">Summary</a></li>\n<li><a href=\"#rooms\">Rooms</a></li>\n<li><a href=\"#teachers\">Teachers</a></li>\n<li><a href=\"#curricula\">Curricula</a></li>\n<li><a href=\"#courses\">Courses</a></li>\n</ul>\n</nav>\n<main>\n<header id=\"summary\">\n<h1>Timetable<b>";
+
+#[tactic(auto, unfolding(crate::specs::Heading::contents_text))]
+fn put_contents(out: &mut Vec<u8>) -> Result<(), AllocError>
+    ensures { OnOk result (out.new.items ≡ out.old.items ++ contents_text) }
+{
+    put_token(out, CONTENTS.as_bytes())
+}
+
+/// Whether the timetable is feasible, and its cost.
+#[tactic(auto, unfolding(crate::specs::Heading::verdict_text))]
+fn put_verdict(out: &mut Vec<u8>, hard: u64, cost: u64) -> Result<(), AllocError>
+    ensures { OnOk result (out.new.items ≡ out.old.items ++ verdict_text hard cost) }
+{
+    if hard == 0 {
+        return put(
+            out,
+            &[
+                Part::Text("</b></h1>\n<p class=\"verdict\"><b>feasible</b> cost "),
+                Part::Count(cost),
+                Part::Text("</p>\n"),
+            ],
+        );
+    }
+    put(
+        out,
+        &[
+            Part::Text("</b></h1>\n<p class=\"verdict\"><strong>not feasible</strong> hard "),
+            Part::Count(hard),
+            Part::Text(", cost "),
+            Part::Count(cost),
+            Part::Text("</p>\n"),
+        ],
+    )
+}
+
+/// How many there are of everything.
+#[tactic(auto, unfolding(crate::specs::Heading::sizes_text))]
+fn put_sizes(out: &mut Vec<u8>, plan: &Plan<'_, '_>) -> Result<(), AllocError>
+    ensures { OnOk result (out.new.items ≡ out.old.items ++ sizes_text plan.now.problem plan.now.table) }
+{
+    let instance = plan.instance();
+    let courses = instance.courses();
+    let placed = plan.entries().len() as u64;
+    let rooms = instance.rooms();
+    let teachers = instance.teachers();
+    let curricula = instance.curricula();
+    let days = instance.days();
+    let periods = instance.periods();
+    put(
+        out,
+        &[
+            Part::Text("<p class=\"size\">courses "),
+            Part::Number(courses),
+            Part::Text(", placed "),
+            Part::Count(placed),
+            Part::Text(", rooms "),
+            Part::Number(rooms),
+            Part::Text(", teachers "),
+            Part::Number(teachers),
+            Part::Text(", curricula "),
+            Part::Number(curricula),
+            Part::Text(", days "),
+            Part::Number(days),
+            Part::Text(", periods a day "),
+            Part::Number(periods),
+            Part::Text("</p>\n</header>\n<div class=\"tables\">\n"),
+        ],
+    )
+}
+
+/// The header: name, verdict, cost and sizes.
+#[tactic(auto, unfolding(crate::specs::Heading::header_text))]
+pub fn put_header(out: &mut Vec<u8>, plan: &Plan<'_, '_>, score: &Score) -> Result<(), AllocError>
+    requires { IsScore plan.now.problem plan.now.table score.now }
+    ensures { OnOk result (out.new.items ≡ out.old.items ++ header_text plan.now.problem plan.now.table) }
+{
+    put_contents(out)?;
+    put_name(out, plan.instance())?;
+    put_verdict(out, score.hard(), score.cost())?;
+    put_sizes(out, plan)
+}
+
+/// What the marks of the grids look like.
+const LEGEND: &str =
+    "</div>\n<p class=\"legend\">In the grids: <strong>broken</strong> breaks a hard rule, <mark>costs</mark> costs, <span class=\"barred\">not c</span> a period that is unavailable for course c. Days and periods count from 0, as in the files.</p>\n";
+
+#[tactic(auto, unfolding(crate::specs::Heading::legend_text))]
+pub fn put_legend(out: &mut Vec<u8>) -> Result<(), AllocError>
+    ensures { OnOk result (out.new.items ≡ out.old.items ++ legend_text) }
+{
+    put_token(out, LEGEND.as_bytes())
+}

@@ -1,0 +1,456 @@
+//! The items of the lists: what adds to each count, and where.
+
+ghost use Rattle.std.specs.Prelude.{◌≡◌, ◌+◌, ◌<◌, ◌≤◌, ◌++◌, length, filter, flat_map, drop, All, Some, slice_get, OnOk, IfOk};
+ghost use Rattle.tt_lists.specs.Words.{numbers_below};
+ghost use Rattle.tt_instance.specs.Cells.{InRange};
+ghost use Rattle.tt_page.specs.Items.{item_head, item_end, lectures_told, days_told, rooms_told, course_told, course_adds, course_item, when_text, unavailable_item, seats_item, is_odd, odds_count, more_text, pair_text, odds_item, pairs_item, entry_item, entry_items, isolated_item, curriculum_items, items_text, seats_told};
+
+use crate::courses::{days_of, entries_of, lectures_off, missing_days, other_rooms, periods_of};
+use crate::kind::{Kind, teacher_of};
+use crate::lectures::{put_cell_link, put_course_link, put_week_link};
+use crate::marks::{is_isolated, is_unavailable, without_seat};
+use crate::part::{Part, put};
+use crate::plan::Plan;
+use crate::rule::Rule;
+use std::alloc::{AllocError, Global};
+use tt_instance::Instance;
+use tt_table::{Entry, Group};
+use tt_text::put_token;
+
+/// The beginning of an item: what it adds.
+#[tactic(auto, unfolding(crate::specs::Items::item_head))]
+fn put_item_head(out: &mut Vec<u8>, adds: u64) -> Result<(), AllocError>
+    ensures { OnOk result (out.new.items ≡ out.old.items ++ item_head adds) }
+{
+    put(
+        out,
+        &[
+            Part::Text("<li><b>"),
+            Part::Count(adds),
+            Part::Text("</b> "),
+        ],
+    )
+}
+
+#[tactic(auto, unfolding(crate::specs::Items::item_end))]
+fn put_item_end(out: &mut Vec<u8>) -> Result<(), AllocError>
+    ensures { OnOk result (out.new.items ≡ out.old.items ++ item_end) }
+{
+    put_token(out, b"</li>\n")
+}
+
+// ---- courses
+
+/// What a course adds to a count.
+fn course_adds(plan: &Plan<'_, '_>, rule: Rule, course: u32) -> u64
+    requires { course < length plan.now.problem.courses }
+    ensures { result ≡ course_adds plan.now.problem plan.now.table rule course }
+{
+    match rule {
+        Rule::Lectures => lectures_off(plan, course),
+        Rule::WorkingDays => 5 * missing_days(plan, course),
+        Rule::RoomStability => other_rooms(plan, course),
+        _ => 0,
+    }
+}
+
+#[tactic(auto, unfolding(crate::specs::Items::lectures_told))]
+fn put_lectures_told(out: &mut Vec<u8>, plan: &Plan<'_, '_>, course: u32) -> Result<(), AllocError>
+    requires { course < length plan.now.problem.courses }
+    ensures { OnOk result (out.new.items ≡ out.old.items ++ lectures_told plan.now.problem plan.now.table course) }
+{
+    let wanted = plan.instance().lectures(course);
+    let placed = entries_of(plan, course);
+    let periods = periods_of(plan, course);
+    put(
+        out,
+        &[
+            Part::Text(" wanted "),
+            Part::Number(wanted),
+            Part::Text(", placed "),
+            Part::Count(placed),
+            Part::Text(", periods "),
+            Part::Count(periods),
+        ],
+    )
+}
+
+#[tactic(auto, unfolding(crate::specs::Items::days_told))]
+fn put_days_told(out: &mut Vec<u8>, plan: &Plan<'_, '_>, course: u32) -> Result<(), AllocError>
+    requires { course < length plan.now.problem.courses }
+    ensures { OnOk result (out.new.items ≡ out.old.items ++ days_told plan.now.problem plan.now.table course) }
+{
+    let days = days_of(plan, course);
+    let least = plan.instance().min_days(course);
+    put(
+        out,
+        &[
+            Part::Text(" on "),
+            Part::Count(days),
+            Part::Text(" of "),
+            Part::Number(least),
+            Part::Text(" days"),
+        ],
+    )
+}
+
+#[tactic(auto, unfolding(crate::specs::Items::rooms_told))]
+fn put_rooms_told(out: &mut Vec<u8>, plan: &Plan<'_, '_>, course: u32) -> Result<(), AllocError>
+    requires { course < length plan.now.problem.courses }
+    ensures { OnOk result (out.new.items ≡ out.old.items ++ rooms_told plan.now.problem plan.now.table course) }
+{
+    let rooms = other_rooms(plan, course) + 1;
+    put(
+        out,
+        &[Part::Text(" in "), Part::Count(rooms), Part::Text(" rooms")],
+    )
+}
+
+/// What is told of a course.
+#[tactic(auto, unfolding(crate::specs::Items::course_told))]
+fn put_course_told(
+    out: &mut Vec<u8>,
+    plan: &Plan<'_, '_>,
+    rule: Rule,
+    course: u32,
+) -> Result<(), AllocError>
+    requires { course < length plan.now.problem.courses }
+    ensures { OnOk result (out.new.items ≡ out.old.items ++ course_told plan.now.problem plan.now.table rule course) }
+{
+    match rule {
+        Rule::Lectures => put_lectures_told(out, plan, course),
+        Rule::WorkingDays => put_days_told(out, plan, course),
+        Rule::RoomStability => put_rooms_told(out, plan, course),
+        _ => Ok(()),
+    }
+}
+
+#[tactic(auto, unfolding(crate::specs::Items::course_item))]
+fn put_course_item(
+    out: &mut Vec<u8>,
+    plan: &Plan<'_, '_>,
+    rule: Rule,
+    course: u32,
+) -> Result<(), AllocError>
+    requires { course < length plan.now.problem.courses }
+    ensures { OnOk result (out.new.items ≡ out.old.items ++ course_item plan.now.problem plan.now.table rule course) }
+{
+    let adds = course_adds(plan, rule, course);
+    if adds == 0 {
+        return Ok(());
+    }
+    put_item_head(out, adds)?;
+    put_course_link(out, plan.instance(), course)?;
+    put_course_told(out, plan, rule, course)?;
+    put_item_end(out)
+}
+
+#[tactic(auto, using(tt_report::proofs::Written::text_further))]
+fn put_course_items(out: &mut Vec<u8>, plan: &Plan<'_, '_>, rule: Rule) -> Result<(), AllocError>
+    ensures { OnOk result (out.new.items ≡ out.old.items
+        ++ flat_map (course_item plan.now.problem plan.now.table rule) (numbers_below (length plan.now.problem.courses))) }
+{
+    for course in 0..plan.instance().courses() {
+        put_course_item(out, plan, rule, course)?;
+    }
+    Ok(())
+}
+
+// ---- entries
+
+/// When an entry is.
+#[tactic(auto, unfolding(crate::specs::Items::when_text))]
+fn put_when(out: &mut Vec<u8>, entry: &Entry) -> Result<(), AllocError>
+    ensures { OnOk result (out.new.items ≡ out.old.items ++ when_text entry.now) }
+{
+    put(
+        out,
+        &[
+            Part::Text(" day "),
+            Part::Number(entry.day),
+            Part::Text(" period "),
+            Part::Number(entry.period),
+        ],
+    )
+}
+
+#[tactic(auto, unfolding(crate::specs::Items::unavailable_item))]
+fn put_unavailable(
+    out: &mut Vec<u8>,
+    instance: &Instance<'_>,
+    entry: &Entry,
+) -> Result<(), AllocError>
+    requires { InRange instance.now entry.now }
+    ensures { OnOk result (out.new.items ≡ out.old.items ++ unavailable_item instance.now entry.now) }
+{
+    if !is_unavailable(instance, entry) {
+        return Ok(());
+    }
+    put_item_head(out, 1)?;
+    let teacher = teacher_of(instance, entry.course);
+    put_cell_link(out, instance, Kind::Teacher, teacher, entry)?;
+    put_when(out, entry)?;
+    put_item_end(out)
+}
+
+#[tactic(auto, unfolding(crate::specs::Items::seats_told))]
+fn put_seats_told(
+    out: &mut Vec<u8>,
+    instance: &Instance<'_>,
+    entry: &Entry,
+) -> Result<(), AllocError>
+    requires { InRange instance.now entry.now }
+    ensures { OnOk result (out.new.items ≡ out.old.items ++ seats_told instance.now entry.now) }
+{
+    let students = instance.students(entry.course);
+    let seats = instance.capacity(entry.room);
+    put(
+        out,
+        &[
+            Part::Text(" "),
+            Part::Number(students),
+            Part::Text(" on "),
+            Part::Number(seats),
+            Part::Text(" seats"),
+        ],
+    )
+}
+
+#[tactic(auto, unfolding(crate::specs::Items::seats_item))]
+fn put_seats(out: &mut Vec<u8>, instance: &Instance<'_>, entry: &Entry) -> Result<(), AllocError>
+    requires { InRange instance.now entry.now }
+    ensures { OnOk result (out.new.items ≡ out.old.items ++ seats_item instance.now entry.now) }
+{
+    let adds = without_seat(instance, entry);
+    if adds == 0 {
+        return Ok(());
+    }
+    put_item_head(out, adds)?;
+    put_cell_link(out, instance, Kind::Room, entry.room, entry)?;
+    put_when(out, entry)?;
+    put_token(out, b", in ")?;
+    put_week_link(out, instance, Kind::Room, entry.room)?;
+    put_seats_told(out, instance, entry)?;
+    put_item_end(out)
+}
+
+/// Whether two entries of a period are at odds by a rule.
+fn is_odd(instance: &Instance<'_>, rule: Rule, entry: &Entry, other: &Entry) -> bool
+    ensures { result ≡ is_odd instance.now rule entry.now other.now }
+{
+    match rule {
+        Rule::Conflicts => instance.conflict(entry.course, other.course),
+        _ => other.room == entry.room,
+    }
+}
+
+/// Those of the later entries of its period that are at odds with an entry.
+fn odd_ones(
+    alloc: Global,
+    instance: &Instance<'_>,
+    rule: Rule,
+    entry: &Entry,
+    later: Group<'_>,
+) -> Result<Vec<Entry>, AllocError>
+    ensures { IfOk result (λ found. found.items ≡ filter (is_odd instance.now rule entry.now) later.entry) }
+{
+    let mut found = Vec::new(alloc);
+    for other in later {
+        if is_odd(instance, rule, entry, other) {
+            found.push(*other)?;
+        }
+    }
+    Ok(found)
+}
+
+/// How many there are beside the first.
+#[tactic(auto, unfolding(crate::specs::Items::more_text))]
+fn put_more(out: &mut Vec<u8>, more: u64) -> Result<(), AllocError>
+    ensures { OnOk result (out.new.items ≡ out.old.items ++ more_text more) }
+{
+    if more == 0 {
+        return Ok(());
+    }
+    put(
+        out,
+        &[Part::Text(" and "), Part::Count(more), Part::Text(" more")],
+    )
+}
+
+/// What an entry with so many later ones at odds with it adds.
+fn odds_count(rule: Rule, odds: u64) -> u64
+    ensures { result ≡ odds_count rule odds }
+{
+    match rule {
+        Rule::Conflicts => odds,
+        _ => 1,
+    }
+}
+
+/// An entry that is at odds with a later one, and with some more.
+#[tactic(auto, unfolding(crate::specs::Items::pair_text))]
+fn put_pair(
+    out: &mut Vec<u8>,
+    instance: &Instance<'_>,
+    entry: &Entry,
+    other: &Entry,
+    more: u64,
+) -> Result<(), AllocError>
+    requires entry { InRange instance.now entry.now }
+    requires other { InRange instance.now other.now }
+    ensures { OnOk result (out.new.items ≡ out.old.items ++ pair_text instance.now entry.now other.now more) }
+{
+    put_cell_link(out, instance, Kind::Room, entry.room, entry)?;
+    put_when(out, entry)?;
+    put_token(out, b", in ")?;
+    put_week_link(out, instance, Kind::Room, entry.room)?;
+    put_token(out, b", with ")?;
+    put_cell_link(out, instance, Kind::Room, other.room, other)?;
+    put_more(out, more)?;
+    put_item_end(out)
+}
+
+/// An entry, and those later ones that are at odds with it.
+#[tactic(auto, unfolding(crate::specs::Items::odds_item))]
+fn put_odds(
+    out: &mut Vec<u8>,
+    instance: &Instance<'_>,
+    rule: Rule,
+    entry: &Entry,
+    odds: &[Entry],
+) -> Result<(), AllocError>
+    requires entry { InRange instance.now entry.now }
+    requires odds { All (InRange instance.now) odds.now }
+    requires few { length odds.now ≤ 16384 }
+    ensures { OnOk result (out.new.items ≡ out.old.items ++ odds_item instance.now rule entry.now odds.now) }
+{
+    let Some((first, more)) = odds.split_first() else {
+        return Ok(());
+    };
+    let beside = more.len() as u64;
+    put_item_head(out, odds_count(rule, beside + 1))?;
+    put_pair(out, instance, entry, first, beside)
+}
+
+/// An entry by those behind it, for a rule of pairs.
+#[tactic(auto, unfolding(crate::specs::Items::pairs_item))]
+fn put_pairs(
+    out: &mut Vec<u8>,
+    plan: &Plan<'_, '_>,
+    rule: Rule,
+    index: usize,
+    entry: &Entry,
+) -> Result<(), AllocError>
+    requires there { slice_get plan.now.table index ≡ Some entry.now }
+    requires in_range { InRange plan.now.problem entry.now }
+    ensures { OnOk result (out.new.items ≡ out.old.items
+        ++ pairs_item plan.now.problem rule entry.now (drop (index + 1) plan.now.table)) }
+{
+    let _entries = plan.entries();
+    let odds = odd_ones(
+        *out.allocator(),
+        plan.instance(),
+        rule,
+        entry,
+        plan.later(index),
+    )?;
+    put_odds(out, plan.instance(), rule, entry, &odds)
+}
+
+/// An entry by those behind it.
+#[tactic(auto, unfolding(crate::specs::Items::entry_item))]
+fn put_entry_item(
+    out: &mut Vec<u8>,
+    plan: &Plan<'_, '_>,
+    rule: Rule,
+    index: usize,
+    entry: &Entry,
+) -> Result<(), AllocError>
+    requires there { slice_get plan.now.table index ≡ Some entry.now }
+    requires in_range { InRange plan.now.problem entry.now }
+    ensures { OnOk result (out.new.items ≡ out.old.items
+        ++ entry_item plan.now.problem rule entry.now (drop (index + 1) plan.now.table)) }
+{
+    match rule {
+        Rule::Availability => put_unavailable(out, plan.instance(), entry),
+        Rule::RoomCapacity => put_seats(out, plan.instance(), entry),
+        _ => put_pairs(out, plan, rule, index, entry),
+    }
+}
+
+fn put_entry_items(out: &mut Vec<u8>, plan: &Plan<'_, '_>, rule: Rule) -> Result<(), AllocError>
+    ensures { OnOk result (out.new.items ≡ out.old.items ++ entry_items plan.now.problem rule plan.now.table) }
+{
+    for (index, entry) in plan.entries().iter().enumerate() {
+        put_entry_item(out, plan, rule, index, entry)?;
+    }
+    Ok(())
+}
+
+// ---- curricula
+
+#[tactic(auto, unfolding(crate::specs::Items::isolated_item))]
+fn put_isolated_item(
+    out: &mut Vec<u8>,
+    plan: &Plan<'_, '_>,
+    curriculum: u32,
+    entry: &Entry,
+) -> Result<(), AllocError>
+    requires curriculum { curriculum < length plan.now.problem.curricula }
+    requires in_range { InRange plan.now.problem entry.now }
+    ensures { OnOk result (out.new.items ≡ out.old.items ++ isolated_item plan.now.problem plan.now.table curriculum entry.now) }
+{
+    let instance = plan.instance();
+    if !(instance.in_curriculum(curriculum, entry.course) && is_isolated(plan, curriculum, entry)) {
+        return Ok(());
+    }
+    put_item_head(out, 2)?;
+    put_cell_link(out, instance, Kind::Curriculum, curriculum, entry)?;
+    put_when(out, entry)?;
+    put_token(out, b", in ")?;
+    put_week_link(out, instance, Kind::Curriculum, curriculum)?;
+    put_item_end(out)
+}
+
+/// The isolated entries of a curriculum.
+#[tactic(auto, using(crate::proofs::Growing::taken_further), unfolding(crate::specs::Items::curriculum_items))]
+fn put_curriculum_items(
+    out: &mut Vec<u8>,
+    plan: &Plan<'_, '_>,
+    curriculum: u32,
+) -> Result<(), AllocError>
+    requires { curriculum < length plan.now.problem.curricula }
+    ensures { OnOk result (out.new.items ≡ out.old.items ++ curriculum_items plan.now.problem plan.now.table curriculum) }
+{
+    for entry in plan.entries() {
+        put_isolated_item(out, plan, curriculum, entry)?;
+    }
+    Ok(())
+}
+
+#[tactic(auto, using(tt_report::proofs::Written::text_further))]
+fn put_curricula_items(out: &mut Vec<u8>, plan: &Plan<'_, '_>) -> Result<(), AllocError>
+    ensures { OnOk result (out.new.items ≡ out.old.items
+        ++ flat_map (curriculum_items plan.now.problem plan.now.table) (numbers_below (length plan.now.problem.curricula))) }
+{
+    for curriculum in 0..plan.instance().curricula() {
+        put_curriculum_items(out, plan, curriculum)?;
+    }
+    Ok(())
+}
+
+/// All items of a list.
+#[tactic(auto, unfolding(crate::specs::Items::items_text))]
+pub fn put_items(out: &mut Vec<u8>, plan: &Plan<'_, '_>, rule: Rule) -> Result<(), AllocError>
+    ensures { OnOk result (out.new.items ≡ out.old.items ++ items_text plan.now.problem plan.now.table rule) }
+{
+    match rule {
+        Rule::Lectures | Rule::WorkingDays | Rule::RoomStability => {
+            put_course_items(out, plan, rule)
+        }
+        Rule::Compactness => put_curricula_items(out, plan),
+        Rule::Conflicts | Rule::RoomOccupancy | Rule::Availability | Rule::RoomCapacity => {
+            put_entry_items(out, plan, rule)
+        }
+    }
+}

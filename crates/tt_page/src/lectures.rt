@@ -1,0 +1,235 @@
+//! A lecture as it stands in a week.
+
+ghost use Rattle.std.specs.Prelude.{◌≡◌, ◌<◌, ◌++◌, length, OnOk};
+ghost use Rattle.tt_instance.specs.Cells.{InRange};
+ghost use Rattle.tt_page.specs.Kinds.{count_of, teacher_of};
+ghost use Rattle.tt_page.specs.declared.kind.Kind.TheVariants as kinds;
+ghost use Rattle.tt_page.specs.Lectures.{course_link, week_link, cell_link, beside_text, mark, isolated_mark, marks_text, lecture_text};
+
+use crate::kind::{Kind, course_name, teacher_of};
+use crate::marks::{
+    is_in_conflict, is_in_other_room, is_isolated, is_repeated, is_room_taken, is_unavailable,
+    without_seat,
+};
+use crate::part::{Part, put, put_counted};
+use crate::plan::Plan;
+use std::alloc::AllocError;
+use tt_instance::Instance;
+use tt_table::Entry;
+use tt_text::put_token;
+
+/// A link to the row of a course.
+#[tactic(auto, unfolding(crate::specs::Lectures::course_link))]
+pub fn put_course_link(
+    out: &mut Vec<u8>,
+    instance: &Instance<'_>,
+    course: u32,
+) -> Result<(), AllocError>
+    requires { course < length instance.now.courses }
+    ensures { OnOk result (out.new.items ≡ out.old.items ++ course_link instance.now course) }
+{
+    let name = course_name(instance, course);
+    put(
+        out,
+        &[
+            Part::Text("<a href=\"#course"),
+            Part::Number(course),
+            Part::Text("\">"),
+            Part::Name(name),
+            Part::Text("</a>"),
+        ],
+    )
+}
+
+/// A link to a week.
+#[tactic(auto, unfolding(crate::specs::Lectures::week_link))]
+pub fn put_week_link(
+    out: &mut Vec<u8>,
+    instance: &Instance<'_>,
+    kind: Kind,
+    number: u32,
+) -> Result<(), AllocError>
+    requires { number < count_of instance.now kind }
+    ensures { OnOk result (out.new.items ≡ out.old.items ++ week_link instance.now kind number) }
+{
+    let name = kind.name(instance, number);
+    put(
+        out,
+        &[
+            Part::Text("<a href=\"#"),
+            Part::Text(kind.word()),
+            Part::Number(number),
+            Part::Text("\">"),
+            Part::Name(name),
+            Part::Text("</a>"),
+        ],
+    )
+}
+
+/// A link from an entry to where it stands in a week.
+#[tactic(auto, unfolding(crate::specs::Lectures::cell_link))]
+pub fn put_cell_link(
+    out: &mut Vec<u8>,
+    instance: &Instance<'_>,
+    kind: Kind,
+    number: u32,
+    entry: &Entry,
+) -> Result<(), AllocError>
+    requires { InRange instance.now entry.now }
+    ensures { OnOk result (out.new.items ≡ out.old.items ++ cell_link instance.now kind number entry.now) }
+{
+    let name = course_name(instance, entry.course);
+    put(
+        out,
+        &[
+            Part::Text("<a href=\"#"),
+            Part::Text(kind.word()),
+            Part::Number(number),
+            Part::Text("-"),
+            Part::Number(entry.day),
+            Part::Text("-"),
+            Part::Number(entry.period),
+            Part::Text("\">"),
+            Part::Name(name),
+            Part::Text("</a>"),
+        ],
+    )
+}
+
+pub fn put_teacher_link(
+    out: &mut Vec<u8>,
+    instance: &Instance<'_>,
+    course: u32,
+) -> Result<(), AllocError>
+    requires { course < length instance.now.courses }
+    ensures { OnOk result (out.new.items ≡ out.old.items ++ week_link instance.now kinds.Teacher (teacher_of instance.now course)) }
+{
+    let teacher = teacher_of(instance, course);
+    put_week_link(out, instance, Kind::Teacher, teacher)
+}
+
+/// What a week doesn't say of its lectures by itself.
+#[tactic(auto, unfolding(crate::specs::Lectures::beside_text))]
+fn put_beside(
+    out: &mut Vec<u8>,
+    instance: &Instance<'_>,
+    kind: Kind,
+    entry: &Entry,
+) -> Result<(), AllocError>
+    requires { InRange instance.now entry.now }
+    ensures { OnOk result (out.new.items ≡ out.old.items ++ beside_text instance.now kind entry.now) }
+{
+    match kind {
+        Kind::Room => put_teacher_link(out, instance, entry.course),
+        Kind::Teacher => put_week_link(out, instance, Kind::Room, entry.room),
+        Kind::Curriculum => {
+            put_week_link(out, instance, Kind::Room, entry.room)?;
+            put_token(out, b" ")?;
+            put_teacher_link(out, instance, entry.course)
+        }
+    }
+}
+
+/// A mark, where it holds.
+fn put_mark(out: &mut Vec<u8>, holds: bool, text: &str) -> Result<(), AllocError>
+    ensures { OnOk result (out.new.items ≡ out.old.items ++ mark holds text.now) }
+{
+    if holds {
+        put_token(out, text.as_bytes())
+    } else {
+        Ok(())
+    }
+}
+
+/// That a lecture is isolated is said in the week of the curriculum.
+#[tactic(auto, unfolding(crate::specs::Lectures::isolated_mark))]
+fn put_isolated(
+    out: &mut Vec<u8>,
+    plan: &Plan<'_, '_>,
+    kind: Kind,
+    number: u32,
+    entry: &Entry,
+) -> Result<(), AllocError>
+    requires { InRange plan.now.problem entry.now }
+    ensures { OnOk result (out.new.items ≡ out.old.items ++ isolated_mark plan.now.problem plan.now.table kind number entry.now) }
+{
+    match kind {
+        Kind::Room | Kind::Teacher => Ok(()),
+        Kind::Curriculum => {
+            let isolated = is_isolated(plan, number, entry);
+            put_mark(out, isolated, " <mark>isolated</mark>")
+        }
+    }
+}
+
+/// The marks of a lecture.
+#[tactic(auto, unfolding(crate::specs::Lectures::marks_text))]
+fn put_marks(
+    out: &mut Vec<u8>,
+    plan: &Plan<'_, '_>,
+    kind: Kind,
+    number: u32,
+    entry: &Entry,
+) -> Result<(), AllocError>
+    requires { InRange plan.now.problem entry.now }
+    ensures { OnOk result (out.new.items ≡ out.old.items ++ marks_text plan.now.problem plan.now.table kind number entry.now) }
+{
+    let instance = plan.instance();
+    put_mark(
+        out,
+        is_in_conflict(plan, entry),
+        " <strong>conflict</strong>",
+    )?;
+    put_mark(
+        out,
+        is_unavailable(instance, entry),
+        " <strong>unavailable</strong>",
+    )?;
+    put_mark(
+        out,
+        is_room_taken(plan, entry),
+        " <strong>room taken</strong>",
+    )?;
+    put_mark(out, is_repeated(plan, entry), " <strong>repeated</strong>")?;
+    put_isolated(out, plan, kind, number, entry)?;
+    put_counted(
+        out,
+        " <mark>no seat: ",
+        without_seat(instance, entry),
+        "</mark>",
+    )?;
+    put_mark(
+        out,
+        is_in_other_room(plan, entry),
+        " <mark>other room</mark>",
+    )
+}
+
+/// A lecture in a week.
+#[tactic(auto, unfolding(crate::specs::Lectures::lecture_text))]
+pub fn put_lecture(
+    out: &mut Vec<u8>,
+    plan: &Plan<'_, '_>,
+    kind: Kind,
+    number: u32,
+    entry: &Entry,
+) -> Result<(), AllocError>
+    requires { InRange plan.now.problem entry.now }
+    ensures { OnOk result (out.new.items ≡ out.old.items ++ lecture_text plan.now.problem plan.now.table kind number entry.now) }
+{
+    let instance = plan.instance();
+    let name = course_name(instance, entry.course);
+    put(
+        out,
+        &[
+            Part::Text("<div class=\"lecture\"><a class=\"course\" href=\"#course"),
+            Part::Number(entry.course),
+            Part::Text("\">"),
+            Part::Name(name),
+            Part::Text("</a> "),
+        ],
+    )?;
+    put_beside(out, instance, kind, entry)?;
+    put_marks(out, plan, kind, number, entry)?;
+    put_token(out, b"</div>\n")
+}

@@ -1,0 +1,115 @@
+//! Which marks a lecture has.
+
+ghost use Rattle.std.specs.Prelude.{◌≡◌, ◌<◌, ◌≤◌, ◌&&◌};
+ghost use Rattle.std.specs.List.{list_any};
+ghost use Rattle.tt_instance.specs.Cells.{InRange, is_at, slot};
+ghost use Rattle.tt_instance.specs.Courses.{in_curriculum, unavailable, excess};
+ghost use Rattle.tt_rules.specs.Soft.{is_isolated};
+ghost use Rattle.tt_page.specs.Marks.{in_conflict, room_taken, repeated, is_right_before, is_right_after, in_other_room};
+
+use crate::groups::{count_in, count_of, some_attended, some_excludes};
+use crate::plan::Plan;
+use tt_instance::Instance;
+use tt_table::Entry;
+
+/// Whether an entry of its period has a course that excludes its own.
+pub fn is_in_conflict(plan: &Plan<'_, '_>, entry: &Entry) -> bool
+    requires { InRange plan.now.problem entry.now }
+    ensures { result ≡ in_conflict plan.now.problem plan.now.table entry.now }
+{
+    let instance = plan.instance();
+    let others = plan.in_period(entry.day, entry.period);
+    some_excludes(instance, others, entry.course)
+}
+
+/// Whether its period is unavailable for its course.
+pub fn is_unavailable(instance: &Instance<'_>, entry: &Entry) -> bool
+    ensures { result ≡ unavailable instance.now entry.now.course entry.now.day entry.now.period }
+{
+    instance.unavailable(entry.course, entry.day, entry.period)
+}
+
+/// Whether its room has more than one entry in its period.
+pub fn is_room_taken(plan: &Plan<'_, '_>, entry: &Entry) -> bool
+    requires { InRange plan.now.problem entry.now }
+    ensures { result ≡ room_taken plan.now.table entry.now }
+{
+    let others = plan.in_period(entry.day, entry.period);
+    let count = count_in(others, entry.room);
+    count > 1
+}
+
+/// Whether its course has more than one entry in its period.
+pub fn is_repeated(plan: &Plan<'_, '_>, entry: &Entry) -> bool
+    requires { InRange plan.now.problem entry.now }
+    ensures { result ≡ repeated plan.now.table entry.now }
+{
+    let others = plan.in_period(entry.day, entry.period);
+    let count = count_of(others, entry.course);
+    count > 1
+}
+
+/// Whether a course of a curriculum is taught in a period.
+fn is_taught(plan: &Plan<'_, '_>, curriculum: u32, day: u32, period: u32) -> bool
+    requires day { day < plan.now.problem.days }
+    requires period { period < plan.now.problem.periods }
+    ensures { result ≡ list_any (λ x. in_curriculum plan.now.problem curriculum x.course && is_at (slot day period) x) plan.now.table }
+{
+    let instance = plan.instance();
+    let others = plan.in_period(day, period);
+    some_attended(instance, others, curriculum)
+}
+
+/// Whether a course of the curriculum is taught right before it on its day.
+fn is_taught_before(plan: &Plan<'_, '_>, curriculum: u32, entry: &Entry) -> bool
+    requires { InRange plan.now.problem entry.now }
+    ensures { result ≡ list_any (λ x. in_curriculum plan.now.problem curriculum x.course && is_right_before entry.now x) plan.now.table }
+{
+    if entry.period == 0 {
+        return false;
+    }
+    is_taught(plan, curriculum, entry.day, entry.period - 1)
+}
+
+/// Whether a course of the curriculum is taught right after it on its day.
+fn is_taught_after(plan: &Plan<'_, '_>, curriculum: u32, entry: &Entry) -> bool
+    requires { InRange plan.now.problem entry.now }
+    ensures { result ≡ list_any (λ x. in_curriculum plan.now.problem curriculum x.course && is_right_after entry.now x) plan.now.table }
+{
+    let _entries = plan.entries();
+    let last = plan.instance().periods() - 1;
+    if entry.period == last {
+        return false;
+    }
+    is_taught(plan, curriculum, entry.day, entry.period + 1)
+}
+
+/// Whether none of the curriculum's courses is taught right before it or right after it on its day.
+pub fn is_isolated(plan: &Plan<'_, '_>, curriculum: u32, entry: &Entry) -> bool
+    requires { InRange plan.now.problem entry.now }
+    ensures { result ≡ is_isolated plan.now.problem plan.now.table curriculum entry.now }
+{
+    let before = is_taught_before(plan, curriculum, entry);
+    let after = is_taught_after(plan, curriculum, entry);
+    !before && !after
+}
+
+/// The students of its course for whom its room has no seat.
+pub fn without_seat(instance: &Instance<'_>, entry: &Entry) -> u64
+    requires { InRange instance.now entry.now }
+    ensures { result ≡ excess instance.now entry.now.course entry.now.room }
+{
+    let seats = instance.capacity(entry.room);
+    u64::from(instance.students(entry.course).saturating_sub(seats))
+}
+
+/// Whether its room is not that of its course's first entry.
+pub fn is_in_other_room(plan: &Plan<'_, '_>, entry: &Entry) -> bool
+    requires { InRange plan.now.problem entry.now }
+    ensures { result ≡ in_other_room plan.now.table entry.now }
+{
+    match plan.of_course(entry.course).next() {
+        Some(first) => first.room != entry.room,
+        None => false,
+    }
+}

@@ -1,0 +1,89 @@
+//! The text of a page, and its way out.
+
+ghost use Rattle.std.specs.Prelude.{◌≡◌, ◌++◌, Err, true, OnOk, IfOk};
+ghost use Rattle.std.specs.Io.KnownBytes.{Appends};
+ghost use Rattle.tt_table.specs.Table.{IsTimetable};
+ghost use Rattle.tt_rules.specs.Score.{IsScore};
+ghost use Rattle.tt_report.specs.Sinks.{TakesPart};
+ghost use Rattle.tt_report.specs.declared.fault.ReportFault.TheVariants as fault;
+ghost use Rattle.tt_page.specs.Pages.{counts_text, weeks_text, page_text};
+
+use crate::courses::put_courses;
+use crate::grids::put_section;
+use crate::heading::{put_head, put_header, put_legend};
+use crate::kind::Kind;
+use crate::lists::{put_cost_table, put_hard_table, put_lists};
+use crate::plan::Plan;
+use std::alloc::{AllocError, Global};
+use tt_instance::Instance;
+use tt_report::{ReportFault, Sink, write_all};
+use tt_rules::{Score, score};
+use tt_table::Timetable;
+use tt_text::put_token;
+
+/// What the timetable counts, and where.
+#[tactic(auto, unfolding(crate::specs::Pages::counts_text))]
+fn put_counts(out: &mut Vec<u8>, plan: &Plan<'_, '_>, score: &Score) -> Result<(), AllocError>
+    requires { IsScore plan.now.problem plan.now.table score.now }
+    ensures { OnOk result (out.new.items ≡ out.old.items ++ counts_text plan.now.problem plan.now.table) }
+{
+    put_header(out, plan, score)?;
+    put_hard_table(out, plan, score)?;
+    put_cost_table(out, plan, score)?;
+    put_legend(out)?;
+    put_lists(out, plan, score)
+}
+
+/// The weeks, and the courses.
+#[tactic(auto, unfolding(crate::specs::Pages::weeks_text))]
+fn put_weeks(out: &mut Vec<u8>, plan: &Plan<'_, '_>) -> Result<(), AllocError>
+    ensures { OnOk result (out.new.items ≡ out.old.items ++ weeks_text plan.now.problem plan.now.table) }
+{
+    put_section(out, plan, Kind::Room)?;
+    put_section(out, plan, Kind::Teacher)?;
+    put_section(out, plan, Kind::Curriculum)?;
+    put_courses(out, plan)
+}
+
+/// The text of a page.
+#[tactic(auto, unfolding(crate::specs::Pages::page_text))]
+fn text_of(
+    alloc: Global,
+    instance: &Instance<'_>,
+    table: &Timetable,
+    style: &str,
+) -> Result<Vec<u8>, AllocError>
+    requires { IsTimetable instance.now table.now }
+    ensures { IfOk result (λ v. v.items ≡ page_text instance.now table.now style.now) }
+{
+    let plan = Plan::new(instance, table);
+    let score = score(instance, table);
+    let mut out = Vec::new(alloc);
+    put_head(&mut out, instance, style)?;
+    put_counts(&mut out, &plan, &score)?;
+    put_weeks(&mut out, &plan)?;
+    put_token(&mut out, b"</main>\n</body>\n</html>\n")?;
+    Ok(out)
+}
+
+/// Writes the page of a timetable's week, with a style (`STYLE` is the program's). The text is made before its first byte is written.
+pub fn page<W: Sink>(
+    alloc: Global,
+    instance: &Instance<'_>,
+    table: &Timetable,
+    style: &str,
+    sink: &mut W,
+) -> Result<(), ReportFault>
+    requires { IsTimetable instance.now table.now }
+    ensures written { OnOk result (Appends (W.contents sink.old) (W.contents sink.new) (page_text instance.now table.now style.now)) }
+    // After a failed write a part from its front was taken.
+    ensures part { result ≡ Err fault.Write → TakesPart (W.contents sink.old) (W.contents sink.new) (page_text instance.now table.now style.now) }
+    ensures failed { result ≡ Err fault.Write → W.has_failed sink.new ≡ true }
+    ensures unfailed { ¬ (result ≡ Err fault.Write) → W.has_failed sink.new ≡ W.has_failed sink.old }
+    // Where memory ran out nothing was written.
+    ensures unwritten { result ≡ Err fault.OutOfMemory → sink.new ≡ sink.old }
+{
+    let text = text_of(alloc, instance, table, style)?;
+    write_all(sink, &text)?;
+    Ok(())
+}
