@@ -84,8 +84,8 @@ def failed_reads_of_a_proof(desk):
     """One byte a read: 124 reads give a byte, and one finds the end."""
     desk.put(instance=GAP, solution=APART, proof=GAP_PROOF)
     words = [PROGRAM, "check", "instance", "solution", "proof"]
-    calls = desk.refuser.run(words, Refusal(narrow=1), desk.folder).counted.calls
-    told = [desk.refuser.run(words, Refusal(narrow=1, call=it + 1, fault=READ_ERROR), desk.folder).told() for it in range(calls)]
+    calls = desk.refuser.run(run, Refusal(narrow=1), desk.folder).counted.calls
+    told = [desk.refuser.run(run, Refusal(narrow=1, call=it + 1, fault=READ_ERROR), desk.folder).told() for it in range(calls)]
     assert told.count(refused(b"proof: Read")) == 125, f"{told.count(refused(b'proof: Read'))} reads"
 
 

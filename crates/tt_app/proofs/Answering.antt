@@ -2,16 +2,16 @@
 use Rattle.std.proofs.Common.{◌≡◌, ℕ, List, Option, Err, refl, sym, subst, inl, inr}
 use Rattle.tt_instance.specs.declared.fault.InstanceFault.TheVariants as instance
 use Rattle.tt_table.specs.declared.fault.SolutionFault.TheVariants as solution
-use Rattle.tt_proof_check.specs.Verdicts.{TellsOfAll, AnswersYes as AnswersYesBelow}
+use Rattle.tt_proof_check.specs.Verdicts.{IsFirstFault, AnswersYes as AnswersYesBelow}
 use Rattle.tt_proof_check.specs.declared.fault.CheckFault.TheVariants as check
 use Rattle.tt_proof_check.specs.declared.fault.CertifyFault.{CertifyFault}
 use Rattle.tt_proof_check.specs.declared.fault.CertifyFault.TheVariants as certify
-use Rattle.tt_app.specs.Checked.{TellsOfCheck, AnswersYes, IsYesAnswer}
-use Rattle.tt_app.specs.Told.{told_certify}
+use Rattle.tt_app.specs.Checked.{IsCheckRefusal, AnswersYes, IsYesAnswer}
+use Rattle.tt_app.specs.Told.{fault_from_certify}
 use Rattle.tt_app.specs.declared.answer.Answer.{Answer}
 
 -- a fault of the checker is told
-pub tells : (i s : List ℕ) (proof : Option (List ℕ)) (f : CertifyFault) → TellsOfAll i s proof f → TellsOfCheck i s proof (told_certify f)
+pub tells : (i s : List ℕ) (proof : Option (List ℕ)) (f : CertifyFault) → IsFirstFault i s proof f → IsCheckRefusal i s proof (fault_from_certify f)
 tells i s proof (certify.Instance instance.OutOfMemory) h = tt
 tells i s proof (certify.Instance f) h = h
 tells i s proof (certify.Solution solution.OutOfMemory) h = tt
@@ -21,9 +21,9 @@ tells i s proof (certify.Proof f) h = h
 tells i s proof certify.OutOfMemory h = tt
 
 -- so is what must be answered with yes
-pub yes_told : (f : CertifyFault) (c b : ℕ) → AnswersYesBelow (Err f) c b → AnswersYes (Err (told_certify f)) c b
-yes_told f c b (inl e) = subst (λ g. AnswersYes (Err (told_certify g)) c b) (sym e) (inl refl)
-yes_told f c b (inr e) = subst (λ g. AnswersYes (Err (told_certify g)) c b) (sym e) (inr refl)
+pub yes_told : (f : CertifyFault) (c b : ℕ) → AnswersYesBelow (Err f) c b → AnswersYes (Err (fault_from_certify f)) c b
+yes_told f c b (inl e) = subst (λ g. AnswersYes (Err (fault_from_certify g)) c b) (sym e) (inl refl)
+yes_told f c b (inr e) = subst (λ g. AnswersYes (Err (fault_from_certify g)) c b) (sym e) (inr refl)
 
 pub yes_same : (a : Answer) (m k c b : ℕ) → (m ≡ c) × (k ≡ b) → IsYesAnswer a m k → IsYesAnswer a c b
 yes_same a m k c b e h = subst (λ (n : ℕ). IsYesAnswer a n b) e.0 (subst (λ (n : ℕ). IsYesAnswer a m n) e.1 h)

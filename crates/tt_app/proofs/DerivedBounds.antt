@@ -9,16 +9,16 @@ use Rattle.tt_instance.specs.declared.fault.InstanceFault.TheVariants as instanc
 use Rattle.tt_instance.proofs.Laws.{is_read}
 use Rattle.tt_leaf.specs.declared.leaf.Bound.{Bound}
 use Rattle.tt_proof_check.specs.Derives.{HoldsOfAll}
-use Rattle.tt_proof_check.specs.Streams.{IsProved, IsSilent, stream_of, TellsOf}
+use Rattle.tt_proof_check.specs.Streams.{IsProved, IsSilent, stream_of, IsProofFault}
 use Rattle.tt_proof_check.specs.declared.fault.CheckFault.{CheckFault}
 use Rattle.tt_proof_check.specs.declared.fault.CheckFault.TheVariants as check
 use Rattle.tt_proof_check.proofs.Files.{one_instance}
-use Rattle.tt_app.specs.Bounded.{IsBoundAnswer, IsBounded, TellsOfBound, AnswersBound}
-use Rattle.tt_app.specs.Told.{told_instance, told_check}
+use Rattle.tt_app.specs.Bounded.{IsBoundAnswer, IsBounded, IsBoundRefusal, AnswersBound}
+use Rattle.tt_app.specs.Told.{fault_from_instance, fault_from_check}
 use Rattle.tt_app.specs.declared.answer.Answer.{Answer}
 
 -- what is spelled is refused for want of memory alone
-pub spelled_memory : (i : List ℕ) (p : Problem) (f : InstanceFault) (b : Bound) → Spells i p → Fails f (instance_of i) → AnswersBound (Err (told_instance f)) b
+pub spelled_memory : (i : List ℕ) (p : Problem) (f : InstanceFault) (b : Bound) → Spells i p → Fails f (instance_of i) → AnswersBound (Err (fault_from_instance f)) b
 spelled_memory i p instance.OutOfMemory b spells h = inl refl
 spelled_memory i p (instance.Ended n) b spells h = let e = is_read i p spells in absurd cc
 spelled_memory i p (instance.Expected w n) b spells h = let e = is_read i p spells in absurd cc
@@ -34,16 +34,16 @@ told None P h = tt
 told (Some bytes) P h = h bytes refl
 
 -- a fault of the proof is told
-pub proof_tells : (i : List ℕ) (p : Problem) (q : Option (List ℕ)) (f : CheckFault) → Spells i p → ((bytes : List ℕ) → q ≡ Some bytes → TellsOf p (stream_of bytes) f) → TellsOfBound i q (told_check f)
+pub proof_tells : (i : List ℕ) (p : Problem) (q : Option (List ℕ)) (f : CheckFault) → Spells i p → ((bytes : List ℕ) → q ≡ Some bytes → IsProofFault p (stream_of bytes) f) → IsBoundRefusal i q (fault_from_check f)
 proof_tells i p q check.OutOfMemory spells h = tt
-proof_tells i p q (check.Text f) spells h = record { problem = p; spelled = spells; fails = told q (λ bytes. TellsOf p (stream_of bytes) (check.Text f)) h }
-proof_tells i p q (check.Rule n f) spells h = record { problem = p; spelled = spells; fails = told q (λ bytes. TellsOf p (stream_of bytes) (check.Rule n f)) h }
-proof_tells i p q (check.TooDeep n) spells h = record { problem = p; spelled = spells; fails = told q (λ bytes. TellsOf p (stream_of bytes) (check.TooDeep n)) h }
+proof_tells i p q (check.Text f) spells h = record { problem = p; spelled = spells; fails = told q (λ bytes. IsProofFault p (stream_of bytes) (check.Text f)) h }
+proof_tells i p q (check.Rule n f) spells h = record { problem = p; spelled = spells; fails = told q (λ bytes. IsProofFault p (stream_of bytes) (check.Rule n f)) h }
+proof_tells i p q (check.TooDeep n) spells h = record { problem = p; spelled = spells; fails = told q (λ bytes. IsProofFault p (stream_of bytes) (check.TooDeep n)) h }
 
 -- a silent fault says nothing of the bytes
-pub silent_bound : (f : CheckFault) (b : Bound) → IsSilent f → AnswersBound (Err (told_check f)) b
-silent_bound f b (inl e) = subst (λ g. AnswersBound (Err (told_check g)) b) (sym e) (inl refl)
-silent_bound f b (inr e) = subst (λ g. AnswersBound (Err (told_check g)) b) (sym e) (inr refl)
+pub silent_bound : (f : CheckFault) (b : Bound) → IsSilent f → AnswersBound (Err (fault_from_check f)) b
+silent_bound f b (inl e) = subst (λ g. AnswersBound (Err (fault_from_check g)) b) (sym e) (inl refl)
+silent_bound f b (inr e) = subst (λ g. AnswersBound (Err (fault_from_check g)) b) (sym e) (inr refl)
 
 -- what is derived on the instance that the bytes spell is derived on the one that was read
 pub proved_here : (i bytes : List ℕ) (p read : Problem) (b : Bound) → Spells i p → Spells i read → IsProved p bytes b → IsProved read bytes b

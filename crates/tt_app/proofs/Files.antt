@@ -12,30 +12,30 @@ use Rattle.tt_table.specs.Spelling.{SpellsTable}
 use Rattle.tt_table.specs.declared.fault.SolutionFault.{SolutionFault}
 use Rattle.tt_table.specs.declared.fault.SolutionFault.TheVariants as solution
 use Rattle.tt_table.proofs.EntryLaws.{solution_read}
-use Rattle.tt_app.specs.Told.{told_instance, told_solution}
+use Rattle.tt_app.specs.Told.{fault_from_instance, fault_from_solution}
 use Rattle.tt_rules.specs.Score.{IsScore}
 use Rattle.tt_rules.specs.declared.counts.Score.{Score}
 use Rattle.tt_rules.proofs.Scores.{hard_is}
 use Rattle.tt_app.specs.Lines.{score_text}
 use Rattle.tt_proof_check.specs.Headline.{SpellsBoth}
 use Rattle.tt_proof_check.proofs.Files.{one_instance}
-use Rattle.tt_app.specs.Validated.{TellsOfBoth, score_lines, IsScoreAnswer, IsValidated}
+use Rattle.tt_app.specs.Validated.{IsFileRefusal, score_lines, IsScoreAnswer, IsValidated}
 use Rattle.tt_app.specs.declared.answer.Answer.{Answer}
 use Rattle.tt_app.specs.declared.fault.AppFault.{AppFault}
 use Rattle.tt_app.specs.declared.fault.AppFault.TheVariants as fault
 
 -- a fault of the instance is told
-pub tells_instance : (i s : List ℕ) (f : InstanceFault) → Fails f (instance_of i) → TellsOfBoth i s (told_instance f)
+pub tells_instance : (i s : List ℕ) (f : InstanceFault) → Fails f (instance_of i) → IsFileRefusal i s (fault_from_instance f)
 tells_instance i s instance.OutOfMemory h = tt
 tells_instance i s f h = h
 
 -- a fault of the solution is told
-pub tells_solution : (i s : List ℕ) (p : Problem) (f : SolutionFault) → Spells i p → FailsTable f (solution_of p s) → TellsOfBoth i s (told_solution f)
+pub tells_solution : (i s : List ℕ) (p : Problem) (f : SolutionFault) → Spells i p → FailsTable f (solution_of p s) → IsFileRefusal i s (fault_from_solution f)
 tells_solution i s p solution.OutOfMemory spelled h = tt
 tells_solution i s p f spelled h = record { problem = p; spelled = spelled; fails = h }
 
 -- where both are spelled, the only refusal is want of memory
-pub only_memory : (i s : List ℕ) (p : Problem) (t : List Cell) (f : AppFault) → SpellsBoth i s p t → TellsOfBoth i s f → f ≡ fault.OutOfMemory
+pub only_memory : (i s : List ℕ) (p : Problem) (t : List Cell) (f : AppFault) → SpellsBoth i s p t → IsFileRefusal i s f → f ≡ fault.OutOfMemory
 only_memory i s p t (fault.Instance f) both h = let e = is_read i p both.spelled in absurd cc
 only_memory i s p t (fault.Solution f) both h =
     let same : h.problem ≡ p = one_instance i h.problem p h.spelled both.spelled in

@@ -17,8 +17,8 @@ use Rattle.tt_proof_write.specs.declared.fault.WriteFault.{WriteFault}
 use Rattle.tt_proof_write.specs.declared.fault.WriteFault.TheVariants as write
 use Rattle.tt_upgrade.proofs.Written.{node_in_two}
 use Rattle.tt_branch.specs.Outcomes.{IsOutcome}
-use Rattle.tt_app.specs.Solved.{IsProofFile, TellsOfText, TellsOfSolve}
-use Rattle.tt_app.specs.Told.{told_instance, told_write}
+use Rattle.tt_app.specs.Solved.{IsProofFile, IsTextRefusal, IsSolveRefusal}
+use Rattle.tt_app.specs.Told.{fault_from_instance, told_write}
 use Rattle.tt_app.specs.declared.fault.AppFault.{AppFault}
 use Rattle.tt_app.specs.declared.fault.AppFault.TheVariants as fault
 
@@ -32,14 +32,14 @@ pub second_file : (b : Bound) (nodes : List Node) (bytes : List ℕ) → ¬ All 
 second_file b nodes bytes newer h = record { version = 2; least = inr (refl, newer); text = h.text }
 
 -- in version 2 only the size is refused
-pub second_refused : (b : Bound) (nodes : List Node) → IsPreorder nodes → (f : WriteFault) → Refuses 2 b nodes f → TellsOfText b nodes f
+pub second_refused : (b : Bound) (nodes : List Node) → IsPreorder nodes → (f : WriteFault) → Refuses 2 b nodes f → IsTextRefusal b nodes f
 second_refused b nodes tree write.NotATree h = absurd (h tree)
 second_refused b nodes tree write.OverLimit h = record { version = 2; large = h.1 }
 second_refused b nodes tree write.NotInVersion h = absurd (h.2 (λ k x e. node_in_two _))
 second_refused b nodes tree write.OutOfMemory h = tt
 
 -- where an instance is spelled, reading it is refused for memory alone
-pub read_memory : (i : List ℕ) (p : Problem) (f : InstanceFault) → Spells i p → Fails f (instance_of i) → told_instance f ≡ fault.OutOfMemory
+pub read_memory : (i : List ℕ) (p : Problem) (f : InstanceFault) → Spells i p → Fails f (instance_of i) → fault_from_instance f ≡ fault.OutOfMemory
 read_memory i p instance.OutOfMemory spells h = refl
 read_memory i p (instance.Ended n) spells h = let e = is_read i p spells in absurd cc
 read_memory i p (instance.Expected w n) spells h = let e = is_read i p spells in absurd cc
@@ -51,7 +51,7 @@ read_memory i p (instance.OutOfRange n) spells h = let e = is_read i p spells in
 
 -- why the proof's text was not written is told
 pub tells_text : (i : List ℕ) (limit : ℕ) (p : Problem) (best : Option (List Cell)) (b : Bound) (proof : Option (List Node)) (nodes : List Node) (finished : Bool) (f : WriteFault) → Spells i p
-    → IsOutcome p limit best b proof finished → proof ≡ Some nodes → TellsOfText b nodes f → TellsOfSolve i limit (told_write f)
+    → IsOutcome p limit best b proof finished → proof ≡ Some nodes → IsTextRefusal b nodes f → IsSolveRefusal i limit (fault_from_write f)
 tells_text i limit p best b proof nodes finished write.OutOfMemory spells found is h = tt
 tells_text i limit p best b proof nodes finished write.OverLimit spells found is h = record {
   problem = p;

@@ -3,38 +3,38 @@ use Rattle.tt_instance.specs.declared.fault.InstanceFault.{InstanceFault}
 use Rattle.tt_instance.specs.declared.fault.InstanceFault.TheVariants as instance
 use Rattle.tt_table.specs.declared.fault.SolutionFault.{SolutionFault}
 use Rattle.tt_table.specs.declared.fault.SolutionFault.TheVariants as solution
-use Rattle.tt_proof_check.specs.Faults.{TellsMemoryOfText}
-use Rattle.tt_proof_check.specs.Verdicts.{TellsMemory as TellsMemoryBelow}
+use Rattle.tt_proof_check.specs.Faults.{OutOfMemoryIsNoTextFault}
+use Rattle.tt_proof_check.specs.Verdicts.{OutOfMemoryIsOneFault as TellsMemoryBelow}
 use Rattle.tt_proof_check.specs.declared.fault.CheckFault.{CheckFault}
 use Rattle.tt_proof_check.specs.declared.fault.CheckFault.TheVariants as check
 use Rattle.tt_proof_check.specs.declared.fault.CertifyFault.{CertifyFault}
 use Rattle.tt_proof_check.specs.declared.fault.CertifyFault.TheVariants as certify
-use Rattle.tt_upgrade.specs.Faults.{TellsMemory as TellsMemoryOfUpgrade}
+use Rattle.tt_upgrade.specs.Faults.{OutOfMemoryIsOneFault as TellsMemoryOfUpgrade}
 use Rattle.tt_upgrade.specs.declared.fault.UpgradeFault.{UpgradeFault}
 use Rattle.tt_upgrade.specs.declared.fault.UpgradeFault.TheVariants as upgrade
-use Rattle.tt_app.specs.Told.{told_instance, told_solution, told_check, told_certify, told_upgrade, TellsMemory}
+use Rattle.tt_app.specs.Told.{fault_from_instance, fault_from_solution, fault_from_check, fault_from_certify, fault_from_upgrade, OutOfMemoryIsOneFault}
 
-pub memory_instance : (f : InstanceFault) → TellsMemory (told_instance f)
+pub memory_instance : (f : InstanceFault) → OutOfMemoryIsOneFault (fault_from_instance f)
 memory_instance instance.OutOfMemory = tt
 memory_instance f = λ e. cc
 
-memory_solution : (f : SolutionFault) → TellsMemory (told_solution f)
+memory_solution : (f : SolutionFault) → OutOfMemoryIsOneFault (fault_from_solution f)
 memory_solution solution.OutOfMemory = tt
 memory_solution f = λ e. cc
 
-pub memory_check : (f : CheckFault) → TellsMemoryOfText f → TellsMemory (told_check f)
+pub memory_check : (f : CheckFault) → OutOfMemoryIsNoTextFault f → OutOfMemoryIsOneFault (fault_from_check f)
 memory_check check.OutOfMemory h = tt
 memory_check (check.Text f) h = (λ e. cc, h)
 memory_check (check.Rule n f) h = (λ e. cc, h)
 memory_check (check.TooDeep n) h = (λ e. cc, h)
 
-pub memory_certify : (f : CertifyFault) → TellsMemoryBelow f → TellsMemory (told_certify f)
+pub memory_certify : (f : CertifyFault) → TellsMemoryBelow f → OutOfMemoryIsOneFault (fault_from_certify f)
 memory_certify (certify.Instance f) h = memory_instance f
 memory_certify (certify.Solution f) h = memory_solution f
 memory_certify (certify.Proof f) h = memory_check f h.1
 memory_certify certify.OutOfMemory h = tt
 
-pub memory_upgrade : (f : UpgradeFault) → TellsMemoryOfUpgrade f → TellsMemory (told_upgrade f)
+pub memory_upgrade : (f : UpgradeFault) → TellsMemoryOfUpgrade f → OutOfMemoryIsOneFault (fault_from_upgrade f)
 memory_upgrade (upgrade.Proof f) h = memory_check f h.1
 memory_upgrade upgrade.TooLarge h = tt
 memory_upgrade upgrade.OutOfMemory h = tt

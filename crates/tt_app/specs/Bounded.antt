@@ -5,7 +5,7 @@ use Rattle.tt_instance.specs.Reading.{instance_of}
 use Rattle.tt_instance.specs.Spelling.{Spells}
 use Rattle.tt_leaf.specs.declared.leaf.Bound.{Bound}
 use Rattle.tt_proof_check.specs.Derives.{HoldsOfAll}
-use Rattle.tt_proof_check.specs.Streams.{IsProved, stream_of, TellsOf}
+use Rattle.tt_proof_check.specs.Streams.{IsProved, stream_of, IsProofFault}
 use Rattle.tt_proof_check.specs.declared.fault.CheckFault.{CheckFault}
 use Rattle.tt_app.specs.Checked.{NoFiles, read_failed}
 use Rattle.tt_app.specs.Lines.{bound_line}
@@ -31,14 +31,14 @@ pub record IsBounded (instance : List ℕ) (proof : Option (List ℕ)) (a : Answ
 pub record FailsAlone (instance : List ℕ) (proof : Option (List ℕ)) (f : CheckFault) : Type 0 where
   pub problem : Problem
   pub spelled : Spells instance problem
-  pub fails : IfSome proof (λ bytes. TellsOf problem (stream_of bytes) f)
+  pub fails : IfSome proof (λ bytes. IsProofFault problem (stream_of bytes) f)
 
 -- a refusal tells the first fault: the instance's, then the proof's
-abbrev pub TellsOfBound : List ℕ → Option (List ℕ) → AppFault → Type 0
-TellsOfBound i proof (fault.Instance f) = instance_of i ≡ Err f
-TellsOfBound i proof (fault.Proof f) = FailsAlone i proof f
-TellsOfBound i proof fault.OutOfMemory = ⊤
-TellsOfBound i proof _ = ⊥
+abbrev pub IsBoundRefusal : List ℕ → Option (List ℕ) → AppFault → Type 0
+IsBoundRefusal i proof (fault.Instance f) = instance_of i ≡ Err f
+IsBoundRefusal i proof (fault.Proof f) = FailsAlone i proof f
+IsBoundRefusal i proof fault.OutOfMemory = ⊤
+IsBoundRefusal i proof _ = ⊥
 
 -- the instance is refused
 abbrev pub IsOfInstance : AppFault → Type 0

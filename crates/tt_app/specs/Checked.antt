@@ -2,7 +2,7 @@
 use Rattle.std.specs.Prelude.{◌≡◌, ℕ, ◌+◌, ◌⊎◌, List, Option, None, Result, Ok, Err, ⊤}
 use Rattle.tt_text.specs.declared.feed.FeedFault.TheVariants as feed
 use Rattle.tt_proof_text.specs.declared.fault.TextFault.TheVariants as text
-use Rattle.tt_proof_check.specs.Verdicts.{IsVerdict, TellsOfAll}
+use Rattle.tt_proof_check.specs.Verdicts.{IsVerdict, IsFirstFault}
 use Rattle.tt_proof_check.specs.declared.fault.CheckFault.TheVariants as check
 use Rattle.tt_proof_check.specs.declared.fault.CertifyFault.TheVariants as certify
 use Rattle.tt_proof_check.specs.declared.fault.Verdict.{Verdict}
@@ -41,12 +41,12 @@ pub record IsChecked (instance solution : List ℕ) (proof : Option (List ℕ)) 
 -- ---- refusals
 
 -- a refusal tells the first fault: the instance's, then the solution's, then the proof's
-abbrev pub TellsOfCheck : List ℕ → List ℕ → Option (List ℕ) → AppFault → Type 0
-TellsOfCheck i s proof (fault.Instance f) = TellsOfAll i s proof (certify.Instance f)
-TellsOfCheck i s proof (fault.Solution f) = TellsOfAll i s proof (certify.Solution f)
-TellsOfCheck i s proof (fault.Proof f) = TellsOfAll i s proof (certify.Proof f)
-TellsOfCheck i s proof fault.OutOfMemory = ⊤
-TellsOfCheck i s proof _ = ⊥
+abbrev pub IsCheckRefusal : List ℕ → List ℕ → Option (List ℕ) → AppFault → Type 0
+IsCheckRefusal i s proof (fault.Instance f) = IsFirstFault i s proof (certify.Instance f)
+IsCheckRefusal i s proof (fault.Solution f) = IsFirstFault i s proof (certify.Solution f)
+IsCheckRefusal i s proof (fault.Proof f) = IsFirstFault i s proof (certify.Proof f)
+IsCheckRefusal i s proof fault.OutOfMemory = ⊤
+IsCheckRefusal i s proof _ = ⊥
 
 -- the instance or the solution is refused
 abbrev pub IsOfFiles : AppFault → Type 0

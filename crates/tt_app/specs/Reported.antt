@@ -28,12 +28,12 @@ pub record IsReportedPartly (instance solution : List ℕ) (by : By) (before aft
   pub part : TakesPart before after (report_text problem table by)
 
 -- a refusal tells the first fault: the instance's, then the solution's, then that of a write
-abbrev pub TellsOfReport : List ℕ → List ℕ → By → Option (List ℕ) → Option (List ℕ) → AppFault → Type 0
-TellsOfReport instance solution by before after (fault.Instance f) = instance_of instance ≡ Err f
-TellsOfReport instance solution by before after (fault.Solution f) = FailsSolution instance solution f
-TellsOfReport instance solution by before after fault.OutOfMemory = ⊤
-TellsOfReport instance solution by before after fault.CannotWrite = IsReportedPartly instance solution by before after
-TellsOfReport instance solution by before after _ = ⊥
+abbrev pub IsReportRefusal : List ℕ → List ℕ → By → Option (List ℕ) → Option (List ℕ) → AppFault → Type 0
+IsReportRefusal instance solution by before after (fault.Instance f) = instance_of instance ≡ Err f
+IsReportRefusal instance solution by before after (fault.Solution f) = FailsSolution instance solution f
+IsReportRefusal instance solution by before after fault.OutOfMemory = ⊤
+IsReportRefusal instance solution by before after fault.CannotWrite = IsReportedPartly instance solution by before after
+IsReportRefusal instance solution by before after _ = ⊥
 
 -- no write was tried, or memory ran out before the first
 abbrev pub IsUnwritten : AppFault → Type 0

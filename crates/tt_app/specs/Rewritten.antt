@@ -6,8 +6,8 @@ use Rattle.tt_instance.specs.Spelling.{Spells}
 use Rattle.tt_leaf.specs.declared.leaf.Bound.{Bound}
 use Rattle.tt_proof_check.specs.Derives.{HoldsOfAll}
 use Rattle.tt_proof_check.specs.Streams.{stream_of}
-use Rattle.tt_upgrade.specs.Texts.{TellsTextRead}
-use Rattle.tt_upgrade.specs.Upgrades.{IsUpgraded, TellsOf}
+use Rattle.tt_upgrade.specs.Texts.{IsReadUpToFailedRead}
+use Rattle.tt_upgrade.specs.Upgrades.{IsUpgraded, IsUpgradeFault}
 use Rattle.tt_upgrade.specs.declared.fault.UpgradeFault.{UpgradeFault}
 use Rattle.tt_upgrade.specs.declared.fault.UpgradeFault.TheVariants as upgrade
 use Rattle.tt_app.specs.Checked.{read_failed}
@@ -37,15 +37,15 @@ pub record IsRewritten (instance : List ℕ) (proof : Option (List ℕ)) (a : An
 pub record FailsWhole (instance : List ℕ) (proof : Option (List ℕ)) (f : UpgradeFault) : Type 0 where
   pub problem : Problem
   pub spelled : Spells instance problem
-  pub fails : IfSome proof (λ bytes. TellsOf problem (stream_of bytes) f)
+  pub fails : IfSome proof (λ bytes. IsUpgradeFault problem (stream_of bytes) f)
 
 -- a refusal tells the first fault: the instance's, then the proof's
-abbrev pub TellsOfUpgrade : List ℕ → Option (List ℕ) → AppFault → Type 0
-TellsOfUpgrade i proof (fault.Instance f) = instance_of i ≡ Err f
-TellsOfUpgrade i proof (fault.Proof f) = FailsWhole i proof (upgrade.Proof f)
-TellsOfUpgrade i proof fault.ProofTooLarge = FailsWhole i proof upgrade.TooLarge
-TellsOfUpgrade i proof fault.OutOfMemory = ⊤
-TellsOfUpgrade i proof _ = ⊥
+abbrev pub IsUpgradeRefusal : List ℕ → Option (List ℕ) → AppFault → Type 0
+IsUpgradeRefusal i proof (fault.Instance f) = instance_of i ≡ Err f
+IsUpgradeRefusal i proof (fault.Proof f) = FailsWhole i proof (upgrade.Proof f)
+IsUpgradeRefusal i proof fault.ProofTooLarge = FailsWhole i proof upgrade.TooLarge
+IsUpgradeRefusal i proof fault.OutOfMemory = ⊤
+IsUpgradeRefusal i proof _ = ⊥
 
 -- this bound, unless memory runs out, a read of the proof fails or its text grows too large
 abbrev pub AnswersUpgrade : Result Answer AppFault → Bound → Type 0
@@ -53,7 +53,7 @@ AnswersUpgrade (Ok a) b = a.out.items ≡ bound_line b
 AnswersUpgrade (Err f) b = (f ≡ fault.OutOfMemory) ⊎ (f ≡ read_failed) ⊎ (f ≡ fault.ProofTooLarge)
 
 -- A read of the proof failed: the bytes of the instance spell one, and all that the source gave of the proof before has been read for it.
-pub record IsCutShort (instance proof : List ℕ) (left : Option (List ℕ)) : Type 0 where
+pub record IsSpelledAndReadUpToFailedRead (instance proof : List ℕ) (left : Option (List ℕ)) : Type 0 where
   pub problem : Problem
   pub spelled : Spells instance problem
-  pub tells : TellsTextRead problem proof left
+  pub tells : IsReadUpToFailedRead problem proof left

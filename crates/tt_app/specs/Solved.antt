@@ -33,10 +33,10 @@ pub record IsOverLong (b : Bound) (nodes : List Node) : Type 0 where
   pub large : ¬ FitsFile version b nodes
 
 -- why the text of a proof was not written
-abbrev pub TellsOfText : Bound → List Node → WriteFault → Type 0
-TellsOfText b nodes write.OverLimit = IsOverLong b nodes
-TellsOfText b nodes write.OutOfMemory = ⊤
-TellsOfText b nodes _ = ⊥
+abbrev pub IsTextRefusal : Bound → List Node → WriteFault → Type 0
+IsTextRefusal b nodes write.OverLimit = IsOverLong b nodes
+IsTextRefusal b nodes write.OutOfMemory = ⊤
+IsTextRefusal b nodes _ = ⊥
 
 -- the line of a search, its status, and its files: that of the best timetable, if there is one, and that of the proof
 pub record IsSearchAnswer (p : Problem) (best : Option (List Cell)) (b : Bound) (nodes : List Node) (finished : Bool) (a : Answer) : Type 0 where
@@ -68,8 +68,8 @@ pub record IsTooLarge (instance : List ℕ) (limit : ℕ) : Type 0 where
   pub large : IsOverLong bound nodes
 
 -- a refusal tells the instance's fault, or that the proof is too large
-abbrev pub TellsOfSolve : List ℕ → ℕ → AppFault → Type 0
-TellsOfSolve i limit (fault.Instance f) = instance_of i ≡ Err f
-TellsOfSolve i limit fault.ProofTooLarge = IsTooLarge i limit
-TellsOfSolve i limit fault.OutOfMemory = ⊤
-TellsOfSolve i limit _ = ⊥
+abbrev pub IsSolveRefusal : List ℕ → ℕ → AppFault → Type 0
+IsSolveRefusal i limit (fault.Instance f) = instance_of i ≡ Err f
+IsSolveRefusal i limit fault.ProofTooLarge = IsTooLarge i limit
+IsSolveRefusal i limit fault.OutOfMemory = ⊤
+IsSolveRefusal i limit _ = ⊥

@@ -44,8 +44,8 @@ pub record IsValidated (instance solution : List ℕ) (a : Answer) : Type 0 wher
   pub no_proof : a.proof ≡ None
 
 -- a refusal tells the first fault: the instance's, then the solution's
-abbrev pub TellsOfBoth : List ℕ → List ℕ → AppFault → Type 0
-TellsOfBoth instance solution (fault.Instance f) = instance_of instance ≡ Err f
-TellsOfBoth instance solution (fault.Solution f) = FailsSolution instance solution f
-TellsOfBoth instance solution fault.OutOfMemory = ⊤
-TellsOfBoth instance solution _ = ⊥
+abbrev pub IsFileRefusal : List ℕ → List ℕ → AppFault → Type 0
+IsFileRefusal instance solution (fault.Instance f) = instance_of instance ≡ Err f
+IsFileRefusal instance solution (fault.Solution f) = FailsSolution instance solution f
+IsFileRefusal instance solution fault.OutOfMemory = ⊤
+IsFileRefusal instance solution _ = ⊥

@@ -54,9 +54,9 @@ impl From<AllocError> for AppFault {
 
 impl From<InstanceFault> for AppFault {
     ghost use Rattle.std.specs.Prelude.{◌≡◌};
-    ghost use Rattle.tt_app.specs.Told.{told_instance};
+    ghost use Rattle.tt_app.specs.Told.{fault_from_instance};
 
-    ghost from_gives = { λ f e. e ≡ told_instance f };
+    ghost from_gives = { λ f e. e ≡ fault_from_instance f };
 
     fn from(fault: InstanceFault) -> AppFault {
         match fault {
@@ -68,9 +68,9 @@ impl From<InstanceFault> for AppFault {
 
 impl From<SolutionFault> for AppFault {
     ghost use Rattle.std.specs.Prelude.{◌≡◌};
-    ghost use Rattle.tt_app.specs.Told.{told_solution};
+    ghost use Rattle.tt_app.specs.Told.{fault_from_solution};
 
-    ghost from_gives = { λ f e. e ≡ told_solution f };
+    ghost from_gives = { λ f e. e ≡ fault_from_solution f };
 
     fn from(fault: SolutionFault) -> AppFault {
         match fault {
@@ -82,9 +82,9 @@ impl From<SolutionFault> for AppFault {
 
 impl From<CheckFault> for AppFault {
     ghost use Rattle.std.specs.Prelude.{◌≡◌};
-    ghost use Rattle.tt_app.specs.Told.{told_check};
+    ghost use Rattle.tt_app.specs.Told.{fault_from_check};
 
-    ghost from_gives = { λ f e. e ≡ told_check f };
+    ghost from_gives = { λ f e. e ≡ fault_from_check f };
 
     fn from(fault: CheckFault) -> AppFault {
         match fault {
@@ -96,9 +96,9 @@ impl From<CheckFault> for AppFault {
 
 impl From<ReportFault> for AppFault {
     ghost use Rattle.std.specs.Prelude.{◌≡◌};
-    ghost use Rattle.tt_app.specs.Told.{told_report};
+    ghost use Rattle.tt_app.specs.Told.{fault_from_report};
 
-    ghost from_gives = { λ f e. e ≡ told_report f };
+    ghost from_gives = { λ f e. e ≡ fault_from_report f };
 
     fn from(fault: ReportFault) -> AppFault {
         match fault {
@@ -110,9 +110,9 @@ impl From<ReportFault> for AppFault {
 
 impl From<CertifyFault> for AppFault {
     ghost use Rattle.std.specs.Prelude.{◌≡◌};
-    ghost use Rattle.tt_app.specs.Told.{told_certify};
+    ghost use Rattle.tt_app.specs.Told.{fault_from_certify};
 
-    ghost from_gives = { λ f e. e ≡ told_certify f };
+    ghost from_gives = { λ f e. e ≡ fault_from_certify f };
 
     fn from(fault: CertifyFault) -> AppFault {
         match fault {
@@ -126,9 +126,9 @@ impl From<CertifyFault> for AppFault {
 
 impl From<UpgradeFault> for AppFault {
     ghost use Rattle.std.specs.Prelude.{◌≡◌};
-    ghost use Rattle.tt_app.specs.Told.{told_upgrade};
+    ghost use Rattle.tt_app.specs.Told.{fault_from_upgrade};
 
-    ghost from_gives = { λ f e. e ≡ told_upgrade f };
+    ghost from_gives = { λ f e. e ≡ fault_from_upgrade f };
 
     fn from(fault: UpgradeFault) -> AppFault {
         match fault {
@@ -141,9 +141,9 @@ impl From<UpgradeFault> for AppFault {
 
 impl From<WriteFault> for AppFault {
     ghost use Rattle.std.specs.Prelude.{◌≡◌};
-    ghost use Rattle.tt_app.specs.Told.{told_write};
+    ghost use Rattle.tt_app.specs.Told.{fault_from_write};
 
-    ghost from_gives = { λ f e. e ≡ told_write f };
+    ghost from_gives = { λ f e. e ≡ fault_from_write f };
 
     fn from(fault: WriteFault) -> AppFault {
         match fault {

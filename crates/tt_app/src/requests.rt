@@ -56,8 +56,8 @@ pub fn answer_validate<R: Files + AllocGlobal>(
 
 /// The built-in instance, solution and proof.
 pub fn answer_stored<R: Files + AllocGlobal>(rt: &R) -> Result<Answer, AppFault> {
-    let mut proof = Pieces::new(stored::PROOF, 64, 0);
-    check(rt.alloc(), stored::INSTANCE, stored::SOLUTION, &mut proof)
+    let mut proof = Pieces::new(built_in::PROOF, 64, 0);
+    check(rt.alloc(), built_in::INSTANCE, built_in::SOLUTION, &mut proof)
 }
 
 /// The answer, once the timetable is written to its file.

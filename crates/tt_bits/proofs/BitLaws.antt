@@ -144,7 +144,7 @@ module _ (w rest j : ℕ) (h : j < 64) (e : has_bit w j ≡ true) (l : (r : ℕ)
   another_bit some =
       let m = member_from_any (has_bit rest) bits some in
       let i = m.0 in
-      let hi : i < 64 = numbers_under 64 i m.1 in
+      let hi : i < 64 = below_member 64 i m.1 in
       let two = and_parts (has_bit w i) (not (i == j)) (sym (l i hi) ∙ m.2) in
       (i, hi, two.0, (λ q. both_ways (not (i == j)) (ap not (eq-eqb i j q)) two.1))
 
@@ -173,7 +173,7 @@ any_bits_at p r h e = any_below p 64 r h e
 
 pub bit_from_any : (p : ℕ → Bool) → list_any p bits ≡ true → (r : ℕ) × (r < 64) × (p r ≡ true)
 unfolding bits
-bit_from_any p e = let m = member_from_any p bits e in (m.0, numbers_under 64 m.0 m.1, m.2)
+bit_from_any p e = let m = member_from_any p bits e in (m.0, below_member 64 m.0 m.1, m.2)
 
 pub all_bits_from : (p : ℕ → Bool) → ((r : ℕ) → r < 64 → p r ≡ true) → list_all p bits ≡ true
 unfolding bits

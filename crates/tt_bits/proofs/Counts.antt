@@ -7,7 +7,7 @@ use Rattle.std.specs.Int.{bit_at}
 use Rattle.std.specs.Int.Count.{ones}
 use Rattle.std.proofs.lemmas.Nat.{ones_cat}
 use Rattle.std.proofs.lemmas.Nat.Bits.{bit_at-suc, bit_at_lowest, bit_at-lt}
-use Rattle.tt_lists.specs.Words.{numbers_below}
+use Rattle.tt_lists.specs.Words.{range_below}
 use Rattle.tt_lists.proofs.Numbers.{any_below, count_more}
 use Rattle.tt_lists.proofs.Members.{member_from_any}
 use Rattle.tt_lists.proofs.Sums.{one_if, count_by-cons}
@@ -31,7 +31,7 @@ digit zero h = refl
 digit (suc zero) h = refl
 digit (suc (suc n)) h = absurd (omega arith)
 
-counted : (d w : ℕ) → w < 2 ^ d → count_ones w ≡ count_by (has_bit w) (numbers_below d)
+counted : (d w : ℕ) → w < 2 ^ d → count_ones w ≡ count_by (has_bit w) (range_below d)
 counted zero w h = let e : w ≡ 0 = omega arith in ap count_ones e ∙ digit 0 (omega arith)
 counted (suc d) w h =
     let parts : w ≡ w / 2 * 2 ^ 1 + w % 2 = omega arith in
@@ -55,43 +55,43 @@ count_ones-bits w h = counted 64 w h
 
 -- ---- a set of the numbers below a bound that pass a test
 
-count-same : (f g : ℕ → Bool) (n : ℕ) → ((k : ℕ) → k < n → f k ≡ g k) → count_by f (numbers_below n) ≡ count_by g (numbers_below n)
+count-same : (f g : ℕ → Bool) (n : ℕ) → ((k : ℕ) → k < n → f k ≡ g k) → count_by f (range_below n) ≡ count_by g (range_below n)
 count-same f g zero h = refl
 count-same f g (suc n) h =
     let e : suc n ≡ n + 1 = omega arith in
-    ap (λ m. count_by f (numbers_below m)) e ∙ count_more f n
+    ap (λ m. count_by f (range_below m)) e ∙ count_more f n
     ∙ ap (λ m. m + cond (f n) 1 0) (count-same f g n (λ k l. h k (omega arith)))
-    ∙ ap (λ b. count_by g (numbers_below n) + cond b 1 0) (h n (omega arith))
-    ∙ sym (count_more g n) ∙ sym (ap (λ m. count_by g (numbers_below m)) e)
+    ∙ ap (λ b. count_by g (range_below n) + cond b 1 0) (h n (omega arith))
+    ∙ sym (count_more g n) ∙ sym (ap (λ m. count_by g (range_below m)) e)
 
-pub count-past : (t : ℕ → Bool) (n more : ℕ) → count_by (λ s. nat_lt s n && t s) (numbers_below (n + more)) ≡ count_by t (numbers_below n)
+pub count-past : (t : ℕ → Bool) (n more : ℕ) → count_by (λ s. nat_lt s n && t s) (range_below (n + more)) ≡ count_by t (range_below n)
 count-past t n zero =
     let e : n + 0 ≡ n = omega arith in
-    ap (λ m. count_by (λ s. nat_lt s n && t s) (numbers_below m)) e ∙ count-same (λ s. nat_lt s n && t s) t n (λ k l. ap (λ b. b && t k) (lt-ltb k n l))
+    ap (λ m. count_by (λ s. nat_lt s n && t s) (range_below m)) e ∙ count-same (λ s. nat_lt s n && t s) t n (λ k l. ap (λ b. b && t k) (lt-ltb k n l))
 count-past t n (suc more) =
     let e : n + suc more ≡ n + more + 1 = omega arith in
-    ap (λ m. count_by (λ s. nat_lt s n && t s) (numbers_below m)) e ∙ count_more (λ s. nat_lt s n && t s) (n + more)
-    ∙ ap (λ b. count_by (λ s. nat_lt s n && t s) (numbers_below (n + more)) + cond (b && t (n + more)) 1 0) (not_below (n + more) n (omega arith))
+    ap (λ m. count_by (λ s. nat_lt s n && t s) (range_below m)) e ∙ count_more (λ s. nat_lt s n && t s) (n + more)
+    ∙ ap (λ b. count_by (λ s. nat_lt s n && t s) (range_below (n + more)) + cond (b && t (n + more)) 1 0) (not_below (n + more) n (omega arith))
     ∙ omega (arith, count-past t n more)
 
-pub count-bits : (f g : ℕ → Bool) → ((r : ℕ) → r < 64 → f r ≡ g r) → count_by f bits ≡ count_by g (numbers_below 64)
+pub count-bits : (f g : ℕ → Bool) → ((r : ℕ) → r < 64 → f r ≡ g r) → count_by f bits ≡ count_by g (range_below 64)
 unfolding bits
 count-bits f g h = count-same f g 64 h
 
 module _ (w n : ℕ) (t : ℕ → Bool) (few : n ≤ 64) (set : (s : ℕ) → s < 64 → has_bit w s ≡ (nat_lt s n && t s)) where
-  pub count-set : count_by (has_bit w) bits ≡ count_by t (numbers_below n)
+  pub count-set : count_by (has_bit w) bits ≡ count_by t (range_below n)
   unfolding bits
   count-set =
       let e : 64 ≡ n + (64 - n) = omega arith in
-      count-same (has_bit w) (λ s. nat_lt s n && t s) 64 set ∙ ap (λ m. count_by (λ s. nat_lt s n && t s) (numbers_below m)) e ∙ count-past t n (64 - n)
+      count-same (has_bit w) (λ s. nat_lt s n && t s) 64 set ∙ ap (λ m. count_by (λ s. nat_lt s n && t s) (range_below m)) e ∙ count-past t n (64 - n)
 
-  pub any-set : list_any (has_bit w) bits ≡ list_any t (numbers_below n)
-  any-set = same_truth (list_any (has_bit w) bits) (list_any t (numbers_below n))
+  pub any-set : list_any (has_bit w) bits ≡ list_any t (range_below n)
+  any-set = same_truth (list_any (has_bit w) bits) (list_any t (range_below n))
       (λ e.
       let a = bit_from_any (has_bit w) e in
       let b = and_parts (nat_lt a.0 n) (t a.0) (sym (set a.0 a.1) ∙ a.2) in
       any_below t n a.0 (ltb-true a.0 n b.0) b.1)
       (λ e.
-      let m = member_from_any t (numbers_below n) e in
-      let h = numbers_under n m.0 m.1 in
+      let m = member_from_any t (range_below n) e in
+      let h = below_member n m.0 m.1 in
       any_bits_at (has_bit w) m.0 (omega arith) (set m.0 (omega arith) ∙ and_from (nat_lt m.0 n) (t m.0) (lt-ltb m.0 n h) m.2))

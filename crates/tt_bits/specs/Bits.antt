@@ -2,13 +2,13 @@
 use Rattle.std.specs.Prelude.{◌≡◌, ℕ, ◌<◌, ◌==◌, Bool, not, ◌&&◌, ◌||◌, List, length, slice_index_or}
 use Rattle.std.specs.List.{list_all}
 use Rattle.std.specs.Int.{bit_at}
-use Rattle.tt_lists.specs.Words.{numbers_below}
+use Rattle.tt_lists.specs.Words.{range_below}
 
 abbrev pub has_bit : ℕ → ℕ → Bool
 has_bit w r = bit_at w r == 1
 
 unfoldable pub bits : List ℕ
-bits = numbers_below 64
+bits = range_below 64
 
 -- each number of the set passes the test
 abbrev pub each_bit : ℕ → (ℕ → Bool) → Bool

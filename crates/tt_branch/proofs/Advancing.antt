@@ -199,7 +199,7 @@ pub opening_there : (p q : Problem) (facts : List Fact) (old new : Option Best) 
     → Advances q old new → IsKnown q (table_of new) facts put.mark → was_opened put.mark ≡ true → IsSingle put.mark → put.link ≡ read.link → more ≡ slice_set entries place put → IsOpening p old new links entries more
 opening_there p q facts old new links entries more place read put same there is waits grown better known opened single link made =
     let e = waits.0 in
-    let met : read.link ≡ e.link = ap (λ (x : Entry). x.link) (is ∙ get_is entries place e read waits.1) in
+    let met : read.link ≡ e.link = ap (λ (x : Entry). x.link) (is ∙ get_or_from_slice_get entries place e read waits.1) in
     opening p old new links entries more place e put grown (subst (λ (r : Problem). Advances r old new) same better) waits.1 waits.2 (link ∙ met)
     (subst (λ (l : List Fact). IsKnown p (table_of new) l put.mark) (there ∙ ap (path_at links) met) (subst (λ (r : Problem). IsKnown r (table_of new) facts put.mark) same known))
     opened single made

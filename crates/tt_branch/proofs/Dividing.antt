@@ -55,7 +55,7 @@ pub record AreSteps (place : ℕ) (g : Pattern) (old new : Search) : Type 0 wher
 pub split_by_steps : (place : ℕ) (g : Pattern) (old new : Search) → HasMark old.entries.items place (Opened g) → AreSteps place g old new → IsSplitAt place g old new
 split_by_steps place g old new h s =
     let cut = cut_at old.entries.items place h.0 h.1 in
-    let same : s.read ≡ h.0 = s.read_is ∙ get_is old.entries.items place h.0 s.read h.1 in
+    let same : s.read ≡ h.0 = s.read_is ∙ get_or_from_slice_get old.entries.items place h.0 s.read h.1 in
     let link = ap (λ (e : Entry). e.link) same in
     record {
       before = cut.before;

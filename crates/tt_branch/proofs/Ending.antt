@@ -7,7 +7,7 @@ use Rattle.std.proofs.lemmas.List.{map-append}
 use Rattle.std.proofs.lemmas.List.Elements.{All-from_recursion}
 use Rattle.tt_lists.proofs.Sums.{each_weaker, each_both}
 use Rattle.tt_lists.proofs.Members.{member_cases, each_member, at_member}
-use Rattle.tt_leaf.proofs.Lengths.{each_append}
+use Rattle.tt_leaf.proofs.Tested.{each_append}
 use Rattle.tt_instance.specs.Problem.{Problem}
 use Rattle.tt_instance.specs.declared.cell.Cell.{Cell}
 use Rattle.tt_rules.specs.Score.{cost}

@@ -7,8 +7,8 @@ use Rattle.std.proofs.lemmas.List.{map-append, append-nil}
 use Rattle.std.proofs.lemmas.List.Elements.{filter-append}
 use Rattle.std.proofs.lemmas.List.Sums.{sum_by-append, sum_by-cons, sum_by_more}
 use Rattle.std.proofs.lemmas.Grind.{flat_map-append}
-use Rattle.tt_lists.specs.Words.{numbers_below}
-use Rattle.tt_lists.proofs.Below.{numbers_below_more}
+use Rattle.tt_lists.specs.Words.{range_below}
+use Rattle.tt_lists.proofs.Below.{range_below_more}
 use Rattle.tt_lists.proofs.Sums.{spread_up, once_at_least, one_if}
 use Rattle.tt_lists.proofs.Members.{each_member}
 use Rattle.tt_lists.proofs.Numbers.{any_below, sum_more}
@@ -50,8 +50,8 @@ map_twice f g (x ∷ xs) = ap (λ l. f (g x) ∷ l) (map_twice f g xs)
 
 in_room : (p : Problem) (c r : ℕ) → map (cell c r) (all_slots p) ≡ cells_in p c r
 in_room p c r =
-    map_flat (cell c r) (λ d. map (slot d) (numbers_below p.periods)) (all_days p)
-    ∙ λ i. flat_map (λ d. map_twice (cell c r) (slot d) (numbers_below p.periods) i) (all_days p)
+    map_flat (cell c r) (λ d. map (slot d) (range_below p.periods)) (all_days p)
+    ∙ λ i. flat_map (λ d. map_twice (cell c r) (slot d) (range_below p.periods) i) (all_days p)
 
 -- the cells in order, one number at a time
 pub cells_nested : (p : Problem) → flat_map (cells_of p) (all_courses p) ≡ all_cells p

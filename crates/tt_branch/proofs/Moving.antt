@@ -73,4 +73,4 @@ one_more old facts index left x d inside some within at is same =
     let y = get_or facts m d in
     let lower : m < length facts = omega arith in
     let dropped : drop m facts ≡ y ∷ drop left facts = drop_more facts m d lower ∙ ap (λ n. y ∷ drop n facts) back in
-    take_more old index x inside ∙ ap (λ z. take index old ++ z ∷ []) (get_is old index x x at ∙ is) ∙ ap (λ l. l ++ y ∷ []) same ∙ sym (ap reverse dropped ∙ reverse-append (y ∷ []) (drop left facts))
+    take_more old index x inside ∙ ap (λ z. take index old ++ z ∷ []) (get_or_from_slice_get old index x x at ∙ is) ∙ ap (λ l. l ++ y ∷ []) same ∙ sym (ap reverse dropped ∙ reverse-append (y ∷ []) (drop left facts))

@@ -1,4 +1,4 @@
--- Paths by links to the parent: each fact stands behind the facts of its parent.
+-- Paths by links to the parent: each fact stands after the facts of its parent.
 use Rattle.std.specs.Prelude.{◌≡◌, ℕ, zero, suc, ◌≤◌, Bool, true, false, List, [], ◌∷◌, ◌++◌, Some, None, slice_get}
 use Rattle.tt_facts.specs.declared.facts.Fact.{Fact}
 use Rattle.tt_facts.specs.declared.facts.Pattern.{Pattern}

@@ -17,7 +17,7 @@ pub record IsUnderWay (p : Problem) (s : Search) : Type 0 where
   pub links : AreLinks s.links.items
   pub grown : IsGrown p (table_of s.best) s.links.items s.entries.items
 
--- the opened node at the place is split: its two children stand behind it
+-- the opened node at the place is split: its two children stand after it
 pub record IsSplitAt (place : ℕ) (g : Pattern) (old new : Search) : Type 0 where
   pub before : List Entry
   pub after : List Entry

@@ -1,6 +1,6 @@
 -- The steps of a search, as the code makes them. Nobody has to believe them.
 use Rattle.std.specs.Prelude.{◌≡◌, ℕ, ◌+◌, List, length, map, flat_map, Option, Some, None}
-use Rattle.tt_lists.specs.Words.{numbers_below}
+use Rattle.tt_lists.specs.Words.{range_below}
 use Rattle.tt_instance.specs.Problem.{Problem}
 use Rattle.tt_instance.specs.Cells.{slot, cell, all_days, all_rooms}
 use Rattle.tt_instance.specs.declared.cell.Cell.{Cell}
@@ -27,7 +27,7 @@ lower (Some n) least = Some (least_with n least)
 -- ---- the cells of an instance, one number at a time
 
 abbrev pub cells_on : Problem → ℕ → ℕ → ℕ → List Cell
-cells_on p c r d = map (λ s. cell c r (slot d s)) (numbers_below p.periods)
+cells_on p c r d = map (λ s. cell c r (slot d s)) (range_below p.periods)
 
 abbrev pub cells_in : Problem → ℕ → ℕ → List Cell
 cells_in p c r = flat_map (cells_on p c r) (all_days p)

@@ -26,7 +26,7 @@ pub record IsWritable (p : Problem) (links : List Link) (e : Entry) : Type 0 whe
   pub numbers : IsNodeOf p (node_at p links e)
   pub once : IsOnceNode (node_at p links e)
 
--- the entries behind those that are left are written, the last one first
+-- the entries after those that are left are written, the last one first
 pub record IsTaken (p : Problem) (links : List Link) (valued : Bool) (all left : List Entry) (nodes : List Node) (lowest : Option ℕ) : Type 0 where
   pub done : List Entry
   pub split : all ≡ left ++ done

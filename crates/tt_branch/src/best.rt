@@ -21,7 +21,7 @@ use tt_table::Timetable;
 /// The most steps of the descent that a search begins with.
 const FIRST_STEPS: u64 = 10_000;
 
-/// The steps of a turn of the improvement behind it, at least and at most, and for each entry in each cell of a room: one
+/// The steps of a turn of the improvement after it, at least and at most, and for each entry in each cell of a room: one
 /// or two seconds on an instance of real size.
 const LEAST_STEPS: u64 = 2_000;
 

@@ -9,7 +9,7 @@ use tt_leaf::Leaf;
 /// How far a node has been searched.
 #[derive(Drop)]
 pub enum Mark {
-    /// It is split, and its children stand behind it.
+    /// It is split, and its children stand after it.
     Divided(Pattern),
     /// A leaf closes it.
     Closed(Leaf),

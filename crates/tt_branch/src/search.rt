@@ -95,7 +95,7 @@ pub fn put(entries: &mut Vec<Entry>, place: usize, entry: Entry)
     entries[place] = entry;
 }
 
-/// Splits an opened node by its pattern: its children stand behind it, and wait.
+/// Splits an opened node by its pattern: its children stand after it, and wait.
 pub fn split(search: &mut Search, place: usize, pattern: Pattern) -> Result<(), AllocError>
     requires { HasMark search.old.entries.items place (Mark.Opened pattern) }
     ensures { OnOk result (IsSplitAt place pattern search.old search.new) }

@@ -85,7 +85,7 @@ module _ (p : Problem) (old : List ℕ) where
   drops-more mid new g h k a z e = record {
     len = z.len ∙ a.len;
     last = z.last ∙ a.last;
-    bits = λ b q. z.bits b q ∙ ap (λ t. t && not (h b)) (a.bits b q) ∙ twice (is_set p old b) (g b) (h b) ∙ ap (λ t. is_set p old b && not t) (e b q);
+    bits = λ b q. z.bits b q ∙ ap (λ t. t && not (h b)) (a.bits b q) ∙ taken_twice (is_set p old b) (g b) (h b) ∙ ap (λ t. is_set p old b && not t) (e b q);
   }
 
   -- one block more of a course in a period

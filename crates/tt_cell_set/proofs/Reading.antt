@@ -4,8 +4,8 @@ use Rattle.std.specs.List.{list_any, list_all}
 use Rattle.std.proofs.lemmas.Bool.{cases_lt, both_ways}
 use Rattle.std.proofs.lemmas.List.Folds.{list_all-append}
 use Rattle.std.proofs.Math.Bool.{and-true}
-use Rattle.tt_lists.specs.Words.{numbers_below}
-use Rattle.tt_lists.proofs.Below.{numbers_below_more}
+use Rattle.tt_lists.specs.Words.{range_below}
+use Rattle.tt_lists.proofs.Below.{range_below_more}
 use Rattle.tt_lists.proofs.Numbers.{any_below}
 use Rattle.tt_lists.proofs.Members.{member_from_any}
 use Rattle.tt_instance.specs.Problem.{Problem}
@@ -17,8 +17,8 @@ use Rattle.tt_cell_set.specs.Tables.{has_cell, IsTable}
 use Rattle.tt_cell_set.proofs.Grid.{block_back, number_back, room_back, block_within}
 
 -- a test of the numbers below a bound, with one number more
-pub all_next : (t : ℕ → Bool) (n : ℕ) → list_all t (numbers_below (n + 1)) ≡ (list_all t (numbers_below n) && t n)
-all_next t n = ap (list_all t) (numbers_below_more n) ∙ list_all-append t (numbers_below n) (n ∷ []) ∙ ap (λ b. list_all t (numbers_below n) && b) (and-true (t n))
+pub all_next : (t : ℕ → Bool) (n : ℕ) → list_all t (range_below (n + 1)) ≡ (list_all t (range_below n) && t n)
+all_next t n = ap (list_all t) (range_below_more n) ∙ list_all-append t (range_below n) (n ∷ []) ∙ ap (λ b. list_all t (range_below n) && b) (and-true (t n))
 
 module _ (p : Problem) where
   -- a cell by its block and number
@@ -41,25 +41,25 @@ module _ (p : Problem) where
 
   -- ---- tests of rooms, block by block
 
-  pub any_block : (t : ℕ → Bool) → ((w k : ℕ) → w < width p → k < 64 → length p.rooms ≤ w * 64 + k → t (w * 64 + k) ≡ false) → list_any (λ w. list_any (λ k. t (w * 64 + k)) bits) (numbers_below (width p)) ≡ list_any t (all_rooms p)
-  any_block t none = same_truth (list_any (λ w. list_any (λ k. t (w * 64 + k)) bits) (numbers_below (width p))) (list_any t (all_rooms p))
+  pub any_block : (t : ℕ → Bool) → ((w k : ℕ) → w < width p → k < 64 → length p.rooms ≤ w * 64 + k → t (w * 64 + k) ≡ false) → list_any (λ w. list_any (λ k. t (w * 64 + k)) bits) (range_below (width p)) ≡ list_any t (all_rooms p)
+  any_block t none = same_truth (list_any (λ w. list_any (λ k. t (w * 64 + k)) bits) (range_below (width p))) (list_any t (all_rooms p))
       (λ e.
-      let m = member_from_any (λ w. list_any (λ k. t (w * 64 + k)) bits) (numbers_below (width p)) e in
+      let m = member_from_any (λ w. list_any (λ k. t (w * 64 + k)) bits) (range_below (width p)) e in
       let w = m.0 in
       let b = bit_from_any (λ k. t (w * 64 + k)) m.2 in
       let k = b.0 in
       elim (cases_lt (w * 64 + k) (length p.rooms)) [
         | inl h ↦ any_below t (length p.rooms) (w * 64 + k) h b.2
-        | inr h ↦ absurd (both_ways (t (w * 64 + k)) (none w k (numbers_under (width p) w m.1) b.1 h) b.2)
+        | inr h ↦ absurd (both_ways (t (w * 64 + k)) (none w k (below_member (width p) w m.1) b.1 h) b.2)
       ])
       (λ e.
       let m = member_from_any t (all_rooms p) e in
       let r = m.0 in
-      let h = numbers_under (length p.rooms) r m.1 in
+      let h = below_member (length p.rooms) r m.1 in
       any_below (λ w. list_any (λ k. t (w * 64 + k)) bits) (width p) (r / 64) (block_within p r h) (any_bits_at (λ k. t (r / 64 * 64 + k)) (r % 64) (omega arith) (ap t (room_back r) ∙ m.2)))
 
-  pub all_block : (t : ℕ → Bool) → ((w k : ℕ) → w < width p → k < 64 → length p.rooms ≤ w * 64 + k → t (w * 64 + k) ≡ true) → list_all (λ w. list_all (λ k. t (w * 64 + k)) bits) (numbers_below (width p)) ≡ list_all t (all_rooms p)
-  all_block t each = same_truth (list_all (λ w. list_all (λ k. t (w * 64 + k)) bits) (numbers_below (width p))) (list_all t (all_rooms p))
+  pub all_block : (t : ℕ → Bool) → ((w k : ℕ) → w < width p → k < 64 → length p.rooms ≤ w * 64 + k → t (w * 64 + k) ≡ true) → list_all (λ w. list_all (λ k. t (w * 64 + k)) bits) (range_below (width p)) ≡ list_all t (all_rooms p)
+  all_block t each = same_truth (list_all (λ w. list_all (λ k. t (w * 64 + k)) bits) (range_below (width p))) (list_all t (all_rooms p))
       (λ e. all_below t (length p.rooms) (λ r h.
       ap t (sym (room_back r)) ∙ all_bits_at (λ k. t (r / 64 * 64 + k)) (r % 64) (at_below (λ w. list_all (λ k. t (w * 64 + k)) bits) (width p) (r / 64) e (block_within p r h)) (omega arith)))
       (λ e. all_below (λ w. list_all (λ k. t (w * 64 + k)) bits) (width p) (λ w hw. all_bits_from (λ k. t (w * 64 + k)) (λ k hk. elim (cases_lt (w * 64 + k) (length p.rooms)) [

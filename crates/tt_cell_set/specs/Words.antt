@@ -27,7 +27,7 @@ pub record IsBit (p : Problem) (b : Bit) : Type 0 where
 abbrev pub place : Problem → ℕ → ℕ → ℕ → ℕ
 place p c d s = ((c * p.days + d) * p.periods + s) * width p
 
--- how many words of rooms there are; behind them stands one word more
+-- how many words of rooms there are; after them stands one word more
 abbrev pub size : Problem → ℕ
 size p = length p.courses * p.days * p.periods * width p
 

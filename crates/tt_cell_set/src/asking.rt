@@ -3,7 +3,7 @@
 ghost use Rattle.std.specs.Prelude.{◌≡◌, ◌<◌, ◌+◌, ◌*◌, ◌==◌, ◌||◌, ◌&&◌, ℕ, not, nat_lt, length, None};
 ghost use Rattle.std.specs.List.{list_any, list_all};
 ghost use Rattle.tt_instance.specs.Cells.{slot, cell, all_rooms, InRange};
-ghost use Rattle.tt_lists.specs.Words.{numbers_below};
+ghost use Rattle.tt_lists.specs.Words.{range_below};
 ghost use Rattle.tt_bits.specs.Bits.{has_bit, bits};
 ghost use Rattle.tt_cell_set.specs.Words.{width};
 ghost use Rattle.tt_cell_set.specs.Rooms.{has_room};
@@ -67,7 +67,7 @@ fn has_blocks(
     requires table { IsTable instance.now table.now.words }
     ensures { result ≡ list_any
         (λ w. list_any (λ k. is_open instance.now table.now.words room course day period (w * 64 + k)) bits)
-        (numbers_below (width instance.now)) }
+        (range_below (width instance.now)) }
 {
     (0..width(instance)).any(|block| has_block(instance, table, room, course, day, period, block))
 }

@@ -38,11 +38,11 @@ module _ (p : Problem) (facts : List Fact) (live : List ℕ) (shows : Shows p (i
   live-cells c d s hc hd hs = same_truth (list_any (is_open p live None c d s) (all_rooms p)) (live_period p facts c (slot d s))
       (λ e.
       let m = member_from_any (is_open p live None c d s) (all_rooms p) e in
-      let h = numbers_under (length p.rooms) m.0 m.1 in
+      let h = below_member (length p.rooms) m.0 m.1 in
       any_below (λ r. is_live p facts (cell c r (slot d s))) (length p.rooms) m.0 h (sym (at m.0 h) ∙ m.2))
       (λ e.
       let m = member_from_any (λ r. is_live p facts (cell c r (slot d s))) (all_rooms p) e in
-      let h = numbers_under (length p.rooms) m.0 m.1 in
+      let h = below_member (length p.rooms) m.0 m.1 in
       any_below (is_open p live None c d s) (length p.rooms) m.0 h (at m.0 h ∙ m.2))
     where
       at : (r : ℕ) → r < length p.rooms → is_open p live None c d s r ≡ is_live p facts (cell c r (slot d s))

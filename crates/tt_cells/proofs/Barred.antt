@@ -128,19 +128,19 @@ spread true false true = refl
 spread true false false = refl
 spread false b z = refl
 
-pub course_gone : (ks : List ℕ) (k c : ℕ) (z : Bool) → ((has ks c && z) || ((c == k) && z)) ≡ (has (ks ++ k ∷ []) c && z)
+pub course_gone : (ks : List ℕ) (k c : ℕ) (z : Bool) → ((has_number ks c && z) || ((c == k) && z)) ≡ (has_number (ks ++ k ∷ []) c && z)
 course_gone ks k c z =
-    spread (has ks c) (c == k) z
-    ∙ ap (λ b. (has ks c || b) && z) (turned c k)
-    ∙ ap (λ b. b && z) (sym (list_any-append (λ m. m == c) ks (k ∷ []) ∙ ap (λ b. has ks c || b) (or-false (k == c))))
+    spread (has_number ks c) (c == k) z
+    ∙ ap (λ b. (has_number ks c || b) && z) (turned c k)
+    ∙ ap (λ b. b && z) (sym (list_any-append (λ m. m == c) ks (k ∷ []) ∙ ap (λ b. has_number ks c || b) (or-false (k == c))))
   where
     turned : (a b : ℕ) → (a == b) ≡ (b == a)
     turned a b = same_truth (a == b) (b == a) (λ e. eq-eqb b a (sym (eqb-true a b e))) (λ e. eq-eqb a b (sym (eqb-true b a e)))
 
 -- a course that is not there has no cell
-pub course_absent : (p : Problem) (ks : List ℕ) (k : ℕ) (x : Cell) (z : Bool) → InRange p x → length p.courses ≤ k → (has ks x.course && z) ≡ (has (ks ++ k ∷ []) x.course && z)
+pub course_absent : (p : Problem) (ks : List ℕ) (k : ℕ) (x : Cell) (z : Bool) → InRange p x → length p.courses ≤ k → (has_number ks x.course && z) ≡ (has_number (ks ++ k ∷ []) x.course && z)
 course_absent p ks k x z h past =
-    sym (none (has ks x.course && z) ((x.course == k) && z) (false_from_ne_true ((x.course == k) && z) (λ e. let q = eqb-true x.course k (and_parts (x.course == k) z e).0 in let l = h.course in omega arith)))
+    sym (none (has_number ks x.course && z) ((x.course == k) && z) (false_from_ne_true ((x.course == k) && z) (λ e. let q = eqb-true x.course k (and_parts (x.course == k) z e).0 in let l = h.course in omega arith)))
     ∙ course_gone ks k x.course z
   where
     none : (a b : Bool) → b ≡ false → (a || b) ≡ a
@@ -151,15 +151,15 @@ regroup : (w r d s : Bool) → (w && (r && d && s)) ≡ (w && r && d && s)
 regroup true r d s = refl
 regroup false r d s = refl
 
-pub courses_gone : (p : Problem) (g : Pattern) (x : Cell) → (has (courses_of p g.who) x.course && agrees_at g x) ≡ matches p g x
+pub courses_gone : (p : Problem) (g : Pattern) (x : Cell) → (has_number (courses_of p g.who) x.course && agrees_at g x) ≡ matches p g x
 courses_gone p g x = ap (λ b. b && agrees_at g x) (who-has p g.who x.course) ∙ regroup (is_who p g.who x.course) (agrees g.room x.room) (agrees g.day x.day) (agrees g.period x.period)
 
 module _ (p : Problem) (g : Pattern) (ks : List ℕ) (i : ℕ) (hi : i < length ks) (x : Cell) where
-  pub course_at : ((has (take i ks) x.course && agrees_at g x) || ((x.course == slice_index_or ks i 0) && agrees_at g x)) ≡ (has (take (i + 1) ks) x.course && agrees_at g x)
-  course_at = course_gone (take i ks) (slice_index_or ks i 0) x.course (agrees_at g x) ∙ ap (λ l. has l x.course && agrees_at g x) (sym (take_more ks i 0 hi))
+  pub course_at : ((has_number (take i ks) x.course && agrees_at g x) || ((x.course == slice_index_or ks i 0) && agrees_at g x)) ≡ (has_number (take (i + 1) ks) x.course && agrees_at g x)
+  course_at = course_gone (take i ks) (slice_index_or ks i 0) x.course (agrees_at g x) ∙ ap (λ l. has_number l x.course && agrees_at g x) (sym (take_more ks i 0 hi))
 
-  pub course_past : InRange p x → length p.courses ≤ slice_index_or ks i 0 → (has (take i ks) x.course && agrees_at g x) ≡ (has (take (i + 1) ks) x.course && agrees_at g x)
-  course_past h past = course_absent p (take i ks) (slice_index_or ks i 0) x (agrees_at g x) h past ∙ ap (λ l. has l x.course && agrees_at g x) (sym (take_more ks i 0 hi))
+  pub course_past : InRange p x → length p.courses ≤ slice_index_or ks i 0 → (has_number (take i ks) x.course && agrees_at g x) ≡ (has_number (take (i + 1) ks) x.course && agrees_at g x)
+  course_past h past = course_absent p (take i ks) (slice_index_or ks i 0) x (agrees_at g x) h past ∙ ap (λ l. has_number l x.course && agrees_at g x) (sym (take_more ks i 0 hi))
 
 -- the same, of a course in one period
 placed_split : (c a b : Bool) → (c && a && b && true) ≡ (c && (a && b))
@@ -168,7 +168,7 @@ placed_split true true false = refl
 placed_split true false b = refl
 placed_split false a b = refl
 
-pub course_next_at : (ks : List ℕ) (i : ℕ) → i < length ks → (c : ℕ) (a b : Bool) → ((has (take i ks) c && (a && b)) || ((c == slice_index_or ks i 0) && a && b && true)) ≡ (has (take (i + 1) ks) c && (a && b))
+pub course_next_at : (ks : List ℕ) (i : ℕ) → i < length ks → (c : ℕ) (a b : Bool) → ((has_number (take i ks) c && (a && b)) || ((c == slice_index_or ks i 0) && a && b && true)) ≡ (has_number (take (i + 1) ks) c && (a && b))
 course_next_at ks i hi c a b =
-    ap (λ t. (has (take i ks) c && (a && b)) || t) (placed_split (c == slice_index_or ks i 0) a b)
-    ∙ course_gone (take i ks) (slice_index_or ks i 0) c (a && b) ∙ ap (λ l. has l c && (a && b)) (sym (take_more ks i 0 hi))
+    ap (λ t. (has_number (take i ks) c && (a && b)) || t) (placed_split (c == slice_index_or ks i 0) a b)
+    ∙ course_gone (take i ks) (slice_index_or ks i 0) c (a && b) ∙ ap (λ l. has_number l c && (a && b)) (sym (take_more ks i 0 hi))

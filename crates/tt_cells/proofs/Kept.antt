@@ -27,13 +27,13 @@ module _ (p : Problem) (facts : List Fact) (f : Fact) (frees lives : List (List 
       let n : length frees ≡ length facts = omega (arith, a.frees_len, length-append frees (free ∷ []), length-append facts (f ∷ [])) in
       let m : length lives ≡ length facts = omega (arith, a.lives_len, length-append lives (live ∷ []), length-append facts (f ∷ [])) in
       let more : length (facts ++ f ∷ []) ≡ length facts + 1 = length-append facts (f ∷ []) in (
-        moved p _ facts _ free _ live (take-append_seam facts (f ∷ [])) (ap (λ i. slice_index_or (frees ++ free ∷ []) i []) (sym n) ∙ at_seam frees free []) (ap (λ i. slice_index_or (lives ++ live ∷ []) i []) (sym m) ∙ at_seam lives live [])
+        moved p _ facts _ free _ live (take-append_seam facts (f ∷ [])) (ap (λ i. slice_index_or (frees ++ free ∷ []) i []) (sym n) ∙ get_or_push frees free []) (ap (λ i. slice_index_or (lives ++ live ∷ []) i []) (sym m) ∙ get_or_push lives live [])
             (a.each (length facts) (omega arith)),
         record {
           frees_len = n;
           lives_len = m;
           each = λ i h. let hn : i < length frees = omega arith in let hm : i < length lives = omega arith in let le : i ≤ length facts = omega arith in
-              moved p _ (take i facts) _ (slice_index_or frees i []) _ (slice_index_or lives i []) (take-append-le i facts (f ∷ []) le) (before_seam frees free [] i hn) (before_seam lives live [] i hm) (a.each i (omega arith));
+              moved p _ (take i facts) _ (slice_index_or frees i []) _ (slice_index_or lives i []) (take-append-le i facts (f ∷ []) le) (get_or_append_left frees free [] i hn) (get_or_append_left lives live [] i hm) (a.each i (omega arith));
         },
       )
 
@@ -43,9 +43,9 @@ module _ (p : Problem) (facts : List Fact) (f : Fact) (frees lives : List (List 
     lives_len = length-append lives (live ∷ []) ∙ ap (λ n. n + 1) a.lives_len ∙ sym (length-append facts (f ∷ []));
     each = λ i h. elim (cases_lt i (length facts)) [
       | inl l ↦ let hn : i < length frees = omega (arith, a.frees_len) in let hm : i < length lives = omega (arith, a.lives_len) in let le : i ≤ length facts = omega arith in
-          moved p (take i facts) _ (slice_index_or frees i []) _ (slice_index_or lives i []) _ (sym (take-append-le i facts (f ∷ []) le)) (sym (before_seam frees free [] i hn)) (sym (before_seam lives live [] i hm)) (a.each i l)
+          moved p (take i facts) _ (slice_index_or frees i []) _ (slice_index_or lives i []) _ (sym (take-append-le i facts (f ∷ []) le)) (sym (get_or_append_left frees free [] i hn)) (sym (get_or_append_left lives live [] i hm)) (a.each i l)
       | inr l ↦ let e : length facts ≡ i = omega (arith, length-append facts (f ∷ [])) in
           subst (λ k. AreTables p (take k (facts ++ f ∷ [])) (slice_index_or (frees ++ free ∷ []) k []) (slice_index_or (lives ++ live ∷ []) k [])) e
-          (moved p facts _ free _ live _ (sym (take-append_seam facts (f ∷ []))) (sym (ap (λ k. slice_index_or (frees ++ free ∷ []) k []) (sym a.frees_len) ∙ at_seam frees free [])) (sym (ap (λ k. slice_index_or (lives ++ live ∷ []) k []) (sym a.lives_len) ∙ at_seam lives live [])) t)
+          (moved p facts _ free _ live _ (sym (take-append_seam facts (f ∷ []))) (sym (ap (λ k. slice_index_or (frees ++ free ∷ []) k []) (sym a.frees_len) ∙ get_or_push frees free [])) (sym (ap (λ k. slice_index_or (lives ++ live ∷ []) k []) (sym a.lives_len) ∙ get_or_push lives live [])) t)
     ];
   }

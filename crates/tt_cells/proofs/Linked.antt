@@ -47,12 +47,12 @@ module _ (p : Problem) (free : List ℕ) (g : Pattern) (d s k : ℕ) (hk : k < l
 
   own : x.course ≡ k → ((has (conflicts_of p k) x.course && ((x.day == d) && (x.period == s))) || (is_placed k d s x && not (has_cell p free x && agrees g.room x.room))) ≡ is_struck p free g d s (k ∷ []) x
   own e =
-      ap (λ b. (b && ((x.day == d) && (x.period == s))) || (is_placed k d s x && not (has_cell p free x && agrees g.room x.room))) (ap (has (conflicts_of p k)) e ∙ conflicts-has p k k hk ∙ conflict-itself p k)
+      ap (λ b. (b && ((x.day == d) && (x.period == s))) || (is_placed k d s x && not (has_cell p free x && agrees g.room x.room))) (ap (has_number (conflicts_of p k)) e ∙ conflicts-has p k k hk ∙ conflict-itself p k)
       ∙ ap (λ b. b && (x.day == d) && (x.period == s) && not (has_cell p free x && agrees g.room x.room)) (eq-eqb x.course k e)
       ∙ in_period (x.day == d) (x.period == s) (not (has_cell p free x && agrees g.room x.room)) (loses_room p free g d s (k ∷ []) x.course x.room) (λ ed es.
       ap (λ n. not (has_cell p free (cell x.course x.room (slot n x.period)) && agrees g.room x.room)) (eqb-true x.day d ed)
       ∙ ap (λ n. not (has_cell p free (cell x.course x.room (slot d n)) && agrees g.room x.room)) (eqb-true x.period s es)
-      ∙ one_of (has (k ∷ []) x.course) (not (is_open p free g.room x.course d s x.room)) (list_all (is_beside p free g d s x.course x.room) (k ∷ [])) (or-false (k == x.course) ∙ eq-eqb k x.course (sym e)))
+      ∙ one_of (has_number (k ∷ []) x.course) (not (is_open p free g.room x.course d s x.room)) (list_all (is_beside p free g d s x.course x.room) (k ∷ [])) (or-false (k == x.course) ∙ eq-eqb k x.course (sym e)))
     where
       in_period : (a b u v : Bool) → (a ≡ true → b ≡ true → u ≡ v) → (a && b && u) ≡ ((a && b) && v)
       in_period true true u v f = f refl refl
@@ -69,14 +69,14 @@ module _ (p : Problem) (free : List ℕ) (g : Pattern) (d s k : ℕ) (hk : k < l
       ap (λ b. (has (conflicts_of p k) x.course && ((x.day == d) && (x.period == s))) || (b && (x.day == d) && (x.period == s) && not (has_cell p free x && agrees g.room x.room))) (ne_eqb x.course k e)
       ∙ or-false (has (conflicts_of p k) x.course && ((x.day == d) && (x.period == s)))
       ∙ ap (λ b. b && ((x.day == d) && (x.period == s))) (conflicts-has p k x.course h.course)
-      ∙ swapped (conflict p k x.course) ((x.day == d) && (x.period == s))
+      ∙ either (conflict p k x.course) ((x.day == d) && (x.period == s))
       ∙ ap (λ b. ((x.day == d) && (x.period == s)) && b) beside
     where
-      swapped : (a b : Bool) → (a && b) ≡ (b && a)
+      either : (a b : Bool) → (a && b) ≡ (b && a)
       swapped true true = refl
-      swapped true false = refl
-      swapped false true = refl
-      swapped false false = refl
+      either true false = refl
+      either false true = refl
+      either false false = refl
 
       none_of : (t o l : Bool) → t ≡ false → l ≡ ((t && o) || (not t && l))
       none_of true o l e = cc
@@ -87,7 +87,7 @@ module _ (p : Problem) (free : List ℕ) (g : Pattern) (d s k : ℕ) (hk : k < l
           sym (ap (λ b. (not b || conflict p k x.course || list_all (λ i. not (is_open p free g.room k d s i) || (i == x.room)) (all_rooms p)) && true) (lt-ltb k (length p.courses) hk)
           ∙ ap (λ b. (conflict p k x.course || b) && true) (sym (several x.room))
           ∙ and-true (conflict p k x.course || false) ∙ or-false (conflict p k x.course))
-          ∙ none_of (has (k ∷ []) x.course) (not (is_open p free g.room x.course d s x.room)) (list_all (is_beside p free g d s x.course x.room) (k ∷ [])) (or-false (k == x.course) ∙ ne_eqb k x.course (λ q. e (sym q)))
+          ∙ none_of (has_number (k ∷ []) x.course) (not (is_open p free g.room x.course d s x.room)) (list_all (is_beside p free g d s x.course x.room) (k ∷ [])) (or-false (k == x.course) ∙ ne_eqb k x.course (λ q. e (sym q)))
 
   pub struck_by_links : ((has (conflicts_of p k) x.course && ((x.day == d) && (x.period == s))) || (is_placed k d s x && not (has_cell p free x && agrees g.room x.room))) ≡ is_struck p free g d s (k ∷ []) x
   struck_by_links = elim (cases_eq x.course k) [ inl e ↦ own e | inr e ↦ other e ]

@@ -50,7 +50,7 @@ module _ (p : Problem) (old : List ℕ) where
   pub loses-more : (mid new : List ℕ) (g h k : Cell → Bool) → Loses p old g mid → Loses p mid h new → ((x : Cell) → InRange p x → (g x || h x) ≡ k x) → Loses p old k new
   loses-more mid new g h k a b e = record {
     table = b.table;
-    cells = λ x q. b.cells x q ∙ ap (λ t. t && not (h x)) (a.cells x q) ∙ twice (has_cell p old x) (g x) (h x) ∙ ap (λ t. has_cell p old x && not t) (e x q);
+    cells = λ x q. b.cells x q ∙ ap (λ t. t && not (h x)) (a.cells x q) ∙ taken_twice (has_cell p old x) (g x) (h x) ∙ ap (λ t. has_cell p old x && not t) (e x q);
   }
 
   pub shows-less : (t g : Cell → Bool) (new : List ℕ) → Shows p t old → Loses p old g new → Shows p (λ x. t x && not (g x)) new

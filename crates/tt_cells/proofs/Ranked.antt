@@ -4,7 +4,7 @@ use Rattle.std.specs.Prelude.{filter, Contains, All}
 use Rattle.std.proofs.lemmas.Bool.{cases_lt, cases_eq, both_ways, false_from_ne_true}
 use Rattle.std.proofs.lemmas.List.Sorted.{Contains-permutation, All-permutation}
 use Rattle.std.proofs.lemmas.List.FromFn.{get_or-map-range_with_len, length-map-range_with_len}
-use Rattle.tt_lists.specs.Words.{numbers_below}
+use Rattle.tt_lists.specs.Words.{range_below}
 use Rattle.tt_instance.specs.Problem.{Problem}
 use Rattle.tt_instance.specs.Cells.{cell, all_rooms}
 use Rattle.tt_instance.specs.Courses.{students, capacity, excess}
@@ -44,7 +44,7 @@ high_with n m (Some k) (inr h) = omega arith
 
 module _ (f : ℕ → ℕ) (t : ℕ → Bool) where
   abbrev least_below : ℕ → Option ℕ
-  least_below n = least (map f (filter t (numbers_below n)))
+  least_below n = least (map f (filter t (range_below n)))
 
   low_next : (b : Bool) (n m : ℕ) (o : Option ℕ) → (b ≡ true → m ≤ f n) → IsLow o m → IsLow (cond b (Some (least_with (f n) o)) o) m
   low_next true n m o h l = low_with (f n) m o (h refl) l

@@ -4,7 +4,7 @@ use Rattle.std.specs.Prelude.{◌==◌, nat_lt, Contains, slice_index_or}
 use Rattle.std.specs.List.{list_any, list_all, AllByRecursion}
 use Rattle.std.proofs.lemmas.Bool.{and_parts, and_from, lt-ltb, ltb-true, eqb-true, cases_lt, cases_eq, cases_Bool, or_cases, or_left, or_right, both_ways, false_from_ne_true}
 use Rattle.std.proofs.Math.Bool.{or-false}
-use Rattle.tt_lists.specs.Words.{has}
+use Rattle.tt_lists.specs.Words.{has_number}
 use Rattle.tt_lists.proofs.Members.{at_member, each_member, any_member, member_from_any}
 use Rattle.tt_lists.proofs.Numbers.{any_below}
 use Rattle.tt_lists.proofs.Sums.{each_from_list_all}
@@ -29,14 +29,14 @@ use Rattle.tt_cells.specs.Shown.{is_free_of}
 
 -- ---- the courses that are meant
 
-pub who-has : (p : Problem) (who : Who) (c : ℕ) → has (courses_of p who) c ≡ is_who p who c
+pub who-has : (p : Problem) (who : Who) (c : ℕ) → has_number (courses_of p who) c ≡ is_who p who c
 who-has p (Whose.Course a) c = or-false (a == c) ∙ same_test a c c a sym sym
 who-has p (Whose.Curriculum q) c = refl
 
-has-member : (ks : List ℕ) (c : ℕ) → has ks c ≡ true → Contains ks c
+has-member : (ks : List ℕ) (c : ℕ) → has_number ks c ≡ true → Contains ks c
 has-member ks c e = let m = member_from_any (λ k. k == c) ks e in subst (Contains ks) (eqb-true m.0 c m.2) m.1
 
-member-has : (ks : List ℕ) (c : ℕ) → Contains ks c → has ks c ≡ true
+member-has : (ks : List ℕ) (c : ℕ) → Contains ks c → has_number ks c ≡ true
 member-has ks c h = any_member (λ k. k == c) ks c h (eq-eqb c c refl)
 
 any_at : {X : Type 0} (t : X → Bool) (xs : List X) (i : ℕ) (d : X) → t d ≡ false → t (slice_index_or xs i d) ≡ true → list_any t xs ≡ true
@@ -49,7 +49,7 @@ who_conflict : (p : Problem) (who : Who) (k c : ℕ) → is_who p who k ≡ true
 who_conflict p (Whose.Course a) k c hk hc apart = absurd (apart (eqb-true k a hk ∙ sym (eqb-true c a hc)))
 who_conflict p (Whose.Curriculum q) k c hk hc apart =
     and_from (not (k == c)) (one_teacher p k c || one_curriculum p k c) (ap not (ne_eqb k c apart))
-    (or_right (one_teacher p k c) (one_curriculum p k c) (any_at (λ (m : Curriculum). has m.members k && has m.members c) p.curricula q no_curriculum refl (and_from (has (members p q) k) (has (members p q) c) hk hc)))
+    (or_right (one_teacher p k c) (one_curriculum p k c) (any_at (λ (m : Curriculum). has_number m.members k && has_number m.members c) p.curricula q no_curriculum refl (and_from (has_number (members p q) k) (has_number (members p q) c) hk hc)))
 
 all_from_members : (t : ℕ → Bool) (ks : List ℕ) → ((k : ℕ) → Contains ks k → t k ≡ true) → list_all t ks ≡ true
 all_from_members t ks h = from t ks (each_member (λ k. t k ≡ true) ks h)
@@ -124,7 +124,7 @@ module _ (p : Problem) (path : List Fact) (free : List ℕ) (shows : Shows p (is
       let b = member_from_any (is_open p free g.room k d s) (all_rooms p) a.1 in
       let i = b.0 in
       let hk = ltb-true k (length p.courses) a.0 in
-      let hi = numbers_under (length p.rooms) i b.1 in
+      let hi = below_member (length p.rooms) i b.1 in
       let w = sym (who-has p g.who k) ∙ member-has (courses_of p g.who) k m.1 in
       (cell k i (slot d s), in_range k i hk hi, open-free k i hk hi w b.2, refl, refl)
 
@@ -150,10 +150,10 @@ module _ (p : Problem) (path : List Fact) (free : List ℕ) (shows : Shows p (is
       clashes : kills_at p path g d s x ≡ true → (k i : ℕ) → k < length p.courses → i < length p.rooms → is_who p g.who k ≡ true → is_open p free g.room k d s i ≡ true → clash p (cell k i (slot d s)) x ≡ true
       clashes e k i hk hi w o = wanted (is_free p path g (cell k i (slot d s))) (clash p (cell k i (slot d s)) x) (at_below (one k) (length p.rooms) i (at_below (kills_by p path g d s x) (length p.courses) k e hk) hi) (open-free k i hk hi w o)
 
-      apart : (k : ℕ) → has ks c ≡ false → Contains ks k → k ≡ c → ⊥
-      apart k none m q = both_ways (has ks c) none (ap (has ks) (sym q) ∙ member-has ks k m)
+      apart : (k : ℕ) → has_number ks c ≡ false → Contains ks k → k ≡ c → ⊥
+      apart k none m q = both_ways (has_number ks c) none (ap (has_number ks) (sym q) ∙ member-has ks k m)
 
-      beside : kills_at p path g d s x ≡ true → has ks c ≡ false → (k : ℕ) → Contains ks k → is_beside p free g d s c r k ≡ true
+      beside : kills_at p path g d s x ≡ true → has_number ks c ≡ false → (k : ℕ) → Contains ks k → is_beside p free g d s c r k ≡ true
       beside e none k m = elim (cases_lt k (length p.courses)) [
         | inr past ↦ ap (λ b. not b || conflict p k c || list_all (λ i. not (is_open p free g.room k d s i) || (i == r)) (all_rooms p)) (not_below k (length p.courses) past)
         | inl hk ↦ elim (cases_Bool (conflict p k c)) [
@@ -164,23 +164,23 @@ module _ (p : Problem) (path : List Fact) (free : List ℕ) (shows : Shows p (is
         ]
       ]
 
-      own : kills_at p path g d s x ≡ true → has ks c ≡ true → is_open p free g.room c d s r ≡ false
+      own : kills_at p path g d s x ≡ true → has_number ks c ≡ true → is_open p free g.room c d s r ≡ false
       own e h = false_from_ne_true (is_open p free g.room c d s r) (λ o.
           both_ways (not (r == r)) (ap not (eq-eqb r r refl)) (sym (clash-own p c c r r d s refl) ∙ clashes e c r hc hr (sym (who-has p g.who c) ∙ h) o))
 
       there : kills_at p path g d s x ≡ true → loses_room p free g d s ks c r ≡ true
-      there e = elim (cases_Bool (has ks c)) [
-        | inl h ↦ or_left (has ks c && not (is_open p free g.room c d s r)) (not (has ks c) && list_all (is_beside p free g d s c r) ks) (and_from (has ks c) (not (is_open p free g.room c d s r)) h (ap not (own e h)))
-        | inr h ↦ or_right (has ks c && not (is_open p free g.room c d s r)) (not (has ks c) && list_all (is_beside p free g d s c r) ks) (and_from (not (has ks c)) (list_all (is_beside p free g d s c r) ks) (ap not h) (all_from_members (is_beside p free g d s c r) ks (beside e h)))
+      there e = elim (cases_Bool (has_number ks c)) [
+        | inl h ↦ or_left (has_number ks c && not (is_open p free g.room c d s r)) (not (has_number ks c) && list_all (is_beside p free g d s c r) ks) (and_from (has_number ks c) (not (is_open p free g.room c d s r)) h (ap not (own e h)))
+        | inr h ↦ or_right (has_number ks c && not (is_open p free g.room c d s r)) (not (has_number ks c) && list_all (is_beside p free g d s c r) ks) (and_from (not (has_number ks c)) (list_all (is_beside p free g d s c r) ks) (ap not h) (all_from_members (is_beside p free g d s c r) ks (beside e h)))
       ]
 
-      back_own : has ks c ≡ true → is_open p free g.room c d s r ≡ false → (k i : ℕ) → k < length p.courses → i < length p.rooms → is_who p g.who k ≡ true → is_open p free g.room k d s i ≡ true → clash p (cell k i (slot d s)) x ≡ true
+      back_own : has_number ks c ≡ true → is_open p free g.room c d s r ≡ false → (k i : ℕ) → k < length p.courses → i < length p.rooms → is_who p g.who k ≡ true → is_open p free g.room k d s i ≡ true → clash p (cell k i (slot d s)) x ≡ true
       back_own h none k i hk hi w o = elim (cases_eq k c) [
         | inl q ↦ clash-own p c k r i d s q ∙ ap not (ne_eqb i r (λ z. both_ways (is_open p free g.room c d s r) none (ap (λ j. is_open p free g.room j d s r) (sym q) ∙ ap (is_open p free g.room k d s) (sym z) ∙ o)))
         | inr q ↦ clash-other p c k r i d s q ∙ or_left (conflict p k c) (i == r) (who_conflict p g.who k c w (sym (who-has p g.who c) ∙ h) q)
       ]
 
-      back_other : has ks c ≡ false → list_all (is_beside p free g d s c r) ks ≡ true → (k i : ℕ) → k < length p.courses → i < length p.rooms → is_who p g.who k ≡ true → is_open p free g.room k d s i ≡ true → clash p (cell k i (slot d s)) x ≡ true
+      back_other : has_number ks c ≡ false → list_all (is_beside p free g d s c r) ks ≡ true → (k i : ℕ) → k < length p.courses → i < length p.rooms → is_who p g.who k ≡ true → is_open p free g.room k d s i ≡ true → clash p (cell k i (slot d s)) x ≡ true
       back_other none e k i hk hi w o =
           let m = has-member ks k (who-has p g.who k ∙ w) in
           let t = at_member (λ j. is_beside p free g d s c r j ≡ true) ks k (each_from_list_all (is_beside p free g d s c r) ks e) m in
@@ -193,9 +193,9 @@ module _ (p : Problem) (path : List Fact) (free : List ℕ) (shows : Shows p (is
           ]
 
       clash_back : loses_room p free g d s ks c r ≡ true → (k i : ℕ) → k < length p.courses → i < length p.rooms → is_who p g.who k ≡ true → is_open p free g.room k d s i ≡ true → clash p (cell k i (slot d s)) x ≡ true
-      clash_back e = elim (or_cases (has ks c && not (is_open p free g.room c d s r)) (not (has ks c) && list_all (is_beside p free g d s c r) ks) e) [
-        | inl u ↦ let v = and_parts (has ks c) (not (is_open p free g.room c d s r)) u in back_own v.0 (turned (is_open p free g.room c d s r) v.1)
-        | inr u ↦ let v = and_parts (not (has ks c)) (list_all (is_beside p free g d s c r) ks) u in back_other (turned (has ks c) v.0) v.1
+      clash_back e = elim (or_cases (has_number ks c && not (is_open p free g.room c d s r)) (not (has_number ks c) && list_all (is_beside p free g d s c r) ks) e) [
+        | inl u ↦ let v = and_parts (has_number ks c) (not (is_open p free g.room c d s r)) u in back_own v.0 (turned (is_open p free g.room c d s r) v.1)
+        | inr u ↦ let v = and_parts (not (has_number ks c)) (list_all (is_beside p free g d s c r) ks) u in back_other (turned (has_number ks c) v.0) v.1
       ]
         where
           turned : (b : Bool) → not b ≡ true → b ≡ false

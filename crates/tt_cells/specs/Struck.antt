@@ -2,7 +2,7 @@
 -- the code, and nobody has to believe them.
 use Rattle.std.specs.Prelude.{ℕ, ◌==◌, nat_lt, Bool, not, ◌&&◌, ◌||◌, List, length}
 use Rattle.std.specs.List.{list_all, list_any}
-use Rattle.tt_lists.specs.Words.{has}
+use Rattle.tt_lists.specs.Words.{has_number}
 use Rattle.tt_instance.specs.Problem.{Problem}
 use Rattle.tt_instance.specs.Cells.{all_rooms}
 use Rattle.tt_instance.specs.Courses.{conflict}
@@ -25,4 +25,4 @@ is_beside p free g d s c r k =
 -- one of the courses ks has to have a free room of its own: course c loses room r
 abbrev pub loses_room : Problem → List ℕ → Pattern → ℕ → ℕ → List ℕ → ℕ → ℕ → Bool
 loses_room p free g d s ks c r =
-    (has ks c && not (is_open p free g.room c d s r)) || (not (has ks c) && list_all (is_beside p free g d s c r) ks)
+    (has_number ks c && not (is_open p free g.room c d s r)) || (not (has_number ks c) && list_all (is_beside p free g d s c r) ks)

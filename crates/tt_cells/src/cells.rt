@@ -99,7 +99,7 @@ impl<'p, 'i> Cells<'p, 'i> {
         self.facts[index]
     }
 
-    /// Adds a fact behind the others.
+    /// Adds a fact after the others.
     pub fn push(&mut self, fact: Fact) -> Result<(), AllocError>
         requires { length self.old.facts < 65536 }
         ensures ok { OnOk result (self.new.facts ≡ self.old.facts ++ fact ∷ []) }

@@ -1,7 +1,7 @@
 //! Whose cells a pattern matches.
 
 ghost use Rattle.std.specs.Prelude.{◌≡◌};
-ghost use Rattle.tt_lists.specs.Words.{has};
+ghost use Rattle.tt_lists.specs.Words.{has_number};
 ghost use Rattle.tt_facts.specs.Nested.{courses_of};
 
 use std::slice;
@@ -26,7 +26,7 @@ pub fn courses_of<'a>(instance: &'a Instance<'_>, who: &'a Who) -> &'a [u32]
 
 /// Whether a course is one of these.
 pub fn is_one(courses: &[u32], course: u32) -> bool
-    ensures { result ≡ has courses.now course }
+    ensures { result ≡ has_number courses.now course }
 {
     courses.iter().any(|one| *one == course)
 }

@@ -2,7 +2,7 @@
 
 ghost use Rattle.std.specs.Prelude.{◌≡◌, ◌<◌, ◌==◌, ◌&&◌, ℕ, [], ◌∷◌, length, OnOk, not, ◌||◌};
 ghost use Rattle.std.specs.List.{list_all};
-ghost use Rattle.tt_lists.specs.Words.{has};
+ghost use Rattle.tt_lists.specs.Words.{has_number};
 ghost use Rattle.tt_links.specs.Linked.{AreLinks};
 ghost use Rattle.tt_cell_set.specs.Rooms.{has_room};
 ghost use Rattle.tt_instance.specs.Cells.{all_rooms};
@@ -161,7 +161,7 @@ fn strike_period(
     requires period { period < instance.now.periods }
     requires live { IsTable instance.now live.old.words }
     ensures ok { OnOk result (Loses instance.now live.old.words
-        (λ x. has courses.now x.course && ((x.day == day) && (x.period == period))) live.new.words) }
+        (λ x. has_number courses.now x.course && ((x.day == day) && (x.period == period))) live.new.words) }
     ensures same { live.new.earlier ≡ live.old.earlier }
 {
     for course in courses {
@@ -174,7 +174,7 @@ fn strike_period(
 }
 
 /// Takes from a course what it loses where another, or itself, has to have one of its free rooms, and these are each of them.
-fn strike_beside(
+fn strike_room_of(
     instance: &Instance<'_>,
     free: &Trail,
     live: &mut Trail,
@@ -213,7 +213,7 @@ fn strike_beside(
 }
 
 /// The same as `kill` for one course, whose free rooms are each of these.
-fn kill_beside(
+fn strike_room(
     instance: &Instance<'_>,
     free: &Trail,
     live: &mut Trail,
@@ -235,7 +235,7 @@ fn kill_beside(
     ensures same { live.new.earlier ≡ live.old.earlier }
 {
     for other in 0..instance.courses() {
-        strike_beside(
+        strike_room_of(
             instance, free, live, pattern, day, period, course, common, other,
         )?;
     }

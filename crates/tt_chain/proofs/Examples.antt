@@ -1,6 +1,6 @@
 -- Chains of small timetables.
 use Rattle.std.proofs.Common.{◌≡◌, true, false, List, [], ◌∷◌, refl, codes}
-use Rattle.tt_lists.specs.Words.{has}
+use Rattle.tt_lists.specs.Words.{has_number}
 use Rattle.tt_instance.specs.Problem.{Problem}
 use Rattle.tt_instance.specs.Cells.{slot}
 use Rattle.tt_instance.specs.Courses.{unavailable}
@@ -17,7 +17,7 @@ together = at 0 0 0 0 ∷ at 1 0 0 1 ∷ []
 both_move : linked mini (slot 0 0) (slot 0 1) (at 0 0 0 0) (at 1 0 0 1) ≡ true
 both_move = refl
 
-swapped_both : swapped (slot 0 0) (slot 0 1) (has (0 ∷ 1 ∷ [])) together ≡ at 0 0 0 1 ∷ at 1 0 0 0 ∷ []
+swapped_both : swapped (slot 0 0) (slot 0 1) (has_number (0 ∷ 1 ∷ [])) together ≡ at 0 0 0 1 ∷ at 1 0 0 0 ∷ []
 swapped_both = refl
 
 -- where b has no lecture in the first period, it can't move there
@@ -34,5 +34,5 @@ one_room_links = refl
 two_rooms_do_not : linked free (slot 0 0) (slot 0 1) (at 0 0 0 0) (at 1 1 0 1) ≡ false
 two_rooms_do_not = refl
 
-swapped_alone : swapped (slot 0 0) (slot 0 1) (has (0 ∷ [])) (at 0 0 0 0 ∷ at 1 1 0 1 ∷ []) ≡ at 0 0 0 1 ∷ at 1 1 0 1 ∷ []
+swapped_alone : swapped (slot 0 0) (slot 0 1) (has_number (0 ∷ [])) (at 0 0 0 0 ∷ at 1 1 0 1 ∷ []) ≡ at 0 0 0 1 ∷ at 1 1 0 1 ∷ []
 swapped_alone = refl

@@ -3,7 +3,7 @@ use Rattle.std.proofs.Common.{◌≡◌, ℕ, ◌<◌, true, false, ◌||◌, Li
 use Rattle.std.specs.Prelude.{◌==◌, All}
 use Rattle.std.proofs.lemmas.List.{get_or_default}
 use Rattle.std.proofs.lemmas.List.Folds.{list_any_at}
-use Rattle.tt_lists.specs.Words.{has}
+use Rattle.tt_lists.specs.Words.{has_number}
 use Rattle.tt_instance.specs.Problem.{Problem}
 use Rattle.tt_instance.specs.Cells.{is_at}
 use Rattle.tt_instance.specs.Courses.{unavailable}
@@ -19,10 +19,10 @@ module _ (p : Problem) (t : List Cell) (a b : Slot) (members : List ℕ) where
   EachMayTurn = (k : ℕ) → k < length members → MayTurn p t a b members (get_or members k 0)
 
   module _ (each : EachMayTurn) where
-    may : (i : ℕ) → has members i ≡ true → MayTurn p t a b members i
+    may : (i : ℕ) → has_number members i ≡ true → MayTurn p t a b members i
     may i e = let w = member_at members i e in subst (MayTurn p t a b members) w.2 (each w.0 w.1)
 
-    pub closed_from : IsClosed p t a b (has members)
+    pub closed_from : IsClosed p t a b (has_number members)
     closed_from = record {
       within = λ i d h e. subst (λ z. (is_at a z || is_at b z) ≡ true) (get_or_default t i no_entry d h) (may i e).within;
       links = λ i j d h k e l.
@@ -30,14 +30,14 @@ module _ (p : Problem) (t : List Cell) (a b : Slot) (members : List ℕ) where
           (may i e).links j k (subst (λ z. linked p a b (entry_at t i) z ≡ true) (get_or_default t j d no_entry k) l1);
     }
 
-    pub free_from : IsOpen p t a b (has members)
+    pub free_from : IsOpen p t a b (has_number members)
     free_from = λ i d h e.
         subst (λ z. unavailable p z.course (other a b z).day (other a b z).period ≡ false) (get_or_default t i no_entry d h) (may i e).free
 
     pub inside_from : All (λ i. i < length t) members
     inside_from k d h = subst (λ i. i < length t) (get_or_default members k 0 d h) (each k h).inside
 
-  pub each_from : All (λ i. i < length t) members → IsClosed p t a b (has members) → IsOpen p t a b (has members) → EachMayTurn
+  pub each_from : All (λ i. i < length t) members → IsClosed p t a b (has_number members) → IsOpen p t a b (has_number members) → EachMayTurn
   each_from inside closed free k h =
       let i = get_or members k 0 in
       let l = inside k 0 h in

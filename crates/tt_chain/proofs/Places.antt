@@ -10,7 +10,7 @@ use Rattle.std.proofs.lemmas.List.Folds.{list_any_at}
 use Rattle.std.proofs.lemmas.List.FromFn.{length-range_with_len, get_or-range_with_len}
 use Rattle.std.proofs.lemmas.List.Kept.{IsStrictlyIncreasing-filter, AllPairs-from_increasing}
 use Rattle.std.proofs.lemmas.Map.Views.{any-filter_same}
-use Rattle.tt_lists.specs.Words.{has, numbers_below}
+use Rattle.tt_lists.specs.Words.{has_number, range_below}
 use Rattle.tt_lists.proofs.Numbers.{any_below}
 use Rattle.tt_lists.proofs.Members.{any_member, member_from_any}
 use Rattle.tt_instance.specs.Problem.{Problem}
@@ -31,34 +31,34 @@ range_next a (suc n) =
     let e : (a + 1) + n ≡ a + suc n = omega arith in
     ap (λ l. a ∷ l) (range_next (a + 1) n) ∙ ap (λ k. a ∷ (range_with_len (a + 1) n ++ k ∷ [])) e
 
-numbers_next : (i : ℕ) → numbers_below (i + 1) ≡ numbers_below i ++ i ∷ []
+numbers_next : (i : ℕ) → range_below (i + 1) ≡ range_below i ++ i ∷ []
 numbers_next i =
     let e : i + 1 ≡ suc i = omega arith in
     let z : 0 + i ≡ i = omega arith in
-    ap numbers_below e ∙ range_next 0 i ∙ ap (λ k. numbers_below i ++ k ∷ []) z
+    ap range_below e ∙ range_next 0 i ∙ ap (λ k. range_below i ++ k ∷ []) z
 
 module _ (q : ℕ → Bool) (i : ℕ) where
-  pub filter_next : q i ≡ true → filter q (numbers_below (i + 1)) ≡ filter q (numbers_below i) ++ i ∷ []
+  pub filter_next : q i ≡ true → filter q (range_below (i + 1)) ≡ filter q (range_below i) ++ i ∷ []
   filter_next e =
-      ap (filter q) (numbers_next i) ∙ filter-append q (numbers_below i) (i ∷ []) ∙ ap (λ b. filter q (numbers_below i) ++ cond b (i ∷ []) []) e
+      ap (filter q) (numbers_next i) ∙ filter-append q (range_below i) (i ∷ []) ∙ ap (λ b. filter q (range_below i) ++ cond b (i ∷ []) []) e
 
-  pub filter_skip : q i ≡ false → filter q (numbers_below (i + 1)) ≡ filter q (numbers_below i)
+  pub filter_skip : q i ≡ false → filter q (range_below (i + 1)) ≡ filter q (range_below i)
   filter_skip e =
-      ap (filter q) (numbers_next i) ∙ filter-append q (numbers_below i) (i ∷ [])
-      ∙ ap (λ b. filter q (numbers_below i) ++ cond b (i ∷ []) []) e ∙ append-nil (filter q (numbers_below i))
+      ap (filter q) (numbers_next i) ∙ filter-append q (range_below i) (i ∷ [])
+      ∙ ap (λ b. filter q (range_below i) ++ cond b (i ∷ []) []) e ∙ append-nil (filter q (range_below i))
 
 -- ---- the places that are marked
 
 module _ (fs : List Bool) where
   abbrev pub places : List ℕ
-  places = filter (marked fs) (numbers_below (length fs))
+  places = filter (marked fs) (range_below (length fs))
 
-  has_places : (i : ℕ) → has places i ≡ marked fs i
+  has_places : (i : ℕ) → has_number places i ≡ marked fs i
   has_places i =
-      any-filter_same (λ m. m == i) (marked fs) (marked fs i) (λ k e. ap (marked fs) (eqb-true k i e)) (numbers_below (length fs))
-      ∙ elim (cases_Bool (marked fs i)) as (λ _. (marked fs i && has (numbers_below (length fs)) i) ≡ marked fs i) [
-        | inl e ↦ and_from (marked fs i) (has (numbers_below (length fs)) i) e (any_below (λ m. m == i) (length fs) i (marked_below e) (eq-eqb i i refl)) ∙ sym e
-        | inr e ↦ and_left (marked fs i) (has (numbers_below (length fs)) i) e ∙ sym e
+      any-filter_same (λ m. m == i) (marked fs) (marked fs i) (λ k e. ap (marked fs) (eqb-true k i e)) (range_below (length fs))
+      ∙ elim (cases_Bool (marked fs i)) as (λ _. (marked fs i && has_number (range_below (length fs)) i) ≡ marked fs i) [
+        | inl e ↦ and_from (marked fs i) (has_number (range_below (length fs)) i) e (any_below (λ m. m == i) (length fs) i (marked_below e) (eq-eqb i i refl)) ∙ sym e
+        | inr e ↦ and_left (marked fs i) (has_number (range_below (length fs)) i) e ∙ sym e
       ]
     where
       marked_below : marked fs i ≡ true → i < length fs
@@ -67,17 +67,17 @@ module _ (fs : List Bool) where
         | inr h ↦ absurd (both_ways (marked fs i) (get_or_past fs i false h) e)
       ]
 
-  each_below : All (λ k. k < length fs) (numbers_below (length fs))
+  each_below : All (λ k. k < length fs) (range_below (length fs))
   each_below k d h =
       let l : k < length fs = subst (λ z. k < z) (length-range_with_len 0 (length fs)) h in
       let e = get_or-range_with_len 0 (length fs) k d l in
       omega arith
 
   pub places_below : All (λ i. i < length fs) places
-  places_below = All-filter (marked fs) (λ i. i < length fs) (numbers_below (length fs)) each_below
+  places_below = All-filter (marked fs) (λ i. i < length fs) (range_below (length fs)) each_below
 
   pub places_rising : IsStrictlyIncreasing places
-  places_rising = IsStrictlyIncreasing-filter (marked fs) (numbers_below (length fs)) (λ k h.
+  places_rising = IsStrictlyIncreasing-filter (marked fs) (range_below (length fs)) (λ k h.
       let n = length-range_with_len 0 (length fs) in
       let a = get_or-range_with_len 0 (length fs) k 0 (omega arith) in
       let b = get_or-range_with_len 0 (length fs) (k + 1) 0 (omega arith) in
@@ -121,7 +121,7 @@ module _ (p : Problem) (t : List Cell) (a b : Slot) (entry : ℕ) (inside : entr
 -- ---- the first member that can't move
 
 -- a member by its place
-pub member_at : (members : List ℕ) (i : ℕ) → has members i ≡ true → (k : ℕ) × (k < length members) × (get_or members k 0 ≡ i)
+pub member_at : (members : List ℕ) (i : ℕ) → has_number members i ≡ true → (k : ℕ) × (k < length members) × (get_or members k 0 ≡ i)
 member_at members i member =
     let w = member_from_any (λ m. m == i) members member in
     (w.1.0, w.1.1, get_or_default members w.1.0 0 w.0 w.1.1 ∙ w.1.2 ∙ eqb-true w.0 i w.2)
@@ -142,7 +142,7 @@ module _ (p : Problem) (t : List Cell) (a b : Slot) (members : List ℕ) where
         ];
   }
 
-  pub open_is : All (λ i. i < length t) members → ((k : ℕ) → k < length members → is_shut p t a b (get_or members k 0) ≡ false) → IsOpen p t a b (has members)
+  pub open_is : All (λ i. i < length t) members → ((k : ℕ) → k < length members → is_shut p t a b (get_or members k 0) ≡ false) → IsOpen p t a b (has_number members)
   open_is inside none = λ i d h member.
       let w = member_at members i member in
       subst (λ z. unavailable p z.course (other a b z).day (other a b z).period ≡ false) (get_or_default t i no_entry d h) (ap (is_shut p t a b) (sym w.2) ∙ none w.0 w.1)

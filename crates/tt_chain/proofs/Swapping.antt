@@ -6,7 +6,7 @@ use Rattle.std.proofs.lemmas.Bool.{cases_eq, cases_Bool, or_right, both_ways}
 use Rattle.std.proofs.lemmas.List.{length-set, length-take, get_or-take, get_or-set_same, get_or-set_other, ext_get_or}
 use Rattle.std.proofs.lemmas.List.Folds.{list_any_more}
 use Rattle.std.proofs.lemmas.List.Kept.{AllPairs-from_increasing}
-use Rattle.tt_lists.specs.Words.{has}
+use Rattle.tt_lists.specs.Words.{has_number}
 use Rattle.tt_instance.specs.Problem.{Problem}
 use Rattle.tt_instance.specs.declared.cell.Cell.{Cell}
 use Rattle.tt_instance.specs.declared.cell.Slot.{Slot}
@@ -19,11 +19,11 @@ abbrev pub filled : Problem → List Cell → Filled
 filled p t = record { problem = p; entries = t }
 
 module _ (a b : Slot) where
-  none_from : (k : ℕ) (t : List Cell) → swapped_from a b (has []) k t ≡ t
+  none_from : (k : ℕ) (t : List Cell) → swapped_from a b (has_number []) k t ≡ t
   none_from k [] = refl
   none_from k (x ∷ xs) = ap (λ l. x ∷ l) (none_from (k + 1) xs)
 
-  pub swapped_none : (t : List Cell) → swapped a b (has []) t ≡ t
+  pub swapped_none : (t : List Cell) → swapped a b (has_number []) t ≡ t
   swapped_none t = none_from 0 t
 
   at_swapped : (m : ℕ → Bool) (t : List Cell) (i : ℕ) → i < length t → entry_at (swapped a b m t) i ≡ moved a b (m i) (entry_at t i)
@@ -56,12 +56,12 @@ module _ (a b : Slot) where
       or_false true = refl
       or_false false = refl
 
-  module _ (p : Problem) (t : List Cell) (members : List ℕ) (rising : IsStrictlyIncreasing members) (k : ℕ) (h : k < length members) (o : Filled) (o_is : o ≡ filled p (swapped a b (has (take k members)) t)) where
+  module _ (p : Problem) (t : List Cell) (members : List ℕ) (rising : IsStrictlyIncreasing members) (k : ℕ) (h : k < length members) (o : Filled) (o_is : o ≡ filled p (swapped a b (has_number (take k members)) t)) where
     abbrev member : ℕ
     member = get_or members k 0
 
-    new_member : has (take k members) member ≡ false
-    new_member = elim (cases_Bool (has (take k members) member)) [
+    new_member : has_number (take k members) member ≡ false
+    new_member = elim (cases_Bool (has_number (take k members) member)) [
       | inl e ↦
           let w = member_at (take k members) member e in
           let n = length-take k members in
@@ -74,14 +74,14 @@ module _ (a b : Slot) where
     ]
 
     pub still_inside : member < length t → member < length o.entries
-    still_inside l = let n = ap (λ z. length z.entries) o_is in let s = length-swapped a b (has (take k members)) 0 t in omega arith
+    still_inside l = let n = ap (λ z. length z.entries) o_is in let s = length-swapped a b (has_number (take k members)) 0 t in omega arith
 
-    pub swapped_next : member < length t → (x : Cell) → x ≡ entry_at o.entries member → (place : Slot) → place ≡ other a b x → filled o.problem (set o.entries member (record { course = (entry_at o.entries member).course; room = x.room; day = place.day; period = place.period })) ≡ filled p (swapped a b (has (take (k + 1) members)) t)
+    pub swapped_next : member < length t → (x : Cell) → x ≡ entry_at o.entries member → (place : Slot) → place ≡ other a b x → filled o.problem (set o.entries member (record { course = (entry_at o.entries member).course; room = x.room; day = place.day; period = place.period })) ≡ filled p (swapped a b (has_number (take (k + 1) members)) t)
     swapped_next l x x_is place place_is =
-        let m = has (take k members) in
+        let m = has_number (take k members) in
         let was : x ≡ entry_at t member = x_is ∙ ap (λ z. entry_at z.entries member) o_is ∙ at_swapped m t member l ∙ ap (λ z. moved a b z (entry_at t member)) new_member in
         ap (λ (y : Cell). filled o.problem (set o.entries member (record { course = y.course; room = x.room; day = place.day; period = place.period }))) (sym x_is)
         ∙ ap (λ (s : Slot). filled o.problem (set o.entries member (record { course = x.course; room = x.room; day = s.day; period = s.period }))) place_is
         ∙ ap (λ y. filled o.problem (set o.entries member (turned a b y))) was
         ∙ ap (λ (z : Filled). filled z.problem (set z.entries member (turned a b (entry_at t member)))) o_is
-        ∙ ap (filled p) (swapped_with m (has (take (k + 1) members)) t member l (λ j. list_any_more (λ n. n == j) members k 0 h))
+        ∙ ap (filled p) (swapped_with m (has_number (take (k + 1) members)) t member l (λ j. list_any_more (λ n. n == j) members k 0 h))

@@ -1,7 +1,7 @@
 -- What the search for a chain answers, and when a chain is one of a timetable.
 use Rattle.std.specs.Prelude.{◌≡◌, ℕ, ◌≤◌, ◌<◌, ◌==◌, Bool, true, false, ◌&&◌, ◌||◌, List, length, All, Result, Ok, Err}
 use Rattle.std.specs.List.Sorted.{IsStrictlyIncreasing}
-use Rattle.tt_lists.specs.Words.{has}
+use Rattle.tt_lists.specs.Words.{has_number}
 use Rattle.tt_instance.specs.Problem.{Problem}
 use Rattle.tt_instance.specs.Cells.{is_at}
 use Rattle.tt_instance.specs.Courses.{unavailable}
@@ -26,9 +26,9 @@ is_shut p t a b i = unavailable p (entry_at t i).course (other a b (entry_at t i
 
 -- the least member whose other period is unavailable
 pub record IsFirstShut (p : Problem) (t : List Cell) (a b : Slot) (members : List ℕ) (i : ℕ) : Type 0 where
-  pub member : has members i ≡ true
+  pub member : has_number members i ≡ true
   pub shut : is_shut p t a b i ≡ true
-  pub first : (j : ℕ) → has members j ≡ true → is_shut p t a b j ≡ true → i ≤ j
+  pub first : (j : ℕ) → has_number members j ≡ true → is_shut p t a b j ≡ true → i ≤ j
 
 pub record IsPeriod (p : Problem) (a : Slot) : Type 0 where
   pub day : a.day < p.days
@@ -40,7 +40,7 @@ pub record MayTurn (p : Problem) (t : List Cell) (a b : Slot) (members : List �
   pub inside : i < length t
   pub within : (is_at a (entry_at t i) || is_at b (entry_at t i)) ≡ true
   pub free : is_shut p t a b i ≡ false
-  pub links : (j : ℕ) → j < length t → linked p a b (entry_at t i) (entry_at t j) ≡ true → has members j ≡ true
+  pub links : (j : ℕ) → j < length t → linked p a b (entry_at t i) (entry_at t j) ≡ true → has_number members j ≡ true
 
 -- its members can change places in the timetable: they hold each entry that is linked to one, and their other periods are available
 pub record IsOf (p : Problem) (t : List Cell) (c : Kempe) : Type 0 where
@@ -48,8 +48,8 @@ pub record IsOf (p : Problem) (t : List Cell) (c : Kempe) : Type 0 where
   pub to : IsPeriod p c.to
   pub apart : same_slot c.from c.to ≡ false
   pub inside : All (λ i. i < length t) c.members
-  pub closed : IsClosed p t c.from c.to (has c.members)
-  pub free : IsOpen p t c.from c.to (has c.members)
+  pub closed : IsClosed p t c.from c.to (has_number c.members)
+  pub free : IsOpen p t c.from c.to (has_number c.members)
 
 -- the chain between two periods that starts at an entry
 pub record IsFound (p : Problem) (t : List Cell) (a b : Slot) (entry : ℕ) (c : Kempe) : Type 0 where

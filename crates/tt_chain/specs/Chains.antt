@@ -1,6 +1,6 @@
 -- Kempe chains: the entries of two periods that have to move together.
 use Rattle.std.specs.Prelude.{◌≡◌, ℕ, ◌+◌, ◌<◌, ◌==◌, Bool, true, false, ◌&&◌, ◌||◌, List, [], ◌∷◌, length, slice_index_or, Contains, if◌then◌else◌}
-use Rattle.tt_lists.specs.Words.{has}
+use Rattle.tt_lists.specs.Words.{has_number}
 use Rattle.tt_instance.specs.Problem.{Problem}
 use Rattle.tt_instance.specs.Cells.{is_at}
 use Rattle.tt_instance.specs.Courses.{conflict, unavailable}
@@ -28,8 +28,8 @@ pub record IsClosed (p : Problem) (t : List Cell) (a b : Slot) (m : ℕ → Bool
 
 -- the least closed set with the entry
 pub record IsChain (p : Problem) (t : List Cell) (a b : Slot) (entry : ℕ) (members : List ℕ) : Type 0 where
-  pub closed : IsClosed p t a b (has members)
-  pub starts : has members entry ≡ true
+  pub closed : IsClosed p t a b (has_number members)
+  pub starts : has_number members entry ≡ true
   pub least : (m : ℕ → Bool) → IsClosed p t a b m → m entry ≡ true → (i : ℕ) → Contains members i → m i ≡ true
 
 -- the one of two periods in which an entry does not stand

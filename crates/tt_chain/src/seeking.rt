@@ -2,7 +2,7 @@
 
 ghost use Rattle.std.specs.Prelude.{◌≡◌, ℕ, ◌<◌, ◌≤◌, true, false, List, length, slice_index, filter, All, IfOk, MatchOption};
 ghost use Rattle.std.specs.List.Sorted.{IsStrictlyIncreasing};
-ghost use Rattle.tt_lists.specs.Words.{numbers_below};
+ghost use Rattle.tt_lists.specs.Words.{range_below};
 ghost use Rattle.tt_instance.specs.Cells.{slot, slot_of, is_at};
 ghost use Rattle.tt_table.specs.Table.{IsTimetable};
 ghost use Rattle.tt_chain.specs.Chains.{IsChain, other};
@@ -20,7 +20,7 @@ use tt_table::Entry;
 /// The numbers of the places that are marked, in rising order.
 fn places_of(alloc: Global, flags: &[bool]) -> Result<Vec<u32>, AllocError>
     requires { length flags.now ≤ 16384 }
-    ensures { IfOk result (λ v. v.items ≡ filter (marked flags.now) (numbers_below (length flags.now))) }
+    ensures { IfOk result (λ v. v.items ≡ filter (marked flags.now) (range_below (length flags.now))) }
 {
     let mut places = Vec::new(alloc);
     for i in 0..flags.len() {

@@ -1,7 +1,7 @@
 //! Chains that change places.
 
 ghost use Rattle.std.specs.Prelude.{◌≡◌, ℕ, ◌<◌, ◌↔◌, true, false, length, All, EachIndex, slice_index, IsTrue};
-ghost use Rattle.tt_lists.specs.Words.{has};
+ghost use Rattle.tt_lists.specs.Words.{has_number};
 ghost use Rattle.tt_rules.specs.Hard.{entries_of};
 ghost use Rattle.tt_rules.specs.Score.{IsFeasible};
 ghost use Rattle.tt_occupancy.specs.Filled.{entry_at};
@@ -24,7 +24,7 @@ fn is_period(instance: &Instance<'_>, slot: Slot) -> bool
 impl Chain {
     /// Whether an entry is a member.
     fn has(&self, index: u32) -> bool
-        ensures { result ≡ has self.now.members index }
+        ensures { result ≡ has_number self.now.members index }
     {
         self.members.contains(&index)
     }
@@ -35,7 +35,7 @@ impl Chain {
         requires other { other < length occupied.now.entries }
         ensures { IsTrue result ↔ (linked occupied.now.problem self.now.from self.now.to
             (entry_at occupied.now.entries index) (entry_at occupied.now.entries other) ≡ true
-            → has self.now.members other ≡ true) }
+            → has_number self.now.members other ≡ true) }
     {
         let one = entry_of(occupied, index);
         let two = entry_of(occupied, other);
@@ -48,7 +48,7 @@ impl Chain {
         ensures { IsTrue result ↔ ((j : ℕ) → j < length occupied.now.entries
             → linked occupied.now.problem self.now.from self.now.to
             (entry_at occupied.now.entries index) (entry_at occupied.now.entries j) ≡ true
-            → has self.now.members j ≡ true) }
+            → has_number self.now.members j ≡ true) }
     {
         for other in 0..occupied.table().len() as u32 {
             if !self.holds_link(occupied, index, other) {
@@ -96,7 +96,7 @@ pub fn swap_chain(occupied: &mut Occupied<'_, '_>, chain: &Chain)
     requires { IsOf occupied.old.problem occupied.old.entries chain.now }
     ensures swapped { occupied.new ≡ record {
       problem = occupied.old.problem;
-      entries = swapped chain.now.from chain.now.to (has chain.now.members) occupied.old.entries;
+      entries = swapped chain.now.from chain.now.to (has_number chain.now.members) occupied.old.entries;
     } }
     ensures courses { (c : ℕ) → entries_of occupied.new.entries c ≡ entries_of occupied.old.entries c }
     ensures feasible { IsFeasible occupied.old.problem occupied.old.entries

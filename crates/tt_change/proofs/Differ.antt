@@ -2,7 +2,7 @@
 use Rattle.std.proofs.Common.{◌≡◌, ℕ, ◌+◌, ◌*◌, ◌<◌, Bool, true, false, cond, List, refl, sym, ap, arith, inl, inr, eq-eqb, eqb-true}
 use Rattle.std.specs.Prelude.{sum_by, count_by, ◌==◌, ◌⊎◌}
 use Rattle.std.proofs.lemmas.Bool.{cases_Bool}
-use Rattle.tt_lists.specs.Words.{numbers_below}
+use Rattle.tt_lists.specs.Words.{range_below}
 use Rattle.tt_instance.specs.Problem.{Problem}
 use Rattle.tt_instance.specs.Cells.{all_slots, is_at}
 use Rattle.tt_instance.specs.declared.cell.Cell.{Cell}
@@ -25,9 +25,9 @@ sum_by-differ {X} f g q a b xs once same here =
     at x (inr e) = let h = same x e in rw e (omega arith)
 
 -- each number below a bound is there once
-pub once_below : (c n : ℕ) → c < n → count_by (λ i. c == i) (numbers_below n) ≡ 1
+pub once_below : (c n : ℕ) → c < n → count_by (λ i. c == i) (range_below n) ≡ 1
 once_below c n h =
-    let a = count_if_any (λ i. c == i) (numbers_below n) (any_below (λ i. c == i) n c h (eq-eqb c c refl)) in
+    let a = count_if_any (λ i. c == i) (range_below n) (any_below (λ i. c == i) n c h (eq-eqb c c refl)) in
     omega (arith, count_below c n)
 
 -- each slot is there once
@@ -37,7 +37,7 @@ once_slot p e h k =
     omega (arith, count_slots p e)
 
 -- the sums differ by the terms at c
-pub differ_below : (f g : ℕ → ℕ) (c n : ℕ) → c < n → ((i : ℕ) → (c == i) ≡ false → f i ≡ g i) → sum_by f (numbers_below n) + g c ≡ sum_by g (numbers_below n) + f c
+pub differ_below : (f g : ℕ → ℕ) (c n : ℕ) → c < n → ((i : ℕ) → (c == i) ≡ false → f i ≡ g i) → sum_by f (range_below n) + g c ≡ sum_by g (range_below n) + f c
 differ_below f g c n h same =
-    sum_by-differ f g (λ i. c == i) (f c) (g c) (numbers_below n) (once_below c n h) same
+    sum_by-differ f g (λ i. c == i) (f c) (g c) (range_below n) (once_below c n h) same
     (λ i e. let k = eqb-true c i e in (ap f (sym k), ap g (sym k)))

@@ -6,7 +6,7 @@ use Rattle.std.proofs.lemmas.Bool.{cases_lt}
 use Rattle.std.proofs.lemmas.List.{get_or_past}
 use Rattle.std.proofs.lemmas.List.FromFn.{length-range_with_len}
 use Rattle.std.proofs.lemmas.List.Sums.{sum_by-le, count_by-le-length}
-use Rattle.tt_lists.specs.Words.{numbers_below, count_pairs}
+use Rattle.tt_lists.specs.Words.{range_below, count_pairs}
 use Rattle.tt_instance.specs.Problem.{Problem, Course}
 use Rattle.tt_instance.specs.Cells.{all_rooms, all_slots, is_of, is_at, is_in}
 use Rattle.tt_instance.specs.Courses.{no_course, in_curriculum, unavailable, excess}
@@ -26,8 +26,8 @@ sum_few : {X : Type 0} (f : X → ℕ) (m n : ℕ) (xs : List X) → length xs �
 sum_few f m n xs few h = let a = mul-le-mul_right m few in omega (arith, sum_at_most f m xs h)
 
 -- a sum over numbers below at most n
-sum_below : (f : ℕ → ℕ) (m n k : ℕ) → k ≤ n → ((i : ℕ) → f i ≤ m) → sum_by f (numbers_below k) ≤ n * m
-sum_below f m n k few h = sum_few f m n (numbers_below k) (omega (arith, length-range_with_len 0 k)) h
+sum_below : (f : ℕ → ℕ) (m n k : ℕ) → k ≤ n → ((i : ℕ) → f i ≤ m) → sum_by f (range_below k) ≤ n * m
+sum_below f m n k few h = sum_few f m n (range_below k) (omega (arith, length-range_with_len 0 k)) h
 
 pairs_few : {X : Type 0} (related : X → X → Bool) (m : ℕ) (xs : List X) → length xs ≤ m → count_pairs related xs ≤ length xs * m
 pairs_few related m [] h = zero-le

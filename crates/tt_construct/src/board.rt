@@ -38,7 +38,7 @@ pub struct Board {
     /// Those of each course on each day.
     pub days: Counts,
     /// Those of each course in each room.
-    pub halls: Counts,
+    pub course_rooms: Counts,
 }
 
 /// The courses, none of their lectures placed.
@@ -64,7 +64,7 @@ impl Board {
             rooms: Counts::new(alloc, rooms, setting.slots)?,
             curricula: Counts::new(alloc, setting.curriculum_count, setting.slots)?,
             days: Counts::new(alloc, courses, setting.days)?,
-            halls: Counts::new(alloc, courses, rooms)?,
+            course_rooms: Counts::new(alloc, courses, rooms)?,
         })
     }
 
@@ -152,7 +152,7 @@ impl Board {
         self.take(number, day);
         self.close_round(number, course, place.slot);
         let _ = self.rooms.add(place.room, place.slot);
-        let _ = self.halls.add(number, place.room);
+        let _ = self.course_rooms.add(number, place.room);
         for curriculum in &course.curricula {
             let _ = self.curricula.add(*curriculum, place.slot);
         }

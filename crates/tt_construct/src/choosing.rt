@@ -2,23 +2,23 @@
 
 use crate::board::Board;
 use crate::place::Place;
-use crate::pricing::{Lecture, Price, period_price, place_price};
+use crate::ranking::{Lecture, Rank, period_rank, place_rank};
 use crate::setting::Setting;
 use rand_core::Rng;
 use rand_pcg::Pcg32;
 
-/// A place and its price.
+/// A place and its rank.
 #[derive(Clone, Copy)]
 pub struct Choice {
     pub place: Place,
-    pub price: Price,
+    pub rank: Rank,
 }
 
 impl Choice {
     /// Worse than any place.
     const WORST: Choice = Choice {
         place: Place { room: 0, slot: 0 },
-        price: Price::HIGHEST,
+        rank: Rank::HIGHEST,
     };
 }
 
@@ -30,13 +30,13 @@ fn best_room(
     slot: u32,
     rng: &mut Pcg32,
 ) -> Choice {
-    let period = period_price(setting, board, lecture, slot);
+    let period = period_rank(setting, board, lecture, slot);
     let mut best = Choice::WORST;
     for room in 0..setting.room_count {
         let place = Place { room, slot };
-        let price = place_price(setting, board, lecture, place, period, rng.next_u32());
-        if price < best.price {
-            best = Choice { place, price };
+        let rank = place_rank(setting, board, lecture, place, period, rng.next_u32());
+        if rank < best.rank {
+            best = Choice { place, rank };
         }
     }
     best
@@ -51,9 +51,9 @@ pub fn best_place(
 ) -> Choice {
     let mut best = Choice::WORST;
     for slot in 0..setting.slots {
-        if board.broken(lecture.number, slot) <= best.price.broken {
+        if board.broken(lecture.number, slot) <= best.rank.broken {
             let here = best_room(setting, board, lecture, slot, rng);
-            if here.price < best.price {
+            if here.rank < best.rank {
                 best = here;
             }
         }

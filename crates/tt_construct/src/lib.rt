@@ -9,7 +9,7 @@ mod filling;
 mod order;
 mod place;
 mod planning;
-mod pricing;
+mod ranking;
 mod setting;
 
 pub use constructing::construct;

@@ -4,7 +4,7 @@ use crate::board::Board;
 use crate::choosing::best_place;
 use crate::order::next_course;
 use crate::place::Place;
-use crate::pricing::Lecture;
+use crate::ranking::Lecture;
 use crate::setting::{Course, Setting};
 use rand_pcg::Pcg32;
 use std::alloc::{AllocError, Global};
@@ -34,7 +34,7 @@ impl Plan {
         })
     }
 
-    /// Notes a lecture's place, the lectures of its course behind it being placed.
+    /// Notes a lecture's place, the lectures of its course after it being placed.
     fn note(&mut self, course: &Course, left: u32, place: Place) {
         let index = course.first.saturating_add(left.saturating_sub(1) as usize);
         if let Some(there) = self.places.get_mut(index) {
@@ -51,7 +51,7 @@ impl Plan {
         let looks_ahead = self.rounds >= AHEAD;
         let lecture = Lecture::new(number, course, waiting.days, looks_ahead);
         let choice = best_place(setting, board, lecture, rng);
-        if choice.price.broken > 0
+        if choice.rank.broken > 0
             && let Some(failures) = self.failures.get_mut(number as usize)
         {
             *failures = failures.saturating_add(1);

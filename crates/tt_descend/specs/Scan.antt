@@ -27,11 +27,11 @@ NoMoveOf e o = (r : ℕ) → r < length o.problem.rooms → NoMoveTo e r o
 abbrev pub NoMove : Filled → Type 0
 NoMove o = (e : ℕ) → e < length o.entries → NoMoveOf e o
 
--- no Swap of the entry with one behind it lowers the pair
+-- no Swap of the entry with one after it lowers the pair
 abbrev pub NoSwapOf : ℕ → Filled → Type 0
 NoSwapOf i o = (j : ℕ) → i < j → j < length o.entries → ¬ Lowers o (Swap i j)
 
--- no Swap of an entry with one behind it does
+-- no Swap of an entry with one after it does
 abbrev pub NoSwap : Filled → Type 0
 NoSwap o = (i : ℕ) → i < length o.entries → NoSwapOf i o
 

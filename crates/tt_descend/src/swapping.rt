@@ -7,7 +7,7 @@ use crate::trying::{Spent, try_step};
 use tt_moves::Step;
 use tt_occupancy::Occupied;
 
-/// The Swaps of an entry with those behind it.
+/// The Swaps of an entry with those after it.
 fn swap_of(occupied: &mut Occupied<'_, '_>, first: u32, left: &mut u64) -> Result<(), Spent>
     requires { first < length occupied.old.entries }
     ensures ok { OnOk result (IsScan (NoSwapOf first) occupied.old occupied.new left.old left.new) }

@@ -4,7 +4,7 @@ use Rattle.std.specs.Prelude.{◌==◌, nat_le, filter}
 use Rattle.std.specs.List.{list_any, list_all, range_with_len}
 use Rattle.std.proofs.lemmas.Bool.{cases_eq, cases_lt, lt-leb}
 use Rattle.std.proofs.Math.Bool.{and-true}
-use Rattle.tt_lists.specs.Words.{numbers_below, has}
+use Rattle.tt_lists.specs.Words.{range_below, has_number}
 use Rattle.tt_lists.proofs.All.{list_all-same}
 use Rattle.tt_lists.proofs.Below.{all_pass}
 use Rattle.tt_lists.proofs.Twos.{list_all-swap}
@@ -48,7 +48,7 @@ one_from m a (suc n) h k = elim (cases_eq m a) [
 ]
 
 pub each_number : (n : ℕ) → range_with_len 0 (n - 0) ≡ numbers_given None n
-each_number n = let e : n - 0 ≡ n = omega arith in ap (range_with_len 0) e ∙ sym (filter-each (numbers_below n))
+each_number n = let e : n - 0 ≡ n = omega arith in ap (range_with_len 0) e ∙ sym (filter-each (range_below n))
 
 pub one_number : (m n : ℕ) → m < n → range_with_len m (m + 1 - m) ≡ numbers_given (Some m) n
 one_number m n h = let e : m + 1 - m ≡ 1 = omega arith in ap (range_with_len m) e ∙ sym (one_from m 0 n (omega arith) (omega arith))
@@ -69,15 +69,15 @@ none_or p b (x ∷ xs) = by_tests (p x) (list_any p xs) b ∙ ap (λ l. (not (p 
     by_tests false t c = refl
 
 -- a test of one number below a bound
-at_number : (t : ℕ → Bool) (n m : ℕ) → list_all (λ k. not (m == k) || t k) (numbers_below n) ≡ (nat_le n m || t m)
-at_number t n m = sym (list_all-of_filter (λ k. m == k) t (numbers_below n)) ∙ elim (cases_lt m n) [
+at_number : (t : ℕ → Bool) (n m : ℕ) → list_all (λ k. not (m == k) || t k) (range_below n) ≡ (nat_le n m || t m)
+at_number t n m = sym (list_all-of_filter (λ k. m == k) t (range_below n)) ∙ elim (cases_lt m n) [
   | inl h ↦ ap (list_all t) (one_from m 0 n (omega arith) (omega arith)) ∙ and-true (t m) ∙ sym (rw (lt-leb n m h) refl)
   | inr h ↦ ap (list_all t) (none_to m 0 n (omega arith)) ∙ sym (rw (le-leb n m h) refl)
 ]
 
 -- a test of the numbers below a bound that a list has
-pub list_all-of_members : (t : ℕ → Bool) (n : ℕ) (ms : List ℕ) → list_all (λ k. not (has ms k) || t k) (numbers_below n) ≡ list_all (λ m. nat_le n m || t m) ms
+pub list_all-of_members : (t : ℕ → Bool) (n : ℕ) (ms : List ℕ) → list_all (λ k. not (has_number ms k) || t k) (range_below n) ≡ list_all (λ m. nat_le n m || t m) ms
 list_all-of_members t n ms =
-    list_all-same (λ k. not (has ms k) || t k) (λ k. list_all (λ m. not (m == k) || t k) ms) (numbers_below n) (λ k. none_or (λ m. m == k) (t k) ms)
-    ∙ list_all-swap (λ k m. not (m == k) || t k) (numbers_below n) ms
-    ∙ list_all-same (λ m. list_all (λ k. not (m == k) || t k) (numbers_below n)) (λ m. nat_le n m || t m) ms (at_number t n)
+    list_all-same (λ k. not (has_number ms k) || t k) (λ k. list_all (λ m. not (m == k) || t k) ms) (range_below n) (λ k. none_or (λ m. m == k) (t k) ms)
+    ∙ list_all-swap (λ k m. not (m == k) || t k) (range_below n) ms
+    ∙ list_all-same (λ m. list_all (λ k. not (m == k) || t k) (range_below n)) (λ m. nat_le n m || t m) ms (at_number t n)

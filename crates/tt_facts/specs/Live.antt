@@ -1,7 +1,7 @@
 -- What a path of facts leaves possible: dead and live cells, and what is pinned.
 use Rattle.std.specs.Prelude.{ℕ, ◌==◌, Bool, false, not, ◌&&◌, ◌||◌, List, [], ◌∷◌, min, map, filter, Option, Some, None, count_by}
 use Rattle.std.specs.List.{list_any, list_all}
-use Rattle.tt_lists.specs.Words.{numbers_below}
+use Rattle.tt_lists.specs.Words.{range_below}
 use Rattle.tt_instance.specs.Problem.{Problem}
 use Rattle.tt_instance.specs.Cells.{slot, cell, all_rooms, all_slots, all_cells, same_cell}
 use Rattle.tt_instance.specs.Courses.{in_curriculum, conflict, unavailable, excess}
@@ -40,7 +40,7 @@ abbrev pub live_period : Problem → List Fact → ℕ → Slot → Bool
 live_period p path c s = list_any (λ r. is_live p path (cell c r s)) (all_rooms p)
 
 abbrev pub live_day : Problem → List Fact → ℕ → ℕ → Bool
-live_day p path c d = list_any (λ s. live_period p path c (slot d s)) (numbers_below p.periods)
+live_day p path c d = list_any (λ s. live_period p path c (slot d s)) (range_below p.periods)
 
 -- ---- the least excess
 
@@ -65,21 +65,21 @@ gives None n = false
 gives (Some m) n = m == n
 
 -- a fact of the second speaks of the first: a fact of a member speaks of its curriculum
-abbrev pub speaks_of : Problem → Who → Who → Bool
-speaks_of p (Course c) (Course a) = a == c
-speaks_of p (Course c) (Curriculum q) = false
-speaks_of p (Curriculum q) (Course a) = in_curriculum p q a
-speaks_of p (Curriculum q) (Curriculum k) = k == q
+abbrev pub is_pinned_by : Problem → Who → Who → Bool
+is_pinned_by p (Course c) (Course a) = a == c
+is_pinned_by p (Course c) (Curriculum q) = false
+is_pinned_by p (Curriculum q) (Course a) = in_curriculum p q a
+is_pinned_by p (Curriculum q) (Curriculum k) = k == q
 
 -- a yes-fact that speaks of it gives this day and this period
 abbrev pub pinned : Problem → List Fact → Who → Slot → Bool
 pinned p path who s =
-    list_any (λ f. f.holds && speaks_of p who f.pattern.who && gives f.pattern.day s.day && gives f.pattern.period s.period) path
+    list_any (λ f. f.holds && is_pinned_by p who f.pattern.who && gives f.pattern.day s.day && gives f.pattern.period s.period) path
 
 -- a yes-fact of the course gives this room
 abbrev pub pinned_room : Problem → List Fact → ℕ → ℕ → Bool
 pinned_room p path c r =
-    list_any (λ f. f.holds && speaks_of p (Course c) f.pattern.who && gives f.pattern.room r) path
+    list_any (λ f. f.holds && is_pinned_by p (Course c) f.pattern.who && gives f.pattern.room r) path
 
 -- the pinned periods, each once however many facts give it
 abbrev pub pinned_periods : Problem → List Fact → Who → ℕ

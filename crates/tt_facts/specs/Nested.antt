@@ -1,7 +1,7 @@
 -- What a path leaves possible, one number at a time, as the code goes through it.
 use Rattle.std.specs.Prelude.{ℕ, Bool, not, ◌&&◌, ◌||◌, List, Option, [], ◌∷◌, nat_le, filter, length}
 use Rattle.std.specs.List.{list_any, list_all}
-use Rattle.tt_lists.specs.Words.{numbers_below}
+use Rattle.tt_lists.specs.Words.{range_below}
 use Rattle.tt_instance.specs.Problem.{Problem}
 use Rattle.tt_instance.specs.Cells.{slot, cell}
 use Rattle.tt_instance.specs.Courses.{members}
@@ -27,7 +27,7 @@ is_excluded p path x = list_any (λ f. f.holds && excludes p path f.pattern x) p
 
 -- the numbers below a bound that agree with what is given
 abbrev pub numbers_given : Option ℕ → ℕ → List ℕ
-numbers_given given count = filter (agrees given) (numbers_below count)
+numbers_given given count = filter (agrees given) (range_below count)
 
 -- the course that is meant, or the members of the curriculum that is meant
 abbrev pub courses_of : Problem → Who → List ℕ

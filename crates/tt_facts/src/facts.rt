@@ -2,7 +2,7 @@
 
 ghost use Rattle.std.specs.Prelude.{◌≡◌};
 ghost use Rattle.tt_facts.specs.Facts.{agrees, is_who, matches};
-ghost use Rattle.tt_facts.specs.Live.{gives, speaks_of};
+ghost use Rattle.tt_facts.specs.Live.{gives, is_pinned_by};
 ghost use Rattle.tt_facts.specs.Nested.{agrees_at};
 
 use tt_instance::{Cell, Instance};
@@ -26,8 +26,8 @@ impl Who {
     }
 
     /// Whether a fact of another speaks of this one: one of a member speaks of its curriculum.
-    pub fn is_spoken_of(self, instance: &Instance<'_>, other: Who) -> bool
-        ensures { result ≡ speaks_of instance.now self other }
+    pub fn is_pinned_by(self, instance: &Instance<'_>, other: Who) -> bool
+        ensures { result ≡ is_pinned_by instance.now self other }
     {
         match (self, other) {
             (Who::Course(meant), Who::Course(named)) => named == meant,

@@ -44,7 +44,7 @@ pub trait Path<'i> {
         requires { index < length (facts self.now) }
         ensures { slice_get (facts self.now) index ≡ Some result };
 
-    /// Adds a fact behind the others.
+    /// Adds a fact after the others.
     fn push(&mut self, fact: Fact) -> Result<(), PathFault>
         ensures ok { OnOk result (facts self.new ≡ facts self.old ++ fact ∷ []) }
         ensures deep { length (facts self.old) ≡ 65536 → IsErrOf result PathFault.TooDeep }

@@ -137,7 +137,7 @@ impl<'p, 'i> Path<'i> for PlainPath<'p, 'i> {
     fn pinned(&self, who: Who, day: u32, period: u32) -> bool {
         self.facts.iter().any(|fact| {
             fact.holds
-                && who.is_spoken_of(self.instance, fact.pattern.who)
+                && who.is_pinned_by(self.instance, fact.pattern.who)
                 && gives(fact.pattern.day, day)
                 && gives(fact.pattern.period, period)
         })
@@ -154,7 +154,7 @@ impl<'p, 'i> Path<'i> for PlainPath<'p, 'i> {
     fn pinned_room(&self, course: u32, room: u32) -> bool {
         self.facts.iter().any(|fact| {
             fact.holds
-                && Who::Course(course).is_spoken_of(self.instance, fact.pattern.who)
+                && Who::Course(course).is_pinned_by(self.instance, fact.pattern.who)
                 && gives(fact.pattern.room, room)
         })
     }

@@ -1,4 +1,4 @@
--- What holds of each element of a list right behind those before it.
+-- What holds of each element of a list right after those before it.
 use Rattle.std.proofs.Common.{ℕ, zero, suc, ◌<◌, List, [], ◌∷◌, ◌++◌, length, map, get_or, take, sym, subst, append_assoc, arith, le_of_suc-le-suc}
 use Rattle.std.specs.Prelude.{All}
 use Rattle.std.proofs.lemmas.List.{append-nil, map_push}

@@ -11,7 +11,7 @@ use Rattle.std.proofs.lemmas.Bool.{cases_lt, ne_eqb, eq-eqb, false≢true}
 use Rattle.std.proofs.lemmas.Cmp.{nat_list_eq_equiv}
 use Rattle.std.proofs.lemmas.Option.{slice_get_cases}
 use Rattle.std.proofs.lemmas.List.Folds.{list_any_at}
-use Rattle.tt_lists.specs.Words.{has}
+use Rattle.tt_lists.specs.Words.{has_number}
 use Rattle.tt_lists.proofs.Sums.{list_any-of_map}
 use Rattle.tt_instance.specs.declared.rows.MemberList.{MemberList}
 use Rattle.tt_text.specs.Texts.{is_text, is_same_text, index_of_name}
@@ -77,7 +77,7 @@ module _ (count : ℕ) where
     | inl lt ↦ lt
     | inr le ↦
         let c = get_or l.courses.items k d in
-        let there : has l.courses.items c ≡ true = list_any_at (λ m. m == c) l.courses.items k d h (eq-eqb c c refl) in
+        let there : has_number l.courses.items c ≡ true = list_any_at (λ m. m == c) l.courses.items k d h (eq-eqb c c refl) in
         let none : get_or l.marks c false ≡ false = get_or_past l.marks c false (omega (arith, marked.len, le)) in
         absurd (false≢true (sym none ∙ marked.told c ∙ there))
   ]
@@ -129,13 +129,13 @@ teacher_at p a b is = elim (slice_get_cases p.courses.rows.items a).1 [
 pub rows_told : (p : Parts) (courses : List CourseRow) (curricula : List CurriculumRow) (first added cleared : List (List Bool)) → IsIndexedParts p
     → courses ≡ p.courses.rows.items → curricula ≡ p.curricula.rows.items
     → first ≡ teacher_rows_of courses
-    → ((a b : ℕ) → mark_at added a b ≡ (mark_at first a b || list_any (λ q. has q.members.courses.items a && has q.members.courses.items b) curricula))
+    → ((a b : ℕ) → mark_at added a b ≡ (mark_at first a b || list_any (λ q. has_number q.members.courses.items a && has_number q.members.courses.items b) curricula))
     → ((a b : ℕ) → mark_at cleared a b ≡ (not (a == b) && mark_at added a b))
     → (a b : ℕ) → mark_at cleared a b ≡ conflict (problem_seen p) a b
 rows_told p courses curricula first added cleared is courses_are curricula_are first_is more less a b =
-    let both : CurriculumRow → Bool = λ q. has q.members.courses.items a && has q.members.courses.items b in
+    let both : CurriculumRow → Bool = λ q. has_number q.members.courses.items a && has_number q.members.courses.items b in
     let teacher : mark_at first a b ≡ one_teacher (problem_seen p) a b =
     ap (λ rows. mark_at rows a b) (first_is ∙ ap teacher_rows_of courses_are) ∙ teacher_at p a b is in
     let curriculum : list_any both curricula ≡ one_curriculum (problem_seen p) a b =
-    ap (list_any both) curricula_are ∙ sym (list_any-of_map (λ q. has q.members a && has q.members b) curriculum_seen p.curricula.rows.items) in
+    ap (list_any both) curricula_are ∙ sym (list_any-of_map (λ q. has_number q.members a && has_number q.members b) curriculum_seen p.curricula.rows.items) in
     less a b ∙ ap (λ x. not (a == b) && x) (more a b ∙ ap (λ x. x || list_any both curricula) teacher ∙ ap (λ x. one_teacher (problem_seen p) a b || x) curriculum)

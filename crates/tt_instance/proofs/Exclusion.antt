@@ -3,7 +3,7 @@ use Rattle.std.proofs.Common.{◌≡◌, ℕ, true, false, not, ◌&&◌, ◌||�
 use Rattle.std.specs.Prelude.{◌==◌}
 use Rattle.std.proofs.lemmas.Cmp.{nat_list_eq_equiv}
 use Rattle.std.proofs.lemmas.Bool.{and_parts, and_from, and_left, both_ways, not_from_false, or_cases, or_left, or_right, false_from_ne_true, not-true, not_from_true}
-use Rattle.tt_lists.specs.Words.{has}
+use Rattle.tt_lists.specs.Words.{has_number}
 use Rattle.tt_lists.proofs.Members.{any_member, member_from_any}
 use Rattle.tt_text.specs.Texts.{is_same_text}
 use Rattle.tt_instance.specs.Problem.{Problem}
@@ -21,9 +21,9 @@ text-turn (Some x) (Some y) e = sym (nat_list_eq_equiv.symm x y) ∙ e
 
 curricula-turn : (p : Problem) (a b : ℕ) → one_curriculum p a b ≡ true → one_curriculum p b a ≡ true
 curricula-turn p a b e =
-    let w = member_from_any (λ q. has q.members a && has q.members b) p.curricula e in
-    let h = and_parts (has w.0.members a) (has w.0.members b) w.2 in
-    any_member (λ q. has q.members b && has q.members a) p.curricula w.0 w.1 (and_from (has w.0.members b) (has w.0.members a) h.1 h.0)
+    let w = member_from_any (λ q. has_number q.members a && has_number q.members b) p.curricula e in
+    let h = and_parts (has_number w.0.members a) (has_number w.0.members b) w.2 in
+    any_member (λ q. has_number q.members b && has_number q.members a) p.curricula w.0 w.1 (and_from (has_number w.0.members b) (has_number w.0.members a) h.1 h.0)
 
 pub conflict-turn : (p : Problem) (a b : ℕ) → conflict p a b ≡ true → conflict p b a ≡ true
 conflict-turn p a b e =

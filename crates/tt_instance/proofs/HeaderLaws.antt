@@ -163,7 +163,7 @@ pub record IsHeader (c : Counts) : Type 0 where
   pub curricula : c.curricula ≤ 8192
   pub bars : c.bars ≤ 65536
 
--- the header behind the word that ends the name
+-- the header after the word that ends the name
 abbrev pub count_pieces : Counts → List Piece
 count_pieces c =
     Number c.courses ∷ fixed word.Rooms ∷ Number c.rooms ∷ fixed word.Days ∷ Number c.days ∷ fixed word.PeriodsPerDay ∷ Number c.periods

@@ -1,4 +1,4 @@
--- Names behind references are the names that a contract sees.
+-- Names after references are the names that a contract sees.
 use Rattle.std.proofs.Common.{◌≡◌, ℕ, ◌+◌, ◌≤◌, ◌<◌, eqb, ltb, arith, Bool, true, false, cond, nat_eq, List, [], ◌∷◌, ◌++◌, map, length, Some, Bor, refl, sym, ap, subst, ◌∙◌}
 use Rattle.std.specs.Prelude.{position}
 use Rattle.std.specs.List.{list_any, position_or_len}
@@ -12,16 +12,16 @@ use Rattle.std.proofs.lemmas.Option.{cond_some}
 use Rattle.indexmap.specs.IndexSet.{insert_key}
 use Rattle.tt_text.specs.Texts.{is_text, has_name, index_of_name, with_name}
 
--- whether the text behind a reference is this one
+-- whether the text after a reference is this one
 abbrev pub is_behind : List ℕ → Bor (List ℕ) → Bool
 is_behind name k = pointwise nat_eq name k.now
 
--- whether one of the references has a name behind it
+-- whether one of the references has a name after it
 pub any_behind : (name : List ℕ) (ks : List (Bor (List ℕ))) → list_any (is_behind name) ks ≡ has_name (map (λ k. k.now) ks) name
 any_behind name [] = refl
 any_behind name (k ∷ ks) = rw (any_behind name ks) refl
 
--- the first reference that has a name behind it
+-- the first reference that has a name after it
 first_behind : (name : List ℕ) (ks : List (Bor (List ℕ))) → position_or_len (is_behind name) ks ≡ position_or_len (is_text name) (map (λ k. k.now) ks)
 first_behind name [] = refl
 first_behind name (k ∷ ks) = rw (first_behind name ks) refl
@@ -53,7 +53,7 @@ length-with_name names name = longer (has_name names name) names name
 same_place : (k l : ℕ) → cond (eqb k l) (l + 0) k ≡ k
 same_place k l = grind (arith, nat_tests)
 
--- the first place of a name is the same with the name put behind the others
+-- the first place of a name is the same with the name put after the others
 first_push : (name : List ℕ) (names : List (List ℕ)) → position_or_len (is_text name) (names ++ name ∷ []) ≡ position_or_len (is_text name) names
 first_push name names =
     let own : is_text name name ≡ true = nat_list_eq_equiv.refl name in

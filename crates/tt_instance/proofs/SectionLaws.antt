@@ -1,4 +1,4 @@
--- The sections behind the header: what is read is spelled, and what is spelled is read.
+-- The sections after the header: what is read is spelled, and what is spelled is read.
 use Rattle.std.proofs.Common.{◌≡◌, ℕ, ◌<◌, List, [], ◌∷◌, ◌++◌, length, Ok, refl, sym, subst, append_assoc}
 use Rattle.std.specs.Prelude.{All}
 use Rattle.std.specs.List.{flat_map}
@@ -145,7 +145,7 @@ groups_read end counts cs ts qs bs ps rest each ok h =
 
 -- ---- all sections
 
--- all that stands behind the header
+-- all that stands after the header
 abbrev pub section_pieces : List Course → List Room → List Curriculum → List Bar → List Piece
 section_pieces cs rs qs bs = place_pieces cs rs ++ group_pieces cs qs bs
 

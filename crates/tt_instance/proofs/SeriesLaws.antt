@@ -16,16 +16,16 @@ pub record IsSeries {B : Type 0} (one : B → List Placed → Result (B × List 
   pub none : (b : B) (ts : List Placed) → many zero b ts ≡ Ok (b, ts)
   pub more : (n : ℕ) (b : B) (ts : List Placed) → many (suc n) b ts ≡ (one b ts >>= λ x. many n x.0 x.1)
 
--- Items are read behind others, of which the reading keeps a view; each is right behind those before it.
+-- Items are read after others, of which the reading keeps a view; each is right after those before it.
 module _ {X B : Type 0} (view : List X → B) (pieces : X → List Piece) (Next : List X → X → Type 0) where
-  -- what reading one item behind those before gave
+  -- what reading one item after those before gave
   pub record OneTaken (before : List X) (ts : List Placed) (x : B × List Placed) : Type 0 where
     pub item : X
     pub list : x.0 ≡ view (before ++ item ∷ [])
     pub next : Next before item
     pub takes : Takes ts (pieces item) x.1
 
-  -- what reading so many items behind those before gave
+  -- what reading so many items after those before gave
   pub record ManyTaken (n : ℕ) (before : List X) (ts : List Placed) (x : B × List Placed) : Type 0 where
     pub items : List X
     pub list : x.0 ≡ view (before ++ items)
@@ -41,7 +41,7 @@ module _ {X B : Type 0} (view : List X → B) (pieces : X → List Piece) (Next 
   none_taken : (before : List X) (ts : List Placed) → ManyTaken zero before ts (view before, ts)
   none_taken before ts = record { items = []; list = ap view (sym (append-nil before)); len = refl; each = tt; takes = record { take = λ qs rest h. h } }
 
-  -- one item, and those behind it
+  -- one item, and those after it
   one_more : (n : ℕ) (before : List X) (ts : List Placed) (a x : B × List Placed) (one : OneTaken before ts a) → ManyTaken n (before ++ one.item ∷ []) a.1 x → ManyTaken (suc n) before ts x
   one_more n before ts a x one more = record {
     items = one.item ∷ more.items;

@@ -9,10 +9,10 @@ use Rattle.std.proofs.lemmas.List.{append-nil, get_or_append_left, get_or-append
 use Rattle.std.proofs.lemmas.List.FromFn.{get_or-map-range_with_len, length-map-range_with_len}
 use Rattle.std.proofs.lemmas.List.Sums.{sum_by_more}
 use Rattle.std.proofs.lemmas.Nat.{div-add-mod'}
-use Rattle.tt_lists.specs.Words.{numbers_below}
+use Rattle.tt_lists.specs.Words.{range_below}
 use Rattle.std.proofs.lemmas.List.Folds.{list_all-map}
 use Rattle.tt_lists.proofs.All.{list_all-of_flat_map, list_all-same}
-use Rattle.tt_lists.proofs.Below.{numbers_below_more}
+use Rattle.tt_lists.proofs.Below.{range_below_more}
 use Rattle.tt_instance.specs.Problem.{Problem}
 use Rattle.tt_instance.specs.Cells.{slot, cell, all_slots, all_rooms, all_courses, all_cells}
 use Rattle.tt_instance.specs.declared.cell.Slot.{Slot}
@@ -20,25 +20,25 @@ use Rattle.tt_instance.specs.declared.cell.Cell.{Cell}
 
 -- the periods of the first days
 abbrev first_days : ℕ → ℕ → List Slot
-first_days periods days = flat_map (λ d. map (slot d) (numbers_below periods)) (numbers_below days)
+first_days periods days = flat_map (λ d. map (slot d) (range_below periods)) (range_below days)
 
-one_day_more : (periods days : ℕ) → first_days periods (suc days) ≡ first_days periods days ++ map (slot days) (numbers_below periods)
+one_day_more : (periods days : ℕ) → first_days periods (suc days) ≡ first_days periods days ++ map (slot days) (range_below periods)
 one_day_more periods days =
-    let day : ℕ → List Slot = λ d. map (slot d) (numbers_below periods) in
-    ap (λ n. flat_map day (numbers_below n)) (sym (add-one days)) ∙ ap (flat_map day) (numbers_below_more days) ∙ flat_map-append day (numbers_below days) (days ∷ [])
-    ∙ ap (λ l. flat_map day (numbers_below days) ++ l) (append-nil (day days))
+    let day : ℕ → List Slot = λ d. map (slot d) (range_below periods) in
+    ap (λ n. flat_map day (range_below n)) (sym (add-one days)) ∙ ap (flat_map day) (range_below_more days) ∙ flat_map-append day (range_below days) (days ∷ [])
+    ∙ ap (λ l. flat_map day (range_below days) ++ l) (append-nil (day days))
 
 length-first_days : (periods days : ℕ) → length (first_days periods days) ≡ days * periods
 length-first_days periods zero = omega arith
 length-first_days periods (suc days) =
-    ap length (one_day_more periods days) ∙ length-append (first_days periods days) (map (slot days) (numbers_below periods))
+    ap length (one_day_more periods days) ∙ length-append (first_days periods days) (map (slot days) (range_below periods))
     ∙ omega (arith, length-first_days periods days, length-map-range_with_len (slot days) 0 periods)
 
 get_or-first_days : (periods days d s : ℕ) (x : Slot) → d < days → s < periods → get_or (first_days periods days) (d * periods + s) x ≡ slot d s
 get_or-first_days periods zero d s x h k = absurd (omega arith)
 get_or-first_days periods (suc days) d s x h k =
     let before = first_days periods days in
-    let today = map (slot days) (numbers_below periods) in
+    let today = map (slot days) (range_below periods) in
     let n = length-first_days periods days in
     ap (λ l. get_or l (d * periods + s) x) (one_day_more periods days) ∙ elim (cases_lt d days) [
       | inl less ↦

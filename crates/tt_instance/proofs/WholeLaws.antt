@@ -65,7 +65,7 @@ header_within w within = record {
 
 -- ---- what is read is spelled
 
--- all pieces behind the first word, part by part
+-- all pieces after the first word, part by part
 abbrev part_pieces : Problem → List Piece
 part_pieces w = (map Text w.name ++ fixed word.Courses ∷ []) ++ (count_pieces (counts_of w) ++ sections_of w)
 

@@ -46,7 +46,7 @@ counted w n h = (word_token w, (small n h, tt))
 section_writable : (w : Word) → LinesWritable (section w)
 section_writable w = (tt, ((word_token w, tt), tt))
 
--- the numbers of a course that stands behind others
+-- the numbers of a course that stands after others
 course_numbers : (before : List Course) (c : Course) → IsNextCourse before c → (c.lectures ≤ 1000000) × (c.min_days ≤ 1000000) × (c.students ≤ 1000000)
 course_numbers before c next = (omega (arith, next.lectures), omega (arith, next.min_days), next.students)
 

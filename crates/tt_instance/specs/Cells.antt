@@ -1,21 +1,21 @@
 -- The periods and the cells of an instance, and tests of one cell.
 use Rattle.std.specs.Prelude.{ℕ, ◌+◌, ◌<◌, ◌==◌, Bool, ◌&&◌, ◌||◌, List, length, map, flat_map}
-use Rattle.tt_lists.specs.Words.{numbers_below}
+use Rattle.tt_lists.specs.Words.{range_below}
 use Rattle.tt_instance.specs.Problem.{Problem}
 use Rattle.tt_instance.specs.declared.cell.Cell.{Cell}
 use Rattle.tt_instance.specs.declared.cell.Slot.{Slot}
 
 abbrev pub all_courses : Problem → List ℕ
-all_courses p = numbers_below (length p.courses)
+all_courses p = range_below (length p.courses)
 
 abbrev pub all_rooms : Problem → List ℕ
-all_rooms p = numbers_below (length p.rooms)
+all_rooms p = range_below (length p.rooms)
 
 abbrev pub all_curricula : Problem → List ℕ
-all_curricula p = numbers_below (length p.curricula)
+all_curricula p = range_below (length p.curricula)
 
 abbrev pub all_days : Problem → List ℕ
-all_days p = numbers_below p.days
+all_days p = range_below p.days
 
 -- ---- periods of the week
 
@@ -24,7 +24,7 @@ slot d s = record { day = d; period = s }
 
 -- each period of each day, in order
 abbrev pub all_slots : Problem → List Slot
-all_slots p = flat_map (λ d. map (slot d) (numbers_below p.periods)) (all_days p)
+all_slots p = flat_map (λ d. map (slot d) (range_below p.periods)) (all_days p)
 
 -- one day, and periods that follow each other
 abbrev pub next_to : Slot → Slot → Bool

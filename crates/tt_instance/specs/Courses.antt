@@ -1,7 +1,7 @@
 -- What an instance says of a course, a room or a curriculum; one that is not there has nothing.
 use Rattle.std.specs.Prelude.{ℕ, ◌-◌, ◌==◌, Bool, not, ◌&&◌, ◌||◌, List, [], slice_get, slice_index_or, map}
 use Rattle.std.specs.List.{list_any}
-use Rattle.tt_lists.specs.Words.{has}
+use Rattle.tt_lists.specs.Words.{has_number}
 use Rattle.tt_text.specs.Texts.{is_same_text, distinct_names}
 use Rattle.tt_instance.specs.Problem.{Course, Room, Curriculum, Problem}
 
@@ -55,7 +55,7 @@ teachers p = distinct_names (course_teachers p)
 -- ---- which courses exclude each other, and from which periods a course is barred
 
 abbrev pub in_curriculum : Problem → ℕ → ℕ → Bool
-in_curriculum p q c = has (members p q) c
+in_curriculum p q c = has_number (members p q) c
 
 -- both courses are there and have one teacher
 abbrev pub one_teacher : Problem → ℕ → ℕ → Bool
@@ -63,7 +63,7 @@ one_teacher p a b = is_same_text (slice_get (course_teachers p) a) (slice_get (c
 
 -- some curriculum has both courses
 abbrev pub one_curriculum : Problem → ℕ → ℕ → Bool
-one_curriculum p a b = list_any (λ q. has q.members a && has q.members b) p.curricula
+one_curriculum p a b = list_any (λ q. has_number q.members a && has_number q.members b) p.curricula
 
 -- Two different courses with one teacher or a common curriculum (the competition's hard rule "Conflicts").
 abbrev pub conflict : Problem → ℕ → ℕ → Bool

@@ -1,7 +1,7 @@
 -- What the tables beside the rows of an instance say.
 use Rattle.std.specs.Prelude.{◌≡◌, ℕ, ◌+◌, ◌*◌, ◌≤◌, ◌==◌, nat_lt, Bool, false, ◌&&◌, List, [], length, map, Some, slice_index_or, All}
 use Rattle.std.specs.List.{list_any}
-use Rattle.tt_lists.specs.Words.{has}
+use Rattle.tt_lists.specs.Words.{has_number}
 use Rattle.tt_text.specs.Texts.{index_of_name, distinct_names}
 use Rattle.tt_instance.specs.declared.rows.CourseList.{CourseList}
 use Rattle.tt_instance.specs.declared.rows.CourseRow.{CourseRow}
@@ -37,7 +37,7 @@ pub record IsRoomsIndexed (l : RoomList) : Type 0 where
 -- there is a mark for each of so many courses, and the marks say which are members
 pub record IsMarked (count : ℕ) (l : MemberList) : Type 0 where
   pub len : length l.marks ≡ count
-  pub told : (c : ℕ) → slice_index_or l.marks c false ≡ has l.courses.items c
+  pub told : (c : ℕ) → slice_index_or l.marks c false ≡ has_number l.courses.items c
 
 pub record IsCurriculaIndexed (count : ℕ) (l : CurriculumList) : Type 0 where
   pub ids_are : l.ids ≡ curriculum_ids_of (curricula_seen l.rows.items)

@@ -7,7 +7,7 @@ use Rattle.tt_instance.specs.declared.fault.Word.TheVariants as word
 use Rattle.tt_instance.specs.Words.{word_text}
 use Rattle.tt_instance.specs.Problem.{Course, Room, Curriculum, Bar, Problem}
 
--- each element is right behind those before it
+-- each element is right after those before it
 abbrev pub EachAfter : {X : Type 0} → (List X → X → Type 0) → List X → List X → Type 0
 EachAfter P before [] = Unit {0}
 EachAfter P before (x ∷ xs) = P before x × EachAfter P (before ++ x ∷ []) xs

@@ -4,7 +4,7 @@ use Rattle.tt_lists.specs.Words.{with_new}
 use Rattle.tt_text.specs.Tokens.{Placed, tokens_of}
 use Rattle.tt_text.specs.Texts.{is_text, has_name, index_of_name}
 use Rattle.tt_text.specs.Numbers.{number_of}
-use Rattle.tt_text.specs.Reading.{◌>>=◌, FailsBut, GivesBut, token_or}
+use Rattle.tt_text.specs.Reading.{◌>>=◌, FailsUnless, AgreesUnless, token_or}
 use Rattle.tt_text.specs.declared.numbers.NumberFault.{NumberFault}
 use Rattle.tt_text.specs.declared.numbers.NumberFault.TheVariants as number
 use Rattle.tt_instance.specs.declared.fault.Word.{Word}
@@ -21,10 +21,10 @@ is_silent fault.OutOfMemory = true
 is_silent _ = false
 
 abbrev pub Fails : {Y : Type 0} → InstanceFault → Result Y InstanceFault → Type 0
-Fails e read = FailsBut is_silent e read
+Fails e read = FailsUnless is_silent e read
 
 abbrev pub Gives : {X Y : Type 0} → (X → Y) → Result X InstanceFault → Result Y InstanceFault → Type 0
-Gives view result read = GivesBut is_silent view result read
+Gives view result read = AgreesUnless is_silent view result read
 
 -- the next token of a text of end bytes
 abbrev pub token_at : ℕ → List Placed → Result (Placed × List Placed) InstanceFault
@@ -68,7 +68,7 @@ new_name names t = if has_name names t.text then Err (fault.Repeated t.at) else 
 
 -- ---- courses and rooms
 
--- one more course behind those before
+-- one more course after those before
 unfoldable pub course_at : ℕ → List Course → List Placed → Result (List Course × List Placed) InstanceFault
 course_at end before ts = do
   id ← token_at end ts
@@ -86,7 +86,7 @@ courses_at end (suc n) before ts = do
   c ← course_at end before ts
   courses_at end n c.0 c.1
 
--- one more room behind those before
+-- one more room after those before
 unfoldable pub room_at : ℕ → List Room → List Placed → Result (List Room × List Placed) InstanceFault
 room_at end before ts = do
   id ← token_at end ts
@@ -127,7 +127,7 @@ members_at end ids (suc n) before ts = do
   m ← member_at end ids before ts
   members_at end ids n m.0 m.1
 
--- one more curriculum behind those before
+-- one more curriculum after those before
 unfoldable pub curriculum_at : ℕ → List (List ℕ) → List Curriculum → List Placed → Result (List Curriculum × List Placed) InstanceFault
 curriculum_at end ids before ts = do
   id ← token_at end ts
@@ -199,7 +199,7 @@ periods_at end pairs days ts = do
       else (if nat_lt 67108864 (pairs * (days * n)) then Err (fault.OverLimit t.0.at)
       else (if n == 0 then Err (fault.OutOfRange t.0.at) else Ok (n, t.1)))
 
--- the header behind the word that ends the name
+-- the header after the word that ends the name
 unfoldable pub header_at : ℕ → List Placed → Result (Counts × List Placed) InstanceFault
 header_at end ts = do
   courses ← limited_at end 2048 ts
@@ -212,14 +212,14 @@ header_at end ts = do
 
 -- ---- the whole
 
--- the lists behind the header
+-- the lists after the header
 pub record Sections : Type 0 where
   pub courses : List Course
   pub rooms : List Room
   pub curricula : List Curriculum
   pub bars : List Bar
 
--- the courses and rooms behind the header
+-- the courses and rooms after the header
 unfoldable pub places_at : ℕ → Counts → List Placed → Result ((List Course × List Room) × List Placed) InstanceFault
 places_at end counts ts = do
   ts1 ← word_at end word.CoursesPart ts
@@ -228,7 +228,7 @@ places_at end counts ts = do
   rooms ← rooms_at end counts.rooms [] ts2
   Ok ((courses.0, rooms.0), rooms.1)
 
--- the curricula and unavailabilities behind them, up to the end
+-- the curricula and unavailabilities after them, up to the end
 unfoldable pub groups_at : ℕ → Counts → List (List ℕ) → List Placed → Result ((List Curriculum × List Bar) × List Placed) InstanceFault
 groups_at end counts ids ts = do
   ts1 ← word_at end word.CurriculaPart ts

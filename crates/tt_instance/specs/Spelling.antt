@@ -62,7 +62,7 @@ kept w = record {
   bars = distinct same_bar w.bars;
 }
 
--- The bytes spell the instance: they begin with the pieces of lines of which it is kept. What stands behind `END.` is not read.
+-- The bytes spell the instance: they begin with the pieces of lines of which it is kept. What stands after `END.` is not read.
 pub record Spells (bytes : List ℕ) (p : Problem) : Type 0 where
   pub written : Problem
   pub rest : List Placed

@@ -6,7 +6,7 @@ ghost use Rattle.tt_instance.specs.Indexed.{IsBarred, is_marked_at};
 ghost use Rattle.tt_instance.specs.Seen.{bars_seen};
 
 use crate::fault::InstanceFault;
-use crate::fields::{below, named};
+use crate::fields::{read_below, read_course_name};
 use crate::header::Header;
 use crate::marks::{Marks, has_at};
 use crate::names::Names;
@@ -44,7 +44,7 @@ fn no_marks(alloc: Global, courses: usize, days: u32) -> Result<Vec<Marks>, Allo
 
 /// One more unavailability, if it is new.
 #[tactic(auto, unfolding(crate::specs::Reading::bar_at))]
-fn bar(
+fn read_bar(
     tokens: &mut Tokens<'_>,
     end: usize,
     ids: &Names<'_>,
@@ -60,9 +60,9 @@ fn bar(
         (bar_at end ids.now header.days header.periods (bars_seen list.old.rows.items) tokens.old) }
     ensures barred { OnOk result (IsBarred (length ids.now) header.days list.new) }
 {
-    let course = named(tokens, end, ids)?;
-    let day = below(tokens, end, header.days)?;
-    let period = below(tokens, end, header.periods)?;
+    let course = read_course_name(tokens, end, ids)?;
+    let day = read_below(tokens, end, header.days)?;
+    let period = read_below(tokens, end, header.periods)?;
     if !is_barred(&list.marks, course, day, period) {
         list.rows.push(BarRow {
             course,
@@ -76,7 +76,7 @@ fn bar(
 }
 
 /// The unavailabilities that a header announces, of the courses of these names.
-pub fn bars(
+pub fn read_bars(
     alloc: Global,
     tokens: &mut Tokens<'_>,
     end: usize,
@@ -96,7 +96,7 @@ pub fn bars(
         marks: no_marks(alloc, ids.len(), header.days)?,
     };
     for _ in 0..header.bars {
-        bar(tokens, end, ids, header, &mut list)?;
+        read_bar(tokens, end, ids, header, &mut list)?;
     }
     Ok(list)
 }

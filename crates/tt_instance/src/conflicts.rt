@@ -2,7 +2,7 @@
 
 ghost use Rattle.std.specs.Prelude.{◌≡◌, ◌<◌, ◌==◌, ℕ, not, ◌||◌, ◌&&◌, length, map, All, IfOk, slice_index_or};
 ghost use Rattle.std.specs.List.{list_any};
-ghost use Rattle.tt_lists.specs.Words.{has};
+ghost use Rattle.tt_lists.specs.Words.{has_number};
 ghost use Rattle.tt_instance.specs.Indexed.{IsIndexedParts, IsExcluding, IsSquare, mark_at};
 ghost use Rattle.tt_instance.specs.Seen.{problem_seen};
 
@@ -44,7 +44,7 @@ fn add_members(rows: &mut Vec<Marks>, members: &[u32])
     ensures len { length rows.new.items ≡ length rows.old.items }
     ensures square { IsSquare rows.new.items }
     ensures marked { (a b : ℕ) → mark_at rows.new.items a b
-        ≡ (mark_at rows.old.items a b || (has members.now a && has members.now b)) }
+        ≡ (mark_at rows.old.items a b || (has_number members.now a && has_number members.now b)) }
 {
     for member in members {
         rows[*member as usize].mark_each(members);
@@ -59,7 +59,7 @@ fn add_curricula(rows: &mut Vec<Marks>, curricula: &[CurriculumRow<'_>])
     ensures square { IsSquare rows.new.items }
     ensures marked { (a b : ℕ) → mark_at rows.new.items a b
         ≡ (mark_at rows.old.items a b
-        || list_any (λ q. has q.members.courses.items a && has q.members.courses.items b) curricula.now) }
+        || list_any (λ q. has_number q.members.courses.items a && has_number q.members.courses.items b) curricula.now) }
 {
     for curriculum in curricula {
         add_members(rows, &curriculum.members.courses);

@@ -6,7 +6,7 @@ ghost use Rattle.tt_instance.specs.Indexed.{IsIndexed};
 ghost use Rattle.tt_instance.specs.Seen.{courses_seen};
 
 use crate::fault::InstanceFault;
-use crate::fields::{limited, token};
+use crate::fields::{read_limited, token};
 use crate::names::Names;
 use crate::rows::{CourseList, CourseRow};
 use std::alloc::Global;
@@ -14,9 +14,9 @@ use tt_text::Tokens;
 
 const MAX_LECTURES: u32 = 4096;
 
-/// One more course behind those of the list.
+/// One more course after those of the list.
 #[tactic(auto, unfolding(crate::specs::Reading::course_at))]
-fn course<'a>(
+fn read_course<'a>(
     tokens: &mut Tokens<'a>,
     end: usize,
     list: &mut CourseList<'a>,
@@ -28,14 +28,14 @@ fn course<'a>(
     ensures indexed { OnOk result (IsIndexed list.new) }
     ensures one_more { OnOk result (length list.new.rows.items ≡ length list.old.rows.items + 1) }
 {
-    let id = token(tokens, end)?;
+    let id = read_token(tokens, end)?;
     if !list.ids.put(id.bytes)? {
         return Err(InstanceFault::Repeated(id.at));
     }
-    let teacher = token(tokens, end)?;
-    let lectures = limited(tokens, end, MAX_LECTURES - list.lectures)?;
-    let min_days = limited(tokens, end, 512)?;
-    let students = limited(tokens, end, 1_000_000)?;
+    let teacher = read_token(tokens, end)?;
+    let lectures = read_limited(tokens, end, MAX_LECTURES - list.lectures)?;
+    let min_days = read_limited(tokens, end, 512)?;
+    let students = read_limited(tokens, end, 1_000_000)?;
     let number = list.teachers.number(teacher.bytes)?;
     list.rows.push(CourseRow {
         id: id.bytes,
@@ -50,7 +50,7 @@ fn course<'a>(
 }
 
 /// So many courses.
-pub fn courses<'a>(
+pub fn read_courses<'a>(
     alloc: Global,
     tokens: &mut Tokens<'a>,
     end: usize,
@@ -69,7 +69,7 @@ pub fn courses<'a>(
         lectures: 0,
     };
     for _ in 0..count {
-        course(tokens, end, &mut list)?;
+        read_course(tokens, end, &mut list)?;
     }
     Ok(list)
 }

@@ -6,7 +6,7 @@ ghost use Rattle.tt_instance.specs.Indexed.{IsMarked, IsCurriculaIndexed};
 ghost use Rattle.tt_instance.specs.Seen.{curricula_seen};
 
 use crate::fault::InstanceFault;
-use crate::fields::{limited, named, token};
+use crate::fields::{limited, named, read_token};
 use crate::marks::Marks;
 use crate::names::Names;
 use crate::rows::{CurriculumList, CurriculumRow, MemberList};
@@ -15,7 +15,7 @@ use tt_text::Tokens;
 
 /// One more member, if it is new.
 #[tactic(auto, unfolding(crate::specs::Reading::member_at))]
-fn member(
+fn read_member(
     tokens: &mut Tokens<'_>,
     end: usize,
     ids: &Names<'_>,
@@ -27,7 +27,7 @@ fn member(
         (member_at end ids.now list.old.courses.items tokens.old) }
     ensures marked { OnOk result (IsMarked (length ids.now) list.new) }
 {
-    let course = named(tokens, end, ids)?;
+    let course = read_course_name(tokens, end, ids)?;
     if !list.marks.has(course as usize) {
         list.courses.push(course)?;
         list.marks.mark(course as usize);
@@ -36,7 +36,7 @@ fn member(
 }
 
 /// So many members.
-fn members(
+fn read_members(
     alloc: Global,
     tokens: &mut Tokens<'_>,
     end: usize,
@@ -53,14 +53,14 @@ fn members(
         marks: Marks::new(alloc, ids.len())?,
     };
     for _ in 0..count {
-        member(tokens, end, ids, &mut list)?;
+        read_member(tokens, end, ids, &mut list)?;
     }
     Ok(list)
 }
 
-/// One more curriculum behind those of the list.
+/// One more curriculum after those of the list.
 #[tactic(auto, unfolding(crate::specs::Reading::curriculum_at))]
-fn curriculum<'a>(
+fn read_curriculum<'a>(
     alloc: Global,
     tokens: &mut Tokens<'a>,
     end: usize,
@@ -73,12 +73,12 @@ fn curriculum<'a>(
         (curriculum_at end ids.now (curricula_seen list.old.rows.items) tokens.old) }
     ensures indexed { OnOk result (IsCurriculaIndexed (length ids.now) list.new) }
 {
-    let id = token(tokens, end)?;
+    let id = read_token(tokens, end)?;
     if !list.ids.put(id.bytes)? {
         return Err(InstanceFault::Repeated(id.at));
     }
-    let count = limited(tokens, end, 4096)?;
-    let members = members(alloc, tokens, end, ids, count)?;
+    let count = read_limited(tokens, end, 4096)?;
+    let members = read_members(alloc, tokens, end, ids, count)?;
     list.rows.push(CurriculumRow {
         id: id.bytes,
         members,
@@ -87,7 +87,7 @@ fn curriculum<'a>(
 }
 
 /// So many curricula over the courses of these names.
-pub fn curricula<'a>(
+pub fn read_curricula<'a>(
     alloc: Global,
     tokens: &mut Tokens<'a>,
     end: usize,
@@ -104,7 +104,7 @@ pub fn curricula<'a>(
         ids: Names::new(alloc),
     };
     for _ in 0..count {
-        curriculum(alloc, tokens, end, ids, &mut list)?;
+        read_curriculum(alloc, tokens, end, ids, &mut list)?;
     }
     Ok(list)
 }

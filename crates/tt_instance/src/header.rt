@@ -5,7 +5,7 @@ ghost use Rattle.tt_instance.specs.Reading.{Gives, name_at, days_at, periods_at,
 ghost use Rattle.tt_instance.specs.Seen.{counts_seen, name_seen};
 
 use crate::fault::{InstanceFault, Word};
-use crate::fields::{counted, limited, token, value, word};
+use crate::fields::{read_counted, read_limited, read_token, read_value, word};
 use std::alloc::Global;
 use tt_text::Tokens;
 
@@ -44,9 +44,9 @@ fn read_days(tokens: &mut Tokens<'_>, end: usize) -> Result<u32, InstanceFault>
     ensures some { IfOk result (λ n. 0 < n) }
     ensures within { IfOk result (λ n. n ≤ 64) }
 {
-    word(tokens, end, Word::Days)?;
-    let token = token(tokens, end)?;
-    let days = value(token, 64)?;
+    read_word(tokens, end, Word::Days)?;
+    let token = read_token(tokens, end)?;
+    let days = read_value(token, 64)?;
     if days == 0 {
         return Err(InstanceFault::OutOfRange(token.at));
     }
@@ -66,9 +66,9 @@ fn read_periods(
     ensures some { IfOk result (λ n. 0 < n) }
     ensures within { IfOk result (λ n. n ≤ 64) }
 {
-    word(tokens, end, Word::PeriodsPerDay)?;
-    let token = token(tokens, end)?;
-    let periods = value(token, 64)?;
+    read_word(tokens, end, Word::PeriodsPerDay)?;
+    let token = read_token(tokens, end)?;
+    let periods = read_value(token, 64)?;
     let slots = days * periods;
     if slots > 512 || pairs * slots > 67_108_864 {
         return Err(InstanceFault::OverLimit(token.at));
@@ -79,7 +79,7 @@ fn read_periods(
     Ok(periods)
 }
 
-/// The header behind the word that ends the name.
+/// The header after the word that ends the name.
 #[tactic(auto, unfolding(crate::specs::Reading::header_at))]
 pub fn read_header(tokens: &mut Tokens<'_>, end: usize) -> Result<Header, InstanceFault>
     ensures read { Gives (λ h. (counts_seen h, tokens.new)) result (header_at end tokens.old) }
@@ -87,12 +87,12 @@ pub fn read_header(tokens: &mut Tokens<'_>, end: usize) -> Result<Header, Instan
     ensures days { IfOk result (λ h. (0 < h.days) × (h.days ≤ 64)) }
     ensures periods { IfOk result (λ h. (0 < h.periods) × (h.periods ≤ 64)) }
 {
-    let courses = limited(tokens, end, 2048)?;
-    let rooms = counted(tokens, end, Word::Rooms, 512)?;
+    let courses = read_limited(tokens, end, 2048)?;
+    let rooms = read_counted(tokens, end, Word::Rooms, 512)?;
     let days = read_days(tokens, end)?;
     let periods = read_periods(tokens, end, courses * rooms, days)?;
-    let curricula = counted(tokens, end, Word::Curricula, 8192)?;
-    let bars = counted(tokens, end, Word::Constraints, 65_536)?;
+    let curricula = read_counted(tokens, end, Word::Curricula, 8192)?;
+    let bars = read_counted(tokens, end, Word::Constraints, 65_536)?;
     Ok(Header {
         courses,
         rooms,

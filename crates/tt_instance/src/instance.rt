@@ -61,7 +61,7 @@ fn read_all<'a>(alloc: Global, bytes: &'a [u8]) -> Result<Instance<'a>, Instance
     Ok(Instance { parts, conflicts })
 }
 
-/// The instance that the bytes of a `.ctt` file spell. What stands behind `END.` is not read.
+/// The instance that the bytes of a `.ctt` file spell. What stands after `END.` is not read.
 pub fn read_instance<'a>(alloc: Global, bytes: &'a [u8]) -> Result<Instance<'a>, InstanceFault>
     // What is read is spelled.
     ensures found { IfOk result (λ p. Spells bytes.now p) }

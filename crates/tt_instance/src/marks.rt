@@ -1,7 +1,7 @@
 //! Marks of numbers.
 
 ghost use Rattle.std.specs.Prelude.{◌≡◌, ◌<◌, ℕ, true, false, [], ◌||◌, length, replicate, slice_index_or, slice_set, All, IfOk};
-ghost use Rattle.tt_lists.specs.Words.{has};
+ghost use Rattle.tt_lists.specs.Words.{has_number};
 
 use std::alloc::{AllocError, Global};
 use std::marker::Model;
@@ -64,7 +64,7 @@ impl Marks {
         requires { All (λ n. n < length self.old) numbers.now }
         ensures len { length self.new ≡ length self.old }
         ensures marked { (k : ℕ) → slice_index_or self.new k false
-            ≡ (slice_index_or self.old k false || has numbers.now k) }
+            ≡ (slice_index_or self.old k false || has_number numbers.now k) }
     {
         for number in numbers {
             self.mark(*number as usize);

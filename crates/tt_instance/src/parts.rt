@@ -5,14 +5,14 @@ ghost use Rattle.tt_instance.specs.Reading.{Gives, places_at, groups_at, instanc
 ghost use Rattle.tt_instance.specs.Indexed.{IsIndexed, IsRoomsIndexed, IsCurriculaIndexed, IsBarred, IsIndexedParts};
 ghost use Rattle.tt_instance.specs.Seen.{courses_seen, rooms_seen, curricula_seen, bars_seen, counts_seen, problem_seen};
 
-use crate::bars::bars;
-use crate::courses::courses;
-use crate::curricula::curricula;
+use crate::bars::read_bars;
+use crate::courses::read_courses;
+use crate::curricula::read_curricula;
 use crate::fault::{InstanceFault, Word};
-use crate::fields::word;
+use crate::fields::read_word;
 use crate::header::{Header, read_header, read_name};
 use crate::names::Names;
-use crate::rooms::rooms;
+use crate::rooms::read_rooms;
 use crate::rows::{BarList, CourseList, CurriculumList, RoomList};
 use std::alloc::Global;
 use tt_text::Tokens;
@@ -29,7 +29,7 @@ pub struct Parts<'a> {
     pub bars: BarList,
 }
 
-/// The courses and rooms behind a header.
+/// The courses and rooms after a header.
 #[tactic(auto, unfolding(crate::specs::Reading::places_at))]
 fn read_places<'a>(
     alloc: Global,
@@ -45,14 +45,14 @@ fn read_places<'a>(
     ensures rooms { IfOk result (λ s. IsRoomsIndexed s.1) }
     ensures few { IfOk result (λ s. length s.0.ids ≤ 2048) }
 {
-    word(tokens, end, Word::CoursesPart)?;
-    let courses = courses(alloc, tokens, end, header.courses)?;
-    word(tokens, end, Word::RoomsPart)?;
-    let rooms = rooms(alloc, tokens, end, header.rooms)?;
+    read_word(tokens, end, Word::CoursesPart)?;
+    let courses = read_courses(alloc, tokens, end, header.courses)?;
+    read_word(tokens, end, Word::RoomsPart)?;
+    let rooms = read_rooms(alloc, tokens, end, header.rooms)?;
     Ok((courses, rooms))
 }
 
-/// The curricula and unavailabilities behind them, up to the end.
+/// The curricula and unavailabilities after them, up to the end.
 #[tactic(auto, unfolding(crate::specs::Reading::groups_at))]
 fn read_groups<'a>(
     alloc: Global,
@@ -71,11 +71,11 @@ fn read_groups<'a>(
     ensures curricula { IfOk result (λ s. IsCurriculaIndexed (length ids.now) s.0) }
     ensures bars { IfOk result (λ s. IsBarred (length ids.now) header.days s.1) }
 {
-    word(tokens, end, Word::CurriculaPart)?;
-    let curricula = curricula(alloc, tokens, end, ids, header.curricula)?;
-    word(tokens, end, Word::UnavailabilityPart)?;
-    let bars = bars(alloc, tokens, end, ids, header)?;
-    word(tokens, end, Word::End)?;
+    read_word(tokens, end, Word::CurriculaPart)?;
+    let curricula = read_curricula(alloc, tokens, end, ids, header.curricula)?;
+    read_word(tokens, end, Word::UnavailabilityPart)?;
+    let bars = read_bars(alloc, tokens, end, ids, header)?;
+    read_word(tokens, end, Word::End)?;
     Ok((curricula, bars))
 }
 
@@ -87,7 +87,7 @@ pub fn read_parts<'a>(alloc: Global, bytes: &'a [u8]) -> Result<Parts<'a>, Insta
 {
     let end = bytes.len();
     let mut tokens = Tokens::new(bytes);
-    word(&mut tokens, end, Word::Name)?;
+    read_word(&mut tokens, end, Word::Name)?;
     let name = read_name(alloc, &mut tokens, end)?;
     let header = read_header(&mut tokens, end)?;
     let (courses, rooms) = read_places(alloc, &mut tokens, end, header)?;

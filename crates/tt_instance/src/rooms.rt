@@ -6,15 +6,15 @@ ghost use Rattle.tt_instance.specs.Indexed.{IsRoomsIndexed};
 ghost use Rattle.tt_instance.specs.Seen.{rooms_seen};
 
 use crate::fault::InstanceFault;
-use crate::fields::{limited, token};
+use crate::fields::{read_limited, read_token};
 use crate::names::Names;
 use crate::rows::{RoomList, RoomRow};
 use std::alloc::Global;
 use tt_text::Tokens;
 
-/// One more room behind those of the list.
+/// One more room after those of the list.
 #[tactic(auto, unfolding(crate::specs::Reading::room_at))]
-fn room<'a>(
+fn read_room<'a>(
     tokens: &mut Tokens<'a>,
     end: usize,
     list: &mut RoomList<'a>,
@@ -24,11 +24,11 @@ fn room<'a>(
         (room_at end (rooms_seen list.old.rows.items) tokens.old) }
     ensures indexed { OnOk result (IsRoomsIndexed list.new) }
 {
-    let id = token(tokens, end)?;
+    let id = read_token(tokens, end)?;
     if !list.ids.put(id.bytes)? {
         return Err(InstanceFault::Repeated(id.at));
     }
-    let capacity = limited(tokens, end, 1_000_000)?;
+    let capacity = read_limited(tokens, end, 1_000_000)?;
     list.rows.push(RoomRow {
         id: id.bytes,
         capacity,
@@ -37,7 +37,7 @@ fn room<'a>(
 }
 
 /// So many rooms.
-pub fn rooms<'a>(
+pub fn read_rooms<'a>(
     alloc: Global,
     tokens: &mut Tokens<'a>,
     end: usize,
@@ -52,7 +52,7 @@ pub fn rooms<'a>(
         ids: Names::new(alloc),
     };
     for _ in 0..count {
-        room(tokens, end, &mut list)?;
+        read_room(tokens, end, &mut list)?;
     }
     Ok(list)
 }

@@ -92,7 +92,7 @@ module _ (p : Problem) (path : List Fact) where
       ∙ ap (λ b. is_barred p path x || b)
       (any-one_more (λ h. h.holds && excludes p (path ++ f ∷ []) h.pattern x) path f
       ∙ ap (λ b. list_any (λ h. h.holds && excludes p (path ++ f ∷ []) h.pattern x) path || b) (ap (λ b. b && excludes p (path ++ f ∷ []) f.pattern x) e ∙ same f.pattern)
-      ∙ ap (λ b. b || excludes p path f.pattern x) (any-same (λ h. h.holds && excludes p (path ++ f ∷ []) h.pattern x) (λ h. h.holds && excludes p path h.pattern x) path (λ h. ap (λ b. h.holds && b) (same h.pattern))))
+      ∙ ap (λ b. b || excludes p path f.pattern x) (list_any-same (λ h. h.holds && excludes p (path ++ f ∷ []) h.pattern x) (λ h. h.holds && excludes p path h.pattern x) path (λ h. ap (λ b. h.holds && b) (same h.pattern))))
       ∙ or-assoc (is_barred p path x) (is_excluded p path x) (excludes p path f.pattern x)
     where
       same : (g : Pattern) → excludes p (path ++ f ∷ []) g x ≡ excludes p path g x
@@ -133,7 +133,7 @@ module _ (p : Problem) (path : List Fact) where
       ∙ ap (λ b. is_barred p path x || b)
       (any-one_more (λ k. k.holds && excludes p (path ++ f ∷ []) k.pattern x) path f
       ∙ absorbed (list_any (λ k. k.holds && excludes p (path ++ f ∷ []) k.pattern x) path) (f.holds && excludes p (path ++ f ∷ []) f.pattern x) (λ e. any_member (λ k. k.holds && excludes p (path ++ f ∷ []) k.pattern x) path f h e)
-      ∙ any-same (λ k. k.holds && excludes p (path ++ f ∷ []) k.pattern x) (λ k. k.holds && excludes p path k.pattern x) path (λ k. ap (λ b. k.holds && b) (excludes-same (path ++ f ∷ []) k.pattern x (λ y. is_barred-again f y h))))
+      ∙ list_any-same (λ k. k.holds && excludes p (path ++ f ∷ []) k.pattern x) (λ k. k.holds && excludes p path k.pattern x) path (λ k. ap (λ b. k.holds && b) (excludes-same (path ++ f ∷ []) k.pattern x (λ y. is_barred-again f y h))))
 
 -- ---- a fact by its parts
 

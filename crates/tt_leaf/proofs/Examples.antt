@@ -7,7 +7,7 @@ use Rattle.tt_facts.specs.declared.facts.Pattern.{Pattern}
 use Rattle.tt_facts.specs.declared.facts.Fact.{Fact}
 use Rattle.tt_facts.proofs.Examples.{first_day, yes, not_first, a_is_taught}
 use Rattle.tt_leaf.specs.Claims.{value_of}
-use Rattle.tt_leaf.specs.Leaves.{fault_of}
+use Rattle.tt_leaf.specs.Faults.{fault_of}
 use Rattle.tt_leaf.specs.declared.leaf.Bound.TheVariants.{AtLeast, Nothing}
 use Rattle.tt_leaf.specs.declared.leaf.Claim.TheVariants.{Capacity, Days, Compact, Prices, Stacked}
 use Rattle.tt_leaf.specs.declared.leaf.Leaf.TheVariants.{Empty, Many, Clique, Slots, Cost}

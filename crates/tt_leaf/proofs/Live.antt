@@ -10,7 +10,7 @@ use Rattle.tt_instance.specs.Courses.{unavailable}
 use Rattle.tt_instance.specs.declared.cell.Slot.{Slot}
 use Rattle.tt_rules.specs.Score.{IsFeasible}
 use Rattle.tt_facts.specs.Facts.{agrees, is_who, matches, Holds, Fits}
-use Rattle.tt_facts.specs.Live.{clash, is_barred, excludes, is_dead, is_live, live_period, live_day, gives, speaks_of, pinned, pinned_room}
+use Rattle.tt_facts.specs.Live.{clash, is_barred, excludes, is_dead, is_live, live_period, live_day, gives, is_pinned_by, pinned, pinned_room}
 use Rattle.tt_instance.specs.declared.cell.Cell.{Cell}
 use Rattle.tt_facts.specs.declared.facts.Who.{Who}
 use Rattle.tt_facts.specs.declared.facts.Who.TheVariants.{Course, Curriculum}
@@ -98,12 +98,12 @@ module _ (p : Problem) (t : List Cell) (ok : IsFeasible p t) (path : List Fact) 
   -- an entry stands in each pinned period
   pub pinned_entry : (who : Who) (s : Slot) → pinned p path who s ≡ true → (x : Cell) × Contains t x × (is_who p who x.course ≡ true) × (is_at s x ≡ true)
   pinned_entry who s e =
-      let test = λ (f : Fact). f.holds && speaks_of p who f.pattern.who && gives f.pattern.day s.day && gives f.pattern.period s.period in
+      let test = λ (f : Fact). f.holds && is_pinned_by p who f.pattern.who && gives f.pattern.day s.day && gives f.pattern.period s.period in
       let w = member_from_any test path e in
       let f = w.0 in
-      let a = and_parts (f.holds && speaks_of p who f.pattern.who && gives f.pattern.day s.day) (gives f.pattern.period s.period) w.2 in
-      let b = and_parts (f.holds && speaks_of p who f.pattern.who) (gives f.pattern.day s.day) a.0 in
-      let c = and_parts f.holds (speaks_of p who f.pattern.who) b.0 in
+      let a = and_parts (f.holds && is_pinned_by p who f.pattern.who && gives f.pattern.day s.day) (gives f.pattern.period s.period) w.2 in
+      let b = and_parts (f.holds && is_pinned_by p who f.pattern.who) (gives f.pattern.day s.day) a.0 in
+      let c = and_parts f.holds (is_pinned_by p who f.pattern.who) b.0 in
       let m = matched f w.1 c.0 in
       let x = m.0 in
       let g = Matches-from p f.pattern x m.2 in (
@@ -118,11 +118,11 @@ module _ (p : Problem) (t : List Cell) (ok : IsFeasible p t) (path : List Fact) 
   -- and one in each pinned room
   pub pinned_room_entry : (c r : ℕ) → pinned_room p path c r ≡ true → (x : Cell) × Contains t x × (is_of c x ≡ true) × (is_in r x ≡ true)
   pinned_room_entry c r e =
-      let test = λ (f : Fact). f.holds && speaks_of p (Course c) f.pattern.who && gives f.pattern.room r in
+      let test = λ (f : Fact). f.holds && is_pinned_by p (Course c) f.pattern.who && gives f.pattern.room r in
       let w = member_from_any test path e in
       let f = w.0 in
-      let b = and_parts (f.holds && speaks_of p (Course c) f.pattern.who) (gives f.pattern.room r) w.2 in
-      let a = and_parts f.holds (speaks_of p (Course c) f.pattern.who) b.0 in
+      let b = and_parts (f.holds && is_pinned_by p (Course c) f.pattern.who) (gives f.pattern.room r) w.2 in
+      let a = and_parts f.holds (is_pinned_by p (Course c) f.pattern.who) b.0 in
       let m = matched f w.1 a.0 in
       let x = m.0 in
       let g = Matches-from p f.pattern x m.2 in

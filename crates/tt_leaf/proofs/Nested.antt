@@ -48,7 +48,7 @@ each_slot_in p some = recursion_from_All (λ s. s.period < p.periods) (all_slots
     let below : k % p.periods < p.periods = omega arith in
     subst (λ (s : Slot). s.period < p.periods) e below)
 
--- a period beside it on its day is before it or behind it
+-- a period beside it on its day is before it or after it
 beside : (p : Problem) (t : Slot → Bool) (s : Slot) → s.day < p.days → s.period < p.periods → list_any (λ n. next_to n s && t n) (all_slots p) ≡ ((nat_lt 0 s.period && t (slot s.day (s.period - 1))) || (nat_lt (s.period + 1) p.periods && t (slot s.day (s.period + 1))))
 beside p t s day period = same_tests (list_any (λ n. next_to n s && t n) (all_slots p)) (left || right) there back
   where

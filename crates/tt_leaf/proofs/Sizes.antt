@@ -8,7 +8,7 @@ use Rattle.std.proofs.lemmas.List.Elements.{recursion_from_All, All-weaker}
 use Rattle.std.proofs.lemmas.List.FromFn.{length-range_with_len}
 use Rattle.std.proofs.lemmas.List.Sums.{count_by-le-length}
 use Rattle.std.proofs.lemmas.Bool.{cases_lt, le-ltb, lt-leb, cond-true, cond-false, cases_Bool}
-use Rattle.tt_lists.specs.Words.{numbers_below, each_two}
+use Rattle.tt_lists.specs.Words.{range_below, each_two}
 use Rattle.tt_lists.proofs.Sums.{each_weaker}
 use Rattle.tt_lists.proofs.Numbers.{any_below}
 use Rattle.tt_leaf.proofs.Lengths.{length-le_sum, each_append}
@@ -27,12 +27,12 @@ pub distinct-le : (n : ℕ) (ns : List ℕ) → each_two (λ a b. not (a == b)) 
 distinct-le n ns apart below =
     let one : ℕ → ℕ = λ k. cond (nat_lt k n) 1 0 in
     let each_one = each_weaker (λ k. k < n) (λ k. 1 ≤ one k) (λ k h. omega (arith, cond-true {A = ℕ} (nat_lt k n) 1 0 (lt-ltb k n h))) ns (recursion_from_All (λ k. k < n) ns below) in
-    let there : (k : ℕ) → (one k ≡ 0) ⊎ (list_any (λ m. k == m) (numbers_below n) ≡ true) = λ k. elim (cases_lt k n) [
+    let there : (k : ℕ) → (one k ≡ 0) ⊎ (list_any (λ m. k == m) (range_below n) ≡ true) = λ k. elim (cases_lt k n) [
       | inl h ↦ inr (any_below (λ m. k == m) n k h (eq-eqb k k refl))
       | inr h ↦ inl (cond-false {A = ℕ} (nat_lt k n) 1 0 (le-ltb k n h))
     ] in
-    let spread = distinct_sum (λ a b. a == b) eqb-true (λ a. eq-eqb a a refl) one ns (numbers_below n) apart (λ y m. there y) in
-    omega (arith, length-le_sum one ns each_one, spread, count_by-le-length (λ k. nat_lt k n) (numbers_below n), length-range_with_len 0 n)
+    let spread = distinct_sum (λ a b. a == b) eqb-true (λ a. eq-eqb a a refl) one ns (range_below n) apart (λ y m. there y) in
+    omega (arith, length-le_sum one ns each_one, spread, count_by-le-length (λ k. nat_lt k n) (range_below n), length-range_with_len 0 n)
 
 -- no more prices than numbers
 pub few_prices : (n : ℕ) (prices : List (ℕ × ℕ)) → ArePrices n prices → length prices ≤ n

@@ -7,7 +7,7 @@ use Rattle.std.proofs.lemmas.List.FromFn.{length-range_with_len}
 use Rattle.std.proofs.lemmas.List.Sums.{sum_by-append}
 use Rattle.std.proofs.lemmas.List.Folds.{list_any-append}
 use Rattle.std.proofs.lemmas.Bool.{not-true, both_ways, cases_lt, or_left, or_right, cond-true, and_parts}
-use Rattle.tt_lists.specs.Words.{has, numbers_below, each_two}
+use Rattle.tt_lists.specs.Words.{has_number, range_below, each_two}
 use Rattle.tt_instance.specs.Problem.{Problem}
 use Rattle.tt_instance.specs.Courses.{no_course, no_curriculum, in_curriculum, excess}
 use Rattle.tt_instance.specs.Cells.{all_courses, all_curricula, all_rooms, is_of, is_in}
@@ -102,9 +102,9 @@ same_target-itself (Compactness a) = eq-eqb a a refl
 same_target-itself (Stability a) = eq-eqb a a refl
 
 -- a number below the bound has a target of its kind
-there_below : (kind : ℕ → Target) → ((i : ℕ) → same_target (kind i) (kind i) ≡ true) → (i n : ℕ) → i < n → list_any (same_target (kind i)) (map kind (numbers_below n)) ≡ true
+there_below : (kind : ℕ → Target) → ((i : ℕ) → same_target (kind i) (kind i) ≡ true) → (i n : ℕ) → i < n → list_any (same_target (kind i)) (map kind (range_below n)) ≡ true
 there_below kind itself i n h =
-    rw (list_any-of_map (same_target (kind i)) kind (numbers_below n)) (any_below (λ k. same_target (kind i) (kind k)) n i h (itself i))
+    rw (list_any-of_map (same_target (kind i)) kind (range_below n)) (any_below (λ k. same_target (kind i) (kind k)) n i h (itself i))
 
 in_first : (test : Target → Bool) (xs ys : List Target) → list_any test xs ≡ true → list_any test (xs ++ ys) ≡ true
 in_first test xs ys e = rw (list_any-append test xs ys) (or_left (list_any test xs) (list_any test ys) e)
@@ -192,7 +192,7 @@ module _ (p : Problem) where
     target_there (Compactness q) = elim (cases_lt q (length p.curricula)) [
       | inl h ↦ inr (compactness_there q h)
       | inr h ↦ inl (let k = none_counted (λ e. in_curriculum p q e.course && is_isolated p t q e) t (λ x m e.
-          both_ways (in_curriculum p q x.course) (ap (λ k. has k.members x.course) (get_or_past p.curricula q no_curriculum h)) (and_parts (in_curriculum p q x.course) (is_isolated p t q x) e).0) in
+          both_ways (in_curriculum p q x.course) (ap (λ k. has_number k.members x.course) (get_or_past p.curricula q no_curriculum h)) (and_parts (in_curriculum p q x.course) (is_isolated p t q x) e).0) in
           omega arith)
     ]
     target_there (Stability c) = elim (cases_lt c (length p.courses)) [

@@ -1,7 +1,7 @@
 -- What the claims of a cost leaf are worth, and the parts of the cost that they claim.
 use Rattle.std.specs.Prelude.{ℕ, ◌+◌, ◌-◌, ◌*◌, min, ◌==◌, nat_le, Bool, true, false, not, ◌&&◌, ◌||◌, List, [], ◌∷◌, map, flat_map, Option, Some, None, sum_by, count_by, if◌then◌else◌}
 use Rattle.std.specs.List.{list_any, list_all}
-use Rattle.tt_lists.specs.Words.{numbers_below}
+use Rattle.tt_lists.specs.Words.{range_below}
 use Rattle.tt_instance.specs.Problem.{Problem}
 use Rattle.tt_instance.specs.Cells.{slot, cell, next_to, is_of, all_rooms, all_days, all_slots}
 use Rattle.tt_instance.specs.Courses.{lectures, min_days, members, excess}
@@ -76,7 +76,7 @@ open_in p path courses r = count_by (λ s. list_any (λ k. is_live p path (cell 
 
 -- the day has a pinned period of the course
 abbrev pub pinned_day : Problem → List Fact → ℕ → ℕ → Bool
-pinned_day p path c d = list_any (λ s. pinned p path (Course c) (slot d s)) (numbers_below p.periods)
+pinned_day p path c d = list_any (λ s. pinned p path (Course c) (slot d s)) (range_below p.periods)
 
 abbrev pub value_of : Problem → List Fact → Claim → ℕ
 value_of p path (Capacity c u) =

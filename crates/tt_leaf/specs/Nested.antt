@@ -77,7 +77,7 @@ discounts p path c u = sum_by (λ s. discount u (least_excess p path c s)) (all_
 abbrev pub live_before : Problem → List Fact → List ℕ → Slot → Bool
 live_before p path cs s = nat_lt 0 s.period && live_for p path cs (slot s.day (s.period - 1))
 
--- the period behind it is
+-- the period after it is
 abbrev pub live_after : Problem → List Fact → List ℕ → Slot → Bool
 live_after p path cs s =
     nat_lt (s.period + 1) p.periods && live_for p path cs (slot s.day (s.period + 1))

@@ -4,32 +4,32 @@ use Rattle.std.specs.List.{list_any, list_all}
 use Rattle.std.proofs.lemmas.Bool.{and_from, or_from}
 use Rattle.std.proofs.lemmas.List.Folds.{list_all-append, list_any-append, list_all_at}
 use Rattle.std.proofs.lemmas.List.FromFn.{map-range_with_len_more, get_or-range_with_len, length-range_with_len}
-use Rattle.tt_lists.specs.Words.{numbers_below}
+use Rattle.tt_lists.specs.Words.{range_below}
 use Rattle.tt_lists.proofs.Numbers.{any_below}
 
-pub numbers_below_more : (i : ℕ) → numbers_below (i + 1) ≡ numbers_below i ++ i ∷ []
-numbers_below_more i =
+pub range_below_more : (i : ℕ) → range_below (i + 1) ≡ range_below i ++ i ∷ []
+range_below_more i =
     let z : 0 + i ≡ i = omega arith in
-    sym (map-id (numbers_below (i + 1))) ∙ map-range_with_len_more (λ k. k) 0 i i z ∙ ap (λ l. l ++ i ∷ []) (map-id (numbers_below i))
+    sym (map-id (range_below (i + 1))) ∙ map-range_with_len_more (λ k. k) 0 i i z ∙ ap (λ l. l ++ i ∷ []) (map-id (range_below i))
 
-pub all_more : (p : ℕ → Bool) (i : ℕ) → list_all p (numbers_below i) ≡ true → p i ≡ true → list_all p (numbers_below (i + 1)) ≡ true
+pub all_more : (p : ℕ → Bool) (i : ℕ) → list_all p (range_below i) ≡ true → p i ≡ true → list_all p (range_below (i + 1)) ≡ true
 all_more p i e h =
-    ap (list_all p) (numbers_below_more i) ∙ list_all-append p (numbers_below i) (i ∷ [])
-    ∙ and_from (list_all p (numbers_below i)) (p i && true) e (and_from (p i) true h refl)
+    ap (list_all p) (range_below_more i) ∙ list_all-append p (range_below i) (i ∷ [])
+    ∙ and_from (list_all p (range_below i)) (p i && true) e (and_from (p i) true h refl)
 
 -- one number that fails settles the answer
-pub all_stops : (p : ℕ → Bool) (n i : ℕ) → i < n → false ≡ p i → false ≡ list_all p (numbers_below n)
+pub all_stops : (p : ℕ → Bool) (n i : ℕ) → i < n → false ≡ p i → false ≡ list_all p (range_below n)
 all_stops p n i h e =
-    sym (list_all_at p (numbers_below n) i 0 (rw (length-range_with_len 0 n) h)
+    sym (list_all_at p (range_below n) i 0 (rw (length-range_with_len 0 n) h)
     (rw (get_or-range_with_len 0 n i 0 h) (let z : 0 + i ≡ i = omega arith in rw z (sym e))))
 
-pub any_stops : (p : ℕ → Bool) (n i : ℕ) → i < n → true ≡ p i → true ≡ list_any p (numbers_below n)
+pub any_stops : (p : ℕ → Bool) (n i : ℕ) → i < n → true ≡ p i → true ≡ list_any p (range_below n)
 any_stops p n i h e = sym (any_below p n i h (sym e))
 
-pub any_more : (p : ℕ → Bool) (i : ℕ) → list_any p (numbers_below i) ≡ false → p i ≡ false → list_any p (numbers_below (i + 1)) ≡ false
+pub any_more : (p : ℕ → Bool) (i : ℕ) → list_any p (range_below i) ≡ false → p i ≡ false → list_any p (range_below (i + 1)) ≡ false
 any_more p i e h =
-    ap (list_any p) (numbers_below_more i) ∙ list_any-append p (numbers_below i) (i ∷ [])
-    ∙ or_from (list_any p (numbers_below i)) (p i || false) e (or_from (p i) false h refl)
+    ap (list_any p) (range_below_more i) ∙ list_any-append p (range_below i) (i ∷ [])
+    ∙ or_from (list_any p (range_below i)) (p i || false) e (or_from (p i) false h refl)
 
 -- a test that each passes
 pub all_pass : {X : Type 0} (p : X → Bool) (xs : List X) → ((x : X) → p x ≡ true) → list_all p xs ≡ true

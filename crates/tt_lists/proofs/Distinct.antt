@@ -92,7 +92,7 @@ module _ {X : Type 0} (same : X → X → Bool) where
 
   -- ---- where each element stands once, all stay
 
-  -- where no two are the same, an element is new behind those before it
+  -- where no two are the same, an element is new after those before it
   is_new : (before : List X) (x : X) (xs : List X) → each_two differ (before ++ x ∷ xs) ≡ true → list_any (λ y. same y x) before ≡ false
   is_new [] x xs e = refl
   is_new (y ∷ ys) x xs e =

@@ -4,7 +4,7 @@ use Rattle.std.specs.Prelude.{◌==◌, sum_by, count_by, All}
 use Rattle.std.specs.List.{list_any}
 use Rattle.std.proofs.lemmas.Bool.{cases_eq, cases_Bool, both_ways}
 use Rattle.std.proofs.lemmas.List.Elements.{All-head, All-tail}
-use Rattle.tt_lists.specs.Words.{numbers_below}
+use Rattle.tt_lists.specs.Words.{range_below}
 use Rattle.tt_lists.proofs.Numbers.{sum_more}
 use Rattle.tt_lists.proofs.Sums.{one_if, count_if_any, any_if_count}
 
@@ -47,20 +47,20 @@ first_and_others p xs = elim (cases_Bool (list_any p xs)) [
 -- ---- sums over numbers
 
 -- terms that agree below a bound
-pub sum_by-same_below : (f g : ℕ → ℕ) (n : ℕ) → ((k : ℕ) → k < n → f k ≡ g k) → sum_by f (numbers_below n) ≡ sum_by g (numbers_below n)
+pub sum_by-same_below : (f g : ℕ → ℕ) (n : ℕ) → ((k : ℕ) → k < n → f k ≡ g k) → sum_by f (range_below n) ≡ sum_by g (range_below n)
 sum_by-same_below f g zero h = refl
 sum_by-same_below f g (suc n) h =
     let e : suc n ≡ n + 1 = omega arith in
-    let a : sum_by f (numbers_below (suc n)) ≡ sum_by f (numbers_below n) + f n = ap (λ i. sum_by f (numbers_below i)) e ∙ sum_more f n in
-    let b : sum_by g (numbers_below (suc n)) ≡ sum_by g (numbers_below n) + g n = ap (λ i. sum_by g (numbers_below i)) e ∙ sum_more g n in
+    let a : sum_by f (range_below (suc n)) ≡ sum_by f (range_below n) + f n = ap (λ i. sum_by f (range_below i)) e ∙ sum_more f n in
+    let b : sum_by g (range_below (suc n)) ≡ sum_by g (range_below n) + g n = ap (λ i. sum_by g (range_below i)) e ∙ sum_more g n in
     omega (arith, a, b, h n (omega arith), sum_by-same_below f g n (λ k l. h k (omega arith)))
 
 -- a sum over more numbers is that over the first and that over the others
-pub sum_further : (f : ℕ → ℕ) (a n : ℕ) → sum_by f (numbers_below (a + n)) ≡ sum_by f (numbers_below a) + sum_by (λ s. f (a + s)) (numbers_below n)
+pub sum_further : (f : ℕ → ℕ) (a n : ℕ) → sum_by f (range_below (a + n)) ≡ sum_by f (range_below a) + sum_by (λ s. f (a + s)) (range_below n)
 sum_further f a zero = let e : a + 0 ≡ a = omega arith in rw e (omega arith)
 sum_further f a (suc n) =
     let e : a + suc n ≡ (a + n) + 1 = omega arith in
     let g : suc n ≡ n + 1 = omega arith in
-    let whole : sum_by f (numbers_below (a + suc n)) ≡ sum_by f (numbers_below (a + n)) + f (a + n) = ap (λ i. sum_by f (numbers_below i)) e ∙ sum_more f (a + n) in
-    let rest : sum_by (λ s. f (a + s)) (numbers_below (suc n)) ≡ sum_by (λ s. f (a + s)) (numbers_below n) + f (a + n) = ap (λ i. sum_by (λ s. f (a + s)) (numbers_below i)) g ∙ sum_more (λ s. f (a + s)) n in
+    let whole : sum_by f (range_below (a + suc n)) ≡ sum_by f (range_below (a + n)) + f (a + n) = ap (λ i. sum_by f (range_below i)) e ∙ sum_more f (a + n) in
+    let rest : sum_by (λ s. f (a + s)) (range_below (suc n)) ≡ sum_by (λ s. f (a + s)) (range_below n) + f (a + n) = ap (λ i. sum_by (λ s. f (a + s)) (range_below i)) g ∙ sum_more (λ s. f (a + s)) n in
     omega (arith, whole, rest, sum_further f a n)

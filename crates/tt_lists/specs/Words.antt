@@ -3,12 +3,12 @@ use Rattle.std.specs.Prelude.{ℕ, ◌+◌, ◌==◌, Bool, true, ◌&&◌, List
 use Rattle.std.specs.List.{range_with_len, list_all, list_any}
 
 -- 0, 1 and so on, n numbers
-abbrev pub numbers_below : ℕ → List ℕ
-numbers_below n = range_with_len 0 n
+abbrev pub range_below : ℕ → List ℕ
+range_below n = range_with_len 0 n
 
 -- the list has the number
-abbrev pub has : List ℕ → ℕ → Bool
-has ns n = list_any (λ m. m == n) ns
+abbrev pub has_number : List ℕ → ℕ → Bool
+has_number ns n = list_any (λ m. m == n) ns
 
 -- each element is related to each later one
 abbrev pub each_two : {X : Type 0} → (X → X → Bool) → List X → Bool

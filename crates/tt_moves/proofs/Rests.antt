@@ -3,7 +3,7 @@ use Rattle.std.proofs.Common.{◌≡◌, ℕ, ◌+◌, ◌-◌, ◌≤◌, ◌<�
 use Rattle.std.specs.Prelude.{◌==◌, nat_lt, count_by}
 use Rattle.std.specs.List.{list_any}
 use Rattle.std.proofs.lemmas.Bool.Decides.{nat_tests}
-use Rattle.tt_lists.specs.Words.{numbers_below}
+use Rattle.tt_lists.specs.Words.{range_below}
 use Rattle.tt_lists.proofs.Sums.{one_if, count_by-cons, sum_by-same}
 use Rattle.tt_lists.proofs.Tests.{same_test}
 use Rattle.tt_instance.specs.Cells.{slot_of, is_of, is_at}
@@ -57,11 +57,11 @@ module _ (r : Rest) (u : List Cell) (ok : IsRest r u) where
 
     -- the places with an entry of a course
     abbrev pub used : List Cell → ℕ → ℕ
-    used t c = count_by (λ k. list_any (λ e. is_of c e && (place e == k)) t) (numbers_below n)
+    used t c = count_by (λ k. list_any (λ e. is_of c e && (place e == k)) t) (range_below n)
 
     used_same : used (r.gone ∷ u) r.gone.course ≡ used entries r.gone.course
     used_same =
-        sum_by-same (λ k. one_if (list_any (λ e. is_of r.gone.course e && (place e == k)) (r.gone ∷ u))) (λ k. one_if (list_any (λ e. is_of r.gone.course e && (place e == k)) entries)) (numbers_below n)
+        sum_by-same (λ k. one_if (list_any (λ e. is_of r.gone.course e && (place e == k)) (r.gone ∷ u))) (λ k. one_if (list_any (λ e. is_of r.gone.course e && (place e == k)) entries)) (range_below n)
         (λ k. ap one_if (own_any (λ e. place e == k)))
 
     -- the places with an entry e of the course

@@ -8,7 +8,7 @@ use Rattle.std.proofs.lemmas.List.Elements.{All-cons, All-head, All-set}
 use Rattle.std.proofs.lemmas.List.Edits.{get_or-remove_below, get_or-remove_above, length-remove}
 use Rattle.std.proofs.lemmas.Bool.{cases_lt}
 use Rattle.std.proofs.lemmas.Option.{get_or_from_slice_get}
-use Rattle.tt_lists.specs.Words.{numbers_below}
+use Rattle.tt_lists.specs.Words.{range_below}
 use Rattle.tt_lists.proofs.Sums.{one_if, sum_by-same}
 use Rattle.tt_instance.specs.Problem.{Problem}
 use Rattle.tt_instance.specs.Cells.{InRange, is_of, is_in, is_at, slot}
@@ -44,7 +44,7 @@ module _ (p : Problem) (s t : List Cell) (same : SameBag s t) where
     places = ok.places;
     counts = λ c k a b. ok.counts c k a b ∙ same (λ e. one_if (is_of c e && (place e == k)));
     used = λ c a.
-        ok.used c a ∙ sum_by-same (λ k. one_if (list_any (λ e. is_of c e && (place e == k)) s)) (λ k. one_if (list_any (λ e. is_of c e && (place e == k)) t)) (numbers_below n)
+        ok.used c a ∙ sum_by-same (λ k. one_if (list_any (λ e. is_of c e && (place e == k)) s)) (λ k. one_if (list_any (λ e. is_of c e && (place e == k)) t)) (range_below n)
         (λ k. ap one_if (bag_any (λ e. is_of c e && (place e == k)) s t same));
   }
 
@@ -57,7 +57,7 @@ module _ (p : Problem) (s t : List Cell) (same : SameBag s t) where
     curricula = tally_same (length p.curricula) (of_curriculum p) x.curricula ok.curricula;
     opponents = tally_same (length p.courses) (opposes p) x.opponents ok.opponents;
     days = spread_same p.days (λ e. e.day) x.days ok.days;
-    halls = spread_same (length p.rooms) (λ e. e.room) x.halls ok.halls;
+    course_rooms = spread_same (length p.rooms) (λ e. e.room) x.course_rooms ok.course_rooms;
   }
 
   pub score_same : (x : Score) → IsScore p s x → IsScore p t x

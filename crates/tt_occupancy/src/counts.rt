@@ -108,7 +108,7 @@ impl<'a, 'i> Occupied<'a, 'i> {
         ensures count { result ≡ count_by (λ e. is_of course e && is_in room e) self.now.entries }
         ensures few { result ≤ 16384 }
     {
-        u32::from(self.tables.halls.get(course, room))
+        u32::from(self.tables.course_rooms.get(course, room))
     }
 
     /// The days on which a course is taught.
@@ -126,6 +126,6 @@ impl<'a, 'i> Occupied<'a, 'i> {
         ensures count { result ≡ rooms_of self.now.problem self.now.entries course }
         ensures few { result ≤ 512 }
     {
-        u32::from(self.tables.halls.used(course))
+        u32::from(self.tables.course_rooms.used(course))
     }
 }

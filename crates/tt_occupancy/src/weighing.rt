@@ -40,8 +40,8 @@ fn rooms_with(instance: &Instance<'_>, tables: &Tables, entry: Entry) -> u64
     ensures { (t : List Cell) → AreTables instance.now t tables.now
         → result ≡ stability_cost instance.now (entry ∷ t) entry.course }
 {
-    let is_new = tables.halls.get(entry.course, entry.room) == 0;
-    let used = u64::from(tables.halls.used(entry.course)) + one_if(is_new);
+    let is_new = tables.course_rooms.get(entry.course, entry.room) == 0;
+    let used = u64::from(tables.course_rooms.used(entry.course)) + one_if(is_new);
     used.saturating_sub(1)
 }
 

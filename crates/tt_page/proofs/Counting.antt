@@ -3,7 +3,7 @@ use Rattle.std.proofs.Common.{◌≡◌, ℕ, Bool, true, false, ◌&&◌, ◌||
 use Rattle.std.specs.Prelude.{◌==◌, filter, count_by, sum_by}
 use Rattle.std.specs.List.{list_any}
 use Rattle.tt_rules.proofs.Filtered.{list_any-filter, count_by-filter}
-use Rattle.tt_lists.specs.Words.{numbers_below}
+use Rattle.tt_lists.specs.Words.{range_below}
 use Rattle.tt_lists.proofs.Tests.{same_test}
 use Rattle.tt_lists.proofs.Sums.{one_if, sum_by-same, sum_by-of_map, sum_by-of_flat_map}
 use Rattle.tt_instance.specs.Problem.{Problem}
@@ -22,14 +22,14 @@ turned a b = same_test a b b a sym sym
 
 module _ {X : Type 0} where
   pub count-turned : (p q : X → Bool) (xs : List X) → count_by (λ x. p x && q x) xs ≡ count_by (λ x. q x && p x) xs
-  count-turned p q xs = sum_by-same (λ x. one_if (p x && q x)) (λ x. one_if (q x && p x)) xs (λ x. ap one_if (and_turned (p x) (q x)))
+  count-turned p q xs = sum_by-same (λ x. one_if (p x && q x)) (λ x. one_if (q x && p x)) xs (λ x. ap one_if (and_comm (p x) (q x)))
 
   pub list_any-same : (p q : X → Bool) (xs : List X) → ((x : X) → p x ≡ q x) → list_any p xs ≡ list_any q xs
   list_any-same p q [] same = refl
   list_any-same p q (x ∷ xs) same = ap (λ b. b || list_any p xs) (same x) ∙ ap (λ b. q x || b) (list_any-same p q xs same)
 
   pub list_any-turned : (p q : X → Bool) (xs : List X) → list_any (λ x. p x && q x) xs ≡ list_any (λ x. q x && p x) xs
-  list_any-turned p q xs = list_any-same (λ x. p x && q x) (λ x. q x && p x) xs (λ x. and_turned (p x) (q x))
+  list_any-turned p q xs = list_any-same (λ x. p x && q x) (λ x. q x && p x) xs (λ x. and_comm (p x) (q x))
 
   -- what passes two tests
   pub filter-filter : (p q r : X → Bool) (xs : List X) → ((x : X) → (q x && p x) ≡ r x) → filter p (filter q xs) ≡ filter r xs
@@ -44,7 +44,7 @@ module _ {X : Type 0} where
       step false b e = refl
 
 -- the periods of the week, day by day
-pub slots_by_day : (p : Problem) (q : Slot → Bool) → count_by q (all_slots p) ≡ sum_by (λ d. count_by (λ s. q (slot d s)) (numbers_below p.periods)) (all_days p)
+pub slots_by_day : (p : Problem) (q : Slot → Bool) → count_by q (all_slots p) ≡ sum_by (λ d. count_by (λ s. q (slot d s)) (range_below p.periods)) (all_days p)
 slots_by_day p q =
     sum_by-of_flat_map (λ s. one_if (q s)) (λ d. map (slot d) (numbers_below p.periods)) (all_days p)
     ∙ sum_by-same (λ d. sum_by (λ s. one_if (q s)) (map (slot d) (numbers_below p.periods))) (λ d. sum_by (λ s. one_if (q (slot d s))) (numbers_below p.periods)) (all_days p)

@@ -14,8 +14,8 @@ use Rattle.tt_page.specs.Kinds.{teacher_of}
 use Rattle.tt_page.specs.Grids.{own_courses}
 use Rattle.tt_page.specs.declared.kind.Kind.{Kind}
 use Rattle.tt_page.specs.declared.kind.Kind.TheVariants.{Room, Teacher, Curriculum}
-use Rattle.tt_lists.specs.Words.{numbers_below}
-use Rattle.tt_lists.proofs.Below.{numbers_below_more}
+use Rattle.tt_lists.specs.Words.{range_below}
+use Rattle.tt_lists.proofs.Below.{range_below_more}
 
 one_more : {X : Type 0} (f : X → List ℕ) (xs : List X) (i : ℕ) (d : X) → i < length xs → flat_map f (take (i + 1) xs) ≡ flat_map f (take i xs) ++ f (get_or xs i d)
 one_more f xs i d h =
@@ -65,19 +65,19 @@ module _ {X : Type 0} (p : X → Bool) where
 
 -- ---- numbers that pass a test
 
-pub number_kept : (p : ℕ → Bool) (i : ℕ) (old new : List ℕ) → p i ≡ true → old ≡ filter p (numbers_below i) → new ≡ old ++ i ∷ [] → new ≡ filter p (numbers_below (i + 1))
+pub number_kept : (p : ℕ → Bool) (i : ℕ) (old new : List ℕ) → p i ≡ true → old ≡ filter p (range_below i) → new ≡ old ++ i ∷ [] → new ≡ filter p (range_below (i + 1))
 number_kept p i old new pass before more =
-    more ∙ ap (λ z. z ++ i ∷ []) before ∙ ap (λ z. filter p (numbers_below i) ++ z) (sym (kept p i [] pass))
-    ∙ sym (filter-append p (numbers_below i) (i ∷ [])) ∙ ap (filter p) (sym (numbers_below_more i))
+    more ∙ ap (λ z. z ++ i ∷ []) before ∙ ap (λ z. filter p (range_below i) ++ z) (sym (kept p i [] pass))
+    ∙ sym (filter-append p (range_below i) (i ∷ [])) ∙ ap (filter p) (sym (range_below_more i))
 
-pub number_left_out : (p : ℕ → Bool) (i : ℕ) (old : List ℕ) → p i ≡ false → old ≡ filter p (numbers_below i) → old ≡ filter p (numbers_below (i + 1))
+pub number_left_out : (p : ℕ → Bool) (i : ℕ) (old : List ℕ) → p i ≡ false → old ≡ filter p (range_below i) → old ≡ filter p (range_below (i + 1))
 number_left_out p i old fail before =
-    before ∙ sym (append-nil (filter p (numbers_below i))) ∙ ap (λ z. filter p (numbers_below i) ++ z) (sym (left_out p i [] fail))
-    ∙ sym (filter-append p (numbers_below i) (i ∷ [])) ∙ ap (filter p) (sym (numbers_below_more i))
+    before ∙ sym (append-nil (filter p (range_below i))) ∙ ap (λ z. filter p (range_below i) ++ z) (sym (left_out p i [] fail))
+    ∙ sym (filter-append p (range_below i) (i ∷ [])) ∙ ap (filter p) (sym (range_below_more i))
 
--- ---- texts put one behind the other
+-- ---- texts put one after the other
 
--- what is put behind what was put
+-- what is put after what was put
 pub then_more : (first a b x y : List ℕ) → a ≡ first ++ x → b ≡ a ++ y → b ≡ first ++ (x ++ y)
 then_more first a b x y h k = k ∙ ap (λ z. z ++ y) h ∙ append_assoc first x y
 
@@ -88,7 +88,7 @@ own_courses_there p Room n = All-nil (λ c. c < length p.courses)
 own_courses_there p Curriculum n = All-nil (λ c. c < length p.courses)
 own_courses_there p Teacher k = All-filter (λ c. teacher_of p c == k) (λ c. c < length p.courses) (all_courses p) (each_number (length p.courses))
   where
-    each_number : (m : ℕ) → All (λ c. c < m) (numbers_below m)
+    each_number : (m : ℕ) → All (λ c. c < m) (range_below m)
     each_number m i d h =
         let short : i < m = rw (← length-range_with_len 0 m) h in
         let same = get_or-range_with_len 0 m i d short in

@@ -19,7 +19,7 @@ use Rattle.tt_page.proofs.Counting.{filter-filter, turned}
 by_slots : (p : Problem) (t : List Cell) → Grouped
 by_slots p t = record { by = by.Period p.periods; entries = t }
 
--- the entries behind one, of its period
+-- the entries after one, of its period
 behind_at : (p : Problem) (t group : List Cell) (i : ℕ) → i < length t → All (InRange p) t
     → IfSome (slice_get t i) (λ e. group ≡ filter (in_group (by.Period p.periods) (group_of (by.Period p.periods) e)) (drop (i + 1) t))
     → group ≡ filter (is_at (slot_of (get_or t i nobody))) (drop (i + 1) t)
@@ -48,7 +48,7 @@ later_in_range p t groups i group within is ok behind =
 pub odds_behind : (p : Problem) (r : Rule) (e : Cell) (later : List Cell) → filter (is_odd p r e) (filter (is_at (slot_of e)) later) ≡ filter (at_odds p r e) later
 odds_behind p rule.Conflicts e later =
     filter-filter (is_odd p rule.Conflicts e) (is_at (slot_of e)) (at_odds p rule.Conflicts e) later
-    (λ x. ap (λ b. (b && (x.period == e.period)) && conflict p e.course x.course) (turned x.day e.day) ∙ ap (λ b. ((e.day == x.day) && b) && conflict p e.course x.course) (turned x.period e.period))
+    (λ x. ap (λ b. (b && (x.period == e.period)) && conflict p e.course x.course) (test_turned x.day e.day) ∙ ap (λ b. ((e.day == x.day) && b) && conflict p e.course x.course) (test_turned x.period e.period))
 odds_behind p rule.Lectures e later = filter-filter (is_odd p rule.Lectures e) (is_at (slot_of e)) (at_odds p rule.Lectures e) later (λ x. refl)
 odds_behind p rule.Availability e later = filter-filter (is_odd p rule.Availability e) (is_at (slot_of e)) (at_odds p rule.Availability e) later (λ x. refl)
 odds_behind p rule.RoomOccupancy e later = filter-filter (is_odd p rule.RoomOccupancy e) (is_at (slot_of e)) (at_odds p rule.RoomOccupancy e) later (λ x. refl)
@@ -66,7 +66,7 @@ item_further p r t i d first old new within before more =
     ∙ ap (λ es. old ++ entry_items p r es) (sym (drop_more t i d within))
     ∙ before
 
--- behind the last entry there is nothing more
+-- after the last entry there is nothing more
 pub items_done : (p : Problem) (r : Rule) (t : List Cell) (i : ℕ) (first old : List ℕ) → length t ≤ i → old ++ entry_items p r (drop i t) ≡ first ++ entry_items p r t → old ≡ first ++ entry_items p r t
 unfolding entry_items
 items_done p r t i first old past before = sym (append-nil old) ∙ ap (λ es. old ++ entry_items p r es) (sym (drop_all i t past)) ∙ before

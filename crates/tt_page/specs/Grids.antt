@@ -1,6 +1,6 @@
 -- The grids of a page: one for each room, teacher and curriculum, with a column for each day and a row for each period of a day.
 use Rattle.std.specs.Prelude.{ℕ, ◌==◌, List, [], ◌∷◌, ◌++◌, filter, flat_map, codes, if◌then◌else◌}
-use Rattle.tt_lists.specs.Words.{numbers_below}
+use Rattle.tt_lists.specs.Words.{range_below}
 use Rattle.tt_text.specs.Pieces.{Text, Number}
 use Rattle.tt_instance.specs.Problem.{Problem}
 use Rattle.tt_instance.specs.Cells.{all_courses, all_days, slot, is_at}
@@ -63,7 +63,7 @@ unfoldable pub grid_text : Problem → List Cell → Kind → ℕ → List ℕ
 grid_text p t kind n =
     grid_head p kind n ++ seats_text p kind n
     ++ codes "</caption>\n<thead>\n<tr>\n<th scope=\"col\">Period</th>\n" ++ flat_map day_head (all_days p)
-    ++ codes "</tr>\n</thead>\n<tbody>\n" ++ flat_map (row_text p t kind n (own_courses p kind n)) (numbers_below p.periods)
+    ++ codes "</tr>\n</thead>\n<tbody>\n" ++ flat_map (row_text p t kind n (own_courses p kind n)) (range_below p.periods)
     ++ codes "</tbody>\n</table>\n</div>\n"
 
 -- ---- a section
@@ -79,6 +79,6 @@ section_head p kind = markup (
 
 unfoldable pub section_text : Problem → List Cell → Kind → List ℕ
 section_text p t kind =
-    section_head p kind ++ flat_map (index_item p kind) (numbers_below (count_of p kind))
-    ++ codes "</ul>\n<div class=\"grids\">\n" ++ flat_map (grid_text p t kind) (numbers_below (count_of p kind))
+    section_head p kind ++ flat_map (index_item p kind) (range_below (count_of p kind))
+    ++ codes "</ul>\n<div class=\"grids\">\n" ++ flat_map (grid_text p t kind) (range_below (count_of p kind))
     ++ codes "</div>\n</details>\n"

@@ -12,7 +12,7 @@ use Rattle.tt_page.specs.Markup.{markup}
 unfoldable pub next_shown : List ℕ → List ℕ
 next_shown token = 32 ∷ shown token
 
--- the name of the instance, each of its tokens behind a space
+-- the name of the instance, each of its tokens after a space
 unfoldable pub name_text : Problem → List ℕ
 name_text p = flat_map next_shown p.name
 

@@ -109,7 +109,7 @@ odds_item p r e (x ∷ xs) = item_head (odds_count r (length xs + 1)) ++ pair_te
 unfoldable pub pairs_item : Problem → Rule → Cell → List Cell → List ℕ
 pairs_item p r e later = odds_item p r e (filter (at_odds p r e) later)
 
--- an entry, by those behind it
+-- an entry, by those after it
 unfoldable pub entry_item : Problem → Rule → Cell → List Cell → List ℕ
 entry_item p rule.Availability e later = unavailable_item p e
 entry_item p rule.RoomCapacity e later = seats_item p e

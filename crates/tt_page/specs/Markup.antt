@@ -1,4 +1,4 @@
--- Pieces of a page, one behind the other.
+-- Pieces of a page, one after the other.
 use Rattle.std.specs.Prelude.{ℕ, ◌==◌, List, [], ◌∷◌, flat_map, if◌then◌else◌}
 use Rattle.std.specs.Fmt.{decimal}
 use Rattle.tt_text.specs.Pieces.{Piece, Text, Number}

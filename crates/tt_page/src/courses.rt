@@ -2,7 +2,7 @@
 
 ghost use Rattle.std.specs.Prelude.{◌≡◌, ◌<◌, ◌≤◌, ◌-◌, ◌&&◌, ◌++◌, length, count_by, flat_map, OnOk};
 ghost use Rattle.std.specs.List.{list_any};
-ghost use Rattle.tt_lists.specs.Words.{numbers_below};
+ghost use Rattle.tt_lists.specs.Words.{range_below};
 ghost use Rattle.tt_instance.specs.Cells.{is_of, is_on, is_in, is_at, slot};
 ghost use Rattle.tt_instance.specs.Courses.{min_days};
 ghost use Rattle.tt_rules.specs.Hard.{entries_of, periods_of, lectures_off};
@@ -71,7 +71,7 @@ pub fn days_of(plan: &Plan<'_, '_>, course: u32) -> u64
 fn periods_on(plan: &Plan<'_, '_>, course: u32, day: u32) -> u64
     requires { course < length plan.now.problem.courses }
     ensures count { result ≡ count_by (λ s. list_any (λ e. is_of course e && is_at (slot day s) e) plan.now.table)
-        (numbers_below plan.now.problem.periods) }
+        (range_below plan.now.problem.periods) }
     ensures few { result ≤ 64 }
 {
     let mut periods: u64 = 0;
@@ -121,7 +121,7 @@ pub fn missing_days(plan: &Plan<'_, '_>, course: u32) -> u64
 #[tactic(auto, using(tt_lists::proofs::Numbers::count_more))]
 fn rooms_of(plan: &Plan<'_, '_>, course: u32) -> u64
     requires { course < length plan.now.problem.courses }
-    ensures count { result ≡ count_by (λ r. is_taught_in plan.now.table course r) (numbers_below (length plan.now.problem.rooms)) }
+    ensures count { result ≡ count_by (λ r. is_taught_in plan.now.table course r) (range_below (length plan.now.problem.rooms)) }
     ensures few { result ≤ 512 }
 {
     let mut rooms: u64 = 0;
@@ -246,7 +246,7 @@ fn put_course(out: &mut Vec<u8>, plan: &Plan<'_, '_>, course: u32) -> Result<(),
 #[tactic(auto, using(tt_report::proofs::Written::text_further))]
 fn put_rows(out: &mut Vec<u8>, plan: &Plan<'_, '_>) -> Result<(), AllocError>
     ensures { OnOk result (out.new.items ≡ out.old.items
-        ++ flat_map (course_row plan.now.problem plan.now.table) (numbers_below (length plan.now.problem.courses))) }
+        ++ flat_map (course_row plan.now.problem plan.now.table) (range_below (length plan.now.problem.courses))) }
 {
     for course in 0..plan.instance().courses() {
         put_course(out, plan, course)?;

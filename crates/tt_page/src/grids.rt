@@ -1,7 +1,7 @@
 //! The grids of a page: one for each room, teacher and curriculum.
 
 ghost use Rattle.std.specs.Prelude.{◌≡◌, ◌<◌, ◌==◌, ◌++◌, length, filter, flat_map, All, OnOk, IfOk};
-ghost use Rattle.tt_lists.specs.Words.{numbers_below};
+ghost use Rattle.tt_lists.specs.Words.{range_below};
 ghost use Rattle.tt_instance.specs.Cells.{InRange, all_courses};
 ghost use Rattle.tt_page.specs.Kinds.{count_of, belongs_to, teacher_of};
 ghost use Rattle.tt_page.specs.Lectures.{lecture_text};
@@ -170,7 +170,7 @@ fn put_cells(
     requires own { All (λ c. c < length plan.now.problem.courses) own.now }
     requires period { period < plan.now.problem.periods }
     ensures { OnOk result (out.new.items ≡ out.old.items
-        ++ flat_map (cell_text plan.now.problem plan.now.table kind number own.now period) (numbers_below plan.now.problem.days)) }
+        ++ flat_map (cell_text plan.now.problem plan.now.table kind number own.now period) (range_below plan.now.problem.days)) }
 {
     for day in 0..plan.instance().days() {
         put_cell(out, plan, kind, number, own, period, day)?;
@@ -215,7 +215,7 @@ fn put_rows(
 ) -> Result<(), AllocError>
     requires { All (λ c. c < length plan.now.problem.courses) own.now }
     ensures { OnOk result (out.new.items ≡ out.old.items
-        ++ flat_map (row_text plan.now.problem plan.now.table kind number own.now) (numbers_below plan.now.problem.periods)) }
+        ++ flat_map (row_text plan.now.problem plan.now.table kind number own.now) (range_below plan.now.problem.periods)) }
 {
     for period in 0..plan.instance().periods() {
         put_row(out, plan, kind, number, own, period)?;
@@ -276,7 +276,7 @@ fn put_seats(
 /// The heads of the columns.
 #[tactic(auto, using(tt_report::proofs::Written::text_further), unfolding(crate::specs::Grids::day_head))]
 fn put_day_heads(out: &mut Vec<u8>, instance: &Instance<'_>) -> Result<(), AllocError>
-    ensures { OnOk result (out.new.items ≡ out.old.items ++ flat_map day_head (numbers_below instance.now.days)) }
+    ensures { OnOk result (out.new.items ≡ out.old.items ++ flat_map day_head (range_below instance.now.days)) }
 {
     for day in 0..instance.days() {
         put_day_head(out, day)?;
@@ -327,7 +327,7 @@ fn put_grid(
 #[tactic(auto, using(tt_report::proofs::Written::text_further))]
 fn put_grids(out: &mut Vec<u8>, plan: &Plan<'_, '_>, kind: Kind) -> Result<(), AllocError>
     ensures { OnOk result (out.new.items ≡ out.old.items
-        ++ flat_map (grid_text plan.now.problem plan.now.table kind) (numbers_below (count_of plan.now.problem kind))) }
+        ++ flat_map (grid_text plan.now.problem plan.now.table kind) (range_below (count_of plan.now.problem kind))) }
 {
     for number in 0..kind.count(plan.instance()) {
         put_grid(out, plan, kind, number)?;
@@ -354,7 +354,7 @@ fn put_index_item(
 #[tactic(auto, using(tt_report::proofs::Written::text_further))]
 fn put_index(out: &mut Vec<u8>, instance: &Instance<'_>, kind: Kind) -> Result<(), AllocError>
     ensures { OnOk result (out.new.items ≡ out.old.items
-        ++ flat_map (index_item instance.now kind) (numbers_below (count_of instance.now kind))) }
+        ++ flat_map (index_item instance.now kind) (range_below (count_of instance.now kind))) }
 {
     for number in 0..kind.count(instance) {
         put_index_item(out, instance, kind, number)?;

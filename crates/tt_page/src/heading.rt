@@ -20,7 +20,7 @@ fn put_next_shown(out: &mut Vec<u8>, token: &[u8]) -> Result<(), AllocError>
     put_shown(out, token)
 }
 
-/// The name of the instance, each of its tokens behind a space.
+/// The name of the instance, each of its tokens after a space.
 #[tactic(auto, using(crate::proofs::Growing::taken_further), unfolding(crate::specs::Heading::name_text))]
 fn put_name(out: &mut Vec<u8>, instance: &Instance<'_>) -> Result<(), AllocError>
     ensures { OnOk result (out.new.items ≡ out.old.items ++ name_text instance.now) }

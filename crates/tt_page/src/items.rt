@@ -1,7 +1,7 @@
 //! The items of the lists: what adds to each count, and where.
 
 ghost use Rattle.std.specs.Prelude.{◌≡◌, ◌+◌, ◌<◌, ◌≤◌, ◌++◌, length, filter, flat_map, drop, All, Some, slice_get, OnOk, IfOk};
-ghost use Rattle.tt_lists.specs.Words.{numbers_below};
+ghost use Rattle.tt_lists.specs.Words.{range_below};
 ghost use Rattle.tt_instance.specs.Cells.{InRange};
 ghost use Rattle.tt_page.specs.Items.{item_head, item_end, lectures_told, days_told, rooms_told, course_told, course_adds, course_item, when_text, unavailable_item, seats_item, is_odd, odds_count, more_text, pair_text, odds_item, pairs_item, entry_item, entry_items, isolated_item, curriculum_items, items_text, seats_told};
 
@@ -148,7 +148,7 @@ fn put_course_item(
 #[tactic(auto, using(tt_report::proofs::Written::text_further))]
 fn put_course_items(out: &mut Vec<u8>, plan: &Plan<'_, '_>, rule: Rule) -> Result<(), AllocError>
     ensures { OnOk result (out.new.items ≡ out.old.items
-        ++ flat_map (course_item plan.now.problem plan.now.table rule) (numbers_below (length plan.now.problem.courses))) }
+        ++ flat_map (course_item plan.now.problem plan.now.table rule) (range_below (length plan.now.problem.courses))) }
 {
     for course in 0..plan.instance().courses() {
         put_course_item(out, plan, rule, course)?;
@@ -332,7 +332,7 @@ fn put_odds(
     put_pair(out, instance, entry, first, beside)
 }
 
-/// An entry by those behind it, for a rule of pairs.
+/// An entry by those after it, for a rule of pairs.
 #[tactic(auto, unfolding(crate::specs::Items::pairs_item))]
 fn put_pairs(
     out: &mut Vec<u8>,
@@ -357,7 +357,7 @@ fn put_pairs(
     put_odds(out, plan.instance(), rule, entry, &odds)
 }
 
-/// An entry by those behind it.
+/// An entry by those after it.
 #[tactic(auto, unfolding(crate::specs::Items::entry_item))]
 fn put_entry_item(
     out: &mut Vec<u8>,
@@ -431,7 +431,7 @@ fn put_curriculum_items(
 #[tactic(auto, using(tt_report::proofs::Written::text_further))]
 fn put_curricula_items(out: &mut Vec<u8>, plan: &Plan<'_, '_>) -> Result<(), AllocError>
     ensures { OnOk result (out.new.items ≡ out.old.items
-        ++ flat_map (curriculum_items plan.now.problem plan.now.table) (numbers_below (length plan.now.problem.curricula))) }
+        ++ flat_map (curriculum_items plan.now.problem plan.now.table) (range_below (length plan.now.problem.curricula))) }
 {
     for curriculum in 0..plan.instance().curricula() {
         put_curriculum_items(out, plan, curriculum)?;

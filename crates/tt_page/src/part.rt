@@ -1,4 +1,4 @@
-//! Pieces of a page, one behind the other.
+//! Pieces of a page, one after the other.
 
 ghost use Rattle.std.specs.Prelude.{◌≡◌, ◌++◌, OnOk};
 ghost use Rattle.tt_page.specs.Markup.{part_text, parts_text, counted};

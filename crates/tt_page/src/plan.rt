@@ -113,6 +113,6 @@ impl<'w, 'i> Plan<'w, 'i> {
         ensures in_range { All (InRange self.now.problem) result }
         ensures few { length result ≤ 16384 }
     {
-        self.by_period.behind(index)
+        self.by_period.after(index)
     }
 }

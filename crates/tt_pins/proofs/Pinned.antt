@@ -16,7 +16,7 @@ use Rattle.tt_instance.specs.Limits.{IsInstance}
 use Rattle.tt_instance.proofs.Limits.{members_below}
 use Rattle.tt_links.specs.Links.{curricula_of}
 use Rattle.tt_facts.specs.Facts.{IsWho}
-use Rattle.tt_facts.specs.Live.{gives, speaks_of}
+use Rattle.tt_facts.specs.Live.{gives, is_pinned_by}
 use Rattle.tt_facts.specs.declared.facts.Who.{Who}
 use Rattle.tt_facts.specs.declared.facts.Who.TheVariants.{Course, Curriculum}
 use Rattle.tt_pins.specs.Sets.{has_at}
@@ -30,7 +30,7 @@ in_bound t false v l e f = and-false t ∙ sym (ap (λ b. l && (t && b)) (sym e)
 
 -- from the places that were written to what they mean
 pub pins_from_adds : (p : Problem) (told : Who) (d0 s0 : ℕ) (old new : List ℕ) (test : ℕ → Bool) → s0 < p.periods → Adds old test s0 new
-    → ((who : Who) (d : ℕ) → IsWho p who → d < p.days → test (day_place p (row_of p who) d) ≡ (speaks_of p who told && (d0 == d)))
+    → ((who : Who) (d : ℕ) → IsWho p who → d < p.days → test (day_place p (row_of p who) d) ≡ (is_pinned_by p who told && (d0 == d)))
     → ((i : ℕ) → days_size p ≤ i → test i ≡ false)
     → PinsPeriods p told (Some d0) (Some s0) old new
 pins_from_adds p told d0 s0 old new test h adds means beyond = record {
@@ -39,7 +39,7 @@ pins_from_adds p told d0 s0 old new test h adds means beyond = record {
       let i = day_place p (row_of p who) d in
       adds.each i s hs
       ∙ ap (λ t. has_at old i s || (t && (s == s0))) (means who d is hd)
-      ∙ ap (λ t. has_at old i s || t) (in_bound (speaks_of p who told && (d0 == d)) (s == s0) (s0 == s) (nat_lt s p.periods) (test_sym s s0)
+      ∙ ap (λ t. has_at old i s || t) (in_bound (is_pinned_by p who told && (d0 == d)) (s == s0) (s0 == s) (nat_lt s p.periods) (test_turned s s0)
       (λ e. let q = eqb-true s s0 e in lt-ltb s p.periods (omega arith)));
   others = λ i s hi hs. adds.each i s hs ∙ ap (λ t. has_at old i s || (t && (s == s0))) (beyond i hi) ∙ or-false (has_at old i s);
 }
@@ -70,13 +70,13 @@ each_or true false true = refl
 each_or true false false = refl
 each_or false y t = refl
 
-any_day : (p : Problem) (q d d0 : ℕ) → d < p.days → d0 < p.days → (qs : List ℕ) → is_day_of p qs d0 (day_place p (length p.courses + q) d) ≡ (has qs q && (d0 == d))
+any_day : (p : Problem) (q d d0 : ℕ) → d < p.days → d0 < p.days → (qs : List ℕ) → is_day_of p qs d0 (day_place p (length p.courses + q) d) ≡ (has_number qs q && (d0 == d))
 any_day p q d d0 h k [] = refl
 any_day p q d d0 h k (m ∷ ms) =
     ap (λ b. b || is_day_of p ms d0 (day_place p (length p.courses + q) d)) (same_day (length p.courses + q) d (length p.courses + m) d0 p.days h k)
     ∙ ap (λ b. ((length p.courses + q == length p.courses + m) && (d0 == d)) || b) (any_day p q d d0 h k ms)
-    ∙ ap (λ b. (b && (d0 == d)) || (has ms q && (d0 == d))) (same_test (length p.courses + q) (length p.courses + m) m q (λ e. omega arith) (λ e. omega arith))
-    ∙ each_or (m == q) (has ms q) (d0 == d)
+    ∙ ap (λ b. (b && (d0 == d)) || (has_number ms q && (d0 == d))) (same_test (length p.courses + q) (length p.courses + m) m q (λ e. omega arith) (λ e. omega arith))
+    ∙ each_or (m == q) (has_number ms q) (d0 == d)
 
 no_day : (p : Problem) (d0 i : ℕ) → ((q : ℕ) → (i == day_place p (length p.courses + q) d0) ≡ false) → (qs : List ℕ) → is_day_of p qs d0 i ≡ false
 no_day p d0 i h [] = refl
@@ -94,7 +94,7 @@ module _ (p : Problem) (d0 s0 : ℕ) (hd : d0 < p.days) (hs : s0 < p.periods) (o
       (λ who d is k. same_day (row_of p who) d (length p.courses + q) d0 p.days k hd ∙ ap (λ b. b && (d0 == d)) (told who is))
       (λ i k. apart_back (day_place p (length p.courses + q) d0) i (days_size p) (day_within p (length p.courses + q) d0 (row_within p (Curriculum q) h) hd) k)
     where
-      told : (who : Who) → IsWho p who → (row_of p who == length p.courses + q) ≡ speaks_of p who (Curriculum q)
+      told : (who : Who) → IsWho p who → (row_of p who == length p.courses + q) ≡ is_pinned_by p who (Curriculum q)
       told (Course c) is = ne_eqb c (length p.courses + q) (λ e. omega arith)
       told (Curriculum k) is = same_test (length p.courses + k) (length p.courses + q) q k (λ e. omega arith) (λ e. omega arith)
 
@@ -103,9 +103,9 @@ module _ (p : Problem) (d0 s0 : ℕ) (hd : d0 < p.days) (hs : s0 < p.periods) (o
       told
       (λ i k. ap (λ b. b || is_day_of p (curricula_of p c) d0 i) (apart_back (day_place p c d0) i (days_size p) (day_within p c d0 (row_within p (Course c) h) hd) k) ∙ beyond_days p d0 i k hd (curricula_of p c) each)
     where
-      told : (who : Who) (d : ℕ) → IsWho p who → d < p.days → ((day_place p (row_of p who) d == day_place p c d0) || is_day_of p (curricula_of p c) d0 (day_place p (row_of p who) d)) ≡ (speaks_of p who (Course c) && (d0 == d))
+      told : (who : Who) (d : ℕ) → IsWho p who → d < p.days → ((day_place p (row_of p who) d == day_place p c d0) || is_day_of p (curricula_of p c) d0 (day_place p (row_of p who) d)) ≡ (is_pinned_by p who (Course c) && (d0 == d))
       told (Course a) d is k =
-          ap (λ b. b || is_day_of p (curricula_of p c) d0 (day_place p a d)) (same_day a d c d0 p.days k hd ∙ ap (λ b. b && (d0 == d)) (test_sym a c))
+          ap (λ b. b || is_day_of p (curricula_of p c) d0 (day_place p a d)) (same_day a d c d0 p.days k hd ∙ ap (λ b. b && (d0 == d)) (test_turned a c))
           ∙ ap (λ b. ((c == a) && (d0 == d)) || b) (no_day p d0 (day_place p a d) (λ q. same_day a d (length p.courses + q) d0 p.days k hd ∙ ap (λ b. b && (d0 == d)) (ne_eqb a (length p.courses + q) (λ e. omega arith))) (curricula_of p c))
           ∙ or-false ((c == a) && (d0 == d))
       told (Curriculum q) d is k =
@@ -140,35 +140,35 @@ either_way l a e = ap (λ t. l && t) e ∙ and-false l
 module _ (p : Problem) (words : List ℕ) where
   pub no_given_day : (told : Who) (period : Option ℕ) → PinsPeriods p told None period words words
   no_given_day told period = pins_nothing p told None period words (λ who d s is h.
-      either_way (nat_lt s p.periods) (pins_period p told None period who d s) (second (speaks_of p who told) false (gives period s) refl))
+      either_way (nat_lt s p.periods) (pins_period p told None period who d s) (second (is_pinned_by p who told) false (gives period s) refl))
 
   pub no_given_period : (told : Who) (day : Option ℕ) → PinsPeriods p told day None words words
   no_given_period told day = pins_nothing p told day None words (λ who d s is h.
-      either_way (nat_lt s p.periods) (pins_period p told day None who d s) (third (speaks_of p who told) (gives day d) false refl))
+      either_way (nat_lt s p.periods) (pins_period p told day None who d s) (third (is_pinned_by p who told) (gives day d) false refl))
 
   pub no_such_day : (told : Who) (d0 : ℕ) (period : Option ℕ) → p.days ≤ d0 → PinsPeriods p told (Some d0) period words words
   no_such_day told d0 period k = pins_nothing p told (Some d0) period words (λ who d s is h.
-      either_way (nat_lt s p.periods) (pins_period p told (Some d0) period who d s) (second (speaks_of p who told) (d0 == d) (gives period s) (ne_eqb d0 d (λ e. omega arith))))
+      either_way (nat_lt s p.periods) (pins_period p told (Some d0) period who d s) (second (is_pinned_by p who told) (d0 == d) (gives period s) (ne_eqb d0 d (λ e. omega arith))))
 
   pub no_such_period : (told : Who) (day : Option ℕ) (s0 : ℕ) → p.periods ≤ s0 → PinsPeriods p told day (Some s0) words words
   no_such_period told day s0 k = pins_nothing p told day (Some s0) words (λ who d s is h. elim (cases_eq s0 s) [
     | inl e ↦ ap (λ b. b && pins_period p told day (Some s0) who d s) (not_below s p.periods (omega arith))
-    | inr e ↦ either_way (nat_lt s p.periods) (pins_period p told day (Some s0) who d s) (third (speaks_of p who told) (gives day d) (s0 == s) (ne_eqb s0 s e))
+    | inr e ↦ either_way (nat_lt s p.periods) (pins_period p told day (Some s0) who d s) (third (is_pinned_by p who told) (gives day d) (s0 == s) (ne_eqb s0 s e))
   ])
 
   pub no_such_curriculum : (q : ℕ) (day period : Option ℕ) → length p.curricula ≤ q → PinsPeriods p (Curriculum q) day period words words
   no_such_curriculum q day period k = pins_nothing p (Curriculum q) day period words (λ who d s is h.
-      either_way (nat_lt s p.periods) (pins_period p (Curriculum q) day period who d s) (first_of_three (speaks_of p who (Curriculum q)) (gives day d) (gives period s) (silent who is)))
+      either_way (nat_lt s p.periods) (pins_period p (Curriculum q) day period who d s) (first_of_three (is_pinned_by p who (Curriculum q)) (gives day d) (gives period s) (silent who is)))
     where
-      silent : (who : Who) → IsWho p who → speaks_of p who (Curriculum q) ≡ false
+      silent : (who : Who) → IsWho p who → is_pinned_by p who (Curriculum q) ≡ false
       silent (Course c) is = refl
       silent (Curriculum m) is = ne_eqb q m (λ e. omega arith)
 
   pub no_such_course : (c : ℕ) (day period : Option ℕ) → IsInstance p → length p.courses ≤ c → PinsPeriods p (Course c) day period words words
   no_such_course c day period valid k = pins_nothing p (Course c) day period words (λ who d s is h.
-      either_way (nat_lt s p.periods) (pins_period p (Course c) day period who d s) (first_of_three (speaks_of p who (Course c)) (gives day d) (gives period s) (silent who is)))
+      either_way (nat_lt s p.periods) (pins_period p (Course c) day period who d s) (first_of_three (is_pinned_by p who (Course c)) (gives day d) (gives period s) (silent who is)))
     where
-      silent : (who : Who) → IsWho p who → speaks_of p who (Course c) ≡ false
+      silent : (who : Who) → IsWho p who → is_pinned_by p who (Course c) ≡ false
       silent (Course a) is = ne_eqb c a (λ e. omega arith)
       silent (Curriculum q) is = list_any_none (λ m. m == c) (members p q) (λ n d l. ne_eqb (get_or (members p q) n d) c (λ e. let b : get_or (members p q) n d < length p.courses = members_below p q valid is n d l in omega arith))
 
@@ -196,12 +196,12 @@ room_pins_nothing p told room words none = record {
 
 module _ (p : Problem) (words : List ℕ) where
   pub no_room_given : (told : Who) → PinsRooms p told None words words
-  no_room_given told = room_pins_nothing p told None words (λ c r hc. either_way (nat_lt r (length p.rooms)) (pins_room p told None c r) (and-false (speaks_of p (Course c) told)))
+  no_room_given told = room_pins_nothing p told None words (λ c r hc. either_way (nat_lt r (length p.rooms)) (pins_room p told None c r) (and-false (is_pinned_by p (Course c) told)))
 
   pub no_such_room : (told : Who) (r0 : ℕ) → length p.rooms ≤ r0 → PinsRooms p told (Some r0) words words
   no_such_room told r0 k = room_pins_nothing p told (Some r0) words (λ c r hc. elim (cases_eq r0 r) [
     | inl e ↦ ap (λ b. b && pins_room p told (Some r0) c r) (not_below r (length p.rooms) (omega arith))
-    | inr e ↦ either_way (nat_lt r (length p.rooms)) (pins_room p told (Some r0) c r) (ap (λ b. speaks_of p (Course c) told && b) (ne_eqb r0 r e) ∙ and-false (speaks_of p (Course c) told))
+    | inr e ↦ either_way (nat_lt r (length p.rooms)) (pins_room p told (Some r0) c r) (ap (λ b. is_pinned_by p (Course c) told && b) (ne_eqb r0 r e) ∙ and-false (is_pinned_by p (Course c) told))
   ])
 
   pub no_course_told : (q : ℕ) (room : Option ℕ) → PinsRooms p (Curriculum q) room words words

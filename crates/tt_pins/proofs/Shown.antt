@@ -5,14 +5,14 @@ use Rattle.std.proofs.Math.Bool.{or-false}
 use Rattle.std.proofs.lemmas.List.Folds.{list_any-append}
 use Rattle.tt_instance.specs.Problem.{Problem}
 use Rattle.tt_instance.specs.Cells.{slot}
-use Rattle.tt_facts.specs.Live.{gives, speaks_of, pinned, pinned_room}
+use Rattle.tt_facts.specs.Live.{gives, is_pinned_by, pinned, pinned_room}
 use Rattle.tt_facts.specs.declared.facts.Who.TheVariants.{Course}
 use Rattle.tt_facts.specs.declared.facts.Fact.{Fact}
 use Rattle.tt_pins.specs.Sets.{has_at}
 use Rattle.tt_pins.specs.Tables.{row_of, day_place, block_place, room_place, pins_period, pins_room, ShowsPins, PinsPeriods, PinsRooms, Pins}
 use Rattle.tt_pins.proofs.Grid.{row_within, day_within, block_within, of_block, in_block}
 
--- one test more, behind a bound
+-- one test more, after a bound
 one_more : (x l a h b c d : Bool) → x ≡ (l && a) → (x || (h && (l && (b && c && d)))) ≡ (l && (a || ((h && b && c && d) || false)))
 one_more x true a true b c d e = ap (λ t. t || (b && c && d)) e ∙ ap (λ t. a || t) (sym (or-false (b && c && d)))
 one_more x true a false b c d e = or-false x ∙ e ∙ sym (or-false a)
@@ -30,12 +30,12 @@ shown_more p facts f old new s w = record {
   len = w.len ∙ s.len;
   periods = λ who d t is hd ht.
       w.periods who d t is hd ht
-      ∙ one_more (has_at old (day_place p (row_of p who) d) t) (nat_lt t p.periods) (pinned p facts who (slot d t)) f.holds (speaks_of p who f.pattern.who) (gives f.pattern.day d) (gives f.pattern.period t) (s.periods who d t is hd ht)
-      ∙ ap (λ b. nat_lt t p.periods && b) (sym (list_any-append (λ (g : Fact). g.holds && speaks_of p who g.pattern.who && gives g.pattern.day d && gives g.pattern.period t) facts (f ∷ [])));
+      ∙ one_more (has_at old (day_place p (row_of p who) d) t) (nat_lt t p.periods) (pinned p facts who (slot d t)) f.holds (is_pinned_by p who f.pattern.who) (gives f.pattern.day d) (gives f.pattern.period t) (s.periods who d t is hd ht)
+      ∙ ap (λ b. nat_lt t p.periods && b) (sym (list_any-append (λ (g : Fact). g.holds && is_pinned_by p who g.pattern.who && gives g.pattern.day d && gives g.pattern.period t) facts (f ∷ [])));
   rooms = λ c r hc hr.
       w.rooms c r hc hr
-      ∙ one_room_more (has_at old (room_place p c r) (r % 64)) (nat_lt r (length p.rooms)) (pinned_room p facts c r) f.holds (speaks_of p (Course c) f.pattern.who) (gives f.pattern.room r) (s.rooms c r hc hr)
-      ∙ ap (λ b. nat_lt r (length p.rooms) && b) (sym (list_any-append (λ (g : Fact). g.holds && speaks_of p (Course c) g.pattern.who && gives g.pattern.room r) facts (f ∷ [])));
+      ∙ one_room_more (has_at old (room_place p c r) (r % 64)) (nat_lt r (length p.rooms)) (pinned_room p facts c r) f.holds (is_pinned_by p (Course c) f.pattern.who) (gives f.pattern.room r) (s.rooms c r hc hr)
+      ∙ ap (λ b. nat_lt r (length p.rooms) && b) (sym (list_any-append (λ (g : Fact). g.holds && is_pinned_by p (Course c) g.pattern.who && gives g.pattern.room r) facts (f ∷ [])));
 }
 
 -- first the periods, then the rooms, of a yes-fact

@@ -159,7 +159,7 @@ module _ (p : Problem) (h h0 : Bool) (c d s c0 d0 s0 : ℕ) (hc : c < length p.c
       ap (λ (z : Spot). (z.place == y.place) && (z.number == y.number)) (sym ex)
       ∙ ap (λ (z : Spot). (open_place p h c d == z.place) && (s == z.number)) (sym ey)
       ∙ ap (λ b. b && (s == s0)) (same_open p h h0 c d c0 d0 hc hc0 hd hd0)
-      ∙ ap (λ b. ((same_answer h0 h && (c0 == c)) && (d0 == d)) && b) (test_sym s s0)
+      ∙ ap (λ b. ((same_answer h0 h && (c0 == c)) && (d0 == d)) && b) (test_turned s s0)
       ∙ in_order (same_answer h0 h) (c0 == c) (d0 == d) (s0 == s)
   same_spot_in None (Some r0) x y e f =
       let ex : record { place = open_place p h c d; number = s } ≡ x = cc in
@@ -183,7 +183,7 @@ module _ (p : Problem) (h h0 : Bool) (c d s c0 d0 s0 : ℕ) (hc : c < length p.c
       ap (λ (z : Spot). (z.place == y.place) && (z.number == y.number)) (sym x_is.spot_is)
       ∙ ap (λ (z : Spot). (closed_place p h c d s r == z.place) && (r % 64 == z.number)) (sym y_is.spot_is)
       ∙ same_room (open_size p) (width p) row r row0 r0 (room_within p r x_is.room_there) (room_within p r0 y_is.room_there)
-      ∙ ap (λ b. b && (r0 == r)) (test_sym row0 row ∙ same_day (open_place p h c d) s (open_place p h0 c0 d0) s0 p.periods hs hs0)
+      ∙ ap (λ b. b && (r0 == r)) (test_turned row0 row ∙ same_day (open_place p h c d) s (open_place p h0 c0 d0) s0 p.periods hs hs0)
       ∙ ap (λ b. (b && (s0 == s)) && (r0 == r)) (same_open p h h0 c d c0 d0 hc hc0 hd hd0)
       ∙ in_order_too (same_answer h0 h) (c0 == c) (d0 == d) (s0 == s) (r0 == r)
 

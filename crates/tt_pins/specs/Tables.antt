@@ -4,7 +4,7 @@ use Rattle.std.specs.List.{list_any}
 use Rattle.tt_instance.specs.Problem.{Problem}
 use Rattle.tt_instance.specs.Cells.{slot}
 use Rattle.tt_facts.specs.Facts.{IsWho}
-use Rattle.tt_facts.specs.Live.{gives, speaks_of, pinned, pinned_room}
+use Rattle.tt_facts.specs.Live.{gives, is_pinned_by, pinned, pinned_room}
 use Rattle.tt_facts.specs.declared.facts.Who.{Who}
 use Rattle.tt_facts.specs.declared.facts.Who.TheVariants.{Course, Curriculum}
 use Rattle.tt_facts.specs.declared.facts.Fact.{Fact}
@@ -64,11 +64,11 @@ is_day_of p curricula d i = list_any (λ q. i == day_place p (length p.courses +
 
 -- a yes-fact of the second that gives this day and period pins the period for the first
 abbrev pub pins_period : Problem → Who → Option ℕ → Option ℕ → Who → ℕ → ℕ → Bool
-pins_period p told day period who d s = speaks_of p who told && gives day d && gives period s
+pins_period p told day period who d s = is_pinned_by p who told && gives day d && gives period s
 
 -- a yes-fact that gives this room pins the room for a course
 abbrev pub pins_room : Problem → Who → Option ℕ → ℕ → ℕ → Bool
-pins_room p told room c r = speaks_of p (Course c) told && gives room r
+pins_room p told room c r = is_pinned_by p (Course c) told && gives room r
 
 pub record PinsPeriods (p : Problem) (told : Who) (day period : Option ℕ) (old new : List ℕ) : Type 0 where
   pub len : length new ≡ length old

@@ -4,7 +4,7 @@ ghost use Rattle.std.specs.Prelude.{◌≡◌, ◌<◌, [], ◌∷◌, ◌++◌,
 ghost use Rattle.tt_facts.specs.Facts.{has_fact};
 ghost use Rattle.tt_pins.specs.Standing.{others_of};
 
-use crate::spots::find_spot;
+use crate::spots::has_spot;
 use std::alloc::AllocError;
 use tt_facts::{Fact, Pattern};
 use tt_instance::Instance;
@@ -22,7 +22,7 @@ pub fn list_fact(
     ensures others { others.new.items ≡ others_of instance.now facts.new.items }
 {
     facts.push(fact)?;
-    if find_spot(instance, &fact.pattern, fact.holds).is_some() {
+    if has_spot(instance, &fact.pattern, fact.holds).is_some() {
         return Ok(());
     }
     if let Err(fault) = others.push(fact) {

@@ -96,7 +96,7 @@ impl<'p, 'i> Pins<'p, 'i> {
         self.facts[index]
     }
 
-    /// Adds a fact behind the others; its numbers may be any.
+    /// Adds a fact after the others; its numbers may be any.
     pub fn push(&mut self, fact: Fact) -> Result<(), AllocError>
         requires { length self.old.facts < 65536 }
         ensures ok { OnOk result (self.new.facts ≡ self.old.facts ++ fact ∷ []) }

@@ -16,24 +16,24 @@ use Rattle.tt_rules.proofs.Scores.{hard_is, cost_is, feasible_is}
 use Rattle.tt_leaf.specs.declared.leaf.Bound.TheVariants.{AtLeast}
 use Rattle.tt_proof_text.specs.declared.fault.TextFault.TheVariants as text
 use Rattle.tt_proof_check.specs.Derives.{HoldsOfAll}
-use Rattle.tt_proof_check.specs.Faults.{TellsMemoryOfText}
+use Rattle.tt_proof_check.specs.Faults.{OutOfMemoryIsNoTextFault}
 use Rattle.tt_proof_check.specs.Headline.{SpellsBoth, Solves, BreaksARule, Certifies, BoundsAll}
-use Rattle.tt_proof_check.specs.Streams.{IsProved, IsSilent, stream_of, TellsOf}
-use Rattle.tt_proof_check.specs.Verdicts.{IsYes, IsBroken, TellsOfAll, IsOfFiles, AnswersYes, AnswersBroken, GivesBound, TellsBound, TellsMemory, told_instance, told_solution, told_check, read_failed}
+use Rattle.tt_proof_check.specs.Streams.{IsProved, IsSilent, stream_of, IsProofFault}
+use Rattle.tt_proof_check.specs.Verdicts.{IsYes, IsBroken, TellsOfAll, IsOfFiles, AnswersYes, AnswersBroken, GivesBound, IsBoundFault, OutOfMemoryIsOneFault, fault_from_instance, fault_from_solution, fault_from_check, read_failed}
 use Rattle.tt_proof_check.specs.declared.fault.CheckFault.{CheckFault}
 use Rattle.tt_proof_check.specs.declared.fault.CheckFault.TheVariants as check
 use Rattle.tt_proof_check.specs.declared.fault.CertifyFault.{CertifyFault}
 use Rattle.tt_proof_check.specs.declared.fault.CertifyFault.TheVariants as fault
-use Rattle.tt_proof_check.proofs.Files.{TellsOfBoth, one_instance, one_table, only_memory}
+use Rattle.tt_proof_check.proofs.Files.{IsFileFault, one_instance, one_table, only_memory}
 
 -- ---- before the score is known
 
 -- what is certified is refused for want of memory alone
-pub certified_memory : (i s bytes : List ℕ) (c b : ℕ) (f : CertifyFault) → Certifies i s bytes c b → TellsOfBoth i s f → AnswersYes (Err f) c b
+pub certified_memory : (i s bytes : List ℕ) (c b : ℕ) (f : CertifyFault) → Certifies i s bytes c b → IsFileFault i s f → AnswersYes (Err f) c b
 certified_memory i s bytes c b f h tells = inl (only_memory i s h.solves.problem h.solves.table f h.solves.both tells)
 
 -- and so is what breaks a hard rule
-pub broken_memory : (i s : List ℕ) (f : CertifyFault) → BreaksARule i s → TellsOfBoth i s f → AnswersBroken (Err f)
+pub broken_memory : (i s : List ℕ) (f : CertifyFault) → BreaksARule i s → IsFileFault i s f → AnswersBroken (Err f)
 broken_memory i s f k tells = only_memory i s k.problem k.table f k.both tells
 
 -- a test for no points
@@ -46,41 +46,41 @@ no_points b n both feasible = both.0 feasible
 -- ---- the proof's bound
 
 -- a fault of the check is told
-pub check_told : (p : Problem) (bytes : List ℕ) (f : CheckFault) → TellsOf p (stream_of bytes) f → TellsBound p bytes (told_check f)
+pub check_told : (p : Problem) (bytes : List ℕ) (f : CheckFault) → IsProofFault p (stream_of bytes) f → IsBoundFault p bytes (fault_from_check f)
 check_told p bytes check.OutOfMemory h = tt
 check_told p bytes (check.Text f) h = h
 check_told p bytes (check.Rule n f) h = h
 check_told p bytes (check.TooDeep n) h = h
 
 -- a silent fault says nothing of the bytes
-pub silent_told : (f : CheckFault) (b : ℕ) → IsSilent f → GivesBound (Err (told_check f)) b
-silent_told f b (inl e) = subst (λ g. GivesBound (Err (told_check g)) b) (sym e) (inl refl)
-silent_told f b (inr e) = subst (λ g. GivesBound (Err (told_check g)) b) (sym e) (inr refl)
+pub silent_told : (f : CheckFault) (b : ℕ) → IsSilent f → GivesBound (Err (fault_from_check f)) b
+silent_told f b (inl e) = subst (λ g. GivesBound (Err (fault_from_check g)) b) (sym e) (inl refl)
+silent_told f b (inr e) = subst (λ g. GivesBound (Err (fault_from_check g)) b) (sym e) (inr refl)
 
 -- a fault of the proof is none of the instance or the solution
-pub bound_not_files : (f : CheckFault) → IsOfFiles (told_check f) → ⊥
+pub bound_not_files : (f : CheckFault) → IsOfFiles (fault_from_check f) → ⊥
 bound_not_files check.OutOfMemory of = of
 bound_not_files (check.Text f) of = of
 bound_not_files (check.Rule n f) of = of
 bound_not_files (check.TooDeep n) of = of
 
 -- want of memory is told as itself
-pub memory_instance : (f : InstanceFault) → TellsMemory (told_instance f)
+pub memory_instance : (f : InstanceFault) → OutOfMemoryIsOneFault (fault_from_instance f)
 memory_instance instance.OutOfMemory = tt
 memory_instance f = λ e. cc
 
-pub memory_solution : (f : SolutionFault) → TellsMemory (told_solution f)
+pub memory_solution : (f : SolutionFault) → OutOfMemoryIsOneFault (fault_from_solution f)
 memory_solution solution.OutOfMemory = tt
 memory_solution f = λ e. cc
 
-pub memory_check : (f : CheckFault) → TellsMemoryOfText f → TellsMemory (told_check f)
+pub memory_check : (f : CheckFault) → OutOfMemoryIsNoTextFault f → OutOfMemoryIsOneFault (fault_from_check f)
 memory_check check.OutOfMemory h = tt
 memory_check (check.Text f) h = (λ e. cc, h)
 memory_check (check.Rule n f) h = (λ e. cc, h)
 memory_check (check.TooDeep n) h = (λ e. cc, h)
 
 -- only a failed read is told as one
-pub read_checked : (f : CheckFault) → told_check f ≡ read_failed → f ≡ check.Text (text.Feed feed.Read)
+pub read_checked : (f : CheckFault) → fault_from_check f ≡ read_failed → f ≡ check.Text (text.Feed feed.Read)
 read_checked check.OutOfMemory e = cc
 read_checked (check.Text f) e = cc
 read_checked (check.Rule n f) e = cc
@@ -144,10 +144,10 @@ module _ (i s : List ℕ) (p : Problem) (t : List Cell) (spelled : Spells i p) (
     not_broken e k = omega (arith, e, hard_is p t score is, broken_here k)
 
     -- a refusal of the proof
-    pub bound_tells : (q : Option (List ℕ)) (f : CertifyFault) → broken_by score ≡ 0 → (IsOfFiles f → ⊥) → ((bytes : List ℕ) → q ≡ Some bytes → TellsBound p bytes f) → TellsOfAll i s q f
+    pub bound_tells : (q : Option (List ℕ)) (f : CertifyFault) → broken_by score ≡ 0 → (IsOfFiles f → ⊥) → ((bytes : List ℕ) → q ≡ Some bytes → IsBoundFault p bytes f) → IsFirstFault i s q f
     bound_tells q (fault.Proof f) e own h = record { problem = p; table = t; both = both; feasible = is_feasible e; fails = told q h }
       where
-        told : (k : Option (List ℕ)) → ((bytes : List ℕ) → k ≡ Some bytes → TellsOf p (stream_of bytes) f) → IfSome k (λ bytes. TellsOf p (stream_of bytes) f)
+        told : (k : Option (List ℕ)) → ((bytes : List ℕ) → k ≡ Some bytes → IsProofFault p (stream_of bytes) f) → IfSome k (λ bytes. IsProofFault p (stream_of bytes) f)
         told None h = tt
         told (Some bytes) h = h bytes refl
     bound_tells q fault.OutOfMemory e own h = tt

@@ -4,7 +4,7 @@ use Rattle.std.proofs.lemmas.List.Elements.{All-from_recursion}
 use Rattle.tt_text.specs.Tokens.{Placed, tokens_from}
 use Rattle.tt_text.specs.Numbers.{number_of}
 use Rattle.tt_text.specs.Feeds.{Stream, fault_from, stream_from}
-use Rattle.tt_text.specs.Broken.{broken}
+use Rattle.tt_text.specs.CutShort.{cut_short}
 use Rattle.tt_text.specs.declared.feed.FeedFault.TheVariants.{Read}
 use Rattle.tt_instance.proofs.Examples.{gap}
 use Rattle.tt_facts.specs.declared.facts.Fact.{Fact}
@@ -16,11 +16,11 @@ use Rattle.tt_leaf.specs.declared.leaf.Leaf.TheVariants.{Clique, Cost}
 use Rattle.tt_leaf.specs.declared.leaf.RuleFault.TheVariants.{TooCheap}
 use Rattle.tt_leaf.proofs.Examples.{when}
 use Rattle.tt_proof_text.specs.Faults.{read_failed}
-use Rattle.tt_proof_text.specs.Reading.{token_at, word_at, numbered_below, index_of, who_at, given_of, given_at, pattern_at, node_behind, node_at, version_at, bound_of, bound_at, header_at}
+use Rattle.tt_proof_text.specs.Reading.{token_at, word_at, numbered_below, index_of, who_at, given_of, given_at, pattern_at, node_after_word, node_at, version_at, bound_of, bound_at, header_at}
 use Rattle.tt_proof_text.specs.declared.node.Node.TheVariants as node
 use Rattle.tt_proof_text.specs.Trees.{Tree, Close, Branch, on_paths}
 use Rattle.tt_proof_check.specs.Derives.{Derives}
-use Rattle.tt_proof_check.specs.FailedReads.{BreaksOff}
+use Rattle.tt_proof_check.specs.FailedReads.{IsCutOff}
 use Rattle.tt_proof_check.specs.Pending.{pending}
 use Rattle.tt_proof_check.specs.Streams.{stream_of, sizes_of}
 use Rattle.tt_proof_check.specs.Tells.{Passes, FailsAt}
@@ -52,7 +52,7 @@ gap_costs_no_six = record {
 abbrev fact : Pattern → Bool → Fact
 fact g holds = record { pattern = g; holds = holds }
 
--- behind a yes-fact its second child is to come, behind a no-fact nothing
+-- after a yes-fact its second child is to come, after a no-fact nothing
 two_to_come : pending (fact (when 0 0) true ∷ fact (when 1 2) false ∷ fact (when 1 1) true ∷ [])
     ≡ (fact (when 0 0) true ∷ fact (when 1 2) false ∷ fact (when 1 1) false ∷ []) ∷ (fact (when 0 0) false ∷ []) ∷ []
 two_to_come = refl
@@ -73,19 +73,19 @@ second = off_with (token (codes "S") 28 ∷ [])
 abbrev first : Stream
 first = off_with (token (codes "S") 15 ∷ token (codes "c0") 17 ∷ token (codes "*") 20 ∷ token (codes "d0") 22 ∷ token (codes "p0") 25 ∷ second.tokens)
 
-begun_header : header_at (broken (stream_of begun)) ≡ Ok ((1, AtLeast 5), first)
+begun_header : header_at (cut_short (stream_of begun)) ≡ Ok ((1, AtLeast 5), first)
 unfolding stream_from fault_from tokens_from number_of token_at word_at version_at bound_of bound_at header_at
 begun_header = refl
 
 begun_split : node_at (sizes_of gap) 1 0 first ≡ Ok (node.Split (when 0 0), second)
-unfolding number_of token_at numbered_below index_of who_at given_of given_at pattern_at node_behind node_at
+unfolding number_of token_at numbered_below index_of who_at given_of given_at pattern_at node_after_word node_at
 begun_split = refl
 
 no_second : node_at (sizes_of gap) 1 1 second ≡ Err read_failed
-unfolding token_at who_at pattern_at node_behind node_at
+unfolding token_at who_at pattern_at node_after_word node_at
 no_second = refl
 
-a_split_breaks_off : BreaksOff gap (broken (stream_of begun))
+a_split_breaks_off : IsCutOff gap (cut_short (stream_of begun))
 a_split_breaks_off = inr (
   1,
   AtLeast 5,

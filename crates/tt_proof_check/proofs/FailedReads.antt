@@ -1,9 +1,9 @@
 -- What a failed read leaves known of the bytes.
 use Rattle.std.proofs.Common.{◌≡◌, ℕ, List, ◌++◌, true, Option, Some, None, is_some, refl, sym, ap, subst, ◌∙◌}
 use Rattle.std.specs.Io.KnownBytes.{Consumes}
-use Rattle.tt_text.specs.Broken.{rest_of}
+use Rattle.tt_text.specs.CutShort.{rest_of}
 use Rattle.tt_text.specs.Feeds.{Stream, fresh}
-use Rattle.tt_text.proofs.Breaking.{broken_is}
+use Rattle.tt_text.proofs.Cutting.{cut_is}
 use Rattle.tt_proof_check.specs.FailedReads.{HoldsOfGiven, UpToFailure}
 
 -- the bytes that were given, and those that are left
@@ -19,5 +19,5 @@ of_given P before after known up bytes e =
     let given = h.0.given in (
       given,
       given_left bytes given after (known k) (sym e ∙ h.0.bytes),
-      subst P (broken_is (rest_of after) fresh before given refl refl h.0.bytes) h.1,
+      subst P (cut_is (rest_of after) fresh before given refl refl h.0.bytes) h.1,
     )

@@ -13,7 +13,7 @@ use Rattle.tt_table.specs.declared.fault.SolutionFault.{SolutionFault}
 use Rattle.tt_table.specs.declared.fault.SolutionFault.TheVariants as solution
 use Rattle.tt_table.proofs.EntryLaws.{solution_read}
 use Rattle.tt_proof_check.specs.Headline.{SpellsBoth}
-use Rattle.tt_proof_check.specs.Verdicts.{told_instance, told_solution, FailsSolution}
+use Rattle.tt_proof_check.specs.Verdicts.{fault_from_instance, fault_from_solution, FailsSolution}
 use Rattle.tt_proof_check.specs.declared.fault.CertifyFault.{CertifyFault}
 use Rattle.tt_proof_check.specs.declared.fault.CertifyFault.TheVariants as fault
 
@@ -33,24 +33,24 @@ one_table bytes i p t u s a b =
     cc
 
 -- a fault of the instance or of the solution
-abbrev pub TellsOfBoth : List ℕ → List ℕ → CertifyFault → Type 0
-TellsOfBoth i s (fault.Instance f) = instance_of i ≡ Err f
-TellsOfBoth i s (fault.Solution f) = FailsSolution i s f
-TellsOfBoth i s (fault.Proof f) = ⊥
-TellsOfBoth i s fault.OutOfMemory = Unit {0}
+abbrev pub IsFileFault : List ℕ → List ℕ → CertifyFault → Type 0
+IsFileFault i s (fault.Instance f) = instance_of i ≡ Err f
+IsFileFault i s (fault.Solution f) = FailsSolution i s f
+IsFileFault i s (fault.Proof f) = ⊥
+IsFileFault i s fault.OutOfMemory = Unit {0}
 
 -- a fault of the instance is told
-pub tells_instance : (i s : List ℕ) (f : InstanceFault) → Fails f (instance_of i) → TellsOfBoth i s (told_instance f)
+pub tells_instance : (i s : List ℕ) (f : InstanceFault) → Fails f (instance_of i) → IsFileFault i s (fault_from_instance f)
 tells_instance i s instance.OutOfMemory h = tt
 tells_instance i s f h = h
 
 -- a fault of the solution is told
-pub tells_solution : (i s : List ℕ) (p : Problem) (f : SolutionFault) → Spells i p → FailsTable f (solution_of p s) → TellsOfBoth i s (told_solution f)
+pub tells_solution : (i s : List ℕ) (p : Problem) (f : SolutionFault) → Spells i p → FailsTable f (solution_of p s) → IsFileFault i s (fault_from_solution f)
 tells_solution i s p solution.OutOfMemory spelled h = tt
 tells_solution i s p f spelled h = record { problem = p; spelled = spelled; fails = h }
 
 -- where both are spelled, the only refusal is want of memory
-pub only_memory : (i s : List ℕ) (p : Problem) (t : List Cell) (f : CertifyFault) → SpellsBoth i s p t → TellsOfBoth i s f → f ≡ fault.OutOfMemory
+pub only_memory : (i s : List ℕ) (p : Problem) (t : List Cell) (f : CertifyFault) → SpellsBoth i s p t → IsFileFault i s f → f ≡ fault.OutOfMemory
 only_memory i s p t (fault.Instance f) both h = let e = is_read i p both.spelled in absurd cc
 only_memory i s p t (fault.Solution f) both h =
     let same : h.problem ≡ p = one_instance i h.problem p h.spelled both.spelled in

@@ -156,7 +156,7 @@ no_tree_goes_on tree nodes n rest s e =
 pub no_tree_yet : (tree : Tree) (path : List Fact) (others : Stack) (nodes : List Node) → preorder tree ≡ nodes → stack_after root nodes ≡ Some (path ∷ others) → ⊥
 no_tree_yet tree path others nodes s e = let some = whole_stack tree nodes s in cc
 
--- an element behind others
+-- an element after others
 pub get-behind : {X : Type 0} (xs : List X) (x : X) (ys : List X) (n : ℕ) → length xs ≡ n → slice_get (xs ++ x ∷ ys) n ≡ Some x
 get-behind [] x ys zero e = refl
 get-behind [] x ys (suc n) e = absurd (omega (arith, e))

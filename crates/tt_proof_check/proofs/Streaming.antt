@@ -20,8 +20,8 @@ use Rattle.tt_proof_text.specs.declared.sizes.Sizes.{Sizes}
 use Rattle.tt_proof_check.specs.declared.walk.Stop.TheVariants.{Rule, TooDeep}
 use Rattle.tt_proof_check.specs.declared.fault.CheckFault.{CheckFault}
 use Rattle.tt_proof_check.specs.declared.fault.CheckFault.TheVariants as told
-use Rattle.tt_proof_check.specs.FailedReads.{NodeBreaksOff}
-use Rattle.tt_proof_check.specs.Faults.{text_fault}
+use Rattle.tt_proof_check.specs.FailedReads.{NodeIsCutOff}
+use Rattle.tt_proof_check.specs.Faults.{fault_from_text}
 use Rattle.tt_proof_check.specs.Heard.{Heard}
 use Rattle.tt_proof_check.specs.Pending.{pending}
 use Rattle.tt_proof_check.specs.Steps.{Steps, Stops}
@@ -50,7 +50,7 @@ heard_push hears i old mid new k n h (m ∷ ms) c e =
     let here : k ≡ (i + 1) + length ms = omega (arith, c) in
     (e.0, e.1, heard_push hears (i + 1) e.0 mid new k n h ms here e.2)
 
--- What has been read, judged and heard, in this state of the reader, with this stream behind it and the path of the node that is due.
+-- What has been read, judged and heard, in this state of the reader, with this stream after it and the path of the node that is due.
 pub record Sofar (p : Problem) (v : ℕ) (b : Bound) (known : Bool) (H : List Node → Type 0) (s : Stream) (reader : Reader) (t : Stream) (path : List Fact) : Type 0 where
   pub nodes : List Node
   pub due : Bool
@@ -81,7 +81,7 @@ sofar_start p b known H s reader path e c d sizes sound heard = record {
 pub same_length : (x y : Stack) → Some x ≡ Some y → length x ≡ length y
 same_length x y e = let same : x ≡ y = cc in ap length same
 
--- behind nodes that pass, a node is due, and its text fails
+-- after nodes that pass, a node is due, and its text fails
 node_fails : (p : Problem) (v : ℕ) (b : Bound) (s t : Stream) (f : TextFault) (nodes : List Node) (path : List Fact) (others : Stack) → stack_after root nodes ≡ Some (path ∷ others) → All (Passes p b) (places_of root nodes)
     → ReadsNodes (sizes_of p) v 0 s nodes t → Fails f (node_at (sizes_of p) v (length nodes) t) → NodeFails p v b s f
 node_fails p v b s t f nodes path others stack passed reads fails =
@@ -100,9 +100,9 @@ node_fails p v b s t f nodes path others stack passed reads fails =
       fails = fails;
     }
 
--- behind nodes that pass, a node is due, and the failure of a read breaks it off
+-- after nodes that pass, a node is due, and the failure of a read breaks it off
 node_breaks : (p : Problem) (v : ℕ) (b : Bound) (s t : Stream) (nodes : List Node) (path : List Fact) (others : Stack) → stack_after root nodes ≡ Some (path ∷ others) → All (Passes p b) (places_of root nodes)
-    → ReadsNodes (sizes_of p) v 0 s nodes t → node_at (sizes_of p) v (length nodes) t ≡ Err read_failed → NodeBreaksOff p v b s
+    → ReadsNodes (sizes_of p) v 0 s nodes t → node_at (sizes_of p) v (length nodes) t ≡ Err read_failed → NodeIsCutOff p v b s
 unfolding node_fails
 node_breaks p v b s t nodes path others stack passed reads breaks = (node_fails p v b s t read_failed nodes path others stack passed reads tt, breaks)
 
@@ -114,7 +114,7 @@ child_as a c v w count more s i e same_sizes same_version same_count h =
     subst (λ (k : ℕ). TellsChild c w k s i e) same_count
     (subst (λ (k : ℕ). TellsChild c k count s i e) same_version (subst (λ (x : Sizes). TellsChild x v count s i e) same_sizes h))
 
--- behind nodes that pass, a node is due on a path that is too long; it has been read, or its text fails
+-- after nodes that pass, a node is due on a path that is too long; it has been read, or its text fails
 told_child : (p : Problem) (v : ℕ) (b : Bound) (s t : Stream) (nodes : List Node) (i : ℕ) → IsDeepNext p b nodes → length nodes ≡ i → ReadsNodes (sizes_of p) v 0 s nodes t → (e : CheckFault) → TellsChild (sizes_of p) v i t i e
     → TellsNodes p v b s e
 told_child p v b s t nodes i d len reads (told.Text f) c =
@@ -205,7 +205,7 @@ module _ (p : Problem) (v : ℕ) (b : Bound) (known : Bool) (H : List Node → T
         (child_as new.sizes (sizes_of p) new.version v new.count (i + 1) u (i + 1) e (ap (λ (r : Reader). r.sizes) goes.1 ∙ same_sizes) (ap (λ (r : Reader). r.version) goes.1 ∙ m.version) here child)
 
     -- it is a split whose children are too deep, and the failure of a read breaks the first of them off
-    pub sofar_deep_breaks : Stops p b path n TooDeep → known ≡ true → node_at new.sizes new.version new.count u ≡ Err read_failed → NodeBreaksOff p v b s
+    pub sofar_deep_breaks : Stops p b path n TooDeep → known ≡ true → node_at new.sizes new.version new.count u ≡ Err read_failed → NodeIsCutOff p v b s
     sofar_deep_breaks stops k breaks =
         let d = too_deep p b m.nodes path n (is_due goes.0).0 stops in
         let count : length (m.nodes ++ n ∷ []) ≡ new.count = one_more n ∙ ap (λ (r : Reader). r.count) (sym goes.1) in
@@ -229,7 +229,7 @@ module _ (p : Problem) (v : ℕ) (b : Bound) (known : Bool) (H : List Node → T
           }
 
   -- the text of the node that is due fails
-  pub sofar_unread : (new : Reader) (u : Stream) (f : TextFault) → Goes old (Err f) new → known ≡ true → Says old t (Err f) u → TellsNodes p v b s (text_fault f)
+  pub sofar_unread : (new : Reader) (u : Stream) (f : TextFault) → Goes old (Err f) new → known ≡ true → Says old t (Err f) u → TellsNodes p v b s (fault_from_text f)
   sofar_unread new u f goes k says =
       let w = (is_due goes.0).0 in
       let fails = node_as old.sizes (sizes_of p) old.version v old.count t (Fails f) same_sizes m.version says in
@@ -237,7 +237,7 @@ module _ (p : Problem) (v : ℕ) (b : Bound) (known : Bool) (H : List Node → T
       (λ n. (n, node_fails p v b s t f m.nodes path (pending path) w.stack w.passed (m.reads k) (subst (λ (i : ℕ). Fails f (node_at (sizes_of p) v i t)) (sym m.count) fails)))
 
   -- the failure of a read breaks the node off that is due
-  pub sofar_breaks : 0 < old.places → known ≡ true → node_at old.sizes old.version old.count t ≡ Err read_failed → NodeBreaksOff p v b s
+  pub sofar_breaks : 0 < old.places → known ≡ true → node_at old.sizes old.version old.count t ≡ Err read_failed → NodeIsCutOff p v b s
   sofar_breaks some k breaks =
       let w = (is_due some).0 in
       let fails = node_as old.sizes (sizes_of p) old.version v old.count t (λ r. r ≡ Err read_failed) same_sizes m.version breaks in

@@ -8,11 +8,11 @@ use Rattle.tt_proof_text.specs.declared.fault.TextFault.{TextFault}
 use Rattle.tt_proof_text.specs.declared.fault.TextFault.TheVariants as text
 use Rattle.tt_proof_check.specs.declared.fault.CheckFault.{CheckFault}
 use Rattle.tt_proof_check.specs.declared.fault.CheckFault.TheVariants as told
-use Rattle.tt_proof_check.specs.Faults.{text_fault, TellsMemoryOfText}
+use Rattle.tt_proof_check.specs.Faults.{fault_from_text, OutOfMemoryIsNoTextFault}
 use Rattle.tt_proof_check.specs.Streams.{Fails, IsSilent}
 
 -- a fault of the text is want of memory, or is told as it is
-pub text_cases : (f : TextFault) (Q : CheckFault → Type 0) → Q told.OutOfMemory → (¬ (f ≡ text.OutOfMemory) → Q (told.Text f)) → Q (text_fault f)
+pub text_cases : (f : TextFault) (Q : CheckFault → Type 0) → Q told.OutOfMemory → (¬ (f ≡ text.OutOfMemory) → Q (told.Text f)) → Q (fault_from_text f)
 text_cases (text.Ended at) Q a b = b (λ e. cc)
 text_cases (text.Expected w at) Q a b = b (λ e. cc)
 text_cases (text.UnknownWord at) Q a b = b (λ e. cc)
@@ -25,11 +25,11 @@ text_cases (text.Feed f) Q a b = b (λ e. cc)
 text_cases text.OutOfMemory Q a b = a
 
 -- want of memory is told as itself
-pub memory_text : (f : TextFault) → TellsMemoryOfText (text_fault f)
-memory_text f = text_cases f TellsMemoryOfText tt (λ n. n)
+pub memory_text : (f : TextFault) → OutOfMemoryIsNoTextFault (fault_from_text f)
+memory_text f = text_cases f OutOfMemoryIsNoTextFault tt (λ n. n)
 
 -- only a failed read is told as one
-pub read_told : (f : TextFault) → text_fault f ≡ told.Text read_failed → f ≡ read_failed
+pub read_told : (f : TextFault) → fault_from_text f ≡ told.Text read_failed → f ≡ read_failed
 read_told (text.Ended at) e = cc
 read_told (text.Expected w at) e = cc
 read_told (text.UnknownWord at) e = cc
@@ -42,7 +42,7 @@ read_told (text.Feed f) e = cc
 read_told text.OutOfMemory e = cc
 
 -- an error that was made of a fault, and is a failed read
-pub err_read : {A : Type 0} (r : Result A CheckFault) (f : TextFault) → IsErrAnd r (λ e. e ≡ text_fault f) → r ≡ Err (told.Text read_failed) → f ≡ read_failed
+pub err_read : {A : Type 0} (r : Result A CheckFault) (f : TextFault) → IsErrAnd r (λ e. e ≡ fault_from_text f) → r ≡ Err (told.Text read_failed) → f ≡ read_failed
 err_read (Ok x) f e h = absurd cc
 err_read (Err x) f e h = read_told f (let same : x ≡ told.Text read_failed = cc in sym e ∙ same)
 
@@ -52,7 +52,7 @@ err_same (Ok a) x y e h = absurd cc
 err_same (Err z) x y e h = let same : z ≡ y = cc in sym e ∙ same
 
 -- an error that was made of a fault
-pub err_gives : {A : Type 0} (r : Result A CheckFault) (f : TextFault) (Q : CheckFault → Type 0) → IsErrAnd r (λ e. e ≡ text_fault f) → Q (text_fault f) → IfErr r Q
+pub err_gives : {A : Type 0} (r : Result A CheckFault) (f : TextFault) (Q : CheckFault → Type 0) → IsErrAnd r (λ e. e ≡ fault_from_text f) → Q (fault_from_text f) → IfErr r Q
 err_gives (Ok x) f Q e h = tt
 err_gives (Err x) f Q e h = subst Q (sym e) h
 

@@ -24,7 +24,7 @@ abbrev pub stack_of : Bool → List Fact → Stack
 stack_of true path = path ∷ pending path
 stack_of false path = []
 
--- Each of the nodes passes, and behind them the node of this path is due, or none is.
+-- Each of the nodes passes, and after them the node of this path is due, or none is.
 pub record Walked (p : Problem) (b : Bound) (nodes : List Node) (path : List Fact) (due : Bool) : Type 0 where
   pub stack : stack_after root nodes ≡ Some (stack_of due path)
   pub passed : All (Passes p b) (places_of root nodes)
@@ -48,7 +48,7 @@ step_passes : (p : Problem) (b : Bound) (path : List Fact) (n : Node) (next : Li
 step_passes p b path (Split g) next h s = (h, tt)
 step_passes p b path (Leaf leaf) next h s = (h, s.0)
 
--- what is due behind the node
+-- what is due after the node
 step_stack : (p : Problem) (b : Bound) (path : List Fact) (n : Node) (next : List Fact) → Steps p b path n next → (due : Bool) × (next_stack path (pending path) n ≡ stack_of due next)
 step_stack p b path (Split g) next s =
     (true, sym (ap (stack_of true) s ∙ ap (λ l. with_fact path g true ∷ l) (pending-push path (record { pattern = g; holds = true }))))
@@ -122,7 +122,7 @@ fails_at p b nodes rest path (Leaf leaf) f tree e w s =
           (subst (λ (l : List OnPath). All (Passes p b) l) (sym (take_at (places_of root nodes) (at path (Leaf leaf) ∷ behind) (length nodes) len)) w.passed);
     }
 
--- nodes that pass, and behind them a node is due on a path that is too long
+-- nodes that pass, and after them a node is due on a path that is too long
 pub record IsDeepNext (p : Problem) (b : Bound) (nodes : List Node) : Type 0 where
   pub path : List Fact
   pub others : Stack

@@ -1,7 +1,7 @@
 -- What a failed read leaves known of a proof.
 use Rattle.std.specs.Prelude.{◌≡◌, ℕ, true, is_some, List, length, Option, Some, Err, ◌⊎◌}
 use Rattle.std.specs.Io.KnownBytes.{Consumes}
-use Rattle.tt_text.specs.Broken.{broken, rest_of, broken_at, MayFail}
+use Rattle.tt_text.specs.CutShort.{cut_short, rest_of, cut_at, MayFail}
 use Rattle.tt_text.specs.Feeds.{Stream, Fed}
 use Rattle.tt_instance.specs.Problem.{Problem}
 use Rattle.tt_instance.specs.Spelling.{Spells}
@@ -10,37 +10,37 @@ use Rattle.tt_proof_text.specs.Faults.{read_failed}
 use Rattle.tt_proof_text.specs.Reading.{header_at, node_at, end_at}
 use Rattle.tt_proof_check.specs.Streams.{stream_of, sizes_of, NodeFails, EndFails, HasHeader}
 
--- behind a header with this version and bound, nodes have been read, each of which passes, and the failure breaks the next node off
-abbrev pub NodeBreaksOff : Problem → ℕ → Bound → Stream → Type 0
-NodeBreaksOff p v b s = (x : NodeFails p v b s read_failed) × (node_at (sizes_of p) v (length x.nodes) x.rest ≡ Err read_failed)
+-- after a header with this version and bound, nodes have been read, each of which passes, and the failure breaks the next node off
+abbrev pub NodeIsCutOff : Problem → ℕ → Bound → Stream → Type 0
+NodeIsCutOff p v b s = (x : NodeFails p v b s read_failed) × (node_at (sizes_of p) v (length x.nodes) x.rest ≡ Err read_failed)
 
 -- the tree is whole and derives the bound, and the failure breaks the end off
-abbrev pub EndBreaksOff : Problem → ℕ → Bound → Stream → Type 0
-EndBreaksOff p v b s = (x : EndFails p v b s read_failed) × (end_at x.rest ≡ Err read_failed)
+abbrev pub EndIsCutOff : Problem → ℕ → Bound → Stream → Type 0
+EndIsCutOff p v b s = (x : EndFails p v b s read_failed) × (end_at x.rest ≡ Err read_failed)
 
 -- All of the stream has been read and judged, up to the failure at its end.
-abbrev pub BreaksOff : Problem → Stream → Type 0
-BreaksOff p s = (header_at s ≡ Err read_failed) ⊎ HasHeader s (λ v b rest. NodeBreaksOff p v b rest ⊎ EndBreaksOff p v b rest)
+abbrev pub IsCutOff : Problem → Stream → Type 0
+IsCutOff p s = (header_at s ≡ Err read_failed) ⊎ HasHeader s (λ v b rest. NodeIsCutOff p v b rest ⊎ EndIsCutOff p v b rest)
 
 -- The source gave some of the bytes before the read failed, and the others are left. P holds of what a feed gives of those which it gave.
 abbrev pub HoldsOfGiven : List ℕ → Option (List ℕ) → (Stream → Type 0) → Type 0
-HoldsOfGiven bytes left P = (given : List ℕ) × Consumes (Some bytes) left given × P (broken (stream_of given))
+HoldsOfGiven bytes left P = (given : List ℕ) × Consumes (Some bytes) left given × P (cut_short (stream_of given))
 
 -- All that the bytes which the source gave say has been read and judged.
-abbrev pub TellsRead : Problem → List ℕ → Option (List ℕ) → Type 0
-TellsRead p bytes left = HoldsOfGiven bytes left (BreaksOff p)
+abbrev pub IsJudgedUpToFailedRead : Problem → List ℕ → Option (List ℕ) → Type 0
+IsJudgedUpToFailedRead p bytes left = HoldsOfGiven bytes left (IsCutOff p)
 
 -- The same, of the instance that the bytes spell.
-pub record IsBrokenOff (instance proof : List ℕ) (left : Option (List ℕ)) : Type 0 where
+pub record IsSpelledAndJudgedUpToFailedRead (instance proof : List ℕ) (left : Option (List ℕ)) : Type 0 where
   pub problem : Problem
   pub spelled : Spells instance problem
-  pub tells : TellsRead problem proof left
+  pub tells : IsJudgedUpToFailedRead problem proof left
 
 -- P holds of what a feed gives, where the read fails before what is left now
 abbrev pub UpToFailure : Fed → Option (List ℕ) → Option (List ℕ) → (Stream → Type 0) → Type 0
-UpToFailure fed before after P = is_some before ≡ true → MayFail (rest_of after) fed before × P (broken_at (rest_of after) fed before)
+UpToFailure fed before after P = is_some before ≡ true → MayFail (rest_of after) fed before × P (cut_at (rest_of after) fed before)
 
 -- P holds of what the old and the new feed give, wherever a read fails later
 abbrev pub BeforeFailure : Fed → Option (List ℕ) → Fed → Option (List ℕ) → (Stream → Stream → Type 0) → Type 0
 BeforeFailure old before new after P =
-    is_some before ≡ true → (rest : List ℕ) → MayFail rest new after → MayFail rest old before × P (broken_at rest old before) (broken_at rest new after)
+    is_some before ≡ true → (rest : List ℕ) → MayFail rest new after → MayFail rest old before × P (cut_at rest old before) (cut_at rest new after)

@@ -5,11 +5,11 @@ use Rattle.tt_proof_text.specs.declared.fault.TextFault.TheVariants as text
 use Rattle.tt_proof_check.specs.declared.fault.CheckFault.{CheckFault}
 use Rattle.tt_proof_check.specs.declared.fault.CheckFault.TheVariants.{Text, OutOfMemory}
 
-abbrev pub text_fault : TextFault → CheckFault
-text_fault text.OutOfMemory = OutOfMemory
-text_fault f = Text f
+abbrev pub fault_from_text : TextFault → CheckFault
+fault_from_text text.OutOfMemory = OutOfMemory
+fault_from_text f = Text f
 
 -- Want of memory is told as itself, and not as a fault of the text.
-abbrev pub TellsMemoryOfText : CheckFault → Type 0
-TellsMemoryOfText (Text f) = ¬ (f ≡ text.OutOfMemory)
-TellsMemoryOfText _ = ⊤
+abbrev pub OutOfMemoryIsNoTextFault : CheckFault → Type 0
+OutOfMemoryIsNoTextFault (Text f) = ¬ (f ≡ text.OutOfMemory)
+OutOfMemoryIsNoTextFault _ = ⊤

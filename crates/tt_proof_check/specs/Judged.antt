@@ -1,4 +1,4 @@
--- What has been judged of a proof that is being read, behind a header with this version and bound.
+-- What has been judged of a proof that is being read, after a header with this version and bound.
 use Rattle.std.specs.Prelude.{◌≡◌, ℕ, Bool, true, List, [], Ok, ⊤}
 use Rattle.tt_text.specs.Feeds.{Stream}
 use Rattle.tt_instance.specs.Problem.{Problem}

@@ -1,7 +1,7 @@
 -- What the answers of a checker that reads node by node say of the text.
 use Rattle.std.specs.Prelude.{◌≡◌, ℕ, ◌+◌, List, [], ◌∷◌, ◌++◌, length, take, All, Result, Ok, ⊤, ◌⊎◌}
 use Rattle.tt_text.specs.Feeds.{Stream, stream_from, most_bytes}
-use Rattle.tt_text.specs.Reading.{FailsBut}
+use Rattle.tt_text.specs.Reading.{FailsUnless}
 use Rattle.tt_text.specs.declared.feed.FeedFault.TheVariants as feed
 use Rattle.tt_instance.specs.Problem.{Problem}
 use Rattle.tt_leaf.specs.declared.leaf.Bound.{Bound}
@@ -43,9 +43,9 @@ sizes_of p = record {
 
 -- the text has this very fault; a silent one says nothing of it
 abbrev pub Fails : {Y : Type 0} → TextFault → Result Y TextFault → Type 0
-Fails f read = FailsBut is_silent f read
+Fails f read = FailsUnless is_silent f read
 
--- ---- the nodes, behind a header with this version and bound
+-- ---- the nodes, after a header with this version and bound
 
 -- some tree goes on from the nodes that have been read, each of which passes, and the text of the next node fails
 pub record NodeFails (p : Problem) (v : ℕ) (b : Bound) (s : Stream) (f : TextFault) : Type 0 where
@@ -72,7 +72,7 @@ pub record IsReadTo (p : Problem) (v : ℕ) (s : Stream) (i : ℕ) (P : Tree →
 
 -- ---- the whole text
 
--- a header with some version and bound, and behind it what P says
+-- a header with some version and bound, and after it what P says
 abbrev pub HasHeader : Stream → (ℕ → Bound → Stream → Type 0) → Type 0
 HasHeader s P = (v : ℕ) × (b : Bound) × (rest : Stream) × (header_at s ≡ Ok ((v, b), rest)) × P v b rest
 
@@ -86,8 +86,8 @@ pub record EndFails (p : Problem) (v : ℕ) (b : Bound) (s : Stream) (f : TextFa
   pub fails : Fails f (end_at rest)
 
 -- what a fault says of a text, of which a feed gives this stream
-abbrev pub TellsOf : Problem → Stream → CheckFault → Type 0
-TellsOf p s (Text f) = ¬ (f ≡ text.OutOfMemory) × (Fails f (header_at s) ⊎ HasHeader s (λ v b rest. NodeFails p v b rest f ⊎ EndFails p v b rest f))
-TellsOf p s (Rule i f) = HasHeader s (λ v b rest. IsReadTo p v rest i (λ tree. FailsAt p b tree i f))
-TellsOf p s (TooDeep i) = HasHeader s (λ v b rest. IsReadTo p v rest i (λ tree. IsDeepAt p b tree i))
-TellsOf p s OutOfMemory = ⊤
+abbrev pub IsProofFault : Problem → Stream → CheckFault → Type 0
+IsProofFault p s (Text f) = ¬ (f ≡ text.OutOfMemory) × (Fails f (header_at s) ⊎ HasHeader s (λ v b rest. NodeFails p v b rest f ⊎ EndFails p v b rest f))
+IsProofFault p s (Rule i f) = HasHeader s (λ v b rest. IsReadTo p v rest i (λ tree. FailsAt p b tree i f))
+IsProofFault p s (TooDeep i) = HasHeader s (λ v b rest. IsReadTo p v rest i (λ tree. IsDeepAt p b tree i))
+IsProofFault p s OutOfMemory = ⊤

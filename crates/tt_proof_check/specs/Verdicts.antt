@@ -13,7 +13,7 @@ use Rattle.tt_table.specs.declared.fault.SolutionFault.TheVariants as solution
 use Rattle.tt_rules.specs.Score.{IsScore, IsFeasible}
 use Rattle.tt_rules.specs.declared.counts.Score.{Score}
 use Rattle.tt_proof_text.specs.declared.fault.TextFault.TheVariants as text
-use Rattle.tt_proof_check.specs.Faults.{TellsMemoryOfText}
+use Rattle.tt_proof_check.specs.Faults.{OutOfMemoryIsNoTextFault}
 use Rattle.tt_proof_check.specs.Headline.{SpellsBoth, Solves, BreaksARule, Certifies, BoundsAll}
 use Rattle.tt_proof_check.specs.Streams.{stream_of, TellsOf}
 use Rattle.tt_proof_check.specs.declared.fault.CheckFault.{CheckFault}
@@ -55,14 +55,14 @@ pub record FailsProof (instance solution : List ℕ) (proof : Option (List ℕ))
   pub table : List Cell
   pub both : SpellsBoth instance solution problem table
   pub feasible : IsFeasible problem table
-  pub fails : IfSome proof (λ bytes. TellsOf problem (stream_of bytes) f)
+  pub fails : IfSome proof (λ bytes. IsProofFault problem (stream_of bytes) f)
 
 -- a refusal tells the first fault: the instance's, then the solution's, then the proof's
-abbrev pub TellsOfAll : List ℕ → List ℕ → Option (List ℕ) → CertifyFault → Type 0
-TellsOfAll i s proof (fault.Instance f) = instance_of i ≡ Err f
-TellsOfAll i s proof (fault.Solution f) = FailsSolution i s f
-TellsOfAll i s proof (fault.Proof f) = FailsProof i s proof f
-TellsOfAll i s proof fault.OutOfMemory = ⊤
+abbrev pub IsFirstFault : List ℕ → List ℕ → Option (List ℕ) → CertifyFault → Type 0
+IsFirstFault i s proof (fault.Instance f) = instance_of i ≡ Err f
+IsFirstFault i s proof (fault.Solution f) = FailsSolution i s f
+IsFirstFault i s proof (fault.Proof f) = FailsProof i s proof f
+IsFirstFault i s proof fault.OutOfMemory = ⊤
 
 -- the instance or the solution is refused
 abbrev pub IsOfFiles : CertifyFault → Type 0
@@ -91,24 +91,24 @@ AnswersBroken (Err f) = f ≡ fault.OutOfMemory
 
 -- ---- how a fault is told: want of memory is always one and the same
 
-abbrev pub told_instance : InstanceFault → CertifyFault
-told_instance instance.OutOfMemory = fault.OutOfMemory
-told_instance f = fault.Instance f
+abbrev pub fault_from_instance : InstanceFault → CertifyFault
+fault_from_instance instance.OutOfMemory = fault.OutOfMemory
+fault_from_instance f = fault.Instance f
 
-abbrev pub told_solution : SolutionFault → CertifyFault
-told_solution solution.OutOfMemory = fault.OutOfMemory
-told_solution f = fault.Solution f
+abbrev pub fault_from_solution : SolutionFault → CertifyFault
+fault_from_solution solution.OutOfMemory = fault.OutOfMemory
+fault_from_solution f = fault.Solution f
 
-abbrev pub told_check : CheckFault → CertifyFault
-told_check check.OutOfMemory = fault.OutOfMemory
-told_check f = fault.Proof f
+abbrev pub fault_from_check : CheckFault → CertifyFault
+fault_from_check check.OutOfMemory = fault.OutOfMemory
+fault_from_check f = fault.Proof f
 
 -- Want of memory is told as itself, wherever it comes from.
-abbrev pub TellsMemory : CertifyFault → Type 0
-TellsMemory (fault.Instance f) = ¬ (f ≡ instance.OutOfMemory)
-TellsMemory (fault.Solution f) = ¬ (f ≡ solution.OutOfMemory)
-TellsMemory (fault.Proof f) = ¬ (f ≡ check.OutOfMemory) × TellsMemoryOfText f
-TellsMemory fault.OutOfMemory = ⊤
+abbrev pub OutOfMemoryIsOneFault : CertifyFault → Type 0
+OutOfMemoryIsOneFault (fault.Instance f) = ¬ (f ≡ instance.OutOfMemory)
+OutOfMemoryIsOneFault (fault.Solution f) = ¬ (f ≡ solution.OutOfMemory)
+OutOfMemoryIsOneFault (fault.Proof f) = ¬ (f ≡ check.OutOfMemory) × OutOfMemoryIsNoTextFault f
+OutOfMemoryIsOneFault fault.OutOfMemory = ⊤
 
 -- this bound, unless memory runs out or a read fails
 abbrev pub GivesBound : Result ℕ CertifyFault → ℕ → Type 0
@@ -116,8 +116,8 @@ GivesBound (Ok c) b = c ≡ b
 GivesBound (Err f) b = (f ≡ fault.OutOfMemory) ⊎ (f ≡ read_failed)
 
 -- a fault of the proof
-abbrev pub TellsBound : Problem → List ℕ → CertifyFault → Type 0
-TellsBound p bytes (fault.Instance f) = ⊥
-TellsBound p bytes (fault.Solution f) = ⊥
-TellsBound p bytes (fault.Proof f) = TellsOf p (stream_of bytes) f
-TellsBound p bytes fault.OutOfMemory = ⊤
+abbrev pub IsBoundFault : Problem → List ℕ → CertifyFault → Type 0
+IsBoundFault p bytes (fault.Instance f) = ⊥
+IsBoundFault p bytes (fault.Solution f) = ⊥
+IsBoundFault p bytes (fault.Proof f) = IsProofFault p (stream_of bytes) f
+IsBoundFault p bytes fault.OutOfMemory = ⊤

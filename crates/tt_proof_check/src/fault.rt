@@ -41,9 +41,9 @@ impl<T: Drop> From<AllocFailed<T>> for CheckFault {
 }
 
 impl From<TextFault> for CheckFault {
-    ghost use Rattle.tt_proof_check.specs.Faults.{text_fault};
+    ghost use Rattle.tt_proof_check.specs.Faults.{fault_from_text};
 
-    ghost from_gives = { λ f e. e ≡ text_fault f };
+    ghost from_gives = { λ f e. e ≡ fault_from_text f };
 
     fn from(fault: TextFault) -> CheckFault {
         match fault {
@@ -117,9 +117,9 @@ impl From<AllocError> for CertifyFault {
 
 impl From<InstanceFault> for CertifyFault {
     ghost use Rattle.std.specs.Prelude.{◌≡◌};
-    ghost use Rattle.tt_proof_check.specs.Verdicts.{told_instance};
+    ghost use Rattle.tt_proof_check.specs.Verdicts.{fault_from_instance};
 
-    ghost from_gives = { λ f e. e ≡ told_instance f };
+    ghost from_gives = { λ f e. e ≡ fault_from_instance f };
 
     fn from(fault: InstanceFault) -> CertifyFault {
         match fault {
@@ -131,9 +131,9 @@ impl From<InstanceFault> for CertifyFault {
 
 impl From<SolutionFault> for CertifyFault {
     ghost use Rattle.std.specs.Prelude.{◌≡◌};
-    ghost use Rattle.tt_proof_check.specs.Verdicts.{told_solution};
+    ghost use Rattle.tt_proof_check.specs.Verdicts.{fault_from_solution};
 
-    ghost from_gives = { λ f e. e ≡ told_solution f };
+    ghost from_gives = { λ f e. e ≡ fault_from_solution f };
 
     fn from(fault: SolutionFault) -> CertifyFault {
         match fault {
@@ -145,9 +145,9 @@ impl From<SolutionFault> for CertifyFault {
 
 impl From<CheckFault> for CertifyFault {
     ghost use Rattle.std.specs.Prelude.{◌≡◌};
-    ghost use Rattle.tt_proof_check.specs.Verdicts.{told_check};
+    ghost use Rattle.tt_proof_check.specs.Verdicts.{fault_from_check};
 
-    ghost from_gives = { λ f e. e ≡ told_check f };
+    ghost from_gives = { λ f e. e ≡ fault_from_check f };
 
     fn from(fault: CheckFault) -> CertifyFault {
         match fault {

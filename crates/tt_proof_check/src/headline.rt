@@ -4,10 +4,10 @@ ghost use Rattle.std.specs.Prelude.{◌≡◌, ℕ, List, Some, Err, true, IfOk,
 ghost use Rattle.tt_rules.specs.Score.{IsFeasible};
 ghost use Rattle.tt_leaf.specs.declared.leaf.Bound.TheVariants.{AtLeast};
 ghost use Rattle.tt_proof_check.specs.Derives.{HoldsOfAll};
-ghost use Rattle.tt_proof_check.specs.FailedReads.{TellsRead, IsBrokenOff};
+ghost use Rattle.tt_proof_check.specs.FailedReads.{IsJudgedUpToFailedRead, IsSpelledAndJudgedUpToFailedRead};
 ghost use Rattle.tt_proof_check.specs.Headline.{BreaksARule, Certifies};
 ghost use Rattle.tt_proof_check.specs.Streams.{IsProved};
-ghost use Rattle.tt_proof_check.specs.Verdicts.{IsVerdict, TellsOfAll, IsOfFiles, AnswersYes, AnswersBroken, GivesBound, TellsBound, TellsMemory, read_failed};
+ghost use Rattle.tt_proof_check.specs.Verdicts.{IsVerdict, IsFirstFault, IsOfFiles, AnswersYes, AnswersBroken, GivesBound, IsBoundFault, OutOfMemoryIsOneFault, read_failed};
 
 use crate::fault::{CertifyFault, Verdict};
 use crate::stream::check_proof;
@@ -29,13 +29,13 @@ fn proved_bound<R: Source>(
     ensures found { IfOk result (λ b. (bytes : List ℕ) → R.remaining proof.old ≡ Some bytes → IsProved instance.now bytes (AtLeast b)) }
     ensures only { (bytes : List ℕ) (b : ℕ) → R.remaining proof.old ≡ Some bytes → IsProved instance.now bytes (AtLeast b) → GivesBound result b }
     ensures holds { IfOk result (λ b. HoldsOfAll instance.now (AtLeast b)) }
-    ensures fault { IfErr result (λ e. (bytes : List ℕ) → R.remaining proof.old ≡ Some bytes → TellsBound instance.now bytes e) }
+    ensures fault { IfErr result (λ e. (bytes : List ℕ) → R.remaining proof.old ≡ Some bytes → IsBoundFault instance.now bytes e) }
     ensures own { IfErr result (λ e. IsOfFiles e → ⊥) }
     ensures failed { result ≡ Err read_failed → R.has_failed proof.new ≡ true }
     ensures unfailed { ¬ (result ≡ Err read_failed) → R.has_failed proof.new ≡ R.has_failed proof.old }
-    ensures memory { IfErr result TellsMemory }
-    ensures broken_off { result ≡ Err read_failed → (bytes : List ℕ) → R.remaining proof.old ≡ Some bytes →
-        TellsRead instance.now bytes (R.remaining proof.new) }
+    ensures memory { IfErr result OutOfMemoryIsOneFault }
+    ensures up_to_failed_read { result ≡ Err read_failed → (bytes : List ℕ) → R.remaining proof.old ≡ Some bytes →
+        IsJudgedUpToFailedRead instance.now bytes (R.remaining proof.new) }
 {
     match check_proof(alloc, instance, proof)? {
         Bound::AtLeast(bound) => Ok(bound),
@@ -59,17 +59,17 @@ pub fn certify<R: Source>(
     // What breaks a hard rule is answered, and the proof isn't read.
     ensures broken { BreaksARule instance.now solution.now → AnswersBroken result × (proof.new ≡ proof.old) }
     // A refusal tells the first fault.
-    ensures fault { IfErr result (TellsOfAll instance.now solution.now (R.remaining proof.old)) }
+    ensures fault { IfErr result (IsFirstFault instance.now solution.now (R.remaining proof.old)) }
     // The proof isn't read where the instance or the solution is refused.
     ensures unread { IfErr result (λ f. IsOfFiles f → proof.new ≡ proof.old) }
     // A read is said to have failed only where one did.
     ensures failed { result ≡ Err read_failed → R.has_failed proof.new ≡ true }
     ensures unfailed { ¬ (result ≡ Err read_failed) → R.has_failed proof.new ≡ R.has_failed proof.old }
     // Where one failed, all that the proof's bytes before it say has been judged.
-    ensures broken_off { result ≡ Err read_failed → (bytes : List ℕ) → R.remaining proof.old ≡ Some bytes →
-        IsBrokenOff instance.now bytes (R.remaining proof.new) }
+    ensures up_to_failed_read { result ≡ Err read_failed → (bytes : List ℕ) → R.remaining proof.old ≡ Some bytes →
+        IsSpelledAndJudgedUpToFailedRead instance.now bytes (R.remaining proof.new) }
     // Want of memory is one answer, wherever it comes from.
-    ensures memory { IfErr result TellsMemory }
+    ensures memory { IfErr result OutOfMemoryIsOneFault }
 {
     let instance = read_instance(alloc, instance)?;
     let table = read_solution(alloc, &instance, solution)?;

@@ -8,13 +8,13 @@ ghost use Rattle.tt_proof_text.specs.Faults.{read_failed};
 ghost use Rattle.tt_proof_text.specs.Reading.{node_at};
 ghost use Rattle.tt_proof_text.specs.Sizes.{AreSizes};
 ghost use Rattle.tt_proof_check.specs.Derives.{HoldsOfAll};
-ghost use Rattle.tt_proof_check.specs.FailedReads.{NodeBreaksOff, BreaksOff, TellsRead, UpToFailure, BeforeFailure};
-ghost use Rattle.tt_proof_check.specs.Faults.{TellsMemoryOfText};
+ghost use Rattle.tt_proof_check.specs.FailedReads.{NodeIsCutOff, IsCutOff, IsJudgedUpToFailedRead, UpToFailure, BeforeFailure};
+ghost use Rattle.tt_proof_check.specs.Faults.{OutOfMemoryIsNoTextFault};
 ghost use Rattle.tt_proof_check.specs.Heard.{Heard, Unheard, IsHeardProof};
 ghost use Rattle.tt_proof_check.specs.Nodes.{IsNodeOf};
 ghost use Rattle.tt_proof_check.specs.Steps.{Steps, Stops};
 ghost use Rattle.tt_proof_check.specs.Judged.{Judged, Proved, TellsNodes, TellsChild};
-ghost use Rattle.tt_proof_check.specs.Streams.{stream_of, IsProved, IsSilent, TellsOf};
+ghost use Rattle.tt_proof_check.specs.Streams.{stream_of, IsProved, IsSilent, IsProofFault};
 
 use crate::fault::CheckFault;
 use crate::listener::{Deaf, Listener};
@@ -47,10 +47,10 @@ fn deep_fault<R: Source>(reader: &mut NodeReader, source: &mut R, node: u32) -> 
     ensures known { StaysKnown (R.remaining source.old) (R.remaining source.new) }
     ensures failed { result ≡ CheckFault.Text read_failed → R.has_failed source.new ≡ true }
     ensures unfailed { ¬ (result ≡ CheckFault.Text read_failed) → R.has_failed source.new ≡ R.has_failed source.old }
-    ensures memory { TellsMemoryOfText result }
+    ensures memory { OutOfMemoryIsNoTextFault result }
     ensures fault { is_some (R.remaining source.old) ≡ true →
         TellsChild reader.old.sizes reader.old.version reader.old.count (stream_at reader.old.fed (R.remaining source.old)) node result }
-    ensures broken_off { result ≡ CheckFault.Text read_failed → UpToFailure reader.old.fed (R.remaining source.old) (R.remaining source.new)
+    ensures up_to_failed_read { result ≡ CheckFault.Text read_failed → UpToFailure reader.old.fed (R.remaining source.old) (R.remaining source.new)
         (λ s. node_at reader.old.sizes reader.old.version reader.old.count s ≡ Err read_failed) }
 {
     match reader.next_node(source) {
@@ -78,13 +78,13 @@ fn judge<'i, P: Path<'i>, R: Source, L: Listener>(
     ensures sound { OnOk result (reader.new.fault ≡ None) }
     ensures failed { result ≡ Err (CheckFault.Text read_failed) → R.has_failed source.new ≡ true }
     ensures unfailed { ¬ (result ≡ Err (CheckFault.Text read_failed)) → R.has_failed source.new ≡ R.has_failed source.old }
-    ensures memory { IfErr result TellsMemoryOfText }
+    ensures memory { IfErr result OutOfMemoryIsNoTextFault }
     ensures fault { is_some (R.remaining source.old) ≡ true →
         IfErr result (λ e. TellsNodes (P.problem path.old) reader.old.version reader.old.bound (stream_at reader.old.fed (R.remaining source.old)) e) }
-    ensures broken { OnOk result (BeforeFailure reader.old.fed (R.remaining source.old) reader.new.fed (R.remaining source.new)
+    ensures cut_short { OnOk result (BeforeFailure reader.old.fed (R.remaining source.old) reader.new.fed (R.remaining source.new)
         (Judged (P.problem path.old) reader.old.version reader.old.bound true Unheard)) }
-    ensures broken_off { result ≡ Err (CheckFault.Text read_failed) → UpToFailure reader.old.fed (R.remaining source.old) (R.remaining source.new)
-        (NodeBreaksOff (P.problem path.old) reader.old.version reader.old.bound) }
+    ensures up_to_failed_read { result ≡ Err (CheckFault.Text read_failed) → UpToFailure reader.old.fed (R.remaining source.old) (R.remaining source.new)
+        (NodeIsCutOff (P.problem path.old) reader.old.version reader.old.bound) }
 {
     let bound = reader.bound();
     let mut count: u32 = 0;
@@ -112,11 +112,11 @@ fn read_proof<'i, P: Path<'i>, R: Source, L: Listener>(
     ensures proved { IfOk result (λ b. Proved (P.problem path.old) (is_some (R.remaining source.old)) (Heard L.hears 0 listener.old listener.new) (stream_at fresh (R.remaining source.old)) b) }
     ensures failed { result ≡ Err (CheckFault.Text read_failed) → R.has_failed source.new ≡ true }
     ensures unfailed { ¬ (result ≡ Err (CheckFault.Text read_failed)) → R.has_failed source.new ≡ R.has_failed source.old }
-    ensures memory { IfErr result TellsMemoryOfText }
+    ensures memory { IfErr result OutOfMemoryIsNoTextFault }
     ensures fault { is_some (R.remaining source.old) ≡ true →
-        IfErr result (λ e. TellsOf (P.problem path.old) (stream_at fresh (R.remaining source.old)) e) }
-    ensures broken_off { result ≡ Err (CheckFault.Text read_failed) →
-        UpToFailure fresh (R.remaining source.old) (R.remaining source.new) (BreaksOff (P.problem path.old)) }
+        IfErr result (λ e. IsProofFault (P.problem path.old) (stream_at fresh (R.remaining source.old)) e) }
+    ensures up_to_failed_read { result ≡ Err (CheckFault.Text read_failed) →
+        UpToFailure fresh (R.remaining source.old) (R.remaining source.new) (IsCutOff (P.problem path.old)) }
 {
     let mut reader = NodeReader::new(alloc, path.instance(), source)?;
     let bound = reader.bound();
@@ -144,11 +144,11 @@ pub fn hear_proof<R: Source, L: Listener>(
     ensures holds { IfOk result (HoldsOfAll instance.now) }
     ensures failed { result ≡ Err (CheckFault.Text read_failed) → R.has_failed source.new ≡ true }
     ensures unfailed { ¬ (result ≡ Err (CheckFault.Text read_failed)) → R.has_failed source.new ≡ R.has_failed source.old }
-    ensures memory { IfErr result TellsMemoryOfText }
-    ensures fault { IfErr result (λ e. (bytes : List ℕ) → R.remaining source.old ≡ Some bytes → TellsOf instance.now (stream_of bytes) e) }
+    ensures memory { IfErr result OutOfMemoryIsNoTextFault }
+    ensures fault { IfErr result (λ e. (bytes : List ℕ) → R.remaining source.old ≡ Some bytes → IsProofFault instance.now (stream_of bytes) e) }
     // Where a read fails, all that the bytes before it say has been judged.
-    ensures broken_off { result ≡ Err (CheckFault.Text read_failed) → (bytes : List ℕ) → R.remaining source.old ≡ Some bytes →
-        TellsRead instance.now bytes (R.remaining source.new) }
+    ensures up_to_failed_read { result ≡ Err (CheckFault.Text read_failed) → (bytes : List ℕ) → R.remaining source.old ≡ Some bytes →
+        IsJudgedUpToFailedRead instance.now bytes (R.remaining source.new) }
 {
     // What is true of every instance: its numbers are small enough to be read.
     prove!(instance.days() > 0);
@@ -173,11 +173,11 @@ pub fn check_proof<R: Source>(
     ensures holds { IfOk result (HoldsOfAll instance.now) }
     ensures failed { result ≡ Err (CheckFault.Text read_failed) → R.has_failed source.new ≡ true }
     ensures unfailed { ¬ (result ≡ Err (CheckFault.Text read_failed)) → R.has_failed source.new ≡ R.has_failed source.old }
-    ensures memory { IfErr result TellsMemoryOfText }
-    ensures fault { IfErr result (λ e. (bytes : List ℕ) → R.remaining source.old ≡ Some bytes → TellsOf instance.now (stream_of bytes) e) }
+    ensures memory { IfErr result OutOfMemoryIsNoTextFault }
+    ensures fault { IfErr result (λ e. (bytes : List ℕ) → R.remaining source.old ≡ Some bytes → IsProofFault instance.now (stream_of bytes) e) }
     // Where a read fails, all that the bytes before it say has been judged.
-    ensures broken_off { result ≡ Err (CheckFault.Text read_failed) → (bytes : List ℕ) → R.remaining source.old ≡ Some bytes →
-        TellsRead instance.now bytes (R.remaining source.new) }
+    ensures up_to_failed_read { result ≡ Err (CheckFault.Text read_failed) → (bytes : List ℕ) → R.remaining source.old ≡ Some bytes →
+        IsJudgedUpToFailedRead instance.now bytes (R.remaining source.new) }
 {
     hear_proof(alloc, instance, &mut Deaf, source)
 }

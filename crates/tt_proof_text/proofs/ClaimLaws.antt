@@ -19,7 +19,7 @@ use Rattle.tt_proof_text.specs.Pricing.{AreKept}
 use Rattle.tt_proof_text.specs.Readers.{IsWordIn}
 use Rattle.tt_proof_text.specs.Sizes.{AreSizes}
 use Rattle.tt_proof_text.specs.Spelling.{course_piece, price_pieces, course_prices, room_prices, SpellsClaim, SpellsEach, IsShortClaim, IsClaimIn}
-use Rattle.tt_proof_text.specs.Reading.{token_at, course_at, curriculum_at, price_at, prices_at, claim_word_of, claim_behind, claim_then, claim_at, claims_at}
+use Rattle.tt_proof_text.specs.Reading.{token_at, course_at, curriculum_at, price_at, prices_at, claim_word_of, claim_after_word, claim_then, claim_at, claims_at}
 use Rattle.tt_proof_text.specs.declared.claims.ClaimWord.{ClaimWord}
 use Rattle.tt_proof_text.specs.declared.claims.ClaimWord.TheVariants as word
 use Rattle.tt_proof_text.specs.declared.fault.TextFault.{TextFault}
@@ -82,16 +82,16 @@ module _ (p : Problem) (sizes : Sizes) (are : AreSizes p sizes) (version : ℕ) 
   abbrev IsNext : List Claim → Claim → Type 0
   IsNext before c = IsClaim c
 
-  -- what was read behind a word is spelled
+  -- what was read after a word is spelled
   record Behind (w : ClaimWord) (s : Stream) (x : Claim × Stream) : Type 0 where
     rest : List Piece
     spells : SpellsClaim x.0 (Text (code_of w) ∷ rest)
     took : Took s rest x.1
     is : IsClaim x.0
 
-  -- what was read behind a word is spelled
-  behind_took : (w : ClaimWord) (s : Stream) (x : Claim × Stream) → IsWordIn version w → claim_behind sizes w s ≡ Ok x → Behind w s x
-  unfolding claim_behind
+  -- what was read after a word is spelled
+  behind_took : (w : ClaimWord) (s : Stream) (x : Claim × Stream) → IsWordIn version w → claim_after_word sizes w s ≡ Ok x → Behind w s x
+  unfolding claim_after_word
   behind_took word.Capacity s x fits e =
       let c = bind_ok (course_at sizes s) (λ c. price_at c.1 >>= λ u. Ok (claim.Capacity c.0 u.0, u.1)) x e in
       let u = bind_ok (price_at c.0.1) (λ u. Ok (claim.Capacity c.0.0 u.0, u.1)) x c.2 in
@@ -146,26 +146,26 @@ module _ (p : Problem) (sizes : Sizes) (are : AreSizes p sizes) (version : ℕ) 
       by_word t first None text r =
           subst (λ (y : Option Claim × Stream). PartTook push (λ _ rest. claim_at sizes version rest) SpellsClaim IsNext last before s y.0 y.1) (ok_is (None, t.1) x r) (took_piece s t last first text)
       by_word t first (Some w) text r =
-          let c = bind_ok (claim_behind sizes w t.1) (λ c. Ok (Some c.0, c.1)) x r in
+          let c = bind_ok (claim_after_word sizes w t.1) (λ c. Ok (Some c.0, c.1)) x r in
           let b = behind_took w t.1 c.0 text.1 c.1 in
           subst (λ (y : Option Claim × Stream). PartTook push (λ _ rest. claim_at sizes version rest) SpellsClaim IsNext last before s y.0 y.1) (ok_is (Some c.0.0, c.0.1) x c.2)
           (Text (code_of w) ∷ b.rest, b.spells, took_then s t.1 c.0.1 (Text (code_of w) ∷ []) b.rest (took_piece s t (Text (code_of w)) first text.0) b.took, b.is)
 
   module _ (small : AreSmall sizes) where
-    by_claim : (w : ClaimWord) (c : Claim) (rest : List Piece) (s after : Stream) → IsWordIn version w → ((mid : Stream) → Took mid rest after → claim_behind sizes w mid ≡ Ok (c, after))
+    by_claim : (w : ClaimWord) (c : Claim) (rest : List Piece) (s after : Stream) → IsWordIn version w → ((mid : Stream) → Took mid rest after → claim_after_word sizes w mid ≡ Ok (c, after))
         → Took s (Text (code_of w) ∷ rest) after → claim_at sizes version s ≡ Ok (Some c, after)
     unfolding claim_at
     by_claim w c rest s after fits more took =
         let f = first_of_pieces (Text (code_of w)) rest s after took in
         rw (f.is, word_reads version w f.token fits f.piece, more f.mid f.rest) refl
 
-    -- a course behind the word
+    -- a course after the word
     course_in : (c : ℕ) (s after : Stream) → c < length p.courses → Took s (course_piece c ∷ []) after → course_at sizes s ≡ Ok (c, after)
     course_in c s after below took = course_reads sizes c s after small.courses (omega (arith, are.courses, below)) took
 
     -- a claim that is spelled is read
     claim_reads : (before : List Claim) (c : Claim) (ps : List Piece) (s after : Stream) → SpellsClaim c ps → IsNext before c → Took s ps after → claim_at sizes version s ≡ Ok (Some c, after)
-    unfolding claim_behind
+    unfolding claim_after_word
     claim_reads before (claim.Capacity c u) ps s after spell next took =
         by_claim word.Capacity (claim.Capacity c u) (course_piece c ∷ Number u ∷ []) s after tt (λ mid t.
         let parts = took_split (course_piece c ∷ []) (Number u ∷ []) mid after t in

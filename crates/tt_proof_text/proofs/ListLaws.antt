@@ -4,7 +4,7 @@ use Rattle.std.specs.Prelude.{map, fold}
 use Rattle.std.specs.List.{push}
 use Rattle.std.proofs.lemmas.List.{append-nil}
 use Rattle.std.proofs.lemmas.List.Elements.{All-nil, All-cons, All-head, All-tail}
-use Rattle.tt_lists.specs.Words.{each_two, has}
+use Rattle.tt_lists.specs.Words.{each_two, has_number}
 use Rattle.tt_text.specs.Tokens.{Placed}
 use Rattle.tt_text.specs.Texts.{is_text}
 use Rattle.tt_text.specs.Pieces.{Piece, Text, IsPiece}
@@ -39,7 +39,7 @@ AreOnce cs = each_two (λ a b. not (a == b)) cs ≡ true
 
 -- a course of the instance that is none of those before it
 abbrev IsNext : Sizes → List ℕ → ℕ → Type 0
-IsNext sizes before c = (c < sizes.courses) × (has before c ≡ false)
+IsNext sizes before c = (c < sizes.courses) × (has_number before c ≡ false)
 
 -- a course that may come next, if it is one
 abbrev IsNextIf : Sizes → List ℕ → Option ℕ → Type 0

@@ -2,7 +2,7 @@
 use Rattle.std.proofs.Common.{◌≡◌, ℕ, Bool, List, [], ◌∷◌, ◌++◌, Option, Some, None, Result, Ok, sym, subst}
 use Rattle.std.specs.List.{push}
 use Rattle.tt_text.specs.Feeds.{Stream}
-use Rattle.tt_text.specs.Reading.{FailsBut}
+use Rattle.tt_text.specs.Reading.{FailsUnless}
 use Rattle.tt_proof_text.specs.Reading.{listed_at, list_at}
 use Rattle.tt_proof_text.specs.declared.fault.TextFault.{TextFault}
 use Rattle.tt_proof_text.specs.declared.sizes.Sizes.{Sizes}
@@ -32,6 +32,6 @@ pub list_end : (sizes : Sizes) (items : List ℕ) (s rest : Stream) (o : Option 
 list_end sizes items s rest o total e none left = left_end push (listed_at sizes) items s rest o total e none left
 
 -- a token is refused
-pub list_fails : (silent : TextFault → Bool) (f : TextFault) (sizes : Sizes) (items : List ℕ) (s : Stream) (total : Total) → FailsBut silent f (listed_at sizes items s) → IsListLeft sizes items s total
-    → FailsBut silent f total
+pub list_fails : (silent : TextFault → Bool) (f : TextFault) (sizes : Sizes) (items : List ℕ) (s : Stream) (total : Total) → FailsUnless silent f (listed_at sizes items s) → IsListLeft sizes items s total
+    → FailsUnless silent f total
 list_fails silent f sizes items s total fails left = left_fails push (listed_at sizes) silent f items s total fails left

@@ -1,7 +1,7 @@
 -- Parts up to their end, one after the other.
 use Rattle.std.proofs.Common.{◌≡◌, ℕ, zero, suc, ◌<◌, Bool, length, Option, Some, None, Result, Ok, refl, sym, ap, subst, ◌∙◌, arith}
 use Rattle.tt_text.specs.Feeds.{Stream}
-use Rattle.tt_text.specs.Reading.{FailsBut}
+use Rattle.tt_text.specs.Reading.{FailsUnless}
 use Rattle.tt_text.proofs.Steps.{fails_then, fails_as, ok_is, bind_ok}
 use Rattle.tt_proof_text.specs.Reading.{up_to_end, kept_then}
 use Rattle.tt_proof_text.specs.declared.fault.TextFault.{TextFault}
@@ -51,11 +51,11 @@ module _ {S X : Type 0} (add : S → X → S) (part : S → Stream → Result (O
       by_most (suc n) enough is = sym is ∙ step n kept s rest o e ∙ ap (kept_then add kept rest (λ now. up_to_end add part n now rest)) none
 
   -- a part is refused
-  pub left_fails : (silent : TextFault → Bool) (f : TextFault) (kept : S) (s : Stream) (total : Result (S × Stream) TextFault) → FailsBut silent f (part kept s) → IsLeft kept s total → FailsBut silent f total
+  pub left_fails : (silent : TextFault → Bool) (f : TextFault) (kept : S) (s : Stream) (total : Result (S × Stream) TextFault) → FailsUnless silent f (part kept s) → IsLeft kept s total → FailsUnless silent f total
   unfolding up_to_end
   left_fails silent f kept s total fails left = by_most left.most left.enough left.is
     where
-      by_most : (n : ℕ) → length s.tokens < n → up_to_end add part n kept s ≡ total → FailsBut silent f total
+      by_most : (n : ℕ) → length s.tokens < n → up_to_end add part n kept s ≡ total → FailsUnless silent f total
       by_most zero enough is = absurd (omega arith)
       by_most (suc n) enough is =
           fails_as silent f _ _ is (fails_then silent f (part kept s) (λ x. kept_then add kept x.1 (λ now. up_to_end add part n now x.1) x.0) fails)

@@ -21,7 +21,7 @@ use Rattle.tt_leaf.specs.declared.leaf.Claim.{Claim}
 use Rattle.tt_leaf.specs.declared.leaf.Leaf.TheVariants as leaf
 use Rattle.tt_proof_text.specs.Sizes.{AreSizes}
 use Rattle.tt_proof_text.specs.Spelling.{who_piece, given_piece, course_piece, pattern_pieces, listed_pieces, SpellsNode, IsShortClaim, IsClaimIn, IsNode}
-use Rattle.tt_proof_text.specs.Reading.{token_at, course_at, who_at, given_at, pattern_at, list_at, claims_at, node_word_of, node_behind, counted, node_at}
+use Rattle.tt_proof_text.specs.Reading.{token_at, course_at, who_at, given_at, pattern_at, list_at, claims_at, node_word_of, node_after_word, counted, node_at}
 use Rattle.tt_proof_text.specs.declared.fault.TextFault.TheVariants as fault
 use Rattle.tt_proof_text.specs.declared.node.Node.{Node}
 use Rattle.tt_proof_text.specs.declared.node.Node.TheVariants as node
@@ -122,7 +122,7 @@ module _ (p : Problem) (sizes : Sizes) (are : AreSizes p sizes) where
   -- ---- nodes
 
   module _ (version : ℕ) where
-    -- what was read behind a word is spelled
+    -- what was read after a word is spelled
     record Behind (w : NodeWord) (s : Stream) (x : Node × Stream) : Type 0 where
       rest : List Piece
       spells : SpellsNode x.0 (Text (code_of w) ∷ rest)
@@ -139,9 +139,9 @@ module _ (p : Problem) (sizes : Sizes) (are : AreSizes p sizes) where
     parts_claims [] a b c = tt
     parts_claims (x ∷ xs) a b c = ((a.0, b.0, c.0), parts_claims xs a.1 b.1 c.1)
 
-    -- what was read behind a word is spelled
-    behind_took : (w : NodeWord) (s : Stream) (x : Node × Stream) → node_behind sizes version w s ≡ Ok x → Behind w s x
-    unfolding node_behind
+    -- what was read after a word is spelled
+    behind_took : (w : NodeWord) (s : Stream) (x : Node × Stream) → node_after_word sizes version w s ≡ Ok x → Behind w s x
+    unfolding node_after_word
     behind_took word.Split s x e =
         let g = bind_ok (pattern_at sizes s) (λ g. Ok (node.Split g.0, g.1)) x e in
         let a = pattern_took s g.0 g.1 in
@@ -188,8 +188,8 @@ module _ (p : Problem) (sizes : Sizes) (are : AreSizes p sizes) where
     unfolding node_at
     node_took count s x e =
         let t = bind_ok (token_at s) _ x e in
-        let u = bind_ok (counted t.0.0.at count) (λ (_ : Unit {0}). node_word_of t.0.0 >>= λ w. node_behind sizes version w t.0.1) x t.2 in
-        let w = bind_ok (node_word_of t.0.0) (λ w. node_behind sizes version w t.0.1) x u.2 in
+        let u = bind_ok (counted t.0.0.at count) (λ (_ : Unit {0}). node_word_of t.0.0 >>= λ w. node_after_word sizes version w t.0.1) x t.2 in
+        let w = bind_ok (node_word_of t.0.0) (λ w. node_after_word sizes version w t.0.1) x u.2 in
         let b = behind_took w.0 t.0.1 x w.2 in
         let few = test_ok (nat_lt count 16777216) (fault.TooManyNodes t.0.0.at) (Ok tt) u.0 u.1 in
         record {
@@ -200,7 +200,7 @@ module _ (p : Problem) (sizes : Sizes) (are : AreSizes p sizes) where
           room = omega (arith, leb-true _ _ few.0);
         }
 
-    by_word : (w : NodeWord) (n : Node) (rest : List Piece) (count : ℕ) (s after : Stream) → count < 16777216 → ((mid : Stream) → Took mid rest after → node_behind sizes version w mid ≡ Ok (n, after))
+    by_word : (w : NodeWord) (n : Node) (rest : List Piece) (count : ℕ) (s after : Stream) → count < 16777216 → ((mid : Stream) → Took mid rest after → node_after_word sizes version w mid ≡ Ok (n, after))
         → Took s (Text (code_of w) ∷ rest) after → node_at sizes version count s ≡ Ok (n, after)
     unfolding node_at
     by_word w n rest count s after room more took =
@@ -211,7 +211,7 @@ module _ (p : Problem) (sizes : Sizes) (are : AreSizes p sizes) where
     -- a node that is spelled is read
     pub node_reads : AreSmall sizes → (count : ℕ) (n : Node) (ps : List Piece) (s after : Stream) → count < 16777216 → SpellsNode n ps → IsNode p version n → Took s ps after
         → node_at sizes version count s ≡ Ok (n, after)
-    unfolding node_behind
+    unfolding node_after_word
     node_reads small count (node.Split g) ps s after room spell is took =
         by_word word.Split (node.Split g) (pattern_pieces g) count s after room (λ mid t. rw (pattern_reads small g mid after is t) refl) (subst (λ qs. Took s qs after) spell took)
     node_reads small count (node.Leaf (leaf.Empty g)) ps s after room spell is took =

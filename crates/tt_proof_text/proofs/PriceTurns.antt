@@ -2,13 +2,13 @@
 use Rattle.std.proofs.Common.{◌≡◌, ℕ, ◌<◌, ◌≤◌, ◌==◌, ◌||◌, Bool, false, List, [], ◌∷◌, ◌++◌, Option, Some, None, Result, Ok, refl, sym, ap, subst, append_assoc, ◌∙◌}
 use Rattle.std.specs.Prelude.{map, All}
 use Rattle.std.specs.List.{list_any}
-use Rattle.tt_lists.specs.Words.{has}
+use Rattle.tt_lists.specs.Words.{has_number}
 use Rattle.std.proofs.lemmas.List.{map-append}
 use Rattle.std.proofs.lemmas.List.Elements.{All-nil, All-push, recursion_from_All}
 use Rattle.tt_lists.proofs.Members.{each_of_append}
 use Rattle.tt_leaf.specs.Ranges.{ArePrices, AreBelow}
 use Rattle.tt_text.specs.Feeds.{Stream}
-use Rattle.tt_text.specs.Reading.{FailsBut}
+use Rattle.tt_text.specs.Reading.{FailsUnless}
 use Rattle.tt_proof_text.specs.Pricing.{with_seen, IsUnseen, AreKept}
 use Rattle.tt_proof_text.specs.Reading.{Kept, Seen, seen_in, with_priced, with_pair, pair_at, next_pair_at, prices_at}
 use Rattle.tt_proof_text.specs.declared.fault.TextFault.{TextFault}
@@ -20,12 +20,12 @@ use Rattle.tt_proof_text.proofs.Progress.{pair_takes}
 use Rattle.tt_proof_text.proofs.Distinct.{each_two_push, is_new}
 
 -- a number among the pairs is among their numbers
-any_number : (prices : List (ℕ × ℕ)) (n : ℕ) → list_any (λ k. k.0 == n) prices ≡ has (map (λ k. k.0) prices) n
+any_number : (prices : List (ℕ × ℕ)) (n : ℕ) → list_any (λ k. k.0 == n) prices ≡ has_number (map (λ k. k.0) prices) n
 any_number [] n = refl
 any_number (k ∷ ks) n = ap (λ b. (k.0 == n) || b) (any_number ks n)
 
 -- one price more
-prices_push : (count : ℕ) (prices : List (ℕ × ℕ)) (n u : ℕ) → ArePrices count prices → n < count → has (map (λ k. k.0) prices) n ≡ false → ArePrices count (prices ++ (n, u) ∷ [])
+prices_push : (count : ℕ) (prices : List (ℕ × ℕ)) (n u : ℕ) → ArePrices count prices → n < count → has_number (map (λ k. k.0) prices) n ≡ false → ArePrices count (prices ++ (n, u) ∷ [])
 prices_push count prices n u are below new = record {
   within = subst (AreBelow count) (sym (map-append (λ k. k.0) prices ((n, u) ∷ []))) (All-push (λ m. m < count) (map (λ k. k.0) prices) n are.within below);
   once = each_two_push (λ a b. a.0 == b.0) prices (n, u) are.once (any_number prices n ∙ new);
@@ -67,7 +67,7 @@ middle : {X : Type 0} (P : X → Type 0) (before : List X) (x : X) (xs : List X)
 middle P before x xs all = (each_of_append P before (x ∷ xs) (recursion_from_All P (before ++ x ∷ xs) all)).1.0
 
 -- a price among others is of a number below the count that is not priced before it
-price_before : (count : ℕ) (before : List (ℕ × ℕ)) (n u : ℕ) (xs : List (ℕ × ℕ)) → ArePrices count (before ++ (n, u) ∷ xs) → (n < count) × (has (map (λ k. k.0) before) n ≡ false)
+price_before : (count : ℕ) (before : List (ℕ × ℕ)) (n u : ℕ) (xs : List (ℕ × ℕ)) → ArePrices count (before ++ (n, u) ∷ xs) → (n < count) × (has_number (map (λ k. k.0) before) n ≡ false)
 price_before count before n u xs are = (
   middle (λ m. m < count) (map (λ k. k.0) before) n (map (λ k. k.0) xs) (subst (AreBelow count) (map-append (λ k. k.0) before ((n, u) ∷ xs)) are.within),
   sym (any_number before n) ∙ is_new (λ a b. a.0 == b.0) before (n, u) xs are.once,
@@ -116,6 +116,6 @@ pub prices_end : (sizes : Sizes) (listed : Seen) (kept : Kept) (s rest : Stream)
 prices_end sizes listed kept s rest o total same e none left = left_end with_pair (next_pair_at sizes) kept s rest o total (ap (λ l. pair_at sizes l s) (sym same) ∙ e) none left
 
 -- a token is refused
-pub prices_fail : (silent : TextFault → Bool) (f : TextFault) (sizes : Sizes) (listed : Seen) (kept : Kept) (s : Stream) (total : Total) → listed ≡ seen_in kept → FailsBut silent f (pair_at sizes listed s) → ArePricesLeft sizes kept s total
-    → FailsBut silent f total
-prices_fail silent f sizes listed kept s total same fails left = left_fails with_pair (next_pair_at sizes) silent f kept s total (subst (λ l. FailsBut silent f (pair_at sizes l s)) same fails) left
+pub prices_fail : (silent : TextFault → Bool) (f : TextFault) (sizes : Sizes) (listed : Seen) (kept : Kept) (s : Stream) (total : Total) → listed ≡ seen_in kept → FailsUnless silent f (pair_at sizes listed s) → ArePricesLeft sizes kept s total
+    → FailsUnless silent f total
+prices_fail silent f sizes listed kept s total same fails left = left_fails with_pair (next_pair_at sizes) silent f kept s total (subst (λ l. FailsUnless silent f (pair_at sizes l s)) same fails) left

@@ -8,7 +8,7 @@ use Rattle.tt_text.specs.Reading.{◌>>=◌}
 use Rattle.tt_text.proofs.Steps.{ok_is, bind_ok}
 use Rattle.tt_leaf.specs.declared.leaf.Claim.{Claim}
 use Rattle.tt_leaf.specs.declared.leaf.Claim.TheVariants as claim
-use Rattle.tt_proof_text.specs.Reading.{token_at, one_at, index_of, course_at, curriculum_at, priced_as, price_at, listed_of, listed_at, Kept, priced_of, with_price, seen_in, pair_at, next_pair_at, with_pair, prices_at, claim_word_of, claim_behind, claim_then, claim_at}
+use Rattle.tt_proof_text.specs.Reading.{token_at, one_at, index_of, course_at, curriculum_at, priced_as, price_at, listed_of, listed_at, Kept, priced_of, with_price, seen_in, pair_at, next_pair_at, with_pair, prices_at, claim_word_of, claim_after_word, claim_then, claim_at}
 use Rattle.tt_proof_text.specs.declared.claims.ClaimWord.{ClaimWord}
 use Rattle.tt_proof_text.specs.declared.claims.ClaimWord.TheVariants as claim_word
 use Rattle.tt_proof_text.specs.declared.fault.TextFault.{TextFault}
@@ -78,8 +78,8 @@ unfolding prices_at
 prices_less sizes s x e = total_less with_pair (next_pair_at sizes) (pair_takes sizes) (suc (length s.tokens)) ([], []) s x e
 
 -- what follows the word of a claim
-behind_less : (sizes : Sizes) (w : ClaimWord) (s : Stream) (x : Claim × Stream) → claim_behind sizes w s ≡ Ok x → IsLess s x
-unfolding claim_behind
+behind_less : (sizes : Sizes) (w : ClaimWord) (s : Stream) (x : Claim × Stream) → claim_after_word sizes w s ≡ Ok x → IsLess s x
+unfolding claim_after_word
 behind_less sizes claim_word.Capacity s x e =
     let c = bind_ok (course_at sizes s) _ x e in
     let u = made_less (price_at c.0.1) (claim.Capacity c.0.0) c.0.1 x (price_less c.0.1) c.2 in
@@ -93,7 +93,7 @@ behind_less sizes claim_word.Stacked s x e = made_less (course_at sizes s) claim
 -- a claim, or the end
 claim_then_less : (sizes : Sizes) (s : Stream) (o : Option ClaimWord) (x : Option Claim × Stream) → claim_then sizes o s ≡ Ok x → length x.1.tokens ≤ length s.tokens
 claim_then_less sizes s None x e = subst (λ (y : Option Claim × Stream). length y.1.tokens ≤ length s.tokens) (ok_is (None, s) x e) (omega arith)
-claim_then_less sizes s (Some w) x e = let less = made_less (claim_behind sizes w s) (λ c. Some c) s x (behind_less sizes w s) e in omega (arith, less)
+claim_then_less sizes s (Some w) x e = let less = made_less (claim_after_word sizes w s) (λ c. Some c) s x (behind_less sizes w s) e in omega (arith, less)
 
 -- a claim, or the end of the claims
 pub claim_takes : (sizes : Sizes) (version : ℕ) → TakesTokens push (λ _ rest. claim_at sizes version rest)

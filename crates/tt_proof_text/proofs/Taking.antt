@@ -8,7 +8,7 @@ use Rattle.tt_text.proofs.Steps.{ok_is, bind_ok}
 use Rattle.tt_proof_text.specs.Reading.{first_of, token_at, one_at}
 use Rattle.tt_proof_text.specs.declared.fault.TextFault.{TextFault}
 
--- The stream begins with these pieces, and this is what comes behind them.
+-- The stream begins with these pieces, and this is what comes after them.
 pub record Took (s : Stream) (ps : List Piece) (after : Stream) : Type 0 where
   pub begins : Begins ps s.tokens after.tokens
   pub stop : s.stop ≡ after.stop

@@ -2,7 +2,7 @@
 use Rattle.std.proofs.Common.{◌≡◌, ℕ, ◌≤◌, ◌<◌, Bool, true, false, cond, List, [], ◌∷◌, Option, Some, None, Result, Ok, Err, refl, sym, ap, subst, ◌∙◌, arith, inl, inr, eqb-true, lit≤, codes}
 use Rattle.std.specs.Prelude.{◌==◌, nat_lt}
 use Rattle.std.proofs.lemmas.Bool.{leb-true, le-leb, cases_eq, false_from_ne_true}
-use Rattle.tt_lists.specs.Words.{has}
+use Rattle.tt_lists.specs.Words.{has_number}
 use Rattle.tt_text.specs.Tokens.{Placed}
 use Rattle.tt_text.specs.Texts.{is_text}
 use Rattle.tt_text.specs.Numbers.{is_number_text, number_of}
@@ -52,9 +52,9 @@ word_reads w s after took =
     let is : is_text (word_text w) f.token.text ≡ true = is_text_of f.token.text (word_text w) f.piece in
     rw (f.is, is) (ap (λ m. let r : Result Stream TextFault = Ok m in r) (took_same f.mid after f.rest))
 
--- ---- numbers behind a letter
+-- ---- numbers after a letter
 
--- what was read as a number behind a letter is a number
+-- what was read as a number after a letter is a number
 numbered_ok : (at : ℕ) (r : Result ℕ NumberFault) (n : ℕ) → numbered at r ≡ Ok n → r ≡ Ok n
 numbered_ok at (Ok m) n e = cc
 numbered_ok at (Err number.NotANumber) n e = absurd cc
@@ -123,8 +123,8 @@ unfolding curriculum_at
 curriculum_reads sizes q s after few less took = one_reads (index_of 113 sizes.curricula) (Index 113 q) q s after (λ t piece. index_reads 113 sizes.curricula q t few less piece) took
 
 -- a number that was taken is none of those before it
-pub new_number_ok : (at : ℕ) (before : List ℕ) (n m : ℕ) → new_number at before n ≡ Ok m → (has before n ≡ false) × (n ≡ m)
-new_number_ok at before n m e = let h = refusal_ok (has before n) (fault.RepeatedIndex at) (Ok n) m e in (h.0, ok_is n m h.1)
+pub new_number_ok : (at : ℕ) (before : List ℕ) (n m : ℕ) → new_number at before n ≡ Ok m → (has_number before n ≡ false) × (n ≡ m)
+new_number_ok at before n m e = let h = refusal_ok (has_number before n) (fault.RepeatedIndex at) (Ok n) m e in (h.0, ok_is n m h.1)
 
 -- ---- prices
 
@@ -186,7 +186,7 @@ given_took_of letter count t o e =
     let n = bind_ok (index_of letter count t) (λ n. Ok (Some n)) o h in
     subst (λ v. IsPiece (given_piece letter v) t.text × IsGiven count v) (ok_is (Some n.0) o n.2) (index_took letter count t n.0 n.1)) e
 
--- a letter with a number behind it is not a single byte
+-- a letter with a number after it is not a single byte
 pub not_single : (byte letter n : ℕ) (text : List ℕ) → IsPiece (Index letter n) text → is_text (byte ∷ []) text ≡ false
 not_single byte letter n text piece = false_from_ne_true (is_text (byte ∷ []) text) (λ e.
     let one : letter ∷ piece.0 ≡ byte ∷ [] = sym piece.1 ∙ text_is text (byte ∷ []) e in

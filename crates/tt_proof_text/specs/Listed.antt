@@ -1,6 +1,6 @@
 -- Numbers that have been seen.
 use Rattle.std.specs.Prelude.{◌≡◌, ℕ, ◌<◌, Bool, false, List, length, slice_index_or, All}
-use Rattle.tt_lists.specs.Words.{has}
+use Rattle.tt_lists.specs.Words.{has_number}
 
 -- numbers below a count
 pub record Listed : Type 0 where
@@ -10,4 +10,4 @@ pub record Listed : Type 0 where
 -- the table tells which numbers are listed
 pub record AreMarked (marks : List Bool) (numbers : List ℕ) : Type 0 where
   pub below : All (λ n. n < length marks) numbers
-  pub told : (k : ℕ) → slice_index_or marks k false ≡ has numbers k
+  pub told : (k : ℕ) → slice_index_or marks k false ≡ has_number numbers k

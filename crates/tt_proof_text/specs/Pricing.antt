@@ -1,6 +1,6 @@
 -- The prices that a claim lists.
 use Rattle.std.specs.Prelude.{◌≡◌, ℕ, ◌<◌, ◌≤◌, false, [], ◌∷◌, ◌++◌, All}
-use Rattle.tt_lists.specs.Words.{has}
+use Rattle.tt_lists.specs.Words.{has_number}
 use Rattle.tt_leaf.specs.Ranges.{ArePrices}
 use Rattle.tt_proof_text.specs.Reading.{Kept, Seen}
 use Rattle.tt_proof_text.specs.declared.prices.Priced.{Priced}
@@ -33,8 +33,8 @@ IsIn courses rooms (Room r) = r < rooms
 
 -- a course or a room of the instance that has not been seen
 abbrev pub IsUnseen : Sizes → Seen → Priced → Type 0
-IsUnseen sizes seen (Course c) = (c < sizes.courses) × (has seen.0 c ≡ false)
-IsUnseen sizes seen (Room r) = (r < sizes.rooms) × (has seen.1 r ≡ false)
+IsUnseen sizes seen (Course c) = (c < sizes.courses) × (has_number seen.0 c ≡ false)
+IsUnseen sizes seen (Room r) = (r < sizes.rooms) × (has_number seen.1 r ≡ false)
 
 -- no course and no room stands twice, and each price is within its limit
 pub record AreKept (sizes : Sizes) (kept : Kept) : Type 0 where

@@ -5,9 +5,9 @@ use Rattle.tt_leaf.specs.Ranges.{IsClaimOf}
 use Rattle.tt_leaf.specs.declared.leaf.Bound.{Bound}
 use Rattle.tt_leaf.specs.declared.leaf.Claim.{Claim}
 use Rattle.tt_text.specs.Feeds.{Fed, Stream, fresh}
-use Rattle.tt_text.specs.Broken.{broken_at, MayFail}
-use Rattle.tt_text.specs.Reading.{FailsBut}
-use Rattle.tt_proof_text.specs.Answers.{BreaksAs}
+use Rattle.tt_text.specs.CutShort.{cut_at, MayFail}
+use Rattle.tt_text.specs.Reading.{FailsUnless}
+use Rattle.tt_proof_text.specs.Answers.{AgreesWhenCutAs}
 use Rattle.tt_proof_text.specs.Faults.{is_silent}
 use Rattle.tt_proof_text.specs.Reading.{header_at, node_at}
 use Rattle.tt_proof_text.specs.Sizes.{AreSizes}
@@ -61,16 +61,16 @@ Goes old (Err f) new = (0 < old.places) × (new ≡ record old { fed = new.fed; 
 abbrev pub Says : Reader → Stream → Result (Option Node) TextFault → Stream → Type 0
 Says old s (Ok None) after = after ≡ s
 Says old s (Ok (Some node)) after = node_at old.sizes old.version old.count s ≡ Ok (node, after)
-Says old s (Err f) after = FailsBut is_silent f (node_at old.sizes old.version old.count s)
+Says old s (Err f) after = FailsUnless is_silent f (node_at old.sizes old.version old.count s)
 
 -- what a reader that has read its header, or has not, says of the failure of a read
-abbrev pub HeaderBreaks : Option (List ℕ) → Result Reader TextFault → Option (List ℕ) → Type 0
-HeaderBreaks before (Ok r) after = BreaksAs {X = ℕ × Bound} fresh before r.fed after (λ h. h) (Ok (r.version, r.bound)) header_at
-HeaderBreaks before (Err f) after = BreaksAs {X = ℕ × Bound} fresh before fresh after (λ h. h) (Err f) header_at
+abbrev pub HeaderAgreesWhenCut : Option (List ℕ) → Result Reader TextFault → Option (List ℕ) → Type 0
+HeaderAgreesWhenCut before (Ok r) after = AgreesWhenCutAs {X = ℕ × Bound} fresh before r.fed after (λ h. h) (Ok (r.version, r.bound)) header_at
+HeaderAgreesWhenCut before (Err f) after = AgreesWhenCutAs {X = ℕ × Bound} fresh before fresh after (λ h. h) (Err f) header_at
 
 -- what a reader that has read a node, or has not, says of the failure of a read
-abbrev pub NodeBreaks : Reader → Option (List ℕ) → Result (Option Node) TextFault → Fed → Option (List ℕ) → Type 0
-NodeBreaks old before (Ok None) new after =
-    is_some before ≡ true → (rest : List ℕ) → MayFail rest new after → MayFail rest old.fed before × (broken_at rest new after ≡ broken_at rest old.fed before)
-NodeBreaks old before (Ok (Some node)) new after = BreaksAs {X = Node} old.fed before new after (λ n. n) (Ok node) (node_at old.sizes old.version old.count)
-NodeBreaks old before (Err f) new after = BreaksAs {X = Node} old.fed before new after (λ n. n) (Err f) (node_at old.sizes old.version old.count)
+abbrev pub NodeAgreesWhenCut : Reader → Option (List ℕ) → Result (Option Node) TextFault → Fed → Option (List ℕ) → Type 0
+NodeAgreesWhenCut old before (Ok None) new after =
+    is_some before ≡ true → (rest : List ℕ) → MayFail rest new after → MayFail rest old.fed before × (cut_at rest new after ≡ cut_at rest old.fed before)
+NodeAgreesWhenCut old before (Ok (Some node)) new after = AgreesWhenCutAs {X = Node} old.fed before new after (λ n. n) (Ok node) (node_at old.sizes old.version old.count)
+NodeAgreesWhenCut old before (Err f) new after = AgreesWhenCutAs {X = Node} old.fed before new after (λ n. n) (Err f) (node_at old.sizes old.version old.count)

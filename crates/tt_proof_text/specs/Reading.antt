@@ -1,8 +1,8 @@
--- What reading a proof gives: a value and what comes behind it, or the first fault from the left. All checks of one token come
+-- What reading a proof gives: a value and what comes after it, or the first fault from the left. All checks of one token come
 -- before the next token.
 use Rattle.std.specs.Prelude.{ℕ, zero, suc, ◌==◌, nat_lt, ◌&&◌, if◌then◌else◌, List, [], ◌∷◌, length, map, Option, Some, None, Result, Ok, Err, codes}
 use Rattle.std.specs.List.{push}
-use Rattle.tt_lists.specs.Words.{has}
+use Rattle.tt_lists.specs.Words.{has_number}
 use Rattle.tt_text.specs.Tokens.{Placed}
 use Rattle.tt_text.specs.Texts.{is_text}
 use Rattle.tt_text.specs.Numbers.{number_of}
@@ -20,7 +20,7 @@ use Rattle.tt_leaf.specs.declared.leaf.Claim.{Claim}
 use Rattle.tt_leaf.specs.declared.leaf.Claim.TheVariants as claim
 use Rattle.tt_leaf.specs.declared.leaf.Leaf.TheVariants as leaf
 use Rattle.tt_proof_text.specs.Words.{word_text}
-use Rattle.tt_proof_text.specs.Faults.{feed_fault}
+use Rattle.tt_proof_text.specs.Faults.{fault_from_feed}
 use Rattle.tt_proof_text.specs.declared.fault.Word.{Word}
 use Rattle.tt_proof_text.specs.declared.fault.Word.TheVariants as word
 use Rattle.tt_proof_text.specs.declared.fault.TextFault.{TextFault}
@@ -40,7 +40,7 @@ use Rattle.tt_proof_text.specs.declared.sizes.Sizes.{Sizes}
 -- why there is no token where one is due
 abbrev pub ended_as : Result ℕ FeedFault → TextFault
 ended_as (Ok n) = fault.Ended n
-ended_as (Err f) = feed_fault f
+ended_as (Err f) = fault_from_feed f
 
 abbrev pub first_of : List Placed → Result ℕ FeedFault → Result (Placed × Stream) TextFault
 first_of [] stop = Err (ended_as stop)
@@ -63,7 +63,7 @@ word_at w s = do
   t ← token_at s
   if is_text (word_text w) t.0.text then Ok t.1 else Err (fault.Expected w t.0.at)
 
--- a number behind a letter
+-- a number after a letter
 abbrev pub numbered : ℕ → Result ℕ NumberFault → Result ℕ TextFault
 numbered at (Ok n) = Ok n
 numbered at (Err number.NotANumber) = Err (fault.UnknownWord at)
@@ -72,7 +72,7 @@ numbered at (Err number.TooLarge) = Err (fault.UnknownIndex at)
 abbrev pub below : ℕ → ℕ → ℕ → Result ℕ TextFault
 below at count n = if nat_lt n count then Ok n else Err (fault.UnknownIndex at)
 
--- the number behind a letter, below a count
+-- the number after a letter, below a count
 unfoldable pub numbered_below : ℕ → ℕ → List ℕ → Result ℕ TextFault
 numbered_below at count digits = numbered at (number_of 4294967295 digits) >>= below at count
 
@@ -86,7 +86,7 @@ index_of letter count t = index_in t.at letter count t.text
 
 -- a number that is none of those before it
 abbrev pub new_number : ℕ → List ℕ → ℕ → Result ℕ TextFault
-new_number at before n = if has before n then Err (fault.RepeatedIndex at) else Ok n
+new_number at before n = if has_number before n then Err (fault.RepeatedIndex at) else Ok n
 
 -- `c` and the number of a course
 unfoldable pub course_at : Sizes → Stream → Result (ℕ × Stream) TextFault
@@ -193,7 +193,7 @@ pair_at sizes seen s = do
   x ← priced_of sizes seen t.0
   with_price x t.1
 
--- a pair behind those that are kept
+-- a pair after those that are kept
 abbrev pub next_pair_at : Sizes → Kept → Stream → Result (Option (Priced × ℕ) × Stream) TextFault
 next_pair_at sizes kept s = pair_at sizes (seen_in kept) s
 
@@ -223,20 +223,20 @@ claim_word_of version t =
     else Err (fault.UnknownWord t.at)))))))
 
 -- what follows the word of a claim
-unfoldable pub claim_behind : Sizes → ClaimWord → Stream → Result (Claim × Stream) TextFault
-claim_behind sizes claim_word.Capacity s = do
+unfoldable pub claim_after_word : Sizes → ClaimWord → Stream → Result (Claim × Stream) TextFault
+claim_after_word sizes claim_word.Capacity s = do
   c ← course_at sizes s
   u ← price_at c.1
   Ok (claim.Capacity c.0 u.0, u.1)
-claim_behind sizes claim_word.Days s = course_at sizes s >>= λ c. Ok (claim.Days c.0, c.1)
-claim_behind sizes claim_word.Compact s = curriculum_at sizes s >>= λ q. Ok (claim.Compact q.0, q.1)
-claim_behind sizes claim_word.Stable s = course_at sizes s >>= λ c. Ok (claim.Stable c.0, c.1)
-claim_behind sizes claim_word.Prices s = prices_at sizes s >>= λ k. Ok (claim.Prices k.0.0 k.0.1, k.1)
-claim_behind sizes claim_word.Stacked s = course_at sizes s >>= λ c. Ok (claim.Stacked c.0, c.1)
+claim_after_word sizes claim_word.Days s = course_at sizes s >>= λ c. Ok (claim.Days c.0, c.1)
+claim_after_word sizes claim_word.Compact s = curriculum_at sizes s >>= λ q. Ok (claim.Compact q.0, q.1)
+claim_after_word sizes claim_word.Stable s = course_at sizes s >>= λ c. Ok (claim.Stable c.0, c.1)
+claim_after_word sizes claim_word.Prices s = prices_at sizes s >>= λ k. Ok (claim.Prices k.0.0 k.0.1, k.1)
+claim_after_word sizes claim_word.Stacked s = course_at sizes s >>= λ c. Ok (claim.Stacked c.0, c.1)
 
 abbrev pub claim_then : Sizes → Option ClaimWord → Stream → Result (Option Claim × Stream) TextFault
 claim_then sizes None s = Ok (None, s)
-claim_then sizes (Some w) s = claim_behind sizes w s >>= λ c. Ok (Some c.0, c.1)
+claim_then sizes (Some w) s = claim_after_word sizes w s >>= λ c. Ok (Some c.0, c.1)
 
 -- a claim, or none at `;`
 unfoldable pub claim_at : Sizes → ℕ → Stream → Result (Option Claim × Stream) TextFault
@@ -262,13 +262,13 @@ node_word_of t =
     else Err (fault.UnknownWord t.at))))))
 
 -- what follows the word of a node
-unfoldable pub node_behind : Sizes → ℕ → NodeWord → Stream → Result (Node × Stream) TextFault
-node_behind sizes version node_word.Split s = pattern_at sizes s >>= λ g. Ok (node.Split g.0, g.1)
-node_behind sizes version node_word.Empty s = pattern_at sizes s >>= λ g. Ok (node.Leaf (leaf.Empty g.0), g.1)
-node_behind sizes version node_word.Many s = course_at sizes s >>= λ c. Ok (node.Leaf (leaf.Many c.0), c.1)
-node_behind sizes version node_word.Clique s = list_at sizes s >>= λ l. Ok (node.Leaf (leaf.Clique l.0), l.1)
-node_behind sizes version node_word.Slots s = list_at sizes s >>= λ l. Ok (node.Leaf (leaf.Slots l.0), l.1)
-node_behind sizes version node_word.Cost s = claims_at sizes version s >>= λ l. Ok (node.Leaf (leaf.Cost l.0), l.1)
+unfoldable pub node_after_word : Sizes → ℕ → NodeWord → Stream → Result (Node × Stream) TextFault
+node_after_word sizes version node_word.Split s = pattern_at sizes s >>= λ g. Ok (node.Split g.0, g.1)
+node_after_word sizes version node_word.Empty s = pattern_at sizes s >>= λ g. Ok (node.Leaf (leaf.Empty g.0), g.1)
+node_after_word sizes version node_word.Many s = course_at sizes s >>= λ c. Ok (node.Leaf (leaf.Many c.0), c.1)
+node_after_word sizes version node_word.Clique s = list_at sizes s >>= λ l. Ok (node.Leaf (leaf.Clique l.0), l.1)
+node_after_word sizes version node_word.Slots s = list_at sizes s >>= λ l. Ok (node.Leaf (leaf.Slots l.0), l.1)
+node_after_word sizes version node_word.Cost s = claims_at sizes version s >>= λ l. Ok (node.Leaf (leaf.Cost l.0), l.1)
 
 -- a file has at most 16,777,216 nodes
 abbrev pub counted : ℕ → ℕ → Result (Unit {0}) TextFault
@@ -278,7 +278,7 @@ counted at count = if nat_lt count 16777216 then Ok tt else Err (fault.TooManyNo
 unfoldable pub node_at : Sizes → ℕ → ℕ → Stream → Result (Node × Stream) TextFault
 node_at sizes version count s = do
   t ← token_at s
-  counted t.0.at count >>= λ (_ : Unit {0}). node_word_of t.0 >>= λ w. node_behind sizes version w t.1
+  counted t.0.at count >>= λ (_ : Unit {0}). node_word_of t.0 >>= λ w. node_after_word sizes version w t.1
 
 -- ---- the header
 
@@ -311,10 +311,10 @@ header_at s = do
 
 -- ---- the end
 
--- no token behind the last
+-- no token after the last
 abbrev pub no_more : List Placed → Result ℕ FeedFault → Result Stream TextFault
 no_more [] (Ok n) = Ok (stopped (Ok n))
-no_more [] (Err f) = Err (feed_fault f)
+no_more [] (Err f) = Err (fault_from_feed f)
 no_more (t ∷ ts) stop = Err (fault.TrailingToken t.at)
 
 -- the last token

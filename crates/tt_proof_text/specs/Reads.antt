@@ -7,7 +7,7 @@ use Rattle.tt_proof_text.specs.Trees.{Tree, preorder}
 use Rattle.tt_proof_text.specs.declared.node.Node.{Node}
 use Rattle.tt_proof_text.specs.declared.sizes.Sizes.{Sizes}
 
--- The stream goes on with these nodes, and this is what comes behind them. So many nodes come before.
+-- The stream goes on with these nodes, and this is what comes after them. So many nodes come before.
 abbrev pub ReadsNodes : Sizes → ℕ → ℕ → Stream → List Node → Stream → Type 0
 ReadsNodes sizes version count s [] after = s ≡ after
 ReadsNodes sizes version count s (node ∷ nodes) after =

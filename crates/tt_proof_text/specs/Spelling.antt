@@ -27,7 +27,7 @@ use Rattle.tt_proof_text.specs.Words.{word_text}
 abbrev pub fixed : Word → Piece
 fixed w = Text (word_text w)
 
--- the number behind its letter, or `*` where none is given
+-- the number after its letter, or `*` where none is given
 abbrev pub given_piece : ℕ → Option ℕ → Piece
 given_piece letter None = Text (codes "*")
 given_piece letter (Some n) = Index letter n

@@ -2,11 +2,11 @@
 
 ghost use Rattle.std.specs.Prelude.{◌<◌, IfOk, IfSome, All};
 ghost use Rattle.tt_text.specs.Feeds.{room_of};
-ghost use Rattle.tt_proof_text.specs.Answers.{StaysKnown, TellsReads, ReadsAs, BreaksAs};
-ghost use Rattle.tt_proof_text.specs.Faults.{TellsNoRead, Gives};
+ghost use Rattle.tt_proof_text.specs.Answers.{StaysKnown, TellsReads, ReadsAs, AgreesWhenCutAs};
+ghost use Rattle.tt_proof_text.specs.Faults.{TellsNoFailedRead, Gives};
 ghost use Rattle.tt_proof_text.specs.Pricing.{AreTables};
 ghost use Rattle.tt_proof_text.specs.Readers.{IsWordIn, IsClaimAt};
-ghost use Rattle.tt_proof_text.specs.Reading.{claim_word_of, claim_behind, claim_at, claims_at};
+ghost use Rattle.tt_proof_text.specs.Reading.{claim_word_of, claim_after_word, claim_at, claims_at};
 
 use crate::fault::TextFault;
 use crate::fields::{read_course, read_curriculum, read_price, token};
@@ -32,7 +32,7 @@ pub enum ClaimWord {
 fn claim_word(text: &[u8], at: usize, version: u8) -> Result<Option<ClaimWord>, TextFault>
     ensures read { Gives (λ w. w) result (claim_word_of version (record { text = text.now; at = at })) }
     ensures within { IfOk result (λ w. IfSome w (IsWordIn version)) }
-    ensures unread { TellsNoRead result }
+    ensures unread { TellsNoFailedRead result }
 {
     match text {
         b";" => Ok(None),
@@ -47,8 +47,8 @@ fn claim_word(text: &[u8], at: usize, version: u8) -> Result<Option<ClaimWord>, 
 }
 
 /// What follows the word of a claim.
-#[tactic(auto, unfolding(crate::specs::Reading::claim_behind))]
-fn read_claim_behind<R: Source>(
+#[tactic(auto, unfolding(crate::specs::Reading::claim_after_word))]
+fn read_claim_after_word<R: Source>(
     alloc: Global,
     feed: &mut Feed,
     source: &mut R,
@@ -63,8 +63,8 @@ fn read_claim_behind<R: Source>(
     ensures known { StaysKnown (R.remaining source.old) (R.remaining source.new) }
     ensures failed { TellsReads feed.old.fault (R.has_failed source.old) feed.new.fault (R.has_failed source.new) result }
     ensures forward { IfOk result (λ _. room_of feed.new < room_of feed.old) }
-    ensures read { ReadsAs feed.old (R.remaining source.old) feed.new (R.remaining source.new) (λ c. c) result (claim_behind sizes word) }
-    ensures broken { BreaksAs feed.old (R.remaining source.old) feed.new (R.remaining source.new) (λ c. c) result (claim_behind sizes word) }
+    ensures read { ReadsAs feed.old (R.remaining source.old) feed.new (R.remaining source.new) (λ c. c) result (claim_after_word sizes word) }
+    ensures cut_short { AgreesWhenCutAs feed.old (R.remaining source.old) feed.new (R.remaining source.new) (λ c. c) result (claim_after_word sizes word) }
     ensures within { IfOk result (IsClaimAt sizes version) }
 {
     match word {
@@ -115,14 +115,14 @@ fn read_claim<R: Source>(
     ensures failed { TellsReads feed.old.fault (R.has_failed source.old) feed.new.fault (R.has_failed source.new) result }
     ensures forward { IfOk result (λ _. room_of feed.new < room_of feed.old) }
     ensures read { ReadsAs feed.old (R.remaining source.old) feed.new (R.remaining source.new) (λ c. c) result (claim_at sizes version) }
-    ensures broken { BreaksAs feed.old (R.remaining source.old) feed.new (R.remaining source.new) (λ c. c) result (claim_at sizes version) }
+    ensures cut_short { AgreesWhenCutAs feed.old (R.remaining source.old) feed.new (R.remaining source.new) (λ c. c) result (claim_at sizes version) }
     ensures within { IfOk result (λ c. IfSome c (IsClaimAt sizes version)) }
 {
     let at = token(feed, source)?;
     let Some(word) = claim_word(feed.token(), at, version)? else {
         return Ok(None);
     };
-    let claim = read_claim_behind(alloc, feed, source, sizes, version, word, tables)?;
+    let claim = read_claim_after_word(alloc, feed, source, sizes, version, word, tables)?;
     Ok(Some(claim))
 }
 
@@ -140,7 +140,7 @@ pub fn read_claims<R: Source>(
     ensures known { StaysKnown (R.remaining source.old) (R.remaining source.new) }
     ensures failed { TellsReads feed.old.fault (R.has_failed source.old) feed.new.fault (R.has_failed source.new) result }
     ensures read { ReadsAs feed.old (R.remaining source.old) feed.new (R.remaining source.new) (λ v. v.items) result (claims_at sizes version) }
-    ensures broken { BreaksAs feed.old (R.remaining source.old) feed.new (R.remaining source.new) (λ v. v.items) result (claims_at sizes version) }
+    ensures cut_short { AgreesWhenCutAs feed.old (R.remaining source.old) feed.new (R.remaining source.new) (λ v. v.items) result (claims_at sizes version) }
     ensures within { IfOk result (λ v. All (IsClaimAt sizes version) v.items) }
 {
     let mut claims = Vec::new(alloc);

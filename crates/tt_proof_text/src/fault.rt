@@ -62,9 +62,9 @@ pub enum TextFault {
 }
 
 impl From<FeedFault> for TextFault {
-    ghost use Rattle.tt_proof_text.specs.Faults.{feed_fault};
+    ghost use Rattle.tt_proof_text.specs.Faults.{fault_from_feed};
 
-    ghost from_gives = { λ f e. e ≡ feed_fault f };
+    ghost from_gives = { λ f e. e ≡ fault_from_feed f };
 
     fn from(fault: FeedFault) -> TextFault {
         match fault {

@@ -3,8 +3,8 @@
 ghost use Rattle.std.specs.Prelude.{◌≡◌, ◌≤◌, ◌<◌, true, is_some, None, IfOk};
 ghost use Rattle.tt_text.specs.Feeds.{stream_at, room_of};
 ghost use Rattle.tt_text.specs.Numbers.{number_of};
-ghost use Rattle.tt_proof_text.specs.Answers.{StaysKnown, TellsReads, ReadsAs, Breaks, BreaksAs};
-ghost use Rattle.tt_proof_text.specs.Faults.{TellsNoRead, TellsNoWant, Gives};
+ghost use Rattle.tt_proof_text.specs.Answers.{StaysKnown, TellsReads, ReadsAs, AgreesWhenCut, AgreesWhenCutAs};
+ghost use Rattle.tt_proof_text.specs.Faults.{TellsNoFailedRead, TellsNoOutOfMemory, Gives};
 ghost use Rattle.tt_proof_text.specs.Reading.{token_at, word_at, numbered_below, index_of, course_at, curriculum_at, priced_as, price_at};
 
 use crate::fault::{TextFault, Word};
@@ -18,10 +18,10 @@ const MOST_PRICE: u64 = 1_000_000;
 pub fn token<R: Source>(feed: &mut Feed, source: &mut R) -> Result<usize, TextFault>
     ensures known { StaysKnown (R.remaining source.old) (R.remaining source.new) }
     ensures failed { TellsReads feed.old.fault (R.has_failed source.old) feed.new.fault (R.has_failed source.new) result }
-    ensures memory { feed.old.fault ≡ None → TellsNoWant result }
+    ensures memory { feed.old.fault ≡ None → TellsNoOutOfMemory result }
     ensures forward { IfOk result (λ _. room_of feed.new < room_of feed.old) }
     ensures read { ReadsAs feed.old (R.remaining source.old) feed.new (R.remaining source.new) (λ at. record { text = feed.new.token; at = at }) result token_at }
-    ensures broken { BreaksAs feed.old (R.remaining source.old) feed.new (R.remaining source.new) (λ at. record { text = feed.new.token; at = at }) result token_at }
+    ensures cut_short { AgreesWhenCutAs feed.old (R.remaining source.old) feed.new (R.remaining source.new) (λ at. record { text = feed.new.token; at = at }) result token_at }
 {
     match feed.next(source) {
         Ok(Some(at)) => Ok(at),
@@ -38,10 +38,10 @@ pub fn token<R: Source>(feed: &mut Feed, source: &mut R) -> Result<usize, TextFa
 pub fn read_word<R: Source>(feed: &mut Feed, source: &mut R, word: Word) -> Result<(), TextFault>
     ensures known { StaysKnown (R.remaining source.old) (R.remaining source.new) }
     ensures failed { TellsReads feed.old.fault (R.has_failed source.old) feed.new.fault (R.has_failed source.new) result }
-    ensures memory { feed.old.fault ≡ None → TellsNoWant result }
+    ensures memory { feed.old.fault ≡ None → TellsNoOutOfMemory result }
     ensures read { is_some (R.remaining source.old) ≡ true →
         Gives (λ _. stream_at feed.new (R.remaining source.new)) result (word_at word (stream_at feed.old (R.remaining source.old))) }
-    ensures broken { Breaks feed.old (R.remaining source.old) feed.new (R.remaining source.new) (λ _ s. s) result (word_at word) }
+    ensures cut_short { AgreesWhenCut feed.old (R.remaining source.old) feed.new (R.remaining source.new) (λ _ s. s) result (word_at word) }
 {
     let at = token(feed, source)?;
     if word.text() == feed.token() {
@@ -51,12 +51,12 @@ pub fn read_word<R: Source>(feed: &mut Feed, source: &mut R, word: Word) -> Resu
     }
 }
 
-/// The number behind a letter, below a count.
+/// The number after a letter, below a count.
 #[tactic(auto, unfolding(crate::specs::Reading::numbered_below))]
 pub fn number_below(digits: &[u8], at: usize, count: u32) -> Result<u32, TextFault>
     ensures read { Gives (λ n. n) result (numbered_below at count digits.now) }
     ensures within { IfOk result (λ n. n < count) }
-    ensures unread { TellsNoRead result }
+    ensures unread { TellsNoFailedRead result }
 {
     match number(&Token { bytes: digits, at }, 4_294_967_295) {
         Ok(n) => {
@@ -76,7 +76,7 @@ pub fn number_below(digits: &[u8], at: usize, count: u32) -> Result<u32, TextFau
 pub fn index(text: &[u8], at: usize, letter: u8, count: u32) -> Result<u32, TextFault>
     ensures read { Gives (λ n. n) result (index_of letter count (record { text = text.now; at = at })) }
     ensures within { IfOk result (λ n. n < count) }
-    ensures unread { TellsNoRead result }
+    ensures unread { TellsNoFailedRead result }
 {
     match text.split_first() {
         Some((first, digits)) => {
@@ -101,11 +101,11 @@ pub fn read_course<R: Source>(
     ensures failed { TellsReads feed.old.fault (R.has_failed source.old) feed.new.fault (R.has_failed source.new) result }
     ensures forward { IfOk result (λ _. room_of feed.new < room_of feed.old) }
     ensures read { ReadsAs feed.old (R.remaining source.old) feed.new (R.remaining source.new) (λ c. c) result (course_at sizes) }
-    ensures broken { BreaksAs feed.old (R.remaining source.old) feed.new (R.remaining source.new) (λ c. c) result (course_at sizes) }
+    ensures cut_short { AgreesWhenCutAs feed.old (R.remaining source.old) feed.new (R.remaining source.new) (λ c. c) result (course_at sizes) }
     ensures within { IfOk result (λ c. c < sizes.courses) }
 {
     let at = token(feed, source)?;
-    index(feed.token(), at, b'c', sizes.courses)
+    index(feed.token(), at, COURSE_LETTER, sizes.courses)
 }
 
 /// A curriculum.
@@ -119,18 +119,18 @@ pub fn read_curriculum<R: Source>(
     ensures failed { TellsReads feed.old.fault (R.has_failed source.old) feed.new.fault (R.has_failed source.new) result }
     ensures forward { IfOk result (λ _. room_of feed.new < room_of feed.old) }
     ensures read { ReadsAs feed.old (R.remaining source.old) feed.new (R.remaining source.new) (λ q. q) result (curriculum_at sizes) }
-    ensures broken { BreaksAs feed.old (R.remaining source.old) feed.new (R.remaining source.new) (λ q. q) result (curriculum_at sizes) }
+    ensures cut_short { AgreesWhenCutAs feed.old (R.remaining source.old) feed.new (R.remaining source.new) (λ q. q) result (curriculum_at sizes) }
     ensures within { IfOk result (λ q. q < sizes.curricula) }
 {
     let at = token(feed, source)?;
-    index(feed.token(), at, b'q', sizes.curricula)
+    index(feed.token(), at, CURRICULUM_LETTER, sizes.curricula)
 }
 
 /// A price, in one token.
 fn price(text: &[u8], at: usize) -> Result<u32, TextFault>
     ensures read { Gives (λ u. u) result (priced_as at (number_of 1000000 text.now)) }
     ensures within { IfOk result (λ u. u ≤ 1000000) }
-    ensures unread { TellsNoRead result }
+    ensures unread { TellsNoFailedRead result }
 {
     match number(&Token { bytes: text, at }, MOST_PRICE) {
         Ok(points) => Ok(points as u32),
@@ -145,7 +145,7 @@ pub fn read_price<R: Source>(feed: &mut Feed, source: &mut R) -> Result<u32, Tex
     ensures failed { TellsReads feed.old.fault (R.has_failed source.old) feed.new.fault (R.has_failed source.new) result }
     ensures forward { IfOk result (λ _. room_of feed.new < room_of feed.old) }
     ensures read { ReadsAs feed.old (R.remaining source.old) feed.new (R.remaining source.new) (λ u. u) result price_at }
-    ensures broken { BreaksAs feed.old (R.remaining source.old) feed.new (R.remaining source.new) (λ u. u) result price_at }
+    ensures cut_short { AgreesWhenCutAs feed.old (R.remaining source.old) feed.new (R.remaining source.new) (λ u. u) result price_at }
     ensures within { IfOk result (λ u. u ≤ 1000000) }
 {
     let at = token(feed, source)?;

@@ -1,11 +1,11 @@
 //! The courses of a clique or of slots.
 
 ghost use Rattle.std.specs.Prelude.{◌≡◌, ◌<◌, ◌==◌, not, true, false, IfOk, IfSome};
-ghost use Rattle.tt_lists.specs.Words.{each_two, has};
+ghost use Rattle.tt_lists.specs.Words.{each_two, has_number};
 ghost use Rattle.tt_leaf.specs.Ranges.{AreBelow};
 ghost use Rattle.tt_text.specs.Feeds.{room_of};
-ghost use Rattle.tt_proof_text.specs.Answers.{StaysKnown, TellsReads, ReadsAs, BreaksAs};
-ghost use Rattle.tt_proof_text.specs.Faults.{TellsNoRead, Gives};
+ghost use Rattle.tt_proof_text.specs.Answers.{StaysKnown, TellsReads, ReadsAs, AgreesWhenCutAs};
+ghost use Rattle.tt_proof_text.specs.Faults.{TellsNoFailedRead, Gives};
 ghost use Rattle.tt_proof_text.specs.Reading.{listed_of, listed_at, list_at};
 
 use crate::fault::TextFault;
@@ -20,13 +20,13 @@ use tt_text::{Feed, Source};
 fn listed(text: &[u8], at: usize, sizes: Sizes, seen: &Seen) -> Result<Option<u32>, TextFault>
     ensures read { Gives (λ c. c) result (listed_of sizes seen.now.numbers (record { text = text.now; at = at })) }
     ensures within { IfOk result (λ c. IfSome c (λ n. n < sizes.courses)) }
-    ensures new { IfOk result (λ c. IfSome c (λ n. has seen.now.numbers n ≡ false)) }
-    ensures unread { TellsNoRead result }
+    ensures new { IfOk result (λ c. IfSome c (λ n. has_number seen.now.numbers n ≡ false)) }
+    ensures unread { TellsNoFailedRead result }
 {
     if b";".as_slice() == text {
         return Ok(None);
     }
-    let course = index(text, at, b'c', sizes.courses)?;
+    let course = index(text, at, COURSE_LETTER, sizes.courses)?;
     let course = new_number(seen, course, at)?;
     Ok(Some(course))
 }
@@ -42,9 +42,9 @@ fn read_listed<R: Source>(
     ensures failed { TellsReads feed.old.fault (R.has_failed source.old) feed.new.fault (R.has_failed source.new) result }
     ensures forward { IfOk result (λ _. room_of feed.new < room_of feed.old) }
     ensures read { ReadsAs feed.old (R.remaining source.old) feed.new (R.remaining source.new) (λ c. c) result (listed_at sizes seen.now.numbers) }
-    ensures broken { BreaksAs feed.old (R.remaining source.old) feed.new (R.remaining source.new) (λ c. c) result (listed_at sizes seen.now.numbers) }
+    ensures cut_short { AgreesWhenCutAs feed.old (R.remaining source.old) feed.new (R.remaining source.new) (λ c. c) result (listed_at sizes seen.now.numbers) }
     ensures within { IfOk result (λ c. IfSome c (λ n. n < sizes.courses)) }
-    ensures new { IfOk result (λ c. IfSome c (λ n. has seen.now.numbers n ≡ false)) }
+    ensures new { IfOk result (λ c. IfSome c (λ n. has_number seen.now.numbers n ≡ false)) }
 {
     let at = token(feed, source)?;
     listed(feed.token(), at, sizes, seen)
@@ -63,7 +63,7 @@ pub fn read_list<R: Source>(
     ensures known { StaysKnown (R.remaining source.old) (R.remaining source.new) }
     ensures failed { TellsReads feed.old.fault (R.has_failed source.old) feed.new.fault (R.has_failed source.new) result }
     ensures read { ReadsAs feed.old (R.remaining source.old) feed.new (R.remaining source.new) (λ v. v.items) result (list_at sizes) }
-    ensures broken { BreaksAs feed.old (R.remaining source.old) feed.new (R.remaining source.new) (λ v. v.items) result (list_at sizes) }
+    ensures cut_short { AgreesWhenCutAs feed.old (R.remaining source.old) feed.new (R.remaining source.new) (λ v. v.items) result (list_at sizes) }
     ensures within { IfOk result (λ v. AreBelow sizes.courses v.items) }
     ensures once { IfOk result (λ v. each_two (λ a b. not (a == b)) v.items ≡ true) }
 {

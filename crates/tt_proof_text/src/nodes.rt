@@ -1,11 +1,11 @@
 //! Single nodes.
 
 ghost use Rattle.std.specs.Prelude.{◌<◌, IfOk};
-ghost use Rattle.tt_proof_text.specs.Answers.{StaysKnown, TellsReads, ReadsAs, BreaksAs};
-ghost use Rattle.tt_proof_text.specs.Faults.{TellsNoRead, Gives};
+ghost use Rattle.tt_proof_text.specs.Answers.{StaysKnown, TellsReads, ReadsAs, AgreesWhenCutAs};
+ghost use Rattle.tt_proof_text.specs.Faults.{TellsNoFailedRead, Gives};
 ghost use Rattle.tt_proof_text.specs.Pricing.{AreTables};
 ghost use Rattle.tt_proof_text.specs.Readers.{IsNodeAt};
-ghost use Rattle.tt_proof_text.specs.Reading.{node_word_of, node_behind, node_at};
+ghost use Rattle.tt_proof_text.specs.Reading.{node_word_of, node_after_word, node_at};
 
 use crate::claims::read_claims;
 use crate::fault::TextFault;
@@ -35,7 +35,7 @@ pub enum NodeWord {
 /// The word of a node, in one token.
 fn node_word(text: &[u8], at: usize) -> Result<NodeWord, TextFault>
     ensures read { Gives (λ w. w) result (node_word_of (record { text = text.now; at = at })) }
-    ensures unread { TellsNoRead result }
+    ensures unread { TellsNoFailedRead result }
 {
     match text {
         b"S" => Ok(NodeWord::Split),
@@ -49,8 +49,8 @@ fn node_word(text: &[u8], at: usize) -> Result<NodeWord, TextFault>
 }
 
 /// What follows the word of a node.
-#[tactic(auto, unfolding(crate::specs::Reading::node_behind))]
-fn read_node_behind<R: Source>(
+#[tactic(auto, unfolding(crate::specs::Reading::node_after_word))]
+fn read_node_after_word<R: Source>(
     alloc: Global,
     feed: &mut Feed,
     source: &mut R,
@@ -63,8 +63,8 @@ fn read_node_behind<R: Source>(
     ensures tables { AreTables sizes tables.new }
     ensures known { StaysKnown (R.remaining source.old) (R.remaining source.new) }
     ensures failed { TellsReads feed.old.fault (R.has_failed source.old) feed.new.fault (R.has_failed source.new) result }
-    ensures read { ReadsAs feed.old (R.remaining source.old) feed.new (R.remaining source.new) (λ n. n) result (node_behind sizes version word) }
-    ensures broken { BreaksAs feed.old (R.remaining source.old) feed.new (R.remaining source.new) (λ n. n) result (node_behind sizes version word) }
+    ensures read { ReadsAs feed.old (R.remaining source.old) feed.new (R.remaining source.new) (λ n. n) result (node_after_word sizes version word) }
+    ensures cut_short { AgreesWhenCutAs feed.old (R.remaining source.old) feed.new (R.remaining source.new) (λ n. n) result (node_after_word sizes version word) }
     ensures node { IfOk result (IsNodeAt sizes version) }
 {
     match word {
@@ -111,7 +111,7 @@ pub fn read_node<R: Source>(
     ensures known { StaysKnown (R.remaining source.old) (R.remaining source.new) }
     ensures failed { TellsReads feed.old.fault (R.has_failed source.old) feed.new.fault (R.has_failed source.new) result }
     ensures read { ReadsAs feed.old (R.remaining source.old) feed.new (R.remaining source.new) (λ n. n) result (node_at sizes version count) }
-    ensures broken { BreaksAs feed.old (R.remaining source.old) feed.new (R.remaining source.new) (λ n. n) result (node_at sizes version count) }
+    ensures cut_short { AgreesWhenCutAs feed.old (R.remaining source.old) feed.new (R.remaining source.new) (λ n. n) result (node_at sizes version count) }
     ensures node { IfOk result (IsNodeAt sizes version) }
     ensures room { IfOk result (λ _. count < 16777216) }
 {
@@ -120,5 +120,5 @@ pub fn read_node<R: Source>(
         return Err(TextFault::TooManyNodes(at));
     }
     let word = node_word(feed.token(), at)?;
-    read_node_behind(alloc, feed, source, sizes, version, word, tables)
+    read_node_after_word(alloc, feed, source, sizes, version, word, tables)
 }

@@ -3,8 +3,8 @@
 ghost use Rattle.std.specs.Prelude.{◌<◌, IfOk};
 ghost use Rattle.tt_instance.specs.Problem.{Problem};
 ghost use Rattle.tt_facts.specs.Facts.{IsWho, IsGiven, IsPattern};
-ghost use Rattle.tt_proof_text.specs.Answers.{StaysKnown, TellsReads, ReadsAs, BreaksAs};
-ghost use Rattle.tt_proof_text.specs.Faults.{TellsNoRead, Gives};
+ghost use Rattle.tt_proof_text.specs.Answers.{StaysKnown, TellsReads, ReadsAs, AgreesWhenCutAs};
+ghost use Rattle.tt_proof_text.specs.Faults.{TellsNoFailedRead, Gives};
 ghost use Rattle.tt_proof_text.specs.Sizes.{AreSizes};
 ghost use Rattle.tt_proof_text.specs.Reading.{who_in, who_at, given_of, given_at, pattern_at};
 
@@ -18,7 +18,7 @@ use tt_text::{Feed, Source};
 fn who(text: &[u8], at: usize, sizes: Sizes) -> Result<Who, TextFault>
     ensures read { Gives (λ w. w) result (who_in at sizes text.now) }
     ensures within { (p : Problem) → AreSizes p sizes → IfOk result (IsWho p) }
-    ensures unread { TellsNoRead result }
+    ensures unread { TellsNoFailedRead result }
 {
     match text.split_first() {
         Some((b'c', digits)) => {
@@ -38,7 +38,7 @@ fn read_who<R: Source>(feed: &mut Feed, source: &mut R, sizes: Sizes) -> Result<
     ensures known { StaysKnown (R.remaining source.old) (R.remaining source.new) }
     ensures failed { TellsReads feed.old.fault (R.has_failed source.old) feed.new.fault (R.has_failed source.new) result }
     ensures read { ReadsAs feed.old (R.remaining source.old) feed.new (R.remaining source.new) (λ w. w) result (who_at sizes) }
-    ensures broken { BreaksAs feed.old (R.remaining source.old) feed.new (R.remaining source.new) (λ w. w) result (who_at sizes) }
+    ensures cut_short { AgreesWhenCutAs feed.old (R.remaining source.old) feed.new (R.remaining source.new) (λ w. w) result (who_at sizes) }
     ensures within { (p : Problem) → AreSizes p sizes → IfOk result (IsWho p) }
 {
     let at = token(feed, source)?;
@@ -50,7 +50,7 @@ fn read_who<R: Source>(feed: &mut Feed, source: &mut R, sizes: Sizes) -> Result<
 fn given(text: &[u8], at: usize, letter: u8, count: u32) -> Result<Option<u32>, TextFault>
     ensures read { Gives (λ n. n) result (given_of letter count (record { text = text.now; at = at })) }
     ensures within { IfOk result (IsGiven count) }
-    ensures unread { TellsNoRead result }
+    ensures unread { TellsNoFailedRead result }
 {
     if b"*".as_slice() == text {
         return Ok(None);
@@ -69,7 +69,7 @@ fn read_given<R: Source>(
     ensures known { StaysKnown (R.remaining source.old) (R.remaining source.new) }
     ensures failed { TellsReads feed.old.fault (R.has_failed source.old) feed.new.fault (R.has_failed source.new) result }
     ensures read { ReadsAs feed.old (R.remaining source.old) feed.new (R.remaining source.new) (λ n. n) result (given_at letter count) }
-    ensures broken { BreaksAs feed.old (R.remaining source.old) feed.new (R.remaining source.new) (λ n. n) result (given_at letter count) }
+    ensures cut_short { AgreesWhenCutAs feed.old (R.remaining source.old) feed.new (R.remaining source.new) (λ n. n) result (given_at letter count) }
     ensures within { IfOk result (IsGiven count) }
 {
     let at = token(feed, source)?;
@@ -86,13 +86,13 @@ pub fn read_pattern<R: Source>(
     ensures known { StaysKnown (R.remaining source.old) (R.remaining source.new) }
     ensures failed { TellsReads feed.old.fault (R.has_failed source.old) feed.new.fault (R.has_failed source.new) result }
     ensures read { ReadsAs feed.old (R.remaining source.old) feed.new (R.remaining source.new) (λ g. g) result (pattern_at sizes) }
-    ensures broken { BreaksAs feed.old (R.remaining source.old) feed.new (R.remaining source.new) (λ g. g) result (pattern_at sizes) }
+    ensures cut_short { AgreesWhenCutAs feed.old (R.remaining source.old) feed.new (R.remaining source.new) (λ g. g) result (pattern_at sizes) }
     ensures within { (p : Problem) → AreSizes p sizes → IfOk result (IsPattern p) }
 {
     let who = read_who(feed, source, sizes)?;
-    let room = read_given(feed, source, b'r', sizes.rooms)?;
-    let day = read_given(feed, source, b'd', sizes.days)?;
-    let period = read_given(feed, source, b'p', sizes.periods)?;
+    let room = read_given(feed, source, ROOM_LETTER, sizes.rooms)?;
+    let day = read_given(feed, source, DAY_LETTER, sizes.days)?;
+    let period = read_given(feed, source, PERIOD_LETTER, sizes.periods)?;
     Ok(Pattern {
         who,
         room,

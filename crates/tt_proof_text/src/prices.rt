@@ -2,8 +2,8 @@
 
 ghost use Rattle.std.specs.Prelude.{◌≡◌, ◌≤◌, ◌<◌, IfOk, IfSome, OnOk};
 ghost use Rattle.tt_text.specs.Feeds.{room_of};
-ghost use Rattle.tt_proof_text.specs.Answers.{StaysKnown, TellsReads, ReadsAs, BreaksAs};
-ghost use Rattle.tt_proof_text.specs.Faults.{TellsNoRead, Gives};
+ghost use Rattle.tt_proof_text.specs.Answers.{StaysKnown, TellsReads, ReadsAs, AgreesWhenCutAs};
+ghost use Rattle.tt_proof_text.specs.Faults.{TellsNoFailedRead, Gives};
 ghost use Rattle.tt_proof_text.specs.Pricing.{kept_of, seen_of, AreTables, IsUnseen, AreKept};
 ghost use Rattle.tt_proof_text.specs.Reading.{priced_in, priced_of, pair_at, prices_at};
 
@@ -59,7 +59,7 @@ impl Prices {
 fn new_priced(text: &[u8], at: usize, sizes: Sizes, tables: &Tables) -> Result<Priced, TextFault>
     ensures read { Gives (λ x. x) result (priced_in at sizes (seen_of tables.now) text.now) }
     ensures within { IfOk result (IsUnseen sizes (seen_of tables.now)) }
-    ensures unread { TellsNoRead result }
+    ensures unread { TellsNoFailedRead result }
 {
     match text.split_first() {
         Some((b'c', digits)) => {
@@ -85,7 +85,7 @@ fn priced_or_end(
 ) -> Result<Option<Priced>, TextFault>
     ensures read { Gives (λ x. x) result (priced_of sizes (seen_of tables.now) (record { text = text.now; at = at })) }
     ensures within { IfOk result (λ x. IfSome x (IsUnseen sizes (seen_of tables.now))) }
-    ensures unread { TellsNoRead result }
+    ensures unread { TellsNoFailedRead result }
 {
     if b"/".as_slice() == text {
         return Ok(None);
@@ -105,7 +105,7 @@ fn read_pair<R: Source>(
     ensures failed { TellsReads feed.old.fault (R.has_failed source.old) feed.new.fault (R.has_failed source.new) result }
     ensures forward { IfOk result (λ _. room_of feed.new < room_of feed.old) }
     ensures read { ReadsAs feed.old (R.remaining source.old) feed.new (R.remaining source.new) (λ x. x) result (pair_at sizes (seen_of tables.now)) }
-    ensures broken { BreaksAs feed.old (R.remaining source.old) feed.new (R.remaining source.new) (λ x. x) result (pair_at sizes (seen_of tables.now)) }
+    ensures cut_short { AgreesWhenCutAs feed.old (R.remaining source.old) feed.new (R.remaining source.new) (λ x. x) result (pair_at sizes (seen_of tables.now)) }
     ensures within { IfOk result (λ x. IfSome x (λ k. IsUnseen sizes (seen_of tables.now) k.0 × (k.1 ≤ 1000000))) }
 {
     let at = token(feed, source)?;
@@ -130,7 +130,7 @@ pub fn read_prices<R: Source>(
     ensures failed { TellsReads feed.old.fault (R.has_failed source.old) feed.new.fault (R.has_failed source.new) result }
     ensures forward { IfOk result (λ _. room_of feed.new < room_of feed.old) }
     ensures read { ReadsAs feed.old (R.remaining source.old) feed.new (R.remaining source.new) (λ k. kept_of k) result (prices_at sizes) }
-    ensures broken { BreaksAs feed.old (R.remaining source.old) feed.new (R.remaining source.new) (λ k. kept_of k) result (prices_at sizes) }
+    ensures cut_short { AgreesWhenCutAs feed.old (R.remaining source.old) feed.new (R.remaining source.new) (λ k. kept_of k) result (prices_at sizes) }
     ensures within { IfOk result (λ k. AreKept sizes (kept_of k)) }
 {
     let mut prices = Prices {

@@ -2,10 +2,10 @@
 
 ghost use Rattle.std.specs.Prelude.{◌≡◌, ◌<◌, ◌==◌, true, is_some, Some, None, Ok, Err, IfOk, IfErr, IfSome, MatchResult};
 ghost use Rattle.tt_text.specs.Feeds.{stream_at, fresh};
-ghost use Rattle.tt_proof_text.specs.Answers.{StaysKnown, Breaks};
-ghost use Rattle.tt_proof_text.specs.Faults.{read_failed, TellsNoRead, TellsNoWant, Gives};
+ghost use Rattle.tt_proof_text.specs.Answers.{StaysKnown, AgreesWhenCut};
+ghost use Rattle.tt_proof_text.specs.Faults.{read_failed, TellsNoFailedRead, TellsNoOutOfMemory, Gives};
 ghost use Rattle.tt_proof_text.specs.Reading.{header_at, end_at};
-ghost use Rattle.tt_proof_text.specs.Readers.{IsNodeAt, Goes, Says, HeaderBreaks, NodeBreaks};
+ghost use Rattle.tt_proof_text.specs.Readers.{IsNodeAt, Goes, Says, HeaderAgreesWhenCut, NodeAgreesWhenCut};
 ghost use Rattle.tt_proof_text.specs.Sizes.{AreSizes};
 
 use crate::fault::TextFault;
@@ -55,11 +55,11 @@ impl NodeReader {
     ) -> Result<NodeReader, TextFault>
         ensures known { StaysKnown (R.remaining source.old) (R.remaining source.new) }
         ensures failed { result ≡ Err read_failed → R.has_failed source.new ≡ true }
-        ensures unfailed { TellsNoRead result → R.has_failed source.new ≡ R.has_failed source.old }
+        ensures unfailed { TellsNoFailedRead result → R.has_failed source.new ≡ R.has_failed source.old }
         ensures read { is_some (R.remaining source.old) ≡ true →
             Gives (λ r. ((r.version, r.bound), stream_at r.fed (R.remaining source.new))) result (header_at (stream_at fresh (R.remaining source.old))) }
         // A failed read is told where the bytes before it give a part of the header and no fault.
-        ensures broken { HeaderBreaks (R.remaining source.old) result (R.remaining source.new) }
+        ensures cut_short { HeaderAgreesWhenCut (R.remaining source.old) result (R.remaining source.new) }
         ensures start { IfOk result (λ r. (r.count ≡ 0) × (r.places ≡ 1) × (r.fault ≡ None)) }
         ensures sizes { IfOk result (λ r. AreSizes instance.now r.sizes) }
     {
@@ -107,7 +107,7 @@ impl NodeReader {
     pub fn next_node<R: Source>(&mut self, source: &mut R) -> Result<Option<Node>, TextFault>
         ensures known { StaysKnown (R.remaining source.old) (R.remaining source.new) }
         ensures failed { self.old.fault ≡ None → result ≡ Err read_failed → R.has_failed source.new ≡ true }
-        ensures unfailed { self.old.fault ≡ None → TellsNoRead result → R.has_failed source.new ≡ R.has_failed source.old }
+        ensures unfailed { self.old.fault ≡ None → TellsNoFailedRead result → R.has_failed source.new ≡ R.has_failed source.old }
         ensures again { IfSome self.old.fault (λ f. (result ≡ Err f) × (self.new ≡ self.old)) }
         ensures still { IfSome self.old.fault (λ _. source.new ≡ source.old) }
         ensures goes { self.old.fault ≡ None → Goes self.old result self.new }
@@ -115,7 +115,7 @@ impl NodeReader {
         ensures says { self.old.fault ≡ None → is_some (R.remaining source.old) ≡ true →
             Says self.old (stream_at self.old.fed (R.remaining source.old)) result (stream_at self.new.fed (R.remaining source.new)) }
         // A failed read is told where the bytes before it give a part of the node and no fault.
-        ensures broken { self.old.fault ≡ None → NodeBreaks self.old (R.remaining source.old) result self.new.fed (R.remaining source.new) }
+        ensures cut_short { self.old.fault ≡ None → NodeAgreesWhenCut self.old (R.remaining source.old) result self.new.fed (R.remaining source.new) }
         // Its numbers are the instance's, and its claims are of the version.
         ensures node { IfOk result (λ o. IfSome o (IsNodeAt self.old.sizes self.old.version)) }
     {
@@ -155,17 +155,17 @@ impl NodeReader {
         requires { self.old.places ≡ 0 }
         ensures known { StaysKnown (R.remaining source.old) (R.remaining source.new) }
         ensures failed { self.old.fault ≡ None → result ≡ Err read_failed → R.has_failed source.new ≡ true }
-        ensures unfailed { self.old.fault ≡ None → TellsNoRead result → R.has_failed source.new ≡ R.has_failed source.old }
+        ensures unfailed { self.old.fault ≡ None → TellsNoFailedRead result → R.has_failed source.new ≡ R.has_failed source.old }
         ensures again { IfSome self.old.fault (λ f. (result ≡ Err f) × (self.new ≡ self.old)) }
         ensures still { IfSome self.old.fault (λ _. source.new ≡ source.old) }
         ensures fault { IfErr result (λ f. self.new.fault ≡ Some f) }
         ensures goes { self.old.fault ≡ None → MatchResult result
             (λ _. self.new ≡ record self.old { fed = self.new.fed })
             (λ f. self.new ≡ record self.old { fed = self.new.fed; fault = Some f }) }
-        ensures memory { self.old.fault ≡ None → TellsNoWant result }
+        ensures memory { self.old.fault ≡ None → TellsNoOutOfMemory result }
         ensures read { self.old.fault ≡ None → is_some (R.remaining source.old) ≡ true →
             Gives (λ _. stream_at self.new.fed (R.remaining source.new)) result (end_at (stream_at self.old.fed (R.remaining source.old))) }
-        ensures broken { self.old.fault ≡ None → Breaks self.old.fed (R.remaining source.old) self.new.fed (R.remaining source.new) (λ _ s. s) result end_at }
+        ensures cut_short { self.old.fault ≡ None → AgreesWhenCut self.old.fed (R.remaining source.old) self.new.fed (R.remaining source.new) (λ _ s. s) result end_at }
     {
         if let Some(fault) = self.fault {
             return Err(fault);

@@ -1,7 +1,7 @@
 //! Numbers that have been seen.
 
 ghost use Rattle.std.specs.Prelude.{◌≡◌, ◌<◌, ◌&&◌, ◌∷◌, ◌++◌, ℕ, not, false, [], length, slice_index_or, IfOk, OnOk, OnErr, All};
-ghost use Rattle.tt_lists.specs.Words.{has};
+ghost use Rattle.tt_lists.specs.Words.{has_number};
 
 use std::alloc::{AllocError, Global};
 use std::marker::Model;
@@ -27,7 +27,7 @@ impl Model for Seen {
 /// Takes the marks of numbers away.
 fn unmark(marks: &mut [bool], numbers: &[u32])
     requires { All (λ n. n < length marks.old) numbers.now }
-    ensures { (k : ℕ) → slice_index_or marks.new k false ≡ (slice_index_or marks.old k false && not (has numbers.now k)) }
+    ensures { (k : ℕ) → slice_index_or marks.new k false ≡ (slice_index_or marks.old k false && not (has_number numbers.now k)) }
 {
     for number in numbers {
         marks[*number as usize] = false;
@@ -48,7 +48,7 @@ impl Seen {
 
     /// Whether a number has been seen.
     pub fn has(&self, number: u32) -> bool
-        ensures { result ≡ has self.now.numbers number }
+        ensures { result ≡ has_number self.now.numbers number }
     {
         self.marks.get(number as usize).copied().unwrap_or(false)
     }

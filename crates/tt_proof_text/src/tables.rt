@@ -1,8 +1,8 @@
 //! Tables of the courses and rooms that have been seen.
 
 ghost use Rattle.std.specs.Prelude.{◌≡◌, false, IfOk};
-ghost use Rattle.tt_lists.specs.Words.{has};
-ghost use Rattle.tt_proof_text.specs.Faults.{TellsNoRead, Gives};
+ghost use Rattle.tt_lists.specs.Words.{has_number};
+ghost use Rattle.tt_proof_text.specs.Faults.{TellsNoFailedRead, Gives};
 ghost use Rattle.tt_proof_text.specs.Reading.{new_number};
 
 use crate::fault::TextFault;
@@ -34,8 +34,8 @@ impl Tables {
 /// A number that has not been seen.
 pub fn new_number(seen: &Seen, number: u32, at: usize) -> Result<u32, TextFault>
     ensures read { Gives (λ n. n) result (new_number at seen.now.numbers number) }
-    ensures unread { TellsNoRead result }
-    ensures new { IfOk result (λ n. (n ≡ number) × (has seen.now.numbers n ≡ false)) }
+    ensures unread { TellsNoFailedRead result }
+    ensures new { IfOk result (λ n. (n ≡ number) × (has_number seen.now.numbers n ≡ false)) }
 {
     if seen.has(number) {
         return Err(TextFault::RepeatedIndex(at));

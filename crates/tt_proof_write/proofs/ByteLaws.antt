@@ -20,11 +20,11 @@ digits_short n small = length-decimal-le 20 n (lit< tt) (omega arith) small
 
 -- ---- texts of pieces
 
--- a piece and those behind it
+-- a piece and those after it
 pub length-tail_text : (p : Piece) (ps : List Piece) → length (tail_text (p ∷ ps)) ≡ length (tail_text (p ∷ [])) + length (tail_text ps)
 length-tail_text p ps = ap (length {A = ℕ}) (tail_text-append (p ∷ []) ps) ∙ length-append (tail_text (p ∷ [])) (tail_text ps)
 
--- pieces and those behind them
+-- pieces and those after them
 pub length-tail_text-append : (ps qs : List Piece) → length (tail_text (ps ++ qs)) ≡ length (tail_text ps) + length (tail_text qs)
 length-tail_text-append ps qs = ap (length {A = ℕ}) (tail_text-append ps qs) ∙ length-append (tail_text ps) (tail_text qs)
 
@@ -34,14 +34,14 @@ length-line_text p ps = omega (arith, ap (length {A = ℕ}) (line_text-cons p ps
 
 -- ---- lists
 
--- all rows are counted, and the pieces behind them
+-- all rows are counted, and the pieces after them
 pub rows_counted : {X : Type 0} (f : X → List Piece) (xs : List X) (i before count : ℕ) (qs : List Piece) → count ≡ clipped (before + length (flat_map (λ x. tail_text (f x)) (take i xs))) → length xs ≤ i → length (tail_text qs) ≡ before → count ≡ clipped (length (tail_text (flat_map f xs ++ qs)))
 rows_counted {X} f xs i before count qs counted end behind =
     let all = ap (λ (ys : List X). length (flat_map (λ (x : X). tail_text (f x)) ys)) (take_all i xs end) in
     let rows = ap (length {A = ℕ}) (tail_text-rows f xs) in
     counted ∙ ap clipped (omega (arith, all, rows, behind, length-tail_text-append (flat_map f xs) qs))
 
--- all single pieces are counted, and those behind them
+-- all single pieces are counted, and those after them
 pub pieces_counted : {X : Type 0} (f : X → Piece) (xs : List X) (i before count : ℕ) (qs : List Piece) → count ≡ clipped (before + length (flat_map (λ x. tail_text (f x ∷ [])) (take i xs))) → length xs ≤ i → length (tail_text qs) ≡ before → count ≡ clipped (length (tail_text (map f xs ++ qs)))
 pieces_counted {X} f xs i before count qs counted end behind =
     let all = ap (λ (ys : List X). length (flat_map (λ (x : X). tail_text (f x ∷ [])) ys)) (take_all i xs end) in

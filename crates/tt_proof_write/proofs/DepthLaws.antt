@@ -13,7 +13,7 @@ use Rattle.tt_proof_text.specs.declared.node.Node.TheVariants.{Split, Leaf}
 use Rattle.tt_proof_text.specs.Trees.{Tree, Close, Branch, OnPath, preorder, on_paths, with_fact}
 use Rattle.tt_proof_write.specs.Within.{IsPreorder, IsShallow}
 
--- the depth behind a leaf
+-- the depth after a leaf
 abbrev pub next_depth : List ℕ → ℕ
 next_depth [] = 0
 next_depth (d ∷ ds) = d
@@ -102,7 +102,7 @@ depth_told nodes answer tree is = (λ t. shallow_from nodes (sym is ∙ t), λ h
 
 -- ---- the second children that are still to come
 
--- depths fall from this one on, and behind each stand fewer than it says
+-- depths fall from this one on, and after each stand fewer than it says
 abbrev pub AreFalling : ℕ → List ℕ → Type 0
 AreFalling d [] = Unit {0}
 AreFalling d (e ∷ ds) = (e ≤ d) × (length ds < e) × AreFalling e ds
@@ -117,7 +117,7 @@ falling_deeper : (d : ℕ) (ds : List ℕ) → AreFalling d ds → AreFalling (d
 falling_deeper d [] falling = tt
 falling_deeper d (e ∷ ds) falling = (omega (arith, falling.0), falling.1, falling.2)
 
--- the depth behind a leaf is no greater
+-- the depth after a leaf is no greater
 next_low : (d : ℕ) (ds : List ℕ) → AreFalling d ds → next_depth ds ≤ d
 next_low d [] falling = omega arith
 next_low d (e ∷ ds) falling = falling.0

@@ -43,7 +43,7 @@ pub lines_written : {X : Type 0} (f : X → List Piece) (xs : List X) (i : ℕ) 
 lines_written {X} f xs i old out so_far le =
     so_far ∙ ap (λ (ys : List X). old ++ flat_map (λ (x : X). line_text (f x)) ys) (take_all i xs le) ∙ ap (λ (t : List ℕ). old ++ t) (sym (rows_text f xs))
 
--- pieces behind others
+-- pieces after others
 pub pieces_behind : (old out more : List ℕ) (ps qs : List Piece) → out ≡ old ++ tail_text ps → more ≡ tail_text qs → out ++ more ≡ old ++ tail_text (ps ++ qs)
 pieces_behind old out more ps qs e f =
     rw (e, f) (append_assoc old (tail_text ps) (tail_text qs) ∙ ap (λ (t : List ℕ). old ++ t) (sym (tail_text-append ps qs)))

@@ -32,7 +32,7 @@ lines_writable (l ∷ ls) fit = (are_writable l fit.0, lines_writable ls fit.1)
 abbrev pub IsShort : Placed → Type 0
 IsShort t = length t.text ≤ 32
 
--- one piece and the separator behind it
+-- one piece and the separator after it
 piece_short : (p : Piece) (at s : ℕ) (more : List ℕ) → IsFit p → is_separator s ≡ true → ((k : ℕ) → All IsShort (tokens_from false k more)) → All IsShort (tokens_from false at (text_of p ++ s ∷ more))
 piece_short p at s more fit sep h =
     subst (All IsShort) (sym (tokens-written at (text_of p) more s (piece-token p fit.writable) sep)) (All-cons IsShort _ _ fit.short (h (at + length (text_of p) + 1)))

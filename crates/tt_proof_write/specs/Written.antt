@@ -11,7 +11,7 @@ use Rattle.tt_proof_text.specs.declared.node.Node.{Node}
 use Rattle.tt_proof_text.specs.declared.node.Node.TheVariants.{Split, Leaf}
 use Rattle.tt_proof_text.specs.Spelling.{fixed, version_text, bound_piece, course_piece, pattern_pieces, listed_pieces}
 
--- numbers with prices, each behind the letter of its kind
+-- numbers with prices, each after the letter of its kind
 abbrev pub priced_pieces : ℕ → ℕ × ℕ → List Piece
 priced_pieces letter k = Index letter k.0 ∷ Number k.1 ∷ []
 
@@ -65,6 +65,6 @@ proof_lines v b nodes = header_pieces v b ∷ (map node_pieces nodes ++ (fixed w
 abbrev pub proof_text : ℕ → Bound → List Node → List ℕ
 proof_text v b nodes = lines_text (proof_lines v b nodes)
 
--- pieces of a line behind its first, each behind a space
+-- pieces of a line after its first, each after a space
 abbrev pub tail_text : List Piece → List ℕ
 tail_text ps = flat_map (λ p. 32 ∷ text_of p) ps

@@ -6,10 +6,10 @@ ghost use Rattle.tt_proof_write.specs.Within.{IsPreorder, IsShallow};
 use arrayvec::ArrayVec;
 use tt_proof_text::Node;
 
-const MOST_DEPTH: u32 = 65_536;
+const MAX_DEPTH: u32 = 65_536;
 
 /// As many second children as can be to come at once.
-const MOST_PENDING: usize = MOST_DEPTH as usize;
+const MAX_PENDING: usize = MAX_DEPTH as usize;
 
 /// Whether no node of a tree stands below more splits than a file may have.
 pub fn is_shallow(nodes: &[Node]) -> bool
@@ -18,12 +18,12 @@ pub fn is_shallow(nodes: &[Node]) -> bool
 {
     let mut depth: u32 = 0;
     // The depths of the second children that are still to come.
-    let mut pending: ArrayVec<u32, MOST_PENDING> = ArrayVec::new();
+    let mut pending: ArrayVec<u32, MAX_PENDING> = ArrayVec::new();
     for node in nodes {
         match node {
             Node::Split(_) => {
                 // Its children would stand too deep.
-                if depth == MOST_DEPTH {
+                if depth == MAX_DEPTH {
                     return false;
                 }
                 depth += 1;

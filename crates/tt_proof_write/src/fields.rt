@@ -1,4 +1,4 @@
-//! Parts of a line behind its first token, each behind a space.
+//! Parts of a line after its first token, each after a space.
 
 ghost use Rattle.std.specs.Prelude.{◌≡◌, ◌++◌, ◌∷◌, [], IfSome, OnOk, All};
 ghost use Rattle.tt_text.specs.Pieces.{Number, Index};
@@ -50,8 +50,8 @@ fn put_who(out: &mut Vec<u8>, who: Who) -> Result<(), AllocError>
     ensures narrow { IsNarrowWho who }
 {
     match who {
-        Who::Course(course) => put_index(out, b'c', course),
-        Who::Curriculum(curriculum) => put_index(out, b'q', curriculum),
+        Who::Course(course) => put_index(out, COURSE_LETTER, course),
+        Who::Curriculum(curriculum) => put_index(out, CURRICULUM_LETTER, curriculum),
     }
 }
 
@@ -61,9 +61,9 @@ pub fn put_pattern(out: &mut Vec<u8>, pattern: &Pattern) -> Result<(), AllocErro
     ensures narrow { OnOk result (IsNarrowPattern pattern.now) }
 {
     put_who(out, pattern.who)?;
-    put_given(out, b'r', pattern.room)?;
-    put_given(out, b'd', pattern.day)?;
-    put_given(out, b'p', pattern.period)
+    put_given(out, ROOM_LETTER, pattern.room)?;
+    put_given(out, DAY_LETTER, pattern.day)?;
+    put_given(out, PERIOD_LETTER, pattern.period)
 }
 
 /// Courses up to `;`.
@@ -72,7 +72,7 @@ pub fn put_courses(out: &mut Vec<u8>, courses: &[u32]) -> Result<(), AllocError>
     ensures narrow { OnOk result (All IsNarrow courses.now) }
 {
     for course in courses {
-        put_index(out, b'c', *course)?;
+        put_index(out, COURSE_LETTER, *course)?;
     }
     put_next_token(out, b";")
 }

@@ -17,14 +17,14 @@ const MOST_NODES: usize = 16_777_216;
 fn are_short_prices(prices: &[(u32, u32)]) -> bool
     ensures { IsTrue result ↔ All (λ k. k.1 ≤ 1000000) prices.now }
 {
-    prices.iter().all(|priced| priced.1 <= MOST_PRICE)
+    prices.iter().all(|priced| priced.1 <= MAX_PRICE)
 }
 
 fn is_short_claim(claim: &Claim) -> bool
     ensures { IsTrue result ↔ IsShortClaim claim.now }
 {
     match claim {
-        Claim::Capacity { price, .. } => *price <= MOST_PRICE,
+        Claim::Capacity { price, .. } => *price <= MAX_PRICE,
         Claim::Prices { courses, rooms } => {
             are_short_prices(courses.as_slice()) && are_short_prices(rooms.as_slice())
         }
@@ -57,7 +57,7 @@ fn is_bound(bound: Bound) -> bool
     ensures { IsTrue result ↔ IsBound bound }
 {
     match bound {
-        Bound::AtLeast(points) => points <= MOST_POINTS,
+        Bound::AtLeast(points) => points <= MAX_POINTS,
         Bound::Nothing => true,
     }
 }

@@ -72,7 +72,7 @@ pub fn write_proof(
         return Err(WriteFault::NotATree);
     }
     let bytes = proof_bytes(version, bound, nodes);
-    if bytes > MOST_BYTES || !are_within(bound, nodes) {
+    if bytes > MAX_PROOF_BYTES || !are_within(bound, nodes) {
         return Err(WriteFault::OverLimit);
     }
     if !are_nodes_in(version, nodes) {

@@ -4,8 +4,8 @@ use Rattle.std.specs.Prelude.{flat_map, filter}
 use Rattle.std.specs.Fmt.{decimal}
 use Rattle.std.proofs.lemmas.List.{append-nil, take_more, take_all}
 use Rattle.std.proofs.lemmas.Grind.{flat_map-append}
-use Rattle.tt_lists.specs.Words.{numbers_below}
-use Rattle.tt_lists.proofs.Below.{numbers_below_more}
+use Rattle.tt_lists.specs.Words.{range_below}
+use Rattle.tt_lists.proofs.Below.{range_below_more}
 use Rattle.tt_text.specs.Pieces.{Piece, Text, Number}
 use Rattle.tt_text.specs.Lines.{text_of, line_text, lines_text}
 use Rattle.tt_instance.specs.Problem.{Problem}
@@ -20,16 +20,16 @@ use Rattle.tt_report.specs.declared.blocks.Block.TheVariants as of
 use Rattle.tt_report.specs.declared.by.By.TheVariants.{Room, Teacher, Curriculum}
 
 -- one number more
-pub texts_more : {Y : Type 0} (f : ℕ → List Y) (i : ℕ) → flat_map f (numbers_below (i + 1)) ≡ flat_map f (numbers_below i) ++ f i
+pub texts_more : {Y : Type 0} (f : ℕ → List Y) (i : ℕ) → flat_map f (range_below (i + 1)) ≡ flat_map f (range_below i) ++ f i
 texts_more f i =
-    ap (flat_map f) (numbers_below_more i) ∙ flat_map-append f (numbers_below i) (i ∷ []) ∙ ap (λ z. flat_map f (numbers_below i) ++ z) (append-nil (f i))
+    ap (flat_map f) (range_below_more i) ∙ flat_map-append f (range_below i) (i ∷ []) ∙ ap (λ z. flat_map f (range_below i) ++ z) (append-nil (f i))
 
 -- a text that grows by that of one number more
-pub text_further : (f : ℕ → List ℕ) (i : ℕ) (first old new : List ℕ) → old ≡ first ++ flat_map f (numbers_below i) → new ≡ old ++ f i → new ≡ first ++ flat_map f (numbers_below (i + 1))
+pub text_further : (f : ℕ → List ℕ) (i : ℕ) (first old new : List ℕ) → old ≡ first ++ flat_map f (range_below i) → new ≡ old ++ f i → new ≡ first ++ flat_map f (range_below (i + 1))
 text_further f i first old new before more =
-    more ∙ ap (λ z. z ++ f i) before ∙ append_assoc first (flat_map f (numbers_below i)) (f i) ∙ ap (λ z. first ++ z) (sym (texts_more f i))
+    more ∙ ap (λ z. z ++ f i) before ∙ append_assoc first (flat_map f (range_below i)) (f i) ∙ ap (λ z. first ++ z) (sym (texts_more f i))
 
--- a line is its first piece, the others, each behind a space, and its end
+-- a line is its first piece, the others, each after a space, and its end
 pub line_is : (p : Piece) (ps : List Piece) → line_text (p ∷ ps) ≡ text_of p ++ (next_texts ps ++ 10 ∷ [])
 line_is p [] = refl
 line_is p (q ∷ ps) =
@@ -109,16 +109,16 @@ slot_put p b t es day period d s first a c e g day_is period_is ea ec es_is ee e
 -- ---- blocks
 
 -- the lines of a block
-block_is : (p : Problem) (t : List Cell) (head : List Piece) (f : Slot → List Piece) → lines_text (head ∷ map f (all_slots p)) ≡ line_text head ++ flat_map (λ d. flat_map (λ s. line_text (f (slot d s))) (numbers_below p.periods)) (all_days p)
+block_is : (p : Problem) (t : List Cell) (head : List Piece) (f : Slot → List Piece) → lines_text (head ∷ map f (all_slots p)) ≡ line_text head ++ flat_map (λ d. flat_map (λ s. line_text (f (slot d s))) (range_below p.periods)) (all_days p)
 block_is p t head f =
     ap (λ z. line_text head ++ z)
     (lines_text-of_map f (all_slots p)
-    ∙ flat_map-of_flat_map (λ s. line_text (f s)) (λ d. map (slot d) (numbers_below p.periods)) (all_days p)
-    ∙ flat_map-same (λ d. flat_map (λ s. line_text (f s)) (map (slot d) (numbers_below p.periods))) (λ d. flat_map (λ s. line_text (f (slot d s))) (numbers_below p.periods)) (all_days p)
-    (λ d. flat_map-of_map (λ s. line_text (f s)) (slot d) (numbers_below p.periods)))
+    ∙ flat_map-of_flat_map (λ s. line_text (f s)) (λ d. map (slot d) (range_below p.periods)) (all_days p)
+    ∙ flat_map-same (λ d. flat_map (λ s. line_text (f s)) (map (slot d) (range_below p.periods))) (λ d. flat_map (λ s. line_text (f (slot d s))) (range_below p.periods)) (all_days p)
+    (λ d. flat_map-of_map (λ s. line_text (f s)) (slot d) (range_below p.periods)))
 
 -- a list, by the numbers of its elements
-front_by_numbers : {X Y : Type 0} (f : X → List Y) (xs : List X) (d : X) (i : ℕ) → i ≤ length xs → flat_map f (take i xs) ≡ flat_map (λ k. f (get_or xs k d)) (numbers_below i)
+front_by_numbers : {X Y : Type 0} (f : X → List Y) (xs : List X) (d : X) (i : ℕ) → i ≤ length xs → flat_map f (take i xs) ≡ flat_map (λ k. f (get_or xs k d)) (range_below i)
 front_by_numbers f xs d zero h = refl
 front_by_numbers f xs d (suc i) h =
     let one : suc i ≡ i + 1 = omega arith in
@@ -128,28 +128,28 @@ front_by_numbers f xs d (suc i) h =
     ∙ ap (λ z. flat_map f (take i xs) ++ z) (append-nil (f (get_or xs i d)))
     ∙ ap (λ z. z ++ f (get_or xs i d)) (front_by_numbers f xs d i (omega arith))
     ∙ sym (texts_more (λ k. f (get_or xs k d)) i)
-    ∙ ap (λ n. flat_map (λ k. f (get_or xs k d)) (numbers_below n)) (sym one)
+    ∙ ap (λ n. flat_map (λ k. f (get_or xs k d)) (range_below n)) (sym one)
 
-by_numbers : {X Y : Type 0} (f : X → List Y) (xs : List X) (d : X) → flat_map f xs ≡ flat_map (λ k. f (get_or xs k d)) (numbers_below (length xs))
+by_numbers : {X Y : Type 0} (f : X → List Y) (xs : List X) (d : X) → flat_map f xs ≡ flat_map (λ k. f (get_or xs k d)) (range_below (length xs))
 by_numbers f xs d =
     ap (flat_map f) (sym (take_all (length xs) xs (omega arith))) ∙ front_by_numbers f xs d (length xs) (omega arith)
 
-pub rooms_are : (p : Problem) (t : List Cell) → report_text p t Room ≡ flat_map (λ r. block_text p t (of.Room r)) (numbers_below (length p.rooms))
+pub rooms_are : (p : Problem) (t : List Cell) → report_text p t Room ≡ flat_map (λ r. block_text p t (of.Room r)) (range_below (length p.rooms))
 rooms_are p t =
     lines_text-of_flat_map (λ r. block p (head_of p (of.Room r)) (shown_in p (of.Room r)) (belongs_to p (of.Room r)) t) (all_rooms p)
     ∙ flat_map-same (λ r. lines_text (block p (head_of p (of.Room r)) (shown_in p (of.Room r)) (belongs_to p (of.Room r)) t)) (λ r. block_text p t (of.Room r)) (all_rooms p)
     (λ r. block_is p t (head_of p (of.Room r)) (slot_line (shown_in p (of.Room r)) (belongs_to p (of.Room r)) t))
 
-pub curricula_are : (p : Problem) (t : List Cell) → report_text p t Curriculum ≡ flat_map (λ q. block_text p t (of.Curriculum q)) (numbers_below (length p.curricula))
+pub curricula_are : (p : Problem) (t : List Cell) → report_text p t Curriculum ≡ flat_map (λ q. block_text p t (of.Curriculum q)) (range_below (length p.curricula))
 curricula_are p t =
     lines_text-of_flat_map (λ q. block p (head_of p (of.Curriculum q)) (shown_in p (of.Curriculum q)) (belongs_to p (of.Curriculum q)) t) (all_curricula p)
     ∙ flat_map-same (λ q. lines_text (block p (head_of p (of.Curriculum q)) (shown_in p (of.Curriculum q)) (belongs_to p (of.Curriculum q)) t)) (λ q. block_text p t (of.Curriculum q)) (all_curricula p)
     (λ q. block_is p t (head_of p (of.Curriculum q)) (slot_line (shown_in p (of.Curriculum q)) (belongs_to p (of.Curriculum q)) t))
 
-pub teachers_are : (p : Problem) (t : List Cell) → report_text p t Teacher ≡ flat_map (λ k. block_text p t (of.Teacher k)) (numbers_below (length (teachers p)))
+pub teachers_are : (p : Problem) (t : List Cell) → report_text p t Teacher ≡ flat_map (λ k. block_text p t (of.Teacher k)) (range_below (length (teachers p)))
 teachers_are p t =
     let named : List ℕ → List (List Piece) = λ name. block p (Text (codes "teacher") ∷ Text name ∷ []) (course_and_room p) (is_taught_by p name) t in
     lines_text-of_flat_map named (teachers p)
     ∙ by_numbers (λ name. lines_text (named name)) (teachers p) []
-    ∙ flat_map-same (λ k. lines_text (named (get_or (teachers p) k []))) (λ k. block_text p t (of.Teacher k)) (numbers_below (length (teachers p)))
+    ∙ flat_map-same (λ k. lines_text (named (get_or (teachers p) k []))) (λ k. block_text p t (of.Teacher k)) (range_below (length (teachers p)))
     (λ k. block_is p t (head_of p (of.Teacher k)) (slot_line (shown_in p (of.Teacher k)) (belongs_to p (of.Teacher k)) t))

@@ -1,6 +1,6 @@
 -- The blocks of a report, one by one.
 use Rattle.std.specs.Prelude.{ℕ, ◌<◌, Bool, List, [], ◌∷◌, ◌++◌, filter, length, flat_map, codes, slice_index_or}
-use Rattle.tt_lists.specs.Words.{numbers_below}
+use Rattle.tt_lists.specs.Words.{range_below}
 use Rattle.tt_text.specs.Pieces.{Piece, Text}
 use Rattle.tt_text.specs.Lines.{text_of, line_text}
 use Rattle.tt_instance.specs.Problem.{Problem}
@@ -35,7 +35,7 @@ belongs_to p (of.Room r) e = is_in r e
 belongs_to p (of.Teacher k) e = is_taught_by p (slice_index_or (teachers p) k []) e
 belongs_to p (of.Curriculum q) e = in_curriculum p q e.course
 
--- each piece behind a space
+-- each piece after a space
 abbrev pub next_texts : List Piece → List ℕ
 next_texts ps = flat_map (λ p. 32 ∷ text_of p) ps
 
@@ -49,7 +49,7 @@ abbrev pub slot_text : Problem → List Cell → Block → Slot → List ℕ
 slot_text p t b s = line_text (slot_line (shown_in p b) (belongs_to p b) t s)
 
 abbrev pub day_text : Problem → List Cell → Block → ℕ → List ℕ
-day_text p t b d = flat_map (λ s. slot_text p t b (slot d s)) (numbers_below p.periods)
+day_text p t b d = flat_map (λ s. slot_text p t b (slot d s)) (range_below p.periods)
 
 abbrev pub block_text : Problem → List Cell → Block → List ℕ
 block_text p t b = line_text (head_of p b) ++ flat_map (day_text p t b) (all_days p)

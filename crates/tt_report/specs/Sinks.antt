@@ -1,4 +1,4 @@
--- What a write that failed on its way leaves behind.
+-- What a write that failed on its way leaves after.
 use Rattle.std.specs.Prelude.{◌≡◌, ℕ, ◌++◌, List, Option}
 use Rattle.std.specs.Io.KnownBytes.{Appends}
 

@@ -2,7 +2,7 @@
 
 ghost use Rattle.std.specs.Prelude.{◌≡◌, ◌<◌, ◌++◌, length, flat_map, All, OnOk, IfOk, Err, true};
 ghost use Rattle.std.specs.Io.KnownBytes.{Appends};
-ghost use Rattle.tt_lists.specs.Words.{numbers_below};
+ghost use Rattle.tt_lists.specs.Words.{range_below};
 ghost use Rattle.tt_text.specs.Lines.{line_text};
 ghost use Rattle.tt_instance.specs.Cells.{InRange, slot};
 ghost use Rattle.tt_instance.specs.Courses.{teachers};
@@ -115,7 +115,7 @@ fn put_rooms(
     requires by { by_period.now.by ≡ group.Period instance.now.periods }
     requires in_range { All (InRange instance.now) by_period.now.entries }
     ensures { OnOk result (out.new.items ≡ out.old.items
-        ++ flat_map (λ r. block_text instance.now by_period.now.entries (of.Room r)) (numbers_below (length instance.now.rooms))) }
+        ++ flat_map (λ r. block_text instance.now by_period.now.entries (of.Room r)) (range_below (length instance.now.rooms))) }
 {
     for room in 0..instance.rooms() {
         put_block(out, instance, by_period, Block::Room(room))?;
@@ -132,7 +132,7 @@ fn put_teachers(
     requires by { by_period.now.by ≡ group.Period instance.now.periods }
     requires in_range { All (InRange instance.now) by_period.now.entries }
     ensures { OnOk result (out.new.items ≡ out.old.items
-        ++ flat_map (λ k. block_text instance.now by_period.now.entries (of.Teacher k)) (numbers_below (length (teachers instance.now)))) }
+        ++ flat_map (λ k. block_text instance.now by_period.now.entries (of.Teacher k)) (range_below (length (teachers instance.now)))) }
 {
     for teacher in 0..instance.teachers() {
         put_block(out, instance, by_period, Block::Teacher(teacher))?;
@@ -149,7 +149,7 @@ fn put_curricula(
     requires by { by_period.now.by ≡ group.Period instance.now.periods }
     requires in_range { All (InRange instance.now) by_period.now.entries }
     ensures { OnOk result (out.new.items ≡ out.old.items
-        ++ flat_map (λ q. block_text instance.now by_period.now.entries (of.Curriculum q)) (numbers_below (length instance.now.curricula))) }
+        ++ flat_map (λ q. block_text instance.now by_period.now.entries (of.Curriculum q)) (range_below (length instance.now.curricula))) }
 {
     for curriculum in 0..instance.curricula() {
         put_block(out, instance, by_period, Block::Curriculum(curriculum))?;

@@ -2,7 +2,7 @@
 use Rattle.std.proofs.Common.{◌≡◌, ℕ, Bool, true, false, ◌||◌, List, [], ◌∷◌, slice_index_or, refl, sym, ap, ◌∙◌}
 use Rattle.std.specs.Prelude.{count_by}
 use Rattle.std.specs.List.{list_any}
-use Rattle.tt_lists.specs.Words.{numbers_below}
+use Rattle.tt_lists.specs.Words.{range_below}
 use Rattle.tt_lists.proofs.Sums.{one_if, sum_by-same}
 
 -- the marks, and those that the elements that are left will set, are whole
@@ -36,6 +36,6 @@ module _ {X : Type 0} (at : ℕ → X → Bool) where
       sym (or_false (slice_index_or marks k false)) ∙ ap (λ l. slice_index_or marks k false || list_any (at k) l) (sym none) ∙ before k
 
   -- so the marks are counted
-  pub marks_counted : (whole : ℕ → Bool) (marks : List Bool) (left : List X) (n total : ℕ) → left ≡ [] → MarksTo at whole marks left → total ≡ count_by (λ k. slice_index_or marks k false) (numbers_below n) → total ≡ count_by whole (numbers_below n)
+  pub marks_counted : (whole : ℕ → Bool) (marks : List Bool) (left : List X) (n total : ℕ) → left ≡ [] → MarksTo at whole marks left → total ≡ count_by (λ k. slice_index_or marks k false) (range_below n) → total ≡ count_by whole (range_below n)
   marks_counted whole marks left n total none before counted =
-      counted ∙ sum_by-same (λ k. one_if (slice_index_or marks k false)) (λ k. one_if (whole k)) (numbers_below n) (λ k. ap one_if (marks_last whole marks left none before k))
+      counted ∙ sum_by-same (λ k. one_if (slice_index_or marks k false)) (λ k. one_if (whole k)) (range_below n) (λ k. ap one_if (marks_last whole marks left none before k))

@@ -25,7 +25,7 @@ place_below day period days periods h k week =
 
 -- day and period of two entries, and the periods of a day
 module _ (a b d s w : ℕ) where
-  -- the first place is one behind the second where the first period is right after the second
+  -- the first place is one after the second where the first period is right after the second
   pub right_after : b < w → s < w → (a * (w + 1) + b + 1 == d * (w + 1) + s + 1 + 1) ≡ ((a == d) && (b == s + 1))
   right_after h k =
       same_test (a * (w + 1) + b + 1) (d * (w + 1) + s + 1 + 1) (a * (w + 1) + b) (d * (w + 1) + (s + 1)) (λ e. omega arith) (λ e. omega arith)

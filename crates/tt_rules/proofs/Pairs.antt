@@ -14,7 +14,7 @@ use Rattle.tt_table.specs.declared.groups.GroupBy.TheVariants.{Period}
 use Rattle.tt_rules.proofs.Filtered.{count_by-filter, count_by-same_at}
 use Rattle.tt_table.proofs.Numbering.{same_number}
 
--- the pairs of the elements so far, and those behind them, are all: one element more
+-- the pairs of the elements so far, and those after them, are all: one element more
 pub pairs_more : {X : Type 0} (related : X → X → Bool) (xs : List X) (i : ℕ) (d : X) (total here : ℕ) → i < length xs → total + count_pairs related (drop i xs) ≡ count_pairs related xs → here ≡ count_by (related (get_or xs i d)) (drop (i + 1) xs) → total + here + count_pairs related (drop (i + 1) xs) ≡ count_pairs related xs
 pairs_more related xs i d total here h so_far found =
     omega (arith, ap (count_pairs related) (drop_more xs i d h), found, so_far)
@@ -26,7 +26,7 @@ collide_behind p e later here ok =
     ∙ count_by-same_at (InRange p) (λ x. in_group (Period p.periods) (group_of (Period p.periods) e) x && conflict p e.course x.course) (collide p e) later ok
     (λ x k.
     ap (λ b. b && conflict p e.course x.course)
-    (same_number x.day x.period e.day e.period p.periods k.period here.period ∙ ap (λ b. b && (x.period == e.period)) (turned x.day e.day) ∙ ap (λ b. (e.day == x.day) && b) (turned x.period e.period)))
+    (same_number x.day x.period e.day e.period p.periods k.period here.period ∙ ap (λ b. b && (x.period == e.period)) (test_turned x.day e.day) ∙ ap (λ b. (e.day == x.day) && b) (test_turned x.period e.period)))
   where
     turned : (a b : ℕ) → (a == b) ≡ (b == a)
     turned a b = same_test a b b a sym sym

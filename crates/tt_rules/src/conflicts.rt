@@ -30,7 +30,7 @@ fn against(instance: &Instance<'_>, by_period: &Groups<'_>, entry: &Entry, index
     ensures count { result ≡ count_by (collide instance.now entry.now) (drop (index + 1) by_period.now.entries) }
     ensures few { result ≤ length by_period.now.entries }
 {
-    excluded(instance, entry, by_period.behind(index))
+    excluded(instance, entry, by_period.after(index))
 }
 
 /// The pairs of entries that collide.

@@ -1,7 +1,7 @@
 //! Sets of places: of courses, of rooms, of days, or of periods of the week.
 
 ghost use Rattle.std.specs.Prelude.{◌≡◌, ℕ, ◌<◌, ◌≤◌, ◌==◌, ◌||◌, false, slice_index_or, count_by};
-ghost use Rattle.tt_lists.specs.Words.{numbers_below};
+ghost use Rattle.tt_lists.specs.Words.{range_below};
 
 use std::marker::Model;
 
@@ -53,7 +53,7 @@ impl Marks {
     pub fn count(&self, bound: u32) -> u64
         requires { bound ≤ PLACES }
         ensures count { result
-            ≡ count_by (λ k. slice_index_or self.now k false) (numbers_below bound) }
+            ≡ count_by (λ k. slice_index_or self.now k false) (range_below bound) }
         ensures few { result ≤ bound }
     {
         let mut total: u64 = 0;

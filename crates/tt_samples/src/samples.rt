@@ -60,7 +60,7 @@ pub const MINI_SOLUTION: &str = "a R 0 0\nb R 0 2\n";
 pub const GAP_PROOF: &str =
     "CTTP 1 bound 5\nS c0 * d0 p0\nS c1 * d0 p2\nB C c1 1 Q q0 ;\nK c1 ;\nS c0 * d0 p2\nS c1 * d0 p0\nB C c1 1 Q q0 ;\nK c1 ;\nK c0 ;\nend\n";
 
-/// A line that a test of memory prints before its call and behind it: between the two hostile/run.py refuses growths.
+/// A line that a test of memory prints before its call and after it: between the two hostile/run.py refuses growths.
 pub const MARK: &str = "mark";
 
 /// A text with other words at the first place of some.

@@ -12,15 +12,15 @@ use tt_moves::{Step, change};
 use tt_occupancy::Occupied;
 
 /// The best of some steps that the terms admit, if there is one.
-pub fn draw(occupied: &Occupied<'_, '_>, rng: &mut Pcg32, terms: Terms) -> Option<Step>
+pub fn draw(occupied: &Occupied<'_, '_>, rng: &mut Pcg32, cooling: Terms) -> Option<Step>
     requires { 0 < length occupied.now.entries }
     ensures { IfSome result (CanStep occupied.now.problem occupied.now.entries) }
 {
     let here = Pair::of(occupied);
     let mut chosen = None;
     let mut least = Price::HIGHEST;
-    for _ in 0..terms.samples {
-        let step = sample(occupied, rng);
+    for _ in 0..cooling.samples {
+        let step = entry_to_move(occupied, rng);
         let change = change(occupied, step);
         if terms.admits(here, change) {
             let price = terms.price(change, luck(rng));

@@ -25,13 +25,13 @@ fn any_entry(occupied: &Occupied<'_, '_>, rng: &mut Pcg32) -> u32
 }
 
 /// An entry in trouble, where one is seen soon.
-fn troubled_entry(occupied: &Occupied<'_, '_>, rng: &mut Pcg32) -> u32
+fn costly_entry(occupied: &Occupied<'_, '_>, rng: &mut Pcg32) -> u32
     requires { 0 < length occupied.now.entries }
     ensures { result < length occupied.now.entries }
 {
     for _ in 0..LOOKS {
         let index = any_entry(occupied, rng);
-        if is_in_trouble(occupied, entry_of(occupied, index)) {
+        if costs_or_breaks(occupied, entry_of(occupied, index)) {
             return index;
         }
     }
@@ -96,12 +96,12 @@ fn sample_swap(occupied: &Occupied<'_, '_>, rng: &mut Pcg32, first: u32) -> Step
 }
 
 /// A step, half of the time of an entry in trouble.
-pub fn sample(occupied: &Occupied<'_, '_>, rng: &mut Pcg32) -> Step
+pub fn entry_to_move(occupied: &Occupied<'_, '_>, rng: &mut Pcg32) -> Step
     requires { 0 < length occupied.now.entries }
     ensures { CanStep occupied.now.problem occupied.now.entries result }
 {
     let entry = if below(rng, 2) == 0 {
-        troubled_entry(occupied, rng)
+        costly_entry(occupied, rng)
     } else {
         any_entry(occupied, rng)
     };

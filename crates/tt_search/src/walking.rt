@@ -15,7 +15,7 @@ use tt_moves::apply;
 use tt_occupancy::Occupied;
 
 /// Makes a drawn step, where the terms admit one.
-fn try_draw(occupied: &mut Occupied<'_, '_>, rng: &mut Pcg32, terms: Terms)
+fn try_draw(occupied: &mut Occupied<'_, '_>, rng: &mut Pcg32, cooling: Terms)
     requires { 0 < length occupied.old.entries }
     ensures problem { occupied.new.problem ≡ occupied.old.problem }
     ensures courses { courses_of occupied.new.entries ≡ courses_of occupied.old.entries }

@@ -19,7 +19,7 @@ use Rattle.tt_sum.specs.declared.fault.SumFault.{SumFault}
 use Rattle.tt_sum.specs.declared.fault.SumFault.TheVariants.{Proof, ClaimedElsewhere, TooLarge, OutOfMemory}
 use Rattle.tt_sum.specs.declared.summed.Sum.{Sum}
 use Rattle.tt_sum.specs.Added.{Joins, IsSumOf, Adds}
-use Rattle.tt_sum.specs.Faults.{points, all_points, IsTooLarge, TellsAdded, TellsMemory, IsSilentSum}
+use Rattle.tt_sum.specs.Faults.{points, all_points, IsTooLarge, TellsAdded, OutOfMemoryIsOneFault, IsSilentSum}
 use Rattle.tt_sum.specs.Sums.{claimed_by, is_among, are_apart, Part, IsPart, claims_of, AreApart, both_bounds, sum_of}
 use Rattle.tt_sum.specs.Tables.{State, claims_at}
 use Rattle.tt_sum.proofs.Joining.{tree_claims}
@@ -107,7 +107,7 @@ too_large p remaining s parts a b of j large bytes known =
     (j.part, record { spelled = j.is.spelled bytes known; derives = j.is.derives }, omega (arith, large, total, bound, points-sum_of parts))
 
 -- a fault of a proof that can be added is silent
-pub tells_silent : (p : Problem) → IsInstance p → (parts : List Part) (bytes : List ℕ) (part : Part) → IsPart p bytes part → AreApart (parts ++ part ∷ []) → all_points (parts ++ part ∷ []) < 2 ^ 64 → (e : SumFault) → TellsMemory e → TellsAdded p parts bytes e
+pub tells_silent : (p : Problem) → IsInstance p → (parts : List Part) (bytes : List ℕ) (part : Part) → IsPart p bytes part → AreApart (parts ++ part ∷ []) → all_points (parts ++ part ∷ []) < 2 ^ 64 → (e : SumFault) → OutOfMemoryIsOneFault e → TellsAdded p parts bytes e
     → IsSilentSum e
 tells_silent p is parts bytes part spelled apart within (Proof n f) memory told =
     elim (proved_silent p is bytes part.bound (part.version, part.tree, spelled.spelled, spelled.derives) f told) [

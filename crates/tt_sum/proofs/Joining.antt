@@ -8,7 +8,7 @@ use Rattle.std.proofs.lemmas.Grind.{flat_map-append}
 use Rattle.std.proofs.lemmas.List.Folds.{list_any-append, list_all-append}
 use Rattle.std.proofs.lemmas.List.Elements.{recursion_from_All}
 use Rattle.std.proofs.lemmas.Bool.{cases_eq, leb-false, lt-leb, eq-eqb, eqb-true, ne_eqb, both_ways, or_cases, or_left, or_right, and_parts, and_from, not_from_false}
-use Rattle.tt_lists.specs.Words.{has}
+use Rattle.tt_lists.specs.Words.{has_number}
 use Rattle.tt_lists.proofs.Members.{each_of_append}
 use Rattle.tt_instance.specs.Problem.{Problem}
 use Rattle.tt_instance.specs.Limits.{IsInstance}
@@ -39,10 +39,10 @@ turned a b = elim (cases_eq a b) [
   | inr h ↦ ne_eqb a b h ∙ sym (ne_eqb b a (λ e. h (sym e)))
 ]
 
-has_place : (ys : List Target) (y : Target) → has (map place ys) (place y) ≡ is_among ys y
+has_place : (ys : List Target) (y : Target) → has_number (map place ys) (place y) ≡ is_among ys y
 has_place [] y = refl
 has_place (z ∷ zs) y =
-    ap (λ b. b || has (map place zs) (place y)) (turned (place z) (place y) ∙ same_place y z) ∙ ap (λ b. same_target y z || b) (has_place zs y)
+    ap (λ b. b || has_number (map place zs) (place y)) (test_turned (place z) (place y) ∙ same_place y z) ∙ ap (λ b. same_target y z || b) (has_place zs y)
 
 pass_both : {X : Type 0} (p q : X → Bool) (xs : List X) → list_all p xs ≡ true → list_all q xs ≡ true → list_all (λ x. p x && q x) xs ≡ true
 pass_both p q [] a b = refl
@@ -64,25 +64,25 @@ swapped test xs (y ∷ ys) e =
 
 -- ---- the first proof that claims a place
 
-first_claim-push : (n : ℕ) (parts : List Part) (part : Part) (k : ℕ) → 0 < n → first_claim n (parts ++ part ∷ []) k ≡ owner_after (first_claim n parts k) (has (map place (claims_of part)) k) (n + length parts)
-first_claim-push n [] part k some = on (has (map place (claims_of part)) k)
+first_claim-push : (n : ℕ) (parts : List Part) (part : Part) (k : ℕ) → 0 < n → first_claim n (parts ++ part ∷ []) k ≡ owner_after (first_claim n parts k) (has_number (map place (claims_of part)) k) (n + length parts)
+first_claim-push n [] part k some = on (has_number (map place (claims_of part)) k)
   where
     on : (h : Bool) → cond h n 0 ≡ cond h (n + 0) 0
     on true = sym (add-zero n)
     on false = refl
-first_claim-push n (x ∷ xs) part k some = on (first_claim-push (n + 1) xs part k (omega arith)) (has (map place (claims_of x)) k)
+first_claim-push n (x ∷ xs) part k some = on (first_claim-push (n + 1) xs part k (omega arith)) (has_number (map place (claims_of x)) k)
   where
     here : (n + 1) + length xs ≡ n + suc (length xs)
     here = omega arith
 
-    on : first_claim (n + 1) (xs ++ part ∷ []) k ≡ owner_after (first_claim (n + 1) xs k) (has (map place (claims_of part)) k) ((n + 1) + length xs) → (h : Bool)
-        → cond h n (first_claim (n + 1) (xs ++ part ∷ []) k) ≡ owner_after (cond h n (first_claim (n + 1) xs k)) (has (map place (claims_of part)) k) (n + suc (length xs))
+    on : first_claim (n + 1) (xs ++ part ∷ []) k ≡ owner_after (first_claim (n + 1) xs k) (has_number (map place (claims_of part)) k) ((n + 1) + length xs) → (h : Bool)
+        → cond h n (first_claim (n + 1) (xs ++ part ∷ []) k) ≡ owner_after (cond h n (first_claim (n + 1) xs k)) (has_number (map place (claims_of part)) k) (n + suc (length xs))
     on rest true = rw (not_none n some) refl
-    on rest false = rest ∙ ap (owner_after (first_claim (n + 1) xs k) (has (map place (claims_of part)) k)) here
+    on rest false = rest ∙ ap (owner_after (first_claim (n + 1) xs k) (has_number (map place (claims_of part)) k)) here
 
 claim_below : (n : ℕ) (parts : List Part) (k : ℕ) → 0 < n → first_claim n parts k < n + length parts
 claim_below n [] k some = omega (arith, some)
-claim_below n (x ∷ xs) k some = on (claim_below (n + 1) xs k (omega arith)) (has (map place (claims_of x)) k)
+claim_below n (x ∷ xs) k some = on (claim_below (n + 1) xs k (omega arith)) (has_number (map place (claims_of x)) k)
   where
     on : first_claim (n + 1) xs k < (n + 1) + length xs → (h : Bool) → cond h n (first_claim (n + 1) xs k) < n + suc (length xs)
     on rest true = omega arith
@@ -91,9 +91,9 @@ claim_below n (x ∷ xs) k some = on (claim_below (n + 1) xs k (omega arith)) (h
 -- none of the proofs claims what has no first claim
 unclaimed : (n : ℕ) (parts : List Part) (y : Target) → 0 < n → first_claim n parts (place y) ≡ 0 → list_all (λ k. not (is_among (claims_of k) y)) parts ≡ true
 unclaimed n [] y some e = refl
-unclaimed n (x ∷ xs) y some e = on (λ z. unclaimed (n + 1) xs y (omega arith) z) (has (map place (claims_of x)) (place y)) refl e
+unclaimed n (x ∷ xs) y some e = on (λ z. unclaimed (n + 1) xs y (omega arith) z) (has_number (map place (claims_of x)) (place y)) refl e
   where
-    on : (first_claim (n + 1) xs (place y) ≡ 0 → list_all (λ k. not (is_among (claims_of k) y)) xs ≡ true) → (h : Bool) → has (map place (claims_of x)) (place y) ≡ h → cond h n (first_claim (n + 1) xs (place y)) ≡ 0 → list_all (λ k. not (is_among (claims_of k) y)) (x ∷ xs) ≡ true
+    on : (first_claim (n + 1) xs (place y) ≡ 0 → list_all (λ k. not (is_among (claims_of k) y)) xs ≡ true) → (h : Bool) → has_number (map place (claims_of x)) (place y) ≡ h → cond h n (first_claim (n + 1) xs (place y)) ≡ 0 → list_all (λ k. not (is_among (claims_of k) y)) (x ∷ xs) ≡ true
     on rest true b z = absurd (omega (arith, z, some))
     on rest false b z =
         and_from (not (is_among (claims_of x) y)) (list_all (λ k. not (is_among (claims_of k) y)) xs) (not_from_false (is_among (claims_of x) y) (sym (has_place (claims_of x) y) ∙ b))
@@ -102,9 +102,9 @@ unclaimed n (x ∷ xs) y some e = on (λ z. unclaimed (n + 1) xs y (omega arith)
 -- the proof that claims it first claims it
 claims_it : (n : ℕ) (parts : List Part) (y : Target) (o : ℕ) → first_claim n parts (place y) ≡ o → (o ≡ 0 → ⊥) → (j : ℕ) × (o ≡ n + j) × IsSomeAnd (slice_get parts j) (λ k. is_among (claims_of k) y ≡ true)
 claims_it n [] y o e some = absurd (some (sym e))
-claims_it n (x ∷ xs) y o e some = on (λ z. claims_it (n + 1) xs y o z some) (has (map place (claims_of x)) (place y)) refl e
+claims_it n (x ∷ xs) y o e some = on (λ z. claims_it (n + 1) xs y o z some) (has_number (map place (claims_of x)) (place y)) refl e
   where
-    on : (first_claim (n + 1) xs (place y) ≡ o → (j : ℕ) × (o ≡ (n + 1) + j) × IsSomeAnd (slice_get xs j) (λ k. is_among (claims_of k) y ≡ true)) → (h : Bool) → has (map place (claims_of x)) (place y) ≡ h → cond h n (first_claim (n + 1) xs (place y)) ≡ o → (j : ℕ) × (o ≡ n + j) × IsSomeAnd (slice_get (x ∷ xs) j) (λ k. is_among (claims_of k) y ≡ true)
+    on : (first_claim (n + 1) xs (place y) ≡ o → (j : ℕ) × (o ≡ (n + 1) + j) × IsSomeAnd (slice_get xs j) (λ k. is_among (claims_of k) y ≡ true)) → (h : Bool) → has_number (map place (claims_of x)) (place y) ≡ h → cond h n (first_claim (n + 1) xs (place y)) ≡ o → (j : ℕ) × (o ≡ n + j) × IsSomeAnd (slice_get (x ∷ xs) j) (λ k. is_among (claims_of k) y ≡ true)
     on rest true b z = (0, omega (arith, z), sym (has_place (claims_of x) y) ∙ b)
     on rest false b z =
         let r = rest z in
@@ -248,9 +248,9 @@ module _ (before_it : State) (parts : List Part) (of : IsTableOf before_it parts
     table_after : (part : Part) → preorder part.tree ≡ nodes → b.clash ≡ None → IsTableOf b (parts ++ part ∷ [])
     table_after part same free = record {
       owners = λ k l.
-          claims.owners k l ∙ ap (λ o. owner_after o (has (map (λ x. x.1) (places_from 0 nodes)) k) t.proof) (of.owners k l)
-          ∙ ap (λ ks. owner_after (first_claim 1 parts k) (has ks k) t.proof) (places_all 0 nodes ∙ places_claims nodes ∙ ap (λ ns. map place (flat_map claims_at ns)) (sym same) ∙ ap (map place) (tree_claims part.tree))
-          ∙ ap (owner_after (first_claim 1 parts k) (has (map place (claims_of part)) k)) number ∙ sym (first_claim-push 1 parts part k (lit< tt));
+          claims.owners k l ∙ ap (λ o. owner_after o (has_number (map (λ x. x.1) (places_from 0 nodes)) k) t.proof) (of.owners k l)
+          ∙ ap (λ ks. owner_after (first_claim 1 parts k) (has_number ks k) t.proof) (places_all 0 nodes ∙ places_claims nodes ∙ ap (λ ns. map place (flat_map claims_at ns)) (sym same) ∙ ap (map place) (tree_claims part.tree))
+          ∙ ap (owner_after (first_claim 1 parts k) (has_number (map place (claims_of part)) k)) number ∙ sym (first_claim-push 1 parts part k (lit< tt));
       number = let long = length-append parts (part ∷ []) in let newest : b.proof ≡ before_it.proof + 1 = claims.proof in omega (arith, newest, of.number, long);
       free = free;
     }

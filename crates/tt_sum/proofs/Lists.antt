@@ -19,7 +19,7 @@ use Rattle.tt_sum.specs.declared.fault.SumFault.{SumFault}
 use Rattle.tt_sum.specs.declared.fault.SumFault.TheVariants.{Proof, ClaimedElsewhere, TooLarge, OutOfMemory}
 use Rattle.tt_sum.specs.declared.summed.Sum.{Sum}
 use Rattle.tt_sum.specs.Added.{IsPartOf, IsSumOf, Adds, due, Give}
-use Rattle.tt_sum.specs.Faults.{points, all_points, IsNumbered, IsRefused, TellsAdded, TellsSum, TellsMemory, IsSilentSum}
+use Rattle.tt_sum.specs.Faults.{points, all_points, IsNumbered, IsRefused, TellsAdded, TellsSum, OutOfMemoryIsOneFault, IsSilentSum}
 use Rattle.tt_sum.specs.Sums.{are_apart, Part, IsPart, claims_of, AreApart, sum_of, IsSum}
 use Rattle.tt_sum.proofs.Added.{tells_silent}
 use Rattle.tt_sum.proofs.Together.{parts_hold}
@@ -62,7 +62,7 @@ module _ (p : Problem) (is : IsInstance p) where
   same_parts (x ∷ xs) (k ∷ ks) (l ∷ ls) h i = ap (λ (y : Part). y ∷ ks) (same_part x k l h.0 i.0) ∙ ap (λ (zs : List Part). l ∷ zs) (same_parts xs ks ls h.1 i.1)
 
   -- a refusal of proofs that have a sum is silent
-  refused_silent : (proofs : List (List ℕ)) (s : Bound) (h : IsSum p proofs s) → all_points h.parts < 2 ^ 64 → (e : SumFault) → TellsMemory e → IsRefused p proofs e → IsSilentSum e
+  refused_silent : (proofs : List (List ℕ)) (s : Bound) (h : IsSum p proofs s) → all_points h.parts < 2 ^ 64 → (e : SumFault) → OutOfMemoryIsOneFault e → IsRefused p proofs e → IsSilentSum e
   refused_silent proofs s h within e memory r =
       let z = zip_split (IsPart p) r.before r.bytes r.more h.parts (subst (λ (l : List (List ℕ)). AllZip (IsPart p) l h.parts) r.split h.each) in
       let same : z.first ≡ r.parts = same_parts r.before z.first r.parts z.each r.each in
@@ -72,7 +72,7 @@ module _ (p : Problem) (is : IsInstance p) where
       let all : all_points h.parts ≡ all_points ((r.parts ++ z.at ∷ []) ++ z.more) = ap all_points split in
       tells_silent p is r.parts r.bytes z.at z.one apart (omega (arith, total, all, within)) e memory r.tells
 
-  pub sum_silent : (proofs : List (List ℕ)) (s : Bound) (h : IsSum p proofs s) → all_points h.parts < 2 ^ 64 → (e : SumFault) → TellsMemory e → TellsSum p proofs e → IsSilentSum e
+  pub sum_silent : (proofs : List (List ℕ)) (s : Bound) (h : IsSum p proofs s) → all_points h.parts < 2 ^ 64 → (e : SumFault) → OutOfMemoryIsOneFault e → TellsSum p proofs e → IsSilentSum e
   sum_silent proofs s h within (Proof n f) memory told = refused_silent proofs s h within (Proof n f) memory told
   sum_silent proofs s h within (ClaimedElsewhere n i e) memory told = refused_silent proofs s h within (ClaimedElsewhere n i e) memory told
   sum_silent proofs s h within (TooLarge n) memory told = refused_silent proofs s h within (TooLarge n) memory told
@@ -99,7 +99,7 @@ module _ {R : Type 0} (p : Problem) (remaining : R → Option (List ℕ)) where
   zip_known (r ∷ rs) (x ∷ xs) [] g h = absurd h
   zip_known (r ∷ rs) (x ∷ xs) (k ∷ ks) g h = (record { spelled = h.0.spelled x g.0; derives = h.0.derives }, zip_known rs xs ks g.1 h.1)
 
-  -- the proof of the source at i, between those before it and behind it
+  -- the proof of the source at i, between those before it and after it
   pub record GivesAt (sources : List R) (proofs : List (List ℕ)) (i : ℕ) (r : R) : Type 0 where
     pub before : List (List ℕ)
     pub bytes : List ℕ

@@ -5,7 +5,7 @@ use Rattle.std.specs.Option.{option_or}
 use Rattle.std.proofs.lemmas.List.Folds.{list_any-append}
 use Rattle.std.proofs.lemmas.Bool.{leb-false, eq-eqb, eqb-true, false_from_ne_true}
 use Rattle.std.proofs.lemmas.List.{take_more, map-append}
-use Rattle.tt_lists.specs.Words.{has}
+use Rattle.tt_lists.specs.Words.{has_number}
 use Rattle.std.proofs.lemmas.Grind.{flat_map-append}
 use Rattle.tt_leaf.specs.Claims.{RoomCapacity, targets_of, claimed}
 use Rattle.tt_leaf.specs.Met.{place, places_of}
@@ -72,15 +72,15 @@ claims_then a b c xs ys some h k = record {
   clash = k.clash ∙ ap (λ x. option_or x (first_clash b ys)) h.clash ∙ ap (option_or (option_or a.clash (first_clash a xs))) (first_same a b ys same)
       ∙ or_assoc a.clash (first_clash a xs) (first_clash a ys) ∙ ap (option_or a.clash) (sym (first_clash-append a xs ys));
   owners = λ i l.
-      k.owners i l ∙ ap (λ q. owner_after (owner b i) (has (map (λ x. x.1) ys) i) q) h.proof ∙ ap (λ o. owner_after o (has (map (λ x. x.1) ys) i) a.proof) (h.owners i l)
-      ∙ twice (owner a i) (has (map (λ x. x.1) xs) i) (has (map (λ x. x.1) ys) i) a.proof some
-      ∙ ap (λ z. owner_after (owner a i) z a.proof) (sym (ap (λ ls. has ls i) (map-append (λ (x : ℕ × ℕ). x.1) xs ys) ∙ list_any-append (λ m. m == i) (map (λ x. x.1) xs) (map (λ x. x.1) ys)));
+      k.owners i l ∙ ap (λ q. owner_after (owner b i) (has_number (map (λ x. x.1) ys) i) q) h.proof ∙ ap (λ o. owner_after o (has_number (map (λ x. x.1) ys) i) a.proof) (h.owners i l)
+      ∙ twice (owner a i) (has_number (map (λ x. x.1) xs) i) (has_number (map (λ x. x.1) ys) i) a.proof some
+      ∙ ap (λ z. owner_after (owner a i) z a.proof) (sym (ap (λ ls. has_number ls i) (map-append (λ (x : ℕ × ℕ). x.1) xs ys) ∙ list_any-append (λ m. m == i) (map (λ x. x.1) xs) (map (λ x. x.1) ys)));
 }
   where
     same : (n i : ℕ) → clash_at b n i ≡ clash_at a n i
     same n i =
         ap (clash_with (nat_le 32768 i) n (owner b i)) h.proof
-        ∙ still_clash (nat_le 32768 i) n (owner a i) (owner b i) (has (map (λ x. x.1) xs) i) a.proof some (λ e. h.owners i (leb-false 32768 i e))
+        ∙ still_clash (nat_le 32768 i) n (owner a i) (owner b i) (has_number (map (λ x. x.1) xs) i) a.proof some (λ e. h.owners i (leb-false 32768 i e))
 
 -- no place of a fresh table has an owner
 pub free : (z n k : ℕ) → slice_index_or (replicate n z) k z ≡ z

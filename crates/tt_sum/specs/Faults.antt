@@ -9,8 +9,8 @@ use Rattle.tt_leaf.specs.declared.leaf.Bound.TheVariants.{AtLeast, Nothing}
 use Rattle.tt_proof_text.specs.Trees.{preorder}
 use Rattle.tt_proof_text.specs.declared.fault.TextFault.TheVariants as text
 use Rattle.tt_proof_text.specs.declared.node.Node.{Node}
-use Rattle.tt_proof_check.specs.Faults.{TellsMemoryOfText}
-use Rattle.tt_proof_check.specs.Streams.{TellsOf, stream_of}
+use Rattle.tt_proof_check.specs.Faults.{OutOfMemoryIsNoTextFault}
+use Rattle.tt_proof_check.specs.Streams.{IsProofFault, stream_of}
 use Rattle.tt_proof_check.specs.declared.fault.CheckFault.{CheckFault}
 use Rattle.tt_proof_check.specs.declared.fault.CheckFault.TheVariants as check
 use Rattle.tt_sum.specs.declared.fault.SumFault.{SumFault}
@@ -18,7 +18,7 @@ use Rattle.tt_sum.specs.declared.fault.SumFault.TheVariants.{Proof, ClaimedElsew
 use Rattle.tt_sum.specs.Sums.{is_among, are_apart, Part, IsPart, claims_of, AreApart}
 use Rattle.tt_sum.specs.Tables.{claims_at}
 
--- ---- one more proof, behind those of these parts
+-- ---- one more proof, after those of these parts
 
 -- The proof spells a tree that derives its bound, and the node at i is its first that claims a target which one of the parts claims: e of them, counted from 1.
 pub record IsClaimedElsewhere (p : Problem) (parts : List Part) (bytes : List ℕ) (i e : ℕ) : Type 0 where
@@ -49,7 +49,7 @@ IsTooLarge p parts bytes = (part : Part) × IsPart p bytes part × (2 ^ 64 ≤ a
 
 -- what a fault says of one more proof
 abbrev pub TellsAdded : Problem → List Part → List ℕ → SumFault → Type 0
-TellsAdded p parts bytes (Proof n f) = TellsOf p (stream_of bytes) f
+TellsAdded p parts bytes (Proof n f) = IsProofFault p (stream_of bytes) f
 TellsAdded p parts bytes (ClaimedElsewhere n i e) = IsClaimedElsewhere p parts bytes i e
 TellsAdded p parts bytes (TooLarge n) = IsTooLarge p parts bytes
 TellsAdded p parts bytes OutOfMemory = ⊤
@@ -91,9 +91,9 @@ abbrev pub read_failed_at : ℕ → SumFault
 read_failed_at n = Proof n (check.Text (text.Feed feed.Read))
 
 -- Want of memory is told as itself.
-abbrev pub TellsMemory : SumFault → Type 0
-TellsMemory (Proof n f) = ¬ (f ≡ check.OutOfMemory) × TellsMemoryOfText f
-TellsMemory _ = ⊤
+abbrev pub OutOfMemoryIsOneFault : SumFault → Type 0
+OutOfMemoryIsOneFault (Proof n f) = ¬ (f ≡ check.OutOfMemory) × OutOfMemoryIsNoTextFault f
+OutOfMemoryIsOneFault _ = ⊤
 
 -- want of memory or a failed read
 abbrev pub IsSilentSum : SumFault → Type 0

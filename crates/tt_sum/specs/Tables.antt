@@ -1,7 +1,7 @@
 -- A table of the targets that proofs have claimed.
 use Rattle.std.specs.Prelude.{◌≡◌, ℕ, ◌+◌, ◌<◌, ◌==◌, nat_le, Bool, not, ◌&&◌, ◌||◌, List, [], ◌∷◌, length, map, Option, Some, None, slice_index_or, if◌then◌else◌}
 use Rattle.std.specs.Option.{option_or}
-use Rattle.tt_lists.specs.Words.{has}
+use Rattle.tt_lists.specs.Words.{has_number}
 use Rattle.tt_leaf.specs.Claims.{Target}
 use Rattle.tt_leaf.specs.Met.{place}
 use Rattle.tt_proof_text.specs.declared.node.Node.{Node}
@@ -37,7 +37,7 @@ first_clash a (x ∷ xs) = option_or (clash_at a x.0 x.1) (first_clash a xs)
 pub record Claims (a : State) (xs : List (ℕ × ℕ)) (b : State) : Type 0 where
   pub proof : b.proof ≡ a.proof
   pub clash : b.clash ≡ option_or a.clash (first_clash a xs)
-  pub owners : (k : ℕ) → k < 32768 → owner b k ≡ (if (owner a k == 0) && has (map (λ x. x.1) xs) k then a.proof else owner a k)
+  pub owners : (k : ℕ) → k < 32768 → owner b k ≡ (if (owner a k == 0) && has_number (map (λ x. x.1) xs) k then a.proof else owner a k)
 
 abbrev pub at_node : ℕ → List ℕ → List (ℕ × ℕ)
 at_node n ks = map (λ k. (n, k)) ks
@@ -54,7 +54,7 @@ places_in node = map place (claims_at node)
 -- the number of the first proof that claims the place, counted from n; 0 for none
 abbrev pub first_claim : ℕ → List Part → ℕ → ℕ
 first_claim n [] k = 0
-first_claim n (part ∷ parts) k = if has (map place (claims_of part)) k then n else first_claim (n + 1) parts k
+first_claim n (part ∷ parts) k = if has_number (map place (claims_of part)) k then n else first_claim (n + 1) parts k
 
 -- The owner of each place is the first of these proofs that claims it, and the last of them is the newest.
 pub record IsTableOf (a : State) (parts : List Part) : Type 0 where

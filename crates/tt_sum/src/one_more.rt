@@ -1,9 +1,9 @@
 //! One more proof, heard into the table of claims.
 
 ghost use Rattle.std.specs.Prelude.{◌≡◌, ◌+◌, ◌<◌, ℕ, List, Some, Err, true, IfOk, IfErr, OnOk};
-ghost use Rattle.tt_proof_check.specs.FailedReads.{TellsRead};
+ghost use Rattle.tt_proof_check.specs.FailedReads.{IsJudgedUpToFailedRead};
 ghost use Rattle.tt_sum.specs.Added.{Joins};
-ghost use Rattle.tt_sum.specs.Faults.{TellsAdded, IsNumbered, TellsMemory, read_failed_at};
+ghost use Rattle.tt_sum.specs.Faults.{TellsAdded, IsNumbered, OutOfMemoryIsOneFault, read_failed_at};
 ghost use Rattle.tt_sum.specs.Sums.{Part};
 ghost use Rattle.tt_sum.specs.Tables.{IsTableOf};
 
@@ -30,9 +30,9 @@ pub fn take_proof<R: Source>(
     ensures numbered { IfErr result (IsNumbered (table.old.proof + 1)) }
     ensures failed { result ≡ Err (read_failed_at (table.old.proof + 1)) → R.has_failed source.new ≡ true }
     ensures unfailed { ¬ (result ≡ Err (read_failed_at (table.old.proof + 1))) → R.has_failed source.new ≡ R.has_failed source.old }
-    ensures memory { IfErr result TellsMemory }
-    ensures broken_off { result ≡ Err (read_failed_at (table.old.proof + 1)) → (bytes : List ℕ) → R.remaining source.old ≡ Some bytes →
-        TellsRead instance.now bytes (R.remaining source.new) }
+    ensures memory { IfErr result OutOfMemoryIsOneFault }
+    ensures up_to_failed_read { result ≡ Err (read_failed_at (table.old.proof + 1)) → (bytes : List ℕ) → R.remaining source.old ≡ Some bytes →
+        IsJudgedUpToFailedRead instance.now bytes (R.remaining source.new) }
 {
     // What is true of every instance: its numbers are small enough to be read.
     prove!(instance.days() > 0);

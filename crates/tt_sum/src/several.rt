@@ -3,9 +3,9 @@
 ghost use Rattle.std.specs.Prelude.{◌≡◌, ◌+◌, ◌-◌, ◌<◌, ◌≤◌, ◌^◌, ℕ, List, Some, Err, true, IfOk, IfErr, MatchResult, slice_get};
 ghost use Rattle.tt_leaf.specs.declared.leaf.Bound.{Bound};
 ghost use Rattle.tt_proof_check.specs.Derives.{HoldsOfAll};
-ghost use Rattle.tt_proof_check.specs.FailedReads.{TellsRead};
+ghost use Rattle.tt_proof_check.specs.FailedReads.{IsJudgedUpToFailedRead};
 ghost use Rattle.tt_sum.specs.Added.{Give};
-ghost use Rattle.tt_sum.specs.Faults.{TellsSum, TellsMemory, IsSilentSum, read_failed_at, all_points};
+ghost use Rattle.tt_sum.specs.Faults.{TellsSum, OutOfMemoryIsOneFault, IsSilentSum, read_failed_at, all_points};
 ghost use Rattle.tt_sum.specs.Sums.{IsSum};
 
 use crate::fault::SumFault;
@@ -35,10 +35,10 @@ pub fn sum_proofs<R: Source>(
     ensures failed { (i : ℕ) (r : R) → result ≡ Err (read_failed_at (i + 1)) → slice_get sources.new i ≡ Some r → R.has_failed r ≡ true }
     ensures unfailed { (i : ℕ) (r q : R) → ¬ (result ≡ Err (read_failed_at (i + 1))) → slice_get sources.old i ≡ Some r → slice_get sources.new i ≡ Some q →
         R.has_failed q ≡ R.has_failed r }
-    ensures memory { IfErr result TellsMemory }
+    ensures memory { IfErr result OutOfMemoryIsOneFault }
     // Where one failed, all that the bytes before it say has been judged.
-    ensures broken_off { (i : ℕ) (r q : R) (bytes : List ℕ) → result ≡ Err (read_failed_at (i + 1)) → slice_get sources.old i ≡ Some r → slice_get sources.new i ≡ Some q →
-        R.remaining r ≡ Some bytes → TellsRead instance.now bytes (R.remaining q) }
+    ensures up_to_failed_read { (i : ℕ) (r q : R) (bytes : List ℕ) → result ≡ Err (read_failed_at (i + 1)) → slice_get sources.old i ≡ Some r → slice_get sources.new i ≡ Some q →
+        R.remaining r ≡ Some bytes → IsJudgedUpToFailedRead instance.now bytes (R.remaining q) }
 {
     // What is true of every instance: its numbers are small enough to be read.
     prove!(instance.days() > 0);

@@ -1,9 +1,9 @@
 //! A sum of proofs that takes one proof after the other.
 
 ghost use Rattle.std.specs.Prelude.{◌≡◌, ◌+◌, ◌<◌, ◌≤◌, ◌^◌, ℕ, List, [], ◌++◌, ◌∷◌, Some, Err, true, IfOk, IfErr, MatchOption};
-ghost use Rattle.tt_proof_check.specs.FailedReads.{TellsRead};
+ghost use Rattle.tt_proof_check.specs.FailedReads.{IsJudgedUpToFailedRead};
 ghost use Rattle.tt_sum.specs.Added.{IsSumOf, Adds, due};
-ghost use Rattle.tt_sum.specs.Faults.{TellsAdded, IsNumbered, TellsMemory, IsSilentSum, read_failed_at, points, all_points};
+ghost use Rattle.tt_sum.specs.Faults.{TellsAdded, IsNumbered, OutOfMemoryIsOneFault, IsSilentSum, read_failed_at, points, all_points};
 ghost use Rattle.tt_sum.specs.Sums.{Part, IsPart, AreApart, both_bounds, sum_of};
 
 use crate::fault::SumFault;
@@ -70,10 +70,10 @@ impl Sum {
         // A read is said to have failed exactly where one did.
         ensures failed { result ≡ Err (read_failed_at (due self)) → R.has_failed source.new ≡ true }
         ensures unfailed { ¬ (result ≡ Err (read_failed_at (due self))) → R.has_failed source.new ≡ R.has_failed source.old }
-        ensures memory { IfErr result TellsMemory }
+        ensures memory { IfErr result OutOfMemoryIsOneFault }
         // Where one failed, all that the bytes before it say has been judged.
-        ensures broken_off { result ≡ Err (read_failed_at (due self)) → (bytes : List ℕ) → R.remaining source.old ≡ Some bytes →
-            TellsRead instance.now bytes (R.remaining source.new) }
+        ensures up_to_failed_read { result ≡ Err (read_failed_at (due self)) → (bytes : List ℕ) → R.remaining source.old ≡ Some bytes →
+            IsJudgedUpToFailedRead instance.now bytes (R.remaining source.new) }
     {
         // What is true of every instance: its numbers are small enough to be read.
         prove!(instance.days() > 0);

@@ -56,7 +56,7 @@ found_ok e None i h = absurd cc
 abbrev entry_room : Problem → Cell → List ℕ
 entry_room p e = (slice_index_or p.rooms e.room no_room).id
 
--- an entry that was read behind its first token
+-- an entry that was read after its first token
 record EntryTaken (p : Problem) (first : Placed) (ts : List Placed) (x : Cell × List Placed) : Type 0 where
   takes : Takes (first ∷ ts) (entry_pieces p x.0) x.1
   in_range : InRange p x.0
@@ -104,7 +104,7 @@ entry_reads end p e (first ∷ more) qs rest limits inside h =
 
 -- ---- all entries
 
--- the entries that were read behind those before
+-- the entries that were read after those before
 record EntriesTaken (p : Problem) (n : ℕ) (before : List Cell) (ts : List Placed) (all : List Cell) : Type 0 where
   entries : List Cell
   list : all ≡ before ++ entries

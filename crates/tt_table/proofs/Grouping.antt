@@ -22,7 +22,7 @@ first_past by t g i h other =
     let one = prefix_len-drop_yes (λ e. not (in_group by g e)) t i nobody h (ap not (ne_eqb (group_of by (get_or t i nobody)) g other)) in
     omega (arith, one)
 
--- behind the last entry there is none
+-- after the last entry there is none
 pub begins_nowhere : (by : GroupBy) (t : List Cell) (i : ℕ) → i ≡ length t → NamesFirst by t (replicate 2048 (length t)) i
 begins_nowhere by t i end g below =
     let none = prefix_len-drop_all (λ e. not (in_group by g e)) t i (omega (arith, end)) in
@@ -31,7 +31,7 @@ begins_nowhere by t i end g below =
 pub named_nowhere : (by : GroupBy) (t : List Cell) (next : List ℕ) (i : ℕ) → i ≡ length t → NamesNext by t next i
 named_nowhere by t next i end j from within = absurd (omega (arith, end, from, within))
 
--- one entry more is linked, from behind: the one at i, of group g
+-- one entry more is linked, from after: the one at i, of group g
 module _ (by : GroupBy) (t : List Cell) (g i : ℕ) (own : group_of by (get_or t i nobody) ≡ g) (h : i < length t) where
   pub begins_more : (first : List ℕ) → g < length first → NamesFirst by t first (i + 1) → NamesFirst by t (set first g i) i
   begins_more first inside named k below = elim (cases_eq k g) [
@@ -67,15 +67,15 @@ pub led_from : (by : GroupBy) (t : List Cell) (g i : ℕ) → led_group by (drop
 led_from by t g i =
     ap (led_group by) (sym (drop-drop (prefix_len (λ e. not (in_group by g e)) (drop i t)) i t)) ∙ led by g (drop i t)
 
--- behind an entry stands what its group has there
-pub led_behind : (by : GroupBy) (t : List Cell) (next : List ℕ) (i : ℕ) → IsChained by t next → i < length t → led_group by (drop (get_or next i 0) t) ≡ filter (in_group by (group_of by (get_or t i nobody))) (drop (i + 1) t)
-led_behind by t next i chained h =
+-- after an entry stands what its group has there
+pub led_after : (by : GroupBy) (t : List Cell) (next : List ℕ) (i : ℕ) → IsChained by t next → i < length t → led_group by (drop (get_or next i 0) t) ≡ filter (in_group by (group_of by (get_or t i nobody))) (drop (i + 1) t)
+led_after by t next i chained h =
     ap (λ k. led_group by (drop k t)) (chained.named i (omega arith) h) ∙ led_from by t (group_of by (get_or t i nobody)) (i + 1)
 
--- the one here leads itself and then those behind it
+-- the one here leads itself and then those after it
 pub led_here : (by : GroupBy) (t : List Cell) (next : List ℕ) (i : ℕ) → IsChained by t next → i < length t → led_group by (drop i t) ≡ get_or t i nobody ∷ led_group by (drop (get_or next i 0) t)
 led_here by t next i chained h =
-    at_drop_more (led_group by) t i nobody h ∙ ap (λ es. get_or t i nobody ∷ es) (sym (led_behind by t next i chained h))
+    at_drop_more (led_group by) t i nobody h ∙ ap (λ es. get_or t i nobody ∷ es) (sym (led_after by t next i chained h))
 
 -- no more stand there than entries are left
 pub led_few : (by : GroupBy) (t : List Cell) (i : ℕ) → length (led_group by (drop i t)) ≤ length t

@@ -14,7 +14,7 @@ group_of (Period periods) e = e.day * periods + e.period
 abbrev pub in_group : GroupBy → ℕ → Cell → Bool
 in_group by g e = group_of by e == g
 
--- the first entry and those behind it that are of its group
+-- the first entry and those after it that are of its group
 abbrev pub led_group : GroupBy → List Cell → List Cell
 led_group by [] = []
 led_group by (e ∷ es) = e ∷ filter (in_group by (group_of by e)) es
@@ -31,7 +31,7 @@ first_at by t g i = i + prefix_len (λ e. not (in_group by g e)) (drop i t)
 abbrev pub nobody : Cell
 nobody = record { course = 0; room = 0; day = 0; period = 0 }
 
--- behind each entry from a place on the next one of its group is named
+-- after each entry from a place on the next one of its group is named
 abbrev pub NamesNext : GroupBy → List Cell → List ℕ → ℕ → Type 0
 NamesNext by t next i = (j : ℕ) → i ≤ j → j < length t → slice_index_or next j 0 ≡ first_at by t (group_of by (slice_index_or t j nobody)) (j + 1)
 

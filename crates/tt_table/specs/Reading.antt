@@ -3,7 +3,7 @@ use Rattle.std.specs.Prelude.{ℕ, zero, suc, ◌-◌, Bool, true, false, List, 
 use Rattle.tt_text.specs.Tokens.{Placed, tokens_of}
 use Rattle.tt_text.specs.Texts.{index_of_name}
 use Rattle.tt_text.specs.Numbers.{number_of}
-use Rattle.tt_text.specs.Reading.{◌>>=◌, FailsBut, GivesBut, token_or}
+use Rattle.tt_text.specs.Reading.{◌>>=◌, FailsUnless, AgreesUnless, token_or}
 use Rattle.tt_text.specs.declared.numbers.NumberFault.{NumberFault}
 use Rattle.tt_text.specs.declared.numbers.NumberFault.TheVariants as number
 use Rattle.tt_instance.specs.Problem.{Problem}
@@ -18,10 +18,10 @@ is_silent fault.OutOfMemory = true
 is_silent _ = false
 
 abbrev pub Fails : {Y : Type 0} → SolutionFault → Result Y SolutionFault → Type 0
-Fails e read = FailsBut is_silent e read
+Fails e read = FailsUnless is_silent e read
 
 abbrev pub Gives : {X Y : Type 0} → (X → Y) → Result X SolutionFault → Result Y SolutionFault → Type 0
-Gives view result read = GivesBut is_silent view result read
+Gives view result read = AgreesUnless is_silent view result read
 
 -- the next token of a text of end bytes
 abbrev pub token_at : ℕ → List Placed → Result (Placed × List Placed) SolutionFault
@@ -54,7 +54,7 @@ entry_at end p first ts = do
   period ← index_at end p.periods day.1
   Ok (record { course = course; room = room; day = day.0; period = period.0 }, period.1)
 
--- the entries behind those before, of which n more are allowed
+-- the entries after those before, of which n more are allowed
 unfoldable pub entries_at : ℕ → Problem → ℕ → List Cell → List Placed → Result (List Cell) SolutionFault
 entries_at end p n before [] = Ok before
 entries_at end p zero before (t ∷ ts) = Err (fault.TooMany t.at)

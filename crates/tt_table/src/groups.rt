@@ -36,7 +36,7 @@ impl GroupBy {
     }
 }
 
-/// Where each group begins, and behind each entry the next one of its group.
+/// Where each group begins, and after each entry the next one of its group.
 #[derive(Drop)]
 struct Links {
     first: [u16; GROUPS],
@@ -140,9 +140,9 @@ impl<'t> Groups<'t> {
         }
     }
 
-    /// The entries behind one, of its group.
+    /// The entries after one, of its group.
     #[tactic(auto, using(crate::proofs::Grouping::led_few))]
-    pub fn behind(&self, index: usize) -> Group<'_>
+    pub fn after(&self, index: usize) -> Group<'_>
         requires { index < length self.now.entries }
         ensures group { IfSome (slice_get self.now.entries index)
             (λ e. result ≡ filter (in_group self.now.by (group_of self.now.by e)) (drop (index + 1) self.now.entries)) }

@@ -15,7 +15,7 @@ use tt_text::{NumberFault, Token, Tokens, number};
 
 /// The next token of a text of end bytes.
 #[tactic(auto, unfolding(tt_text::specs::Reading::token_or))]
-fn token<'a>(tokens: &mut Tokens<'a>, end: usize) -> Result<Token<'a>, SolutionFault>
+fn read_token<'a>(tokens: &mut Tokens<'a>, end: usize) -> Result<Token<'a>, SolutionFault>
     ensures { Gives (λ t. (place t, tokens.new)) result (token_at end tokens.old) }
 {
     match tokens.next() {
@@ -26,11 +26,11 @@ fn token<'a>(tokens: &mut Tokens<'a>, end: usize) -> Result<Token<'a>, SolutionF
 
 /// A number below a bound.
 #[tactic(auto, unfolding(crate::specs::Reading::index_at))]
-fn index(tokens: &mut Tokens<'_>, end: usize, bound: u32) -> Result<u32, SolutionFault>
+fn read_index(tokens: &mut Tokens<'_>, end: usize, bound: u32) -> Result<u32, SolutionFault>
     requires { 0 < bound }
     ensures { Gives (λ n. (n, tokens.new)) result (index_at end bound tokens.old) }
 {
-    let token = token(tokens, end)?;
+    let token = read_token(tokens, end)?;
     match number(&token, u64::from(bound - 1)) {
         Ok(value) => Ok(value as u32),
         Err(NumberFault::NotANumber) => Err(SolutionFault::NotANumber(token.at)),
@@ -40,7 +40,7 @@ fn index(tokens: &mut Tokens<'_>, end: usize, bound: u32) -> Result<u32, Solutio
 
 /// An entry whose first token has been taken.
 #[tactic(auto, unfolding(crate::specs::Reading::entry_at))]
-fn entry(
+fn read_entry(
     instance: &Instance<'_>,
     first: Token<'_>,
     tokens: &mut Tokens<'_>,
@@ -51,12 +51,12 @@ fn entry(
     let Some(course) = instance.course_named(first.bytes) else {
         return Err(SolutionFault::UnknownCourse(first.at));
     };
-    let token = token(tokens, end)?;
+    let token = read_token(tokens, end)?;
     let Some(room) = instance.room_named(token.bytes) else {
         return Err(SolutionFault::UnknownRoom(token.at));
     };
-    let day = index(tokens, end, instance.days())?;
-    let period = index(tokens, end, instance.periods())?;
+    let day = read_index(tokens, end, instance.days())?;
+    let period = read_index(tokens, end, instance.periods())?;
     Ok(Entry {
         course,
         room,
@@ -79,7 +79,7 @@ fn read_entries(
         if table.len() == MAX_ENTRIES {
             return Err(SolutionFault::TooMany(first.at));
         }
-        let entry = entry(instance, first, &mut tokens, end)?;
+        let entry = read_entry(instance, first, &mut tokens, end)?;
         match table.push(entry) {
             Ok(()) => {}
             Err(_) => return Err(SolutionFault::OutOfMemory),

@@ -5,7 +5,7 @@ use Rattle.std.proofs.lemmas.Bool.{cases_eq, and_from}
 use Rattle.std.proofs.lemmas.List.Elements.{All-filter, All-weaker}
 use Rattle.std.proofs.lemmas.List.Sums.{length-filter, count_by-le-length}
 use Rattle.std.proofs.lemmas.List.FromFn.{length-range_with_len, get_or-range_with_len}
-use Rattle.tt_lists.specs.Words.{numbers_below}
+use Rattle.tt_lists.specs.Words.{range_below}
 use Rattle.tt_lists.proofs.Sums.{one_if, one_if-le, sum_by-same, sum_by-at_places, count_by-cons}
 use Rattle.tt_instance.specs.Problem.{Problem}
 use Rattle.tt_instance.specs.Cells.{InRange, slot, is_at}
@@ -18,7 +18,7 @@ use Rattle.tt_tallies.specs.declared.week.Week.{Week}
 use Rattle.tt_tallies.proofs.Tallies.{tally_room}
 
 -- each number below n is below n
-each_below : (n : ℕ) → All (λ r. r < n) (numbers_below n)
+each_below : (n : ℕ) → All (λ r. r < n) (range_below n)
 each_below n k d h =
     let l : k < n = subst (λ z. k < z) (length-range_with_len 0 n) h in
     let e = get_or-range_with_len 0 n k d l in
@@ -32,14 +32,14 @@ row_and_period false true = refl
 row_and_period false false = refl
 
 -- rows are the numbers below n that pass
-module _ (passes : ℕ → Bool) (n : ℕ) (rows : List ℕ) (are : rows ≡ filter passes (numbers_below n)) where
+module _ (passes : ℕ → Bool) (n : ℕ) (rows : List ℕ) (are : rows ≡ filter passes (range_below n)) where
   pub passing_below : All (λ q. q < n) rows
-  passing_below = subst (λ l. All (λ q. q < n) l) (sym are) (All-filter passes (λ q. q < n) (numbers_below n) (each_below n))
+  passing_below = subst (λ l. All (λ q. q < n) l) (sym are) (All-filter passes (λ q. q < n) (range_below n) (each_below n))
 
   -- a number that passes is there once
   pub passing_once : (i : ℕ) → i < n → count_by (λ r. r == i) rows ≡ one_if (passes i)
   passing_once i h =
-      let all = numbers_below n in
+      let all = range_below n in
       let o = ap (count_by (λ r. r == i)) are in
       let a = sum_by-filter (λ r. one_if (r == i)) passes all in
       let b = sum_by-same (λ r. cond (passes r) (one_if (r == i)) 0) (λ r. cond (i == r) (one_if (passes i)) 0) all (λ r. at r (cases_eq i r)) in
@@ -64,10 +64,10 @@ module _ (passes : ℕ → Bool) (n : ℕ) (rows : List ℕ) (are : rows ≡ fil
   -- there are no more than there are numbers
   pub passing_few : length rows ≤ n
   passing_few =
-      omega (arith, ap length are, length-filter passes (numbers_below n), count_by-le-length passes (numbers_below n), length-range_with_len 0 n)
+      omega (arith, ap length are, length-filter passes (range_below n), count_by-le-length passes (range_below n), length-range_with_len 0 n)
 
 -- the rows that choose an entry e
-module _ (p : Problem) (n : ℕ) (chooses : ℕ → Cell → Bool) (e : Cell) (rows : List ℕ) (are : rows ≡ filter (λ i. chooses i e) (numbers_below n)) where
+module _ (p : Problem) (n : ℕ) (chooses : ℕ → Cell → Bool) (e : Cell) (rows : List ℕ) (are : rows ≡ filter (λ i. chooses i e) (range_below n)) where
   pub rows_same : (i d s : ℕ) → i < n → cond ((e.day == d) && (e.period == s)) (count_by (λ r. r == i) rows) 0 ≡ one_if (chooses i e && is_at (slot d s) e)
   rows_same i d s h =
       ap (λ k. cond (is_at (slot d s) e) k 0) (passing_once (λ i. chooses i e) n rows are i h) ∙ row_and_period (chooses i e) (is_at (slot d s) e)

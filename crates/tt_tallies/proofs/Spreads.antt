@@ -5,7 +5,7 @@ use Rattle.std.specs.List.{list_any}
 use Rattle.std.proofs.lemmas.Bool.{cases_lt, cases_eq, and_left, and_from}
 use Rattle.std.proofs.lemmas.List.Sums.{count_by-le-length}
 use Rattle.std.proofs.lemmas.List.FromFn.{length-range_with_len}
-use Rattle.tt_lists.specs.Words.{numbers_below}
+use Rattle.tt_lists.specs.Words.{range_below}
 use Rattle.tt_lists.proofs.Numbers.{any_below}
 use Rattle.tt_lists.proofs.Sums.{one_if, one_if_true, one_if_false, count_by-cons, sum_by-nothing, any_if_count, count_if_any}
 use Rattle.tt_instance.specs.Problem.{Problem}
@@ -34,7 +34,7 @@ spread_none p n place x rows places zeros unused = record {
   rows = rows;
   places = places;
   counts = λ c k h l. zeros c k;
-  used = λ c h. unused c ∙ sym (sum_by-nothing (numbers_below n));
+  used = λ c h. unused c ∙ sym (sum_by-nothing (range_below n));
 }
 
 -- places numbered from 0, n of them, of which each entry has one
@@ -43,7 +43,7 @@ module _ (n : ℕ) (place : Cell → ℕ) where
   stands_at k z = place z == k
 
   abbrev used : List Cell → ℕ → ℕ
-  used t c = count_by (λ k. list_any (λ z. is_of c z && (place z == k)) t) (numbers_below n)
+  used t c = count_by (λ k. list_any (λ z. is_of c z && (place z == k)) t) (range_below n)
 
   -- the places of each course, with one entry more
   pub used_more : (t : List Cell) (e : Cell) → place e < n → (i : ℕ) → used (e ∷ t) i ≡ used t i + cond ((e.course == i) && (count_by (λ z. is_of e.course z && (place z == place e)) t == 0)) 1 0
@@ -51,7 +51,7 @@ module _ (n : ℕ) (place : Cell → ℕ) where
     | inl same ↦
         let q = λ (z : Cell). is_of e.course z && (place z == place e) in
         let own = eq-eqb e.course e.course refl in
-        let added = places_added stands_at e.course t e (numbers_below n) (list_any q t) own (once_below (place e) n h)
+        let added = places_added stands_at e.course t e (range_below n) (list_any q t) own (once_below (place e) n h)
         (λ k at_k. ap (λ m. list_any (λ z. is_of e.course z && (place z == m)) t) (sym (eqb-true (place e) k at_k))) in
         ap (used (e ∷ t)) (sym same) ∙ added
         ∙ ap (λ b. used t e.course + one_if b) (none_passes_is q t)
@@ -61,7 +61,7 @@ module _ (n : ℕ) (place : Cell → ℕ) where
         let b = ne_eqb e.course i other in
         let c = count_by (λ z. is_of e.course z && (place z == place e)) t == 0 in
         let none = one_if_false ((e.course == i) && c) (and_left (e.course == i) c b) in
-        let k = places_kept stands_at i t e (numbers_below n) b in
+        let k = places_kept stands_at i t e (range_below n) b in
         omega arith
   ]
 
@@ -70,7 +70,7 @@ module _ (n : ℕ) (place : Cell → ℕ) where
     spread_room ok c k h l = omega (arith, ok.counts c k h l, count_by-le-length (λ e. is_of c e && (place e == k)) t)
 
     pub spread_free : IsSpread p n place t x → (c : ℕ) → c < length p.courses → used_at x c ≤ n
-    spread_free ok c h = omega (arith, ok.used c h, count_by-le-length (λ k. list_any (λ e. is_of c e && (place e == k)) t) (numbers_below n), length-range_with_len 0 n)
+    spread_free ok c h = omega (arith, ok.used c h, count_by-le-length (λ k. list_any (λ e. is_of c e && (place e == k)) t) (range_below n), length-range_with_len 0 n)
 
     module _ (e : Cell) (r : InRange p e) (h : place e < n) where
       abbrev here : Cell → Bool
@@ -88,7 +88,7 @@ module _ (n : ℕ) (place : Cell → ℕ) where
       spread_used ok =
           let taught = λ (k : ℕ). list_any (λ z. is_of e.course z && (place z == k)) (e ∷ t) in
           let there : taught (place e) ≡ true = ap (λ b. b || list_any here t) own in
-          let some = count_if_any taught (numbers_below n) (any_below taught n (place e) h there) in
+          let some = count_if_any taught (range_below n) (any_below taught n (place e) h there) in
           omega (arith, ok.used e.course r.course)
 
       -- the places of its course with an entry more, by the table

@@ -17,4 +17,4 @@ pub record AreTables (p : Problem) (t : List Cell) (x : Tables) : Type 0 where
   pub curricula : IsTally p (length p.curricula) (of_curriculum p) t x.curricula
   pub opponents : IsTally p (length p.courses) (opposes p) t x.opponents
   pub days : IsSpread p p.days (λ e. e.day) t x.days
-  pub halls : IsSpread p (length p.rooms) (λ e. e.room) t x.halls
+  pub course_rooms : IsSpread p (length p.rooms) (λ e. e.room) t x.course_rooms

@@ -1,7 +1,7 @@
 -- What each table counts of a list of entries.
 use Rattle.std.specs.Prelude.{◌≡◌, ℕ, ◌<◌, ◌==◌, Bool, false, ◌&&◌, List, length, slice_index_or, count_by, Option, Some, None}
 use Rattle.std.specs.List.{list_any}
-use Rattle.tt_lists.specs.Words.{numbers_below}
+use Rattle.tt_lists.specs.Words.{range_below}
 use Rattle.tt_text.specs.Texts.{index_of_name}
 use Rattle.tt_instance.specs.Problem.{Problem}
 use Rattle.tt_instance.specs.Cells.{all_rooms, slot, is_of, is_at, is_in}
@@ -47,7 +47,7 @@ pub record IsSpread (p : Problem) (n : ℕ) (place : Cell → ℕ) (t : List Cel
   pub rows : x.counts.rows ≡ length p.courses
   pub places : x.counts.columns ≡ n
   pub counts : (c k : ℕ) → c < length p.courses → k < n → at x.counts c k ≡ count_by (λ e. is_of c e && (place e == k)) t
-  pub used : (c : ℕ) → c < length p.courses → used_at x c ≡ count_by (λ k. list_any (λ e. is_of c e && (place e == k)) t) (numbers_below n)
+  pub used : (c : ℕ) → c < length p.courses → used_at x c ≡ count_by (λ k. list_any (λ e. is_of c e && (place e == k)) t) (range_below n)
 
 -- the rooms in which the course is taught, each once
 abbrev pub rooms_of : Problem → List Cell → ℕ → ℕ

@@ -30,7 +30,7 @@ pub struct Tables {
     /// Those of each course on each day.
     pub days: Spread,
     /// Those of each course in each room.
-    pub halls: Spread,
+    pub course_rooms: Spread,
 }
 
 impl Tables {
@@ -52,7 +52,7 @@ impl Tables {
             curricula: Week::new(alloc, instance.curricula(), days, periods)?,
             opponents: Week::new(alloc, courses, days, periods)?,
             days: Spread::new(alloc, courses, days)?,
-            halls: Spread::new(alloc, courses, rooms)?,
+            course_rooms: Spread::new(alloc, courses, rooms)?,
         })
     }
 
@@ -74,7 +74,7 @@ impl Tables {
         let opponents = self.links.opponents_of(entry.course);
         self.opponents.add_rows(opponents, day, period);
         self.days.add(entry.course, day);
-        self.halls.add(entry.course, entry.room);
+        self.course_rooms.add(entry.course, entry.room);
     }
 
     /// Counts one entry less.
@@ -94,6 +94,6 @@ impl Tables {
         let opponents = self.links.opponents_of(entry.course);
         self.opponents.take_rows(opponents, day, period);
         self.days.take(entry.course, day);
-        self.halls.take(entry.course, entry.room);
+        self.course_rooms.take(entry.course, entry.room);
     }
 }

@@ -46,8 +46,8 @@ fn failed_reads(rt: HostRuntime) -> Result<(), Fail> {
         ([0, 0, 1], 2, "", "refused: proof: Read\n"),
         ([0, 0, 2], 2, "", "refused: proof: Read\n"),
     ] {
-        let outcome = run_words(rt.alloc(), &WORDS, &wide_files(fails_at))?;
-        assert_eq!(rt; outcome.told(), (status, out, err), "at {fails_at:?}");
+        let outcome = run_with(rt.alloc(), &WORDS, &wide_files(fails_at))?;
+        assert_eq!(rt; outcome.answer(), (status, out, err), "at {fails_at:?}");
     }
     Ok(())
 }
@@ -87,8 +87,8 @@ fn missing_files(rt: HostRuntime) -> Result<(), Fail> {
             "refused: solution: cannot read\n",
         ),
     ] {
-        let outcome = run_words(rt.alloc(), words, &files)?;
-        assert_eq!(rt; outcome.told(), (2, "", err));
+        let outcome = run_with(rt.alloc(), words, &files)?;
+        assert_eq!(rt; outcome.answer(), (2, "", err));
     }
     Ok(())
 }
@@ -112,8 +112,8 @@ fn missing_files_of_proofs(rt: HostRuntime) -> Result<(), Fail> {
             ["bound", instance, proof].as_slice(),
             ["upgrade", instance, proof, "a.out"].as_slice(),
         ] {
-            let outcome = run_words(rt.alloc(), words, &files)?;
-            assert_eq!(rt; outcome.told(), (2, "", err), "{words:?}");
+            let outcome = run_with(rt.alloc(), words, &files)?;
+            assert_eq!(rt; outcome.answer(), (2, "", err), "{words:?}");
         }
     }
     Ok(())
@@ -122,7 +122,7 @@ fn missing_files_of_proofs(rt: HostRuntime) -> Result<(), Fail> {
 /// The most bytes of an instance or of a solution file.
 const LONGEST: usize = 67_108_864;
 
-/// Wide with so many bytes behind its end that the file is as long as it may be.
+/// Wide with so many bytes after its end that the file is as long as it may be.
 fn longest_instance(alloc: Global) -> Result<Vec<u8>, AllocError> {
     let mut bytes = WIDE.as_bytes().to_vec(alloc)?;
     bytes.resize(LONGEST, b' ')?;
@@ -137,21 +137,21 @@ fn the_longest_files(rt: HostRuntime) -> Result<(), Fail> {
         StoredFile::new("a.ctt", &long),
         StoredFile::new("a.sol", WIDE_SOLUTION.as_bytes()),
     ];
-    let outcome = run_words(rt.alloc(), &words, &files)?;
+    let outcome = run_with(rt.alloc(), &words, &files)?;
     assert_eq!(rt; (outcome.status, outcome.err.as_str()), (0, ""));
     long.push(b' ')?;
     let files = [
         StoredFile::new("a.ctt", &long),
         StoredFile::new("a.sol", &long),
     ];
-    let outcome = run_words(rt.alloc(), &words, &files)?;
-    assert_eq!(rt; outcome.told(), (2, "", "refused: instance: too long\n"));
+    let outcome = run_with(rt.alloc(), &words, &files)?;
+    assert_eq!(rt; outcome.answer(), (2, "", "refused: instance: too long\n"));
     let files = [
         StoredFile::new("a.ctt", WIDE.as_bytes()),
         StoredFile::new("a.sol", &long),
     ];
-    let outcome = run_words(rt.alloc(), &words, &files)?;
-    assert_eq!(rt; outcome.told(), (2, "", "refused: solution: too long\n"));
+    let outcome = run_with(rt.alloc(), &words, &files)?;
+    assert_eq!(rt; outcome.answer(), (2, "", "refused: solution: too long\n"));
     Ok(())
 }
 
@@ -170,7 +170,7 @@ fn words_that_ask_for_nothing(rt: HostRuntime) -> Result<(), Fail> {
         ["--loud"].as_slice(),
         [""].as_slice(),
     ] {
-        let outcome = run_words(rt.alloc(), words, &wide_files([0, 0, 0]))?;
+        let outcome = run_with(rt.alloc(), words, &wide_files([0, 0, 0]))?;
         assert_eq!(rt; (outcome.status, outcome.out.as_str()), (2, ""));
         assert!(rt; !outcome.err.is_empty());
     }
@@ -186,7 +186,7 @@ fn help_is_no_refusal(rt: HostRuntime) -> Result<(), Fail> {
         ["bound", "--help"].as_slice(),
         ["upgrade", "--help"].as_slice(),
     ] {
-        let outcome = run_words(rt.alloc(), words, &[])?;
+        let outcome = run_with(rt.alloc(), words, &[])?;
         assert_eq!(rt; (outcome.status, outcome.err.as_str()), (0, ""));
         assert!(rt; !outcome.out.is_empty());
     }

@@ -9,27 +9,27 @@ use tt_rules::score;
 use tt_samples::{FLAT, FLAT_SOLUTION, MINI, MINI_SOLUTION, edited};
 use tt_table::read_solution;
 
-/// What `improve` makes of an instance and a solution on a shelf.
-fn improved(alloc: Global, shelf: &Shelf, seed: &str, steps: &str) -> Result<Outcome, Fail> {
+/// What `improve` makes of an instance and a solution on a memory.
+fn improved(alloc: Global, memory: &MemoryFiles, seed: &str, steps: &str) -> Result<Outcome, Fail> {
     let words = [
         "improve", "a.ctt", "a.sol", "a.out", "--seed", seed, "--steps", steps,
     ];
-    run_on(alloc, &words, shelf)
+    run_on(alloc, &words, memory)
 }
 
-fn filled(alloc: Global, instance: &str, solution: &str) -> Result<Shelf, Fail> {
-    let shelf = Shelf::new(alloc, Refusal::Nothing);
-    shelf.put("a.ctt", instance)?;
-    shelf.put("a.sol", solution)?;
-    Ok(shelf)
+fn filled(alloc: Global, instance: &str, solution: &str) -> Result<MemoryFiles, Fail> {
+    let memory = MemoryFiles::new(alloc, Refusal::Nothing);
+    memory.put("a.ctt", instance)?;
+    memory.put("a.sol", solution)?;
+    Ok(memory)
 }
 
 #[test]
 fn a_better_timetable_is_written(rt: HostRuntime) -> Result<(), Fail> {
-    let shelf = filled(rt.alloc(), MINI, MINI_SOLUTION)?;
-    let outcome = improved(rt.alloc(), &shelf, "1", "100")?;
-    assert_eq!(rt; outcome.told(), (0, "hard 0 cost 1\n", ""));
-    let Some(text) = shelf.text("a.out")? else {
+    let memory = filled(rt.alloc(), MINI, MINI_SOLUTION)?;
+    let outcome = improved(rt.alloc(), &memory, "1", "100")?;
+    assert_eq!(rt; outcome.answer(), (0, "hard 0 cost 1\n", ""));
+    let Some(text) = memory.text("a.out")? else {
         return Err(Fail::new(format_args!("nothing was written")));
     };
     let instance = read_instance(rt.alloc(), MINI.as_bytes())?;
@@ -41,18 +41,18 @@ fn a_better_timetable_is_written(rt: HostRuntime) -> Result<(), Fail> {
 
 #[test]
 fn no_step_changes_nothing(rt: HostRuntime) -> Result<(), Fail> {
-    let shelf = filled(rt.alloc(), MINI, MINI_SOLUTION)?;
-    let outcome = improved(rt.alloc(), &shelf, "1", "0")?;
-    assert_eq!(rt; outcome.told(), (0, "hard 0 cost 5\n", ""));
-    assert_eq!(rt; shelf.text("a.out")?.as_deref(), Some(MINI_SOLUTION));
+    let memory = filled(rt.alloc(), MINI, MINI_SOLUTION)?;
+    let outcome = improved(rt.alloc(), &memory, "1", "0")?;
+    assert_eq!(rt; outcome.answer(), (0, "hard 0 cost 5\n", ""));
+    assert_eq!(rt; memory.text("a.out")?.as_deref(), Some(MINI_SOLUTION));
     Ok(())
 }
 
 #[test]
 fn steps_of_equal_cost_lead_on(rt: HostRuntime) -> Result<(), Fail> {
-    let shelf = filled(rt.alloc(), FLAT, FLAT_SOLUTION)?;
-    let outcome = improved(rt.alloc(), &shelf, "1", "10000")?;
-    assert_eq!(rt; outcome.told(), (0, "hard 0 cost 0\n", ""));
+    let memory = filled(rt.alloc(), FLAT, FLAT_SOLUTION)?;
+    let outcome = improved(rt.alloc(), &memory, "1", "10000")?;
+    assert_eq!(rt; outcome.answer(), (0, "hard 0 cost 0\n", ""));
     Ok(())
 }
 
@@ -60,15 +60,15 @@ fn steps_of_equal_cost_lead_on(rt: HostRuntime) -> Result<(), Fail> {
 fn broken_rules_and_refusals(rt: HostRuntime) -> Result<(), Fail> {
     // Two lectures of a course have no period of their own.
     let packed = edited(rt.alloc(), FLAT, "x t 4 1 1", "x t 5 1 1")?;
-    let shelf = filled(rt.alloc(), &packed, FLAT_SOLUTION)?;
-    let outcome = improved(rt.alloc(), &shelf, "1", "100")?;
+    let memory = filled(rt.alloc(), &packed, FLAT_SOLUTION)?;
+    let outcome = improved(rt.alloc(), &memory, "1", "100")?;
     assert_eq!(rt; (outcome.status, outcome.err.as_str()), (1, ""));
-    let shelf = filled(rt.alloc(), MINI, "c R 0 0")?;
-    let outcome = improved(rt.alloc(), &shelf, "1", "100")?;
+    let memory = filled(rt.alloc(), MINI, "c R 0 0")?;
+    let outcome = improved(rt.alloc(), &memory, "1", "100")?;
     assert_eq!(rt;
-        outcome.told(),
+        outcome.answer(),
         (2, "", "refused: solution: UnknownCourse at byte 0\n")
     );
-    assert_eq!(rt; shelf.text("a.out")?, None);
+    assert_eq!(rt; memory.text("a.out")?, None);
     Ok(())
 }

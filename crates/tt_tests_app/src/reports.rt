@@ -20,7 +20,7 @@ fn reported(alloc: Global, instance: &str, by: &str) -> Result<Outcome, Fail> {
         StoredFile::new("a.ctt", instance.as_bytes()),
         StoredFile::new("a.sol", SOLUTION.as_bytes()),
     ];
-    run_words(alloc, &["report", "a.ctt", "a.sol", "--by", by], &files)
+    run_with(alloc, &["report", "a.ctt", "a.sol", "--by", by], &files)
 }
 
 #[test]
@@ -34,7 +34,7 @@ fn weeks_of_each_kind(rt: HostRuntime) -> Result<(), Fail> {
         ("curriculum", "curriculum q\n0 0 a R\n0 1 b R\n0 2\n"),
     ] {
         let outcome = reported(rt.alloc(), MINI, by)?;
-        assert_eq!(rt; outcome.told(), (0, out, ""), "by {by}");
+        assert_eq!(rt; outcome.answer(), (0, out, ""), "by {by}");
     }
     Ok(())
 }
@@ -45,7 +45,7 @@ fn kinds_that_are_none(rt: HostRuntime) -> Result<(), Fail> {
         ["report", "a.ctt", "a.sol", "--by", "Room"].as_slice(),
         ["report", "a.ctt", "a.sol"].as_slice(),
     ] {
-        let outcome = run_words(rt.alloc(), words, &[])?;
+        let outcome = run_with(rt.alloc(), words, &[])?;
         assert_eq!(rt; (outcome.status, outcome.out.as_str()), (2, ""));
         assert!(rt; !outcome.err.is_empty());
     }

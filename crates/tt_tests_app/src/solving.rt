@@ -6,19 +6,19 @@ use std::alloc::Global;
 use std::test::Fail;
 use tt_samples::{GAP, MINI, SAME, WIDE, edited};
 
-fn filled(alloc: Global, instance: &str, refusal: Refusal) -> Result<Shelf, Fail> {
-    let shelf = Shelf::new(alloc, refusal);
-    shelf.put("a.ctt", instance)?;
-    Ok(shelf)
+fn filled(alloc: Global, instance: &str, refusal: Refusal) -> Result<MemoryFiles, Fail> {
+    let memory = MemoryFiles::new(alloc, refusal);
+    memory.put("a.ctt", instance)?;
+    Ok(memory)
 }
 
-fn solved(alloc: Global, shelf: &Shelf, nodes: &str) -> Result<Outcome, Fail> {
+fn solved(alloc: Global, memory: &MemoryFiles, nodes: &str) -> Result<Outcome, Fail> {
     let words = ["solve", "a.ctt", "a.out", "a.proof", "--nodes", nodes];
-    run_on(alloc, &words, shelf)
+    run_on(alloc, &words, memory)
 }
 
-fn bounded(alloc: Global, shelf: &Shelf) -> Result<Outcome, Fail> {
-    run_on(alloc, &["bound", "a.ctt", "a.proof"], shelf)
+fn bounded(alloc: Global, memory: &MemoryFiles) -> Result<Outcome, Fail> {
+    run_on(alloc, &["bound", "a.ctt", "a.proof"], memory)
 }
 
 /// One course of two lectures, wanted on three days, and no room.
@@ -49,22 +49,22 @@ fn searches_that_end(rt: HostRuntime) -> Result<(), Fail> {
             "bound none\n",
         ),
     ] {
-        let shelf = filled(rt.alloc(), instance, Refusal::Nothing)?;
-        let outcome = solved(rt.alloc(), &shelf, nodes)?;
-        assert_eq!(rt; outcome.told(), (status, line, ""));
+        let memory = filled(rt.alloc(), instance, Refusal::Nothing)?;
+        let outcome = solved(rt.alloc(), &memory, nodes)?;
+        assert_eq!(rt; outcome.answer(), (status, line, ""));
         // A file of the best timetable stands there only with one.
-        assert_eq!(rt; shelf.text("a.out")?.is_some(), status == 0);
-        assert_eq!(rt; bounded(rt.alloc(), &shelf)?.told(), (0, bound, ""));
+        assert_eq!(rt; memory.text("a.out")?.is_some(), status == 0);
+        assert_eq!(rt; bounded(rt.alloc(), &memory)?.answer(), (0, bound, ""));
     }
     Ok(())
 }
 
 #[test]
 fn a_search_of_one_node(rt: HostRuntime) -> Result<(), Fail> {
-    let shelf = filled(rt.alloc(), GAP, Refusal::Nothing)?;
-    let outcome = solved(rt.alloc(), &shelf, "1")?;
-    assert_eq!(rt; outcome.told(), (0, "cost 5 bound 1 unfinished\n", ""));
-    assert_eq!(rt; bounded(rt.alloc(), &shelf)?.told(), (0, "bound 1\n", ""));
+    let memory = filled(rt.alloc(), GAP, Refusal::Nothing)?;
+    let outcome = solved(rt.alloc(), &memory, "1")?;
+    assert_eq!(rt; outcome.answer(), (0, "cost 5 bound 1 unfinished\n", ""));
+    assert_eq!(rt; bounded(rt.alloc(), &memory)?.answer(), (0, "bound 1\n", ""));
     Ok(())
 }
 
@@ -78,18 +78,18 @@ fn says(alloc: Global, line: &str, bound: &str) -> Result<bool, Fail> {
 #[test]
 fn each_limit_up_to_a_hundred(rt: HostRuntime) -> Result<(), Fail> {
     for limit in 1usize..=100 {
-        let shelf = filled(rt.alloc(), GAP, Refusal::Nothing)?;
+        let memory = filled(rt.alloc(), GAP, Refusal::Nothing)?;
         let nodes = format!(in rt.alloc(); "{limit}")?;
-        let outcome = solved(rt.alloc(), &shelf, &nodes)?;
+        let outcome = solved(rt.alloc(), &memory, &nodes)?;
         assert_eq!(rt; (outcome.status, outcome.err.as_str()), (0, ""));
-        let bound = bounded(rt.alloc(), &shelf)?;
+        let bound = bounded(rt.alloc(), &memory)?;
         assert_eq!(rt; (bound.status, bound.err.as_str()), (0, ""));
         assert!(rt;
             says(rt.alloc(), &outcome.out, bound.out.trim_end())?,
             "{}",
             outcome.out
         );
-        let proof = shelf.text("a.proof")?.unwrap_or(String::new(rt.alloc()));
+        let proof = memory.text("a.proof")?.unwrap_or(String::new(rt.alloc()));
         // The header and the end are no nodes.
         let written = proof.lines().count().saturating_sub(2);
         if outcome.out.ends_with("unfinished\n") {
@@ -104,16 +104,16 @@ fn each_limit_up_to_a_hundred(rt: HostRuntime) -> Result<(), Fail> {
 #[test]
 fn searches_that_are_refused(rt: HostRuntime) -> Result<(), Fail> {
     for nodes in ["0", "65537", "-1", "x"] {
-        let shelf = filled(rt.alloc(), GAP, Refusal::Nothing)?;
-        let outcome = solved(rt.alloc(), &shelf, nodes)?;
+        let memory = filled(rt.alloc(), GAP, Refusal::Nothing)?;
+        let outcome = solved(rt.alloc(), &memory, nodes)?;
         assert_eq!(rt; (outcome.status, outcome.out.as_str()), (2, ""));
-        assert_eq!(rt; shelf.count(), 1);
+        assert_eq!(rt; memory.count(), 1);
     }
     for refusal in [Refusal::NewFiles, Refusal::Writes, Refusal::Renames] {
-        let shelf = filled(rt.alloc(), GAP, refusal)?;
-        let outcome = solved(rt.alloc(), &shelf, "100")?;
-        assert_eq!(rt; outcome.told(), (2, "", "refused: cannot write\n"));
-        assert_eq!(rt; shelf.text("a.proof")?, None);
+        let memory = filled(rt.alloc(), GAP, refusal)?;
+        let outcome = solved(rt.alloc(), &memory, "100")?;
+        assert_eq!(rt; outcome.answer(), (2, "", "refused: cannot write\n"));
+        assert_eq!(rt; memory.text("a.proof")?, None);
     }
     Ok(())
 }

@@ -14,17 +14,17 @@ use tt_upgrade::read_proof;
 
 const OLDER: &str = "an older file";
 
-fn upgraded(alloc: Global, shelf: &Shelf) -> Result<Outcome, Fail> {
-    run_on(alloc, &["upgrade", "a.ctt", "a.proof", "a.out"], shelf)
+fn upgraded(alloc: Global, memory: &MemoryFiles) -> Result<Outcome, Fail> {
+    run_on(alloc, &["upgrade", "a.ctt", "a.proof", "a.out"], memory)
 }
 
-/// A shelf with an instance, a proof and an older file where the new one is to stand.
-fn filled(alloc: Global, instance: &str, proof: &str, refusal: Refusal) -> Result<Shelf, Fail> {
-    let shelf = Shelf::new(alloc, refusal);
-    shelf.put("a.ctt", instance)?;
-    shelf.put("a.proof", proof)?;
-    shelf.put("a.out", OLDER)?;
-    Ok(shelf)
+/// A memory with an instance, a proof and an older file where the new one is to stand.
+fn filled(alloc: Global, instance: &str, proof: &str, refusal: Refusal) -> Result<MemoryFiles, Fail> {
+    let memory = MemoryFiles::new(alloc, refusal);
+    memory.put("a.ctt", instance)?;
+    memory.put("a.proof", proof)?;
+    memory.put("a.out", OLDER)?;
+    Ok(memory)
 }
 
 #[test]
@@ -35,11 +35,11 @@ fn proofs_are_written_in_version_two(rt: HostRuntime) -> Result<(), Fail> {
         (GAP, GAP_PROOF, gap.as_str()),
         (SEATS, "CTTP 2 bound 05 B P r0 5 c0 5 c1 5 / ; end", seats),
     ] {
-        let shelf = filled(rt.alloc(), instance, proof, Refusal::Nothing)?;
-        let outcome = upgraded(rt.alloc(), &shelf)?;
-        assert_eq!(rt; outcome.told(), (0, "bound 5\n", ""));
-        assert_eq!(rt; shelf.text("a.out")?.as_deref(), Some(out));
-        assert_eq!(rt; shelf.count(), 3);
+        let memory = filled(rt.alloc(), instance, proof, Refusal::Nothing)?;
+        let outcome = upgraded(rt.alloc(), &memory)?;
+        assert_eq!(rt; outcome.answer(), (0, "bound 5\n", ""));
+        assert_eq!(rt; memory.text("a.out")?.as_deref(), Some(out));
+        assert_eq!(rt; memory.count(), 3);
     }
     Ok(())
 }
@@ -57,11 +57,11 @@ fn refused_proofs_leave_the_older_file(rt: HostRuntime) -> Result<(), Fail> {
             "refused: proof: TrailingToken at byte 42\n",
         ),
     ] {
-        let shelf = filled(rt.alloc(), SEATS, proof, Refusal::Nothing)?;
-        let outcome = upgraded(rt.alloc(), &shelf)?;
-        assert_eq!(rt; outcome.told(), (2, "", told));
-        assert_eq!(rt; shelf.text("a.out")?.as_deref(), Some(OLDER));
-        assert_eq!(rt; shelf.count(), 3);
+        let memory = filled(rt.alloc(), SEATS, proof, Refusal::Nothing)?;
+        let outcome = upgraded(rt.alloc(), &memory)?;
+        assert_eq!(rt; outcome.answer(), (2, "", told));
+        assert_eq!(rt; memory.text("a.out")?.as_deref(), Some(OLDER));
+        assert_eq!(rt; memory.count(), 3);
     }
     Ok(())
 }
@@ -69,11 +69,11 @@ fn refused_proofs_leave_the_older_file(rt: HostRuntime) -> Result<(), Fail> {
 #[test]
 fn refused_writes_leave_the_older_file(rt: HostRuntime) -> Result<(), Fail> {
     for refusal in [Refusal::NewFiles, Refusal::Writes, Refusal::Renames] {
-        let shelf = filled(rt.alloc(), GAP, GAP_PROOF, refusal)?;
-        let outcome = upgraded(rt.alloc(), &shelf)?;
-        assert_eq!(rt; outcome.told(), (2, "", "refused: cannot write\n"));
-        assert_eq!(rt; shelf.text("a.out")?.as_deref(), Some(OLDER));
-        assert_eq!(rt; shelf.count(), 3);
+        let memory = filled(rt.alloc(), GAP, GAP_PROOF, refusal)?;
+        let outcome = upgraded(rt.alloc(), &memory)?;
+        assert_eq!(rt; outcome.answer(), (2, "", "refused: cannot write\n"));
+        assert_eq!(rt; memory.text("a.out")?.as_deref(), Some(OLDER));
+        assert_eq!(rt; memory.count(), 3);
     }
     Ok(())
 }

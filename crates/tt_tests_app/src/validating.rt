@@ -28,7 +28,7 @@ fn ten_lines_and_a_status(rt: HostRuntime) -> Result<(), Fail> {
         ),
     ] {
         let outcome = validated(rt.alloc(), instance, solution)?;
-        assert_eq!(rt; outcome.told(), (status, lines, ""));
+        assert_eq!(rt; outcome.answer(), (status, lines, ""));
     }
     Ok(())
 }
@@ -40,7 +40,7 @@ const FULL_TIMETABLE: &str =
 fn as_many_entries_as_allowed(rt: HostRuntime) -> Result<(), Fail> {
     let solution = repeated(rt.alloc(), "a R 0 0\n", MAX_ENTRIES)?;
     let outcome = validated(rt.alloc(), MINI, &solution)?;
-    assert_eq!(rt; outcome.told(), (1, FULL_TIMETABLE, ""));
+    assert_eq!(rt; outcome.answer(), (1, FULL_TIMETABLE, ""));
     Ok(())
 }
 
@@ -52,19 +52,19 @@ fn one_entry_too_many(rt: HostRuntime) -> Result<(), Fail> {
         let solution = format!(in rt.alloc(); "{lines}{more}")?;
         let outcome = validated(rt.alloc(), MINI, &solution)?;
         let refused = "refused: solution: TooMany at byte 131072\n";
-        assert_eq!(rt; outcome.told(), (2, "", refused));
+        assert_eq!(rt; outcome.answer(), (2, "", refused));
     }
     Ok(())
 }
 
 #[test]
-fn nothing_is_read_behind_the_end(rt: HostRuntime) -> Result<(), Fail> {
+fn nothing_is_read_after_the_end(rt: HostRuntime) -> Result<(), Fail> {
     let longer = edited(rt.alloc(), MINI, "END.\n", "END.\nx y\n")?;
     let outcome = validated(rt.alloc(), &longer, "a R 0 0 b R 0 1")?;
     assert_eq!(rt; (outcome.status, outcome.err.as_str()), (0, ""));
     let joined = edited(rt.alloc(), MINI, "END.\n", "END.x\n")?;
     let outcome = validated(rt.alloc(), &joined, "a R 0 0 b R 0 1")?;
     let refused = "refused: instance: Expected END. at byte 183\n";
-    assert_eq!(rt; outcome.told(), (2, "", refused));
+    assert_eq!(rt; outcome.answer(), (2, "", refused));
     Ok(())
 }

@@ -91,7 +91,7 @@ pub fn find<'i, P: Path<'i>, Q: Path<'i>>(
     }
 }
 
-/// A leaf that is found behind some facts, each of which has to be the instance's.
+/// A leaf that is found after some facts, each of which has to be the instance's.
 pub fn leaf_after<'i, P: Path<'i>>(
     alloc: Global,
     path: &mut P,

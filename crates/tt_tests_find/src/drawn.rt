@@ -98,7 +98,7 @@ fn is_same<'i, P: Path<'i>, Q: Path<'i>>(
     })
 }
 
-/// Whether what is found on two empty paths is right behind the facts of a seed, for each bound.
+/// Whether what is found on two empty paths is right after the facts of a seed, for each bound.
 fn all_same<'i, P: Path<'i>, Q: Path<'i>>(
     alloc: Global,
     plain: &mut P,

@@ -23,7 +23,7 @@ fn first_course_in(period: u32) -> Fact {
     }
 }
 
-/// What is found on a new path behind some facts, by the plain path and by the one with tables.
+/// What is found on a new path after some facts, by the plain path and by the one with tables.
 fn by_both(
     alloc: Global,
     instance: &Instance<'_>,

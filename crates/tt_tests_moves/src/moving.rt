@@ -97,7 +97,7 @@ fn steps_that_are_taken_back(rt: HostRuntime) -> Result<(), Fail> {
 }
 
 /// The members of the chain of the first entry to a period of the first day, and the timetable once they changed places.
-fn swapped(
+fn swap_from_first(
     alloc: Global,
     instance: &Instance<'_>,
     solution: &str,
@@ -134,7 +134,7 @@ fn chains_that_change_places(rt: HostRuntime) -> Result<(), Fail> {
         (PAIR, "x A 0 0 y B 0 1", &[0], "x A 0 1\ny B 0 1\n"),
     ] {
         let instance = read_instance(rt.alloc(), instance.as_bytes())?;
-        let (chain, after) = swapped(rt.alloc(), &instance, solution, 1)?;
+        let (chain, after) = swap_from_first(rt.alloc(), &instance, solution, 1)?;
         assert_eq!(rt; chain.as_slice(), members);
         assert_eq!(rt; after.as_str(), text);
     }

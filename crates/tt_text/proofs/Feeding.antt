@@ -151,7 +151,7 @@ stream-nothing most n = stream_is most n [] None n [] (fault-nothing most n 0) (
 with_first : (fault : Option Fault) (end : ℕ) (t : Placed) (ts : List Placed) → ends_before fault t ≡ true → stream_with fault end (t ∷ ts) ≡ with_token t (stream_with fault end ts)
 with_first fault end t ts e = ap (λ (l : List Placed). record { tokens = l; stop = stop_of fault end }) (while-yes (ends_before fault) t ts e)
 
--- a token with a byte behind it
+-- a token with a byte after it
 pub stream-token : (most n b : ℕ) (t xs : List ℕ) → list_all in_token t ≡ true → 0 < length t → length t ≤ 32 → n + length t < most → is_separator b ≡ true
     → stream_from most n (t ++ b ∷ xs) ≡ with_token (record { text = t; at = n }) (stream_from most (n + length t) (b ∷ xs))
 stream-token most n b t xs all some short h e =

@@ -6,12 +6,12 @@ use Rattle.std.proofs.lemmas.Bool.{le-ltb, and_parts}
 use Rattle.std.proofs.Math.Seq.{drop-append_seam}
 use Rattle.tt_text.specs.Tokens.{is_separator, in_token, Placed}
 use Rattle.tt_text.specs.Feeds.{stream_from, ends_before, with_token, stopped}
-use Rattle.tt_text.specs.Broken.{broken}
+use Rattle.tt_text.specs.CutShort.{cut_short}
 use Rattle.tt_text.specs.Found.{AtGap, IsScan, FindsToken, FindsMore, MayFollow, has_token}
 use Rattle.tt_text.specs.declared.feed.FeedFault.TheVariants.{Read, TokenTooLong, TooManyBytes}
 use Rattle.tt_text.proofs.Feeding.{not_false, while-no, stream-gap, stream-nothing, stream-token, stream-last, stream-long, stream-past}
 
--- a gap and a token have no byte behind them
+-- a gap and a token have no byte after them
 run_of : (p : ℕ → Bool) (xs ys : List ℕ) → list_all p xs ≡ true → prefix_len p (xs ++ ys) ≡ length xs + prefix_len p ys
 run_of p [] ys all = omega arith
 run_of p (x ∷ xs) ys all = let parts = and_parts (p x) (list_all p xs) all in let more = run_of p xs ys parts.1 in rw parts.0 (omega arith)
@@ -55,7 +55,7 @@ some_token : (w : List ℕ) (gap len : ℕ) → IsScan w gap len → gap < lengt
 some_token w gap zero scan h = let e = ap length (scan.begins refl) in absurd (omega (arith, e, length-drop gap w, h))
 some_token w gap (suc len) scan h = omega arith
 
--- a token with a byte behind it
+-- a token with a byte after it
 pub found_inside : (most at gap len : ℕ) (w more : List ℕ) → IsScan w gap len → len ≤ 32 → gap + len < length w → at + length w ≤ most
     → stream_from most at (w ++ more) ≡ with_token (record { text = take len (drop gap w); at = at + gap }) (stream_from most (at + gap + len) (drop (gap + len) w ++ more))
 found_inside most at gap len w more scan short h below =
@@ -73,7 +73,7 @@ found_inside most at gap len w more scan short h below =
         ∙ here
         ∙ ap (λ (m : ℕ). with_token (record { text = t; at = at + gap }) (stream_from most (at + gap + m) (b ∷ (r ++ more)))) n
 
--- nothing is behind the gap and the token
+-- nothing is after the gap and the token
 all_read : (w : List ℕ) (gap len : ℕ) → length w ≤ gap + len → drop (gap + len) w ≡ []
 all_read w gap len h = drop_all (gap + len) w h
 
@@ -120,7 +120,7 @@ found_past most at gap len b w more scan short h here =
     ∙ ap (λ (l : List ℕ). stream_from most (at + gap) (t ++ (l ++ (b ∷ more)))) (all_read w gap len h)
     ∙ stream-past most (at + gap) b t more scan.token (omega arith) (omega (arith, scan.within))
 
--- a gap, behind which more have to come
+-- a gap, after which more have to come
 pub found_more : (most at gap len : ℕ) (w more : List ℕ) → IsScan w gap len → at + length w ≤ most → stream_from most at (w ++ more) ≡ stream_from most (at + gap) (drop gap w ++ more)
 found_more most at gap len w more scan below =
     let t : List ℕ = take len (drop gap w) in
@@ -161,7 +161,7 @@ finds_last at gap len ended w scan short h some e below =
           ∙ ap (λ (l : List ℕ). with_token (record { text = take len (drop gap w); at = at + gap }) (stream_from 4294967295 (at + gap + len) l)) (sym (ap (λ (l : List ℕ). drop (gap + len) w ++ l) (m e) ∙ append-nil _ ∙ all_read w gap len h));
     }
 
--- nothing is behind the token
+-- nothing is after the token
 partial_of : (w : List ℕ) (gap len : ℕ) → IsScan w gap len → length w ≤ gap + len → has_token w ≡ false
 partial_of w gap len scan h =
     let g : List ℕ = take gap w in
@@ -171,14 +171,14 @@ partial_of w gap len scan h =
     ap has_token parts ∙ whole_partial g t scan.separators scan.token
 
 -- a token at the end of what was read is still open
-found_open : (at gap len : ℕ) (w : List ℕ) → IsScan w gap len → len ≤ 32 → length w ≤ gap + len → at + length w ≤ 4294967295 → broken (stream_from 4294967295 at w) ≡ stopped (Err Read)
-found_open at gap zero w scan short h below = ap broken (found_end 4294967295 at gap w scan h below)
+found_open : (at gap len : ℕ) (w : List ℕ) → IsScan w gap len → len ≤ 32 → length w ≤ gap + len → at + length w ≤ 4294967295 → cut_short (stream_from 4294967295 at w) ≡ stopped (Err Read)
+found_open at gap zero w scan short h below = ap cut_short (found_end 4294967295 at gap w scan h below)
 found_open at gap (suc len) w scan short h below =
     let t : List ℕ = take (suc len) (drop gap w) in
     let n : length t ≡ suc len = token_len_is w gap (suc len) scan in
     let last = found_last 4294967295 at gap (suc len) w scan short h (omega arith) below ∙ ap (with_token (record { text = t; at = at + gap })) (stream-nothing 4294967295 (at + gap + suc len)) in
     let open_end : ltb ((at + gap) + length t) (at + gap + suc len) ≡ false = le-ltb _ _ (omega arith) in
-    ap broken last
+    ap cut_short last
     ∙ ap (λ (ts : List Placed). record { tokens = ts; stop = Err Read }) (while-no (ends_before (Some (record { byte = at + gap + suc len; told = Read }))) (record { text = t; at = at + gap }) [] open_end)
 
 pub finds_more : (at gap len : ℕ) (ended : Bool) (w : List ℕ) → IsScan w gap len → len ≤ 32 → length w ≤ gap + len → ended ≡ false → at + length w ≤ 4294967295 → FindsMore at w ended gap

@@ -1,4 +1,4 @@
-pub mod Breaking
+pub mod Cutting
 pub mod Digits
 pub mod EachToken
 pub mod Feeding

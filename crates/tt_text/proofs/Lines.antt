@@ -44,7 +44,7 @@ piece-is (Text text) h = refl
 piece-is (Number n) h = decimal-number n h
 piece-is (Index letter n) h = (decimal n, refl, decimal-number n h.1)
 
--- one piece and the separator behind it
+-- one piece and the separator after it
 piece_begins : (p : Piece) (at s : ℕ) (more : List ℕ) (qs : List Piece) → IsWritable p → is_separator s ≡ true → ((k : ℕ) → Begins qs (tokens_from false k more) [])
     → Begins (p ∷ qs) (tokens_from false at (text_of p ++ s ∷ more)) []
 piece_begins p at s more qs writable sep h =

@@ -1,4 +1,4 @@
--- What is left of a text behind a gap and behind a token.
+-- What is left of a text after a gap and after a token.
 use Rattle.std.proofs.Common.{◌≡◌, ℕ, zero, suc, ◌+◌, ◌<◌, Bool, true, false, List, [], ◌∷◌, length, take, drop, refl, sym, ap, ◌∙◌, add-zero, arith}
 use Rattle.std.specs.List.{prefix_len, list_all}
 use Rattle.std.proofs.lemmas.Bool.{and_from}
@@ -46,7 +46,7 @@ unfolding tokens_from
 tokens-inside at [] = refl
 tokens-inside at (b ∷ bs) = inside_step at b bs (is_separator b) refl (tokens-inside (at + 1) bs)
 
--- the token that begins at once, and what is behind it
+-- the token that begins at once, and what is after it
 begins_step : (at b : ℕ) (bs : List ℕ) (v : Bool) → is_separator b ≡ v → 0 < prefix_len in_token (b ∷ bs)
     → tokens_from false at (b ∷ bs) ≡ record { text = take (prefix_len in_token (b ∷ bs)) (b ∷ bs); at = at } ∷ tokens_from false (at + prefix_len in_token (b ∷ bs)) (drop (prefix_len in_token (b ∷ bs)) (b ∷ bs))
 unfolding tokens_from
@@ -76,7 +76,7 @@ ended_step b bs false e more none =
     let nothing : prefix_len in_token (b ∷ bs) ≡ 0 = ap (prefix_len in_token) (sym same) ∙ none in
     absurd (omega (arith, one, nothing))
 
--- behind a gap with no token after it the text is at its end
+-- after a gap with no token after it the text is at its end
 pub ended : (bs : List ℕ) → prefix_len in_token (drop (prefix_len is_separator bs) bs) ≡ 0 → drop (prefix_len is_separator bs) bs ≡ []
 ended [] none = refl
 ended (b ∷ bs) none = ended_step b bs (is_separator b) refl (ended bs) none

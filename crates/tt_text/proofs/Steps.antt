@@ -3,7 +3,7 @@ use Rattle.std.proofs.Common.{◌≡◌, Bool, true, false, cond, List, [], ◌�
 use Rattle.std.specs.Bool.{OnFalse}
 use Rattle.tt_text.specs.Tokens.{Placed}
 use Rattle.tt_text.specs.Pieces.{Piece, Begins}
-use Rattle.tt_text.specs.Reading.{◌>>=◌, FailsBut, token_or}
+use Rattle.tt_text.specs.Reading.{◌>>=◌, FailsUnless, token_or}
 
 module _ {F : Type 0} where
   abbrev pub done : {A : Type 0} → A → Result A F
@@ -13,15 +13,15 @@ module _ {F : Type 0} where
   ok_is x y e = cc
 
   -- a fault of the first step is the fault of both
-  pub fails_then : {A B : Type 0} (silent : F → Bool) (e : F) (r : Result A F) (f : A → Result B F) → FailsBut silent e r → FailsBut silent e (r >>= f)
+  pub fails_then : {A B : Type 0} (silent : F → Bool) (e : F) (r : Result A F) (f : A → Result B F) → FailsUnless silent e r → FailsUnless silent e (r >>= f)
   fails_then silent e r f h = by_test (silent e) h
     where
       by_test : (b : Bool) → OnFalse b (r ≡ Err e) → OnFalse b ((r >>= f) ≡ Err e)
       by_test true h = tt
       by_test false h = rw h refl
 
-  pub fails_as : {A : Type 0} (silent : F → Bool) (e : F) (r s : Result A F) → r ≡ s → FailsBut silent e r → FailsBut silent e s
-  fails_as {A} silent e r s same h = subst (λ (q : Result A F). FailsBut silent e q) same h
+  pub fails_as : {A : Type 0} (silent : F → Bool) (e : F) (r s : Result A F) → r ≡ s → FailsUnless silent e r → FailsUnless silent e s
+  fails_as {A} silent e r s same h = subst (λ (q : Result A F). FailsUnless silent e q) same h
 
   -- the value of a step that did not fail
   pub bind_ok : {A B : Type 0} (r : Result A F) (f : A → Result B F) (y : B) → (r >>= f) ≡ Ok y → (x : A) × (r ≡ Ok x) × (f x ≡ Ok y)
@@ -46,7 +46,7 @@ module _ {F : Type 0} where
   token_takes none [] t e = absurd cc
   token_takes none (x ∷ xs) t e = ap (λ (p : Placed × List Placed). p.0 ∷ p.1) (ok_is (x, xs) t e)
 
--- Behind these pieces, what follows is as at mid.
+-- After these pieces, what follows is as at mid.
 pub record Takes (ts : List Placed) (ps : List Piece) (mid : List Placed) : Type 0 where
   pub take : (qs : List Piece) (rest : List Placed) → Begins qs mid rest → Begins (ps ++ qs) ts rest
 

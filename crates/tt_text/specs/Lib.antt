@@ -1,4 +1,4 @@
-pub mod Broken
+pub mod CutShort
 pub mod Fed
 pub mod Feeds
 pub mod Found

@@ -3,7 +3,7 @@ use Rattle.std.specs.Prelude.{◌≡◌, ℕ, true, List, [], ◌∷◌}
 use Rattle.tt_text.specs.Tokens.{Placed}
 use Rattle.tt_text.specs.Numbers.{is_number_text, value_on}
 
--- these very bytes, a number in decimal digits, or a letter with a number right behind it
+-- these very bytes, a number in decimal digits, or a letter with a number right after it
 pub data Piece : Type 0 where
   Text : List ℕ → Piece
   Number : ℕ → Piece

@@ -10,13 +10,13 @@ abbrev pub ◌>>=◌ : {A B F : Type 0} → Result A F → (A → Result B F) �
 (Err e) >>= f = Err e
 
 -- The text has this very fault. A silent fault, as want of memory, says nothing of the text.
-abbrev pub FailsBut : {Y F : Type 0} → (F → Bool) → F → Result Y F → Type 0
-FailsBut silent e read = OnFalse (silent e) (read ≡ Err e)
+abbrev pub FailsUnless : {Y F : Type 0} → (F → Bool) → F → Result Y F → Type 0
+FailsUnless silent e read = OnFalse (silent e) (read ≡ Err e)
 
 -- What was answered, seen by view, is what the text gives, silent faults aside.
-abbrev pub GivesBut : {X Y F : Type 0} → (F → Bool) → (X → Y) → Result X F → Result Y F → Type 0
-GivesBut silent view (Ok x) read = read ≡ Ok (view x)
-GivesBut silent view (Err e) read = FailsBut silent e read
+abbrev pub AgreesUnless : {X Y F : Type 0} → (F → Bool) → (X → Y) → Result X F → Result Y F → Type 0
+AgreesUnless silent view (Ok x) read = read ≡ Ok (view x)
+AgreesUnless silent view (Err e) read = FailsUnless silent e read
 
 -- the next token, or this fault where there is none
 unfoldable pub token_or : {F : Type 0} → F → List Placed → Result (Placed × List Placed) F

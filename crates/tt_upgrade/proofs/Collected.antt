@@ -17,9 +17,9 @@ use Rattle.tt_proof_check.specs.Streams.{Fails}
 use Rattle.tt_proof_check.proofs.Counting.{next_places}
 use Rattle.tt_proof_check.proofs.Reading.{Stack, root, next_stack, stack_after, stack_after-push, closing, some_tree, stack_whole}
 use Rattle.tt_proof_check.proofs.Streaming.{reads_push}
-use Rattle.tt_upgrade.specs.Texts.{IsCollected, NodesBreak, NodeBreaksOff}
+use Rattle.tt_upgrade.specs.Texts.{IsCollected, NodeTextFails, NodeIsCutOff}
 
--- What has been kept, in this state of the reader, with this stream behind it.
+-- What has been kept, in this state of the reader, with this stream after it.
 pub record Collected (sizes : Sizes) (v : ℕ) (known : Bool) (s : Stream) (reader : Reader) (t : Stream) (nodes : List Node) : Type 0 where
   pub stack : Stack
   pub after : stack_after root nodes ≡ Some stack
@@ -91,12 +91,12 @@ module _ (sizes : Sizes) (v : ℕ) (known : Bool) (s : Stream) (old : Reader) (t
       subst (λ (i : ℕ). P (node_at sizes v i t)) (sym m.count)
       (subst (λ (i : ℕ). P (node_at sizes i old.count t)) m.version (subst (λ (x : Sizes). P (node_at x old.version old.count t)) m.sizes_are h))
 
-  pub collected_breaks : (f : TextFault) → 0 < old.places → known ≡ true → Fails f (node_at old.sizes old.version old.count t) → NodesBreak sizes v s f
+  pub collected_breaks : (f : TextFault) → 0 < old.places → known ≡ true → Fails f (node_at old.sizes old.version old.count t) → NodeTextFails sizes v s f
   collected_breaks f some k fails =
       let w = goes_on some in
       record { nodes = nodes; rest = t; reads = m.reads k; tree = w.0; next = Leaf (Many 0); more = w.1; begins = w.2; fails = here (Fails f) fails }
 
-  pub collected_breaks_off : 0 < old.places → known ≡ true → node_at old.sizes old.version old.count t ≡ Err read_failed → NodeBreaksOff sizes v s
+  pub collected_breaks_off : 0 < old.places → known ≡ true → node_at old.sizes old.version old.count t ≡ Err read_failed → NodeIsCutOff sizes v s
   collected_breaks_off some k breaks =
       let w = goes_on some in
       (record { nodes = nodes; rest = t; reads = m.reads k; tree = w.0; next = Leaf (Many 0); more = w.1; begins = w.2; fails = tt }, here (λ r. r ≡ Err read_failed) breaks)

@@ -17,7 +17,7 @@ use Rattle.tt_proof_check.specs.declared.fault.NodesFault.TheVariants.{NotATree,
 use Rattle.tt_proof_check.proofs.Reading.{root, length-places_of, whole_places, whole_stack}
 use Rattle.tt_proof_write.specs.declared.fault.WriteFault.{WriteFault}
 use Rattle.tt_proof_write.specs.declared.fault.WriteFault.TheVariants as write
-use Rattle.tt_upgrade.specs.Faults.{told_text, told_write, read_failed, IsOfNode, told_node, TellsOfNodes, TellsMemory}
+use Rattle.tt_upgrade.specs.Faults.{fault_from_text, fault_from_write, read_failed, IsOfNode, fault_from_node, IsNodesFault, OutOfMemoryIsOneFault}
 use Rattle.tt_upgrade.specs.declared.fault.UpgradeFault.{UpgradeFault}
 use Rattle.tt_upgrade.specs.declared.fault.UpgradeFault.TheVariants as upgrade
 
@@ -38,14 +38,14 @@ is_of_node p b nodes tree few (Rule i f) t = place_small t.0 nodes i _ t.1 few t
 is_of_node p b nodes tree few (TooDeep i) t = place_small t.0 nodes i _ t.1 few t.2.found
 is_of_node p b nodes tree few OutOfMemory t = tt
 
-pub told_of_node : (p : Problem) (b : Bound) (nodes : List Node) (e : NodesFault) → IsOfNode e → Tells p b nodes e → TellsOfNodes p b nodes (told_node e)
+pub told_of_node : (p : Problem) (b : Bound) (nodes : List Node) (e : NodesFault) → IsOfNode e → Tells p b nodes e → IsNodesFault p b nodes (fault_from_node e)
 told_of_node p b nodes NotATree is t = absurd is
 told_of_node p b nodes (Rule i f) is t = t
 told_of_node p b nodes (TooDeep i) is t = t
 told_of_node p b nodes OutOfMemory is t = tt
 
 -- only a failed read is told as one
-pub read_told : (f : TextFault) → told_text f ≡ read_failed → f ≡ text.Feed feed.Read
+pub read_told : (f : TextFault) → fault_from_text f ≡ read_failed → f ≡ text.Feed feed.Read
 read_told (text.Ended at) e = cc
 read_told (text.Expected w at) e = cc
 read_told (text.UnknownWord at) e = cc
@@ -58,11 +58,11 @@ read_told (text.Feed f) e = cc
 read_told text.OutOfMemory e = cc
 
 -- want of memory is told as itself
-pub memory_text : (f : TextFault) → TellsMemory (told_text f)
+pub memory_text : (f : TextFault) → OutOfMemoryIsOneFault (fault_from_text f)
 memory_text text.OutOfMemory = tt
 memory_text f = (λ e. cc, λ e. cc)
 
-pub memory_nodes : (p : Problem) (b : Bound) (nodes : List Node) (f : UpgradeFault) → TellsOfNodes p b nodes f → TellsMemory f
+pub memory_nodes : (p : Problem) (b : Bound) (nodes : List Node) (f : UpgradeFault) → IsNodesFault p b nodes f → OutOfMemoryIsOneFault f
 memory_nodes p b nodes (upgrade.Proof (check.Text f)) t = absurd t
 memory_nodes p b nodes (upgrade.Proof (check.Rule i f)) t = (λ e. cc, tt)
 memory_nodes p b nodes (upgrade.Proof (check.TooDeep i)) t = (λ e. cc, tt)
@@ -70,7 +70,7 @@ memory_nodes p b nodes (upgrade.Proof check.OutOfMemory) t = absurd t
 memory_nodes p b nodes upgrade.TooLarge t = tt
 memory_nodes p b nodes upgrade.OutOfMemory t = tt
 
-pub memory_write : (f : WriteFault) → TellsMemory (told_write f)
+pub memory_write : (f : WriteFault) → OutOfMemoryIsOneFault (fault_from_write f)
 memory_write write.NotATree = tt
 memory_write write.OverLimit = tt
 memory_write write.NotInVersion = tt

@@ -13,25 +13,25 @@ use Rattle.tt_proof_text.specs.declared.node.Node.{Node}
 use Rattle.tt_proof_text.specs.declared.sizes.Sizes.{Sizes}
 use Rattle.tt_proof_check.specs.Streams.{sizes_of, Fails}
 use Rattle.tt_proof_check.proofs.Sizes.{sizes_are}
-use Rattle.tt_upgrade.specs.Texts.{IsRead, IsCollected, NodesBreak, NodeBreaksOff, TextBreaks, TextBreaksOff}
+use Rattle.tt_upgrade.specs.Texts.{IsRead, IsCollected, NodeTextFails, NodeIsCutOff, IsTextFault, TextIsCutOff}
 
 module _ (p : Problem) (sizes : Sizes) (are : AreSizes p sizes) (s : Stream) (v : ℕ) (b : Bound) (headed : Stream) (header : header_at s ≡ Ok ((v, b), headed)) where
   -- the nodes fail
-  pub nodes_break : (f : TextFault) → NodesBreak sizes v headed f → TextBreaks p s f
-  nodes_break f h = inr (v, b, headed, header, inl (subst (λ (x : Sizes). NodesBreak x v headed f) (sizes_are p sizes are) h))
+  pub nodes_break : (f : TextFault) → NodeTextFails sizes v headed f → IsTextFault p s f
+  nodes_break f h = inr (v, b, headed, header, inl (subst (λ (x : Sizes). NodeTextFails x v headed f) (sizes_are p sizes are) h))
 
-  pub nodes_break_off : NodeBreaksOff sizes v headed → TextBreaksOff p s
-  nodes_break_off h = inr (v, b, headed, header, inl (subst (λ (x : Sizes). NodeBreaksOff x v headed) (sizes_are p sizes are) h))
+  pub nodes_break_off : NodeIsCutOff sizes v headed → TextIsCutOff p s
+  nodes_break_off h = inr (v, b, headed, header, inl (subst (λ (x : Sizes). NodeIsCutOff x v headed) (sizes_are p sizes are) h))
 
   module _ (known : Bool) (k : known ≡ true) (noded : Stream) (nodes : List Node) (c : IsCollected sizes v known headed noded nodes) where
     reads : ReadsNodes (sizes_of p) v 0 headed (preorder c.tree.0) noded
     reads = subst (λ (x : Sizes). ReadsNodes x v 0 headed (preorder c.tree.0) noded) (sizes_are p sizes are)
         (subst (λ (l : List Node). ReadsNodes sizes v 0 headed l noded) (sym c.tree.1) (c.reads k))
 
-    pub end_breaks : (f : TextFault) → Fails f (end_at noded) → TextBreaks p s f
+    pub end_breaks : (f : TextFault) → Fails f (end_at noded) → IsTextFault p s f
     end_breaks f fails = inr (v, b, headed, header, inr (record { tree = c.tree.0; rest = noded; reads = reads; fails = fails }))
 
-    pub end_breaks_off : end_at noded ≡ Err read_failed → TextBreaksOff p s
+    pub end_breaks_off : end_at noded ≡ Err read_failed → TextIsCutOff p s
     end_breaks_off breaks = inr (v, b, headed, header, inr (record { tree = c.tree.0; rest = noded; reads = reads; fails = tt }, breaks))
 
     pub is_read : (ended : Stream) → end_at noded ≡ Ok ended → IsRead p s v b nodes

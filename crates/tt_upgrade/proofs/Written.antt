@@ -34,9 +34,9 @@ use Rattle.tt_proof_write.specs.Within.{FitsFile, IsNodeIn, Refuses, Writes}
 use Rattle.tt_proof_write.specs.Written.{proof_text}
 use Rattle.tt_proof_write.specs.declared.fault.WriteFault.{WriteFault}
 use Rattle.tt_proof_write.specs.declared.fault.WriteFault.TheVariants as write
-use Rattle.tt_upgrade.specs.Faults.{told_text, told_write, TellsOfNodes}
-use Rattle.tt_upgrade.specs.Texts.{IsRead, AreNodesOf, NodesBreak, EndBreaks, TextBreaks}
-use Rattle.tt_upgrade.specs.Upgrades.{IsUpgraded, TellsOf, IsSilent}
+use Rattle.tt_upgrade.specs.Faults.{fault_from_text, fault_from_write, IsNodesFault}
+use Rattle.tt_upgrade.specs.Texts.{IsRead, AreNodesOf, NodeTextFails, EndTextFails, IsTextFault}
+use Rattle.tt_upgrade.specs.Upgrades.{IsUpgraded, IsUpgradeFault, IsSilent}
 use Rattle.tt_upgrade.specs.declared.fault.UpgradeFault.{UpgradeFault}
 use Rattle.tt_upgrade.specs.declared.fault.UpgradeFault.TheVariants.{Proof, TooLarge, OutOfMemory}
 
@@ -86,7 +86,7 @@ module _ (p : Problem) (s : Stream) (v : ℕ) (b : Bound) (nodes : List Node) (r
   read_as tree e = subst (λ (t : Tree). Reads (sizes_of p) s v b t) (same_tree r.tree tree nodes r.nodes_are e) r.reads
 
   -- the first node that does not pass is told
-  pub nodes_tell : (e : UpgradeFault) → TellsOfNodes p b nodes e → TellsOf p s e
+  pub nodes_tell : (e : UpgradeFault) → IsNodesFault p b nodes e → IsUpgradeFault p s e
   nodes_tell (Proof (check.Text f)) t = absurd t
   nodes_tell (Proof (check.Rule i f)) t = record { version = v; bound = b; tree = t.0; reads = read_as t.0 t.1; is = t.2 }
   nodes_tell (Proof (check.TooDeep i)) t = record { version = v; bound = b; tree = t.0; reads = read_as t.0 t.1; is = t.2 }
@@ -96,7 +96,7 @@ module _ (p : Problem) (s : Stream) (v : ℕ) (b : Bound) (nodes : List Node) (r
 
   module _ (h : Proves p b nodes) where
     -- that the text grows too large is told
-    pub write_tells : (f : WriteFault) → Refuses 2 b nodes f → TellsOf p s (told_write f)
+    pub write_tells : (f : WriteFault) → Refuses 2 b nodes f → IsUpgradeFault p s (fault_from_write f)
     write_tells write.NotATree t = absurd (t (h.0, h.1))
     write_tells write.OverLimit t = record {
       version = v;
@@ -123,24 +123,24 @@ upgraded p bytes out v b nodes r h are w again = record {
 -- ---- a text that derives its bound is refused by silent faults alone
 
 -- a fault of the text is want of memory, or is told as it is
-told_cases : (f : TextFault) (Q : UpgradeFault → Type 0) → Q OutOfMemory → (¬ (f ≡ text.OutOfMemory) → Q (Proof (check.Text f))) → Q (told_text f)
-told_cases (text.Ended at) Q a b = b (λ e. cc)
-told_cases (text.Expected w at) Q a b = b (λ e. cc)
-told_cases (text.UnknownWord at) Q a b = b (λ e. cc)
-told_cases (text.NotANumber at) Q a b = b (λ e. cc)
-told_cases (text.UnknownIndex at) Q a b = b (λ e. cc)
-told_cases (text.RepeatedIndex at) Q a b = b (λ e. cc)
-told_cases (text.TrailingToken at) Q a b = b (λ e. cc)
-told_cases (text.TooManyNodes at) Q a b = b (λ e. cc)
-told_cases (text.Feed f) Q a b = b (λ e. cc)
-told_cases text.OutOfMemory Q a b = a
+cases_of_fault : (f : TextFault) (Q : UpgradeFault → Type 0) → Q OutOfMemory → (¬ (f ≡ text.OutOfMemory) → Q (Proof (check.Text f))) → Q (fault_from_text f)
+cases_of_fault (text.Ended at) Q a b = b (λ e. cc)
+cases_of_fault (text.Expected w at) Q a b = b (λ e. cc)
+cases_of_fault (text.UnknownWord at) Q a b = b (λ e. cc)
+cases_of_fault (text.NotANumber at) Q a b = b (λ e. cc)
+cases_of_fault (text.UnknownIndex at) Q a b = b (λ e. cc)
+cases_of_fault (text.RepeatedIndex at) Q a b = b (λ e. cc)
+cases_of_fault (text.TrailingToken at) Q a b = b (λ e. cc)
+cases_of_fault (text.TooManyNodes at) Q a b = b (λ e. cc)
+cases_of_fault (text.Feed f) Q a b = b (λ e. cc)
+cases_of_fault text.OutOfMemory Q a b = a
 
 silent_text : (f : TextFault) → checked.IsSilent (check.Text f) → IsSilent (Proof (check.Text f))
 silent_text f (inl e) = absurd cc
 silent_text f (inr e) = inr (inl (ap Proof e))
 
-pub text_tells : (p : Problem) (s : Stream) (f : TextFault) → (¬ (f ≡ text.OutOfMemory) → TextBreaks p s f) → TellsOf p s (told_text f)
-text_tells p s f h = told_cases f (TellsOf p s) tt (λ n. (n, h n))
+pub text_tells : (p : Problem) (s : Stream) (f : TextFault) → (¬ (f ≡ text.OutOfMemory) → IsTextFault p s f) → IsUpgradeFault p s (fault_from_text f)
+text_tells p s f h = cases_of_fault f (IsUpgradeFault p s) tt (λ n. (n, h n))
 
 module _ (p : Problem) (is : IsInstance p) (bytes : List ℕ) (b : Bound) (proved : IsProved p bytes b) where
   abbrev tree : Tree
@@ -156,9 +156,9 @@ module _ (p : Problem) (is : IsInstance p) (bytes : List ℕ) (b : Bound) (prove
   pub bound_read : (v : ℕ) (c : Bound) (nodes : List Node) → IsRead p (stream_of bytes) v c nodes → c ≡ b
   bound_read v c nodes r = (same_text (sizes_of p) (stream_of bytes) v proved.0 c b r.tree tree r.reads reads).0
 
-  pub silent : (e : UpgradeFault) → TellsOf p (stream_of bytes) e → IsSilent e
+  pub silent : (e : UpgradeFault) → IsUpgradeFault p (stream_of bytes) e → IsSilent e
   silent (Proof (check.Text f)) (n, inl h) = silent_text f (fails_silently f (header_at (stream_of bytes)) ((proved.0, b), reads.headed) reads.header n h)
-  silent (Proof (check.Text f)) (n, inr h) = silent_text f (elim (header_is (λ v c rest. NodesBreak (sizes_of p) v rest f ⊎ EndBreaks p v rest f) h) [
+  silent (Proof (check.Text f)) (n, inr h) = silent_text f (elim (header_is (λ v c rest. NodeTextFails (sizes_of p) v rest f ⊎ EndTextFails p v rest f) h) [
     | inl a ↦ node_silent p proved.0 reads.headed reads.noded tree reads.nodes f n a.nodes a.rest a.tree a.next a.more a.reads a.begins a.fails
     | inr a ↦ end_silent p proved.0 reads.headed reads.noded tree reads.nodes reads.ended reads.finish f n a.tree a.rest a.reads a.fails
   ])

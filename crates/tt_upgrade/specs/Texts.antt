@@ -33,7 +33,7 @@ pub record IsCollected (sizes : Sizes) (v : ℕ) (known : Bool) (s after : Strea
   pub reads : known ≡ true → ReadsNodes sizes v 0 s nodes after
 
 -- some tree goes on from the nodes that have been read, and the text of the next node fails
-pub record NodesBreak (sizes : Sizes) (v : ℕ) (s : Stream) (f : TextFault) : Type 0 where
+pub record NodeTextFails (sizes : Sizes) (v : ℕ) (s : Stream) (f : TextFault) : Type 0 where
   pub nodes : List Node
   pub rest : Stream
   pub reads : ReadsNodes sizes v 0 s nodes rest
@@ -44,30 +44,30 @@ pub record NodesBreak (sizes : Sizes) (v : ℕ) (s : Stream) (f : TextFault) : T
   pub fails : Fails f (node_at sizes v (length nodes) rest)
 
 -- the tree is whole, and the text of the end fails
-pub record EndBreaks (p : Problem) (v : ℕ) (s : Stream) (f : TextFault) : Type 0 where
+pub record EndTextFails (p : Problem) (v : ℕ) (s : Stream) (f : TextFault) : Type 0 where
   pub tree : Tree
   pub rest : Stream
   pub reads : ReadsNodes (sizes_of p) v 0 s (preorder tree) rest
   pub fails : Fails f (end_at rest)
 
 -- the first fault of the text; want of memory and a failed read say nothing of it
-abbrev pub TextBreaks : Problem → Stream → TextFault → Type 0
-TextBreaks p s f = Fails f (header_at s) ⊎ HasHeader s (λ v b rest. NodesBreak (sizes_of p) v rest f ⊎ EndBreaks p v rest f)
+abbrev pub IsTextFault : Problem → Stream → TextFault → Type 0
+IsTextFault p s f = Fails f (header_at s) ⊎ HasHeader s (λ v b rest. NodeTextFails (sizes_of p) v rest f ⊎ EndTextFails p v rest f)
 
 -- ---- what a failed read leaves known
 
 -- nodes have been read, and the failure breaks the next one off
-abbrev pub NodeBreaksOff : Sizes → ℕ → Stream → Type 0
-NodeBreaksOff sizes v s = (x : NodesBreak sizes v s read_failed) × (node_at sizes v (length x.nodes) x.rest ≡ Err read_failed)
+abbrev pub NodeIsCutOff : Sizes → ℕ → Stream → Type 0
+NodeIsCutOff sizes v s = (x : NodeTextFails sizes v s read_failed) × (node_at sizes v (length x.nodes) x.rest ≡ Err read_failed)
 
 -- the tree is whole, and the failure breaks the end off
-abbrev pub EndBreaksOff : Problem → ℕ → Stream → Type 0
-EndBreaksOff p v s = (x : EndBreaks p v s read_failed) × (end_at x.rest ≡ Err read_failed)
+abbrev pub EndIsCutOff : Problem → ℕ → Stream → Type 0
+EndIsCutOff p v s = (x : EndTextFails p v s read_failed) × (end_at x.rest ≡ Err read_failed)
 
 -- All of the stream has been read, up to the failure at its end.
-abbrev pub TextBreaksOff : Problem → Stream → Type 0
-TextBreaksOff p s = (header_at s ≡ Err read_failed) ⊎ HasHeader s (λ v b rest. NodeBreaksOff (sizes_of p) v rest ⊎ EndBreaksOff p v rest)
+abbrev pub TextIsCutOff : Problem → Stream → Type 0
+TextIsCutOff p s = (header_at s ≡ Err read_failed) ⊎ HasHeader s (λ v b rest. NodeIsCutOff (sizes_of p) v rest ⊎ EndIsCutOff p v rest)
 
 -- All that the bytes which the source gave say has been read, and nothing of it was judged.
-abbrev pub TellsTextRead : Problem → List ℕ → Option (List ℕ) → Type 0
-TellsTextRead p bytes left = HoldsOfGiven bytes left (TextBreaksOff p)
+abbrev pub IsReadUpToFailedRead : Problem → List ℕ → Option (List ℕ) → Type 0
+IsReadUpToFailedRead p bytes left = HoldsOfGiven bytes left (TextIsCutOff p)

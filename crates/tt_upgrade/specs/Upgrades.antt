@@ -14,7 +14,7 @@ use Rattle.tt_proof_check.specs.declared.fault.CheckFault.TheVariants as check
 use Rattle.tt_proof_write.specs.Within.{FitsFile}
 use Rattle.tt_proof_write.specs.Written.{proof_text}
 use Rattle.tt_upgrade.specs.Faults.{read_failed}
-use Rattle.tt_upgrade.specs.Texts.{TextBreaks}
+use Rattle.tt_upgrade.specs.Texts.{IsTextFault}
 use Rattle.tt_upgrade.specs.declared.fault.UpgradeFault.{UpgradeFault}
 use Rattle.tt_upgrade.specs.declared.fault.UpgradeFault.TheVariants.{Proof, TooLarge, OutOfMemory}
 
@@ -42,13 +42,13 @@ pub record IsTooLarge (p : Problem) (b : Bound) (tree : Tree) : Type 0 where
   pub large : ¬ (FitsFile 2 b (preorder tree))
 
 -- A fault of the text is told before one of a node, of which there are then all.
-abbrev pub TellsOf : Problem → Stream → UpgradeFault → Type 0
-TellsOf p s (Proof (check.Text f)) = ¬ (f ≡ text.OutOfMemory) × TextBreaks p s f
-TellsOf p s (Proof (check.Rule i f)) = HasTree p s (λ b tree. FailsAt p b tree i f)
-TellsOf p s (Proof (check.TooDeep i)) = HasTree p s (λ b tree. IsDeepAt p b tree i)
-TellsOf p s (Proof check.OutOfMemory) = ⊥
-TellsOf p s TooLarge = HasTree p s (λ b tree. IsTooLarge p b tree)
-TellsOf p s OutOfMemory = ⊤
+abbrev pub IsUpgradeFault : Problem → Stream → UpgradeFault → Type 0
+IsUpgradeFault p s (Proof (check.Text f)) = ¬ (f ≡ text.OutOfMemory) × IsTextFault p s f
+IsUpgradeFault p s (Proof (check.Rule i f)) = HasTree p s (λ b tree. FailsAt p b tree i f)
+IsUpgradeFault p s (Proof (check.TooDeep i)) = HasTree p s (λ b tree. IsDeepAt p b tree i)
+IsUpgradeFault p s (Proof check.OutOfMemory) = ⊥
+IsUpgradeFault p s TooLarge = HasTree p s (λ b tree. IsTooLarge p b tree)
+IsUpgradeFault p s OutOfMemory = ⊤
 
 -- want of memory, a failed read or a text that is too large, which say nothing against the proof
 abbrev pub IsSilent : UpgradeFault → Type 0

@@ -1,7 +1,7 @@
 //! Why a proof is not written anew.
 
 ghost use Rattle.std.specs.Prelude.{◌≡◌, ◌<◌};
-ghost use Rattle.tt_upgrade.specs.Faults.{IsOfNode, told_node};
+ghost use Rattle.tt_upgrade.specs.Faults.{IsOfNode, fault_from_node};
 
 use std::error::Error;
 use std::fmt;
@@ -21,9 +21,9 @@ pub enum UpgradeFault {
 
 impl From<TextFault> for UpgradeFault {
     ghost use Rattle.std.specs.Prelude.{◌≡◌};
-    ghost use Rattle.tt_upgrade.specs.Faults.{told_text};
+    ghost use Rattle.tt_upgrade.specs.Faults.{fault_from_text};
 
-    ghost from_gives = { λ f e. e ≡ told_text f };
+    ghost from_gives = { λ f e. e ≡ fault_from_text f };
 
     fn from(fault: TextFault) -> UpgradeFault {
         match fault {
@@ -35,9 +35,9 @@ impl From<TextFault> for UpgradeFault {
 
 impl From<WriteFault> for UpgradeFault {
     ghost use Rattle.std.specs.Prelude.{◌≡◌};
-    ghost use Rattle.tt_upgrade.specs.Faults.{told_write};
+    ghost use Rattle.tt_upgrade.specs.Faults.{fault_from_write};
 
-    ghost from_gives = { λ f e. e ≡ told_write f };
+    ghost from_gives = { λ f e. e ≡ fault_from_write f };
 
     fn from(fault: WriteFault) -> UpgradeFault {
         match fault {
@@ -63,7 +63,7 @@ impl Error for UpgradeFault {}
 /// What a fault of the nodes of a tree is called; a file's nodes are numbered with 32 bits.
 pub fn node_fault(fault: NodesFault) -> UpgradeFault
     requires { IsOfNode fault }
-    ensures { result ≡ told_node fault }
+    ensures { result ≡ fault_from_node fault }
 {
     match fault {
         NodesFault::Rule(node, fault) => UpgradeFault::Proof(CheckFault::Rule(node as u32, fault)),

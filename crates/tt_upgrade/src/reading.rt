@@ -8,7 +8,7 @@ ghost use Rattle.tt_proof_text.specs.Readers.{IsNodeAt};
 ghost use Rattle.tt_proof_text.specs.declared.fault.TextFault.{TextFault};
 ghost use Rattle.tt_proof_check.specs.FailedReads.{UpToFailure, BeforeFailure};
 ghost use Rattle.tt_proof_check.specs.Streams.{stream_of};
-ghost use Rattle.tt_upgrade.specs.Texts.{IsRead, AreNodesOf, IsCollected, NodesBreak, NodeBreaksOff, TextBreaks, TellsTextRead};
+ghost use Rattle.tt_upgrade.specs.Texts.{IsRead, AreNodesOf, IsCollected, NodeTextFails, NodeIsCutOff, IsTextFault, IsReadUpToFailedRead};
 
 use std::alloc::Global;
 use tt_instance::Instance;
@@ -43,11 +43,11 @@ fn collect<R: Source>(
     ensures failed { result ≡ Err read_failed → R.has_failed source.new ≡ true }
     ensures unfailed { ¬ (result ≡ Err read_failed) → R.has_failed source.new ≡ R.has_failed source.old }
     ensures fault { is_some (R.remaining source.old) ≡ true →
-        IfErr result (λ f. ¬ (f ≡ TextFault.OutOfMemory) → NodesBreak reader.old.sizes reader.old.version (stream_at reader.old.fed (R.remaining source.old)) f) }
-    ensures broken { IfOk result (λ nodes. BeforeFailure reader.old.fed (R.remaining source.old) reader.new.fed (R.remaining source.new)
+        IfErr result (λ f. ¬ (f ≡ TextFault.OutOfMemory) → NodeTextFails reader.old.sizes reader.old.version (stream_at reader.old.fed (R.remaining source.old)) f) }
+    ensures cut_short { IfOk result (λ nodes. BeforeFailure reader.old.fed (R.remaining source.old) reader.new.fed (R.remaining source.new)
         (λ s t. IsCollected reader.old.sizes reader.old.version true s t nodes.items)) }
-    ensures broken_off { result ≡ Err read_failed → UpToFailure reader.old.fed (R.remaining source.old) (R.remaining source.new)
-        (NodeBreaksOff reader.old.sizes reader.old.version) }
+    ensures up_to_failed_read { result ≡ Err read_failed → UpToFailure reader.old.fed (R.remaining source.old) (R.remaining source.new)
+        (NodeIsCutOff reader.old.sizes reader.old.version) }
 {
     let mut nodes = Vec::new(alloc);
     while let Some(node) = reader.next_node(source)? {
@@ -68,10 +68,10 @@ pub fn read_proof<R: Source>(
     ensures failed { result ≡ Err read_failed → R.has_failed source.new ≡ true }
     ensures unfailed { ¬ (result ≡ Err read_failed) → R.has_failed source.new ≡ R.has_failed source.old }
     // The first fault of the text is told, unless memory is wanting.
-    ensures fault { IfErr result (λ f. ¬ (f ≡ TextFault.OutOfMemory) → (bytes : List ℕ) → R.remaining source.old ≡ Some bytes → TextBreaks instance.now (stream_of bytes) f) }
+    ensures fault { IfErr result (λ f. ¬ (f ≡ TextFault.OutOfMemory) → (bytes : List ℕ) → R.remaining source.old ≡ Some bytes → IsTextFault instance.now (stream_of bytes) f) }
     // Where a read fails, all that the bytes before it say has been read.
-    ensures broken_off { result ≡ Err read_failed → (bytes : List ℕ) → R.remaining source.old ≡ Some bytes →
-        TellsTextRead instance.now bytes (R.remaining source.new) }
+    ensures up_to_failed_read { result ≡ Err read_failed → (bytes : List ℕ) → R.remaining source.old ≡ Some bytes →
+        IsReadUpToFailedRead instance.now bytes (R.remaining source.new) }
 {
     let mut reader = NodeReader::new(alloc, instance, source)?;
     let (version, bound) = (reader.version(), reader.bound());

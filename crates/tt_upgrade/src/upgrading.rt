@@ -5,9 +5,9 @@ ghost use Rattle.tt_leaf.specs.declared.leaf.Bound.{Bound};
 ghost use Rattle.tt_proof_check.specs.Derives.{HoldsOfAll, Proves};
 ghost use Rattle.tt_proof_check.specs.Nodes.{IsATree, IsNodeOf};
 ghost use Rattle.tt_proof_check.specs.Streams.{IsProved, stream_of};
-ghost use Rattle.tt_upgrade.specs.Faults.{read_failed, TellsOfNodes, TellsMemory};
-ghost use Rattle.tt_upgrade.specs.Texts.{TellsTextRead};
-ghost use Rattle.tt_upgrade.specs.Upgrades.{IsUpgraded, IsSilent, TellsOf};
+ghost use Rattle.tt_upgrade.specs.Faults.{read_failed, IsNodesFault, OutOfMemoryIsOneFault};
+ghost use Rattle.tt_upgrade.specs.Texts.{IsReadUpToFailedRead};
+ghost use Rattle.tt_upgrade.specs.Upgrades.{IsUpgraded, IsSilent, IsUpgradeFault};
 
 use crate::fault::{UpgradeFault, node_fault};
 use crate::reading::read_proof;
@@ -37,7 +37,7 @@ fn judge(
     requires tree { IsATree nodes.now }
     requires few { length nodes.now ≤ 16777216 }
     ensures proves { OnOk result (Proves instance.now bound nodes.now) }
-    ensures fault { IfErr result (TellsOfNodes instance.now bound nodes.now) }
+    ensures fault { IfErr result (IsNodesFault instance.now bound nodes.now) }
 {
     match check_nodes(alloc, instance, bound, nodes) {
         Ok(()) => Ok(()),
@@ -62,12 +62,12 @@ pub fn upgrade<R: Source>(
     // A read is said to have failed exactly where one did.
     ensures failed { result ≡ Err read_failed → R.has_failed source.new ≡ true }
     ensures unfailed { ¬ (result ≡ Err read_failed) → R.has_failed source.new ≡ R.has_failed source.old }
-    ensures fault { IfErr result (λ f. (bytes : List ℕ) → R.remaining source.old ≡ Some bytes → TellsOf instance.now (stream_of bytes) f) }
+    ensures fault { IfErr result (λ f. (bytes : List ℕ) → R.remaining source.old ≡ Some bytes → IsUpgradeFault instance.now (stream_of bytes) f) }
     // Where a read fails, all that the bytes before it say has been read.
-    ensures broken_off { result ≡ Err read_failed → (bytes : List ℕ) → R.remaining source.old ≡ Some bytes →
-        TellsTextRead instance.now bytes (R.remaining source.new) }
+    ensures up_to_failed_read { result ≡ Err read_failed → (bytes : List ℕ) → R.remaining source.old ≡ Some bytes →
+        IsReadUpToFailedRead instance.now bytes (R.remaining source.new) }
     // Want of memory is one answer, wherever it comes from.
-    ensures memory { IfErr result TellsMemory }
+    ensures memory { IfErr result OutOfMemoryIsOneFault }
 {
     // What is true of every instance: its numbers are small enough to be read.
     prove!(instance.days() > 0);

@@ -17,7 +17,7 @@ go_to-requires g c = λ κs.
     let e = c.requires.waiting.0 in
     let there = each_at (IsThere p s.links.items) s.entries.items c.args.place e (each_there p (table_of s.best) s.links.items s.entries.items c.requires.under_way.grown c.requires.few) c.requires.waiting.1 in
     let read = c.index.result.now in
-    let link = ap (λ (x : Entry). x.link) (c.index.ensures ∙ get_is s.entries.items c.args.place e read c.requires.waiting.1) in
+    let link = ap (λ (x : Entry). x.link) (c.index.ensures ∙ get_or_from_slice_get s.entries.items c.args.place e read c.requires.waiting.1) in
     let links = sym c.as_slice.ensures.value in (
       (refl, tt),
       (
@@ -36,7 +36,7 @@ open-requires g c = λ κs.
     let e = c.requires.waiting.0 in
     let there = each_at (IsThere p s.links.items) s.entries.items c.args.place e (each_there p (table_of s.best) s.links.items s.entries.items c.requires.under_way.grown c.requires.few) c.requires.waiting.1 in
     let read = c.index.result.now in
-    let link = ap (λ (x : Entry). x.link) (c.index.ensures ∙ get_is s.entries.items c.args.place e read c.requires.waiting.1) in
+    let link = ap (λ (x : Entry). x.link) (c.index.ensures ∙ get_or_from_slice_get s.entries.items c.args.place e read c.requires.waiting.1) in
     let same = sym c.in_ok-go_to.ensures.same in
     let facts : path_at s.links.items e.link ≡ g.P.Path.facts c.go_to.new.path =
     sym (c.in_ok-go_to.ensures.there ∙ ap (λ (l : List Link). path_at l read.link) c.as_slice.ensures.value ∙ ap (path_at s.links.items) link) in (

@@ -1,6 +1,6 @@
 use Rattle.std.proofs.Common.{not, ◌&&◌, [], ◌∷◌, ◌∙◌, subst}
 use Rattle.std.specs.Prelude.{◌==◌}
-use Rattle.tt_lists.specs.Words.{has}
+use Rattle.tt_lists.specs.Words.{has_number}
 use Rattle.tt_links.specs.Links.{conflicts_of}
 use Rattle.tt_facts.specs.Facts.{agrees}
 use Rattle.tt_cell_set.specs.Tables.{Loses, has_cell, is_placed}
@@ -19,7 +19,7 @@ returns-in_ok-keep_rooms-in-Nothing-clause-ok c =
     let mid = c.strike_period.new.live.words in
     let new = c.keep_rooms.new.table.words in
     let given = c.conflicts_of.ensures ∙ c.requires.links.conflicts a.course c.requires.course in
-    loses-more p old mid new (λ x. has (conflicts_of p a.course) x.course && ((x.day == a.day) && (x.period == a.period))) (λ x. is_placed a.course a.day a.period x && not (has_cell p free x && agrees g.room x.room)) (is_struck p free g a.day a.period (a.course ∷ []))
-    (subst (λ ks. Loses p old (λ x. has ks x.course && ((x.day == a.day) && (x.period == a.period))) mid) given c.in_ok-strike_period-in-Nothing.ensures.ok)
+    loses-more p old mid new (λ x. has_number (conflicts_of p a.course) x.course && ((x.day == a.day) && (x.period == a.period))) (λ x. is_placed a.course a.day a.period x && not (has_cell p free x && agrees g.room x.room)) (is_struck p free g a.day a.period (a.course ∷ []))
+    (subst (λ ks. Loses p old (λ x. has_number ks x.course && ((x.day == a.day) && (x.period == a.period))) mid) given c.in_ok-strike_period-in-Nothing.ensures.ok)
     c.in_ok-keep_rooms-in-Nothing.ensures.ok
     (struck_by_links p free g a.day a.period a.course c.requires.course c.in-Nothing.ensures)

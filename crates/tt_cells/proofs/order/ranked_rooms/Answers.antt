@@ -1,6 +1,6 @@
 use Rattle.std.proofs.Common.{◌≡◌, ℕ, ◌+◌, ◌<◌, ◌^◌, [], ◌∷◌, ◌++◌, map, sym, ap, ◌∙◌, arith, below_more}
 use Rattle.std.proofs.lemmas.List.{map-append}
-use Rattle.tt_lists.specs.Words.{numbers_below}
+use Rattle.tt_lists.specs.Words.{range_below}
 use Rattle.tt_lists.proofs.Below.{numbers_below_more}
 use Rattle.tt_instance.specs.Courses.{capacity}
 use Rattle.tt_cells.specs.Order.{ranked}
@@ -15,7 +15,7 @@ loop-room-preserved c =
     record {
       rooms = c.in_ok-push.ensures.items
           ∙ ap (λ l. l ++ record { room = r; seats = c.capacity-seats.result } ∷ []) c.loop-room.invariant.rooms
-          ∙ ap (λ n. map (ranked p) (numbers_below r) ++ record { room = r; seats = n } ∷ []) seats.value
-          ∙ sym (ap (map (ranked p)) (numbers_below_more r) ∙ map-append (ranked p) (numbers_below r) (r ∷ []));
+          ∙ ap (λ n. map (ranked p) (range_below r) ++ record { room = r; seats = n } ∷ []) seats.value
+          ∙ sym (ap (map (ranked p)) (range_below_more r) ∙ map-append (ranked p) (range_below r) (r ∷ []));
       few = below_more _ _ c.loop-room.invariant.few (omega (arith, seats.value, seats.within));
     }

@@ -1,7 +1,7 @@
 use Rattle.std.proofs.Common.{◌≡◌, ℕ, ◌<◌, List, length, sym, ap, ◌∙◌, subst, get_or}
 use Rattle.std.specs.Prelude.{All}
 use Rattle.std.proofs.lemmas.List.{take_all}
-use Rattle.tt_lists.specs.Words.{has}
+use Rattle.tt_lists.specs.Words.{has_number}
 use Rattle.tt_instance.specs.Cells.{InRange}
 use Rattle.tt_rules.specs.Hard.{entries_of}
 use Rattle.tt_rules.specs.Score.{IsFeasible}
@@ -62,8 +62,8 @@ returns-clause-courses c = λ course.
     let t = c.args.occupied.now.entries in
     let all = take_all c.loop-member.member-index c.members-member-items.result.now c.loop-member-test.false ∙ c.members-member-items.ensures.value in
     ap (λ (z : Filled). entries_of z.entries course) c.loop-member.invariant
-    ∙ ap (λ ms. entries_of (swapped x.from x.to (has ms) t) course) all
-    ∙ entries-swapped x.from x.to (has x.members) 0 course t
+    ∙ ap (λ ms. entries_of (swapped x.from x.to (has_number ms) t) course) all
+    ∙ entries-swapped x.from x.to (has_number x.members) 0 course t
 
 pub returns-clause-feasible : goal.returns-clause-feasible
 returns-clause-feasible c = λ feasible.
@@ -71,5 +71,5 @@ returns-clause-feasible c = λ feasible.
     let o = c.args.occupied.now in
     let r = c.requires in
     let all = take_all c.loop-member.member-index c.members-member-items.result.now c.loop-member-test.false ∙ c.members-member-items.ensures.value in
-    let is = ap (λ (z : Filled). z.entries) c.loop-member.invariant ∙ ap (λ ms. swapped x.from x.to (has ms) o.entries) all in
-    subst (IsFeasible o.problem) (sym is) (chain_feasible o.problem o.entries x.from x.to (has x.members) r.apart r.from.day r.from.period r.to.day r.to.period feasible r.closed r.free)
+    let is = ap (λ (z : Filled). z.entries) c.loop-member.invariant ∙ ap (λ ms. swapped x.from x.to (has_number ms) o.entries) all in
+    subst (IsFeasible o.problem) (sym is) (chain_feasible o.problem o.entries x.from x.to (has_number x.members) r.apart r.from.day r.from.period r.to.day r.to.period feasible r.closed r.free)

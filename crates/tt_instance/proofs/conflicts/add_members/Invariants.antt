@@ -1,5 +1,5 @@
 use Rattle.std.proofs.Common.{◌≡◌, ℕ, ◌&&◌, ◌||◌, length, take}
-use Rattle.tt_lists.specs.Words.{has}
+use Rattle.tt_lists.specs.Words.{has_number}
 use Rattle.tt_instance.specs.Indexed.{mark_at, IsSquare}
 use Rattle.tt_instance.proofs.conflicts.add_members.Given as goal
 
@@ -7,5 +7,5 @@ abbrev pub invariant-loop-member : goal.invariant-loop-member
 invariant-loop-member l = record {
   len : length l.rows.items ≡ length l.fn.rows.items;
   square : IsSquare l.rows.items;
-  marked : (a b : ℕ) → mark_at l.rows.items a b ≡ (mark_at l.fn.rows.items a b || (has (take l.member-index l.members) a && has l.members b));
+  marked : (a b : ℕ) → mark_at l.rows.items a b ≡ (mark_at l.fn.rows.items a b || (has_number (take l.member-index l.members) a && has_number l.members b));
 }

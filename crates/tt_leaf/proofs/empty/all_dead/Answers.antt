@@ -1,6 +1,6 @@
 use Rattle.std.proofs.Common.{◌≡◌, ◌<◌, Bool, true, false, not, ◌||◌, length, sym, ap, ◌∙◌, arith}
 use Rattle.std.specs.List.{list_all}
-use Rattle.tt_lists.specs.Words.{numbers_below}
+use Rattle.tt_lists.specs.Words.{range_below}
 use Rattle.tt_lists.proofs.Below.{all_stops}
 use Rattle.tt_facts.specs.Facts.{is_who}
 use Rattle.tt_leaf.specs.Nested.{course_dead, off_or_dead}
@@ -28,4 +28,4 @@ returns g c =
     let path = g.P.Path.facts c.args.path.now in
     let pattern = c.args.pattern.now in
     let all : c.loop-course.course ≡ length p.courses = omega (arith, ap (λ q. length q.courses) c.instance-instance.ensures) in
-    sym (all_dead-by_course p path pattern ∙ ap (λ n. list_all (off_or_dead p path pattern) (numbers_below n)) (sym all) ∙ c.loop-course.invariant)
+    sym (all_dead-by_course p path pattern ∙ ap (λ n. list_all (off_or_dead p path pattern) (range_below n)) (sym all) ∙ c.loop-course.invariant)

@@ -1,6 +1,6 @@
 use Rattle.std.proofs.Common.{◌≡◌, ◌≤◌, ◌*◌, ◌&&◌}
 use Rattle.std.specs.Prelude.{sum_by}
-use Rattle.tt_lists.specs.Words.{numbers_below}
+use Rattle.tt_lists.specs.Words.{range_below}
 use Rattle.tt_facts.specs.Live.{pinned}
 use Rattle.tt_facts.specs.declared.facts.Who.TheVariants.{Curriculum}
 use Rattle.tt_leaf.specs.Claims.{is_alone}
@@ -11,4 +11,4 @@ abbrev pub invariant-loop-day : goal.invariant-loop-day
 invariant-loop-day g l =
     let p = g.P.Path.problem l.path in
     let path = g.P.Path.facts l.path in
-    record { counted : l.total ≡ sum_by (on_day p (λ s. pinned p path (Curriculum l.curriculum) s && is_alone p path l.curriculum s)) (numbers_below l.day); few : l.total ≤ l.day * 64 }
+    record { counted : l.total ≡ sum_by (on_day p (λ s. pinned p path (Curriculum l.curriculum) s && is_alone p path l.curriculum s)) (range_below l.day); few : l.total ≤ l.day * 64 }

@@ -1,5 +1,5 @@
 use Rattle.std.proofs.Common.{ℕ, List, sym, ap, ◌∙◌}
-use Rattle.tt_leaf.specs.Leaves.{fault_of}
+use Rattle.tt_leaf.specs.Faults.{fault_of}
 use Rattle.tt_leaf.specs.declared.leaf.Leaf.{Leaf}
 use Rattle.tt_leaf.specs.declared.leaf.Leaf.TheVariants.{Clique}
 use Rattle.tt_leaf.proofs.judging.fault_of.Goals as goal

@@ -1,6 +1,6 @@
 use Rattle.std.proofs.Common.{◌≡◌, ◌≤◌, ◌*◌}
 use Rattle.std.specs.Prelude.{sum_by}
-use Rattle.tt_lists.specs.Words.{numbers_below}
+use Rattle.tt_lists.specs.Words.{range_below}
 use Rattle.tt_facts.specs.Live.{pinned}
 use Rattle.tt_leaf.proofs.Week.{on_day}
 use Rattle.tt_leaf.proofs.pinned.pinned_periods.Given as goal
@@ -8,4 +8,4 @@ use Rattle.tt_leaf.proofs.pinned.pinned_periods.Given as goal
 abbrev pub invariant-loop-day : goal.invariant-loop-day
 invariant-loop-day g l =
     let p = g.P.Path.problem l.path in
-    record { counted : l.total ≡ sum_by (on_day p (pinned p (g.P.Path.facts l.path) l.who)) (numbers_below l.day); few : l.total ≤ l.day * 64 }
+    record { counted : l.total ≡ sum_by (on_day p (pinned p (g.P.Path.facts l.path) l.who)) (range_below l.day); few : l.total ≤ l.day * 64 }

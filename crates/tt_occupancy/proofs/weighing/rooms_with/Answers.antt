@@ -9,4 +9,4 @@ returns c = λ t ok.
     let p = c.args.instance.now in
     let r = c.requires.in_range in
     let new = ap (λ n. one_if (n == 0)) c.get-is_new.ensures in
-    omega (arith, new, used_with (length p.rooms) (λ z. z.room) p t c.args.tables.now.halls c.args.entry r r.room ok.halls)
+    omega (arith, new, used_with (length p.rooms) (λ z. z.room) p t c.args.tables.now.course_rooms c.args.entry r r.room ok.course_rooms)

@@ -1,7 +1,7 @@
 use Rattle.std.proofs.Common.{◌≡◌, Bool, ◌&&◌, sym, ap, ◌∙◌, arith}
 use Rattle.std.specs.Prelude.{count_by, sum_by}
 use Rattle.std.specs.List.{list_any}
-use Rattle.tt_lists.specs.Words.{numbers_below}
+use Rattle.tt_lists.specs.Words.{range_below}
 use Rattle.tt_instance.specs.Problem.{Problem}
 use Rattle.tt_instance.specs.Cells.{is_of, is_at, slot}
 use Rattle.tt_instance.specs.declared.cell.Slot.{Slot}
@@ -15,5 +15,5 @@ returns-clause-count c =
     let taught : Slot → Bool = λ s. list_any (λ e. is_of c.args.course e && is_at s e) t in
     let all : c.loop-day.day ≡ p.days = omega (arith, c.loop-day-test.false, c.loop-day.auto.day-end, c.days-day-end.ensures.value, ap (λ (q : Problem). q.days) c.instance.ensures) in
     c.loop-day.invariant.summed
-    ∙ ap (λ n. sum_by (λ d. count_by (λ s. taught (slot d s)) (numbers_below p.periods)) (numbers_below n)) all
+    ∙ ap (λ n. sum_by (λ d. count_by (λ s. taught (slot d s)) (range_below p.periods)) (range_below n)) all
     ∙ sym (slots_by_day p taught)

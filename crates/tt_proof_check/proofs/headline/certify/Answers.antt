@@ -68,11 +68,11 @@ pub returns-clause-broken : goal.returns-clause-broken
 returns-clause-broken g c =
     λ k. absurd (not_broken c.args.instance.now c.args.solution.now c.in_ok-instance.instance c.in_ok-table.table c.in_ok-instance.ensures.found c.in_ok-table.ensures.found c.score-score.result c.score-score.ensures (no_points c.feasible.result _ c.feasible.ensures c.if-not-feasible.false) k)
 
-pub returns-in_err-bound-clause-broken_off : goal.returns-in_err-bound-clause-broken_off
-returns-in_err-bound-clause-broken_off g c =
+pub returns-in_err-bound-clause-up_to_failed_read : goal.returns-in_err-bound-clause-up_to_failed_read
+returns-in_err-bound-clause-up_to_failed_read g c =
     λ told bytes known.
     let is = err_same c.from_residual-in_err-bound.result c.in_err-bound.field-0.0 read_failed c.from_residual-in_err-bound.ensures.1 told in
-    record { problem = c.in_ok-instance.instance; spelled = c.in_ok-instance.ensures.found; tells = c.in_err-bound.ensures.broken_off (ap (λ x. Err x) is) bytes known }
+    record { problem = c.in_ok-instance.instance; spelled = c.in_ok-instance.ensures.found; tells = c.in_err-bound.ensures.up_to_failed_read (ap (λ x. Err x) is) bytes known }
 
 pub returns-in_err-instance-clause-memory : goal.returns-in_err-instance-clause-memory
 returns-in_err-instance-clause-memory g c =

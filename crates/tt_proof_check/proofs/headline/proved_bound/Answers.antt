@@ -11,9 +11,9 @@ returns-in_err-bound-clause-only g c =
     let e = err_from_is_err_and c.from_residual.result c.from_residual.ensures.1 in
     λ bytes b known h. rw (e.1, e.2) (silent_told c.in_err-bound.field-0.0 b (c.in_err-bound.ensures.only bytes (AtLeast b) known h))
 
-pub returns-in_err-bound-clause-broken_off : goal.returns-in_err-bound-clause-broken_off
-returns-in_err-bound-clause-broken_off g c =
-    λ told. c.in_err-bound.ensures.broken_off (ap (λ f. Err f) (read_checked c.in_err-bound.field-0.0 (err_same c.from_residual.result _ read_failed c.from_residual.ensures.1 told)))
+pub returns-in_err-bound-clause-up_to_failed_read : goal.returns-in_err-bound-clause-up_to_failed_read
+returns-in_err-bound-clause-up_to_failed_read g c =
+    λ told. c.in_err-bound.ensures.up_to_failed_read (ap (λ f. Err f) (read_checked c.in_err-bound.field-0.0 (err_same c.from_residual.result _ read_failed c.from_residual.ensures.1 told)))
 
 pub returns-in_err-bound-clause-memory : goal.returns-in_err-bound-clause-memory
 returns-in_err-bound-clause-memory g c =

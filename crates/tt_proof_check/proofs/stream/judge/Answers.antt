@@ -1,11 +1,11 @@
 use Rattle.std.proofs.Common.{◌≡◌, ◌+◌, sym, ap, ◌∙◌, arith, refl, true, Err, is_some}
 use Rattle.tt_text.specs.Feeds.{stream_at}
-use Rattle.tt_text.specs.Broken.{broken_at}
+use Rattle.tt_text.specs.CutShort.{cut_at}
 use Rattle.tt_proof_text.specs.Faults.{read_failed, is_failed_read}
 use Rattle.tt_proof_text.specs.Readers.{Reader}
 use Rattle.tt_proof_check.specs.declared.fault.CheckFault.TheVariants.{Text}
 use Rattle.tt_proof_check.specs.declared.walk.Stop.TheVariants.{Rule, TooDeep}
-use Rattle.tt_proof_check.specs.Faults.{TellsMemoryOfText}
+use Rattle.tt_proof_check.specs.Faults.{OutOfMemoryIsNoTextFault}
 use Rattle.tt_proof_check.specs.Heard.{Heard, Unheard}
 use Rattle.tt_proof_check.specs.Judged.{TellsNodes}
 use Rattle.tt_proof_check.proofs.Streaming.{sofar_start, sofar_next, sofar_wrong, sofar_deep, sofar_end, sofar_unread, sofar_breaks, sofar_deep_breaks, heard_push}
@@ -21,7 +21,7 @@ loop-node-init g c =
           (stream_at c.args.reader.now.fed (g.R.Source.remaining c.args.source.now)) c.args.reader.now (g.P.Path.facts c.args.path.now) r.root r.unread r.place r.sizes r.sound refl;
       failing = λ k rest m. (
         m,
-        sofar_start (g.P.Path.problem c.args.path.now) c.args.reader.now.bound true Unheard (broken_at rest c.args.reader.now.fed (g.R.Source.remaining c.args.source.now)) c.args.reader.now (g.P.Path.facts c.args.path.now) r.root r.unread r.place r.sizes r.sound tt,
+        sofar_start (g.P.Path.problem c.args.path.now) c.args.reader.now.bound true Unheard (cut_at rest c.args.reader.now.fed (g.R.Source.remaining c.args.source.now)) c.args.reader.now (g.P.Path.facts c.args.path.now) r.root r.unread r.place r.sizes r.sound tt,
       );
       problem = refl;
       count = sym r.unread;
@@ -52,7 +52,7 @@ loop-node-preserved g c =
       sofar = sofar_next p v b known _ s old t path inv.sofar new u n goes (λ k. e.says inv.sofar.sound (inv.known k)) _ (λ nodes long heard. heard_push g.L.Listener.hears 0 c.args.listener.now c.loop-node.listener c.hear.new.self c.loop-node.count n c.hear.ensures nodes (omega (arith, long, inv.count)) heard) next
           (steps_as _ p c.bound-bound.result b path n next inv.problem c.bound-bound.ensures c.in-Ok.ensures.steps) c.in-Ok.ensures.within;
       failing = λ k rest m.
-          let here = e.broken inv.sofar.sound (inv.known k) rest m in
+          let here = e.cut_short inv.sofar.sound (inv.known k) rest m in
           let first = inv.failing k rest here.0 in (
             first.0,
             sofar_next p v b true Unheard _ old _ path first.1 new _ n goes (λ _. here.1) Unheard (λ nodes long h. tt) next (steps_as _ p c.bound-bound.result b path n next inv.problem c.bound-bound.ensures c.in-Ok.ensures.steps) c.in-Ok.ensures.within,
@@ -145,8 +145,8 @@ returns-clause-judged g c =
     let u = stream_at new.fed (g.R.Source.remaining c.next_node.new.source) in
     sofar_end p v b known _ s old t path inv.sofar new u (e.goes inv.sofar.sound) (λ k. e.says inv.sofar.sound (inv.known k))
 
-pub returns-in_err-node-clause-broken_off : goal.returns-in_err-node-clause-broken_off
-returns-in_err-node-clause-broken_off g c =
+pub returns-in_err-node-clause-up_to_failed_read : goal.returns-in_err-node-clause-up_to_failed_read
+returns-in_err-node-clause-up_to_failed_read g c =
     λ told k.
     let e = c.in_err-node.ensures in
     let f = c.in_err-node.field-0.0 in
@@ -154,12 +154,12 @@ returns-in_err-node-clause-broken_off g c =
     let old = c.loop-node.reader in
     let path = g.P.Path.facts c.loop-node.path in
     let is : f ≡ read_failed = err_read c.from_residual.result f c.from_residual.ensures.1 told in
-    let here = e.broken inv.sofar.sound (inv.known k) (ap is_failed_read is) in
+    let here = e.cut_short inv.sofar.sound (inv.known k) (ap is_failed_read is) in
     let first = inv.failing k _ here.0 in
     (first.0, sofar_breaks _ _ _ true Unheard _ old _ path first.1 (e.goes inv.sofar.sound).0 refl (here.1 ∙ ap (λ x. Err x) is))
 
-pub returns-in-Err-TooDeep-clause-broken_off : goal.returns-in-Err-TooDeep-clause-broken_off
-returns-in-Err-TooDeep-clause-broken_off g c =
+pub returns-in-Err-TooDeep-clause-up_to_failed_read : goal.returns-in-Err-TooDeep-clause-up_to_failed_read
+returns-in-Err-TooDeep-clause-up_to_failed_read g c =
     λ told k.
     let e = rw c.in-Some.is at c.in_ok-node.ensures in
     let taken = rw c.in-Err-TooDeep.field-0-is at c.in-Err-TooDeep.ensures in
@@ -171,26 +171,26 @@ returns-in-Err-TooDeep-clause-broken_off g c =
     let path = g.P.Path.facts c.loop-node.path in
     let new = c.next_node.new.self in
     let is : c.deep_fault.result ≡ Text read_failed = cc in
-    let child = c.deep_fault.ensures.broken_off is (e.known (inv.known k)) in
-    let here = e.broken inv.sofar.sound (inv.known k) _ child.0 in
+    let child = c.deep_fault.ensures.up_to_failed_read is (e.known (inv.known k)) in
+    let here = e.cut_short inv.sofar.sound (inv.known k) _ child.0 in
     let first = inv.failing k _ here.0 in (
       first.0,
       sofar_deep_breaks p _ b true Unheard _ old _ path first.1 new _ n (e.goes inv.sofar.sound) (λ _. here.1) (stops_as _ p c.bound-bound.result b path n TooDeep inv.problem c.bound-bound.ensures taken.stops) refl child.1,
     )
 
-pub returns-clause-broken : goal.returns-clause-broken
-returns-clause-broken g c =
+pub returns-clause-cut_short : goal.returns-clause-cut_short
+returns-clause-cut_short g c =
     λ k rest m.
     let e = rw c.in_default.is at c.in_ok-node.ensures in
     let inv = c.loop-node.invariant in
     let old = c.loop-node.reader in
     let path = g.P.Path.facts c.loop-node.path in
     let new = c.next_node.new.self in
-    let here = e.broken inv.sofar.sound (inv.known k) rest m in
+    let here = e.cut_short inv.sofar.sound (inv.known k) rest m in
     let first = inv.failing k rest here.0 in
     (first.0, sofar_end _ _ _ true Unheard _ old _ path first.1 new _ (e.goes inv.sofar.sound) (λ _. here.1))
 
 pub returns-in_err-node-clause-memory : goal.returns-in_err-node-clause-memory
 returns-in_err-node-clause-memory g c =
     let f = c.in_err-node.field-0.0 in
-    err_gives c.from_residual.result f TellsMemoryOfText c.from_residual.ensures.1 (memory_text f)
+    err_gives c.from_residual.result f OutOfMemoryIsNoTextFault c.from_residual.ensures.1 (memory_text f)

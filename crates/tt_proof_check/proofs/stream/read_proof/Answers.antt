@@ -3,10 +3,10 @@ use Rattle.tt_text.specs.Feeds.{stream_at, fresh}
 use Rattle.tt_proof_text.specs.Faults.{read_failed, is_failed_read}
 use Rattle.tt_leaf.specs.declared.leaf.Bound.{Bound}
 use Rattle.tt_proof_check.specs.declared.fault.CheckFault.TheVariants.{Text}
-use Rattle.tt_proof_check.specs.Faults.{TellsMemoryOfText}
+use Rattle.tt_proof_check.specs.Faults.{OutOfMemoryIsNoTextFault}
 use Rattle.tt_proof_check.specs.Heard.{Heard}
 use Rattle.tt_proof_check.specs.Judged.{Proved}
-use Rattle.tt_proof_check.specs.Streams.{TellsOf}
+use Rattle.tt_proof_check.specs.Streams.{IsProofFault}
 use Rattle.tt_proof_check.proofs.TextFaults.{memory_text, text_cases, err_gives, err_read, err_same}
 use Rattle.tt_proof_check.proofs.stream.read_proof.Goals as goal
 
@@ -20,8 +20,8 @@ returns-in_err-finish-clause-fault g c =
     let p = g.P.Path.problem c.args.path.now in
     let s = stream_at fresh (g.R.Source.remaining c.args.source.now) in
     let known = start.known k in
-    err_gives c.from_residual-in_err-finish.result f (TellsOf p s) c.from_residual-in_err-finish.ensures.1
-    (text_cases f (TellsOf p s) tt (λ n. (
+    err_gives c.from_residual-in_err-finish.result f (IsProofFault p s) c.from_residual-in_err-finish.ensures.1
+    (text_cases f (IsProofFault p s) tt (λ n. (
       n,
       inr (
         reader.version,
@@ -62,27 +62,27 @@ returns-clause-proved g c =
       heard = judged.judged.heard;
     })
 
-pub returns-in_err-judge-clause-broken_off : goal.returns-in_err-judge-clause-broken_off
-returns-in_err-judge-clause-broken_off g c =
+pub returns-in_err-judge-clause-up_to_failed_read : goal.returns-in_err-judge-clause-up_to_failed_read
+returns-in_err-judge-clause-up_to_failed_read g c =
     λ told k.
     let reader = c.in_ok-reader.reader in
     let start = c.in_ok-reader.ensures in
     let is = err_same c.from_residual-in_err-judge.result c.in_err-judge.field-0.0 (Text read_failed) c.from_residual-in_err-judge.ensures.1 told in
-    let here = c.in_err-judge.ensures.broken_off (ap (λ x. Err x) is) (start.known k) in
-    let first = start.broken k _ here.0 in
+    let here = c.in_err-judge.ensures.up_to_failed_read (ap (λ x. Err x) is) (start.known k) in
+    let first = start.cut_short k _ here.0 in
     (first.0, inr (reader.version, reader.bound, _, first.1, inl here.1))
 
-pub returns-in_err-finish-clause-broken_off : goal.returns-in_err-finish-clause-broken_off
-returns-in_err-finish-clause-broken_off g c =
+pub returns-in_err-finish-clause-up_to_failed_read : goal.returns-in_err-finish-clause-up_to_failed_read
+returns-in_err-finish-clause-up_to_failed_read g c =
     λ told k.
     let reader = c.in_ok-reader.reader in
     let start = c.in_ok-reader.ensures in
     let judged = c.in_ok-judge.ensures in
     let f = c.in_err-finish.field-0.0 in
     let is : f ≡ read_failed = err_read c.from_residual-in_err-finish.result f c.from_residual-in_err-finish.ensures.1 told in
-    let here = c.in_err-finish.ensures.broken judged.sound (judged.known (start.known k)) (ap is_failed_read is) in
-    let tree = judged.broken (start.known k) _ here.0 in
-    let first = start.broken k _ tree.0 in (
+    let here = c.in_err-finish.ensures.cut_short judged.sound (judged.known (start.known k)) (ap is_failed_read is) in
+    let tree = judged.cut_short (start.known k) _ here.0 in
+    let first = start.cut_short k _ tree.0 in (
       first.0,
       inr (
         reader.version,
@@ -99,9 +99,9 @@ returns-in_err-finish-clause-broken_off g c =
 pub returns-in_err-reader-clause-memory : goal.returns-in_err-reader-clause-memory
 returns-in_err-reader-clause-memory g c =
     let f = c.in_err-reader.field-0.0 in
-    err_gives c.from_residual.result f TellsMemoryOfText c.from_residual.ensures.1 (memory_text f)
+    err_gives c.from_residual.result f OutOfMemoryIsNoTextFault c.from_residual.ensures.1 (memory_text f)
 
 pub returns-in_err-finish-clause-memory : goal.returns-in_err-finish-clause-memory
 returns-in_err-finish-clause-memory g c =
     let f = c.in_err-finish.field-0.0 in
-    err_gives c.from_residual-in_err-finish.result f TellsMemoryOfText c.from_residual-in_err-finish.ensures.1 (memory_text f)
+    err_gives c.from_residual-in_err-finish.result f OutOfMemoryIsNoTextFault c.from_residual-in_err-finish.ensures.1 (memory_text f)

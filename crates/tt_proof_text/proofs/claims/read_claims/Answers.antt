@@ -26,12 +26,12 @@ returns-in_err-claim-clause-read g c = λ k.
     rw (p.1, p.2)
     (left_fails push (λ _ rest. claim_at c.args.sizes c.args.version rest) is_silent c.in_err-claim.field-0.0 _ _ _ (c.in_err-claim.ensures.read (c.loop-claims.invariant.known k)) (c.loop-claims.invariant.left k))
 
-pub returns-in_err-claim-clause-broken : goal.returns-in_err-claim-clause-broken
-returns-in_err-claim-clause-broken g c =
+pub returns-in_err-claim-clause-cut_short : goal.returns-in_err-claim-clause-cut_short
+returns-in_err-claim-clause-cut_short g c =
     let p = err_from_is_err_and c.from_residual.result c.from_residual.ensures.1 in
     rw (p.1, p.2)
     (λ k failure.
-    let here = c.in_err-claim.ensures.broken (c.loop-claims.invariant.known k) failure in
+    let here = c.in_err-claim.ensures.cut_short (c.loop-claims.invariant.known k) failure in
     let first = c.loop-claims.invariant.failing k _ here.0 in
     (first.0, left_fails push (λ _ rest. claim_at c.args.sizes c.args.version rest) (λ _. false) c.in_err-claim.field-0.0 _ _ _ here.1 first.1))
 
@@ -45,7 +45,7 @@ loop-claims-preserved g c =
           (left_then push (λ _ rest. claim_at c.args.sizes c.args.version rest) (claim_takes c.args.sizes c.args.version) _ _ _ c.in_ok-claim.field-0 c.in-Some.claim _ (c.in_ok-claim.ensures.read (c.loop-claims.invariant.known k)) c.in-Some.is (c.loop-claims.invariant.left k));
       failing = λ k rest m.
           rw c.in_ok-push.ensures.items
-          (let here = c.in_ok-claim.ensures.broken (c.loop-claims.invariant.known k) rest m in
+          (let here = c.in_ok-claim.ensures.cut_short (c.loop-claims.invariant.known k) rest m in
           let first = c.loop-claims.invariant.failing k rest here.0 in
           (first.0, left_then push (λ _ behind. claim_at c.args.sizes c.args.version behind) (claim_takes c.args.sizes c.args.version) _ _ _ c.in_ok-claim.field-0 c.in-Some.claim _ here.1 c.in-Some.is first.1));
       tables = c.in_ok-claim.ensures.tables;
@@ -56,9 +56,9 @@ pub returns-clause-read : goal.returns-clause-read
 returns-clause-read g c = λ k.
     left_end push (λ _ rest. claim_at c.args.sizes c.args.version rest) _ _ _ c.in_ok-claim.field-0 _ (c.in_ok-claim.ensures.read (c.loop-claims.invariant.known k)) c.in_default.is (c.loop-claims.invariant.left k)
 
-pub returns-clause-broken : goal.returns-clause-broken
-returns-clause-broken g c =
+pub returns-clause-cut_short : goal.returns-clause-cut_short
+returns-clause-cut_short g c =
     λ k rest m.
-    let here = c.in_ok-claim.ensures.broken (c.loop-claims.invariant.known k) rest m in
+    let here = c.in_ok-claim.ensures.cut_short (c.loop-claims.invariant.known k) rest m in
     let first = c.loop-claims.invariant.failing k rest here.0 in
     (first.0, left_end push (λ _ behind. claim_at c.args.sizes c.args.version behind) _ _ _ c.in_ok-claim.field-0 _ here.1 c.in_default.is first.1)

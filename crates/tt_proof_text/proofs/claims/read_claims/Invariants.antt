@@ -1,7 +1,7 @@
 use Rattle.std.proofs.Common.{◌≡◌, ℕ, List, true, is_some, None, All}
 use Rattle.std.specs.List.{push}
 use Rattle.tt_text.specs.Feeds.{stream_at, room_of}
-use Rattle.tt_text.specs.Broken.{broken_at, MayFail}
+use Rattle.tt_text.specs.CutShort.{cut_at, MayFail}
 use Rattle.tt_proof_text.specs.Pricing.{AreTables}
 use Rattle.tt_proof_text.specs.Readers.{IsClaimAt}
 use Rattle.tt_proof_text.specs.Reading.{claim_at, claims_at}
@@ -16,7 +16,7 @@ invariant-loop-claims g l = record {
       → IsLeft push (λ _ rest. claim_at l.sizes l.version rest) l.claims.items (stream_at l.feed (g.R.Source.remaining l.source)) (claims_at l.sizes l.version (stream_at l.fn.feed (g.R.Source.remaining l.fn.source)));
   failing : is_some (g.R.Source.remaining l.fn.source) ≡ true → (rest : List ℕ) → MayFail rest l.feed (g.R.Source.remaining l.source)
       → MayFail rest l.fn.feed (g.R.Source.remaining l.fn.source)
-      × IsLeft push (λ _ behind. claim_at l.sizes l.version behind) l.claims.items (broken_at rest l.feed (g.R.Source.remaining l.source)) (claims_at l.sizes l.version (broken_at rest l.fn.feed (g.R.Source.remaining l.fn.source)));
+      × IsLeft push (λ _ behind. claim_at l.sizes l.version behind) l.claims.items (cut_at rest l.feed (g.R.Source.remaining l.source)) (claims_at l.sizes l.version (cut_at rest l.fn.feed (g.R.Source.remaining l.fn.source)));
   tables : AreTables l.sizes l.tables;
   within : All (IsClaimAt l.sizes l.version) l.claims.items;
 }

@@ -25,12 +25,12 @@ returns-in_err-course-clause-read g c = λ k.
     let p = err_from_is_err_and c.from_residual.result c.from_residual.ensures.1 in
     rw (p.1, p.2) (list_fails is_silent c.in_err-course.field-0.0 c.args.sizes _ _ _ (c.in_err-course.ensures.read (c.loop-course.invariant.known k)) (c.loop-course.invariant.left k))
 
-pub returns-in_err-course-clause-broken : goal.returns-in_err-course-clause-broken
-returns-in_err-course-clause-broken g c =
+pub returns-in_err-course-clause-cut_short : goal.returns-in_err-course-clause-cut_short
+returns-in_err-course-clause-cut_short g c =
     let p = err_from_is_err_and c.from_residual.result c.from_residual.ensures.1 in
     rw (p.1, p.2)
     (λ k failure.
-    let here = c.in_err-course.ensures.broken (c.loop-course.invariant.known k) failure in
+    let here = c.in_err-course.ensures.cut_short (c.loop-course.invariant.known k) failure in
     let first = c.loop-course.invariant.failing k _ here.0 in
     (first.0, list_fails (λ _. false) c.in_err-course.field-0.0 c.args.sizes _ _ _ here.1 first.1))
 
@@ -46,7 +46,7 @@ loop-course-preserved g c =
           (list_then c.args.sizes _ _ _ c.in_ok-course.field-0 c.in-Some.course _ (c.in_ok-course.ensures.read (c.loop-course.invariant.known k)) c.in-Some.is (c.loop-course.invariant.left k));
       failing = λ k rest m.
           rw added
-          (let here = c.in_ok-course.ensures.broken (c.loop-course.invariant.known k) rest m in
+          (let here = c.in_ok-course.ensures.cut_short (c.loop-course.invariant.known k) rest m in
           let first = c.loop-course.invariant.failing k rest here.0 in
           (first.0, list_then c.args.sizes _ _ _ c.in_ok-course.field-0 c.in-Some.course _ here.1 c.in-Some.is first.1));
       within = rw added (All-push (λ n. n < c.args.sizes.courses) c.loop-course.seen.numbers c.in-Some.course c.loop-course.invariant.within below);
@@ -58,10 +58,10 @@ pub returns-clause-read : goal.returns-clause-read
 returns-clause-read g c = λ k. rw c.in_ok-courses.ensures
     (list_end c.args.sizes _ _ _ c.in_ok-course.field-0 _ (c.in_ok-course.ensures.read (c.loop-course.invariant.known k)) c.in_default.is (c.loop-course.invariant.left k))
 
-pub returns-clause-broken : goal.returns-clause-broken
-returns-clause-broken g c =
+pub returns-clause-cut_short : goal.returns-clause-cut_short
+returns-clause-cut_short g c =
     λ k rest m.
     rw c.in_ok-courses.ensures
-    (let here = c.in_ok-course.ensures.broken (c.loop-course.invariant.known k) rest m in
+    (let here = c.in_ok-course.ensures.cut_short (c.loop-course.invariant.known k) rest m in
     let first = c.loop-course.invariant.failing k rest here.0 in
     (first.0, list_end c.args.sizes _ _ _ c.in_ok-course.field-0 _ here.1 c.in_default.is first.1))

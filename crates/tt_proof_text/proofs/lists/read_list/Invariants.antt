@@ -3,7 +3,7 @@ use Rattle.std.specs.Prelude.{◌==◌}
 use Rattle.tt_lists.specs.Words.{each_two}
 use Rattle.tt_leaf.specs.Ranges.{AreBelow}
 use Rattle.tt_text.specs.Feeds.{stream_at, room_of}
-use Rattle.tt_text.specs.Broken.{broken_at, MayFail}
+use Rattle.tt_text.specs.CutShort.{cut_at, MayFail}
 use Rattle.tt_proof_text.specs.Reading.{list_at}
 use Rattle.tt_proof_text.proofs.ListTurns.{IsListLeft}
 use Rattle.tt_proof_text.proofs.lists.read_list.Given as goal
@@ -16,7 +16,7 @@ invariant-loop-course g l = record {
       → IsListLeft l.sizes l.seen.numbers (stream_at l.feed (g.R.Source.remaining l.source)) (list_at l.sizes (stream_at l.fn.feed (g.R.Source.remaining l.fn.source)));
   failing : is_some (g.R.Source.remaining l.fn.source) ≡ true → (rest : List ℕ) → MayFail rest l.feed (g.R.Source.remaining l.source)
       → MayFail rest l.fn.feed (g.R.Source.remaining l.fn.source)
-      × IsListLeft l.sizes l.seen.numbers (broken_at rest l.feed (g.R.Source.remaining l.source)) (list_at l.sizes (broken_at rest l.fn.feed (g.R.Source.remaining l.fn.source)));
+      × IsListLeft l.sizes l.seen.numbers (cut_at rest l.feed (g.R.Source.remaining l.source)) (list_at l.sizes (cut_at rest l.fn.feed (g.R.Source.remaining l.fn.source)));
   within : AreBelow l.sizes.courses l.seen.numbers;
   once : each_two (λ a b. not (a == b)) l.seen.numbers ≡ true;
   count : l.seen.count ≡ l.fn.seen.count;

@@ -28,12 +28,12 @@ returns-in_err-priced-clause-read g c = λ k.
     rw (p.1, p.2)
     (prices_fail is_silent c.in_err-priced.field-0.0 c.args.sizes _ _ _ _ c.loop-prices.invariant.seen (c.in_err-priced.ensures.read (c.loop-prices.invariant.known k)) (c.loop-prices.invariant.left k))
 
-pub returns-in_err-priced-clause-broken : goal.returns-in_err-priced-clause-broken
-returns-in_err-priced-clause-broken g c =
+pub returns-in_err-priced-clause-cut_short : goal.returns-in_err-priced-clause-cut_short
+returns-in_err-priced-clause-cut_short g c =
     let p = err_from_is_err_and c.from_residual.result c.from_residual.ensures.1 in
     rw (p.1, p.2)
     (λ k failure.
-    let here = c.in_err-priced.ensures.broken (c.loop-prices.invariant.known k) failure in
+    let here = c.in_err-priced.ensures.cut_short (c.loop-prices.invariant.known k) failure in
     let first = c.loop-prices.invariant.failing k _ here.0 in
     (first.0, prices_fail (λ _. false) c.in_err-priced.field-0.0 c.args.sizes _ _ _ _ c.loop-prices.invariant.seen here.1 first.1))
 
@@ -52,7 +52,7 @@ loop-prices-preserved g c =
           (prices_then c.args.sizes _ _ _ _ c.in_ok-priced.field-0 (c.in-Some.priced, c.in-Some.points) _ c.loop-prices.invariant.seen (c.in_ok-priced.ensures.read (c.loop-prices.invariant.known k)) c.in-Some.is (c.loop-prices.invariant.left k));
       failing = λ k rest m.
           rw added
-          (let here = c.in_ok-priced.ensures.broken (c.loop-prices.invariant.known k) rest m in
+          (let here = c.in_ok-priced.ensures.cut_short (c.loop-prices.invariant.known k) rest m in
           let first = c.loop-prices.invariant.failing k rest here.0 in
           (first.0, prices_then c.args.sizes _ _ _ _ c.in_ok-priced.field-0 (c.in-Some.priced, c.in-Some.points) _ c.loop-prices.invariant.seen here.1 c.in-Some.is first.1));
       within = rw added (kept_push c.args.sizes _ c.in-Some.priced c.in-Some.points c.loop-prices.invariant.within new next.1);
@@ -62,9 +62,9 @@ pub returns-clause-read : goal.returns-clause-read
 returns-clause-read g c = λ k.
     prices_end c.args.sizes _ _ _ _ c.in_ok-priced.field-0 _ c.loop-prices.invariant.seen (c.in_ok-priced.ensures.read (c.loop-prices.invariant.known k)) c.in_default.is (c.loop-prices.invariant.left k)
 
-pub returns-clause-broken : goal.returns-clause-broken
-returns-clause-broken g c =
+pub returns-clause-cut_short : goal.returns-clause-cut_short
+returns-clause-cut_short g c =
     λ k rest m.
-    let here = c.in_ok-priced.ensures.broken (c.loop-prices.invariant.known k) rest m in
+    let here = c.in_ok-priced.ensures.cut_short (c.loop-prices.invariant.known k) rest m in
     let first = c.loop-prices.invariant.failing k rest here.0 in
     (first.0, prices_end c.args.sizes _ _ _ _ c.in_ok-priced.field-0 _ c.loop-prices.invariant.seen here.1 c.in_default.is first.1)

@@ -1,6 +1,6 @@
 use Rattle.std.proofs.Common.{◌≡◌, ℕ, ◌≤◌, List, true, is_some, None}
 use Rattle.tt_text.specs.Feeds.{stream_at, room_of}
-use Rattle.tt_text.specs.Broken.{broken_at, MayFail}
+use Rattle.tt_text.specs.CutShort.{cut_at, MayFail}
 use Rattle.tt_proof_text.specs.Pricing.{kept_of, seen_of, AreTables, AreKept}
 use Rattle.tt_proof_text.specs.Reading.{seen_in, prices_at}
 use Rattle.tt_proof_text.proofs.PriceTurns.{ArePricesLeft}
@@ -17,7 +17,7 @@ invariant-loop-prices g l = record {
       → ArePricesLeft l.sizes (kept_of l.prices) (stream_at l.feed (g.R.Source.remaining l.source)) (prices_at l.sizes (stream_at l.fn.feed (g.R.Source.remaining l.fn.source)));
   failing : is_some (g.R.Source.remaining l.fn.source) ≡ true → (rest : List ℕ) → MayFail rest l.feed (g.R.Source.remaining l.source)
       → MayFail rest l.fn.feed (g.R.Source.remaining l.fn.source)
-      × ArePricesLeft l.sizes (kept_of l.prices) (broken_at rest l.feed (g.R.Source.remaining l.source)) (prices_at l.sizes (broken_at rest l.fn.feed (g.R.Source.remaining l.fn.source)));
+      × ArePricesLeft l.sizes (kept_of l.prices) (cut_at rest l.feed (g.R.Source.remaining l.source)) (prices_at l.sizes (cut_at rest l.fn.feed (g.R.Source.remaining l.fn.source)));
   within : AreKept l.sizes (kept_of l.prices);
 }
 

@@ -1,9 +1,9 @@
 use Rattle.std.proofs.Common.{◌≡◌, ◌++◌}
 use Rattle.std.specs.Prelude.{flat_map}
-use Rattle.tt_lists.specs.Words.{numbers_below}
+use Rattle.tt_lists.specs.Words.{range_below}
 use Rattle.tt_report.specs.Blocks.{block_text}
 use Rattle.tt_report.specs.declared.blocks.Block.TheVariants as of
 use Rattle.tt_report.proofs.reports.put_teachers.Given as goal
 
 abbrev pub invariant-loop-teacher : goal.invariant-loop-teacher
-invariant-loop-teacher l = l.out.items ≡ l.initial.out.items ++ flat_map (λ k. block_text l.instance l.by_period.entries (of.Teacher k)) (numbers_below l.teacher)
+invariant-loop-teacher l = l.out.items ≡ l.initial.out.items ++ flat_map (λ k. block_text l.instance l.by_period.entries (of.Teacher k)) (range_below l.teacher)

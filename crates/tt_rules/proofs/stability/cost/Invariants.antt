@@ -1,11 +1,11 @@
 use Rattle.std.proofs.Common.{◌≡◌, ◌≤◌, ◌*◌}
 use Rattle.std.specs.Prelude.{sum_by}
-use Rattle.tt_lists.specs.Words.{numbers_below}
+use Rattle.tt_lists.specs.Words.{range_below}
 use Rattle.tt_rules.specs.Soft.{stability_cost}
 use Rattle.tt_rules.proofs.stability.cost.Given as goal
 
 abbrev pub invariant-loop-course : goal.invariant-loop-course
 invariant-loop-course l = record {
-  summed : l.total ≡ sum_by (stability_cost l.instance l.by_course.entries) (numbers_below l.course);
+  summed : l.total ≡ sum_by (stability_cost l.instance l.by_course.entries) (range_below l.course);
   few : l.total ≤ l.course * 512;
 }

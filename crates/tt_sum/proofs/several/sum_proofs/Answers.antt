@@ -2,7 +2,7 @@ use Rattle.std.proofs.Common.{◌≡◌, ◌+◌, ◌≤◌, length, get_or, Err
 use Rattle.std.proofs.lemmas.Result.{err_from_is_err_and}
 use Rattle.tt_proof_check.proofs.TextFaults.{err_same}
 use Rattle.tt_proof_check.specs.Derives.{HoldsOfAll}
-use Rattle.tt_proof_check.specs.FailedReads.{TellsRead}
+use Rattle.tt_proof_check.specs.FailedReads.{IsJudgedUpToFailedRead}
 use Rattle.tt_leaf.specs.declared.leaf.Bound.{Bound}
 use Rattle.tt_sum.specs.Added.{due}
 use Rattle.tt_sum.specs.Faults.{IsNumbered, read_failed_at}
@@ -60,8 +60,8 @@ returns-in_err-sum-2-clause-unfailed g c =
     let same : c.in_err-sum-2.field-0.0 ≡ read_failed_at (due s) = cc in
     told (e.1 ∙ ap (λ (y : SumFault). Err y) (e.2 ∙ same ∙ ap read_failed_at number)))) before after
 
-pub returns-in_err-sum-2-clause-broken_off : goal.returns-in_err-sum-2-clause-broken_off
-returns-in_err-sum-2-clause-broken_off g c =
+pub returns-in_err-sum-2-clause-up_to_failed_read : goal.returns-in_err-sum-2-clause-up_to_failed_read
+returns-in_err-sum-2-clause-up_to_failed_read g c =
     λ i r q bytes told before after known.
     let s = c.loop-source.sum in
     let f = c.in_err-sum-2.field-0.0 in
@@ -72,8 +72,8 @@ returns-in_err-sum-2-clause-broken_off g c =
     let place : i ≡ c.loop-source.source-index = omega (arith, number, here) in
     let at = at_source c.args.instance.now g.R.Source.remaining g.R.Source.has_failed c.args.sources.now c.loop-source.source-items c.loop-source.source-index s (get_or c.loop-source.source-items c.loop-source.source-index c.source-item.result) c.add.new.source c.loop-source-test.true
     c.loop-source.invariant.long (ap (get_or c.loop-source.source-items c.loop-source.source-index) c.source-item.is) c.loop-source.invariant.sofar i r q place before after in
-    subst (λ x. TellsRead c.args.instance.now bytes (g.R.Source.remaining x)) (sym at.is)
-    (c.in_err-sum-2.ensures.broken_off (ap (λ (x : SumFault). Err x) (is ∙ ap read_failed_at number)) bytes (ap g.R.Source.remaining at.was ∙ known))
+    subst (λ x. IsJudgedUpToFailedRead c.args.instance.now bytes (g.R.Source.remaining x)) (sym at.is)
+    (c.in_err-sum-2.ensures.up_to_failed_read (ap (λ (x : SumFault). Err x) (is ∙ ap read_failed_at number)) bytes (ap g.R.Source.remaining at.was ∙ known))
 
 pub loop-source-preserved : goal.loop-source-preserved
 loop-source-preserved g c = record {

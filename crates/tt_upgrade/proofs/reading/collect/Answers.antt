@@ -1,7 +1,7 @@
 use Rattle.std.proofs.Common.{◌≡◌, ◌+◌, ◌∙◌, true, Err, arith, ap, sym, is_some, refl}
 use Rattle.std.proofs.lemmas.Result.{err_from_is_err_and}
 use Rattle.tt_text.specs.Feeds.{stream_at}
-use Rattle.tt_text.specs.Broken.{broken_at}
+use Rattle.tt_text.specs.CutShort.{cut_at}
 use Rattle.tt_proof_text.specs.Faults.{read_failed, is_failed_read}
 use Rattle.tt_proof_text.specs.Readers.{Reader}
 use Rattle.tt_proof_check.proofs.TextFaults.{err_same}
@@ -15,7 +15,7 @@ loop-nodes-init g c =
       sofar = rw c.new-nodes.ensures.items (collected_start (is_some (g.R.Source.remaining c.args.source.now)) (stream_at c.args.reader.now.fed (g.R.Source.remaining c.args.source.now)) c.args.reader.now r.unread r.place r.sound);
       failing = λ k rest m. (
         m,
-        rw c.new-nodes.ensures.items (collected_start true (broken_at rest c.args.reader.now.fed (g.R.Source.remaining c.args.source.now)) c.args.reader.now r.unread r.place r.sound),
+        rw c.new-nodes.ensures.items (collected_start true (cut_at rest c.args.reader.now.fed (g.R.Source.remaining c.args.source.now)) c.args.reader.now r.unread r.place r.sound),
       );
       few = omega (arith, r.unread);
       known = λ k. k;
@@ -45,7 +45,7 @@ loop-nodes-preserved g c =
           old (stream_at old.fed (g.R.Source.remaining c.loop-nodes.source)) c.loop-nodes.nodes.items inv.sofar new (stream_at new.fed (g.R.Source.remaining c.next_node.new.source)) c.in-Some.node goes
           (λ k. e.says inv.sofar.sound (inv.known k)) e.node);
       failing = λ k rest m.
-          let here = e.broken inv.sofar.sound (inv.known k) rest m in
+          let here = e.cut_short inv.sofar.sound (inv.known k) rest m in
           let first = inv.failing k rest here.0 in (
             first.0,
             rw c.in_ok-push.ensures.items (collected_next c.args.reader.now.sizes c.args.reader.now.version true _ old _ c.loop-nodes.nodes.items first.1 new _ c.in-Some.node goes (λ _. here.1) e.node),
@@ -72,21 +72,21 @@ returns-clause-collected g c =
     old (stream_at old.fed (g.R.Source.remaining c.loop-nodes.source)) c.loop-nodes.nodes.items inv.sofar (stream_at new.fed (g.R.Source.remaining c.next_node.new.source)) goes.0
     (λ k. e.says inv.sofar.sound (inv.known k))
 
-pub returns-clause-broken : goal.returns-clause-broken
-returns-clause-broken g c =
+pub returns-clause-cut_short : goal.returns-clause-cut_short
+returns-clause-cut_short g c =
     λ k rest m.
     let e = rw c.in_default.is at c.in_ok-node.ensures in
     let inv = c.loop-nodes.invariant in
-    let here = e.broken inv.sofar.sound (inv.known k) rest m in
+    let here = e.cut_short inv.sofar.sound (inv.known k) rest m in
     let first = inv.failing k rest here.0 in
     (first.0, collected_end _ _ true _ c.loop-nodes.reader _ c.loop-nodes.nodes.items first.1 _ (e.goes inv.sofar.sound).0 (λ _. here.1))
 
-pub returns-in_err-node-clause-broken_off : goal.returns-in_err-node-clause-broken_off
-returns-in_err-node-clause-broken_off g c =
+pub returns-in_err-node-clause-up_to_failed_read : goal.returns-in_err-node-clause-up_to_failed_read
+returns-in_err-node-clause-up_to_failed_read g c =
     λ told k.
     let e = c.in_err-node.ensures in
     let inv = c.loop-nodes.invariant in
     let is = err_same c.from_residual.result c.in_err-node.field-0.0 read_failed c.from_residual.ensures.1 told in
-    let here = e.broken inv.sofar.sound (inv.known k) (ap is_failed_read is) in
+    let here = e.cut_short inv.sofar.sound (inv.known k) (ap is_failed_read is) in
     let first = inv.failing k _ here.0 in
     (first.0, collected_breaks_off _ _ true _ c.loop-nodes.reader _ c.loop-nodes.nodes.items first.1 (e.goes inv.sofar.sound).0 refl (here.1 ∙ ap (λ x. Err x) is))

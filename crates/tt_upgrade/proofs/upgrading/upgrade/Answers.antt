@@ -59,9 +59,9 @@ returns-clause-holds g c =
     let read = c.in_ok-read.read in
     proof_sound p read.bound read.nodes.items (subst (Proves p read.bound) c.deref.ensures.value c.in_ok-judge.ensures.proves)
 
-pub returns-in_err-read-clause-broken_off : goal.returns-in_err-read-clause-broken_off
-returns-in_err-read-clause-broken_off g c =
-    λ told. c.in_err-read.ensures.broken_off (ap (λ f. Err f) (read_told c.in_err-read.field-0.0 (err_same c.from_residual.result _ read_failed c.from_residual.ensures.1 told)))
+pub returns-in_err-read-clause-up_to_failed_read : goal.returns-in_err-read-clause-up_to_failed_read
+returns-in_err-read-clause-up_to_failed_read g c =
+    λ told. c.in_err-read.ensures.up_to_failed_read (ap (λ f. Err f) (read_told c.in_err-read.field-0.0 (err_same c.from_residual.result _ read_failed c.from_residual.ensures.1 told)))
 
 pub returns-in_err-read-clause-memory : goal.returns-in_err-read-clause-memory
 returns-in_err-read-clause-memory g c =

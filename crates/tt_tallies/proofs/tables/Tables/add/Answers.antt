@@ -57,8 +57,8 @@ add-requires-5-clause-free c =
     let p = c.args.instance.now in
     let r = c.requires.in_range in
     let ok = c.requires.counted.1 in
-    let x = c.args.self.now.halls in
-    omega (arith, x.few, ok.halls.places, spread_free (length p.rooms) (λ z. z.room) p c.requires.counted.0 x ok.halls c.args.entry.course r.course)
+    let x = c.args.self.now.course_rooms in
+    omega (arith, x.few, ok.course_rooms.places, spread_free (length p.rooms) (λ z. z.room) p c.requires.counted.0 x ok.course_rooms c.args.entry.course r.course)
 
 pub returns : goal.returns
 returns c = λ t ok.
@@ -80,5 +80,5 @@ returns c = λ t ok.
       opponents = tally_added p (length p.courses) (opposes p) t x.opponents e c.add_rows-2.new.self _
           (rows_same p (length p.courses) (opposes p) e opponents.result.now (opponents.ensures ∙ ok.links.opponents e.course r.course)) c.add_rows-2.ensures ok.opponents;
       days = spread_added p.days (λ z. z.day) p t x.days e r r.day c.add-4.new.self c.add-4.ensures ok.days;
-      halls = spread_added (length p.rooms) (λ z. z.room) p t x.halls e r r.room c.add-5.new.self c.add-5.ensures ok.halls;
+      course_rooms = spread_added (length p.rooms) (λ z. z.room) p t x.course_rooms e r r.room c.add-5.new.self c.add-5.ensures ok.course_rooms;
     }

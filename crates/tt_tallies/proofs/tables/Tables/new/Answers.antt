@@ -20,5 +20,5 @@ returns-clause-tables c =
       curricula = tally_none p (length p.curricula) (of_curriculum p) c.in_ok-new-5.field-0 (c.in_ok-new-5.ensures.rows ∙ c.curricula.ensures.value) (c.in_ok-new-5.ensures.days ∙ days) (c.in_ok-new-5.ensures.periods ∙ periods) c.in_ok-new-5.ensures.counts;
       opponents = tally_none p (length p.courses) (opposes p) c.in_ok-new-6.field-0 (c.in_ok-new-6.ensures.rows ∙ c.courses-courses.ensures.value) (c.in_ok-new-6.ensures.days ∙ days) (c.in_ok-new-6.ensures.periods ∙ periods) c.in_ok-new-6.ensures.counts;
       days = spread_none p p.days (λ z. z.day) c.in_ok-new-7.field-0 (c.in_ok-new-7.ensures.rows ∙ courses) (c.in_ok-new-7.ensures.places ∙ days) c.in_ok-new-7.ensures.counts c.in_ok-new-7.ensures.used;
-      halls = spread_none p (length p.rooms) (λ z. z.room) c.in_ok-new-8.field-0 (c.in_ok-new-8.ensures.rows ∙ courses) (c.in_ok-new-8.ensures.places ∙ c.rooms-rooms.ensures.value) c.in_ok-new-8.ensures.counts c.in_ok-new-8.ensures.used;
+      course_rooms = spread_none p (length p.rooms) (λ z. z.room) c.in_ok-new-8.field-0 (c.in_ok-new-8.ensures.rows ∙ courses) (c.in_ok-new-8.ensures.places ∙ c.rooms-rooms.ensures.value) c.in_ok-new-8.ensures.counts c.in_ok-new-8.ensures.used;
     }

@@ -56,7 +56,7 @@ take-requires-5-clause-used c =
     let p = c.args.instance.now in
     let r = c.requires.in_range in
     let ok = c.requires.counted.1 in
-    spread_used (length p.rooms) (λ z. z.room) p c.requires.counted.0 c.args.self.now.halls c.args.entry r r.room ok.halls
+    spread_used (length p.rooms) (λ z. z.room) p c.requires.counted.0 c.args.self.now.course_rooms c.args.entry r r.room ok.course_rooms
 
 pub returns : goal.returns
 returns c = λ t ok.
@@ -78,5 +78,5 @@ returns c = λ t ok.
       opponents = tally_taken p (length p.courses) (opposes p) t x.opponents e c.take_rows-2.new.self _
           (rows_same p (length p.courses) (opposes p) e opponents.result.now (opponents.ensures ∙ ok.links.opponents e.course r.course)) c.take_rows-2.ensures ok.opponents;
       days = spread_taken p.days (λ z. z.day) p t x.days e r r.day c.take-4.new.self c.take-4.ensures ok.days;
-      halls = spread_taken (length p.rooms) (λ z. z.room) p t x.halls e r r.room c.take-5.new.self c.take-5.ensures ok.halls;
+      course_rooms = spread_taken (length p.rooms) (λ z. z.room) p t x.course_rooms e r r.room c.take-5.new.self c.take-5.ensures ok.course_rooms;
     }

@@ -1,0 +1,45 @@
+use Rattle.std.proofs.Common.{◌≡◌, Ok, Err, ap, subst}
+use Rattle.tt_proof_check.specs.Verdicts.{AnswersYes as AnswersYesBelow}
+use Rattle.std.proofs.lemmas.Result.{err_from_is_err_and}
+use Rattle.tt_proof_check.proofs.TextFaults.{err_same}
+use Rattle.tt_app.specs.Checked.{read_failed}
+use Rattle.tt_proof_check.specs.declared.fault.CertifyFault.TheVariants as certify
+use Rattle.tt_app.proofs.FailedReads.{failed_text, read_certified, certified_read}
+use Rattle.tt_app.proofs.ToldMemory.{memory_certify}
+use Rattle.tt_app.proofs.Answering.{tells, yes_told, yes_same}
+use Rattle.tt_app.proofs.checking.check.Goals as goal
+
+pub returns-in_err-cost-clause-fault : goal.returns-in_err-cost-clause-fault
+returns-in_err-cost-clause-fault g c =
+    let e = err_from_is_err_and c.from_residual.result c.from_residual.ensures.1 in
+    rw (e.1, e.2) (tells c.args.instance.now c.args.solution.now (g.R.Source.remaining c.args.proof.now) c.in_err-cost.field-0.0 c.in_err-cost.ensures.fault)
+
+pub returns-in_err-cost-clause-yes : goal.returns-in_err-cost-clause-yes
+returns-in_err-cost-clause-yes g c =
+    let e = err_from_is_err_and c.from_residual.result c.from_residual.ensures.1 in
+    λ n b bytes known h. rw (e.1, e.2) (yes_told c.in_err-cost.field-0.0 n b (c.in_err-cost.ensures.yes n b bytes known h))
+
+pub returns-in_ok-yes_answer-in-Yes-clause-yes : goal.returns-in_ok-yes_answer-in-Yes-clause-yes
+returns-in_ok-yes_answer-in-Yes-clause-yes g c =
+    λ n b bytes known h.
+    yes_same c.in_ok-yes_answer-in-Yes.field-0 c.in-Yes.cost c.in-Yes.bound n b (subst (λ v. AnswersYesBelow (Ok v) n b) c.in-Yes.is (c.in_ok-cost.ensures.yes n b bytes known h)) c.in_ok-yes_answer-in-Yes.ensures
+
+pub returns-in_ok-broken_answer-in-Breaks-clause-yes : goal.returns-in_ok-broken_answer-in-Breaks-clause-yes
+returns-in_ok-broken_answer-in-Breaks-clause-yes g c =
+    λ n b bytes known h. absurd (subst (λ v. AnswersYesBelow (Ok v) n b) c.in-Breaks.is (c.in_ok-cost.ensures.yes n b bytes known h))
+
+pub returns-in_err-cost-clause-up_to_failed_read : goal.returns-in_err-cost-clause-up_to_failed_read
+returns-in_err-cost-clause-up_to_failed_read g c =
+    λ told. c.in_err-cost.ensures.up_to_failed_read (ap (λ f. Err f) (read_certified c.in_err-cost.field-0.0 (err_same c.from_residual.result _ read_failed c.from_residual.ensures.1 told)))
+
+pub returns-in_err-cost-clause-memory : goal.returns-in_err-cost-clause-memory
+returns-in_err-cost-clause-memory g c =
+    let e = err_from_is_err_and c.from_residual.result c.from_residual.ensures.1 in
+    rw (e.1, e.2) (memory_certify c.in_err-cost.field-0.0 c.in_err-cost.ensures.memory)
+
+pub returns-in_err-cost-clause-unfailed : goal.returns-in_err-cost-clause-unfailed
+returns-in_err-cost-clause-unfailed g c =
+    let e = err_from_is_err_and c.from_residual.result c.from_residual.ensures.1 in
+    rw (e.1, e.2) (λ told. c.in_err-cost.ensures.unfailed (λ failed.
+    let is : c.in_err-cost.field-0.0 ≡ certify.Proof failed_text = cc in
+    told (ap (λ f. Err f) (certified_read c.in_err-cost.field-0.0 is))))

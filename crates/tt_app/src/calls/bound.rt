@@ -1,0 +1,56 @@
+//! The call `bound`.
+
+ghost use Rattle.std.specs.Prelude.{◌≡◌, ℕ, List, Some, Err, true, IfOk, IfErr};
+ghost use Rattle.tt_instance.specs.Problem.{Problem};
+ghost use Rattle.tt_instance.specs.Spelling.{Spells};
+ghost use Rattle.tt_leaf.specs.declared.leaf.Bound.{Bound};
+ghost use Rattle.tt_proof_check.specs.FailedReads.{IsSpelledAndJudgedUpToFailedRead};
+ghost use Rattle.tt_proof_check.specs.Streams.{IsProved};
+ghost use Rattle.tt_app.specs.Checked.{read_failed};
+ghost use Rattle.tt_app.specs.Bounded.{IsBounded, IsBoundAnswer, IsBoundRefusal, AnswersBound, IsOfInstance};
+ghost use Rattle.tt_app.specs.Told.{OutOfMemoryIsOneFault};
+
+use crate::answer::Answer;
+use crate::fault::AppFault;
+use crate::lines::bound_line;
+use std::alloc::{AllocError, Global};
+use tt_instance::read_instance;
+use tt_leaf::Bound;
+use tt_proof_check::check_proof;
+use tt_text::Source;
+
+fn bound_answer(alloc: Global, bound: Bound) -> Result<Answer, AllocError>
+    ensures { IfOk result (λ a. IsBoundAnswer a bound) }
+{
+    Ok(Answer {
+        status: 0,
+        out: bound_line(alloc, bound)?,
+        table: None,
+        proof: None,
+    })
+}
+
+/// The lower bound that a proof derives for an instance.
+pub fn bound<R: Source>(alloc: Global, instance: &[u8], proof: &mut R) -> Result<Answer, AppFault>
+    // What is answered is derived, and holds.
+    ensures found { IfOk result (IsBounded instance.now (R.remaining proof.old)) }
+    // A refusal tells the first fault.
+    ensures fault { IfErr result (IsBoundRefusal instance.now (R.remaining proof.old)) }
+    // What is derived is answered.
+    ensures only { (p : Problem) (bytes : List ℕ) (b : Bound) → Spells instance.now p → R.remaining proof.old ≡ Some bytes →
+        IsProved p bytes b → AnswersBound result b }
+    // The proof isn't read where the instance is refused.
+    ensures unread { IfErr result (λ f. IsOfInstance f → proof.new ≡ proof.old) }
+    // A read is said to have failed exactly where one did.
+    ensures failed { result ≡ Err read_failed → R.has_failed proof.new ≡ true }
+    ensures unfailed { ¬ (result ≡ Err read_failed) → R.has_failed proof.new ≡ R.has_failed proof.old }
+    // Where one failed, all that the proof's bytes before it say has been judged.
+    ensures up_to_failed_read { result ≡ Err read_failed → (bytes : List ℕ) → R.remaining proof.old ≡ Some bytes →
+        IsSpelledAndJudgedUpToFailedRead instance.now bytes (R.remaining proof.new) }
+    // Want of memory is one answer, wherever it comes from.
+    ensures memory { IfErr result OutOfMemoryIsOneFault }
+{
+    let instance = read_instance(alloc, instance)?;
+    let bound = check_proof(alloc, &instance, proof)?;
+    Ok(bound_answer(alloc, bound)?)
+}

@@ -1,0 +1,57 @@
+//! The call `improve`.
+
+ghost use Rattle.std.specs.Prelude.{◌≡◌, List, IfOk, IfErr, MatchResult, ⊤};
+ghost use Rattle.tt_instance.specs.Problem.{Problem};
+ghost use Rattle.tt_instance.specs.declared.cell.Cell.{Cell};
+ghost use Rattle.tt_table.specs.Table.{IsTimetable};
+ghost use Rattle.tt_proof_check.specs.Headline.{SpellsBoth};
+ghost use Rattle.tt_app.specs.Improved.{IsImproved, IsTableAnswer};
+ghost use Rattle.tt_app.specs.Validated.{IsFileRefusal};
+ghost use Rattle.tt_app.specs.declared.fault.AppFault.TheVariants as fault;
+
+use crate::answer::Answer;
+use crate::fault::AppFault;
+use crate::lines::pair_line;
+use std::alloc::{AllocError, Global};
+use tt_instance::{Instance, read_instance};
+use tt_rules::score;
+use tt_table::{Timetable, read_solution, write_solution};
+
+fn table_answer(
+    alloc: Global,
+    instance: &Instance<'_>,
+    table: &Timetable,
+) -> Result<Answer, AllocError>
+    requires { IsTimetable instance.now table.now }
+    ensures { IfOk result (IsTableAnswer instance.now table.now) }
+{
+    let score = score(instance, table);
+    Ok(Answer {
+        status: if score.feasible() { 0 } else { 1 },
+        out: pair_line(alloc, score.hard(), score.cost())?,
+        table: Some(write_solution(alloc, instance, table)?),
+        proof: None,
+    })
+}
+
+/// Searches from a solution by so many steps, and answers a timetable that is no worse; status 1 where it breaks a hard rule.
+pub fn improve(
+    alloc: Global,
+    instance: &[u8],
+    solution: &[u8],
+    seed: u64,
+    steps: u64,
+) -> Result<Answer, AppFault>
+    // What is answered is no worse, and each entry keeps its course.
+    ensures found { IfOk result (IsImproved instance.now solution.now steps) }
+    // A refusal tells the first fault.
+    ensures fault { IfErr result (IsFileRefusal instance.now solution.now) }
+    // What is spelled is answered, unless memory runs out.
+    ensures only { (p : Problem) (t : List Cell) → SpellsBoth instance.now solution.now p t →
+        MatchResult result (λ _. ⊤) (λ f. f ≡ fault.OutOfMemory) }
+{
+    let instance = read_instance(alloc, instance)?;
+    let table = read_solution(alloc, &instance, solution)?;
+    let better = tt_search::improve(alloc, &instance, table, seed, steps)?;
+    Ok(table_answer(alloc, &instance, &better)?)
+}

@@ -1,0 +1,154 @@
+//! The call `solve`.
+
+ghost use Rattle.std.specs.Prelude.{◌≡◌, ◌≤◌, ◌⊎◌, ◌++◌, ◌∷◌, [], Some, IfSome, IfOk, IfErr, OnOk, MatchResult, option_map, is_some, ⊤, if◌then◌else◌, codes};
+ghost use Rattle.tt_instance.specs.Problem.{Problem};
+ghost use Rattle.tt_instance.specs.Spelling.{Spells};
+ghost use Rattle.tt_table.specs.Spelling.{solution_text};
+ghost use Rattle.tt_table.specs.Table.{IsTimetable};
+ghost use Rattle.tt_proof_write.specs.Within.{IsPreorder};
+ghost use Rattle.tt_app.specs.Lines.{best_cost, bound_points, solve_line};
+ghost use Rattle.tt_app.specs.Solved.{IsProofFile, IsSolved, IsTextRefusal, IsSolveRefusal};
+ghost use Rattle.tt_app.specs.declared.fault.AppFault.TheVariants as fault;
+
+use crate::answer::Answer;
+use crate::fault::AppFault;
+use std::alloc::{AllocError, Global};
+use tt_branch::Outcome;
+use tt_instance::{Instance, read_instance};
+use tt_leaf::Bound;
+use tt_proof_text::Node;
+use tt_proof_write::{WriteFault, write_proof};
+use tt_rules::score;
+use tt_table::{Timetable, write_solution};
+use tt_text::{put_line_end, put_number, put_token};
+
+fn put_cost(
+    out: &mut Vec<u8>,
+    instance: &Instance<'_>,
+    best: &Option<Timetable>,
+) -> Result<(), AllocError>
+    requires { IfSome best.now (IsTimetable instance.now) }
+    ensures { OnOk result (out.new.items ≡ out.old.items ++ best_cost instance.now best.now) }
+{
+    match best {
+        Some(table) => put_number(out, score(instance, table).cost()),
+        None => put_token(out, b"none"),
+    }
+}
+
+fn put_bound(out: &mut Vec<u8>, bound: Bound) -> Result<(), AllocError>
+    ensures { OnOk result (out.new.items ≡ out.old.items ++ bound_points bound) }
+{
+    match bound {
+        Bound::AtLeast(least) => put_number(out, least),
+        Bound::Nothing => put_token(out, b"none"),
+    }
+}
+
+fn put_end(out: &mut Vec<u8>, finished: bool) -> Result<(), AllocError>
+    ensures { OnOk result (out.new.items ≡ out.old.items ++ (if finished then codes " finished" else codes " unfinished") ++ 10 ∷ []) }
+{
+    if finished {
+        put_token(out, b" finished")?;
+    } else {
+        put_token(out, b" unfinished")?;
+    }
+    put_line_end(out)
+}
+
+/// The line of what a search found.
+fn line_of(
+    alloc: Global,
+    instance: &Instance<'_>,
+    best: &Option<Timetable>,
+    bound: Bound,
+    finished: bool,
+) -> Result<Vec<u8>, AllocError>
+    requires { IfSome best.now (IsTimetable instance.now) }
+    ensures { IfOk result (λ out. out.items ≡ solve_line instance.now best.now bound finished) }
+{
+    let mut out = Vec::new(alloc);
+    put_token(&mut out, b"cost ")?;
+    put_cost(&mut out, instance, best)?;
+    put_token(&mut out, b" bound ")?;
+    put_bound(&mut out, bound)?;
+    put_end(&mut out, finished)?;
+    Ok(out)
+}
+
+/// The text of the best timetable, if there is one.
+fn best_text(
+    alloc: Global,
+    instance: &Instance<'_>,
+    best: &Option<Timetable>,
+) -> Result<Option<Vec<u8>>, AllocError>
+    requires { IfSome best.now (IsTimetable instance.now) }
+    ensures { IfOk result (λ text. option_map (λ v. v.items) text ≡ option_map (solution_text instance.now) best.now) }
+{
+    match best {
+        Some(table) => Ok(Some(write_solution(alloc, instance, table)?)),
+        None => Ok(None),
+    }
+}
+
+/// The text of a proof, in the least version that has its claims.
+fn least_text(alloc: Global, bound: Bound, nodes: &[Node]) -> Result<Vec<u8>, WriteFault>
+    requires { IsPreorder nodes.now }
+    ensures file { IfOk result (λ v. IsProofFile bound nodes.now v.items) }
+    ensures fault { IfErr result (IsTextRefusal bound nodes.now) }
+{
+    match write_proof(alloc, 1, bound, nodes) {
+        Err(WriteFault::NotInVersion) => write_proof(alloc, 2, bound, nodes),
+        written => written,
+    }
+}
+
+/// What is answered of a search.
+fn search_answer(
+    alloc: Global,
+    instance: &Instance<'_>,
+    best: &Option<Timetable>,
+    bound: Bound,
+    finished: bool,
+    proof: Vec<u8>,
+) -> Result<Answer, AllocError>
+    requires { IfSome best.now (IsTimetable instance.now) }
+    ensures text { IfOk result (λ a. a.out.items ≡ solve_line instance.now best.now bound finished) }
+    ensures status { IfOk result (λ a. a.status ≡ (if is_some best.now then 0 else 1)) }
+    ensures table { IfOk result (λ a. option_map (λ v. v.items) a.table ≡ option_map (solution_text instance.now) best.now) }
+    ensures proof { IfOk result (λ a. a.proof ≡ Some proof) }
+{
+    Ok(Answer {
+        status: if best.is_some() { 0 } else { 1 },
+        out: line_of(alloc, instance, best, bound, finished)?,
+        table: best_text(alloc, instance, best)?,
+        proof: Some(proof),
+    })
+}
+
+/// Searches for a best timetable with at most so many nodes of the tree opened, and answers it with a proof of a lower bound; status 1
+/// where it found no timetable. Which nodes are opened is not promised.
+pub fn solve(alloc: Global, instance: &[u8], seed: u64, nodes: u32) -> Result<Answer, AppFault>
+    requires some { 1 ≤ nodes }
+    requires few { nodes ≤ 65536 }
+    // What is answered is feasible, and the proof derives its bound.
+    ensures found { IfOk result (IsSolved instance.now nodes) }
+    // A refusal tells the first fault.
+    ensures fault { IfErr result (IsSolveRefusal instance.now nodes) }
+    // What is spelled is answered, unless memory runs out or the proof grows too large.
+    ensures only { (p : Problem) → Spells instance.now p →
+        MatchResult result (λ _. ⊤) (λ f. (f ≡ fault.OutOfMemory) ⊎ (f ≡ fault.ProofTooLarge)) }
+{
+    let instance = read_instance(alloc, instance)?;
+    let Outcome {
+        best,
+        bound,
+        proof,
+        finished,
+    } = tt_branch::solve(alloc, &instance, nodes, seed)?;
+    let Some(nodes) = proof else {
+        unreachable!();
+    };
+    let text = least_text(alloc, bound, &nodes)?;
+    Ok(search_answer(alloc, &instance, &best, bound, finished, text)?)
+}

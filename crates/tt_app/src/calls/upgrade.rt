@@ -1,0 +1,55 @@
+//! The call `upgrade`.
+
+ghost use Rattle.std.specs.Prelude.{◌≡◌, ℕ, List, Some, Err, true, IfOk, IfErr};
+ghost use Rattle.tt_instance.specs.Problem.{Problem};
+ghost use Rattle.tt_instance.specs.Spelling.{Spells};
+ghost use Rattle.tt_leaf.specs.declared.leaf.Bound.{Bound};
+ghost use Rattle.tt_proof_check.specs.Streams.{IsProved};
+ghost use Rattle.tt_app.specs.Checked.{read_failed};
+ghost use Rattle.tt_app.specs.Bounded.{IsOfInstance};
+ghost use Rattle.tt_app.specs.Rewritten.{IsRewritten, IsUpgradeAnswer, IsSpelledAndReadUpToFailedRead, IsUpgradeRefusal, AnswersUpgrade};
+ghost use Rattle.tt_app.specs.Told.{OutOfMemoryIsOneFault};
+
+use crate::answer::Answer;
+use crate::fault::AppFault;
+use crate::lines::bound_line;
+use std::alloc::{AllocError, Global};
+use tt_instance::read_instance;
+use tt_text::Source;
+use tt_upgrade::Upgraded;
+
+fn upgraded_answer(alloc: Global, upgraded: Upgraded) -> Result<Answer, AllocError>
+    ensures { IfOk result (λ a. IsUpgradeAnswer a upgraded.bound upgraded.bytes.items) }
+{
+    Ok(Answer {
+        status: 0,
+        out: bound_line(alloc, upgraded.bound)?,
+        table: None,
+        proof: Some(upgraded.bytes),
+    })
+}
+
+/// Checks a proof of either version, which is read whole, and writes its bound and its tree in version 2.
+pub fn upgrade<R: Source>(alloc: Global, instance: &[u8], proof: &mut R) -> Result<Answer, AppFault>
+    // What is written derives the same bound by the same tree, and the bound holds.
+    ensures found { IfOk result (IsRewritten instance.now (R.remaining proof.old)) }
+    // A refusal tells the first fault.
+    ensures fault { IfErr result (IsUpgradeRefusal instance.now (R.remaining proof.old)) }
+    // What is derived is written.
+    ensures only { (p : Problem) (bytes : List ℕ) (b : Bound) → Spells instance.now p → R.remaining proof.old ≡ Some bytes →
+        IsProved p bytes b → AnswersUpgrade result b }
+    // The proof isn't read where the instance is refused.
+    ensures unread { IfErr result (λ f. IsOfInstance f → proof.new ≡ proof.old) }
+    // A read is said to have failed exactly where one did.
+    ensures failed { result ≡ Err read_failed → R.has_failed proof.new ≡ true }
+    ensures unfailed { ¬ (result ≡ Err read_failed) → R.has_failed proof.new ≡ R.has_failed proof.old }
+    // Where one failed, all that the proof's bytes before it say has been read.
+    ensures up_to_failed_read { result ≡ Err read_failed → (bytes : List ℕ) → R.remaining proof.old ≡ Some bytes →
+        IsSpelledAndReadUpToFailedRead instance.now bytes (R.remaining proof.new) }
+    // Want of memory is one answer, wherever it comes from.
+    ensures memory { IfErr result OutOfMemoryIsOneFault }
+{
+    let instance = read_instance(alloc, instance)?;
+    let upgraded = tt_upgrade::upgrade(alloc, &instance, proof)?;
+    Ok(upgraded_answer(alloc, upgraded)?)
+}

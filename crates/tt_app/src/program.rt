@@ -1,0 +1,116 @@
+//! The program: arguments in, texts and a status out.
+
+use crate::answer::Answer;
+use crate::fault::AppFault;
+use crate::requests::{
+    answer_bound, answer_check, answer_improve, answer_solve, answer_stored, answer_upgrade,
+    answer_validate, report_to,
+};
+use clap::error::ErrorKind;
+use std::io::Write;
+use std::rt::Files;
+use tt_arguments::{Request, parse_arguments};
+
+/// Tells of a refusal, and gives its status.
+fn print_refusal<E: Write>(fault: AppFault, err: &mut E) -> u8 {
+    let _ = writeln!(err, "refused: {fault}");
+    2
+}
+
+/// The status of what was written, or that of a refusal, which is told.
+fn print_status<E: Write>(written: Result<u8, AppFault>, err: &mut E) -> u8 {
+    match written {
+        Ok(status) => status,
+        Err(fault) => print_refusal(fault, err),
+    }
+}
+
+/// Prints an answer or a refusal, and gives the status.
+fn print_answer<O: Write, E: Write>(answered: Result<Answer, AppFault>, out: &mut O, err: &mut E) -> u8 {
+    match answered {
+        Ok(answer) => match out.write_all(&answer.out) {
+            Ok(()) => answer.status,
+            Err(_) => print_refusal(AppFault::CannotWrite, err),
+        },
+        Err(fault) => print_refusal(fault, err),
+    }
+}
+
+/// Does what the arguments ask for, and gives the status.
+fn run_request<R: Files + AllocGlobal, O: Write, E: Write>(
+    rt: &R,
+    asked: &Request<'_>,
+    out: &mut O,
+    err: &mut E,
+) -> u8 {
+    match asked {
+        Request::Validate { instance, solution } => {
+            print_answer(answer_validate(rt, instance, solution), out, err)
+        }
+        Request::Check {
+            instance,
+            solution,
+            proof,
+        } => print_answer(answer_check(rt, instance, solution, proof), out, err),
+        Request::Bound { instance, proof } => print_answer(answer_bound(rt, instance, proof), out, err),
+        Request::Improve {
+            instance,
+            solution,
+            out: path,
+            search,
+        } => print_answer(
+            answer_improve(rt, instance, solution, path, *search),
+            out,
+            err,
+        ),
+        Request::Upgrade {
+            instance,
+            proof,
+            out: path,
+        } => print_answer(answer_upgrade(rt, instance, proof, path), out, err),
+        Request::Solve {
+            instance,
+            out: path,
+            proof,
+            tree,
+        } => print_answer(answer_solve(rt, instance, path, proof, *tree), out, err),
+        Request::Report {
+            instance,
+            solution,
+            by,
+        } => print_status(report_to(rt, instance, solution, *by, out), err),
+    }
+}
+
+/// What clap says of arguments that it refuses, or of a wish for help.
+fn print_clap_message<O: Write, E: Write>(fault: &clap::Error, out: &mut O, err: &mut E) -> u8 {
+    if fault.kind() == ErrorKind::OutOfMemory {
+        return print_refusal(AppFault::OutOfMemory, err);
+    }
+    if fault.use_stderr() {
+        let _ = write!(err, "{fault}");
+        return 2;
+    }
+    match write!(out, "{fault}") {
+        Ok(()) => 0,
+        Err(_) => print_refusal(AppFault::CannotWrite, err),
+    }
+}
+
+/// Runs the program on the words of its command line, without its own name, and gives its status: 0 says yes, or that the work is
+/// done; 1 that a hard rule is broken, or that there is no timetable; 2 that it refused (why is on `err`). Without arguments it checks a stored proof.
+pub fn run<R: Files + AllocGlobal, O: Write, E: Write>(
+    rt: &R,
+    arguments: &[String],
+    out: &mut O,
+    err: &mut E,
+) -> u8 {
+    if arguments.is_empty() {
+        return print_answer(answer_stored(rt), out, err);
+    }
+    match parse_arguments(rt.alloc(), arguments) {
+        Ok(Some(asked)) => run_request(rt, &asked, out, err),
+        Ok(None) => 2,
+        Err(fault) => print_clap_message(&fault, out, err),
+    }
+}

@@ -1,0 +1,11 @@
+use Rattle.std.proofs.Common.{[], ◌∷◌, ◌≡◌, ◌&&◌}
+use Rattle.std.specs.Prelude.{nat_lt}
+use Rattle.tt_cell_set.specs.Tables.{Loses}
+use Rattle.tt_cells.specs.Shown.{is_struck}
+use Rattle.tt_cells.proofs.killing.strike_room.Given as goal
+
+abbrev pub invariant-loop-other : goal.invariant-loop-other
+invariant-loop-other l = record {
+  loses : Loses l.instance l.fn.live.words (λ x. nat_lt x.course l.other && is_struck l.instance l.free.words l.pattern l.day l.period (l.course ∷ []) x) l.live.words;
+  earlier : l.live.earlier ≡ l.fn.live.earlier;
+}

@@ -1,0 +1,262 @@
+//! A file system in memory that can be written.
+
+use std::alloc::{Allocator, Global};
+use std::cell::RefCell;
+use std::fs::{Metadata, OpenFile, OpenOptions};
+use std::io;
+use std::io::{Error, ErrorKind, Read, Seek, SeekFrom, Write};
+use std::rt::Files;
+use std::test::Fail;
+
+/// What a shelf refuses.
+#[derive(Clone, Copy, Debug, PartialEq, Eq)]
+pub enum Refusal {
+    Nothing,
+    NewFiles,
+    Writes,
+    Renames,
+}
+
+/// A file.
+#[derive(Drop)]
+struct MemoryFile {
+    path: String,
+    bytes: Vec<u8>,
+}
+
+/// Files that can be read, made, written, renamed and removed.
+#[derive(Drop)]
+pub struct MemoryFiles {
+    alloc: Global,
+    entries: RefCell<Vec<MemoryFile>>,
+    refusal: Refusal,
+}
+
+/// An opened file: what is read of it is a copy, and what is written goes to the file.
+#[derive(Drop)]
+pub struct OpenMemoryFile<'s> {
+    memory: &'s MemoryFiles,
+    path: String,
+    rest: Vec<u8>,
+}
+
+fn fault(kind: ErrorKind) -> Error {
+    Error::from(kind)
+}
+
+impl MemoryFiles {
+    /// An empty shelf.
+    pub fn new(alloc: Global, refusal: Refusal) -> MemoryFiles {
+        MemoryFiles {
+            alloc,
+            entries: RefCell::new(Vec::new(alloc)),
+            refusal,
+        }
+    }
+
+    /// Puts a file that is not there yet on it, whatever it refuses.
+    pub fn put(&self, path: &str, text: &str) -> Result<(), Fail> {
+        match self.insert(path, text.as_bytes()) {
+            Ok(()) => Ok(()),
+            Err(_) => Err(Fail::new(format_args!("{path} was not put there"))),
+        }
+    }
+
+    fn insert(&self, path: &str, text: &[u8]) -> io::Result<()> {
+        let Ok(mut entries) = self.entries.try_borrow_mut() else {
+            return Err(fault(ErrorKind::Other));
+        };
+        let mut bytes = Vec::new(self.alloc);
+        bytes.extend_from_slice(text)?;
+        let path = String::from_str(self.alloc, path)?;
+        match entries.push(MemoryFile { path, bytes }) {
+            Ok(()) => Ok(()),
+            Err(_) => Err(fault(ErrorKind::OutOfMemory)),
+        }
+    }
+
+    /// The text of a file, if it is there.
+    pub fn text(&self, path: &str) -> Result<Option<String>, Fail> {
+        match self.copied(path) {
+            Ok(bytes) => Ok(Some(String::from_utf8(bytes)?)),
+            Err(_) => Ok(None),
+        }
+    }
+
+    /// How many files there are.
+    pub fn count(&self) -> usize {
+        match self.entries.try_borrow() {
+            Ok(entries) => entries.len(),
+            Err(_) => 0,
+        }
+    }
+
+    fn append(&self, path: &str, bytes: &[u8]) -> io::Result<()> {
+        let Ok(mut entries) = self.entries.try_borrow_mut() else {
+            return Err(fault(ErrorKind::Other));
+        };
+        for entry in entries.iter_mut() {
+            if entry.path.as_str() == path {
+                return match entry.bytes.extend_from_slice(bytes) {
+                    Ok(()) => Ok(()),
+                    Err(_) => Err(fault(ErrorKind::OutOfMemory)),
+                };
+            }
+        }
+        Err(fault(ErrorKind::NotFound))
+    }
+
+    fn add(&self, path: &str) -> io::Result<()> {
+        if self.refusal == Refusal::NewFiles {
+            return Err(fault(ErrorKind::PermissionDenied));
+        }
+        if self.copied(path).is_ok() {
+            return Err(fault(ErrorKind::AlreadyExists));
+        }
+        self.insert(path, b"")
+    }
+
+    fn copied(&self, path: &str) -> io::Result<Vec<u8>> {
+        let Ok(entries) = self.entries.try_borrow() else {
+            return Err(fault(ErrorKind::Other));
+        };
+        for entry in entries.iter() {
+            if entry.path.as_str() == path {
+                let mut bytes = Vec::new(self.alloc);
+                bytes.extend_from_slice(&entry.bytes)?;
+                return Ok(bytes);
+            }
+        }
+        Err(fault(ErrorKind::NotFound))
+    }
+
+    /// Gives a file another path.
+    fn turn(&self, from: &str, to: &str) -> io::Result<()> {
+        let Ok(mut entries) = self.entries.try_borrow_mut() else {
+            return Err(fault(ErrorKind::Other));
+        };
+        for entry in entries.iter_mut() {
+            if entry.path.as_str() == from {
+                entry.path = String::from_str(self.alloc, to)?;
+                return Ok(());
+            }
+        }
+        Err(fault(ErrorKind::NotFound))
+    }
+
+    /// Takes a file away, if it is there.
+    fn remove(&self, path: &str) -> io::Result<()> {
+        let Ok(mut entries) = self.entries.try_borrow_mut() else {
+            return Err(fault(ErrorKind::Other));
+        };
+        entries.retain(|entry| entry.path.as_str() != path);
+        Ok(())
+    }
+}
+
+impl<'s> Read for OpenMemoryFile<'s> {
+    fn read(&mut self, buffer: &mut [u8]) -> io::Result<usize> {
+        let count = buffer.len().min(self.rest.len());
+        let (piece, _) = self.rest.split_at(count);
+        buffer[..count].copy_from_slice(piece);
+        self.rest.drain(..count);
+        Ok(count)
+    }
+}
+
+impl<'s> Write for OpenMemoryFile<'s> {
+    fn write(&mut self, buffer: &[u8]) -> io::Result<usize> {
+        // Something is written before the rest is refused.
+        if self.memory.refusal == Refusal::Writes {
+            self.memory.append(&self.path, b"?")?;
+            return Err(fault(ErrorKind::StorageFull));
+        }
+        self.memory.append(&self.path, buffer)?;
+        Ok(buffer.len())
+    }
+
+    fn flush(&mut self) -> io::Result<()> {
+        Ok(())
+    }
+}
+
+impl<'s> Seek for OpenMemoryFile<'s> {
+    fn seek(&mut self, _to: SeekFrom) -> io::Result<u64> {
+        Err(fault(ErrorKind::Unsupported))
+    }
+}
+
+impl<'s> OpenFile for OpenMemoryFile<'s> {
+    fn metadata(&self) -> io::Result<Metadata> {
+        Err(fault(ErrorKind::Unsupported))
+    }
+
+    fn set_len(&self, _size: u64) -> io::Result<()> {
+        Err(fault(ErrorKind::Unsupported))
+    }
+
+    fn sync_all(&self) -> io::Result<()> {
+        Ok(())
+    }
+
+    fn sync_data(&self) -> io::Result<()> {
+        Ok(())
+    }
+}
+
+impl<'s> Files for &'s MemoryFiles {
+    type File = OpenMemoryFile<'s>;
+
+    type Dir = OpenMemoryFile<'s>;
+
+    fn open_file(&self, how: &OpenOptions, path: &str) -> io::Result<OpenMemoryFile<'s>> {
+        if how.asks_create_new() {
+            self.add(path)?;
+        }
+        Ok(OpenMemoryFile {
+            memory: self,
+            path: String::from_str(self.alloc, path)?,
+            rest: self.copied(path)?,
+        })
+    }
+
+    fn open_dir(&self, _path: &str) -> io::Result<OpenMemoryFile<'s>> {
+        Err(fault(ErrorKind::Unsupported))
+    }
+
+    fn metadata(&self, _path: &str) -> io::Result<Metadata> {
+        Err(fault(ErrorKind::Unsupported))
+    }
+
+    fn symlink_metadata(&self, _path: &str) -> io::Result<Metadata> {
+        Err(fault(ErrorKind::Unsupported))
+    }
+
+    fn copy(&self, _from: &str, _to: &str) -> io::Result<u64> {
+        Err(fault(ErrorKind::Unsupported))
+    }
+
+    fn rename(&self, from: &str, to: &str) -> io::Result<()> {
+        if self.refusal == Refusal::Renames {
+            return Err(fault(ErrorKind::IsADirectory));
+        }
+        self.remove(to)?;
+        self.turn(from, to)
+    }
+
+    fn remove_file(&self, path: &str) -> io::Result<()> {
+        self.remove(path)
+    }
+
+    fn create_dir(&self, _path: &str) -> io::Result<()> {
+        Err(fault(ErrorKind::Unsupported))
+    }
+
+    fn remove_dir(&self, _path: &str) -> io::Result<()> {
+        Err(fault(ErrorKind::Unsupported))
+    }
+
+    fn remove_dir_all<B: Allocator>(&self, _alloc: B, _path: &str) -> io::Result<()> {
+        Err(fault(ErrorKind::Unsupported))
+    }
+}

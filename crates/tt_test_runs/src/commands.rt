@@ -1,0 +1,67 @@
+//! The program on a disk in memory.
+
+use crate::disk::{Disk, StoredFile};
+use std::alloc::Global;
+use std::rt::Files;
+use std::test::Fail;
+use tt_app::run;
+
+/// The status of a run, and what it wrote.
+#[derive(Debug, Drop)]
+pub struct Outcome {
+    pub status: u8,
+    pub out: String,
+    pub err: String,
+}
+
+impl Outcome {
+    /// The status, the standard output and the standard error.
+    pub fn answer(&self) -> (u8, &str, &str) {
+        (self.status, self.out.as_str(), self.err.as_str())
+    }
+}
+
+/// Runs the program on words, over a file system.
+pub fn run_on<F: Files + Drop>(alloc: Global, words: &[&str], files: F) -> Result<Outcome, Fail> {
+    let mut owned = Vec::new(alloc);
+    for word in words {
+        owned.push(String::from_str(alloc, word)?)?;
+    }
+    let mut out = Vec::new(alloc);
+    let mut err = Vec::new(alloc);
+    let status = run(&(files, alloc), &owned, &mut out, &mut err);
+    Ok(Outcome {
+        status,
+        out: String::from_utf8(out)?,
+        err: String::from_utf8(err)?,
+    })
+}
+
+/// Runs the program on words, over files that can be read.
+pub fn run_with(alloc: Global, words: &[&str], files: &[StoredFile<'_>]) -> Result<Outcome, Fail> {
+    run_on(alloc, words, Disk { files })
+}
+
+/// What `validate` makes of an instance and a solution.
+pub fn validated(alloc: Global, instance: &str, solution: &str) -> Result<Outcome, Fail> {
+    let files = [
+        StoredFile::new("a.ctt", instance.as_bytes()),
+        StoredFile::new("a.sol", solution.as_bytes()),
+    ];
+    run_with(alloc, &["validate", "a.ctt", "a.sol"], &files)
+}
+
+/// What `check` makes of an instance, a solution and a proof.
+pub fn checked(
+    alloc: Global,
+    instance: &str,
+    solution: &str,
+    proof: &str,
+) -> Result<Outcome, Fail> {
+    let files = [
+        StoredFile::new("a.ctt", instance.as_bytes()),
+        StoredFile::new("a.sol", solution.as_bytes()),
+        StoredFile::new("a.proof", proof.as_bytes()),
+    ];
+    run_with(alloc, &["check", "a.ctt", "a.sol", "a.proof"], &files)
+}
