@@ -4,7 +4,7 @@
     python3 bench/statement.py [CRATE FUNCTION [CLAUSE ..]]
 
 follows names through the `use` lines, from the clauses of a public function (all of them, or those that are named; without arguments the headline:
-clauses found, yes and broken of tt_proof_check's certify). Definitions are counted with their comments; structs and enums of src/ count with
+clauses exactly and bounds of tt_proof_check's certify). Definitions are counted with their comments; structs and enums of src/ count with
 theirs. Names of the standard library end the search.
 """
 import os
@@ -13,7 +13,7 @@ import sys
 
 ROOT = os.path.join(os.path.dirname(os.path.abspath(__file__)), "..", "crates")
 NAME = re.compile(r"[^\s(){}\[\],;.:λ→×⊎¬≡≤<≢∷∙+*=|&-][^\s(){}\[\],;.:]*")
-HEADLINE = ["tt_proof_check", "certify", "found", "yes", "broken"]
+HEADLINE = ["tt_proof_check", "certify", "exactly", "bounds"]
 
 
 def read(path):
@@ -84,6 +84,9 @@ class Closure:
             return
         if is_type:
             parts = module.split(".")
+            if parts[-1] == "TheConstants":
+                self.constant(os.path.join(ROOT, parts[1], "src", *parts[4:-1]) + ".rt", name)
+                return
             of = parts[-2] if parts[-1] == "TheVariants" else parts[-1]
             path = os.path.join(ROOT, parts[1], "src", *[it for it in parts[4:] if it not in (of, "TheVariants")]) + ".rt"
             block = type_of(path, of) if os.path.isfile(path) else None
@@ -101,6 +104,12 @@ class Closure:
             return
         self.found[path, name] = block
         self.names(names_in(block), uses_of(text), module, blocks_of(text))
+
+    def constant(self, path, name):
+        if name and os.path.isfile(path):
+            block = re.search(r"((?:^///.*\n)*)^pub const " + re.escape(name) + r"\b.*$", read(path), re.M)
+            if block:
+                self.found.setdefault((path, name), block[0])
 
     def names(self, names, uses, module, here):
         for whole in names:

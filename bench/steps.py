@@ -1,6 +1,7 @@
 #!/usr/bin/env python3
 """Prints how many steps a second `tt_moves::change` judges, moves and swaps apart, in the order of the tables and drawn at random,
-on a timetable of 300 lectures that it makes; and beside it what steps.rs, plain Rust over the same tables of counts, does.
+on a timetable of 300 lectures that it makes and on the examples like02 and like05, whose curricula are many; and beside it what
+steps.rs, plain Rust over the same tables of counts, does.
 
 Run by hand:  python3 bench/steps.py
 The Rattle side is the program in steps/: it is proved and built, as rt run builds programs, in a repository made for it, with the
@@ -18,6 +19,8 @@ from pathlib import Path
 
 HERE = Path(__file__).resolve().parent
 PROJECT = HERE.parent
+EXAMPLES = PROJECT / "examples"
+NAMES = ["like02", "like05"]
 RUNS = 20
 COURSES, ROOMS, DAYS, PERIODS, CURRICULA = 100, 20, 5, 6, 30
 
@@ -86,6 +89,22 @@ def measured(program, paths):
     return {w[0]: (tuple(map(int, w[1:4])), int(w[4])) for w in words}
 
 
+def compared(programs, paths):
+    """Prints the table of both programs on one timetable."""
+    best = {}
+    for _ in range(RUNS):
+        runs = {key: measured(program, paths) for key, program in programs.items()}
+        for name, (sums, _) in runs["proved"].items():
+            if runs["plain"][name][0] != sums:
+                sys.exit(f"{name}: the programs differ: {sums}, {runs['plain'][name][0]}")
+            for key in programs:
+                best[name, key] = min(best.get((name, key), 1 << 62), runs[key][name][1])
+    print("| Steps | How many | Hard changes, cost changes in all | `tt_moves::change` | Plain Rust | Of its speed |\n|---|---|---|---|---|---|")
+    for name, ((steps, hard, cost), _) in runs["proved"].items():
+        rates = [steps / best[name, key] * 1000 for key in programs]
+        print(f"| {name.replace('-', ' ')} | {steps:,} | {hard:,}, {cost:,} | {rates[0]:.1f} million a second | {rates[1]:.1f} million a second | {rates[0] / rates[1]:.2f} |")
+
+
 def main():
     for command in ("rt", "rustc"):
         if not shutil.which(command):
@@ -97,18 +116,11 @@ def main():
             path.write_text(text)
         subprocess.run(["rustc", "-O", "-o", folder / "plain", HERE / "steps.rs"], check=True)
         programs = {"proved": built(folder / "repository", paths), "plain": folder / "plain"}
-        best = {}
-        for _ in range(RUNS):
-            runs = {key: measured(program, paths) for key, program in programs.items()}
-            for name, (sums, _) in runs["proved"].items():
-                if runs["plain"][name][0] != sums:
-                    sys.exit(f"{name}: the programs differ: {sums}, {runs['plain'][name][0]}")
-                for key in programs:
-                    best[name, key] = min(best.get((name, key), 1 << 62), runs[key][name][1])
-    print("| Steps | How many | Hard changes, cost changes in all | `tt_moves::change` | Plain Rust | Of its speed |\n|---|---|---|---|---|---|")
-    for name, ((steps, hard, cost), _) in runs["proved"].items():
-        rates = [steps / best[name, key] * 1000 for key in programs]
-        print(f"| {name.replace('-', ' ')} | {steps:,} | {hard:,}, {cost:,} | {rates[0]:.1f} million a second | {rates[1]:.1f} million a second | {rates[0] / rates[1]:.2f} |")
+        print("made")
+        compared(programs, paths)
+        for name in NAMES:
+            print(name)
+            compared(programs, [EXAMPLES / f"{name}.ctt", EXAMPLES / f"{name}.sol"])
     print(f"cores: {os.cpu_count()}")
 
 

@@ -9,6 +9,8 @@ from refusing import ROOT, Refusal
 
 # How a test fails whose call answered that memory ran out, and that by no part of another answer.
 FAILED = 101
+# Calls that have nothing to keep.
+TAKE_NOTHING = {"memory::the_call_find_leaf_for_nothing"}
 OUT_OF_MEMORY = re.compile(rb"(out of memory|error: (AllocError|OutOfMemory))\nthe test failed: its result gives status 1\n")
 
 
@@ -45,5 +47,6 @@ def growths(refuser, program, name):
         told = answer(done)
         if not done.counted.refused:
             assert told == "as without a refusal", f"out of memory without a refusal: {done.told()}"
+            assert answers or name in TAKE_NOTHING, "takes no memory"
             return answers
         answers[told] += 1

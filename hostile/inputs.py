@@ -11,6 +11,7 @@ from samples import APART, CROWDED, GAP, GAP_PROOF, MINI, NEXT_TO_EACH_OTHER
 SPACES = b" " * 65_536
 SPLIT = b"S c0 * d0 p0\n"
 LEAF = b"B ;\n"
+NOTHING = b"CTTP 1 bound 0 B ; end"
 
 
 @dataclass
@@ -30,8 +31,11 @@ class Desk:
         return done.returncode, done.stdout, done.stderr
 
     def told_of_proof(self, instance, proof):
-        self.put(instance=instance, proof=proof)
-        return self.told("bound instance proof")
+        """What `bound` says of a proof; `sum` says the same of it after a proof that claims nothing."""
+        self.put(instance=instance, proof=proof, nothing=NOTHING)
+        told = self.told("bound instance proof")
+        same(self.told("sum instance nothing proof"), in_second_place(told))
+        return told
 
     def told_of_stream(self, words, pieces):
         """The same, where the standard input is a pipe that gives the pieces until it is closed."""
@@ -48,6 +52,11 @@ class Desk:
 
 def refused(why):
     return 2, b"", b"refused: " + why + b"\n"
+
+
+def in_second_place(told):
+    """What is said of a proof, said of the second of several."""
+    return *told[:2], told[2].replace(b"refused: proof: ", b"refused: proof 2: ")
 
 
 def same(told, wanted):
@@ -80,13 +89,28 @@ def cut_proofs(desk):
             same(told, (0, b"yes cost 5 bound 5 optimal\n", b""))
 
 
+def cut_proofs_in_a_sum(desk):
+    for count in range(len(GAP_PROOF) + 1):
+        told = desk.told_of_proof(GAP, GAP_PROOF[:count])
+        if count < 123:
+            at_byte(told, b"proof", count)
+        else:
+            same(told, (0, b"bound 5\n", b""))
+
+
 def failed_reads_of_a_proof(desk):
-    """One byte a read: 124 reads give a byte, and one finds the end."""
-    desk.put(instance=GAP, solution=APART, proof=GAP_PROOF)
-    words = [PROGRAM, "check", "instance", "solution", "proof"]
-    calls = desk.refuser.run(run, Refusal(narrow=1), desk.folder).counted.calls
-    told = [desk.refuser.run(run, Refusal(narrow=1, call=it + 1, fault=READ_ERROR), desk.folder).told() for it in range(calls)]
-    assert told.count(refused(b"proof: Read")) == 125, f"{told.count(refused(b'proof: Read'))} reads"
+    """One byte a read: 124 reads give a byte, and one finds the end; so do 22 and one of the proof that claims nothing. A sum tells of a
+    proof that can't be opened in the same words."""
+    desk.put(instance=GAP, solution=APART, proof=GAP_PROOF, nothing=NOTHING)
+    for words, reads in [
+        ("check instance solution proof", {b"proof: Read": 125}),
+        ("sum instance nothing proof", {b"proof 1: Read": len(NOTHING) + 2, b"proof 2: Read": 126}),
+    ]:
+        run = [PROGRAM, *words.split()]
+        calls = desk.refuser.run(run, Refusal(narrow=1), desk.folder).counted.calls
+        told = [desk.refuser.run(run, Refusal(narrow=1, call=it + 1, fault=READ_ERROR), desk.folder).told() for it in range(calls)]
+        for what, wanted in reads.items():
+            assert told.count(refused(what)) == wanted, f"{words}: {what} after {told.count(refused(what))} reads"
 
 
 def endless_spaces(desk):
@@ -98,6 +122,8 @@ def endless_spaces(desk):
     same(desk.told_of_stream("validate /dev/stdin solution", spaces()), refused(b"instance: too long"))
     same(desk.told_of_stream("validate instance /dev/stdin", spaces()), refused(b"solution: too long"))
     same(desk.told_of_stream("bound instance /dev/stdin", spaces()), refused(b"proof: TooManyBytes"))
+    desk.put(nothing=NOTHING)
+    same(desk.told_of_stream("sum instance nothing /dev/stdin", spaces()), refused(b"proof 2: TooManyBytes"))
 
 
 def nested_splits(desk):
@@ -136,6 +162,10 @@ def missing_files(desk):
         ("improve instance none out", b"solution"),
         ("solve none out proof", b"instance"),
         ("report instance none --by room", b"solution"),
+        ("page instance none out", b"solution"),
+        ("sum none proof", b"instance"),
+        ("sum instance --solution none proof", b"solution"),
+        ("parts none out", b"instance"),
     ]:
         same(desk.told(words), refused(what + b": cannot read"))
     assert not (desk.folder / "out").exists()
@@ -147,14 +177,15 @@ def folders_in_the_place_of_files(desk):
     before = {it.name for it in desk.folder.iterdir()}
     same(desk.told("validate folder solution"), refused(b"instance: cannot read"))
     same(desk.told("bound instance folder"), refused(b"proof: Read"))
-    for words in ["upgrade instance proof folder", "improve instance solution folder", "solve instance folder other"]:
+    same(desk.told("sum instance proof folder"), refused(b"proof 2: Read"))
+    for words in ["page instance solution folder", "upgrade instance proof folder", "improve instance solution folder", "solve instance folder other"]:
         same(desk.told(words), refused(b"cannot write"))
         assert {it.name for it in desk.folder.iterdir()} == before, f"{words} leaves something"
 
 
 def a_closed_output(desk):
     desk.put(instance=GAP, solution=APART, proof=GAP_PROOF)
-    for words in ["", "--help", "check instance solution proof", "report instance solution --by room"]:
+    for words in ["", "--help", "check instance solution proof", "sum instance proof", "report instance solution --by room"]:
         with open("/dev/full", "wb") as full:
             done = subprocess.run([PROGRAM, *words.split()], cwd=desk.folder, stdout=full, stderr=subprocess.PIPE, timeout=60)
         same((done.returncode, done.stderr), (2, b"refused: cannot write\n"))
@@ -163,6 +194,7 @@ def a_closed_output(desk):
 ROWS = [
     ("Mini cut to each length", cut_instances),
     ("the proof of Gap cut to each length", cut_proofs),
+    ("the same, second of two in a sum", cut_proofs_in_a_sum),
     ("each read of a proof fails", failed_reads_of_a_proof),
     ("spaces without end", endless_spaces),
     ("65,536 nested splits, and one more", nested_splits),

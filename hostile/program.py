@@ -12,7 +12,7 @@ OLDER = b"an older file\n"
 # How a call fails, and whether the later ones fail too. What goes on being interrupted goes on being tried.
 FAILURES = [(READ_ERROR, 0), (READ_ERROR, 1), (INTERRUPTED, 0), (TAKES_NOTHING, 0), (ENDS_THERE, 0)]
 OUT_OF_MEMORY = (2, b"", b"refused: out of memory\n")
-CANNOT = re.compile(rb"refused: ((instance|solution|proof): cannot read|proof: Read|cannot write)\n")
+CANNOT = re.compile(rb"refused: ((instance|solution|proof): cannot read|proof( \d+)?: Read|cannot write)\n")
 
 
 @dataclass
@@ -36,6 +36,7 @@ FILES = {
     "mini.sol": NEXT_TO_EACH_OTHER,
     "gap.sol": APART,
     "gap.proof": GAP_PROOF,
+    "nothing.proof": b"CTTP 1 bound 0 B ; end",
     "bad": b"bad",
 }
 SOLVE_GAP = {"out": None, "out.proof": None}
@@ -53,6 +54,12 @@ COMMANDS = [
     Command("report mini mini.sol --by room", out=b"room R\n0 0 a\n0 1 b\n0 2\n"),
     Command("report mini mini.sol --by teacher", out=b"teacher t1\n0 0 a R\n0 1\n0 2\nteacher t2\n0 0\n0 1 b R\n0 2\n"),
     Command("report mini mini.sol --by curriculum", out=b"curriculum q\n0 0 a R\n0 1 b R\n0 2\n"),
+    Command("page mini gap.sol out", out=b"", written={"out": None}),
+    Command("sum gap", out=b"bound 0\n"),
+    Command("sum gap nothing.proof gap.proof", out=b"bound 5\n"),
+    Command("sum gap --solution gap.sol gap.proof nothing.proof", out=b"yes cost 5 bound 5 optimal\n"),
+    Command("sum gap gap.proof gap.proof", 2, b"", b"refused: proof 2: ClaimedElsewhere at node 2, by proof 1\n"),
+    Command("parts gap . --nodes 100", out=b"bound 4 parts 1\n", written={"part01.proof": None}),
     Command("--help"),
     Command("solve --help"),
     Command("grade", 2, b"", None),
@@ -61,7 +68,7 @@ COMMANDS = [
     Command("solve gap out out.proof --nodes 65537", 2, b"", None),
     Command("improve mini gap.sol out --steps x", 2, b"", None),
 ]
-WRITTEN = ["out", "out.proof"]
+WRITTEN = ["out", "out.proof", "part01.proof"]
 
 
 class Shelf:
@@ -103,7 +110,7 @@ class Runs:
         assert own.status == command.status, f"answers {own.told()}"
         assert command.out is None or own.out == command.out, f"answers {own.told()}"
         assert command.err is None or own.err == command.err, f"answers {own.told()}"
-        assert own.out or own.err
+        assert own.out or own.err or command.written
         wanted = {**self.shelf.files, **command.written}
         assert wanted.keys() == self.own_files.keys(), f"leaves {sorted(self.own_files)}"
         for name, text in wanted.items():

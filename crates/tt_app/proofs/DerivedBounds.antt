@@ -17,7 +17,7 @@ use Rattle.tt_app.specs.Bounded.{IsBoundAnswer, IsBounded, IsBoundRefusal, Answe
 use Rattle.tt_app.specs.Told.{fault_from_instance, fault_from_check}
 use Rattle.tt_app.specs.declared.answer.Answer.{Answer}
 
--- what is spelled is refused for want of memory alone
+-- what is spelled is refused for being out of memory alone
 pub spelled_memory : (i : List ℕ) (p : Problem) (f : InstanceFault) (b : Bound) → Spells i p → Fails f (instance_of i) → AnswersBound (Err (fault_from_instance f)) b
 spelled_memory i p instance.OutOfMemory b spells h = inl refl
 spelled_memory i p (instance.Ended n) b spells h = let e = is_read i p spells in absurd cc

@@ -34,7 +34,7 @@ pub tells_solution : (i s : List ℕ) (p : Problem) (f : SolutionFault) → Spel
 tells_solution i s p solution.OutOfMemory spelled h = tt
 tells_solution i s p f spelled h = record { problem = p; spelled = spelled; fails = h }
 
--- where both are spelled, the only refusal is want of memory
+-- where both are spelled, the only refusal is being out of memory
 pub only_memory : (i s : List ℕ) (p : Problem) (t : List Cell) (f : AppFault) → SpellsBoth i s p t → IsFileRefusal i s f → f ≡ fault.OutOfMemory
 only_memory i s p t (fault.Instance f) both h = let e = is_read i p both.spelled in absurd cc
 only_memory i s p t (fault.Solution f) both h =
@@ -46,6 +46,7 @@ only_memory i s p t fault.OutOfMemory both h = refl
 only_memory i s p t fault.ProofTooLarge both h = absurd h
 only_memory i s p t fault.CannotWrite both h = absurd h
 only_memory i s p t (fault.Proof f) both h = absurd h
+only_memory i s p t (fault.Sum f) both h = absurd h
 only_memory i s p t (fault.CannotRead n) both h = absurd h
 only_memory i s p t (fault.TooLong n) both h = absurd h
 

@@ -1,3 +1,5 @@
+pub mod Adding
+pub mod AddingBoth
 pub mod Answering
 pub mod DerivedBounds
 pub mod FailedReads

@@ -1,6 +1,6 @@
 -- What `solve` answers, from what its steps answered.
-use Rattle.std.proofs.Common.{◌≡◌, ℕ, Bool, List, Option, Some, All, refl, subst, inl, inr}
-use Rattle.std.specs.Prelude.{IfSome, ◌⊎◌}
+use Rattle.std.proofs.Common.{◌≡◌, ℕ, Bool, List, Option, Some, All, refl, subst, inr}
+use Rattle.std.specs.Prelude.{IfSome}
 use Rattle.tt_instance.specs.Problem.{Problem}
 use Rattle.tt_instance.specs.Reading.{instance_of, Fails}
 use Rattle.tt_instance.specs.Spelling.{Spells}
@@ -18,8 +18,7 @@ use Rattle.tt_proof_write.specs.declared.fault.WriteFault.TheVariants as write
 use Rattle.tt_upgrade.proofs.Written.{node_in_two}
 use Rattle.tt_branch.specs.Outcomes.{IsOutcome}
 use Rattle.tt_app.specs.Solved.{IsProofFile, IsTextRefusal, IsSolveRefusal}
-use Rattle.tt_app.specs.Told.{fault_from_instance, told_write}
-use Rattle.tt_app.specs.declared.fault.AppFault.{AppFault}
+use Rattle.tt_app.specs.Told.{fault_from_instance, fault_from_write}
 use Rattle.tt_app.specs.declared.fault.AppFault.TheVariants as fault
 
 -- the best timetable is one of the instance

@@ -1,4 +1,4 @@
--- Want of memory is told as itself.
+-- Being out of memory is told as itself.
 use Rattle.tt_instance.specs.declared.fault.InstanceFault.{InstanceFault}
 use Rattle.tt_instance.specs.declared.fault.InstanceFault.TheVariants as instance
 use Rattle.tt_table.specs.declared.fault.SolutionFault.{SolutionFault}
@@ -18,7 +18,7 @@ pub memory_instance : (f : InstanceFault) → OutOfMemoryIsOneFault (fault_from_
 memory_instance instance.OutOfMemory = tt
 memory_instance f = λ e. cc
 
-memory_solution : (f : SolutionFault) → OutOfMemoryIsOneFault (fault_from_solution f)
+pub memory_solution : (f : SolutionFault) → OutOfMemoryIsOneFault (fault_from_solution f)
 memory_solution solution.OutOfMemory = tt
 memory_solution f = λ e. cc
 

@@ -16,7 +16,7 @@ pub record IsTableAnswer (p : Problem) (t : List Cell) (a : Answer) : Type 0 whe
   pub file : IsSomeAnd a.table (λ v. v.items ≡ solution_text p t)
   pub no_proof : a.proof ≡ None
 
--- the answer is that of a timetable which is no worse than the one that is spelled: half of so many steps at most were drawn from there, and the others descend
+-- the answer is that of a timetable which is no worse than the one that is spelled: half of this many steps at most were drawn from there, and the others descend
 pub record IsImproved (instance solution : List ℕ) (steps : ℕ) (a : Answer) : Type 0 where
   pub problem : Problem
   pub table : List Cell

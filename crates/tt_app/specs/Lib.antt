@@ -2,8 +2,11 @@ pub mod Bounded
 pub mod Checked
 pub mod Improved
 pub mod Lines
+pub mod Paged
+pub mod Parted
 pub mod Reported
 pub mod Rewritten
 pub mod Solved
+pub mod Summed
 pub mod Told
 pub mod Validated

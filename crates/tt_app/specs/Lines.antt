@@ -37,6 +37,10 @@ solve_line p best b finished =
     codes "cost " ++ best_cost p best ++ codes " bound " ++ bound_points b
     ++ (if finished then codes " finished" else codes " unfinished") ++ 10 ∷ []
 
+-- what proofs come to together, and how many there are
+abbrev pub parts_line : Bound → ℕ → List ℕ
+parts_line b n = codes "bound " ++ bound_points b ++ codes " parts " ++ decimal n ++ 10 ∷ []
+
 -- how many hard rules a timetable breaks, and its cost
 abbrev pub pair_line : ℕ → ℕ → List ℕ
 pair_line h c = codes "hard " ++ decimal h ++ codes " cost " ++ decimal c ++ 10 ∷ []

@@ -1,4 +1,4 @@
--- How a fault of a layer is told by a call: want of memory is always one and the same.
+-- How a fault of a layer is told by a call: being out of memory is always one and the same.
 use Rattle.std.specs.Prelude.{◌≡◌, ⊤}
 use Rattle.tt_instance.specs.declared.fault.InstanceFault.{InstanceFault}
 use Rattle.tt_instance.specs.declared.fault.InstanceFault.TheVariants as instance
@@ -14,6 +14,8 @@ use Rattle.tt_proof_write.specs.declared.fault.WriteFault.TheVariants as write
 use Rattle.tt_upgrade.specs.declared.fault.UpgradeFault.{UpgradeFault}
 use Rattle.tt_upgrade.specs.declared.fault.UpgradeFault.TheVariants as upgrade
 use Rattle.tt_report.specs.declared.fault.ReportFault.{ReportFault}
+use Rattle.tt_sum.specs.Faults.{OutOfMemoryIsOneFault as TellsMemoryOfSum}
+use Rattle.tt_sum.specs.declared.fault.SumFault.TheVariants as sum
 use Rattle.tt_report.specs.declared.fault.ReportFault.TheVariants as report
 use Rattle.tt_app.specs.declared.fault.AppFault.{AppFault}
 use Rattle.tt_app.specs.declared.fault.AppFault.TheVariants as fault
@@ -49,9 +51,10 @@ abbrev pub fault_from_write : WriteFault → AppFault
 fault_from_write write.OutOfMemory = fault.OutOfMemory
 fault_from_write _ = fault.ProofTooLarge
 
--- Want of memory is told as itself, wherever it comes from.
+-- Being out of memory is told as itself, wherever it comes from.
 abbrev pub OutOfMemoryIsOneFault : AppFault → Type 0
 OutOfMemoryIsOneFault (fault.Instance f) = ¬ (f ≡ instance.OutOfMemory)
 OutOfMemoryIsOneFault (fault.Solution f) = ¬ (f ≡ solution.OutOfMemory)
 OutOfMemoryIsOneFault (fault.Proof f) = ¬ (f ≡ check.OutOfMemory) × OutOfMemoryIsNoTextFault f
-TellsMemory _ = ⊤
+OutOfMemoryIsOneFault (fault.Sum f) = ¬ (f ≡ sum.OutOfMemory) × TellsMemoryOfSum f
+OutOfMemoryIsOneFault _ = ⊤

@@ -64,14 +64,22 @@ pub struct Beside<'p> {
 }
 
 impl<'p> Beside<'p> {
+    /// A new file beside its place, which is empty.
+    pub fn create<R: Files + AllocGlobal>(
+        rt: &R,
+        place: &'p str,
+    ) -> Result<(Beside<'p>, R::File), AppFault> {
+        let (path, file) = create_beside(rt, place)?;
+        Ok((Beside { path, place }, file))
+    }
+
     /// Writes a file beside its place; after a refusal there is none.
     pub fn write<R: Files + AllocGlobal>(
         rt: &R,
         place: &'p str,
         bytes: &[u8],
     ) -> Result<Beside<'p>, AppFault> {
-        let (path, file) = create_beside(rt, place)?;
-        let beside = Beside { path, place };
+        let (beside, file) = Beside::create(rt, place)?;
         match write_whole(file, bytes) {
             Ok(()) => Ok(beside),
             Err(fault) => {

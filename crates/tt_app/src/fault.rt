@@ -6,6 +6,7 @@ use tt_instance::InstanceFault;
 use tt_proof_check::{CertifyFault, CheckFault};
 use tt_proof_write::WriteFault;
 use tt_report::ReportFault;
+use tt_sum::SumFault;
 use tt_table::SolutionFault;
 use tt_upgrade::UpgradeFault;
 
@@ -29,6 +30,8 @@ pub enum AppFault {
     Solution(SolutionFault),
     #[error("proof: {0}")]
     Proof(CheckFault),
+    #[error("{0}")]
+    Sum(SumFault),
     #[error("proof too large")]
     ProofTooLarge,
     #[error("out of memory")]

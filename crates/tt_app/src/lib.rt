@@ -2,27 +2,30 @@
 #![tactic(auto)]
 
 mod answer;
-mod bounding;
-mod checking;
-mod commands;
+mod built_in;
+mod calls;
 mod disk;
 mod fault;
-mod improving;
 mod lines;
-mod reporting;
+mod page_file;
+mod parts_files;
+mod program;
+mod proof_files;
 mod requests;
-mod solving;
-mod stored;
-mod upgrading;
-mod validation;
+mod sum_checking;
+mod sums;
 
 pub use answer::Answer;
-pub use bounding::bound;
-pub use checking::check;
-pub use commands::run;
+pub use calls::bound::bound;
+pub use calls::check::check;
+pub use calls::improve::improve;
+pub use calls::page::page;
+pub use calls::parts::{PartsAnswer, parts};
+pub use calls::report::report;
+pub use calls::solve::solve;
+pub use calls::sum::sum;
+pub use calls::upgrade::upgrade;
+pub use calls::validate::validate;
 pub use fault::{AppFault, Input};
-pub use improving::improve;
-pub use reporting::report;
-pub use solving::solve;
-pub use upgrading::upgrade;
-pub use validation::validate;
+pub use program::run;
+pub use sum_checking::check_sum;

@@ -1,11 +1,14 @@
-//! The program: arguments in, texts and a status out.
+//! The program: arguments in, texts and an exit status out.
 
 use crate::answer::Answer;
 use crate::fault::AppFault;
+use crate::page_file::page_to;
+use crate::parts_files::answer_parts;
 use crate::requests::{
     answer_bound, answer_check, answer_improve, answer_solve, answer_stored, answer_upgrade,
     answer_validate, report_to,
 };
+use crate::sums::answer_sum;
 use clap::error::ErrorKind;
 use std::io::Write;
 use std::rt::Files;
@@ -26,7 +29,11 @@ fn print_status<E: Write>(written: Result<u8, AppFault>, err: &mut E) -> u8 {
 }
 
 /// Prints an answer or a refusal, and gives the status.
-fn print_answer<O: Write, E: Write>(answered: Result<Answer, AppFault>, out: &mut O, err: &mut E) -> u8 {
+fn print_answer<O: Write, E: Write>(
+    answered: Result<Answer, AppFault>,
+    out: &mut O,
+    err: &mut E,
+) -> u8 {
     match answered {
         Ok(answer) => match out.write_all(&answer.out) {
             Ok(()) => answer.status,
@@ -36,7 +43,7 @@ fn print_answer<O: Write, E: Write>(answered: Result<Answer, AppFault>, out: &mu
     }
 }
 
-/// Does what the arguments ask for, and gives the status.
+/// Does what the arguments ask for, and gives the exit status.
 fn run_request<R: Files + AllocGlobal, O: Write, E: Write>(
     rt: &R,
     asked: &Request<'_>,
@@ -47,12 +54,26 @@ fn run_request<R: Files + AllocGlobal, O: Write, E: Write>(
         Request::Validate { instance, solution } => {
             print_answer(answer_validate(rt, instance, solution), out, err)
         }
+        Request::Page {
+            instance,
+            solution,
+            out: path,
+        } => print_status(page_to(rt, instance, solution, path), err),
         Request::Check {
             instance,
             solution,
             proof,
         } => print_answer(answer_check(rt, instance, solution, proof), out, err),
-        Request::Bound { instance, proof } => print_answer(answer_bound(rt, instance, proof), out, err),
+        Request::Bound { instance, proof } => print_answer(
+            answer_bound(rt, instance, proof),
+            out,
+            err,
+        ),
+        Request::Sum {
+            instance,
+            solution,
+            proofs,
+        } => print_answer(answer_sum(rt, instance, *solution, proofs), out, err),
         Request::Improve {
             instance,
             solution,
@@ -74,6 +95,11 @@ fn run_request<R: Files + AllocGlobal, O: Write, E: Write>(
             proof,
             tree,
         } => print_answer(answer_solve(rt, instance, path, proof, *tree), out, err),
+        Request::Parts {
+            instance,
+            folder,
+            search,
+        } => print_answer(answer_parts(rt, instance, folder, *search), out, err),
         Request::Report {
             instance,
             solution,
@@ -82,7 +108,7 @@ fn run_request<R: Files + AllocGlobal, O: Write, E: Write>(
     }
 }
 
-/// What clap says of arguments that it refuses, or of a wish for help.
+/// Prints what clap says of arguments that it refuses, or of a wish for help.
 fn print_clap_message<O: Write, E: Write>(fault: &clap::Error, out: &mut O, err: &mut E) -> u8 {
     if fault.kind() == ErrorKind::OutOfMemory {
         return print_refusal(AppFault::OutOfMemory, err);
@@ -97,7 +123,7 @@ fn print_clap_message<O: Write, E: Write>(fault: &clap::Error, out: &mut O, err:
     }
 }
 
-/// Runs the program on the words of its command line, without its own name, and gives its status: 0 says yes, or that the work is
+/// Runs the program on its arguments, without its own name, and gives its exit status: 0 says yes, or that the work is
 /// done; 1 that a hard rule is broken, or that there is no timetable; 2 that it refused (why is on `err`). Without arguments it checks a stored proof.
 pub fn run<R: Files + AllocGlobal, O: Write, E: Write>(
     rt: &R,

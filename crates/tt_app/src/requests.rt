@@ -1,16 +1,16 @@
 //! What each command does with its files.
 
 use crate::answer::Answer;
-use crate::bounding::bound;
-use crate::checking::check;
+use crate::built_in;
+use crate::calls::bound::bound;
+use crate::calls::check::check;
+use crate::calls::improve::improve;
+use crate::calls::report::report;
+use crate::calls::solve::solve;
+use crate::calls::upgrade::upgrade;
+use crate::calls::validate::validate;
 use crate::disk::{Beside, read_file};
 use crate::fault::{AppFault, Input};
-use crate::improving::improve;
-use crate::reporting::report;
-use crate::solving::solve;
-use crate::stored;
-use crate::upgrading::upgrade;
-use crate::validation::validate;
 use std::fs;
 use std::io::Write;
 use std::rt::Files;
@@ -57,7 +57,12 @@ pub fn answer_validate<R: Files + AllocGlobal>(
 /// The built-in instance, solution and proof.
 pub fn answer_stored<R: Files + AllocGlobal>(rt: &R) -> Result<Answer, AppFault> {
     let mut proof = Pieces::new(built_in::PROOF, 64, 0);
-    check(rt.alloc(), built_in::INSTANCE, built_in::SOLUTION, &mut proof)
+    check(
+        rt.alloc(),
+        built_in::INSTANCE,
+        built_in::SOLUTION,
+        &mut proof,
+    )
 }
 
 /// The answer, once the timetable is written to its file.

@@ -1,5 +1,7 @@
 //! What the arguments of the command line ask for.
 
+use crate::parts::{PartSearch, parts_command, parts_request};
+use crate::sums::{sum_command, sum_request};
 use clap::builder::ValueParser;
 use clap::{Arg, ArgAction, ArgMatches, Command, Error};
 use std::alloc::{AllocError, Global};
@@ -35,6 +37,11 @@ pub enum Request<'a> {
         instance: &'a str,
         solution: &'a str,
     },
+    Page {
+        instance: &'a str,
+        solution: &'a str,
+        out: &'a str,
+    },
     Check {
         instance: &'a str,
         solution: &'a str,
@@ -43,6 +50,11 @@ pub enum Request<'a> {
     Bound {
         instance: &'a str,
         proof: &'a str,
+    },
+    Sum {
+        instance: &'a str,
+        solution: Option<&'a str>,
+        proofs: Vec<&'a str>,
     },
     Improve {
         instance: &'a str,
@@ -60,6 +72,11 @@ pub enum Request<'a> {
         out: &'a str,
         proof: &'a str,
         tree: TreeSearch,
+    },
+    Parts {
+        instance: &'a str,
+        folder: &'a str,
+        search: PartSearch,
     },
     Report {
         instance: &'a str,
@@ -79,7 +96,8 @@ fn file<'a>(alloc: Global, id: &'a str, help: &'a str) -> Arg<'a> {
         .help(help)
 }
 
-fn instance<'a>(alloc: Global) -> Arg<'a> {
+/// The file of the instance.
+pub fn instance<'a>(alloc: Global) -> Arg<'a> {
     file(
         alloc,
         "INSTANCE",
@@ -119,6 +137,15 @@ fn validate_command<'a>(alloc: Global) -> Result<Command<'a>, AllocError> {
         .arg(solution(alloc))
 }
 
+fn page_command<'a>(alloc: Global) -> Result<Command<'a>, AllocError> {
+    Command::new(alloc, "page")
+        .about("Writes a page of HTML that shows the weeks of a solution, and what it costs where")
+        .after_help("Example: tt page week.ctt week.sol week.html")
+        .arg(instance(alloc))?
+        .arg(solution(alloc))?
+        .arg(out(alloc))
+}
+
 fn check_command<'a>(alloc: Global) -> Result<Command<'a>, AllocError> {
     Command::new(alloc, "check")
         .about("Checks a solution, and a proof of a lower bound")
@@ -137,7 +164,7 @@ fn bound_command<'a>(alloc: Global) -> Result<Command<'a>, AllocError> {
 }
 
 /// An option with a number in a range, and the one that is taken where it isn't given.
-fn number<'a>(alloc: Global, id: &'a str, range: (u64, u64), default: &'a str) -> Arg<'a> {
+pub fn number<'a>(alloc: Global, id: &'a str, range: (u64, u64), default: &'a str) -> Arg<'a> {
     let (least, most) = range;
     Arg::new(alloc, id)
         .long(id)
@@ -147,7 +174,8 @@ fn number<'a>(alloc: Global, id: &'a str, range: (u64, u64), default: &'a str) -
         .default_value(default)
 }
 
-fn seed<'a>(alloc: Global) -> Arg<'a> {
+/// The option with the number that the drawn steps begin with.
+pub fn seed<'a>(alloc: Global) -> Arg<'a> {
     number(alloc, "seed", (0, u64::MAX), "1").help(
         "Begins the drawn steps: the same number gives the same answer, 0 to 2^64 - 1",
     )
@@ -228,11 +256,14 @@ fn command<'a>(alloc: Global) -> Result<Command<'a>, AllocError> {
         .no_binary_name(true)
         .subcommand_required(true)
         .subcommand(validate_command(alloc)?)?
+        .subcommand(page_command(alloc)?)?
         .subcommand(check_command(alloc)?)?
         .subcommand(bound_command(alloc)?)?
+        .subcommand(sum_command(alloc)?)?
         .subcommand(improve_command(alloc)?)?
         .subcommand(upgrade_command(alloc)?)?
         .subcommand(solve_command(alloc)?)?
+        .subcommand(parts_command(alloc)?)?
         .subcommand(report_command(alloc)?)
 }
 
@@ -240,6 +271,14 @@ fn validate_request<'a>(found: &ArgMatches<'a>) -> Option<Request<'a>> {
     Some(Request::Validate {
         instance: found.get_str("INSTANCE")?,
         solution: found.get_str("SOLUTION")?,
+    })
+}
+
+fn page_request<'a>(found: &ArgMatches<'a>) -> Option<Request<'a>> {
+    Some(Request::Page {
+        instance: found.get_str("INSTANCE")?,
+        solution: found.get_str("SOLUTION")?,
+        out: found.get_str("OUT")?,
     })
 }
 
@@ -279,7 +318,7 @@ fn upgrade_request<'a>(found: &ArgMatches<'a>) -> Option<Request<'a>> {
 }
 
 /// A number of nodes; none where it has no place in 32 bits.
-fn nodes_of(number: u64) -> Option<u32> {
+pub fn nodes_of(number: u64) -> Option<u32> {
     u32::try_from(number).ok()
 }
 
@@ -323,11 +362,14 @@ pub fn parse_arguments<'a>(
     };
     Ok(match name {
         "validate" => validate_request(found),
+        "page" => page_request(found),
         "check" => check_request(found),
         "bound" => bound_request(found),
+        "sum" => sum_request(alloc, found)?,
         "improve" => improve_request(found),
         "upgrade" => upgrade_request(found),
         "solve" => solve_request(found),
+        "parts" => parts_request(found),
         "report" => report_request(found),
         _ => None,
     })

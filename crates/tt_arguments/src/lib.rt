@@ -2,5 +2,8 @@
 #![tactic(auto)]
 
 mod arguments;
+mod parts;
+mod sums;
 
 pub use arguments::{MAX_NODES, Request, Search, TreeSearch, parse_arguments};
+pub use parts::PartSearch;

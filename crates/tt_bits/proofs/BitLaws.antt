@@ -1,18 +1,16 @@
 -- Bits of words.
-use Rattle.std.proofs.Common.{◌≡◌, ℕ, zero, suc, ◌+◌, ◌-◌, ◌*◌, ◌%◌, ◌^◌, ◌<◌, ◌≤◌, Bool, true, false, not, ◌&&◌, ◌||◌, min, bit_and, refl, sym, ap, ◌∙◌, arith, inl, inr, w64, eq-eqb, ne_eqb}
-use Rattle.std.specs.Prelude.{◌==◌, nat_lt, Contains}
+use Rattle.std.proofs.Common.{◌≡◌, ℕ, zero, suc, ◌-◌, ◌*◌, ◌%◌, ◌^◌, ◌<◌, Bool, true, false, not, ◌&&◌, ◌||◌, min, bit_and, refl, sym, ap, ◌∙◌, arith, inl, inr, w64, eq-eqb, ne_eqb}
+use Rattle.std.specs.Prelude.{◌==◌, nat_lt}
 use Rattle.std.specs.List.{list_any, list_all}
 use Rattle.std.specs.Int.{bit_at, bit_not, trailing_zeros}
 use Rattle.std.proofs.lemmas.Nat.Bits.{bit_at_and, bit_at_not, bit_at-lt, bit_at-pow_same, bit_at-pow_other, bit_at-trailing_zeros, bit_at-zero, bit_at_ones, bit_at_ones_above}
-use Rattle.std.proofs.lemmas.Bool.{and_from, and_parts, cases_eq, false_from_ne_true, both_ways, cases_lt, lt-ltb, ltb-true}
+use Rattle.std.proofs.lemmas.Bool.{and_from, and_parts, cases_eq, false_from_ne_true, both_ways, cases_lt, lt-ltb, le-ltb}
 use Rattle.std.proofs.Math.Pow.{pow-lt}
 use Rattle.std.proofs.Math.Nat.{mod-eq_of_lt}
-use Rattle.std.proofs.lemmas.List.FromFn.{length-range_with_len, get_or-range_with_len}
-use Rattle.tt_lists.specs.Words.{numbers_below}
 use Rattle.tt_lists.proofs.Numbers.{any_below}
-use Rattle.tt_lists.proofs.Members.{member_from_any, each_below_at}
-use Rattle.tt_lists.proofs.Below.{all_more, any_more}
-use Rattle.tt_lists.proofs.Sums.{each_from_list_all}
+use Rattle.tt_lists.proofs.Members.{member_from_any}
+use Rattle.tt_lists.proofs.Range.{below_member, all_below, none_below, at_below, all_same_below, any_same_below}
+use Rattle.tt_lists.proofs.Truth.{same_truth, wanted, not_wanted}
 use Rattle.tt_bits.specs.Bits.{has_bit, bits, each_bit}
 
 test_of : (a b : ℕ) → a < 2 → b < 2 → (min a b == 1) ≡ ((a == 1) && (b == 1))
@@ -52,41 +50,6 @@ has_bit-none r = ap (λ n. n == 1) (bit_at-zero r)
 
 -- ---- tests of all bits
 
-pub same_truth : (a b : Bool) → (a ≡ true → b ≡ true) → (b ≡ true → a ≡ true) → a ≡ b
-same_truth true b f g = sym (f refl)
-same_truth false true f g = g refl
-same_truth false false f g = refl
-
-pub all_below : (p : ℕ → Bool) (n : ℕ) → ((k : ℕ) → k < n → p k ≡ true) → list_all p (numbers_below n) ≡ true
-all_below p zero h = refl
-all_below p (suc n) h =
-    let e : suc n ≡ n + 1 = omega arith in
-    ap (λ m. list_all p (numbers_below m)) e ∙ all_more p n (all_below p n (λ k l. h k (omega arith))) (h n (omega arith))
-
-pub none_below : (p : ℕ → Bool) (n : ℕ) → ((k : ℕ) → k < n → p k ≡ false) → list_any p (numbers_below n) ≡ false
-none_below p zero h = refl
-none_below p (suc n) h =
-    let e : suc n ≡ n + 1 = omega arith in
-    ap (λ m. list_any p (numbers_below m)) e ∙ any_more p n (none_below p n (λ k l. h k (omega arith))) (h n (omega arith))
-
-pub at_below : (p : ℕ → Bool) (n k : ℕ) → list_all p (numbers_below n) ≡ true → k < n → p k ≡ true
-at_below p n k e h = each_below_at (λ i. p i ≡ true) n k (each_from_list_all p (numbers_below n) e) h
-
-pub numbers_under : (n i : ℕ) → Contains (numbers_below n) i → i < n
-numbers_under n i c =
-    let k : c.0 < n = omega (arith, c.1, length-range_with_len 0 n) in
-    omega (arith, c.2, get_or-range_with_len 0 n c.0 i k)
-
-all_same_below : (f g : ℕ → Bool) (n : ℕ) → ((r : ℕ) → r < n → f r ≡ g r) → list_all f (numbers_below n) ≡ list_all g (numbers_below n)
-all_same_below f g n h = same_truth (list_all f (numbers_below n)) (list_all g (numbers_below n))
-    (λ e. all_below g n (λ k l. sym (h k l) ∙ at_below f n k e l))
-    (λ e. all_below f n (λ k l. h k l ∙ at_below g n k e l))
-
-any_same_below : (f g : ℕ → Bool) (n : ℕ) → ((r : ℕ) → r < n → f r ≡ g r) → list_any f (numbers_below n) ≡ list_any g (numbers_below n)
-any_same_below f g n h = same_truth (list_any f (numbers_below n)) (list_any g (numbers_below n))
-    (λ e. let m = member_from_any f (numbers_below n) e in let l = numbers_under n m.0 m.1 in any_below g n m.0 l (sym (h m.0 l) ∙ m.2))
-    (λ e. let m = member_from_any g (numbers_below n) e in let l = numbers_under n m.0 m.1 in any_below f n m.0 l (h m.0 l ∙ m.2))
-
 -- a word is 0 if it has no bit
 pub empty-none : (w : ℕ) → w ≡ 0 → list_any (has_bit w) bits ≡ false
 unfolding bits
@@ -107,19 +70,11 @@ none-bit w r e h = false_from_ne_true (has_bit w r) (λ t. both_ways (list_any (
 module _ (w : ℕ) (t : ℕ → Bool) where
   pub each_bit_from : ((k : ℕ) → k < 64 → has_bit w k ≡ true → t k ≡ true) → each_bit w t ≡ true
   unfolding bits
-  each_bit_from f = all_below (λ k. not (has_bit w k) || t k) 64 (λ k h. by_test (has_bit w k) (f k h))
-    where
-      by_test : (b : Bool) {u : Bool} → (b ≡ true → u ≡ true) → (not b || u) ≡ true
-      by_test true g = g refl
-      by_test false g = refl
+  each_bit_from f = all_below (λ k. not (has_bit w k) || t k) 64 (λ k h. not_wanted (has_bit w k) (t k) (f k h))
 
   pub each_bit_at : (k : ℕ) → k < 64 → each_bit w t ≡ true → has_bit w k ≡ true → t k ≡ true
   unfolding bits
   each_bit_at k h e b = wanted (has_bit w k) (t k) (at_below (λ i. not (has_bit w i) || t i) 64 k e h) b
-    where
-      wanted : (b u : Bool) → (not b || u) ≡ true → b ≡ true → u ≡ true
-      wanted true u a c = a
-      wanted false u a c = cc
 
   pub each_bit-none : w ≡ 0 → each_bit w t ≡ true
   each_bit-none e = each_bit_from (λ k l b. absurd (both_ways (has_bit w k) (ap (λ n. has_bit n k) e ∙ has_bit-none k) b))
@@ -148,14 +103,6 @@ module _ (w rest j : ℕ) (h : j < 64) (e : has_bit w j ≡ true) (l : (r : ℕ)
       let two = and_parts (has_bit w i) (not (i == j)) (sym (l i hi) ∙ m.2) in
       (i, hi, two.0, (λ q. both_ways (not (i == j)) (ap not (eq-eqb i j q)) two.1))
 
-pub not_true : {b : Bool} → not b ≡ true → b ≡ false
-not_true {b = true} e = sym e
-not_true {b = false} e = refl
-
-pub not_false : {b : Bool} → not b ≡ false → b ≡ true
-not_false {b = true} e = refl
-not_false {b = false} e = sym e
-
 -- ---- tests that agree on the bits
 
 pub any_bits : (f g : ℕ → Bool) → ((r : ℕ) → r < 64 → f r ≡ g r) → list_any f bits ≡ list_any g bits
@@ -183,12 +130,9 @@ pub all_bits_at : (p : ℕ → Bool) (r : ℕ) → list_all p bits ≡ true → 
 unfolding bits
 all_bits_at p r e h = at_below p 64 r e h
 
-pub not_below : (m n : ℕ) → n ≤ m → nat_lt m n ≡ false
-not_below m n h = false_from_ne_true (nat_lt m n) (λ e. let l = ltb-true m n e in omega arith)
-
 -- the numbers below a bound
 pub low_bits : (n r : ℕ) → has_bit (2 ^ n - 1) r ≡ nat_lt r n
 low_bits n r = elim (cases_lt r n) [
   | inl h ↦ ap (λ m. m == 1) (bit_at_ones n r h) ∙ sym (lt-ltb r n h)
-  | inr h ↦ ap (λ m. m == 1) (bit_at_ones_above n r h) ∙ sym (not_below r n h)
+  | inr h ↦ ap (λ m. m == 1) (bit_at_ones_above n r h) ∙ sym (le-ltb r n h)
 ]

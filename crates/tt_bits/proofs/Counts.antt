@@ -1,18 +1,19 @@
 -- How many numbers a set has.
-use Rattle.std.proofs.Common.{◌≡◌, ℕ, zero, suc, ◌+◌, ◌-◌, ◌*◌, ◌/◌, ◌%◌, ◌^◌, ◌<◌, ◌≤◌, Bool, true, false, ◌&&◌, cond, List, [], ◌∷◌, refl, sym, ap, ◌∙◌, arith, add-one, pow-suc}
+use Rattle.std.proofs.Common.{◌≡◌, ℕ, zero, suc, ◌+◌, ◌-◌, ◌*◌, ◌/◌, ◌%◌, ◌^◌, ◌<◌, ◌≤◌, Bool, ◌&&◌, cond, refl, sym, ap, ◌∙◌, arith, add-one, pow-suc}
 use Rattle.std.specs.Prelude.{◌==◌, nat_lt, count_by, count_ones}
 use Rattle.std.specs.List.{range_with_len, list_any}
-use Rattle.std.proofs.lemmas.Bool.{and_parts, and_from, lt-ltb, ltb-true}
-use Rattle.std.specs.Int.{bit_at}
+use Rattle.std.proofs.lemmas.Bool.{and_parts, and_from, lt-ltb, ltb-true, le-ltb}
 use Rattle.std.specs.Int.Count.{ones}
 use Rattle.std.proofs.lemmas.Nat.{ones_cat}
-use Rattle.std.proofs.lemmas.Nat.Bits.{bit_at-suc, bit_at_lowest, bit_at-lt}
+use Rattle.std.proofs.lemmas.Nat.Bits.{bit_at-suc, bit_at_lowest}
 use Rattle.tt_lists.specs.Words.{range_below}
 use Rattle.tt_lists.proofs.Numbers.{any_below, count_more}
 use Rattle.tt_lists.proofs.Members.{member_from_any}
 use Rattle.tt_lists.proofs.Sums.{one_if, count_by-cons}
+use Rattle.tt_lists.proofs.Range.{below_member}
+use Rattle.tt_lists.proofs.Truth.{same_truth}
 use Rattle.tt_bits.specs.Bits.{has_bit, bits}
-use Rattle.tt_bits.proofs.BitLaws.{same_truth, not_below, bit_from_any, any_bits_at, numbers_under}
+use Rattle.tt_bits.proofs.BitLaws.{bit_from_any, any_bits_at}
 
 halved : (w k : ℕ) → has_bit w (k + 1) ≡ has_bit (w / 2) k
 halved w k = ap (has_bit w) (add-one k) ∙ ap (λ n. n == 1) (bit_at-suc w k)
@@ -71,7 +72,7 @@ count-past t n zero =
 count-past t n (suc more) =
     let e : n + suc more ≡ n + more + 1 = omega arith in
     ap (λ m. count_by (λ s. nat_lt s n && t s) (range_below m)) e ∙ count_more (λ s. nat_lt s n && t s) (n + more)
-    ∙ ap (λ b. count_by (λ s. nat_lt s n && t s) (range_below (n + more)) + cond (b && t (n + more)) 1 0) (not_below (n + more) n (omega arith))
+    ∙ ap (λ b. count_by (λ s. nat_lt s n && t s) (range_below (n + more)) + cond (b && t (n + more)) 1 0) (le-ltb (n + more) n (omega arith))
     ∙ omega (arith, count-past t n more)
 
 pub count-bits : (f g : ℕ → Bool) → ((r : ℕ) → r < 64 → f r ≡ g r) → count_by f bits ≡ count_by g (range_below 64)

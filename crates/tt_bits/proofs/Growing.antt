@@ -1,13 +1,13 @@
 -- Sets that grow number by number.
-use Rattle.std.proofs.Common.{◌≡◌, ℕ, ◌+◌, ◌*◌, ◌%◌, ◌^◌, ◌<◌, ◌≤◌, zero, suc, max, Bool, true, false, ◌&&◌, ◌||◌, refl, sym, ap, ◌∙◌, arith, inl, inr, w64, eq-eqb, ne_eqb}
+use Rattle.std.proofs.Common.{◌≡◌, ℕ, ◌+◌, ◌*◌, ◌%◌, ◌^◌, ◌<◌, zero, suc, max, Bool, true, false, ◌&&◌, ◌||◌, refl, sym, ap, ◌∙◌, arith, inl, inr, w64, eq-eqb, ne_eqb}
 use Rattle.std.specs.Prelude.{◌==◌, nat_lt}
 use Rattle.std.specs.Int.{bit_at}
 use Rattle.std.specs.Int.Bits.{bit_or}
 use Rattle.std.proofs.Math.Bool.{or-false, or-true}
-use Rattle.std.proofs.lemmas.Bool.{cases_eq, cases_lt, lt-ltb}
+use Rattle.std.proofs.lemmas.Bool.{cases_eq, cases_lt, lt-ltb, le-ltb}
 use Rattle.std.proofs.lemmas.Nat.Bits.{bit_at_or, bit_at-lt, bit_at_set_same, bit_at_set_other}
 use Rattle.tt_bits.specs.Bits.{has_bit}
-use Rattle.tt_bits.proofs.BitLaws.{has_bit-none, not_below}
+use Rattle.tt_bits.proofs.BitLaws.{has_bit-none}
 
 pub has_bit-with : (w k s : ℕ) → k < 64 → has_bit (bit_or w (1 * 2 ^ k % 2 ^ 64)) s ≡ (has_bit w s || (s == k))
 has_bit-with w k s h = elim (cases_eq s k) [
@@ -25,14 +25,14 @@ has_bit-either a b r = ap (λ n. n == 1) (bit_at_or a b r) ∙ test_or (bit_at a
 
 -- no number passes before the first
 pub set_none : (t : ℕ → Bool) (s : ℕ) → has_bit 0 s ≡ (nat_lt s 0 && t s)
-set_none t s = has_bit-none s ∙ sym (ap (λ b. b && t s) (not_below s 0 (omega arith)))
+set_none t s = has_bit-none s ∙ sym (ap (λ b. b && t s) (le-ltb s 0 (omega arith)))
 
 next_test : (t : ℕ → Bool) (n s : ℕ) (b : Bool) → b ≡ t n → ((nat_lt s n && t s) || (b && (s == n))) ≡ (nat_lt s (n + 1) && t s)
 next_test t n s b e = elim (cases_eq s n) [
-  | inl q ↦ ap (λ x. (x && t s) || (b && (s == n))) (not_below s n (omega arith)) ∙ ap (λ x. b && x) (eq-eqb s n q) ∙ and_yes b ∙ e ∙ ap t (sym q) ∙ sym (ap (λ x. x && t s) (lt-ltb s (n + 1) (omega arith)))
+  | inl q ↦ ap (λ x. (x && t s) || (b && (s == n))) (le-ltb s n (omega arith)) ∙ ap (λ x. b && x) (eq-eqb s n q) ∙ and_yes b ∙ e ∙ ap t (sym q) ∙ sym (ap (λ x. x && t s) (lt-ltb s (n + 1) (omega arith)))
   | inr q ↦ ap (λ x. (nat_lt s n && t s) || (b && x)) (ne_eqb s n q) ∙ ap (λ x. (nat_lt s n && t s) || x) (and_no b) ∙ or-false (nat_lt s n && t s) ∙ ap (λ x. x && t s) (elim (cases_lt s n) [
     | inl l ↦ lt-ltb s n l ∙ sym (lt-ltb s (n + 1) (omega arith))
-    | inr l ↦ not_below s n l ∙ sym (not_below s (n + 1) (omega arith))
+    | inr l ↦ le-ltb s n l ∙ sym (le-ltb s (n + 1) (omega arith))
   ])
 ]
   where

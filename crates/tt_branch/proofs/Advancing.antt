@@ -4,11 +4,14 @@ use Rattle.std.proofs.Common.{not, get_or}
 use Rattle.std.specs.Prelude.{slice_get, slice_set, IfSome, IsNone}
 use Rattle.std.specs.Option.{is_some}
 use Rattle.tt_facts.specs.declared.facts.Fact.{Fact}
-use Rattle.tt_branch.proofs.Dividing.{get_is}
 use Rattle.std.specs.List.{AllZip, AllByRecursion, list_any}
 use Rattle.std.proofs.lemmas.List.Sums.{sum_by-append, count_by-le-length}
 use Rattle.std.proofs.lemmas.Bool.{or_parts, or_left, or_right}
+use Rattle.std.proofs.lemmas.Option.{get_or_from_slice_get}
 use Rattle.tt_lists.proofs.Sums.{one_if, count_by-cons}
+use Rattle.tt_lists.proofs.Zipped.{zip_and, zip_cut, zip_other}
+use Rattle.tt_lists.proofs.Tested.{each_at}
+use Rattle.tt_lists.proofs.Cuts.{cut_at, set_cut, get_next, get_after}
 use Rattle.tt_instance.specs.Problem.{Problem}
 use Rattle.tt_instance.specs.declared.cell.Cell.{Cell}
 use Rattle.tt_rules.specs.Score.{IsFeasible, cost}
@@ -30,7 +33,6 @@ use Rattle.tt_branch.specs.Links.{path_at, AreLinks, link_of, divided_links}
 use Rattle.tt_branch.specs.State.{IsSplitAt, MakesWait, EndsAt}
 use Rattle.tt_branch.specs.Written.{IsReached}
 use Rattle.tt_branch.proofs.Chains.{links_more}
-use Rattle.tt_branch.proofs.Growing.{zip_cut, zip_other, cut_at, set_cut, get_next, get_after}
 use Rattle.tt_branch.proofs.Searching.{IsBetter, grow_better, grow_mark, grow_split}
 use Rattle.tt_branch.proofs.Ending.{shallow}
 
@@ -56,17 +58,6 @@ advance_to p old new better feasible costs = record {
 }
 
 -- ---- nodes that are reached
-
-zip_and : {A B : Type 0} (R : A → B → Type 0) (P : A → Type 0) (xs : List A) (bs : List B) → AllByRecursion P xs → AllZip R xs bs → AllZip (λ x b. R x b × P x) xs bs
-zip_and R P [] [] a h = tt
-zip_and R P [] (b ∷ bs) a h = absurd h
-zip_and R P (x ∷ xs) [] a h = absurd h
-zip_and R P (x ∷ xs) (b ∷ bs) a h = ((h.0, a.0), zip_and R P xs bs a.1 h.1)
-
-pub each_at : {X : Type 0} (P : X → Type 0) (xs : List X) (k : ℕ) (x : X) → AllByRecursion P xs → slice_get xs k ≡ Some x → P x
-each_at P [] k x a e = cc
-each_at P (y ∷ ys) zero x a e = let same : y ≡ x = cc in subst P same a.0
-each_at P (y ∷ ys) (suc k) x a e = each_at P ys k x a.1 e
 
 -- the facts of a node fit on a path, and their numbers are the instance's
 pub record IsThere (p : Problem) (links : List Link) (e : Entry) : Type 0 where

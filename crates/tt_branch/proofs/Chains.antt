@@ -3,6 +3,7 @@ use Rattle.std.proofs.Common.{◌≡◌, ℕ, zero, suc, ◌+◌, ◌-◌, ◌<�
 use Rattle.std.specs.Prelude.{slice_get, reverse, ◌⊎◌}
 use Rattle.std.proofs.lemmas.List.{reverse-append}
 use Rattle.std.proofs.lemmas.Option.{slice_get-get_or}
+use Rattle.tt_lists.proofs.Cuts.{at_cases, at_first, at_next}
 use Rattle.tt_facts.specs.declared.facts.Fact.{Fact}
 use Rattle.tt_branch.specs.declared.links.Link.{Link}
 use Rattle.tt_branch.specs.Links.{chain, path_at, AreLinks}
@@ -48,26 +49,6 @@ within_at links ok at d h l =
     omega arith
 
 -- ---- more links
-
--- an element of two lists, one behind the other
-pub at_cases : {X : Type 0} (xs ys : List X) (i : ℕ) (x : X) → slice_get (xs ++ ys) i ≡ Some x → (slice_get xs i ≡ Some x) ⊎ ((j : ℕ) × (i ≡ length xs + j) × (slice_get ys j ≡ Some x))
-at_cases [] ys i x e = inr (i, omega arith, e)
-at_cases (y ∷ xs) ys zero x e = inl e
-at_cases (y ∷ xs) ys (suc i) x e = elim (at_cases xs ys i x e) [
-  | inl h ↦ inl h
-  | inr w ↦ inr (w.0, omega (arith, w.1), w.2)
-]
-
--- a place of the first list is the same in both
-pub at_first : {X : Type 0} (xs ys : List X) (i : ℕ) → i < length xs → slice_get (xs ++ ys) i ≡ slice_get xs i
-at_first [] ys i h = absurd (omega arith)
-at_first (x ∷ xs) ys zero h = refl
-at_first (x ∷ xs) ys (suc i) h = at_first xs ys i (omega (arith, h))
-
--- the element behind the first list
-pub at_next : {X : Type 0} (xs : List X) (x : X) (ys : List X) → slice_get (xs ++ x ∷ ys) (length xs) ≡ Some x
-at_next [] x ys = refl
-at_next (y ∷ xs) x ys = at_next xs x ys
 
 pub links_more : (links : List Link) (l : Link) → AreLinks links → l.parent ≤ length links → AreLinks (links ++ l ∷ [])
 links_more links l ok h i k e = elim (at_cases links (l ∷ []) i k e) [

@@ -5,24 +5,25 @@ use Rattle.std.specs.List.{AllZip, AllByRecursion, list_any, cons_option}
 use Rattle.std.proofs.lemmas.List.Elements.{All-from_recursion}
 use Rattle.std.proofs.lemmas.List.{length-map}
 use Rattle.tt_lists.proofs.Sums.{each_both, each_weaker}
+use Rattle.tt_lists.proofs.Tested.{each_map}
+use Rattle.tt_lists.proofs.Zipped.{zip_other}
 use Rattle.tt_instance.specs.Problem.{Problem}
 use Rattle.tt_instance.specs.Limits.{IsInstance}
 use Rattle.tt_instance.specs.declared.cell.Cell.{Cell}
 use Rattle.tt_rules.specs.Score.{IsFeasible}
 use Rattle.tt_facts.specs.Live.{least, least_with}
 use Rattle.tt_facts.specs.declared.facts.Fact.{Fact}
+use Rattle.tt_facts.proofs.Least.{least_with-le}
 use Rattle.tt_leaf.specs.Claims.{is_fair, total_of}
-use Rattle.tt_leaf.specs.Leaves.{claims_once, demand, IsRight}
+use Rattle.tt_leaf.specs.Leaves.{claims_once, IsRight}
 use Rattle.tt_leaf.specs.Outcomes.{IsClaimedOnce}
 use Rattle.tt_leaf.specs.declared.leaf.Bound.{Bound}
 use Rattle.tt_leaf.specs.declared.leaf.Bound.TheVariants.{AtLeast, Nothing}
 use Rattle.tt_leaf.specs.declared.leaf.Claim.TheVariants.{Days}
 use Rattle.tt_leaf.specs.declared.leaf.Leaf.{Leaf}
 use Rattle.tt_leaf.specs.declared.leaf.Leaf.TheVariants.{Empty, Many, Clique, Slots, Cost}
-use Rattle.tt_leaf.specs.declared.leaf.RuleFault.TheVariants.{ClaimedTwice, TooCheap, BadPrice}
 use Rattle.std.specs.Prelude.{nat_le}
 use Rattle.std.specs.List.{list_all}
-use Rattle.tt_leaf.proofs.Soundness.{demand_none}
 use Rattle.tt_proof_text.specs.Spelling.{IsBound}
 use Rattle.tt_proof_text.specs.Trees.{preorder, OnPath, on_paths}
 use Rattle.tt_proof_text.specs.declared.node.Node.{Node}
@@ -34,7 +35,6 @@ use Rattle.tt_proof_check.proofs.Reading.{whole_places}
 use Rattle.tt_find.specs.Best.{best_claims}
 use Rattle.tt_find.proofs.Answering.{best_answer}
 use Rattle.tt_find.proofs.Claims.{once}
-use Rattle.tt_find.proofs.Lists.{each_map}
 use Rattle.tt_branch.specs.declared.best.Best.{Best}
 use Rattle.tt_branch.specs.declared.entry.Mark.{Mark}
 use Rattle.tt_branch.specs.declared.entry.Mark.TheVariants.{Divided, Closed, Opened, Waiting}
@@ -48,7 +48,6 @@ use Rattle.tt_branch.specs.Outcomes.{BeginsWell, final_bound, IsOutcome}
 use Rattle.tt_branch.specs.Proofs.{node_worth, worths, IsShortNode, IsSearched, shown_bound}
 use Rattle.tt_branch.specs.State.{IsUnderWay, EndsAt}
 use Rattle.tt_branch.specs.Written.{IsOnceNode, IsWritable}
-use Rattle.tt_branch.proofs.Growing.{zip_other}
 use Rattle.tt_branch.proofs.Ending.{preorder-on_paths, shallow, well_split, finished_proves, unfinished_proves, greedy}
 use Rattle.tt_branch.proofs.Advancing.{IsThere, each_there}
 use Rattle.tt_branch.proofs.Limits.{cost_limit, total_limit}
@@ -60,9 +59,8 @@ once_closed p path b (Empty g) e = tt
 once_closed p path b (Many c) e = tt
 once_closed p path b (Clique cs) e = tt
 once_closed p path b (Slots cs) e = tt
-once_closed p path Nothing (Cost claims) e = cc
-once_closed p path (AtLeast m) (Cost claims) e =
-    (demand_none (claims_once claims) ClaimedTwice (demand (list_all (is_fair p path) claims) BadPrice (demand (nat_le m (total_of p path claims)) TooCheap None)) e).0
+once_closed p path Nothing (Cost claims) e = absurd e
+once_closed p path (AtLeast m) (Cost claims) e = e.0
 
 -- what is true of the node of a mark
 pub record IsFit (p : Problem) (n : Node) : Type 0 where
@@ -133,10 +131,6 @@ module _ (p : Problem) (ok : IsInstance p) where
       by_mark (Closed leaf) k = cc
       by_mark (Opened g) k = (total_of p (path_at links e.link) (best_claims p (path_at links e.link)), refl, total_limit p ok (path_at links e.link))
       by_mark Waiting k = (total_of p (path_at links e.link) (best_claims p (path_at links e.link)), refl, total_limit p ok (path_at links e.link))
-
-  least_with-le : (n : ℕ) (o : Option ℕ) → least_with n o ≤ n
-  least_with-le n None = omega arith
-  least_with-le n (Some m) = omega arith
 
   least_of : (o : Option ℕ) (ns : List ℕ) (v : ℕ) → least ns ≡ Some v → v ≤ 1000000000000 → (w : ℕ) × (least (cons_option o ns) ≡ Some w) × (w ≤ 1000000000000)
   least_of None ns v e h = (v, e, h)

@@ -3,6 +3,8 @@ use Rattle.std.proofs.Common.{◌≡◌, ℕ, suc, ◌+◌, List, [], ◌∷◌,
 use Rattle.std.specs.Prelude.{slice_get, slice_set, true, false}
 use Rattle.std.specs.List.{insert}
 use Rattle.std.proofs.Common.{zero, ◌<◌}
+use Rattle.std.proofs.lemmas.Option.{get_or_from_slice_get}
+use Rattle.tt_lists.proofs.Cuts.{IsCut, cut_at, set_cut, insert_cut}
 use Rattle.tt_facts.specs.declared.facts.Pattern.{Pattern}
 use Rattle.tt_branch.specs.declared.entry.Mark.TheVariants.{Divided, Opened, Waiting}
 use Rattle.tt_branch.specs.declared.entry.Entry.{Entry}
@@ -11,12 +13,6 @@ use Rattle.tt_branch.specs.declared.search.Search.{Search}
 use Rattle.tt_branch.specs.Growing.{HasMark}
 use Rattle.tt_branch.specs.Links.{link_of, divided_links}
 use Rattle.tt_branch.specs.State.{IsSplitAt}
-use Rattle.tt_branch.proofs.Growing.{IsCut, cut_at, set_cut, insert_cut}
-
-pub get_is : {X : Type 0} (xs : List X) (k : ℕ) (x d : X) → slice_get xs k ≡ Some x → get_or xs k d ≡ x
-get_is [] k x d e = cc
-get_is (y ∷ ys) zero x d e = cc
-get_is (y ∷ ys) (suc k) x d e = get_is ys k x d e
 
 split_items : (items one two three : List Entry) (k : ℕ) (e d a b : Entry) (cut : IsCut items k e) → one ≡ insert items (k + 1) b → two ≡ insert one (k + 1) a → three ≡ slice_set two k d → three ≡ cut.before ++ d ∷ a ∷ b ∷ cut.after
 split_items items one two three k e d a b cut h i j =
@@ -79,8 +75,3 @@ split_by_steps place g old new h s =
       links = s.second_link ∙ ap (λ l. l ++ link_of s.read.link g false ∷ []) s.first_link ∙ ap (λ n. divided_links old.links.items n g) link;
       best = s.best;
     }
-
-pub get_inside : {X : Type 0} (xs : List X) (k : ℕ) (x : X) → slice_get xs k ≡ Some x → k < length xs
-get_inside [] k x e = cc
-get_inside (y ∷ ys) zero x e = omega arith
-get_inside (y ∷ ys) (suc k) x e = omega (arith, get_inside ys k x e)

@@ -7,12 +7,15 @@ use Rattle.std.proofs.lemmas.List.{map-append}
 use Rattle.std.proofs.lemmas.List.Elements.{All-from_recursion}
 use Rattle.tt_lists.proofs.Sums.{each_weaker, each_both}
 use Rattle.tt_lists.proofs.Members.{member_cases, each_member, at_member}
-use Rattle.tt_leaf.proofs.Tested.{each_append}
+use Rattle.tt_lists.proofs.Tested.{each_append}
+use Rattle.tt_lists.proofs.Given.{given_member}
+use Rattle.tt_lists.proofs.Zipped.{zip_each, zip_length}
 use Rattle.tt_instance.specs.Problem.{Problem}
 use Rattle.tt_instance.specs.declared.cell.Cell.{Cell}
 use Rattle.tt_rules.specs.Score.{cost}
 use Rattle.tt_facts.specs.declared.facts.Fact.{Fact}
 use Rattle.tt_facts.specs.Live.{least, least_with}
+use Rattle.tt_facts.proofs.Least.{least-le}
 use Rattle.tt_leaf.specs.Claims.{total_of}
 use Rattle.tt_leaf.specs.declared.leaf.Bound.{Bound}
 use Rattle.tt_leaf.specs.declared.leaf.Bound.TheVariants.{AtLeast}
@@ -30,7 +33,6 @@ use Rattle.tt_branch.specs.declared.links.Link.{Link}
 use Rattle.tt_branch.specs.Growing.{node_of, IsKnown, Stands, IsGrown, is_open}
 use Rattle.tt_branch.specs.Outcomes.{final_bound}
 use Rattle.tt_branch.specs.Proofs.{SplitsWell, node_worth, worths, IsCheaper, IsGreedy}
-use Rattle.tt_branch.proofs.Growing.{zip_each, zip_length}
 use Rattle.tt_branch.proofs.Searching.{right_for, best_right, no_worth, worth_reaches, splits_well}
 
 -- ---- the shape of a tree
@@ -64,45 +66,6 @@ preorder-on_paths root (Branch g a b) =
     ap (λ l. node.Split g ∷ l) (map-append (λ x. x.node) (on_paths (with_fact root g true) a) (on_paths (with_fact root g false) b)
     ∙ ap (λ l. l ++ map (λ x. x.node) (on_paths (with_fact root g false) b)) (preorder-on_paths (with_fact root g true) a)
     ∙ ap (λ l. preorder a ++ l) (preorder-on_paths (with_fact root g false) b))
-
--- ---- the least worth
-
-least-le : (ns : List ℕ) (v w : ℕ) → least ns ≡ Some v → Contains ns w → v ≤ w
-least-le [] v w e m = absurd (omega (arith, m.1))
-least-le (n ∷ ns) v w e m = by_rest (least ns) refl e (λ u k h. least-le ns u w k h)
-  where
-    by_rest : (o : Option ℕ) → least ns ≡ o → Some (least_with n o) ≡ Some v → ((u : ℕ) → least ns ≡ Some u → Contains ns w → u ≤ w) → v ≤ w
-    by_rest None k h rest =
-        let same : n ≡ v = cc in
-        elim (member_cases n ns w m) [
-          | inl i ↦ omega arith
-          | inr i ↦ absurd (some_least ns w i k)
-        ]
-      where
-        some_least : (ms : List ℕ) (z : ℕ) → Contains ms z → least ms ≡ None → ⊥
-        some_least [] z i j = omega (arith, i.1)
-        some_least (x ∷ xs) z i j = cc
-    by_rest (Some u) k h rest =
-        let same : min n u ≡ v = cc in
-        elim (member_cases n ns w m) [
-          | inl i ↦ omega arith
-          | inr i ↦ omega (arith, rest u k i)
-        ]
-
-given_member : {X : Type 0} (h : X → Option ℕ) (xs : List X) (x : X) (w : ℕ) → Contains xs x → h x ≡ Some w → Contains (filter_map h xs) w
-given_member h [] x w m e = absurd (omega (arith, m.1))
-given_member {X} h (y ∷ ys) x w m e = elim (member_cases y ys x m) [
-  | inl same ↦ first (h y) (ap h same ∙ e)
-  | inr k ↦ behind (h y) (given_member h ys x w k e)
-]
-  where
-    first : (o : Option ℕ) → o ≡ Some w → Contains (cons_option o (filter_map h ys)) w
-    first None k = cc
-    first (Some n) k = let same : n ≡ w = cc in (0, omega arith, same)
-
-    behind : (o : Option ℕ) → Contains (filter_map h ys) w → Contains (cons_option o (filter_map h ys)) w
-    behind None k = k
-    behind (Some n) k = (suc k.0, omega (arith, k.1), k.2)
 
 -- ---- the end
 

@@ -9,6 +9,8 @@ use Rattle.std.proofs.lemmas.List.FromFn.{length-range_with_len}
 use Rattle.std.proofs.Math.Nat.{mul-le-mul_left}
 use Rattle.tt_lists.proofs.Members.{each_member}
 use Rattle.tt_lists.proofs.Sums.{sum_by-le, sum_by-times, each}
+use Rattle.tt_lists.proofs.Range.{each_below}
+use Rattle.tt_lists.proofs.Counting.{sum_by-ones}
 use Rattle.tt_instance.specs.Problem.{Problem, Course}
 use Rattle.tt_instance.specs.Limits.{IsInstance, IsNextCourse}
 use Rattle.tt_instance.specs.Cells.{all_courses, all_curricula, all_rooms, all_slots, is_of, is_in}
@@ -16,6 +18,7 @@ use Rattle.tt_instance.specs.Courses.{lectures, min_days, students, excess, no_c
 use Rattle.tt_instance.specs.declared.cell.Cell.{Cell}
 use Rattle.tt_instance.proofs.AfterLaws.{All-from_each_after}
 use Rattle.tt_instance.proofs.Slots.{length-all_slots}
+use Rattle.tt_instance.proofs.CourseLimits.{few_students, few_lectures}
 use Rattle.tt_rules.specs.Hard.{entries_of}
 use Rattle.tt_rules.specs.Soft.{days_cost, is_isolated, compactness_cost, stability_cost}
 use Rattle.tt_rules.specs.Score.{IsFeasible, cost}
@@ -26,17 +29,16 @@ use Rattle.tt_facts.specs.declared.facts.Fact.{Fact}
 use Rattle.tt_leaf.specs.Claims.{is_alone, value_of, total_of}
 use Rattle.tt_leaf.specs.declared.leaf.Claim.TheVariants.{Capacity, Days, Compact, Stable}
 use Rattle.tt_find.specs.Best.{price_of, at_price, best_claims}
-use Rattle.tt_find.proofs.Lists.{each_below}
 use Rattle.tt_find.proofs.Answering.{price_short}
 use Rattle.tt_find.proofs.Claims.{total-claims}
-use Rattle.tt_branch.proofs.LiveTables.{few_lectures, entries_up, ones}
+use Rattle.tt_branch.proofs.LiveTables.{entries_up}
 
 -- terms that are no more than a number
 most : {X : Type 0} (f : X → ℕ) (k : ℕ) (xs : List X) → AllByRecursion (λ x. f x ≤ 1 * k) xs → sum_by f xs ≤ length xs * k
 most f k xs a =
     let b = sum_by-le f (λ x. 1 * k) xs a in
     let c = sum_by-times (λ x. 1) k xs in
-    let d = ap (λ n. n * k) (ones xs) in
+    let d = ap (λ n. n * k) (sum_by-ones xs) in
     omega arith
 
 module _ (p : Problem) (ok : IsInstance p) where
@@ -57,11 +59,6 @@ module _ (p : Problem) (ok : IsInstance p) where
       let P : Course → Type 0 = λ k. k.min_days ≤ 512 in
       All-get_or P p.courses c no_course h (All-from_each_after IsNextCourse P (λ before k next. next.min_days) [] p.courses ok.within.each_course)
 
-  few_students : (c : ℕ) → c < length p.courses → students p c ≤ 1000000
-  few_students c h =
-      let P : Course → Type 0 = λ k. k.students ≤ 1000000 in
-      All-get_or P p.courses c no_course h (All-from_each_after IsNextCourse P (λ before k next. next.students) [] p.courses ok.within.each_course)
-
   -- ---- a feasible timetable
 
   -- a timetable that breaks no hard rule costs no more than a bound may be
@@ -73,7 +70,7 @@ module _ (p : Problem) (ok : IsInstance p) where
         sum_by-le (entries_of t) (lectures p) (all_courses p) (each (λ c. entries_of t c ≤ lectures p c) (λ c. let e = lectures_met p t whole c in omega arith) (all_courses p)),
         few_lectures p ok,
       ) in
-      let seats = most (λ e. excess p e.course e.room) 1000000 t (each_member (λ e. excess p e.course e.room ≤ 1 * 1000000) t (λ e m. let s = few_students e.course (in_range p t whole e m).course in omega arith)) in
+      let seats = most (λ e. excess p e.course e.room) 1000000 t (each_member (λ e. excess p e.course e.room ≤ 1 * 1000000) t (λ e m. let s = few_students p ok e.course (in_range p t whole e m).course in omega arith)) in
       let days = most (days_cost p t) 2560 (all_courses p) (each_below (λ c. days_cost p t c ≤ 1 * 2560) (length p.courses) (λ c h. let d = few_days c h in omega arith)) in
       let compact = most (compactness_cost p t) 8192 (all_curricula p) (each (λ q. compactness_cost p t q ≤ 1 * 8192) (λ q. let n = count_by-le-length (λ e. in_curriculum p q e.course && is_isolated p t q e) t in omega arith) (all_curricula p)) in
       let stable = most (stability_cost p t) 512 (all_courses p) (each (λ c. stability_cost p t c ≤ 1 * 512) (λ c. let n = count_by-le-length (λ r. list_any (λ e. is_of c e && is_in r e) t) (all_rooms p) in let m = many_rooms in omega arith) (all_courses p)) in

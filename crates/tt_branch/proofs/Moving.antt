@@ -5,49 +5,11 @@ use Rattle.std.proofs.lemmas.Bool.{and_parts}
 use Rattle.std.specs.Prelude.{reverse, slice_get}
 use Rattle.std.proofs.lemmas.List.{reverse-append, take-append-drop, take_more, drop_more}
 use Rattle.std.proofs.Math.Seq.{take-append_seam}
+use Rattle.std.proofs.lemmas.Option.{get_or_from_slice_get}
 use Rattle.tt_facts.specs.Facts.{same_answer, same_option, same_who, same_pattern}
 use Rattle.tt_facts.specs.declared.facts.Who.{Who}
 use Rattle.tt_facts.specs.declared.facts.Who.TheVariants.{Course, Curriculum}
 use Rattle.tt_facts.specs.declared.facts.Fact.{Fact}
-use Rattle.tt_branch.proofs.Dividing.{get_is}
-
-same_option-true : (a b : Option ℕ) → same_option a b ≡ true → a ≡ b
-same_option-true None None e = refl
-same_option-true None (Some n) e = cc
-same_option-true (Some m) None e = cc
-same_option-true (Some m) (Some n) e = ap Some (eqb-true m n e)
-
-same_who-true : (a b : Who) → same_who a b ≡ true → a ≡ b
-same_who-true (Course a) (Course b) e = ap Course (eqb-true a b e)
-same_who-true (Course a) (Curriculum b) e = cc
-same_who-true (Curriculum a) (Course b) e = cc
-same_who-true (Curriculum a) (Curriculum b) e = ap Curriculum (eqb-true a b e)
-
-same_answer-true : (a b : Bool) → same_answer a b ≡ true → a ≡ b
-same_answer-true true b e = sym e
-same_answer-true false true e = cc
-same_answer-true false false e = refl
-
-abbrev fact_of : Bool → Who → Option ℕ → Option ℕ → Option ℕ → Fact
-fact_of holds who room day period = record { pattern = record { who = who; room = room; day = day; period = period }; holds = holds }
-
--- facts that are found to be the same are
-pub same_fact : (f g : Fact) → (same_answer f.holds g.holds && same_pattern f.pattern g.pattern) ≡ true → f ≡ g
-same_fact f g e =
-    let a = and_parts (same_answer f.holds g.holds) (same_pattern f.pattern g.pattern) e in
-    let b = and_parts (same_who f.pattern.who g.pattern.who && same_option f.pattern.room g.pattern.room && same_option f.pattern.day g.pattern.day) (same_option f.pattern.period g.pattern.period) a.1 in
-    let d = and_parts (same_who f.pattern.who g.pattern.who && same_option f.pattern.room g.pattern.room) (same_option f.pattern.day g.pattern.day) b.0 in
-    let r = and_parts (same_who f.pattern.who g.pattern.who) (same_option f.pattern.room g.pattern.room) d.0 in
-    let holds = same_answer-true f.holds g.holds a.0 in
-    let who = same_who-true f.pattern.who g.pattern.who r.0 in
-    let room = same_option-true f.pattern.room g.pattern.room r.1 in
-    let day = same_option-true f.pattern.day g.pattern.day d.1 in
-    let period = same_option-true f.pattern.period g.pattern.period b.1 in
-    ap (λ x. fact_of x f.pattern.who f.pattern.room f.pattern.day f.pattern.period) holds
-    ∙ ap (λ x. fact_of g.holds x f.pattern.room f.pattern.day f.pattern.period) who
-    ∙ ap (λ x. fact_of g.holds g.pattern.who x f.pattern.day f.pattern.period) room
-    ∙ ap (λ x. fact_of g.holds g.pattern.who g.pattern.room x f.pattern.period) day
-    ∙ ap (fact_of g.holds g.pattern.who g.pattern.room g.pattern.day) period
 
 -- one fewer
 pub one_fewer : {X : Type 0} (all xs ys : List X) (x : X) → xs ≡ take (length xs) all → xs ≡ ys ++ x ∷ [] → ys ≡ take (length ys) all

@@ -13,13 +13,13 @@ use Rattle.tt_facts.specs.Facts.{matches, same_answer, same_pattern, has_fact}
 use Rattle.tt_facts.specs.Live.{is_live}
 use Rattle.tt_facts.specs.declared.facts.Pattern.{Pattern}
 use Rattle.tt_facts.specs.declared.facts.Fact.{Fact}
+use Rattle.tt_facts.proofs.LiveCells.{live_cells, live_not_barred}
+use Rattle.tt_facts.proofs.Same.{fact_there}
 use Rattle.tt_leaf.specs.declared.leaf.Bound.{Bound}
 use Rattle.tt_leaf.specs.declared.leaf.Bound.TheVariants.{AtLeast}
-use Rattle.tt_leaf.proofs.Contradictions.{same_pattern-true}
 use Rattle.tt_find.specs.Best.{best_leaf}
 use Rattle.tt_find.specs.Found.{Closes}
 use Rattle.tt_find.specs.Pinned.{IsPinnedDown, IsOpen}
-use Rattle.tt_find.proofs.LiveCells.{live_cells, live_not_barred}
 use Rattle.tt_find.proofs.Fitting.{is_feasible}
 use Rattle.tt_find.proofs.Closing.{cost-le_total}
 use Rattle.tt_find.proofs.Answering.{best_answer}
@@ -28,19 +28,14 @@ use Rattle.tt_choice.specs.Choice.{IsNewSplit}
 use Rattle.tt_branch.specs.Proofs.{IsSplitOn}
 use Rattle.tt_branch.proofs.Searching.{IsBetter, best_right}
 
-answer_no : (b : Bool) → same_answer b false ≡ true → b ≡ false
-answer_no true e = absurd cc
-answer_no false e = refl
-
 -- a no-fact of a pattern bars each cell that it matches
 not_denied : (p : Problem) (path : List Fact) (g : Pattern) (x : Cell) → matches p g x ≡ true → is_live p path x ≡ true → has_fact path g false ≡ true → ⊥
 not_denied p path g x matched l e =
-    let w = member_from_any (λ f. same_answer f.holds false && same_pattern f.pattern g) path e in
-    let a = and_parts (same_answer w.0.holds false) (same_pattern w.0.pattern g) w.2 in
-    let m = subst (λ k. matches p k x ≡ true) (sym (same_pattern-true w.0.pattern g a.1)) matched in
+    let w = fact_there path g false e in
+    let m = subst (λ k. matches p k x ≡ true) (sym w.3) matched in
     live_not_barred p path x l
     (or_right (unavailable p x.course x.day x.period) (list_any (λ f. not f.holds && matches p f.pattern x) path)
-    (any_member (λ f. not f.holds && matches p f.pattern x) path w.0 w.1 (and_from (not w.0.holds) (matches p w.0.pattern x) (not_from_false w.0.holds (answer_no w.0.holds a.0)) m)))
+    (any_member (λ f. not f.holds && matches p f.pattern x) path w.0 w.1 (and_from (not w.0.holds) (matches p w.0.pattern x) (not_from_false w.0.holds w.2) m)))
 
 -- a new pattern that aims at a free cell splits a node that is not closed
 pub splits_on : (p : Problem) (path : List Fact) (g : Pattern) (b : Bound) → IsNewSplit p path g → IsOpen p path b → IsSplitOn p path g

@@ -3,6 +3,8 @@ use Rattle.std.proofs.Common.{◌≡◌, ℕ, suc, ◌≤◌, Bool, true, false,
 use Rattle.std.specs.Prelude.{nat_le, slice_get, ⊤}
 use Rattle.std.proofs.lemmas.List.Elements.{All-nil, All-push}
 use Rattle.std.specs.List.{AllZip, list_all}
+use Rattle.tt_lists.proofs.Zipped.{zip_cut, zip_append, zip_weaker}
+use Rattle.tt_lists.proofs.Cuts.{at_first, at_next}
 use Rattle.tt_instance.specs.Problem.{Problem}
 use Rattle.tt_instance.specs.declared.cell.Cell.{Cell}
 use Rattle.tt_rules.specs.Score.{cost}
@@ -10,19 +12,16 @@ use Rattle.tt_facts.specs.Facts.{IsPattern}
 use Rattle.tt_facts.specs.declared.facts.Pattern.{Pattern}
 use Rattle.tt_facts.specs.declared.facts.Fact.{Fact}
 use Rattle.tt_leaf.specs.Claims.{is_fair, total_of}
-use Rattle.tt_leaf.specs.Leaves.{claims_once, demand, IsRight}
+use Rattle.tt_leaf.specs.Leaves.{claims_once, IsRight}
 use Rattle.tt_leaf.specs.declared.leaf.Bound.{Bound}
 use Rattle.tt_leaf.specs.declared.leaf.Bound.TheVariants.{AtLeast, Nothing}
 use Rattle.tt_leaf.specs.declared.leaf.Claim.TheVariants.{Days}
 use Rattle.tt_leaf.specs.declared.leaf.Leaf.{Leaf}
 use Rattle.tt_leaf.specs.declared.leaf.Leaf.TheVariants.{Empty, Many, Clique, Slots, Cost}
-use Rattle.tt_leaf.specs.declared.leaf.RuleFault.TheVariants.{ClaimedTwice, TooCheap, BadPrice}
-use Rattle.tt_leaf.proofs.Soundness.{demand_none}
 use Rattle.tt_proof_text.specs.Trees.{Close, Branch, OnPath, on_paths, with_fact}
 use Rattle.tt_proof_text.specs.declared.node.Node.TheVariants as node
 use Rattle.tt_find.specs.Best.{best_claims, best_leaf}
 use Rattle.tt_find.proofs.Claims.{once, all_fair}
-use Rattle.tt_find.proofs.Fitting.{demand_from}
 use Rattle.tt_branch.specs.declared.entry.Mark.{Mark}
 use Rattle.tt_branch.specs.declared.entry.Mark.TheVariants.{Divided, Closed, Opened, Waiting}
 use Rattle.tt_branch.specs.declared.entry.Entry.{Entry}
@@ -32,8 +31,8 @@ use Rattle.tt_branch.specs.Growing.{node_of, IsKnown, Stands, IsGrown, is_open}
 use Rattle.tt_branch.specs.Steps.{IsDivision}
 use Rattle.tt_branch.specs.Outcomes.{final_bound}
 use Rattle.tt_branch.specs.Proofs.{IsSplitOn, SplitsWell, leaf_worth}
-use Rattle.tt_branch.proofs.Chains.{at_first, at_next, links_more, path_at-next, path_at-more}
-use Rattle.tt_branch.proofs.Growing.{on_path, graft, zip_cut, zip_append, zip_weaker}
+use Rattle.tt_branch.proofs.Chains.{links_more, path_at-next, path_at-more}
+use Rattle.tt_branch.proofs.Growing.{on_path, graft}
 
 -- ---- bounds
 
@@ -43,25 +42,12 @@ right_for p path b (Empty g) n e f = e
 right_for p path b (Many c) n e f = e
 right_for p path b (Clique cs) n e f = e
 right_for p path b (Slots cs) n e f = e
-right_for p path Nothing (Cost claims) n e f = cc
-right_for p path (AtLeast m) (Cost claims) n e f =
-    let total = total_of p path claims in
-    let fair = list_all (is_fair p path) claims in
-    let h = demand_none (claims_once claims) ClaimedTwice (demand fair BadPrice (demand (nat_le m total) TooCheap None)) e in
-    let i = demand_none fair BadPrice (demand (nat_le m total) TooCheap None) h.1 in
-    demand_from (claims_once claims) ClaimedTwice (demand fair BadPrice (demand (nat_le n total) TooCheap None)) h.0
-    (demand_from fair BadPrice (demand (nat_le n total) TooCheap None) i.0
-    (demand_from (nat_le n total) TooCheap None (le-leb n total (f total refl)) refl))
+right_for p path Nothing (Cost claims) n e f = absurd e
+right_for p path (AtLeast m) (Cost claims) n e f = (e.0, e.1, f (total_of p path claims) refl)
 
 -- the leaf of the best claims is right for what it is worth
 pub best_right : (p : Problem) (path : List Fact) (n : ℕ) → n ≤ total_of p path (best_claims p path) → IsRight p path (AtLeast n) (best_leaf p path)
-best_right p path n h =
-    let claims = best_claims p path in
-    let total = total_of p path claims in
-    let fair = list_all (is_fair p path) claims in
-    demand_from (claims_once claims) ClaimedTwice (demand fair BadPrice (demand (nat_le n total) TooCheap None)) (once Days (λ c. refl) p path)
-    (demand_from fair BadPrice (demand (nat_le n total) TooCheap None) (all_fair Days (λ c. refl) p path (λ c. refl))
-    (demand_from (nat_le n total) TooCheap None (le-leb n total h) refl))
+best_right p path n h = (once Days (λ c. refl) p path, all_fair Days (λ c. refl) p path (λ c. refl), h)
 
 -- what a right Cost leaf is worth reaches the bound
 pub worth_reaches : (p : Problem) (path : List Fact) (m : ℕ) (leaf : Leaf) (v : ℕ) → IsRight p path (AtLeast m) leaf → leaf_worth p path leaf ≡ Some v → m ≤ v
@@ -70,12 +56,8 @@ worth_reaches p path m (Many c) v e k = cc
 worth_reaches p path m (Clique cs) v e k = cc
 worth_reaches p path m (Slots cs) v e k = cc
 worth_reaches p path m (Cost claims) v e k =
-    let total = total_of p path claims in
-    let fair = list_all (is_fair p path) claims in
-    let h = demand_none (claims_once claims) ClaimedTwice (demand fair BadPrice (demand (nat_le m total) TooCheap None)) e in
-    let i = demand_none fair BadPrice (demand (nat_le m total) TooCheap None) h.1 in
-    let l = leb-true m total (demand_none (nat_le m total) TooCheap None i.1).0 in
-    let same : total ≡ v = cc in
+    let l = e.2 in
+    let same : total_of p path claims ≡ v = cc in
     omega arith
 
 pub no_worth : (p : Problem) (path : List Fact) (leaf : Leaf) (v : ℕ) → IsRight p path Nothing leaf → leaf_worth p path leaf ≡ Some v → ⊥
@@ -83,7 +65,7 @@ no_worth p path (Empty g) v e k = cc
 no_worth p path (Many c) v e k = cc
 no_worth p path (Clique cs) v e k = cc
 no_worth p path (Slots cs) v e k = cc
-no_worth p path (Cost claims) v e k = cc
+no_worth p path (Cost claims) v e k = absurd e
 
 -- the second is no dearer than the best, or there is no best
 abbrev pub IsBetter : Problem → Option (List Cell) → List Cell → Type 0

@@ -1,3 +1,4 @@
+-- Only proofs rest on this file: nobody has to believe it.
 -- A tree that grows: its nodes in preorder, each with a mark and its place among the links.
 use Rattle.std.specs.Prelude.{◌≡◌, ℕ, ◌≤◌, Bool, true, false, List, [], length, map, Option, Some, count_by, slice_get, ⊤}
 use Rattle.std.specs.List.{AllZip, filter_map}

@@ -1,3 +1,4 @@
+-- Only proofs rest on this file: nobody has to believe it.
 -- The best timetable of a search, and what a better one leaves true.
 use Rattle.std.specs.Prelude.{◌≡◌, List, Option, IfSome, option_map}
 use Rattle.tt_instance.specs.Problem.{Problem}

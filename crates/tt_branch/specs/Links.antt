@@ -1,3 +1,4 @@
+-- Only proofs rest on this file: nobody has to believe it.
 -- Paths by links to the parent: each fact stands after the facts of its parent.
 use Rattle.std.specs.Prelude.{◌≡◌, ℕ, zero, suc, ◌≤◌, Bool, true, false, List, [], ◌∷◌, ◌++◌, Some, None, slice_get}
 use Rattle.tt_facts.specs.declared.facts.Fact.{Fact}

@@ -1,3 +1,4 @@
+-- Only proofs rest on this file: nobody has to believe it.
 -- The state of a search.
 use Rattle.std.specs.Prelude.{◌≡◌, ℕ, ◌+◌, ◌*◌, ◌≤◌, Bool, true, false, List, ◌∷◌, ◌++◌, length}
 use Rattle.std.specs.List.{list_any}
@@ -41,7 +42,7 @@ pub record MakesWait (place : ℕ) (old : Search) (next : ℕ) (new : Search) : 
   pub many : length new.entries.items ≤ length old.entries.items + 2
   pub best : new.best ≡ old.best
 
--- No node is open, and no more were made than may be opened; or some node is open, so many were opened, and the others are few.
+-- No node is open, and no more were made than may be opened; or some node is open, this many were opened, and the others are few.
 abbrev pub EndsAt : ℕ → List Entry → Bool → Type 0
 EndsAt limit entries true = (list_any (λ e. is_open e.mark) entries ≡ false) × (length entries ≤ limit)
 EndsAt limit entries false = (list_any (λ e. is_open e.mark) entries ≡ true) × (limit ≤ length entries) × (length entries + 1 ≤ 2 * limit)

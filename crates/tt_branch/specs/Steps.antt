@@ -1,3 +1,4 @@
+-- Only proofs rest on this file: nobody has to believe it.
 -- The steps of a search, as the code makes them. Nobody has to believe them.
 use Rattle.std.specs.Prelude.{◌≡◌, ℕ, ◌+◌, List, length, map, flat_map, Option, Some, None}
 use Rattle.tt_lists.specs.Words.{range_below}

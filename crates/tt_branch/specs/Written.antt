@@ -1,3 +1,4 @@
+-- Only proofs rest on this file: nobody has to believe it.
 -- Entries that can be written as nodes of a proof.
 use Rattle.std.specs.Prelude.{◌≡◌, ℕ, ◌≤◌, Bool, true, List, ◌++◌, length, reverse, Option, ⊤}
 use Rattle.tt_facts.specs.Live.{least}

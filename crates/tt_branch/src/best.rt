@@ -10,12 +10,10 @@ ghost use Rattle.tt_branch.specs.Outcomes.{final_bound, BeginsWell, IsNoDearer};
 ghost use Rattle.tt_branch.specs.Kept.{IsKept, table_of, IsCosted};
 
 use std::alloc::{AllocError, Global};
-use tt_construct::construct;
-use tt_descend::descend;
 use tt_instance::Instance;
 use tt_leaf::Bound;
 use tt_rules::score;
-use tt_search::improve;
+use tt_search::{construct, descend, improve};
 use tt_table::Timetable;
 
 /// The most steps of the descent that a search begins with.
@@ -34,10 +32,12 @@ const MOST_LONG_STEPS: u64 = 400_000;
 
 const LONG_STEPS_OF_A_CELL: u64 = 12;
 
-/// How many turns there are at least, and how many nodes of the limit bring one more.
-const FIRST_TURNS: u32 = 2;
+/// How many turns there are at least, and how many nodes of the limit bring one more, which is as long as a walk may be.
+const FIRST_TURNS: u32 = 3;
 
-const NODES_OF_A_TURN: u32 = 32_768;
+const NODES_OF_A_TURN: u32 = 65_536;
+
+const MOST_LAST_STEPS: u64 = 1_000_000;
 
 /// A timetable that breaks no hard rule.
 #[derive(Drop)]
@@ -87,7 +87,10 @@ fn reaches(instance: &Instance<'_>, table: &Timetable, goal: u64) -> bool
 
 /// The steps of a turn.
 fn steps_of(turn: u32, size: u64) -> u64 {
-    if turn % 2 == 0 {
+    if turn >= FIRST_TURNS {
+        size.saturating_mul(LONG_STEPS_OF_A_CELL)
+            .clamp(LEAST_STEPS, MOST_LAST_STEPS)
+    } else if turn % 2 == 0 {
         size.saturating_mul(STEPS_OF_A_CELL)
             .clamp(LEAST_STEPS, MOST_STEPS)
     } else {
@@ -125,7 +128,7 @@ fn improve_to(
         if reaches(instance, &best, goal) {
             break;
         }
-        let turn_seed = seed.wrapping_add(u64::from(turn / 2));
+        let turn_seed = seed.wrapping_add(u64::from(turn));
         let found = improve(
             alloc,
             instance,
@@ -140,7 +143,7 @@ fn improve_to(
     Ok(best)
 }
 
-/// The timetable that a search begins with: where a descent from a constructed one leads, improved in so many turns
+/// The timetable that a search begins with: where a descent from a constructed one leads, improved in this many turns
 /// or until it costs no more than a goal, if it breaks no hard rule. The same seed gives the same one.
 pub fn first_best(
     alloc: Global,

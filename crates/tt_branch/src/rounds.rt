@@ -47,7 +47,7 @@ fn open_next<'i, P: Path<'i>>(
     open_at(alloc, path, search, next)
 }
 
-/// Opens nodes until none is open, or so many were opened, the root among them; whether none is open.
+/// Opens nodes until none is open, or this many were opened, the root among them; whether none is open.
 pub fn grow<'i, P: Path<'i>>(
     alloc: Global,
     path: &mut P,

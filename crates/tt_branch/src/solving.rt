@@ -47,7 +47,7 @@ fn shown(best: &Option<Best>, least: Option<u64>, finished: bool) -> Bound
     Bound::AtLeast(least.unwrap_or(0))
 }
 
-/// Passes a proof through the checker, which has no fault to tell but want of memory.
+/// Passes a proof through the checker, which has no fault to tell but being out of memory.
 fn prove_bound<'i, P: Path<'i>>(
     alloc: Global,
     path: &P,
@@ -123,7 +123,7 @@ fn solve_over<'i, P: Path<'i>>(
     conclude(alloc, path, search, limit, finished)
 }
 
-/// Searches for a best timetable, with at most so many nodes of the tree opened. It answers the best
+/// Searches for a best timetable, with at most this many nodes of the tree opened. It answers the best
 /// timetable that it found and a proof of a lower bound; where each node is closed the two meet, or there
 /// is no timetable without a broken hard rule. Which nodes are opened is not promised.
 pub fn solve(

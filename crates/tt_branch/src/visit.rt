@@ -115,7 +115,7 @@ fn open<'i, P: Path<'i>>(
     Ok(closed(leaf))
 }
 
-/// How much more than so many points the best claims are worth after one more fact.
+/// How much more than this many points the best claims are worth after one more fact.
 fn rise<'i, P: Path<'i>>(
     alloc: Global,
     path: &mut P,

@@ -1,32 +1,23 @@
 -- Bits that are taken away word by word.
 use Rattle.std.proofs.Common.{◌≡◌, ℕ, ◌+◌, ◌*◌, ◌/◌, ◌%◌, ◌<◌, Bool, true, false, not, ◌&&◌, ◌||◌, List, length, Option, refl, sym, ap, ◌∙◌, arith, inl, inr, eq-eqb, ne_eqb}
 use Rattle.std.specs.Prelude.{◌==◌, nat_lt, slice_set, slice_index_or}
-use Rattle.std.proofs.lemmas.Bool.{cases_eq, and_parts, and_from, eqb-true, lt-ltb, ltb-true, false_from_ne_true}
+use Rattle.std.proofs.lemmas.Bool.{cases_eq, and_parts, and_from, eqb-true, lt-ltb, ltb-true, false_from_ne_true, le-ltb}
 use Rattle.std.proofs.lemmas.List.{length-set, get_or-set_same, get_or-set_other}
+use Rattle.tt_lists.proofs.Truth.{same_truth, still_there, taken_twice}
 use Rattle.tt_instance.specs.Problem.{Problem}
 use Rattle.tt_instance.specs.Cells.{slot, cell, InRange}
 use Rattle.tt_instance.specs.declared.cell.Cell.{Cell}
 use Rattle.tt_facts.specs.Facts.{agrees}
 use Rattle.tt_bits.specs.Bits.{has_bit, Clears}
-use Rattle.tt_bits.proofs.BitLaws.{same_truth, not_below}
 use Rattle.tt_cell_set.specs.Words.{Bit, IsBit, width, place, size, bit_of, is_set, in_force, is_here, Drops}
 use Rattle.tt_cell_set.specs.Tables.{has_cell, IsTable, Loses, is_placed, is_open}
 use Rattle.tt_cell_set.proofs.Grid.{word_within, same_word, bit_within, room_back, block_within}
 
 -- ---- truth values
 
-kept : (b g : Bool) → g ≡ false → b ≡ (b && not g)
-kept true g e = sym (ap not e)
-kept false g e = refl
-
 taken : (b h m : Bool) → h ≡ true → (b && not m) ≡ (b && not (h && m))
 taken b true m e = refl
 taken b false m e = cc
-
-twice : (b g h : Bool) → ((b && not g) && not h) ≡ (b && not (g || h))
-twice true true h = refl
-twice true false h = refl
-twice false g h = refl
 
 in_both : (f b g h : Bool) → g ≡ h → (f && (b && not g)) ≡ ((f && b) && not h)
 in_both true b g h e = ap (λ k. b && not k) e
@@ -44,7 +35,7 @@ others_too false l g m = refl
 
 module _ (p : Problem) (old : List ℕ) where
   pub drops-none : (g : Bit → Bool) → ((b : Bit) → IsBit p b → g b ≡ false) → Drops p old old g
-  drops-none g h = record { len = refl; last = refl; bits = λ b k. kept (is_set p old b) (g b) (h b k) }
+  drops-none g h = record { len = refl; last = refl; bits = λ b k. still_there (is_set p old b) (g b) (h b k) }
 
   -- one word loses the bits of a mask
   pub word_dropped : (c d s n mask : ℕ) (new : List ℕ) → c < length p.courses → d < p.days → s < p.periods → n < width p → Clears old (place p c d s + n) mask new → Drops p old new (λ b. is_here c d s b && (b.block == n) && has_bit mask b.number)
@@ -54,7 +45,7 @@ module _ (p : Problem) (old : List ℕ) where
     bits = λ b h. elim (cases_eq (place p b.course b.day b.period + b.block) (place p c d s + n)) [
       | inl q ↦ here b h q
       | inr q ↦ ap (λ w. has_bit w b.number) (cl.others (place p b.course b.day b.period + b.block) q)
-          ∙ kept (is_set p old b) (is_here c d s b && (b.block == n) && has_bit mask b.number) (elsewhere b q)
+          ∙ still_there (is_set p old b) (is_here c d s b && (b.block == n) && has_bit mask b.number) (elsewhere b q)
     ];
   }
     where
@@ -96,7 +87,7 @@ module _ (p : Problem) (old : List ℕ) where
     where
       joined : (b : Bit) → IsBit p b → ((is_here c d s b && nat_lt b.block n && lost b.block b.number) || (is_here c d s b && (b.block == n) && has_bit mask b.number)) ≡ (is_here c d s b && nat_lt b.block (n + 1) && lost b.block b.number)
       joined b h = elim (cases_eq b.block n) [
-        | inl e ↦ ap (λ t. (is_here c d s b && t && lost b.block b.number) || (is_here c d s b && (b.block == n) && has_bit mask b.number)) (not_below b.block n (omega arith))
+        | inl e ↦ ap (λ t. (is_here c d s b && t && lost b.block b.number) || (is_here c d s b && (b.block == n) && has_bit mask b.number)) (le-ltb b.block n (omega arith))
             ∙ ap (λ t. (is_here c d s b && false && lost b.block b.number) || (is_here c d s b && t && has_bit mask b.number)) (eq-eqb b.block n e)
             ∙ last_one (is_here c d s b) (lost b.block b.number) (has_bit mask b.number) (m b.number h.number ∙ ap (λ i. lost i b.number) (sym e))
             ∙ ap (λ t. is_here c d s b && t && lost b.block b.number) (sym (lt-ltb b.block (n + 1) (omega arith)))

@@ -2,19 +2,20 @@
 use Rattle.std.proofs.Common.{◌≡◌, ℕ, ◌+◌, ◌-◌, ◌*◌, ◌%◌, ◌<◌, Bool, true, false, not, ◌&&◌, ◌||◌, List, [], ◌∷◌, ◌++◌, length, take, refl, sym, ap, ◌∙◌, arith, inl, inr, subst, length-append}
 use Rattle.std.specs.Prelude.{◌==◌, nat_lt, slice_get, slice_index_or, Some}
 use Rattle.std.specs.List.{list_any}
-use Rattle.std.proofs.lemmas.Bool.{cases_lt, lt-ltb, ltb-true, and_parts, eqb-true, false_from_ne_true}
+use Rattle.std.proofs.lemmas.Bool.{cases_lt, lt-ltb, ltb-true, and_parts, eqb-true, false_from_ne_true, le-ltb}
 use Rattle.std.proofs.lemmas.List.{take_more}
 use Rattle.std.proofs.lemmas.Option.{get_or_from_slice_get}
 use Rattle.std.proofs.Math.ListN.{get_or-append}
 use Rattle.std.proofs.Math.Seq.{get_or-append_seam}
 use Rattle.std.proofs.lemmas.List.Folds.{list_any-append}
 use Rattle.std.proofs.lemmas.Nat.{mod-mul-add}
-use Rattle.std.proofs.Math.Bool.{or-false}
+use Rattle.std.proofs.Math.Bool.{or-false, and-true}
 use Rattle.tt_lists.proofs.Tests.{same_test}
+use Rattle.tt_lists.proofs.Truth.{same_truth}
+use Rattle.tt_lists.proofs.Twos.{neither}
 use Rattle.tt_instance.specs.Problem.{Problem, Bar}
 use Rattle.tt_instance.specs.declared.cell.Cell.{Cell}
 use Rattle.tt_bits.specs.Bits.{has_bit}
-use Rattle.tt_bits.proofs.BitLaws.{same_truth, not_below}
 use Rattle.tt_cell_set.specs.Words.{Bit, IsBit, width, place, size, room_of, bit_of, is_set}
 use Rattle.tt_cell_set.specs.Tables.{has_cell, Shows, Loses, is_placed}
 use Rattle.tt_cell_set.specs.First.{AreFull}
@@ -62,7 +63,7 @@ module _ (p : Problem) (full : List ℕ) (a : AreFull p full (size p)) where
   full_table = record {
     table = record {
       len = length-append full (0 ∷ []) ∙ ap (λ n. n + 1) a.len;
-      spare = λ b h past. set_if_room b h ∙ not_below (room_of b) (length p.rooms) past;
+      spare = λ b h past. set_if_room b h ∙ le-ltb (room_of b) (length p.rooms) past;
     };
     cells = λ x h.
         ap (λ v. (v == 0) && is_set p (full ++ 0 ∷ []) (bit_of x)) (ap (λ i. slice_index_or (full ++ 0 ∷ []) i 0) (sym a.len) ∙ get_or-append_seam full 0 [] 0)
@@ -70,14 +71,6 @@ module _ (p : Problem) (full : List ℕ) (a : AreFull p full (size p)) where
   }
 
 -- ---- one unavailability more
-
-neither : (a b : Bool) → not (a || b) ≡ (not a && not b)
-neither true b = refl
-neither false b = refl
-
-and-true-last : (b : Bool) → (b && true) ≡ b
-and-true-last true = refl
-and-true-last false = refl
 
 one_bar : (bars : List Bar) (b : Bar) (x : Cell) → is_open_by (bars ++ b ∷ []) x ≡ (is_open_by bars x && not (bars_at x b))
 one_bar bars b x = ap not (list_any-append (bars_at x) bars (b ∷ []) ∙ ap (λ v. list_any (bars_at x) bars || v) (or-false (bars_at x b))) ∙ neither (list_any (bars_at x) bars) (bars_at x b)
@@ -87,7 +80,7 @@ module _ (p : Problem) (bars : List Bar) (b : Bar) (words : List ℕ) (a : Shows
   bar_in new l = record {
     table = l.table;
     cells = λ x h. l.cells x h ∙ ap (λ v. v && not (is_placed b.course b.day b.period x && true)) (a.cells x h)
-        ∙ ap (λ v. is_open_by bars x && not v) (and-true-last (is_placed b.course b.day b.period x) ∙ turned x)
+        ∙ ap (λ v. is_open_by bars x && not v) (and-true (is_placed b.course b.day b.period x) ∙ turned x)
         ∙ sym (one_bar bars b x);
   }
     where

@@ -8,10 +8,12 @@ use Rattle.tt_lists.specs.Words.{range_below}
 use Rattle.tt_lists.proofs.Below.{range_below_more}
 use Rattle.tt_lists.proofs.Numbers.{any_below}
 use Rattle.tt_lists.proofs.Members.{member_from_any}
+use Rattle.tt_lists.proofs.Range.{all_below, at_below, below_member}
+use Rattle.tt_lists.proofs.Truth.{same_truth}
 use Rattle.tt_instance.specs.Problem.{Problem}
 use Rattle.tt_instance.specs.Cells.{slot, cell, all_rooms}
 use Rattle.tt_bits.specs.Bits.{bits}
-use Rattle.tt_bits.proofs.BitLaws.{same_truth, numbers_under, any_bits_at, bit_from_any, all_bits_from, all_bits_at, all_below, at_below}
+use Rattle.tt_bits.proofs.BitLaws.{any_bits_at, bit_from_any, all_bits_from, all_bits_at}
 use Rattle.tt_cell_set.specs.Words.{width, is_set, in_force}
 use Rattle.tt_cell_set.specs.Tables.{has_cell, IsTable}
 use Rattle.tt_cell_set.proofs.Grid.{block_back, number_back, room_back, block_within}

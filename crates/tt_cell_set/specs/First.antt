@@ -1,3 +1,4 @@
+-- Only proofs rest on this file: nobody has to believe it.
 -- The words of a table that has all cells. Nobody has to believe this.
 use Rattle.std.specs.Prelude.{◌≡◌, ℕ, ◌+◌, ◌*◌, ◌%◌, ◌<◌, nat_lt, List, length, slice_index_or}
 use Rattle.tt_instance.specs.Problem.{Problem}

@@ -1,3 +1,4 @@
+-- Only proofs rest on this file: nobody has to believe it.
 -- Sets of rooms that are none, one or all.
 use Rattle.std.specs.Prelude.{ℕ, ◌==◌, Bool, true, false}
 use Rattle.tt_cell_set.specs.declared.rooms.Rooms.{Rooms}

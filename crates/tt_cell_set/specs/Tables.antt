@@ -1,3 +1,4 @@
+-- Only proofs rest on this file: nobody has to believe it.
 -- Tables of cells.
 use Rattle.std.specs.Prelude.{◌≡◌, ℕ, ◌+◌, ◌≤◌, ◌==◌, Bool, false, not, ◌&&◌, List, length, Option}
 use Rattle.tt_instance.specs.Problem.{Problem}

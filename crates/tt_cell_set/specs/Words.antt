@@ -1,3 +1,4 @@
+-- Only proofs rest on this file: nobody has to believe it.
 -- How a table of cells lies in words of 64 bits. Nobody has to believe this: what a table has is said by has_cell alone.
 use Rattle.std.specs.Prelude.{◌≡◌, ℕ, ◌+◌, ◌*◌, ◌/◌, ◌%◌, ◌<◌, ◌==◌, Bool, not, ◌&&◌, List, length, slice_index_or}
 use Rattle.tt_instance.specs.Problem.{Problem}

@@ -6,14 +6,14 @@ use Rattle.std.proofs.lemmas.List.{take_more}
 use Rattle.std.proofs.lemmas.List.Folds.{list_any-append}
 use Rattle.std.proofs.lemmas.Nat.{mod-mul-add, div-mul-add}
 use Rattle.std.proofs.Math.Bool.{or-false}
-use Rattle.tt_lists.specs.Words.{has}
+use Rattle.tt_lists.specs.Words.{has_number}
+use Rattle.tt_lists.proofs.Truth.{same_truth}
 use Rattle.tt_instance.specs.Problem.{Problem}
 use Rattle.tt_instance.specs.Cells.{InRange}
 use Rattle.tt_instance.specs.declared.cell.Cell.{Cell}
 use Rattle.tt_facts.specs.Facts.{agrees, is_who, matches}
 use Rattle.tt_facts.specs.Nested.{agrees_at, courses_of}
 use Rattle.tt_facts.specs.declared.facts.Pattern.{Pattern}
-use Rattle.tt_kills.proofs.Each.{same_truth}
 use Rattle.tt_cell_set.specs.Tables.{is_placed}
 use Rattle.tt_cells.specs.Slots.{allows, Covers}
 use Rattle.tt_cells.proofs.Losing.{placed_at}

@@ -1,21 +1,12 @@
 -- Tables that were kept before each fact.
-use Rattle.std.proofs.Common.{◌≡◌, ℕ, ◌+◌, ◌<◌, ◌≤◌, List, [], ◌∷◌, ◌++◌, length, take, refl, sym, ap, ◌∙◌, arith, inl, inr, subst, length-append, zero, suc}
+use Rattle.std.proofs.Common.{◌≡◌, ℕ, ◌+◌, ◌<◌, ◌≤◌, List, [], ◌∷◌, ◌++◌, length, take, refl, sym, ap, ◌∙◌, arith, inl, inr, subst, length-append}
 use Rattle.std.specs.Prelude.{slice_index_or}
-use Rattle.std.proofs.lemmas.List.{take-append-le}
+use Rattle.std.proofs.lemmas.List.{take-append-le, get_or_push, get_or_append_left}
 use Rattle.std.proofs.lemmas.Bool.{cases_lt}
 use Rattle.std.proofs.Math.Seq.{take-append_seam}
 use Rattle.tt_instance.specs.Problem.{Problem}
 use Rattle.tt_facts.specs.declared.facts.Fact.{Fact}
 use Rattle.tt_cells.specs.Shown.{AreTables, AreEarlier}
-
-at_seam : {X : Type 0} (xs : List X) (x d : X) → slice_index_or (xs ++ x ∷ []) (length xs) d ≡ x
-at_seam [] x d = refl
-at_seam (y ∷ ys) x d = at_seam ys x d
-
-before_seam : {X : Type 0} (xs : List X) (x d : X) (i : ℕ) → i < length xs → slice_index_or (xs ++ x ∷ []) i d ≡ slice_index_or xs i d
-before_seam [] x d i h = absurd (omega arith)
-before_seam (y ∷ ys) x d zero h = refl
-before_seam (y ∷ ys) x d (suc i) h = before_seam ys x d i (omega arith)
 
 -- the tables of one place, with the lists that they are taken from replaced by equal ones
 moved : (p : Problem) (a b : List Fact) (f g l m : List ℕ) → a ≡ b → f ≡ g → l ≡ m → AreTables p a f l → AreTables p b g m
@@ -27,13 +18,13 @@ module _ (p : Problem) (facts : List Fact) (f : Fact) (frees lives : List (List 
       let n : length frees ≡ length facts = omega (arith, a.frees_len, length-append frees (free ∷ []), length-append facts (f ∷ [])) in
       let m : length lives ≡ length facts = omega (arith, a.lives_len, length-append lives (live ∷ []), length-append facts (f ∷ [])) in
       let more : length (facts ++ f ∷ []) ≡ length facts + 1 = length-append facts (f ∷ []) in (
-        moved p _ facts _ free _ live (take-append_seam facts (f ∷ [])) (ap (λ i. slice_index_or (frees ++ free ∷ []) i []) (sym n) ∙ get_or_push frees free []) (ap (λ i. slice_index_or (lives ++ live ∷ []) i []) (sym m) ∙ get_or_push lives live [])
+        moved p _ facts _ free _ live (take-append_seam facts (f ∷ [])) (ap (λ i. slice_index_or (frees ++ free ∷ []) i []) (sym n) ∙ get_or_push frees free [] (length frees) refl) (ap (λ i. slice_index_or (lives ++ live ∷ []) i []) (sym m) ∙ get_or_push lives live [] (length lives) refl)
             (a.each (length facts) (omega arith)),
         record {
           frees_len = n;
           lives_len = m;
           each = λ i h. let hn : i < length frees = omega arith in let hm : i < length lives = omega arith in let le : i ≤ length facts = omega arith in
-              moved p _ (take i facts) _ (slice_index_or frees i []) _ (slice_index_or lives i []) (take-append-le i facts (f ∷ []) le) (get_or_append_left frees free [] i hn) (get_or_append_left lives live [] i hm) (a.each i (omega arith));
+              moved p _ (take i facts) _ (slice_index_or frees i []) _ (slice_index_or lives i []) (take-append-le i facts (f ∷ []) le) (get_or_append_left frees (free ∷ []) [] i hn) (get_or_append_left lives (live ∷ []) [] i hm) (a.each i (omega arith));
         },
       )
 
@@ -43,9 +34,9 @@ module _ (p : Problem) (facts : List Fact) (f : Fact) (frees lives : List (List 
     lives_len = length-append lives (live ∷ []) ∙ ap (λ n. n + 1) a.lives_len ∙ sym (length-append facts (f ∷ []));
     each = λ i h. elim (cases_lt i (length facts)) [
       | inl l ↦ let hn : i < length frees = omega (arith, a.frees_len) in let hm : i < length lives = omega (arith, a.lives_len) in let le : i ≤ length facts = omega arith in
-          moved p (take i facts) _ (slice_index_or frees i []) _ (slice_index_or lives i []) _ (sym (take-append-le i facts (f ∷ []) le)) (sym (get_or_append_left frees free [] i hn)) (sym (get_or_append_left lives live [] i hm)) (a.each i l)
+          moved p (take i facts) _ (slice_index_or frees i []) _ (slice_index_or lives i []) _ (sym (take-append-le i facts (f ∷ []) le)) (sym (get_or_append_left frees (free ∷ []) [] i hn)) (sym (get_or_append_left lives (live ∷ []) [] i hm)) (a.each i l)
       | inr l ↦ let e : length facts ≡ i = omega (arith, length-append facts (f ∷ [])) in
           subst (λ k. AreTables p (take k (facts ++ f ∷ [])) (slice_index_or (frees ++ free ∷ []) k []) (slice_index_or (lives ++ live ∷ []) k [])) e
-          (moved p facts _ free _ live _ (sym (take-append_seam facts (f ∷ []))) (sym (ap (λ k. slice_index_or (frees ++ free ∷ []) k []) (sym a.frees_len) ∙ get_or_push frees free [])) (sym (ap (λ k. slice_index_or (lives ++ live ∷ []) k []) (sym a.lives_len) ∙ get_or_push lives live [])) t)
+          (moved p facts _ free _ live _ (sym (take-append_seam facts (f ∷ []))) (sym (ap (λ k. slice_index_or (frees ++ free ∷ []) k []) (sym a.frees_len) ∙ get_or_push frees free [] (length frees) refl)) (sym (ap (λ k. slice_index_or (lives ++ live ∷ []) k []) (sym a.lives_len) ∙ get_or_push lives live [] (length lives) refl)) t)
     ];
   }

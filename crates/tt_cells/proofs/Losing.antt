@@ -1,39 +1,38 @@
 -- Tables that lose cells one after another.
-use Rattle.std.proofs.Common.{◌≡◌, ℕ, ◌+◌, Bool, true, false, not, ◌&&◌, ◌||◌, List, refl, sym, ap, ◌∙◌, arith, inl, inr, eq-eqb, ne_eqb}
-use Rattle.std.specs.Prelude.{◌==◌, nat_lt}
-use Rattle.std.proofs.lemmas.Bool.{cases_eq, and_parts, eqb-true, lt-ltb, ltb-true}
+use Rattle.std.proofs.Common.{◌≡◌, ℕ, zero, suc, ◌+◌, ◌<◌, length, Bool, true, false, not, ◌&&◌, ◌||◌, List, [], ◌∷◌, take, refl, sym, ap, ◌∙◌, arith, inl, inr, eq-eqb, ne_eqb}
+use Rattle.std.specs.Prelude.{◌==◌, nat_lt, slice_index_or}
+use Rattle.std.specs.List.{list_all}
+use Rattle.std.proofs.lemmas.Bool.{cases_eq, and_parts, eqb-true, lt-ltb, ltb-true, le-ltb}
+use Rattle.std.proofs.Math.Bool.{or-false}
+use Rattle.tt_lists.proofs.Truth.{same_truth, still_there, taken_twice}
 use Rattle.tt_instance.specs.Problem.{Problem}
 use Rattle.tt_instance.specs.Cells.{InRange}
 use Rattle.tt_instance.specs.declared.cell.Cell.{Cell}
-use Rattle.tt_bits.proofs.BitLaws.{same_truth, not_below}
 use Rattle.tt_cell_set.specs.Tables.{has_cell, IsTable, Shows, Loses, is_placed}
-
-kept : (b g : Bool) → g ≡ false → b ≡ (b && not g)
-kept true g e = sym (ap not e)
-kept false g e = refl
-
-twice : (b g h : Bool) → ((b && not g) && not h) ≡ (b && not (g || h))
-twice true true h = refl
-twice true false h = refl
-twice false g h = refl
 
 -- one number more below a bound
 pub below_next : (k n : ℕ) → nat_lt k (n + 1) ≡ (nat_lt k n || (k == n))
 below_next k n = elim (cases_eq k n) [
-  | inl e ↦ lt-ltb k (n + 1) (omega arith) ∙ sym (ap (λ b. b || (k == n)) (not_below k n (omega arith)) ∙ eq-eqb k n e)
+  | inl e ↦ lt-ltb k (n + 1) (omega arith) ∙ sym (ap (λ b. b || (k == n)) (le-ltb k n (omega arith)) ∙ eq-eqb k n e)
   | inr e ↦ same_truth (nat_lt k (n + 1)) (nat_lt k n) (λ t. let l = ltb-true k (n + 1) t in lt-ltb k n (omega (arith, e))) (λ t. let l = ltb-true k n t in lt-ltb k (n + 1) (omega arith))
-      ∙ sym (ap (λ b. nat_lt k n || b) (ne_eqb k n e) ∙ no_more (nat_lt k n))
+      ∙ sym (ap (λ b. nat_lt k n || b) (ne_eqb k n e) ∙ or-false (nat_lt k n))
 ]
-  where
-    no_more : (b : Bool) → (b || false) ≡ b
-    no_more true = refl
-    no_more false = refl
 
 pub placed_at : (c d s : ℕ) (x : Cell) → is_placed c d s x ≡ true → (x.course ≡ c) × (x.day ≡ d) × (x.period ≡ s)
 placed_at c d s x e =
     let u = and_parts ((x.course == c) && (x.day == d)) (x.period == s) e in
     let v = and_parts (x.course == c) (x.day == d) u.0 in
     (eqb-true x.course c v.0, eqb-true x.day d v.1, eqb-true x.period s u.1)
+
+-- a test that one of the first numbers fails
+pub failed_within : (t : ℕ → Bool) (i : ℕ) (xs : List ℕ) → i < length xs → (list_all t (take i xs) && t (slice_index_or xs i 0)) ≡ false → list_all t xs ≡ false
+failed_within t i [] l e = absurd (omega arith)
+failed_within t zero (x ∷ xs) l e = ap (λ b. b && list_all t xs) e
+failed_within t (suc i) (x ∷ xs) l e = by_test (t x) (failed_within t i xs (omega arith)) e
+  where
+    by_test : (b : Bool) → ((list_all t (take i xs) && t (slice_index_or xs i 0)) ≡ false → list_all t xs ≡ false) → ((b && list_all t (take i xs)) && t (slice_index_or xs i 0)) ≡ false → (b && list_all t xs) ≡ false
+    by_test true f e = f e
+    by_test false f e = refl
 
 -- where a test holds two others are the same
 pub both_where : (a b c : Bool) → (a ≡ true → b ≡ c) → (a && b) ≡ (a && c)
@@ -42,7 +41,7 @@ both_where false b c h = refl
 
 module _ (p : Problem) (old : List ℕ) where
   pub loses-none : (g : Cell → Bool) → IsTable p old → ((x : Cell) → InRange p x → g x ≡ false) → Loses p old g old
-  loses-none g t h = record { table = t; cells = λ x k. kept (has_cell p old x) (g x) (h x k) }
+  loses-none g t h = record { table = t; cells = λ x k. still_there (has_cell p old x) (g x) (h x k) }
 
   pub loses-same : (new : List ℕ) (g k : Cell → Bool) → Loses p old g new → ((x : Cell) → InRange p x → g x ≡ k x) → Loses p old k new
   loses-same new g k l e = record { table = l.table; cells = λ x h. l.cells x h ∙ ap (λ b. has_cell p old x && not b) (e x h) }
@@ -65,14 +64,10 @@ or_same : (q : Bool) → (q || q) ≡ q
 or_same true = refl
 or_same false = refl
 
-or_none : (q : Bool) → (q || false) ≡ q
-or_none true = refl
-or_none false = refl
-
 joined : (l e a b z : Bool) → ((l && (a && b && z)) || (e && a && b && z)) ≡ ((l || e) && (a && b && z))
 joined false false a b z = refl
 joined false true a b z = refl
-joined true false a b z = or_none (a && b && z)
+joined true false a b z = or-false (a && b && z)
 joined true true a b z = or_same (a && b && z)
 
 pub course_next : (n : ℕ) (c : ℕ) (a b z : Bool) → ((nat_lt c n && (a && b && z)) || ((c == n) && a && b && z)) ≡ (nat_lt c (n + 1) && (a && b && z))

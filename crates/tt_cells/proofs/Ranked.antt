@@ -1,9 +1,10 @@
 -- The rooms by their seats, and the least excess of the first of them that is live.
-use Rattle.std.proofs.Common.{◌≡◌, ℕ, zero, suc, ◌+◌, ◌-◌, ◌^◌, ◌<◌, ◌≤◌, Bool, true, false, cond, List, [], ◌∷◌, length, get_or, map, min, Option, Some, None, refl, sym, ap, ◌∙◌, subst, arith, inl, inr, ◌⊎◌}
-use Rattle.std.specs.Prelude.{filter, Contains, All}
-use Rattle.std.proofs.lemmas.Bool.{cases_lt, cases_eq, both_ways, false_from_ne_true}
+use Rattle.std.proofs.Common.{◌≡◌, ℕ, zero, suc, ◌+◌, ◌-◌, ◌<◌, ◌≤◌, Bool, true, false, cond, List, length, get_or, map, Option, Some, None, refl, sym, ap, ◌∙◌, subst, arith, inl, inr, ◌⊎◌}
+use Rattle.std.specs.Prelude.{filter, Contains}
+use Rattle.std.proofs.lemmas.Bool.{cases_lt, cases_eq, both_ways}
 use Rattle.std.proofs.lemmas.List.Sorted.{Contains-permutation, All-permutation}
 use Rattle.std.proofs.lemmas.List.FromFn.{get_or-map-range_with_len, length-map-range_with_len}
+use Rattle.std.proofs.lemmas.List.{get_or_default}
 use Rattle.tt_lists.specs.Words.{range_below}
 use Rattle.tt_instance.specs.Problem.{Problem}
 use Rattle.tt_instance.specs.Cells.{cell, all_rooms}
@@ -11,10 +12,9 @@ use Rattle.tt_instance.specs.Courses.{students, capacity, excess}
 use Rattle.tt_instance.specs.declared.cell.Slot.{Slot}
 use Rattle.tt_facts.specs.Live.{least, least_with, is_live, least_excess}
 use Rattle.tt_facts.specs.declared.facts.Fact.{Fact}
-use Rattle.tt_cells.specs.Order.{ranked, rank, IsRoomOrder, IsRoomiest}
+use Rattle.tt_cells.specs.Order.{ranked, IsRoomOrder, IsRoomiest}
 use Rattle.tt_cells.specs.declared.order.Ranked.{Ranked}
 use Rattle.tt_facts.proofs.Least.{least_more}
-use Rattle.tt_cells.proofs.Renewed.{same_default}
 
 -- ---- the least value of the numbers that pass
 
@@ -102,7 +102,7 @@ module _ (p : Problem) (path : List Fact) (c : ℕ) (s : Slot) where
     place_of : (r : ℕ) (d : Ranked) → r < length p.rooms → (i : ℕ) × (i < length rooms) × (get_or rooms i d ≡ ranked p r)
     place_of r d h =
         let m : Contains rooms (ranked p r) = Contains-permutation (map (ranked p) (all_rooms p)) rooms (ranked p r) order.same (r, omega (arith, length-map-range_with_len (ranked p) 0 (length p.rooms)), get_or-map-range_with_len (ranked p) 0 (length p.rooms) r r (ranked p r) h (omega arith)) in
-        (m.0, m.1, same_default rooms m.0 d (ranked p r) m.1 ∙ m.2)
+        (m.0, m.1, get_or_default rooms m.0 d (ranked p r) m.1 ∙ m.2)
 
     -- what stands in the order is a room with its seats
     abbrev IsRanked : Ranked → Type 0

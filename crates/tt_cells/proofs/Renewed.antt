@@ -1,13 +1,16 @@
 -- The live cells after one fact more.
-use Rattle.std.proofs.Common.{◌≡◌, ℕ, zero, suc, ◌+◌, ◌<◌, Bool, true, false, not, ◌&&◌, ◌||◌, List, [], ◌∷◌, ◌++◌, length, take, map, cond, Option, Some, None, refl, sym, ap, ◌∙◌, subst, arith, eq-eqb}
+use Rattle.std.proofs.Common.{◌≡◌, ℕ, ◌+◌, ◌<◌, Bool, true, false, not, ◌&&◌, ◌||◌, List, [], ◌∷◌, ◌++◌, length, take, map, cond, Option, Some, None, refl, sym, ap, ◌∙◌, subst, eq-eqb}
 use Rattle.std.specs.Prelude.{Contains, filter, slice_index_or}
 use Rattle.std.specs.List.{list_any}
 use Rattle.std.proofs.lemmas.Bool.{and_parts, and_from, eqb-true, or_right, both_ways, false_from_ne_true}
 use Rattle.std.proofs.lemmas.List.{take_more, map-append}
 use Rattle.std.proofs.lemmas.List.Folds.{list_any-append}
 use Rattle.std.proofs.Math.Bool.{or-false}
+use Rattle.std.proofs.lemmas.List.Elements.{Contains-get_or}
 use Rattle.tt_lists.proofs.Members.{any_member}
 use Rattle.tt_lists.proofs.Sums.{list_any-of_map}
+use Rattle.tt_lists.proofs.Truth.{taken_twice}
+use Rattle.tt_lists.proofs.Twos.{neither}
 use Rattle.tt_instance.specs.Problem.{Problem}
 use Rattle.tt_instance.specs.Cells.{InRange}
 use Rattle.tt_instance.specs.Courses.{in_curriculum}
@@ -23,7 +26,7 @@ use Rattle.tt_kills.proofs.More.{is_barred-yes, is_barred-no, is_dead-yes}
 use Rattle.tt_kills.proofs.Recomputed.{excludes-untouched, is_dead-no-more}
 use Rattle.tt_cell_set.specs.Tables.{Shows, Loses}
 use Rattle.tt_cells.specs.Touching.{may_agree, may_share, may_touch}
-use Rattle.tt_cells.specs.Shown.{is_free_of, yes_facts, AreTables, Settles, Renews, Adds}
+use Rattle.tt_cells.specs.Shown.{is_free_of, yes_facts, Settles, Renews, Adds}
 use Rattle.tt_cells.proofs.Losing.{shows-less, shows-same}
 
 -- ---- patterns that touch
@@ -75,11 +78,6 @@ is_shut p path some x = list_any (λ h. h.holds && excludes p path h.pattern x) 
 shut_next : (p : Problem) (path some : List Fact) (h : Fact) (x : Cell) → is_shut p path (some ++ h ∷ []) x ≡ (is_shut p path some x || (h.holds && excludes p path h.pattern x))
 shut_next p path some h x = list_any-append (λ k. k.holds && excludes p path k.pattern x) some (h ∷ []) ∙ ap (λ b. is_shut p path some x || b) (or-false (h.holds && excludes p path h.pattern x))
 
-two : (a b e : Bool) → ((a && not b) && not e) ≡ (a && not (b || e))
-two true true e = refl
-two true false e = refl
-two false b e = refl
-
 already : (a b e : Bool) → (e ≡ true → a ≡ false) → (a && not b) ≡ (a && not (b || e))
 already true b true h = cc (h refl)
 already true true false h = refl
@@ -97,7 +95,7 @@ module _ (p : Problem) (path : List Fact) (f : Fact) (live : List ℕ) (some : L
       let l = s.settled (path ++ f ∷ []) open_cells in
       let t = λ (x : Cell). excludes p (path ++ f ∷ []) h.pattern x in
       shows-same p new (λ x. so_far p path f some x && not (t x)) (so_far p path f (some ++ h ∷ [])) (shows-less p live (so_far p path f some) t new shows l)
-      (λ x k. two (is_live p path x && not (matches p f.pattern x)) (is_shut p (path ++ f ∷ []) some x) (t x)
+      (λ x k. taken_twice (is_live p path x && not (matches p f.pattern x)) (is_shut p (path ++ f ∷ []) some x) (t x)
       ∙ ap (λ b. (is_live p path x && not (matches p f.pattern x)) && not (is_shut p (path ++ f ∷ []) some x || (b && t x))) (sym it_holds)
       ∙ ap (λ b. (is_live p path x && not (matches p f.pattern x)) && not b) (sym (shut_next p (path ++ f ∷ []) some h x)))
 
@@ -135,10 +133,6 @@ renewed_all p path f live it_denies shows = shows-same p live (so_far p path f (
 
 -- ---- one fact more
 
-neither : (a b : Bool) → not (a || b) ≡ (not a && not b)
-neither true b = refl
-neither false b = refl
-
 pub adds_yes : (p : Problem) (wanted : List Pattern) (f : Fact) (free live new : List ℕ) → f.holds ≡ true → Settles p free live f.pattern new → Adds p wanted free live f free new
 adds_yes p wanted f free live new it_holds s = record {
   added = λ path e t. record {
@@ -161,14 +155,6 @@ adds_no p wanted f free live free' mid new it_denies a b r = record {
 
 -- ---- fact by fact
 
-pub same_default : {X : Type 0} (xs : List X) (i : ℕ) (d e : X) → i < length xs → slice_index_or xs i d ≡ slice_index_or xs i e
-same_default [] i d e h = absurd (omega arith)
-same_default (x ∷ xs) zero d e h = refl
-same_default (x ∷ xs) (suc i) d e h = same_default xs i d e (omega arith)
-
-contains_at : {X : Type 0} (xs : List X) (i : ℕ) (d : X) → i < length xs → Contains xs (slice_index_or xs i d)
-contains_at xs i d h = (i, h, same_default xs i (slice_index_or xs i d) d h)
-
 module _ (p : Problem) (wanted : List Pattern) (path : List Fact) (f : Fact) (i : ℕ) (d : Pattern) (hi : i < length wanted) (live : List ℕ) (shows : Shows p (so_far p path f (map as_yes (take i wanted))) live) where
   one_more : (words : List ℕ) → Shows p (so_far p path f (map as_yes (take i wanted) ++ as_yes (slice_index_or wanted i d) ∷ [])) words → Shows p (so_far p path f (map as_yes (take (i + 1) wanted))) words
   one_more words s = subst (λ l. Shows p (so_far p path f l) words) (sym (ap (map as_yes) (take_more wanted i d hi) ∙ map-append as_yes (take i wanted) (slice_index_or wanted i d ∷ []))) s
@@ -177,7 +163,7 @@ module _ (p : Problem) (wanted : List Pattern) (path : List Fact) (f : Fact) (i 
   next_settled free new open_cells s = one_more new (settled_one p path f live (map as_yes (take i wanted)) (as_yes (slice_index_or wanted i d)) shows free new refl open_cells s)
 
   pub next_apart : wanted ≡ yes_facts (path ++ f ∷ []) → f.holds ≡ false → may_touch p (slice_index_or wanted i d) f.pattern ≡ false → Shows p (so_far p path f (map as_yes (take (i + 1) wanted))) live
-  next_apart e denies apart = one_more live (skipped_apart p path f live (map as_yes (take i wanted)) (as_yes (slice_index_or wanted i d)) shows wanted e (contains_at wanted i d hi) denies apart)
+  next_apart e denies apart = one_more live (skipped_apart p path f live (map as_yes (take i wanted)) (as_yes (slice_index_or wanted i d)) shows wanted e (Contains-get_or wanted i d hi) denies apart)
 
 -- after the last
 pub all_settled : (p : Problem) (wanted : List Pattern) (path : List Fact) (f : Fact) (live : List ℕ) → wanted ≡ yes_facts (path ++ f ∷ []) → f.holds ≡ false → Shows p (so_far p path f (map as_yes wanted)) live → Shows p (is_live p (path ++ f ∷ [])) live

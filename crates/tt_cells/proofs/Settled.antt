@@ -1,9 +1,10 @@
 -- The live cells after a yes-fact has taken what it excludes.
-use Rattle.std.proofs.Common.{◌≡◌, ℕ, ◌+◌, ◌*◌, ◌/◌, ◌%◌, ◌<◌, ◌≤◌, true, false, ◌&&◌, List, sym, ap, ◌∙◌, subst, arith, inl, inr, eq-eqb}
+use Rattle.std.proofs.Common.{◌≡◌, Some, refl, ℕ, ◌+◌, ◌*◌, ◌/◌, ◌%◌, ◌<◌, ◌≤◌, true, false, ◌&&◌, List, sym, ap, ◌∙◌, subst, arith, inl, inr, eq-eqb}
 use Rattle.std.specs.Prelude.{◌==◌}
 use Rattle.std.proofs.lemmas.Bool.{and_parts, and_from, eqb-true, cases_eq, cases_lt, both_ways, false_from_ne_true}
 use Rattle.std.proofs.lemmas.Nat.{mul-add-lt, mod-mul-add, div-mul-add}
 use Rattle.std.proofs.Math.Nat.{div-lt_iff_lt-mul, mod-lt, mul_comm}
+use Rattle.tt_lists.proofs.Truth.{same_truth}
 use Rattle.tt_instance.specs.Problem.{Problem}
 use Rattle.tt_instance.specs.Cells.{slot, cell, InRange}
 use Rattle.tt_instance.specs.declared.cell.Cell.{Cell}
@@ -13,7 +14,6 @@ use Rattle.tt_facts.specs.Nested.{courses_of}
 use Rattle.tt_facts.specs.declared.facts.Pattern.{Pattern}
 use Rattle.tt_facts.specs.declared.facts.Fact.{Fact}
 use Rattle.tt_kills.specs.Killing.{is_free, IsConfined}
-use Rattle.tt_kills.proofs.Each.{same_truth}
 use Rattle.tt_kills.proofs.Confined.{kills_there, kills_all, spares_all, spares_elsewhere}
 use Rattle.tt_cell_set.specs.Tables.{IsTable, Shows, Loses}
 use Rattle.tt_cells.specs.Struck.{is_left, loses_room}
@@ -150,3 +150,43 @@ module _ (p : Problem) (free old : List ℕ) (g : Pattern) where
     table = l.table;
     settled = λ path shows. loses-same p old new (is_struck p free g (k / p.periods) (k % p.periods) (courses_of p g.who)) (excludes p path g) l (struck p path free g shows from to k covers first others some);
   }
+
+-- ---- a pattern that gives the day and the period
+
+module _ (p : Problem) (free : List ℕ) (g : Pattern) (d s : ℕ) (gd : g.day ≡ Some d) (gs : g.period ≡ Some s) (hd : d < p.days) (hs : s < p.periods) where
+  abbrev at : ℕ
+  at = d * p.periods + s
+
+  at_day : at / p.periods ≡ d
+  at_day = div-mul-add d p.periods s hs
+
+  at_period : at % p.periods ≡ s
+  at_period = mod-mul-add d p.periods s hs
+
+  covers_it : Covers p g at (at + 1)
+  covers_it = record {
+    within = let w = slot_within d s p.days p.periods hd hs in omega arith;
+    all = λ e t he ht ae te.
+        let same : e * p.periods + t ≡ at =
+        ap (λ n. n * p.periods + t) (sym (eqb-true d e (sym (ap (λ o. agrees o e) gd) ∙ ae)))
+        ∙ ap (λ n. d * p.periods + n) (sym (eqb-true s t (sym (ap (λ o. agrees o t) gs) ∙ te))) in
+        (omega arith, omega arith);
+  }
+
+  left_here : is_left_in p free g (courses_of p g.who) at ≡ is_left p free g d s (courses_of p g.who)
+  left_here =
+      ap (λ n. agrees g.day n && agrees g.period (at % p.periods) && is_left p free g n (at % p.periods) (courses_of p g.who)) at_day
+      ∙ ap (λ n. agrees g.day d && agrees g.period n && is_left p free g d n (courses_of p g.who)) at_period
+      ∙ ap (λ b. b && agrees g.period s && is_left p free g d s (courses_of p g.who)) (ap (λ o. agrees o d) gd ∙ eq-eqb d d refl)
+      ∙ ap (λ b. b && is_left p free g d s (courses_of p g.who)) (ap (λ o. agrees o s) gs ∙ eq-eqb s s refl)
+
+  pub settles-none : (old new : List ℕ) → is_left p free g d s (courses_of p g.who) ≡ false → Loses p old (λ x. true) new → Settles p free old g new
+  settles-none old new none l = settles-nowhere p free old g at (at + 1) new covers_it
+      (record { none = λ j low high. let q : j ≡ at = omega arith in ap (is_left_in p free g (courses_of p g.who)) q ∙ left_here ∙ none }) l
+
+  pub settles-there : (old new : List ℕ) → is_left p free g d s (courses_of p g.who) ≡ true → Loses p old (is_struck p free g d s (courses_of p g.who)) new → Settles p free old g new
+  settles-there old new passes l = settles-here p free old g at (at + 1) at new covers_it
+      (record { from_here = omega arith; within = omega arith; passes = left_here ∙ passes; before = λ j low high. absurd (omega arith) })
+      (record { none = λ j low high. absurd (omega arith) })
+      (omega arith)
+      (subst (λ n. Loses p old (is_struck p free g n (at % p.periods) (courses_of p g.who)) new) (sym at_day) (subst (λ n. Loses p old (is_struck p free g d n (courses_of p g.who)) new) (sym at_period) l))

@@ -2,13 +2,15 @@
 use Rattle.std.proofs.Common.{◌≡◌, ℕ, zero, suc, ◌<◌, Bool, true, false, not, ◌&&◌, ◌||◌, List, [], ◌∷◌, length, refl, sym, ap, ◌∙◌, inl, inr, eq-eqb, ne_eqb, subst}
 use Rattle.std.specs.Prelude.{◌==◌, nat_lt, Contains, slice_index_or}
 use Rattle.std.specs.List.{list_any, list_all, AllByRecursion}
-use Rattle.std.proofs.lemmas.Bool.{and_parts, and_from, lt-ltb, ltb-true, eqb-true, cases_lt, cases_eq, cases_Bool, or_cases, or_left, or_right, both_ways, false_from_ne_true}
+use Rattle.std.proofs.lemmas.Bool.{and_parts, and_from, lt-ltb, ltb-true, eqb-true, cases_lt, cases_eq, cases_Bool, or_cases, or_left, or_right, both_ways, false_from_ne_true, le-ltb}
 use Rattle.std.proofs.Math.Bool.{or-false}
 use Rattle.tt_lists.specs.Words.{has_number}
 use Rattle.tt_lists.proofs.Members.{at_member, each_member, any_member, member_from_any}
 use Rattle.tt_lists.proofs.Numbers.{any_below}
 use Rattle.tt_lists.proofs.Sums.{each_from_list_all}
 use Rattle.tt_lists.proofs.Tests.{same_test}
+use Rattle.tt_lists.proofs.Range.{below_member, all_below, at_below}
+use Rattle.tt_lists.proofs.Truth.{same_truth, wanted, not_wanted}
 use Rattle.tt_instance.specs.Problem.{Problem, Curriculum}
 use Rattle.tt_instance.specs.Cells.{slot, cell, all_rooms, InRange}
 use Rattle.tt_instance.specs.Courses.{conflict, one_teacher, one_curriculum, members, no_curriculum}
@@ -21,8 +23,6 @@ use Rattle.tt_facts.specs.declared.facts.Who.TheVariants as Whose
 use Rattle.tt_facts.specs.declared.facts.Pattern.{Pattern}
 use Rattle.tt_facts.specs.declared.facts.Fact.{Fact}
 use Rattle.tt_kills.specs.Killing.{is_free, kills_by, kills_at}
-use Rattle.tt_kills.proofs.Each.{all_below, at_below, same_truth}
-use Rattle.tt_bits.proofs.BitLaws.{not_below, numbers_under}
 use Rattle.tt_cell_set.specs.Tables.{has_cell, Shows, is_open}
 use Rattle.tt_cells.specs.Struck.{is_left_to, is_left, is_beside, loses_room}
 use Rattle.tt_cells.specs.Shown.{is_free_of}
@@ -88,14 +88,6 @@ clash-other p c k r i d s e = clash-kind p c k r i d s ∙ ap (λ b. not (b && (
     by_test false true = refl
     by_test false false = refl
 
-wanted : (f k : Bool) → (not f || k) ≡ true → f ≡ true → k ≡ true
-wanted true k e h = e
-wanted false k e h = cc
-
-not_wanted : (f k : Bool) → (f ≡ true → k ≡ true) → (not f || k) ≡ true
-not_wanted true k h = h refl
-not_wanted false k h = refl
-
 module _ (p : Problem) (path : List Fact) (free : List ℕ) (shows : Shows p (is_free_of p path) free) (g : Pattern) (d s : ℕ) (hd : d < p.days) (hs : s < p.periods) (gd : agrees g.day d ≡ true) (gs : agrees g.period s ≡ true) where
   in_range : (k i : ℕ) → k < length p.courses → i < length p.rooms → InRange p (cell k i (slot d s))
   in_range k i hk hi = record { course = hk; room = hi; day = hd; period = hs }
@@ -155,7 +147,7 @@ module _ (p : Problem) (path : List Fact) (free : List ℕ) (shows : Shows p (is
 
       beside : kills_at p path g d s x ≡ true → has_number ks c ≡ false → (k : ℕ) → Contains ks k → is_beside p free g d s c r k ≡ true
       beside e none k m = elim (cases_lt k (length p.courses)) [
-        | inr past ↦ ap (λ b. not b || conflict p k c || list_all (λ i. not (is_open p free g.room k d s i) || (i == r)) (all_rooms p)) (not_below k (length p.courses) past)
+        | inr past ↦ ap (λ b. not b || conflict p k c || list_all (λ i. not (is_open p free g.room k d s i) || (i == r)) (all_rooms p)) (le-ltb k (length p.courses) past)
         | inl hk ↦ elim (cases_Bool (conflict p k c)) [
           | inl q ↦ or_left (not (nat_lt k (length p.courses)) || conflict p k c) (list_all (λ i. not (is_open p free g.room k d s i) || (i == r)) (all_rooms p)) (or_right (not (nat_lt k (length p.courses))) (conflict p k c) q)
           | inr q ↦ or_right (not (nat_lt k (length p.courses)) || conflict p k c) (list_all (λ i. not (is_open p free g.room k d s i) || (i == r)) (all_rooms p))

@@ -1,3 +1,4 @@
+-- Only proofs rest on this file: nobody has to believe it.
 -- The rooms of an instance by their seats.
 use Rattle.std.specs.Prelude.{◌≡◌, ℕ, ◌-◌, ◌^◌, ◌<◌, ◌≤◌, true, List, length, map, IsPermutation}
 use Rattle.std.specs.List.Sorted.{IsNonDecreasingBy}

@@ -1,3 +1,4 @@
+-- Only proofs rest on this file: nobody has to believe it.
 -- Periods of the week as numbers, day by day. These are steps of the code, and nobody has to believe them.
 use Rattle.std.specs.Prelude.{◌≡◌, ℕ, ◌+◌, ◌*◌, ◌/◌, ◌%◌, ◌<◌, ◌≤◌, Bool, true, false, ◌&&◌, List}
 use Rattle.tt_instance.specs.Problem.{Problem}

@@ -1,3 +1,4 @@
+-- Only proofs rest on this file: nobody has to believe it.
 -- What a yes-fact takes from the courses in one period, by the table of the cells that nothing bars. These are steps of
 -- the code, and nobody has to believe them.
 use Rattle.std.specs.Prelude.{ℕ, ◌==◌, nat_lt, Bool, not, ◌&&◌, ◌||◌, List, length}

@@ -1,3 +1,4 @@
+-- Only proofs rest on this file: nobody has to believe it.
 -- Which patterns may match a cell in common. These are steps of the code, and nobody has to believe them.
 use Rattle.std.specs.Prelude.{ℕ, ◌==◌, Bool, true, ◌&&◌, Option, Some, None}
 use Rattle.tt_instance.specs.Problem.{Problem}

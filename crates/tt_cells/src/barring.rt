@@ -1,6 +1,6 @@
 //! What a no-fact takes from the tables.
 
-ghost use Rattle.std.specs.Prelude.{◌≡◌, ◌<◌, ◌==◌, ◌&&◌, length, OnOk};
+ghost use Rattle.std.specs.Prelude.{◌≡◌, ◌<◌, ◌==◌, ◌&&◌, Some, length, OnOk};
 ghost use Rattle.tt_facts.specs.Facts.{matches};
 ghost use Rattle.tt_facts.specs.Nested.{agrees_at};
 ghost use Rattle.tt_cell_set.specs.Tables.{IsTable, Loses};
@@ -12,6 +12,30 @@ use tt_cell_set::remove_rooms;
 use tt_facts::Pattern;
 use tt_instance::Instance;
 use tt_trail::Trail;
+
+/// Takes a course's cells away that agree with a pattern which gives this day and this period.
+fn remove_at(
+    instance: &Instance<'_>,
+    table: &mut Trail,
+    pattern: &Pattern,
+    course: u32,
+    day: u32,
+    period: u32,
+) -> Result<(), AllocError>
+    requires course { course < length instance.now.courses }
+    requires day { pattern.now.day ≡ Some day }
+    requires period { pattern.now.period ≡ Some period }
+    requires table { IsTable instance.now table.old.words }
+    ensures ok { OnOk result (Loses instance.now table.old.words
+        (λ x. (x.course == course) && agrees_at pattern.now x) table.new.words) }
+    ensures same { table.new.earlier ≡ table.old.earlier }
+{
+    if day >= instance.days() || period >= instance.periods() {
+        return Ok(());
+    }
+    remove_rooms(instance, table, pattern.room, course, day, period)?;
+    Ok(())
+}
 
 /// Takes a course's cells away that agree with the pattern.
 fn remove_of(
@@ -26,6 +50,10 @@ fn remove_of(
         (λ x. (x.course == course) && agrees_at pattern.now x) table.new.words) }
     ensures same { table.new.earlier ≡ table.old.earlier }
 {
+    if let (Some(day), Some(period)) = (pattern.day, pattern.period) {
+        remove_at(instance, table, pattern, course, day, period)?;
+        return Ok(());
+    }
     let periods = instance.periods();
     let (from, to) = slots_of(instance, pattern);
     for slot in from..to {

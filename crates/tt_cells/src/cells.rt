@@ -99,7 +99,8 @@ impl<'p, 'i> Cells<'p, 'i> {
         self.facts[index]
     }
 
-    /// Adds a fact after the others.
+    /// Adds a fact after the others. Kept apart, as the call that lists the fact is.
+    #[inline(never)]
     pub fn push(&mut self, fact: Fact) -> Result<(), AllocError>
         requires { length self.old.facts < 65536 }
         ensures ok { OnOk result (self.new.facts ≡ self.old.facts ++ fact ∷ []) }

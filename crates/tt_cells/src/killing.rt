@@ -60,6 +60,9 @@ fn lost_rooms(
     let mut lost = Rooms::All;
     for other in courses {
         lost = lost.both(rooms_beside(instance, free, pattern, day, period, *other, course));
+        if matches!(lost, Rooms::Nothing) {
+            return Rooms::Nothing;
+        }
     }
     lost
 }
@@ -173,76 +176,55 @@ fn strike_period(
     Ok(())
 }
 
-/// Takes from a course what it loses where another, or itself, has to have one of its free rooms, and these are each of them.
+/// Takes a room in a period away from a course, unless it is the one that has to have it.
 fn strike_room_of(
     instance: &Instance<'_>,
-    free: &Trail,
     live: &mut Trail,
-    pattern: &Pattern,
+    room: u32,
     day: u32,
     period: u32,
     course: u32,
-    common: Rooms,
     other: u32,
 ) -> Result<(), AllocError>
     requires day { day < instance.now.days }
     requires period { period < instance.now.periods }
-    requires course { course < length instance.now.courses }
-    requires common { (r : ℕ) → has_room common r ≡ list_all
-        (λ k. not (is_open instance.now free.now.words pattern.now.room course day period k) || (k == r)) (all_rooms instance.now) }
     requires other { other < length instance.now.courses }
-    requires free { IsTable instance.now free.now.words }
     requires live { IsTable instance.now live.old.words }
     ensures ok { OnOk result (Loses instance.now live.old.words
-        (λ x. is_placed other day period x
-        && loses_room instance.now free.now.words pattern.now day period (course ∷ []) x.course x.room)
-        live.new.words) }
+        (λ x. is_placed other day period x && (not (x.course == course) && (room == x.room))) live.new.words) }
     ensures same { live.new.earlier ≡ live.old.earlier }
 {
     if other == course {
-        keep_rooms(instance, live, free, pattern.room, other, day, period)?;
         return Ok(());
     }
-    let lost = if instance.conflict(course, other) {
-        Rooms::All
-    } else {
-        common
-    };
-    remove_lost(instance, live, lost, other, day, period)?;
+    remove_rooms(instance, live, Some(room), other, day, period)?;
     Ok(())
 }
 
-/// The same as `kill` for one course, whose free rooms are each of these.
+/// Takes a room in a period away from each course but the one that has to have it.
 fn strike_room(
     instance: &Instance<'_>,
-    free: &Trail,
     live: &mut Trail,
-    pattern: &Pattern,
+    room: u32,
     day: u32,
     period: u32,
     course: u32,
-    common: Rooms,
 ) -> Result<(), AllocError>
     requires day { day < instance.now.days }
     requires period { period < instance.now.periods }
-    requires course { course < length instance.now.courses }
-    requires common { (r : ℕ) → has_room common r ≡ list_all
-        (λ k. not (is_open instance.now free.now.words pattern.now.room course day period k) || (k == r)) (all_rooms instance.now) }
-    requires free { IsTable instance.now free.now.words }
     requires live { IsTable instance.now live.old.words }
     ensures ok { OnOk result (Loses instance.now live.old.words
-        (is_struck instance.now free.now.words pattern.now day period (course ∷ [])) live.new.words) }
+        (λ x. (x.day == day) && (x.period == period) && (not (x.course == course) && (room == x.room))) live.new.words) }
     ensures same { live.new.earlier ≡ live.old.earlier }
 {
     for other in 0..instance.courses() {
-        strike_room_of(
-            instance, free, live, pattern, day, period, course, common, other,
-        )?;
+        strike_room_of(instance, live, room, day, period, course, other)?;
     }
     Ok(())
 }
 
-/// The same as `kill` for one course: where it has two free rooms, only those lose that conflict with it.
+/// The same as `kill` for one course: those lose the period that conflict with it, and where it has one free room, the others
+/// lose that.
 fn kill_one(
     instance: &Instance<'_>,
     links: &Links,
@@ -270,8 +252,14 @@ fn kill_one(
             keep_rooms(instance, live, free, pattern.room, course, day, period)?;
             Ok(())
         }
-        _ => {
-            kill_beside(instance, free, live, pattern, day, period, course, common)?;
+        Rooms::One(room) => {
+            strike_period(instance, live, links.conflicts_of(course), day, period)?;
+            strike_room(instance, live, room, day, period, course)?;
+            keep_rooms(instance, live, free, pattern.room, course, day, period)?;
+            Ok(())
+        }
+        Rooms::All => {
+            kill(instance, free, live, pattern, day, period, &[course])?;
             Ok(())
         }
     }

@@ -6,7 +6,8 @@ ghost use Rattle.tt_cells.specs.Shown.{yes_facts};
 use std::alloc::AllocError;
 use tt_facts::{Fact, Pattern};
 
-/// Adds a fact to the lists where it belongs.
+/// Adds a fact to the lists where it belongs. Kept apart, since the fact is copied field by field where it is inlined.
+#[inline(never)]
 pub fn list_fact(
     facts: &mut Vec<Fact>,
     yes: &mut Vec<Pattern>,

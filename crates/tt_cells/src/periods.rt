@@ -60,7 +60,7 @@ fn is_left_to(
 }
 
 /// Whether one of the courses has.
-fn is_left(
+pub fn is_left(
     instance: &Instance<'_>,
     free: &Trail,
     pattern: &Pattern,

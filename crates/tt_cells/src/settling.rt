@@ -1,6 +1,6 @@
 //! What a yes-fact takes from the live cells.
 
-ghost use Rattle.std.specs.Prelude.{◌≡◌, ◌≤◌, ◌*◌, OnOk};
+ghost use Rattle.std.specs.Prelude.{◌≡◌, ◌<◌, ◌≤◌, ◌*◌, Some, OnOk};
 ghost use Rattle.tt_facts.specs.Nested.{courses_of};
 ghost use Rattle.tt_links.specs.Linked.{AreLinks};
 ghost use Rattle.tt_cell_set.specs.Tables.{IsTable};
@@ -9,7 +9,7 @@ ghost use Rattle.tt_cells.specs.Shown.{Settles};
 
 use crate::courses::courses_of;
 use crate::killing::kill_by_links;
-use crate::periods::{first_left, slots_of};
+use crate::periods::{first_left, is_left, slots_of};
 use std::alloc::AllocError;
 use tt_cell_set::remove_all;
 use tt_facts::Pattern;
@@ -57,6 +57,67 @@ fn settle_from(
     }
 }
 
+/// Takes away the live cells that a pattern excludes which gives this day and this period.
+fn settle_at(
+    instance: &Instance<'_>,
+    links: &Links,
+    free: &Trail,
+    live: &mut Trail,
+    pattern: &Pattern,
+    courses: &[u32],
+    day: u32,
+    period: u32,
+) -> Result<(), AllocError>
+    requires links { AreLinks instance.now links.now }
+    requires courses { courses.now ≡ courses_of instance.now pattern.now.who }
+    requires given_day { pattern.now.day ≡ Some day }
+    requires given_period { pattern.now.period ≡ Some period }
+    requires day { day < instance.now.days }
+    requires period { period < instance.now.periods }
+    requires free { IsTable instance.now free.now.words }
+    requires live { IsTable instance.now live.old.words }
+    ensures ok { OnOk result (Settles instance.now free.now.words live.old.words pattern.now live.new.words) }
+    ensures same { live.new.earlier ≡ live.old.earlier }
+{
+    if !is_left(instance, free, pattern, day, period, courses) {
+        remove_all(instance, live)?;
+        return Ok(());
+    }
+    kill_by_links(instance, links, free, live, pattern, day, period, courses)?;
+    Ok(())
+}
+
+/// Takes away the live cells that a pattern excludes, whichever periods it allows.
+fn settle_within(
+    instance: &Instance<'_>,
+    links: &Links,
+    free: &Trail,
+    live: &mut Trail,
+    pattern: &Pattern,
+    courses: &[u32],
+) -> Result<(), AllocError>
+    requires links { AreLinks instance.now links.now }
+    requires courses { courses.now ≡ courses_of instance.now pattern.now.who }
+    requires free { IsTable instance.now free.now.words }
+    requires live { IsTable instance.now live.old.words }
+    ensures ok { OnOk result (Settles instance.now free.now.words live.old.words pattern.now live.new.words) }
+    ensures same { live.new.earlier ≡ live.old.earlier }
+{
+    let (from, to) = slots_of(instance, pattern);
+    match first_left(instance, free, pattern, courses, from, to) {
+        None => {
+            remove_all(instance, live)?;
+            Ok(())
+        }
+        Some(slot) => {
+            settle_from(
+                instance, links, free, live, pattern, courses, from, slot, to,
+            )?;
+            Ok(())
+        }
+    }
+}
+
 /// Takes away the live cells that a pattern excludes.
 pub fn settle(
     instance: &Instance<'_>,
@@ -72,16 +133,13 @@ pub fn settle(
     ensures same { live.new.earlier ≡ live.old.earlier }
 {
     let courses = courses_of(instance, &pattern.who);
-    let (from, to) = slots_of(instance, pattern);
-    match first_left(instance, free, pattern, courses, from, to) {
-        None => {
-            remove_all(instance, live)?;
+    match (pattern.day, pattern.period) {
+        (Some(day), Some(period)) if day < instance.days() && period < instance.periods() => {
+            settle_at(instance, links, free, live, pattern, courses, day, period)?;
             Ok(())
         }
-        Some(slot) => {
-            settle_from(
-                instance, links, free, live, pattern, courses, from, slot, to,
-            )?;
+        _ => {
+            settle_within(instance, links, free, live, pattern, courses)?;
             Ok(())
         }
     }

@@ -4,15 +4,19 @@ ghost use Rattle.std.specs.Prelude.{◌≡◌};
 ghost use Rattle.std.specs.List.Sorted.{IsStrictlyIncreasing};
 
 use std::marker::Model;
+use thiserror::Error;
 use tt_instance::Slot;
 
 /// Why there is no chain.
-#[derive(Clone, Copy, Debug, PartialEq, Eq)]
+#[derive(Clone, Copy, Debug, PartialEq, Eq, Error)]
 pub enum ChainFault {
     /// The target is the entry's own period.
+    #[error("the entry stands in this period")]
     SamePeriod,
     /// This entry would move to a period that is unavailable.
+    #[error("entry {0} is unavailable there")]
     Unavailable(u32),
+    #[error("out of memory")]
     OutOfMemory,
 }
 

@@ -1,3 +1,4 @@
+-- Only proofs rest on this file: nobody has to believe it.
 -- The entries of a curriculum's courses round a period of a day.
 use Rattle.std.specs.Prelude.{ℕ, ◌+◌, ◌-◌, Bool, cond, not, ◌&&◌, ◌||◌, List, count_by, nat_lt}
 use Rattle.std.specs.List.{list_any}

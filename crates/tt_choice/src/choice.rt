@@ -8,7 +8,7 @@ ghost use Rattle.tt_choice.specs.Choice.{IsFree, IsNewSplit};
 use crate::free::{find_free, is_free, own_pattern};
 use crate::leeway::Freedom;
 use crate::prospects::Prospects;
-use crate::strong::{Candidate, best_candidate};
+use crate::strong::best_candidate;
 use std::alloc::{AllocError, Global};
 use tt_facts::{Cell, Path, Pattern, Who};
 use tt_instance::Instance;
@@ -133,18 +133,15 @@ fn aim_at<'i, P: Path<'i>>(path: &P, course: u32, day: u32, period: u32) -> Opti
     None
 }
 
-/// The pattern of a candidate, if it is one of the instance's.
-fn aim_within<'i, P: Path<'i>>(path: &P, found: Candidate) -> Option<Pattern>
+/// The same, where the numbers may be none of the instance's.
+pub fn aim_within<'i, P: Path<'i>>(path: &P, course: u32, day: u32, period: u32) -> Option<Pattern>
     ensures { IfSome result (IsNewSplit (P.problem path.now) (P.facts path.now)) }
 {
     let instance = path.instance();
-    if found.course >= instance.courses()
-        || found.day >= instance.days()
-        || found.period >= instance.periods()
-    {
+    if course >= instance.courses() || day >= instance.days() || period >= instance.periods() {
         return None;
     }
-    aim_at(path, found.course, found.day, found.period)
+    aim_at(path, course, day, period)
 }
 
 fn split_by_period<'i, P: Path<'i>>(path: &P, freedom: &Freedom) -> Option<Pattern>
@@ -181,7 +178,7 @@ fn split_strongly<'i, P: Path<'i>>(
         return Ok(None);
     }
     match best_candidate(alloc, instance, prospects)? {
-        Some(found) => Ok(aim_within(path, found)),
+        Some(found) => Ok(aim_within(path, found.course, found.day, found.period)),
         None => Ok(None),
     }
 }

@@ -66,7 +66,7 @@ fn periods_of<'i, P: Path<'i>>(path: &P, course: u32, day: u32) -> DayPeriods
     }
 }
 
-/// What the working days cost that a course must lack where so many are live.
+/// What the working days cost that a course must lack where this many are live.
 fn days_cost(instance: &Instance<'_>, course: u32, live: u32) -> u64
     requires { course < length instance.now.courses }
 {

@@ -117,7 +117,7 @@ fn hold(prospects: &Prospects, course: u32) -> Gain {
     }
 }
 
-/// What a pinned period of a curriculum gains when so many members beside it lose a period.
+/// What a pinned period of a curriculum gains when this many members beside it lose a period.
 fn isolation(beside: u32, lost: u32) -> Gain {
     let left = beside.saturating_sub(lost);
     if left == beside {
@@ -135,7 +135,7 @@ fn isolation(beside: u32, lost: u32) -> Gain {
     }
 }
 
-/// What the pinned periods beside a period gain when so many members lose it.
+/// What the pinned periods beside a period gain when this many members lose it.
 fn thin_out(neighbours: &Neighbours, curriculum: u32, slot: Slot, lost: u32) -> Gain {
     let mut gain = Gain::NONE;
     let pinned = neighbours.pinned(curriculum, slot.day);

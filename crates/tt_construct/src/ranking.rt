@@ -18,7 +18,7 @@ pub struct Lecture<'s> {
 }
 
 impl<'s> Lecture<'s> {
-    /// A lecture of a course that is taught on so many days.
+    /// A lecture of a course that is taught on this many days.
     pub fn new(number: u32, course: &'s Course, days: u32, looks_ahead: bool) -> Lecture<'s> {
         Lecture {
             number,

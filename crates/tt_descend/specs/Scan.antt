@@ -1,3 +1,4 @@
+-- Only proofs rest on this file: nobody has to believe it.
 -- What a scan of some steps makes and sees. The steps of a scan are made in turn where they lower the pair.
 use Rattle.std.specs.Prelude.{◌≡◌, ℕ, ◌+◌, ◌<◌, length}
 use Rattle.tt_occupancy.specs.Filled.{Filled}
@@ -35,7 +36,7 @@ NoSwapOf i o = (j : ℕ) → i < j → j < length o.entries → ¬ Lowers o (Swa
 abbrev pub NoSwap : Filled → Type 0
 NoSwap o = (i : ℕ) → i < length o.entries → NoSwapOf i o
 
--- A scan with so many steps left before and after it. Where it made none, the timetable is as it was, and what was to be seen is true of it.
+-- A scan with this many steps left before and after it. Where it made none, the timetable is as it was, and what was to be seen is true of it.
 pub record IsScan (seen : Filled → Type 0) (o next : Filled) (before after : ℕ) : Type 0 where
   pub problem : next.problem ≡ o.problem
   pub size : length next.entries ≡ length o.entries
@@ -44,7 +45,7 @@ pub record IsScan (seen : Filled → Type 0) (o next : Filled) (before after : �
   pub path : Descends o.problem o.entries made next.entries
   pub still : after ≡ before → (next ≡ o) × seen o
 
--- a scan that ended where a step lowers the pair, with none left of so many
+-- a scan that ended where a step lowers the pair, with none left of this many
 pub record IsSpent (o next : Filled) (before : ℕ) : Type 0 where
   pub problem : next.problem ≡ o.problem
   pub path : Descends o.problem o.entries before next.entries

@@ -31,7 +31,7 @@ fn try_each(occupied: &mut Occupied<'_, '_>, left: &mut u64) -> Result<(), Spent
     try_swaps(occupied, left)
 }
 
-/// Makes steps that lower the pair, at most so many, and says whether none is left. The search for
+/// Makes steps that lower the pair, at most this many, and says whether none is left. The search for
 /// the next one goes on where the last one was found. No memory is taken.
 pub fn descend_in(occupied: &mut Occupied<'_, '_>, steps: u64) -> bool
     ensures problem { occupied.new.problem ≡ occupied.old.problem }
@@ -50,7 +50,7 @@ pub fn descend_in(occupied: &mut Occupied<'_, '_>, steps: u64) -> bool
     }
 }
 
-/// Makes steps that lower the pair of hard count and cost, at most so many. The table is used up
+/// Makes steps that lower the pair of hard count and cost, at most this many. The table is used up
 /// also where memory runs out.
 pub fn descend(
     alloc: Global,

@@ -1,5 +1,5 @@
 -- Tests of the elements that agree with what is given, and which numbers these are.
-use Rattle.std.proofs.Common.{◌≡◌, ℕ, zero, suc, ◌+◌, ◌-◌, ◌<◌, ◌≤◌, Bool, true, false, not, cond, ◌&&◌, ◌||◌, List, [], ◌∷◌, Some, None, refl, sym, ap, ◌∙◌, arith, inl, inr, eq-eqb, ne_eqb, le-leb}
+use Rattle.std.proofs.Common.{◌≡◌, ℕ, zero, suc, ◌+◌, ◌-◌, ◌<◌, ◌≤◌, Bool, true, false, not, ◌&&◌, ◌||◌, List, [], ◌∷◌, Some, None, refl, sym, ap, ◌∙◌, arith, inl, inr, eq-eqb, ne_eqb, le-leb}
 use Rattle.std.specs.Prelude.{◌==◌, nat_le, filter}
 use Rattle.std.specs.List.{list_any, list_all, range_with_len}
 use Rattle.std.proofs.lemmas.Bool.{cases_eq, cases_lt, lt-leb}
@@ -7,23 +7,15 @@ use Rattle.std.proofs.Math.Bool.{and-true}
 use Rattle.tt_lists.specs.Words.{range_below, has_number}
 use Rattle.tt_lists.proofs.All.{list_all-same}
 use Rattle.tt_lists.proofs.Below.{all_pass}
+use Rattle.tt_lists.proofs.Filters.{list_all-of_filter}
 use Rattle.tt_lists.proofs.Twos.{list_all-swap}
 use Rattle.tt_facts.specs.Nested.{numbers_given}
 
 -- ---- tests
 
--- each element that is kept passes
-pub list_all-of_filter : {X : Type 0} (p t : X → Bool) (xs : List X) → list_all t (filter p xs) ≡ list_all (λ x. not (p x) || t x) xs
-list_all-of_filter p t [] = refl
-list_all-of_filter p t (x ∷ xs) = by_test (p x) (list_all-of_filter p t xs)
-  where
-    by_test : (b : Bool) → list_all t (filter p xs) ≡ list_all (λ y. not (p y) || t y) xs → list_all t (cond b (x ∷ filter p xs) (filter p xs)) ≡ ((not b || t x) && list_all (λ y. not (p y) || t y) xs)
-    by_test true e = ap (λ b. t x && b) e
-    by_test false e = e
-
 -- each element passes that agrees, if the rest agrees
 pub all_that_agree : {X : Type 0} (rest : Bool) (p t : X → Bool) (xs : List X) → list_all (λ x. not (rest && p x) || t x) xs ≡ (not rest || list_all t (filter p xs))
-all_that_agree true p t xs = sym (list_all-of_filter p t xs)
+all_that_agree true p t xs = sym (list_all-of_filter t p xs)
 all_that_agree false p t xs = all_pass (λ x. true) xs (λ x. refl)
 
 -- ---- numbers below a bound
@@ -70,7 +62,7 @@ none_or p b (x ∷ xs) = by_tests (p x) (list_any p xs) b ∙ ap (λ l. (not (p 
 
 -- a test of one number below a bound
 at_number : (t : ℕ → Bool) (n m : ℕ) → list_all (λ k. not (m == k) || t k) (range_below n) ≡ (nat_le n m || t m)
-at_number t n m = sym (list_all-of_filter (λ k. m == k) t (range_below n)) ∙ elim (cases_lt m n) [
+at_number t n m = sym (list_all-of_filter t (λ k. m == k) (range_below n)) ∙ elim (cases_lt m n) [
   | inl h ↦ ap (list_all t) (one_from m 0 n (omega arith) (omega arith)) ∙ and-true (t m) ∙ sym (rw (lt-leb n m h) refl)
   | inr h ↦ ap (list_all t) (none_to m 0 n (omega arith)) ∙ sym (rw (le-leb n m h) refl)
 ]

@@ -1,3 +1,4 @@
+-- Only proofs rest on this file: nobody has to believe it.
 -- What a path leaves possible, one number at a time, as the code goes through it.
 use Rattle.std.specs.Prelude.{ℕ, Bool, not, ◌&&◌, ◌||◌, List, Option, [], ◌∷◌, nat_le, filter, length}
 use Rattle.std.specs.List.{list_any, list_all}

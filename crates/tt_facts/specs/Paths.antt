@@ -1,3 +1,4 @@
+-- Only proofs rest on this file: nobody has to believe it.
 -- What a path is.
 use Rattle.std.specs.Prelude.{List}
 use Rattle.tt_instance.specs.Problem.{Problem}

@@ -9,16 +9,19 @@ ghost use Rattle.tt_facts.specs.Live.{is_dead, is_live, live_period, live_day, l
 ghost use Rattle.tt_facts.specs.declared.facts.Fact.{Fact};
 
 use crate::facts::{Fact, Pattern, Who};
+use thiserror::Error;
 use tt_instance::{Cell, Instance};
 
 /// The most facts of a path.
 pub const MAX_FACTS: usize = 65_536;
 
 /// Why a fact was not added.
-#[derive(Clone, Copy, Debug, PartialEq, Eq)]
+#[derive(Clone, Copy, Debug, PartialEq, Eq, Error)]
 pub enum PathFault {
     /// The path has as many facts as it may have.
+    #[error("too deep")]
     TooDeep,
+    #[error("out of memory")]
     OutOfMemory,
 }
 

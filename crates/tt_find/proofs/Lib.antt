@@ -1,5 +1,3 @@
-pub mod Lists
-pub mod Cells
 pub mod LiveCells
 pub mod Fitting
 pub mod Capacity

@@ -1,10 +1,10 @@
 -- A course that has as many periods that seat its students as lectures has no claim on seats.
-use Rattle.std.proofs.Common.{◌≡◌, ℕ, ◌≤◌, ◌<◌, List, [], ◌∷◌, ◌++◌, length, min, take, drop, Option, Some, None, Bool, cond, refl, sym, ap, ◌∙◌, arith, inl, inr, eqb-true, lt-ltb, ltb-true}
+use Rattle.std.proofs.Common.{◌≡◌, ℕ, ◌≤◌, ◌<◌, List, [], ◌∷◌, ◌++◌, length, min, Option, Some, None, cond, refl, ap, ◌∙◌, arith, inl, inr, eqb-true, lt-ltb, ltb-true}
 use Rattle.std.specs.Prelude.{◌==◌, nat_lt, nat_le, count_by}
 use Rattle.std.proofs.lemmas.Bool.{and_parts, cases_lt}
-use Rattle.std.proofs.lemmas.List.{take-append-drop}
-use Rattle.std.proofs.lemmas.List.Sums.{sum_by-append}
 use Rattle.tt_lists.proofs.Sums.{sum_by-le, cond-le, each}
+use Rattle.tt_lists.proofs.Finding.{find_passes}
+use Rattle.tt_lists.proofs.Given.{count_in, count_by-filter_map}
 use Rattle.tt_instance.specs.Problem.{Problem}
 use Rattle.tt_instance.specs.Cells.{all_slots}
 use Rattle.tt_instance.specs.Courses.{lectures}
@@ -15,13 +15,6 @@ use Rattle.tt_leaf.specs.Claims.{value_of}
 use Rattle.tt_leaf.specs.declared.leaf.Claim.TheVariants.{Capacity}
 use Rattle.tt_find.specs.Best.{is_kth, least_excesses, price_of, at_price, capacity_claims, worth}
 use Rattle.tt_find.specs.Seated.{is_nothing, is_seated, seated_periods}
-use Rattle.tt_find.proofs.Capacity.{count_in, count_by-filter_map, find_passes}
-
--- as many pass of the first as of all, at most
-pub count_by-take : {X : Type 0} (q : X → Bool) (i : ℕ) (xs : List X) → count_by q (take i xs) ≤ count_by q xs
-count_by-take q i xs =
-    let split = ap (count_by q) (sym (take-append-drop i xs)) in
-    omega (arith, split, sum_by-append (λ x. cond (q x) 1 0) (take i xs) (drop i xs))
 
 seated_below : (u : ℕ) → 0 < u → (o : Option ℕ) → cond (is_nothing o) 1 0 ≤ count_in (λ m. nat_lt m u) o
 seated_below u h None = omega arith
@@ -33,7 +26,7 @@ module _ (p : Problem) (path : List Fact) (c : ℕ) where
       let seated : Slot → ℕ = λ s. cond (is_seated p path c s) 1 0 in
       let below : Slot → ℕ = λ s. count_in (λ m. nat_lt m u) (least_excess p path c s) in
       let k = sum_by-le seated below (all_slots p) (each (λ s. seated s ≤ below s) (λ s. seated_below u h (least_excess p path c s)) (all_slots p)) in
-      omega (arith, k, count_by-filter_map (λ m. nat_lt m u) (least_excess p path c) (all_slots p))
+      omega (arith, k, count_by-filter_map (least_excess p path c) (λ m. nat_lt m u) (all_slots p))
 
   price_nothing : lectures p c ≤ seated_periods p path c → (u : ℕ) → price_of p path c ≡ Some u → u ≡ 0
   price_nothing h u e = elim (cases_lt 0 u) [

@@ -101,7 +101,7 @@ fn group_of(
     Ok(Group { members, gain })
 }
 
-/// The best group that grows from one of the courses that are left and needs more seats than so many, if it is better.
+/// The best group that grows from one of the courses that are left and needs more seats than this many, if it is better.
 fn better_group(
     alloc: Global,
     instance: &Instance<'_>,

@@ -2,9 +2,9 @@
 
 ghost use Rattle.std.specs.Prelude.{◌<◌, length};
 
-use crate::slots::{slot_at, slot_count};
 use std::alloc::{AllocError, Global};
 use tt_facts::{Cell, Path};
+use tt_leaf::{slot_at, slot_count};
 
 /// The periods of one word.
 const WORD: u32 = 64;

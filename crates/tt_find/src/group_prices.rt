@@ -51,7 +51,7 @@ fn has(members: &[bool], course: u32) -> bool {
     members.get(course as usize).copied().unwrap_or(false)
 }
 
-/// The lectures of the group with so many students at least.
+/// The lectures of the group with this many students at least.
 fn demand(instance: &Instance<'_>, members: &[bool], level: u32) -> u64 {
     let mut total: u64 = 0;
     for course in 0..instance.courses() {
@@ -62,7 +62,7 @@ fn demand(instance: &Instance<'_>, members: &[bool], level: u32) -> u64 {
     total
 }
 
-/// The open periods of the rooms with so many seats at least.
+/// The open periods of the rooms with this many seats at least.
 fn supply(instance: &Instance<'_>, open: &[u32], level: u32) -> u64 {
     let mut total: u64 = 0;
     for room in 0..instance.rooms() {
@@ -77,7 +77,7 @@ fn number_at(numbers: &[u32], place: usize) -> u32 {
     numbers.get(place).copied().unwrap_or(0)
 }
 
-/// Raises the prices of the rooms with so many seats at least.
+/// Raises the prices of the rooms with this many seats at least.
 fn raise(instance: &Instance<'_>, prices: &mut [u32], level: u32, by: u32) {
     for room in 0..instance.rooms() {
         if level <= instance.capacity(room)

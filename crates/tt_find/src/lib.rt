@@ -10,7 +10,6 @@ mod laws;
 mod priced;
 mod prices;
 mod rivals;
-mod slots;
 
 pub use best::best_claims;
 pub use find::find_leaf;

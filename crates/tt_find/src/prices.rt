@@ -10,12 +10,12 @@ ghost use Rattle.tt_instance.specs.Courses.{lectures};
 ghost use Rattle.tt_find.specs.Best.{kth_smallest, least_excesses, price_of};
 ghost use Rattle.tt_find.specs.Seated.{is_seated, seated_periods};
 
-use crate::slots::{slot_at, slot_count};
 use itertools::Itertools;
 use std::alloc::{AllocError, Global};
 use std::vec::IntoIter;
 use tt_facts::Path;
 use tt_instance::Slot;
+use tt_leaf::{slot_at, slot_count};
 
 /// The `k` smallest numbers, in rising order.
 fn smallest(alloc: Global, numbers: &[u32], k: usize) -> Result<IntoIter<u32>, AllocError>

@@ -19,7 +19,7 @@ pub struct Rivals {
     cells: u64,
 }
 
-/// The rooms with more seats than so many.
+/// The rooms with more seats than this many.
 fn larger_rooms(
     alloc: Global,
     instance: &Instance<'_>,
@@ -50,7 +50,7 @@ fn is_large(instance: &Instance<'_>, course: usize, seats: Option<u32>) -> bool 
 }
 
 impl Rivals {
-    /// No course yet, of the rooms with more seats than so many.
+    /// No course yet, of the rooms with more seats than this many.
     fn none(
         alloc: Global,
         instance: &Instance<'_>,
@@ -150,7 +150,7 @@ impl Rivals {
     }
 }
 
-/// The group that grows from a course, among those that are left and need more seats than so many; none where
+/// The group that grows from a course, among those that are left and need more seats than this many; none where
 /// the rooms with more seats have enough cells for it.
 pub fn rivals_of(
     alloc: Global,

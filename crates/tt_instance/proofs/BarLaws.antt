@@ -28,7 +28,7 @@ module _ (cs : List Course) (days periods : ℕ) where
   abbrev pub IsNextBar : List Bar → Bar → Type 0
   IsNextBar _ b = IsBar (length cs) days periods b
 
-  -- what reading so many unavailabilities gave
+  -- what reading this many unavailabilities gave
   abbrev pub BarsTaken : ℕ → List Placed → List Bar × List Placed → Type 0
   BarsTaken n ts x = ManyTaken bars_once (bar_pieces cs) IsNextBar n [] ts x
 
@@ -52,7 +52,7 @@ module _ (cs : List Course) (days periods : ℕ) where
         subst (OneTaken bars_once (bar_pieces cs) IsNextBar before ts) (ok_is (with_new same_bar (bars_once before) b, period.0.1) x period.2)
         (record { item = b; list = sym (distinct_push same_bar before b); next = record { course = c.1; day = d.1; period = p.1 }; takes = pieces })
 
-    -- so many unavailabilities that were read are spelled
+    -- this many unavailabilities that were read are spelled
     pub bars_take : 0 < days → 0 < periods → (n : ℕ) (ts : List Placed) (x : List Bar × List Placed) → bars_at end (ids_of cs) days periods n [] ts ≡ Ok x → BarsTaken n ts x
     bars_take some_day some_period n ts x e =
         series_takes bars_once (bar_pieces cs) IsNextBar (λ _. Unit {0}) one (bars_at end (ids_of cs) days periods) (bars_repeat end (ids_of cs) days periods) (bar_takes some_day some_period) (λ before b fits ok. tt) n [] ts x tt e

@@ -1,17 +1,32 @@
--- The cells of an instance: each is in range, and there once.
-use Rattle.std.proofs.Common.{ℕ, ◌≤◌, ◌<◌, Bool, cond, ◌&&◌, map, length, arith}
+-- The periods and the cells of an instance: each is in range, and there once.
+use Rattle.std.proofs.Common.{◌≡◌, ℕ, ◌≤◌, ◌<◌, Bool, true, cond, ◌&&◌, map, length, refl, ap, ◌∙◌, arith, eqb-true, eq-eqb}
 use Rattle.std.specs.Prelude.{◌==◌, sum_by, count_by, flat_map}
-use Rattle.std.specs.List.{AllByRecursion}
-use Rattle.tt_lists.specs.Words.{numbers_below}
+use Rattle.std.specs.List.{list_all, AllByRecursion}
+use Rattle.std.proofs.lemmas.Bool.{and_parts, and_from}
+use Rattle.tt_lists.specs.Words.{range_below}
+use Rattle.tt_lists.proofs.Sums.{sum_by-le, sum_by-of_map, sum_by-of_flat_map, once_at_most, each, each_weaker}
+use Rattle.tt_lists.proofs.Numbers.{count_below}
+use Rattle.tt_lists.proofs.Tested.{each_flat, each_map}
+use Rattle.tt_lists.proofs.Range.{each_below, all_below}
 use Rattle.tt_instance.specs.Problem.{Problem}
 use Rattle.tt_instance.specs.Cells.{slot, slot_of, cell, is_at, all_slots, all_days, all_rooms, all_courses, all_cells, InRange}
 use Rattle.tt_instance.specs.declared.cell.Slot.{Slot}
 use Rattle.tt_instance.specs.declared.cell.Cell.{Cell}
-use Rattle.tt_lists.proofs.Sums.{sum_by-le, sum_by-of_map, sum_by-of_flat_map, once_at_most, each, each_weaker}
-use Rattle.tt_lists.proofs.Numbers.{count_below}
-use Rattle.tt_instance.proofs.Places.{count_slots}
-use Rattle.tt_find.proofs.Lists.{each_flat, each_map, each_below}
+use Rattle.tt_instance.proofs.Places.{count_slots, cells_nested}
 
+-- ---- the period of a cell
+
+pub at_itself : (x : Cell) → is_at (slot_of x) x ≡ true
+at_itself x = and_from (x.day == x.day) (x.period == x.period) (eq-eqb x.day x.day refl) (eq-eqb x.period x.period refl)
+
+pub is_at-slot : (s : Slot) (x : Cell) → is_at s x ≡ true → slot_of x ≡ s
+is_at-slot s x e =
+    let a = and_parts (x.day == s.day) (x.period == s.period) e in
+    ap (λ d. slot d x.period) (eqb-true x.day s.day a.0) ∙ ap (λ i. slot s.day i) (eqb-true x.period s.period a.1)
+
+-- ---- in range
+
+-- the period is one of the week
 pub record IsSlot (p : Problem) (s : Slot) : Type 0 where
   pub day : s.day < p.days
   pub period : s.period < p.periods
@@ -32,6 +47,17 @@ each_cell p =
     (each_below (λ r. AllByRecursion (InRange p) (in_room c r)) (length p.rooms) (λ r k.
     each_map (InRange p) (cell c r) (all_slots p)
     (each_weaker (IsSlot p) (λ s. InRange p (cell c r s)) (λ s i. record { course = h; room = k; day = i.day; period = i.period }) (all_slots p) (each_slot p))))))
+
+-- a test that each cell in range passes
+pub all_cells_pass : (q : Problem) (t : Cell → Bool) → ((y : Cell) → InRange q y → t y ≡ true) → list_all t (all_cells q) ≡ true
+all_cells_pass q t h =
+    cells_nested q t
+    ∙ all_below (λ c. list_all (λ r. list_all (λ d. list_all (λ s. t (cell c r (slot d s))) (range_below q.periods)) (all_days q)) (all_rooms q)) (length q.courses) (λ c hc.
+    all_below (λ r. list_all (λ d. list_all (λ s. t (cell c r (slot d s))) (range_below q.periods)) (all_days q)) (length q.rooms) (λ r hr.
+    all_below (λ d. list_all (λ s. t (cell c r (slot d s))) (range_below q.periods)) q.days (λ d hd.
+    all_below (λ s. t (cell c r (slot d s))) q.periods (λ s hs. h (cell c r (slot d s)) (record { course = hc; room = hr; day = hd; period = hs })))))
+
+-- ---- there once
 
 -- one course, one room and one period
 abbrev pub is_cell : Cell → Cell → Bool

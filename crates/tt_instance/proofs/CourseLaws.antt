@@ -16,7 +16,7 @@ use Rattle.tt_instance.proofs.FieldLaws.{guard_passed, text_takes, limited_takes
 use Rattle.tt_instance.proofs.Repeating.{courses_repeat}
 use Rattle.tt_instance.proofs.SeriesLaws.{OneTaken, ManyTaken, series_takes, series_reads}
 
--- what reading so many courses gave
+-- what reading this many courses gave
 abbrev pub CoursesTaken : ℕ → List Placed → List Course × List Placed → Type 0
 CoursesTaken n ts x = ManyTaken (λ cs. cs) course_pieces IsNextCourse n [] ts x
 
@@ -58,7 +58,7 @@ course_reads end before ts c qs rest next h =
     let made : done {A = List Course × List Placed} (before ++ record { id = id.token.0.text; teacher = teacher.token.0.text; lectures = c.lectures; min_days = c.min_days; students = c.students } ∷ [], students.mid) ≡ Ok (before ++ c ∷ [], students.mid) = rw (id.piece, teacher.piece) refl in
     record { mid = students.mid; is = rw (id.is, fresh, teacher.is, lectures.is, min_days.is, students.is) made; left = students.left }
 
--- so many courses that were read are spelled
+-- this many courses that were read are spelled
 pub courses_take : (end n : ℕ) (ts : List Placed) (x : List Course × List Placed) → courses_at end n [] ts ≡ Ok x → CoursesTaken n ts x
 courses_take end n ts x e =
     series_takes (λ cs. cs) course_pieces IsNextCourse (λ cs. lectures_of cs ≤ 4096) (course_at end) (courses_at end) (courses_repeat end)

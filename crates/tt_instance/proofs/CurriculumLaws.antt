@@ -27,7 +27,7 @@ ids_kept [] = refl
 ids_kept (q ∷ qs) = ap (λ l. q.id ∷ l) (ids_kept qs)
 
 module _ (end : ℕ) (cs : List Course) where
-  -- what reading so many curricula gave
+  -- what reading this many curricula gave
   abbrev pub CurriculaTaken : ℕ → List Placed → List Curriculum × List Placed → Type 0
   CurriculaTaken n ts x = ManyTaken all_kept (curriculum_pieces cs) (IsNextCurriculum (length cs)) n [] ts x
 
@@ -51,7 +51,7 @@ module _ (end : ℕ) (cs : List Course) where
       subst (OneTaken all_kept (curriculum_pieces cs) (IsNextCurriculum (length cs)) before ts) (ok_is (all_kept before ++ record { id = q.id; members = members.0.0 } ∷ [], members.0.1) x members.2)
       (record { item = q; list = list; next = record { fresh = fresh; few = omega (arith, m.len, n.1); members = m.each }; takes = pieces })
 
-  -- so many curricula that were read are spelled
+  -- this many curricula that were read are spelled
   pub curricula_take : (n : ℕ) (ts : List Placed) (x : List Curriculum × List Placed) → curricula_at end (ids_of cs) n [] ts ≡ Ok x → CurriculaTaken n ts x
   curricula_take n ts x e =
       series_takes all_kept (curriculum_pieces cs) (IsNextCurriculum (length cs)) (λ _. Unit {0}) (curriculum_at end (ids_of cs)) (curricula_at end (ids_of cs)) (curricula_repeat end (ids_of cs)) curriculum_takes

@@ -9,7 +9,7 @@ use Rattle.tt_lists.proofs.Distinct.{All-distinct, length-distinct, each_two-dis
 use Rattle.tt_text.specs.Texts.{has_name}
 use Rattle.tt_instance.specs.Problem.{Curriculum, Bar, Problem}
 use Rattle.tt_instance.specs.Limits.{same_bar, IsNextCurriculum, IsBar, IsWithinLimits}
-use Rattle.tt_instance.specs.Spelling.{members_kept, kept}
+use Rattle.tt_instance.specs.Spelling.{members_kept, without_repeats}
 use Rattle.tt_instance.proofs.AfterLaws.{EachAfter-map}
 use Rattle.tt_instance.proofs.CurriculumLaws.{all_kept, ids_kept}
 
@@ -22,7 +22,7 @@ curriculum_within courses before q next = record {
 }
 
 -- what is kept of an instance within the limits is within them
-pub kept_within : (w : Problem) → IsWithinLimits w → IsWithinLimits (kept w)
+pub kept_within : (w : Problem) → IsWithinLimits w → IsWithinLimits (without_repeats w)
 kept_within w within = record {
   name = within.name;
   courses = within.courses;
@@ -58,6 +58,6 @@ kept_is : (p : Problem) (qs : List Curriculum) (bs : List Bar) → qs ≡ p.curr
 kept_is p qs bs qs_is bs_is = rw (qs_is, bs_is) refl
 
 -- an instance that has each member and each unavailability once is kept as it is
-pub kept_stays : (p : Problem) → All HasOnce p.curricula → each_two (λ a b. not (same_bar a b)) p.bars ≡ true → p ≡ kept p
+pub kept_stays : (p : Problem) → All HasOnce p.curricula → each_two (λ a b. not (same_bar a b)) p.bars ≡ true → p ≡ without_repeats p
 kept_stays p members bars =
     kept_is p (all_kept p.curricula) (distinct same_bar p.bars) (map_fixed members_kept p.curricula (All-weaker HasOnce (λ q. members_kept q ≡ q) curriculum_stays p.curricula members)) (distinct_stays same_bar p.bars bars)

@@ -1,10 +1,13 @@
 pub mod AfterLaws
 pub mod BarLaws
+pub mod Cells
 pub mod CourseLaws
+pub mod CourseLimits
 pub mod CurriculumLaws
 pub mod Examples
 pub mod Excluding
 pub mod Exclusion
+pub mod Fellows
 pub mod FieldLaws
 pub mod FreshLaws
 pub mod Getting

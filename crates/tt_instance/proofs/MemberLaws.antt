@@ -39,7 +39,7 @@ module _ (end : ℕ) (cs : List Course) where
       subst (OneTaken once member_pieces IsNextMember before ts) (ok_is (with_new (λ a b. a == b) (once before) c.0.0, c.0.1) x c.2)
       (record { item = c.0.0; list = sym (distinct_push (λ a b. a == b) before c.0.0); next = n.1; takes = n.0 })
 
-  -- what reading so many members gave
+  -- what reading this many members gave
   pub record MembersTaken (n : ℕ) (ts : List Placed) (x : List ℕ × List Placed) : Type 0 where
     pub listed : List ℕ
     pub list : x.0 ≡ once listed
@@ -47,7 +47,7 @@ module _ (end : ℕ) (cs : List Course) where
     pub each : All (λ m. m < length cs) listed
     pub takes : Takes ts (map (named cs) listed) x.1
 
-  -- so many members that were read are spelled
+  -- this many members that were read are spelled
   pub members_take : (n : ℕ) (ts : List Placed) (x : List ℕ × List Placed) → members_at end (ids_of cs) n [] ts ≡ Ok x → MembersTaken n ts x
   members_take n ts x e =
       let m = series_takes once member_pieces IsNextMember (λ _. Unit {0}) (member_at end (ids_of cs)) (members_at end (ids_of cs)) (members_repeat end (ids_of cs)) member_takes (λ before c fits next. tt) n [] ts x tt e in

@@ -15,7 +15,7 @@ use Rattle.tt_instance.proofs.FieldLaws.{guard_passed, text_takes, limited_takes
 use Rattle.tt_instance.proofs.Repeating.{rooms_repeat}
 use Rattle.tt_instance.proofs.SeriesLaws.{OneTaken, ManyTaken, series_takes, series_reads}
 
--- what reading so many rooms gave
+-- what reading this many rooms gave
 abbrev pub RoomsTaken : ℕ → List Placed → List Room × List Placed → Type 0
 RoomsTaken n ts x = ManyTaken (λ rs. rs) room_pieces IsNextRoom n [] ts x
 
@@ -44,7 +44,7 @@ room_reads end before ts r qs rest next h =
     let made : done {A = List Room × List Placed} (before ++ record { id = id.token.0.text; capacity = r.capacity } ∷ [], capacity.mid) ≡ Ok (before ++ r ∷ [], capacity.mid) = rw id.piece refl in
     record { mid = capacity.mid; is = rw (id.is, fresh, capacity.is) made; left = capacity.left }
 
--- so many rooms that were read are spelled
+-- this many rooms that were read are spelled
 pub rooms_take : (end n : ℕ) (ts : List Placed) (x : List Room × List Placed) → rooms_at end n [] ts ≡ Ok x → RoomsTaken n ts x
 rooms_take end n ts x e =
     series_takes (λ rs. rs) room_pieces IsNextRoom (λ _. Unit {0}) (room_at end) (rooms_at end) (rooms_repeat end) (room_takes end) (λ before r fits next. tt) n [] ts x tt e

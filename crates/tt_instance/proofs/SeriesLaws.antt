@@ -1,4 +1,4 @@
--- So many items one after the other: what is read is spelled, and what is spelled is read.
+-- This many items one after the other: what is read is spelled, and what is spelled is read.
 use Rattle.std.proofs.Common.{◌≡◌, ℕ, zero, suc, List, [], ◌∷◌, ◌++◌, length, Result, Ok, refl, sym, ap, subst, ◌∙◌, append_assoc}
 use Rattle.std.specs.List.{flat_map}
 use Rattle.std.proofs.lemmas.List.{append-nil}
@@ -11,7 +11,7 @@ use Rattle.tt_text.proofs.Fields.{ReadsOn}
 use Rattle.tt_instance.specs.declared.fault.InstanceFault.{InstanceFault}
 use Rattle.tt_instance.specs.Limits.{EachAfter}
 
--- a reading of one item more, and that of so many more
+-- a reading of one item more, and that of this many more
 pub record IsSeries {B : Type 0} (one : B → List Placed → Result (B × List Placed) InstanceFault) (many : ℕ → B → List Placed → Result (B × List Placed) InstanceFault) : Type 0 where
   pub none : (b : B) (ts : List Placed) → many zero b ts ≡ Ok (b, ts)
   pub more : (n : ℕ) (b : B) (ts : List Placed) → many (suc n) b ts ≡ (one b ts >>= λ x. many n x.0 x.1)
@@ -25,7 +25,7 @@ module _ {X B : Type 0} (view : List X → B) (pieces : X → List Piece) (Next 
     pub next : Next before item
     pub takes : Takes ts (pieces item) x.1
 
-  -- what reading so many items after those before gave
+  -- what reading this many items after those before gave
   pub record ManyTaken (n : ℕ) (before : List X) (ts : List Placed) (x : B × List Placed) : Type 0 where
     pub items : List X
     pub list : x.0 ≡ view (before ++ items)
@@ -51,7 +51,7 @@ module _ {X B : Type 0} (view : List X → B) (pieces : X → List Piece) (Next 
     takes = subst (λ (ps : List Piece). Takes ts ps x.1) (sym (flat_map-cons pieces one.item more.items)) (takes_then ts a.1 x.1 _ _ one.takes more.takes);
   }
 
-  -- so many items that were read are spelled
+  -- this many items that were read are spelled
   pub series_takes : (Fits : List X → Type 0) (one : B → List Placed → Result (B × List Placed) InstanceFault) (many : ℕ → B → List Placed → Result (B × List Placed) InstanceFault)
       → IsSeries one many → OneTakes Fits one → ((before : List X) (x : X) → Fits before → Next before x → Fits (before ++ x ∷ []))
       → (n : ℕ) (before : List X) (ts : List Placed) (x : B × List Placed) → Fits before → many n (view before) ts ≡ Ok x → ManyTaken n before ts x

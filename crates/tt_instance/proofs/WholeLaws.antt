@@ -10,7 +10,7 @@ use Rattle.tt_instance.specs.declared.fault.Word.TheVariants as word
 use Rattle.tt_instance.specs.Problem.{Curriculum, Bar, Problem}
 use Rattle.tt_instance.specs.Limits.{IsWithinLimits}
 use Rattle.tt_instance.specs.Reading.{Counts, Sections, word_at, name_at, header_at, sections_at, instance_of}
-use Rattle.tt_instance.specs.Spelling.{fixed, pieces, kept, Spells}
+use Rattle.tt_instance.specs.Spelling.{fixed, pieces, without_repeats, Spells}
 use Rattle.tt_instance.proofs.FieldLaws.{word_takes, has_word}
 use Rattle.tt_instance.proofs.HeaderLaws.{IsNamePart, IsHeader, count_pieces, name_takes, name_reads, header_takes, header_reads}
 use Rattle.tt_instance.proofs.CurriculumLaws.{all_kept}
@@ -90,7 +90,7 @@ written_of name c s qs bs = record { name = name; days = c.days; periods = c.per
 
 -- what was read is what is kept of what is written
 kept_is : (read name : List (List ℕ)) (c : Counts) (s : Sections) (qs : List Curriculum) (bs : List Bar) → read ≡ name → s.curricula ≡ all_kept qs → s.bars ≡ bars_once bs
-    → problem_of read c s ≡ kept (written_of name c s qs bs)
+    → problem_of read c s ≡ without_repeats (written_of name c s qs bs)
 kept_is read name c s qs bs name_is qs_is bs_is = rw (name_is, qs_is, bs_is) refl
 
 -- one answer is one instance

@@ -1,8 +1,10 @@
+-- Only proofs rest on this file: nobody has to believe it.
 -- What the tables beside the rows of an instance say.
 use Rattle.std.specs.Prelude.{◌≡◌, ℕ, ◌+◌, ◌*◌, ◌≤◌, ◌==◌, nat_lt, Bool, false, ◌&&◌, List, [], length, map, Some, slice_index_or, All}
 use Rattle.std.specs.List.{list_any}
 use Rattle.tt_lists.specs.Words.{has_number}
 use Rattle.tt_text.specs.Texts.{index_of_name, distinct_names}
+use Rattle.tt_instance.specs.declared.limit.TheConstants.{MAX_LECTURES}
 use Rattle.tt_instance.specs.declared.rows.CourseList.{CourseList}
 use Rattle.tt_instance.specs.declared.rows.CourseRow.{CourseRow}
 use Rattle.tt_instance.specs.declared.rows.RoomList.{RoomList}
@@ -27,14 +29,14 @@ pub record IsIndexed (l : CourseList) : Type 0 where
   pub ids_are : l.ids ≡ ids_of (courses_seen l.rows.items)
   pub teachers_are : l.teachers ≡ teachers_of (courses_seen l.rows.items)
   pub total : l.lectures ≡ lectures_of (courses_seen l.rows.items)
-  pub within : l.lectures ≤ 4096
+  pub within : l.lectures ≤ MAX_LECTURES
   pub few : length l.teachers ≤ length l.rows.items
   pub numbers : All (IsTeacher l.teachers) l.rows.items
 
 pub record IsRoomsIndexed (l : RoomList) : Type 0 where
   pub ids_are : l.ids ≡ room_ids_of (rooms_seen l.rows.items)
 
--- there is a mark for each of so many courses, and the marks say which are members
+-- there is a mark for each course, and the marks say which are members
 pub record IsMarked (count : ℕ) (l : MemberList) : Type 0 where
   pub len : length l.marks ≡ count
   pub told : (c : ℕ) → slice_index_or l.marks c false ≡ has_number l.courses.items c
@@ -51,7 +53,7 @@ has_bar bars c d s = list_any (λ b. (b.course == c) && (b.day == d) && (b.perio
 abbrev pub is_marked_at : List (List Bool) → ℕ → ℕ → ℕ → Bool
 is_marked_at rows c d s = nat_lt s 64 && slice_index_or (slice_index_or rows c []) (d * 64 + s) false
 
--- there are marks for each of so many courses and each day, and they say which periods are barred
+-- there are marks for each course and each day, and they say which periods are barred
 pub record IsBarred (count days : ℕ) (l : BarList) : Type 0 where
   pub len : length l.marks.items ≡ count
   pub lens : All (λ m. length m ≡ days * 64) l.marks.items

@@ -4,6 +4,7 @@ use Rattle.tt_lists.specs.Words.{each_two}
 use Rattle.tt_text.specs.Tokens.{IsToken}
 use Rattle.tt_text.specs.Texts.{is_text, has_name}
 use Rattle.tt_instance.specs.declared.fault.Word.TheVariants as word
+use Rattle.tt_instance.specs.declared.limit.TheConstants.{MAX_COURSES, MAX_ROOMS, MAX_DAYS, MAX_PERIODS, MAX_SLOTS, MAX_CELLS, MAX_CURRICULA, MAX_MEMBERS, MAX_BARS, MAX_LECTURES, MAX_MIN_DAYS, MAX_SEATS}
 use Rattle.tt_instance.specs.Words.{word_text}
 use Rattle.tt_instance.specs.Problem.{Course, Room, Curriculum, Bar, Problem}
 
@@ -25,21 +26,21 @@ room_ids_of rs = map (λ r. r.id) rs
 abbrev pub curriculum_ids_of : List Curriculum → List (List ℕ)
 curriculum_ids_of qs = map (λ q. q.id) qs
 
--- a course has a new name, and with those before it no more than 4096 lectures
+-- a course has a new name, and with those before it no more lectures than the limit
 pub record IsNextCourse (before : List Course) (c : Course) : Type 0 where
   pub fresh : has_name (ids_of before) c.id ≡ false
-  pub lectures : lectures_of before + c.lectures ≤ 4096
-  pub min_days : c.min_days ≤ 512
-  pub students : c.students ≤ 1000000
+  pub lectures : lectures_of before + c.lectures ≤ MAX_LECTURES
+  pub min_days : c.min_days ≤ MAX_MIN_DAYS
+  pub students : c.students ≤ MAX_SEATS
 
 pub record IsNextRoom (before : List Room) (r : Room) : Type 0 where
   pub fresh : has_name (room_ids_of before) r.id ≡ false
-  pub capacity : r.capacity ≤ 1000000
+  pub capacity : r.capacity ≤ MAX_SEATS
 
--- a curriculum of so many courses in all has a new name, and its members are courses
+-- a curriculum of this many courses in all has a new name, and its members are courses
 pub record IsNextCurriculum (courses : ℕ) (before : List Curriculum) (q : Curriculum) : Type 0 where
   pub fresh : has_name (curriculum_ids_of before) q.id ≡ false
-  pub few : length q.members ≤ 4096
+  pub few : length q.members ≤ MAX_MEMBERS
   pub members : All (λ c. c < courses) q.members
 
 pub record IsBar (courses days periods : ℕ) (b : Bar) : Type 0 where
@@ -50,16 +51,16 @@ pub record IsBar (courses days periods : ℕ) (b : Bar) : Type 0 where
 -- the limits of the format
 pub record IsWithinLimits (p : Problem) : Type 0 where
   pub name : All (λ text. is_text (word_text word.Courses) text ≡ false) p.name
-  pub courses : length p.courses ≤ 2048
-  pub rooms : length p.rooms ≤ 512
+  pub courses : length p.courses ≤ MAX_COURSES
+  pub rooms : length p.rooms ≤ MAX_ROOMS
   pub some_day : 0 < p.days
-  pub days : p.days ≤ 64
+  pub days : p.days ≤ MAX_DAYS
   pub some_period : 0 < p.periods
-  pub periods : p.periods ≤ 64
-  pub slots : p.days * p.periods ≤ 512
-  pub cells : (length p.courses * length p.rooms) * (p.days * p.periods) ≤ 67108864
-  pub curricula : length p.curricula ≤ 8192
-  pub bars : length p.bars ≤ 65536
+  pub periods : p.periods ≤ MAX_PERIODS
+  pub slots : p.days * p.periods ≤ MAX_SLOTS
+  pub cells : (length p.courses * length p.rooms) * (p.days * p.periods) ≤ MAX_CELLS
+  pub curricula : length p.curricula ≤ MAX_CURRICULA
+  pub bars : length p.bars ≤ MAX_BARS
   pub each_course : EachAfter IsNextCourse [] p.courses
   pub each_room : EachAfter IsNextRoom [] p.rooms
   pub each_curriculum : EachAfter (IsNextCurriculum (length p.courses)) [] p.curricula

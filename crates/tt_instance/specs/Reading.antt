@@ -11,11 +11,12 @@ use Rattle.tt_instance.specs.declared.fault.Word.{Word}
 use Rattle.tt_instance.specs.declared.fault.Word.TheVariants as word
 use Rattle.tt_instance.specs.declared.fault.InstanceFault.{InstanceFault}
 use Rattle.tt_instance.specs.declared.fault.InstanceFault.TheVariants as fault
+use Rattle.tt_instance.specs.declared.limit.TheConstants.{MAX_COURSES, MAX_ROOMS, MAX_DAYS, MAX_PERIODS, MAX_SLOTS, MAX_CELLS, MAX_CURRICULA, MAX_MEMBERS, MAX_BARS, MAX_LECTURES, MAX_MIN_DAYS, MAX_SEATS}
 use Rattle.tt_instance.specs.Words.{word_text}
 use Rattle.tt_instance.specs.Problem.{Course, Room, Curriculum, Bar, Problem}
 use Rattle.tt_instance.specs.Limits.{ids_of, room_ids_of, curriculum_ids_of, lectures_of, same_bar}
 
--- want of memory says nothing of the bytes
+-- being out of memory says nothing of the bytes
 abbrev pub is_silent : InstanceFault → Bool
 is_silent fault.OutOfMemory = true
 is_silent _ = false
@@ -74,12 +75,12 @@ course_at end before ts = do
   id ← token_at end ts
   new_name (ids_of before) id.0 >>= λ (_ : Unit {0}). do
     teacher ← token_at end id.1
-    lectures ← limited_at end (4096 - lectures_of before) teacher.1
-    min_days ← limited_at end 512 lectures.1
-    students ← limited_at end 1000000 min_days.1
+    lectures ← limited_at end (MAX_LECTURES - lectures_of before) teacher.1
+    min_days ← limited_at end MAX_MIN_DAYS lectures.1
+    students ← limited_at end MAX_SEATS min_days.1
     Ok (before ++ record { id = id.0.text; teacher = teacher.0.text; lectures = lectures.0; min_days = min_days.0; students = students.0 } ∷ [], students.1)
 
--- so many more courses
+-- this many more courses
 unfoldable pub courses_at : ℕ → ℕ → List Course → List Placed → Result (List Course × List Placed) InstanceFault
 courses_at end zero before ts = Ok (before, ts)
 courses_at end (suc n) before ts = do
@@ -91,10 +92,10 @@ unfoldable pub room_at : ℕ → List Room → List Placed → Result (List Room
 room_at end before ts = do
   id ← token_at end ts
   new_name (room_ids_of before) id.0 >>= λ (_ : Unit {0}). do
-    capacity ← limited_at end 1000000 id.1
+    capacity ← limited_at end MAX_SEATS id.1
     Ok (before ++ record { id = id.0.text; capacity = capacity.0 } ∷ [], capacity.1)
 
--- so many more rooms
+-- this many more rooms
 unfoldable pub rooms_at : ℕ → ℕ → List Room → List Placed → Result (List Room × List Placed) InstanceFault
 rooms_at end zero before ts = Ok (before, ts)
 rooms_at end (suc n) before ts = do
@@ -120,7 +121,7 @@ member_at end ids before ts = do
   c ← named_at end ids ts
   Ok (with_new (λ a b. a == b) before c.0, c.1)
 
--- so many more members
+-- this many more members
 unfoldable pub members_at : ℕ → List (List ℕ) → ℕ → List ℕ → List Placed → Result (List ℕ × List Placed) InstanceFault
 members_at end ids zero before ts = Ok (before, ts)
 members_at end ids (suc n) before ts = do
@@ -132,11 +133,11 @@ unfoldable pub curriculum_at : ℕ → List (List ℕ) → List Curriculum → L
 curriculum_at end ids before ts = do
   id ← token_at end ts
   new_name (curriculum_ids_of before) id.0 >>= λ (_ : Unit {0}). do
-    count ← limited_at end 4096 id.1
+    count ← limited_at end MAX_MEMBERS id.1
     members ← members_at end ids count.0 [] count.1
     Ok (before ++ record { id = id.0.text; members = members.0 } ∷ [], members.1)
 
--- so many more curricula
+-- this many more curricula
 unfoldable pub curricula_at : ℕ → List (List ℕ) → ℕ → List Curriculum → List Placed → Result (List Curriculum × List Placed) InstanceFault
 curricula_at end ids zero before ts = Ok (before, ts)
 curricula_at end ids (suc n) before ts = do
@@ -151,7 +152,7 @@ bar_at end ids days periods before ts = do
   period ← below_at end periods day.1
   Ok (with_new same_bar before (record { course = course.0; day = day.0; period = period.0 }), period.1)
 
--- so many more unavailability lines
+-- this many more unavailability lines
 unfoldable pub bars_at : ℕ → List (List ℕ) → ℕ → ℕ → ℕ → List Bar → List Placed → Result (List Bar × List Placed) InstanceFault
 bars_at end ids days periods zero before ts = Ok (before, ts)
 bars_at end ids days periods (suc n) before ts = do
@@ -186,28 +187,28 @@ unfoldable pub days_at : ℕ → List Placed → Result (ℕ × List Placed) Ins
 days_at end ts = do
   rest ← word_at end word.Days ts
   t ← token_at end rest
-  n ← numbered t.0.at (number_of 64 t.0.text)
+  n ← numbered t.0.at (number_of MAX_DAYS t.0.text)
   if n == 0 then Err (fault.OutOfRange t.0.at) else Ok (n, t.1)
 
--- the periods of a day, where so many pairs of a course and a room have cells
+-- the periods of a day, where this many pairs of a course and a room have cells
 unfoldable pub periods_at : ℕ → ℕ → ℕ → List Placed → Result (ℕ × List Placed) InstanceFault
 periods_at end pairs days ts = do
   rest ← word_at end word.PeriodsPerDay ts
   t ← token_at end rest
-  n ← numbered t.0.at (number_of 64 t.0.text)
-  if nat_lt 512 (days * n) then Err (fault.OverLimit t.0.at)
-      else (if nat_lt 67108864 (pairs * (days * n)) then Err (fault.OverLimit t.0.at)
+  n ← numbered t.0.at (number_of MAX_PERIODS t.0.text)
+  if nat_lt MAX_SLOTS (days * n) then Err (fault.OverLimit t.0.at)
+      else (if nat_lt MAX_CELLS (pairs * (days * n)) then Err (fault.OverLimit t.0.at)
       else (if n == 0 then Err (fault.OutOfRange t.0.at) else Ok (n, t.1)))
 
 -- the header after the word that ends the name
 unfoldable pub header_at : ℕ → List Placed → Result (Counts × List Placed) InstanceFault
 header_at end ts = do
-  courses ← limited_at end 2048 ts
-  rooms ← counted_at end word.Rooms 512 courses.1
+  courses ← limited_at end MAX_COURSES ts
+  rooms ← counted_at end word.Rooms MAX_ROOMS courses.1
   days ← days_at end rooms.1
   periods ← periods_at end (courses.0 * rooms.0) days.0 days.1
-  curricula ← counted_at end word.Curricula 8192 periods.1
-  bars ← counted_at end word.Constraints 65536 curricula.1
+  curricula ← counted_at end word.Curricula MAX_CURRICULA periods.1
+  bars ← counted_at end word.Constraints MAX_BARS curricula.1
   Ok (record { courses = courses.0; rooms = rooms.0; days = days.0; periods = periods.0; curricula = curricula.0; bars = bars.0 }, bars.1)
 
 -- ---- the whole

@@ -51,8 +51,8 @@ abbrev pub members_kept : Curriculum → Curriculum
 members_kept q = record { id = q.id; members = distinct (λ a b. a == b) q.members }
 
 -- the instance that is kept of a file's lines: each member of a curriculum and each unavailability once, in the order of first mention
-abbrev pub kept : Problem → Problem
-kept w = record {
+abbrev pub without_repeats : Problem → Problem
+without_repeats w = record {
   name = w.name;
   days = w.days;
   periods = w.periods;
@@ -68,4 +68,4 @@ pub record Spells (bytes : List ℕ) (p : Problem) : Type 0 where
   pub rest : List Placed
   pub begins : Begins (pieces written) (tokens_of bytes) rest
   pub within : IsWithinLimits written
-  pub is_kept : p ≡ kept written
+  pub is_kept : p ≡ without_repeats written

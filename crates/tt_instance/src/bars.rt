@@ -8,6 +8,7 @@ ghost use Rattle.tt_instance.specs.Seen.{bars_seen};
 use crate::fault::InstanceFault;
 use crate::fields::{read_below, read_course_name};
 use crate::header::Header;
+use crate::limit::MAX_PERIODS;
 use crate::marks::{Marks, has_at};
 use crate::names::Names;
 use crate::rows::{BarList, BarRow};
@@ -15,7 +16,7 @@ use std::alloc::{AllocError, Global};
 use tt_text::Tokens;
 
 /// The places of a day in the marks of a course.
-const DAY: u32 = 64;
+const DAY: u32 = MAX_PERIODS;
 
 /// The place of a period in the marks of a course.
 fn place(day: u32, period: u32) -> usize
@@ -31,7 +32,7 @@ pub fn is_barred(marks: &[Marks], course: u32, day: u32, period: u32) -> bool
     period < DAY && has_at(marks, course as usize, place(day, period))
 }
 
-/// No marks for each of so many courses and days.
+/// No marks for each course and day.
 fn no_marks(alloc: Global, courses: usize, days: u32) -> Result<Vec<Marks>, AllocError>
     ensures { IfOk result (λ v. v.items ≡ replicate courses (replicate (days * 64) false)) }
 {
@@ -55,7 +56,7 @@ fn read_bar(
     requires few { length ids.now < 2 ^ 32 }
     requires days { 0 < header.days }
     requires some { 0 < header.periods }
-    requires periods { header.periods ≤ 64 }
+    requires periods { header.periods ≤ MAX_PERIODS }
     ensures read { Gives (λ _. (bars_seen list.new.rows.items, tokens.new)) result
         (bar_at end ids.now header.days header.periods (bars_seen list.old.rows.items) tokens.old) }
     ensures barred { OnOk result (IsBarred (length ids.now) header.days list.new) }
@@ -86,7 +87,7 @@ pub fn read_bars(
     requires few { length ids.now < 2 ^ 32 }
     requires days { 0 < header.days }
     requires some { 0 < header.periods }
-    requires periods { header.periods ≤ 64 }
+    requires periods { header.periods ≤ MAX_PERIODS }
     ensures read { Gives (λ l. (bars_seen l.rows.items, tokens.new)) result
         (bars_at end ids.now header.days header.periods header.bars [] tokens.old) }
     ensures barred { IfOk result (IsBarred (length ids.now) header.days) }

@@ -6,13 +6,12 @@ ghost use Rattle.tt_instance.specs.Indexed.{IsIndexed};
 ghost use Rattle.tt_instance.specs.Seen.{courses_seen};
 
 use crate::fault::InstanceFault;
-use crate::fields::{read_limited, token};
+use crate::fields::{read_limited, read_token};
+use crate::limit::{MAX_LECTURES, MAX_MIN_DAYS, MAX_SEATS};
 use crate::names::Names;
 use crate::rows::{CourseList, CourseRow};
 use std::alloc::Global;
 use tt_text::Tokens;
-
-const MAX_LECTURES: u32 = 4096;
 
 /// One more course after those of the list.
 #[tactic(auto, unfolding(crate::specs::Reading::course_at))]
@@ -34,8 +33,8 @@ fn read_course<'a>(
     }
     let teacher = read_token(tokens, end)?;
     let lectures = read_limited(tokens, end, MAX_LECTURES - list.lectures)?;
-    let min_days = read_limited(tokens, end, 512)?;
-    let students = read_limited(tokens, end, 1_000_000)?;
+    let min_days = read_limited(tokens, end, MAX_MIN_DAYS)?;
+    let students = read_limited(tokens, end, MAX_SEATS)?;
     let number = list.teachers.number(teacher.bytes)?;
     list.rows.push(CourseRow {
         id: id.bytes,
@@ -49,7 +48,7 @@ fn read_course<'a>(
     Ok(())
 }
 
-/// So many courses.
+/// This many courses.
 pub fn read_courses<'a>(
     alloc: Global,
     tokens: &mut Tokens<'a>,

@@ -6,7 +6,8 @@ ghost use Rattle.tt_instance.specs.Indexed.{IsMarked, IsCurriculaIndexed};
 ghost use Rattle.tt_instance.specs.Seen.{curricula_seen};
 
 use crate::fault::InstanceFault;
-use crate::fields::{limited, named, read_token};
+use crate::fields::{read_course_name, read_limited, read_token};
+use crate::limit::MAX_MEMBERS;
 use crate::marks::Marks;
 use crate::names::Names;
 use crate::rows::{CurriculumList, CurriculumRow, MemberList};
@@ -35,7 +36,7 @@ fn read_member(
     Ok(())
 }
 
-/// So many members.
+/// This many members.
 fn read_members(
     alloc: Global,
     tokens: &mut Tokens<'_>,
@@ -77,7 +78,7 @@ fn read_curriculum<'a>(
     if !list.ids.put(id.bytes)? {
         return Err(InstanceFault::Repeated(id.at));
     }
-    let count = read_limited(tokens, end, 4096)?;
+    let count = read_limited(tokens, end, MAX_MEMBERS)?;
     let members = read_members(alloc, tokens, end, ids, count)?;
     list.rows.push(CurriculumRow {
         id: id.bytes,
@@ -86,7 +87,7 @@ fn read_curriculum<'a>(
     Ok(())
 }
 
-/// So many curricula over the courses of these names.
+/// This many curricula over the courses of these names.
 pub fn read_curricula<'a>(
     alloc: Global,
     tokens: &mut Tokens<'a>,

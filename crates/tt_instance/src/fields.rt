@@ -88,7 +88,11 @@ pub fn read_below(tokens: &mut Tokens<'_>, end: usize, bound: u32) -> Result<u32
 
 /// A course by its name.
 #[tactic(auto, unfolding(crate::specs::Reading::named_at))]
-pub fn read_course_name(tokens: &mut Tokens<'_>, end: usize, ids: &Names<'_>) -> Result<u32, InstanceFault>
+pub fn read_course_name(
+    tokens: &mut Tokens<'_>,
+    end: usize,
+    ids: &Names<'_>,
+) -> Result<u32, InstanceFault>
     requires { length ids.now < 2 ^ 32 }
     ensures read { Gives (λ c. (c, tokens.new)) result (named_at end ids.now tokens.old) }
     ensures within { IfOk result (λ c. c < length ids.now) }

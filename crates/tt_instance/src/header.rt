@@ -1,11 +1,14 @@
 //! The name and the header of an instance.
 
-ghost use Rattle.std.specs.Prelude.{◌≤◌, ◌<◌, [], IfOk};
+ghost use Rattle.std.specs.Prelude.{◌≤◌, ◌<◌, ◌*◌, [], IfOk};
 ghost use Rattle.tt_instance.specs.Reading.{Gives, name_at, days_at, periods_at, header_at};
 ghost use Rattle.tt_instance.specs.Seen.{counts_seen, name_seen};
 
 use crate::fault::{InstanceFault, Word};
-use crate::fields::{read_counted, read_limited, read_token, read_value, word};
+use crate::fields::{read_counted, read_limited, read_token, read_value, read_word};
+use crate::limit::{
+    MAX_BARS, MAX_CELLS, MAX_COURSES, MAX_CURRICULA, MAX_DAYS, MAX_PERIODS, MAX_ROOMS, MAX_SLOTS,
+};
 use std::alloc::Global;
 use tt_text::Tokens;
 
@@ -42,11 +45,11 @@ pub fn read_name<'a>(
 fn read_days(tokens: &mut Tokens<'_>, end: usize) -> Result<u32, InstanceFault>
     ensures read { Gives (λ n. (n, tokens.new)) result (days_at end tokens.old) }
     ensures some { IfOk result (λ n. 0 < n) }
-    ensures within { IfOk result (λ n. n ≤ 64) }
+    ensures within { IfOk result (λ n. n ≤ MAX_DAYS) }
 {
     read_word(tokens, end, Word::Days)?;
     let token = read_token(tokens, end)?;
-    let days = read_value(token, 64)?;
+    let days = read_value(token, MAX_DAYS)?;
     if days == 0 {
         return Err(InstanceFault::OutOfRange(token.at));
     }
@@ -60,17 +63,17 @@ fn read_periods(
     pairs: u32,
     days: u32,
 ) -> Result<u32, InstanceFault>
-    requires pairs { pairs ≤ 1048576 }
-    requires days { days ≤ 64 }
+    requires pairs { pairs ≤ MAX_COURSES * MAX_ROOMS }
+    requires days { days ≤ MAX_DAYS }
     ensures read { Gives (λ n. (n, tokens.new)) result (periods_at end pairs days tokens.old) }
     ensures some { IfOk result (λ n. 0 < n) }
-    ensures within { IfOk result (λ n. n ≤ 64) }
+    ensures within { IfOk result (λ n. n ≤ MAX_PERIODS) }
 {
     read_word(tokens, end, Word::PeriodsPerDay)?;
     let token = read_token(tokens, end)?;
-    let periods = read_value(token, 64)?;
+    let periods = read_value(token, MAX_PERIODS)?;
     let slots = days * periods;
-    if slots > 512 || pairs * slots > 67_108_864 {
+    if slots > MAX_SLOTS || pairs * slots > MAX_CELLS {
         return Err(InstanceFault::OverLimit(token.at));
     }
     if periods == 0 {
@@ -83,16 +86,16 @@ fn read_periods(
 #[tactic(auto, unfolding(crate::specs::Reading::header_at))]
 pub fn read_header(tokens: &mut Tokens<'_>, end: usize) -> Result<Header, InstanceFault>
     ensures read { Gives (λ h. (counts_seen h, tokens.new)) result (header_at end tokens.old) }
-    ensures courses { IfOk result (λ h. h.courses ≤ 2048) }
-    ensures days { IfOk result (λ h. (0 < h.days) × (h.days ≤ 64)) }
-    ensures periods { IfOk result (λ h. (0 < h.periods) × (h.periods ≤ 64)) }
+    ensures courses { IfOk result (λ h. h.courses ≤ MAX_COURSES) }
+    ensures days { IfOk result (λ h. (0 < h.days) × (h.days ≤ MAX_DAYS)) }
+    ensures periods { IfOk result (λ h. (0 < h.periods) × (h.periods ≤ MAX_PERIODS)) }
 {
-    let courses = read_limited(tokens, end, 2048)?;
-    let rooms = read_counted(tokens, end, Word::Rooms, 512)?;
+    let courses = read_limited(tokens, end, MAX_COURSES)?;
+    let rooms = read_counted(tokens, end, Word::Rooms, MAX_ROOMS)?;
     let days = read_days(tokens, end)?;
     let periods = read_periods(tokens, end, courses * rooms, days)?;
-    let curricula = read_counted(tokens, end, Word::Curricula, 8192)?;
-    let bars = read_counted(tokens, end, Word::Constraints, 65_536)?;
+    let curricula = read_counted(tokens, end, Word::Curricula, MAX_CURRICULA)?;
+    let bars = read_counted(tokens, end, Word::Constraints, MAX_BARS)?;
     Ok(Header {
         courses,
         rooms,

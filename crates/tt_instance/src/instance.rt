@@ -12,6 +12,10 @@ ghost use Rattle.tt_instance.specs.Writing.{instance_text};
 use crate::bars::is_barred;
 use crate::conflicts::conflict_rows;
 use crate::fault::InstanceFault;
+use crate::limit::{
+    MAX_BARS, MAX_COURSES, MAX_CURRICULA, MAX_DAYS, MAX_LECTURES, MAX_MEMBERS, MAX_MIN_DAYS,
+    MAX_PERIODS, MAX_ROOMS, MAX_SEATS, MAX_SLOTS,
+};
 use crate::marks::{Marks, has_at};
 use crate::parts::{Parts, read_parts};
 use crate::writing::write_parts;
@@ -97,7 +101,7 @@ impl<'a> Instance<'a> {
     pub fn days(&self) -> u32
         ensures value { result ≡ self.now.days }
         ensures some { 0 < result }
-        ensures within { result ≤ 64 }
+        ensures within { result ≤ MAX_DAYS }
         // What is true of every instance.
         ensures instance { IsInstance self.now }
     {
@@ -108,8 +112,8 @@ impl<'a> Instance<'a> {
     pub fn periods(&self) -> u32
         ensures value { result ≡ self.now.periods }
         ensures some { 0 < result }
-        ensures within { result ≤ 64 }
-        ensures week { self.now.days * result ≤ 512 }
+        ensures within { result ≤ MAX_PERIODS }
+        ensures week { self.now.days * result ≤ MAX_SLOTS }
     {
         self.parts.periods
     }
@@ -117,7 +121,7 @@ impl<'a> Instance<'a> {
     /// How many courses there are.
     pub fn courses(&self) -> u32
         ensures value { result ≡ length self.now.courses }
-        ensures within { result ≤ 2048 }
+        ensures within { result ≤ MAX_COURSES }
     {
         self.parts.courses.rows.len() as u32
     }
@@ -125,7 +129,7 @@ impl<'a> Instance<'a> {
     /// How many rooms there are.
     pub fn rooms(&self) -> u32
         ensures value { result ≡ length self.now.rooms }
-        ensures within { result ≤ 512 }
+        ensures within { result ≤ MAX_ROOMS }
     {
         self.parts.rooms.rows.len() as u32
     }
@@ -133,7 +137,7 @@ impl<'a> Instance<'a> {
     /// How many curricula there are.
     pub fn curricula(&self) -> u32
         ensures value { result ≡ length self.now.curricula }
-        ensures within { result ≤ 8192 }
+        ensures within { result ≤ MAX_CURRICULA }
     {
         self.parts.curricula.rows.len() as u32
     }
@@ -141,7 +145,7 @@ impl<'a> Instance<'a> {
     /// How many teachers there are.
     pub fn teachers(&self) -> u32
         ensures value { result ≡ length (teachers self.now) }
-        ensures within { result ≤ 2048 }
+        ensures within { result ≤ MAX_COURSES }
     {
         self.parts.courses.teachers.len() as u32
     }
@@ -149,7 +153,7 @@ impl<'a> Instance<'a> {
     /// How many unavailabilities there are.
     pub fn bars(&self) -> u32
         ensures value { result ≡ length self.now.bars }
-        ensures within { result ≤ 65536 }
+        ensures within { result ≤ MAX_BARS }
     {
         self.parts.bars.rows.len() as u32
     }
@@ -158,7 +162,7 @@ impl<'a> Instance<'a> {
     pub fn lectures(&self, course: u32) -> u32
         requires { course < length self.now.courses }
         ensures value { result ≡ lectures self.now course }
-        ensures within { result ≤ 4096 }
+        ensures within { result ≤ MAX_LECTURES }
     {
         self.parts.courses.rows[course as usize].lectures
     }
@@ -167,7 +171,7 @@ impl<'a> Instance<'a> {
     pub fn min_days(&self, course: u32) -> u32
         requires { course < length self.now.courses }
         ensures value { result ≡ min_days self.now course }
-        ensures within { result ≤ 512 }
+        ensures within { result ≤ MAX_MIN_DAYS }
     {
         self.parts.courses.rows[course as usize].min_days
     }
@@ -176,7 +180,7 @@ impl<'a> Instance<'a> {
     pub fn students(&self, course: u32) -> u32
         requires { course < length self.now.courses }
         ensures value { result ≡ students self.now course }
-        ensures within { result ≤ 1000000 }
+        ensures within { result ≤ MAX_SEATS }
     {
         self.parts.courses.rows[course as usize].students
     }
@@ -185,7 +189,7 @@ impl<'a> Instance<'a> {
     pub fn capacity(&self, room: u32) -> u32
         requires { room < length self.now.rooms }
         ensures value { result ≡ capacity self.now room }
-        ensures within { result ≤ 1000000 }
+        ensures within { result ≤ MAX_SEATS }
     {
         self.parts.rooms.rows[room as usize].capacity
     }
@@ -194,7 +198,7 @@ impl<'a> Instance<'a> {
     pub fn members(&self, curriculum: u32) -> &[u32]
         requires { curriculum < length self.now.curricula }
         ensures value { result.now ≡ members self.now curriculum }
-        ensures within { length result.now ≤ 4096 }
+        ensures within { length result.now ≤ MAX_MEMBERS }
     {
         self.parts.curricula.rows[curriculum as usize]
             .members

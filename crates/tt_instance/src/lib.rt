@@ -10,6 +10,7 @@ mod fault;
 mod fields;
 mod header;
 mod instance;
+mod limit;
 mod marks;
 mod names;
 mod parts;
@@ -20,3 +21,7 @@ mod writing;
 pub use cell::{Cell, Slot};
 pub use fault::{InstanceFault, Word};
 pub use instance::{Instance, read_instance, write_instance};
+pub use limit::{
+    MAX_BARS, MAX_CELLS, MAX_COURSES, MAX_CURRICULA, MAX_DAYS, MAX_LECTURES, MAX_MEMBERS,
+    MAX_MIN_DAYS, MAX_PERIODS, MAX_ROOMS, MAX_SEATS, MAX_SLOTS,
+};

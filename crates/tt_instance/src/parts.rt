@@ -11,6 +11,7 @@ use crate::curricula::read_curricula;
 use crate::fault::{InstanceFault, Word};
 use crate::fields::read_word;
 use crate::header::{Header, read_header, read_name};
+use crate::limit::{MAX_COURSES, MAX_PERIODS};
 use crate::names::Names;
 use crate::rooms::read_rooms;
 use crate::rows::{BarList, CourseList, CurriculumList, RoomList};
@@ -37,13 +38,13 @@ fn read_places<'a>(
     end: usize,
     header: Header,
 ) -> Result<(CourseList<'a>, RoomList<'a>), InstanceFault>
-    requires { header.courses ≤ 2048 }
+    requires { header.courses ≤ MAX_COURSES }
     ensures read { Gives
         (λ s. ((courses_seen s.0.rows.items, rooms_seen s.1.rows.items), tokens.new))
         result (places_at end (counts_seen header) tokens.old) }
     ensures courses { IfOk result (λ s. IsIndexed s.0) }
     ensures rooms { IfOk result (λ s. IsRoomsIndexed s.1) }
-    ensures few { IfOk result (λ s. length s.0.ids ≤ 2048) }
+    ensures few { IfOk result (λ s. length s.0.ids ≤ MAX_COURSES) }
 {
     read_word(tokens, end, Word::CoursesPart)?;
     let courses = read_courses(alloc, tokens, end, header.courses)?;
@@ -64,7 +65,7 @@ fn read_groups<'a>(
     requires few { length ids.now < 2 ^ 32 }
     requires days { 0 < header.days }
     requires some { 0 < header.periods }
-    requires periods { header.periods ≤ 64 }
+    requires periods { header.periods ≤ MAX_PERIODS }
     ensures read { Gives
         (λ s. ((curricula_seen s.0.rows.items, bars_seen s.1.rows.items), tokens.new))
         result (groups_at end (counts_seen header) ids.now tokens.old) }

@@ -7,6 +7,7 @@ ghost use Rattle.tt_instance.specs.Seen.{rooms_seen};
 
 use crate::fault::InstanceFault;
 use crate::fields::{read_limited, read_token};
+use crate::limit::MAX_SEATS;
 use crate::names::Names;
 use crate::rows::{RoomList, RoomRow};
 use std::alloc::Global;
@@ -28,7 +29,7 @@ fn read_room<'a>(
     if !list.ids.put(id.bytes)? {
         return Err(InstanceFault::Repeated(id.at));
     }
-    let capacity = read_limited(tokens, end, 1_000_000)?;
+    let capacity = read_limited(tokens, end, MAX_SEATS)?;
     list.rows.push(RoomRow {
         id: id.bytes,
         capacity,
@@ -36,7 +37,7 @@ fn read_room<'a>(
     Ok(())
 }
 
-/// So many rooms.
+/// This many rooms.
 pub fn read_rooms<'a>(
     alloc: Global,
     tokens: &mut Tokens<'a>,

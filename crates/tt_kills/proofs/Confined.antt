@@ -2,31 +2,25 @@
 use Rattle.std.proofs.Common.{◌≡◌, ℕ, ◌<◌, Bool, true, false, not, ◌&&◌, ◌||◌, List, length, refl, sym, ap, ◌∙◌}
 use Rattle.std.specs.Prelude.{◌==◌}
 use Rattle.std.proofs.lemmas.Bool.{and_parts, false_from_ne_true, both_ways, eqb-true}
+use Rattle.tt_lists.proofs.Range.{all_below, at_below}
+use Rattle.tt_lists.proofs.Truth.{same_truth, wanted, not_wanted}
 use Rattle.tt_instance.specs.Problem.{Problem}
 use Rattle.tt_instance.specs.Cells.{slot, cell, InRange, same_cell}
 use Rattle.tt_instance.specs.Courses.{conflict}
 use Rattle.tt_instance.specs.declared.cell.Cell.{Cell}
 use Rattle.tt_instance.proofs.Places.{each_cell_at}
+use Rattle.tt_instance.proofs.Cells.{all_cells_pass}
 use Rattle.tt_facts.specs.Facts.{matches}
 use Rattle.tt_facts.specs.Live.{clash, is_barred, excludes}
 use Rattle.tt_facts.specs.declared.facts.Pattern.{Pattern}
 use Rattle.tt_facts.specs.declared.facts.Fact.{Fact}
 use Rattle.tt_kills.specs.Killing.{is_free, IsSamePeriod, IsConfined, kills_by, kills_at}
-use Rattle.tt_kills.proofs.Each.{all_below, at_below, all_cells_pass, same_truth}
 
 -- the test of "excludes" at one cell
 taken : (m b k : Bool) → (not m || b || k) ≡ (not (m && not b) || k)
 taken true true k = refl
 taken true false k = refl
 taken false b k = refl
-
-wanted : (f k : Bool) → (not f || k) ≡ true → f ≡ true → k ≡ true
-wanted true k e h = e
-wanted false k e h = cc
-
-not_wanted : (f k : Bool) → (f ≡ true → k ≡ true) → (not f || k) ≡ true
-not_wanted true k h = h refl
-not_wanted false k h = refl
 
 pub clash-period : (p : Problem) (y x : Cell) → clash p y x ≡ true → IsSamePeriod y x
 clash-period p y x e =

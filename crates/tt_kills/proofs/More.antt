@@ -1,23 +1,23 @@
 -- What one more fact changes: which cells are barred, and which are dead.
-use Rattle.std.proofs.Common.{◌≡◌, ℕ, Bool, true, false, not, ◌&&◌, ◌||◌, List, [], ◌∷◌, ◌++◌, refl, sym, ap, ◌∙◌, Option, Some, None, subst, inl, inr}
+use Rattle.std.proofs.Common.{◌≡◌, Bool, true, false, not, ◌&&◌, ◌||◌, List, [], ◌∷◌, ◌++◌, refl, sym, ap, ◌∙◌, subst, inl, inr}
 use Rattle.std.specs.Prelude.{Contains}
 use Rattle.std.specs.List.{list_any}
-use Rattle.std.proofs.lemmas.Bool.{and_parts, and_from, eqb-true, or_cases, or_left, or_right}
+use Rattle.std.proofs.lemmas.Bool.{and_parts, and_from, or_cases, or_left, or_right}
 use Rattle.std.proofs.lemmas.List.Folds.{list_any-append}
 use Rattle.std.proofs.Math.Bool.{or-false}
 use Rattle.tt_lists.proofs.All.{list_all-same}
 use Rattle.tt_lists.proofs.Members.{any_member, member_from_any}
+use Rattle.tt_lists.proofs.Tested.{list_any-same}
 use Rattle.tt_instance.specs.Problem.{Problem}
 use Rattle.tt_instance.specs.Cells.{all_cells}
 use Rattle.tt_instance.specs.Courses.{unavailable}
 use Rattle.tt_instance.specs.declared.cell.Cell.{Cell}
-use Rattle.tt_facts.specs.Facts.{matches, same_who, same_option, same_pattern, same_answer, has_fact}
+use Rattle.tt_facts.specs.Facts.{matches, same_pattern, same_answer, has_fact}
 use Rattle.tt_facts.specs.Live.{clash, is_barred, excludes, is_dead}
 use Rattle.tt_facts.specs.Nested.{is_denied, is_excluded}
-use Rattle.tt_facts.specs.declared.facts.Who.{Who}
-use Rattle.tt_facts.specs.declared.facts.Who.TheVariants.{Course, Curriculum}
 use Rattle.tt_facts.specs.declared.facts.Pattern.{Pattern}
 use Rattle.tt_facts.specs.declared.facts.Fact.{Fact}
+use Rattle.tt_facts.proofs.Same.{same_fact}
 use Rattle.tt_kills.proofs.Confined.{excluded-clash, excluded_from}
 
 or-assoc : (a b c : Bool) → (a || (b || c)) ≡ ((a || b) || c)
@@ -39,10 +39,6 @@ absorbed false false h = refl
 -- a test of a list with one more
 any-one_more : {X : Type 0} (t : X → Bool) (xs : List X) (x : X) → list_any t (xs ++ x ∷ []) ≡ (list_any t xs || t x)
 any-one_more t xs x = list_any-append t xs (x ∷ []) ∙ ap (λ b. list_any t xs || b) (or-false (t x))
-
-any-same : {X : Type 0} (t u : X → Bool) (xs : List X) → ((x : X) → t x ≡ u x) → list_any t xs ≡ list_any u xs
-any-same t u [] h = refl
-any-same t u (x ∷ xs) h = ap (λ b. b || list_any t xs) (h x) ∙ ap (λ b. u x || b) (any-same t u xs h)
 
 any-implied : {X : Type 0} (t u : X → Bool) (xs : List X) → ((x : X) → t x ≡ true → u x ≡ true) → list_any t xs ≡ true → list_any u xs ≡ true
 any-implied t u xs h e = let w = member_from_any t xs e in any_member u xs w.0 w.1 (h w.0 w.2)
@@ -137,40 +133,7 @@ module _ (p : Problem) (path : List Fact) where
 
 -- ---- a fact by its parts
 
-option_is : (a b : Option ℕ) → same_option a b ≡ true → a ≡ b
-option_is None None e = refl
-option_is None (Some n) e = cc
-option_is (Some m) None e = cc
-option_is (Some m) (Some n) e = ap Some (eqb-true m n e)
-
-who_is : (a b : Who) → same_who a b ≡ true → a ≡ b
-who_is (Course a) (Course b) e = ap Course (eqb-true a b e)
-who_is (Course a) (Curriculum b) e = cc
-who_is (Curriculum a) (Course b) e = cc
-who_is (Curriculum a) (Curriculum b) e = ap Curriculum (eqb-true a b e)
-
-answer_is : (a b : Bool) → same_answer a b ≡ true → a ≡ b
-answer_is true b e = sym e
-answer_is false false e = refl
-answer_is false true e = cc
-
 pub has_fact-member : (path : List Fact) (f : Fact) → has_fact path f.pattern f.holds ≡ true → Contains path f
 has_fact-member path f e =
     let w = member_from_any (λ k. same_answer k.holds f.holds && same_pattern k.pattern f.pattern) path e in
-    let g = w.0 in
-    let a = and_parts (same_answer g.holds f.holds) (same_pattern g.pattern f.pattern) w.2 in
-    let b = and_parts (same_who g.pattern.who f.pattern.who && same_option g.pattern.room f.pattern.room && same_option g.pattern.day f.pattern.day) (same_option g.pattern.period f.pattern.period) a.1 in
-    let c = and_parts (same_who g.pattern.who f.pattern.who && same_option g.pattern.room f.pattern.room) (same_option g.pattern.day f.pattern.day) b.0 in
-    let d = and_parts (same_who g.pattern.who f.pattern.who) (same_option g.pattern.room f.pattern.room) c.0 in
-    subst (Contains path) (same_fact g f (who_is g.pattern.who f.pattern.who d.0) (option_is g.pattern.room f.pattern.room d.1) (option_is g.pattern.day f.pattern.day c.1) (option_is g.pattern.period f.pattern.period b.1) (answer_is g.holds f.holds a.0)) w.1
-  where
-    make : Who → Option ℕ → Option ℕ → Option ℕ → Bool → Fact
-    make w r d s h = record { pattern = record { who = w; room = r; day = d; period = s }; holds = h }
-
-    same_fact : (g h : Fact) → g.pattern.who ≡ h.pattern.who → g.pattern.room ≡ h.pattern.room → g.pattern.day ≡ h.pattern.day → g.pattern.period ≡ h.pattern.period → g.holds ≡ h.holds → g ≡ h
-    same_fact g h w r d s a =
-        ap (λ v. make v g.pattern.room g.pattern.day g.pattern.period g.holds) w
-        ∙ ap (λ v. make h.pattern.who v g.pattern.day g.pattern.period g.holds) r
-        ∙ ap (λ v. make h.pattern.who h.pattern.room v g.pattern.period g.holds) d
-        ∙ ap (λ v. make h.pattern.who h.pattern.room h.pattern.day v g.holds) s
-        ∙ ap (make h.pattern.who h.pattern.room h.pattern.day h.pattern.period) a
+    subst (Contains path) (same_fact w.0 f w.2) w.1

@@ -2,6 +2,7 @@
 use Rattle.std.proofs.Common.{◌≡◌, Bool, true, false, not, ◌&&◌, ◌||◌, List, [], ◌∷◌, ◌++◌, sym, ap, ◌∙◌, inl, inr}
 use Rattle.std.specs.List.{list_any}
 use Rattle.std.proofs.lemmas.Bool.{and_parts, and_from, or_cases, or_left, or_right}
+use Rattle.tt_lists.proofs.Truth.{same_truth}
 use Rattle.tt_instance.specs.Problem.{Problem}
 use Rattle.tt_instance.specs.Cells.{InRange}
 use Rattle.tt_instance.specs.declared.cell.Cell.{Cell}
@@ -9,7 +10,6 @@ use Rattle.tt_facts.specs.Facts.{matches}
 use Rattle.tt_facts.specs.Live.{is_barred, excludes, is_dead}
 use Rattle.tt_facts.specs.declared.facts.Pattern.{Pattern}
 use Rattle.tt_facts.specs.declared.facts.Fact.{Fact}
-use Rattle.tt_kills.proofs.Each.{same_truth}
 use Rattle.tt_kills.proofs.Confined.{excluded-clash, excluded_from}
 use Rattle.tt_kills.proofs.More.{is_dead-no, dead_stays}
 

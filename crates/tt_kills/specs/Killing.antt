@@ -1,3 +1,4 @@
+-- Only proofs rest on this file: nobody has to believe it.
 -- Where the cells are that are left to a yes-fact, and what it kills there.
 use Rattle.std.specs.Prelude.{◌≡◌, ℕ, Bool, true, not, ◌&&◌, ◌||◌, List}
 use Rattle.std.specs.List.{list_all}

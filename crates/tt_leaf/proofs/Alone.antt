@@ -1,9 +1,9 @@
 -- The pinned periods of a curriculum on a day beside which none is live, by words.
-use Rattle.std.proofs.Common.{◌≡◌, ℕ, ◌+◌, ◌-◌, ◌<◌, ◌≤◌, Bool, true, false, not, ◌&&◌, List, length, refl, sym, ap, ◌∙◌, arith, inl, inr}
+use Rattle.std.proofs.Common.{◌≡◌, ℕ, ◌+◌, ◌-◌, ◌<◌, ◌≤◌, Bool, true, false, not, ◌&&◌, List, refl, sym, ap, ◌∙◌, arith, inl, inr}
 use Rattle.std.specs.Prelude.{nat_lt}
-use Rattle.std.proofs.lemmas.Bool.{cases_lt, lt-ltb}
+use Rattle.std.proofs.lemmas.Bool.{cases_lt, lt-ltb, le-ltb}
 use Rattle.tt_bits.specs.Bits.{has_bit}
-use Rattle.tt_bits.proofs.BitLaws.{has_bit-none, not_below}
+use Rattle.tt_bits.proofs.BitLaws.{has_bit-none}
 use Rattle.tt_instance.specs.Problem.{Problem}
 use Rattle.tt_instance.specs.Cells.{slot}
 use Rattle.tt_instance.specs.Courses.{members}
@@ -34,7 +34,7 @@ module _ (p : Problem) (path : List Fact) (q d : ℕ) (hd : d < p.days) (few : p
     after : (s : ℕ) → s < p.periods → (nat_lt (s + 1) 64 && has_bit live (s + 1)) ≡ live_after p path cs (slot d s)
     after s h = elim (cases_lt (s + 1) 64) [
       | inl l ↦ ap (λ b. b && has_bit live (s + 1)) (lt-ltb (s + 1) 64 l) ∙ lives (s + 1) l
-      | inr l ↦ ap (λ b. b && has_bit live (s + 1)) (not_below (s + 1) 64 l) ∙ sym (ap (λ b. b && live_for p path cs (slot d (s + 1))) (not_below (s + 1) p.periods (omega arith)))
+      | inr l ↦ ap (λ b. b && has_bit live (s + 1)) (le-ltb (s + 1) 64 l) ∙ sym (ap (λ b. b && live_for p path cs (slot d (s + 1))) (le-ltb (s + 1) p.periods (omega arith)))
     ]
 
     pub all-isolated : (ahead behind first w : ℕ) → ((s : ℕ) → s < 64 → has_bit ahead s ≡ (nat_lt 0 s && has_bit live (s - 1))) → ((s : ℕ) → s < 64 → has_bit behind s ≡ (nat_lt (s + 1) 64 && has_bit live (s + 1))) → ((s : ℕ) → s < 64 → has_bit first s ≡ (has_bit pin s && not (has_bit ahead s))) → ((s : ℕ) → s < 64 → has_bit w s ≡ (has_bit first s && not (has_bit behind s))) → (s : ℕ) → s < 64 → has_bit w s ≡ isolated_at s
@@ -46,7 +46,7 @@ module _ (p : Problem) (path : List Fact) (q d : ℕ) (hd : d < p.days) (few : p
           ∙ gather (nat_lt s p.periods) (pinned p path (Curriculum q) (slot d s)) (not (live_before p path cs (slot d s))) (not (live_after p path cs (slot d s)))
           ∙ ap (λ x. nat_lt s p.periods && (pinned p path (Curriculum q) (slot d s) && x)) (sym (by_sides p path q (slot d s) hd k cs are))
       | inr k ↦
-          let none = not_below s p.periods k in
+          let none = le-ltb s p.periods k in
           l s h ∙ ap (λ x. x && not (has_bit behind s)) (f s h) ∙ ap (λ x. (x && not (has_bit ahead s)) && not (has_bit behind s)) (pins s h ∙ ap (λ x. x && pinned p path (Curriculum q) (slot d s)) none)
           ∙ sym (ap (λ x. x && (pinned p path (Curriculum q) (slot d s) && is_alone p path q (slot d s))) none)
     ]

@@ -1,6 +1,6 @@
 -- Counts over rooms, block by block.
-use Rattle.std.proofs.Common.{◌≡◌, ℕ, ◌+◌, ◌-◌, ◌*◌, ◌<◌, ◌≤◌, Bool, ◌&&◌, cond, List, length, refl, sym, ap, ◌∙◌, arith}
-use Rattle.std.specs.Prelude.{nat_lt, sum_by, count_by}
+use Rattle.std.proofs.Common.{◌≡◌, ℕ, ◌+◌, ◌-◌, ◌*◌, ◌<◌, ◌≤◌, Bool, ◌&&◌, cond, ap, ◌∙◌, arith}
+use Rattle.std.specs.Prelude.{nat_lt, count_by}
 use Rattle.tt_lists.specs.Words.{range_below}
 use Rattle.tt_lists.proofs.Tests.{sum_further}
 use Rattle.tt_bits.specs.Bits.{has_bit, bits}

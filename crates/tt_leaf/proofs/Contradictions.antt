@@ -1,117 +1,42 @@
 -- Where one of the first four leaves is right, no feasible timetable fits the path.
-use Rattle.std.proofs.Common.{◌≡◌, ℕ, ◌≤◌, ◌<◌, Bool, true, false, not, ◌&&◌, ◌||◌, List, [], ◌∷◌, length, Option, Some, None, refl, sym, ap, ◌∙◌, subst, arith, inl, inr, eqb-true, eq-eqb, zero-le}
+use Rattle.std.proofs.Common.{◌≡◌, ℕ, ◌≤◌, ◌<◌, true, false, not, ◌&&◌, ◌||◌, List, length, refl, sym, ap, ◌∙◌, subst, arith, inl, inr, eqb-true, eq-eqb}
 use Rattle.std.specs.Prelude.{Contains, ◌==◌, sum_by, count_by}
-use Rattle.std.specs.List.{list_any, list_all, AllByRecursion}
-use Rattle.std.proofs.lemmas.List.Sums.{sum_by-cons}
-use Rattle.std.proofs.lemmas.Bool.{and_parts, and_from, or_cases, or_left, or_right, not-true, both_ways, cases_lt}
+use Rattle.std.specs.List.{list_any, AllByRecursion}
+use Rattle.std.proofs.lemmas.Bool.{and_parts, and_from, or_cases, not-true, both_ways}
 use Rattle.tt_lists.specs.Words.{each_two}
 use Rattle.tt_instance.specs.Problem.{Problem}
-use Rattle.tt_instance.specs.Cells.{slot, slot_of, cell, all_slots, all_rooms, is_of, is_at, is_in}
+use Rattle.tt_instance.specs.Cells.{slot_of, cell, all_slots, all_rooms, is_of, is_at, is_in}
 use Rattle.tt_instance.specs.Courses.{lectures, conflict}
 use Rattle.tt_instance.specs.declared.cell.Slot.{Slot}
 use Rattle.tt_rules.specs.Hard.{entries_of, periods_of, entries_in}
 use Rattle.tt_rules.specs.Score.{IsFeasible}
-use Rattle.tt_facts.specs.Facts.{matches, Fits, same_option, same_who, same_pattern, same_answer, has_fact}
+use Rattle.tt_facts.specs.Facts.{matches, Fits, has_fact}
 use Rattle.tt_facts.specs.Live.{is_dead, is_live, live_period, pinned, pinned_periods}
 use Rattle.tt_leaf.specs.Leaves.{all_dead, is_clique, has_member, open_periods, are_distinct, open_rooms}
 use Rattle.tt_leaf.specs.Leaves.{all_lectures}
 use Rattle.tt_instance.specs.declared.cell.Cell.{Cell}
-use Rattle.tt_facts.specs.declared.facts.Who.{Who}
-use Rattle.tt_facts.specs.declared.facts.Who.TheVariants.{Course, Curriculum}
+use Rattle.tt_facts.specs.declared.facts.Who.TheVariants.{Course}
 use Rattle.tt_facts.specs.declared.facts.Pattern.{Pattern}
 use Rattle.tt_facts.specs.declared.facts.Fact.{Fact}
-use Rattle.tt_lists.proofs.Sums.{sum_by-nothing, one_if, one_if_true, cond-le, sum_by-le, sum_by-same, each, each_weaker, one_if_any, any_if_count, spread_up, spread_down, once_at_least, once_at_most, each_from_list_all}
-use Rattle.tt_instance.proofs.Places.{any_slot, count_slots, each_cell_at}
+use Rattle.tt_lists.proofs.Sums.{one_if, cond-le, sum_by-le, sum_by-same, each, each_weaker, any_if_count, spread_up, once_at_least}
+use Rattle.tt_instance.proofs.Places.{any_slot, each_cell_at}
+use Rattle.tt_instance.proofs.Cells.{at_itself, is_at-slot}
+use Rattle.tt_facts.proofs.Same.{fact_there}
 use Rattle.tt_lists.proofs.Numbers.{any_below}
 use Rattle.tt_lists.proofs.Members.{at_member, each_member, any_member, member_from_any, only_one}
-use Rattle.tt_rules.proofs.Feasible.{in_range}
-use Rattle.tt_rules.proofs.Feasible.{lectures_met, once_a_period, one_in_room, no_collision}
+use Rattle.tt_lists.proofs.Apart.{one_at_most}
+use Rattle.tt_rules.proofs.Feasible.{in_range, lectures_met, once_a_period, one_in_room, no_collision, periods-le_entries}
 use Rattle.tt_leaf.proofs.Live.{matched, not_dead, live_entry, live_period_of, pinned_entry}
-
--- ---- patterns that are the same
-
-same_option-true : (a b : Option ℕ) → same_option a b ≡ true → a ≡ b
-same_option-true None None e = refl
-same_option-true None (Some n) e = cc
-same_option-true (Some m) None e = cc
-same_option-true (Some m) (Some n) e = ap Some (eqb-true m n e)
-
-same_who-true : (a b : Who) → same_who a b ≡ true → a ≡ b
-same_who-true (Course a) (Course b) e = ap Course (eqb-true a b e)
-same_who-true (Course a) (Curriculum b) e = cc
-same_who-true (Curriculum a) (Course b) e = cc
-same_who-true (Curriculum a) (Curriculum b) e = ap Curriculum (eqb-true a b e)
-
-abbrev pattern_of : Who → Option ℕ → Option ℕ → Option ℕ → Pattern
-pattern_of w r d s = record { who = w; room = r; day = d; period = s }
-
-pub same_pattern-true : (g h : Pattern) → same_pattern g h ≡ true → g ≡ h
-same_pattern-true g h e =
-    let a = and_parts (same_who g.who h.who && same_option g.room h.room && same_option g.day h.day) (same_option g.period h.period) e in
-    let b = and_parts (same_who g.who h.who && same_option g.room h.room) (same_option g.day h.day) a.0 in
-    let c = and_parts (same_who g.who h.who) (same_option g.room h.room) b.0 in
-    let who = same_who-true g.who h.who c.0 in
-    let room = same_option-true g.room h.room c.1 in
-    let day = same_option-true g.day h.day b.1 in
-    let period = same_option-true g.period h.period a.1 in
-    ap (λ w. pattern_of w g.room g.day g.period) who ∙ ap (λ r. pattern_of h.who r g.day g.period) room
-    ∙ ap (λ d. pattern_of h.who h.room d g.period) day ∙ ap (λ s. pattern_of h.who h.room h.day s) period
-
--- ---- a count over courses no two of which can be at one place
-
--- where no two related elements both count, the sum is 1 at most, and 0 unless some element passes
-pub one_at_most : {X : Type 0} (related : X → X → Bool) (n : X → ℕ) (passes : X → Bool) (xs : List X) → each_two related xs ≡ true → ((x y : X) → related x y ≡ true → 1 ≤ n x → 1 ≤ n y → ⊥) → ((x : X) → n x ≤ 1) → ((x : X) → 1 ≤ n x → passes x ≡ true) → sum_by n xs ≤ one_if (list_any passes xs)
-one_at_most related n passes [] e apart most pass = zero-le
-one_at_most related n passes (x ∷ xs) e apart most pass =
-    let h = and_parts (list_all (related x) xs) (each_two related xs) e in
-    let c = sum_by-cons n x xs in
-    elim (cases_lt 0 (n x)) [
-      | inl k ↦
-          let here = one_if_true (passes x || list_any passes xs) (or_left (passes x) (list_any passes xs) (pass x k)) in
-          let others = sum_by-le n (λ y. 0) xs (each_weaker (λ y. related x y ≡ true) (λ y. n y ≤ 0) (λ y r. by_cases y (λ m. apart x y r k m)) xs (each_from_list_all (related x) xs h.0)) in
-          omega (arith, most x, sum_by-nothing xs)
-      | inr k ↦
-          let rest = one_at_most related n passes xs h.1 apart most pass in
-          let wider = cond-le (list_any passes xs) (passes x || list_any passes xs) (or_right (passes x) (list_any passes xs)) in
-          omega arith
-    ]
-  where
-    by_cases : (y : _) → (1 ≤ n y → ⊥) → n y ≤ 0
-    by_cases y f = elim (cases_lt 0 (n y)) [ inl m ↦ absurd (f m) | inr m ↦ m ]
-
-pub at_itself : (x : Cell) → is_at (slot_of x) x ≡ true
-at_itself x = and_from (x.day == x.day) (x.period == x.period) (eq-eqb x.day x.day refl) (eq-eqb x.period x.period refl)
-
-pub is_at-slot : (s : Slot) (x : Cell) → is_at s x ≡ true → slot_of x ≡ s
-is_at-slot s x e =
-    let a = and_parts (x.day == s.day) (x.period == s.period) e in
-    ap (λ d. slot d x.period) (eqb-true x.day s.day a.0) ∙ ap (λ i. slot s.day i) (eqb-true x.period s.period a.1)
-
--- a course has an entry in each of its periods
-pub periods_at_most : (p : Problem) (t : List Cell) (c : ℕ) → periods_of p t c ≤ entries_of t c
-periods_at_most p t c =
-    let one : Slot → ℕ = λ s. one_if (list_any (λ e. is_of c e && is_at s e) t) in
-    let many : Slot → ℕ = λ s. count_by (λ e. is_of c e && is_at s e) t in
-    let at_most = spread_down (λ e. one_if (is_of c e)) (λ s e. one_if (is_of c e && is_at s e)) t (all_slots p)
-    (each (λ e. sum_by (λ s. one_if (is_of c e && is_at s e)) (all_slots p) ≤ one_if (is_of c e)) (λ e. once_at_most (is_of c e) (λ s. is_at s e) 1 (all_slots p) (count_slots p e)) t) in
-    let k = sum_by-le one many (all_slots p) (each (λ s. one s ≤ many s) (λ s. one_if_any (λ e. is_of c e && is_at s e) t) (all_slots p)) in
-    omega arith
-
-answer_true : (b : Bool) → same_answer b true ≡ true → b ≡ true
-answer_true true e = refl
-answer_true false e = absurd cc
 
 module _ (p : Problem) (t : List Cell) (ok : IsFeasible p t) (path : List Fact) (fits : Fits p t path) where
   pub empty_sound : (g : Pattern) → has_fact path g true ≡ true → all_dead p path g ≡ true → ⊥
   empty_sound g e d =
-      let w = member_from_any (λ f. same_answer f.holds true && same_pattern f.pattern g) path e in
-      let f = w.0 in
-      let a = and_parts (same_answer f.holds true) (same_pattern f.pattern g) w.2 in
-      let m = matched p t ok path fits f w.1 (answer_true f.holds a.0) in
+      let w = fact_there path g true e in
+      let m = matched p t ok path fits w.0 w.1 w.2 in
       let x = m.0 in
       let here = each_cell_at p (λ z. not (matches p g z) || is_dead p path z) x d (in_range p t ok x m.1) in
       elim (or_cases (not (matches p g x)) (is_dead p path x) here) [
-        | inl n ↦ both_ways (matches p g x) (not-true (matches p g x) n) (subst (λ z. matches p z x ≡ true) (same_pattern-true f.pattern g a.1) m.2)
+        | inl n ↦ both_ways (matches p g x) (not-true (matches p g x) n) (subst (λ z. matches p z x ≡ true) w.3 m.2)
         | inr b ↦ not_dead p t ok path fits x m.1 b
       ]
 
@@ -125,7 +50,7 @@ module _ (p : Problem) (t : List Cell) (ok : IsFeasible p t) (path : List Fact) 
       (all_slots p))
 
   pub many_sound : (c : ℕ) → lectures p c < pinned_periods p path (Course c) → ⊥
-  many_sound c h = omega (arith, pinned_at_most c, periods_at_most p t c, lectures_met p t ok c)
+  many_sound c h = omega (arith, pinned_at_most c, periods-le_entries p t c, lectures_met p t ok c)
 
   -- ---- Clique
 

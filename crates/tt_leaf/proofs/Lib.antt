@@ -2,7 +2,6 @@ pub mod Apart
 pub mod Clash
 pub mod Contradictions
 pub mod Examples
-pub mod Lengths
 pub mod Live
 pub mod Meeting
 pub mod MoreValues
@@ -14,3 +13,4 @@ pub mod Values
 pub mod Week
 pub mod Blocks
 pub mod Alone
+pub mod Rightness

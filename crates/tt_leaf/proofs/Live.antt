@@ -1,5 +1,5 @@
 -- Where a feasible timetable fits the path, each of its entries is a live cell.
-use Rattle.std.proofs.Common.{◌≡◌, ℕ, true, not, ◌&&◌, ◌||◌, List, length, Option, Some, None, sym, ◌∙◌, inl, inr, eqb-true, eq-eqb}
+use Rattle.std.proofs.Common.{◌≡◌, ℕ, true, not, ◌&&◌, ◌||◌, List, length, sym, ◌∙◌, inl, inr, eq-eqb}
 use Rattle.std.specs.Prelude.{Contains, ◌==◌}
 use Rattle.std.specs.List.{list_any}
 use Rattle.std.proofs.lemmas.List.Elements.{All-contains}
@@ -9,44 +9,20 @@ use Rattle.tt_instance.specs.Cells.{slot, slot_of, cell, is_of, is_at, is_in}
 use Rattle.tt_instance.specs.Courses.{unavailable}
 use Rattle.tt_instance.specs.declared.cell.Slot.{Slot}
 use Rattle.tt_rules.specs.Score.{IsFeasible}
-use Rattle.tt_facts.specs.Facts.{agrees, is_who, matches, Holds, Fits}
+use Rattle.tt_facts.specs.Facts.{is_who, matches, Holds, Fits}
 use Rattle.tt_facts.specs.Live.{clash, is_barred, excludes, is_dead, is_live, live_period, live_day, gives, is_pinned_by, pinned, pinned_room}
 use Rattle.tt_instance.specs.declared.cell.Cell.{Cell}
 use Rattle.tt_facts.specs.declared.facts.Who.{Who}
-use Rattle.tt_facts.specs.declared.facts.Who.TheVariants.{Course, Curriculum}
-use Rattle.tt_facts.specs.declared.facts.Pattern.{Pattern}
+use Rattle.tt_facts.specs.declared.facts.Who.TheVariants.{Course}
 use Rattle.tt_facts.specs.declared.facts.Fact.{Fact}
 use Rattle.tt_lists.proofs.Numbers.{any_below}
 use Rattle.tt_lists.proofs.Members.{any_member, member_from_any}
 use Rattle.tt_instance.proofs.Places.{each_cell_at}
-use Rattle.tt_rules.proofs.Feasible.{in_range}
-use Rattle.tt_rules.proofs.Feasible.{available}
+use Rattle.tt_rules.proofs.Feasible.{in_range, available}
+use Rattle.tt_facts.proofs.Matching.{gives-agrees, speaks-is_who, Matches-from}
 use Rattle.tt_leaf.proofs.Clash.{no_clash}
 
 -- ---- what a yes-fact says of the entry that matches it
-
-gives-agrees : (o : Option ℕ) (m n : ℕ) → gives o m ≡ true → agrees o n ≡ true → n ≡ m
-gives-agrees None m n g a = cc
-gives-agrees (Some k) m n g a = let e = eqb-true k m g in let f = eqb-true k n a in cc
-
-speaks-is_who : (p : Problem) (who of : Who) (c : ℕ) → speaks_of p who of ≡ true → is_who p of c ≡ true → is_who p who c ≡ true
-speaks-is_who p (Course a) (Course b) c s w = eq-eqb c a (eqb-true c b w ∙ eqb-true b a s)
-speaks-is_who p (Course a) (Curriculum k) c s w = cc
-speaks-is_who p (Curriculum q) (Course b) c s w = rw (eqb-true c b w) s
-speaks-is_who p (Curriculum q) (Curriculum k) c s w = rw (← eqb-true k q s) w
-
-pub record Matches (p : Problem) (g : Pattern) (x : Cell) : Type 0 where
-  pub who : is_who p g.who x.course ≡ true
-  pub room : agrees g.room x.room ≡ true
-  pub day : agrees g.day x.day ≡ true
-  pub period : agrees g.period x.period ≡ true
-
-pub Matches-from : (p : Problem) (g : Pattern) (x : Cell) → matches p g x ≡ true → Matches p g x
-Matches-from p g x e =
-    let a = and_parts (is_who p g.who x.course && agrees g.room x.room && agrees g.day x.day) (agrees g.period x.period) e in
-    let b = and_parts (is_who p g.who x.course && agrees g.room x.room) (agrees g.day x.day) a.0 in
-    let c = and_parts (is_who p g.who x.course) (agrees g.room x.room) b.0 in
-    record { who = c.0; room = c.1; day = b.1; period = a.1 }
 
 module _ (p : Problem) (t : List Cell) (ok : IsFeasible p t) (path : List Fact) (fits : Fits p t path) where
   -- some entry matches a yes-fact

@@ -9,7 +9,7 @@ use Rattle.tt_lists.specs.Words.{each_two}
 use Rattle.tt_lists.proofs.All.{list_all-same}
 use Rattle.tt_lists.proofs.Below.{all_pass}
 use Rattle.tt_lists.proofs.Members.{each_two-of_map}
-use Rattle.tt_lists.proofs.Twos.{neither}
+use Rattle.tt_lists.proofs.Twos.{neither, each_two-same, list_all-both}
 use Rattle.tt_leaf.specs.Claims.{Target, RoomCapacity, WorkingDays, Compactness, Stability, same_target, targets_of, claimed}
 use Rattle.tt_leaf.specs.Leaves.{claims_once}
 use Rattle.tt_leaf.specs.Met.{marked, are_new, place, places_of, IsPlaced}
@@ -25,17 +25,9 @@ new_at_first marks ns none =
 
 -- a test of what is left once a number has been met
 unmarked_more : (marks more : List Bool) (n : ℕ) (ns : List ℕ) → ((k : ℕ) → marked more k ≡ (marked marks k || (n == k))) → list_all (λ k. not (marked more k)) ns ≡ (list_all (λ k. not (marked marks k)) ns && list_all (λ k. not (n == k)) ns)
-unmarked_more marks more n [] added = refl
-unmarked_more marks more n (k ∷ ks) added =
-    ap (λ b. b && list_all (λ j. not (marked more j)) ks) (ap not (added k) ∙ neither (marked marks k) (n == k))
-    ∙ ap (λ b. (not (marked marks k) && not (n == k)) && b) (unmarked_more marks more n ks added)
-    ∙ turned (not (marked marks k)) (not (n == k)) (list_all (λ j. not (marked marks j)) ks) (list_all (λ j. not (n == j)) ks)
-  where
-    turned : (a b c d : Bool) → ((a && b) && (c && d)) ≡ ((a && c) && (b && d))
-    turned true true c d = refl
-    turned true false true d = refl
-    turned true false false d = refl
-    turned false b c d = refl
+unmarked_more marks more n ns added =
+    list_all-same (λ k. not (marked more k)) (λ k. not (marked marks k) && not (n == k)) ns (λ k. ap not (added k) ∙ neither (marked marks k) (n == k))
+    ∙ list_all-both (λ k. not (marked marks k)) (λ k. not (n == k)) ns
 
 -- one number met
 pub new_then : (marks more : List Bool) (n : ℕ) (behind : List ℕ) → ((k : ℕ) → marked more k ≡ (marked marks k || (n == k))) → are_new marks (n ∷ behind) ≡ (not (marked marks n) && are_new more behind)
@@ -85,10 +77,6 @@ same_place (Stability a) (Stability b) = four_same 3 a b
 places_all : (claims : List Claim) → map place (claimed claims) ≡ flat_map places_of claims
 places_all [] = refl
 places_all (c ∷ cs) = map-append place (targets_of c) (claimed cs) ∙ ap (λ l. places_of c ++ l) (places_all cs)
-
-each_two-same : {X : Type 0} (p q : X → X → Bool) (xs : List X) → ((a b : X) → p a b ≡ q a b) → each_two p xs ≡ each_two q xs
-each_two-same p q [] h = refl
-each_two-same p q (x ∷ xs) h = ap (λ b. b && each_two p xs) (list_all-same (p x) (q x) xs (h x)) ∙ ap (λ b. list_all (q x) xs && b) (each_two-same p q xs h)
 
 -- where nothing is marked, the targets are new where none is claimed twice
 pub claims_at_first : (marks : List Bool) (claims : List Claim) → ((k : ℕ) → marked marks k ≡ false) → claims_once claims ≡ are_new marks (flat_map places_of claims)

@@ -24,18 +24,16 @@ use Rattle.tt_lists.proofs.Sums.{one_if, one_if_any, cond-le, sum_by-le, sum_by-
 use Rattle.tt_lists.proofs.Numbers.{any_below, count_below}
 use Rattle.tt_instance.proofs.Places.{count_slots, each_slot_at}
 use Rattle.tt_lists.proofs.Members.{at_member, each_member, any_member, member_from_any, count_by-split, each_two-of_map, each_below_at}
+use Rattle.tt_lists.proofs.Counting.{or-le, cond-le_plus}
 use Rattle.tt_rules.proofs.Feasible.{in_range}
 use Rattle.tt_rules.proofs.Feasible.{lectures_met, one_in_each}
 use Rattle.tt_leaf.proofs.Live.{live_entry, pinned_entry}
-use Rattle.tt_leaf.proofs.Contradictions.{is_at-slot, in_room_at_most}
-use Rattle.tt_leaf.proofs.Values.{days_live, cond-le_plus}
+use Rattle.tt_instance.proofs.Cells.{is_at-slot}
+use Rattle.tt_leaf.proofs.Contradictions.{in_room_at_most}
+use Rattle.tt_leaf.proofs.Values.{days_live}
 
 times-le : (a b k : ℕ) → a ≤ b → a * k ≤ k * b
 times-le a b k h = let e = mul-le-mul_right k h in omega (arith, mul_comm k b)
-
-or-le : (a b : Bool) → one_if (a || b) ≤ one_if a + one_if b
-or-le true b = omega arith
-or-le false b = omega arith
 
 module _ (p : Problem) (t : List Cell) (ok : IsFeasible p t) (path : List Fact) (fits : Fits p t path) where
   -- ---- Stacked

@@ -1,8 +1,7 @@
 -- The leaf rules as the code goes through them are the rules.
-use Rattle.std.proofs.Common.{◌≡◌, ℕ, Bool, true, false, not, ◌&&◌, ◌||◌, ◌<◌, ◌≤◌, ◌+◌, ◌-◌, ◌%◌, List, refl, sym, ap, ◌∙◌, subst, arith, inl, inr, eqb-true, eq-eqb, ltb-true, lt-ltb, le-leb}
+use Rattle.std.proofs.Common.{◌≡◌, ℕ, Bool, true, false, not, ◌&&◌, ◌||◌, ◌<◌, ◌≤◌, ◌+◌, ◌-◌, List, refl, sym, ap, ◌∙◌, subst, arith, inl, inr, eqb-true, eq-eqb, ltb-true, lt-ltb, le-leb}
 use Rattle.std.specs.Prelude.{nat_lt, nat_le, ◌==◌}
-use Rattle.std.specs.List.{list_all, list_any, AllByRecursion}
-use Rattle.std.proofs.lemmas.List.Elements.{recursion_from_All}
+use Rattle.std.specs.List.{list_all, list_any}
 use Rattle.std.proofs.lemmas.Bool.{and_parts, and_from, or_cases, or_left, or_right}
 use Rattle.tt_instance.specs.Problem.{Problem}
 use Rattle.tt_instance.specs.Cells.{slot, next_to, cell, all_rooms, all_slots, all_courses}
@@ -15,9 +14,11 @@ use Rattle.tt_facts.specs.declared.facts.Fact.{Fact}
 use Rattle.tt_lists.proofs.All.{list_all-same}
 use Rattle.tt_lists.proofs.Below.{all_pass}
 use Rattle.tt_lists.proofs.Twos.{neither}
-use Rattle.tt_lists.proofs.Sums.{list_any_with}
+use Rattle.tt_lists.proofs.Sums.{list_any_with, each_weaker}
+use Rattle.tt_lists.proofs.Truth.{same_truth}
 use Rattle.tt_instance.proofs.Places.{any_slot}
-use Rattle.tt_instance.proofs.Slots.{cells_in_rooms, slot_of_place}
+use Rattle.tt_instance.proofs.Slots.{cells_in_rooms}
+use Rattle.tt_instance.proofs.Cells.{IsSlot, each_slot}
 use Rattle.tt_leaf.specs.Leaves.{all_dead}
 use Rattle.tt_leaf.specs.Claims.{is_alone, price_in}
 use Rattle.tt_leaf.specs.Nested.{course_dead, off_or_dead, live_before, live_after, covered_in}
@@ -37,20 +38,9 @@ module _ (p : Problem) (path : List Fact) (g : Pattern) where
 
 -- ---- the neighbours of a period
 
-same_tests : (a b : Bool) → (a ≡ true → b ≡ true) → (b ≡ true → a ≡ true) → a ≡ b
-same_tests true b f h = sym (f refl)
-same_tests false true f h = h refl
-same_tests false false f h = refl
-
-each_slot_in : (p : Problem) → 0 < p.periods → AllByRecursion (λ s. s.period < p.periods) (all_slots p)
-each_slot_in p some = recursion_from_All (λ s. s.period < p.periods) (all_slots p) (λ k d h.
-    let e = slot_of_place p p.periods k d refl some h in
-    let below : k % p.periods < p.periods = omega arith in
-    subst (λ (s : Slot). s.period < p.periods) e below)
-
 -- a period beside it on its day is before it or after it
 beside : (p : Problem) (t : Slot → Bool) (s : Slot) → s.day < p.days → s.period < p.periods → list_any (λ n. next_to n s && t n) (all_slots p) ≡ ((nat_lt 0 s.period && t (slot s.day (s.period - 1))) || (nat_lt (s.period + 1) p.periods && t (slot s.day (s.period + 1))))
-beside p t s day period = same_tests (list_any (λ n. next_to n s && t n) (all_slots p)) (left || right) there back
+beside p t s day period = same_truth (list_any (λ n. next_to n s && t n) (all_slots p)) (left || right) there back
   where
     left : Bool
     left = nat_lt 0 s.period && t (slot s.day (s.period - 1))
@@ -63,7 +53,7 @@ beside p t s day period = same_tests (list_any (λ n. next_to n s && t n) (all_s
 
     there : list_any (λ n. next_to n s && t n) (all_slots p) ≡ true → (left || right) ≡ true
     there e =
-        let w = list_any_with (λ n. n.period < p.periods) (λ n. next_to n s && t n) (all_slots p) (each_slot_in p (omega arith)) e in
+        let w = list_any_with (λ n. n.period < p.periods) (λ n. next_to n s && t n) (all_slots p) (each_weaker (IsSlot p) (λ n. n.period < p.periods) (λ n i. i.period) (all_slots p) (each_slot p)) e in
         let n = w.0 in
         let a = and_parts (next_to n s) (t n) w.2 in
         let b = and_parts (n.day == s.day) ((n.period == s.period + 1) || (n.period + 1 == s.period)) a.0 in

@@ -11,8 +11,10 @@ use Rattle.std.proofs.lemmas.Bool.{cases_lt, le-ltb, lt-leb, cond-true, cond-fal
 use Rattle.tt_lists.specs.Words.{range_below, each_two}
 use Rattle.tt_lists.proofs.Sums.{each_weaker}
 use Rattle.tt_lists.proofs.Numbers.{any_below}
-use Rattle.tt_leaf.proofs.Lengths.{length-le_sum, each_append}
+use Rattle.tt_lists.proofs.Counting.{length-le_sum}
+use Rattle.tt_lists.proofs.Tested.{each_append}
 use Rattle.tt_lists.proofs.Members.{each_two-of_map}
+use Rattle.tt_lists.proofs.Apart.{distinct_sum}
 use Rattle.tt_instance.specs.Problem.{Problem}
 use Rattle.tt_leaf.specs.Claims.{Target, RoomCapacity, same_target, targets_of, claimed}
 use Rattle.tt_leaf.specs.Leaves.{claims_once}
@@ -20,7 +22,7 @@ use Rattle.tt_leaf.specs.Nested.{PricesBelow, IsOnce}
 use Rattle.tt_leaf.specs.Ranges.{AreBelow, ArePrices, IsClaimOf}
 use Rattle.tt_leaf.specs.declared.leaf.Claim.{Claim}
 use Rattle.tt_leaf.specs.declared.leaf.Claim.TheVariants.{Capacity, Days, Compact, Stable, Prices, Stacked}
-use Rattle.tt_leaf.proofs.Totals.{distinct_sum, all_targets, same_target-true, same_target-itself, capacity_there, days_there, compactness_there, stability_there, length-all_targets}
+use Rattle.tt_leaf.proofs.Totals.{all_targets, same_target-true, same_target-itself, capacity_there, days_there, compactness_there, stability_there, length-all_targets}
 
 -- different numbers below a bound are no more than the bound
 pub distinct-le : (n : ℕ) (ns : List ℕ) → each_two (λ a b. not (a == b)) ns ≡ true → AreBelow n ns → length ns ≤ n

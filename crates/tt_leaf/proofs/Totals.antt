@@ -1,12 +1,12 @@
 -- Claims of different targets together are worth no more than the cost.
-use Rattle.std.proofs.Common.{◌≡◌, ℕ, ◌+◌, ◌*◌, ◌≤◌, ◌<◌, Bool, true, false, not, cond, ◌&&◌, List, [], ◌∷◌, ◌++◌, map, length, length-append, refl, sym, ap, ◌∙◌, subst, arith, inl, inr, eqb-true, eq-eqb, zero-le, mul-le-mul_right}
-use Rattle.std.specs.Prelude.{Contains, ◌⊎◌, sum_by, count_by}
+use Rattle.std.proofs.Common.{◌≡◌, ℕ, ◌+◌, ◌*◌, ◌≤◌, ◌<◌, Bool, true, not, cond, ◌&&◌, List, [], ◌∷◌, ◌++◌, map, length, length-append, refl, ap, arith, inl, inr, eqb-true, eq-eqb}
+use Rattle.std.specs.Prelude.{Contains, ◌⊎◌, sum_by}
 use Rattle.std.specs.List.{list_any, list_all, AllByRecursion}
 use Rattle.std.proofs.lemmas.List.{get_or_past, length-map}
 use Rattle.std.proofs.lemmas.List.FromFn.{length-range_with_len}
 use Rattle.std.proofs.lemmas.List.Sums.{sum_by-append}
 use Rattle.std.proofs.lemmas.List.Folds.{list_any-append}
-use Rattle.std.proofs.lemmas.Bool.{not-true, both_ways, cases_lt, or_left, or_right, cond-true, and_parts}
+use Rattle.std.proofs.lemmas.Bool.{both_ways, cases_lt, or_left, or_right, and_parts}
 use Rattle.tt_lists.specs.Words.{has_number, range_below, each_two}
 use Rattle.tt_instance.specs.Problem.{Problem}
 use Rattle.tt_instance.specs.Courses.{no_course, no_curriculum, in_curriculum, excess}
@@ -21,55 +21,14 @@ use Rattle.tt_instance.specs.declared.cell.Cell.{Cell}
 use Rattle.tt_facts.specs.declared.facts.Fact.{Fact}
 use Rattle.tt_leaf.specs.declared.leaf.Claim.{Claim}
 use Rattle.tt_leaf.specs.declared.leaf.Claim.TheVariants.{Capacity, Days, Compact, Stable, Prices, Stacked}
-use Rattle.tt_lists.proofs.Sums.{one_if, one_if-le, sum_by-le, sum_by-of_map, sum_by-of_flat_map, each, list_any-of_map, spread_up, spread_down, once_at_most, sum_by-at_places, sum_by-nothing}
+use Rattle.tt_lists.proofs.Sums.{sum_by-le, sum_by-of_map, sum_by-of_flat_map, each, list_any-of_map, spread_down, once_at_most, sum_by-nothing}
 use Rattle.tt_lists.proofs.Numbers.{any_below, count_below}
-use Rattle.tt_lists.proofs.Members.{each_two-of_append, member-le, each_member, member_from_any, none_counted}
+use Rattle.tt_lists.proofs.Members.{each_two-of_append, each_member, member_from_any, none_counted}
+use Rattle.tt_lists.proofs.Apart.{distinct_sum}
+use Rattle.tt_lists.proofs.Counting.{nothing_if}
 use Rattle.tt_rules.proofs.Feasible.{in_range}
-use Rattle.tt_leaf.proofs.Contradictions.{one_at_most}
 use Rattle.tt_leaf.proofs.MoreValues.{priced_sound, stacked_sound}
 use Rattle.tt_leaf.proofs.Values.{capacity_sound, days_sound, compact_sound, stable_sound}
-
--- ---- sums over different elements
-
-one_if-positive : (b : Bool) → 1 ≤ one_if b → b ≡ true
-one_if-positive true h = refl
-one_if-positive false h = absurd (omega arith)
-
-nothing_if : (b : Bool) (k : ℕ) → (b ≡ true → ⊥) → cond b k 0 ≤ 0
-nothing_if true k h = absurd (h refl)
-nothing_if false k h = zero-le
-
--- a sum over different elements is at most the sum over a list that has each of them, but for those that add nothing
-pub distinct_sum : {X : Type 0} (same : X → X → Bool) → ((x y : X) → same x y ≡ true → x ≡ y) → ((x : X) → same x x ≡ true) → (f : X → ℕ) (ys xs : List X) → each_two (λ a b. not (same a b)) ys ≡ true → ((y : X) → Contains ys y → (f y ≡ 0) ⊎ (list_any (same y) xs ≡ true)) → sum_by f ys ≤ sum_by f xs
-distinct_sum {X} same is itself f ys xs apart there =
-    let up = spread_up f (λ x y. cond (same y x) (f x) 0) ys xs (each_member (λ y. f y ≤ sum_by (λ x. cond (same y x) (f x) 0) xs) ys found) in
-    let down = sum_by-le (λ x. sum_by (λ y. cond (same y x) (f x) 0) ys) f xs (each (λ x. sum_by (λ y. cond (same y x) (f x) 0) ys ≤ f x) once xs) in
-    omega arith
-  where
-    found : (y : X) → Contains ys y → f y ≤ sum_by (λ x. cond (same y x) (f x) 0) xs
-    found y m = elim (there y m) [
-      | inl e ↦ omega arith
-      | inr a ↦
-          let w = member_from_any (same y) xs a in
-          let e = cond-true (same y w.0) (f w.0) 0 w.2 in
-          let k = ap f (is y w.0 w.2) in
-          omega (arith, member-le (λ x. cond (same y x) (f x) 0) xs w.0 w.1)
-    ]
-
-    never : (x a b : X) → not (same a b) ≡ true → 1 ≤ one_if (same a x) → 1 ≤ one_if (same b x) → ⊥
-    never x a b d ha hb =
-        let ea = is a x (one_if-positive (same a x) ha) in
-        let eb = is b x (one_if-positive (same b x) hb) in
-        both_ways (same a b) (not-true (same a b) d) (subst (λ z. same a z ≡ true) (ea ∙ sym eb) (itself a))
-
-    once : (x : X) → sum_by (λ y. cond (same y x) (f x) 0) ys ≤ f x
-    once x =
-        let e = sum_by-at_places (λ y. same y x) (f x) ys in
-        let one = one_at_most (λ a b. not (same a b)) (λ y. one_if (same y x)) (λ y. true) ys apart (never x) (λ y. one_if-le (same y x)) (λ y h. refl) in
-        let most = one_if-le (list_any (λ (y : X). true) ys) in
-        let two : count_by (λ y. same y x) ys ≤ 1 = omega arith in
-        let k = mul-le-mul_right (f x) two in
-        omega arith
 
 -- ---- targets
 

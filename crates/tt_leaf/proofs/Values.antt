@@ -22,10 +22,11 @@ use Rattle.tt_lists.proofs.Sums.{one_if, cond-le, sum_by-le, sum_by-same, sum_by
 use Rattle.tt_instance.proofs.Places.{any_slot, count_slots}
 use Rattle.tt_lists.proofs.Numbers.{count_below}
 use Rattle.tt_lists.proofs.Members.{each_member, any_member, member_from_any, member_cases, number_below}
+use Rattle.tt_lists.proofs.Counting.{cond-le_plus, cond-same}
 use Rattle.tt_rules.proofs.Feasible.{in_range}
 use Rattle.tt_rules.proofs.Feasible.{lectures_met, once_a_period}
 use Rattle.tt_leaf.proofs.Live.{live_entry, live_period_of, live_day_of, pinned_entry, pinned_room_entry}
-use Rattle.tt_leaf.proofs.Contradictions.{is_at-slot, at_itself}
+use Rattle.tt_instance.proofs.Cells.{is_at-slot, at_itself}
 
 -- ---- the least of some numbers
 
@@ -51,14 +52,6 @@ discount_least u f q (z ∷ xs) x h e = by_test (q z) refl (λ m. discount_least
       | inl ex ↦ absurd (both_ways (q z) b (subst (λ y. q y ≡ true) (sym ex) e))
       | inr m ↦ later m
     ])
-
-pub cond-le_plus : (b : Bool) (u x d : ℕ) → (b ≡ true → u ≤ x + d) → cond b u 0 ≤ cond b x 0 + cond b d 0
-cond-le_plus true u x d h = h refl
-cond-le_plus false u x d h = zero-le
-
-cond-same : (b : Bool) (x y : ℕ) → (b ≡ true → x ≡ y) → cond b x 0 ≡ cond b y 0
-cond-same true x y h = h refl
-cond-same false x y h = refl
 
 module _ (p : Problem) (t : List Cell) (ok : IsFeasible p t) (path : List Fact) (fits : Fits p t path) where
   -- ---- Days

@@ -1,5 +1,5 @@
 -- When a leaf closes a node.
-use Rattle.std.specs.Prelude.{◌≡◌, ℕ, ◌==◌, nat_lt, nat_le, Bool, true, false, not, ◌&&◌, ◌||◌, List, [], ◌∷◌, Option, Some, None, sum_by, count_by, if◌then◌else◌}
+use Rattle.std.specs.Prelude.{◌≡◌, ℕ, ◌<◌, ◌≤◌, ◌==◌, Bool, true, false, not, ◌&&◌, ◌||◌, List, [], ◌∷◌, sum_by, count_by}
 use Rattle.std.specs.List.{list_any, list_all}
 use Rattle.tt_lists.specs.Words.{each_two}
 use Rattle.tt_instance.specs.Problem.{Problem}
@@ -16,8 +16,6 @@ use Rattle.tt_leaf.specs.declared.leaf.Bound.TheVariants.{AtLeast, Nothing}
 use Rattle.tt_leaf.specs.declared.leaf.Claim.{Claim}
 use Rattle.tt_leaf.specs.declared.leaf.Leaf.{Leaf}
 use Rattle.tt_leaf.specs.declared.leaf.Leaf.TheVariants.{Empty, Many, Clique, Slots, Cost}
-use Rattle.tt_leaf.specs.declared.leaf.RuleFault.{RuleFault}
-use Rattle.tt_leaf.specs.declared.leaf.RuleFault.TheVariants.{NotOnPath, StillAlive, NotTooMany, NotAClique, EnoughRoom, ClaimedTwice, TooCheap, NoBound, BadPrice}
 
 -- each cell that matches is dead
 abbrev pub all_dead : Problem → List Fact → Pattern → Bool
@@ -50,26 +48,19 @@ open_rooms p path cs =
 abbrev pub claims_once : List Claim → Bool
 claims_once claims = each_two (λ a b. not (same_target a b)) (claimed claims)
 
--- ---- the first fault of a leaf, or none where it is right
+-- ---- when a leaf is right
 
--- the fault where the test fails, and else what the rest says
-abbrev pub demand : Bool → RuleFault → Option RuleFault → Option RuleFault
-demand holds f rest = if holds then rest else Some f
+-- no target is claimed twice, the prices cover what they stand for, and what is claimed reaches the bound; that there is no timetable can't be claimed
+abbrev pub IsRightCost : Problem → List Fact → Bound → List Claim → Type 0
+IsRightCost p path Nothing claims = ⊥
+IsRightCost p path (AtLeast b) claims =
+    (claims_once claims ≡ true) × (list_all (is_fair p path) claims ≡ true) × (b ≤ total_of p path claims)
 
-abbrev pub fault_of_cost : Problem → List Fact → Bound → List Claim → Option RuleFault
-fault_of_cost p path Nothing claims = Some NoBound
-fault_of_cost p path (AtLeast b) claims =
-    demand (claims_once claims) ClaimedTwice
-    (demand (list_all (is_fair p path) claims) BadPrice (demand (nat_le b (total_of p path claims)) TooCheap None))
-
-abbrev pub fault_of : Problem → List Fact → Bound → Leaf → Option RuleFault
-fault_of p path b (Empty g) = demand (has_fact path g true) NotOnPath (demand (all_dead p path g) StillAlive None)
-fault_of p path b (Many c) = demand (nat_lt (lectures p c) (pinned_periods p path (Course c))) NotTooMany None
-fault_of p path b (Clique cs) =
-    demand (is_clique p cs) NotAClique (demand (nat_lt (open_periods p path cs) (all_lectures p cs)) EnoughRoom None)
-fault_of p path b (Slots cs) =
-    demand (are_distinct cs) ClaimedTwice (demand (nat_lt (open_rooms p path cs) (all_lectures p cs)) EnoughRoom None)
-fault_of p path b (Cost claims) = fault_of_cost p path b claims
-
+-- Empty: the pattern stands on the path as yes, and each cell that it matches is dead. Many: the course has more pinned periods than lectures. Clique: the
+-- courses exclude each other and have more lectures than open periods. Slots: the courses have more lectures than rooms in open periods.
 abbrev pub IsRight : Problem → List Fact → Bound → Leaf → Type 0
-IsRight p path b leaf = fault_of p path b leaf ≡ None
+IsRight p path b (Empty g) = (has_fact path g true ≡ true) × (all_dead p path g ≡ true)
+IsRight p path b (Many c) = lectures p c < pinned_periods p path (Course c)
+IsRight p path b (Clique cs) = (is_clique p cs ≡ true) × (open_periods p path cs < all_lectures p cs)
+IsRight p path b (Slots cs) = (are_distinct cs ≡ true) × (open_rooms p path cs < all_lectures p cs)
+IsRight p path b (Cost claims) = IsRightCost p path b claims

@@ -1,5 +1,6 @@
 pub mod Bounds
 pub mod Claims
+pub mod Faults
 pub mod Leaves
 pub mod Met
 pub mod Nested

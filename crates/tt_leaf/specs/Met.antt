@@ -1,3 +1,4 @@
+-- Only proofs rest on this file: nobody has to believe it.
 -- Numbers that have been met.
 use Rattle.std.specs.Prelude.{ℕ, ◌+◌, ◌*◌, ◌<◌, ◌==◌, Bool, false, not, ◌&&◌, List, map, slice_index_or, All}
 use Rattle.std.specs.List.{list_all}

@@ -1,3 +1,4 @@
+-- Only proofs rest on this file: nobody has to believe it.
 -- The leaf rules one number at a time, as the code goes through them.
 use Rattle.std.specs.Prelude.{◌≡◌, ℕ, ◌+◌, ◌-◌, ◌*◌, ◌<◌, nat_lt, nat_le, sum_by, count_by, All, Bool, true, not, ◌&&◌, ◌||◌, List}
 use Rattle.std.specs.List.{list_any, list_all}

@@ -71,7 +71,7 @@ pub fn total<'i, P: Path<'i>>(path: &P, claims: &[Claim]) -> u64
     total
 }
 
-/// Whether claims are worth so many cost points at least.
+/// Whether claims are worth this many cost points at least.
 #[tactic(auto, using(crate::proofs::Sizes::at_most_capped))]
 pub fn are_worth<'i, P: Path<'i>>(path: &P, claims: &[Claim], least: u64) -> bool
     requires { All (IsClaimOf (P.problem path.now)) claims.now }

@@ -1,8 +1,9 @@
 //! Whether a leaf closes its node.
 
-ghost use Rattle.std.specs.Prelude.{◌≡◌, ◌<◌, true, All, length};
+ghost use Rattle.std.specs.Prelude.{◌≡◌, ◌<◌, ◌↔◌, true, is_ok, All, IsTrue, length};
 ghost use Rattle.tt_leaf.specs.Claims.{total_of};
-ghost use Rattle.tt_leaf.specs.Leaves.{fault_of, claims_once};
+ghost use Rattle.tt_leaf.specs.Faults.{fault_of};
+ghost use Rattle.tt_leaf.specs.Leaves.{claims_once, IsRight};
 ghost use Rattle.tt_leaf.specs.Outcomes.{outcome, leaf_total, IsClaimedOnce};
 ghost use Rattle.tt_leaf.specs.Ranges.{AreBelow, IsClaimOf, IsLeafOf};
 ghost use Rattle.tt_leaf.specs.declared.leaf.Bound.TheVariants.{AtLeast, Nothing};
@@ -112,7 +113,8 @@ fn fault_of<'i, P: Path<'i>>(path: &P, leaf: &Leaf, bound: Bound) -> Option<Rule
 /// Whether a leaf closes its node on a path, else the first fault that applies.
 pub fn holds<'i, P: Path<'i>>(path: &P, leaf: &Leaf, bound: Bound) -> Result<(), RuleFault>
     requires { IsLeafOf (P.problem path.now) leaf.now }
-    ensures { result ≡ outcome (fault_of (P.problem path.now) (P.facts path.now) bound leaf.now) }
+    ensures right { IsTrue (is_ok result) ↔ IsRight (P.problem path.now) (P.facts path.now) bound leaf.now }
+    ensures first { result ≡ outcome (fault_of (P.problem path.now) (P.facts path.now) bound leaf.now) }
 {
     match fault_of(path, leaf, bound) {
         None => Ok(()),

@@ -1,9 +1,8 @@
 //! Bounds, leaves and claims.
 
 use crate::lists::{CourseList, PriceList};
-use std::error::Error;
-use std::fmt;
 use std::marker::Model;
+use thiserror::Error;
 use tt_facts::Pattern;
 
 /// A bound on the cost, in cost points, or the claim that there is no feasible timetable.
@@ -92,33 +91,24 @@ pub enum Leaf {
 }
 
 /// Why a leaf does not close its node: the first fault that applies.
-#[derive(Clone, Copy, Debug, PartialEq, Eq)]
+#[derive(Clone, Copy, Debug, PartialEq, Eq, Error)]
 pub enum RuleFault {
+    #[error("NotOnPath")]
     NotOnPath,
+    #[error("StillAlive")]
     StillAlive,
+    #[error("NotTooMany")]
     NotTooMany,
+    #[error("NotAClique")]
     NotAClique,
+    #[error("EnoughRoom")]
     EnoughRoom,
+    #[error("ClaimedTwice")]
     ClaimedTwice,
+    #[error("TooCheap")]
     TooCheap,
+    #[error("NoBound")]
     NoBound,
+    #[error("BadPrice")]
     BadPrice,
 }
-
-impl fmt::Display for RuleFault {
-    fn fmt<W: fmt::Write>(&self, f: &mut fmt::Formatter<W>) -> fmt::Result {
-        f.write_str(match self {
-            RuleFault::NotOnPath => "NotOnPath",
-            RuleFault::StillAlive => "StillAlive",
-            RuleFault::NotTooMany => "NotTooMany",
-            RuleFault::NotAClique => "NotAClique",
-            RuleFault::EnoughRoom => "EnoughRoom",
-            RuleFault::ClaimedTwice => "ClaimedTwice",
-            RuleFault::TooCheap => "TooCheap",
-            RuleFault::NoBound => "NoBound",
-            RuleFault::BadPrice => "BadPrice",
-        })
-    }
-}
-
-impl Error for RuleFault {}

@@ -23,3 +23,4 @@ pub use judging::{holds, leaf_value};
 pub use laws::right_leaves_hold;
 pub use leaf::{Bound, Claim, ClaimList, Leaf, RuleFault};
 pub use lists::{CourseList, PriceList};
+pub use slots::{slot_at, slot_count};

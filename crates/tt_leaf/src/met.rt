@@ -8,7 +8,7 @@ use std::marker::Model;
 /// Numbers are below this: four for each curriculum.
 const PLACES: usize = 32_768;
 
-/// So many numbers are compared each with each other one sooner than the marks are cleared.
+/// Up to this many numbers, comparing each with each other one is sooner than clearing the marks.
 pub const FEW: usize = 32;
 
 /// Whether each number has been met.

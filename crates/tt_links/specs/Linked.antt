@@ -1,3 +1,4 @@
+-- Only proofs rest on this file: nobody has to believe it.
 -- What the links of an instance are.
 use Rattle.std.specs.Prelude.{◌≡◌, ℕ, ◌<◌, List, [], length, slice_index_or}
 use Rattle.tt_instance.specs.Problem.{Problem}

@@ -1,3 +1,4 @@
+-- Only proofs rest on this file: nobody has to believe it.
 -- The curricula that a course is in, and the courses that conflict with it.
 use Rattle.std.specs.Prelude.{ℕ, List, filter}
 use Rattle.tt_instance.specs.Problem.{Problem}

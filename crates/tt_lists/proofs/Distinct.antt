@@ -8,6 +8,7 @@ use Rattle.std.proofs.lemmas.List.Elements.{All-nil, All-head, All-tail, All-pus
 use Rattle.std.proofs.lemmas.List.Folds.{list_all-append}
 use Rattle.std.proofs.lemmas.List.Sums.{fold-append}
 use Rattle.tt_lists.specs.Words.{each_two, with_new, distinct}
+use Rattle.tt_lists.proofs.Twos.{each_two-push}
 
 module _ {X : Type 0} (same : X → X → Bool) where
   -- one element more
@@ -63,23 +64,13 @@ module _ {X : Type 0} (same : X → X → Bool) where
       let h = or_parts (same y x) (list_any (λ z. same z x) ys) e in
       and_from (differ y x) (list_all (λ z. differ z x) ys) (not_from_false (same y x) h.0) (none_same ys x h.1)
 
-  -- a last element that differs from each before it
-  each_two_push : (xs : List X) (x : X) → each_two differ xs ≡ true → list_all (λ y. differ y x) xs ≡ true → each_two differ (xs ++ x ∷ []) ≡ true
-  each_two_push [] x e h = refl
-  each_two_push (y ∷ ys) x e h =
-      let a = and_parts (list_all (differ y) ys) (each_two differ ys) e in
-      let b = and_parts (differ y x) (list_all (λ z. differ z x) ys) h in
-      let last : list_all (differ y) (x ∷ []) ≡ true = and_from (differ y x) true b.0 refl in
-      let first : list_all (differ y) (ys ++ x ∷ []) ≡ true = list_all-append (differ y) ys (x ∷ []) ∙ and_from (list_all (differ y) ys) (list_all (differ y) (x ∷ [])) a.0 last in
-      and_from (list_all (differ y) (ys ++ x ∷ [])) (each_two differ (ys ++ x ∷ [])) first (each_two_push ys x a.1 b.1)
-
   -- elements that differ still do with a new one
   each_two-with_new : (xs : List X) (x : X) → each_two differ xs ≡ true → each_two differ (with_new same xs x) ≡ true
   each_two-with_new xs x e = by_test (list_any (λ y. same y x) xs) refl
     where
       by_test : (b : Bool) → list_any (λ y. same y x) xs ≡ b → each_two differ (cond b xs (xs ++ x ∷ [])) ≡ true
       by_test true h = e
-      by_test false h = each_two_push xs x e (none_same xs x h)
+      by_test false h = each_two-push differ xs x e (none_same xs x h)
 
   -- elements that differ still do with all that follow
   each_two-fold : (before xs : List X) → each_two differ before ≡ true → each_two differ (fold (with_new same) before xs) ≡ true

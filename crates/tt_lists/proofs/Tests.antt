@@ -17,6 +17,10 @@ same_test a b c d there back = elim (cases_eq c d) [
   | inr e ↦ ne_eqb a b (λ h. e (there h)) ∙ sym (ne_eqb c d e)
 ]
 
+-- a test of equality, in the other order
+pub test_turned : (a b : ℕ) → (a == b) ≡ (b == a)
+test_turned a b = same_test a b b a sym sym
+
 -- tests that agree at each element where P holds
 pub list_any-same_at : {X : Type 0} (P : X → Type 0) (p q : X → Bool) (xs : List X) → All P xs → ((x : X) → P x → p x ≡ q x) → list_any p xs ≡ list_any q xs
 list_any-same_at P p q [] a h = refl

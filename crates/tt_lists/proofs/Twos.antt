@@ -3,6 +3,7 @@ use Rattle.std.proofs.Common.{◌≡◌, Bool, true, false, not, ◌&&◌, ◌||
 use Rattle.std.specs.Prelude.{flat_map}
 use Rattle.std.specs.List.{list_any, list_all}
 use Rattle.std.proofs.lemmas.List.Folds.{list_all-append}
+use Rattle.std.proofs.lemmas.Bool.{and_parts, and_from}
 use Rattle.tt_lists.specs.Words.{each_two}
 use Rattle.tt_lists.proofs.All.{list_all-of_flat_map, list_all-same}
 use Rattle.tt_lists.proofs.Below.{all_pass}
@@ -16,7 +17,8 @@ pub list_all-not : {X : Type 0} (p : X → Bool) (xs : List X) → list_all (λ 
 list_all-not p [] = refl
 list_all-not p (x ∷ xs) = ap (λ b. not (p x) && b) (list_all-not p xs) ∙ sym (neither (p x) (list_any p xs))
 
-list_all-both : {X : Type 0} (p q : X → Bool) (xs : List X) → list_all (λ x. p x && q x) xs ≡ (list_all p xs && list_all q xs)
+-- each passes two tests
+pub list_all-both : {X : Type 0} (p q : X → Bool) (xs : List X) → list_all (λ x. p x && q x) xs ≡ (list_all p xs && list_all q xs)
 list_all-both p q [] = refl
 list_all-both p q (x ∷ xs) = ap (λ b. p x && q x && b) (list_all-both p q xs) ∙ turned (p x) (q x) (list_all p xs) (list_all q xs)
   where
@@ -54,3 +56,28 @@ each_two-of_flat_map related h x xs once =
     ∙ ap (λ b. b && each_two related (flat_map h xs))
     (list_all-same (λ a. list_all (related a) (flat_map h xs)) (λ a. list_all (λ z. list_all (related a) (h z)) xs) (h x) (λ a. list_all-of_flat_map (related a) h xs)
     ∙ list_all-swap (λ a z. list_all (related a) (h z)) (h x) xs)
+
+-- two tests that agree
+pub each_two-same : {X : Type 0} (p q : X → X → Bool) (xs : List X) → ((a b : X) → p a b ≡ q a b) → each_two p xs ≡ each_two q xs
+each_two-same p q [] h = refl
+each_two-same p q (x ∷ xs) h = ap (λ b. b && each_two p xs) (list_all-same (p x) (q x) xs (h x)) ∙ ap (λ b. list_all (q x) xs && b) (each_two-same p q xs h)
+
+-- ---- one element more
+
+-- what each two elements are and each is to a new last one, each two are with it
+pub each_two-push : {X : Type 0} (related : X → X → Bool) (xs : List X) (x : X) → each_two related xs ≡ true → list_all (λ z. related z x) xs ≡ true → each_two related (xs ++ x ∷ []) ≡ true
+each_two-push related [] x a b = refl
+each_two-push related (z ∷ zs) x a b =
+    let h = and_parts (list_all (related z) zs) (each_two related zs) a in
+    let k = and_parts (related z x) (list_all (λ y. related y x) zs) b in
+    and_from (list_all (related z) (zs ++ x ∷ [])) (each_two related (zs ++ x ∷ []))
+    (list_all-append (related z) zs (x ∷ []) ∙ and_from (list_all (related z) zs) (related z x && true) h.0 (and_from (related z x) true k.0 refl))
+    (each_two-push related zs x h.1 k.1)
+
+-- what each two elements are, each is to the last
+pub each_two-last : {X : Type 0} (related : X → X → Bool) (xs : List X) (x : X) → each_two related (xs ++ x ∷ []) ≡ true → list_all (λ z. related z x) xs ≡ true
+each_two-last related [] x e = refl
+each_two-last related (z ∷ zs) x e =
+    let h = and_parts (list_all (related z) (zs ++ x ∷ [])) (each_two related (zs ++ x ∷ [])) e in
+    let k = and_parts (list_all (related z) zs) (related z x && true) (sym (list_all-append (related z) zs (x ∷ [])) ∙ h.0) in
+    and_from (related z x) (list_all (λ y. related y x) zs) (and_parts (related z x) true k.1).0 (each_two-last related zs x h.1)

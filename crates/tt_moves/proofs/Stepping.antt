@@ -1,6 +1,6 @@
 -- The rest of a timetable for each step, and the entries put back.
 use Rattle.std.proofs.Common.{◌≡◌, ℕ, ◌+◌, ◌<◌, ◌≢◌, Bool, false, ◌&&◌, List, ◌∷◌, length, get_or, set, refl, sym, ap, ◌∙◌, subst, arith, inl, inr, ne_eqb, Bor}
-use Rattle.std.specs.Prelude.{◌==◌, sum_by, count_by, remove, All}
+use Rattle.std.specs.Prelude.{sum_by, count_by, remove, All}
 use Rattle.std.proofs.lemmas.Bool.{cases_lt, cases_eq}
 use Rattle.std.proofs.lemmas.List.{length-set, get_or-set_same, get_or-set_other}
 use Rattle.std.proofs.lemmas.List.Edits.{get_or-remove_below, get_or-remove_above, length-remove}
@@ -19,7 +19,6 @@ use Rattle.tt_occupancy.specs.Filled.{Filled}
 use Rattle.tt_moves.specs.Rests.{IsRest}
 use Rattle.tt_moves.specs.Steps.{no_entry, entry_at, in_place_of, stepped}
 use Rattle.tt_moves.specs.declared.step.Step.TheVariants.{Swap}
-use Rattle.tt_moves.specs.declared.rest.Rest.{Rest}
 
 All-remove : {X : Type 0} (P : X → Type 0) (xs : List X) (i : ℕ) → i < length xs → All P xs → All P (remove xs i)
 All-remove P xs i h all k d l =

@@ -1,3 +1,4 @@
+-- Only proofs rest on this file: nobody has to believe it.
 -- The entries of a curriculum round a period.
 use Rattle.std.specs.Prelude.{◌≡◌, ℕ, ◌+◌, ◌-◌, cond, List, nat_le}
 use Rattle.tt_instance.specs.Problem.{Problem}

@@ -1,4 +1,7 @@
 pub mod Around
 pub mod Changes
+pub mod Pricing
 pub mod Rests
 pub mod Steps
+pub use Rattle.tt_chain.specs.Answers
+pub use Rattle.tt_chain.specs.Chains

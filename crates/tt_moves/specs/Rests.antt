@@ -1,6 +1,8 @@
+-- Only proofs rest on this file: nobody has to believe it.
 -- A timetable less an entry.
-use Rattle.std.specs.Prelude.{◌≡◌, ℕ, ◌+◌, Bool, cond, ◌&&◌, List, count_by}
-use Rattle.tt_instance.specs.Cells.{InRange, is_of}
+use Rattle.std.specs.Prelude.{◌≡◌, ℕ, ◌+◌, Bool, true, cond, ◌&&◌, List, count_by}
+use Rattle.tt_instance.specs.Cells.{InRange, slot, is_of, is_at}
+use Rattle.tt_instance.specs.Courses.{in_curriculum}
 use Rattle.tt_instance.specs.declared.cell.Cell.{Cell}
 use Rattle.tt_table.specs.Table.{IsTimetable}
 use Rattle.tt_moves.specs.declared.rest.Rest.{Rest}
@@ -13,3 +15,7 @@ pub record IsRest (r : Rest) (u : List Cell) : Type 0 where
   pub counts : (test : Cell → Bool) → count_by test u + cond (test r.from) 1 0 + cond (test r.gone) 1 0 ≡ count_by test r.occupied.now.entries + cond (test r.to) 1 0
   -- of the course of the entry left out no other one has moved
   pub own : (test : Cell → Bool) → (is_of r.gone.course r.from && test r.from) ≡ (is_of r.gone.course r.to && test r.to)
+
+-- on day d the entry that stands elsewhere counts in each curriculum of the course left out as it did before
+abbrev pub IsStill : Rest → ℕ → Type 0
+IsStill r d = (q s : ℕ) → in_curriculum r.occupied.now.problem q r.gone.course ≡ true → (in_curriculum r.occupied.now.problem q r.from.course && is_at (slot d s) r.from) ≡ (in_curriculum r.occupied.now.problem q r.to.course && is_at (slot d s) r.to)

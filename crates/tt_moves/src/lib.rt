@@ -5,11 +5,15 @@ mod around;
 mod changing;
 mod exchanging;
 mod gaps;
+mod near;
+mod pricing;
 mod rest;
 mod step;
+mod still;
 mod weight;
 
 pub use changing::{change, lowers};
 pub use exchanging::Change;
-pub use step::{Step, apply, can_step, undo};
+pub use pricing::{EntryCost, cost_change, entry_cost};
+pub use step::{Step, apply, apply_all, can_step, undo};
 pub use tt_chain::{Chain, ChainFault, chain, swap_chain};

@@ -27,7 +27,7 @@ pub struct Rest<'b, 'a, 'i> {
 }
 
 /// Whether an entry stands in a period.
-fn stands_at(entry: Entry, day: u32, period: u32) -> bool
+pub fn stands_at(entry: Entry, day: u32, period: u32) -> bool
     ensures { result ≡ is_at (slot day period) entry }
 {
     entry.day == day && entry.period == period

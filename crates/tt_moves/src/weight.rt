@@ -10,6 +10,15 @@ ghost use Rattle.tt_moves.specs.Rests.{IsRest};
 use crate::rest::{Rest, one_if};
 use tt_table::Entry;
 
+/// What an entry adds to the cost beside the other entries, and what it takes from it.
+#[derive(Clone, Copy)]
+pub struct EntryCost {
+    pub rise: u32,
+    pub fall: u32,
+    ghost small_rise: { rise < 2 ^ 30 },
+    ghost small_fall: { fall < 2 ^ 30 },
+}
+
 /// What an entry adds to the hard count and to the cost, and what it takes from the cost.
 #[derive(Clone, Copy)]
 pub struct Weight {
@@ -34,6 +43,26 @@ impl Rest<'_, '_, '_> {
         5 * days + self.rooms_with(entry).saturating_sub(1)
     }
 
+    /// What an entry of the course left out adds to the cost, and what it takes from it.
+    pub fn cost_weight(&self, entry: Entry) -> EntryCost
+        requires in_range { InRange self.now.occupied.now.problem entry }
+        requires course { entry.course ≡ self.now.gone.course }
+        requires rest { (u : List Cell) × IsRest self.now u }
+        ensures rise { (u : List Cell) → IsRest self.now u
+            → result.rise ≡ cost_rise self.now.occupied.now.problem u entry }
+        ensures fall { (u : List Cell) → IsRest self.now u
+            → result.fall ≡ cost_fall self.now.occupied.now.problem u entry }
+    {
+        let instance = self.occupied.instance();
+        let students = instance.students(entry.course);
+        let excess = students.saturating_sub(instance.capacity(entry.room));
+        let gaps = self.gaps(entry);
+        EntryCost {
+            rise: excess + self.spread_cost(entry) + 2 * gaps.alone,
+            fall: 2 * gaps.joined,
+        }
+    }
+
     /// The weight of an entry of the course left out.
     pub fn weigh(&self, entry: Entry) -> Weight
         requires in_range { InRange self.now.occupied.now.problem entry }
@@ -49,16 +78,14 @@ impl Rest<'_, '_, '_> {
     {
         let instance = self.occupied.instance();
         let barred = instance.unavailable(entry.course, entry.day, entry.period);
-        let students = instance.students(entry.course);
-        let excess = students.saturating_sub(instance.capacity(entry.room));
-        let gaps = self.gaps(entry);
+        let cost = self.cost_weight(entry);
         Weight {
             hard: one_if(self.repeats(entry))
                 + self.against(entry)
                 + one_if(barred)
                 + one_if(self.shares(entry)),
-            rise: excess + self.spread_cost(entry) + 2 * gaps.alone,
-            fall: 2 * gaps.joined,
+            rise: cost.rise,
+            fall: cost.fall,
         }
     }
 }

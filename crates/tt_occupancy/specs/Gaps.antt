@@ -1,3 +1,4 @@
+-- Only proofs rest on this file: nobody has to believe it.
 -- The entries of a row in the periods round one of them, none before the first period or past the last.
 use Rattle.std.specs.Prelude.{ℕ, ◌+◌, ◌-◌, Bool, cond, not, ◌&&◌, ◌||◌, nat_lt}
 use Rattle.tt_tallies.specs.Counts.{in_period}

@@ -1,3 +1,4 @@
+-- Only proofs rest on this file: nobody has to believe it.
 -- What is true of the fields at all times.
 use Rattle.tt_occupancy.specs.Counted.{IsCounted}
 use Rattle.tt_occupancy.specs.declared.occupied.Occupied.TheInside.{Inside}

@@ -2,31 +2,20 @@
 use Rattle.std.proofs.Common.{◌≡◌, ℕ, Bool, true, false, ◌&&◌, ◌||◌, cond, List, [], ◌∷◌, map, refl, sym, ap, ◌∙◌}
 use Rattle.std.specs.Prelude.{◌==◌, filter, count_by, sum_by}
 use Rattle.std.specs.List.{list_any}
-use Rattle.tt_rules.proofs.Filtered.{list_any-filter, count_by-filter}
+use Rattle.std.proofs.Math.Bool.{and_comm}
 use Rattle.tt_lists.specs.Words.{range_below}
 use Rattle.tt_lists.proofs.Tests.{same_test}
 use Rattle.tt_lists.proofs.Sums.{one_if, sum_by-same, sum_by-of_map, sum_by-of_flat_map}
+use Rattle.tt_lists.proofs.Filters.{list_any-of_filter, count_by-of_filter}
+use Rattle.tt_lists.proofs.Tested.{list_any-same}
 use Rattle.tt_instance.specs.Problem.{Problem}
 use Rattle.tt_instance.specs.Cells.{all_slots, all_days, slot}
 use Rattle.tt_instance.specs.declared.cell.Slot.{Slot}
-
--- the tests may change places
-and_turned : (a b : Bool) → (a && b) ≡ (b && a)
-and_turned true true = refl
-and_turned true false = refl
-and_turned false true = refl
-and_turned false false = refl
-
-pub turned : (a b : ℕ) → (a == b) ≡ (b == a)
-turned a b = same_test a b b a sym sym
+use Rattle.tt_instance.proofs.Places.{slots_summed}
 
 module _ {X : Type 0} where
   pub count-turned : (p q : X → Bool) (xs : List X) → count_by (λ x. p x && q x) xs ≡ count_by (λ x. q x && p x) xs
   count-turned p q xs = sum_by-same (λ x. one_if (p x && q x)) (λ x. one_if (q x && p x)) xs (λ x. ap one_if (and_comm (p x) (q x)))
-
-  pub list_any-same : (p q : X → Bool) (xs : List X) → ((x : X) → p x ≡ q x) → list_any p xs ≡ list_any q xs
-  list_any-same p q [] same = refl
-  list_any-same p q (x ∷ xs) same = ap (λ b. b || list_any p xs) (same x) ∙ ap (λ b. q x || b) (list_any-same p q xs same)
 
   pub list_any-turned : (p q : X → Bool) (xs : List X) → list_any (λ x. p x && q x) xs ≡ list_any (λ x. q x && p x) xs
   list_any-turned p q xs = list_any-same (λ x. p x && q x) (λ x. q x && p x) xs (λ x. and_comm (p x) (q x))
@@ -45,14 +34,11 @@ module _ {X : Type 0} where
 
 -- the periods of the week, day by day
 pub slots_by_day : (p : Problem) (q : Slot → Bool) → count_by q (all_slots p) ≡ sum_by (λ d. count_by (λ s. q (slot d s)) (range_below p.periods)) (all_days p)
-slots_by_day p q =
-    sum_by-of_flat_map (λ s. one_if (q s)) (λ d. map (slot d) (numbers_below p.periods)) (all_days p)
-    ∙ sum_by-same (λ d. sum_by (λ s. one_if (q s)) (map (slot d) (numbers_below p.periods))) (λ d. sum_by (λ s. one_if (q (slot d s))) (numbers_below p.periods)) (all_days p)
-    (λ d. sum_by-of_map (λ s. one_if (q s)) (slot d) (numbers_below p.periods))
+slots_by_day p q = slots_summed p (λ s. one_if (q s))
 
 module _ {X : Type 0} (p q : X → Bool) (xs group : List X) (is : group ≡ filter p xs) where
   pub any_in_group : list_any q group ≡ list_any (λ x. p x && q x) xs
-  any_in_group = ap (list_any q) is ∙ list_any-filter p q xs
+  any_in_group = ap (list_any q) is ∙ list_any-of_filter q p xs
 
   pub count_in_group : count_by q group ≡ count_by (λ x. q x && p x) xs
-  count_in_group = ap (count_by q) is ∙ count_by-filter p q xs ∙ count-turned p q xs
+  count_in_group = ap (count_by q) is ∙ count_by-of_filter q p xs ∙ count-turned p q xs

@@ -4,6 +4,7 @@ use Rattle.std.specs.Prelude.{◌==◌, filter, slice_get, IfSome}
 use Rattle.std.proofs.lemmas.List.{drop_more, drop_all, append-nil}
 use Rattle.std.proofs.lemmas.List.Elements.{All-drop, All-filter}
 use Rattle.std.proofs.lemmas.Option.{slice_get-get_or}
+use Rattle.tt_lists.proofs.Tests.{test_turned}
 use Rattle.tt_instance.specs.Problem.{Problem}
 use Rattle.tt_instance.specs.Cells.{InRange, is_at, slot_of}
 use Rattle.tt_instance.specs.Courses.{conflict}
@@ -14,7 +15,7 @@ use Rattle.tt_table.proofs.Numbering.{group_at}
 use Rattle.tt_page.specs.Items.{is_odd, at_odds, entry_item, entry_items}
 use Rattle.tt_page.specs.declared.rule.Rule.{Rule}
 use Rattle.tt_page.specs.declared.rule.Rule.TheVariants as rule
-use Rattle.tt_page.proofs.Counting.{filter-filter, turned}
+use Rattle.tt_page.proofs.Counting.{filter-filter}
 
 by_slots : (p : Problem) (t : List Cell) → Grouped
 by_slots p t = record { by = by.Period p.periods; entries = t }

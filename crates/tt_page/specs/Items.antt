@@ -86,7 +86,7 @@ abbrev pub at_odds : Problem → Rule → Cell → Cell → Bool
 at_odds p rule.Conflicts e x = collide p e x
 at_odds p r e x = is_at (slot_of e) x && is_odd p r e x
 
--- what an entry with so many later ones at odds with it adds: each pair of a conflict, and each entry of a room and period but the last
+-- what an entry with this many later ones at odds with it adds: each pair of a conflict, and each entry of a room and period but the last
 abbrev pub odds_count : Rule → ℕ → ℕ
 odds_count rule.Conflicts n = n
 odds_count _ n = 1
@@ -95,7 +95,7 @@ odds_count _ n = 1
 unfoldable pub more_text : ℕ → List ℕ
 more_text n = if n == 0 then [] else markup (Text (codes " and ") ∷ Number n ∷ Text (codes " more") ∷ [])
 
--- an entry that is at odds with another and with so many more
+-- an entry that is at odds with another and with this many more
 unfoldable pub pair_text : Problem → Cell → Cell → ℕ → List ℕ
 pair_text p e x more =
     cell_link p Room e.room e ++ when_text e ++ codes ", in " ++ week_link p Room e.room

@@ -277,7 +277,7 @@ fn put_more(out: &mut Vec<u8>, more: u64) -> Result<(), AllocError>
     )
 }
 
-/// What an entry with so many later ones at odds with it adds.
+/// What an entry with this many later ones at odds with it adds.
 fn odds_count(rule: Rule, odds: u64) -> u64
     ensures { result ≡ odds_count rule odds }
 {

@@ -16,6 +16,7 @@ pub enum Kind {
     Curriculum,
 }
 
+/// The name of a course, as bytes.
 pub fn course_name<'a>(instance: &Instance<'a>, course: u32) -> &'a [u8]
     requires { course < length instance.now.courses }
     ensures { result.now ≡ course_name instance.now course }

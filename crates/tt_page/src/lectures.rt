@@ -96,6 +96,7 @@ pub fn put_cell_link(
     )
 }
 
+/// The name of a course's teacher, as a link to the teacher's week.
 pub fn put_teacher_link(
     out: &mut Vec<u8>,
     instance: &Instance<'_>,

@@ -64,6 +64,7 @@ impl Rule {
         }
     }
 
+    /// The heading of the list of what breaks the rule.
     pub fn title(self) -> &'static str
         ensures { result.now ≡ rule_title self }
     {

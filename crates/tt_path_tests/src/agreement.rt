@@ -2,6 +2,7 @@
 
 use crate::answers::{all_told, some_told};
 use crate::dice::{Dice, Ranges, ranges_of};
+use crate::instances::{SMALL01, TINY05};
 use crate::large::large_text;
 use std::test::Fail;
 use tt_facts::{Fact, Path, PlainPath};
@@ -80,6 +81,24 @@ fn both_paths_agree_on_gap(rt: HostRuntime) -> Result<(), Fail> {
     let mut plain = PlainPath::new(rt.alloc(), &instance);
     let mut trail = TrailPath::new(rt.alloc(), &instance)?;
     assert_eq!(rt; first_difference(&mut plain, &mut trail, 1), None);
+    Ok(())
+}
+
+#[test]
+fn both_paths_agree_on_tiny05(rt: HostRuntime) -> Result<(), Fail> {
+    let instance = read_instance(rt.alloc(), TINY05.as_bytes())?;
+    let mut plain = PlainPath::new(rt.alloc(), &instance);
+    let mut trail = TrailPath::new(rt.alloc(), &instance)?;
+    assert_eq!(rt; first_difference(&mut plain, &mut trail, 3), None);
+    Ok(())
+}
+
+#[test]
+fn both_paths_agree_on_small01(rt: HostRuntime) -> Result<(), Fail> {
+    let instance = read_instance(rt.alloc(), SMALL01.as_bytes())?;
+    let mut plain = PlainPath::new(rt.alloc(), &instance);
+    let mut trail = TrailPath::new(rt.alloc(), &instance)?;
+    assert_eq!(rt; first_difference(&mut plain, &mut trail, 4), None);
     Ok(())
 }
 

@@ -56,6 +56,15 @@ fn is_pinned_for<'i, P: Path<'i>>(path: &P, curriculum: u32, day: u32, period: u
         && path.pinned(Who::Curriculum(curriculum), day, period)
 }
 
+/// The pinned periods of a curriculum on a day.
+fn pinned_for<'i, P: Path<'i>>(path: &P, curriculum: u32, day: u32) -> u64 {
+    let instance = path.instance();
+    if curriculum >= instance.curricula() || day >= instance.days() {
+        return 0;
+    }
+    path.pinned_periods(Who::Curriculum(curriculum), day)
+}
+
 /// Whether a room is pinned for a course.
 fn is_pinned_in<'i, P: Path<'i>>(path: &P, course: u32, room: u32) -> bool {
     let instance = path.instance();
@@ -160,6 +169,16 @@ fn curricula_told<'i, P: Path<'i>>(path: &P, day: u32, period: u32, ranges: Rang
             told,
             u64::from(is_pinned_for(path, curriculum, day, period)),
         );
+        told = mixed(told, pinned_for(path, curriculum, day));
+    }
+    told
+}
+
+/// Which periods of a day are pinned for the curricula.
+fn day_told<'i, P: Path<'i>>(path: &P, day: u32, ranges: Ranges) -> u64 {
+    let mut told = 0;
+    for period in 0..ranges.periods {
+        told = mixed(told, curricula_told(path, day, period, ranges));
     }
     told
 }
@@ -172,8 +191,8 @@ pub fn all_told<'i, P: Path<'i>>(path: &P, ranges: Ranges, seed: u64) -> u64 {
             told = mixed(told, cells_told(path, course, room, ranges));
         }
     }
-    for period in 0..ranges.periods {
-        told = mixed(told, curricula_told(path, 0, period, ranges));
+    for day in 0..ranges.days {
+        told = mixed(told, day_told(path, day, ranges));
     }
     told
 }

@@ -2,7 +2,7 @@
 
 use std::alloc::{AllocError, Global};
 
-/// The lines of so many rooms.
+/// The lines of this many rooms.
 fn room_lines(alloc: Global, rooms: u32) -> Result<String, AllocError> {
     let mut lines = String::new(alloc);
     for room in 0..rooms {

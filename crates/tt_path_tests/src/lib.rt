@@ -6,8 +6,14 @@ mod agreement;
 #[cfg(test)]
 mod answers;
 #[cfg(test)]
+mod deadness;
+#[cfg(test)]
 mod dice;
 #[cfg(test)]
+mod instances;
+#[cfg(test)]
 mod large;
+#[cfg(test)]
+mod leaves;
 #[cfg(test)]
 mod memory;

@@ -21,7 +21,7 @@ fn the_call_trail_path_new(rt: HostRuntime) -> Result<(), Fail> {
     Ok(())
 }
 
-/// Pushes facts that are drawn from a seed, until so many are there or one is refused.
+/// Pushes facts that are drawn from a seed, until this many are there or one is refused.
 fn push_drawn<'i, P: Path<'i>>(path: &mut P, ranges: Ranges, most: u32) -> Result<(), PathFault> {
     let mut dice = Dice { state: 3 };
     for _ in 0..most {

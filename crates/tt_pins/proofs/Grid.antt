@@ -4,8 +4,7 @@ use Rattle.std.specs.Prelude.{◌==◌}
 use Rattle.std.proofs.Math.Nat.{mul_comm}
 use Rattle.std.proofs.lemmas.Bool.{eqb-true, and_from, and_parts}
 use Rattle.std.proofs.lemmas.Nat.{mul-add-lt, mod-mul-add, div-mul-add}
-use Rattle.tt_lists.proofs.Tests.{same_test}
-use Rattle.tt_bits.proofs.BitLaws.{same_truth}
+use Rattle.tt_lists.proofs.Truth.{same_truth}
 use Rattle.tt_instance.specs.Problem.{Problem}
 use Rattle.tt_facts.specs.Facts.{IsWho}
 use Rattle.tt_facts.specs.declared.facts.Who.{Who}
@@ -64,9 +63,6 @@ same_room base w c r c0 r0 h k = same_truth ((base + (c * w + r / 64) == base + 
   where
     cancel : (a b c : ℕ) → a + b ≡ a + c → b ≡ c
     cancel a b c e = omega arith
-
-pub test_sym : (a b : ℕ) → (a == b) ≡ (b == a)
-test_sym a b = same_test a b b a (λ e. sym e) (λ e. sym e)
 
 -- the days' words and the rooms' words stand apart
 pub apart : (a b base : ℕ) → a < base → base ≤ b → (a == b) ≡ false

@@ -1,23 +1,14 @@
 -- Numbers that are put into sets.
-use Rattle.std.proofs.Common.{◌≡◌, ℕ, ◌+◌, ◌*◌, ◌%◌, ◌^◌, ◌<◌, Bool, true, false, ◌&&◌, ◌||◌, List, [], ◌∷◌, ◌++◌, take, length, get_or, refl, sym, ap, ◌∙◌, inl, inr, w64, eq-eqb, ne_eqb}
+use Rattle.std.proofs.Common.{◌≡◌, ℕ, ◌+◌, ◌<◌, Bool, true, false, ◌&&◌, ◌||◌, List, [], ◌∷◌, ◌++◌, take, length, get_or, refl, sym, ap, ◌∙◌, inl, inr, eq-eqb, ne_eqb}
 use Rattle.std.specs.Prelude.{◌==◌}
-use Rattle.std.specs.Int.Bits.{bit_or}
-use Rattle.std.proofs.Math.Bool.{or-false, or-true}
+use Rattle.std.proofs.Math.Bool.{or-false}
 use Rattle.std.proofs.lemmas.Bool.{cases_eq}
 use Rattle.std.proofs.lemmas.List.{take_more}
 use Rattle.std.proofs.lemmas.List.Folds.{list_any-append}
-use Rattle.std.proofs.lemmas.Nat.Bits.{bit_at_set_same, bit_at_set_other}
 use Rattle.tt_instance.specs.Problem.{Problem}
 use Rattle.tt_bits.specs.Bits.{has_bit}
 use Rattle.tt_pins.specs.Sets.{has_at, Puts}
 use Rattle.tt_pins.specs.Tables.{Adds, is_day_of, day_place}
-
--- belongs in tt_bits
-pub has_bit-with : (w k s : ℕ) → k < 64 → has_bit (bit_or w (1 * 2 ^ k % 2 ^ 64)) s ≡ (has_bit w s || (s == k))
-has_bit-with w k s h = elim (cases_eq s k) [
-  | inl e ↦ ap (has_bit (bit_or w (1 * 2 ^ k % 2 ^ 64))) e ∙ ap (λ n. n == 1) (bit_at_set_same w64 w k h) ∙ sym (ap (λ b. has_bit w s || b) (eq-eqb s k e) ∙ or-true (has_bit w s))
-  | inr e ↦ ap (λ n. n == 1) (bit_at_set_other w64 w k h s e) ∙ sym (ap (λ b. has_bit w s || b) (ne_eqb s k e) ∙ or-false (has_bit w s))
-]
 
 nothing_more : (a t : Bool) → t ≡ false → a ≡ (a || t)
 nothing_more a t e = sym (ap (λ b. a || b) e ∙ or-false a)

@@ -1,20 +1,11 @@
 -- Tables that were kept before each fact.
-use Rattle.std.proofs.Common.{◌≡◌, ℕ, ◌+◌, ◌<◌, ◌≤◌, List, [], ◌∷◌, ◌++◌, length, take, refl, sym, ap, ◌∙◌, arith, inl, inr, subst, length-append, zero, suc}
+use Rattle.std.proofs.Common.{◌≡◌, ℕ, ◌+◌, ◌<◌, ◌≤◌, List, [], ◌∷◌, ◌++◌, length, take, refl, sym, ap, ◌∙◌, arith, inl, inr, subst, length-append}
 use Rattle.std.specs.Prelude.{slice_index_or}
-use Rattle.std.proofs.lemmas.List.{take-append-le}
+use Rattle.std.proofs.lemmas.List.{take-append-le, get_or_push, get_or_append_left}
 use Rattle.std.proofs.lemmas.Bool.{cases_lt}
 use Rattle.std.proofs.Math.Seq.{take-append_seam}
 use Rattle.tt_facts.specs.declared.facts.Fact.{Fact}
 use Rattle.tt_pins.specs.Kept.{AreEarlier}
-
-at_seam : {X : Type 0} (xs : List X) (x d : X) → slice_index_or (xs ++ x ∷ []) (length xs) d ≡ x
-at_seam [] x d = refl
-at_seam (y ∷ ys) x d = at_seam ys x d
-
-before_seam : {X : Type 0} (xs : List X) (x d : X) (i : ℕ) → i < length xs → slice_index_or (xs ++ x ∷ []) i d ≡ slice_index_or xs i d
-before_seam [] x d i h = absurd (omega arith)
-before_seam (y ∷ ys) x d zero h = refl
-before_seam (y ∷ ys) x d (suc i) h = before_seam ys x d i (omega arith)
 
 moved : (Shows : List Fact → List ℕ → Type 0) (a b : List Fact) (v w : List ℕ) → a ≡ b → v ≡ w → Shows a v → Shows b w
 moved Shows a b v w q r s = subst (λ x. Shows b x) r (subst (λ x. Shows x v) q s)
@@ -24,11 +15,11 @@ module _ (Shows : List Fact → List ℕ → Type 0) (facts : List Fact) (f : Fa
   earlier_popped a =
       let n : length earlier ≡ length facts = omega (arith, a.len, length-append earlier (words ∷ []), length-append facts (f ∷ [])) in
       let more : length (facts ++ f ∷ []) ≡ length facts + 1 = length-append facts (f ∷ []) in (
-        moved Shows _ facts _ words (take-append_seam facts (f ∷ [])) (ap (λ i. slice_index_or (earlier ++ words ∷ []) i []) (sym n) ∙ get_or_push earlier words []) (a.each (length facts) (omega arith)),
+        moved Shows _ facts _ words (take-append_seam facts (f ∷ [])) (ap (λ i. slice_index_or (earlier ++ words ∷ []) i []) (sym n) ∙ get_or_push earlier words [] (length earlier) refl) (a.each (length facts) (omega arith)),
         record {
           len = n;
           each = λ i h. let k : i < length earlier = omega arith in let le : i ≤ length facts = omega arith in
-              moved Shows _ (take i facts) _ (slice_index_or earlier i []) (take-append-le i facts (f ∷ []) le) (get_or_append_left earlier words [] i k) (a.each i (omega arith));
+              moved Shows _ (take i facts) _ (slice_index_or earlier i []) (take-append-le i facts (f ∷ []) le) (get_or_append_left earlier (words ∷ []) [] i k) (a.each i (omega arith));
         },
       )
 
@@ -37,9 +28,9 @@ module _ (Shows : List Fact → List ℕ → Type 0) (facts : List Fact) (f : Fa
     len = length-append earlier (words ∷ []) ∙ ap (λ n. n + 1) a.len ∙ sym (length-append facts (f ∷ []));
     each = λ i h. elim (cases_lt i (length facts)) [
       | inl l ↦ let k : i < length earlier = omega (arith, a.len) in let le : i ≤ length facts = omega arith in
-          moved Shows (take i facts) _ (slice_index_or earlier i []) _ (sym (take-append-le i facts (f ∷ []) le)) (sym (get_or_append_left earlier words [] i k)) (a.each i l)
+          moved Shows (take i facts) _ (slice_index_or earlier i []) _ (sym (take-append-le i facts (f ∷ []) le)) (sym (get_or_append_left earlier (words ∷ []) [] i k)) (a.each i l)
       | inr l ↦ let e : length facts ≡ i = omega (arith, length-append facts (f ∷ [])) in
           subst (λ k. Shows (take k (facts ++ f ∷ [])) (slice_index_or (earlier ++ words ∷ []) k [])) e
-          (moved Shows facts _ words _ (sym (take-append_seam facts (f ∷ []))) (sym (ap (λ k. slice_index_or (earlier ++ words ∷ []) k []) (sym a.len) ∙ get_or_push earlier words [])) t)
+          (moved Shows facts _ words _ (sym (take-append_seam facts (f ∷ []))) (sym (ap (λ k. slice_index_or (earlier ++ words ∷ []) k []) (sym a.len) ∙ get_or_push earlier words [] (length earlier) refl)) t)
     ];
   }

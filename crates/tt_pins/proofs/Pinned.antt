@@ -1,27 +1,24 @@
 -- What one more yes-fact pins.
-use Rattle.std.proofs.Common.{◌≡◌, ℕ, ◌+◌, ◌%◌, ◌<◌, ◌≤◌, Bool, true, false, ◌&&◌, ◌||◌, List, [], ◌∷◌, Option, Some, None, length, get_or, refl, sym, ap, ◌∙◌, arith, inl, inr, eq-eqb, ne_eqb}
+use Rattle.std.proofs.Common.{◌≡◌, ℕ, ◌+◌, ◌%◌, ◌<◌, ◌≤◌, Bool, true, false, ◌&&◌, ◌||◌, List, [], ◌∷◌, Option, Some, None, length, get_or, refl, sym, ap, ◌∙◌, arith, inl, inr, ne_eqb}
 use Rattle.std.specs.Prelude.{◌==◌, nat_lt, All}
 use Rattle.std.proofs.Math.Bool.{or-false, and-false}
-use Rattle.std.proofs.lemmas.Bool.{cases_eq, eqb-true, lt-ltb}
-use Rattle.std.proofs.lemmas.Map.Views.{any-filter_same}
-use Rattle.std.proofs.lemmas.List.Elements.{All-filter}
+use Rattle.std.proofs.lemmas.Bool.{cases_eq, eqb-true, lt-ltb, le-ltb}
 use Rattle.std.proofs.lemmas.List.Folds.{list_any_none}
-use Rattle.std.proofs.lemmas.List.FromFn.{length-range_with_len, get_or-range_with_len}
-use Rattle.tt_lists.specs.Words.{numbers_below, has}
-use Rattle.tt_lists.proofs.Numbers.{any_below}
-use Rattle.tt_lists.proofs.Tests.{same_test}
+use Rattle.tt_lists.specs.Words.{has_number}
+use Rattle.tt_lists.proofs.Tests.{same_test, test_turned}
 use Rattle.tt_instance.specs.Problem.{Problem}
-use Rattle.tt_instance.specs.Courses.{in_curriculum, members}
+use Rattle.tt_instance.specs.Courses.{members}
 use Rattle.tt_instance.specs.Limits.{IsInstance}
 use Rattle.tt_instance.proofs.Limits.{members_below}
 use Rattle.tt_links.specs.Links.{curricula_of}
+use Rattle.tt_links.proofs.Linked.{has-curricula_of}
 use Rattle.tt_facts.specs.Facts.{IsWho}
 use Rattle.tt_facts.specs.Live.{gives, is_pinned_by}
 use Rattle.tt_facts.specs.declared.facts.Who.{Who}
 use Rattle.tt_facts.specs.declared.facts.Who.TheVariants.{Course, Curriculum}
 use Rattle.tt_pins.specs.Sets.{has_at}
 use Rattle.tt_pins.specs.Tables.{row_of, day_place, days_size, width, room_place, Adds, is_day_of, pins_period, pins_room, PinsPeriods, PinsRooms}
-use Rattle.tt_pins.proofs.Grid.{row_within, day_within, same_day, room_within, same_room, apart, apart_back, test_sym}
+use Rattle.tt_pins.proofs.Grid.{row_within, day_within, same_day, room_within, same_room, apart, apart_back}
 
 -- a number that is below a bound
 in_bound : (t u v l : Bool) → u ≡ v → (u ≡ true → l ≡ true) → (t && u) ≡ (l && (t && v))
@@ -43,25 +40,6 @@ pins_from_adds p told d0 s0 old new test h adds means beyond = record {
       (λ e. let q = eqb-true s s0 e in lt-ltb s p.periods (omega arith)));
   others = λ i s hi hs. adds.each i s hs ∙ ap (λ t. has_at old i s || (t && (s == s0))) (beyond i hi) ∙ or-false (has_at old i s);
 }
-
--- ---- the curricula of a course
-
--- belongs in tt_links
-pub has-curricula_of : (p : Problem) (c q : ℕ) → q < length p.curricula → has (curricula_of p c) q ≡ in_curriculum p q c
-has-curricula_of p c q h =
-    any-filter_same (λ m. m == q) (λ k. in_curriculum p k c) (in_curriculum p q c) (λ k e. ap (λ m. in_curriculum p m c) (eqb-true k q e)) (numbers_below (length p.curricula))
-    ∙ ap (λ b. in_curriculum p q c && b) (any_below (λ m. m == q) (length p.curricula) q h (eq-eqb q q refl))
-    ∙ and_true (in_curriculum p q c)
-  where
-    and_true : (b : Bool) → (b && true) ≡ b
-    and_true true = refl
-    and_true false = refl
-
--- belongs in tt_links
-pub curricula_below : (p : Problem) (c : ℕ) → All (λ q. q < length p.curricula) (curricula_of p c)
-curricula_below p c = All-filter (λ q. in_curriculum p q c) (λ q. q < length p.curricula) (numbers_below (length p.curricula)) (λ i d h.
-    let k : i < length p.curricula = omega (arith, h, length-range_with_len 0 (length p.curricula)) in
-    omega (arith, get_or-range_with_len 0 (length p.curricula) i d k))
 
 each_or : (x y t : Bool) → ((x && t) || (y && t)) ≡ ((x || y) && t)
 each_or true true true = refl
@@ -131,9 +109,6 @@ pins_nothing p told day period words none = record {
   others = λ i s hi hs. refl;
 }
 
-not_below : (m n : ℕ) → n ≤ m → nat_lt m n ≡ false
-not_below m n h = grind arith
-
 either_way : (l a : Bool) → a ≡ false → (l && a) ≡ false
 either_way l a e = ap (λ t. l && t) e ∙ and-false l
 
@@ -152,7 +127,7 @@ module _ (p : Problem) (words : List ℕ) where
 
   pub no_such_period : (told : Who) (day : Option ℕ) (s0 : ℕ) → p.periods ≤ s0 → PinsPeriods p told day (Some s0) words words
   no_such_period told day s0 k = pins_nothing p told day (Some s0) words (λ who d s is h. elim (cases_eq s0 s) [
-    | inl e ↦ ap (λ b. b && pins_period p told day (Some s0) who d s) (not_below s p.periods (omega arith))
+    | inl e ↦ ap (λ b. b && pins_period p told day (Some s0) who d s) (le-ltb s p.periods (omega arith))
     | inr e ↦ either_way (nat_lt s p.periods) (pins_period p told day (Some s0) who d s) (third (is_pinned_by p who told) (gives day d) (s0 == s) (ne_eqb s0 s e))
   ])
 
@@ -200,7 +175,7 @@ module _ (p : Problem) (words : List ℕ) where
 
   pub no_such_room : (told : Who) (r0 : ℕ) → length p.rooms ≤ r0 → PinsRooms p told (Some r0) words words
   no_such_room told r0 k = room_pins_nothing p told (Some r0) words (λ c r hc. elim (cases_eq r0 r) [
-    | inl e ↦ ap (λ b. b && pins_room p told (Some r0) c r) (not_below r (length p.rooms) (omega arith))
+    | inl e ↦ ap (λ b. b && pins_room p told (Some r0) c r) (le-ltb r (length p.rooms) (omega arith))
     | inr e ↦ either_way (nat_lt r (length p.rooms)) (pins_room p told (Some r0) c r) (ap (λ b. is_pinned_by p (Course c) told && b) (ne_eqb r0 r e) ∙ and-false (is_pinned_by p (Course c) told))
   ])
 

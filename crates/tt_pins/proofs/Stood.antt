@@ -2,42 +2,26 @@
 use Rattle.std.proofs.Common.{◌≡◌, ℕ, ◌+◌, ◌%◌, ◌<◌, ◌≤◌, Bool, true, false, cond, ◌&&◌, ◌||◌, List, [], ◌∷◌, ◌++◌, Option, Some, None, length, refl, sym, ap, ◌∙◌, arith, inl, inr, ne_eqb}
 use Rattle.std.specs.Prelude.{◌==◌, nat_lt}
 use Rattle.std.proofs.Math.Bool.{or-false, and-false, and-true}
-use Rattle.std.proofs.lemmas.Bool.{cases_Bool, eqb-true, ltb-true, and_parts, false_from_ne_true}
+use Rattle.std.proofs.lemmas.Bool.{cases_Bool, ltb-true, and_parts, false_from_ne_true}
 use Rattle.std.proofs.lemmas.Map.Views.{any-filter_same}
 use Rattle.std.proofs.lemmas.List.{append-nil}
 use Rattle.std.proofs.lemmas.List.Elements.{filter-append}
 use Rattle.std.proofs.lemmas.List.Folds.{list_any-append}
-use Rattle.tt_lists.proofs.Tests.{same_test}
+use Rattle.tt_lists.proofs.Tests.{same_test, test_turned}
 use Rattle.tt_instance.specs.Problem.{Problem}
 use Rattle.tt_facts.specs.Facts.{same_answer, same_option, same_who, same_pattern, has_fact}
 use Rattle.tt_facts.specs.declared.facts.Who.{Who}
 use Rattle.tt_facts.specs.declared.facts.Who.TheVariants.{Course, Curriculum}
 use Rattle.tt_facts.specs.declared.facts.Pattern.{Pattern}
 use Rattle.tt_facts.specs.declared.facts.Fact.{Fact}
+use Rattle.tt_facts.proofs.Same.{same_answer-true, same_option-true, same_who-true}
 use Rattle.tt_pins.specs.declared.spots.Spot.{Spot}
 use Rattle.tt_pins.specs.Sets.{has_at}
 use Rattle.tt_pins.specs.Tables.{width, Adds}
 use Rattle.tt_pins.specs.Standing.{fact_row, fact_rows, open_place, open_size, slot_row, closed_place, spot_in, spot_of, spot_at, is_nowhere, others_of, is_fact, ShowsStanding, Stands}
-use Rattle.tt_pins.proofs.Grid.{within_row, same_day, same_room, room_within, test_sym, apart, apart_back}
+use Rattle.tt_pins.proofs.Grid.{within_row, same_day, same_room, room_within, apart, apart_back}
 
 -- ---- facts that are the same
-
-same_answer-true : (a b : Bool) → same_answer a b ≡ true → a ≡ b
-same_answer-true true b e = sym e
-same_answer-true false true e = e
-same_answer-true false false e = refl
-
-same_option-true : (a b : Option ℕ) → same_option a b ≡ true → a ≡ b
-same_option-true None None e = refl
-same_option-true None (Some n) e = cc
-same_option-true (Some m) None e = cc
-same_option-true (Some m) (Some n) e = ap Some (eqb-true m n e)
-
-same_who-true : (a b : Who) → same_who a b ≡ true → a ≡ b
-same_who-true (Course a) (Course b) e = ap Course (eqb-true a b e)
-same_who-true (Course a) (Curriculum b) e = cc
-same_who-true (Curriculum a) (Course b) e = cc
-same_who-true (Curriculum a) (Curriculum b) e = ap Curriculum (eqb-true a b e)
 
 -- one fact stands in one place
 spot_of-same : (p : Problem) (g : Pattern) (holds : Bool) (f : Fact) → is_fact g holds f ≡ true → spot_at p f.pattern f.holds ≡ spot_at p g holds

@@ -1,3 +1,4 @@
+-- Only proofs rest on this file: nobody has to believe it.
 -- Tables that were kept before each fact: nobody has to believe these.
 use Rattle.std.specs.Prelude.{◌≡◌, ℕ, ◌<◌, List, [], length, take, slice_index_or}
 use Rattle.tt_facts.specs.declared.facts.Fact.{Fact}

@@ -1,3 +1,4 @@
+-- Only proofs rest on this file: nobody has to believe it.
 -- Sets of numbers below 64 in the words of a table: nobody has to believe these.
 use Rattle.std.specs.Prelude.{◌≡◌, ℕ, ◌<◌, ◌==◌, Bool, ◌||◌, List, length, slice_index_or}
 use Rattle.tt_bits.specs.Bits.{has_bit}

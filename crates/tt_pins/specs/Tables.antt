@@ -1,3 +1,4 @@
+-- Only proofs rest on this file: nobody has to believe it.
 -- The table of what is pinned: nobody has to believe these.
 use Rattle.std.specs.Prelude.{◌≡◌, ℕ, ◌+◌, ◌*◌, ◌/◌, ◌%◌, ◌<◌, ◌≤◌, ◌==◌, nat_lt, Bool, ◌&&◌, ◌||◌, List, length, Option}
 use Rattle.std.specs.List.{list_any}

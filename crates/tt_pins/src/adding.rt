@@ -62,7 +62,8 @@ fn write(
     Ok(())
 }
 
-/// Marks both tables and then writes a fact into them.
+/// Marks both tables and then writes a fact into them. Kept apart, as the call that lists the fact is.
+#[inline(never)]
 pub fn add(
     instance: &Instance<'_>,
     links: &Links,

@@ -9,7 +9,8 @@ use std::alloc::AllocError;
 use tt_facts::{Fact, Pattern};
 use tt_instance::Instance;
 
-/// Adds a fact to the lists where it belongs.
+/// Adds a fact to the lists where it belongs. Kept apart, since the fact is copied field by field where it is inlined.
+#[inline(never)]
 pub fn list_fact(
     instance: &Instance<'_>,
     facts: &mut Vec<Fact>,
@@ -22,7 +23,7 @@ pub fn list_fact(
     ensures others { others.new.items ≡ others_of instance.now facts.new.items }
 {
     facts.push(fact)?;
-    if has_spot(instance, &fact.pattern, fact.holds).is_some() {
+    if has_spot(instance, &fact) {
         return Ok(());
     }
     if let Err(fault) = others.push(fact) {
@@ -40,7 +41,7 @@ pub fn unlist_fact(instance: &Instance<'_>, facts: &mut Vec<Fact>, others: &mut 
     ensures others { others.new.items ≡ others_of instance.now facts.new.items }
 {
     let fact = facts.pop().unwrap();
-    if find_spot(instance, &fact.pattern, fact.holds).is_none() {
+    if !has_spot(instance, &fact) {
         let _ = others.pop();
     }
     fact

@@ -1,9 +1,9 @@
 //! Where facts stand in their table.
 
-ghost use Rattle.std.specs.Prelude.{◌≡◌, ◌<◌, ◌≤◌, length, IfSome};
-ghost use Rattle.tt_pins.specs.Standing.{fact_row, fact_rows, open_place, open_size, closed_place, standing_size, spot_in, spot_at};
+ghost use Rattle.std.specs.Prelude.{◌≡◌, ◌<◌, ◌≤◌, ℕ, not, length, IfSome, Bool};
+ghost use Rattle.tt_pins.specs.Standing.{fact_row, fact_rows, open_place, open_size, closed_place, standing_size, spot_in, spot_at, is_nowhere};
 
-use tt_facts::{Pattern, Who};
+use tt_facts::{Fact, Pattern, Who};
 use tt_instance::Instance;
 
 /// A place of the table and a number of the set there.
@@ -113,6 +113,39 @@ fn spot_in(
         place: closed_place(instance, holds, course, day, period, given),
         number: given % 64,
     })
+}
+
+/// Whether the room that is given, if one is, is there.
+fn is_room_there(instance: &Instance<'_>, room: Option<u32>) -> bool
+    ensures { (holds : Bool) (c d s : ℕ) → result ≡ not (is_nowhere (spot_in instance.now holds c d s room)) }
+{
+    match room {
+        None => true,
+        Some(given) => given < instance.rooms(),
+    }
+}
+
+/// Whether a fact stands somewhere. The place itself, which takes longer, is not looked for. Kept apart, as the call that lists
+/// the fact is.
+#[inline(never)]
+pub fn has_spot(instance: &Instance<'_>, fact: &Fact) -> bool
+    ensures { result ≡ not (is_nowhere (spot_at instance.now fact.now.pattern fact.now.holds)) }
+{
+    let pattern = fact.pattern;
+    let Who::Course(course) = pattern.who else {
+        return false;
+    };
+    let Some(day) = pattern.day else {
+        return false;
+    };
+    let Some(period) = pattern.period else {
+        return false;
+    };
+    if course < instance.courses() && day < instance.days() && period < instance.periods() {
+        is_room_there(instance, pattern.room)
+    } else {
+        false
+    }
 }
 
 /// Where a fact stands; nowhere if it doesn't give a course, a day and a period, or gives what isn't there.

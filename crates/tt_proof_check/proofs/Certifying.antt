@@ -1,6 +1,6 @@
 -- What `certify` answers, from what its steps answered.
-use Rattle.std.proofs.Common.{◌≡◌, ℕ, zero, suc, ◌+◌, ◌<◌, ◌≤◌, Bool, true, false, List, Option, Some, None, Err, refl, sym, subst, ◌∙◌, arith, inl, inr}
-use Rattle.std.specs.Prelude.{IfSome, ◌↔◌, IsTrue}
+use Rattle.std.proofs.Common.{◌≡◌, ℕ, zero, suc, ◌+◌, ◌<◌, ◌≤◌, Bool, true, false, List, Option, Some, None, Result, Ok, Err, IfOk, refl, sym, ap, subst, ◌∙◌, arith, inl, inr}
+use Rattle.std.specs.Prelude.{IfSome, ◌↔◌, IsTrue, ◌⊎◌}
 use Rattle.tt_text.specs.declared.feed.FeedFault.TheVariants as feed
 use Rattle.tt_instance.specs.Problem.{Problem}
 use Rattle.tt_instance.specs.Spelling.{Spells}
@@ -19,16 +19,18 @@ use Rattle.tt_proof_check.specs.Derives.{HoldsOfAll}
 use Rattle.tt_proof_check.specs.Faults.{OutOfMemoryIsNoTextFault}
 use Rattle.tt_proof_check.specs.Headline.{SpellsBoth, Solves, BreaksARule, Certifies, BoundsAll}
 use Rattle.tt_proof_check.specs.Streams.{IsProved, IsSilent, stream_of, IsProofFault}
-use Rattle.tt_proof_check.specs.Verdicts.{IsYes, IsBroken, TellsOfAll, IsOfFiles, AnswersYes, AnswersBroken, GivesBound, IsBoundFault, OutOfMemoryIsOneFault, fault_from_instance, fault_from_solution, fault_from_check, read_failed}
+use Rattle.tt_proof_check.specs.Verdicts.{IsYes, IsBroken, IsVerdict, IsFirstFault, IsOfFiles, AnswersYes, AnswersBroken, GivesBound, IsBoundFault, OutOfMemoryIsOneFault, fault_from_instance, fault_from_solution, fault_from_check, read_failed}
 use Rattle.tt_proof_check.specs.declared.fault.CheckFault.{CheckFault}
 use Rattle.tt_proof_check.specs.declared.fault.CheckFault.TheVariants as check
+use Rattle.tt_proof_check.specs.declared.fault.Verdict.{Verdict}
+use Rattle.tt_proof_check.specs.declared.fault.Verdict.TheVariants.{Yes, Breaks}
 use Rattle.tt_proof_check.specs.declared.fault.CertifyFault.{CertifyFault}
 use Rattle.tt_proof_check.specs.declared.fault.CertifyFault.TheVariants as fault
 use Rattle.tt_proof_check.proofs.Files.{IsFileFault, one_instance, one_table, only_memory}
 
 -- ---- before the score is known
 
--- what is certified is refused for want of memory alone
+-- what is certified is refused for being out of memory alone
 pub certified_memory : (i s bytes : List ℕ) (c b : ℕ) (f : CertifyFault) → Certifies i s bytes c b → IsFileFault i s f → AnswersYes (Err f) c b
 certified_memory i s bytes c b f h tells = inl (only_memory i s h.solves.problem h.solves.table f h.solves.both tells)
 
@@ -64,7 +66,7 @@ bound_not_files (check.Text f) of = of
 bound_not_files (check.Rule n f) of = of
 bound_not_files (check.TooDeep n) of = of
 
--- want of memory is told as itself
+-- being out of memory is told as itself
 pub memory_instance : (f : InstanceFault) → OutOfMemoryIsOneFault (fault_from_instance f)
 memory_instance instance.OutOfMemory = tt
 memory_instance f = λ e. cc
@@ -172,3 +174,45 @@ module _ (i s : List ℕ) (p : Problem) (t : List Cell) (spelled : Spells i p) (
         told : (k : Option (List ℕ)) → ((bytes : List ℕ) → k ≡ Some bytes → IsProved p bytes (AtLeast b)) → IfSome k (λ bytes. Certifies i s bytes (costs_of score) b)
         told None h = tt
         told (Some bytes) h = record { solves = solves_here e; proved = h bytes refl }
+
+-- ---- the answer as a whole
+
+-- no fault of the instance or of the solution is told as a failed read
+pub not_read_instance : (f : InstanceFault) → fault_from_instance f ≡ read_failed → ⊥
+not_read_instance instance.OutOfMemory e = cc
+not_read_instance f e = cc
+
+pub not_read_solution : (f : SolutionFault) → fault_from_solution f ≡ read_failed → ⊥
+not_read_solution solution.OutOfMemory e = cc
+not_read_solution f e = cc
+
+-- the answer yes
+abbrev yes_with : ℕ → ℕ → Result Verdict CertifyFault
+yes_with c b = Ok (Yes c b)
+
+module _ (i s : List ℕ) (q : Option (List ℕ)) where
+  -- where memory and the reads hold out, the answer is yes with c and b exactly where they are certified
+  pub exactly_certified : (r : Result Verdict CertifyFault) (fails : Bool) (bytes : List ℕ) → q ≡ Some bytes → (r ≡ Err read_failed → fails ≡ true) → IfOk r (IsVerdict i s q)
+      → ((c b : ℕ) → Certifies i s bytes c b → AnswersYes r c b) → (c b : ℕ) → fails ≡ false → ¬ (r ≡ Err fault.OutOfMemory) → (r ≡ Ok (Yes c b)) ↔ Certifies i s bytes c b
+  exactly_certified (Ok (Yes n m)) fails bytes known failed found answers c b reads memory = (there, here)
+    where
+      there : yes_with n m ≡ yes_with c b → Certifies i s bytes c b
+      there e =
+          let x : n ≡ c = cc in
+          let y : m ≡ b = cc in
+          subst (λ k. Certifies i s bytes k b) x (subst (λ k. Certifies i s bytes n k) y (subst (λ (k : Option (List ℕ)). IfSome k (λ z. Certifies i s z n m)) known found.certified))
+
+      here : Certifies i s bytes c b → yes_with n m ≡ yes_with c b
+      here h = let z = answers c b h in rw (z.0, z.1) refl
+  exactly_certified (Ok (Breaks score)) fails bytes known failed found answers c b reads memory = (λ e. absurd cc, λ h. absurd (answers c b h))
+  exactly_certified (Err f) fails bytes known failed found answers c b reads memory = (λ e. absurd cc, λ h. absurd (silent (answers c b h)))
+    where
+      silent : (f ≡ fault.OutOfMemory) ⊎ (f ≡ read_failed) → ⊥
+      silent (inl e) = memory (ap (λ k. Err k) e)
+      silent (inr e) = let t = failed (ap (λ k. Err k) e) in cc
+
+  -- and then every timetable that breaks no hard rule costs at least b
+  pub certified_bounds : (r : Result Verdict CertifyFault) → IfOk r (IsVerdict i s q) → (c b : ℕ) → r ≡ Ok (Yes c b) → BoundsAll i b
+  certified_bounds (Ok (Yes n m)) found c b e = let y : m ≡ b = cc in subst (BoundsAll i) y found.bounds
+  certified_bounds (Ok (Breaks score)) found c b e = absurd cc
+  certified_bounds (Err f) found c b e = absurd cc

@@ -19,7 +19,7 @@ split_at nodes i n h e =
     sym (take-append-drop (i + 1) nodes) ∙ ap (λ l. l ++ drop (i + 1) nodes) (take_next nodes i n h e)
     ∙ append_assoc (take i nodes) (n ∷ []) (drop (i + 1) nodes)
 
--- so many places are open before the node at i
+-- this many places are open before the node at i
 pub record Counted (nodes : List Node) (i places : ℕ) : Type 0 where
   pub stack : Stack
   pub after : stack_after root (take i nodes) ≡ Some stack

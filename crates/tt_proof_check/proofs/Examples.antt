@@ -15,10 +15,11 @@ use Rattle.tt_leaf.specs.declared.leaf.Leaf.{Leaf}
 use Rattle.tt_leaf.specs.declared.leaf.Leaf.TheVariants.{Clique, Cost}
 use Rattle.tt_leaf.specs.declared.leaf.RuleFault.TheVariants.{TooCheap}
 use Rattle.tt_leaf.proofs.Examples.{when}
+use Rattle.tt_leaf.proofs.Rightness.{right_of}
 use Rattle.tt_proof_text.specs.Faults.{read_failed}
 use Rattle.tt_proof_text.specs.Reading.{token_at, word_at, numbered_below, index_of, who_at, given_of, given_at, pattern_at, node_after_word, node_at, version_at, bound_of, bound_at, header_at}
 use Rattle.tt_proof_text.specs.declared.node.Node.TheVariants as node
-use Rattle.tt_proof_text.specs.Trees.{Tree, Close, Branch, on_paths}
+use Rattle.tt_proof_text.specs.Trees.{Tree, Close, Branch, with_fact, on_paths}
 use Rattle.tt_proof_check.specs.Derives.{Derives}
 use Rattle.tt_proof_check.specs.FailedReads.{IsCutOff}
 use Rattle.tt_proof_check.specs.Pending.{pending}
@@ -36,7 +37,17 @@ gap_tree =
     (Branch (when 0 2) (Branch (when 1 0) (Close five) (Close (Clique (1 ∷ [])))) (Close (Clique (0 ∷ []))))
 
 gap_costs_five : Derives gap (AtLeast 5) [] gap_tree
-gap_costs_five = ((refl, refl), ((refl, refl), refl))
+gap_costs_five =
+    let first = with_fact [] (when 0 0) true in
+    let other = with_fact [] (when 0 0) false in
+    let last = with_fact other (when 0 2) true in
+    let right = right_of gap in (
+      (right (with_fact first (when 1 2) true) (AtLeast 5) five refl, right (with_fact first (when 1 2) false) (AtLeast 5) (Clique (1 ∷ [])) refl),
+      (
+        (right (with_fact last (when 1 0) true) (AtLeast 5) five refl, right (with_fact last (when 1 0) false) (AtLeast 5) (Clique (1 ∷ [])) refl),
+        right (with_fact other (when 0 2) false) (AtLeast 5) (Clique (0 ∷ [])) refl,
+      ),
+    )
 
 -- its first leaf is node 2, and five is too little for six
 gap_costs_no_six : FailsAt gap (AtLeast 6) gap_tree 2 TooCheap

@@ -49,7 +49,7 @@ pub tells_solution : (i s : List ℕ) (p : Problem) (f : SolutionFault) → Spel
 tells_solution i s p solution.OutOfMemory spelled h = tt
 tells_solution i s p f spelled h = record { problem = p; spelled = spelled; fails = h }
 
--- where both are spelled, the only refusal is want of memory
+-- where both are spelled, the only refusal is being out of memory
 pub only_memory : (i s : List ℕ) (p : Problem) (t : List Cell) (f : CertifyFault) → SpellsBoth i s p t → IsFileFault i s f → f ≡ fault.OutOfMemory
 only_memory i s p t (fault.Instance f) both h = let e = is_read i p both.spelled in absurd cc
 only_memory i s p t (fault.Solution f) both h =

@@ -8,6 +8,7 @@ use Rattle.tt_instance.specs.Problem.{Problem}
 use Rattle.tt_facts.specs.declared.facts.Fact.{Fact}
 use Rattle.tt_leaf.specs.declared.leaf.Bound.{Bound}
 use Rattle.tt_leaf.specs.declared.leaf.RuleFault.{RuleFault}
+use Rattle.tt_leaf.proofs.Rightness.{faultless}
 use Rattle.tt_proof_text.specs.Trees.{Tree, Close, Branch, with_fact, preorder, OnPath, on_paths}
 use Rattle.tt_proof_text.specs.declared.node.Node.{Node}
 use Rattle.tt_proof_check.specs.declared.fault.NodesFault.{NodesFault}
@@ -73,7 +74,7 @@ tree_passes p b tree shallow d =
     let right = All-from_recursion (λ x. IsRightOn p b x.path x.node) (on_paths [] tree) (right_on p b tree [] d) in
     λ k x h. (shallow k x h, right k x h)
 
-at_place : {X : Type 0} (P : X → Type 0) (xs : List X) (i : ℕ) (x : X) → slice_get xs i ≡ Some x → AllByRecursion P xs → P x
+pub at_place : {X : Type 0} (P : X → Type 0) (xs : List X) (i : ℕ) (x : X) → slice_get xs i ≡ Some x → AllByRecursion P xs → P x
 at_place P [] i x e a = cc
 at_place P (y ∷ ys) zero x e a = let same : y ≡ x = cc in subst P same a.0
 at_place P (y ∷ ys) (suc i) x e a = at_place P ys i x e a.1
@@ -82,6 +83,7 @@ at_place P (y ∷ ys) (suc i) x e a = at_place P ys i x e a.1
 pub never_fails : (p : Problem) (b : Bound) (tree other : Tree) (i : ℕ) (f : RuleFault) → All (Passes p b) (on_paths [] tree) → slice_get (on_paths [] tree) i ≡ slice_get (on_paths [] other) i → ¬ (FailsAt p b other i f)
 never_fails p b tree other i f all same h =
     let right = (at_place (Passes p b) (on_paths [] tree) i _ (same ∙ h.found) (recursion_from_All (Passes p b) (on_paths [] tree) all)).1 in
+    let none = faultless p h.path b h.leaf right in
     let fault = h.fault in
     cc
 

@@ -11,7 +11,7 @@ use Rattle.tt_proof_check.specs.declared.fault.CheckFault.TheVariants as told
 use Rattle.tt_proof_check.specs.Faults.{fault_from_text, OutOfMemoryIsNoTextFault}
 use Rattle.tt_proof_check.specs.Streams.{Fails, IsSilent}
 
--- a fault of the text is want of memory, or is told as it is
+-- a fault of the text is being out of memory, or is told as it is
 pub text_cases : (f : TextFault) (Q : CheckFault → Type 0) → Q told.OutOfMemory → (¬ (f ≡ text.OutOfMemory) → Q (told.Text f)) → Q (fault_from_text f)
 text_cases (text.Ended at) Q a b = b (λ e. cc)
 text_cases (text.Expected w at) Q a b = b (λ e. cc)
@@ -24,7 +24,7 @@ text_cases (text.TooManyNodes at) Q a b = b (λ e. cc)
 text_cases (text.Feed f) Q a b = b (λ e. cc)
 text_cases text.OutOfMemory Q a b = a
 
--- want of memory is told as itself
+-- being out of memory is told as itself
 pub memory_text : (f : TextFault) → OutOfMemoryIsNoTextFault (fault_from_text f)
 memory_text f = text_cases f OutOfMemoryIsNoTextFault tt (λ n. n)
 
@@ -56,12 +56,12 @@ pub err_gives : {A : Type 0} (r : Result A CheckFault) (f : TextFault) (Q : Chec
 err_gives (Ok x) f Q e h = tt
 err_gives (Err x) f Q e h = subst Q (sym e) h
 
-on_false : (b : Bool) (P : Type 0) → OnFalse b P → (b ≡ true) ⊎ P
+pub on_false : (b : Bool) (P : Type 0) → OnFalse b P → (b ≡ true) ⊎ P
 on_false true P h = inl refl
 on_false false P h = inr h
 
--- a silent fault is a failed read or want of memory
-silent_is : (f : TextFault) → is_silent f ≡ true → ¬ (f ≡ text.OutOfMemory) → IsSilent (told.Text f)
+-- a silent fault is a failed read or being out of memory
+pub silent_is : (f : TextFault) → is_silent f ≡ true → ¬ (f ≡ text.OutOfMemory) → IsSilent (told.Text f)
 silent_is (text.Ended at) e n = cc
 silent_is (text.Expected w at) e n = cc
 silent_is (text.UnknownWord at) e n = cc

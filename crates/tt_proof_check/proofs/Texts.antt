@@ -66,7 +66,7 @@ module _ (p : Problem) (v : ℕ) (s noded : Stream) (tree : Tree) (reads : Reads
         | inr m ↦ sym (none (0 + length (preorder tree)) noded rest m.0 (begins_whole other tree m.0 (sym m.1)).1 m.2)
       ]
 
-  place_read : (i : ℕ) (P : Tree → Type 0) (h : IsReadTo p v s i P) → slice_get (on_paths [] tree) i ≡ slice_get (on_paths [] h.tree) i
+  pub place_read : (i : ℕ) (P : Tree → Type 0) (h : IsReadTo p v s i P) → slice_get (on_paths [] tree) i ≡ slice_get (on_paths [] h.tree) i
   place_read i P h =
       let inside : i < length h.nodes = omega (arith, h.last) in
       elim (compare (sizes_of p) v 0 s h.rest noded h.nodes (preorder tree) h.reads reads) [

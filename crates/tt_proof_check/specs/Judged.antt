@@ -1,3 +1,4 @@
+-- Only proofs rest on this file: nobody has to believe it.
 -- What has been judged of a proof that is being read, after a header with this version and bound.
 use Rattle.std.specs.Prelude.{◌≡◌, ℕ, Bool, true, List, [], Ok, ⊤}
 use Rattle.tt_text.specs.Feeds.{Stream}

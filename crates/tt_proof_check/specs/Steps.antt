@@ -1,10 +1,12 @@
+-- Only proofs rest on this file: nobody has to believe it.
 -- What one node does to a path.
 use Rattle.std.specs.Prelude.{◌≡◌, true, List, length, Some, ⊤}
 use Rattle.tt_instance.specs.Problem.{Problem}
 use Rattle.tt_facts.specs.declared.facts.Fact.{Fact}
 use Rattle.tt_facts.specs.declared.path.PathFault.{PathFault}
 use Rattle.tt_facts.specs.declared.path.PathFault.TheVariants as path
-use Rattle.tt_leaf.specs.Leaves.{IsRight, fault_of}
+use Rattle.tt_leaf.specs.Faults.{fault_of}
+use Rattle.tt_leaf.specs.Leaves.{IsRight}
 use Rattle.tt_leaf.specs.declared.leaf.Bound.{Bound}
 use Rattle.tt_proof_text.specs.Trees.{with_fact}
 use Rattle.tt_proof_text.specs.declared.node.Node.{Node}

@@ -23,7 +23,7 @@ use Rattle.tt_proof_check.specs.Tells.{Passes, FailsAt, IsDeepAt}
 abbrev pub IsProved : Problem → List ℕ → Bound → Type 0
 IsProved p bytes b = (version : ℕ) × (tree : Tree) × SpellsProof p bytes version b tree × Derives p b [] tree
 
--- want of memory or a failed read, which say nothing of the bytes
+-- being out of memory or a failed read, which say nothing of the bytes
 abbrev pub IsSilent : CheckFault → Type 0
 IsSilent e = (e ≡ OutOfMemory) ⊎ (e ≡ Text (text.Feed feed.Read))
 

@@ -2,7 +2,8 @@
 use Rattle.std.specs.Prelude.{◌≡◌, ℕ, ◌<◌, ◌≤◌, List, [], length, take, All, Some, slice_get, ⊤}
 use Rattle.tt_instance.specs.Problem.{Problem}
 use Rattle.tt_facts.specs.declared.facts.Fact.{Fact}
-use Rattle.tt_leaf.specs.Leaves.{IsRight, fault_of}
+use Rattle.tt_leaf.specs.Faults.{fault_of}
+use Rattle.tt_leaf.specs.Leaves.{IsRight}
 use Rattle.tt_leaf.specs.declared.leaf.Bound.{Bound}
 use Rattle.tt_leaf.specs.declared.leaf.Leaf.{Leaf}
 use Rattle.tt_leaf.specs.declared.leaf.RuleFault.{RuleFault}

@@ -15,7 +15,7 @@ use Rattle.tt_rules.specs.declared.counts.Score.{Score}
 use Rattle.tt_proof_text.specs.declared.fault.TextFault.TheVariants as text
 use Rattle.tt_proof_check.specs.Faults.{OutOfMemoryIsNoTextFault}
 use Rattle.tt_proof_check.specs.Headline.{SpellsBoth, Solves, BreaksARule, Certifies, BoundsAll}
-use Rattle.tt_proof_check.specs.Streams.{stream_of, TellsOf}
+use Rattle.tt_proof_check.specs.Streams.{stream_of, IsSilent, IsProofFault}
 use Rattle.tt_proof_check.specs.declared.fault.CheckFault.{CheckFault}
 use Rattle.tt_proof_check.specs.declared.fault.CheckFault.TheVariants as check
 use Rattle.tt_proof_check.specs.declared.fault.Verdict.{Verdict}
@@ -64,6 +64,13 @@ IsFirstFault i s proof (fault.Solution f) = FailsSolution i s f
 IsFirstFault i s proof (fault.Proof f) = FailsProof i s proof f
 IsFirstFault i s proof fault.OutOfMemory = ⊤
 
+-- being out of memory or a failed read, which say nothing of the bytes
+abbrev pub SaysNothing : CertifyFault → Type 0
+SaysNothing (fault.Instance f) = ⊥
+SaysNothing (fault.Solution f) = ⊥
+SaysNothing (fault.Proof f) = IsSilent f
+SaysNothing fault.OutOfMemory = ⊤
+
 -- the instance or the solution is refused
 abbrev pub IsOfFiles : CertifyFault → Type 0
 IsOfFiles (fault.Instance f) = ⊤
@@ -89,7 +96,7 @@ AnswersBroken (Ok (Yes n m)) = ⊥
 AnswersBroken (Ok (Breaks score)) = ⊤
 AnswersBroken (Err f) = f ≡ fault.OutOfMemory
 
--- ---- how a fault is told: want of memory is always one and the same
+-- ---- how a fault is told: being out of memory is always one and the same
 
 abbrev pub fault_from_instance : InstanceFault → CertifyFault
 fault_from_instance instance.OutOfMemory = fault.OutOfMemory
@@ -103,7 +110,7 @@ abbrev pub fault_from_check : CheckFault → CertifyFault
 fault_from_check check.OutOfMemory = fault.OutOfMemory
 fault_from_check f = fault.Proof f
 
--- Want of memory is told as itself, wherever it comes from.
+-- Being out of memory is told as itself, wherever it comes from.
 abbrev pub OutOfMemoryIsOneFault : CertifyFault → Type 0
 OutOfMemoryIsOneFault (fault.Instance f) = ¬ (f ≡ instance.OutOfMemory)
 OutOfMemoryIsOneFault (fault.Solution f) = ¬ (f ≡ solution.OutOfMemory)

@@ -4,8 +4,7 @@ ghost use Rattle.std.specs.Prelude.{◌≡◌};
 ghost use Rattle.tt_proof_check.specs.declared.fault.CheckFault.TheVariants.{OutOfMemory};
 
 use std::alloc::{AllocError, AllocFailed};
-use std::error::Error;
-use std::fmt;
+use thiserror::Error;
 use tt_instance::InstanceFault;
 use tt_leaf::RuleFault;
 use tt_proof_text::TextFault;
@@ -13,14 +12,18 @@ use tt_rules::Score;
 use tt_table::SolutionFault;
 
 /// Why a proof is refused. Nodes are numbered from 0 in the order of the file.
-#[derive(Clone, Copy, Debug, PartialEq, Eq)]
+#[derive(Clone, Copy, Debug, PartialEq, Eq, Error)]
 pub enum CheckFault {
-    /// The text is no proof; want of memory is told as `OutOfMemory`.
+    /// The text is no proof; being out of memory is told as `OutOfMemory`.
+    #[error("{0}")]
     Text(TextFault),
     /// The leaf at this node does not close it.
+    #[error("{1} at node {0}")]
     Rule(u32, RuleFault),
     /// This node stands below more than 65,536 splits.
+    #[error("TooDeep at node {0}")]
     TooDeep(u32),
+    #[error("out of memory")]
     OutOfMemory,
 }
 
@@ -53,26 +56,17 @@ impl From<TextFault> for CheckFault {
     }
 }
 
-impl fmt::Display for CheckFault {
-    fn fmt<W: fmt::Write>(&self, f: &mut fmt::Formatter<W>) -> fmt::Result {
-        match self {
-            CheckFault::Text(fault) => write!(f, "{fault}"),
-            CheckFault::Rule(node, fault) => write!(f, "{fault} at node {node}"),
-            CheckFault::TooDeep(node) => write!(f, "TooDeep at node {node}"),
-            CheckFault::OutOfMemory => write!(f, "out of memory"),
-        }
-    }
-}
-
-impl Error for CheckFault {}
-
 /// Why a list of nodes is refused. Nodes are numbered from 0 in the order of the list.
-#[derive(Clone, Copy, Debug, PartialEq, Eq)]
+#[derive(Clone, Copy, Debug, PartialEq, Eq, Error)]
 pub enum NodesFault {
     /// The nodes are not one tree in preorder.
+    #[error("NotATree")]
     NotATree,
+    #[error("{1} at node {0}")]
     Rule(usize, RuleFault),
+    #[error("TooDeep at node {0}")]
     TooDeep(usize),
+    #[error("out of memory")]
     OutOfMemory,
 }
 
@@ -96,11 +90,15 @@ pub enum Verdict {
 }
 
 /// Why there is no verdict.
-#[derive(Clone, Copy, Debug, PartialEq, Eq)]
+#[derive(Clone, Copy, Debug, PartialEq, Eq, Error)]
 pub enum CertifyFault {
+    #[error("instance: {0}")]
     Instance(InstanceFault),
+    #[error("solution: {0}")]
     Solution(SolutionFault),
+    #[error("proof: {0}")]
     Proof(CheckFault),
+    #[error("out of memory")]
     OutOfMemory,
 }
 

@@ -1,12 +1,14 @@
 //! The headline: a cost and a lower bound, from the bytes of an instance, a solution and a proof.
 
-ghost use Rattle.std.specs.Prelude.{◌≡◌, ℕ, List, Some, Err, true, IfOk, IfErr};
+ghost use Rattle.std.specs.Prelude.{◌≡◌, ◌↔◌, ℕ, List, Some, Ok, Err, true, false, IfOk, IfErr};
 ghost use Rattle.tt_rules.specs.Score.{IsFeasible};
 ghost use Rattle.tt_leaf.specs.declared.leaf.Bound.TheVariants.{AtLeast};
 ghost use Rattle.tt_proof_check.specs.Derives.{HoldsOfAll};
 ghost use Rattle.tt_proof_check.specs.FailedReads.{IsJudgedUpToFailedRead, IsSpelledAndJudgedUpToFailedRead};
-ghost use Rattle.tt_proof_check.specs.Headline.{BreaksARule, Certifies};
+ghost use Rattle.tt_proof_check.specs.Headline.{BoundsAll, BreaksARule, Certifies};
 ghost use Rattle.tt_proof_check.specs.Streams.{IsProved};
+ghost use Rattle.tt_proof_check.specs.declared.fault.CertifyFault.TheVariants.{OutOfMemory};
+ghost use Rattle.tt_proof_check.specs.declared.fault.Verdict.TheVariants.{Yes};
 ghost use Rattle.tt_proof_check.specs.Verdicts.{IsVerdict, IsFirstFault, IsOfFiles, AnswersYes, AnswersBroken, GivesBound, IsBoundFault, OutOfMemoryIsOneFault, read_failed};
 
 use crate::fault::{CertifyFault, Verdict};
@@ -51,6 +53,11 @@ pub fn certify<R: Source>(
     solution: &[u8],
     proof: &mut R,
 ) -> Result<Verdict, CertifyFault>
+    // The headline. Where no read failed and memory did not run out, the answer is yes with c and b exactly where the bytes certify them ..
+    ensures exactly { (c b : ℕ) (bytes : List ℕ) → R.remaining proof.old ≡ Some bytes → R.has_failed proof.new ≡ false → ¬ (result ≡ Err OutOfMemory) →
+        ((result ≡ Ok (Yes c b)) ↔ Certifies instance.now solution.now bytes c b) }
+    // .. and then every timetable of the instance that breaks no hard rule costs at least b, whatever the proof's bytes were.
+    ensures bounds { (c b : ℕ) → result ≡ Ok (Yes c b) → BoundsAll instance.now b }
     // What is answered is so.
     ensures found { IfOk result (IsVerdict instance.now solution.now (R.remaining proof.old)) }
     // What is certified is answered with yes.
@@ -68,7 +75,7 @@ pub fn certify<R: Source>(
     // Where one failed, all that the proof's bytes before it say has been judged.
     ensures up_to_failed_read { result ≡ Err read_failed → (bytes : List ℕ) → R.remaining proof.old ≡ Some bytes →
         IsSpelledAndJudgedUpToFailedRead instance.now bytes (R.remaining proof.new) }
-    // Want of memory is one answer, wherever it comes from.
+    // Being out of memory is one answer, wherever it comes from.
     ensures memory { IfErr result OutOfMemoryIsOneFault }
 {
     let instance = read_instance(alloc, instance)?;

@@ -11,7 +11,7 @@ mod walk;
 
 pub use fault::{CertifyFault, CheckFault, NodesFault, Verdict};
 pub use headline::certify;
-pub use laws::derived_bounds_hold;
+pub use laws::{derived_bounds_hold, files_have_one_fault, proofs_have_one_fault};
 pub use listener::{Deaf, Listener};
 pub use preorder::check_nodes;
 pub use stream::{check_proof, hear_proof};

@@ -23,6 +23,7 @@ use Rattle.tt_proof_text.specs.Reading.{token_at, course_at, curriculum_at, pric
 use Rattle.tt_proof_text.specs.declared.claims.ClaimWord.{ClaimWord}
 use Rattle.tt_proof_text.specs.declared.claims.ClaimWord.TheVariants as word
 use Rattle.tt_proof_text.specs.declared.fault.TextFault.{TextFault}
+use Rattle.tt_proof_text.specs.declared.format.TheConstants.{CURRICULUM_LETTER}
 use Rattle.tt_proof_text.specs.declared.sizes.Sizes.{Sizes}
 use Rattle.tt_proof_text.proofs.ListLaws.{fold_push}
 use Rattle.tt_proof_text.proofs.PriceLaws.{prices_took, prices_read}
@@ -110,7 +111,7 @@ module _ (p : Problem) (sizes : Sizes) (are : AreSizes p sizes) (version : ℕ) 
   behind_took word.Compact s x fits e =
       let q = bind_ok (curriculum_at sizes s) (λ c. Ok (claim.Compact c.0, c.1)) x e in
       let a = curriculum_took sizes s q.0 q.1 in
-      subst (Behind word.Compact s) (ok_is (claim.Compact q.0.0, q.0.1) x q.2) (record { rest = Index 113 q.0.0 ∷ []; spells = refl; took = a.0; is = (omega (arith, are.curricula, a.1), tt, tt) })
+      subst (Behind word.Compact s) (ok_is (claim.Compact q.0.0, q.0.1) x q.2) (record { rest = Index CURRICULUM_LETTER q.0.0 ∷ []; spells = refl; took = a.0; is = (omega (arith, are.curricula, a.1), tt, tt) })
   behind_took word.Stable s x fits e =
       let c = bind_ok (course_at sizes s) (λ c. Ok (claim.Stable c.0, c.1)) x e in
       let a = course_took sizes s c.0 c.1 in
@@ -173,7 +174,7 @@ module _ (p : Problem) (sizes : Sizes) (are : AreSizes p sizes) (version : ℕ) 
     claim_reads before (claim.Days c) ps s after spell next took =
         by_claim word.Days (claim.Days c) (course_piece c ∷ []) s after tt (λ mid t. rw (course_in c mid after next.0 t) refl) (subst (λ qs. Took s qs after) spell took)
     claim_reads before (claim.Compact q) ps s after spell next took =
-        by_claim word.Compact (claim.Compact q) (Index 113 q ∷ []) s after tt (λ mid t. rw (curriculum_reads sizes q mid after small.curricula (omega (arith, are.curricula, next.0)) t) refl)
+        by_claim word.Compact (claim.Compact q) (Index CURRICULUM_LETTER q ∷ []) s after tt (λ mid t. rw (curriculum_reads sizes q mid after small.curricula (omega (arith, are.curricula, next.0)) t) refl)
         (subst (λ qs. Took s qs after) spell took)
     claim_reads before (claim.Stable c) ps s after spell next took =
         by_claim word.Stable (claim.Stable c) (course_piece c ∷ []) s after tt (λ mid t. rw (course_in c mid after next.0 t) refl) (subst (λ qs. Took s qs after) spell took)

@@ -14,3 +14,4 @@ pub mod SeriesLaws
 pub mod Small
 pub mod Taking
 pub mod TokenLaws
+pub mod Whole

@@ -16,6 +16,7 @@ use Rattle.tt_leaf.specs.Ranges.{AreBelow}
 use Rattle.tt_proof_text.specs.Spelling.{course_piece, listed_pieces, SpellsEach}
 use Rattle.tt_proof_text.specs.Reading.{index_of, new_number, listed_of, listed_at, list_at}
 use Rattle.tt_proof_text.specs.declared.fault.TextFault.{TextFault}
+use Rattle.tt_proof_text.specs.declared.format.TheConstants.{COURSE_LETTER}
 use Rattle.tt_proof_text.specs.declared.sizes.Sizes.{Sizes}
 use Rattle.tt_proof_text.proofs.Progress.{listed_takes}
 use Rattle.tt_proof_text.proofs.SeriesLaws.{EachNext, PartTook, series_took, series_reads}
@@ -54,11 +55,11 @@ Spell c ps = ps ≡ course_piece c ∷ []
 listed_took_of : (sizes : Sizes) (before : List ℕ) (t : Placed) (o : Option ℕ) → listed_of sizes before t ≡ Ok o → IsPiece (listed_piece o) t.text × IsNextIf sizes before o
 listed_took_of sizes before t o e =
     let P : Option ℕ → Type 0 = λ v. IsPiece (listed_piece v) t.text × IsNextIf sizes before v in
-    choice P (is_text (codes ";") t.text) None o (index_of 99 sizes.courses t >>= new_number t.at before >>= λ c. Ok (Some c)) (λ h. (text_is t.text (codes ";") h, tt)) (λ _ r.
-    let c = bind_ok (index_of 99 sizes.courses t >>= new_number t.at before) (λ c. Ok (Some c)) o r in
-    let i = bind_ok (index_of 99 sizes.courses t) (new_number t.at before) c.0 c.1 in
+    choice P (is_text (codes ";") t.text) None o (index_of COURSE_LETTER sizes.courses t >>= new_number t.at before >>= λ c. Ok (Some c)) (λ h. (text_is t.text (codes ";") h, tt)) (λ _ r.
+    let c = bind_ok (index_of COURSE_LETTER sizes.courses t >>= new_number t.at before) (λ c. Ok (Some c)) o r in
+    let i = bind_ok (index_of COURSE_LETTER sizes.courses t) (new_number t.at before) c.0 c.1 in
     let n = new_number_ok t.at before i.0 c.0 i.2 in
-    let s = index_took 99 sizes.courses t i.0 i.1 in
+    let s = index_took COURSE_LETTER sizes.courses t i.0 i.1 in
     subst P (ap (λ (k : ℕ). Some k) n.1 ∙ ok_is (Some c.0) o c.2) (s.0, (s.1, n.0))) e
 
 -- a course that was read, or the end, is spelled
@@ -74,7 +75,7 @@ listed_took sizes before s x e = by_option x.0 (one_took (listed_of sizes before
 course_reads_next : (sizes : Sizes) → AreSmall sizes → (before : List ℕ) (c : ℕ) (ps : List Piece) (s after : Stream) → Spell c ps → IsNext sizes before c → Took s ps after → listed_at sizes before s ≡ Ok (Some c, after)
 unfolding listed_at
 course_reads_next sizes small before c ps s after spell next took =
-    one_reads (listed_of sizes before) (course_piece c) (Some c) s after (λ t piece. let new = next.1 in rw (not_single 59 99 c t.text piece, index_reads 99 sizes.courses c t small.courses next.0 piece, new) refl)
+    one_reads (listed_of sizes before) (course_piece c) (Some c) s after (λ t piece. let new = next.1 in rw (not_single 59 COURSE_LETTER c t.text piece, index_reads COURSE_LETTER sizes.courses c t small.courses next.0 piece, new) refl)
     (subst (λ qs. Took s qs after) spell took)
 
 -- the end that is spelled is read

@@ -23,6 +23,7 @@ use Rattle.tt_proof_text.specs.Sizes.{AreSizes}
 use Rattle.tt_proof_text.specs.Spelling.{who_piece, given_piece, course_piece, pattern_pieces, listed_pieces, SpellsNode, IsShortClaim, IsClaimIn, IsNode}
 use Rattle.tt_proof_text.specs.Reading.{token_at, course_at, who_at, given_at, pattern_at, list_at, claims_at, node_word_of, node_after_word, counted, node_at}
 use Rattle.tt_proof_text.specs.declared.fault.TextFault.TheVariants as fault
+use Rattle.tt_proof_text.specs.declared.format.TheConstants.{DAY_LETTER, MAX_NODES, PERIOD_LETTER, ROOM_LETTER}
 use Rattle.tt_proof_text.specs.declared.node.Node.{Node}
 use Rattle.tt_proof_text.specs.declared.node.Node.TheVariants as node
 use Rattle.tt_proof_text.specs.declared.nodes.NodeWord.{NodeWord}
@@ -87,17 +88,17 @@ module _ (p : Problem) (sizes : Sizes) (are : AreSizes p sizes) where
   unfolding pattern_at
   pattern_took s x e =
       let w = bind_ok (who_at sizes s) _ x e in
-      let r = bind_ok (given_at 114 sizes.rooms w.0.1) _ x w.2 in
-      let d = bind_ok (given_at 100 sizes.days r.0.1) _ x r.2 in
-      let t = bind_ok (given_at 112 sizes.periods d.0.1) _ x d.2 in
+      let r = bind_ok (given_at ROOM_LETTER sizes.rooms w.0.1) _ x w.2 in
+      let d = bind_ok (given_at DAY_LETTER sizes.days r.0.1) _ x r.2 in
+      let t = bind_ok (given_at PERIOD_LETTER sizes.periods d.0.1) _ x d.2 in
       let who = who_took sizes s w.0 w.1 in
-      let room = given_took 114 sizes.rooms w.0.1 r.0 r.1 in
-      let day = given_took 100 sizes.days r.0.1 d.0 d.1 in
-      let period = given_took 112 sizes.periods d.0.1 t.0 t.1 in
+      let room = given_took ROOM_LETTER sizes.rooms w.0.1 r.0 r.1 in
+      let day = given_took DAY_LETTER sizes.days r.0.1 d.0 d.1 in
+      let period = given_took PERIOD_LETTER sizes.periods d.0.1 t.0 t.1 in
       let g : Pattern = record { who = w.0.0; room = r.0.0; day = d.0.0; period = t.0.0 } in
       let made : (g, t.0.1) ≡ x = ok_is (g, t.0.1) x t.2 in
       subst (PatternTook s) made (record {
-        took = took_then s w.0.1 t.0.1 (who_piece w.0.0 ∷ []) _ who.0 (took_then w.0.1 r.0.1 t.0.1 (given_piece 114 r.0.0 ∷ []) _ room.0 (took_then r.0.1 d.0.1 t.0.1 (given_piece 100 d.0.0 ∷ []) (given_piece 112 t.0.0 ∷ []) day.0 period.0));
+        took = took_then s w.0.1 t.0.1 (who_piece w.0.0 ∷ []) _ who.0 (took_then w.0.1 r.0.1 t.0.1 (given_piece ROOM_LETTER r.0.0 ∷ []) _ room.0 (took_then r.0.1 d.0.1 t.0.1 (given_piece DAY_LETTER d.0.0 ∷ []) (given_piece PERIOD_LETTER t.0.0 ∷ []) day.0 period.0));
         is = record {
           who = who_is w.0.0 who.1;
           room = subst (λ n. IsGiven n r.0.0) are.rooms room.1;
@@ -110,13 +111,13 @@ module _ (p : Problem) (sizes : Sizes) (are : AreSizes p sizes) where
   pub pattern_reads : AreSmall sizes → (g : Pattern) (s after : Stream) → IsPattern p g → Took s (pattern_pieces g) after → pattern_at sizes s ≡ Ok (g, after)
   unfolding pattern_at
   pattern_reads small g s after is took =
-      let a = took_split (who_piece g.who ∷ []) (given_piece 114 g.room ∷ given_piece 100 g.day ∷ given_piece 112 g.period ∷ []) s after took in
-      let b = took_split (given_piece 114 g.room ∷ []) (given_piece 100 g.day ∷ given_piece 112 g.period ∷ []) a.0 after a.2 in
-      let c = took_split (given_piece 100 g.day ∷ []) (given_piece 112 g.period ∷ []) b.0 after b.2 in
+      let a = took_split (who_piece g.who ∷ []) (given_piece ROOM_LETTER g.room ∷ given_piece DAY_LETTER g.day ∷ given_piece PERIOD_LETTER g.period ∷ []) s after took in
+      let b = took_split (given_piece ROOM_LETTER g.room ∷ []) (given_piece DAY_LETTER g.day ∷ given_piece PERIOD_LETTER g.period ∷ []) a.0 after a.2 in
+      let c = took_split (given_piece DAY_LETTER g.day ∷ []) (given_piece PERIOD_LETTER g.period ∷ []) b.0 after b.2 in
       let who = who_reads sizes g.who s a.0 small (is_who g.who is.who) a.1 in
-      let room = given_reads 114 sizes.rooms g.room a.0 b.0 small.rooms (subst (λ n. IsGiven n g.room) (sym are.rooms) is.room) b.1 in
-      let day = given_reads 100 sizes.days g.day b.0 c.0 small.days (subst (λ n. IsGiven n g.day) (sym are.days) is.day) c.1 in
-      let period = given_reads 112 sizes.periods g.period c.0 after small.periods (subst (λ n. IsGiven n g.period) (sym are.periods) is.period) c.2 in
+      let room = given_reads ROOM_LETTER sizes.rooms g.room a.0 b.0 small.rooms (subst (λ n. IsGiven n g.room) (sym are.rooms) is.room) b.1 in
+      let day = given_reads DAY_LETTER sizes.days g.day b.0 c.0 small.days (subst (λ n. IsGiven n g.day) (sym are.days) is.day) c.1 in
+      let period = given_reads PERIOD_LETTER sizes.periods g.period c.0 after small.periods (subst (λ n. IsGiven n g.period) (sym are.periods) is.period) c.2 in
       rw (who, room, day, period) refl
 
   -- ---- nodes
@@ -181,7 +182,7 @@ module _ (p : Problem) (sizes : Sizes) (are : AreSizes p sizes) where
       pub spells : SpellsNode x.0 pieces
       pub took : Took s pieces x.1
       pub is : IsNode p version x.0
-      pub room : count < 16777216
+      pub room : count < MAX_NODES
 
     -- a node that was read is spelled
     pub node_took : (count : ℕ) (s : Stream) (x : Node × Stream) → node_at sizes version count s ≡ Ok x → NodeTook count s x
@@ -191,7 +192,7 @@ module _ (p : Problem) (sizes : Sizes) (are : AreSizes p sizes) where
         let u = bind_ok (counted t.0.0.at count) (λ (_ : Unit {0}). node_word_of t.0.0 >>= λ w. node_after_word sizes version w t.0.1) x t.2 in
         let w = bind_ok (node_word_of t.0.0) (λ w. node_after_word sizes version w t.0.1) x u.2 in
         let b = behind_took w.0 t.0.1 x w.2 in
-        let few = test_ok (nat_lt count 16777216) (fault.TooManyNodes t.0.0.at) (Ok tt) u.0 u.1 in
+        let few = test_ok (nat_lt count MAX_NODES) (fault.TooManyNodes t.0.0.at) (Ok tt) u.0 u.1 in
         record {
           pieces = Text (code_of w.0) ∷ b.rest;
           spells = b.spells;
@@ -200,16 +201,16 @@ module _ (p : Problem) (sizes : Sizes) (are : AreSizes p sizes) where
           room = omega (arith, leb-true _ _ few.0);
         }
 
-    by_word : (w : NodeWord) (n : Node) (rest : List Piece) (count : ℕ) (s after : Stream) → count < 16777216 → ((mid : Stream) → Took mid rest after → node_after_word sizes version w mid ≡ Ok (n, after))
+    by_word : (w : NodeWord) (n : Node) (rest : List Piece) (count : ℕ) (s after : Stream) → count < MAX_NODES → ((mid : Stream) → Took mid rest after → node_after_word sizes version w mid ≡ Ok (n, after))
         → Took s (Text (code_of w) ∷ rest) after → node_at sizes version count s ≡ Ok (n, after)
     unfolding node_at
     by_word w n rest count s after room more took =
         let f = first_of_pieces (Text (code_of w)) rest s after took in
-        let few : nat_lt count 16777216 ≡ true = le-leb _ _ (omega arith) in
+        let few : nat_lt count MAX_NODES ≡ true = le-leb _ _ (omega arith) in
         rw (f.is, few, word_reads w f.token f.piece, more f.mid f.rest) refl
 
     -- a node that is spelled is read
-    pub node_reads : AreSmall sizes → (count : ℕ) (n : Node) (ps : List Piece) (s after : Stream) → count < 16777216 → SpellsNode n ps → IsNode p version n → Took s ps after
+    pub node_reads : AreSmall sizes → (count : ℕ) (n : Node) (ps : List Piece) (s after : Stream) → count < MAX_NODES → SpellsNode n ps → IsNode p version n → Took s ps after
         → node_at sizes version count s ≡ Ok (n, after)
     unfolding node_after_word
     node_reads small count (node.Split g) ps s after room spell is took =

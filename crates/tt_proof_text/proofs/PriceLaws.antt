@@ -14,6 +14,7 @@ use Rattle.tt_proof_text.specs.Spelling.{Price, OfCourse, OfRoom, price_pieces, 
 use Rattle.tt_proof_text.specs.Reading.{token_at, numbered_below, new_number, Kept, Seen, seen_in, priced_in, priced_of, with_price, price_at, pair_at, next_pair_at, with_priced, with_pair, prices_at}
 use Rattle.tt_proof_text.specs.declared.fault.TextFault.{TextFault}
 use Rattle.tt_proof_text.specs.declared.fault.TextFault.TheVariants as fault
+use Rattle.tt_proof_text.specs.declared.format.TheConstants.{COURSE_LETTER, MAX_PRICE, ROOM_LETTER}
 use Rattle.tt_proof_text.specs.declared.prices.Priced.{Priced}
 use Rattle.tt_proof_text.specs.declared.prices.Priced.TheVariants.{Course, Room}
 use Rattle.tt_proof_text.specs.declared.sizes.Sizes.{Sizes}
@@ -58,19 +59,19 @@ Spell x ps = ps ≡ price_pieces (price_is x)
 
 -- a price that may come next
 abbrev IsNext : Sizes → Kept → Priced × ℕ → Type 0
-IsNext sizes kept x = IsUnseen sizes (seen_in kept) x.0 × (x.1 ≤ 1000000)
+IsNext sizes kept x = IsUnseen sizes (seen_in kept) x.0 × (x.1 ≤ MAX_PRICE)
 
 -- ---- one token
 
 -- a token that was read as a course or a room is its piece
 priced_took_in : (at : ℕ) (sizes : Sizes) (seen : Seen) (text : List ℕ) (x : Priced) → priced_in at sizes seen text ≡ Ok x → IsPiece (priced_piece x) text × IsUnseen sizes seen x
 priced_took_in at sizes seen [] x e = absurd cc
-priced_took_in at sizes seen (b ∷ bs) x e = by_letter (b == 99) (b == 114) refl refl e
+priced_took_in at sizes seen (b ∷ bs) x e = by_letter (b == COURSE_LETTER) (b == ROOM_LETTER) refl refl e
   where
     P : Priced → Type 0
     P y = IsPiece (priced_piece y) (b ∷ bs) × IsUnseen sizes seen y
 
-    by_letter : (v w : Bool) → (b == 99) ≡ v → (b == 114) ≡ w
+    by_letter : (v w : Bool) → (b == COURSE_LETTER) ≡ v → (b == ROOM_LETTER) ≡ w
         → cond v (numbered_below at sizes.courses bs >>= new_number at seen.0 >>= λ n. Ok (Course n)) (cond w (numbered_below at sizes.rooms bs >>= new_number at seen.1 >>= λ n. Ok (Room n)) (Err (fault.UnknownWord at))) ≡ Ok x
         → IsPiece (priced_piece x) (b ∷ bs) × IsUnseen sizes seen x
     by_letter true w v_is w_is h =
@@ -104,8 +105,8 @@ priced_took_of sizes seen t o e =
 
 -- a course or a room is not the end
 not_last : (x : Priced) (text : List ℕ) → IsPiece (priced_piece x) text → is_text (codes "/") text ≡ false
-not_last (Course c) text piece = not_single 47 99 c text piece
-not_last (Room r) text piece = not_single 47 114 r text piece
+not_last (Course c) text piece = not_single 47 COURSE_LETTER c text piece
+not_last (Room r) text piece = not_single 47 ROOM_LETTER r text piece
 
 -- the piece of a course or a room is read as it, where the end may stand
 priced_reads_of : (sizes : Sizes) (seen : Seen) (x : Priced) (t : Placed) → AreSmall sizes → IsUnseen sizes seen x → IsPiece (priced_piece x) t.text → priced_of sizes seen t ≡ Ok (Some x)

@@ -12,6 +12,7 @@ use Rattle.tt_text.specs.Reading.{FailsUnless}
 use Rattle.tt_proof_text.specs.Pricing.{with_seen, IsUnseen, AreKept}
 use Rattle.tt_proof_text.specs.Reading.{Kept, Seen, seen_in, with_priced, with_pair, pair_at, next_pair_at, prices_at}
 use Rattle.tt_proof_text.specs.declared.fault.TextFault.{TextFault}
+use Rattle.tt_proof_text.specs.declared.format.TheConstants.{MAX_PRICE}
 use Rattle.tt_proof_text.specs.declared.prices.Priced.{Priced}
 use Rattle.tt_proof_text.specs.declared.prices.Priced.TheVariants.{Course, Room}
 use Rattle.tt_proof_text.specs.declared.sizes.Sizes.{Sizes}
@@ -32,18 +33,18 @@ prices_push count prices n u are below new = record {
 }
 
 -- one pair more
-pub kept_push : (sizes : Sizes) (kept : Kept) (x : Priced) (u : ℕ) → AreKept sizes kept → IsUnseen sizes (seen_in kept) x → u ≤ 1000000 → AreKept sizes (with_priced kept x u)
+pub kept_push : (sizes : Sizes) (kept : Kept) (x : Priced) (u : ℕ) → AreKept sizes kept → IsUnseen sizes (seen_in kept) x → u ≤ MAX_PRICE → AreKept sizes (with_priced kept x u)
 kept_push sizes kept (Course c) u are new within = record {
   courses = prices_push sizes.courses kept.0 c u are.courses new.0 new.1;
   rooms = are.rooms;
-  course_prices = All-push (λ k. k.1 ≤ 1000000) kept.0 (c, u) are.course_prices within;
+  course_prices = All-push (λ k. k.1 ≤ MAX_PRICE) kept.0 (c, u) are.course_prices within;
   room_prices = are.room_prices;
 }
 kept_push sizes kept (Room r) u are new within = record {
   courses = are.courses;
   rooms = prices_push sizes.rooms kept.1 r u are.rooms new.0 new.1;
   course_prices = are.course_prices;
-  room_prices = All-push (λ k. k.1 ≤ 1000000) kept.1 (r, u) are.room_prices within;
+  room_prices = All-push (λ k. k.1 ≤ MAX_PRICE) kept.1 (r, u) are.room_prices within;
 }
 
 -- no pair
@@ -51,8 +52,8 @@ pub kept_nothing : (sizes : Sizes) (kept : Kept) → kept ≡ ([], []) → AreKe
 kept_nothing sizes kept e = subst (AreKept sizes) (sym e) (record {
   courses = record { within = All-nil (λ m. m < sizes.courses); once = refl };
   rooms = record { within = All-nil (λ m. m < sizes.rooms); once = refl };
-  course_prices = All-nil (λ (k : ℕ × ℕ). k.1 ≤ 1000000);
-  room_prices = All-nil (λ (k : ℕ × ℕ). k.1 ≤ 1000000);
+  course_prices = All-nil (λ (k : ℕ × ℕ). k.1 ≤ MAX_PRICE);
+  room_prices = All-nil (λ (k : ℕ × ℕ). k.1 ≤ MAX_PRICE);
 })
 
 -- before the first pair
@@ -74,16 +75,16 @@ price_before count before n u xs are = (
 )
 
 -- prices among which one comes next
-pub kept_before : (sizes : Sizes) (kept : Kept) (x : Priced) (u : ℕ) (courses rooms : List (ℕ × ℕ)) → AreKept sizes ((with_priced kept x u).0 ++ courses, (with_priced kept x u).1 ++ rooms) → IsUnseen sizes (seen_in kept) x × (u ≤ 1000000)
+pub kept_before : (sizes : Sizes) (kept : Kept) (x : Priced) (u : ℕ) (courses rooms : List (ℕ × ℕ)) → AreKept sizes ((with_priced kept x u).0 ++ courses, (with_priced kept x u).1 ++ rooms) → IsUnseen sizes (seen_in kept) x × (u ≤ MAX_PRICE)
 kept_before sizes kept (Course c) u courses rooms are =
     let grouped : (kept.0 ++ (c, u) ∷ []) ++ courses ≡ kept.0 ++ (c, u) ∷ courses = append_assoc kept.0 ((c, u) ∷ []) courses in (
       price_before sizes.courses kept.0 c u courses (subst (ArePrices sizes.courses) grouped are.courses),
-      middle (λ k. k.1 ≤ 1000000) kept.0 (c, u) courses (subst (All (λ k. k.1 ≤ 1000000)) grouped are.course_prices),
+      middle (λ k. k.1 ≤ MAX_PRICE) kept.0 (c, u) courses (subst (All (λ k. k.1 ≤ MAX_PRICE)) grouped are.course_prices),
     )
 kept_before sizes kept (Room r) u courses rooms are =
     let grouped : (kept.1 ++ (r, u) ∷ []) ++ rooms ≡ kept.1 ++ (r, u) ∷ rooms = append_assoc kept.1 ((r, u) ∷ []) rooms in (
       price_before sizes.rooms kept.1 r u rooms (subst (ArePrices sizes.rooms) grouped are.rooms),
-      middle (λ k. k.1 ≤ 1000000) kept.1 (r, u) rooms (subst (All (λ k. k.1 ≤ 1000000)) grouped are.room_prices),
+      middle (λ k. k.1 ≤ MAX_PRICE) kept.1 (r, u) rooms (subst (All (λ k. k.1 ≤ MAX_PRICE)) grouped are.room_prices),
     )
 
 -- courses and rooms

@@ -12,6 +12,7 @@ use Rattle.tt_proof_text.specs.Reading.{token_at, one_at, index_of, course_at, c
 use Rattle.tt_proof_text.specs.declared.claims.ClaimWord.{ClaimWord}
 use Rattle.tt_proof_text.specs.declared.claims.ClaimWord.TheVariants as claim_word
 use Rattle.tt_proof_text.specs.declared.fault.TextFault.{TextFault}
+use Rattle.tt_proof_text.specs.declared.format.TheConstants.{COURSE_LETTER, CURRICULUM_LETTER, MAX_PRICE}
 use Rattle.tt_proof_text.specs.declared.prices.Priced.{Priced}
 use Rattle.tt_proof_text.specs.declared.sizes.Sizes.{Sizes}
 use Rattle.tt_proof_text.proofs.Taking.{token_less}
@@ -38,17 +39,17 @@ made_less read make s x less e =
 -- a course
 pub course_less : (sizes : Sizes) (s : Stream) (x : ℕ × Stream) → course_at sizes s ≡ Ok x → IsLess s x
 unfolding course_at
-course_less sizes s x e = one_less (index_of 99 sizes.courses) s x e
+course_less sizes s x e = one_less (index_of COURSE_LETTER sizes.courses) s x e
 
 -- a curriculum
 pub curriculum_less : (sizes : Sizes) (s : Stream) (x : ℕ × Stream) → curriculum_at sizes s ≡ Ok x → IsLess s x
 unfolding curriculum_at
-curriculum_less sizes s x e = one_less (index_of 113 sizes.curricula) s x e
+curriculum_less sizes s x e = one_less (index_of CURRICULUM_LETTER sizes.curricula) s x e
 
 -- a price
 pub price_less : (s : Stream) (x : ℕ × Stream) → price_at s ≡ Ok x → IsLess s x
 unfolding price_at
-price_less s x e = one_less (λ t. priced_as t.at (number_of 1000000 t.text)) s x e
+price_less s x e = one_less (λ t. priced_as t.at (number_of MAX_PRICE t.text)) s x e
 
 -- ---- parts of lists
 

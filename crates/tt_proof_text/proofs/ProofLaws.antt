@@ -4,18 +4,20 @@ use Rattle.std.specs.Prelude.{All}
 use Rattle.std.proofs.lemmas.List.Elements.{All-nil, All-cons, All-head, All-tail, All-from_recursion, recursion_from_All}
 use Rattle.tt_text.specs.Tokens.{Placed, tokens_of}
 use Rattle.tt_text.specs.Pieces.{Piece, Text, Begins}
-use Rattle.tt_text.specs.Feeds.{Stream, stream_from, most_bytes, stopped}
+use Rattle.tt_text.specs.Feeds.{Stream, most_bytes, stopped}
 use Rattle.tt_text.specs.declared.feed.FeedFault.{FeedFault}
 use Rattle.tt_text.proofs.Steps.{ok_is, bind_ok}
 use Rattle.tt_text.proofs.Unlimited.{unlimited, limited}
 use Rattle.tt_instance.specs.Problem.{Problem}
+use Rattle.tt_facts.specs.declared.path.TheConstants.{MAX_FACTS}
 use Rattle.tt_leaf.specs.declared.leaf.Bound.{Bound}
-use Rattle.tt_proof_text.specs.Reads.{ReadsNodes, Reads}
+use Rattle.tt_proof_text.specs.Reads.{ReadsNodes, Reads, stream_of_bytes}
 use Rattle.tt_proof_text.specs.Sizes.{AreSizes}
 use Rattle.tt_proof_text.specs.Spelling.{fixed, version_text, bound_piece, SpellsEach, SpellsNode, IsBound, IsNode, SpellsProof}
 use Rattle.tt_proof_text.specs.Reading.{word_at, version_at, bound_at, header_at, no_more, end_at}
 use Rattle.tt_proof_text.specs.Trees.{Tree, preorder, on_paths}
 use Rattle.tt_proof_text.specs.declared.fault.Word.TheVariants as word
+use Rattle.tt_proof_text.specs.declared.format.TheConstants.{MAX_NODES}
 use Rattle.tt_proof_text.specs.declared.node.Node.{Node}
 use Rattle.tt_proof_text.specs.declared.sizes.Sizes.{Sizes}
 use Rattle.tt_proof_text.proofs.NodeLaws.{node_took, node_reads}
@@ -94,10 +96,10 @@ module _ (p : Problem) (sizes : Sizes) (are : AreSizes p sizes) (version : ℕ) 
     pub spells : SpellsEach SpellsNode nodes body
     pub took : Took s body after
     pub each : All (IsNode p version) nodes
-    pub few : count + length nodes ≤ 16777216
+    pub few : count + length nodes ≤ MAX_NODES
 
   -- nodes that were read are spelled
-  pub nodes_took : (count : ℕ) (s : Stream) (nodes : List Node) (after : Stream) → count ≤ 16777216 → ReadsNodes sizes version count s nodes after → NodesTook count s nodes after
+  pub nodes_took : (count : ℕ) (s : Stream) (nodes : List Node) (after : Stream) → count ≤ MAX_NODES → ReadsNodes sizes version count s nodes after → NodesTook count s nodes after
   nodes_took count s [] after few reads = record {
     body = [];
     spells = refl;
@@ -117,7 +119,7 @@ module _ (p : Problem) (sizes : Sizes) (are : AreSizes p sizes) (version : ℕ) 
       }
 
   -- nodes that are spelled are read
-  pub nodes_read : AreSmall sizes → (count : ℕ) (nodes : List Node) (body : List Piece) (s after : Stream) → count + length nodes ≤ 16777216 → SpellsEach SpellsNode nodes body → All (IsNode p version) nodes
+  pub nodes_read : AreSmall sizes → (count : ℕ) (nodes : List Node) (body : List Piece) (s after : Stream) → count + length nodes ≤ MAX_NODES → SpellsEach SpellsNode nodes body → All (IsNode p version) nodes
       → Took s body after → ReadsNodes sizes version count s nodes after
   nodes_read small count [] body s after few spells each took = took_same s after (subst (λ ps. Took s ps after) spells took)
   nodes_read small count (n ∷ ns) body s after few spells each took =
@@ -129,13 +131,9 @@ module _ (p : Problem) (sizes : Sizes) (are : AreSizes p sizes) (version : ℕ) 
 
 -- ---- the whole
 
--- what a feed gives of bytes
-abbrev pub stream_of_bytes : List ℕ → Stream
-stream_of_bytes bytes = stream_from most_bytes 0 bytes
-
 module _ (p : Problem) (sizes : Sizes) (are : AreSizes p sizes) where
   -- a proof that was read is spelled, where no path is too long
-  pub reads_spelled : (bytes : List ℕ) (v : ℕ) (b : Bound) (tree : Tree) → All (λ x. length x.path ≤ 65536) (on_paths [] tree) → Reads sizes (stream_of_bytes bytes) v b tree → SpellsProof p bytes v b tree
+  pub reads_spelled : (bytes : List ℕ) (v : ℕ) (b : Bound) (tree : Tree) → All (λ x. length x.path ≤ MAX_FACTS) (on_paths [] tree) → Reads sizes (stream_of_bytes bytes) v b tree → SpellsProof p bytes v b tree
   reads_spelled bytes v b tree depth r =
       let s = stream_of_bytes bytes in
       let header = header_took s ((v, b), r.headed) r.header in

@@ -25,6 +25,7 @@ use Rattle.tt_proof_text.specs.declared.fault.Word.{Word}
 use Rattle.tt_proof_text.specs.declared.fault.Word.TheVariants as word
 use Rattle.tt_proof_text.specs.declared.fault.TextFault.{TextFault}
 use Rattle.tt_proof_text.specs.declared.fault.TextFault.TheVariants as fault
+use Rattle.tt_proof_text.specs.declared.format.TheConstants.{COURSE_LETTER, CURRICULUM_LETTER, MAX_POINTS, MAX_PRICE}
 use Rattle.tt_proof_text.specs.declared.sizes.Sizes.{Sizes}
 use Rattle.tt_proof_text.proofs.Small.{AreSmall, IsWhoIn}
 use Rattle.tt_proof_text.proofs.Taking.{Took, first_of_pieces, took_piece, took_same, one_took, one_reads}
@@ -105,22 +106,22 @@ index_reads letter count n t few less piece = in_reads t.at letter count t.text 
 -- a course that was read is spelled
 pub course_took : (sizes : Sizes) (s : Stream) (x : ℕ × Stream) → course_at sizes s ≡ Ok x → Took s (course_piece x.0 ∷ []) x.1 × (x.0 < sizes.courses)
 unfolding course_at
-course_took sizes s x e = one_took (index_of 99 sizes.courses) course_piece (λ c. c < sizes.courses) s x (index_took 99 sizes.courses) e
+course_took sizes s x e = one_took (index_of COURSE_LETTER sizes.courses) course_piece (λ c. c < sizes.courses) s x (index_took COURSE_LETTER sizes.courses) e
 
 -- a course that is spelled is read
 pub course_reads : (sizes : Sizes) (c : ℕ) (s after : Stream) → sizes.courses ≤ 4294967295 → c < sizes.courses → Took s (course_piece c ∷ []) after → course_at sizes s ≡ Ok (c, after)
 unfolding course_at
-course_reads sizes c s after few less took = one_reads (index_of 99 sizes.courses) (course_piece c) c s after (λ t piece. index_reads 99 sizes.courses c t few less piece) took
+course_reads sizes c s after few less took = one_reads (index_of COURSE_LETTER sizes.courses) (course_piece c) c s after (λ t piece. index_reads COURSE_LETTER sizes.courses c t few less piece) took
 
 -- a curriculum that was read is spelled
-pub curriculum_took : (sizes : Sizes) (s : Stream) (x : ℕ × Stream) → curriculum_at sizes s ≡ Ok x → Took s (Index 113 x.0 ∷ []) x.1 × (x.0 < sizes.curricula)
+pub curriculum_took : (sizes : Sizes) (s : Stream) (x : ℕ × Stream) → curriculum_at sizes s ≡ Ok x → Took s (Index CURRICULUM_LETTER x.0 ∷ []) x.1 × (x.0 < sizes.curricula)
 unfolding curriculum_at
-curriculum_took sizes s x e = one_took (index_of 113 sizes.curricula) (Index 113) (λ q. q < sizes.curricula) s x (index_took 113 sizes.curricula) e
+curriculum_took sizes s x e = one_took (index_of CURRICULUM_LETTER sizes.curricula) (Index CURRICULUM_LETTER) (λ q. q < sizes.curricula) s x (index_took CURRICULUM_LETTER sizes.curricula) e
 
 -- a curriculum that is spelled is read
-pub curriculum_reads : (sizes : Sizes) (q : ℕ) (s after : Stream) → sizes.curricula ≤ 4294967295 → q < sizes.curricula → Took s (Index 113 q ∷ []) after → curriculum_at sizes s ≡ Ok (q, after)
+pub curriculum_reads : (sizes : Sizes) (q : ℕ) (s after : Stream) → sizes.curricula ≤ 4294967295 → q < sizes.curricula → Took s (Index CURRICULUM_LETTER q ∷ []) after → curriculum_at sizes s ≡ Ok (q, after)
 unfolding curriculum_at
-curriculum_reads sizes q s after few less took = one_reads (index_of 113 sizes.curricula) (Index 113 q) q s after (λ t piece. index_reads 113 sizes.curricula q t few less piece) took
+curriculum_reads sizes q s after few less took = one_reads (index_of CURRICULUM_LETTER sizes.curricula) (Index CURRICULUM_LETTER q) q s after (λ t piece. index_reads CURRICULUM_LETTER sizes.curricula q t few less piece) took
 
 -- a number that was taken is none of those before it
 pub new_number_ok : (at : ℕ) (before : List ℕ) (n m : ℕ) → new_number at before n ≡ Ok m → (has_number before n ≡ false) × (n ≡ m)
@@ -134,23 +135,23 @@ priced_ok at (Ok m) u e = cc
 priced_ok at (Err f) u e = absurd cc
 
 -- a price that was read is spelled
-pub price_took : (s : Stream) (x : ℕ × Stream) → price_at s ≡ Ok x → Took s (Number x.0 ∷ []) x.1 × (x.0 ≤ 1000000)
+pub price_took : (s : Stream) (x : ℕ × Stream) → price_at s ≡ Ok x → Took s (Number x.0 ∷ []) x.1 × (x.0 ≤ MAX_PRICE)
 unfolding price_at
-price_took s x e = one_took (λ t. priced_as t.at (number_of 1000000 t.text)) Number (λ u. u ≤ 1000000) s x (λ t u h. number_spelled 1000000 t.text u (priced_ok t.at _ u h)) e
+price_took s x e = one_took (λ t. priced_as t.at (number_of MAX_PRICE t.text)) Number (λ u. u ≤ MAX_PRICE) s x (λ t u h. number_spelled MAX_PRICE t.text u (priced_ok t.at _ u h)) e
 
 -- a price that is spelled is read
-pub price_reads : (u : ℕ) (s after : Stream) → u ≤ 1000000 → Took s (Number u ∷ []) after → price_at s ≡ Ok (u, after)
+pub price_reads : (u : ℕ) (s after : Stream) → u ≤ MAX_PRICE → Took s (Number u ∷ []) after → price_at s ≡ Ok (u, after)
 unfolding price_at
-price_reads u s after within took = one_reads (λ t. priced_as t.at (number_of 1000000 t.text)) (Number u) u s after (λ t piece. ap (priced_as t.at) (number_read 1000000 t.text u piece within)) took
+price_reads u s after within took = one_reads (λ t. priced_as t.at (number_of MAX_PRICE t.text)) (Number u) u s after (λ t piece. ap (priced_as t.at) (number_read MAX_PRICE t.text u piece within)) took
 
 -- ---- patterns
 
 -- bytes that were read as a course or a curriculum are its piece
 who_took_in : (at : ℕ) (sizes : Sizes) (text : List ℕ) (w : Who) → who_in at sizes text ≡ Ok w → IsPiece (who_piece w) text × IsWhoIn sizes w
 who_took_in at sizes [] w e = absurd cc
-who_took_in at sizes (b ∷ bs) w e = by_letter (b == 99) (b == 113) refl refl e
+who_took_in at sizes (b ∷ bs) w e = by_letter (b == COURSE_LETTER) (b == CURRICULUM_LETTER) refl refl e
   where
-    by_letter : (x y : Bool) → (b == 99) ≡ x → (b == 113) ≡ y
+    by_letter : (x y : Bool) → (b == COURSE_LETTER) ≡ x → (b == CURRICULUM_LETTER) ≡ y
         → cond x (numbered_below at sizes.courses bs >>= λ n. Ok (Course n)) (cond y (numbered_below at sizes.curricula bs >>= λ n. Ok (Curriculum n)) (Err (fault.UnknownWord at))) ≡ Ok w
         → IsPiece (who_piece w) (b ∷ bs) × IsWhoIn sizes w
     by_letter true y x_is y_is h =
@@ -247,9 +248,9 @@ bounded_ok at (Err f) b e = absurd cc
 bound_is : (t : Placed) (b : Bound) → bound_of t ≡ Ok b → IsPiece (bound_piece b) t.text × IsBound b
 unfolding bound_of
 bound_is t b e =
-    choice (λ c. IsPiece (bound_piece c) t.text × IsBound c) (is_text (codes "none") t.text) Nothing b (bounded t.at (number_of 1000000000000 t.text)) (λ h. (text_is t.text (codes "none") h, tt)) (λ _ r.
+    choice (λ c. IsPiece (bound_piece c) t.text × IsBound c) (is_text (codes "none") t.text) Nothing b (bounded t.at (number_of MAX_POINTS t.text)) (λ h. (text_is t.text (codes "none") h, tt)) (λ _ r.
     let n = bounded_ok t.at _ b r in
-    subst (λ (c : Bound). IsPiece (bound_piece c) t.text × IsBound c) n.2 (number_spelled 1000000000000 t.text n.0 n.1)) e
+    subst (λ (c : Bound). IsPiece (bound_piece c) t.text × IsBound c) n.2 (number_spelled MAX_POINTS t.text n.0 n.1)) e
 
 -- digits are not `none`
 not_none : (text : List ℕ) → is_number_text text ≡ true → is_text (codes "none") text ≡ false
@@ -260,7 +261,7 @@ not_none text digits = false_from_ne_true (is_text (codes "none") text) (λ e.
 -- the piece of a bound is read as it
 is_bound : (b : Bound) (t : Placed) → IsBound b → IsPiece (bound_piece b) t.text → bound_of t ≡ Ok b
 unfolding bound_of
-is_bound (AtLeast n) t within piece = rw (not_none t.text piece.digits_only, number_read 1000000000000 t.text n piece within) refl
+is_bound (AtLeast n) t within piece = rw (not_none t.text piece.digits_only, number_read MAX_POINTS t.text n piece within) refl
 is_bound Nothing t within piece = rw (is_text_of t.text (codes "none") piece) refl
 
 -- a bound that was read is spelled

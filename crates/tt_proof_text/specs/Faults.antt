@@ -11,7 +11,7 @@ abbrev pub fault_from_feed : FeedFault → TextFault
 fault_from_feed feed.OutOfMemory = fault.OutOfMemory
 fault_from_feed f = fault.Feed f
 
--- a failed read says nothing of the bytes, nor does want of memory
+-- a failed read says nothing of the bytes, nor does being out of memory
 abbrev pub is_silent : TextFault → Bool
 is_silent fault.OutOfMemory = true
 is_silent (fault.Feed feed.Read) = true
@@ -28,7 +28,7 @@ is_failed_read _ = false
 abbrev pub TellsNoFailedRead : {X : Type 0} → Result X TextFault → Type 0
 TellsNoFailedRead result = IfErr result (λ f. is_failed_read f ≡ false)
 
--- no want of memory is told
+-- being out of memory is not told
 abbrev pub TellsNoOutOfMemory : {X : Type 0} → Result X TextFault → Type 0
 TellsNoOutOfMemory result = IfErr result (λ f. ¬ (f ≡ fault.OutOfMemory))
 

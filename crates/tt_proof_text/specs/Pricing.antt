@@ -1,7 +1,9 @@
+-- Only proofs rest on this file: nobody has to believe it.
 -- The prices that a claim lists.
 use Rattle.std.specs.Prelude.{◌≡◌, ℕ, ◌<◌, ◌≤◌, false, [], ◌∷◌, ◌++◌, All}
 use Rattle.tt_lists.specs.Words.{has_number}
 use Rattle.tt_leaf.specs.Ranges.{ArePrices}
+use Rattle.tt_proof_text.specs.declared.format.TheConstants.{MAX_PRICE}
 use Rattle.tt_proof_text.specs.Reading.{Kept, Seen}
 use Rattle.tt_proof_text.specs.declared.prices.Priced.{Priced}
 use Rattle.tt_proof_text.specs.declared.prices.Priced.TheVariants.{Course, Room}
@@ -40,5 +42,5 @@ IsUnseen sizes seen (Room r) = (r < sizes.rooms) × (has_number seen.1 r ≡ fal
 pub record AreKept (sizes : Sizes) (kept : Kept) : Type 0 where
   pub courses : ArePrices sizes.courses kept.0
   pub rooms : ArePrices sizes.rooms kept.1
-  pub course_prices : All (λ k. k.1 ≤ 1000000) kept.0
-  pub room_prices : All (λ k. k.1 ≤ 1000000) kept.1
+  pub course_prices : All (λ k. k.1 ≤ MAX_PRICE) kept.0
+  pub room_prices : All (λ k. k.1 ≤ MAX_PRICE) kept.1

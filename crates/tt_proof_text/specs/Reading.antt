@@ -27,6 +27,7 @@ use Rattle.tt_proof_text.specs.declared.fault.TextFault.{TextFault}
 use Rattle.tt_proof_text.specs.declared.fault.TextFault.TheVariants as fault
 use Rattle.tt_proof_text.specs.declared.claims.ClaimWord.{ClaimWord}
 use Rattle.tt_proof_text.specs.declared.claims.ClaimWord.TheVariants as claim_word
+use Rattle.tt_proof_text.specs.declared.format.TheConstants.{COURSE_LETTER, CURRICULUM_LETTER, DAY_LETTER, MAX_NODES, MAX_POINTS, MAX_PRICE, PERIOD_LETTER, ROOM_LETTER}
 use Rattle.tt_proof_text.specs.declared.node.Node.{Node}
 use Rattle.tt_proof_text.specs.declared.node.Node.TheVariants as node
 use Rattle.tt_proof_text.specs.declared.nodes.NodeWord.{NodeWord}
@@ -90,11 +91,11 @@ new_number at before n = if has_number before n then Err (fault.RepeatedIndex at
 
 -- `c` and the number of a course
 unfoldable pub course_at : Sizes → Stream → Result (ℕ × Stream) TextFault
-course_at sizes s = one_at (index_of 99 sizes.courses) s
+course_at sizes s = one_at (index_of COURSE_LETTER sizes.courses) s
 
 -- `q` and the number of a curriculum
 unfoldable pub curriculum_at : Sizes → Stream → Result (ℕ × Stream) TextFault
-curriculum_at sizes s = one_at (index_of 113 sizes.curricula) s
+curriculum_at sizes s = one_at (index_of CURRICULUM_LETTER sizes.curricula) s
 
 abbrev pub priced_as : ℕ → Result ℕ NumberFault → Result ℕ TextFault
 priced_as at (Ok n) = Ok n
@@ -102,15 +103,15 @@ priced_as at (Err e) = Err (fault.NotANumber at)
 
 -- a price, at most 1,000,000
 unfoldable pub price_at : Stream → Result (ℕ × Stream) TextFault
-price_at s = one_at (λ t. priced_as t.at (number_of 1000000 t.text)) s
+price_at s = one_at (λ t. priced_as t.at (number_of MAX_PRICE t.text)) s
 
 -- ---- patterns
 
 abbrev pub who_in : ℕ → Sizes → List ℕ → Result Who TextFault
 who_in at sizes [] = Err (fault.UnknownWord at)
 who_in at sizes (b ∷ bs) =
-    if b == 99 then (numbered_below at sizes.courses bs >>= λ n. Ok (who.Course n))
-    else (if b == 113 then (numbered_below at sizes.curricula bs >>= λ n. Ok (who.Curriculum n)) else Err (fault.UnknownWord at))
+    if b == COURSE_LETTER then (numbered_below at sizes.courses bs >>= λ n. Ok (who.Course n))
+    else (if b == CURRICULUM_LETTER then (numbered_below at sizes.curricula bs >>= λ n. Ok (who.Curriculum n)) else Err (fault.UnknownWord at))
 
 -- a course or a curriculum
 unfoldable pub who_at : Sizes → Stream → Result (Who × Stream) TextFault
@@ -127,9 +128,9 @@ given_at letter count s = one_at (given_of letter count) s
 unfoldable pub pattern_at : Sizes → Stream → Result (Pattern × Stream) TextFault
 pattern_at sizes s = do
   who ← who_at sizes s
-  room ← given_at 114 sizes.rooms who.1
-  day ← given_at 100 sizes.days room.1
-  period ← given_at 112 sizes.periods day.1
+  room ← given_at ROOM_LETTER sizes.rooms who.1
+  day ← given_at DAY_LETTER sizes.days room.1
+  period ← given_at PERIOD_LETTER sizes.periods day.1
   Ok (record { who = who.0; room = room.0; day = day.0; period = period.0 }, period.1)
 
 -- ---- parts up to their end
@@ -149,7 +150,7 @@ up_to_end add part (suc n) kept s = do
 -- ---- the courses of a clique or of slots
 
 abbrev pub listed_of : Sizes → List ℕ → Placed → Result (Option ℕ) TextFault
-listed_of sizes before t = if is_text (codes ";") t.text then Ok None else (index_of 99 sizes.courses t >>= new_number t.at before >>= λ c. Ok (Some c))
+listed_of sizes before t = if is_text (codes ";") t.text then Ok None else (index_of COURSE_LETTER sizes.courses t >>= new_number t.at before >>= λ c. Ok (Some c))
 
 -- a course that is none of those before it, or none at `;`
 unfoldable pub listed_at : Sizes → List ℕ → Stream → Result (Option ℕ × Stream) TextFault
@@ -175,8 +176,8 @@ seen_in kept = (map (λ k. k.0) kept.0, map (λ k. k.0) kept.1)
 abbrev pub priced_in : ℕ → Sizes → Seen → List ℕ → Result Priced TextFault
 priced_in at sizes seen [] = Err (fault.UnknownWord at)
 priced_in at sizes seen (b ∷ bs) =
-    if b == 99 then (numbered_below at sizes.courses bs >>= new_number at seen.0 >>= λ n. Ok (priced.Course n))
-    else (if b == 114 then (numbered_below at sizes.rooms bs >>= new_number at seen.1 >>= λ n. Ok (priced.Room n)) else Err (fault.UnknownWord at))
+    if b == COURSE_LETTER then (numbered_below at sizes.courses bs >>= new_number at seen.0 >>= λ n. Ok (priced.Course n))
+    else (if b == ROOM_LETTER then (numbered_below at sizes.rooms bs >>= new_number at seen.1 >>= λ n. Ok (priced.Room n)) else Err (fault.UnknownWord at))
 
 -- what has no price yet, or none at `/`
 abbrev pub priced_of : Sizes → Seen → Placed → Result (Option Priced) TextFault
@@ -272,9 +273,9 @@ node_after_word sizes version node_word.Cost s = claims_at sizes version s >>= �
 
 -- a file has at most 16,777,216 nodes
 abbrev pub counted : ℕ → ℕ → Result (Unit {0}) TextFault
-counted at count = if nat_lt count 16777216 then Ok tt else Err (fault.TooManyNodes at)
+counted at count = if nat_lt count MAX_NODES then Ok tt else Err (fault.TooManyNodes at)
 
--- a node, with so many nodes before it
+-- a node, with this many nodes before it
 unfoldable pub node_at : Sizes → ℕ → ℕ → Stream → Result (Node × Stream) TextFault
 node_at sizes version count s = do
   t ← token_at s
@@ -295,7 +296,7 @@ bounded at (Err e) = Err (fault.NotANumber at)
 
 -- `none`, or a number up to 1,000,000,000,000
 unfoldable pub bound_of : Placed → Result Bound TextFault
-bound_of t = if is_text (codes "none") t.text then Ok bound.Nothing else bounded t.at (number_of 1000000000000 t.text)
+bound_of t = if is_text (codes "none") t.text then Ok bound.Nothing else bounded t.at (number_of MAX_POINTS t.text)
 
 unfoldable pub bound_at : Stream → Result (Bound × Stream) TextFault
 bound_at s = one_at bound_of s

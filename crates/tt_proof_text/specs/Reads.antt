@@ -1,13 +1,14 @@
 -- A proof that a stream gives node by node.
-use Rattle.std.specs.Prelude.{◌≡◌, ℕ, ◌+◌, List, [], ◌∷◌, Ok}
+use Rattle.std.specs.Prelude.{◌≡◌, ℕ, zero, suc, ◌+◌, List, [], ◌∷◌, Option, Some, None, Ok}
 use Rattle.tt_leaf.specs.declared.leaf.Bound.{Bound}
-use Rattle.tt_text.specs.Feeds.{Stream}
+use Rattle.tt_text.specs.Feeds.{Stream, stream_from, most_bytes}
 use Rattle.tt_proof_text.specs.Reading.{header_at, node_at, end_at}
 use Rattle.tt_proof_text.specs.Trees.{Tree, preorder}
 use Rattle.tt_proof_text.specs.declared.node.Node.{Node}
+use Rattle.tt_proof_text.specs.declared.node.Node.TheVariants.{Split, Leaf}
 use Rattle.tt_proof_text.specs.declared.sizes.Sizes.{Sizes}
 
--- The stream goes on with these nodes, and this is what comes after them. So many nodes come before.
+-- The stream goes on with these nodes, and this is what comes after them. This many nodes come before.
 abbrev pub ReadsNodes : Sizes → ℕ → ℕ → Stream → List Node → Stream → Type 0
 ReadsNodes sizes version count s [] after = s ≡ after
 ReadsNodes sizes version count s (node ∷ nodes) after =
@@ -21,3 +22,14 @@ pub record Reads (sizes : Sizes) (s : Stream) (version : ℕ) (bound : Bound) (t
   pub header : header_at s ≡ Ok ((version, bound), headed)
   pub nodes : ReadsNodes sizes version 0 headed (preorder tree) noded
   pub finish : end_at noded ≡ Ok ended
+
+-- what a feed gives of bytes
+abbrev pub stream_of_bytes : List ℕ → Stream
+stream_of_bytes bytes = stream_from most_bytes 0 bytes
+
+-- How many places of a tree are open after nodes, each of which fills one: a leaf opens none, a split two. None where no place is open for a node.
+abbrev pub open_after : ℕ → List Node → Option ℕ
+open_after places [] = Some places
+open_after zero (node ∷ nodes) = None
+open_after (suc places) (Leaf leaf ∷ nodes) = open_after places nodes
+open_after (suc places) (Split g ∷ nodes) = open_after (suc (suc places)) nodes

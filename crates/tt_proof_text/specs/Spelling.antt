@@ -8,6 +8,7 @@ use Rattle.tt_facts.specs.declared.facts.Who.{Who}
 use Rattle.tt_facts.specs.declared.facts.Who.TheVariants.{Course, Curriculum}
 use Rattle.tt_facts.specs.declared.facts.Pattern.{Pattern}
 use Rattle.tt_facts.specs.Facts.{IsPattern}
+use Rattle.tt_facts.specs.declared.path.TheConstants.{MAX_FACTS}
 use Rattle.tt_leaf.specs.Ranges.{IsLeafOf}
 use Rattle.tt_leaf.specs.declared.leaf.Bound.{Bound}
 use Rattle.tt_leaf.specs.declared.leaf.Bound.TheVariants.{AtLeast, Nothing}
@@ -17,6 +18,7 @@ use Rattle.tt_leaf.specs.declared.leaf.Leaf.{Leaf}
 use Rattle.tt_leaf.specs.declared.leaf.Leaf.TheVariants.{Empty, Many, Clique, Slots, Cost}
 use Rattle.tt_proof_text.specs.declared.fault.Word.{Word}
 use Rattle.tt_proof_text.specs.declared.fault.Word.TheVariants as word
+use Rattle.tt_proof_text.specs.declared.format.TheConstants.{COURSE_LETTER, CURRICULUM_LETTER, DAY_LETTER, MAX_NODES, MAX_POINTS, MAX_PRICE, MAX_PROOF_BYTES, PERIOD_LETTER, ROOM_LETTER}
 use Rattle.tt_proof_text.specs.declared.node.Node.{Node}
 use Rattle.tt_proof_text.specs.declared.node.Node.TheVariants as node
 use Rattle.tt_proof_text.specs.Trees.{Tree, preorder, on_paths}
@@ -34,19 +36,19 @@ given_piece letter (Some n) = Index letter n
 
 -- `c` and a number
 abbrev pub course_piece : ℕ → Piece
-course_piece c = Index 99 c
+course_piece c = Index COURSE_LETTER c
 
 -- `r` and a number
 abbrev pub room_piece : ℕ → Piece
-room_piece r = Index 114 r
+room_piece r = Index ROOM_LETTER r
 
 abbrev pub who_piece : Who → Piece
 who_piece (Course c) = course_piece c
-who_piece (Curriculum q) = Index 113 q
+who_piece (Curriculum q) = Index CURRICULUM_LETTER q
 
 -- who, room, day and period
 abbrev pub pattern_pieces : Pattern → List Piece
-pattern_pieces g = who_piece g.who ∷ given_piece 114 g.room ∷ given_piece 100 g.day ∷ given_piece 112 g.period ∷ []
+pattern_pieces g = who_piece g.who ∷ given_piece ROOM_LETTER g.room ∷ given_piece DAY_LETTER g.day ∷ given_piece PERIOD_LETTER g.period ∷ []
 
 -- courses up to `;`
 abbrev pub listed_pieces : List ℕ → List Piece
@@ -80,7 +82,7 @@ SpellsPrices courses rooms ps =
 abbrev pub SpellsClaim : Claim → List Piece → Type 0
 SpellsClaim (Capacity c u) ps = ps ≡ Text (codes "C") ∷ course_piece c ∷ Number u ∷ []
 SpellsClaim (Days c) ps = ps ≡ Text (codes "D") ∷ course_piece c ∷ []
-SpellsClaim (Compact q) ps = ps ≡ Text (codes "Q") ∷ Index 113 q ∷ []
+SpellsClaim (Compact q) ps = ps ≡ Text (codes "Q") ∷ Index CURRICULUM_LETTER q ∷ []
 SpellsClaim (Stable c) ps = ps ≡ Text (codes "R") ∷ course_piece c ∷ []
 SpellsClaim (Prices courses rooms) ps = SpellsPrices courses rooms ps
 SpellsClaim (Stacked c) ps = ps ≡ Text (codes "T") ∷ course_piece c ∷ []
@@ -110,8 +112,8 @@ version_text v = if v == 1 then codes "1" else codes "2"
 
 -- The courses of one `K` or `H` are distinct, and no price is above 1,000,000.
 abbrev pub IsShortClaim : Claim → Type 0
-IsShortClaim (Capacity c u) = u ≤ 1000000
-IsShortClaim (Prices courses rooms) = All (λ k. k.1 ≤ 1000000) courses × All (λ k. k.1 ≤ 1000000) rooms
+IsShortClaim (Capacity c u) = u ≤ MAX_PRICE
+IsShortClaim (Prices courses rooms) = All (λ k. k.1 ≤ MAX_PRICE) courses × All (λ k. k.1 ≤ MAX_PRICE) rooms
 IsShortClaim _ = ⊤
 
 abbrev pub IsShortLeaf : Leaf → Type 0
@@ -136,15 +138,15 @@ IsNode p v (node.Split g) = IsPattern p g
 IsNode p v (node.Leaf leaf) = IsLeafOf p leaf × IsShortLeaf leaf × IsLeafIn v leaf
 
 abbrev pub IsBound : Bound → Type 0
-IsBound (AtLeast b) = b ≤ 1000000000000
+IsBound (AtLeast b) = b ≤ MAX_POINTS
 IsBound Nothing = ⊤
 
 -- the limits of a file
 pub record IsWithinLimits (bytes : List ℕ) (tree : Tree) : Type 0 where
-  pub size : length bytes ≤ 4294967295
+  pub size : length bytes ≤ MAX_PROOF_BYTES
   pub tokens : All (λ t. length t.text ≤ 32) (tokens_of bytes)
-  pub nodes : length (preorder tree) ≤ 16777216
-  pub depth : All (λ x. length x.path ≤ 65536) (on_paths [] tree)
+  pub nodes : length (preorder tree) ≤ MAX_NODES
+  pub depth : All (λ x. length x.path ≤ MAX_FACTS) (on_paths [] tree)
 
 -- The tokens of the bytes are `CTTP`, the version, `bound`, the bound, the tree in preorder and `end`, and no more.
 pub record SpellsProof (p : Problem) (bytes : List ℕ) (v : ℕ) (b : Bound) (tree : Tree) : Type 0 where

@@ -5,8 +5,8 @@ ghost use Rattle.tt_proof_text.specs.declared.fault.TextFault.TheVariants.{OutOf
 ghost use Rattle.tt_proof_text.specs.Words.{word_text};
 
 use std::alloc::{AllocError, AllocFailed};
-use std::error::Error;
 use std::fmt;
+use thiserror::Error;
 use tt_text::FeedFault;
 
 /// A fixed word of the format.
@@ -46,18 +46,28 @@ impl fmt::Display for Word {
 }
 
 /// The first fault from the left, with the offset of its token (of the end, where one is missing), or what the feed met.
-#[derive(Clone, Copy, Debug, PartialEq, Eq)]
+#[derive(Clone, Copy, Debug, PartialEq, Eq, Error)]
 pub enum TextFault {
+    #[error("Ended at byte {0}")]
     Ended(usize),
+    #[error("Expected {0} at byte {1}")]
     Expected(Word, usize),
+    #[error("UnknownWord at byte {0}")]
     UnknownWord(usize),
     /// No number where one is due, or one above its limit.
+    #[error("NotANumber at byte {0}")]
     NotANumber(usize),
+    #[error("UnknownIndex at byte {0}")]
     UnknownIndex(usize),
+    #[error("RepeatedIndex at byte {0}")]
     RepeatedIndex(usize),
+    #[error("TrailingToken at byte {0}")]
     TrailingToken(usize),
+    #[error("TooManyNodes at byte {0}")]
     TooManyNodes(usize),
+    #[error("{0}")]
     Feed(FeedFault),
+    #[error("out of memory")]
     OutOfMemory,
 }
 
@@ -89,22 +99,3 @@ impl<T: Drop> From<AllocFailed<T>> for TextFault {
         TextFault::OutOfMemory
     }
 }
-
-impl fmt::Display for TextFault {
-    fn fmt<W: fmt::Write>(&self, f: &mut fmt::Formatter<W>) -> fmt::Result {
-        match self {
-            TextFault::Ended(at) => write!(f, "Ended at byte {at}"),
-            TextFault::Expected(word, at) => write!(f, "Expected {word} at byte {at}"),
-            TextFault::UnknownWord(at) => write!(f, "UnknownWord at byte {at}"),
-            TextFault::NotANumber(at) => write!(f, "NotANumber at byte {at}"),
-            TextFault::UnknownIndex(at) => write!(f, "UnknownIndex at byte {at}"),
-            TextFault::RepeatedIndex(at) => write!(f, "RepeatedIndex at byte {at}"),
-            TextFault::TrailingToken(at) => write!(f, "TrailingToken at byte {at}"),
-            TextFault::TooManyNodes(at) => write!(f, "TooManyNodes at byte {at}"),
-            TextFault::Feed(fault) => write!(f, "{fault}"),
-            TextFault::OutOfMemory => write!(f, "out of memory"),
-        }
-    }
-}
-
-impl Error for TextFault {}

@@ -8,13 +8,13 @@ ghost use Rattle.tt_proof_text.specs.Faults.{TellsNoFailedRead, TellsNoOutOfMemo
 ghost use Rattle.tt_proof_text.specs.Reading.{token_at, word_at, numbered_below, index_of, course_at, curriculum_at, priced_as, price_at};
 
 use crate::fault::{TextFault, Word};
+use crate::format::{COURSE_LETTER, CURRICULUM_LETTER, MAX_PRICE};
 use crate::sizes::Sizes;
 use tt_text::{Feed, NumberFault, Source, Token, number};
 
-const MOST_PRICE: u64 = 1_000_000;
-
 /// The next token.
 #[tactic(auto, unfolding(crate::specs::Reading::token_at))]
+#[inline(always)]
 pub fn token<R: Source>(feed: &mut Feed, source: &mut R) -> Result<usize, TextFault>
     ensures known { StaysKnown (R.remaining source.old) (R.remaining source.new) }
     ensures failed { TellsReads feed.old.fault (R.has_failed source.old) feed.new.fault (R.has_failed source.new) result }
@@ -128,11 +128,11 @@ pub fn read_curriculum<R: Source>(
 
 /// A price, in one token.
 fn price(text: &[u8], at: usize) -> Result<u32, TextFault>
-    ensures read { Gives (λ u. u) result (priced_as at (number_of 1000000 text.now)) }
-    ensures within { IfOk result (λ u. u ≤ 1000000) }
+    ensures read { Gives (λ u. u) result (priced_as at (number_of MAX_PRICE text.now)) }
+    ensures within { IfOk result (λ u. u ≤ MAX_PRICE) }
     ensures unread { TellsNoFailedRead result }
 {
-    match number(&Token { bytes: text, at }, MOST_PRICE) {
+    match number(&Token { bytes: text, at }, u64::from(MAX_PRICE)) {
         Ok(points) => Ok(points as u32),
         Err(_) => Err(TextFault::NotANumber(at)),
     }
@@ -146,7 +146,7 @@ pub fn read_price<R: Source>(feed: &mut Feed, source: &mut R) -> Result<u32, Tex
     ensures forward { IfOk result (λ _. room_of feed.new < room_of feed.old) }
     ensures read { ReadsAs feed.old (R.remaining source.old) feed.new (R.remaining source.new) (λ u. u) result price_at }
     ensures cut_short { AgreesWhenCutAs feed.old (R.remaining source.old) feed.new (R.remaining source.new) (λ u. u) result price_at }
-    ensures within { IfOk result (λ u. u ≤ 1000000) }
+    ensures within { IfOk result (λ u. u ≤ MAX_PRICE) }
 {
     let at = token(feed, source)?;
     price(feed.token(), at)

@@ -8,10 +8,9 @@ ghost use Rattle.tt_proof_text.specs.Reading.{version_of, version_at, bound_of, 
 
 use crate::fault::{TextFault, Word};
 use crate::fields::{read_word, token};
+use crate::format::MAX_POINTS;
 use tt_leaf::Bound;
 use tt_text::{Feed, Source, Token, number};
-
-const MOST_POINTS: u64 = 1_000_000_000_000;
 
 /// The version, in one token.
 fn version(text: &[u8], at: usize) -> Result<u8, TextFault>

@@ -4,7 +4,9 @@
 mod claims;
 mod fault;
 mod fields;
+mod format;
 mod header;
+mod laws;
 mod lists;
 mod node;
 mod nodes;
@@ -16,6 +18,11 @@ mod sizes;
 mod tables;
 
 pub use fault::{TextFault, Word};
+pub use format::{
+    COURSE_LETTER, CURRICULUM_LETTER, DAY_LETTER, MAX_NODES, MAX_POINTS, MAX_PRICE,
+    MAX_PROOF_BYTES, PERIOD_LETTER, ROOM_LETTER,
+};
+pub use laws::{filled_trees_are_whole, read_proofs_are_spelled};
 pub use node::Node;
 pub use reader::NodeReader;
 pub use sizes::Sizes;

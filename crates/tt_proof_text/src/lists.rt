@@ -10,6 +10,7 @@ ghost use Rattle.tt_proof_text.specs.Reading.{listed_of, listed_at, list_at};
 
 use crate::fault::TextFault;
 use crate::fields::{index, token};
+use crate::format::COURSE_LETTER;
 use crate::seen::Seen;
 use crate::sizes::Sizes;
 use crate::tables::new_number;

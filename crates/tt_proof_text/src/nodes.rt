@@ -10,6 +10,7 @@ ghost use Rattle.tt_proof_text.specs.Reading.{node_word_of, node_after_word, nod
 use crate::claims::read_claims;
 use crate::fault::TextFault;
 use crate::fields::{read_course, token};
+use crate::format::MAX_NODES;
 use crate::lists::read_list;
 use crate::node::Node;
 use crate::patterns::read_pattern;
@@ -18,8 +19,6 @@ use crate::tables::Tables;
 use std::alloc::Global;
 use tt_leaf::{ClaimList, CourseList, Leaf};
 use tt_text::{Feed, Source};
-
-const MOST_NODES: u32 = 16_777_216;
 
 /// The first token of a node.
 #[derive(Clone, Copy, Debug)]
@@ -95,7 +94,7 @@ fn read_node_after_word<R: Source>(
     }
 }
 
-/// A node, with so many nodes before it.
+/// A node, with this many nodes before it.
 #[tactic(auto, unfolding(crate::specs::Reading::node_at))]
 pub fn read_node<R: Source>(
     alloc: Global,
@@ -113,10 +112,10 @@ pub fn read_node<R: Source>(
     ensures read { ReadsAs feed.old (R.remaining source.old) feed.new (R.remaining source.new) (λ n. n) result (node_at sizes version count) }
     ensures cut_short { AgreesWhenCutAs feed.old (R.remaining source.old) feed.new (R.remaining source.new) (λ n. n) result (node_at sizes version count) }
     ensures node { IfOk result (IsNodeAt sizes version) }
-    ensures room { IfOk result (λ _. count < 16777216) }
+    ensures room { IfOk result (λ _. count < MAX_NODES) }
 {
     let at = token(feed, source)?;
-    if count >= MOST_NODES {
+    if count >= MAX_NODES {
         return Err(TextFault::TooManyNodes(at));
     }
     let word = node_word(feed.token(), at)?;

@@ -10,6 +10,7 @@ ghost use Rattle.tt_proof_text.specs.Reading.{who_in, who_at, given_of, given_at
 
 use crate::fault::TextFault;
 use crate::fields::{index, number_below, token};
+use crate::format::{COURSE_LETTER, CURRICULUM_LETTER, DAY_LETTER, PERIOD_LETTER, ROOM_LETTER};
 use crate::sizes::Sizes;
 use tt_facts::{Pattern, Who};
 use tt_text::{Feed, Source};
@@ -21,11 +22,11 @@ fn who(text: &[u8], at: usize, sizes: Sizes) -> Result<Who, TextFault>
     ensures unread { TellsNoFailedRead result }
 {
     match text.split_first() {
-        Some((b'c', digits)) => {
+        Some((&COURSE_LETTER, digits)) => {
             let course = number_below(digits, at, sizes.courses)?;
             Ok(Who::Course(course))
         }
-        Some((b'q', digits)) => {
+        Some((&CURRICULUM_LETTER, digits)) => {
             let curriculum = number_below(digits, at, sizes.curricula)?;
             Ok(Who::Curriculum(curriculum))
         }

@@ -9,6 +9,7 @@ ghost use Rattle.tt_proof_text.specs.Reading.{priced_in, priced_of, pair_at, pri
 
 use crate::fault::TextFault;
 use crate::fields::{number_below, read_price, token};
+use crate::format::{COURSE_LETTER, MAX_PRICE, ROOM_LETTER};
 use crate::sizes::Sizes;
 use crate::tables::{Tables, new_number};
 use std::alloc::{AllocError, Global};
@@ -62,12 +63,12 @@ fn new_priced(text: &[u8], at: usize, sizes: Sizes, tables: &Tables) -> Result<P
     ensures unread { TellsNoFailedRead result }
 {
     match text.split_first() {
-        Some((b'c', digits)) => {
+        Some((&COURSE_LETTER, digits)) => {
             let course = number_below(digits, at, sizes.courses)?;
             let course = new_number(&tables.courses, course, at)?;
             Ok(Priced::Course(course))
         }
-        Some((b'r', digits)) => {
+        Some((&ROOM_LETTER, digits)) => {
             let room = number_below(digits, at, sizes.rooms)?;
             let room = new_number(&tables.rooms, room, at)?;
             Ok(Priced::Room(room))
@@ -106,7 +107,7 @@ fn read_pair<R: Source>(
     ensures forward { IfOk result (λ _. room_of feed.new < room_of feed.old) }
     ensures read { ReadsAs feed.old (R.remaining source.old) feed.new (R.remaining source.new) (λ x. x) result (pair_at sizes (seen_of tables.now)) }
     ensures cut_short { AgreesWhenCutAs feed.old (R.remaining source.old) feed.new (R.remaining source.new) (λ x. x) result (pair_at sizes (seen_of tables.now)) }
-    ensures within { IfOk result (λ x. IfSome x (λ k. IsUnseen sizes (seen_of tables.now) k.0 × (k.1 ≤ 1000000))) }
+    ensures within { IfOk result (λ x. IfSome x (λ k. IsUnseen sizes (seen_of tables.now) k.0 × (k.1 ≤ MAX_PRICE))) }
 {
     let at = token(feed, source)?;
     let Some(priced) = priced_or_end(feed.token(), at, sizes, tables)? else {

@@ -14,6 +14,7 @@ use Rattle.tt_leaf.specs.declared.leaf.Claim.{Claim}
 use Rattle.tt_leaf.specs.declared.leaf.Claim.TheVariants.{Capacity, Days, Compact, Stable, Prices, Stacked}
 use Rattle.tt_leaf.specs.declared.leaf.Leaf.TheVariants.{Empty, Many, Clique, Slots, Cost}
 use Rattle.tt_proof_text.specs.declared.fault.Word.TheVariants as word
+use Rattle.tt_proof_text.specs.declared.format.TheConstants.{COURSE_LETTER, ROOM_LETTER}
 use Rattle.tt_proof_text.specs.declared.node.Node.{Node}
 use Rattle.tt_proof_text.specs.declared.node.Node.TheVariants.{Split, Leaf}
 use Rattle.tt_proof_text.specs.Trees.{Tree, preorder}
@@ -50,11 +51,11 @@ rooms_of : (courses rooms : List (ℕ × ℕ)) → room_prices (prices_of course
 rooms_of [] rooms = all_rooms rooms
 rooms_of (k ∷ ks) rooms = rooms_of ks rooms
 
-pieces_of : (courses rooms : List (ℕ × ℕ)) → flat_map price_pieces (prices_of courses rooms) ≡ flat_map (priced_pieces 99) courses ++ flat_map (priced_pieces 114) rooms
+pieces_of : (courses rooms : List (ℕ × ℕ)) → flat_map price_pieces (prices_of courses rooms) ≡ flat_map (priced_pieces COURSE_LETTER) courses ++ flat_map (priced_pieces ROOM_LETTER) rooms
 pieces_of courses rooms =
     flat_map-append price_pieces (map of_course courses) (map of_room rooms)
     ∙ ap (λ (ps : List Piece). ps ++ flat_map price_pieces (map of_room rooms)) (flat_map-map price_pieces of_course courses)
-    ∙ ap (λ (ps : List Piece). flat_map (priced_pieces 99) courses ++ ps) (flat_map-map price_pieces of_room rooms)
+    ∙ ap (λ (ps : List Piece). flat_map (priced_pieces COURSE_LETTER) courses ++ ps) (flat_map-map price_pieces of_room rooms)
 
 claim_spelled : (claim : Claim) → SpellsClaim claim (claim_pieces claim)
 claim_spelled (Capacity c u) = refl

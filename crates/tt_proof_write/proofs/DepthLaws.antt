@@ -7,6 +7,7 @@ use Rattle.std.proofs.lemmas.List.Elements.{All-nil, All-cons, All-head, All-tai
 use Rattle.std.proofs.lemmas.List.{append-nil, at_drop_more, at_drop_all, length-reverse, reverse-append}
 use Rattle.tt_facts.specs.declared.facts.Fact.{Fact}
 use Rattle.tt_facts.specs.declared.facts.Pattern.{Pattern}
+use Rattle.tt_facts.specs.declared.path.TheConstants.{MAX_FACTS}
 use Rattle.tt_leaf.specs.declared.leaf.Leaf.{Leaf as Closed}
 use Rattle.tt_proof_text.specs.declared.node.Node.{Node}
 use Rattle.tt_proof_text.specs.declared.node.Node.TheVariants.{Split, Leaf}
@@ -25,13 +26,13 @@ later_depths (d ∷ ds) = ds
 -- nodes from a depth on, before second children at those depths, are none too deep
 abbrev pub are_shallow : ℕ → List ℕ → List Node → Bool
 are_shallow d ds [] = true
-are_shallow d ds (Split g ∷ nodes) = nat_lt d 65536 && are_shallow (d + 1) ((d + 1) ∷ ds) nodes
+are_shallow d ds (Split g ∷ nodes) = nat_lt d MAX_FACTS && are_shallow (d + 1) ((d + 1) ∷ ds) nodes
 are_shallow d ds (Leaf leaf ∷ nodes) = are_shallow (next_depth ds) (later_depths ds) nodes
 
 -- a tree from a depth on
 abbrev is_shallow_tree : ℕ → Tree → Bool
 is_shallow_tree d (Close leaf) = true
-is_shallow_tree d (Branch g first second) = nat_lt d 65536 && (is_shallow_tree (d + 1) first && is_shallow_tree (d + 1) second)
+is_shallow_tree d (Branch g first second) = nat_lt d MAX_FACTS && (is_shallow_tree (d + 1) first && is_shallow_tree (d + 1) second)
 
 regrouped : (a b c d : Bool) → (a && (b && (c && d))) ≡ ((a && (b && c)) && d)
 regrouped true true c d = refl
@@ -48,8 +49,8 @@ shallow-tree (Close leaf) d ds rest = refl
 shallow-tree (Branch g first second) d ds rest =
     let firsts = ap (are_shallow (d + 1) ((d + 1) ∷ ds)) (append_assoc (preorder first) (preorder second) rest) ∙ shallow-tree first (d + 1) ((d + 1) ∷ ds) (preorder second ++ rest) in
     let seconds = ap (λ (b : Bool). is_shallow_tree (d + 1) first && b) (shallow-tree second (d + 1) ds rest) in
-    ap (λ (b : Bool). nat_lt d 65536 && b) (firsts ∙ seconds)
-    ∙ regrouped (nat_lt d 65536) (is_shallow_tree (d + 1) first) (is_shallow_tree (d + 1) second) (are_shallow (next_depth ds) (later_depths ds) rest)
+    ap (λ (b : Bool). nat_lt d MAX_FACTS && b) (firsts ∙ seconds)
+    ∙ regrouped (nat_lt d MAX_FACTS) (is_shallow_tree (d + 1) first) (is_shallow_tree (d + 1) second) (are_shallow (next_depth ds) (later_depths ds) rest)
 
 All_parts : {X : Type 0} (P : X → Type 0) (xs ys : List X) → All P (xs ++ ys) → All P xs × All P ys
 All_parts P [] ys h = (All-nil P, h)
@@ -58,23 +59,23 @@ All_parts P (x ∷ xs) ys h =
     (All-cons P x xs (All-head P x (xs ++ ys) h) rest.0, rest.1)
 
 abbrev IsLow : OnPath → Type 0
-IsLow x = length x.path ≤ 65536
+IsLow x = length x.path ≤ MAX_FACTS
 
 longer : (path : List Fact) (g : Pattern) (holds : Bool) (d : ℕ) → length path ≡ d → length (with_fact path g holds) ≡ d + 1
 longer path g holds d e = length-append path _ ∙ omega arith
 
 -- the paths of a shallow tree are short
-shallow_paths : (tree : Tree) (path : List Fact) (d : ℕ) → length path ≡ d → d ≤ 65536 → is_shallow_tree d tree ≡ true → All IsLow (on_paths path tree)
+shallow_paths : (tree : Tree) (path : List Fact) (d : ℕ) → length path ≡ d → d ≤ MAX_FACTS → is_shallow_tree d tree ≡ true → All IsLow (on_paths path tree)
 shallow_paths (Close leaf) path d e low h = All-cons IsLow _ [] (omega arith) (All-nil IsLow)
 shallow_paths (Branch g first second) path d e low h =
-    let here = and_parts (nat_lt d 65536) _ h in
+    let here = and_parts (nat_lt d MAX_FACTS) _ h in
     let both = and_parts (is_shallow_tree (d + 1) first) (is_shallow_tree (d + 1) second) here.1 in
-    let lower : d + 1 ≤ 65536 = grind (arith, nat_tests) in
+    let lower : d + 1 ≤ MAX_FACTS = grind (arith, nat_tests) in
     All-cons IsLow _ _ (omega arith)
     (All-append IsLow _ _ (shallow_paths first (with_fact path g true) (d + 1) (longer path g true d e) lower both.0) (shallow_paths second (with_fact path g false) (d + 1) (longer path g false d e) lower both.1))
 
 -- a tree has a node on the path to it
-root_low : (tree : Tree) (path : List Fact) → All IsLow (on_paths path tree) → length path ≤ 65536
+root_low : (tree : Tree) (path : List Fact) → All IsLow (on_paths path tree) → length path ≤ MAX_FACTS
 root_low (Close leaf) path h = All-head IsLow _ [] h
 root_low (Branch g first second) path h = All-head IsLow _ _ h
 
@@ -84,7 +85,7 @@ paths_shallow (Close leaf) path d e h = refl
 paths_shallow (Branch g first second) path d e h =
     let rest = All_parts IsLow (on_paths (with_fact path g true) first) (on_paths (with_fact path g false) second) (All-tail IsLow _ _ h) in
     let low = root_low first (with_fact path g true) rest.0 in
-    and_from (nat_lt d 65536) _ (lt-ltb d 65536 (omega (arith, low, longer path g true d e)))
+    and_from (nat_lt d MAX_FACTS) _ (lt-ltb d MAX_FACTS (omega (arith, low, longer path g true d e)))
     (and_from _ _ (paths_shallow first (with_fact path g true) (d + 1) (longer path g true d e) rest.0) (paths_shallow second (with_fact path g false) (d + 1) (longer path g false d e) rest.1))
 
 whole : (tree : Tree) → are_shallow 0 [] (preorder tree) ≡ is_shallow_tree 0 tree
@@ -150,7 +151,7 @@ node_read d ds nodes i node read below is e = at_drop_more (are_shallow d ds) no
 -- what a walk keeps before a node at a depth, with second children at depths that are still to come
 pub record KeepsDepths (nodes : List Node) (i d : ℕ) (ds : List ℕ) : Type 0 where
   pub told : are_shallow d ds (drop i nodes) ≡ are_shallow 0 [] nodes
-  pub low : d ≤ 65536
+  pub low : d ≤ MAX_FACTS
   pub falling : AreFalling d ds
 
 -- at the first node nothing is still to come
@@ -158,16 +159,16 @@ pub walk_begins : (nodes : List Node) (pending : List ℕ) → pending ≡ [] �
 walk_begins nodes pending none = rw none (record { told = refl; low = lit≤ tt; falling = tt })
 
 -- there is room for one more second child where its depth is not too great
-pub walk_room : (nodes : List Node) (i d : ℕ) (pending : List ℕ) → KeepsDepths nodes i d (reverse pending) → d ≢ 65536 → length pending < 65536
+pub walk_room : (nodes : List Node) (i d : ℕ) (pending : List ℕ) → KeepsDepths nodes i d (reverse pending) → d ≢ MAX_FACTS → length pending < MAX_FACTS
 walk_room nodes i d pending keeps free = omega (arith, keeps.low, length-reverse pending, length-falling d (reverse pending) keeps.falling)
 
 -- a split's first child comes next, and its second later
-pub walk_split : (nodes : List Node) (i d e : ℕ) (old new : List ℕ) (node : Node) (g : Pattern) → i < length nodes → node ≡ get_or nodes i node → node ≡ Split g → d ≢ 65536 → e ≡ d + 1 → new ≡ old ++ (d + 1) ∷ []
+pub walk_split : (nodes : List Node) (i d e : ℕ) (old new : List ℕ) (node : Node) (g : Pattern) → i < length nodes → node ≡ get_or nodes i node → node ≡ Split g → d ≢ MAX_FACTS → e ≡ d + 1 → new ≡ old ++ (d + 1) ∷ []
     → KeepsDepths nodes i d (reverse old) → KeepsDepths nodes (i + 1) e (reverse new)
 walk_split nodes i d e old new node g below is split free deeper pushed keeps =
-    let within : d < 65536 = omega (arith, keeps.low) in
+    let within : d < MAX_FACTS = omega (arith, keeps.low) in
     let ds = reverse old in
-    let here : are_shallow d ds (Split g ∷ drop (i + 1) nodes) ≡ are_shallow (d + 1) ((d + 1) ∷ ds) (drop (i + 1) nodes) = rw (lt-ltb d 65536 within) refl in
+    let here : are_shallow d ds (Split g ∷ drop (i + 1) nodes) ≡ are_shallow (d + 1) ((d + 1) ∷ ds) (drop (i + 1) nodes) = rw (lt-ltb d MAX_FACTS within) refl in
     rw (deeper, reverse_pushed old new (d + 1) pushed)
     (record {
       told = sym here ∙ sym (node_read d ds nodes i node (Split g) below is split) ∙ keeps.told;
@@ -189,7 +190,7 @@ walk_leaf nodes i d e old new node leaf popped below is closed next split_off so
     })
 
 -- a split at the greatest depth has children that stand too deep
-pub walk_too_deep : (nodes : List Node) (i d : ℕ) (ds : List ℕ) (node : Node) (g : Pattern) → IsPreorder nodes → KeepsDepths nodes i d ds → i < length nodes → node ≡ get_or nodes i node → node ≡ Split g → d ≡ 65536 → IsTrue false ↔ IsShallow nodes
+pub walk_too_deep : (nodes : List Node) (i d : ℕ) (ds : List ℕ) (node : Node) (g : Pattern) → IsPreorder nodes → KeepsDepths nodes i d ds → i < length nodes → node ≡ get_or nodes i node → node ≡ Split g → d ≡ MAX_FACTS → IsTrue false ↔ IsShallow nodes
 walk_too_deep nodes i d ds node g tree keeps below is split deep =
     let here : are_shallow d ds (Split g ∷ drop (i + 1) nodes) ≡ false = rw deep refl in
     depth_told nodes false tree (sym here ∙ sym (node_read d ds nodes i node (Split g) below is split) ∙ keeps.told)

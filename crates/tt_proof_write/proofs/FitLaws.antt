@@ -14,6 +14,7 @@ use Rattle.tt_leaf.specs.declared.leaf.Bound.TheVariants.{AtLeast, Nothing}
 use Rattle.tt_leaf.specs.declared.leaf.Claim.{Claim}
 use Rattle.tt_leaf.specs.declared.leaf.Claim.TheVariants.{Capacity, Days, Compact, Stable, Prices, Stacked}
 use Rattle.tt_leaf.specs.declared.leaf.Leaf.TheVariants.{Empty, Many, Clique, Slots, Cost}
+use Rattle.tt_proof_text.specs.declared.format.TheConstants.{COURSE_LETTER, CURRICULUM_LETTER, DAY_LETTER, MAX_POINTS, PERIOD_LETTER, ROOM_LETTER}
 use Rattle.tt_proof_text.specs.declared.node.Node.{Node}
 use Rattle.tt_proof_text.specs.declared.node.Node.TheVariants.{Split, Leaf}
 use Rattle.tt_proof_text.specs.Spelling.{given_piece, course_piece, who_piece, pattern_pieces, bound_piece, IsBound}
@@ -23,12 +24,12 @@ use Rattle.tt_proof_write.proofs.TokenLaws.{IsFit, AreFit, LinesFit}
 
 -- ---- single pieces
 
-number_fit : (n : ℕ) → n ≤ 1000000000000 → IsFit (Number n)
+number_fit : (n : ℕ) → n ≤ MAX_POINTS → IsFit (Number n)
 number_fit n small =
     let len = length-decimal-le 20 n (lit< tt) (omega arith) (omega arith) in
     record { writable = omega arith; short = omega (arith, len) }
 
-index_fit : (letter n : ℕ) → is_separator letter ≡ false → n ≤ 1000000000000 → IsFit (Index letter n)
+index_fit : (letter n : ℕ) → is_separator letter ≡ false → n ≤ MAX_POINTS → IsFit (Index letter n)
 index_fit letter n apart small =
     let len = length-decimal-le 20 n (lit< tt) (omega arith) (omega arith) in
     record { writable = (apart, omega arith); short = omega (arith, len) }
@@ -53,11 +54,11 @@ given_fit letter None apart narrow = letter_fit 42 refl
 given_fit letter (Some n) apart narrow = index_fit letter n apart (omega arith)
 
 who_fit : (w : Who) → IsNarrowWho w → IsFit (who_piece w)
-who_fit (Course c) narrow = index_fit 99 c refl (omega arith)
-who_fit (Curriculum q) narrow = index_fit 113 q refl (omega arith)
+who_fit (Course c) narrow = index_fit COURSE_LETTER c refl (omega arith)
+who_fit (Curriculum q) narrow = index_fit CURRICULUM_LETTER q refl (omega arith)
 
 pattern_fit : (g : Pattern) → IsNarrowPattern g → AreFit (pattern_pieces g)
-pattern_fit g narrow = (who_fit g.who narrow.who, (given_fit 114 g.room refl narrow.room, (given_fit 100 g.day refl narrow.day, (given_fit 112 g.period refl narrow.period, tt))))
+pattern_fit g narrow = (who_fit g.who narrow.who, (given_fit ROOM_LETTER g.room refl narrow.room, (given_fit DAY_LETTER g.day refl narrow.day, (given_fit PERIOD_LETTER g.period refl narrow.period, tt))))
 
 -- ---- lists of courses
 
@@ -65,7 +66,7 @@ courses_fit : (cs : List ℕ) → All IsNarrow cs → AreFit (map course_piece c
 courses_fit [] narrow = tt
 courses_fit (c ∷ cs) narrow =
     let here : c < 4294967296 = All-head IsNarrow c cs narrow in
-    (index_fit 99 c refl (omega arith), courses_fit cs (All-tail IsNarrow c cs narrow))
+    (index_fit COURSE_LETTER c refl (omega arith), courses_fit cs (All-tail IsNarrow c cs narrow))
 
 listed_fit : (cs : List ℕ) → All IsNarrow cs → AreFit (map course_piece cs ++ Text (codes ";") ∷ [])
 listed_fit cs narrow = fit_append (map course_piece cs) (Text (codes ";") ∷ []) (courses_fit cs narrow) (letter_fit 59 refl, tt)
@@ -87,15 +88,15 @@ claim_word_fit (Prices courses rooms) = letter_fit 80 refl
 claim_word_fit (Stacked c) = letter_fit 84 refl
 
 claim_rest_fit : (claim : Claim) → IsNarrowClaim claim → AreFit (claim_rest claim)
-claim_rest_fit (Capacity c u) narrow = (index_fit 99 c refl (omega (arith, narrow.0)), (number_fit u (omega (arith, narrow.1)), tt))
-claim_rest_fit (Days c) narrow = (index_fit 99 c refl (omega arith), tt)
-claim_rest_fit (Compact q) narrow = (index_fit 113 q refl (omega arith), tt)
-claim_rest_fit (Stable c) narrow = (index_fit 99 c refl (omega arith), tt)
+claim_rest_fit (Capacity c u) narrow = (index_fit COURSE_LETTER c refl (omega (arith, narrow.0)), (number_fit u (omega (arith, narrow.1)), tt))
+claim_rest_fit (Days c) narrow = (index_fit COURSE_LETTER c refl (omega arith), tt)
+claim_rest_fit (Compact q) narrow = (index_fit CURRICULUM_LETTER q refl (omega arith), tt)
+claim_rest_fit (Stable c) narrow = (index_fit COURSE_LETTER c refl (omega arith), tt)
 claim_rest_fit (Prices courses rooms) narrow =
-    fit_append (flat_map (priced_pieces 99) courses ++ flat_map (priced_pieces 114) rooms) (Text (codes "/") ∷ [])
-    (fit_append (flat_map (priced_pieces 99) courses) (flat_map (priced_pieces 114) rooms) (prices_fit 99 courses refl narrow.0) (prices_fit 114 rooms refl narrow.1))
+    fit_append (flat_map (priced_pieces COURSE_LETTER) courses ++ flat_map (priced_pieces ROOM_LETTER) rooms) (Text (codes "/") ∷ [])
+    (fit_append (flat_map (priced_pieces COURSE_LETTER) courses) (flat_map (priced_pieces ROOM_LETTER) rooms) (prices_fit COURSE_LETTER courses refl narrow.0) (prices_fit ROOM_LETTER rooms refl narrow.1))
     (letter_fit 47 refl, tt)
-claim_rest_fit (Stacked c) narrow = (index_fit 99 c refl (omega arith), tt)
+claim_rest_fit (Stacked c) narrow = (index_fit COURSE_LETTER c refl (omega arith), tt)
 
 claims_fit : (claims : List Claim) → All IsNarrowClaim claims → AreFit (flat_map claim_pieces claims)
 claims_fit [] narrow = tt
@@ -107,7 +108,7 @@ claims_fit (c ∷ cs) narrow =
 node_fit : (node : Node) → IsNarrowNode node → AreFit (node_pieces node)
 node_fit (Split g) narrow = (letter_fit 83 refl, pattern_fit g narrow)
 node_fit (Leaf (Empty g)) narrow = (letter_fit 69 refl, pattern_fit g narrow)
-node_fit (Leaf (Many c)) narrow = (letter_fit 77 refl, (index_fit 99 c refl (omega arith), tt))
+node_fit (Leaf (Many c)) narrow = (letter_fit 77 refl, (index_fit COURSE_LETTER c refl (omega arith), tt))
 node_fit (Leaf (Clique cs)) narrow = (letter_fit 75 refl, listed_fit cs narrow)
 node_fit (Leaf (Slots cs)) narrow = (letter_fit 72 refl, listed_fit cs narrow)
 node_fit (Leaf (Cost claims)) narrow = (letter_fit 66 refl, fit_append (flat_map claim_pieces claims) (Text (codes ";") ∷ []) (claims_fit claims narrow) (letter_fit 59 refl, tt))

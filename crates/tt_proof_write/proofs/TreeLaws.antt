@@ -11,7 +11,7 @@ use Rattle.tt_proof_text.specs.Readers.{places_after}
 use Rattle.tt_proof_text.specs.Trees.{Tree, Close, Branch, preorder}
 use Rattle.tt_proof_write.specs.Within.{IsPreorder}
 
--- with so many open places the nodes fill each of them
+-- with this many open places the nodes fill each of them
 abbrev pub closes : ℕ → List Node → Bool
 closes places [] = places == 0
 closes places (node ∷ nodes) = nat_lt 0 places && closes (places_after node places) nodes
@@ -35,7 +35,7 @@ closes-tree (Branch g first second) places rest =
     (ap (closes ((places + 1) + 1)) (append_assoc (preorder first) (preorder second) rest)
     ∙ closes-tree first (places + 1) (preorder second ++ rest) ∙ closes-tree second places rest)
 
--- the nodes of so many trees
+-- the nodes of this many trees
 record IsForest (count : ℕ) (nodes : List Node) : Type 0 where
   pub trees : List Tree
   pub number : length trees ≡ count

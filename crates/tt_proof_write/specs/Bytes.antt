@@ -1,3 +1,4 @@
+-- Only proofs rest on this file: nobody has to believe it.
 -- Counts of bytes.
 use Rattle.std.specs.Prelude.{ℕ, ◌-◌, ◌^◌, min}
 

@@ -1,3 +1,4 @@
+-- Only proofs rest on this file: nobody has to believe it.
 -- The numbers of nodes have 32 bits.
 use Rattle.std.specs.Prelude.{ℕ, ◌<◌, IfSome, All}
 use Rattle.tt_facts.specs.declared.facts.Who.{Who}

@@ -3,6 +3,7 @@ use Rattle.std.specs.Prelude.{◌≡◌, ℕ, ◌≤◌, List, [], length, All, 
 use Rattle.tt_leaf.specs.declared.leaf.Bound.{Bound}
 use Rattle.tt_leaf.specs.declared.leaf.Leaf.{Leaf}
 use Rattle.tt_leaf.specs.declared.leaf.Leaf.TheVariants.{Cost}
+use Rattle.tt_proof_text.specs.declared.format.TheConstants.{MAX_NODES, MAX_PROOF_BYTES}
 use Rattle.tt_proof_text.specs.declared.node.Node.{Node}
 use Rattle.tt_proof_text.specs.declared.node.Node.TheVariants as node
 use Rattle.tt_proof_text.specs.Spelling.{IsShortClaim, IsLeafIn, IsBound}
@@ -10,6 +11,7 @@ use Rattle.tt_proof_text.specs.Trees.{Tree, preorder, on_paths}
 use Rattle.tt_proof_write.specs.declared.fault.WriteFault.{WriteFault}
 use Rattle.tt_proof_write.specs.declared.fault.WriteFault.TheVariants.{NotATree, OverLimit, NotInVersion, OutOfMemory}
 use Rattle.tt_proof_write.specs.Written.{proof_text}
+use Rattle.tt_facts.specs.declared.path.TheConstants.{MAX_FACTS}
 
 -- the nodes are those of one tree, in preorder
 abbrev pub IsPreorder : List Node → Type 0
@@ -26,26 +28,26 @@ HasShortPrices (node.Leaf leaf) = HasShortClaims leaf
 
 -- no node stands below more than 65,536 splits
 abbrev pub IsShallow : List Node → Type 0
-IsShallow nodes = (tree : Tree) → preorder tree ≡ nodes → All (λ x. length x.path ≤ 65536) (on_paths [] tree)
+IsShallow nodes = (tree : Tree) → preorder tree ≡ nodes → All (λ x. length x.path ≤ MAX_FACTS) (on_paths [] tree)
 
 -- the limits of a file, its bytes aside
 pub record AreWithin (b : Bound) (nodes : List Node) : Type 0 where
   pub bound : IsBound b
-  pub count : length nodes ≤ 16777216
+  pub count : length nodes ≤ MAX_NODES
   pub prices : All HasShortPrices nodes
   pub depth : IsShallow nodes
 
 -- the limits of a file
 pub record FitsFile (v : ℕ) (b : Bound) (nodes : List Node) : Type 0 where
   pub parts : AreWithin b nodes
-  pub bytes : length (proof_text v b nodes) ≤ 4294967295
+  pub bytes : length (proof_text v b nodes) ≤ MAX_PROOF_BYTES
 
 -- the claims of a node are the version's
 abbrev pub IsNodeIn : ℕ → Node → Type 0
 IsNodeIn v (node.Split g) = ⊤
 IsNodeIn v (node.Leaf leaf) = IsLeafIn v leaf
 
--- why nodes were not written: the first of the faults that applies, want of memory last
+-- why nodes were not written: the first of the faults that applies, being out of memory last
 abbrev pub Refuses : ℕ → Bound → List Node → WriteFault → Type 0
 Refuses v b nodes NotATree = ¬ IsPreorder nodes
 Refuses v b nodes OverLimit = IsPreorder nodes × ¬ FitsFile v b nodes

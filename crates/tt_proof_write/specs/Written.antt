@@ -7,6 +7,7 @@ use Rattle.tt_leaf.specs.declared.leaf.Claim.{Claim}
 use Rattle.tt_leaf.specs.declared.leaf.Claim.TheVariants.{Capacity, Days, Compact, Stable, Prices, Stacked}
 use Rattle.tt_leaf.specs.declared.leaf.Leaf.TheVariants.{Empty, Many, Clique, Slots, Cost}
 use Rattle.tt_proof_text.specs.declared.fault.Word.TheVariants as word
+use Rattle.tt_proof_text.specs.declared.format.TheConstants.{COURSE_LETTER, CURRICULUM_LETTER, ROOM_LETTER}
 use Rattle.tt_proof_text.specs.declared.node.Node.{Node}
 use Rattle.tt_proof_text.specs.declared.node.Node.TheVariants.{Split, Leaf}
 use Rattle.tt_proof_text.specs.Spelling.{fixed, version_text, bound_piece, course_piece, pattern_pieces, listed_pieces}
@@ -27,9 +28,9 @@ claim_word (Stacked c) = codes "T"
 abbrev pub claim_rest : Claim → List Piece
 claim_rest (Capacity c u) = course_piece c ∷ Number u ∷ []
 claim_rest (Days c) = course_piece c ∷ []
-claim_rest (Compact q) = Index 113 q ∷ []
+claim_rest (Compact q) = Index CURRICULUM_LETTER q ∷ []
 claim_rest (Stable c) = course_piece c ∷ []
-claim_rest (Prices courses rooms) = flat_map (priced_pieces 99) courses ++ flat_map (priced_pieces 114) rooms ++ Text (codes "/") ∷ []
+claim_rest (Prices courses rooms) = flat_map (priced_pieces COURSE_LETTER) courses ++ flat_map (priced_pieces ROOM_LETTER) rooms ++ Text (codes "/") ∷ []
 claim_rest (Stacked c) = course_piece c ∷ []
 
 abbrev pub claim_pieces : Claim → List Piece

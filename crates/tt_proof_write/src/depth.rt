@@ -4,9 +4,10 @@ ghost use Rattle.std.specs.Prelude.{◌↔◌, IsTrue};
 ghost use Rattle.tt_proof_write.specs.Within.{IsPreorder, IsShallow};
 
 use arrayvec::ArrayVec;
+use tt_facts::MAX_FACTS;
 use tt_proof_text::Node;
 
-const MAX_DEPTH: u32 = 65_536;
+const MAX_DEPTH: u32 = MAX_FACTS as u32;
 
 /// As many second children as can be to come at once.
 const MAX_PENDING: usize = MAX_DEPTH as usize;

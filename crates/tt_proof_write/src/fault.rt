@@ -4,19 +4,22 @@ ghost use Rattle.std.specs.Prelude.{◌≡◌};
 ghost use Rattle.tt_proof_write.specs.declared.fault.WriteFault.TheVariants.{OutOfMemory};
 
 use std::alloc::AllocError;
-use std::error::Error;
-use std::fmt;
+use thiserror::Error;
 
 /// Why a list of nodes can't be written: the first in this order that applies.
-#[derive(Clone, Copy, Debug, PartialEq, Eq)]
+#[derive(Clone, Copy, Debug, PartialEq, Eq, Error)]
 pub enum WriteFault {
     /// The nodes are not one tree in preorder.
+    #[error("NotATree")]
     NotATree,
     /// A number, the nodes, the depth or the bytes pass the format's limit.
+    #[error("OverLimit")]
     OverLimit,
     /// Version 1 was asked for, and a node has a claim of version 2.
+    #[error("NotInVersion")]
     NotInVersion,
     /// Memory for the text was refused.
+    #[error("out of memory")]
     OutOfMemory,
 }
 
@@ -27,16 +30,3 @@ impl From<AllocError> for WriteFault {
         WriteFault::OutOfMemory
     }
 }
-
-impl fmt::Display for WriteFault {
-    fn fmt<W: fmt::Write>(&self, f: &mut fmt::Formatter<W>) -> fmt::Result {
-        f.write_str(match self {
-            WriteFault::NotATree => "NotATree",
-            WriteFault::OverLimit => "OverLimit",
-            WriteFault::NotInVersion => "NotInVersion",
-            WriteFault::OutOfMemory => "out of memory",
-        })
-    }
-}
-
-impl Error for WriteFault {}

@@ -8,6 +8,7 @@ ghost use Rattle.tt_proof_write.specs.Written.{tail_text};
 
 use std::alloc::AllocError;
 use tt_facts::{Pattern, Who};
+use tt_proof_text::{COURSE_LETTER, CURRICULUM_LETTER, DAY_LETTER, PERIOD_LETTER, ROOM_LETTER};
 use tt_text::{put_next_number, put_next_token, put_number, put_token};
 
 /// The number of a version.

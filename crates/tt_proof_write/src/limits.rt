@@ -6,16 +6,10 @@ ghost use Rattle.tt_proof_write.specs.Within.{IsPreorder, HasShortPrices, IsNode
 
 use crate::depth::is_shallow;
 use tt_leaf::{Bound, Claim, Leaf};
-use tt_proof_text::Node;
-
-const MOST_PRICE: u32 = 1_000_000;
-
-const MOST_POINTS: u64 = 1_000_000_000_000;
-
-const MOST_NODES: usize = 16_777_216;
+use tt_proof_text::{MAX_NODES, MAX_POINTS, MAX_PRICE, Node};
 
 fn are_short_prices(prices: &[(u32, u32)]) -> bool
-    ensures { IsTrue result ↔ All (λ k. k.1 ≤ 1000000) prices.now }
+    ensures { IsTrue result ↔ All (λ k. k.1 ≤ MAX_PRICE) prices.now }
 {
     prices.iter().all(|priced| priced.1 <= MAX_PRICE)
 }
@@ -67,7 +61,10 @@ pub fn are_within(bound: Bound, nodes: &[Node]) -> bool
     requires { IsPreorder nodes.now }
     ensures { IsTrue result ↔ AreWithin bound nodes.now }
 {
-    is_bound(bound) && nodes.len() <= MOST_NODES && have_short_prices(nodes) && is_shallow(nodes)
+    is_bound(bound)
+        && nodes.len() <= MAX_NODES as usize
+        && have_short_prices(nodes)
+        && is_shallow(nodes)
 }
 
 fn is_claim_in(version: u8, claim: &Claim) -> bool

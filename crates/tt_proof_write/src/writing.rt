@@ -17,10 +17,8 @@ use crate::nodes::put_nodes;
 use crate::tree::is_tree;
 use std::alloc::{AllocError, Global};
 use tt_leaf::Bound;
-use tt_proof_text::{Node, Word};
+use tt_proof_text::{MAX_PROOF_BYTES, Node, Word};
 use tt_text::{put_line_end, put_next_number, put_next_token, put_token};
-
-const MOST_BYTES: u64 = 4_294_967_295;
 
 fn put_header(out: &mut Vec<u8>, version: u8, bound: Bound) -> Result<(), AllocError>
     ensures { OnOk result (out.new.items ≡ out.old.items ++ line_text (header_pieces version bound)) }

@@ -1,3 +1,4 @@
+-- Only proofs rest on this file: nobody has to believe it.
 -- The blocks of a report, one by one.
 use Rattle.std.specs.Prelude.{ℕ, ◌<◌, Bool, List, [], ◌∷◌, ◌++◌, filter, length, flat_map, codes, slice_index_or}
 use Rattle.tt_lists.specs.Words.{range_below}

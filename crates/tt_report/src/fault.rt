@@ -5,14 +5,15 @@ ghost use Rattle.tt_report.specs.declared.fault.ReportFault.TheVariants as fault
 
 use crate::sink::WriteFailed;
 use std::alloc::{AllocError, AllocFailed};
-use std::error::Error;
-use std::fmt;
+use thiserror::Error;
 
 /// Why a report was not written whole.
-#[derive(Clone, Copy, Debug, PartialEq, Eq)]
+#[derive(Clone, Copy, Debug, PartialEq, Eq, Error)]
 pub enum ReportFault {
     /// A write failed; a prefix of the report was taken.
+    #[error("cannot write")]
     Write,
+    #[error("out of memory")]
     OutOfMemory,
 }
 
@@ -39,14 +40,3 @@ impl From<WriteFailed> for ReportFault {
         ReportFault::Write
     }
 }
-
-impl fmt::Display for ReportFault {
-    fn fmt<W: fmt::Write>(&self, f: &mut fmt::Formatter<W>) -> fmt::Result {
-        f.write_str(match self {
-            ReportFault::Write => "cannot write",
-            ReportFault::OutOfMemory => "out of memory",
-        })
-    }
-}
-
-impl Error for ReportFault {}

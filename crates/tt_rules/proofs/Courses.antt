@@ -6,18 +6,11 @@ use Rattle.std.proofs.lemmas.Bool.{and_parts, not-true, cases_eq, ne_eqb, false�
 use Rattle.std.proofs.lemmas.List.Sums.{sum_by-cons}
 use Rattle.tt_lists.specs.Words.{has_number, each_two}
 use Rattle.tt_lists.proofs.Sums.{one_if, sum_by-same, sum_by-plus, sum_by-nothing}
-use Rattle.tt_lists.proofs.Tests.{same_test, list_any-or}
+use Rattle.tt_lists.proofs.Tests.{list_any-or, test_turned}
 use Rattle.tt_lists.proofs.Twos.{list_all-not}
+use Rattle.tt_lists.proofs.Tested.{list_any-same}
 use Rattle.tt_instance.specs.Cells.{is_of}
 use Rattle.tt_instance.specs.declared.cell.Cell.{Cell}
-
-turned : (a b : ℕ) → (a == b) ≡ (b == a)
-turned a b = same_test a b b a sym sym
-
--- tests that agree
-list_any-same : {X : Type 0} (p q : X → Bool) (xs : List X) → ((x : X) → p x ≡ q x) → list_any p xs ≡ list_any q xs
-list_any-same p q [] same = refl
-list_any-same p q (x ∷ xs) same = ap (λ b. b || list_any p xs) (same x) ∙ ap (λ b. q x || b) (list_any-same p q xs same)
 
 module _ (test : Cell → Bool) (t : List Cell) where
   -- an entry of one of the courses that passes

@@ -13,7 +13,7 @@ use Rattle.tt_instance.specs.declared.cell.Slot.{Slot}
 use Rattle.tt_rules.specs.Hard.{entries_of, periods_of, lectures_off, entries_in, collide}
 use Rattle.tt_rules.specs.Score.{IsFeasible}
 use Rattle.tt_instance.specs.declared.cell.Cell.{Cell}
-use Rattle.tt_lists.proofs.Sums.{one_if, sum_by-zero_each, sum_by-tight, each, each_weaker, one_if_any, one_if-le, spread_down, once_at_most}
+use Rattle.tt_lists.proofs.Sums.{one_if, sum_by-zero_each, sum_by-tight, each, each_weaker, one_if_any, one_if-le, spread_down, once_at_most, sum_by-le}
 use Rattle.tt_instance.proofs.Places.{count_slots, each_slot_at}
 use Rattle.tt_lists.proofs.Members.{none_passes, none_counted, no_two, each_below_at}
 
@@ -31,6 +31,21 @@ pub collide-itself : (p : Problem) (x : Cell) → collide p x x ≡ false
 collide-itself p x = and_right ((x.day == x.day) && (x.period == x.period)) (conflict p x.course x.course) (conflict-itself p x.course)
 
 -- ---- the counts
+
+-- a course's entries at all periods, added up, are no more than it has
+pub in_periods : (p : Problem) (t : List Cell) (c : ℕ) → sum_by (λ s. count_by (λ e. is_of c e && is_at s e) t) (all_slots p) ≤ entries_of t c
+in_periods p t c =
+    spread_down (λ e. one_if (is_of c e)) (λ s e. one_if (is_of c e && is_at s e)) t (all_slots p)
+    (each (λ e. sum_by (λ s. one_if (is_of c e && is_at s e)) (all_slots p) ≤ one_if (is_of c e)) (λ e. once_at_most (is_of c e) (λ s. is_at s e) 1 (all_slots p) (count_slots p e)) t)
+
+-- a course has an entry in each of its periods
+pub periods-le_entries : (p : Problem) (t : List Cell) (c : ℕ) → periods_of p t c ≤ entries_of t c
+periods-le_entries p t c =
+    let one : Slot → ℕ = λ s. one_if (list_any (λ e. is_of c e && is_at s e) t) in
+    let many : Slot → ℕ = λ s. count_by (λ e. is_of c e && is_at s e) t in
+    let at_most = in_periods p t c in
+    let k = sum_by-le one many (all_slots p) (each (λ s. one s ≤ many s) (λ s. one_if_any (λ e. is_of c e && is_at s e) t) (all_slots p)) in
+    omega arith
 
 module _ (p : Problem) (t : List Cell) (ok : IsFeasible p t) where
   pub in_range : (x : Cell) → Contains t x → InRange p x
@@ -61,8 +76,7 @@ module _ (p : Problem) (t : List Cell) (ok : IsFeasible p t) where
   once_a_period c =
       let one : Slot → ℕ = λ s. one_if (list_any (λ e. is_of c e && is_at s e) t) in
       let many : Slot → ℕ = λ s. count_by (λ e. is_of c e && is_at s e) t in
-      let at_most = spread_down (λ e. one_if (is_of c e)) (λ s e. one_if (is_of c e && is_at s e)) t (all_slots p)
-      (each (λ e. sum_by (λ s. one_if (is_of c e && is_at s e)) (all_slots p) ≤ one_if (is_of c e)) (λ e. once_at_most (is_of c e) (λ s. is_at s e) 1 (all_slots p) (count_slots p e)) t) in
+      let at_most = in_periods p t c in
       let tight = sum_by-tight one many (all_slots p) (each (λ s. one s ≤ many s) (λ s. one_if_any (λ e. is_of c e && is_at s e) t) (all_slots p)) (omega (arith, in_distinct_periods c)) in
       each_weaker (λ s. many s ≤ one s) (λ s. many s ≤ 1) (λ s h. let k = one_if-le (list_any (λ e. is_of c e && is_at s e) t) in omega arith) (all_slots p) tight
 

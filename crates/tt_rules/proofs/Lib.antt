@@ -1,7 +1,6 @@
 pub mod Courses
 pub mod Examples
 pub mod Feasible
-pub mod Filtered
 pub mod Marking
 pub mod Neighbours
 pub mod Numbering

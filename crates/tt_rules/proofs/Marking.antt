@@ -1,21 +1,14 @@
 -- Loops that mark the places of entries: what is marked, and what the entries that are left will mark.
-use Rattle.std.proofs.Common.{◌≡◌, ℕ, Bool, true, false, ◌||◌, List, [], ◌∷◌, slice_index_or, refl, sym, ap, ◌∙◌}
+use Rattle.std.proofs.Common.{◌≡◌, ℕ, Bool, false, ◌||◌, List, [], ◌∷◌, slice_index_or, sym, ap, ◌∙◌}
 use Rattle.std.specs.Prelude.{count_by}
 use Rattle.std.specs.List.{list_any}
+use Rattle.std.proofs.Math.Bool.{or_assoc, or-false}
 use Rattle.tt_lists.specs.Words.{range_below}
 use Rattle.tt_lists.proofs.Sums.{one_if, sum_by-same}
 
 -- the marks, and those that the elements that are left will set, are whole
 abbrev pub MarksTo : {X : Type 0} → (ℕ → X → Bool) → (ℕ → Bool) → List Bool → List X → Type 0
 MarksTo {X} at whole marks left = (k : ℕ) → (slice_index_or marks k false || list_any (at k) left) ≡ whole k
-
-or_assoc : (a b c : Bool) → ((a || b) || c) ≡ (a || (b || c))
-or_assoc true b c = refl
-or_assoc false b c = refl
-
-or_false : (a : Bool) → (a || false) ≡ a
-or_false true = refl
-or_false false = refl
 
 module _ {X : Type 0} (at : ℕ → X → Bool) where
   -- where nothing is marked yet
@@ -33,7 +26,7 @@ module _ {X : Type 0} (at : ℕ → X → Bool) where
   -- where no element is left
   pub marks_last : (whole : ℕ → Bool) (marks : List Bool) (left : List X) → left ≡ [] → MarksTo at whole marks left → (k : ℕ) → slice_index_or marks k false ≡ whole k
   marks_last whole marks left none before k =
-      sym (or_false (slice_index_or marks k false)) ∙ ap (λ l. slice_index_or marks k false || list_any (at k) l) (sym none) ∙ before k
+      sym (or-false (slice_index_or marks k false)) ∙ ap (λ l. slice_index_or marks k false || list_any (at k) l) (sym none) ∙ before k
 
   -- so the marks are counted
   pub marks_counted : (whole : ℕ → Bool) (marks : List Bool) (left : List X) (n total : ℕ) → left ≡ [] → MarksTo at whole marks left → total ≡ count_by (λ k. slice_index_or marks k false) (range_below n) → total ≡ count_by whole (range_below n)

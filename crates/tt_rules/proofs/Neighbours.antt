@@ -11,9 +11,9 @@ use Rattle.tt_instance.specs.declared.cell.Cell.{Cell}
 use Rattle.tt_table.specs.Table.{IsTimetable}
 use Rattle.tt_rules.specs.Places.{place_of, is_alone}
 use Rattle.tt_rules.proofs.Courses.{any_of_courses, count_of_courses}
-use Rattle.tt_rules.proofs.Filtered.{count_by-same_at}
 use Rattle.tt_rules.specs.Soft.{is_isolated}
 use Rattle.tt_lists.proofs.Tests.{list_any-same_at, list_any-or, same_test}
+use Rattle.tt_lists.proofs.Counting.{count_by-same_at}
 use Rattle.tt_table.proofs.Numbering.{same_number, number_below_week}
 
 -- the places are few

@@ -1,3 +1,4 @@
+-- Only proofs rest on this file: nobody has to believe it.
 -- The places of a week with one free place between two days, so that days do not join.
 use Rattle.std.specs.Prelude.{ℕ, ◌+◌, ◌-◌, ◌*◌, Bool, false, not, ◌||◌, List, slice_index_or}
 use Rattle.tt_instance.specs.Problem.{Problem}

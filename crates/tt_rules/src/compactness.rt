@@ -89,7 +89,8 @@ fn isolated(instance: &Instance<'_>, by_course: &Groups<'_>, curriculum: u32) ->
         && is_isolated instance.now by_course.now.entries curriculum e) by_course.now.entries }
     ensures few { result ≤ length by_course.now.entries }
 {
-    let _days = instance.days();
+    // What is true of every instance: its members are courses.
+    prove!(instance.days() > 0);
     let members = instance.members(curriculum);
     let taught = taught(instance, by_course, members);
     alone_of(instance, by_course, members, &taught)

@@ -6,7 +6,7 @@ ghost use Rattle.tt_rules.specs.Hard.{entries_of, periods_of, lectures_off, lect
 ghost use Rattle.tt_table.specs.declared.groups.GroupBy.TheVariants as by;
 
 use crate::distinct;
-use tt_instance::Instance;
+use tt_instance::{Instance, MAX_COURSES};
 use tt_table::Groups;
 
 /// The entries of a course.
@@ -39,7 +39,8 @@ fn lectures_off(instance: &Instance<'_>, by_course: &Groups<'_>, course: u32) ->
     ensures value { result ≡ lectures_off instance.now by_course.now.entries course }
     ensures within { result ≤ 65536 }
 {
-    let _courses = instance.courses();
+    // What is true of every instance: each course is a group.
+    prove!(instance.courses() <= MAX_COURSES);
     let wanted = u64::from(instance.lectures(course));
     let placed = entries_of(by_course, course);
     let periods = periods_of(instance, by_course, course);

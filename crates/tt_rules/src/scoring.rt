@@ -10,7 +10,7 @@ use crate::counts::Score;
 use crate::{
     availability, capacity, compactness, conflicts, lectures, occupancy, stability, working_days,
 };
-use tt_instance::Instance;
+use tt_instance::{Instance, MAX_COURSES, MAX_ROOMS};
 use tt_table::{Entry, GroupBy, Groups, Timetable};
 
 /// The entries by course.
@@ -19,7 +19,8 @@ fn by_course<'t>(instance: &Instance<'_>, entries: &'t [Entry]) -> Groups<'t>
     requires few { length entries.now ≤ 16384 }
     ensures { result ≡ record { by = by.Course; entries = entries.now } }
 {
-    let _courses = instance.courses();
+    // What is true of every instance: each course is a group.
+    prove!(instance.courses() <= MAX_COURSES);
     Groups::new(entries, GroupBy::Course)
 }
 
@@ -29,7 +30,8 @@ fn by_room<'t>(instance: &Instance<'_>, entries: &'t [Entry]) -> Groups<'t>
     requires few { length entries.now ≤ 16384 }
     ensures { result ≡ record { by = by.Room; entries = entries.now } }
 {
-    let _rooms = instance.rooms();
+    // What is true of every instance: each room is a group.
+    prove!(instance.rooms() <= MAX_ROOMS);
     Groups::new(entries, GroupBy::Room)
 }
 

@@ -6,7 +6,7 @@ ghost use Rattle.tt_rules.specs.Soft.{days_of, days_cost, days_count};
 ghost use Rattle.tt_table.specs.declared.groups.GroupBy.TheVariants as by;
 
 use crate::distinct;
-use tt_instance::Instance;
+use tt_instance::{Instance, MAX_COURSES};
 use tt_table::Groups;
 
 /// The days on which the course is taught.
@@ -27,7 +27,8 @@ fn cost_of(instance: &Instance<'_>, by_course: &Groups<'_>, course: u32) -> u64
     ensures cost { result ≡ days_cost instance.now by_course.now.entries course }
     ensures few { result ≤ 2560 }
 {
-    let _courses = instance.courses();
+    // What is true of every instance: each course is a group.
+    prove!(instance.courses() <= MAX_COURSES);
     let days = days_of(instance, by_course, course);
     5 * u64::from(instance.min_days(course)).saturating_sub(days)
 }

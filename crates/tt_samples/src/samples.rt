@@ -71,7 +71,7 @@ pub fn edited(alloc: Global, text: &str, old: &str, new: &str) -> Result<String,
     }
 }
 
-/// A text so many times.
+/// A text this many times.
 pub fn repeated(alloc: Global, text: &str, times: usize) -> Result<String, AllocError> {
     let mut all = String::new(alloc);
     for _ in 0..times {

@@ -1,5 +1,5 @@
 -- Laws of improvements.
-use Rattle.std.proofs.Common.{◌≡◌, ℕ, ◌+◌, Bool, List, ◌∙◌, ap, subst, refl, inl, inr, arith}
+use Rattle.std.proofs.Common.{◌≡◌, ℕ, ◌+◌, ◌≤◌, Bool, List, ◌∙◌, ap, subst, refl, inl, inr, arith}
 use Rattle.tt_instance.specs.Problem.{Problem}
 use Rattle.tt_instance.specs.declared.cell.Cell.{Cell}
 use Rattle.tt_table.specs.Table.{IsTimetable}
@@ -9,7 +9,7 @@ use Rattle.tt_descend.specs.Descent.{Descends, IsDescent}
 use Rattle.tt_descend.proofs.Descents.{IsTimetable-descends, courses-descends, descends_lower, IsBelow-irrefl, IsBelow-trans}
 use Rattle.tt_moves.specs.Steps.{CanStep, stepped}
 use Rattle.tt_moves.specs.declared.step.Step.{Step}
-use Rattle.tt_search.specs.Improved.{IsNoWorse, IsDescended, LeadsWithin}
+use Rattle.tt_search.specs.Improved.{IsNoWorse, IsDescended, Leads, LeadsWithin}
 use Rattle.tt_search.specs.Improved.Leads.{here, step}
 
 -- a timetable is no worse than itself
@@ -37,6 +37,18 @@ leads_on {p} {t} {u} {n} s led able = record { made = led.made + 1; path = step 
 
 pub leads_longer : {p : Problem} {t u : List Cell} {n : ℕ} → LeadsWithin p t n u → LeadsWithin p t (n + 1) u
 leads_longer led = record { made = led.made; path = led.path; within = omega (arith, led.within) }
+
+leads_along : {p : Problem} {t u v : List Cell} {a b : ℕ} → Leads p u b v → LeadsWithin p t a u → LeadsWithin p t (a + b) v
+leads_along {a = a} (here p u) led = record { made = led.made; path = led.path; within = omega (arith, led.within) }
+leads_along {t = t} {a = a} (step p u w n s path able) led =
+    let e : (a + n) + 1 ≡ a + (n + 1) = omega arith in
+    subst (λ k. LeadsWithin p t k (stepped w s)) e (leads_on s (leads_along path led) able)
+
+-- steps, and then others
+pub leads_then : {p : Problem} {t u v : List Cell} {a b n : ℕ} → LeadsWithin p t a u → LeadsWithin p u b v → a + b ≤ n → LeadsWithin p t n v
+leads_then led next within =
+    let far = leads_along next.path led in
+    record { made = far.made; path = far.path; within = omega (arith, far.within, next.within, within) }
 
 -- from a first timetable to one that is no worse, and down from there
 pub no_worse_then_down : (p : Problem) (t v : List Cell) (first best : Filled) (draws steps : ℕ) (settled : Bool) → first ≡ record { problem = p; entries = t } → best.problem ≡ first.problem → IsNoWorse first.problem first.entries best.entries → LeadsWithin first.problem first.entries draws best.entries

@@ -18,18 +18,18 @@ pub record IsNoWorse (p : Problem) (t u : List Cell) : Type 0 where
   pub courses : courses_of u ≡ courses_of t
   pub no_higher : IsBelow p t u → ⊥
 
--- so many steps lead from the first timetable to the second
+-- this many steps lead from the first timetable to the second
 pub data Leads : Problem → List Cell → ℕ → List Cell → Type 0 where
   here : (p : Problem) (t : List Cell) → Leads p t 0 t
   step : (p : Problem) (t u : List Cell) (n : ℕ) (s : Step) → Leads p t n u → CanStep p u s → Leads p t (n + 1) (stepped u s)
 
--- at most so many steps do
+-- at most this many steps do
 pub record LeadsWithin (p : Problem) (t : List Cell) (most : ℕ) (u : List Cell) : Type 0 where
   pub made : ℕ
   pub path : Leads p t made u
   pub within : made ≤ most
 
--- At most so many draws lead from t to a timetable that is no worse, and u is the end of a descent of at most so many steps from there: if some step lowers
+-- At most this many draws lead from t to a timetable that is no worse, and u is the end of a descent of at most this many steps from there: if some step lowers
 -- u's pair, all of them were made.
 pub record IsDescended (p : Problem) (t : List Cell) (draws steps : ℕ) (u : List Cell) : Type 0 where
   pub best : List Cell

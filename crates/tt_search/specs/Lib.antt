@@ -1,2 +1,4 @@
 pub mod Improved
 pub mod Pairs
+pub use Rattle.tt_construct.specs.Constructed
+pub use Rattle.tt_descend.specs.Descent

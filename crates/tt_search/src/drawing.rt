@@ -1,34 +1,86 @@
 //! The choice of a step.
 
 ghost use Rattle.std.specs.Prelude.{◌<◌, length, IfSome};
-ghost use Rattle.tt_moves.specs.Steps.{CanStep};
+ghost use Rattle.tt_moves.specs.Pricing.{IsEntryCost};
+ghost use Rattle.tt_moves.specs.Steps.{CanStep, first_of};
 
-use crate::lots::luck;
-use crate::pair::Pair;
-use crate::sampling::sample;
-use crate::terms::{Price, Terms};
+use crate::acceptance::admits;
+use crate::board::Board;
+use crate::cooling::Cooling;
+use crate::open::Open;
+use crate::places::entry_of;
+use crate::sampling::{entry_to_move, sample};
 use rand_pcg::Pcg32;
-use tt_moves::{Step, change};
+use tt_moves::{Change, EntryCost, Step, change, cost_change, entry_cost};
 use tt_occupancy::Occupied;
 
-/// The best of some steps that the terms admit, if there is one.
-pub fn draw(occupied: &Occupied<'_, '_>, rng: &mut Pcg32, cooling: Terms) -> Option<Step>
-    requires { 0 < length occupied.now.entries }
+/// How many samples are steps of one entry, one after the other.
+const SAMPLES_AN_ENTRY: u64 = 8;
+
+/// What a step would change. Where the timetable breaks no hard rule, a sample is taken to break none either.
+fn judge(occupied: &Occupied<'_, '_>, step: Step, before: EntryCost, is_feasible: bool) -> Change
+    requires step { CanStep occupied.now.problem occupied.now.entries step }
+    requires before { IsEntryCost occupied.now.problem occupied.now.entries (first_of step) before }
+{
+    if is_feasible {
+        Change {
+            hard: 0,
+            cost: cost_change(occupied, step, before),
+        }
+    } else {
+        change(occupied, step)
+    }
+}
+
+/// The first of some steps of an entry that is admitted, if there is one.
+fn draw_of(
+    occupied: &Occupied<'_, '_>,
+    board: &Board,
+    open: &Open,
+    rng: &mut Pcg32,
+    cooling: &mut Cooling,
+    entry: u32,
+) -> Option<Step>
+    requires { entry < length occupied.now.entries }
     ensures { IfSome result (CanStep occupied.now.problem occupied.now.entries) }
 {
-    let here = Pair::of(occupied);
-    let mut chosen = None;
-    let mut least = Price::HIGHEST;
-    for _ in 0..cooling.samples {
-        let step = entry_to_move(occupied, rng);
-        let change = change(occupied, step);
-        if terms.admits(here, change) {
-            let price = terms.price(change, luck(rng));
-            if price < least {
-                chosen = Some(step);
-                least = price;
+    let (temperature, level) = (cooling.temperature(), cooling.level());
+    let is_feasible = occupied.score().feasible();
+    let before = entry_cost(occupied, entry);
+    for _ in 0..cooling.patience().min(SAMPLES_AN_ENTRY) {
+        cooling.sample();
+        if let Some(step) = sample(occupied, board, open, rng, entry) {
+            if admits(
+                rng,
+                temperature,
+                level,
+                judge(occupied, step, before, is_feasible),
+            ) {
+                return Some(step);
             }
         }
     }
-    chosen
+    None
+}
+
+/// The first of some steps that is admitted, if there is one.
+pub fn draw(
+    occupied: &Occupied<'_, '_>,
+    board: &Board,
+    open: &mut Open,
+    rng: &mut Pcg32,
+    cooling: &mut Cooling,
+) -> Option<Step>
+    requires { 0 < length occupied.now.entries }
+    ensures { IfSome result (CanStep occupied.now.problem occupied.now.entries) }
+{
+    cooling.draw();
+    for _ in 0..cooling.patience().div_ceil(SAMPLES_AN_ENTRY) {
+        let entry = entry_to_move(occupied, rng);
+        open.find(occupied, entry_of(occupied, entry));
+        if let Some(step) = draw_of(occupied, board, open, rng, cooling, entry) {
+            return Some(step);
+        }
+    }
+    None
 }

@@ -1,19 +1,50 @@
 //! The improvement of a timetable.
 
-ghost use Rattle.std.specs.Prelude.{◌≡◌, ◌-◌, ◌/◌, IfOk, OnOk};
+ghost use Rattle.std.specs.Prelude.{◌≡◌, ◌<◌, ◌-◌, ◌/◌, List, length, IfOk, OnOk};
+ghost use Rattle.tt_instance.specs.declared.cell.Cell.{Cell};
 ghost use Rattle.tt_table.specs.Table.{IsTimetable};
 ghost use Rattle.tt_search.specs.Improved.{IsNoWorse, LeadsWithin, IsDescended};
+ghost use Rattle.tt_search.specs.Pairs.{IsBest};
 
 use crate::best::Best;
+use crate::cooling::{Cooling, samples};
 use crate::restoring::restore;
-use crate::walking::walk;
+use crate::walking::{Walker, walk};
 use std::alloc::{AllocError, Global};
 use tt_descend::descend_in;
 use tt_instance::Instance;
 use tt_occupancy::Occupied;
 use tt_table::Timetable;
 
-/// Goes on to the best timetable that so many drawn steps lead to.
+/// One of how many draws belongs to the first round.
+const FIRST_ROUND: u64 = 4;
+
+/// Walks from the best timetable, and goes to the best one then. No memory is taken.
+fn go_round(
+    occupied: &mut Occupied<'_, '_>,
+    best: &mut Best,
+    walker: &mut Walker,
+    draws: u64,
+    samples: u64,
+)
+    requires some { 0 < length occupied.old.entries }
+    requires here { best.old.entries.items ≡ occupied.old.entries }
+    requires best { (t : List Cell) × IsBest occupied.old.problem t best.old }
+    ensures problem { occupied.new.problem ≡ occupied.old.problem }
+    ensures some { 0 < length occupied.new.entries }
+    ensures here { best.new.entries.items ≡ occupied.new.entries }
+    ensures best { (t : List Cell) → IsBest occupied.old.problem t best.old
+        → IsBest occupied.old.problem t best.new }
+    ensures reached { LeadsWithin occupied.old.problem occupied.old.entries draws occupied.new.entries }
+{
+    walker.begin(occupied);
+    let entries = occupied.table().len() as u64;
+    let cooling = Cooling::new(draws, samples, best.pair.cost, entries);
+    walk(occupied, best, walker, cooling, draws);
+    restore(occupied, &best.entries);
+}
+
+/// Goes on to the best timetable that this many drawn steps lead to.
 fn walk_to_best(
     alloc: Global,
     occupied: &mut Occupied<'_, '_>,
@@ -28,12 +59,15 @@ fn walk_to_best(
         return Ok(());
     }
     let mut best = Best::new(alloc, occupied)?;
-    walk(occupied, &mut best, seed, draws);
-    restore(occupied, &best.entries);
+    let mut walker = Walker::new(alloc, occupied, seed)?;
+    let first = draws / FIRST_ROUND;
+    let samples = samples(draws);
+    go_round(occupied, &mut best, &mut walker, first, samples);
+    go_round(occupied, &mut best, &mut walker, draws - first, samples);
     Ok(())
 }
 
-/// A timetable with the same courses, from a seed and so many steps: half of them are drawn, and make a walk near the
+/// A timetable with the same courses, from a seed and this many steps: half of them are drawn, and make a walk near the
 /// best timetable so far; the others descend from the best one. The same seed gives the same answer on every machine.
 /// The table is used up also where memory runs out. That it is mostly better is not proved.
 pub fn improve(

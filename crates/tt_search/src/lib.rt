@@ -1,17 +1,20 @@
 //! A seeded search for a better timetable.
 #![tactic(auto)]
 
+mod acceptance;
 mod best;
+mod board;
+mod cooling;
 mod drawing;
 mod improving;
-mod lots;
+mod logarithm;
+mod open;
 mod pair;
-mod phase;
 mod places;
+mod random;
 mod restoring;
 mod sampling;
-mod terms;
-mod trouble;
+mod violations;
 mod walking;
 
 pub use improving::improve;

@@ -14,8 +14,11 @@ pub fn below(rng: &mut Pcg32, bound: u32) -> u32
     rng.random_range(0..bound)
 }
 
+/// How much more of the noise is half as likely.
+pub const HALF: u64 = 16;
+
 /// A number of which each 16 more are half as likely.
-pub fn luck(rng: &mut Pcg32) -> u32 {
+pub fn noise(rng: &mut Pcg32) -> u32 {
     let word = rng.next_u32();
     word.leading_zeros().saturating_mul(16) + word % 16
 }

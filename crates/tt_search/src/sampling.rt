@@ -1,20 +1,29 @@
 //! Steps to choose from.
 
-ghost use Rattle.std.specs.Prelude.{◌<◌, ◌≤◌, length};
+ghost use Rattle.std.specs.Prelude.{◌≡◌, ◌<◌, length, IfSome};
 ghost use Rattle.tt_instance.specs.Cells.{InRange};
-ghost use Rattle.tt_moves.specs.Steps.{CanStep};
+ghost use Rattle.tt_moves.specs.Steps.{CanStep, first_of};
 
-use crate::lots::below;
-use crate::places::{TRIES, entry_of, may_stand, room_in, slot_for};
-use crate::trouble::is_in_trouble;
+use crate::board::Board;
+use crate::open::Open;
+use crate::places::{any_slot, entry_of, may_change_places, slot_of};
+use crate::random::below;
+use crate::violations::costs_or_breaks;
 use rand_pcg::Pcg32;
 use tt_instance::Slot;
 use tt_moves::Step;
 use tt_occupancy::Occupied;
-use tt_table::Entry;
 
-/// How many entries are looked at for one in trouble.
+/// How often a period is drawn anew where a step would break a hard rule.
+const TRIES: u32 = 8;
+
+/// How many entries are looked at for one that breaks or costs something.
 const LOOKS: u32 = 4;
+
+/// Of ten steps, how many change the room alone, and how many the period alone. The others change both.
+const ROOMS_OF_TEN: u32 = 2;
+
+const PERIODS_OF_TEN: u32 = 3;
 
 /// Any entry.
 fn any_entry(occupied: &Occupied<'_, '_>, rng: &mut Pcg32) -> u32
@@ -24,7 +33,7 @@ fn any_entry(occupied: &Occupied<'_, '_>, rng: &mut Pcg32) -> u32
     below(rng, occupied.table().len() as u32)
 }
 
-/// An entry in trouble, where one is seen soon.
+/// An entry that breaks or costs something, where one is seen soon.
 fn costly_entry(occupied: &Occupied<'_, '_>, rng: &mut Pcg32) -> u32
     requires { 0 < length occupied.now.entries }
     ensures { result < length occupied.now.entries }
@@ -38,76 +47,116 @@ fn costly_entry(occupied: &Occupied<'_, '_>, rng: &mut Pcg32) -> u32
     any_entry(occupied, rng)
 }
 
-/// Whether two entries break no hard rule each in the other's place.
-fn may_change_places(occupied: &Occupied<'_, '_>, one: Entry, other: Entry) -> bool
-    requires one { InRange occupied.now.problem one }
-    requires other { InRange occupied.now.problem other }
-{
-    let gone = u32::from(occupied.instance().conflict(one.course, other.course));
-    one.course != other.course
-        && may_stand(
-            occupied,
-            one,
-            Slot {
-                day: other.day,
-                period: other.period,
-            },
-            gone,
-        )
-        && may_stand(
-            occupied,
-            other,
-            Slot {
-                day: one.day,
-                period: one.period,
-            },
-            gone,
-        )
-}
-
-/// A Move of an entry.
-fn sample_move(occupied: &Occupied<'_, '_>, rng: &mut Pcg32, entry: u32) -> Step
-    requires { entry < length occupied.now.entries }
-    ensures { CanStep occupied.now.problem occupied.now.entries result }
-{
-    let slot = slot_for(occupied, rng, entry_of(occupied, entry));
-    Step::Move {
-        entry,
-        room: room_in(occupied, rng, slot),
-        day: slot.day,
-        period: slot.period,
-    }
-}
-
-/// A Swap of an entry.
-fn sample_swap(occupied: &Occupied<'_, '_>, rng: &mut Pcg32, first: u32) -> Step
-    requires { first < length occupied.now.entries }
-    ensures { CanStep occupied.now.problem occupied.now.entries result }
-{
-    let one = entry_of(occupied, first);
-    for _ in 0..TRIES {
-        let second = any_entry(occupied, rng);
-        if may_change_places(occupied, one, entry_of(occupied, second)) {
-            return Step::Swap { first, second };
-        }
-    }
-    let second = any_entry(occupied, rng);
-    Step::Swap { first, second }
-}
-
-/// A step, half of the time of an entry in trouble.
-pub fn entry_to_move(occupied: &Occupied<'_, '_>, rng: &mut Pcg32) -> Step
+/// Any entry, half of the time one that breaks or costs something.
+pub fn entry_to_move(occupied: &Occupied<'_, '_>, rng: &mut Pcg32) -> u32
     requires { 0 < length occupied.now.entries }
-    ensures { CanStep occupied.now.problem occupied.now.entries result }
+    ensures { result < length occupied.now.entries }
 {
-    let entry = if below(rng, 2) == 0 {
+    if below(rng, 2) == 0 {
         costly_entry(occupied, rng)
     } else {
         any_entry(occupied, rng)
-    };
-    if below(rng, 2) == 0 {
-        sample_move(occupied, rng, entry)
-    } else {
-        sample_swap(occupied, rng, entry)
     }
+}
+
+/// The step of an entry to a cell: where another entry is known to stand there, the two change places.
+fn step_to(occupied: &Occupied<'_, '_>, board: &Board, entry: u32, room: u32, slot: Slot) -> Step
+    requires entry { entry < length occupied.now.entries }
+    requires room { room < length occupied.now.problem.rooms }
+    requires day { slot.day < occupied.now.problem.days }
+    requires period { slot.period < occupied.now.problem.periods }
+    ensures possible { CanStep occupied.now.problem occupied.now.entries result }
+    ensures first { first_of result ≡ entry }
+{
+    match board.entry_in(room, slot) {
+        Some(second) if (second as usize) < occupied.table().len() => Step::Swap {
+            first: entry,
+            second,
+        },
+        _ => Step::Move {
+            entry,
+            room,
+            day: slot.day,
+            period: slot.period,
+        },
+    }
+}
+
+/// Whether the entries of a step to an open period break no hard rule there.
+fn is_open(occupied: &Occupied<'_, '_>, step: Step, is_free: bool) -> bool
+    requires { CanStep occupied.now.problem occupied.now.entries step }
+{
+    match step {
+        Step::Move { .. } => is_free,
+        Step::Swap { first, second } => may_change_places(
+            occupied,
+            entry_of(occupied, first),
+            entry_of(occupied, second),
+            is_free,
+        ),
+    }
+}
+
+/// A step of an entry to a room in another period, where one is soon found that breaks no hard rule. Where the timetable
+/// breaks one already, it is any step of this kind.
+fn sample_period(
+    occupied: &Occupied<'_, '_>,
+    board: &Board,
+    open: &Open,
+    rng: &mut Pcg32,
+    entry: u32,
+    room: u32,
+) -> Option<Step>
+    requires entry { entry < length occupied.now.entries }
+    requires room { room < length occupied.now.problem.rooms }
+    ensures possible { IfSome result (CanStep occupied.now.problem occupied.now.entries) }
+    ensures first { IfSome result (λ s. first_of s ≡ entry) }
+{
+    for _ in 0..TRIES {
+        if let Some(place) = open.draw(occupied.instance(), rng) {
+            let step = step_to(occupied, board, entry, room, place.slot);
+            if is_open(occupied, step, place.is_free) {
+                return Some(step);
+            }
+        }
+    }
+    if occupied.score().feasible() {
+        return None;
+    }
+    Some(step_to(
+        occupied,
+        board,
+        entry,
+        room,
+        any_slot(occupied.instance(), rng),
+    ))
+}
+
+/// A step of an entry that mostly breaks no hard rule, over the periods that are open for it.
+pub fn sample(
+    occupied: &Occupied<'_, '_>,
+    board: &Board,
+    open: &Open,
+    rng: &mut Pcg32,
+    entry: u32,
+) -> Option<Step>
+    requires { entry < length occupied.now.entries }
+    ensures possible { IfSome result (CanStep occupied.now.problem occupied.now.entries) }
+    ensures first { IfSome result (λ s. first_of s ≡ entry) }
+{
+    let from = entry_of(occupied, entry);
+    let kind = below(rng, 10);
+    let room = below(rng, occupied.instance().rooms());
+    if kind < ROOMS_OF_TEN {
+        if room == from.room {
+            return None;
+        }
+        return Some(step_to(occupied, board, entry, room, slot_of(from)));
+    }
+    let room = if kind < ROOMS_OF_TEN + PERIODS_OF_TEN {
+        from.room
+    } else {
+        room
+    };
+    sample_period(occupied, board, open, rng, entry, room)
 }

@@ -1,4 +1,4 @@
-//! Walks by drawn steps, near the best timetable so far.
+//! Walks by drawn steps.
 
 ghost use Rattle.std.specs.Prelude.{◌≡◌, ◌<◌, ◌+◌, ℕ, List, length};
 ghost use Rattle.tt_instance.specs.declared.cell.Cell.{Cell};
@@ -6,29 +6,73 @@ ghost use Rattle.tt_search.specs.Improved.{courses_of, LeadsWithin};
 ghost use Rattle.tt_search.specs.Pairs.{IsBest};
 
 use crate::best::Best;
+use crate::board::Board;
+use crate::cooling::Cooling;
 use crate::drawing::draw;
-use crate::phase::Phase;
-use crate::terms::Terms;
+use crate::open::Open;
 use rand_core::SeedableRng;
 use rand_pcg::Pcg32;
+use std::alloc::{AllocError, Global};
 use tt_moves::apply;
 use tt_occupancy::Occupied;
 
-/// Makes a drawn step, where the terms admit one.
-fn try_draw(occupied: &mut Occupied<'_, '_>, rng: &mut Pcg32, cooling: Terms)
+/// What draws steps.
+#[derive(Drop)]
+pub struct Walker {
+    board: Board,
+    open: Open,
+    rng: Pcg32,
+}
+
+impl Walker {
+    /// One that knows no timetable yet.
+    pub fn new(
+        alloc: Global,
+        occupied: &Occupied<'_, '_>,
+        seed: u64,
+    ) -> Result<Walker, AllocError> {
+        Ok(Walker {
+            board: Board::new(alloc, occupied)?,
+            open: Open::new(alloc, occupied.instance())?,
+            rng: Pcg32::seed_from_u64(seed),
+        })
+    }
+
+    /// Begins with this timetable. No memory is taken.
+    pub fn begin(&mut self, occupied: &Occupied<'_, '_>) {
+        self.board.fill(occupied);
+    }
+}
+
+/// Makes a drawn step, where one is admitted.
+fn try_draw(occupied: &mut Occupied<'_, '_>, walker: &mut Walker, cooling: &mut Cooling)
     requires { 0 < length occupied.old.entries }
     ensures problem { occupied.new.problem ≡ occupied.old.problem }
     ensures courses { courses_of occupied.new.entries ≡ courses_of occupied.old.entries }
     ensures reached { (t : List Cell) (n : ℕ) → LeadsWithin occupied.old.problem t n occupied.old.entries
         → LeadsWithin occupied.old.problem t (n + 1) occupied.new.entries }
 {
-    if let Some(step) = draw(occupied, rng, terms) {
+    if let Some(step) = draw(
+        occupied,
+        &walker.board,
+        &mut walker.open,
+        &mut walker.rng,
+        cooling,
+    ) {
+        walker.board.take(occupied, step);
         apply(occupied, step);
+        walker.board.put(occupied, step);
     }
 }
 
 /// Makes drawn steps, and keeps the best timetable on the way. No memory is taken.
-pub fn walk(occupied: &mut Occupied<'_, '_>, best: &mut Best, seed: u64, draws: u64)
+pub fn walk(
+    occupied: &mut Occupied<'_, '_>,
+    best: &mut Best,
+    walker: &mut Walker,
+    cooling: Cooling,
+    draws: u64,
+)
     requires some { 0 < length occupied.old.entries }
     requires best { (t : List Cell) × (courses_of occupied.old.entries ≡ courses_of t)
         × IsBest occupied.old.problem t best.old }
@@ -39,13 +83,9 @@ pub fn walk(occupied: &mut Occupied<'_, '_>, best: &mut Best, seed: u64, draws: 
     ensures reached { best.old.entries.items ≡ occupied.old.entries
         → LeadsWithin occupied.old.problem occupied.old.entries draws best.new.entries.items }
 {
-    let mut rng = Pcg32::seed_from_u64(seed);
+    let mut cooling = cooling;
     for made in 0..draws {
-        let phase = Phase {
-            left: draws - made,
-            draws,
-        };
-        try_draw(occupied, &mut rng, Terms::new(best.pair, phase));
+        try_draw(occupied, walker, &mut cooling);
         best.keep(occupied);
     }
 }

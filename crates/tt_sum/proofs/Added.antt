@@ -1,12 +1,13 @@
 -- One more proof is added, or its fault is told.
-use Rattle.std.proofs.Common.{◌≡◌, ℕ, ◌+◌, ◌-◌, ◌<◌, ◌≤◌, ◌^◌, zero, suc, Bool, true, ◌&&◌, ◌||◌, List, [], ◌∷◌, ◌++◌, Option, Some, refl, sym, ap, subst, ◌∙◌, arith, inl, inr, zero-le}
-use Rattle.std.specs.Prelude.{flat_map, slice_get, IsSomeAnd}
-use Rattle.std.specs.List.{list_any, list_all}
-use Rattle.std.proofs.lemmas.List.Folds.{list_any-append, list_all-append}
+use Rattle.std.proofs.Common.{◌≡◌, ℕ, ◌+◌, ◌-◌, ◌<◌, ◌≤◌, ◌^◌, Bool, true, ◌||◌, List, [], ◌∷◌, ◌++◌, Option, Some, refl, sym, ap, subst, ◌∙◌, arith, inl, inr, zero-le}
+use Rattle.std.specs.Prelude.{flat_map}
+use Rattle.std.specs.List.{list_any}
+use Rattle.std.proofs.lemmas.List.Folds.{list_any-append}
 use Rattle.std.proofs.lemmas.List.Sums.{sum_by-append}
-use Rattle.std.proofs.lemmas.Bool.{and_parts, and_from, or_left, or_right}
-use Rattle.tt_lists.specs.Words.{each_two}
+use Rattle.std.proofs.lemmas.Bool.{or_left, or_right}
 use Rattle.tt_lists.proofs.Sums.{list_any-of_flat_map}
+use Rattle.tt_lists.proofs.Twos.{each_two-push, each_two-last}
+use Rattle.tt_lists.proofs.Tested.{all_at}
 use Rattle.tt_instance.specs.Problem.{Problem}
 use Rattle.tt_instance.specs.Limits.{IsInstance}
 use Rattle.tt_leaf.specs.Claims.{Target, same_target}
@@ -57,28 +58,6 @@ pub all_points-push : (parts : List Part) (part : Part) → all_points (parts ++
 all_points-push parts part = let e = sum_by-append (λ (k : Part). points k.bound) parts (part ∷ []) in omega (arith, e)
 
 -- ---- parts that are apart
-
-each_two-push : {X : Type 0} (related : X → X → Bool) (xs : List X) (x : X) → each_two related xs ≡ true → list_all (λ z. related z x) xs ≡ true → each_two related (xs ++ x ∷ []) ≡ true
-each_two-push related [] x a b = refl
-each_two-push related (z ∷ zs) x a b =
-    let h = and_parts (list_all (related z) zs) (each_two related zs) a in
-    let k = and_parts (related z x) (list_all (λ y. related y x) zs) b in
-    and_from (list_all (related z) (zs ++ x ∷ [])) (each_two related (zs ++ x ∷ []))
-    (list_all-append (related z) zs (x ∷ []) ∙ and_from (list_all (related z) zs) (related z x && true) h.0 (and_from (related z x) true k.0 refl))
-    (each_two-push related zs x h.1 k.1)
-
-each_two-last : {X : Type 0} (related : X → X → Bool) (xs : List X) (x : X) → each_two related (xs ++ x ∷ []) ≡ true → list_all (λ z. related z x) xs ≡ true
-each_two-last related [] x e = refl
-each_two-last related (z ∷ zs) x e =
-    let h = and_parts (list_all (related z) (zs ++ x ∷ [])) (each_two related (zs ++ x ∷ [])) e in
-    let k = and_parts (list_all (related z) zs) (related z x && true) (sym (list_all-append (related z) zs (x ∷ [])) ∙ h.0) in
-    and_from (related z x) (list_all (λ y. related y x) zs) (and_parts (related z x) true k.1).0 (each_two-last related zs x h.1)
-
--- an element at a place where all pass
-all_at : {X : Type 0} (test : X → Bool) (Q : X → Type 0) (xs : List X) (i : ℕ) → list_all test xs ≡ true → IsSomeAnd (slice_get xs i) Q → (x : X) × (test x ≡ true) × Q x
-all_at test Q [] i e h = absurd h
-all_at test Q (x ∷ xs) zero e h = (x, (and_parts (test x) (list_all test xs) e).0, h)
-all_at test Q (x ∷ xs) (suc i) e h = all_at test Q xs i (and_parts (test x) (list_all test xs) e).1 h
 
 -- what a node claims, its tree claims
 claimed_in_tree : (tree : Tree) (before : List Node) (node : Node) (more : List Node) (y : Target) → preorder tree ≡ before ++ node ∷ more → is_among (claims_at node) y ≡ true → is_among (claimed_by tree) y ≡ true

@@ -1,5 +1,5 @@
 -- A proof joins those whose claims the table has, or one of its nodes claims what an earlier one does.
-use Rattle.std.proofs.Common.{◌≡◌, ℕ, ◌+◌, ◌-◌, ◌<◌, suc, Bool, true, false, not, cond, ◌&&◌, ◌||◌, List, [], ◌∷◌, ◌++◌, map, length, append-nil, Option, Some, None, add-zero, refl, sym, ap, subst, ◌∙◌, arith, inl, inr, lit<, length-append}
+use Rattle.std.proofs.Common.{◌≡◌, ℕ, ◌+◌, ◌-◌, ◌<◌, suc, Bool, true, false, not, cond, ◌||◌, List, [], ◌∷◌, ◌++◌, map, length, append-nil, Option, Some, None, add-zero, refl, sym, ap, subst, ◌∙◌, arith, inl, inr, lit<, length-append}
 use Rattle.std.specs.Prelude.{◌==◌, ◌⊎◌, nat_le, flat_map, slice_get, IsSomeAnd}
 use Rattle.std.specs.Option.{option_or}
 use Rattle.std.specs.List.{list_all, AllByRecursion}
@@ -7,9 +7,11 @@ use Rattle.std.proofs.lemmas.List.{map-append}
 use Rattle.std.proofs.lemmas.Grind.{flat_map-append}
 use Rattle.std.proofs.lemmas.List.Folds.{list_any-append, list_all-append}
 use Rattle.std.proofs.lemmas.List.Elements.{recursion_from_All}
-use Rattle.std.proofs.lemmas.Bool.{cases_eq, leb-false, lt-leb, eq-eqb, eqb-true, ne_eqb, both_ways, or_cases, or_left, or_right, and_parts, and_from, not_from_false}
+use Rattle.std.proofs.lemmas.Bool.{leb-false, lt-leb, eq-eqb, eqb-true, both_ways, or_cases, or_left, or_right, and_from, not_from_false}
 use Rattle.tt_lists.specs.Words.{has_number}
 use Rattle.tt_lists.proofs.Members.{each_of_append}
+use Rattle.tt_lists.proofs.Tests.{test_turned}
+use Rattle.tt_lists.proofs.Twos.{list_all-swap}
 use Rattle.tt_instance.specs.Problem.{Problem}
 use Rattle.tt_instance.specs.Limits.{IsInstance}
 use Rattle.tt_leaf.specs.Claims.{Target, same_target, targets_of, claimed}
@@ -33,34 +35,10 @@ use Rattle.tt_sum.proofs.Tables.{owner_after, not_none, first_clash-append, plac
 
 -- ---- lists
 
-turned : (a b : ℕ) → (a == b) ≡ (b == a)
-turned a b = elim (cases_eq a b) [
-  | inl e ↦ eq-eqb a b e ∙ sym (eq-eqb b a (sym e))
-  | inr h ↦ ne_eqb a b h ∙ sym (ne_eqb b a (λ e. h (sym e)))
-]
-
 has_place : (ys : List Target) (y : Target) → has_number (map place ys) (place y) ≡ is_among ys y
 has_place [] y = refl
 has_place (z ∷ zs) y =
     ap (λ b. b || has_number (map place zs) (place y)) (test_turned (place z) (place y) ∙ same_place y z) ∙ ap (λ b. same_target y z || b) (has_place zs y)
-
-pass_both : {X : Type 0} (p q : X → Bool) (xs : List X) → list_all p xs ≡ true → list_all q xs ≡ true → list_all (λ x. p x && q x) xs ≡ true
-pass_both p q [] a b = refl
-pass_both p q (x ∷ xs) a b =
-    let h = and_parts (p x) (list_all p xs) a in
-    let k = and_parts (q x) (list_all q xs) b in
-    and_from (p x && q x) (list_all (λ z. p z && q z) xs) (and_from (p x) (q x) h.0 k.0) (pass_both p q xs h.1 k.1)
-
-all_true : {X : Type 0} (xs : List X) → list_all (λ x. true) xs ≡ true
-all_true [] = refl
-all_true (x ∷ xs) = all_true xs
-
--- all of each, the other way round
-swapped : {X Y : Type 0} (test : X → Y → Bool) (xs : List X) (ys : List Y) → list_all (λ y. list_all (λ x. test x y) xs) ys ≡ true → list_all (λ x. list_all (test x) ys) xs ≡ true
-swapped test xs [] e = all_true xs
-swapped test xs (y ∷ ys) e =
-    let h = and_parts (list_all (λ x. test x y) xs) (list_all (λ z. list_all (λ x. test x z) xs) ys) e in
-    pass_both (λ x. test x y) (λ x. list_all (test x) ys) xs h.0 (swapped test xs ys h.1)
 
 -- ---- the first proof that claims a place
 
@@ -187,7 +165,7 @@ module _ (before_it : State) (parts : List Part) (of : IsTableOf before_it parts
       ∙ and_from (list_all unclaimed_target (claims_at n)) (list_all unclaimed_target (flat_map claims_at ns)) (none_at i (claims_at n) h.0) (none_from (i + 1) ns h.1)
 
   apart : (ys : List Target) → list_all unclaimed_target ys ≡ true → list_all (λ k. are_apart (claims_of k) ys) parts ≡ true
-  apart ys e = swapped (λ k y. not (is_among (claims_of k) y)) parts ys e
+  apart ys e = list_all-swap (λ k y. not (is_among (claims_of k) y)) parts ys ∙ e
 
   nodes_apart : (i : ℕ) (nodes : List Node) → first_clash t (places_from i nodes) ≡ None → list_all (λ n. list_all (λ k. are_apart (claims_of k) (claims_at n)) parts) nodes ≡ true
   nodes_apart i [] e = refl

@@ -1,4 +1,5 @@
 pub mod Added
+pub mod Examples
 pub mod Joining
 pub mod Lists
 pub mod Over

@@ -1,12 +1,14 @@
 -- A tree bounds the part of the cost that is its targets'.
-use Rattle.std.proofs.Common.{◌≡◌, ℕ, ◌≤◌, Bool, true, false, not, List, [], ◌∷◌, None, refl, sym, ◌∙◌, arith, inl, inr, leb-true}
-use Rattle.std.specs.Prelude.{sum_by, nat_le}
+use Rattle.std.proofs.Common.{◌≡◌, ℕ, ◌≤◌, Bool, true, false, not, List, refl, sym, ◌∙◌, arith, inl, inr}
+use Rattle.std.specs.Prelude.{sum_by}
 use Rattle.std.specs.List.{list_any, list_all}
 use Rattle.std.proofs.lemmas.List.Elements.{All-push}
 use Rattle.std.proofs.lemmas.Bool.{cases_Bool, and_parts}
 use Rattle.tt_lists.specs.Words.{each_two}
 use Rattle.tt_lists.proofs.Sums.{sum_by-le, sum_by-of_flat_map, each_from_list_all}
 use Rattle.tt_lists.proofs.Members.{at_member}
+use Rattle.tt_lists.proofs.Below.{all_pass}
+use Rattle.tt_lists.proofs.Apart.{distinct_sum}
 use Rattle.std.proofs.lemmas.List.Folds.{list_all-append}
 use Rattle.tt_instance.specs.Problem.{Problem}
 use Rattle.tt_instance.specs.declared.cell.Cell.{Cell}
@@ -14,15 +16,14 @@ use Rattle.tt_rules.specs.Score.{IsFeasible, cost}
 use Rattle.tt_facts.specs.Facts.{matches, Holds, Fits}
 use Rattle.tt_facts.specs.declared.facts.Fact.{Fact}
 use Rattle.tt_leaf.specs.Bounds.{Respects}
-use Rattle.tt_leaf.specs.Claims.{Target, part, same_target, targets_of, value_of, claimed, is_fair, total_of}
-use Rattle.tt_leaf.specs.Leaves.{claims_once, demand, IsRight}
+use Rattle.tt_leaf.specs.Claims.{Target, part, same_target, targets_of, value_of, claimed}
+use Rattle.tt_leaf.specs.Leaves.{IsRight}
 use Rattle.tt_leaf.specs.declared.leaf.Bound.{Bound}
 use Rattle.tt_leaf.specs.declared.leaf.Bound.TheVariants.{AtLeast, Nothing}
 use Rattle.tt_leaf.specs.declared.leaf.Leaf.{Leaf}
 use Rattle.tt_leaf.specs.declared.leaf.Leaf.TheVariants.{Empty, Many, Clique, Slots, Cost}
-use Rattle.tt_leaf.specs.declared.leaf.RuleFault.TheVariants.{ClaimedTwice, TooCheap, BadPrice}
-use Rattle.tt_leaf.proofs.Soundness.{leaf_sound, demand_none}
-use Rattle.tt_leaf.proofs.Totals.{distinct_sum, same_target-true, same_target-itself, each_claim_sound, parts_of_cost, target_there}
+use Rattle.tt_leaf.proofs.Soundness.{leaf_sound}
+use Rattle.tt_leaf.proofs.Totals.{same_target-true, same_target-itself, each_claim_sound, parts_of_cost, target_there}
 use Rattle.tt_proof_text.specs.Trees.{Tree, Close, Branch, with_fact}
 use Rattle.tt_proof_check.specs.Derives.{Derives}
 use Rattle.tt_sum.specs.Sums.{claimed_in, claimed_by, is_among, are_among, cost_over, every_target}
@@ -42,16 +43,12 @@ module _ (p : Problem) (t : List Cell) (ok : IsFeasible p t) where
     leaf_by path fits b (Many c) in_test e = absurd (leaf_sound p t ok path fits Nothing (Many c) e)
     leaf_by path fits b (Clique cs) in_test e = absurd (leaf_sound p t ok path fits Nothing (Clique cs) e)
     leaf_by path fits b (Slots cs) in_test e = absurd (leaf_sound p t ok path fits Nothing (Slots cs) e)
-    leaf_by path fits Nothing (Cost claims) in_test e = cc
+    leaf_by path fits Nothing (Cost claims) in_test e = absurd e
     leaf_by path fits (AtLeast b) (Cost claims) in_test e =
-        let dear = nat_le b (total_of p path claims) in
-        let fair = list_all (is_fair p path) claims in
-        let h = demand_none (claims_once claims) ClaimedTwice (demand fair BadPrice (demand dear TooCheap None)) e in
-        let i = demand_none fair BadPrice (demand dear TooCheap None) h.1 in
-        let k = leb-true b (total_of p path claims) (demand_none dear TooCheap None i.1).0 in
-        let values = sum_by-le (value_of p path) (λ c. sum_by (part p t) (targets_of c)) claims (each_claim_sound p t ok path fits claims h.0 i.0) in
+        let k = e.2 in
+        let values = sum_by-le (value_of p path) (λ c. sum_by (part p t) (targets_of c)) claims (each_claim_sound p t ok path fits claims e.0 e.1) in
         let joined = sum_by-of_flat_map (part p t) targets_of claims in
-        omega (arith, values, joined, most (claimed claims) h.0 in_test)
+        omega (arith, values, joined, most (claimed claims) e.0 in_test)
 
     pub tree_by : (b : Bound) (path : List Fact) (tree : Tree) → list_all test (claimed_by tree) ≡ true → Derives p b path tree → Fits p t path → Respects b n
     tree_by b path (Close leaf) in_test d fits = leaf_by path fits b leaf in_test d
@@ -75,12 +72,8 @@ module _ (p : Problem) (t : List Cell) (ok : IsFeasible p t) where
   most_all : IsMost (cost_over p t (every_target p)) (λ y. true)
   most_all ys apart there = distinct_sum same_target same_target-true same_target-itself (part p t) ys (every_target p) apart (λ y m. target_there p t ok y)
 
-  all_pass : (ys : List Target) → list_all (λ y. true) ys ≡ true
-  all_pass [] = refl
-  all_pass (y ∷ ys) = all_pass ys
-
   pub tree_over_all : (b : Bound) (path : List Fact) (tree : Tree) → Derives p b path tree → Fits p t path → Respects b (cost_over p t (every_target p))
-  tree_over_all b path tree d fits = tree_by (cost_over p t (every_target p)) (λ y. true) most_all b path tree (all_pass (claimed_by tree)) d fits
+  tree_over_all b path tree d fits = tree_by (cost_over p t (every_target p)) (λ y. true) most_all b path tree (all_pass (λ y. true) (claimed_by tree) (λ y. refl)) d fits
 
   pub over_all : cost_over p t (every_target p) ≤ cost p t
   over_all = parts_of_cost p t ok

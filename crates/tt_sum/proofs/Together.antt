@@ -8,6 +8,7 @@ use Rattle.std.proofs.lemmas.Bool.{and_parts, cond-true, and_from, both_ways, no
 use Rattle.tt_lists.specs.Words.{each_two}
 use Rattle.tt_lists.proofs.Sums.{sum_by-le, sum_by-plus, each, each_from_list_all}
 use Rattle.tt_lists.proofs.Members.{at_member, each_member, member_from_any, any_member}
+use Rattle.tt_lists.proofs.Apart.{distinct_sum}
 use Rattle.tt_instance.specs.Problem.{Problem}
 use Rattle.tt_instance.specs.declared.cell.Cell.{Cell}
 use Rattle.tt_rules.specs.Score.{IsFeasible, cost}
@@ -17,7 +18,7 @@ use Rattle.tt_leaf.specs.Bounds.{Respects}
 use Rattle.tt_leaf.specs.Claims.{Target, part, same_target}
 use Rattle.tt_leaf.specs.declared.leaf.Bound.{Bound}
 use Rattle.tt_leaf.specs.declared.leaf.Bound.TheVariants.{AtLeast, Nothing}
-use Rattle.tt_leaf.proofs.Totals.{distinct_sum, same_target-true, same_target-itself, target_there}
+use Rattle.tt_leaf.proofs.Totals.{same_target-true, same_target-itself, target_there}
 use Rattle.tt_proof_check.specs.Derives.{Derives, HoldsOfAll}
 use Rattle.tt_sum.specs.Sums.{is_among, are_apart, every_target, both_bounds, sum_of, Part, IsPart, claims_of, AreApart, IsSum}
 use Rattle.tt_sum.proofs.Over.{tree_by, over_all, IsMost}

@@ -90,12 +90,12 @@ told_proof n f = Proof n f
 abbrev pub read_failed_at : ℕ → SumFault
 read_failed_at n = Proof n (check.Text (text.Feed feed.Read))
 
--- Want of memory is told as itself.
+-- Being out of memory is told as itself.
 abbrev pub OutOfMemoryIsOneFault : SumFault → Type 0
 OutOfMemoryIsOneFault (Proof n f) = ¬ (f ≡ check.OutOfMemory) × OutOfMemoryIsNoTextFault f
 OutOfMemoryIsOneFault _ = ⊤
 
--- want of memory or a failed read
+-- being out of memory or a failed read
 abbrev pub IsSilentSum : SumFault → Type 0
 IsSilentSum (Proof n f) = f ≡ check.Text (text.Feed feed.Read)
 IsSilentSum (ClaimedElsewhere n i e) = ⊥

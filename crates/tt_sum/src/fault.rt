@@ -11,7 +11,7 @@ use tt_proof_check::CheckFault;
 /// Why proofs are not added up. Proofs are counted from 1, and nodes from 0 in the order of the file.
 #[derive(Clone, Copy, Debug, PartialEq, Eq)]
 pub enum SumFault {
-    /// This proof has this fault; want of memory is told as `OutOfMemory`.
+    /// This proof has this fault; being out of memory is told as `OutOfMemory`.
     Proof(u64, CheckFault),
     /// This node of the proof is its first that claims a target which an earlier proof claims.
     ClaimedElsewhere { proof: u64, node: u32, earlier: u64 },

@@ -12,7 +12,7 @@ use Rattle.tt_instance.specs.declared.cell.Cell.{Cell}
 use Rattle.tt_table.specs.declared.fault.SolutionFault.{SolutionFault}
 use Rattle.tt_table.specs.declared.fault.SolutionFault.TheVariants as fault
 
--- want of memory says nothing of the bytes
+-- being out of memory says nothing of the bytes
 abbrev pub is_silent : SolutionFault → Bool
 is_silent fault.OutOfMemory = true
 is_silent _ = false

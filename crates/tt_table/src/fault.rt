@@ -4,39 +4,36 @@ ghost use Rattle.std.specs.Prelude.{◌≡◌};
 ghost use Rattle.tt_table.specs.declared.fault.SolutionFault.TheVariants.{OutOfMemory};
 
 use std::alloc::{AllocError, AllocFailed};
-use std::error::Error;
-use std::fmt;
+use thiserror::Error;
 
 /// Why an entry was not added.
-#[derive(Clone, Copy, Debug, PartialEq, Eq)]
+#[derive(Clone, Copy, Debug, PartialEq, Eq, Error)]
 pub enum PushFault {
     /// The timetable has as many entries as it may have.
+    #[error("Full")]
     Full,
+    #[error("out of memory")]
     OutOfMemory,
 }
 
-impl fmt::Display for PushFault {
-    fn fmt<W: fmt::Write>(&self, f: &mut fmt::Formatter<W>) -> fmt::Result {
-        match self {
-            PushFault::Full => write!(f, "Full"),
-            PushFault::OutOfMemory => write!(f, "out of memory"),
-        }
-    }
-}
-
-impl Error for PushFault {}
-
-/// The first fault from the left, with the offset of its token (of the end, where one is missing), or want of memory.
-#[derive(Clone, Copy, Debug, PartialEq, Eq)]
+/// The first fault from the left, with the offset of its token (of the end, where one is missing), or being out of memory.
+#[derive(Clone, Copy, Debug, PartialEq, Eq, Error)]
 pub enum SolutionFault {
+    #[error("Ended at byte {0}")]
     Ended(usize),
+    #[error("UnknownCourse at byte {0}")]
     UnknownCourse(usize),
+    #[error("UnknownRoom at byte {0}")]
     UnknownRoom(usize),
+    #[error("NotANumber at byte {0}")]
     NotANumber(usize),
     /// A day or a period that is a number and not below its bound.
+    #[error("OutOfRange at byte {0}")]
     OutOfRange(usize),
     /// The first token of an entry past the last that is allowed.
+    #[error("TooMany at byte {0}")]
     TooMany(usize),
+    #[error("out of memory")]
     OutOfMemory,
 }
 
@@ -55,19 +52,3 @@ impl<T: Drop> From<AllocFailed<T>> for SolutionFault {
         SolutionFault::OutOfMemory
     }
 }
-
-impl fmt::Display for SolutionFault {
-    fn fmt<W: fmt::Write>(&self, f: &mut fmt::Formatter<W>) -> fmt::Result {
-        match self {
-            SolutionFault::Ended(at) => write!(f, "Ended at byte {at}"),
-            SolutionFault::UnknownCourse(at) => write!(f, "UnknownCourse at byte {at}"),
-            SolutionFault::UnknownRoom(at) => write!(f, "UnknownRoom at byte {at}"),
-            SolutionFault::NotANumber(at) => write!(f, "NotANumber at byte {at}"),
-            SolutionFault::OutOfRange(at) => write!(f, "OutOfRange at byte {at}"),
-            SolutionFault::TooMany(at) => write!(f, "TooMany at byte {at}"),
-            SolutionFault::OutOfMemory => write!(f, "out of memory"),
-        }
-    }
-}
-
-impl Error for SolutionFault {}

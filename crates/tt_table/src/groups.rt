@@ -17,7 +17,7 @@ pub const GROUPS: usize = 2048;
 pub enum GroupBy {
     Course,
     Room,
-    /// The period of the week; a day has so many.
+    /// The period of the week; a day has this many.
     Period(u32),
 }
 

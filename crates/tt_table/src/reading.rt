@@ -106,6 +106,7 @@ pub fn read_solution(
     ensures one { (t u : List Cell) → SpellsTable instance.now bytes.now t → SpellsTable instance.now bytes.now u → t ≡ u }
     ensures fits { IfOk result (λ t. IsTimetable instance.now t) }
 {
-    let _days = instance.days();
+    // What is true of every instance: it keeps its limits.
+    prove!(instance.days() > 0);
     read_entries(alloc, instance, bytes)
 }

@@ -49,6 +49,7 @@ pub fn write_solution(
     // It is read as the same timetable.
     ensures again { IfOk result (λ out. SpellsTable instance.now out.items table.now) }
 {
-    let _days = instance.days();
+    // What is true of every instance: it keeps its limits.
+    prove!(instance.days() > 0);
     put_entries(alloc, instance, table.entries())
 }

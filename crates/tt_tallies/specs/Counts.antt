@@ -1,3 +1,4 @@
+-- Only proofs rest on this file: nobody has to believe it.
 -- What tables of counts hold.
 use Rattle.std.specs.Prelude.{◌≡◌, ℕ, ◌+◌, ◌*◌, ◌<◌, ◌==◌, ◌&&◌, slice_index, cond}
 use Rattle.tt_tallies.specs.declared.grid.Grid.{Grid}
@@ -12,7 +13,7 @@ at g i j = slice_index g.counts.items (i * g.columns + j)
 abbrev pub in_period : Week → ℕ → ℕ → ℕ → ℕ
 in_period w i d s = at w.grid i (d * w.periods + s)
 
--- the second table is the first with so many more at each place
+-- the second table is the first with this many more at each place
 pub record IsMore (old new : Week) (more : ℕ → ℕ → ℕ → ℕ) : Type 0 where
   pub rows : new.grid.rows ≡ old.grid.rows
   pub days : new.days ≡ old.days

@@ -1,3 +1,4 @@
+-- Only proofs rest on this file: nobody has to believe it.
 -- The curricula of each course, and the courses that exclude it.
 use Rattle.std.specs.Prelude.{◌≡◌, ℕ, ◌<◌, [], length, filter, slice_index_or}
 use Rattle.tt_instance.specs.Problem.{Problem}

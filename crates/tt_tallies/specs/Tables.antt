@@ -1,3 +1,4 @@
+-- Only proofs rest on this file: nobody has to believe it.
 -- The tables of a list of entries.
 use Rattle.std.specs.Prelude.{List, length}
 use Rattle.tt_instance.specs.Problem.{Problem}

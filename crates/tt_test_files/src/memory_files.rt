@@ -8,7 +8,7 @@ use std::io::{Error, ErrorKind, Read, Seek, SeekFrom, Write};
 use std::rt::Files;
 use std::test::Fail;
 
-/// What a shelf refuses.
+/// What is refused.
 #[derive(Clone, Copy, Debug, PartialEq, Eq)]
 pub enum Refusal {
     Nothing,
@@ -45,7 +45,7 @@ fn fault(kind: ErrorKind) -> Error {
 }
 
 impl MemoryFiles {
-    /// An empty shelf.
+    /// No files.
     pub fn new(alloc: Global, refusal: Refusal) -> MemoryFiles {
         MemoryFiles {
             alloc,
@@ -54,7 +54,7 @@ impl MemoryFiles {
         }
     }
 
-    /// Puts a file that is not there yet on it, whatever it refuses.
+    /// Puts a file that is not there yet there, whatever is refused.
     pub fn put(&self, path: &str, text: &str) -> Result<(), Fail> {
         match self.insert(path, text.as_bytes()) {
             Ok(()) => Ok(()),

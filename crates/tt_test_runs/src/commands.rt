@@ -1,10 +1,10 @@
 //! The program on a disk in memory.
 
-use crate::disk::{Disk, StoredFile};
 use std::alloc::Global;
 use std::rt::Files;
 use std::test::Fail;
 use tt_app::run;
+use tt_test_files::{Disk, StoredFile};
 
 /// The status of a run, and what it wrote.
 #[derive(Debug, Drop)]

@@ -1,13 +1,13 @@
 //! The files and the words of a command line.
 
-use crate::commands::run_words;
-use crate::disk::{Disk, StoredFile};
 use std::alloc::{AllocError, Global};
 use std::io;
 use std::io::{Error, ErrorKind, Write};
 use std::test::Fail;
 use tt_app::run;
 use tt_samples::{WIDE, WIDE_SOLUTION};
+use tt_test_files::{Disk, StoredFile};
+use tt_test_runs::run_with;
 
 const PROOF: &[u8] = b"CTTP 1 bound 5 B D c0 ; end";
 
@@ -122,7 +122,7 @@ fn missing_files_of_proofs(rt: HostRuntime) -> Result<(), Fail> {
 /// The most bytes of an instance or of a solution file.
 const LONGEST: usize = 67_108_864;
 
-/// Wide with so many bytes after its end that the file is as long as it may be.
+/// Wide with this many bytes after its end that the file is as long as it may be.
 fn longest_instance(alloc: Global) -> Result<Vec<u8>, AllocError> {
     let mut bytes = WIDE.as_bytes().to_vec(alloc)?;
     bytes.resize(LONGEST, b' ')?;
@@ -165,6 +165,8 @@ fn words_that_ask_for_nothing(rt: HostRuntime) -> Result<(), Fail> {
         ["check", "a.ctt", "a.sol"].as_slice(),
         ["bound"].as_slice(),
         ["bound", "a.ctt"].as_slice(),
+        ["sum"].as_slice(),
+        ["sum", "a.ctt", "--solution"].as_slice(),
         ["upgrade"].as_slice(),
         ["upgrade", "a.ctt", "a.proof"].as_slice(),
         ["--loud"].as_slice(),
@@ -184,6 +186,7 @@ fn help_is_no_refusal(rt: HostRuntime) -> Result<(), Fail> {
         ["validate", "--help"].as_slice(),
         ["check", "--help"].as_slice(),
         ["bound", "--help"].as_slice(),
+        ["sum", "--help"].as_slice(),
         ["upgrade", "--help"].as_slice(),
     ] {
         let outcome = run_with(rt.alloc(), words, &[])?;

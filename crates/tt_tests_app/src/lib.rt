@@ -1,28 +1,20 @@
-//! Tests of the program: worked examples, through its commands and its calls.
+//! Tests of the program's other commands and of its files: worked examples, through the commands and the calls.
 #![tactic(auto)]
 
-#[cfg(test)]
-mod checking;
-#[cfg(test)]
-mod commands;
-#[cfg(test)]
-mod disk;
-#[cfg(test)]
-mod faults;
 #[cfg(test)]
 mod files;
 #[cfg(test)]
 mod improving;
 #[cfg(test)]
-mod refusing;
+mod library;
+#[cfg(test)]
+mod pages;
+#[cfg(test)]
+mod parts;
 #[cfg(test)]
 mod reports;
 #[cfg(test)]
-mod shelf;
-#[cfg(test)]
 mod solving;
-#[cfg(test)]
-mod trees;
 #[cfg(test)]
 mod upgrades;
 #[cfg(test)]

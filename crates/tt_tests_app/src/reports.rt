@@ -1,14 +1,14 @@
 //! What `report` prints.
 
-use crate::commands::{Outcome, run_words};
-use crate::disk::StoredFile;
 use std::alloc::Global;
 use std::io;
-use std::io::Write;
+use std::io::{Error, ErrorKind, Write};
 use std::test::Fail;
 use tt_app::{AppFault, report};
 use tt_report::{By, Sink, Writing};
 use tt_samples::MINI;
+use tt_test_files::StoredFile;
+use tt_test_runs::{Outcome, run_with};
 
 /// Mini's first course in the first period, and its second in the next.
 const SOLUTION: &str = "a R 0 0 b R 0 1";
@@ -54,9 +54,24 @@ fn kinds_that_are_none(rt: HostRuntime) -> Result<(), Fail> {
 
 /// Takes one byte a write, and fails, or takes none, at the write `stops_at`, counted from 1.
 #[derive(Drop)]
-struct Narrow {
+pub struct Narrow {
     bytes: Vec<u8>,
     stops_in: usize,
+}
+
+impl Narrow {
+    /// One that has taken nothing.
+    pub fn new(alloc: Global, stops_at: usize) -> Self {
+        Narrow {
+            bytes: Vec::new(alloc),
+            stops_in: stops_at,
+        }
+    }
+
+    /// What was taken.
+    pub fn bytes(&self) -> &[u8] {
+        &self.bytes
+    }
 }
 
 impl Write for Narrow {
@@ -79,13 +94,51 @@ impl Write for Narrow {
     }
 }
 
+/// A writer whose first write is interrupted.
+#[derive(Drop)]
+struct Interrupted {
+    bytes: Vec<u8>,
+    begun: bool,
+}
+
+impl Write for Interrupted {
+    fn write(&mut self, bytes: &[u8]) -> io::Result<usize> {
+        if !self.begun {
+            self.begun = true;
+            return Err(Error::from(ErrorKind::Interrupted));
+        }
+        self.bytes.extend_from_slice(bytes)?;
+        Ok(bytes.len())
+    }
+
+    fn flush(&mut self) -> io::Result<()> {
+        Ok(())
+    }
+}
+
+#[test]
+fn an_interrupted_write_has_failed(rt: HostRuntime) {
+    let mut interrupted = Interrupted {
+        bytes: Vec::new(rt.alloc()),
+        begun: false,
+    };
+    let mut sink = Writing::new(&mut interrupted);
+    let answer = report(
+        rt.alloc(),
+        MINI.as_bytes(),
+        SOLUTION.as_bytes(),
+        By::Room,
+        &mut sink,
+    );
+    assert_eq!(rt; answer, Err(AppFault::CannotWrite));
+    assert!(rt; sink.failed());
+    assert!(rt; interrupted.bytes.is_empty());
+}
+
 #[test]
 fn writes_that_stop(rt: HostRuntime) -> Result<(), Fail> {
     for stops_at in 1..=BY_ROOM.len() {
-        let mut narrow = Narrow {
-            bytes: Vec::new(rt.alloc()),
-            stops_in: stops_at,
-        };
+        let mut narrow = Narrow::new(rt.alloc(), stops_at);
         let mut sink = Writing::new(&mut narrow);
         let answer = report(
             rt.alloc(),
@@ -96,10 +149,7 @@ fn writes_that_stop(rt: HostRuntime) -> Result<(), Fail> {
         );
         assert_eq!(rt; answer, Err(AppFault::CannotWrite));
         assert!(rt; sink.failed());
-        assert_eq!(rt;
-            narrow.bytes.as_slice(),
-            &BY_ROOM.as_bytes()[..stops_at - 1]
-        );
+        assert_eq!(rt; narrow.bytes(), &BY_ROOM.as_bytes()[..stops_at - 1]);
     }
     Ok(())
 }

@@ -1,10 +1,10 @@
 //! What `solve` finds, and the files that it writes.
 
-use crate::commands::{Outcome, run_on};
-use crate::shelf::{Refusal, Shelf};
 use std::alloc::Global;
 use std::test::Fail;
 use tt_samples::{GAP, MINI, SAME, WIDE, edited};
+use tt_test_files::{MemoryFiles, Refusal};
+use tt_test_runs::{Outcome, run_on};
 
 fn filled(alloc: Global, instance: &str, refusal: Refusal) -> Result<MemoryFiles, Fail> {
     let memory = MemoryFiles::new(alloc, refusal);
@@ -64,7 +64,10 @@ fn a_search_of_one_node(rt: HostRuntime) -> Result<(), Fail> {
     let memory = filled(rt.alloc(), GAP, Refusal::Nothing)?;
     let outcome = solved(rt.alloc(), &memory, "1")?;
     assert_eq!(rt; outcome.answer(), (0, "cost 5 bound 1 unfinished\n", ""));
-    assert_eq!(rt; bounded(rt.alloc(), &memory)?.answer(), (0, "bound 1\n", ""));
+    assert_eq!(rt;
+        bounded(rt.alloc(), &memory)?.answer(),
+        (0, "bound 1\n", "")
+    );
     Ok(())
 }
 

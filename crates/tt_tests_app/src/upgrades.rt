@@ -1,7 +1,5 @@
 //! What `upgrade` makes of proofs, and of the files that it writes.
 
-use crate::commands::{Outcome, run_on};
-use crate::shelf::{Refusal, Shelf};
 use std::alloc::Global;
 use std::test::Fail;
 use tt_instance::read_instance;
@@ -9,6 +7,8 @@ use tt_leaf::Bound;
 use tt_proof_check::check_nodes;
 use tt_proof_write::write_proof;
 use tt_samples::{GAP, GAP_PROOF, SEATS, edited};
+use tt_test_files::{MemoryFiles, Refusal};
+use tt_test_runs::{Outcome, run_on};
 use tt_text::Pieces;
 use tt_upgrade::read_proof;
 
@@ -19,7 +19,12 @@ fn upgraded(alloc: Global, memory: &MemoryFiles) -> Result<Outcome, Fail> {
 }
 
 /// A memory with an instance, a proof and an older file where the new one is to stand.
-fn filled(alloc: Global, instance: &str, proof: &str, refusal: Refusal) -> Result<MemoryFiles, Fail> {
+fn filled(
+    alloc: Global,
+    instance: &str,
+    proof: &str,
+    refusal: Refusal,
+) -> Result<MemoryFiles, Fail> {
     let memory = MemoryFiles::new(alloc, refusal);
     memory.put("a.ctt", instance)?;
     memory.put("a.proof", proof)?;

@@ -1,9 +1,9 @@
 //! What `validate` prints of a solution.
 
-use crate::commands::validated;
 use std::test::Fail;
 use tt_samples::{LONG, MINI, TOUR, TRIO, edited, repeated};
 use tt_table::MAX_ENTRIES;
+use tt_test_runs::validated;
 
 #[test]
 fn ten_lines_and_a_status(rt: HostRuntime) -> Result<(), Fail> {

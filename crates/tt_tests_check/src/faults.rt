@@ -1,14 +1,18 @@
 //! The texts of faults.
 
-use std::alloc::AllocError;
+use std::alloc::{AllocError, Global};
+use std::fmt::Display;
 use std::test::Fail;
 use tt_app::{AppFault, Input};
 use tt_instance::{InstanceFault, Word};
 use tt_leaf::RuleFault;
-use tt_proof_check::CheckFault;
+use tt_proof_check::{CertifyFault, CheckFault, NodesFault};
 use tt_proof_text::{TextFault, Word as ProofWord};
+use tt_proof_write::WriteFault;
+use tt_report::ReportFault;
 use tt_table::{PushFault, SolutionFault};
 use tt_text::FeedFault;
+use tt_upgrade::UpgradeFault;
 
 #[test]
 fn of_instances(rt: HostRuntime) -> Result<(), Fail> {
@@ -127,6 +131,50 @@ fn of_rules(rt: HostRuntime) -> Result<(), Fail> {
     Ok(())
 }
 
+/// The text of a fault.
+fn text_of<E: Display + Drop>(alloc: Global, fault: E) -> Result<String, Fail> {
+    Ok(fault.to_string(alloc)?)
+}
+
+#[test]
+fn of_calls(rt: HostRuntime) -> Result<(), Fail> {
+    let ended = TextFault::Ended(7);
+    for (text, wanted) in [
+        (text_of(rt.alloc(), ReportFault::Write)?, "cannot write"),
+        (
+            text_of(rt.alloc(), ReportFault::OutOfMemory)?,
+            "out of memory",
+        ),
+        (text_of(rt.alloc(), WriteFault::NotATree)?, "NotATree"),
+        (text_of(rt.alloc(), WriteFault::OverLimit)?, "OverLimit"),
+        (
+            text_of(rt.alloc(), WriteFault::NotInVersion)?,
+            "NotInVersion",
+        ),
+        (text_of(rt.alloc(), UpgradeFault::TooLarge)?, "too large"),
+        (
+            text_of(rt.alloc(), UpgradeFault::Proof(CheckFault::Text(ended)))?,
+            "Ended at byte 7",
+        ),
+        (text_of(rt.alloc(), NodesFault::NotATree)?, "NotATree"),
+        (
+            text_of(rt.alloc(), NodesFault::Rule(3, RuleFault::NoBound))?,
+            "NoBound at node 3",
+        ),
+        (
+            text_of(rt.alloc(), CertifyFault::Proof(CheckFault::TooDeep(2)))?,
+            "proof: TooDeep at node 2",
+        ),
+        (
+            text_of(rt.alloc(), CertifyFault::Instance(InstanceFault::Ended(1)))?,
+            "instance: Ended at byte 1",
+        ),
+    ] {
+        assert_eq!(rt; text.as_str(), wanted);
+    }
+    Ok(())
+}
+
 #[test]
 fn of_the_program(rt: HostRuntime) -> Result<(), Fail> {
     for (fault, text) in [
@@ -168,7 +216,7 @@ fn of_the_program(rt: HostRuntime) -> Result<(), Fail> {
 }
 
 #[test]
-fn want_of_memory_is_one_fault(rt: HostRuntime) {
+fn out_of_memory_is_one_fault(rt: HostRuntime) {
     for fault in [
         AppFault::from(InstanceFault::OutOfMemory),
         AppFault::from(SolutionFault::OutOfMemory),

@@ -1,8 +1,8 @@
 //! Refusals: the first fault, on standard error, with status 2.
 
-use crate::commands::{checked, validated};
 use std::test::Fail;
 use tt_samples::{MINI, WIDE, WIDE_SOLUTION, edited};
+use tt_test_runs::{checked, validated};
 
 /// Mini with other words in one place, and why it is refused.
 const INSTANCES: [(&str, &str, &str); 15] = [
@@ -22,7 +22,7 @@ const INSTANCES: [(&str, &str, &str); 15] = [
         "Days: 64\nPeriods_per_day: 9",
         "OverLimit at byte 57",
     ),
-    // More cells than are allowed, and then as many; with so many courses the rooms are read as one.
+    // More cells than are allowed, and then as many; with this many courses the rooms are read as one.
     (
         "Courses: 2\nRooms: 1\nDays: 1\nPeriods_per_day: 3",
         "Courses: 2048\nRooms: 512\nDays: 9\nPeriods_per_day: 8",
@@ -108,7 +108,7 @@ fn solutions(rt: HostRuntime) -> Result<(), Fail> {
 }
 
 /// Proofs for Mini with a solution that breaks no hard rule, and why they are refused.
-const PROOFS: [(&str, &str); 14] = [
+pub const PROOFS: [(&str, &str); 14] = [
     ("", "Ended at byte 0"),
     ("cttp 1 bound 0 B ; end", "Expected CTTP at byte 0"),
     ("CTTP 3 bound 1", "Expected 1 at byte 5"),

@@ -1,7 +1,5 @@
 //! What `bound` and `check` make of whole proofs.
 
-use crate::commands::{Outcome, checked, run_words};
-use crate::disk::StoredFile;
 use std::alloc::Global;
 use std::test::Fail;
 use tt_app::{AppFault, check};
@@ -11,6 +9,8 @@ use tt_leaf::{Bound, Leaf, RuleFault};
 use tt_proof_check::{CheckFault, NodesFault, check_nodes};
 use tt_proof_text::{Node, TextFault};
 use tt_samples::{APART, CROWDED, GAP, GAP_PROOF, MINI, SAME, SEATS, WIDE, edited};
+use tt_test_files::StoredFile;
+use tt_test_runs::{Outcome, checked, run_with};
 use tt_text::{FeedFault, Pieces};
 
 fn bounded(alloc: Global, instance: &str, proof: &str) -> Result<Outcome, Fail> {
@@ -322,6 +322,11 @@ fn lists_that_are_no_tree(rt: HostRuntime) -> Result<(), Fail> {
     );
     assert_eq!(rt;
         check_nodes(rt.alloc(), &instance, Bound::Nothing, &[split]),
+        Err(NodesFault::NotATree)
+    );
+    let leaves = [Node::Leaf(Leaf::Many(0)), Node::Leaf(Leaf::Many(1))];
+    assert_eq!(rt;
+        check_nodes(rt.alloc(), &instance, Bound::Nothing, &leaves),
         Err(NodesFault::NotATree)
     );
     Ok(())

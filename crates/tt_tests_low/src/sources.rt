@@ -78,7 +78,7 @@ fn a_source_without_end(rt: HostRuntime) {
 }
 
 #[test]
-fn a_feed_behind_its_fault(rt: HostRuntime) -> Result<(), Fail> {
+fn a_feed_after_its_fault(rt: HostRuntime) -> Result<(), Fail> {
     for (text, fail_at, fault) in [
         (b"a b c".as_slice(), 2, FeedFault::Read),
         (
@@ -102,7 +102,7 @@ fn a_feed_behind_its_fault(rt: HostRuntime) -> Result<(), Fail> {
 }
 
 #[test]
-fn a_proof_reader_behind_its_end(rt: HostRuntime) -> Result<(), Fail> {
+fn a_proof_reader_after_its_end(rt: HostRuntime) -> Result<(), Fail> {
     let instance = read_instance(rt.alloc(), WIDE.as_bytes())?;
     for (text, finished) in [
         (b"CTTP 2 bound 5 B T c0 ; end".as_slice(), Ok(())),

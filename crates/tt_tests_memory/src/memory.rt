@@ -3,11 +3,12 @@
 
 use std::alloc::{AllocError, Global};
 use std::test::Fail;
-use tt_app::{Answer, check, improve, report, solve, upgrade, validate};
+use tt_app::{Answer, check, improve, page, report, solve, upgrade, validate};
 use tt_facts::{Pattern, PlainPath, Who};
 use tt_find::{best_claims, find_leaf};
 use tt_instance::{Instance, read_instance};
 use tt_leaf::{Bound, Claim, ClaimList, Leaf};
+use tt_page::put_shown;
 use tt_proof_check::{NodesFault, Verdict, certify, check_nodes, check_proof};
 use tt_proof_text::Node;
 use tt_report::{By, Writing};
@@ -272,6 +273,37 @@ fn the_command_solve(rt: HostRuntime) -> Result<(), Fail> {
     let answer = solve(rt.alloc(), GAP.as_bytes(), 1, 100);
     println!(rt; "{MARK}")?;
     assert_eq!(rt; text_of(&answer?), b"cost 5 bound 5 finished\n".as_slice());
+    Ok(())
+}
+
+#[test]
+fn the_command_page(rt: HostRuntime) -> Result<(), Fail> {
+    let mut text = Vec::with_capacity(rt.alloc(), 20000)?;
+    println!(rt; "{MARK}")?;
+    let status = page(
+        rt.alloc(),
+        MINI.as_bytes(),
+        MINI_SOLUTION.as_bytes(),
+        "",
+        &mut Writing::new(&mut text),
+    );
+    println!(rt; "{MARK}")?;
+    if status.is_err() {
+        assert!(rt; text.is_empty());
+    }
+    assert_eq!(rt; status?, 0);
+    assert!(rt; text.as_slice().ends_with(b"</html>\n"));
+    Ok(())
+}
+
+#[test]
+fn the_call_put_shown(rt: HostRuntime) -> Result<(), Fail> {
+    let mut text = Vec::new(rt.alloc());
+    println!(rt; "{MARK}")?;
+    let put = put_shown(&mut text, b"a<b");
+    println!(rt; "{MARK}")?;
+    put?;
+    assert_eq!(rt; text.as_slice(), b"a&lt;b".as_slice());
     Ok(())
 }
 

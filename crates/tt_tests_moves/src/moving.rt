@@ -96,13 +96,23 @@ fn steps_that_are_taken_back(rt: HostRuntime) -> Result<(), Fail> {
     Ok(())
 }
 
-/// The members of the chain of the first entry to a period of the first day, and the timetable once they changed places.
+/// A chain whose members changed places, and the timetable then.
+#[derive(Drop)]
+struct ChainSwap {
+    members: Vec<u32>,
+    text: String,
+    /// No hard rule is broken.
+    feasible: bool,
+    cost: u64,
+}
+
+/// Swaps the chain of the first entry to a period of the first day.
 fn swap_from_first(
     alloc: Global,
     instance: &Instance<'_>,
     solution: &str,
     period: u32,
-) -> Result<(Vec<u32>, String), Fail> {
+) -> Result<ChainSwap, Fail> {
     let mut occupied = occupied(alloc, instance, solution)?;
     let inside = !occupied.table().is_empty() && period < occupied.instance().periods();
     if !inside {
@@ -118,25 +128,33 @@ fn swap_from_first(
     swap_chain(&mut occupied, &chain);
     let mut members = Vec::new(alloc);
     members.extend_from_slice(chain.members())?;
-    Ok((members, text_of(alloc, &occupied)?))
+    let score = occupied.score();
+    Ok(ChainSwap {
+        members,
+        text: text_of(alloc, &occupied)?,
+        feasible: score.feasible(),
+        cost: score.cost(),
+    })
 }
 
 #[test]
 fn chains_that_change_places(rt: HostRuntime) -> Result<(), Fail> {
-    for (instance, solution, members, text) in [
+    for (instance, solution, members, text, cost) in [
         (
             MINI,
             "a R 0 0 b R 0 1",
             [0, 1].as_slice(),
             "a R 0 1\nb R 0 0\n",
+            1,
         ),
-        (PAIR, "x A 0 0 y A 0 1", &[0, 1], "x A 0 1\ny A 0 0\n"),
-        (PAIR, "x A 0 0 y B 0 1", &[0], "x A 0 1\ny B 0 1\n"),
+        (PAIR, "x A 0 0 y A 0 1", &[0, 1], "x A 0 1\ny A 0 0\n", 0),
+        (PAIR, "x A 0 0 y B 0 1", &[0], "x A 0 1\ny B 0 1\n", 0),
     ] {
         let instance = read_instance(rt.alloc(), instance.as_bytes())?;
-        let (chain, after) = swap_from_first(rt.alloc(), &instance, solution, 1)?;
-        assert_eq!(rt; chain.as_slice(), members);
-        assert_eq!(rt; after.as_str(), text);
+        let after = swap_from_first(rt.alloc(), &instance, solution, 1)?;
+        assert_eq!(rt; after.members.as_slice(), members);
+        assert_eq!(rt; after.text.as_str(), text);
+        assert_eq!(rt; (after.feasible, after.cost), (true, cost));
     }
     Ok(())
 }

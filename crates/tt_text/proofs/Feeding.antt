@@ -1,11 +1,13 @@
 -- What a feed gives of bytes that begin with a gap, with a token, or with a byte that passes a limit.
-use Rattle.std.proofs.Common.{◌≡◌, ℕ, zero, suc, ◌+◌, ◌-◌, ◌<◌, ◌≤◌, Bool, true, false, not, cond, leb, ltb, List, [], ◌∷◌, ◌++◌, length, take, drop, min, Option, Some, None, Ok, Err, refl, sym, ap, subst, ◌∙◌, add-zero, length-append, arith}
+use Rattle.std.proofs.Common.{◌≡◌, ℕ, zero, suc, ◌+◌, ◌-◌, ◌<◌, ◌≤◌, Bool, true, false, not, cond, leb, ltb, List, [], ◌∷◌, ◌++◌, length, take, drop, min, Option, Some, None, Ok, Err, refl, sym, ap, subst, ◌∙◌, add-zero, length-append, drop-cons, get_or, arith}
 use Rattle.std.specs.Prelude.{take_while}
 use Rattle.std.specs.List.{prefix_len, list_all}
+use Rattle.std.proofs.lemmas.Bool.Decides.{nat_tests}
 use Rattle.std.proofs.lemmas.Bool.{lt-leb, lt-ltb, le-ltb, le-leb, and_parts}
 use Rattle.std.proofs.lemmas.List.{take_min, take-take, drop-drop, length-drop, length-take}
 use Rattle.std.proofs.lemmas.List.Sums.{prefix_len-le-length}
 use Rattle.std.proofs.lemmas.List.Folds.{length-prefix_len}
+use Rattle.tt_text.specs.Plain.{is_plain}
 use Rattle.tt_text.specs.Tokens.{is_separator, in_token, Placed, tokens_from}
 use Rattle.tt_text.specs.Feeds.{Fault, fault_from, ends_before, stop_of, stream_with, stream_from, with_token, stopped}
 use Rattle.tt_text.specs.Found.{AtGap, IsScan}
@@ -299,4 +301,54 @@ scan_is bytes begun front gap most len gap_is gap_le begun_is most_is front_is l
           let is : drop gap bytes ≡ drop (prefix_len is_separator bytes) bytes = ap (λ (m : ℕ). drop m bytes) gap_is in
           let none : prefix_len in_token begun ≡ 0 = empty_run 32 begun (sym run ∙ s) in
           is ∙ ended bytes (ap (prefix_len in_token) (sym is ∙ sym begun_is) ∙ none);
+    }
+
+plain_in_token : (b : ℕ) → is_plain b ≡ true → in_token b ≡ true
+plain_in_token b e = grind (arith, nat_tests)
+
+plain_run : (xs : List ℕ) → list_all in_token (take (prefix_len is_plain xs) xs) ≡ true
+plain_run [] = refl
+plain_run (x ∷ xs) = plain_step x xs (is_plain x) refl (plain_run xs)
+  where
+    plain_step : (x : ℕ) (xs : List ℕ) (v : Bool) → is_plain x ≡ v → list_all in_token (take (prefix_len is_plain xs) xs) ≡ true → list_all in_token (take (prefix_len is_plain (x ∷ xs)) (x ∷ xs)) ≡ true
+    plain_step x xs true e h =
+        let n : prefix_len is_plain (x ∷ xs) ≡ suc (prefix_len is_plain xs) = rw e (omega arith) in
+        ap (λ (m : ℕ). list_all in_token (take m (x ∷ xs))) n ∙ rw (plain_in_token x e) h
+    plain_step x xs false e h =
+        let n : prefix_len is_plain (x ∷ xs) ≡ zero = rw e refl in
+        ap (λ (m : ℕ). list_all in_token (take m (x ∷ xs))) n
+
+gap_over_step : (b : ℕ) (bs : List ℕ) (v : Bool) → is_separator b ≡ v → (AtGap (drop (prefix_len is_separator bs) bs) → drop (prefix_len is_separator bs) bs ≡ [])
+    → AtGap (drop (prefix_len is_separator (b ∷ bs)) (b ∷ bs)) → drop (prefix_len is_separator (b ∷ bs)) (b ∷ bs) ≡ []
+gap_over_step b bs true e more h =
+    let same : prefix_len is_separator (b ∷ bs) ≡ suc (prefix_len is_separator bs) = rw e (omega arith) in
+    ap (λ (m : ℕ). drop m (b ∷ bs)) same ∙ more (subst (λ (m : ℕ). AtGap (drop m (b ∷ bs))) same h)
+gap_over_step b bs false e more h =
+    let none : prefix_len is_separator (b ∷ bs) ≡ zero = rw e refl in
+    let first : is_separator b ≡ true = subst (λ (m : ℕ). AtGap (drop m (b ∷ bs))) none h in
+    absurd (let no : true ≡ false = sym first ∙ e in cc)
+
+-- no separator stands after a gap
+gap_over : (xs : List ℕ) → AtGap (drop (prefix_len is_separator xs) xs) → drop (prefix_len is_separator xs) xs ≡ []
+gap_over [] h = refl
+gap_over (b ∷ bs) h = gap_over_step b bs (is_separator b) refl (gap_over bs) h
+
+-- a scan of plain bytes with a separator after them
+pub plain_scan_is : (bytes : List ℕ) (gap end : ℕ) → gap ≡ prefix_len is_separator bytes → end ≡ gap + prefix_len is_plain (drop gap bytes) → end < length bytes → end - gap ≤ 32
+    → is_separator (get_or bytes end 0) ≡ true → IsScan bytes gap (end - gap)
+plain_scan_is bytes gap end gap_is end_is more short after =
+    let len_is : end - gap ≡ prefix_len is_plain (drop gap bytes) = omega arith in
+    let stop : gap + (end - gap) ≡ end = omega arith in
+    let here : AtGap (drop end bytes) = subst AtGap (sym (drop-cons bytes end 0 more)) after in
+    let at_gap : AtGap (drop (gap + (end - gap)) bytes) = subst (λ (m : ℕ). AtGap (drop m bytes)) (sym stop) here in
+    record {
+      within = omega arith;
+      few = omega arith;
+      separators = rw gap_is (all_prefix_of is_separator bytes);
+      token = rw len_is (plain_run (drop gap bytes));
+      stops = λ (s : end - gap ≤ 32). at_gap;
+      begins = λ (s : end - gap ≡ 0).
+          let is : drop gap bytes ≡ drop (prefix_len is_separator bytes) bytes = ap (λ (m : ℕ). drop m bytes) gap_is in
+          let same : end ≡ gap = omega arith in
+          is ∙ gap_over bytes (subst AtGap is (subst (λ (m : ℕ). AtGap (drop m bytes)) same here));
     }

@@ -8,6 +8,7 @@ pub mod Giving
 pub mod Lines
 pub mod Parts
 pub mod Runs
+pub mod Standing
 pub mod Steps
 pub mod Texts
 pub mod Unlimited

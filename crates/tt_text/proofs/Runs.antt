@@ -108,7 +108,7 @@ tokens-some at gap len bs begun text rest begun_is gap_is len_is text_is rest_is
     let with_len : tokens_from false (at + gap) begun ≡ record { text = take len begun; at = at + gap } ∷ tokens_from false (at + gap + len) (drop len begun) = rw len_is second in
     first ∙ with_len ∙ rw (text_is, rest_is) refl
 
-run_passes : (p : ℕ → Bool) (xs : List ℕ) → list_all p (take (prefix_len p xs) xs) ≡ true
+pub run_passes : (p : ℕ → Bool) (xs : List ℕ) → list_all p (take (prefix_len p xs) xs) ≡ true
 run_passes p [] = refl
 run_passes p (x ∷ xs) = by_test (p x) refl (run_passes p xs)
   where

@@ -5,7 +5,9 @@ pub mod Found
 pub mod Lines
 pub mod Numbers
 pub mod Pieces
+pub mod Plain
 pub mod Reading
 pub mod Sources
+pub mod Standing
 pub mod Texts
 pub mod Tokens

@@ -9,7 +9,7 @@ abbrev pub ◌>>=◌ : {A B F : Type 0} → Result A F → (A → Result B F) �
 (Ok x) >>= f = f x
 (Err e) >>= f = Err e
 
--- The text has this very fault. A silent fault, as want of memory, says nothing of the text.
+-- The text has this very fault. A silent fault, such as being out of memory, says nothing of the text.
 abbrev pub FailsUnless : {Y F : Type 0} → (F → Bool) → F → Result Y F → Type 0
 FailsUnless silent e read = OnFalse (silent e) (read ≡ Err e)
 

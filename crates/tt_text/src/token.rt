@@ -1,7 +1,8 @@
 //! The tokens of a text, from left to right.
 
-ghost use Rattle.std.specs.Prelude.{◌≡◌, ◌≤◌, ◌∷◌, [], length, MatchOption, IfSome};
+ghost use Rattle.std.specs.Prelude.{◌≡◌, ◌≤◌, ◌+◌, ◌∷◌, [], length, drop, MatchOption, IfSome};
 ghost use Rattle.std.specs.List.{prefix_len};
+ghost use Rattle.tt_text.specs.Plain.{is_plain};
 ghost use Rattle.tt_text.specs.Tokens.{is_separator, in_token, tokens_of, place, IsToken};
 
 use std::marker::Model;
@@ -31,10 +32,15 @@ impl<'a> Model for Tokens<'a> {
     ghost invariant = { λ a. a.at + length a.rest.now < 2 ^ 64 };
 }
 
-fn is_space(byte: u8) -> bool
+/// Whether a byte separates tokens.
+pub fn is_space(byte: u8) -> bool
     ensures { result ≡ is_separator byte }
 {
-    matches!(byte, b' ' | b'\t'..=b'\r')
+    if byte < b' ' {
+        matches!(byte, b'\t'..=b'\r')
+    } else {
+        byte == b' '
+    }
 }
 
 /// How many separators the bytes begin with.
@@ -42,12 +48,15 @@ pub fn gap_len(bytes: &[u8]) -> usize
     ensures len { result ≡ prefix_len is_separator bytes.now }
     ensures within { result ≤ length bytes.now }
 {
-    for (i, byte) in bytes.iter().enumerate() {
-        if !is_space(*byte) {
-            return i;
-        }
+    // Mostly it is one space.
+    if bytes.len() > 1 && bytes[0] == b' ' && bytes[1] > b' ' {
+        return 1;
     }
-    bytes.len()
+    let mut len = 0;
+    while len < bytes.len() && is_space(bytes[len]) {
+        len += 1;
+    }
+    len
 }
 
 /// How many bytes that are no separators the bytes begin with.
@@ -61,6 +70,19 @@ pub fn token_len(bytes: &[u8]) -> usize
         }
     }
     bytes.len()
+}
+
+/// Where the bytes above the space end that stand from `from` on.
+pub fn plain_end(bytes: &[u8], from: usize) -> usize
+    requires { from ≤ length bytes.now }
+    ensures end { result ≡ from + prefix_len is_plain (drop from bytes.now) }
+    ensures within { result ≤ length bytes.now }
+{
+    let mut end = from;
+    while end < bytes.len() && bytes[end] > b' ' {
+        end += 1;
+    }
+    end
 }
 
 impl<'a> Tokens<'a> {

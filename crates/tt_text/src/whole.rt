@@ -4,14 +4,18 @@ ghost use Rattle.std.specs.Prelude.{◌≡◌, ◌<◌, ◌≤◌, true, length,
 
 use crate::source::Source;
 use std::alloc::Global;
+use thiserror::Error;
 
 /// Why a source was not read whole.
-#[derive(Clone, Copy, Debug, PartialEq, Eq)]
+#[derive(Clone, Copy, Debug, PartialEq, Eq, Error)]
 pub enum WholeFault {
     /// A read failed.
+    #[error("cannot read")]
     Read,
     /// There are more bytes than the limit.
+    #[error("too long")]
     TooLong,
+    #[error("out of memory")]
     OutOfMemory,
 }
 

@@ -57,7 +57,7 @@ read_told (text.TooManyNodes at) e = cc
 read_told (text.Feed f) e = cc
 read_told text.OutOfMemory e = cc
 
--- want of memory is told as itself
+-- being out of memory is told as itself
 pub memory_text : (f : TextFault) → OutOfMemoryIsOneFault (fault_from_text f)
 memory_text text.OutOfMemory = tt
 memory_text f = (λ e. cc, λ e. cc)

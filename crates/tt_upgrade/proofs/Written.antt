@@ -122,7 +122,7 @@ upgraded p bytes out v b nodes r h are w again = record {
 
 -- ---- a text that derives its bound is refused by silent faults alone
 
--- a fault of the text is want of memory, or is told as it is
+-- a fault of the text is being out of memory, or is told as it is
 cases_of_fault : (f : TextFault) (Q : UpgradeFault → Type 0) → Q OutOfMemory → (¬ (f ≡ text.OutOfMemory) → Q (Proof (check.Text f))) → Q (fault_from_text f)
 cases_of_fault (text.Ended at) Q a b = b (λ e. cc)
 cases_of_fault (text.Expected w at) Q a b = b (λ e. cc)

@@ -49,7 +49,7 @@ IsNodesFault p b nodes (Proof (check.TooDeep i)) = (tree : Tree) × (preorder tr
 IsNodesFault p b nodes OutOfMemory = ⊤
 IsNodesFault p b nodes _ = ⊥
 
--- Want of memory is told as itself, wherever it comes from.
+-- Being out of memory is told as itself, wherever it comes from.
 abbrev pub OutOfMemoryIsOneFault : UpgradeFault → Type 0
 OutOfMemoryIsOneFault (Proof f) = ¬ (f ≡ check.OutOfMemory) × OutOfMemoryIsNoTextFault f
 OutOfMemoryIsOneFault _ = ⊤

@@ -50,7 +50,7 @@ pub record EndTextFails (p : Problem) (v : ℕ) (s : Stream) (f : TextFault) : T
   pub reads : ReadsNodes (sizes_of p) v 0 s (preorder tree) rest
   pub fails : Fails f (end_at rest)
 
--- the first fault of the text; want of memory and a failed read say nothing of it
+-- the first fault of the text; being out of memory and a failed read say nothing of it
 abbrev pub IsTextFault : Problem → Stream → TextFault → Type 0
 IsTextFault p s f = Fails f (header_at s) ⊎ HasHeader s (λ v b rest. NodeTextFails (sizes_of p) v rest f ⊎ EndTextFails p v rest f)
 

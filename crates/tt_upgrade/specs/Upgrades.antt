@@ -50,6 +50,6 @@ IsUpgradeFault p s (Proof check.OutOfMemory) = ⊥
 IsUpgradeFault p s TooLarge = HasTree p s (λ b tree. IsTooLarge p b tree)
 IsUpgradeFault p s OutOfMemory = ⊤
 
--- want of memory, a failed read or a text that is too large, which say nothing against the proof
+-- being out of memory, a failed read or a text that is too large, which say nothing against the proof
 abbrev pub IsSilent : UpgradeFault → Type 0
 IsSilent e = (e ≡ OutOfMemory) ⊎ (e ≡ read_failed) ⊎ (e ≡ TooLarge)

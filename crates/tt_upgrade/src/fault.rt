@@ -3,19 +3,21 @@
 ghost use Rattle.std.specs.Prelude.{◌≡◌, ◌<◌};
 ghost use Rattle.tt_upgrade.specs.Faults.{IsOfNode, fault_from_node};
 
-use std::error::Error;
-use std::fmt;
+use thiserror::Error;
 use tt_proof_check::{CheckFault, NodesFault};
 use tt_proof_text::TextFault;
 use tt_proof_write::WriteFault;
 
 /// Why a proof is not written anew.
-#[derive(Clone, Copy, Debug, PartialEq, Eq)]
+#[derive(Clone, Copy, Debug, PartialEq, Eq, Error)]
 pub enum UpgradeFault {
-    /// The proof is refused; want of memory is told as `OutOfMemory`.
+    /// The proof is refused; being out of memory is told as `OutOfMemory`.
+    #[error("{0}")]
     Proof(CheckFault),
     /// The text in version 2 has more than 4,294,967,295 bytes.
+    #[error("too large")]
     TooLarge,
+    #[error("out of memory")]
     OutOfMemory,
 }
 
@@ -47,18 +49,6 @@ impl From<WriteFault> for UpgradeFault {
         }
     }
 }
-
-impl fmt::Display for UpgradeFault {
-    fn fmt<W: fmt::Write>(&self, f: &mut fmt::Formatter<W>) -> fmt::Result {
-        match self {
-            UpgradeFault::Proof(fault) => write!(f, "{fault}"),
-            UpgradeFault::TooLarge => write!(f, "too large"),
-            UpgradeFault::OutOfMemory => write!(f, "out of memory"),
-        }
-    }
-}
-
-impl Error for UpgradeFault {}
 
 /// What a fault of the nodes of a tree is called; a file's nodes are numbered with 32 bits.
 pub fn node_fault(fault: NodesFault) -> UpgradeFault

@@ -66,7 +66,7 @@ pub fn upgrade<R: Source>(
     // Where a read fails, all that the bytes before it say has been read.
     ensures up_to_failed_read { result ≡ Err read_failed → (bytes : List ℕ) → R.remaining source.old ≡ Some bytes →
         IsReadUpToFailedRead instance.now bytes (R.remaining source.new) }
-    // Want of memory is one answer, wherever it comes from.
+    // Being out of memory is one answer, wherever it comes from.
     ensures memory { IfErr result OutOfMemoryIsOneFault }
 {
     // What is true of every instance: its numbers are small enough to be read.

@@ -19,7 +19,8 @@ use tt_leaf::Bound;
 use tt_proof_check::check_proof;
 use tt_text::Source;
 
-fn bound_answer(alloc: Global, bound: Bound) -> Result<Answer, AllocError>
+/// The answer that is this bound's line.
+pub fn bound_answer(alloc: Global, bound: Bound) -> Result<Answer, AllocError>
     ensures { IfOk result (λ a. IsBoundAnswer a bound) }
 {
     Ok(Answer {
@@ -47,7 +48,7 @@ pub fn bound<R: Source>(alloc: Global, instance: &[u8], proof: &mut R) -> Result
     // Where one failed, all that the proof's bytes before it say has been judged.
     ensures up_to_failed_read { result ≡ Err read_failed → (bytes : List ℕ) → R.remaining proof.old ≡ Some bytes →
         IsSpelledAndJudgedUpToFailedRead instance.now bytes (R.remaining proof.new) }
-    // Want of memory is one answer, wherever it comes from.
+    // Being out of memory is one answer, wherever it comes from.
     ensures memory { IfErr result OutOfMemoryIsOneFault }
 {
     let instance = read_instance(alloc, instance)?;

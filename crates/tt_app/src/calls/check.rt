@@ -14,7 +14,8 @@ use tt_proof_check::{Verdict, certify};
 use tt_rules::Score;
 use tt_text::Source;
 
-fn yes_answer(alloc: Global, cost: u64, bound: u64) -> Result<Answer, AllocError>
+/// The answer yes, with a cost and a bound.
+pub fn yes_answer(alloc: Global, cost: u64, bound: u64) -> Result<Answer, AllocError>
     ensures { IfOk result (λ a. IsYesAnswer a cost bound) }
 {
     Ok(Answer {
@@ -25,7 +26,8 @@ fn yes_answer(alloc: Global, cost: u64, bound: u64) -> Result<Answer, AllocError
     })
 }
 
-fn broken_answer(alloc: Global, score: &Score) -> Result<Answer, AllocError>
+/// The answer that a hard rule is broken, with the sums of the counts.
+pub fn broken_answer(alloc: Global, score: &Score) -> Result<Answer, AllocError>
     ensures { IfOk result (λ a. IsBrokenAnswer a
         (score.now.lectures + score.now.conflicts + score.now.availability + score.now.room_occupancy)
         (score.now.room_capacity + score.now.min_working_days + score.now.compactness + score.now.room_stability)) }
@@ -63,7 +65,7 @@ pub fn check<R: Source>(
     // Where one failed, all that the proof's bytes before it say has been judged.
     ensures up_to_failed_read { result ≡ Err read_failed → (bytes : List ℕ) → R.remaining proof.old ≡ Some bytes →
         IsSpelledAndJudgedUpToFailedRead instance.now bytes (R.remaining proof.new) }
-    // Want of memory is one answer, wherever it comes from.
+    // Being out of memory is one answer, wherever it comes from.
     ensures memory { IfErr result OutOfMemoryIsOneFault }
 {
     match certify(alloc, instance, solution, proof)? {

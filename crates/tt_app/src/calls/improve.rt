@@ -34,7 +34,7 @@ fn table_answer(
     })
 }
 
-/// Searches from a solution by so many steps, and answers a timetable that is no worse; status 1 where it breaks a hard rule.
+/// Searches from a solution by this many steps, and answers a timetable that is no worse; status 1 where it breaks a hard rule.
 pub fn improve(
     alloc: Global,
     instance: &[u8],

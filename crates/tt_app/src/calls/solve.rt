@@ -36,7 +36,8 @@ fn put_cost(
     }
 }
 
-fn put_bound(out: &mut Vec<u8>, bound: Bound) -> Result<(), AllocError>
+/// Writes the points of a bound, or that there is no timetable.
+pub fn put_bound(out: &mut Vec<u8>, bound: Bound) -> Result<(), AllocError>
     ensures { OnOk result (out.new.items ≡ out.old.items ++ bound_points bound) }
 {
     match bound {
@@ -126,7 +127,7 @@ fn search_answer(
     })
 }
 
-/// Searches for a best timetable with at most so many nodes of the tree opened, and answers it with a proof of a lower bound; status 1
+/// Searches for a best timetable with at most this many nodes of the tree opened, and answers it with a proof of a lower bound; status 1
 /// where it found no timetable. Which nodes are opened is not promised.
 pub fn solve(alloc: Global, instance: &[u8], seed: u64, nodes: u32) -> Result<Answer, AppFault>
     requires some { 1 ≤ nodes }

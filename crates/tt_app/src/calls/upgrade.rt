@@ -46,7 +46,7 @@ pub fn upgrade<R: Source>(alloc: Global, instance: &[u8], proof: &mut R) -> Resu
     // Where one failed, all that the proof's bytes before it say has been read.
     ensures up_to_failed_read { result ≡ Err read_failed → (bytes : List ℕ) → R.remaining proof.old ≡ Some bytes →
         IsSpelledAndReadUpToFailedRead instance.now bytes (R.remaining proof.new) }
-    // Want of memory is one answer, wherever it comes from.
+    // Being out of memory is one answer, wherever it comes from.
     ensures memory { IfErr result OutOfMemoryIsOneFault }
 {
     let instance = read_instance(alloc, instance)?;

@@ -1,5 +1,6 @@
 use Rattle.std.proofs.Common.{sym, ◌∙◌, arith}
-use Rattle.tt_branch.proofs.Moving.{one_more, same_fact}
+use Rattle.tt_facts.proofs.Same.{same_fact}
+use Rattle.tt_branch.proofs.Moving.{one_more}
 use Rattle.tt_branch.proofs.moves.shared.Goals as goal
 
 pub loop-index-preserved : goal.loop-index-preserved

@@ -1,4 +1,6 @@
 use Rattle.std.proofs.Common.{◌≡◌, ℕ, ◌≤◌, List, length, refl, sym, ap, ◌∙◌, subst, arith}
+use Rattle.std.proofs.lemmas.Option.{get_or_from_slice_get, slice_get_within}
+use Rattle.tt_lists.proofs.Tested.{each_at}
 use Rattle.tt_instance.specs.Problem.{Problem}
 use Rattle.tt_facts.specs.declared.facts.Fact.{Fact}
 use Rattle.tt_find.specs.Found.{ArePatterns}
@@ -6,8 +8,7 @@ use Rattle.tt_branch.specs.declared.entry.Entry.{Entry}
 use Rattle.tt_branch.specs.declared.links.Link.{Link}
 use Rattle.tt_branch.specs.Kept.{IsKept, table_of}
 use Rattle.tt_branch.specs.Links.{path_at, AreLinks}
-use Rattle.tt_branch.proofs.Dividing.{get_is, get_inside}
-use Rattle.tt_branch.proofs.Advancing.{IsThere, each_at, each_there, opening_there}
+use Rattle.tt_branch.proofs.Advancing.{IsThere, each_there, opening_there}
 use Rattle.tt_branch.proofs.visit.open_at.Goals as goal
 
 pub go_to-requires : goal.go_to-requires
@@ -50,7 +51,7 @@ open-requires g c = λ κs.
 pub put-requires : goal.put-requires
 put-requires g c =
     let s = c.args.search.now in
-    omega (arith, get_inside s.entries.items c.args.place c.requires.waiting.0 c.requires.waiting.1, s.entries.ok.0)
+    omega (arith, slice_get_within s.entries.items c.args.place c.requires.waiting.0 c.requires.waiting.1, s.entries.ok.0)
 
 pub returns-clause-under_way : goal.returns-clause-under_way
 returns-clause-under_way g c =

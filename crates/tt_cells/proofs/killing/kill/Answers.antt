@@ -1,8 +1,7 @@
 use Rattle.std.proofs.Common.{◌+◌, ◌≤◌, ◌&&◌, length, refl, ap, ◌∙◌, arith}
 use Rattle.std.specs.Prelude.{◌==◌, nat_lt}
 use Rattle.tt_instance.specs.declared.cell.Cell.{Cell}
-use Rattle.tt_bits.proofs.BitLaws.{not_below}
-use Rattle.std.proofs.lemmas.Bool.{lt-ltb}
+use Rattle.std.proofs.lemmas.Bool.{lt-ltb, le-ltb}
 use Rattle.tt_cell_set.specs.Tables.{is_placed}
 use Rattle.tt_cells.specs.Struck.{loses_room}
 use Rattle.tt_cells.specs.Shown.{is_struck}
@@ -15,7 +14,7 @@ loop-course-init c =
     let p = a.instance.now in
     let struck = is_struck p a.free.now.words a.pattern.now a.day a.period a.courses.now in
     record {
-      loses = loses-none p a.live.now.words (λ x. nat_lt x.course 0 && struck x) c.requires.live (λ x h. ap (λ b. b && struck x) (not_below x.course 0 (omega arith)));
+      loses = loses-none p a.live.now.words (λ x. nat_lt x.course 0 && struck x) c.requires.live (λ x h. ap (λ b. b && struck x) (le-ltb x.course 0 (omega arith)));
       earlier = refl;
     }
 

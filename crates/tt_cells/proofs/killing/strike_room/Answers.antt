@@ -1,11 +1,8 @@
-use Rattle.std.proofs.Common.{[], ◌∷◌, ◌+◌, ◌≤◌, ◌&&◌, length, refl, ap, ◌∙◌, arith}
+use Rattle.std.proofs.Common.{◌+◌, ◌≤◌, not, ◌&&◌, length, refl, ap, ◌∙◌, arith}
 use Rattle.std.specs.Prelude.{◌==◌, nat_lt}
+use Rattle.std.proofs.lemmas.Bool.{lt-ltb, le-ltb}
 use Rattle.tt_instance.specs.declared.cell.Cell.{Cell}
-use Rattle.tt_bits.proofs.BitLaws.{not_below}
-use Rattle.std.proofs.lemmas.Bool.{lt-ltb}
 use Rattle.tt_cell_set.specs.Tables.{is_placed}
-use Rattle.tt_cells.specs.Struck.{loses_room}
-use Rattle.tt_cells.specs.Shown.{is_struck}
 use Rattle.tt_cells.proofs.Losing.{loses-none, loses-more, loses-same, course_next}
 use Rattle.tt_cells.proofs.killing.strike_room.Goals as goal
 
@@ -13,9 +10,9 @@ pub loop-other-init : goal.loop-other-init
 loop-other-init c =
     let a = c.args in
     let p = a.instance.now in
-    let gone = is_struck p a.free.now.words a.pattern.now a.day a.period (a.course ∷ []) in
+    let gone = λ (x : Cell). (x.day == a.day) && (x.period == a.period) && (not (x.course == a.course) && (a.room == x.room)) in
     record {
-      loses = loses-none p a.live.now.words (λ x. nat_lt x.course 0 && gone x) c.requires.live (λ x h. ap (λ b. b && gone x) (not_below x.course 0 (omega arith)));
+      loses = loses-none p a.live.now.words (λ x. nat_lt x.course 0 && gone x) c.requires.live (λ x h. ap (λ b. b && gone x) (le-ltb x.course 0 (omega arith)));
       earlier = refl;
     }
 
@@ -27,8 +24,8 @@ loop-other-preserved c =
     let a = c.args in
     let p = a.instance.now in
     let n = c.loop-other.other in
-    let struck = is_struck p a.free.now.words a.pattern.now a.day a.period (a.course ∷ []) in
-    let room = λ (x : Cell). loses_room p a.free.now.words a.pattern.now a.day a.period (a.course ∷ []) x.course x.room in
+    let room = λ (x : Cell). not (x.course == a.course) && (a.room == x.room) in
+    let gone = λ (x : Cell). (x.day == a.day) && (x.period == a.period) && room x in
     record {
       loses = loses-more p a.live.now.words c.loop-other.live.words c.strike_room_of.new.live.words (λ x. nat_lt x.course n && gone x) (λ x. is_placed n a.day a.period x && room x) (λ x. nat_lt x.course (n + 1) && gone x) c.loop-other.invariant.loses c.in_ok-strike_room_of.ensures.ok
           (λ x h. course_next n x.course (x.day == a.day) (x.period == a.period) (room x));
@@ -40,7 +37,7 @@ returns-clause-ok c =
     let a = c.args in
     let p = a.instance.now in
     let n = c.loop-other.other in
-    let gone = is_struck p a.free.now.words a.pattern.now a.day a.period (a.course ∷ []) in
+    let gone = λ (x : Cell). (x.day == a.day) && (x.period == a.period) && (not (x.course == a.course) && (a.room == x.room)) in
     let end : length p.courses ≤ n = omega (arith, c.courses-other-end.ensures.value) in
     loses-same p a.live.now.words c.loop-other.live.words (λ x. nat_lt x.course n && gone x) gone c.loop-other.invariant.loses
     (λ x h. let l = h.course in ap (λ b. b && gone x) (lt-ltb x.course n (omega arith)))

@@ -1,10 +1,8 @@
-use Rattle.std.proofs.Common.{◌≡◌, ℕ, ◌+◌, ◌<◌, ◌^◌, [], ◌∷◌, ◌++◌, map, sym, ap, ◌∙◌, arith, below_more}
+use Rattle.std.proofs.Common.{[], ◌∷◌, ◌++◌, map, sym, ap, ◌∙◌, arith, below_more}
 use Rattle.std.proofs.lemmas.List.{map-append}
 use Rattle.tt_lists.specs.Words.{range_below}
-use Rattle.tt_lists.proofs.Below.{numbers_below_more}
-use Rattle.tt_instance.specs.Courses.{capacity}
+use Rattle.tt_lists.proofs.Below.{range_below_more}
 use Rattle.tt_cells.specs.Order.{ranked}
-use Rattle.tt_cells.specs.declared.order.Ranked.{Ranked}
 use Rattle.tt_cells.proofs.order.ranked_rooms.Goals as goal
 
 pub loop-room-preserved : goal.loop-room-preserved

@@ -4,7 +4,7 @@ use Rattle.tt_construct.proofs.filling.fill.Goals as goal
 
 pub add_course-requires-clause-few : goal.add_course-requires-clause-few
 add_course-requires-clause-few c =
-    few_more c.args.instance.now c.loop-course.course c.loop-course.table c.days-days.ensures.instance c.loop-course.invariant (omega arith)
+    few_more c.args.instance.now c.loop-course.course c.loop-course.table c.days.ensures.instance c.loop-course.invariant (omega arith)
 
 pub loop-course-preserved : goal.loop-course-preserved
 loop-course-preserved c =

@@ -1,4 +1,4 @@
-use Rattle.std.proofs.Common.{◌≡◌, ◌+◌, ◌*◌, ◌≤◌, ◌&&◌, ap, ◌∙◌, subst, arith}
+use Rattle.std.proofs.Common.{◌*◌, ◌≤◌, ◌&&◌, ap, subst, arith}
 use Rattle.tt_facts.specs.Live.{pinned}
 use Rattle.tt_facts.specs.declared.facts.Who.TheVariants.{Curriculum}
 use Rattle.tt_leaf.specs.Claims.{is_alone}

@@ -1,4 +1,4 @@
-use Rattle.std.proofs.Common.{◌≡◌, ◌+◌, ◌*◌, ◌≤◌, ap, ◌∙◌, subst, arith}
+use Rattle.std.proofs.Common.{◌*◌, ◌≤◌, ap, subst, arith}
 use Rattle.tt_facts.specs.Live.{pinned}
 use Rattle.tt_leaf.proofs.Week.{week_next, week_whole, week_within}
 use Rattle.tt_leaf.proofs.pinned.pinned_periods.Goals as goal

@@ -1,4 +1,4 @@
-use Rattle.std.proofs.Common.{◌≡◌, ◌+◌, ◌*◌, ◌≤◌, length, ap, arith}
+use Rattle.std.proofs.Common.{◌*◌, length, ap, arith}
 use Rattle.tt_facts.specs.Live.{pinned_room}
 use Rattle.tt_leaf.proofs.Blocks.{block_next, blocks_whole}
 use Rattle.tt_leaf.proofs.stable.pinned_rooms.Goals as goal

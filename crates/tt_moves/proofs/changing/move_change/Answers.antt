@@ -1,4 +1,4 @@
-use Rattle.std.proofs.Common.{◌∷◌, set, ap, ◌∙◌, arith}
+use Rattle.std.proofs.Common.{set, ap, arith}
 use Rattle.std.specs.Prelude.{remove}
 use Rattle.std.proofs.lemmas.Int.{ints}
 use Rattle.tt_rules.specs.Score.{hard, cost}

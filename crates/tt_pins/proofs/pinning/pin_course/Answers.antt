@@ -1,9 +1,10 @@
 use Rattle.std.proofs.Common.{◌≡◌, ◌∙◌}
 use Rattle.std.specs.Prelude.{◌==◌}
 use Rattle.tt_links.specs.Links.{curricula_of}
+use Rattle.tt_links.proofs.Linked.{curricula_below}
 use Rattle.tt_pins.specs.Tables.{day_place, is_day_of}
 use Rattle.tt_pins.proofs.Joined.{adds_both}
-use Rattle.tt_pins.proofs.Pinned.{course_pins, curricula_below}
+use Rattle.tt_pins.proofs.Pinned.{course_pins}
 use Rattle.tt_pins.proofs.pinning.pin_course.Goals as goal
 
 pub pin_each-requires-clause-curricula : goal.pin_each-requires-clause-curricula

@@ -1,4 +1,4 @@
-use Rattle.tt_pins.proofs.Joined.{has_bit-with}
+use Rattle.tt_bits.proofs.Growing.{has_bit-with}
 use Rattle.tt_pins.proofs.sets.with.Goals as goal
 
 pub returns : goal.returns

@@ -1,9 +1,9 @@
-use Rattle.std.proofs.Common.{Err, refl, sym, ap, subst, ◌∙◌}
+use Rattle.std.proofs.Common.{◌≡◌, Err, refl, sym, ap, subst, ◌∙◌}
 use Rattle.std.proofs.lemmas.Result.{err_from_is_err_and}
-use Rattle.tt_proof_check.specs.Verdicts.{IsYes, read_failed}
+use Rattle.tt_proof_check.specs.Verdicts.{IsYes, read_failed, fault_from_instance, fault_from_solution}
 use Rattle.tt_proof_check.proofs.TextFaults.{err_same}
 use Rattle.tt_proof_check.proofs.Files.{tells_instance, tells_solution}
-use Rattle.tt_proof_check.proofs.Certifying.{memory_instance, memory_solution, certified_memory, broken_memory, points, no_points, not_certified, broken_found, is_feasible, not_broken, bound_tells, certified_proof, certified_cost, yes_found}
+use Rattle.tt_proof_check.proofs.Certifying.{memory_instance, memory_solution, certified_memory, broken_memory, points, no_points, not_certified, broken_found, is_feasible, not_broken, bound_tells, certified_proof, certified_cost, yes_found, not_read_instance, not_read_solution, exactly_certified, certified_bounds}
 use Rattle.tt_proof_check.proofs.headline.certify.Goals as goal
 
 pub returns-in_err-instance-clause-yes : goal.returns-in_err-instance-clause-yes
@@ -83,3 +83,38 @@ pub returns-in_err-table-clause-memory : goal.returns-in_err-table-clause-memory
 returns-in_err-table-clause-memory g c =
     let e = err_from_is_err_and c.from_residual-in_err-table.result c.from_residual-in_err-table.ensures.1 in
     rw (e.1, e.2) (memory_solution c.in_err-table.field-0.0)
+
+pub returns-in_err-instance-clause-exactly : goal.returns-in_err-instance-clause-exactly
+returns-in_err-instance-clause-exactly g c =
+    let e = err_from_is_err_and c.from_residual.result c.from_residual.ensures.1 in
+    rw (e.1, e.2) (λ n b bytes known reads memory.
+    exactly_certified c.args.instance.now c.args.solution.now (g.R.Source.remaining c.args.proof.now) (Err (fault_from_instance c.in_err-instance.field-0.0)) _ bytes known (λ is. absurd (not_read_instance c.in_err-instance.field-0.0 cc)) tt
+    (λ m k h. certified_memory c.args.instance.now c.args.solution.now bytes m k _ h (tells_instance c.args.instance.now c.args.solution.now c.in_err-instance.field-0.0 c.in_err-instance.ensures.exact)) n b reads memory)
+
+pub returns-in_err-table-clause-exactly : goal.returns-in_err-table-clause-exactly
+returns-in_err-table-clause-exactly g c =
+    let e = err_from_is_err_and c.from_residual-in_err-table.result c.from_residual-in_err-table.ensures.1 in
+    rw (e.1, e.2) (λ n b bytes known reads memory.
+    exactly_certified c.args.instance.now c.args.solution.now (g.R.Source.remaining c.args.proof.now) (Err (fault_from_solution c.in_err-table.field-0.0)) _ bytes known (λ is. absurd (not_read_solution c.in_err-table.field-0.0 cc)) tt
+    (λ m k h. certified_memory c.args.instance.now c.args.solution.now bytes m k _ h (tells_solution c.args.instance.now c.args.solution.now c.in_ok-instance.instance c.in_err-table.field-0.0 c.in_ok-instance.ensures.found c.in_err-table.ensures.exact)) n b reads memory)
+
+pub returns-then-not-feasible-clause-exactly : goal.returns-then-not-feasible-clause-exactly
+returns-then-not-feasible-clause-exactly g c =
+    λ n b bytes known reads memory.
+    exactly_certified c.args.instance.now c.args.solution.now (g.R.Source.remaining c.args.proof.now) _ _ bytes known (λ is. cc) (returns-then-not-feasible-clause-found g c) (λ m k h. returns-then-not-feasible-clause-yes g c m k bytes known h) n b reads memory
+
+pub returns-in_err-bound-clause-exactly : goal.returns-in_err-bound-clause-exactly
+returns-in_err-bound-clause-exactly g c =
+    let e = err_from_is_err_and c.from_residual-in_err-bound.result c.from_residual-in_err-bound.ensures.1 in
+    rw (e.1, e.2) (λ n b bytes known reads memory.
+    exactly_certified c.args.instance.now c.args.solution.now (g.R.Source.remaining c.args.proof.now) (Err c.in_err-bound.field-0.0) _ bytes known (λ is. c.in_err-bound.ensures.failed (let same : c.in_err-bound.field-0.0 ≡ read_failed = cc in ap (λ f. Err f) same)) tt
+    (λ m k h. c.in_err-bound.ensures.only bytes k known (certified_proof c.args.instance.now c.args.solution.now c.in_ok-instance.instance c.in_ok-table.table c.in_ok-instance.ensures.found c.in_ok-table.ensures.found c.score-score.result c.score-score.ensures bytes m k h)) n b reads memory)
+
+pub returns-clause-exactly : goal.returns-clause-exactly
+returns-clause-exactly g c =
+    λ n b bytes known reads memory.
+    exactly_certified c.args.instance.now c.args.solution.now (g.R.Source.remaining c.args.proof.now) _ _ bytes known (λ is. cc) (returns-clause-found g c) (λ m k h. returns-clause-yes g c m k bytes known h) n b reads memory
+
+pub returns-clause-bounds : goal.returns-clause-bounds
+returns-clause-bounds g c =
+    λ n b is. certified_bounds c.args.instance.now c.args.solution.now (g.R.Source.remaining c.args.proof.now) _ (returns-clause-found g c) n b is

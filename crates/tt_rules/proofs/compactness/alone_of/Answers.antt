@@ -1,8 +1,8 @@
 use Rattle.std.proofs.Common.{◌≡◌, ℕ, ◌&&◌, get_or, count_by, ap, ◌∙◌, arith}
 use Rattle.std.proofs.lemmas.List.Sums.{sum_by_more}
+use Rattle.tt_lists.proofs.Filters.{count_by-of_filter}
 use Rattle.tt_instance.specs.Cells.{is_of}
 use Rattle.tt_rules.specs.Places.{is_alone}
-use Rattle.tt_rules.proofs.Filtered.{count_by-filter}
 use Rattle.tt_rules.proofs.compactness.alone_of.Goals as goal
 
 pub loop-course-preserved : goal.loop-course-preserved
@@ -14,7 +14,7 @@ loop-course-preserved c =
     let marks = c.args.taught.now in
     let of : ℕ → ℕ = λ a. count_by (λ e. is_of a e && is_alone p marks e) t in
     let here : c.alone-total.result ≡ of (get_or cs i 0) =
-    c.alone-total.ensures.count ∙ ap (count_by (is_alone p marks)) c.of_course.ensures.group ∙ count_by-filter (is_of (get_or cs i 0)) (is_alone p marks) t in
+    c.alone-total.ensures.count ∙ ap (count_by (is_alone p marks)) c.of_course.ensures.group ∙ count_by-of_filter (is_alone p marks) (is_of (get_or cs i 0)) t in
     let more = sum_by_more of cs i 0 c.loop-course-test.true in
     record {
       summed = omega (arith, here, more, c.loop-course.invariant.summed);

@@ -1,12 +1,13 @@
 use Rattle.std.proofs.Common.{All, count_by, sym, ap, ◌∙◌, subst}
 use Rattle.std.specs.List.{list_any}
+use Rattle.std.proofs.lemmas.List.Elements.{All-filter}
+use Rattle.tt_lists.proofs.Filters.{distinct_filtered}
 use Rattle.tt_instance.specs.Cells.{InRange, is_of, is_on, all_days}
-use Rattle.tt_rules.proofs.Filtered.{filtered_all, distinct_filtered}
 use Rattle.tt_rules.proofs.working_days.days_of.Goals as goal
 
 pub days-requires : goal.days-requires
 days-requires c =
-    subst (All (InRange c.args.instance.now)) (sym c.of_course.ensures.group) (filtered_all (is_of c.args.course) (InRange c.args.instance.now) c.args.by_course.now.entries c.requires.in_range)
+    subst (All (InRange c.args.instance.now)) (sym c.of_course.ensures.group) (All-filter (is_of c.args.course) (InRange c.args.instance.now) c.args.by_course.now.entries c.requires.in_range)
 
 pub returns : goal.returns
 returns c =

@@ -1,7 +1,7 @@
 use Rattle.std.proofs.Common.{length}
 use Rattle.tt_instance.specs.Courses.{in_curriculum}
 use Rattle.tt_tallies.proofs.Rows.{passing_below}
-use Rattle.tt_search.proofs.trouble.is_isolated.Goals as goal
+use Rattle.tt_search.proofs.violations.is_isolated.Goals as goal
 
 pub is_beside-requires-clause-curriculum : goal.is_beside-requires-clause-curriculum
 is_beside-requires-clause-curriculum c =

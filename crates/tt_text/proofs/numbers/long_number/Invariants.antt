@@ -5,9 +5,9 @@ use Rattle.tt_text.proofs.numbers.long_number.Given as goal
 
 abbrev pub invariant-loop-digit : goal.invariant-loop-digit
 invariant-loop-digit l = record {
-  value : value_on l.value l.rest ≡ value_on 0 l.token.bytes.now;
-  digits : all_ascii_digits l.rest ≡ all_ascii_digits l.token.bytes.now;
-  some : length l.rest ≤ length l.token.bytes.now;
+  value : value_on l.value l.rest ≡ value_on 0 l.text;
+  digits : all_ascii_digits l.rest ≡ all_ascii_digits l.text;
+  some : length l.rest ≤ length l.text;
   within : l.value ≤ l.limit;
 }
 

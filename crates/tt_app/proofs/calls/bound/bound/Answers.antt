@@ -5,7 +5,7 @@ use Rattle.tt_app.specs.Checked.{read_failed}
 use Rattle.tt_app.proofs.FailedReads.{read_checked}
 use Rattle.tt_app.proofs.ToldMemory.{memory_instance, memory_check}
 use Rattle.tt_app.proofs.DerivedBounds.{spelled_memory, proof_tells, silent_bound, proved_here, bounded}
-use Rattle.tt_app.proofs.bounding.bound.Goals as goal
+use Rattle.tt_app.proofs.calls.bound.bound.Goals as goal
 
 pub returns-in_err-instance-clause-only : goal.returns-in_err-instance-clause-only
 returns-in_err-instance-clause-only g c =

@@ -7,7 +7,7 @@ use Rattle.tt_proof_check.specs.declared.fault.CertifyFault.TheVariants as certi
 use Rattle.tt_app.proofs.FailedReads.{failed_text, read_certified, certified_read}
 use Rattle.tt_app.proofs.ToldMemory.{memory_certify}
 use Rattle.tt_app.proofs.Answering.{tells, yes_told, yes_same}
-use Rattle.tt_app.proofs.checking.check.Goals as goal
+use Rattle.tt_app.proofs.calls.check.check.Goals as goal
 
 pub returns-in_err-cost-clause-fault : goal.returns-in_err-cost-clause-fault
 returns-in_err-cost-clause-fault g c =

@@ -1,6 +1,6 @@
 use Rattle.std.proofs.lemmas.Result.{err_from_is_err_and}
 use Rattle.tt_app.proofs.Files.{tells_instance, tells_solution, only_memory}
-use Rattle.tt_app.proofs.improving.improve.Goals as goal
+use Rattle.tt_app.proofs.calls.improve.improve.Goals as goal
 
 pub returns-in_err-instance-clause-only : goal.returns-in_err-instance-clause-only
 returns-in_err-instance-clause-only c =

@@ -1,7 +1,7 @@
 use Rattle.std.proofs.Common.{inl}
 use Rattle.std.proofs.lemmas.Result.{err_from_is_err_and}
 use Rattle.tt_app.proofs.Files.{tells_instance, tells_solution, only_memory}
-use Rattle.tt_app.proofs.reporting.report.Goals as goal
+use Rattle.tt_app.proofs.calls.page.page.Goals as goal
 
 pub returns-in_err-instance-clause-only : goal.returns-in_err-instance-clause-only
 returns-in_err-instance-clause-only g c =

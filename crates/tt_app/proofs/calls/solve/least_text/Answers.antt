@@ -3,7 +3,7 @@ use Rattle.std.proofs.lemmas.Result.{IfOk-weaker, IfErr-weaker}
 use Rattle.tt_proof_write.specs.Within.{Refuses, Writes}
 use Rattle.tt_app.specs.Solved.{IsProofFile, IsTextRefusal}
 use Rattle.tt_app.proofs.Searching.{second_file, second_refused}
-use Rattle.tt_app.proofs.solving.least_text.Goals as goal
+use Rattle.tt_app.proofs.calls.solve.least_text.Goals as goal
 
 pub returns-in-Err-NotInVersion-clause-file : goal.returns-in-Err-NotInVersion-clause-file
 returns-in-Err-NotInVersion-clause-file c =

@@ -4,7 +4,7 @@ use Rattle.std.proofs.lemmas.Result.{err_from_is_err_and}
 use Rattle.tt_proof_text.specs.declared.node.Node.{Node}
 use Rattle.tt_app.specs.Solved.{IsTextRefusal}
 use Rattle.tt_app.proofs.Searching.{best_fits, read_memory, tells_text}
-use Rattle.tt_app.proofs.solving.solve.Goals as goal
+use Rattle.tt_app.proofs.calls.solve.solve.Goals as goal
 
 pub returns-in_err-instance-clause-only : goal.returns-in_err-instance-clause-only
 returns-in_err-instance-clause-only c =

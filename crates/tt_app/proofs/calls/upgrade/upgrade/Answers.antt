@@ -7,7 +7,7 @@ use Rattle.tt_app.proofs.FailedReads.{read_upgraded}
 use Rattle.tt_app.proofs.ToldMemory.{memory_instance, memory_upgrade}
 use Rattle.tt_app.proofs.DerivedBounds.{spelled_memory, proved_here}
 use Rattle.tt_app.proofs.Rewriting.{as_bound, upgrade_tells, rewritten, silent_upgrade}
-use Rattle.tt_app.proofs.upgrading.upgrade.Goals as goal
+use Rattle.tt_app.proofs.calls.upgrade.upgrade.Goals as goal
 
 pub returns-in_err-instance-clause-only : goal.returns-in_err-instance-clause-only
 returns-in_err-instance-clause-only g c =

@@ -1,4 +1,4 @@
-use Rattle.std.proofs.Common.{refl, ap, ◌∙◌, sym, arith}
+use Rattle.std.proofs.Common.{ap, ◌∙◌, sym, arith}
 use Rattle.tt_cells.specs.Shown.{yes_facts}
 use Rattle.tt_cells.proofs.Asked.{first_tables, none_earlier}
 use Rattle.tt_cells.proofs.cells.Cells.new.Goals as goal

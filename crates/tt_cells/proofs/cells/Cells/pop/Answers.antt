@@ -1,4 +1,4 @@
-use Rattle.std.proofs.Common.{◌≡◌, [], ◌∷◌, ◌++◌, length, ap, ◌∙◌, arith}
+use Rattle.std.proofs.Common.{◌≡◌, [], ◌∷◌, ◌++◌, length, ap, arith}
 use Rattle.std.proofs.Common.{length-append}
 use Rattle.tt_cells.proofs.Kept.{earlier_popped}
 use Rattle.tt_cells.proofs.cells.Cells.pop.Goals as goal

@@ -1,4 +1,4 @@
-use Rattle.tt_moves.proofs.rest.Rest.around.Goals as goal
+use Rattle.tt_moves.proofs.rest.Rest.around_moved.Goals as goal
 
 pub returns-clause-around : goal.returns-clause-around
 returns-clause-around c = λ u rest. record {

@@ -21,4 +21,4 @@ pub returns-clause-few : goal.returns-clause-few
 returns-clause-few c =
     let p = c.args.self.now.occupied.now.problem in
     let e = ap (λ z. length z.curricula) c.instance.ensures in
-    omega (arith, c.curricula-curricula.ensures.value, c.curricula-curricula.ensures.within, passing_few (λ q. in_curriculum p q c.args.self.now.gone.course) (length p.curricula) c.curricula_of.result.now c.curricula_of.ensures)
+    omega (arith, c.curricula.ensures.value, c.curricula.ensures.within, passing_few (λ q. in_curriculum p q c.args.self.now.gone.course) (length p.curricula) c.curricula_of.result.now c.curricula_of.ensures)

@@ -1,4 +1,4 @@
-use Rattle.std.proofs.Common.{◌≡◌, ◌+◌, not, sym, ap, ◌∙◌, cond, arith, get_or}
+use Rattle.std.proofs.Common.{◌+◌, not, sym, ap, ◌∙◌, arith, get_or}
 use Rattle.std.specs.Prelude.{sum_by, count_by, filter}
 use Rattle.std.proofs.lemmas.List.{take_all}
 use Rattle.std.proofs.lemmas.List.Sums.{sum_by_more}

@@ -1,6 +1,6 @@
 use Rattle.std.proofs.Common.{ap, ◌∙◌, arith}
 use Rattle.tt_lists.proofs.Sums.{one_if}
-use Rattle.tt_instance.specs.Courses.{unavailable, students, capacity}
+use Rattle.tt_instance.specs.Courses.{unavailable}
 use Rattle.tt_moves.proofs.rest.Rest.weigh.Goals as goal
 
 pub returns-clause-hard : goal.returns-clause-hard
@@ -12,8 +12,7 @@ returns-clause-hard c = λ u rest.
     omega (arith, repeats, barred, shares, c.one_if.ensures, c.one_if-2.ensures, c.one_if-3.ensures, c.against.ensures.value u rest)
 
 pub returns-clause-rise : goal.returns-clause-rise
-returns-clause-rise c = λ u rest.
-    let x = c.args.entry in
-    let seated = ap (λ z. students z x.course) c.instance-instance.ensures in
-    let seats = ap (λ z. capacity z x.room) c.instance-instance.ensures in
-    omega (arith, seated, seats, c.students-students.ensures.value, c.capacity.ensures.value, c.saturating_sub-excess.ensures, c.spread_cost.ensures.value u rest, c.gaps-gaps.ensures.alone u rest)
+returns-clause-rise c = λ u rest. c.cost_weight-cost.ensures.rise u rest
+
+pub returns-clause-fall : goal.returns-clause-fall
+returns-clause-fall c = λ u rest. c.cost_weight-cost.ensures.fall u rest

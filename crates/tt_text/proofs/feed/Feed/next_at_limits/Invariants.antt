@@ -3,7 +3,7 @@ use Rattle.tt_text.specs.Feeds.{stream_of}
 use Rattle.tt_text.specs.Fed.{is_ready}
 use Rattle.tt_text.specs.CutShort.{cut_at, MayFail}
 use Rattle.tt_text.proofs.Giving.{SameStream, room_left}
-use Rattle.tt_text.proofs.feed.Feed.next.Given as goal
+use Rattle.tt_text.proofs.feed.Feed.next_at_limits.Given as goal
 
 abbrev pub invariant-loop-gap : goal.invariant-loop-gap
 invariant-loop-gap g l = record {

@@ -1,0 +1,461 @@
+#!/usr/bin/env python3
+"""Looks at the pages that `tt page` writes.
+
+    python3 bench/page.py [FOLDER]
+
+writes the page of some timetables (good, broken, with names that are markup or no text, two weeks long) and says of each whether
+it is, byte for byte, what this second program derives from the two files; its tags are balanced, its ids are unique, each link
+lands, nothing comes from outside, the marks and the items of the lists add up to the counts, and it is below 2 MB where the
+instance is of realistic size. The last line counts what passed and failed. Where Chromium is there, pictures at three widths and
+on paper are put into FOLDER (pages, if none is given), beside the pages themselves.
+"""
+import html.parser
+import os
+import re
+import shutil
+import subprocess
+import sys
+
+HERE = os.path.dirname(os.path.abspath(__file__))
+TOP = os.path.dirname(HERE)
+EXAMPLES = os.path.join(TOP, "examples")
+INPUT = os.path.join(HERE, "page")
+CASES = [
+    ("mini", EXAMPLES + "/mini.ctt", EXAMPLES + "/mini.sol"),
+    ("mini.broken", EXAMPLES + "/mini.ctt", INPUT + "/mini.broken.sol"),
+    ("like02", EXAMPLES + "/like02.ctt", EXAMPLES + "/like02.sol"),
+    ("like02.broken", EXAMPLES + "/like02.ctt", INPUT + "/like02.broken.sol"),
+    ("like11", EXAMPLES + "/like11.ctt", EXAMPLES + "/like11.sol"),
+    ("names", INPUT + "/names.ctt", INPUT + "/names.sol"),
+    ("long", INPUT + "/long.ctt", INPUT + "/long.sol"),
+]
+MOST_BYTES = 2_000_000
+SEPARATORS = b" \t\n\r\x0b\x0c"
+
+
+# ---- the two files; what is wrong with them the program has refused before
+
+
+def tokens(data):
+    return [it for it in re.split(b"[" + re.escape(SEPARATORS) + b"]+", data) if it]
+
+
+class Instance:
+    def __init__(self, data):
+        rest = iter(tokens(data))
+        next(rest)
+        self.name = []
+        for token in rest:
+            if token == b"Courses:":
+                break
+            self.name.append(token)
+        numbers = [int(next(rest))]
+        for _ in range(5):
+            next(rest)
+            numbers.append(int(next(rest)))
+        courses, rooms, self.days, self.periods, curricula, bars = numbers
+        next(rest)
+        self.courses = [(next(rest), next(rest), int(next(rest)), int(next(rest)), int(next(rest))) for _ in range(courses)]
+        next(rest)
+        self.rooms = [(next(rest), int(next(rest))) for _ in range(rooms)]
+        next(rest)
+        self.number_of = {course[0]: at for at, course in enumerate(self.courses)}
+        self.curricula = []
+        for _ in range(curricula):
+            name, size = next(rest), int(next(rest))
+            self.curricula.append((name, list(dict.fromkeys(self.number_of[next(rest)] for _ in range(size)))))
+        next(rest)
+        self.bars = {(self.number_of[next(rest)], int(next(rest)), int(next(rest))) for _ in range(bars)}
+        self.teachers = list(dict.fromkeys(course[1] for course in self.courses))
+        self.teacher_of = [self.teachers.index(course[1]) for course in self.courses]
+
+    def conflict(self, one, other):
+        if one == other:
+            return False
+        return self.teacher_of[one] == self.teacher_of[other] or any(one in it and other in it for _, it in self.curricula)
+
+
+def table_of(instance, data):
+    words, rooms = tokens(data), {room[0]: at for at, room in enumerate(instance.rooms)}
+    return [
+        (instance.number_of[words[at]], rooms[words[at + 1]], int(words[at + 2]), int(words[at + 3]))
+        for at in range(0, len(words), 4)
+    ]
+
+
+# ---- the page
+
+
+def shown(name):
+    marks = {"&": "&amp;", "<": "&lt;", ">": "&gt;", '"': "&quot;", "'": "&#39;"}
+    text = name.decode("utf-8", "replace")
+    return "".join(marks.get(it, "\ufffd" if ord(it) < 32 or 127 <= ord(it) < 160 else it) for it in text)
+
+
+class Page:
+    """The page of a timetable, as text."""
+
+    def __init__(self, instance, table, style):
+        self.instance, self.table, self.style = instance, table, style
+        self.names = {
+            "course": [shown(it[0]) for it in instance.courses],
+            "room": [shown(it[0]) for it in instance.rooms],
+            "teacher": [shown(it) for it in instance.teachers],
+            "curriculum": [shown(it[0]) for it in instance.curricula],
+        }
+        self.at = {}
+        for entry in table:
+            self.at.setdefault(entry[2:], []).append(entry)
+        self.of = [[it for it in table if it[0] == course] for course in range(len(instance.courses))]
+
+    def link(self, kind, number):
+        return f'<a href="#{kind}{number}">{self.names[kind][number]}</a>'
+
+    def cell_link(self, kind, number, entry):
+        return f'<a href="#{kind}{number}-{entry[2]}-{entry[3]}">{self.names["course"][entry[0]]}</a>'
+
+    def teacher_link(self, course):
+        return self.link("teacher", self.instance.teacher_of[course])
+
+    # -- what is counted
+
+    def is_isolated(self, members, entry):
+        beside = [(entry[2], entry[3] - 1), (entry[2], entry[3] + 1)]
+        return not any(it[0] in members for place in beside for it in self.at.get(place, []))
+
+    def unseated(self, entry):
+        return max(0, self.instance.courses[entry[0]][4] - self.instance.rooms[entry[1]][1])
+
+    def rooms_of(self, course):
+        return sorted({it[1] for it in self.of[course]})
+
+    def periods_of(self, course):
+        return len({it[2:] for it in self.of[course]})
+
+    def days_of(self, course):
+        return len({it[2] for it in self.of[course]})
+
+    def lectures_off(self, course):
+        placed = len(self.of[course])
+        return abs(self.instance.courses[course][2] - placed) + placed - self.periods_of(course)
+
+    def missing_days(self, course):
+        return max(0, self.instance.courses[course][3] - self.days_of(course))
+
+    def other_rooms(self, course):
+        return max(0, len(self.rooms_of(course)) - 1)
+
+    # -- lectures and grids
+
+    def marks(self, kind, number, entry):
+        course, room, day, period = entry
+        here = self.at[day, period]
+        marks = ""
+        if any(self.instance.conflict(it[0], course) for it in here):
+            marks += " <strong>conflict</strong>"
+        if (course, day, period) in self.instance.bars:
+            marks += " <strong>unavailable</strong>"
+        if sum(it[1] == room for it in here) > 1:
+            marks += " <strong>room taken</strong>"
+        if sum(it[0] == course for it in here) > 1:
+            marks += " <strong>repeated</strong>"
+        if kind == "curriculum" and self.is_isolated(self.instance.curricula[number][1], entry):
+            marks += " <mark>isolated</mark>"
+        if self.unseated(entry):
+            marks += f" <mark>no seat: {self.unseated(entry)}</mark>"
+        if self.of[course][0][1] != room:
+            marks += " <mark>other room</mark>"
+        return marks
+
+    def lecture(self, kind, number, entry):
+        room, teacher = self.link("room", entry[1]), self.teacher_link(entry[0])
+        beside = {"room": teacher, "teacher": room, "curriculum": room + " " + teacher}[kind]
+        name = self.names["course"][entry[0]]
+        return (
+            f'<div class="lecture"><a class="course" href="#course{entry[0]}">{name}</a> '
+            f"{beside}{self.marks(kind, number, entry)}</div>\n"
+        )
+
+    def has(self, kind, number, entry):
+        if kind == "room":
+            return entry[1] == number
+        if kind == "teacher":
+            return self.instance.teacher_of[entry[0]] == number
+        return entry[0] in self.instance.curricula[number][1]
+
+    def cell(self, kind, number, day, period):
+        text = f'<td id="{kind}{number}-{day}-{period}">\n'
+        if kind == "teacher":
+            for course, name in enumerate(self.names["course"]):
+                if self.instance.teacher_of[course] == number and (course, day, period) in self.instance.bars:
+                    text += f'<div class="barred">not {name}</div>\n'
+        for entry in self.at.get((day, period), []):
+            if self.has(kind, number, entry):
+                text += self.lecture(kind, number, entry)
+        return text + "</td>\n"
+
+    def grid(self, kind, number):
+        days, periods = range(self.instance.days), range(self.instance.periods)
+        seats = f" {self.instance.rooms[number][1]} seats" if kind == "room" else ""
+        text = f'<div class="grid" id="{kind}{number}">\n<table>\n'
+        text += f"<caption>{kind.capitalize()} <b>{self.names[kind][number]}</b>{seats}</caption>\n"
+        text += '<thead>\n<tr>\n<th scope="col">Period</th>\n'
+        text += "".join(f'<th scope="col">Day {day}</th>\n' for day in days) + "</tr>\n</thead>\n<tbody>\n"
+        for period in periods:
+            cells = "".join(self.cell(kind, number, day, period) for day in days)
+            text += f'<tr>\n<th scope="row">{period}</th>\n{cells}</tr>\n'
+        return text + "</tbody>\n</table>\n</div>\n"
+
+    def section(self, ident, kind):
+        numbers = range(len(self.names[kind]))
+        text = f'<details open id="{ident}">\n<summary><h2>{ident.capitalize()} <small>{len(numbers)}</small></h2></summary>\n'
+        text += '<ul class="index">\n' + "".join(f"<li>{self.link(kind, it)}</li>\n" for it in numbers)
+        text += '</ul>\n<div class="grids">\n' + "".join(self.grid(kind, it) for it in numbers)
+        return text + "</div>\n</details>\n"
+
+    # -- the eight counts: word, title, meaning, and what each item adds and tells
+
+    def course_items(self, adds, tells):
+        numbers = range(len(self.instance.courses))
+        return [(adds(it), self.link("course", it) + " " + tells(it)) for it in numbers if adds(it)]
+
+    def pairs(self, at_odds, adds):
+        for place, entry in enumerate(self.table):
+            odds = [it for it in self.table[place + 1 :] if it[2:] == entry[2:] and at_odds(entry, it)]
+            if odds:
+                more = f" and {len(odds) - 1} more" if len(odds) > 1 else ""
+                yield adds(len(odds)), (
+                    f"{self.in_room(entry)}, in {self.link('room', entry[1])}, with {self.cell_link('room', odds[0][1], odds[0])}{more}"
+                )
+
+    def when(self, entry):
+        return f"day {entry[2]} period {entry[3]}"
+
+    def in_room(self, entry):
+        return f"{self.cell_link('room', entry[1], entry)} {self.when(entry)}"
+
+    def seats(self, entry):
+        students, seats = self.instance.courses[entry[0]][4], self.instance.rooms[entry[1]][1]
+        return f"{self.in_room(entry)}, in {self.link('room', entry[1])} {students} on {seats} seats"
+
+    def barred(self, entry):
+        teacher = self.instance.teacher_of[entry[0]]
+        return f"{self.cell_link('teacher', teacher, entry)} {self.when(entry)}"
+
+    def alone(self):
+        for number, (_, members) in enumerate(self.instance.curricula):
+            for entry in self.table:
+                if entry[0] in members and self.is_isolated(members, entry):
+                    link = self.cell_link("curriculum", number, entry)
+                    yield 2, f"{link} {self.when(entry)}, in {self.link('curriculum', number)}"
+
+    def lists(self):
+        courses = self.instance.courses
+        bars = [it for it in self.table if (it[0], it[2], it[3]) in self.instance.bars]
+        return [
+            ("lectures", "Lectures", "missing, surplus, or two of a course in one period",
+             self.course_items(self.lectures_off, lambda it: f"wanted {courses[it][2]}, placed {len(self.of[it])}, periods {self.periods_of(it)}")),
+            ("conflicts", "Conflicts", "pairs of one teacher or curriculum in one period",
+             list(self.pairs(lambda one, other: self.instance.conflict(one[0], other[0]), lambda odds: odds))),
+            ("availability", "Availability", "in a period unavailable for the course", [(1, self.barred(it)) for it in bars]),
+            ("occupancy", "Room occupancy", "beside another lecture in a room and period",
+             list(self.pairs(lambda one, other: one[1] == other[1], lambda odds: 1))),
+            ("capacity", "Room capacity", "students without a seat",
+             [(self.unseated(it), self.seats(it)) for it in self.table if self.unseated(it)]),
+            ("days", "Working days", "5 for each day below a course's minimum",
+             self.course_items(lambda it: 5 * self.missing_days(it), lambda it: f"on {self.days_of(it)} of {courses[it][3]} days")),
+            ("compactness", "Compactness", "2 for each isolated lecture of a curriculum", list(self.alone())),
+            ("stability", "Room stability", "rooms of a course beside its first",
+             self.course_items(self.other_rooms, lambda it: f"in {len(self.rooms_of(it))} rooms")),
+        ]
+
+    def counts_table(self, ident, title, lists, total):
+        text = f'<table class="counts" id="{ident}">\n<caption>{title}</caption>\n<tbody>\n'
+        for _, name, meaning, items in lists:
+            text += f'<tr><th scope="row">{name}</th><td>{sum(it[0] for it in items)}</td><td>{meaning}</td></tr>\n'
+        name, count, meaning = total
+        text += f'</tbody>\n<tfoot>\n<tr><th scope="row">{name}</th><td>{count}</td><td>{meaning}</td></tr>\n'
+        return text + "</tfoot>\n</table>\n"
+
+    # -- the whole
+
+    def course_row(self, course):
+        _, _, lectures, days, students = self.instance.courses[course]
+        marks = ""
+        for adds, words in [
+            (self.lectures_off(course), "strong>lectures"),
+            (self.missing_days(course), "mark>missing days"),
+            (self.other_rooms(course), "mark>other rooms"),
+        ]:
+            if adds:
+                marks += f" <{words}: {adds}</{words.split('>')[0]}>"
+        rooms = "".join(" " + self.link("room", it) for it in self.rooms_of(course))
+        cells = [self.teacher_link(course), students, lectures, len(self.of[course]), days, self.days_of(course), rooms, marks]
+        text = f'<tr id="course{course}">\n<th scope="row">{self.names["course"][course]}</th>\n'
+        return text + "".join(f"<td>{it}</td>\n" for it in cells) + "</tr>\n"
+
+    def courses_text(self):
+        heads = ["Course", "Teacher", "Students", "Wanted", "Placed", "Least days", "Days", "Rooms", "Marks"]
+        text = f'<details open id="courses">\n<summary><h2>Courses <small>{len(self.of)}</small></h2></summary>\n'
+        text += '<div class="list">\n<table>\n<caption>Courses</caption>\n<thead>\n<tr>\n'
+        text += "".join(f'<th scope="col">{it}</th>\n' for it in heads) + "</tr>\n</thead>\n<tbody>\n"
+        text += "".join(self.course_row(it) for it in range(len(self.of)))
+        return text + "</tbody>\n</table>\n</div>\n</details>\n"
+
+    def text(self):
+        instance, lists = self.instance, self.lists()
+        counts = [sum(it[0] for it in items) for _, _, _, items in lists]
+        hard, cost = sum(counts[:4]), sum(counts[4:])
+        name = "".join(" " + shown(it) for it in instance.name)
+        text = (
+            '<!DOCTYPE html>\n<html lang="en">\n<head>\n<meta charset="utf-8">\n'
+            '<meta name="viewport" content="width=device-width, initial-scale=1">\n'
+            '<meta name="color-scheme" content="light dark">\n'
+            f"<title>Timetable{name}</title>\n<style>\n{self.style}</style>\n</head>\n<body>\n"
+            '<nav aria-label="Contents">\n<ul>\n'
+        )
+        for part in ["summary", "rooms", "teachers", "curricula", "courses"]:
+            text += f'<li><a href="#{part}">{part.capitalize()}</a></li>\n'
+        text += f'</ul>\n</nav>\n<main>\n<header id="summary">\n<h1>Timetable<b>{name}</b></h1>\n<p class="verdict">'
+        text += f"<strong>not feasible</strong> hard {hard}, cost {cost}" if hard else f"<b>feasible</b> cost {cost}"
+        text += (
+            f'</p>\n<p class="size">courses {len(instance.courses)}, placed {len(self.table)}, rooms {len(instance.rooms)}, '
+            f"teachers {len(instance.teachers)}, curricula {len(instance.curricula)}, days {instance.days}, "
+            f'periods a day {instance.periods}</p>\n</header>\n<div class="tables">\n'
+        )
+        text += self.counts_table("hard", "Hard rules", lists[:4], ("Hard", hard, "0 in a feasible timetable"))
+        text += self.counts_table("cost", "Costs", lists[4:], ("Cost", cost, "less is better"))
+        text += (
+            '</div>\n<p class="legend">In the grids: <strong>broken</strong> breaks a hard rule, <mark>costs</mark> costs, '
+            '<span class="barred">not c</span> a period that is unavailable for course c. '
+            "Days and periods count from 0, as in the files.</p>\n"
+        )
+        for at, (ident, title, _, items) in enumerate(lists):
+            if counts[at]:
+                kind, mark = ("broken", "strong") if at < 4 else ("costs", "mark")
+                text += f'<details open class="{kind}" id="{ident}">\n'
+                text += f"<summary><h2>{title} <{mark}>{counts[at]}</{mark}></h2></summary>\n<ul>\n"
+                text += "".join(f"<li><b>{adds}</b> {told}</li>\n" for adds, told in items) + "</ul>\n</details>\n"
+        text += self.section("rooms", "room") + self.section("teachers", "teacher") + self.section("curricula", "curriculum")
+        return text + self.courses_text() + "</main>\n</body>\n</html>\n"
+
+
+# ---- what any page must be
+
+
+class Tags(html.parser.HTMLParser):
+    def __init__(self):
+        super().__init__()
+        self.open, self.ids, self.links, self.faults = [], [], [], []
+
+    def handle_starttag(self, tag, attributes):
+        if tag in ("script", "link", "img", "iframe", "object", "form"):
+            self.faults.append(f"tag {tag}")
+        if tag != "meta":
+            self.open.append(tag)
+        for name, value in attributes:
+            if name == "id":
+                self.ids.append(value)
+            elif name == "href":
+                self.links.append(value)
+            elif name in ("src", "style") or name.startswith("on"):
+                self.faults.append(f"attribute {name}")
+
+    def handle_endtag(self, tag):
+        if not self.open or self.open.pop() != tag:
+            self.faults.append(f"end of {tag} at {self.getpos()}")
+
+
+def faults_of(text):
+    """What is wrong with a page, whatever it shows."""
+    tags = Tags()
+    tags.feed(text)
+    tags.close()
+    faults, ids = list(tags.faults), set(tags.ids)
+    faults += [f"open {it}" for it in tags.open]
+    if len(ids) != len(tags.ids):
+        faults.append("an id twice")
+    faults += [f"no target {it}" for it in tags.links if not (it.startswith("#") and it[1:] in ids)][:5]
+    if re.search(r"url\(|@import|https?:", text):
+        faults.append("something from outside")
+    lists = re.findall(
+        r'<details open class="\w+" id="(\w+)">\n<summary><h2>[\w ]+ <\w+>(\d+)</\w+></h2></summary>\n<ul>\n(.*?)</ul>', text, re.S
+    )
+    for ident, count, items in lists:
+        if sum(map(int, re.findall(r"^<li><b>(\d+)</b>", items, re.M))) != int(count):
+            faults.append(f"the items of {ident} don't add up")
+    rooms = text[text.index('<details open id="rooms">') : text.index('<details open id="teachers">')]
+    count = lambda title: int(re.search(rf"{title}</th><td>(\d+)", text).group(1))
+    if sum(map(int, re.findall(r"<mark>no seat: (\d+)</mark>", rooms))) != count("Room capacity"):
+        faults.append("the marks of seats don't add up")
+    if 2 * text.count("<mark>isolated</mark>") != count("Compactness"):
+        faults.append("the isolated lectures don't add up")
+    if re.search("[\x00-\x09\x0b-\x1f\x7f-\x9f]", text):
+        faults.append("a control")
+    return faults
+
+
+def style_of():
+    with open(TOP + "/crates/tt_page/src/style.rt", encoding="utf-8") as file:
+        return re.search(r'r#"(.*)"#;', file.read(), re.S).group(1)
+
+
+def look(name, instance, solution, folder):
+    """The faults of one case's page."""
+    out = os.path.join(folder, name + ".html")
+    done = subprocess.run([TOP + "/tt", "page", instance, solution, out], capture_output=True, text=True)
+    if done.returncode:
+        return [f"status {done.returncode}: {done.stderr.strip()}"]
+    with open(out, "rb") as file:
+        data = file.read()
+    with open(instance, "rb") as first, open(solution, "rb") as second:
+        read = Instance(first.read())
+        wanted = Page(read, table_of(read, second.read()), style_of()).text()
+    try:
+        text = data.decode("utf-8")
+    except UnicodeDecodeError as fault:
+        return [f"no UTF-8: {fault}"]
+    faults = faults_of(text)
+    if text != wanted:
+        lines = zip(text.split("\n"), wanted.split("\n"))
+        faults.append(next((f"differs: {one!r} for {other!r}" for one, other in lines if one != other), "differs in length"))
+    if len(data) > MOST_BYTES:
+        faults.append(f"{len(data)} bytes")
+    print(f"{name}: {len(data)} bytes, {len(data.splitlines())} lines")
+    return faults
+
+
+# ---- pictures
+
+
+def take_pictures(browser, name, folder):
+    page = "file://" + os.path.abspath(os.path.join(folder, name + ".html"))
+    common = [browser, "--headless", "--no-sandbox", "--disable-gpu", "--hide-scrollbars"]
+    for width in (1280, 768, 390):
+        picture = os.path.join(folder, f"{name}-{width}.png")
+        subprocess.run([*common, f"--screenshot={picture}", f"--window-size={width},1700", page], capture_output=True)
+    paper = os.path.join(folder, f"{name}.pdf")
+    subprocess.run([*common, "--no-pdf-header-footer", f"--print-to-pdf={paper}", page], capture_output=True)
+
+
+def main():
+    folder = sys.argv[1] if len(sys.argv) > 1 else "pages"
+    os.makedirs(folder, exist_ok=True)
+    failed = 0
+    for name, instance, solution in CASES:
+        faults = look(name, instance, solution, folder)
+        failed += bool(faults)
+        for fault in faults:
+            print(f"  {name}: {fault}")
+    browser = shutil.which("chromium") or shutil.which("chromium-browser") or shutil.which("google-chrome")
+    if browser:
+        for name, _, _ in CASES:
+            take_pictures(browser, name, folder)
+    else:
+        print("no Chromium: no pictures were taken")
+    print(f"{len(CASES) - failed} passed, {failed} failed")
+    return 1 if failed else 0
+
+
+if __name__ == "__main__":
+    sys.exit(main())

@@ -1,0 +1,15 @@
+use Rattle.std.proofs.Common.{◌≡◌}
+use Rattle.std.proofs.lemmas.Result.{err_from_is_err_and}
+use Rattle.tt_leaf.specs.declared.leaf.Bound.TheVariants.{AtLeast}
+use Rattle.tt_app.proofs.sum_checking.summed_bound.Goals as goal
+
+pub returns-in_err-bound-clause-only : goal.returns-in_err-bound-clause-only
+returns-in_err-bound-clause-only g c =
+    let e = err_from_is_err_and c.from_residual.result c.from_residual.ensures.1 in
+    λ files b given h within. rw (e.1, e.2) (c.in_err-bound.ensures.only files (AtLeast b) given h within)
+
+pub returns-clause-only : goal.returns-clause-only
+returns-clause-only g c =
+    λ files b given h within.
+    let is = c.in-AtLeast.is in
+    let same : c.in_ok-bound.field-0 ≡ AtLeast b = c.in_ok-bound.ensures.only files (AtLeast b) given h within in cc

@@ -1,0 +1,28 @@
+-- What `parts` answers of the bytes of an instance.
+use Rattle.std.specs.Prelude.{◌≡◌, ℕ, List, Err, length, ⊤}
+use Rattle.tt_instance.specs.Problem.{Problem}
+use Rattle.tt_instance.specs.Reading.{instance_of}
+use Rattle.tt_instance.specs.Spelling.{Spells}
+use Rattle.tt_leaf.specs.declared.leaf.Bound.{Bound}
+use Rattle.tt_proof_check.specs.Derives.{HoldsOfAll}
+use Rattle.tt_sum.specs.Sums.{IsSum}
+use Rattle.tt_parts.specs.Found.{texts_of}
+use Rattle.tt_app.specs.Lines.{parts_line}
+use Rattle.tt_app.specs.declared.calls.parts.PartsAnswer.{PartsAnswer}
+use Rattle.tt_app.specs.declared.fault.AppFault.{AppFault}
+use Rattle.tt_app.specs.declared.fault.AppFault.TheVariants as fault
+
+-- Each proof spells a tree that derives its bound, no target is claimed by two of them, and the line tells the sum, which holds of every feasible timetable.
+pub record IsParted (instance : List ℕ) (a : PartsAnswer) : Type 0 where
+  pub problem : Problem
+  pub spelled : Spells instance problem
+  pub bound : Bound
+  pub sum : IsSum problem (texts_of a.proofs.items) bound
+  pub holds : HoldsOfAll problem bound
+  pub text : a.out.items ≡ parts_line bound (length a.proofs.items)
+
+-- a refusal tells the instance's fault
+abbrev pub IsPartsRefusal : List ℕ → AppFault → Type 0
+IsPartsRefusal i (fault.Instance f) = instance_of i ≡ Err f
+IsPartsRefusal i fault.OutOfMemory = ⊤
+IsPartsRefusal i _ = ⊥

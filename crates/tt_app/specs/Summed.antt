@@ -1,0 +1,110 @@
+-- What `sum` answers of the bytes of an instance, of proofs, and of a solution where one is given.
+use Rattle.std.specs.Prelude.{◌≡◌, ℕ, ◌+◌, ◌≤◌, ◌⊎◌, List, Result, Ok, Err, ⊤}
+use Rattle.tt_instance.specs.Problem.{Problem}
+use Rattle.tt_instance.specs.Reading.{instance_of}
+use Rattle.tt_instance.specs.Spelling.{Spells}
+use Rattle.tt_instance.specs.declared.cell.Cell.{Cell}
+use Rattle.tt_rules.specs.Score.{IsFeasible}
+use Rattle.tt_rules.specs.declared.counts.Score.{Score}
+use Rattle.tt_leaf.specs.declared.leaf.Bound.{Bound}
+use Rattle.tt_leaf.specs.declared.leaf.Bound.TheVariants.{AtLeast}
+use Rattle.tt_proof_check.specs.Derives.{HoldsOfAll}
+use Rattle.tt_proof_check.specs.Headline.{SpellsBoth, Solves, BoundsAll}
+use Rattle.tt_proof_check.specs.Verdicts.{IsBroken, FailsSolution}
+use Rattle.tt_sum.specs.Faults.{TellsSum}
+use Rattle.tt_sum.specs.Faults as below
+use Rattle.tt_sum.specs.Sums.{IsSum}
+use Rattle.tt_sum.specs.declared.fault.SumFault.{SumFault}
+use Rattle.tt_sum.specs.declared.fault.SumFault.TheVariants as sum
+use Rattle.tt_app.specs.Bounded.{IsBoundAnswer}
+use Rattle.tt_app.specs.Checked.{IsYesAnswer, IsBrokenAnswer}
+use Rattle.tt_app.specs.declared.answer.Answer.{Answer}
+use Rattle.tt_app.specs.declared.fault.AppFault.{AppFault}
+use Rattle.tt_app.specs.declared.fault.AppFault.TheVariants as fault
+
+-- ---- the bound alone
+
+-- the proofs derive the bound together, where their readers give these bytes, and it holds
+pub record IsSummed (instance : List ℕ) (gives : List (List ℕ) → Type 0) (a : Answer) : Type 0 where
+  pub problem : Problem
+  pub spelled : Spells instance problem
+  pub bound : Bound
+  pub sum : (proofs : List (List ℕ)) → gives proofs → IsSum problem proofs bound
+  pub holds : HoldsOfAll problem bound
+  pub answer : IsBoundAnswer a bound
+
+-- the bytes spell an instance, and those of the proofs have this fault
+pub record FailsSum (instance : List ℕ) (gives : List (List ℕ) → Type 0) (f : SumFault) : Type 0 where
+  pub problem : Problem
+  pub spelled : Spells instance problem
+  pub fails : (proofs : List (List ℕ)) → gives proofs → TellsSum problem proofs f
+
+-- a refusal tells the first fault: the instance's, then that of the first proof that is refused
+abbrev pub IsSumRefusal : List ℕ → (List (List ℕ) → Type 0) → AppFault → Type 0
+IsSumRefusal i gives (fault.Instance f) = instance_of i ≡ Err f
+IsSumRefusal i gives (fault.Sum f) = FailsSum i gives f
+IsSumRefusal i gives fault.OutOfMemory = ⊤
+IsSumRefusal i gives _ = ⊥
+
+abbrev pub fault_from_sum : SumFault → AppFault
+fault_from_sum sum.OutOfMemory = fault.OutOfMemory
+fault_from_sum f = fault.Sum f
+
+-- a read of this proof failed
+abbrev pub read_failed_at : ℕ → AppFault
+read_failed_at n = fault.Sum (below.read_failed_at n)
+
+-- this bound, unless memory runs out or a read of a proof fails
+abbrev pub AnswersSum : Result Answer AppFault → Bound → Type 0
+AnswersSum (Ok a) b = IsBoundAnswer a b
+AnswersSum (Err f) b = (f ≡ fault.OutOfMemory) ⊎ ((n : ℕ) × (f ≡ read_failed_at n))
+
+-- ---- a solution too
+
+-- The solution breaks no hard rule of the instance and costs c, and b is the sum of the bounds that the proofs derive.
+pub record CertifiesSum (instance solution : List ℕ) (proofs : List (List ℕ)) (c b : ℕ) : Type 0 where
+  pub solves : Solves instance solution c
+  pub sum : IsSum solves.problem proofs (AtLeast b)
+
+-- yes with c and b: what it says of the bytes, and what it means
+pub record IsSumYes (instance solution : List ℕ) (gives : List (List ℕ) → Type 0) (c b : ℕ) : Type 0 where
+  pub solves : Solves instance solution c
+  pub certified : (proofs : List (List ℕ)) → gives proofs → CertifiesSum instance solution proofs c b
+  pub bounds : BoundsAll instance b
+  pub within : b ≤ c
+
+pub record IsYesOfSum (instance solution : List ℕ) (gives : List (List ℕ) → Type 0) (a : Answer) : Type 0 where
+  pub cost : ℕ
+  pub bound : ℕ
+  pub is : IsSumYes instance solution gives cost bound
+  pub answer : IsYesAnswer a cost bound
+
+pub record IsBrokenOfSum (instance solution : List ℕ) (a : Answer) : Type 0 where
+  pub score : Score
+  pub is : IsBroken instance solution score
+  pub answer : IsBrokenAnswer a (score.lectures + score.conflicts + score.availability + score.room_occupancy) (score.room_capacity + score.min_working_days + score.compactness + score.room_stability)
+
+-- the answer is yes, or that a hard rule is broken, and it is so
+abbrev pub IsSumChecked : List ℕ → List ℕ → (List (List ℕ) → Type 0) → Answer → Type 0
+IsSumChecked i s gives a = IsYesOfSum i s gives a ⊎ IsBrokenOfSum i s a
+
+-- the solution breaks no hard rule, and the proofs have this fault
+pub record FailsSumOfBoth (instance solution : List ℕ) (gives : List (List ℕ) → Type 0) (f : SumFault) : Type 0 where
+  pub problem : Problem
+  pub table : List Cell
+  pub both : SpellsBoth instance solution problem table
+  pub feasible : IsFeasible problem table
+  pub fails : (proofs : List (List ℕ)) → gives proofs → TellsSum problem proofs f
+
+-- a refusal tells the first fault: the instance's, then the solution's, then that of the first proof that is refused
+abbrev pub TellsOfSumCheck : List ℕ → List ℕ → (List (List ℕ) → Type 0) → AppFault → Type 0
+TellsOfSumCheck i s gives (fault.Instance f) = instance_of i ≡ Err f
+TellsOfSumCheck i s gives (fault.Solution f) = FailsSolution i s f
+TellsOfSumCheck i s gives (fault.Sum f) = FailsSumOfBoth i s gives f
+TellsOfSumCheck i s gives fault.OutOfMemory = ⊤
+TellsOfSumCheck i s gives _ = ⊥
+
+-- yes with c and b, unless memory runs out or a read of a proof fails
+abbrev pub AnswersSumYes : Result Answer AppFault → ℕ → ℕ → Type 0
+AnswersSumYes (Ok a) c b = IsYesAnswer a c b
+AnswersSumYes (Err f) c b = (f ≡ fault.OutOfMemory) ⊎ ((n : ℕ) × (f ≡ read_failed_at n))

@@ -1,0 +1,12 @@
+//! The calls, a file each.
+
+pub mod bound;
+pub mod check;
+pub mod improve;
+pub mod page;
+pub mod parts;
+pub mod report;
+pub mod solve;
+pub mod sum;
+pub mod upgrade;
+pub mod validate;

@@ -1,0 +1,42 @@
+//! The call `page`.
+
+ghost use Rattle.std.specs.Prelude.{◌≡◌, ◌⊎◌, List, Err, true, IfOk, IfErr, MatchResult, ⊤};
+ghost use Rattle.tt_instance.specs.Problem.{Problem};
+ghost use Rattle.tt_instance.specs.declared.cell.Cell.{Cell};
+ghost use Rattle.tt_app.specs.Paged.{IsPaged, IsPageRefusal};
+ghost use Rattle.tt_app.specs.Reported.{IsUnwritten};
+ghost use Rattle.tt_proof_check.specs.Headline.{SpellsBoth};
+ghost use Rattle.tt_app.specs.declared.fault.AppFault.TheVariants as fault;
+
+use crate::fault::AppFault;
+use std::alloc::Global;
+use tt_instance::read_instance;
+use tt_report::Sink;
+use tt_table::read_solution;
+
+/// Writes the page of a solution's week, with a style; the status is 0.
+pub fn page<W: Sink>(
+    alloc: Global,
+    instance: &[u8],
+    solution: &[u8],
+    style: &str,
+    sink: &mut W,
+) -> Result<u8, AppFault>
+    // What is written is the page.
+    ensures written { IfOk result (IsPaged instance.now solution.now style.now (W.contents sink.old) (W.contents sink.new)) }
+    // A refusal tells the first fault.
+    ensures fault { IfErr result (IsPageRefusal instance.now solution.now style.now (W.contents sink.old) (W.contents sink.new)) }
+    // What is spelled is shown, unless memory runs out or a write fails.
+    ensures only { (p : Problem) (t : List Cell) → SpellsBoth instance.now solution.now p t →
+        MatchResult result (λ _. ⊤) (λ f. (f ≡ fault.OutOfMemory) ⊎ (f ≡ fault.CannotWrite)) }
+    // Nothing is written where anything else is refused.
+    ensures unwritten { IfErr result (λ f. IsUnwritten f → sink.new ≡ sink.old) }
+    // A write is said to have failed exactly where one did.
+    ensures failed { result ≡ Err fault.CannotWrite → W.has_failed sink.new ≡ true }
+    ensures unfailed { ¬ (result ≡ Err fault.CannotWrite) → W.has_failed sink.new ≡ W.has_failed sink.old }
+{
+    let instance = read_instance(alloc, instance)?;
+    let table = read_solution(alloc, &instance, solution)?;
+    tt_page::page(alloc, &instance, &table, style, sink)?;
+    Ok(0)
+}

@@ -1,0 +1,61 @@
+//! The call `sum`.
+
+ghost use Rattle.std.specs.Prelude.{◌≡◌, ◌+◌, ◌<◌, ◌^◌, ℕ, List, Some, Err, true, IfOk, IfErr, slice_get};
+ghost use Rattle.tt_instance.specs.Problem.{Problem};
+ghost use Rattle.tt_instance.specs.Spelling.{Spells};
+ghost use Rattle.tt_leaf.specs.declared.leaf.Bound.{Bound};
+ghost use Rattle.tt_proof_check.specs.FailedReads.{IsSpelledAndJudgedUpToFailedRead};
+ghost use Rattle.tt_sum.specs.Added.{Give};
+ghost use Rattle.tt_sum.specs.Faults.{TellsSum, all_points};
+ghost use Rattle.tt_sum.specs.Sums.{IsSum};
+ghost use Rattle.tt_app.specs.Bounded.{IsOfInstance};
+ghost use Rattle.tt_app.specs.Summed.{IsSummed, IsSumRefusal, AnswersSum, read_failed_at};
+ghost use Rattle.tt_app.specs.Told.{OutOfMemoryIsOneFault};
+
+use crate::answer::Answer;
+use crate::calls::bound::bound_answer;
+use crate::fault::AppFault;
+use std::alloc::Global;
+use tt_instance::read_instance;
+use tt_sum::{SumFault, sum_proofs};
+use tt_text::Source;
+
+impl From<SumFault> for AppFault {
+    ghost use Rattle.std.specs.Prelude.{◌≡◌};
+    ghost use Rattle.tt_app.specs.Summed.{fault_from_sum};
+
+    ghost from_gives = { λ f e. e ≡ fault_from_sum f };
+
+    fn from(fault: SumFault) -> AppFault {
+        match fault {
+            SumFault::OutOfMemory => AppFault::OutOfMemory,
+            fault => AppFault::Sum(fault),
+        }
+    }
+}
+
+/// The sum of the lower bounds that proofs derive for an instance, no two of which claim one target.
+pub fn sum<R: Source>(alloc: Global, instance: &[u8], proofs: &mut [R]) -> Result<Answer, AppFault>
+    // What is answered is the sum of what is derived, and holds.
+    ensures found { IfOk result (IsSummed instance.now (Give R.remaining proofs.old)) }
+    // A refusal tells the first fault.
+    ensures fault { IfErr result (IsSumRefusal instance.now (Give R.remaining proofs.old)) }
+    // What has a sum below 2^64 is answered.
+    ensures only { (p : Problem) (files : List (List ℕ)) (b : Bound) → Spells instance.now p → Give R.remaining proofs.old files →
+        (h : IsSum p files b) → all_points h.parts < 2 ^ 64 → AnswersSum result b }
+    // No proof is read where the instance is refused.
+    ensures unread { IfErr result (λ f. IsOfInstance f → proofs.new ≡ proofs.old) }
+    // A read is said to have failed exactly where one did.
+    ensures failed { (i : ℕ) (r : R) → result ≡ Err (read_failed_at (i + 1)) → slice_get proofs.new i ≡ Some r → R.has_failed r ≡ true }
+    ensures unfailed { (i : ℕ) (r q : R) → ¬ (result ≡ Err (read_failed_at (i + 1))) → slice_get proofs.old i ≡ Some r → slice_get proofs.new i ≡ Some q →
+        R.has_failed q ≡ R.has_failed r }
+    // Where one failed, all that the bytes of its proof before it say has been judged.
+    ensures up_to_failed_read { (i : ℕ) (r q : R) (bytes : List ℕ) → result ≡ Err (read_failed_at (i + 1)) → slice_get proofs.old i ≡ Some r →
+        slice_get proofs.new i ≡ Some q → R.remaining r ≡ Some bytes → IsSpelledAndJudgedUpToFailedRead instance.now bytes (R.remaining q) }
+    // Being out of memory is one answer, wherever it comes from.
+    ensures memory { IfErr result OutOfMemoryIsOneFault }
+{
+    let instance = read_instance(alloc, instance)?;
+    let bound = sum_proofs(alloc, &instance, proofs)?;
+    Ok(bound_answer(alloc, bound)?)
+}

@@ -1,0 +1,91 @@
+//! The call `check_sum`.
+
+ghost use Rattle.std.specs.Prelude.{◌≡◌, ◌+◌, ◌<◌, ◌^◌, ℕ, List, Some, Err, true, IfOk, IfErr, MatchResult, slice_get};
+ghost use Rattle.tt_rules.specs.Score.{IsFeasible};
+ghost use Rattle.tt_leaf.specs.declared.leaf.Bound.TheVariants.{AtLeast};
+ghost use Rattle.tt_proof_check.specs.Derives.{HoldsOfAll};
+ghost use Rattle.tt_proof_check.specs.FailedReads.{IsJudgedUpToFailedRead, IsSpelledAndJudgedUpToFailedRead};
+ghost use Rattle.tt_proof_check.specs.Headline.{BreaksARule};
+ghost use Rattle.tt_sum.specs.Added.{Give};
+ghost use Rattle.tt_sum.specs.Faults as below;
+ghost use Rattle.tt_sum.specs.Faults.{TellsSum, IsSilentSum, all_points};
+ghost use Rattle.tt_sum.specs.Sums.{IsSum};
+ghost use Rattle.tt_app.specs.Checked.{IsOfFiles, AnswersBroken};
+ghost use Rattle.tt_app.specs.Summed.{read_failed_at, CertifiesSum, IsSumChecked, TellsOfSumCheck, AnswersSumYes};
+ghost use Rattle.tt_app.specs.Told.{OutOfMemoryIsOneFault};
+
+use crate::answer::Answer;
+use crate::calls::check::{broken_answer, yes_answer};
+use crate::fault::AppFault;
+use std::alloc::Global;
+use tt_instance::{Instance, read_instance};
+use tt_leaf::Bound;
+use tt_rules::score;
+use tt_sum::{SumFault, sum_proofs};
+use tt_table::{Timetable, read_solution};
+use tt_text::Source;
+
+/// The bound of proofs, where some timetable breaks no hard rule: so it is a number.
+fn summed_bound<R: Source>(
+    alloc: Global,
+    instance: &Instance<'_>,
+    table: &Timetable,
+    proofs: &mut [R],
+) -> Result<u64, SumFault>
+    requires { IsFeasible instance.now table.now }
+    ensures found { IfOk result (λ b. (files : List (List ℕ)) → Give R.remaining proofs.old files → IsSum instance.now files (AtLeast b)) }
+    ensures only { (files : List (List ℕ)) (b : ℕ) → Give R.remaining proofs.old files → (h : IsSum instance.now files (AtLeast b)) →
+        all_points h.parts < 2 ^ 64 → MatchResult result (λ c. c ≡ b) IsSilentSum }
+    ensures holds { IfOk result (λ b. HoldsOfAll instance.now (AtLeast b)) }
+    ensures fault { IfErr result (λ e. (files : List (List ℕ)) → Give R.remaining proofs.old files → TellsSum instance.now files e) }
+    ensures failed { (i : ℕ) (r : R) → result ≡ Err (below.read_failed_at (i + 1)) → slice_get proofs.new i ≡ Some r → R.has_failed r ≡ true }
+    ensures unfailed { (i : ℕ) (r q : R) → ¬ (result ≡ Err (below.read_failed_at (i + 1))) → slice_get proofs.old i ≡ Some r → slice_get proofs.new i ≡ Some q →
+        R.has_failed q ≡ R.has_failed r }
+    ensures up_to_failed_read { (i : ℕ) (r q : R) (bytes : List ℕ) → result ≡ Err (below.read_failed_at (i + 1)) → slice_get proofs.old i ≡ Some r →
+        slice_get proofs.new i ≡ Some q → R.remaining r ≡ Some bytes → IsJudgedUpToFailedRead instance.now bytes (R.remaining q) }
+    ensures memory { IfErr result below.OutOfMemoryIsOneFault }
+{
+    match sum_proofs(alloc, instance, proofs)? {
+        Bound::AtLeast(bound) => Ok(bound),
+        Bound::Nothing => unreachable!(),
+    }
+}
+
+/// Whether a solution of an instance breaks no hard rule, with its cost and the sum of the lower bounds that proofs derive. The proofs
+/// are read only where no hard rule is broken.
+pub fn check_sum<R: Source>(
+    alloc: Global,
+    instance: &[u8],
+    solution: &[u8],
+    proofs: &mut [R],
+) -> Result<Answer, AppFault>
+    // What is answered is so.
+    ensures found { IfOk result (IsSumChecked instance.now solution.now (Give R.remaining proofs.old)) }
+    // A refusal tells the first fault.
+    ensures fault { IfErr result (TellsOfSumCheck instance.now solution.now (Give R.remaining proofs.old)) }
+    // What is certified is answered with yes, if the sum is below 2^64.
+    ensures yes { (c b : ℕ) (files : List (List ℕ)) → Give R.remaining proofs.old files → (h : CertifiesSum instance.now solution.now files c b) →
+        all_points h.sum.parts < 2 ^ 64 → AnswersSumYes result c b }
+    // What breaks a hard rule is answered, and no proof is read.
+    ensures broken { BreaksARule instance.now solution.now → AnswersBroken result × (proofs.new ≡ proofs.old) }
+    // Nor is one read where the instance or the solution is refused.
+    ensures unread { IfErr result (λ f. IsOfFiles f → proofs.new ≡ proofs.old) }
+    // A read is said to have failed exactly where one did.
+    ensures failed { (i : ℕ) (r : R) → result ≡ Err (read_failed_at (i + 1)) → slice_get proofs.new i ≡ Some r → R.has_failed r ≡ true }
+    ensures unfailed { (i : ℕ) (r q : R) → ¬ (result ≡ Err (read_failed_at (i + 1))) → slice_get proofs.old i ≡ Some r → slice_get proofs.new i ≡ Some q →
+        R.has_failed q ≡ R.has_failed r }
+    // Where one failed, all that the bytes of its proof before it say has been judged.
+    ensures up_to_failed_read { (i : ℕ) (r q : R) (bytes : List ℕ) → result ≡ Err (read_failed_at (i + 1)) → slice_get proofs.old i ≡ Some r →
+        slice_get proofs.new i ≡ Some q → R.remaining r ≡ Some bytes → IsSpelledAndJudgedUpToFailedRead instance.now bytes (R.remaining q) }
+    // Being out of memory is one answer, wherever it comes from.
+    ensures memory { IfErr result OutOfMemoryIsOneFault }
+{
+    let instance = read_instance(alloc, instance)?;
+    let table = read_solution(alloc, &instance, solution)?;
+    let score = score(&instance, &table);
+    if !score.feasible() {
+        return Ok(broken_answer(alloc, &score)?);
+    }
+    let bound = summed_bound(alloc, &instance, &table, proofs)?;
+    Ok(yes_answer(alloc, score.cost(), bound)?)
+}

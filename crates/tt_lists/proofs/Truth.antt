@@ -1,0 +1,28 @@
+-- Truth values that tests are made of.
+use Rattle.std.proofs.Common.{◌≡◌, Bool, true, false, not, ◌&&◌, ◌||◌, refl, sym, ap}
+
+-- two tests are one truth value where each follows from the other
+pub same_truth : (a b : Bool) → (a ≡ true → b ≡ true) → (b ≡ true → a ≡ true) → a ≡ b
+same_truth true b f g = sym (f refl)
+same_truth false true f g = g refl
+same_truth false false f g = refl
+
+-- what follows from a test
+pub wanted : (f k : Bool) → (not f || k) ≡ true → f ≡ true → k ≡ true
+wanted true k e h = e
+wanted false k e h = cc
+
+pub not_wanted : (f k : Bool) → (f ≡ true → k ≡ true) → (not f || k) ≡ true
+not_wanted true k h = h refl
+not_wanted false k h = refl
+
+-- what is not taken away stays
+pub still_there : (b g : Bool) → g ≡ false → b ≡ (b && not g)
+still_there true g e = sym (ap not e)
+still_there false g e = refl
+
+-- what is taken away in two steps is taken away in one
+pub taken_twice : (b g h : Bool) → ((b && not g) && not h) ≡ (b && not (g || h))
+taken_twice true true h = refl
+taken_twice true false h = refl
+taken_twice false g h = refl

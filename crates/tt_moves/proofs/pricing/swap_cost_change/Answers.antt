@@ -1,0 +1,86 @@
+use Rattle.std.proofs.Common.{set, sym, ap, ◌∙◌, arith}
+use Rattle.std.specs.Prelude.{remove}
+use Rattle.std.proofs.lemmas.Int.{ints}
+use Rattle.tt_rules.specs.Score.{cost}
+use Rattle.tt_change.specs.Weight.{cost_rise, cost_fall}
+use Rattle.tt_change.proofs.Same.{cost_same}
+use Rattle.tt_moves.specs.Steps.{in_place_of, stepped}
+use Rattle.tt_moves.specs.declared.step.Step.TheVariants.{Swap}
+use Rattle.tt_moves.proofs.Stepping.{exchanged_is, exchanged_same, entry_in_range, there_in_range, without_one, without_other, still_inside, still_there, cost_front, cost_set}
+use Rattle.tt_moves.proofs.pricing.swap_cost_change.Goals as goal
+
+pub returns-then-one-other : goal.returns-then-one-other
+returns-then-one-other c =
+    let o = c.args.occupied in
+    let t = o.now.entries in
+    let i = c.args.first in
+    let j = c.args.second in
+    let same = exchanged_same t i j c.entry_of-one.result c.entry_of-other.result c.entry_of-one.ensures.value c.entry_of-other.ensures.value c.requires.first c.requires.second c.if-one-other.true in
+    let e = cost_same o.now.problem (stepped t (Swap i j)) t same in
+    omega (arith, ints)
+
+pub exchange_cost-moved_there-requires-clause-in_range : goal.exchange_cost-moved_there-requires-clause-in_range
+exchange_cost-moved_there-requires-clause-in_range c =
+    there_in_range c.args.occupied c.entry_of-one.ensures.in_range c.args.first c.args.second c.entry_of-one.result c.entry_of-other.result c.requires.first c.requires.second c.entry_of-one.ensures.value c.entry_of-other.ensures.value c.if-one-other.false
+
+pub exchange_cost-moved_there-requires-clause-rest : goal.exchange_cost-moved_there-requires-clause-rest
+exchange_cost-moved_there-requires-clause-rest c =
+    let o = c.args.occupied in
+    (remove o.now.entries c.args.first, without_one o c.entry_of-one.ensures.in_range c.args.first c.entry_of-one.result c.requires.first c.entry_of-one.ensures.value)
+
+pub cost_weight-other_before-requires-clause-in_range : goal.cost_weight-other_before-requires-clause-in_range
+cost_weight-other_before-requires-clause-in_range c =
+    entry_in_range c.args.occupied c.entry_of-one.ensures.in_range c.args.second c.entry_of-other.result c.requires.second c.entry_of-other.ensures.value
+
+pub exchange_cost-moved_here-requires-clause-in_range : goal.exchange_cost-moved_here-requires-clause-in_range
+exchange_cost-moved_here-requires-clause-in_range c =
+    let ok = c.entry_of-one.ensures.in_range in
+    let rx = entry_in_range c.args.occupied ok c.args.first c.entry_of-one.result c.requires.first c.entry_of-one.ensures.value in
+    let ry = entry_in_range c.args.occupied ok c.args.second c.entry_of-other.result c.requires.second c.entry_of-other.ensures.value in
+    record { course = ry.course; room = rx.room; day = rx.day; period = rx.period }
+
+pub cost_weight-other_before-requires-clause-rest : goal.cost_weight-other_before-requires-clause-rest
+cost_weight-other_before-requires-clause-rest c =
+    let o = c.args.occupied in
+    let x = c.entry_of-one.result in
+    let y = c.entry_of-other.result in
+    (remove (set o.now.entries c.args.first (in_place_of x y)) c.args.second, without_other o c.entry_of-one.ensures.in_range c.args.first c.args.second x y c.requires.first c.requires.second c.entry_of-one.ensures.value c.entry_of-other.ensures.value c.if-one-other.false)
+
+pub exchange_cost-moved_here-requires-clause-rest : goal.exchange_cost-moved_here-requires-clause-rest
+exchange_cost-moved_here-requires-clause-rest c =
+    let o = c.args.occupied in
+    let x = c.entry_of-one.result in
+    let y = c.entry_of-other.result in
+    (remove (set o.now.entries c.args.first (in_place_of x y)) c.args.second, without_other o c.entry_of-one.ensures.in_range c.args.first c.args.second x y c.requires.first c.requires.second c.entry_of-one.ensures.value c.entry_of-other.ensures.value c.if-one-other.false)
+
+pub returns : goal.returns
+returns c =
+    let o = c.args.occupied in
+    let p = o.now.problem in
+    let t = o.now.entries in
+    let ok = c.entry_of-one.ensures.in_range in
+    let i = c.args.first in
+    let j = c.args.second in
+    let x = c.entry_of-one.result in
+    let y = c.entry_of-other.result in
+    let x_is = c.entry_of-one.ensures.value in
+    let y_is = c.entry_of-other.ensures.value in
+    let h = c.requires.first in
+    let k = c.requires.second in
+    let apart = c.if-one-other.false in
+    let s = set t i (in_place_of x y) in
+    let inside = still_inside o ok i j x y h k x_is y_is apart in
+    let is = ap (cost p) (exchanged_is t i j x y x_is y_is) in
+    let u = remove t i in
+    let v = remove s j in
+    let rest = without_other o ok i j x y h k x_is y_is apart in
+    let rise = c.requires.before.rise ∙ sym (ap (cost_rise p u) x_is) in
+    let fall = c.requires.before.fall ∙ sym (ap (cost_fall p u) x_is) in
+    let first = c.exchange_cost-moved_there.ensures.cost u (without_one o ok i x h x_is) rise fall in
+    let weighed = c.cost_weight-other_before.ensures in
+    let second = c.exchange_cost-moved_here.ensures.cost v rest (weighed.rise v rest) (weighed.fall v rest) in
+    let before = cost_front p t i x h x_is in
+    let between = cost_set p t i (in_place_of x y) h in
+    let still = cost_front p s j y inside (still_there o ok i j x y h k x_is y_is apart) in
+    let after = cost_set p s j (in_place_of y x) inside in
+    omega (arith, ints)

@@ -1,0 +1,5 @@
+use Rattle.tt_find.specs.Found.{ArePatterns}
+use Rattle.tt_parts.proofs.refuting.grow.Given as goal
+
+abbrev pub invariant-loop-opened : goal.invariant-loop-opened
+invariant-loop-opened g l = ArePatterns (g.P.Path.problem l.path) (g.P.Path.facts l.path)

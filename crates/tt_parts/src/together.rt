@@ -1,0 +1,35 @@
+//! Proofs that are checked together.
+
+ghost use Rattle.std.specs.Prelude.{IfOk, IfSome};
+ghost use Rattle.tt_proof_check.specs.Derives.{HoldsOfAll};
+ghost use Rattle.tt_sum.specs.Sums.{IsSum};
+ghost use Rattle.tt_parts.specs.Found.{texts_of};
+
+use std::alloc::{AllocError, Global};
+use tt_instance::Instance;
+use tt_leaf::Bound;
+use tt_sum::{SumFault, sum_proofs};
+use tt_text::Pieces;
+
+/// How many bytes of a proof are read at once.
+const PIECE: usize = 4_096;
+
+/// The sum of the bounds of proofs, if each is right and no two claim one target.
+pub fn sum_of(
+    alloc: Global,
+    instance: &Instance<'_>,
+    proofs: &[Vec<u8>],
+) -> Result<Option<Bound>, AllocError>
+    ensures found { IfOk result (λ found. IfSome found (IsSum instance.now (texts_of proofs.now))) }
+    ensures holds { IfOk result (λ found. IfSome found (HoldsOfAll instance.now)) }
+{
+    let mut sources = Vec::new(alloc);
+    for proof in proofs {
+        sources.push(Pieces::new(proof.as_slice(), PIECE, 0))?;
+    }
+    match sum_proofs(alloc, instance, sources.as_mut_slice()) {
+        Ok(bound) => Ok(Some(bound)),
+        Err(SumFault::OutOfMemory) => Err(AllocError),
+        Err(_) => Ok(None),
+    }
+}

@@ -1,0 +1,189 @@
+//! Cells that die as facts come and are live again as facts go, by both paths.
+
+use std::test::Fail;
+use tt_facts::{Cell, Fact, MAX_FACTS, Path, PathFault, Pattern, PlainPath, Who};
+use tt_instance::read_instance;
+use tt_samples::{GAP, MINI};
+use tt_trail_path::TrailPath;
+
+/// A fact of all cells of a course or of a curriculum's members.
+pub fn fact_of(who: Who, holds: bool) -> Fact {
+    let pattern = Pattern {
+        who,
+        room: None,
+        day: None,
+        period: None,
+    };
+    Fact { pattern, holds }
+}
+
+/// A fact of their cells in a period of the first day.
+pub fn fact_in_period(who: Who, period: u32, holds: bool) -> Fact {
+    let pattern = Pattern {
+        who,
+        room: None,
+        day: Some(0),
+        period: Some(period),
+    };
+    Fact { pattern, holds }
+}
+
+/// Adds a fact; whether the path took it.
+pub fn pushed<'i, P: Path<'i>>(path: &mut P, fact: Fact) -> bool {
+    path.push(fact).is_ok()
+}
+
+/// Takes the newest fact away; nothing where there is none.
+pub fn popped<'i, P: Path<'i>>(path: &mut P) -> Option<Fact> {
+    if path.depth() == 0 {
+        return None;
+    }
+    Some(path.pop())
+}
+
+/// Whether a course's cell in the first room, in a period of the first day, is dead; nothing where there is no such cell.
+fn is_dead<'i, P: Path<'i>>(path: &P, course: u32, period: u32) -> Option<bool> {
+    let instance = path.instance();
+    if course >= instance.courses()
+        || instance.rooms() == 0
+        || instance.days() == 0
+        || period >= instance.periods()
+    {
+        return None;
+    }
+    Some(path.dead(Cell {
+        course,
+        room: 0,
+        day: 0,
+        period,
+    }))
+}
+
+/// Whether the second course's cells in the first and in the last period of Gap are dead, and the first course's in the last.
+#[derive(Clone, Copy, Debug, PartialEq, Eq)]
+struct DeadCells {
+    second_first: Option<bool>,
+    second_last: Option<bool>,
+    first_last: Option<bool>,
+}
+
+fn seen<'i, P: Path<'i>>(path: &P) -> DeadCells {
+    DeadCells {
+        second_first: is_dead(path, 1, 0),
+        second_last: is_dead(path, 1, 2),
+        first_last: is_dead(path, 0, 2),
+    }
+}
+
+/// The same, of cells all of which there are.
+fn of_cells(second_first: bool, second_last: bool, first_last: bool) -> DeadCells {
+    DeadCells {
+        second_first: Some(second_first),
+        second_last: Some(second_last),
+        first_last: Some(first_last),
+    }
+}
+
+/// What is seen after a fact, and after its pop.
+fn around_a_fact<'i, P: Path<'i>>(path: &mut P, fact: Fact) -> (DeadCells, DeadCells) {
+    let _taken = pushed(path, fact);
+    let after = seen(path);
+    let _gone = popped(path);
+    (after, seen(path))
+}
+
+#[test]
+fn a_fact_bars_cells_and_its_pop_frees_them(rt: HostRuntime) -> Result<(), Fail> {
+    let instance = read_instance(rt.alloc(), GAP.as_bytes())?;
+    let mut plain = PlainPath::new(rt.alloc(), &instance);
+    let mut trail = TrailPath::new(rt.alloc(), &instance)?;
+    let fact = fact_in_period(Who::Course(0), 0, true);
+    // The first course takes the first period: its other cells stay live, since it may have more lectures.
+    let told = (of_cells(true, false, false), of_cells(false, false, false));
+    assert_eq!(rt; around_a_fact(&mut plain, fact), told);
+    assert_eq!(rt; around_a_fact(&mut trail, fact), told);
+    Ok(())
+}
+
+/// What is seen after both facts, after a pop, and after another.
+fn around_two_facts<'i, P: Path<'i>>(
+    path: &mut P,
+    first: Fact,
+    second: Fact,
+) -> (DeadCells, DeadCells, DeadCells) {
+    let _taken = pushed(path, first);
+    let (both, one) = around_a_fact(path, second);
+    let _gone = popped(path);
+    (both, one, seen(path))
+}
+
+#[test]
+fn a_no_fact_of_a_curriculum_then_a_yes_fact(rt: HostRuntime) -> Result<(), Fail> {
+    let instance = read_instance(rt.alloc(), GAP.as_bytes())?;
+    let mut plain = PlainPath::new(rt.alloc(), &instance);
+    let mut trail = TrailPath::new(rt.alloc(), &instance)?;
+    let barred = fact_in_period(Who::Curriculum(0), 0, false);
+    let taken = fact_of(Who::Course(0), true);
+    let told = (
+        of_cells(true, true, false),
+        of_cells(true, false, false),
+        of_cells(false, false, false),
+    );
+    assert_eq!(rt; around_two_facts(&mut plain, barred, taken), told);
+    assert_eq!(rt; around_two_facts(&mut trail, barred, taken), told);
+    Ok(())
+}
+
+#[test]
+fn a_yes_fact_then_a_no_fact_that_leaves_it_one_period(rt: HostRuntime) -> Result<(), Fail> {
+    let instance = read_instance(rt.alloc(), GAP.as_bytes())?;
+    let mut plain = PlainPath::new(rt.alloc(), &instance);
+    let mut trail = TrailPath::new(rt.alloc(), &instance)?;
+    let taken = fact_of(Who::Course(0), true);
+    let barred = fact_in_period(Who::Course(0), 0, false);
+    let told = (
+        of_cells(false, true, false),
+        of_cells(false, false, false),
+        of_cells(false, false, false),
+    );
+    assert_eq!(rt; around_two_facts(&mut plain, taken, barred), told);
+    assert_eq!(rt; around_two_facts(&mut trail, taken, barred), told);
+    Ok(())
+}
+
+/// Adds a fact as often as a path takes facts; whether it took each.
+fn filled<'i, P: Path<'i>>(path: &mut P, fact: Fact) -> bool {
+    for _ in 0..MAX_FACTS {
+        if path.push(fact).is_err() {
+            return false;
+        }
+    }
+    true
+}
+
+/// What a full path says to one fact more, and how many facts it has then.
+fn more<'i, P: Path<'i>>(path: &mut P, fact: Fact) -> (Result<(), PathFault>, usize) {
+    (path.push(fact), path.depth())
+}
+
+#[test]
+fn a_path_of_all_facts_takes_no_more(rt: HostRuntime) -> Result<(), Fail> {
+    let instance = read_instance(rt.alloc(), MINI.as_bytes())?;
+    let mut plain = PlainPath::new(rt.alloc(), &instance);
+    let mut trail = TrailPath::new(rt.alloc(), &instance)?;
+    let fact = fact_of(Who::Course(0), true);
+    assert!(rt; filled(&mut plain, fact));
+    assert!(rt; filled(&mut trail, fact));
+    let other = fact_of(Who::Course(1), true);
+    assert_eq!(rt; more(&mut plain, other), (Err(PathFault::TooDeep), 65_536));
+    assert_eq!(rt; more(&mut trail, other), (Err(PathFault::TooDeep), 65_536));
+    for stands in [
+        plain.has(&fact.pattern, true),
+        trail.has(&fact.pattern, true),
+        !plain.has(&other.pattern, true),
+        !trail.has(&other.pattern, true),
+    ] {
+        assert!(rt; stands);
+    }
+    Ok(())
+}

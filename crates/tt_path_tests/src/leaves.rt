@@ -1,0 +1,179 @@
+//! Leaves that are judged on both paths.
+
+ghost use Rattle.std.specs.Prelude.{◌≡◌, [], ◌∷◌, IfOk};
+ghost use Rattle.tt_leaf.specs.declared.leaf.Claim.{Claim};
+ghost use Rattle.tt_leaf.specs.declared.leaf.Leaf.{Leaf};
+
+use crate::deadness::{fact_in_period, fact_of, pushed};
+use std::alloc::{AllocError, Global};
+use std::test::Fail;
+use tt_facts::{Path, PlainPath, Who};
+use tt_instance::read_instance;
+use tt_leaf::{
+    Bound, Claim, ClaimList, CourseList, Leaf, RuleFault, claim_value, holds, leaf_value,
+};
+use tt_samples::{APART, GAP};
+use tt_trail_path::TrailPath;
+
+/// Puts Gap's courses into its first and its last period; whether the path took both facts.
+fn pin_both<'i, P: Path<'i>>(path: &mut P) -> bool {
+    pushed(path, fact_in_period(Who::Course(0), 0, true))
+        && pushed(path, fact_in_period(Who::Course(1), 2, true))
+}
+
+/// The value of a claim of seats of the second course, at price 1; nothing where there is no such course.
+fn seats_value<'i, P: Path<'i>>(path: &P) -> Option<u64> {
+    if path.instance().courses() < 2 {
+        return None;
+    }
+    let seats = Claim::Capacity {
+        course: 1,
+        price: 1,
+    };
+    Some(claim_value(path, &seats))
+}
+
+/// The value of a claim of the first curriculum's isolated lectures; nothing without curricula.
+fn gaps_value<'i, P: Path<'i>>(path: &P) -> Option<u64> {
+    if path.instance().curricula() == 0 {
+        return None;
+    }
+    Some(claim_value(path, &Claim::Compact(0)))
+}
+
+/// The leaf of both claims.
+fn both_claims(alloc: Global) -> Result<Leaf, AllocError>
+    ensures { IfOk result (λ leaf. leaf ≡ Leaf.Cost (Claim.Capacity 1 1 ∷ Claim.Compact 0 ∷ [])) }
+{
+    let seats = Claim::Capacity {
+        course: 1,
+        price: 1,
+    };
+    let claims = vec![in alloc; seats, Claim::Compact(0)]?;
+    Ok(Leaf::Cost(ClaimList::new(claims)))
+}
+
+/// What the leaf of both claims comes to; nothing where the instance has no such course or curriculum.
+fn both_judged<'i, P: Path<'i>>(
+    alloc: Global,
+    path: &P,
+    bound: Bound,
+) -> Result<Option<Result<(), RuleFault>>, AllocError> {
+    if path.instance().courses() < 2 || path.instance().curricula() == 0 {
+        return Ok(None);
+    }
+    let leaf = both_claims(alloc)?;
+    Ok(Some(holds(path, &leaf, bound)))
+}
+
+/// The value of that leaf.
+fn both_value<'i, P: Path<'i>>(alloc: Global, path: &P) -> Result<Option<u64>, AllocError> {
+    if path.instance().courses() < 2 || path.instance().curricula() == 0 {
+        return Ok(None);
+    }
+    let leaf = both_claims(alloc)?;
+    Ok(Some(leaf_value(path, &leaf)))
+}
+
+/// What the two claims and their leaf come to.
+#[derive(Clone, Copy, Debug, PartialEq, Eq)]
+struct Verdicts {
+    values: (Option<u64>, Option<u64>, Option<u64>),
+    at_five: Option<Result<(), RuleFault>>,
+    at_six: Option<Result<(), RuleFault>>,
+    at_nothing: Option<Result<(), RuleFault>>,
+}
+
+fn judged<'i, P: Path<'i>>(alloc: Global, path: &P) -> Result<Verdicts, AllocError> {
+    let value = both_value(alloc, path)?;
+    Ok(Verdicts {
+        values: (seats_value(path), gaps_value(path), value),
+        at_five: both_judged(alloc, path, Bound::AtLeast(5))?,
+        at_six: both_judged(alloc, path, Bound::AtLeast(6))?,
+        at_nothing: both_judged(alloc, path, Bound::Nothing)?,
+    })
+}
+
+#[test]
+fn claims_of_two_pinned_courses(rt: HostRuntime) -> Result<(), Fail> {
+    let instance = read_instance(rt.alloc(), GAP.as_bytes())?;
+    let mut plain = PlainPath::new(rt.alloc(), &instance);
+    let mut trail = TrailPath::new(rt.alloc(), &instance)?;
+    assert!(rt; pin_both(&mut plain) && pin_both(&mut trail));
+    let told = Verdicts {
+        values: (Some(1), Some(4), Some(5)),
+        at_five: Some(Ok(())),
+        at_six: Some(Err(RuleFault::TooCheap)),
+        at_nothing: Some(Err(RuleFault::NoBound)),
+    };
+    assert_eq!(rt; judged(rt.alloc(), &plain)?, told);
+    assert_eq!(rt; judged(rt.alloc(), &trail)?, told);
+    Ok(())
+}
+
+/// A leaf of a list of courses.
+#[derive(Clone, Copy)]
+enum List {
+    Slots,
+    Clique,
+}
+
+/// What a leaf of some courses comes to; nothing where one of them isn't there.
+fn list_judged<'i, P: Path<'i>>(
+    alloc: Global,
+    path: &P,
+    list: List,
+    courses: &[u32],
+) -> Result<Option<Result<(), RuleFault>>, AllocError> {
+    let count = path.instance().courses();
+    if !courses.iter().all(|course| *course < count) {
+        return Ok(None);
+    }
+    let courses = CourseList::new(courses.to_vec(alloc)?);
+    let leaf = match list {
+        List::Slots => Leaf::Slots(courses),
+        List::Clique => Leaf::Clique(courses),
+    };
+    Ok(Some(holds(path, &leaf, Bound::Nothing)))
+}
+
+#[test]
+fn lists_of_courses(rt: HostRuntime) -> Result<(), Fail> {
+    let instance = read_instance(rt.alloc(), APART.as_bytes())?;
+    let plain = PlainPath::new(rt.alloc(), &instance);
+    let trail = TrailPath::new(rt.alloc(), &instance)?;
+    for (list, courses, fault) in [
+        (List::Slots, [0, 0].as_slice(), RuleFault::ClaimedTwice),
+        (List::Slots, &[], RuleFault::EnoughRoom),
+        (List::Clique, &[], RuleFault::NotAClique),
+        (List::Clique, &[0, 1], RuleFault::NotAClique),
+    ] {
+        let told = Some(Err(fault));
+        assert_eq!(rt; list_judged(rt.alloc(), &plain, list, courses)?, told);
+        assert_eq!(rt; list_judged(rt.alloc(), &trail, list, courses)?, told);
+    }
+    Ok(())
+}
+
+/// What a Clique of the second course comes to on an empty path, and after a no-fact and a yes-fact have left it no period.
+fn clique_judged<'i, P: Path<'i>>(
+    alloc: Global,
+    path: &mut P,
+) -> Result<(Option<Result<(), RuleFault>>, Option<Result<(), RuleFault>>), AllocError> {
+    let before = list_judged(alloc, path, List::Clique, &[1])?;
+    let _barred = pushed(path, fact_in_period(Who::Curriculum(0), 0, false));
+    let _taken = pushed(path, fact_of(Who::Course(0), true));
+    let after = list_judged(alloc, path, List::Clique, &[1])?;
+    Ok((before, after))
+}
+
+#[test]
+fn a_clique_of_one(rt: HostRuntime) -> Result<(), Fail> {
+    let instance = read_instance(rt.alloc(), GAP.as_bytes())?;
+    let mut plain = PlainPath::new(rt.alloc(), &instance);
+    let mut trail = TrailPath::new(rt.alloc(), &instance)?;
+    let told = (Some(Err(RuleFault::EnoughRoom)), Some(Ok(())));
+    assert_eq!(rt; clique_judged(rt.alloc(), &mut plain)?, told);
+    assert_eq!(rt; clique_judged(rt.alloc(), &mut trail)?, told);
+    Ok(())
+}

@@ -1,0 +1,28 @@
+//! The limits and the letters of the format.
+
+/// The greatest price, in cost points.
+pub const MAX_PRICE: u32 = 1_000_000;
+
+/// The greatest bound, in cost points.
+pub const MAX_POINTS: u64 = 1_000_000_000_000;
+
+/// The most nodes of a proof.
+pub const MAX_NODES: u32 = 16_777_216;
+
+/// The most bytes of a proof.
+pub const MAX_PROOF_BYTES: u64 = 4_294_967_295;
+
+/// Stands before the number of a course.
+pub const COURSE_LETTER: u8 = b'c';
+
+/// Stands before the number of a curriculum.
+pub const CURRICULUM_LETTER: u8 = b'q';
+
+/// Stands before the number of a room.
+pub const ROOM_LETTER: u8 = b'r';
+
+/// Stands before the number of a day.
+pub const DAY_LETTER: u8 = b'd';
+
+/// Stands before the number of a period.
+pub const PERIOD_LETTER: u8 = b'p';

@@ -1,0 +1,180 @@
+//! What `page` writes.
+
+use crate::reports::Narrow;
+use std::alloc::Global;
+use std::test::Fail;
+use tt_app::{AppFault, page};
+use tt_page::put_shown;
+use tt_report::{Sink, Writing};
+use tt_samples::{MINI, MINI_SOLUTION, edited};
+use tt_test_files::{MemoryFiles, Refusal};
+use tt_test_runs::{Outcome, run_on};
+
+/// Both courses of Mini in one period, and one of them once more.
+const BROKEN: &str = "a R 0 0 b R 0 0 a R 0 2";
+
+/// What the program says of a page on a memory.
+fn paged(alloc: Global, memory: &MemoryFiles) -> Result<Outcome, Fail> {
+    run_on(alloc, &["page", "a.ctt", "a.sol", "a.html"], memory)
+}
+
+fn filled(
+    alloc: Global,
+    instance: &str,
+    solution: &str,
+    refusal: Refusal,
+) -> Result<MemoryFiles, Fail> {
+    let memory = MemoryFiles::new(alloc, refusal);
+    memory.put("a.ctt", instance)?;
+    memory.put("a.sol", solution)?;
+    Ok(memory)
+}
+
+/// The page of an instance and a solution.
+fn page_of(alloc: Global, instance: &str, solution: &str) -> Result<String, Fail> {
+    let memory = filled(alloc, instance, solution, Refusal::Nothing)?;
+    paged(alloc, &memory)?;
+    match memory.text("a.html")? {
+        Some(text) => Ok(text),
+        None => Err(Fail::new(format_args!("nothing was written"))),
+    }
+}
+
+/// Which of some parts a page lacks.
+fn missing<'p>(text: &str, parts: &[&'p str]) -> Option<&'p str> {
+    for part in parts {
+        if !text.contains(*part) {
+            return Some(part);
+        }
+    }
+    None
+}
+
+#[test]
+fn a_week_with_its_costs(rt: HostRuntime) -> Result<(), Fail> {
+    let text = page_of(rt.alloc(), MINI, MINI_SOLUTION)?;
+    let lacks = missing(
+        &text,
+        &[
+            "<p class=\"verdict\"><b>feasible</b> cost 5</p>\n",
+            "<td id=\"room0-0-0\">\n<div class=\"lecture\"><a class=\"course\" href=\"#course0\">a</a> <a href=\"#teacher0\">t1</a></div>\n</td>\n</tr>\n",
+            "<a class=\"course\" href=\"#course1\">b</a> <a href=\"#room0\">R</a> <a href=\"#teacher1\">t2</a> <mark>isolated</mark> <mark>no seat: 1</mark></div>\n",
+            "<li><b>2</b> <a href=\"#curriculum0-0-2\">b</a> day 0 period 2, in <a href=\"#curriculum0\">q</a></li>\n",
+            "<li><b>1</b> <a href=\"#room0-0-2\">b</a> day 0 period 2, in <a href=\"#room0\">R</a> 12 on 11 seats</li>\n",
+        ],
+    );
+    assert_eq!(rt; lacks, None);
+    assert!(rt; !text.contains("class=\"broken\""));
+    Ok(())
+}
+
+#[test]
+fn a_week_with_broken_rules(rt: HostRuntime) -> Result<(), Fail> {
+    let text = page_of(rt.alloc(), MINI, BROKEN)?;
+    let lacks = missing(
+        &text,
+        &[
+            "<strong>not feasible</strong> hard 3, cost 7</p>\n",
+            "<li><b>1</b> <a href=\"#course0\">a</a> wanted 1, placed 2, periods 2</li>\n",
+            "<li><b>1</b> <a href=\"#room0-0-0\">a</a> day 0 period 0, in <a href=\"#room0\">R</a>, with <a href=\"#room0-0-0\">b</a></li>\n",
+            "</a> <a href=\"#teacher0\">t1</a> <strong>conflict</strong> <strong>room taken</strong></div>\n",
+            "<td> <strong>lectures: 1</strong></td>\n",
+        ],
+    );
+    assert_eq!(rt; lacks, None);
+    Ok(())
+}
+
+#[test]
+fn unavailable_periods(rt: HostRuntime) -> Result<(), Fail> {
+    let barred = edited(rt.alloc(), MINI, "Constraints: 0", "Constraints: 2")?;
+    let barred = edited(
+        rt.alloc(),
+        &barred,
+        "CONSTRAINTS:\n",
+        "CONSTRAINTS:\na 0 0\nb 0 1\n",
+    )?;
+    let text = page_of(rt.alloc(), &barred, MINI_SOLUTION)?;
+    let lacks = missing(
+        &text,
+        &[
+            "<td id=\"teacher0-0-0\">\n<div class=\"barred\">not a</div>\n<div class=\"lecture\"><a class=\"course\" href=\"#course0\">a</a> <a href=\"#room0\">R</a> <strong>unavailable</strong></div>\n</td>\n",
+            "<td id=\"teacher1-0-1\">\n<div class=\"barred\">not b</div>\n</td>\n",
+            "<li><b>1</b> <a href=\"#teacher0-0-0\">a</a> day 0 period 0</li>\n",
+        ],
+    );
+    assert_eq!(rt; lacks, None);
+    Ok(())
+}
+
+/// What a name becomes.
+fn shown(alloc: Global, name: &[u8]) -> Result<String, Fail> {
+    let mut out = Vec::new(alloc);
+    put_shown(&mut out, name)?;
+    Ok(String::from_utf8(out)?)
+}
+
+#[test]
+fn names_stay_in_their_cells(rt: HostRuntime) -> Result<(), Fail> {
+    for (name, text) in [
+        (b"</td><b>".as_slice(), "&lt;/td&gt;&lt;b&gt;"),
+        (
+            b"\"x\"='&amp;'".as_slice(),
+            "&quot;x&quot;=&#39;&amp;amp;&#39;",
+        ),
+        (b"\x01\x7F\xC2\x85".as_slice(), "\u{FFFD}\u{FFFD}\u{FFFD}"),
+        (b"\xFF<\xC3".as_slice(), "\u{FFFD}&lt;\u{FFFD}"),
+        ("Gödel".as_bytes(), "Gödel"),
+    ] {
+        assert_eq!(rt; shown(rt.alloc(), name)?.as_str(), text);
+    }
+    let named = edited(rt.alloc(), MINI, "a t1", "</td><script> t1\"")?;
+    let named = edited(rt.alloc(), &named, "2 a b", "2 </td><script> b")?;
+    let text = page_of(rt.alloc(), &named, "b R 0 1")?;
+    assert!(rt; !text.contains("<script"));
+    assert!(rt; text.contains("<th scope=\"row\">&lt;/td&gt;&lt;script&gt;</th>"));
+    Ok(())
+}
+
+#[test]
+fn pages_that_are_not_written(rt: HostRuntime) -> Result<(), Fail> {
+    let memory = filled(rt.alloc(), MINI, "c R 0 0", Refusal::Nothing)?;
+    let outcome = paged(rt.alloc(), &memory)?;
+    assert_eq!(rt;
+        outcome.answer(),
+        (2, "", "refused: solution: UnknownCourse at byte 0\n")
+    );
+    assert_eq!(rt; memory.count(), 2);
+    for refusal in [Refusal::NewFiles, Refusal::Writes, Refusal::Renames] {
+        let memory = filled(rt.alloc(), MINI, MINI_SOLUTION, refusal)?;
+        let outcome = paged(rt.alloc(), &memory)?;
+        assert_eq!(rt;
+            outcome.answer(),
+            (2, "", "refused: cannot write\n"),
+            "{refusal:?}"
+        );
+        assert_eq!(rt; memory.count(), 2, "{refusal:?}");
+    }
+    Ok(())
+}
+
+#[test]
+fn writes_that_stop(rt: HostRuntime) -> Result<(), Fail> {
+    let whole = page_of(rt.alloc(), MINI, MINI_SOLUTION)?;
+    for stops_at in [1usize, 2, 1000, 9000] {
+        let mut narrow = Narrow::new(rt.alloc(), stops_at);
+        let mut sink = Writing::new(&mut narrow);
+        let answer = page(
+            rt.alloc(),
+            MINI.as_bytes(),
+            MINI_SOLUTION.as_bytes(),
+            tt_page::STYLE,
+            &mut sink,
+        );
+        assert_eq!(rt; answer, Err(AppFault::CannotWrite));
+        assert!(rt; sink.failed());
+        assert!(rt; whole.as_bytes().starts_with(narrow.bytes()));
+        assert_eq!(rt; narrow.bytes().len(), stops_at - 1);
+    }
+    Ok(())
+}

@@ -1,0 +1,61 @@
+//! What `parts` finds, and the files that it writes.
+
+use std::alloc::Global;
+use std::test::Fail;
+use tt_samples::{GAP, MINI};
+use tt_test_files::{MemoryFiles, Refusal};
+use tt_test_runs::{Outcome, run_on};
+
+fn parted(alloc: Global, memory: &MemoryFiles) -> Result<Outcome, Fail> {
+    let words = ["parts", "a.ctt", "found", "--nodes", "100"];
+    run_on(alloc, &words, memory)
+}
+
+#[test]
+fn parts_that_add_up(rt: HostRuntime) -> Result<(), Fail> {
+    let memory = MemoryFiles::new(rt.alloc(), Refusal::Nothing);
+    memory.put("a.ctt", GAP)?;
+    let outcome = parted(rt.alloc(), &memory)?;
+    assert_eq!(rt; outcome.answer(), (0, "bound 4 parts 1\n", ""));
+    let words = ["sum", "a.ctt", "found/part01.proof"];
+    let sum = run_on(rt.alloc(), &words, &memory)?;
+    assert_eq!(rt; sum.answer(), (0, "bound 4\n", ""));
+    Ok(())
+}
+
+#[test]
+fn an_instance_without_parts(rt: HostRuntime) -> Result<(), Fail> {
+    let memory = MemoryFiles::new(rt.alloc(), Refusal::Nothing);
+    memory.put("a.ctt", MINI)?;
+    let outcome = parted(rt.alloc(), &memory)?;
+    assert_eq!(rt; outcome.answer(), (0, "bound 0 parts 0\n", ""));
+    assert_eq!(rt; memory.text("found/part01.proof")?.is_some(), false);
+    Ok(())
+}
+
+#[test]
+fn parts_of_a_faulty_instance(rt: HostRuntime) -> Result<(), Fail> {
+    let memory = MemoryFiles::new(rt.alloc(), Refusal::Nothing);
+    memory.put("a.ctt", "Name:")?;
+    let outcome = parted(rt.alloc(), &memory)?;
+    assert_eq!(rt;
+        outcome.answer(),
+        (2, "", "refused: instance: Ended at byte 5\n")
+    );
+    Ok(())
+}
+
+#[test]
+fn parts_that_cannot_be_written(rt: HostRuntime) -> Result<(), Fail> {
+    for refusal in [Refusal::NewFiles, Refusal::Writes, Refusal::Renames] {
+        let memory = MemoryFiles::new(rt.alloc(), refusal);
+        memory.put("a.ctt", GAP)?;
+        memory.put("found/part01.proof", "older")?;
+        let outcome = parted(rt.alloc(), &memory)?;
+        assert_eq!(rt; outcome.answer(), (2, "", "refused: cannot write\n"));
+        let kept = memory.text("found/part01.proof")?;
+        assert!(rt; kept.is_some_and(|text| text.as_str() == "older"));
+        assert!(rt; memory.text("found/part01.proof.new0")?.is_none());
+    }
+    Ok(())
+}

@@ -1,0 +1,13 @@
+//! Tests of the checker and of what is refused: worked examples, through the commands and the calls.
+#![tactic(auto)]
+
+#[cfg(test)]
+mod checking;
+#[cfg(test)]
+mod faults;
+#[cfg(test)]
+mod refusing;
+#[cfg(test)]
+mod sums;
+#[cfg(test)]
+mod trees;

@@ -1,0 +1,80 @@
+//! Parts that are found.
+
+use std::alloc::Global;
+use std::test::Fail;
+use tt_instance::read_instance;
+use tt_leaf::Bound;
+use tt_parts::find_parts;
+use tt_samples::{GAP, MINI, WIDE};
+use tt_sum::sum_proofs;
+use tt_text::Pieces;
+
+/// Two curricula without a course in common. In each a course of three lectures on three days and one helper of one lecture: two of the
+/// three lectures are alone.
+const PAIR: &str =
+    "Name: Pair\nCourses: 4\nRooms: 2\nDays: 3\nPeriods_per_day: 2\nCurricula: 2\nConstraints: 0\n\nCOURSES:\na t1 3 3 10\nb t2 1 1 10\nc t3 3 3 10\nd t4 1 1 10\n\nROOMS:\nR 20\nS 20\n\nCURRICULA:\nq 2 a b\nr 2 c d\n\nUNAVAILABILITY_CONSTRAINTS:\n\nEND.\n";
+
+/// A course of three lectures on three days, which shares a curriculum with each of two helpers of one lecture: two lectures on one day cost least.
+const CHAIN: &str =
+    "Name: Chain\nCourses: 3\nRooms: 2\nDays: 3\nPeriods_per_day: 3\nCurricula: 2\nConstraints: 0\n\nCOURSES:\na t1 3 3 10\nb t2 1 1 10\nc t3 1 1 10\n\nROOMS:\nR 20\nS 20\n\nCURRICULA:\nq 2 a b\nr 2 a c\n\nUNAVAILABILITY_CONSTRAINTS:\n\nEND.\n";
+
+fn found(alloc: Global, text: &str, nodes: u32) -> Result<(Bound, Vec<Vec<u8>>), Fail> {
+    let instance = read_instance(alloc, text.as_bytes())?;
+    let parts = find_parts(alloc, &instance, nodes, 1)?;
+    Ok((parts.bound, parts.proofs))
+}
+
+#[test]
+fn what_parts_come_to(rt: HostRuntime) -> Result<(), Fail> {
+    for (text, bound, proofs) in [
+        (PAIR, 8, 2),
+        (CHAIN, 5, 1),
+        (GAP, 4, 1),
+        (WIDE, 0, 0),
+        (MINI, 0, 0),
+    ] {
+        let (sum, texts) = found(rt.alloc(), text, 5_000)?;
+        assert_eq!(rt;
+            (sum, texts.len()),
+            (Bound::AtLeast(bound), proofs),
+            "{text}"
+        );
+    }
+    Ok(())
+}
+
+#[test]
+fn the_same_seed_finds_the_same(rt: HostRuntime) -> Result<(), Fail> {
+    let (one, first) = found(rt.alloc(), CHAIN, 500)?;
+    let (other, second) = found(rt.alloc(), CHAIN, 500)?;
+    assert_eq!(rt; one, other);
+    assert_eq!(rt; first.len(), second.len());
+    for (a, b) in first.iter().zip(&second) {
+        assert!(rt; a.as_slice() == b.as_slice());
+    }
+    Ok(())
+}
+
+#[test]
+fn few_nodes_find_less(rt: HostRuntime) -> Result<(), Fail> {
+    for (nodes, bound) in [(0, 0), (1, 0), (2_000, 8)] {
+        let (sum, _) = found(rt.alloc(), PAIR, nodes)?;
+        assert_eq!(rt; sum, Bound::AtLeast(bound), "{nodes}");
+    }
+    Ok(())
+}
+
+#[test]
+fn the_texts_add_up(rt: HostRuntime) -> Result<(), Fail> {
+    let instance = read_instance(rt.alloc(), PAIR.as_bytes())?;
+    let (sum, texts) = found(rt.alloc(), PAIR, 2_000)?;
+    let mut sources = Vec::new(rt.alloc());
+    for text in &texts {
+        sources.push(Pieces::new(text.as_slice(), 7, 0))?;
+    }
+    assert_eq!(rt;
+        sum_proofs(rt.alloc(), &instance, sources.as_mut_slice()),
+        Ok(sum)
+    );
+    Ok(())
+}

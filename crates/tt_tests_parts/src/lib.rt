@@ -1,0 +1,5 @@
+//! Tests of parts that are found, on small instances.
+#![tactic(auto)]
+
+#[cfg(test)]
+mod finding;

@@ -1,0 +1,23 @@
+-- What the tokens of a text are and where they stand, said without reading it from left to right.
+use Rattle.std.specs.Prelude.{◌≡◌, ℕ, ◌+◌, true, List, [], ◌∷◌, ◌++◌, length, ⊤}
+use Rattle.std.specs.List.{list_all}
+use Rattle.tt_text.specs.Tokens.{Placed, IsToken, is_separator}
+
+-- nothing comes, or a separator
+abbrev pub IsApart : List ℕ → Type 0
+IsApart [] = ⊤
+IsApart (b ∷ bs) = is_separator b ≡ true
+
+-- after separators the token stands in the bytes, which begin at this offset, and after it they are these
+pub record StandsFirst (at : ℕ) (bytes : List ℕ) (t : Placed) (back : List ℕ) : Type 0 where
+  pub gap : List ℕ
+  pub whole : bytes ≡ gap ++ (t.text ++ back)
+  pub separators : list_all is_separator gap ≡ true
+  pub token : IsToken t.text
+  pub offset : t.at ≡ at + length gap
+  pub apart : IsApart back
+
+-- the bytes, which begin at this offset, are separators and these tokens
+abbrev pub HasTokens : ℕ → List ℕ → List Placed → Type 0
+HasTokens at bytes [] = list_all is_separator bytes ≡ true
+HasTokens at bytes (t ∷ ts) = (back : List ℕ) × StandsFirst at bytes t back × HasTokens (t.at + length t.text) back ts

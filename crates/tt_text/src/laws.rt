@@ -1,0 +1,12 @@
+//! What tokens are.
+
+ghost use Rattle.std.specs.Prelude.{◌≡◌, ℕ, List};
+ghost use Rattle.tt_text.specs.Standing.{HasTokens};
+ghost use Rattle.tt_text.specs.Tokens.{Placed, tokens_of};
+
+/// The tokens that are read from a text, from left to right, are those that stand in it: runs of bytes that are no separators, each at
+/// its offset, with separators or an end of the text on both sides.
+pub fn tokens_stand_apart()
+    ensures read { (bytes : List ℕ) → HasTokens 0 bytes (tokens_of bytes) }
+    ensures only { (bytes : List ℕ) (tokens : List Placed) → HasTokens 0 bytes tokens → tokens_of bytes ≡ tokens }
+{}
