@@ -12,7 +12,8 @@ use Rattle.tt_table.specs.Table.{IsTimetable}
 use Rattle.tt_rules.specs.Score.{IsFeasible}
 use Rattle.tt_leaf.specs.declared.leaf.Bound.{Bound}
 use Rattle.tt_proof_text.specs.declared.node.Node.{Node}
-use Rattle.tt_proof_write.specs.Within.{IsPreorder, IsNodeIn, Refuses, Writes}
+use Rattle.tt_proof_text.specs.Trees.{IsPreorder}
+use Rattle.tt_proof_write.specs.Within.{IsNodeIn, Refuses, Writes}
 use Rattle.tt_proof_write.specs.declared.fault.WriteFault.{WriteFault}
 use Rattle.tt_proof_write.specs.declared.fault.WriteFault.TheVariants as write
 use Rattle.tt_upgrade.proofs.Written.{node_in_two}

@@ -11,11 +11,12 @@ use Rattle.tt_branch.specs.declared.entry.Entry.{Entry}
 use Rattle.tt_branch.specs.declared.links.Link.{Link}
 use Rattle.tt_branch.specs.Growing.{node_at, nodes_of, worths_of}
 use Rattle.tt_branch.specs.Links.{path_at}
+use Rattle.tt_facts.specs.declared.path.TheConstants.{MAX_FACTS}
 
 -- there is such a node, and its facts fit on a path
 pub record IsReached (links : List Link) (place : ℕ) : Type 0 where
   pub within : place ≤ length links
-  pub depth : length (path_at links place) ≤ 65536
+  pub depth : length (path_at links place) ≤ MAX_FACTS
 
 -- a leaf claims no target twice
 abbrev pub IsOnceNode : Node → Type 0

@@ -9,15 +9,13 @@ ghost use Rattle.tt_search.specs.Improved.{IsNoWorse};
 ghost use Rattle.tt_branch.specs.Outcomes.{final_bound, BeginsWell, IsNoDearer};
 ghost use Rattle.tt_branch.specs.Kept.{IsKept, table_of, IsCosted};
 
+use crate::limit::FIRST_STEPS;
 use std::alloc::{AllocError, Global};
 use tt_instance::Instance;
 use tt_leaf::Bound;
 use tt_rules::score;
 use tt_search::{construct, descend, improve};
 use tt_table::Timetable;
-
-/// The most steps of the descent that a search begins with.
-const FIRST_STEPS: u64 = 10_000;
 
 /// The steps of a turn of the improvement after it, at least and at most, and for each entry in each cell of a room: one
 /// or two seconds on an instance of real size.

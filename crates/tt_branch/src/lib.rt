@@ -3,6 +3,7 @@
 
 mod best;
 mod entry;
+mod limit;
 mod links;
 mod live;
 mod moves;
@@ -12,4 +13,5 @@ mod search;
 mod solving;
 mod visit;
 
+pub use limit::{FIRST_STEPS, MAX_OPENED};
 pub use solving::{Outcome, solve};

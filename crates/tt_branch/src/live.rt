@@ -2,6 +2,7 @@
 
 ghost use Rattle.std.specs.Prelude.{◌≡◌, ◌<◌, ◌≤◌, [], ◌∷◌, ◌++◌, length, flat_map, filter, IfOk, OnOk};
 ghost use Rattle.tt_instance.specs.Cells.{InRange, all_courses, all_cells};
+ghost use Rattle.tt_table.specs.declared.table.TheConstants.{MAX_ENTRIES};
 ghost use Rattle.tt_facts.specs.Live.{is_live};
 ghost use Rattle.tt_branch.specs.Steps.{cells_on, cells_in, cells_of};
 
@@ -91,7 +92,7 @@ fn live_cells<'i, P: Path<'i>>(alloc: Global, path: &P) -> Result<Vec<Cell>, All
 
 /// A timetable of entries.
 fn table_with(alloc: Global, entries: &[Cell]) -> Result<Timetable, AllocError>
-    requires { length entries.now ≤ 16384 }
+    requires { length entries.now ≤ MAX_ENTRIES }
     ensures { IfOk result (λ table. table ≡ entries.now) }
 {
     let mut table = Timetable::new(alloc);
@@ -105,7 +106,7 @@ fn table_with(alloc: Global, entries: &[Cell]) -> Result<Timetable, AllocError>
 
 /// The timetable of the live cells of a path.
 pub fn live_table<'i, P: Path<'i>>(alloc: Global, path: &P) -> Result<Timetable, AllocError>
-    requires { length (filter (is_live (P.problem path.now) (P.facts path.now)) (all_cells (P.problem path.now))) ≤ 16384 }
+    requires { length (filter (is_live (P.problem path.now) (P.facts path.now)) (all_cells (P.problem path.now))) ≤ MAX_ENTRIES }
     ensures { IfOk result (λ table. table ≡ filter (is_live (P.problem path.now) (P.facts path.now)) (all_cells (P.problem path.now))) }
 {
     let cells = live_cells(alloc, path)?;

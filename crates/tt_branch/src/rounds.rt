@@ -4,6 +4,7 @@ ghost use Rattle.std.specs.Prelude.{◌≡◌, ◌<◌, ◌≤◌, ◌+◌, ◌*
 ghost use Rattle.tt_branch.specs.Growing.{IsOpenAt, is_open, opened_in};
 ghost use Rattle.tt_branch.specs.Kept.{Advances};
 ghost use Rattle.tt_branch.specs.State.{IsUnderWay, MakesWait, EndsAt};
+ghost use Rattle.tt_branch.specs.declared.limit.TheConstants.{MAX_OPENED};
 
 use crate::entry::Mark;
 use crate::search::{Search, next_open, split};
@@ -58,7 +59,7 @@ pub fn grow<'i, P: Path<'i>>(
     requires root { opened_in search.old.entries.items ≡ 1 }
     requires alone { length search.old.entries.items ≡ 1 }
     requires some { 1 ≤ limit }
-    requires few { limit ≤ 65536 }
+    requires few { limit ≤ MAX_OPENED }
     ensures under_way { OnOk result (IsUnderWay (P.problem path.old) search.new) }
     ensures better { OnOk result (Advances (P.problem path.old) search.old.best search.new.best) }
     ensures ends { IfOk result (EndsAt limit search.new.entries.items) }

@@ -8,6 +8,7 @@ ghost use Rattle.tt_branch.specs.Kept.{IsKept, table_of};
 ghost use Rattle.tt_branch.specs.Outcomes.{IsOutcome, BeginsWell, final_bound};
 ghost use Rattle.tt_branch.specs.Proofs.{shown_bound};
 ghost use Rattle.tt_branch.specs.State.{IsUnderWay, EndsAt};
+ghost use Rattle.tt_branch.specs.declared.limit.TheConstants.{MAX_OPENED};
 
 use crate::best::{Best, bound_of, first_best, turns_for};
 use crate::nodes::{Written, write_nodes};
@@ -74,7 +75,7 @@ fn conclude<'i, P: Path<'i>>(
     requires under_way { IsUnderWay (P.problem path.old) search }
     requires begun { BeginsWell (P.problem path.old) (table_of search.best) }
     requires ends { EndsAt limit search.entries.items finished }
-    requires few { limit ≤ 65536 }
+    requires few { limit ≤ MAX_OPENED }
     ensures { IfOk result (λ o. IsOutcome (P.problem path.old) limit o.best o.bound (option_map (λ v. v.items) o.proof) o.finished) }
 {
     // What is true of every instance: its numbers are within the limits.
@@ -114,7 +115,7 @@ fn solve_over<'i, P: Path<'i>>(
     requires kept { IsKept (P.problem path.old) best }
     requires begun { BeginsWell (P.problem path.old) (table_of best) }
     requires some { 1 ≤ limit }
-    requires few { limit ≤ 65536 }
+    requires few { limit ≤ MAX_OPENED }
     ensures { IfOk result (λ o. IsOutcome (P.problem path.old) limit o.best o.bound (option_map (λ v. v.items) o.proof) o.finished) }
 {
     let mut search = Search::new(alloc, best)?;
@@ -133,7 +134,7 @@ pub fn solve(
     seed: u64,
 ) -> Result<Outcome, AllocError>
     requires some { 1 ≤ nodes }
-    requires few { nodes ≤ 65536 }
+    requires few { nodes ≤ MAX_OPENED }
     ensures { IfOk result (λ o. IsOutcome instance.now nodes o.best o.bound (option_map (λ v. v.items) o.proof) o.finished) }
 {
     let mut path = TrailPath::new(alloc, instance)?;

@@ -2,6 +2,7 @@
 
 ghost use Rattle.std.specs.Prelude.{◌≡◌, ◌<◌, ◌≤◌, ◌+◌, length, true, IfOk, OnOk};
 ghost use Rattle.tt_instance.specs.Problem.{Problem};
+ghost use Rattle.tt_facts.specs.declared.path.TheConstants.{MAX_FACTS};
 ghost use Rattle.tt_find.specs.Found.{ArePatterns};
 ghost use Rattle.tt_find.specs.Pinned.{IsPinnedDown, IsOpen};
 ghost use Rattle.tt_branch.specs.Growing.{IsKnown, IsSingle, HasMark, was_opened, opened_in};
@@ -32,7 +33,7 @@ pub fn go_to<'i, P: Path<'i>>(
 ) -> Result<(), AllocError>
     requires links { AreLinks links.now }
     requires place { place ≤ length links.now }
-    requires depth { length (path_at links.now place) ≤ 65536 }
+    requires depth { length (path_at links.now place) ≤ MAX_FACTS }
     ensures there { OnOk result (P.facts path.new ≡ path_at links.now place) }
     ensures same { P.problem path.new ≡ P.problem path.old }
 {

@@ -1,6 +1,7 @@
 //! The facts of a path, and tables of what they leave possible.
 
 ghost use Rattle.std.specs.Prelude.{◌≡◌, ◌<◌, ◌≤◌, length};
+ghost use Rattle.tt_facts.specs.declared.path.TheConstants.{MAX_FACTS};
 
 use crate::adding::add;
 use crate::listing::{list_fact, unlist_fact};
@@ -29,6 +30,7 @@ pub struct Cells<'p, 'i> {
 impl<'p, 'i> Model for Cells<'p, 'i> {
     ghost use Rattle.std.specs.Prelude.{◌≡◌, ◌≤◌, length};
     ghost use Rattle.tt_facts.specs.Paths.{Facts};
+    ghost use Rattle.tt_facts.specs.declared.path.TheConstants.{MAX_FACTS};
     ghost use Rattle.tt_links.specs.Linked.{AreLinks};
     ghost use Rattle.tt_cells.specs.Order.{IsRoomOrder};
     ghost use Rattle.tt_cells.specs.Shown.{yes_facts, AreTables, AreEarlier};
@@ -40,7 +42,7 @@ impl<'p, 'i> Model for Cells<'p, 'i> {
     ghost invariant = { λ s. record {
       links : AreLinks s.instance.now s.links;
       order : IsRoomOrder s.instance.now s.order;
-      depth : length s.facts.items ≤ 65536;
+      depth : length s.facts.items ≤ MAX_FACTS;
       yes : s.yes.items ≡ yes_facts s.facts.items;
       tables : AreTables s.instance.now s.facts.items s.free.words s.live.words;
       earlier : AreEarlier s.instance.now s.facts.items s.free.earlier s.live.earlier;
@@ -84,25 +86,25 @@ impl<'p, 'i> Cells<'p, 'i> {
     }
 
     /// How many facts there are.
-    pub fn depth(&self) -> usize
+    pub fn depth(&self) -> u32
         ensures value { result ≡ length self.now.facts }
-        ensures within { result ≤ 65536 }
+        ensures within { result ≤ MAX_FACTS }
     {
-        self.facts.len()
+        self.facts.len() as u32
     }
 
     /// The fact at a place, counted from the oldest.
-    pub fn fact(&self, index: usize) -> Fact
+    pub fn fact(&self, index: u32) -> Fact
         requires { index < length self.now.facts }
         ensures { slice_get self.now.facts index ≡ Some result }
     {
-        self.facts[index]
+        self.facts[index as usize]
     }
 
     /// Adds a fact after the others. Kept apart, as the call that lists the fact is.
     #[inline(never)]
     pub fn push(&mut self, fact: Fact) -> Result<(), AllocError>
-        requires { length self.old.facts < 65536 }
+        requires { length self.old.facts < MAX_FACTS }
         ensures ok { OnOk result (self.new.facts ≡ self.old.facts ++ fact ∷ []) }
         ensures err { OnErr result (self.new.facts ≡ self.old.facts) }
         ensures same { self.new.problem ≡ self.old.problem }

@@ -5,6 +5,7 @@ ghost use Rattle.std.specs.List.Sorted.{IsStrictlyIncreasing};
 ghost use Rattle.tt_lists.specs.Words.{range_below};
 ghost use Rattle.tt_instance.specs.Cells.{slot, slot_of, is_at};
 ghost use Rattle.tt_table.specs.Table.{IsTimetable};
+ghost use Rattle.tt_table.specs.declared.table.TheConstants.{MAX_ENTRIES};
 ghost use Rattle.tt_chain.specs.Chains.{IsChain, other};
 ghost use Rattle.tt_occupancy.specs.Filled.{entry_at};
 ghost use Rattle.tt_chain.specs.Answers.{IsAnswer, IsPeriod, is_shut, same_slot};
@@ -19,7 +20,7 @@ use tt_table::Entry;
 
 /// The numbers of the places that are marked, in rising order.
 fn places_of(alloc: Global, flags: &[bool]) -> Result<Vec<u32>, AllocError>
-    requires { length flags.now ≤ 16384 }
+    requires { length flags.now ≤ MAX_ENTRIES }
     ensures { IfOk result (λ v. v.items ≡ filter (marked flags.now) (range_below (length flags.now))) }
 {
     let mut places = Vec::new(alloc);
@@ -49,21 +50,12 @@ fn is_same_slot(a: Slot, b: Slot) -> bool
     a.day == b.day && a.period == b.period
 }
 
-/// The entry at a place.
-pub fn entry_of(occupied: &Occupied<'_, '_>, index: u32) -> Entry
-    requires { index < length occupied.now.entries }
-    ensures value { result ≡ entry_at occupied.now.entries index }
-    ensures in_range { IsTimetable occupied.now.problem occupied.now.entries }
-{
-    occupied.table().get(index as usize)
-}
-
 /// Whether the other period of an entry is unavailable.
 pub fn is_barred(occupied: &Occupied<'_, '_>, from: Slot, to: Slot, index: u32) -> bool
     requires { index < length occupied.now.entries }
     ensures { result ≡ is_shut occupied.now.problem occupied.now.entries from to index }
 {
-    let entry = entry_of(occupied, index);
+    let entry = occupied.entry(index);
     let place = other_period(from, to, entry);
     occupied
         .instance()
@@ -151,7 +143,7 @@ pub fn chain(
     ensures { IsAnswer occupied.now.problem occupied.now.entries
         (slot_of (entry_at occupied.now.entries entry)) (slot day period) entry result }
 {
-    let place = entry_of(occupied, entry);
+    let place = occupied.entry(entry);
     let from = Slot {
         day: place.day,
         period: place.period,

@@ -9,7 +9,7 @@ ghost use Rattle.tt_chain.specs.Answers.{IsOf, IsPeriod, MayTurn};
 ghost use Rattle.tt_chain.specs.Chains.{linked, swapped};
 
 use crate::kempe::Chain;
-use crate::seeking::{entry_of, is_barred, other_period};
+use crate::seeking::{is_barred, other_period};
 use crate::spreading::{is_linked, stands_at};
 use tt_instance::{Instance, Slot};
 use tt_occupancy::Occupied;
@@ -37,8 +37,8 @@ impl Chain {
             (entry_at occupied.now.entries index) (entry_at occupied.now.entries other) ≡ true
             → has_number self.now.members other ≡ true) }
     {
-        let one = entry_of(occupied, index);
-        let two = entry_of(occupied, other);
+        let one = occupied.entry(index);
+        let two = occupied.entry(other);
         !is_linked(occupied.instance(), self.from, self.to, &one, &two) || self.has(other)
     }
 
@@ -66,7 +66,7 @@ impl Chain {
         if index as usize >= occupied.table().len() {
             return false;
         }
-        let entry = entry_of(occupied, index);
+        let entry = occupied.entry(index);
         let stands = stands_at(self.from, &entry) || stands_at(self.to, &entry);
         stands
             && !is_barred(occupied, self.from, self.to, index)
@@ -103,8 +103,8 @@ pub fn swap_chain(occupied: &mut Occupied<'_, '_>, chain: &Chain)
         → IsFeasible occupied.old.problem occupied.new.entries }
 {
     for member in chain.members() {
-        let entry = entry_of(occupied, *member);
+        let entry = occupied.entry(*member);
         let place = other_period(chain.from, chain.to, entry);
-        occupied.move_entry(*member as usize, entry.room, place.day, place.period);
+        occupied.move_entry(*member, entry.room, place.day, place.period);
     }
 }

@@ -3,6 +3,7 @@
 ghost use Rattle.std.specs.Prelude.{◌≡◌, ◌<◌, ◌≤◌, ◌+◌, ◌∷◌, ◌++◌, [], length, IfOk, OnOk};
 ghost use Rattle.tt_instance.specs.Cells.{InRange};
 ghost use Rattle.tt_instance.specs.Courses.{lectures};
+ghost use Rattle.tt_table.specs.declared.table.TheConstants.{MAX_ENTRIES};
 ghost use Rattle.tt_construct.specs.Constructed.{IsConstructed};
 ghost use Rattle.tt_construct.specs.Filled.{HasMore};
 
@@ -40,7 +41,7 @@ fn entry_at(instance: &Instance<'_>, course: u32, place: Option<&Place>) -> Entr
 
 /// Adds an entry where there is room for it.
 fn push(table: &mut Timetable, entry: Entry) -> Result<(), AllocError>
-    requires { length table.old < 16384 }
+    requires { length table.old < MAX_ENTRIES }
     ensures { OnOk result (table.new ≡ table.old ++ entry ∷ []) }
 {
     match table.push(entry) {

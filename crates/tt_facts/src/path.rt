@@ -13,7 +13,7 @@ use thiserror::Error;
 use tt_instance::{Cell, Instance};
 
 /// The most facts of a path.
-pub const MAX_FACTS: usize = 65_536;
+pub const MAX_FACTS: u32 = 65_536;
 
 /// Why a fact was not added.
 #[derive(Clone, Copy, Debug, PartialEq, Eq, Error)]
@@ -38,20 +38,20 @@ pub trait Path<'i> {
         ensures { result.now ≡ problem self.now };
 
     /// How many facts there are, at most MAX_FACTS.
-    fn depth(&self) -> usize
+    fn depth(&self) -> u32
         ensures value { result ≡ length (facts self.now) }
-        ensures within { result ≤ 65536 };
+        ensures within { result ≤ MAX_FACTS };
 
     /// The fact at a place, counted from the oldest.
-    fn fact(&self, index: usize) -> Fact
+    fn fact(&self, index: u32) -> Fact
         requires { index < length (facts self.now) }
         ensures { slice_get (facts self.now) index ≡ Some result };
 
     /// Adds a fact after the others.
     fn push(&mut self, fact: Fact) -> Result<(), PathFault>
         ensures ok { OnOk result (facts self.new ≡ facts self.old ++ fact ∷ []) }
-        ensures deep { length (facts self.old) ≡ 65536 → IsErrOf result PathFault.TooDeep }
-        ensures room { length (facts self.old) < 65536 → IsOkUnless result PathFault.OutOfMemory }
+        ensures deep { length (facts self.old) ≡ MAX_FACTS → IsErrOf result PathFault.TooDeep }
+        ensures room { length (facts self.old) < MAX_FACTS → IsOkUnless result PathFault.OutOfMemory }
         ensures err { OnErr result (facts self.new ≡ facts self.old) }
         ensures same { problem self.new ≡ problem self.old };
 

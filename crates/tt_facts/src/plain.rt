@@ -23,12 +23,13 @@ pub struct PlainPath<'p, 'i> {
 impl<'p, 'i> Model for PlainPath<'p, 'i> {
     ghost use Rattle.std.specs.Prelude.{◌≤◌, length};
     ghost use Rattle.tt_facts.specs.Paths.{Facts};
+    ghost use Rattle.tt_facts.specs.declared.path.TheConstants.{MAX_FACTS};
 
     ghost Value = { Facts };
 
     ghost view = { λ s. record { problem = s.instance.now; facts = s.facts.items } };
 
-    ghost invariant = { λ s. length s.facts.items ≤ 65536 };
+    ghost invariant = { λ s. length s.facts.items ≤ MAX_FACTS };
 }
 
 impl<'p, 'i> PlainPath<'p, 'i> {
@@ -64,12 +65,12 @@ impl<'p, 'i> Path<'i> for PlainPath<'p, 'i> {
         self.instance
     }
 
-    fn depth(&self) -> usize {
-        self.facts.len()
+    fn depth(&self) -> u32 {
+        self.facts.len() as u32
     }
 
-    fn fact(&self, index: usize) -> Fact {
-        self.facts[index]
+    fn fact(&self, index: u32) -> Fact {
+        self.facts[index as usize]
     }
 
     fn push(&mut self, fact: Fact) -> Result<(), PathFault> {

@@ -7,6 +7,7 @@ use Rattle.std.proofs.lemmas.List.{append-nil, take_all, get_or-map, length-map}
 use Rattle.std.proofs.lemmas.List.Elements.{All-weaker}
 use Rattle.tt_text.specs.Pieces.{Piece, Text, Number}
 use Rattle.tt_text.specs.Lines.{text_of, line_text, lines_text}
+use Rattle.tt_text.proofs.Texts.{lines_text-append}
 use Rattle.tt_instance.specs.declared.fault.Word.{Word}
 use Rattle.tt_instance.specs.declared.fault.Word.TheVariants as word
 use Rattle.tt_instance.specs.declared.rows.CourseRow.{CourseRow}
@@ -20,11 +21,6 @@ use Rattle.tt_instance.specs.Spelling.{fixed, named, course_pieces, room_pieces,
 use Rattle.tt_instance.specs.Writing.{counted_line, section, header_lines, instance_text}
 use Rattle.tt_instance.specs.Seen.{course_seen, courses_seen, curriculum_seen, curricula_seen, bar_seen, bars_seen, problem_seen}
 use Rattle.tt_instance.proofs.AfterLaws.{All-from_each_after}
-
--- lines and then more lines
-lines_text-append : (ls more : List (List Piece)) → lines_text (ls ++ more) ≡ lines_text ls ++ lines_text more
-lines_text-append [] more = refl
-lines_text-append (l ∷ ls) more = ap (λ (t : List ℕ). line_text l ++ t) (lines_text-append ls more) ∙ sym (append_assoc (line_text l) (lines_text ls) (lines_text more))
 
 module _ {X Y : Type 0} (v : X → Y) where
   -- a line for each row

@@ -1,5 +1,5 @@
 -- Changes of a score.
-use Rattle.std.specs.Prelude.{◌≡◌, ◌<◌, ◌⊎◌, List, pos, neg_ℤ, ◌≤ℤ◌, ◌^◌}
+use Rattle.std.specs.Prelude.{◌≡◌, ℕ, ◌<◌, ◌⊎◌, List, pos, neg_ℤ, ◌≤ℤ◌, ◌^◌}
 use Rattle.tt_instance.specs.Problem.{Problem}
 use Rattle.tt_instance.specs.declared.cell.Cell.{Cell}
 use Rattle.tt_rules.specs.Score.{hard, cost}
@@ -12,6 +12,10 @@ pub record IsSmall (c : Change) : Type 0 where
   pub cost_low : neg_ℤ (pos (2 ^ 40)) ≤ℤ c.cost
   pub cost_high : c.cost ≤ℤ pos (2 ^ 40)
 
--- the first breaks fewer hard rules than the second, or as many at a lower cost
+-- one hard count and cost is below another: fewer broken hard rules, or as many at a lower cost
+abbrev pub IsLower : ℕ → ℕ → ℕ → ℕ → Type 0
+IsLower hard_one cost_one hard_other cost_other = (hard_one < hard_other) ⊎ ((hard_one ≡ hard_other) × (cost_one < cost_other))
+
+-- the first timetable's hard count and cost are below the second's
 abbrev pub IsBelow : Problem → List Cell → List Cell → Type 0
-IsBelow p s t = (hard p s < hard p t) ⊎ ((hard p s ≡ hard p t) × (cost p s < cost p t))
+IsBelow p s t = IsLower (hard p s) (cost p s) (hard p t) (cost p t)

@@ -7,7 +7,7 @@ ghost use Rattle.tt_moves.specs.Steps.{CanStep, stepped};
 
 use crate::exchanging::{Change, exchange};
 use crate::rest::Rest;
-use crate::step::{Step, entry_of};
+use crate::step::Step;
 use tt_occupancy::Occupied;
 use tt_table::Entry;
 
@@ -22,7 +22,7 @@ fn move_change(occupied: &Occupied<'_, '_>, entry: u32, room: u32, day: u32, per
     ensures cost { pos (cost occupied.now.problem occupied.now.entries) +ℤ result.cost
         ≡ pos (cost occupied.now.problem (stepped occupied.now.entries (Step.Move entry room day period))) }
 {
-    let from = entry_of(occupied, entry);
+    let from = occupied.entry(entry);
     let to = Entry {
         room,
         day,
@@ -47,8 +47,8 @@ fn swap_change(occupied: &Occupied<'_, '_>, first: u32, second: u32) -> Change
     ensures cost { pos (cost occupied.now.problem occupied.now.entries) +ℤ result.cost
         ≡ pos (cost occupied.now.problem (stepped occupied.now.entries (Step.Swap first second))) }
 {
-    let one = entry_of(occupied, first);
-    let other = entry_of(occupied, second);
+    let one = occupied.entry(first);
+    let other = occupied.entry(second);
     if one.course == other.course {
         return Change { hard: 0, cost: 0 };
     }

@@ -10,7 +10,7 @@ ghost use Rattle.tt_moves.specs.Rests.{IsRest};
 ghost use Rattle.tt_moves.specs.Steps.{CanStep, first_of, stepped};
 
 use crate::rest::Rest;
-use crate::step::{Step, entry_of};
+use crate::step::Step;
 pub use crate::weight::EntryCost;
 use tt_occupancy::Occupied;
 use tt_table::Entry;
@@ -20,7 +20,7 @@ pub fn entry_cost(occupied: &Occupied<'_, '_>, entry: u32) -> EntryCost
     requires { entry < length occupied.now.entries }
     ensures { IsEntryCost occupied.now.problem occupied.now.entries entry result }
 {
-    let gone = entry_of(occupied, entry);
+    let gone = occupied.entry(entry);
     let rest = Rest {
         occupied,
         from: gone,
@@ -64,7 +64,7 @@ fn move_cost_change(
     ensures { pos (cost occupied.now.problem occupied.now.entries) +ℤ result
         ≡ pos (cost occupied.now.problem (stepped occupied.now.entries (Step.Move entry room day period))) }
 {
-    let from = entry_of(occupied, entry);
+    let from = occupied.entry(entry);
     let to = Entry {
         room,
         day,
@@ -88,8 +88,8 @@ fn swap_cost_change(occupied: &Occupied<'_, '_>, before: EntryCost, first: u32, 
     ensures { pos (cost occupied.now.problem occupied.now.entries) +ℤ result
         ≡ pos (cost occupied.now.problem (stepped occupied.now.entries (Step.Swap first second))) }
 {
-    let one = entry_of(occupied, first);
-    let other = entry_of(occupied, second);
+    let one = occupied.entry(first);
+    let other = occupied.entry(second);
     if one.course == other.course {
         return 0;
     }

@@ -4,6 +4,7 @@ ghost use Rattle.std.specs.Prelude.{◌≡◌, ◌+◌, ◌-◌, ◌<◌, ◌≤
 ghost use Rattle.tt_instance.specs.Cells.{InRange, slot, slot_of, is_at, is_in};
 ghost use Rattle.tt_instance.specs.Courses.{in_curriculum, conflict};
 ghost use Rattle.tt_instance.specs.declared.cell.Cell.{Cell};
+ghost use Rattle.tt_table.specs.declared.table.TheConstants.{MAX_ENTRIES};
 ghost use Rattle.tt_rules.specs.Soft.{days_of};
 ghost use Rattle.tt_tallies.specs.Tallies.{rooms_of};
 ghost use Rattle.tt_change.specs.Standing.{standing};
@@ -56,7 +57,7 @@ pub fn one_if(test: bool) -> u32
 
 /// A count over the timetable, as one over the rest.
 fn adjusted(count: u32, to: bool, from: bool, gone: bool) -> u32
-    requires few { count ≤ 16384 }
+    requires few { count ≤ MAX_ENTRIES }
     requires enough { cond from 1 0 + cond gone 1 0 ≤ count + cond to 1 0 }
     ensures value { result + cond from 1 0 + cond gone 1 0 ≡ count + cond to 1 0 }
     ensures few { result ≤ 16385 }

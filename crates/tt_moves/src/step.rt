@@ -46,15 +46,6 @@ pub fn can_step(occupied: &Occupied<'_, '_>, step: Step) -> bool
     }
 }
 
-/// The entry at a place.
-pub(crate) fn entry_of(occupied: &Occupied<'_, '_>, index: u32) -> Entry
-    requires { index < length occupied.now.entries }
-    ensures value { result ≡ entry_at occupied.now.entries index }
-    ensures in_range { IsTimetable occupied.now.problem occupied.now.entries }
-{
-    occupied.table().get(index as usize)
-}
-
 /// Makes a step, and answers the one that takes it back.
 pub fn apply(occupied: &mut Occupied<'_, '_>, step: Step) -> Step
     requires { CanStep occupied.old.problem occupied.old.entries step }
@@ -72,8 +63,8 @@ pub fn apply(occupied: &mut Occupied<'_, '_>, step: Step) -> Step
             day,
             period,
         } => {
-            let from = entry_of(occupied, entry);
-            occupied.move_entry(entry as usize, room, day, period);
+            let from = occupied.entry(entry);
+            occupied.move_entry(entry, room, day, period);
             Step::Move {
                 entry,
                 room: from.room,
@@ -82,7 +73,7 @@ pub fn apply(occupied: &mut Occupied<'_, '_>, step: Step) -> Step
             }
         }
         Step::Swap { first, second } => {
-            occupied.swap_entries(first as usize, second as usize);
+            occupied.swap_entries(first, second);
             step
         }
     }

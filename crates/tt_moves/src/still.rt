@@ -3,6 +3,7 @@
 ghost use Rattle.std.specs.Prelude.{◌≡◌, ℕ, ◌-◌, ◌<◌, ◌≤◌, nat_le, cond, true, false, List, length};
 ghost use Rattle.tt_instance.specs.Courses.{in_curriculum};
 ghost use Rattle.tt_instance.specs.declared.cell.Cell.{Cell};
+ghost use Rattle.tt_table.specs.declared.table.TheConstants.{MAX_ENTRIES};
 ghost use Rattle.tt_change.specs.Standing.{standing};
 ghost use Rattle.tt_moves.specs.Rests.{IsRest, IsStill};
 
@@ -42,7 +43,7 @@ impl Rest<'_, '_, '_> {
         requires rest { (u : List Cell) × IsRest self.now u }
         ensures value { (u : List Cell) → IsRest self.now u
             → result ≡ standing self.now.occupied.now.problem u curriculum day period }
-        ensures few { result ≤ 16384 }
+        ensures few { result ≤ MAX_ENTRIES }
     {
         if period >= self.occupied.instance().periods() {
             return 0;
@@ -60,7 +61,7 @@ impl Rest<'_, '_, '_> {
         requires rest { (u : List Cell) × IsRest self.now u }
         ensures value { (u : List Cell) → IsRest self.now u
             → result ≡ cond (nat_le by period) (standing self.now.occupied.now.problem u curriculum day (period - by)) 0 }
-        ensures few { result ≤ 16384 }
+        ensures few { result ≤ MAX_ENTRIES }
     {
         if by <= period {
             self.standing_still(curriculum, day, period - by)

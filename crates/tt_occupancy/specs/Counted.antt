@@ -9,11 +9,12 @@ use Rattle.tt_rules.specs.Score.{IsScore}
 use Rattle.tt_rules.specs.declared.counts.Score.{Score}
 use Rattle.tt_tallies.specs.Tables.{AreTables}
 use Rattle.tt_tallies.specs.declared.tables.Tables.{Tables}
+use Rattle.tt_table.specs.declared.table.TheConstants.{MAX_ENTRIES}
 
 -- the tables and the score of a timetable of an instance
 pub record IsCounted (p : Problem) (t : List Cell) (x : Tables) (s : Score) : Type 0 where
   pub instance : IsInstance p
   pub in_range : IsTimetable p t
-  pub few : length t ≤ 16384
+  pub few : length t ≤ MAX_ENTRIES
   pub tables : AreTables p t x
   pub score : IsScore p t s

@@ -11,6 +11,7 @@ use Rattle.tt_rules.specs.Score.{IsScore}
 use Rattle.tt_rules.specs.declared.counts.Score.{Score}
 use Rattle.tt_change.specs.Weight.{repeats, against, barred, shares, alone, all_joined}
 use Rattle.tt_occupancy.specs.declared.weight.Weight.{Weight}
+use Rattle.tt_table.specs.declared.table.TheConstants.{MAX_ENTRIES}
 
 -- what entry x weighs beside the list u
 pub record IsWeight (p : Problem) (u : List Cell) (x : Cell) (w : Weight) : Type 0 where
@@ -27,7 +28,7 @@ pub record IsWeight (p : Problem) (u : List Cell) (x : Cell) (w : Weight) : Type
 -- the score and the weights of an entry x and of another entry y of its course, both beside u
 pub record IsExchange (p : Problem) (u : List Cell) (x y : Cell) (s : Score) (from to : Weight) : Type 0 where
   pub instance : IsInstance p
-  pub few : length u < 16384
+  pub few : length u < MAX_ENTRIES
   pub from_in_range : InRange p x
   pub to_in_range : InRange p y
   pub course : x.course ≡ y.course

@@ -3,6 +3,7 @@
 ghost use Rattle.std.specs.Prelude.{◌≤◌, length, IfOk};
 ghost use Rattle.tt_instance.specs.Limits.{IsInstance};
 ghost use Rattle.tt_table.specs.Table.{IsTimetable};
+ghost use Rattle.tt_table.specs.declared.table.TheConstants.{MAX_ENTRIES};
 ghost use Rattle.tt_tallies.specs.Tables.{AreTables};
 
 use std::alloc::{AllocError, Global};
@@ -17,7 +18,7 @@ pub fn tables_of(
     entries: &[Entry],
 ) -> Result<Tables, AllocError>
     requires in_range { IsTimetable instance.now entries.now }
-    requires few { length entries.now ≤ 16384 }
+    requires few { length entries.now ≤ MAX_ENTRIES }
     ensures tables { IfOk result (AreTables instance.now entries.now) }
     // What is true of every instance.
     ensures instance { IsInstance instance.now }

@@ -3,6 +3,7 @@
 ghost use Rattle.std.specs.Prelude.{◌≡◌, ◌<◌, ◌≤◌, ◌&&◌, length, filter, count_by};
 ghost use Rattle.tt_instance.specs.Cells.{all_curricula, slot, is_of, is_at, is_in, is_on};
 ghost use Rattle.tt_instance.specs.Courses.{teachers, in_curriculum, conflict};
+ghost use Rattle.tt_table.specs.declared.table.TheConstants.{MAX_ENTRIES};
 ghost use Rattle.tt_rules.specs.Soft.{days_of};
 ghost use Rattle.tt_tallies.specs.Tallies.{teaches, rooms_of};
 
@@ -34,7 +35,7 @@ impl<'a, 'i> Occupied<'a, 'i> {
         ensures count { result
             ≡ count_by (λ e. is_in room e && is_at (slot day period) e)
             self.now.entries }
-        ensures few { result ≤ 16384 }
+        ensures few { result ≤ MAX_ENTRIES }
     {
         u32::from(self.tables.rooms.get(room, day, period))
     }
@@ -47,7 +48,7 @@ impl<'a, 'i> Occupied<'a, 'i> {
         ensures count { result
             ≡ count_by (λ e. teaches self.now.problem teacher e.course && is_at (slot day period) e)
             self.now.entries }
-        ensures few { result ≤ 16384 }
+        ensures few { result ≤ MAX_ENTRIES }
     {
         u32::from(self.tables.teachers.get(teacher, day, period))
     }
@@ -60,7 +61,7 @@ impl<'a, 'i> Occupied<'a, 'i> {
         ensures count { result
             ≡ count_by (λ e. in_curriculum self.now.problem curriculum e.course && is_at (slot day period) e)
             self.now.entries }
-        ensures few { result ≤ 16384 }
+        ensures few { result ≤ MAX_ENTRIES }
     {
         u32::from(self.tables.curricula.get(curriculum, day, period))
     }
@@ -73,7 +74,7 @@ impl<'a, 'i> Occupied<'a, 'i> {
         ensures count { result
             ≡ count_by (λ e. is_of course e && is_at (slot day period) e)
             self.now.entries }
-        ensures few { result ≤ 16384 }
+        ensures few { result ≤ MAX_ENTRIES }
     {
         u32::from(self.tables.courses.get(course, day, period))
     }
@@ -86,7 +87,7 @@ impl<'a, 'i> Occupied<'a, 'i> {
         ensures count { result
             ≡ count_by (λ e. conflict self.now.problem course e.course && is_at (slot day period) e)
             self.now.entries }
-        ensures few { result ≤ 16384 }
+        ensures few { result ≤ MAX_ENTRIES }
     {
         u32::from(self.tables.opponents.get(course, day, period))
     }
@@ -96,7 +97,7 @@ impl<'a, 'i> Occupied<'a, 'i> {
         requires course { course < length self.now.problem.courses }
         requires day { day < self.now.problem.days }
         ensures count { result ≡ count_by (λ e. is_of course e && is_on day e) self.now.entries }
-        ensures few { result ≤ 16384 }
+        ensures few { result ≤ MAX_ENTRIES }
     {
         u32::from(self.tables.days.get(course, day))
     }
@@ -106,7 +107,7 @@ impl<'a, 'i> Occupied<'a, 'i> {
         requires course { course < length self.now.problem.courses }
         requires room { room < length self.now.problem.rooms }
         ensures count { result ≡ count_by (λ e. is_of course e && is_in room e) self.now.entries }
-        ensures few { result ≤ 16384 }
+        ensures few { result ≤ MAX_ENTRIES }
     {
         u32::from(self.tables.course_rooms.get(course, room))
     }

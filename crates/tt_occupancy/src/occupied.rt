@@ -3,6 +3,7 @@
 ghost use Rattle.std.specs.Prelude.{◌≡◌, ◌<◌, ◌≤◌, length, slice_set, IfOk, IfErr};
 ghost use Rattle.tt_instance.specs.Cells.{InRange};
 ghost use Rattle.tt_table.specs.Table.{IsTimetable};
+ghost use Rattle.tt_table.specs.declared.table.TheConstants.{MAX_ENTRIES};
 ghost use Rattle.tt_rules.specs.Score.{IsScore};
 ghost use Rattle.tt_occupancy.specs.Filled.{Filled, entry_at, moved, swapped};
 
@@ -70,9 +71,19 @@ impl<'a, 'i> Occupied<'a, 'i> {
     pub fn table(&self) -> &Timetable
         ensures value { result.now ≡ self.now.entries }
         ensures in_range { IsTimetable self.now.problem self.now.entries }
-        ensures within { length self.now.entries ≤ 16384 }
+        ensures within { length self.now.entries ≤ MAX_ENTRIES }
     {
         &self.table
+    }
+
+    /// The entry at a place, counted from 0.
+    pub fn entry(&self, index: u32) -> Entry
+        requires { index < length self.now.entries }
+        ensures value { result ≡ entry_at self.now.entries index }
+        ensures within { InRange self.now.problem result }
+        ensures in_range { IsTimetable self.now.problem self.now.entries }
+    {
+        self.table().get(index)
     }
 
     /// The score of the timetable as it stands.
@@ -91,7 +102,7 @@ impl<'a, 'i> Occupied<'a, 'i> {
     }
 
     /// Puts another entry of its course in the place of one.
-    fn replace(&mut self, index: usize, entry: Entry)
+    fn replace(&mut self, index: u32, entry: Entry)
         requires inside { index < length self.old.entries }
         requires in_range { InRange self.old.problem entry }
         requires course { (entry_at self.old.entries index).course ≡ entry.course }
@@ -106,7 +117,7 @@ impl<'a, 'i> Occupied<'a, 'i> {
     }
 
     /// Gives an entry another room, day and period.
-    pub fn move_entry(&mut self, index: usize, room: u32, day: u32, period: u32)
+    pub fn move_entry(&mut self, index: u32, room: u32, day: u32, period: u32)
         requires index { index < length self.old.entries }
         requires room { room < length self.old.problem.rooms }
         requires day { day < self.old.problem.days }
@@ -127,7 +138,7 @@ impl<'a, 'i> Occupied<'a, 'i> {
     }
 
     /// Exchanges room, day and period of two entries. One entry exchanged with itself stays.
-    pub fn swap_entries(&mut self, first: usize, second: usize)
+    pub fn swap_entries(&mut self, first: u32, second: u32)
         requires first { first < length self.old.entries }
         requires second { second < length self.old.entries }
         ensures swapped { self.new ≡ record {

@@ -5,6 +5,7 @@ ghost use Rattle.std.specs.List.{list_any};
 ghost use Rattle.tt_lists.specs.Words.{range_below};
 ghost use Rattle.tt_instance.specs.Cells.{is_of, is_on, is_in, is_at, slot};
 ghost use Rattle.tt_instance.specs.Courses.{min_days};
+ghost use Rattle.tt_table.specs.declared.table.TheConstants.{MAX_ENTRIES};
 ghost use Rattle.tt_rules.specs.Hard.{entries_of, periods_of, lectures_off};
 ghost use Rattle.tt_rules.specs.Soft.{days_of, stability_cost};
 ghost use Rattle.tt_page.specs.Courses.{is_taught_in, rooms_text, room_text, course_marks, course_numbers, course_row, courses_head_text, courses_text};
@@ -21,7 +22,7 @@ use tt_text::put_token;
 pub fn entries_of(plan: &Plan<'_, '_>, course: u32) -> u64
     requires { course < length plan.now.problem.courses }
     ensures count { result ≡ entries_of plan.now.table course }
-    ensures few { result ≤ 16384 }
+    ensures few { result ≤ MAX_ENTRIES }
 {
     plan.of_course(course).len()
 }

@@ -4,6 +4,7 @@ ghost use Rattle.std.specs.Prelude.{◌≡◌, ◌≤◌, length, count_by};
 ghost use Rattle.std.specs.List.{list_any};
 ghost use Rattle.tt_instance.specs.Cells.{is_of, is_in, is_on, is_at, slot};
 ghost use Rattle.tt_instance.specs.Courses.{conflict, in_curriculum};
+ghost use Rattle.tt_table.specs.declared.table.TheConstants.{MAX_ENTRIES};
 
 use tt_instance::Instance;
 use tt_table::Group;
@@ -45,7 +46,7 @@ pub fn some_in(mut group: Group<'_>, room: u32) -> bool
 
 /// How many entries are in a room.
 pub fn count_in(group: Group<'_>, room: u32) -> usize
-    requires { length group ≤ 16384 }
+    requires { length group ≤ MAX_ENTRIES }
     ensures { result ≡ count_by (is_in room) group.entry }
 {
     group.filter(|entry| entry.room == room).count()
@@ -53,7 +54,7 @@ pub fn count_in(group: Group<'_>, room: u32) -> usize
 
 /// How many entries are of a course.
 pub fn count_of(group: Group<'_>, course: u32) -> usize
-    requires { length group ≤ 16384 }
+    requires { length group ≤ MAX_ENTRIES }
     ensures { result ≡ count_by (is_of course) group.entry }
 {
     group.filter(|entry| entry.course == course).count()

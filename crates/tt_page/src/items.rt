@@ -3,6 +3,7 @@
 ghost use Rattle.std.specs.Prelude.{◌≡◌, ◌+◌, ◌<◌, ◌≤◌, ◌++◌, length, filter, flat_map, drop, All, Some, slice_get, OnOk, IfOk};
 ghost use Rattle.tt_lists.specs.Words.{range_below};
 ghost use Rattle.tt_instance.specs.Cells.{InRange};
+ghost use Rattle.tt_table.specs.declared.table.TheConstants.{MAX_ENTRIES};
 ghost use Rattle.tt_page.specs.Items.{item_head, item_end, lectures_told, days_told, rooms_told, course_told, course_adds, course_item, when_text, unavailable_item, seats_item, is_odd, odds_count, more_text, pair_text, odds_item, pairs_item, entry_item, entry_items, isolated_item, curriculum_items, items_text, seats_told};
 
 use crate::courses::{days_of, entries_of, lectures_off, missing_days, other_rooms, periods_of};
@@ -321,7 +322,7 @@ fn put_odds(
 ) -> Result<(), AllocError>
     requires entry { InRange instance.now entry.now }
     requires odds { All (InRange instance.now) odds.now }
-    requires few { length odds.now ≤ 16384 }
+    requires few { length odds.now ≤ MAX_ENTRIES }
     ensures { OnOk result (out.new.items ≡ out.old.items ++ odds_item instance.now rule entry.now odds.now) }
 {
     let Some((first, more)) = odds.split_first() else {
@@ -352,7 +353,7 @@ fn put_pairs(
         plan.instance(),
         rule,
         entry,
-        plan.later(index),
+        plan.later(index as u32),
     )?;
     put_odds(out, plan.instance(), rule, entry, &odds)
 }

@@ -3,6 +3,7 @@
 ghost use Rattle.std.specs.Prelude.{◌≡◌, ◌+◌, ◌<◌, ◌≤◌, length, filter, drop, All, Some, slice_get, IfSome};
 ghost use Rattle.tt_instance.specs.Cells.{InRange, is_of, is_at, slot, slot_of};
 ghost use Rattle.tt_table.specs.Table.{IsTimetable};
+ghost use Rattle.tt_table.specs.declared.table.TheConstants.{MAX_ENTRIES};
 ghost use Rattle.tt_table.specs.declared.groups.GroupBy.TheVariants as by;
 ghost use Rattle.tt_page.specs.Planned.{Planned};
 
@@ -34,7 +35,7 @@ impl<'w, 'i> Model for Plan<'w, 'i> {
 /// The entries by the period of the week.
 fn by_period<'t>(instance: &Instance<'_>, entries: &'t [Entry]) -> Groups<'t>
     requires in_range { All (InRange instance.now) entries.now }
-    requires few { length entries.now ≤ 16384 }
+    requires few { length entries.now ≤ MAX_ENTRIES }
     ensures { result ≡ record { by = by.Period instance.now.periods; entries = entries.now } }
 {
     Groups::new(entries, GroupBy::Period(instance.periods()))
@@ -43,7 +44,7 @@ fn by_period<'t>(instance: &Instance<'_>, entries: &'t [Entry]) -> Groups<'t>
 /// The entries by course.
 fn by_course<'t>(instance: &Instance<'_>, entries: &'t [Entry]) -> Groups<'t>
     requires in_range { All (InRange instance.now) entries.now }
-    requires few { length entries.now ≤ 16384 }
+    requires few { length entries.now ≤ MAX_ENTRIES }
     ensures { result ≡ record { by = by.Course; entries = entries.now } }
 {
     let _courses = instance.courses();
@@ -78,7 +79,7 @@ impl<'w, 'i> Plan<'w, 'i> {
     pub fn entries(&self) -> &'w [Entry]
         ensures value { result.now ≡ self.now.table }
         ensures in_range { All (InRange self.now.problem) result.now }
-        ensures few { length result.now ≤ 16384 }
+        ensures few { length result.now ≤ MAX_ENTRIES }
     {
         self.entries
     }
@@ -89,7 +90,7 @@ impl<'w, 'i> Plan<'w, 'i> {
         requires period { period < self.now.problem.periods }
         ensures group { result ≡ filter (is_at (slot day period)) self.now.table }
         ensures in_range { All (InRange self.now.problem) result }
-        ensures few { length result ≤ 16384 }
+        ensures few { length result ≤ MAX_ENTRIES }
     {
         self.by_period.in_period(self.instance, day, period)
     }
@@ -99,19 +100,19 @@ impl<'w, 'i> Plan<'w, 'i> {
         requires { course < length self.now.problem.courses }
         ensures group { result ≡ filter (is_of course) self.now.table }
         ensures in_range { All (InRange self.now.problem) result }
-        ensures few { length result ≤ 16384 }
+        ensures few { length result ≤ MAX_ENTRIES }
     {
         let _courses = self.instance.courses();
         self.by_course.of_course(course)
     }
 
     /// The later entries of an entry's period.
-    pub fn later(&self, index: usize) -> Group<'_>
+    pub fn later(&self, index: u32) -> Group<'_>
         requires { index < length self.now.table }
         ensures group { IfSome (slice_get self.now.table index)
             (λ e. result ≡ filter (is_at (slot_of e)) (drop (index + 1) self.now.table)) }
         ensures in_range { All (InRange self.now.problem) result }
-        ensures few { length result ≤ 16384 }
+        ensures few { length result ≤ MAX_ENTRIES }
     {
         self.by_period.after(index)
     }

@@ -30,8 +30,8 @@ fn step(plain: &mut PlainPath<'_, '_>, trail: &mut TrailPath<'_, '_>, fact: Opti
 }
 
 /// The fact that is to come, or none where one is to go: about as many go as come, once there are some.
-fn next_fact(dice: &mut Dice, depth: usize, ranges: Ranges) -> Option<Fact> {
-    let goes = dice.below(16) as usize;
+fn next_fact(dice: &mut Dice, depth: u32, ranges: Ranges) -> Option<Fact> {
+    let goes = dice.below(16);
     if goes < depth {
         None
     } else {

@@ -162,7 +162,7 @@ fn filled<'i, P: Path<'i>>(path: &mut P, fact: Fact) -> bool {
 }
 
 /// What a full path says to one fact more, and how many facts it has then.
-fn more<'i, P: Path<'i>>(path: &mut P, fact: Fact) -> (Result<(), PathFault>, usize) {
+fn more<'i, P: Path<'i>>(path: &mut P, fact: Fact) -> (Result<(), PathFault>, u32) {
     (path.push(fact), path.depth())
 }
 

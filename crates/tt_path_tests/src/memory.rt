@@ -40,10 +40,10 @@ fn the_call_push_of_trail_paths(rt: HostRuntime) -> Result<(), Fail> {
     println!(rt; "{MARK}")?;
     // A plain path with as many of the same facts answers the same.
     let mut plain = PlainPath::new(rt.alloc(), &instance);
-    push_drawn(&mut plain, ranges, path.depth() as u32)?;
+    push_drawn(&mut plain, ranges, path.depth())?;
     assert_eq!(rt; path.depth(), plain.depth());
     assert_eq!(rt; all_told(&path, ranges, 5), all_told(&plain, ranges, 5));
     pushed?;
-    assert_eq!(rt; path.depth(), FACTS as usize);
+    assert_eq!(rt; path.depth(), FACTS);
     Ok(())
 }

@@ -5,6 +5,7 @@ ghost use Rattle.tt_bits.specs.Bits.{has_bit};
 ghost use Rattle.tt_instance.specs.Cells.{slot};
 ghost use Rattle.tt_facts.specs.Facts.{IsWho, has_fact};
 ghost use Rattle.tt_facts.specs.Live.{pinned, pinned_room};
+ghost use Rattle.tt_facts.specs.declared.path.TheConstants.{MAX_FACTS};
 
 use crate::adding::add;
 use crate::listing::{is_other, list_fact, unlist_fact};
@@ -33,6 +34,7 @@ impl<'p, 'i> Model for Pins<'p, 'i> {
     ghost use Rattle.std.specs.Prelude.{◌≡◌, ◌≤◌, length};
     ghost use Rattle.tt_links.specs.Linked.{AreLinks};
     ghost use Rattle.tt_facts.specs.Paths.{Facts};
+    ghost use Rattle.tt_facts.specs.declared.path.TheConstants.{MAX_FACTS};
     ghost use Rattle.tt_pins.specs.Tables.{ShowsPins};
     ghost use Rattle.tt_pins.specs.Standing.{ShowsStanding, others_of};
     ghost use Rattle.tt_pins.specs.Kept.{AreEarlier};
@@ -42,7 +44,7 @@ impl<'p, 'i> Model for Pins<'p, 'i> {
     ghost view = { λ s. record { problem = s.instance.now; facts = s.facts.items } };
 
     ghost invariant = { λ s. record {
-      depth : length s.facts.items ≤ 65536;
+      depth : length s.facts.items ≤ MAX_FACTS;
       others : s.others.items ≡ others_of s.instance.now s.facts.items;
       links : AreLinks s.instance.now s.links;
       shown : ShowsPins s.instance.now s.facts.items s.pinned.words;
@@ -81,25 +83,25 @@ impl<'p, 'i> Pins<'p, 'i> {
     }
 
     /// How many facts there are.
-    pub fn depth(&self) -> usize
+    pub fn depth(&self) -> u32
         ensures value { result ≡ length self.now.facts }
-        ensures within { result ≤ 65536 }
+        ensures within { result ≤ MAX_FACTS }
     {
-        self.facts.len()
+        self.facts.len() as u32
     }
 
     /// The fact at a place, counted from the oldest.
-    pub fn fact(&self, index: usize) -> Fact
+    pub fn fact(&self, index: u32) -> Fact
         requires { index < length self.now.facts }
         ensures { slice_get self.now.facts index ≡ Some result }
     {
-        self.facts[index]
+        self.facts[index as usize]
     }
 
     /// Adds a fact after the others; its numbers may be any. Kept apart, as the call that lists the fact is.
     #[inline(never)]
     pub fn push(&mut self, fact: Fact) -> Result<(), AllocError>
-        requires { length self.old.facts < 65536 }
+        requires { length self.old.facts < MAX_FACTS }
         ensures ok { OnOk result (self.new.facts ≡ self.old.facts ++ fact ∷ []) }
         ensures err { OnErr result (self.new.facts ≡ self.old.facts) }
         ensures same { self.new.problem ≡ self.old.problem }

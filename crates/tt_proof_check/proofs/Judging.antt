@@ -9,13 +9,12 @@ use Rattle.tt_facts.specs.declared.facts.Fact.{Fact}
 use Rattle.tt_leaf.specs.declared.leaf.Bound.{Bound}
 use Rattle.tt_leaf.specs.declared.leaf.RuleFault.{RuleFault}
 use Rattle.tt_leaf.proofs.Rightness.{faultless}
-use Rattle.tt_proof_text.specs.Trees.{Tree, Close, Branch, with_fact, preorder, OnPath, on_paths}
+use Rattle.tt_proof_text.specs.Trees.{Tree, Close, Branch, with_fact, preorder, OnPath, on_paths, IsPreorder}
 use Rattle.tt_proof_text.specs.declared.node.Node.{Node}
 use Rattle.tt_proof_check.specs.declared.fault.NodesFault.{NodesFault}
 use Rattle.tt_proof_check.specs.declared.fault.NodesFault.TheVariants as told
 use Rattle.tt_proof_check.specs.declared.walk.Stop.TheVariants.{Rule, TooDeep}
 use Rattle.tt_proof_check.specs.Derives.{Derives, IsShallow, Proves, HoldsOfAll}
-use Rattle.tt_proof_check.specs.Nodes.{IsATree}
 use Rattle.tt_proof_check.specs.Steps.{Steps, Stops}
 use Rattle.tt_proof_check.specs.Tells.{IsRightOn, Passes, FailsAt, IsDeepAt, Tells}
 use Rattle.tt_proof_check.proofs.Counting.{take_next, split_at}
@@ -27,7 +26,7 @@ use Rattle.tt_proof_check.proofs.Walking.{Walked, walked_due, walked_next, walke
 abbrev pub Midway : Problem → Bound → List Node → ℕ → List Fact → Type 0
 Midway p b nodes i path = (due : Bool) × Walked p b (take i nodes) path due
 
-module _ (p : Problem) (b : Bound) (nodes : List Node) (tree : IsATree nodes) (i : ℕ) (n : Node) (inside : i < length nodes) (is : n ≡ get_or nodes i n) (path : List Fact) (m : Midway p b nodes i path) where
+module _ (p : Problem) (b : Bound) (nodes : List Node) (tree : IsPreorder nodes) (i : ℕ) (n : Node) (inside : i < length nodes) (is : n ≡ get_or nodes i n) (path : List Fact) (m : Midway p b nodes i path) where
   split : preorder tree.0 ≡ take i nodes ++ n ∷ drop (i + 1) nodes
   split = tree.1 ∙ split_at nodes i n inside is
 
@@ -54,7 +53,7 @@ module _ (p : Problem) (b : Bound) (nodes : List Node) (tree : IsATree nodes) (i
       let len : length (take i nodes ++ n ∷ []) ≡ i + 1 = ap length (sym here) ∙ length-take-le (i + 1) nodes (omega arith) in
       (tree.0, tree.1, subst (IsDeepAt p b tree.0) len (deep_tree p b (take i nodes ++ n ∷ []) (drop (i + 1) nodes) tree.0 rest (too_deep p b (take i nodes) path n due s)))
 
-pub midway_end : (p : Problem) (b : Bound) (nodes : List Node) → IsATree nodes → (i : ℕ) → length nodes ≤ i → (path : List Fact) → Midway p b nodes i path → Proves p b nodes
+pub midway_end : (p : Problem) (b : Bound) (nodes : List Node) → IsPreorder nodes → (i : ℕ) → length nodes ≤ i → (path : List Fact) → Midway p b nodes i path → Proves p b nodes
 midway_end p b nodes tree i past path m =
     walked_tree p b nodes path tree.0 tree.1 m.0 (subst (λ (l : List Node). Walked p b l path m.0) (take_all i nodes past) m.1)
 

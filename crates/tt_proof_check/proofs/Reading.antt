@@ -3,10 +3,9 @@ use Rattle.std.proofs.Common.{◌≡◌, ℕ, zero, suc, ◌≤◌, ◌<◌, tru
 use Rattle.std.specs.Prelude.{slice_get}
 use Rattle.tt_facts.specs.declared.facts.Fact.{Fact}
 use Rattle.tt_leaf.specs.declared.leaf.Leaf.TheVariants.{Many}
-use Rattle.tt_proof_text.specs.Trees.{Tree, Close, Branch, with_fact, preorder, OnPath, on_paths}
+use Rattle.tt_proof_text.specs.Trees.{Tree, Close, Branch, with_fact, preorder, OnPath, on_paths, IsPreorder}
 use Rattle.tt_proof_text.specs.declared.node.Node.{Node}
 use Rattle.tt_proof_text.specs.declared.node.Node.TheVariants.{Split, Leaf}
-use Rattle.tt_proof_check.specs.Nodes.{IsATree}
 
 abbrev pub Stack : Type 0
 Stack = List (List Fact)
@@ -121,7 +120,7 @@ nothing_behind [] e = refl
 nothing_behind (n ∷ ns) e = cc
 
 -- nodes that leave no place are a tree
-pub stack_whole : (nodes : List Node) → stack_after root nodes ≡ Some [] → IsATree nodes
+pub stack_whole : (nodes : List Node) → stack_after root nodes ≡ Some [] → IsPreorder nodes
 stack_whole nodes e =
     let h = first_tree (length nodes) nodes [] [] (omega arith) e in
     (h.tree, sym (append-nil (preorder h.tree)) ∙ ap (λ l. preorder h.tree ++ l) (sym (nothing_behind h.behind h.others)) ∙ h.split)

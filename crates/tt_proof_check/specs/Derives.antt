@@ -10,6 +10,7 @@ use Rattle.tt_leaf.specs.Leaves.{IsRight}
 use Rattle.tt_leaf.specs.declared.leaf.Bound.{Bound}
 use Rattle.tt_proof_text.specs.Trees.{Tree, AllLeaves, preorder, on_paths}
 use Rattle.tt_proof_text.specs.declared.node.Node.{Node}
+use Rattle.tt_facts.specs.declared.path.TheConstants.{MAX_FACTS}
 
 -- each leaf is right on its path
 abbrev pub Derives : Problem → Bound → List Fact → Tree → Type 0
@@ -25,7 +26,7 @@ HoldsOfAll p b = (t : List Cell) → IsFeasible p t → Respects b (cost p t)
 
 -- no node stands below more than 65,536 splits
 abbrev pub IsShallow : Tree → Type 0
-IsShallow tree = All (λ x. length x.path ≤ 65536) (on_paths [] tree)
+IsShallow tree = All (λ x. length x.path ≤ MAX_FACTS) (on_paths [] tree)
 
 -- the nodes are a tree's that is not too deep, and it derives the bound
 abbrev pub Proves : Problem → Bound → List Node → Type 0

@@ -14,6 +14,7 @@ use Rattle.tt_proof_text.specs.declared.node.Node.TheVariants.{Split, Leaf}
 use Rattle.tt_proof_check.specs.declared.walk.Stop.{Stop}
 use Rattle.tt_proof_check.specs.declared.walk.Stop.TheVariants.{Rule, TooDeep, OutOfMemory}
 use Rattle.tt_proof_check.specs.Pending.{GoesOn}
+use Rattle.tt_facts.specs.declared.path.TheConstants.{MAX_FACTS}
 
 -- a split goes down to its first child, and a right leaf on to the next place
 abbrev pub Steps : Problem → Bound → List Fact → Node → List Fact → Type 0
@@ -24,7 +25,7 @@ Steps p b facts (Leaf leaf) next = IsRight p facts b leaf × GoesOn facts next
 abbrev pub Stops : Problem → Bound → List Fact → Node → Stop → Type 0
 Stops p b facts (Split g) (Rule f) = ⊥
 Stops p b facts (Leaf leaf) (Rule f) = fault_of p facts b leaf ≡ Some f
-Stops p b facts (Split g) TooDeep = length facts ≡ 65536
+Stops p b facts (Split g) TooDeep = length facts ≡ MAX_FACTS
 Stops p b facts (Leaf leaf) TooDeep = ⊥
 Stops p b facts node OutOfMemory = ⊤
 

@@ -7,12 +7,12 @@ use Rattle.tt_leaf.specs.Leaves.{IsRight}
 use Rattle.tt_leaf.specs.declared.leaf.Bound.{Bound}
 use Rattle.tt_leaf.specs.declared.leaf.Leaf.{Leaf}
 use Rattle.tt_leaf.specs.declared.leaf.RuleFault.{RuleFault}
-use Rattle.tt_proof_text.specs.Trees.{Tree, preorder, OnPath, on_paths}
+use Rattle.tt_proof_text.specs.Trees.{Tree, preorder, OnPath, on_paths, IsPreorder}
 use Rattle.tt_proof_text.specs.declared.node.Node.{Node}
 use Rattle.tt_proof_text.specs.declared.node.Node.TheVariants as node
 use Rattle.tt_proof_check.specs.declared.fault.NodesFault.{NodesFault}
 use Rattle.tt_proof_check.specs.declared.fault.NodesFault.TheVariants.{NotATree, Rule, TooDeep, OutOfMemory}
-use Rattle.tt_proof_check.specs.Nodes.{IsATree}
+use Rattle.tt_facts.specs.declared.path.TheConstants.{MAX_FACTS}
 
 -- a leaf is right on its path
 abbrev pub IsRightOn : Problem → Bound → List Fact → Node → Type 0
@@ -21,14 +21,14 @@ IsRightOn p b path (node.Leaf leaf) = IsRight p path b leaf
 
 -- at most 65,536 splits are above the node, and a leaf is right
 abbrev pub Passes : Problem → Bound → OnPath → Type 0
-Passes p b x = (length x.path ≤ 65536) × IsRightOn p b x.path x.node
+Passes p b x = (length x.path ≤ MAX_FACTS) × IsRightOn p b x.path x.node
 
 -- the node at i is the first that does not pass: a leaf that is not too deep, and this is its first fault on its path
 pub record FailsAt (p : Problem) (b : Bound) (tree : Tree) (i : ℕ) (f : RuleFault) : Type 0 where
   pub path : List Fact
   pub leaf : Leaf
   pub found : slice_get (on_paths [] tree) i ≡ Some (record { path = path; node = node.Leaf leaf })
-  pub within : length path ≤ 65536
+  pub within : length path ≤ MAX_FACTS
   pub fault : fault_of p path b leaf ≡ Some f
   pub before : All (Passes p b) (take i (on_paths [] tree))
 
@@ -37,11 +37,11 @@ pub record IsDeepAt (p : Problem) (b : Bound) (tree : Tree) (i : ℕ) : Type 0 w
   pub path : List Fact
   pub node : Node
   pub found : slice_get (on_paths [] tree) i ≡ Some (record { path = path; node = node })
-  pub deep : 65536 < length path
+  pub deep : MAX_FACTS < length path
   pub before : All (Passes p b) (take i (on_paths [] tree))
 
 abbrev pub Tells : Problem → Bound → List Node → NodesFault → Type 0
-Tells p b nodes NotATree = ¬ (IsATree nodes)
+Tells p b nodes NotATree = ¬ (IsPreorder nodes)
 Tells p b nodes (Rule i f) = (tree : Tree) × (preorder tree ≡ nodes) × FailsAt p b tree i f
 Tells p b nodes (TooDeep i) = (tree : Tree) × (preorder tree ≡ nodes) × IsDeepAt p b tree i
 Tells p b nodes OutOfMemory = ⊤

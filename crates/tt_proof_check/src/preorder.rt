@@ -1,8 +1,9 @@
 //! Lists of nodes: whether they are a tree, and what it derives.
 
-ghost use Rattle.std.specs.Prelude.{◌≡◌, [], IsOkUnless, IfErr, OnOk, IsTrue, ◌↔◌, All};
+ghost use Rattle.std.specs.Prelude.{◌≡◌, [], IsOkUnless, IfErr, OnOk, All};
 ghost use Rattle.tt_proof_check.specs.Derives.{Proves, HoldsOfAll};
-ghost use Rattle.tt_proof_check.specs.Nodes.{IsATree, IsNodeOf};
+ghost use Rattle.tt_proof_text.specs.Trees.{IsPreorder};
+ghost use Rattle.tt_proof_check.specs.Nodes.{IsNodeOf};
 ghost use Rattle.tt_proof_check.specs.Tells.{Tells};
 
 use crate::fault::NodesFault;
@@ -11,30 +12,13 @@ use std::alloc::Global;
 use tt_facts::Path;
 use tt_instance::Instance;
 use tt_leaf::Bound;
-use tt_proof_text::Node;
+use tt_proof_text::{Node, is_tree};
 use tt_trail_path::TrailPath;
-
-/// Whether the nodes are one tree in preorder.
-fn is_tree(nodes: &[Node]) -> bool
-    ensures { IsTrue result ↔ IsATree nodes.now }
-{
-    let mut places: usize = 1;
-    for node in nodes {
-        if places == 0 {
-            return false;
-        }
-        match node {
-            Node::Split(_) => places += 1,
-            Node::Leaf(_) => places -= 1,
-        }
-    }
-    places == 0
-}
 
 /// Judges the nodes of a tree, each on its path.
 fn judge_tree<'i, P: Path<'i>>(path: &mut P, bound: Bound, nodes: &[Node]) -> Result<(), NodesFault>
     requires root { P.facts path.old ≡ [] }
-    requires tree { IsATree nodes.now }
+    requires tree { IsPreorder nodes.now }
     requires nodes { All (IsNodeOf (P.problem path.old)) nodes.now }
     ensures derived { OnOk result (Proves (P.problem path.old) bound nodes.now) }
     ensures fault { IfErr result (λ e. Tells (P.problem path.old) bound nodes.now e) }
@@ -64,7 +48,7 @@ pub fn check_nodes(
     ensures holds { OnOk result (HoldsOfAll instance.now bound) }
 
     // That they are no tree is told before anything else.
-    ensures only_trees { ¬ (IsATree nodes.now) → result ≡ Err NodesFault.NotATree }
+    ensures only_trees { ¬ (IsPreorder nodes.now) → result ≡ Err NodesFault.NotATree }
     ensures fault { IfErr result (λ e. Tells instance.now bound nodes.now e) }
 {
     if !is_tree(nodes) {

@@ -1,6 +1,7 @@
 //! Proofs that are judged as they are read.
 
 ghost use Rattle.std.specs.Prelude.{◌≡◌, ◌<◌, ◌≤◌, ℕ, List, [], length, true, is_some, Some, None, Err, OnOk, IfOk, IfErr, MatchResult};
+ghost use Rattle.tt_facts.specs.declared.path.TheConstants.{MAX_FACTS};
 ghost use Rattle.tt_leaf.specs.declared.leaf.Bound.{Bound};
 ghost use Rattle.tt_text.specs.Feeds.{stream_at, fresh};
 ghost use Rattle.tt_proof_text.specs.Answers.{StaysKnown};
@@ -31,9 +32,9 @@ use tt_trail_path::TrailPath;
 #[inline(always)]
 fn take<'i, P: Path<'i>>(path: &mut P, bound: Bound, node: Node) -> Result<(), Stop>
     requires node { IsNodeOf (P.problem path.old) node }
-    requires within { length (P.facts path.old) ≤ 65536 }
+    requires within { length (P.facts path.old) ≤ MAX_FACTS }
     ensures steps { OnOk result (Steps (P.problem path.old) bound (P.facts path.old) node (P.facts path.new)) }
-    ensures within { OnOk result (length (P.facts path.new) ≤ 65536) }
+    ensures within { OnOk result (length (P.facts path.new) ≤ MAX_FACTS) }
     ensures stops { IfErr result (λ stop. Stops (P.problem path.old) bound (P.facts path.old) node stop) }
     ensures same { P.problem path.new ≡ P.problem path.old }
 {

@@ -1,6 +1,7 @@
 //! Nodes in preorder, one after another. One path is the whole stack: a yes-fact on it has its second child still to come.
 
 ghost use Rattle.std.specs.Prelude.{◌≡◌, ◌≤◌, length, OnOk, IfErr, IsOkUnless};
+ghost use Rattle.tt_facts.specs.declared.path.TheConstants.{MAX_FACTS};
 ghost use Rattle.tt_proof_check.specs.Nodes.{IsNodeOf};
 ghost use Rattle.tt_proof_check.specs.Pending.{GoesOn};
 ghost use Rattle.tt_proof_check.specs.Steps.{Steps, Stops};
@@ -46,9 +47,9 @@ impl From<PathFault> for Stop {
 
 /// Goes on to the second child of the newest split that has one still to come.
 fn go_on<'i, P: Path<'i>>(path: &mut P) -> Result<(), PathFault>
-    requires { length (P.facts path.old) ≤ 65536 }
+    requires { length (P.facts path.old) ≤ MAX_FACTS }
     ensures next { OnOk result (GoesOn (P.facts path.old) (P.facts path.new)) }
-    ensures within { length (P.facts path.new) ≤ 65536 }
+    ensures within { length (P.facts path.new) ≤ MAX_FACTS }
     ensures memory { IsOkUnless result PathFault.OutOfMemory }
     ensures same { P.problem path.new ≡ P.problem path.old }
 {
@@ -67,9 +68,9 @@ fn go_on<'i, P: Path<'i>>(path: &mut P) -> Result<(), PathFault>
 /// Takes the node that is due, and goes on to the next place.
 pub fn take_node<'i, P: Path<'i>>(path: &mut P, bound: Bound, node: &Node) -> Result<(), Stop>
     requires node { IsNodeOf (P.problem path.old) node.now }
-    requires within { length (P.facts path.old) ≤ 65536 }
+    requires within { length (P.facts path.old) ≤ MAX_FACTS }
     ensures steps { OnOk result (Steps (P.problem path.old) bound (P.facts path.old) node.now (P.facts path.new)) }
-    ensures within { OnOk result (length (P.facts path.new) ≤ 65536) }
+    ensures within { OnOk result (length (P.facts path.new) ≤ MAX_FACTS) }
     ensures stops { IfErr result (λ stop. Stops (P.problem path.old) bound (P.facts path.old) node.now stop) }
     ensures same { P.problem path.new ≡ P.problem path.old }
 {

@@ -1,5 +1,5 @@
 -- Trees of splits and leaves, and the nodes of a tree with their paths.
-use Rattle.std.specs.Prelude.{Bool, true, false, List, [], ◌∷◌, ◌++◌}
+use Rattle.std.specs.Prelude.{◌≡◌, Bool, true, false, List, [], ◌∷◌, ◌++◌}
 use Rattle.tt_facts.specs.declared.facts.Pattern.{Pattern}
 use Rattle.tt_facts.specs.declared.facts.Fact.{Fact}
 use Rattle.tt_leaf.specs.declared.leaf.Leaf.{Leaf}
@@ -25,6 +25,10 @@ AllLeaves P path (Branch g first second) =
 abbrev pub preorder : Tree → List Node
 preorder (Close leaf) = node.Leaf leaf ∷ []
 preorder (Branch g first second) = node.Split g ∷ (preorder first ++ preorder second)
+
+-- the nodes are those of one tree, in preorder
+abbrev pub IsPreorder : List Node → Type 0
+IsPreorder nodes = (tree : Tree) × (preorder tree ≡ nodes)
 
 -- a node, and the facts of the splits above it
 pub record OnPath : Type 0 where

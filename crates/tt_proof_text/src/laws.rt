@@ -7,7 +7,7 @@ ghost use Rattle.tt_leaf.specs.declared.leaf.Bound.{Bound};
 ghost use Rattle.tt_proof_text.specs.Reads.{Reads, open_after, stream_of_bytes};
 ghost use Rattle.tt_proof_text.specs.Sizes.{AreSizes};
 ghost use Rattle.tt_proof_text.specs.Spelling.{SpellsProof};
-ghost use Rattle.tt_proof_text.specs.Trees.{Tree, preorder, on_paths};
+ghost use Rattle.tt_proof_text.specs.Trees.{Tree, IsPreorder, on_paths};
 ghost use Rattle.tt_proof_text.specs.declared.node.Node.{Node};
 ghost use Rattle.tt_proof_text.specs.declared.sizes.Sizes.{Sizes};
 ghost use Rattle.tt_facts.specs.declared.path.TheConstants.{MAX_FACTS};
@@ -22,5 +22,5 @@ pub fn read_proofs_are_spelled()
 
 /// Nodes leave no place of a tree open exactly where they are one tree's, in preorder. `NodeReader` counts these places, and `whole` says that none is open.
 pub fn filled_trees_are_whole()
-    ensures { (nodes : List Node) → (open_after 1 nodes ≡ Some 0) ↔ ((tree : Tree) × (preorder tree ≡ nodes)) }
+    ensures { (nodes : List Node) → (open_after 1 nodes ≡ Some 0) ↔ IsPreorder nodes }
 {}

@@ -16,6 +16,7 @@ mod reader;
 mod seen;
 mod sizes;
 mod tables;
+mod tree;
 
 pub use fault::{TextFault, Word};
 pub use format::{
@@ -26,3 +27,4 @@ pub use laws::{filled_trees_are_whole, read_proofs_are_spelled};
 pub use node::Node;
 pub use reader::NodeReader;
 pub use sizes::Sizes;
+pub use tree::is_tree;

@@ -11,8 +11,8 @@ use Rattle.tt_facts.specs.declared.path.TheConstants.{MAX_FACTS}
 use Rattle.tt_leaf.specs.declared.leaf.Leaf.{Leaf as Closed}
 use Rattle.tt_proof_text.specs.declared.node.Node.{Node}
 use Rattle.tt_proof_text.specs.declared.node.Node.TheVariants.{Split, Leaf}
-use Rattle.tt_proof_text.specs.Trees.{Tree, Close, Branch, OnPath, preorder, on_paths, with_fact}
-use Rattle.tt_proof_write.specs.Within.{IsPreorder, IsShallow}
+use Rattle.tt_proof_text.specs.Trees.{Tree, Close, Branch, OnPath, preorder, on_paths, with_fact, IsPreorder}
+use Rattle.tt_proof_write.specs.Within.{IsShallow}
 
 -- the depth after a leaf
 abbrev pub next_depth : List ℕ → ℕ

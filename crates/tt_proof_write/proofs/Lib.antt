@@ -5,4 +5,3 @@ pub mod Examples
 pub mod FitLaws
 pub mod TextLaws
 pub mod TokenLaws
-pub mod TreeLaws

@@ -7,15 +7,11 @@ use Rattle.tt_proof_text.specs.declared.format.TheConstants.{MAX_NODES, MAX_PROO
 use Rattle.tt_proof_text.specs.declared.node.Node.{Node}
 use Rattle.tt_proof_text.specs.declared.node.Node.TheVariants as node
 use Rattle.tt_proof_text.specs.Spelling.{IsShortClaim, IsLeafIn, IsBound}
-use Rattle.tt_proof_text.specs.Trees.{Tree, preorder, on_paths}
+use Rattle.tt_proof_text.specs.Trees.{Tree, preorder, IsPreorder, on_paths}
 use Rattle.tt_proof_write.specs.declared.fault.WriteFault.{WriteFault}
 use Rattle.tt_proof_write.specs.declared.fault.WriteFault.TheVariants.{NotATree, OverLimit, NotInVersion, OutOfMemory}
 use Rattle.tt_proof_write.specs.Written.{proof_text}
 use Rattle.tt_facts.specs.declared.path.TheConstants.{MAX_FACTS}
-
--- the nodes are those of one tree, in preorder
-abbrev pub IsPreorder : List Node → Type 0
-IsPreorder nodes = (tree : Tree) × (preorder tree ≡ nodes)
 
 abbrev pub HasShortClaims : Leaf → Type 0
 HasShortClaims (Cost claims) = All IsShortClaim claims

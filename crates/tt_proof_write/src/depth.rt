@@ -1,16 +1,15 @@
 //! How deep the nodes of a tree stand.
 
 ghost use Rattle.std.specs.Prelude.{◌↔◌, IsTrue};
-ghost use Rattle.tt_proof_write.specs.Within.{IsPreorder, IsShallow};
+ghost use Rattle.tt_proof_text.specs.Trees.{IsPreorder};
+ghost use Rattle.tt_proof_write.specs.Within.{IsShallow};
 
 use arrayvec::ArrayVec;
 use tt_facts::MAX_FACTS;
 use tt_proof_text::Node;
 
-const MAX_DEPTH: u32 = MAX_FACTS as u32;
-
 /// As many second children as can be to come at once.
-const MAX_PENDING: usize = MAX_DEPTH as usize;
+const MAX_PENDING: usize = MAX_FACTS as usize;
 
 /// Whether no node of a tree stands below more splits than a file may have.
 pub fn is_shallow(nodes: &[Node]) -> bool
@@ -24,7 +23,7 @@ pub fn is_shallow(nodes: &[Node]) -> bool
         match node {
             Node::Split(_) => {
                 // Its children would stand too deep.
-                if depth == MAX_DEPTH {
+                if depth == MAX_FACTS {
                     return false;
                 }
                 depth += 1;

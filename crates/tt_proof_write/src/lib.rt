@@ -8,7 +8,6 @@ mod fault;
 mod fields;
 mod limits;
 mod nodes;
-mod tree;
 mod writing;
 
 pub use fault::WriteFault;

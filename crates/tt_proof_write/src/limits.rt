@@ -2,7 +2,8 @@
 
 ghost use Rattle.std.specs.Prelude.{◌↔◌, ◌≤◌, IsTrue, All};
 ghost use Rattle.tt_proof_text.specs.Spelling.{IsShortClaim, IsClaimIn, IsBound};
-ghost use Rattle.tt_proof_write.specs.Within.{IsPreorder, HasShortPrices, IsNodeIn, AreWithin};
+ghost use Rattle.tt_proof_text.specs.Trees.{IsPreorder};
+ghost use Rattle.tt_proof_write.specs.Within.{HasShortPrices, IsNodeIn, AreWithin};
 
 use crate::depth::is_shallow;
 use tt_leaf::{Bound, Claim, Leaf};

@@ -14,10 +14,9 @@ use crate::fault::WriteFault;
 use crate::fields::version_text;
 use crate::limits::{are_nodes_in, are_within};
 use crate::nodes::put_nodes;
-use crate::tree::is_tree;
 use std::alloc::{AllocError, Global};
 use tt_leaf::Bound;
-use tt_proof_text::{MAX_PROOF_BYTES, Node, Word};
+use tt_proof_text::{MAX_PROOF_BYTES, Node, Word, is_tree};
 use tt_text::{put_line_end, put_next_number, put_next_token, put_token};
 
 fn put_header(out: &mut Vec<u8>, version: u8, bound: Bound) -> Result<(), AllocError>

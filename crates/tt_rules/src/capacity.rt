@@ -3,6 +3,7 @@
 ghost use Rattle.std.specs.Prelude.{◌≡◌, ◌≤◌, ◌^◌, length, All};
 ghost use Rattle.tt_instance.specs.Cells.{InRange};
 ghost use Rattle.tt_instance.specs.Courses.{excess};
+ghost use Rattle.tt_table.specs.declared.table.TheConstants.{MAX_ENTRIES};
 ghost use Rattle.tt_rules.specs.Soft.{capacity_count};
 
 use tt_instance::Instance;
@@ -22,7 +23,7 @@ fn without_seat(instance: &Instance<'_>, entry: &Entry) -> u64
 #[tactic(auto, using(std::proofs::lemmas::List::Sums::sum_by_more))]
 pub fn cost(instance: &Instance<'_>, entries: &[Entry]) -> u64
     requires in_range { All (InRange instance.now) entries.now }
-    requires few { length entries.now ≤ 16384 }
+    requires few { length entries.now ≤ MAX_ENTRIES }
     ensures cost { result ≡ capacity_count instance.now entries.now }
     ensures within { result ≤ 2 ^ 40 }
 {

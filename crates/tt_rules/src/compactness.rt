@@ -7,6 +7,7 @@ ghost use Rattle.tt_instance.specs.Courses.{in_curriculum};
 ghost use Rattle.tt_rules.specs.Soft.{is_isolated, compactness_count};
 ghost use Rattle.tt_rules.specs.Places.{place_of, is_alone};
 ghost use Rattle.tt_table.specs.declared.groups.GroupBy.TheVariants as by;
+ghost use Rattle.tt_table.specs.declared.table.TheConstants.{MAX_ENTRIES};
 
 use crate::marks::Marks;
 use tt_instance::Instance;
@@ -51,7 +52,7 @@ fn taught(instance: &Instance<'_>, by_course: &Groups<'_>, courses: &[u32]) -> M
 
 /// The entries of a group with no mark right before their place or right after it.
 fn alone(instance: &Instance<'_>, group: Group<'_>, taught: &Marks) -> u64
-    requires few { length group ≤ 16384 }
+    requires few { length group ≤ MAX_ENTRIES }
     ensures count { result ≡ count_by (is_alone instance.now taught.now) group.entry }
     ensures few { result ≤ length group.entry }
 {
@@ -68,7 +69,7 @@ fn alone_of(instance: &Instance<'_>, by_course: &Groups<'_>, courses: &[u32], ta
     requires by { by_course.now.by ≡ by.Course }
     requires courses { All (λ c. c < 2048) courses.now }
     requires listed { length courses.now ≤ 4096 }
-    requires few { length by_course.now.entries ≤ 16384 }
+    requires few { length by_course.now.entries ≤ MAX_ENTRIES }
     ensures count { result
         ≡ sum_by (λ c. count_by (λ e. is_of c e && is_alone instance.now taught.now e) by_course.now.entries) courses.now }
 {
@@ -84,7 +85,7 @@ fn isolated(instance: &Instance<'_>, by_course: &Groups<'_>, curriculum: u32) ->
     requires by { by_course.now.by ≡ by.Course }
     requires curriculum { curriculum < length instance.now.curricula }
     requires in_range { All (InRange instance.now) by_course.now.entries }
-    requires few { length by_course.now.entries ≤ 16384 }
+    requires few { length by_course.now.entries ≤ MAX_ENTRIES }
     ensures count { result ≡ count_by (λ e. in_curriculum instance.now curriculum e.course
         && is_isolated instance.now by_course.now.entries curriculum e) by_course.now.entries }
     ensures few { result ≤ length by_course.now.entries }
@@ -101,7 +102,7 @@ fn isolated(instance: &Instance<'_>, by_course: &Groups<'_>, curriculum: u32) ->
 pub fn cost(instance: &Instance<'_>, by_course: &Groups<'_>) -> u64
     requires by { by_course.now.by ≡ by.Course }
     requires in_range { All (InRange instance.now) by_course.now.entries }
-    requires few { length by_course.now.entries ≤ 16384 }
+    requires few { length by_course.now.entries ≤ MAX_ENTRIES }
     ensures cost { result ≡ compactness_count instance.now by_course.now.entries }
     ensures within { result ≤ 2 ^ 40 }
 {

@@ -5,13 +5,14 @@ ghost use Rattle.tt_instance.specs.Cells.{InRange};
 ghost use Rattle.tt_instance.specs.Courses.{conflict};
 ghost use Rattle.tt_rules.specs.Hard.{collide, conflicts_count};
 ghost use Rattle.tt_table.specs.declared.groups.GroupBy.TheVariants as by;
+ghost use Rattle.tt_table.specs.declared.table.TheConstants.{MAX_ENTRIES};
 
 use tt_instance::Instance;
 use tt_table::{Entry, Group, Groups};
 
 /// The entries of a group whose courses exclude an entry's.
 fn excluded(instance: &Instance<'_>, entry: &Entry, group: Group<'_>) -> u64
-    requires few { length group ≤ 16384 }
+    requires few { length group ≤ MAX_ENTRIES }
     ensures count { result
         ≡ count_by (λ other. conflict instance.now entry.now.course other.course) group.entry }
     ensures few { result ≤ length group.entry }
@@ -22,10 +23,10 @@ fn excluded(instance: &Instance<'_>, entry: &Entry, group: Group<'_>) -> u64
 }
 
 /// The later entries that collide with one.
-fn against(instance: &Instance<'_>, by_period: &Groups<'_>, entry: &Entry, index: usize) -> u64
+fn against(instance: &Instance<'_>, by_period: &Groups<'_>, entry: &Entry, index: u32) -> u64
     requires by { by_period.now.by ≡ by.Period instance.now.periods }
     requires in_range { All (InRange instance.now) by_period.now.entries }
-    requires few { length by_period.now.entries ≤ 16384 }
+    requires few { length by_period.now.entries ≤ MAX_ENTRIES }
     requires there { slice_get by_period.now.entries index ≡ Some entry.now }
     ensures count { result ≡ count_by (collide instance.now entry.now) (drop (index + 1) by_period.now.entries) }
     ensures few { result ≤ length by_period.now.entries }
@@ -38,13 +39,13 @@ pub fn count(instance: &Instance<'_>, entries: &[Entry], by_period: &Groups<'_>)
     requires by { by_period.now.by ≡ by.Period instance.now.periods }
     requires same { by_period.now.entries ≡ entries.now }
     requires in_range { All (InRange instance.now) entries.now }
-    requires few { length entries.now ≤ 16384 }
+    requires few { length entries.now ≤ MAX_ENTRIES }
     ensures count { result ≡ conflicts_count instance.now entries.now }
     ensures within { result ≤ 2 ^ 40 }
 {
     let mut total: u64 = 0;
     for (index, entry) in entries.iter().enumerate() {
-        total += against(instance, by_period, entry, index);
+        total += against(instance, by_period, entry, index as u32);
     }
     total
 }

@@ -4,6 +4,7 @@ ghost use Rattle.std.specs.Prelude.{◌≡◌, ◌<◌, ◌≤◌, ◌^◌, leng
 ghost use Rattle.tt_instance.specs.Cells.{InRange};
 ghost use Rattle.tt_rules.specs.Hard.{entries_of, periods_of, lectures_off, lectures_count};
 ghost use Rattle.tt_table.specs.declared.groups.GroupBy.TheVariants as by;
+ghost use Rattle.tt_table.specs.declared.table.TheConstants.{MAX_ENTRIES};
 
 use crate::distinct;
 use tt_instance::{Instance, MAX_COURSES};
@@ -13,7 +14,7 @@ use tt_table::Groups;
 fn entries_of(by_course: &Groups<'_>, course: u32) -> u64
     requires by { by_course.now.by ≡ by.Course }
     requires course { course < 2048 }
-    requires few { length by_course.now.entries ≤ 16384 }
+    requires few { length by_course.now.entries ≤ MAX_ENTRIES }
     ensures count { result ≡ entries_of by_course.now.entries course }
     ensures few { result ≤ length by_course.now.entries }
 {
@@ -35,7 +36,7 @@ fn lectures_off(instance: &Instance<'_>, by_course: &Groups<'_>, course: u32) ->
     requires by { by_course.now.by ≡ by.Course }
     requires course { course < length instance.now.courses }
     requires in_range { All (InRange instance.now) by_course.now.entries }
-    requires few { length by_course.now.entries ≤ 16384 }
+    requires few { length by_course.now.entries ≤ MAX_ENTRIES }
     ensures value { result ≡ lectures_off instance.now by_course.now.entries course }
     ensures within { result ≤ 65536 }
 {
@@ -52,7 +53,7 @@ fn lectures_off(instance: &Instance<'_>, by_course: &Groups<'_>, course: u32) ->
 pub fn count(instance: &Instance<'_>, by_course: &Groups<'_>) -> u64
     requires by { by_course.now.by ≡ by.Course }
     requires in_range { All (InRange instance.now) by_course.now.entries }
-    requires few { length by_course.now.entries ≤ 16384 }
+    requires few { length by_course.now.entries ≤ MAX_ENTRIES }
     ensures count { result ≡ lectures_count instance.now by_course.now.entries }
     ensures within { result ≤ 2 ^ 40 }
 {

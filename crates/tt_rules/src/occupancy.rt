@@ -5,6 +5,7 @@ ghost use Rattle.std.specs.List.{list_any};
 ghost use Rattle.tt_instance.specs.Cells.{InRange, all_slots, is_in, is_at};
 ghost use Rattle.tt_rules.specs.Hard.{entries_in, occupancy_count};
 ghost use Rattle.tt_table.specs.declared.groups.GroupBy.TheVariants as by;
+ghost use Rattle.tt_table.specs.declared.table.TheConstants.{MAX_ENTRIES};
 
 use crate::distinct;
 use tt_instance::Instance;
@@ -14,7 +15,7 @@ use tt_table::Groups;
 fn entries_in(by_room: &Groups<'_>, room: u32) -> u64
     requires by { by_room.now.by ≡ by.Room }
     requires room { room < 2048 }
-    requires few { length by_room.now.entries ≤ 16384 }
+    requires few { length by_room.now.entries ≤ MAX_ENTRIES }
     ensures count { result ≡ count_by (is_in room) by_room.now.entries }
     ensures few { result ≤ length by_room.now.entries }
 {
@@ -38,10 +39,10 @@ fn doubled(instance: &Instance<'_>, by_room: &Groups<'_>, room: u32) -> u64
     requires by { by_room.now.by ≡ by.Room }
     requires room { room < 2048 }
     requires in_range { All (InRange instance.now) by_room.now.entries }
-    requires few { length by_room.now.entries ≤ 16384 }
+    requires few { length by_room.now.entries ≤ MAX_ENTRIES }
     ensures count { result
         ≡ sum_by (λ s. entries_in by_room.now.entries room s - 1) (all_slots instance.now) }
-    ensures few { result ≤ 16384 }
+    ensures few { result ≤ MAX_ENTRIES }
 {
     entries_in(by_room, room).saturating_sub(periods_of(instance, by_room, room))
 }
@@ -51,7 +52,7 @@ fn doubled(instance: &Instance<'_>, by_room: &Groups<'_>, room: u32) -> u64
 pub fn count(instance: &Instance<'_>, by_room: &Groups<'_>) -> u64
     requires by { by_room.now.by ≡ by.Room }
     requires in_range { All (InRange instance.now) by_room.now.entries }
-    requires few { length by_room.now.entries ≤ 16384 }
+    requires few { length by_room.now.entries ≤ MAX_ENTRIES }
     ensures count { result ≡ occupancy_count instance.now by_room.now.entries }
     ensures within { result ≤ 2 ^ 40 }
 {

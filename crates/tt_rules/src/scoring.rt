@@ -4,6 +4,7 @@ ghost use Rattle.std.specs.Prelude.{◌≡◌, ◌≤◌, length, All};
 ghost use Rattle.tt_instance.specs.Cells.{InRange};
 ghost use Rattle.tt_table.specs.declared.groups.GroupBy.TheVariants as by;
 ghost use Rattle.tt_table.specs.Table.{IsTimetable};
+ghost use Rattle.tt_table.specs.declared.table.TheConstants.{MAX_ENTRIES};
 ghost use Rattle.tt_rules.specs.Score.{IsScore};
 
 use crate::counts::Score;
@@ -16,7 +17,7 @@ use tt_table::{Entry, GroupBy, Groups, Timetable};
 /// The entries by course.
 fn by_course<'t>(instance: &Instance<'_>, entries: &'t [Entry]) -> Groups<'t>
     requires in_range { All (InRange instance.now) entries.now }
-    requires few { length entries.now ≤ 16384 }
+    requires few { length entries.now ≤ MAX_ENTRIES }
     ensures { result ≡ record { by = by.Course; entries = entries.now } }
 {
     // What is true of every instance: each course is a group.
@@ -27,7 +28,7 @@ fn by_course<'t>(instance: &Instance<'_>, entries: &'t [Entry]) -> Groups<'t>
 /// The entries by room.
 fn by_room<'t>(instance: &Instance<'_>, entries: &'t [Entry]) -> Groups<'t>
     requires in_range { All (InRange instance.now) entries.now }
-    requires few { length entries.now ≤ 16384 }
+    requires few { length entries.now ≤ MAX_ENTRIES }
     ensures { result ≡ record { by = by.Room; entries = entries.now } }
 {
     // What is true of every instance: each room is a group.
@@ -38,7 +39,7 @@ fn by_room<'t>(instance: &Instance<'_>, entries: &'t [Entry]) -> Groups<'t>
 /// The entries by the period of the week.
 fn by_period<'t>(instance: &Instance<'_>, entries: &'t [Entry]) -> Groups<'t>
     requires in_range { All (InRange instance.now) entries.now }
-    requires few { length entries.now ≤ 16384 }
+    requires few { length entries.now ≤ MAX_ENTRIES }
     ensures { result ≡ record { by = by.Period instance.now.periods; entries = entries.now } }
 {
     Groups::new(entries, GroupBy::Period(instance.periods()))

@@ -8,7 +8,7 @@ use Rattle.tt_table.specs.Table.{IsTimetable}
 use Rattle.tt_moves.specs.Changes.{IsBelow}
 use Rattle.tt_descend.proofs.Descents.{IsBelow-asym}
 use Rattle.tt_search.specs.Improved.{IsNoWorse}
-use Rattle.tt_search.specs.Pairs.{IsLower}
+use Rattle.tt_search.specs.Pairs.{IsLowerPair}
 use Rattle.tt_search.proofs.Improvements.{IsNoWorse-refl}
 
 -- two entries with a period between them, side by side, and exchanged
@@ -48,5 +48,5 @@ reordered kept =
     absurd (omega (arith, first))
 
 -- a hard rule weighs more than any cost
-hard_first : IsLower (record { hard = 0; cost = 900 }) (record { hard = 1; cost = 0 })
+hard_first : IsLowerPair (record { hard = 0; cost = 900 }) (record { hard = 1; cost = 0 })
 hard_first = inl (lit< tt)

@@ -1,9 +1,10 @@
 -- Only proofs rest on this file: nobody has to believe it.
 -- Pairs of a hard count and a cost.
-use Rattle.std.specs.Prelude.{◌≡◌, ◌<◌, ◌⊎◌, List}
+use Rattle.std.specs.Prelude.{◌≡◌, List}
 use Rattle.tt_instance.specs.Problem.{Problem}
 use Rattle.tt_instance.specs.declared.cell.Cell.{Cell}
 use Rattle.tt_rules.specs.Score.{hard, cost}
+use Rattle.tt_moves.specs.Changes.{IsLower}
 use Rattle.tt_search.specs.Improved.{IsNoWorse}
 use Rattle.tt_search.specs.declared.pair.Pair.{Pair}
 use Rattle.tt_search.specs.declared.best.Best.{Best}
@@ -13,9 +14,9 @@ pub record IsPairOf (p : Problem) (t : List Cell) (pair : Pair) : Type 0 where
   pub hard_is : pair.hard ≡ hard p t
   pub cost_is : pair.cost ≡ cost p t
 
--- fewer broken hard rules, or as many at a lower cost
-abbrev pub IsLower : Pair → Pair → Type 0
-IsLower a b = (a.hard < b.hard) ⊎ ((a.hard ≡ b.hard) × (a.cost < b.cost))
+-- the first pair is below the second
+abbrev pub IsLowerPair : Pair → Pair → Type 0
+IsLowerPair a b = IsLower a.hard a.cost b.hard b.cost
 
 -- the best that a search from t has found: no worse than t, with its pair
 pub record IsBest (p : Problem) (t : List Cell) (b : Best) : Type 0 where

@@ -8,7 +8,6 @@ use crate::acceptance::admits;
 use crate::board::Board;
 use crate::cooling::Cooling;
 use crate::open::Open;
-use crate::places::entry_of;
 use crate::sampling::{entry_to_move, sample};
 use rand_pcg::Pcg32;
 use tt_moves::{Change, EntryCost, Step, change, cost_change, entry_cost};
@@ -77,7 +76,7 @@ pub fn draw(
     cooling.draw();
     for _ in 0..cooling.patience().div_ceil(SAMPLES_AN_ENTRY) {
         let entry = entry_to_move(occupied, rng);
-        open.find(occupied, entry_of(occupied, entry));
+        open.find(occupied, occupied.entry(entry));
         if let Some(step) = draw_of(occupied, board, open, rng, cooling, entry) {
             return Some(step);
         }

@@ -1,7 +1,7 @@
 //! Pairs of a hard count and a cost.
 
 ghost use Rattle.std.specs.Prelude.{◌≡◌, ◌<◌, ◌⊎◌, ◌↔◌, IsTrue};
-ghost use Rattle.tt_search.specs.Pairs.{IsPairOf, IsLower};
+ghost use Rattle.tt_search.specs.Pairs.{IsPairOf, IsLowerPair};
 
 use tt_occupancy::Occupied;
 
@@ -26,7 +26,7 @@ impl Pair {
 
     /// Whether it has a lower hard count, or the same at a lower cost.
     pub fn is_below(self, other: Pair) -> bool
-        ensures { IsTrue result ↔ IsLower self other }
+        ensures { IsTrue result ↔ IsLowerPair self other }
     {
         self.hard < other.hard || (self.hard == other.hard && self.cost < other.cost)
     }

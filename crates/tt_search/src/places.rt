@@ -9,14 +9,6 @@ use tt_instance::{Instance, Slot};
 use tt_occupancy::Occupied;
 use tt_table::Entry;
 
-/// An entry of the timetable.
-pub fn entry_of(occupied: &Occupied<'_, '_>, index: u32) -> Entry
-    requires { index < length occupied.now.entries }
-    ensures { InRange occupied.now.problem result }
-{
-    occupied.table().get(index as usize)
-}
-
 /// The period of an entry.
 pub fn slot_of(entry: Entry) -> Slot
     ensures day { result.day ≡ entry.day }

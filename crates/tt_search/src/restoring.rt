@@ -13,9 +13,9 @@ pub fn restore(occupied: &mut Occupied<'_, '_>, entries: &[Entry])
     requires courses { courses_of occupied.old.entries ≡ courses_of entries.now }
     ensures { occupied.new ≡ record { problem = occupied.old.problem; entries = entries.now } }
 {
-    let size = occupied.table().len();
+    let size = occupied.table().len() as u32;
     for index in 0..size {
-        let entry = entries[index];
+        let entry = entries[index as usize];
         occupied.move_entry(index, entry.room, entry.day, entry.period);
     }
 }

@@ -6,7 +6,7 @@ ghost use Rattle.tt_moves.specs.Steps.{CanStep, first_of};
 
 use crate::board::Board;
 use crate::open::Open;
-use crate::places::{any_slot, entry_of, may_change_places, slot_of};
+use crate::places::{any_slot, may_change_places, slot_of};
 use crate::random::below;
 use crate::violations::costs_or_breaks;
 use rand_pcg::Pcg32;
@@ -40,7 +40,7 @@ fn costly_entry(occupied: &Occupied<'_, '_>, rng: &mut Pcg32) -> u32
 {
     for _ in 0..LOOKS {
         let index = any_entry(occupied, rng);
-        if costs_or_breaks(occupied, entry_of(occupied, index)) {
+        if costs_or_breaks(occupied, occupied.entry(index)) {
             return index;
         }
     }
@@ -90,8 +90,8 @@ fn is_open(occupied: &Occupied<'_, '_>, step: Step, is_free: bool) -> bool
         Step::Move { .. } => is_free,
         Step::Swap { first, second } => may_change_places(
             occupied,
-            entry_of(occupied, first),
-            entry_of(occupied, second),
+            occupied.entry(first),
+            occupied.entry(second),
             is_free,
         ),
     }
@@ -144,7 +144,7 @@ pub fn sample(
     ensures possible { IfSome result (CanStep occupied.now.problem occupied.now.entries) }
     ensures first { IfSome result (λ s. first_of s ≡ entry) }
 {
-    let from = entry_of(occupied, entry);
+    let from = occupied.entry(entry);
     let kind = below(rng, 10);
     let room = below(rng, occupied.instance().rooms());
     if kind < ROOMS_OF_TEN {

@@ -11,6 +11,7 @@ use Rattle.tt_instance.specs.Courses.{course_ids, room_ids}
 use Rattle.tt_instance.specs.declared.cell.Cell.{Cell}
 use Rattle.tt_table.specs.declared.fault.SolutionFault.{SolutionFault}
 use Rattle.tt_table.specs.declared.fault.SolutionFault.TheVariants as fault
+use Rattle.tt_table.specs.declared.table.TheConstants.{MAX_ENTRIES}
 
 -- being out of memory says nothing of the bytes
 abbrev pub is_silent : SolutionFault → Bool
@@ -64,4 +65,4 @@ entries_at end p (suc n) before (t ∷ ts) = do
 
 -- the timetable that bytes spell, or their first fault
 unfoldable pub solution_of : Problem → List ℕ → Result (List Cell) SolutionFault
-solution_of p bytes = entries_at (length bytes) p 16384 [] (tokens_of bytes)
+solution_of p bytes = entries_at (length bytes) p MAX_ENTRIES [] (tokens_of bytes)

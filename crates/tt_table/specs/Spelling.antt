@@ -7,6 +7,7 @@ use Rattle.tt_instance.specs.Problem.{Problem}
 use Rattle.tt_instance.specs.Courses.{no_course, no_room}
 use Rattle.tt_instance.specs.declared.cell.Cell.{Cell}
 use Rattle.tt_table.specs.Table.{IsTimetable}
+use Rattle.tt_table.specs.declared.table.TheConstants.{MAX_ENTRIES}
 
 abbrev pub entry_pieces : Problem → Cell → List Piece
 entry_pieces p e =
@@ -16,7 +17,7 @@ entry_pieces p e =
 -- the tokens of the bytes are the entries' and no more
 pub record SpellsTable (p : Problem) (bytes : List ℕ) (t : List Cell) : Type 0 where
   pub tokens : AreTokens (flat_map (entry_pieces p) t) (tokens_of bytes)
-  pub few : length t ≤ 16384
+  pub few : length t ≤ MAX_ENTRIES
   pub in_range : IsTimetable p t
 
 -- the text that writes a timetable: one line for each entry, in order

@@ -142,7 +142,7 @@ impl<'t> Groups<'t> {
 
     /// The entries after one, of its group.
     #[tactic(auto, using(crate::proofs::Grouping::led_few))]
-    pub fn after(&self, index: usize) -> Group<'_>
+    pub fn after(&self, index: u32) -> Group<'_>
         requires { index < length self.now.entries }
         ensures group { IfSome (slice_get self.now.entries index)
             (λ e. result ≡ filter (in_group self.now.by (group_of self.now.by e)) (drop (index + 1) self.now.entries)) }
@@ -152,7 +152,7 @@ impl<'t> Groups<'t> {
             entries: self.entries,
             by: self.by,
             next: &self.links.next,
-            at: self.links.next[index] as usize,
+            at: self.links.next[index as usize] as usize,
         }
     }
 }

@@ -21,12 +21,13 @@ pub struct Timetable {
 impl Model for Timetable {
     ghost use Rattle.std.specs.Prelude.{List, length, ◌≤◌};
     ghost use Rattle.tt_instance.specs.declared.cell.Cell.{Cell};
+    ghost use Rattle.tt_table.specs.declared.table.TheConstants.{MAX_ENTRIES};
 
     ghost Value = { List Cell };
 
     ghost view = { λ a. a.entries.items };
 
-    ghost invariant = { λ a. length a.entries.items ≤ 16384 };
+    ghost invariant = { λ a. length a.entries.items ≤ MAX_ENTRIES };
 }
 
 fn is_in_range(instance: &Instance<'_>, entry: Entry) -> bool
@@ -51,7 +52,7 @@ impl Timetable {
     /// How many entries there are.
     pub fn len(&self) -> usize
         ensures len { result ≡ length self.now }
-        ensures within { result ≤ 16384 }
+        ensures within { result ≤ MAX_ENTRIES }
     {
         self.entries.len()
     }
@@ -64,17 +65,17 @@ impl Timetable {
     }
 
     /// The entry at a place, counted from 0.
-    pub fn get(&self, index: usize) -> Entry
+    pub fn get(&self, index: u32) -> Entry
         requires { index < length self.now }
         ensures { slice_get self.now index ≡ Some result }
     {
-        self.entries[index]
+        self.entries[index as usize]
     }
 
     /// The entries in order.
     pub fn entries(&self) -> &[Entry]
         ensures value { result.now ≡ self.now }
-        ensures within { length result.now ≤ 16384 }
+        ensures within { length result.now ≤ MAX_ENTRIES }
     {
         self.entries.as_slice()
     }
@@ -91,8 +92,8 @@ impl Timetable {
     /// Adds an entry at the end.
     pub fn push(&mut self, entry: Entry) -> Result<(), PushFault>
         ensures ok { OnOk result (self.new ≡ self.old ++ entry ∷ []) }
-        ensures full { length self.old ≡ 16384 → IsErrOf result PushFault.Full }
-        ensures room { length self.old < 16384 → IsOkUnless result PushFault.OutOfMemory }
+        ensures full { length self.old ≡ MAX_ENTRIES → IsErrOf result PushFault.Full }
+        ensures room { length self.old < MAX_ENTRIES → IsOkUnless result PushFault.OutOfMemory }
         ensures err { OnErr result (self.new ≡ self.old) }
     {
         if self.entries.len() == MAX_ENTRIES {
@@ -105,10 +106,11 @@ impl Timetable {
     }
 
     /// Puts an entry at a place, for the one that is there.
-    pub fn set(&mut self, place: usize, entry: Entry)
-        requires { place < length self.old }
-        ensures { self.new ≡ slice_set self.old place entry }
+    pub fn set(&mut self, index: u32, entry: Entry)
+        requires { index < length self.old }
+        ensures { self.new ≡ slice_set self.old index entry }
     {
+        let place = index as usize;
         self.entries[place] = entry;
     }
 

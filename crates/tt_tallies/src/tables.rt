@@ -4,6 +4,7 @@ ghost use Rattle.std.specs.Prelude.{◌≡◌, ◌<◌, ◌≤◌, List, [], ◌
 ghost use Rattle.tt_instance.specs.Cells.{InRange};
 ghost use Rattle.tt_instance.specs.Limits.{IsInstance};
 ghost use Rattle.tt_instance.specs.declared.cell.Cell.{Cell};
+ghost use Rattle.tt_table.specs.declared.table.TheConstants.{MAX_ENTRIES};
 ghost use Rattle.tt_tallies.specs.Tables.{AreTables};
 
 use crate::links::Links;
@@ -60,7 +61,7 @@ impl Tables {
     pub fn add(&mut self, instance: &Instance<'_>, entry: Entry)
         requires in_range { InRange instance.now entry }
         requires counted { (t : List Cell)
-            × AreTables instance.now t self.old × (length t < 16384) }
+            × AreTables instance.now t self.old × (length t < MAX_ENTRIES) }
         ensures { (t : List Cell) → AreTables instance.now t self.old
             → AreTables instance.now (entry ∷ t) self.new }
     {

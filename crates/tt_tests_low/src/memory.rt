@@ -197,10 +197,10 @@ fn push_facts(path: &mut PlainPath<'_, '_>) -> Result<(), PathFault> {
 }
 
 /// How many of those facts stand on a path.
-fn standing(path: &PlainPath<'_, '_>) -> usize {
+fn standing(path: &PlainPath<'_, '_>) -> u32 {
     (0..40)
         .filter(|period| path.has(&fact_in_period(Who::Course(0), *period, true).pattern, true))
-        .count()
+        .count() as u32
 }
 
 #[test]

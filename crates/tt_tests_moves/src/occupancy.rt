@@ -77,7 +77,7 @@ fn course_in_room(occupied: &Occupied<'_, '_>, course: u32, room: u32) -> Option
 /// The hard count and the cost once an entry stands elsewhere.
 fn moved(
     occupied: &mut Occupied<'_, '_>,
-    entry: usize,
+    entry: u32,
     room: u32,
     day: u32,
     period: u32,
@@ -85,7 +85,7 @@ fn moved(
     let instance = occupied.instance();
     if room >= instance.rooms()
         || !is_period(instance, day, period)
-        || entry >= occupied.table().len()
+        || entry >= occupied.table().len() as u32
     {
         return None;
     }
@@ -94,8 +94,8 @@ fn moved(
 }
 
 /// The hard count and the cost once two entries have changed places.
-fn swapped(occupied: &mut Occupied<'_, '_>, first: usize, second: usize) -> Option<(u64, u64)> {
-    let entries = occupied.table().len();
+fn swapped(occupied: &mut Occupied<'_, '_>, first: u32, second: u32) -> Option<(u64, u64)> {
+    let entries = occupied.table().len() as u32;
     if first >= entries || second >= entries {
         return None;
     }

@@ -1,6 +1,7 @@
 //! One more fact in both parts of a path.
 
 ghost use Rattle.std.specs.Prelude.{◌≡◌, ◌<◌, [], ◌∷◌, ◌++◌, length, OnOk, OnErr};
+ghost use Rattle.tt_facts.specs.declared.path.TheConstants.{MAX_FACTS};
 
 use std::alloc::AllocError;
 use tt_cells::Cells;
@@ -13,7 +14,7 @@ pub fn push_both(
     pins: &mut Pins<'_, '_>,
     fact: Fact,
 ) -> Result<(), AllocError>
-    requires depth { length cells.old.facts < 65536 }
+    requires depth { length cells.old.facts < MAX_FACTS }
     requires one { pins.old ≡ cells.old }
     ensures ok { OnOk result (cells.new.facts ≡ cells.old.facts ++ fact ∷ []) }
     ensures err { OnErr result (cells.new.facts ≡ cells.old.facts) }

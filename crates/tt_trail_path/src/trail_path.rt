@@ -57,11 +57,11 @@ impl<'p, 'i> Path<'i> for TrailPath<'p, 'i> {
         self.cells.instance()
     }
 
-    fn depth(&self) -> usize {
+    fn depth(&self) -> u32 {
         self.cells.depth()
     }
 
-    fn fact(&self, index: usize) -> Fact {
+    fn fact(&self, index: u32) -> Fact {
         self.cells.fact(index)
     }
 

@@ -5,11 +5,10 @@ use Rattle.std.proofs.lemmas.Option.{slice_get_within}
 use Rattle.tt_text.specs.declared.feed.FeedFault.TheVariants as feed
 use Rattle.tt_instance.specs.Problem.{Problem}
 use Rattle.tt_leaf.specs.declared.leaf.Bound.{Bound}
-use Rattle.tt_proof_text.specs.Trees.{Tree, preorder, OnPath, on_paths}
+use Rattle.tt_proof_text.specs.Trees.{Tree, preorder, OnPath, on_paths, IsPreorder}
 use Rattle.tt_proof_text.specs.declared.fault.TextFault.{TextFault}
 use Rattle.tt_proof_text.specs.declared.fault.TextFault.TheVariants as text
 use Rattle.tt_proof_text.specs.declared.node.Node.{Node}
-use Rattle.tt_proof_check.specs.Nodes.{IsATree}
 use Rattle.tt_proof_check.specs.Tells.{Tells}
 use Rattle.tt_proof_check.specs.declared.fault.CheckFault.TheVariants as check
 use Rattle.tt_proof_check.specs.declared.fault.NodesFault.{NodesFault}
@@ -32,7 +31,7 @@ place_small tree nodes i x e few found =
     omega (arith, h, k, few)
 
 -- the number of the node that is wrong has 32 bits
-pub is_of_node : (p : Problem) (b : Bound) (nodes : List Node) → IsATree nodes → length nodes ≤ 16777216 → (e : NodesFault) → Tells p b nodes e → IsOfNode e
+pub is_of_node : (p : Problem) (b : Bound) (nodes : List Node) → IsPreorder nodes → length nodes ≤ 16777216 → (e : NodesFault) → Tells p b nodes e → IsOfNode e
 is_of_node p b nodes tree few NotATree t = absurd (t tree)
 is_of_node p b nodes tree few (Rule i f) t = place_small t.0 nodes i _ t.1 few t.2.found
 is_of_node p b nodes tree few (TooDeep i) t = place_small t.0 nodes i _ t.1 few t.2.found

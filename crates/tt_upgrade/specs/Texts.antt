@@ -7,12 +7,11 @@ use Rattle.tt_proof_text.specs.Faults.{read_failed}
 use Rattle.tt_proof_text.specs.Reading.{header_at, node_at, end_at}
 use Rattle.tt_proof_text.specs.Reads.{ReadsNodes, Reads}
 use Rattle.tt_proof_text.specs.Spelling.{IsNode}
-use Rattle.tt_proof_text.specs.Trees.{Tree, preorder}
+use Rattle.tt_proof_text.specs.Trees.{Tree, preorder, IsPreorder}
 use Rattle.tt_proof_text.specs.declared.fault.TextFault.{TextFault}
 use Rattle.tt_proof_text.specs.declared.node.Node.{Node}
 use Rattle.tt_proof_text.specs.declared.sizes.Sizes.{Sizes}
 use Rattle.tt_proof_check.specs.FailedReads.{HoldsOfGiven}
-use Rattle.tt_proof_check.specs.Nodes.{IsATree}
 use Rattle.tt_proof_check.specs.Streams.{sizes_of, Fails, HasHeader}
 
 -- the text is a proof of this version with this bound, and these are the nodes of its tree in preorder
@@ -23,13 +22,13 @@ pub record IsRead (p : Problem) (s : Stream) (v : ℕ) (b : Bound) (nodes : List
 
 -- they are one tree, of at most 16,777,216 nodes, and each is the instance's and of the version
 pub record AreNodesOf (p : Problem) (v : ℕ) (nodes : List Node) : Type 0 where
-  pub tree : IsATree nodes
+  pub tree : IsPreorder nodes
   pub few : length nodes ≤ 16777216
   pub each : All (IsNode p v) nodes
 
 -- the nodes are one tree, and were read, where the bytes are known
 pub record IsCollected (sizes : Sizes) (v : ℕ) (known : Bool) (s after : Stream) (nodes : List Node) : Type 0 where
-  pub tree : IsATree nodes
+  pub tree : IsPreorder nodes
   pub reads : known ≡ true → ReadsNodes sizes v 0 s nodes after
 
 -- some tree goes on from the nodes that have been read, and the text of the next node fails

@@ -3,7 +3,8 @@
 ghost use Rattle.std.specs.Prelude.{◌≡◌, ◌≤◌, List, ℕ, length, All, true, Some, Err, IfOk, IfErr, OnOk, MatchResult};
 ghost use Rattle.tt_leaf.specs.declared.leaf.Bound.{Bound};
 ghost use Rattle.tt_proof_check.specs.Derives.{HoldsOfAll, Proves};
-ghost use Rattle.tt_proof_check.specs.Nodes.{IsATree, IsNodeOf};
+ghost use Rattle.tt_proof_text.specs.Trees.{IsPreorder};
+ghost use Rattle.tt_proof_check.specs.Nodes.{IsNodeOf};
 ghost use Rattle.tt_proof_check.specs.Streams.{IsProved, stream_of};
 ghost use Rattle.tt_upgrade.specs.Faults.{read_failed, IsNodesFault, OutOfMemoryIsOneFault};
 ghost use Rattle.tt_upgrade.specs.Texts.{IsReadUpToFailedRead};
@@ -34,7 +35,7 @@ fn judge(
     nodes: &[Node],
 ) -> Result<(), UpgradeFault>
     requires nodes { All (IsNodeOf instance.now) nodes.now }
-    requires tree { IsATree nodes.now }
+    requires tree { IsPreorder nodes.now }
     requires few { length nodes.now ≤ 16777216 }
     ensures proves { OnOk result (Proves instance.now bound nodes.now) }
     ensures fault { IfErr result (IsNodesFault instance.now bound nodes.now) }

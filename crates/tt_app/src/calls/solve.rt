@@ -5,7 +5,8 @@ ghost use Rattle.tt_instance.specs.Problem.{Problem};
 ghost use Rattle.tt_instance.specs.Spelling.{Spells};
 ghost use Rattle.tt_table.specs.Spelling.{solution_text};
 ghost use Rattle.tt_table.specs.Table.{IsTimetable};
-ghost use Rattle.tt_proof_write.specs.Within.{IsPreorder};
+ghost use Rattle.tt_proof_text.specs.Trees.{IsPreorder};
+ghost use Rattle.tt_branch.specs.declared.limit.TheConstants.{MAX_OPENED};
 ghost use Rattle.tt_app.specs.Lines.{best_cost, bound_points, solve_line};
 ghost use Rattle.tt_app.specs.Solved.{IsProofFile, IsSolved, IsTextRefusal, IsSolveRefusal};
 ghost use Rattle.tt_app.specs.declared.fault.AppFault.TheVariants as fault;
@@ -131,7 +132,7 @@ fn search_answer(
 /// where it found no timetable. Which nodes are opened is not promised.
 pub fn solve(alloc: Global, instance: &[u8], seed: u64, nodes: u32) -> Result<Answer, AppFault>
     requires some { 1 ≤ nodes }
-    requires few { nodes ≤ 65536 }
+    requires few { nodes ≤ MAX_OPENED }
     // What is answered is feasible, and the proof derives its bound.
     ensures found { IfOk result (IsSolved instance.now nodes) }
     // A refusal tells the first fault.

@@ -16,8 +16,8 @@ loop-member-init c =
     let o = c.args.occupied.now in
     ap (filled o.problem) (sym (swapped_none c.args.chain.now.from c.args.chain.now.to o.entries))
 
-pub entry_of-entry-requires : goal.entry_of-entry-requires
-entry_of-entry-requires c =
+pub entry-entry-requires : goal.entry-entry-requires
+entry-entry-requires c =
     let o = c.args.occupied.now in
     let x = c.args.chain.now in
     let ms = c.members-member-items.result.now in
@@ -43,7 +43,7 @@ move_entry-requires-clause-room c =
     let inside_here = subst (λ (l : List ℕ). All (λ i. i < length o.entries) l) (sym c.members-member-items.ensures.value) c.requires.inside k 0 c.loop-member-test.true in
     let s = c.loop-member.occupied in
     let inside = still_inside x.from x.to o.problem o.entries ms c.members-member-items.ensures.rising k c.loop-member-test.true s c.loop-member.invariant inside_here in
-    (subst (InRange s.problem) (sym c.entry_of-entry.ensures.value) (c.entry_of-entry.ensures.in_range (get_or ms k 0) no_entry inside)).room
+    (subst (InRange s.problem) (sym c.entry-entry.ensures.value) (c.entry-entry.ensures.in_range (get_or ms k 0) no_entry inside)).room
 
 pub loop-member-preserved : goal.loop-member-preserved
 loop-member-preserved c =
@@ -53,8 +53,8 @@ loop-member-preserved c =
     let k = c.loop-member.member-index in
     let inside_here = subst (λ (l : List ℕ). All (λ i. i < length o.entries) l) (sym c.members-member-items.ensures.value) c.requires.inside k 0 c.loop-member-test.true in
     c.move_entry.ensures
-    ∙ swapped_next x.from x.to o.problem o.entries ms c.members-member-items.ensures.rising k c.loop-member-test.true c.loop-member.occupied c.loop-member.invariant inside_here c.entry_of-entry.result c.entry_of-entry.ensures.value c.other_period-place.result
-    (subst (λ (z : Kempe). c.other_period-place.result ≡ other z.from z.to c.entry_of-entry.result) c.chain.view_is c.other_period-place.ensures)
+    ∙ swapped_next x.from x.to o.problem o.entries ms c.members-member-items.ensures.rising k c.loop-member-test.true c.loop-member.occupied c.loop-member.invariant inside_here c.entry-entry.result c.entry-entry.ensures.value c.other_period-place.result
+    (subst (λ (z : Kempe). c.other_period-place.result ≡ other z.from z.to c.entry-entry.result) c.chain.view_is c.other_period-place.ensures)
 
 pub returns-clause-courses : goal.returns-clause-courses
 returns-clause-courses c = λ course.

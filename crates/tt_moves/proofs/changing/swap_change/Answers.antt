@@ -14,7 +14,7 @@ returns-then-one-other-clause-hard c =
     let t = o.now.entries in
     let i = c.args.first in
     let j = c.args.second in
-    let same = exchanged_same t i j c.entry_of-one.result c.entry_of-other.result c.entry_of-one.ensures.value c.entry_of-other.ensures.value c.requires.first c.requires.second c.if-one-other.true in
+    let same = exchanged_same t i j c.entry-one.result c.entry-other.result c.entry-one.ensures.value c.entry-other.ensures.value c.requires.first c.requires.second c.if-one-other.true in
     let e = hard_same o.now.problem (stepped t (Swap i j)) t same in
     omega (arith, ints)
 
@@ -24,45 +24,45 @@ returns-then-one-other-clause-cost c =
     let t = o.now.entries in
     let i = c.args.first in
     let j = c.args.second in
-    let same = exchanged_same t i j c.entry_of-one.result c.entry_of-other.result c.entry_of-one.ensures.value c.entry_of-other.ensures.value c.requires.first c.requires.second c.if-one-other.true in
+    let same = exchanged_same t i j c.entry-one.result c.entry-other.result c.entry-one.ensures.value c.entry-other.ensures.value c.requires.first c.requires.second c.if-one-other.true in
     let e = cost_same o.now.problem (stepped t (Swap i j)) t same in
     omega (arith, ints)
 
 pub exchange-moved_there-requires-clause-in_range : goal.exchange-moved_there-requires-clause-in_range
 exchange-moved_there-requires-clause-in_range c =
-    there_in_range c.args.occupied c.entry_of-one.ensures.in_range c.args.first c.args.second c.entry_of-one.result c.entry_of-other.result c.requires.first c.requires.second c.entry_of-one.ensures.value c.entry_of-other.ensures.value c.if-one-other.false
+    there_in_range c.args.occupied c.entry-one.ensures.in_range c.args.first c.args.second c.entry-one.result c.entry-other.result c.requires.first c.requires.second c.entry-one.ensures.value c.entry-other.ensures.value c.if-one-other.false
 
 pub exchange-moved_there-requires-clause-rest : goal.exchange-moved_there-requires-clause-rest
 exchange-moved_there-requires-clause-rest c =
     let o = c.args.occupied in
-    (remove o.now.entries c.args.first, without_one o c.entry_of-one.ensures.in_range c.args.first c.entry_of-one.result c.requires.first c.entry_of-one.ensures.value)
+    (remove o.now.entries c.args.first, without_one o c.entry-one.ensures.in_range c.args.first c.entry-one.result c.requires.first c.entry-one.ensures.value)
 
 pub exchange-moved_here-requires-clause-in_range : goal.exchange-moved_here-requires-clause-in_range
 exchange-moved_here-requires-clause-in_range c =
-    let ok = c.entry_of-one.ensures.in_range in
-    let rx = entry_in_range c.args.occupied ok c.args.first c.entry_of-one.result c.requires.first c.entry_of-one.ensures.value in
-    let ry = entry_in_range c.args.occupied ok c.args.second c.entry_of-other.result c.requires.second c.entry_of-other.ensures.value in
+    let ok = c.entry-one.ensures.in_range in
+    let rx = entry_in_range c.args.occupied ok c.args.first c.entry-one.result c.requires.first c.entry-one.ensures.value in
+    let ry = entry_in_range c.args.occupied ok c.args.second c.entry-other.result c.requires.second c.entry-other.ensures.value in
     record { course = ry.course; room = rx.room; day = rx.day; period = rx.period }
 
 pub exchange-moved_here-requires-clause-rest : goal.exchange-moved_here-requires-clause-rest
 exchange-moved_here-requires-clause-rest c =
     let o = c.args.occupied in
-    let x = c.entry_of-one.result in
-    let y = c.entry_of-other.result in
-    (remove (set o.now.entries c.args.first (in_place_of x y)) c.args.second, without_other o c.entry_of-one.ensures.in_range c.args.first c.args.second x y c.requires.first c.requires.second c.entry_of-one.ensures.value c.entry_of-other.ensures.value c.if-one-other.false)
+    let x = c.entry-one.result in
+    let y = c.entry-other.result in
+    (remove (set o.now.entries c.args.first (in_place_of x y)) c.args.second, without_other o c.entry-one.ensures.in_range c.args.first c.args.second x y c.requires.first c.requires.second c.entry-one.ensures.value c.entry-other.ensures.value c.if-one-other.false)
 
 pub returns-clause-hard : goal.returns-clause-hard
 returns-clause-hard c =
     let o = c.args.occupied in
     let p = o.now.problem in
     let t = o.now.entries in
-    let ok = c.entry_of-one.ensures.in_range in
+    let ok = c.entry-one.ensures.in_range in
     let i = c.args.first in
     let j = c.args.second in
-    let x = c.entry_of-one.result in
-    let y = c.entry_of-other.result in
-    let x_is = c.entry_of-one.ensures.value in
-    let y_is = c.entry_of-other.ensures.value in
+    let x = c.entry-one.result in
+    let y = c.entry-other.result in
+    let x_is = c.entry-one.ensures.value in
+    let y_is = c.entry-other.ensures.value in
     let h = c.requires.first in
     let k = c.requires.second in
     let apart = c.if-one-other.false in
@@ -82,13 +82,13 @@ returns-clause-cost c =
     let o = c.args.occupied in
     let p = o.now.problem in
     let t = o.now.entries in
-    let ok = c.entry_of-one.ensures.in_range in
+    let ok = c.entry-one.ensures.in_range in
     let i = c.args.first in
     let j = c.args.second in
-    let x = c.entry_of-one.result in
-    let y = c.entry_of-other.result in
-    let x_is = c.entry_of-one.ensures.value in
-    let y_is = c.entry_of-other.ensures.value in
+    let x = c.entry-one.result in
+    let y = c.entry-other.result in
+    let x_is = c.entry-one.ensures.value in
+    let y_is = c.entry-other.ensures.value in
     let h = c.requires.first in
     let k = c.requires.second in
     let apart = c.if-one-other.false in

@@ -1,9 +1,9 @@
 //! Whether nodes make a tree.
 
 ghost use Rattle.std.specs.Prelude.{◌↔◌, IsTrue};
-ghost use Rattle.tt_proof_write.specs.Within.{IsPreorder};
+ghost use Rattle.tt_proof_text.specs.Trees.{IsPreorder};
 
-use tt_proof_text::Node;
+use crate::node::Node;
 
 /// Whether nodes are those of one tree, in preorder.
 pub fn is_tree(nodes: &[Node]) -> bool

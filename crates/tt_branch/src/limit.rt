@@ -1,0 +1,7 @@
+//! The limits of a search.
+
+/// The most nodes of its tree that a search may open.
+pub const MAX_OPENED: u32 = 65_536;
+
+/// The most steps of the descent that a search begins with.
+pub const FIRST_STEPS: u64 = 10_000;
