@@ -1,7 +1,7 @@
 //! One fact more.
 
 ghost use Rattle.std.specs.Prelude.{◌≡◌, false, [], ◌∷◌, ◌++◌, OnOk, OnErr};
-ghost use Rattle.tt_links.specs.Linked.{AreLinks};
+ghost use Rattle.tt_links.specs.Linked.{AreConflicts};
 ghost use Rattle.tt_cell_set.specs.Tables.{IsTable};
 ghost use Rattle.tt_cells.specs.Shown.{Adds};
 
@@ -11,19 +11,19 @@ use crate::settling::settle;
 use std::alloc::AllocError;
 use tt_facts::{Fact, Pattern};
 use tt_instance::Instance;
-use tt_links::Links;
+use tt_links::Conflicts;
 use tt_trail::Trail;
 
 /// Changes both tables for a no-fact, the last of the facts, whose yes-facts have these patterns.
 fn deny(
     instance: &Instance<'_>,
-    links: &Links,
+    links: &Conflicts,
     free: &mut Trail,
     live: &mut Trail,
     yes: &[Pattern],
     fact: &Fact,
 ) -> Result<(), AllocError>
-    requires links { AreLinks instance.now links.now }
+    requires links { AreConflicts instance.now links.now }
     requires no { fact.now.holds ≡ false }
     requires free { IsTable instance.now free.old.words }
     requires live { IsTable instance.now live.old.words }
@@ -41,13 +41,13 @@ fn deny(
 /// Changes both tables for the last of the facts.
 fn change(
     instance: &Instance<'_>,
-    links: &Links,
+    links: &Conflicts,
     free: &mut Trail,
     live: &mut Trail,
     yes: &[Pattern],
     fact: &Fact,
 ) -> Result<(), AllocError>
-    requires links { AreLinks instance.now links.now }
+    requires links { AreConflicts instance.now links.now }
     requires free { IsTable instance.now free.old.words }
     requires live { IsTable instance.now live.old.words }
     ensures ok { OnOk result (Adds instance.now yes.now free.old.words live.old.words fact.now
@@ -67,13 +67,13 @@ fn change(
 /// Marks both tables, and changes them for the last of the facts.
 pub fn add(
     instance: &Instance<'_>,
-    links: &Links,
+    links: &Conflicts,
     free: &mut Trail,
     live: &mut Trail,
     yes: &[Pattern],
     fact: &Fact,
 ) -> Result<(), AllocError>
-    requires links { AreLinks instance.now links.now }
+    requires links { AreConflicts instance.now links.now }
     requires free { IsTable instance.now free.old.words }
     requires live { IsTable instance.now live.old.words }
     ensures ok { OnOk result (Adds instance.now yes.now free.old.words live.old.words fact.now

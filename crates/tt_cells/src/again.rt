@@ -1,7 +1,7 @@
 //! The older yes-facts after a no-fact.
 
 ghost use Rattle.std.specs.Prelude.{◌≡◌, OnOk};
-ghost use Rattle.tt_links.specs.Linked.{AreLinks};
+ghost use Rattle.tt_links.specs.Linked.{AreConflicts};
 ghost use Rattle.tt_cell_set.specs.Tables.{IsTable};
 ghost use Rattle.tt_cells.specs.Touching.{may_agree, may_share, may_touch};
 ghost use Rattle.tt_cells.specs.Shown.{Renews};
@@ -10,7 +10,7 @@ use crate::settling::settle;
 use std::alloc::AllocError;
 use tt_facts::{Pattern, Who};
 use tt_instance::Instance;
-use tt_links::Links;
+use tt_links::Conflicts;
 use tt_trail::Trail;
 
 /// Whether some number agrees with both, as far as is given.
@@ -50,13 +50,13 @@ fn may_touch(instance: &Instance<'_>, first: &Pattern, second: &Pattern) -> bool
 /// Takes away the live cells that the yes-facts of these patterns exclude now, after a no-fact of this pattern.
 pub fn settle_again(
     instance: &Instance<'_>,
-    links: &Links,
+    links: &Conflicts,
     free: &Trail,
     live: &mut Trail,
     yes: &[Pattern],
     pattern: &Pattern,
 ) -> Result<(), AllocError>
-    requires links { AreLinks instance.now links.now }
+    requires links { AreConflicts instance.now links.now }
     requires free { IsTable instance.now free.now.words }
     requires live { IsTable instance.now live.old.words }
     ensures ok { OnOk result (Renews instance.now yes.now free.now.words live.old.words pattern.now live.new.words) }

@@ -37,6 +37,39 @@ fn remove_at(
     Ok(())
 }
 
+/// Takes a course's cells away that agree with the pattern, period by period. Kept apart, so that what a pattern of one period
+/// runs through stays short.
+#[inline(never)]
+fn remove_within(
+    instance: &Instance<'_>,
+    table: &mut Trail,
+    pattern: &Pattern,
+    course: u32,
+) -> Result<(), AllocError>
+    requires course { course < length instance.now.courses }
+    requires table { IsTable instance.now table.old.words }
+    ensures ok { OnOk result (Loses instance.now table.old.words
+        (λ x. (x.course == course) && agrees_at pattern.now x) table.new.words) }
+    ensures same { table.new.earlier ≡ table.old.earlier }
+{
+    let periods = instance.periods();
+    let (from, to) = slots_of(instance, pattern);
+    for slot in from..to {
+        if !allows(instance, pattern, slot) {
+            continue;
+        }
+        remove_rooms(
+            instance,
+            table,
+            pattern.room,
+            course,
+            slot / periods,
+            slot % periods,
+        )?;
+    }
+    Ok(())
+}
+
 /// Takes a course's cells away that agree with the pattern.
 fn remove_of(
     instance: &Instance<'_>,
@@ -54,21 +87,7 @@ fn remove_of(
         remove_at(instance, table, pattern, course, day, period)?;
         return Ok(());
     }
-    let periods = instance.periods();
-    let (from, to) = slots_of(instance, pattern);
-    for slot in from..to {
-        if !allows(instance, pattern, slot) {
-            continue;
-        }
-        remove_rooms(
-            instance,
-            table,
-            pattern.room,
-            course,
-            slot / periods,
-            slot % periods,
-        )?;
-    }
+    remove_within(instance, table, pattern, course)?;
     Ok(())
 }
 

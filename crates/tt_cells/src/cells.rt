@@ -12,14 +12,14 @@ use tt_bits::is_empty;
 use tt_cell_set::{cells_word, first_table, has_cell, has_period, periods_of};
 use tt_facts::{Cell, Fact, Pattern};
 use tt_instance::Instance;
-use tt_links::Links;
+use tt_links::Conflicts;
 use tt_trail::Trail;
 
 /// The facts, the patterns of the yes-facts, the cells that nothing bars, and the live ones.
 #[derive(Drop)]
 pub struct Cells<'p, 'i> {
     instance: &'p Instance<'i>,
-    links: Links,
+    links: Conflicts,
     order: RoomOrder,
     facts: Vec<Fact>,
     yes: Vec<Pattern>,
@@ -31,7 +31,7 @@ impl<'p, 'i> Model for Cells<'p, 'i> {
     ghost use Rattle.std.specs.Prelude.{◌≡◌, ◌≤◌, length};
     ghost use Rattle.tt_facts.specs.Paths.{Facts};
     ghost use Rattle.tt_facts.specs.declared.path.TheConstants.{MAX_FACTS};
-    ghost use Rattle.tt_links.specs.Linked.{AreLinks};
+    ghost use Rattle.tt_links.specs.Linked.{AreConflicts};
     ghost use Rattle.tt_cells.specs.Order.{IsRoomOrder};
     ghost use Rattle.tt_cells.specs.Shown.{yes_facts, AreTables, AreEarlier};
 
@@ -40,7 +40,7 @@ impl<'p, 'i> Model for Cells<'p, 'i> {
     ghost view = { λ s. record { problem = s.instance.now; facts = s.facts.items } };
 
     ghost invariant = { λ s. record {
-      links : AreLinks s.instance.now s.links;
+      links : AreConflicts s.instance.now s.links;
       order : IsRoomOrder s.instance.now s.order;
       depth : length s.facts.items ≤ MAX_FACTS;
       yes : s.yes.items ≡ yes_facts s.facts.items;
@@ -61,7 +61,7 @@ impl<'p, 'i> Cells<'p, 'i> {
         ensures problem { IfOk result (λ t. t.problem ≡ instance.now) }
         ensures facts { IfOk result (λ t. t.facts ≡ []) }
     {
-        let links = Links::new(alloc, instance)?;
+        let links = Conflicts::new(alloc, instance)?;
         let order = RoomOrder::new(alloc, instance)?;
         let facts = Vec::new(alloc);
         let yes = Vec::new(alloc);

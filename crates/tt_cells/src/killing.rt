@@ -3,7 +3,7 @@
 ghost use Rattle.std.specs.Prelude.{◌≡◌, ◌<◌, ◌==◌, ◌&&◌, ℕ, [], ◌∷◌, length, OnOk, not, ◌||◌};
 ghost use Rattle.std.specs.List.{list_all};
 ghost use Rattle.tt_lists.specs.Words.{has_number};
-ghost use Rattle.tt_links.specs.Linked.{AreLinks};
+ghost use Rattle.tt_links.specs.Linked.{AreConflicts};
 ghost use Rattle.tt_cell_set.specs.Rooms.{has_room};
 ghost use Rattle.tt_instance.specs.Cells.{all_rooms};
 ghost use Rattle.tt_cell_set.specs.Tables.{is_open, is_placed, IsTable, Loses};
@@ -15,7 +15,7 @@ use std::alloc::AllocError;
 use tt_cell_set::{Rooms, common_rooms, keep_rooms, remove_rooms};
 use tt_facts::Pattern;
 use tt_instance::Instance;
-use tt_links::Links;
+use tt_links::Conflicts;
 use tt_trail::Trail;
 
 /// The rooms that a course loses in the period where another has to have one of its free rooms.
@@ -201,7 +201,8 @@ fn strike_room_of(
     Ok(())
 }
 
-/// Takes a room in a period away from each course but the one that has to have it.
+/// Takes a room in a period away from each course but the one that has to have it. Kept apart, since mostly more rooms are left.
+#[inline(never)]
 fn strike_room(
     instance: &Instance<'_>,
     live: &mut Trail,
@@ -227,7 +228,7 @@ fn strike_room(
 /// lose that.
 fn kill_one(
     instance: &Instance<'_>,
-    links: &Links,
+    links: &Conflicts,
     free: &Trail,
     live: &mut Trail,
     pattern: &Pattern,
@@ -235,7 +236,7 @@ fn kill_one(
     period: u32,
     course: u32,
 ) -> Result<(), AllocError>
-    requires links { AreLinks instance.now links.now }
+    requires links { AreConflicts instance.now links.now }
     requires day { day < instance.now.days }
     requires period { period < instance.now.periods }
     requires course { course < length instance.now.courses }
@@ -268,7 +269,7 @@ fn kill_one(
 /// The same as `kill`, by the lists of conflicts where that is quicker.
 pub fn kill_by_links(
     instance: &Instance<'_>,
-    links: &Links,
+    links: &Conflicts,
     free: &Trail,
     live: &mut Trail,
     pattern: &Pattern,
@@ -276,7 +277,7 @@ pub fn kill_by_links(
     period: u32,
     courses: &[u32],
 ) -> Result<(), AllocError>
-    requires links { AreLinks instance.now links.now }
+    requires links { AreConflicts instance.now links.now }
     requires day { day < instance.now.days }
     requires period { period < instance.now.periods }
     requires free { IsTable instance.now free.now.words }

@@ -36,7 +36,7 @@ pub fn unlist_fact(facts: &mut Vec<Fact>, yes: &mut Vec<Pattern>) -> Fact
     ensures fact { facts.old.items ≡ facts.new.items ++ result ∷ [] }
     ensures yes { yes.new.items ≡ yes_facts facts.new.items }
 {
-    let fact = facts.pop().unwrap();
+    let fact = facts.take_last();
     if fact.holds {
         let _ = yes.pop();
     }

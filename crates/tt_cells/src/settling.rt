@@ -2,7 +2,7 @@
 
 ghost use Rattle.std.specs.Prelude.{◌≡◌, ◌<◌, ◌≤◌, ◌*◌, Some, OnOk};
 ghost use Rattle.tt_facts.specs.Nested.{courses_of};
-ghost use Rattle.tt_links.specs.Linked.{AreLinks};
+ghost use Rattle.tt_links.specs.Linked.{AreConflicts};
 ghost use Rattle.tt_cell_set.specs.Tables.{IsTable};
 ghost use Rattle.tt_cells.specs.Slots.{is_left_in, Covers, IsFirst};
 ghost use Rattle.tt_cells.specs.Shown.{Settles};
@@ -14,13 +14,13 @@ use std::alloc::AllocError;
 use tt_cell_set::remove_all;
 use tt_facts::Pattern;
 use tt_instance::Instance;
-use tt_links::Links;
+use tt_links::Conflicts;
 use tt_trail::Trail;
 
 /// Takes away the live cells that a pattern excludes whose first free period is this one.
 fn settle_from(
     instance: &Instance<'_>,
-    links: &Links,
+    links: &Conflicts,
     free: &Trail,
     live: &mut Trail,
     pattern: &Pattern,
@@ -29,7 +29,7 @@ fn settle_from(
     slot: u32,
     to: u32,
 ) -> Result<(), AllocError>
-    requires links { AreLinks instance.now links.now }
+    requires links { AreConflicts instance.now links.now }
     requires courses { courses.now ≡ courses_of instance.now pattern.now.who }
     requires covers { Covers instance.now pattern.now from to }
     requires first { IsFirst (is_left_in instance.now free.now.words pattern.now courses.now) from to slot }
@@ -60,7 +60,7 @@ fn settle_from(
 /// Takes away the live cells that a pattern excludes which gives this day and this period.
 fn settle_at(
     instance: &Instance<'_>,
-    links: &Links,
+    links: &Conflicts,
     free: &Trail,
     live: &mut Trail,
     pattern: &Pattern,
@@ -68,7 +68,7 @@ fn settle_at(
     day: u32,
     period: u32,
 ) -> Result<(), AllocError>
-    requires links { AreLinks instance.now links.now }
+    requires links { AreConflicts instance.now links.now }
     requires courses { courses.now ≡ courses_of instance.now pattern.now.who }
     requires given_day { pattern.now.day ≡ Some day }
     requires given_period { pattern.now.period ≡ Some period }
@@ -90,13 +90,13 @@ fn settle_at(
 /// Takes away the live cells that a pattern excludes, whichever periods it allows.
 fn settle_within(
     instance: &Instance<'_>,
-    links: &Links,
+    links: &Conflicts,
     free: &Trail,
     live: &mut Trail,
     pattern: &Pattern,
     courses: &[u32],
 ) -> Result<(), AllocError>
-    requires links { AreLinks instance.now links.now }
+    requires links { AreConflicts instance.now links.now }
     requires courses { courses.now ≡ courses_of instance.now pattern.now.who }
     requires free { IsTable instance.now free.now.words }
     requires live { IsTable instance.now live.old.words }
@@ -121,12 +121,12 @@ fn settle_within(
 /// Takes away the live cells that a pattern excludes.
 pub fn settle(
     instance: &Instance<'_>,
-    links: &Links,
+    links: &Conflicts,
     free: &Trail,
     live: &mut Trail,
     pattern: &Pattern,
 ) -> Result<(), AllocError>
-    requires links { AreLinks instance.now links.now }
+    requires links { AreConflicts instance.now links.now }
     requires free { IsTable instance.now free.now.words }
     requires live { IsTable instance.now live.old.words }
     ensures ok { OnOk result (Settles instance.now free.now.words live.old.words pattern.now live.new.words) }

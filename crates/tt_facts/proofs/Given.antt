@@ -61,7 +61,7 @@ none_or p b (x ∷ xs) = by_tests (p x) (list_any p xs) b ∙ ap (λ l. (not (p 
     by_tests false t c = refl
 
 -- a test of one number below a bound
-at_number : (t : ℕ → Bool) (n m : ℕ) → list_all (λ k. not (m == k) || t k) (range_below n) ≡ (nat_le n m || t m)
+pub at_number : (t : ℕ → Bool) (n m : ℕ) → list_all (λ k. not (m == k) || t k) (range_below n) ≡ (nat_le n m || t m)
 at_number t n m = sym (list_all-of_filter t (λ k. m == k) (range_below n)) ∙ elim (cases_lt m n) [
   | inl h ↦ ap (list_all t) (one_from m 0 n (omega arith) (omega arith)) ∙ and-true (t m) ∙ sym (rw (lt-leb n m h) refl)
   | inr h ↦ ap (list_all t) (none_to m 0 n (omega arith)) ∙ sym (rw (le-leb n m h) refl)

@@ -29,7 +29,7 @@ or-turn false false true = refl
 or-turn false false false = refl
 
 -- a course is meant if it is one of those that are
-is_who-has : (p : Problem) (who : Who) (c : ℕ) → is_who p who c ≡ has_number (courses_of p who) c
+pub is_who-has : (p : Problem) (who : Who) (c : ℕ) → is_who p who c ≡ has_number (courses_of p who) c
 is_who-has p (Course a) c = same_test c a a c sym sym ∙ sym (or-false (a == c))
 is_who-has p (Curriculum q) c = refl
 

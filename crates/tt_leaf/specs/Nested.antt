@@ -1,16 +1,14 @@
 -- Only proofs rest on this file: nobody has to believe it.
 -- The leaf rules one number at a time, as the code goes through them.
-use Rattle.std.specs.Prelude.{◌≡◌, ℕ, ◌+◌, ◌-◌, ◌*◌, ◌<◌, nat_lt, nat_le, sum_by, count_by, All, Bool, true, not, ◌&&◌, ◌||◌, List}
+use Rattle.std.specs.Prelude.{◌≡◌, ℕ, ◌+◌, ◌-◌, ◌*◌, ◌<◌, nat_lt, nat_le, sum_by, count_by, All, Bool, true, not, ◌&&◌, ◌||◌, List, length, Option}
 use Rattle.std.specs.List.{list_any, list_all}
 use Rattle.tt_lists.specs.Words.{each_two}
 use Rattle.tt_instance.specs.Problem.{Problem}
 use Rattle.tt_instance.specs.Cells.{slot, cell, all_rooms, all_days, all_slots}
 use Rattle.tt_instance.specs.Courses.{lectures, excess}
-use Rattle.tt_instance.specs.declared.cell.Cell.{Cell}
 use Rattle.tt_instance.specs.declared.cell.Slot.{Slot}
-use Rattle.tt_facts.specs.Facts.{is_who}
+use Rattle.tt_facts.specs.Facts.{agrees}
 use Rattle.tt_facts.specs.Live.{is_dead, is_live, live_period, live_day, least_excess, pinned, pinned_room}
-use Rattle.tt_facts.specs.Nested.{agrees_at}
 use Rattle.tt_facts.specs.declared.facts.Who.TheVariants.{Curriculum}
 use Rattle.tt_facts.specs.declared.facts.Pattern.{Pattern}
 use Rattle.tt_facts.specs.declared.facts.Fact.{Fact}
@@ -19,21 +17,22 @@ use Rattle.tt_leaf.specs.declared.leaf.Claim.{Claim}
 
 -- ---- dead cells
 
--- the cell is dead, or its place is not the pattern's
-abbrev pub dead_or_off : Problem → List Fact → Pattern → Cell → Bool
-dead_or_off p path g x = not (agrees_at g x) || is_dead p path x
+-- the course's cells in the period are dead, in the given room if one is given
+abbrev pub rooms_dead : Problem → List Fact → Option ℕ → ℕ → Slot → Bool
+rooms_dead p path room c s = list_all (λ r. not (agrees room r) || is_dead p path (cell c r s)) (all_rooms p)
 
--- the course is dead in the room, where the pattern matches
-abbrev pub room_dead : Problem → List Fact → Pattern → ℕ → ℕ → Bool
-room_dead p path g c r = list_all (λ s. dead_or_off p path g (cell c r s)) (all_slots p)
+-- the pattern does not allow the period, or the course is dead there in the rooms that it allows
+abbrev pub period_dead : Problem → List Fact → Pattern → ℕ → Slot → Bool
+period_dead p path g c s =
+    not (agrees g.day s.day) || not (agrees g.period s.period) || rooms_dead p path g.room c s
 
--- and in each room
+-- and so in each period
 abbrev pub course_dead : Problem → List Fact → Pattern → ℕ → Bool
-course_dead p path g c = list_all (room_dead p path g c) (all_rooms p)
+course_dead p path g c = list_all (period_dead p path g c) (all_slots p)
 
--- the pattern is not of the course, or the course is dead where it matches
-abbrev pub off_or_dead : Problem → List Fact → Pattern → ℕ → Bool
-off_or_dead p path g c = not (is_who p g.who c) || course_dead p path g c
+-- the course is not there, or it is dead where the pattern matches
+abbrev pub gone_or_dead : Problem → List Fact → Pattern → ℕ → Bool
+gone_or_dead p path g c = nat_le (length p.courses) c || course_dead p path g c
 
 -- ---- courses with a live cell
 
@@ -45,9 +44,9 @@ live_for p path cs s = list_any (λ c. live_period p path c s) cs
 abbrev pub live_in : Problem → List Fact → List ℕ → ℕ → Slot → Bool
 live_in p path cs r s = list_any (λ c. is_live p path (cell c r s)) cs
 
--- how many periods have one in the room
-abbrev pub open_in_room : Problem → List Fact → List ℕ → ℕ → ℕ
-open_in_room p path cs r = count_by (live_in p path cs r) (all_slots p)
+-- how many rooms have one in the period
+abbrev pub open_in_period : Problem → List Fact → List ℕ → Slot → ℕ
+open_in_period p path cs s = count_by (λ r. live_in p path cs r s) (all_rooms p)
 
 -- ---- days, rooms and periods of one course or curriculum
 

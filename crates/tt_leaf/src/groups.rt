@@ -1,20 +1,20 @@
 //! Courses that exclude each other, different courses, and the periods and rooms that are open to them.
 
-ghost use Rattle.std.specs.Prelude.{◌≡◌, ◌<◌, ◌≤◌, ◌-◌, ◌^◌, ◌==◌, ◌&&◌, ℕ, not, min, nat_lt, length};
+ghost use Rattle.std.specs.Prelude.{◌≡◌, ◌<◌, ◌≤◌, ◌+◌, ◌-◌, ◌*◌, ◌^◌, ◌==◌, ◌&&◌, ℕ, not, min, nat_lt, length};
 ghost use Rattle.std.specs.List.{list_all};
 ghost use Rattle.tt_lists.specs.Words.{each_two};
 ghost use Rattle.tt_bits.specs.Bits.{has_bit};
 ghost use Rattle.tt_instance.specs.Cells.{slot};
 ghost use Rattle.tt_instance.specs.Courses.{conflict};
 ghost use Rattle.tt_leaf.specs.Leaves.{all_lectures, is_clique, are_distinct, open_periods, open_rooms};
-ghost use Rattle.tt_leaf.specs.Nested.{live_for, live_in, open_in_room};
+ghost use Rattle.tt_leaf.specs.Nested.{live_for, live_in, open_in_period};
 ghost use Rattle.tt_leaf.specs.Ranges.{AreBelow};
 
 use crate::met::{FEW, Met};
 use crate::slots::{slot_at, slot_count};
-use tt_bits::{count, either};
+use tt_bits::{below, count, either};
 use tt_facts::Path;
-use tt_instance::{Cell, Instance};
+use tt_instance::Instance;
 
 fn excludes_each(instance: &Instance<'_>, course: u32, others: &[u32]) -> bool
     ensures { result ≡ list_all (conflict instance.now course) others.now }
@@ -140,60 +140,53 @@ pub fn open_periods<'i, P: Path<'i>>(path: &P, courses: &[u32]) -> u32
     total
 }
 
-fn is_room_open<'i, P: Path<'i>>(
-    path: &P,
-    courses: &[u32],
-    room: u32,
-    day: u32,
-    period: u32,
-) -> bool
+/// The rooms of a block in which one of the courses has a live cell in the period, as a set. No course is asked once each room
+/// has one.
+fn open_block<'i, P: Path<'i>>(path: &P, courses: &[u32], day: u32, period: u32, block: u32) -> u64
     requires courses { AreBelow (length (P.problem path.now).courses) courses.now }
-    requires room { room < length (P.problem path.now).rooms }
     requires day { day < (P.problem path.now).days }
     requires period { period < (P.problem path.now).periods }
-    ensures { result ≡ live_in (P.problem path.now) (P.facts path.now) courses.now room (slot day period) }
+    requires block { block * 64 < length (P.problem path.now).rooms }
+    ensures { (n : ℕ) → n < 64 → has_bit result n ≡ (nat_lt (block * 64 + n) (length (P.problem path.now).rooms)
+        && live_in (P.problem path.now) (P.facts path.now) courses.now (block * 64 + n) (slot day period)) }
 {
+    let all = below(path.instance().rooms() - block * 64);
+    let mut open = 0;
     for course in courses {
-        let cell = Cell {
-            course: *course,
-            room,
-            day,
-            period,
-        };
-        if !path.dead(cell) {
-            return true;
+        if open == all {
+            return open;
         }
+        open = either(open, path.live_rooms(*course, day, period, block));
     }
-    false
+    open
 }
 
-fn open_in_room<'i, P: Path<'i>>(path: &P, courses: &[u32], room: u32) -> u32
+/// How many rooms have a live cell of one of the courses in the period.
+fn open_in_period<'i, P: Path<'i>>(path: &P, courses: &[u32], day: u32, period: u32) -> u32
     requires courses { AreBelow (length (P.problem path.now).courses) courses.now }
-    requires room { room < length (P.problem path.now).rooms }
-    ensures value { result ≡ open_in_room (P.problem path.now) (P.facts path.now) courses.now room }
+    requires day { day < (P.problem path.now).days }
+    requires period { period < (P.problem path.now).periods }
+    ensures value { result ≡ open_in_period (P.problem path.now) (P.facts path.now) courses.now (slot day period) }
     ensures within { result ≤ 512 }
 {
-    let instance = path.instance();
     let mut total = 0;
-    for place in 0..slot_count(instance) {
-        let slot = slot_at(instance, place);
-        if is_room_open(path, courses, room, slot.day, slot.period) {
-            total += 1;
-        }
+    for block in 0..(path.instance().rooms() + 63) / 64 {
+        total += count(open_block(path, courses, day, period, block));
     }
     total
 }
 
 /// How many rooms in how many periods have a live cell of one of the courses.
-#[tactic(auto, using(tt_lists::proofs::Numbers::sum_more))]
 pub fn open_rooms<'i, P: Path<'i>>(path: &P, courses: &[u32]) -> u32
     requires { AreBelow (length (P.problem path.now).courses) courses.now }
     ensures value { result ≡ open_rooms (P.problem path.now) (P.facts path.now) courses.now }
     ensures within { result ≤ 262144 }
 {
+    let instance = path.instance();
     let mut total = 0;
-    for room in 0..path.instance().rooms() {
-        total += open_in_room(path, courses, room);
+    for place in 0..slot_count(instance) {
+        let slot = slot_at(instance, place);
+        total += open_in_period(path, courses, slot.day, slot.period);
     }
     total
 }

@@ -4,14 +4,12 @@ use Rattle.std.specs.Prelude.{◌≡◌, ℕ, ◌<◌, List, [], length, slice_i
 use Rattle.tt_instance.specs.Problem.{Problem}
 use Rattle.tt_links.specs.Links.{curricula_of, conflicts_of}
 
--- a list for each course
-pub record Linked : Type 0 where
-  pub curricula : List (List ℕ)
-  pub conflicts : List (List ℕ)
+-- a list for each course, of its curricula
+pub record AreCurricula (p : Problem) (k : List (List ℕ)) : Type 0 where
+  pub size : length k ≡ length p.courses
+  pub curricula : (c : ℕ) → c < length p.courses → slice_index_or k c [] ≡ curricula_of p c
 
--- the lists are those of the instance
-pub record AreLinks (p : Problem) (k : Linked) : Type 0 where
-  pub curricula_size : length k.curricula ≡ length p.courses
-  pub curricula : (c : ℕ) → c < length p.courses → slice_index_or k.curricula c [] ≡ curricula_of p c
-  pub conflicts_size : length k.conflicts ≡ length p.courses
-  pub conflicts : (c : ℕ) → c < length p.courses → slice_index_or k.conflicts c [] ≡ conflicts_of p c
+-- a list for each course, of those that conflict with it
+pub record AreConflicts (p : Problem) (k : List (List ℕ)) : Type 0 where
+  pub size : length k ≡ length p.courses
+  pub conflicts : (c : ℕ) → c < length p.courses → slice_index_or k c [] ≡ conflicts_of p c

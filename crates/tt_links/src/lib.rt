@@ -3,4 +3,4 @@
 
 mod links;
 
-pub use links::Links;
+pub use links::{Conflicts, Curricula};

@@ -29,21 +29,6 @@ impl Numbers {
     }
 }
 
-/// For each course its curricula and the courses that conflict with it.
-#[derive(Drop)]
-pub struct Links {
-    curricula: Vec<Numbers>,
-    conflicts: Vec<Numbers>,
-}
-
-impl Model for Links {
-    ghost use Rattle.tt_links.specs.Linked.{Linked};
-
-    ghost Value = { Linked };
-
-    ghost view = { λ k. record { curricula = k.curricula.items; conflicts = k.conflicts.items } };
-}
-
 /// The curricula of a course.
 fn curricula_of(alloc: Global, instance: &Instance<'_>, course: u32) -> Result<Numbers, AllocError>
     ensures { IfOk result (λ n. n ≡ curricula_of instance.now course) }
@@ -64,38 +49,76 @@ fn conflicts_of(alloc: Global, instance: &Instance<'_>, course: u32) -> Result<N
     Ok(Numbers { numbers })
 }
 
-impl Links {
-    ghost use Rattle.tt_links.specs.Linked.{AreLinks};
+/// For each course its curricula.
+#[derive(Drop)]
+pub struct Curricula {
+    lists: Vec<Numbers>,
+}
 
-    /// The links of an instance. They don't hold on to it.
-    pub fn new(alloc: Global, instance: &Instance<'_>) -> Result<Links, AllocError>
-        ensures { IfOk result (AreLinks instance.now) }
+impl Model for Curricula {
+    ghost use Rattle.std.specs.Prelude.{ℕ, List};
+
+    ghost Value = { List (List ℕ) };
+
+    ghost view = { λ k. k.lists.items };
+}
+
+impl Curricula {
+    ghost use Rattle.tt_links.specs.Linked.{AreCurricula};
+
+    /// The curricula of an instance's courses. They don't hold on to it.
+    pub fn new(alloc: Global, instance: &Instance<'_>) -> Result<Curricula, AllocError>
+        ensures { IfOk result (AreCurricula instance.now) }
     {
-        let mut curricula = Vec::new(alloc);
-        let mut conflicts = Vec::new(alloc);
+        let mut lists = Vec::new(alloc);
         for course in 0..instance.courses() {
-            curricula.push(curricula_of(alloc, instance, course)?)?;
-            conflicts.push(conflicts_of(alloc, instance, course)?)?;
+            lists.push(curricula_of(alloc, instance, course)?)?;
         }
-        Ok(Links {
-            curricula,
-            conflicts,
-        })
+        Ok(Curricula { lists })
     }
 
     /// The curricula of a course, rising.
     pub fn curricula_of(&self, course: u32) -> &[u32]
-        requires { course < length self.now.curricula }
-        ensures { result.now ≡ slice_index_or self.now.curricula course [] }
+        requires { course < length self.now }
+        ensures { result.now ≡ slice_index_or self.now course [] }
     {
-        self.curricula[course as usize].as_slice()
+        self.lists[course as usize].as_slice()
+    }
+}
+
+/// For each course the courses that conflict with it.
+#[derive(Drop)]
+pub struct Conflicts {
+    rows: Vec<Numbers>,
+}
+
+impl Model for Conflicts {
+    ghost use Rattle.std.specs.Prelude.{ℕ, List};
+
+    ghost Value = { List (List ℕ) };
+
+    ghost view = { λ k. k.rows.items };
+}
+
+impl Conflicts {
+    ghost use Rattle.tt_links.specs.Linked.{AreConflicts};
+
+    /// The conflicts of an instance's courses. They don't hold on to it.
+    pub fn new(alloc: Global, instance: &Instance<'_>) -> Result<Conflicts, AllocError>
+        ensures { IfOk result (AreConflicts instance.now) }
+    {
+        let mut rows = Vec::new(alloc);
+        for course in 0..instance.courses() {
+            rows.push(conflicts_of(alloc, instance, course)?)?;
+        }
+        Ok(Conflicts { rows })
     }
 
     /// The courses that conflict with a course, rising.
     pub fn conflicts_of(&self, course: u32) -> &[u32]
-        requires { course < length self.now.conflicts }
-        ensures { result.now ≡ slice_index_or self.now.conflicts course [] }
+        requires { course < length self.now }
+        ensures { result.now ≡ slice_index_or self.now course [] }
     {
-        self.conflicts[course as usize].as_slice()
+        self.rows[course as usize].as_slice()
     }
 }

@@ -1,7 +1,7 @@
 //! One more fact in the tables.
 
 ghost use Rattle.std.specs.Prelude.{◌≡◌, [], ◌∷◌, ◌++◌, length, OnOk, OnErr};
-ghost use Rattle.tt_links.specs.Linked.{AreLinks};
+ghost use Rattle.tt_links.specs.Linked.{AreCurricula};
 ghost use Rattle.tt_pins.specs.Tables.{size, Pins};
 ghost use Rattle.tt_pins.specs.Standing.{standing_size, Stands};
 
@@ -10,18 +10,18 @@ use crate::standing::stand;
 use std::alloc::AllocError;
 use tt_facts::Fact;
 use tt_instance::Instance;
-use tt_links::Links;
+use tt_links::Curricula;
 use tt_trail::Trail;
 
 /// Writes what a fact pins.
 fn pin(
     instance: &Instance<'_>,
-    links: &Links,
+    links: &Curricula,
     table: &mut Trail,
     fact: &Fact,
 ) -> Result<(), AllocError>
     requires size { length table.old.words ≡ size instance.now }
-    requires links { AreLinks instance.now links.now }
+    requires links { AreCurricula instance.now links.now }
     ensures ok { OnOk result (Pins instance.now fact.now table.old.words table.new.words) }
     ensures same { table.new.earlier ≡ table.old.earlier }
 {
@@ -44,14 +44,14 @@ fn pin(
 /// Writes a fact into both tables.
 fn write(
     instance: &Instance<'_>,
-    links: &Links,
+    links: &Curricula,
     pinned: &mut Trail,
     standing: &mut Trail,
     fact: &Fact,
 ) -> Result<(), AllocError>
     requires pinned { length pinned.old.words ≡ size instance.now }
     requires standing { length standing.old.words ≡ standing_size instance.now }
-    requires links { AreLinks instance.now links.now }
+    requires links { AreCurricula instance.now links.now }
     ensures pins { OnOk result (Pins instance.now fact.now pinned.old.words pinned.new.words) }
     ensures stands { OnOk result (Stands instance.now fact.now standing.old.words standing.new.words) }
     ensures same_pinned { pinned.new.earlier ≡ pinned.old.earlier }
@@ -66,14 +66,14 @@ fn write(
 #[inline(never)]
 pub fn add(
     instance: &Instance<'_>,
-    links: &Links,
+    links: &Curricula,
     pinned: &mut Trail,
     standing: &mut Trail,
     fact: &Fact,
 ) -> Result<(), AllocError>
     requires pinned { length pinned.old.words ≡ size instance.now }
     requires standing { length standing.old.words ≡ standing_size instance.now }
-    requires links { AreLinks instance.now links.now }
+    requires links { AreCurricula instance.now links.now }
     ensures pins { OnOk result (Pins instance.now fact.now pinned.old.words pinned.new.words) }
     ensures stands { OnOk result (Stands instance.now fact.now standing.old.words standing.new.words) }
     ensures kept_pinned { OnOk result (pinned.new.earlier ≡ pinned.old.earlier ++ pinned.old.words ∷ []) }

@@ -40,7 +40,7 @@ pub fn unlist_fact(instance: &Instance<'_>, facts: &mut Vec<Fact>, others: &mut 
     ensures fact { facts.old.items ≡ facts.new.items ++ result ∷ [] }
     ensures others { others.new.items ≡ others_of instance.now facts.new.items }
 {
-    let fact = facts.pop().unwrap();
+    let fact = facts.take_last();
     if !has_spot(instance, &fact) {
         let _ = others.pop();
     }

@@ -2,7 +2,7 @@
 
 ghost use Rattle.std.specs.Prelude.{◌≡◌, ◌<◌, ◌==◌, All, Some, length, OnOk};
 ghost use Rattle.tt_instance.specs.Limits.{IsInstance};
-ghost use Rattle.tt_links.specs.Linked.{AreLinks};
+ghost use Rattle.tt_links.specs.Linked.{AreCurricula};
 ghost use Rattle.tt_facts.specs.Facts.{IsWho};
 ghost use Rattle.tt_pins.specs.Tables.{size, row_of, day_place, is_day_of, Adds, PinsPeriods, PinsRooms};
 
@@ -11,7 +11,7 @@ use crate::sets::put;
 use std::alloc::AllocError;
 use tt_facts::Who;
 use tt_instance::Instance;
-use tt_links::Links;
+use tt_links::Curricula;
 use tt_trail::Trail;
 
 /// Puts a period into the set of a course or a curriculum on a day.
@@ -59,14 +59,14 @@ fn pin_each(
 /// Puts a period into the sets of a course and of its curricula on a day.
 fn pin_course(
     instance: &Instance<'_>,
-    links: &Links,
+    links: &Curricula,
     table: &mut Trail,
     course: u32,
     day: u32,
     period: u32,
 ) -> Result<(), AllocError>
     requires size { length table.old.words ≡ size instance.now }
-    requires links { AreLinks instance.now links.now }
+    requires links { AreCurricula instance.now links.now }
     requires course { course < length instance.now.courses }
     requires day { day < instance.now.days }
     requires period { period < instance.now.periods }
@@ -106,7 +106,7 @@ fn pin_curriculum(
 /// Puts a period into the sets of all of which a fact of a course or a curriculum speaks.
 fn pin_at(
     instance: &Instance<'_>,
-    links: &Links,
+    links: &Curricula,
     table: &mut Trail,
     who: Who,
     day: u32,
@@ -114,7 +114,7 @@ fn pin_at(
 ) -> Result<(), AllocError>
     requires size { length table.old.words ≡ size instance.now }
     requires valid { IsInstance instance.now }
-    requires links { AreLinks instance.now links.now }
+    requires links { AreCurricula instance.now links.now }
     requires day { day < instance.now.days }
     requires period { period < instance.now.periods }
     ensures ok { OnOk result (PinsPeriods instance.now who (Some day) (Some period) table.old.words table.new.words) }
@@ -139,14 +139,14 @@ fn pin_at(
 /// Puts what a yes-fact pins of the periods into their sets; numbers that aren't there pin nothing.
 pub fn pin_period(
     instance: &Instance<'_>,
-    links: &Links,
+    links: &Curricula,
     table: &mut Trail,
     who: Who,
     day: Option<u32>,
     period: Option<u32>,
 ) -> Result<(), AllocError>
     requires size { length table.old.words ≡ size instance.now }
-    requires links { AreLinks instance.now links.now }
+    requires links { AreCurricula instance.now links.now }
     ensures ok { OnOk result (PinsPeriods instance.now who day period table.old.words table.new.words) }
     ensures same { table.new.earlier ≡ table.old.earlier }
 {

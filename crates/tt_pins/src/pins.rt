@@ -16,14 +16,14 @@ use std::marker::Model;
 use tt_bits::has_bit;
 use tt_facts::{Fact, Pattern, Who};
 use tt_instance::Instance;
-use tt_links::Links;
+use tt_links::Curricula;
 use tt_trail::Trail;
 
 /// The facts, with a table of the periods and rooms that they pin and one of the facts that stand.
 #[derive(Drop)]
 pub struct Pins<'p, 'i> {
     instance: &'p Instance<'i>,
-    links: Links,
+    links: Curricula,
     facts: Vec<Fact>,
     others: Vec<Fact>,
     pinned: Trail,
@@ -32,7 +32,7 @@ pub struct Pins<'p, 'i> {
 
 impl<'p, 'i> Model for Pins<'p, 'i> {
     ghost use Rattle.std.specs.Prelude.{◌≡◌, ◌≤◌, length};
-    ghost use Rattle.tt_links.specs.Linked.{AreLinks};
+    ghost use Rattle.tt_links.specs.Linked.{AreCurricula};
     ghost use Rattle.tt_facts.specs.Paths.{Facts};
     ghost use Rattle.tt_facts.specs.declared.path.TheConstants.{MAX_FACTS};
     ghost use Rattle.tt_pins.specs.Tables.{ShowsPins};
@@ -46,7 +46,7 @@ impl<'p, 'i> Model for Pins<'p, 'i> {
     ghost invariant = { λ s. record {
       depth : length s.facts.items ≤ MAX_FACTS;
       others : s.others.items ≡ others_of s.instance.now s.facts.items;
-      links : AreLinks s.instance.now s.links;
+      links : AreCurricula s.instance.now s.links;
       shown : ShowsPins s.instance.now s.facts.items s.pinned.words;
       earlier : AreEarlier (ShowsPins s.instance.now) s.facts.items s.pinned.earlier;
       stands : ShowsStanding s.instance.now s.facts.items s.standing.words;
@@ -62,7 +62,7 @@ impl<'p, 'i> Pins<'p, 'i> {
         ensures problem { IfOk result (λ s. s.problem ≡ instance.now) }
         ensures facts { IfOk result (λ s. s.facts ≡ []) }
     {
-        let links = Links::new(alloc, instance)?;
+        let links = Curricula::new(alloc, instance)?;
         let pinned = Vec::from_elem(alloc, 0, size(instance))?;
         let standing = Vec::from_elem(alloc, 0, standing_size(instance))?;
         Ok(Pins {

@@ -6,7 +6,7 @@ use Rattle.tt_cell_set.specs.Tables.{Loses, is_placed}
 use Rattle.tt_instance.specs.declared.cell.Cell.{Cell}
 use Rattle.tt_cells.proofs.Losing.{loses-none, loses-same, loses-more}
 use Rattle.tt_cells.proofs.Barred.{is_gone, slot_skipped, slot_gone, none_gone, all_gone}
-use Rattle.tt_cells.proofs.barring.remove_of.Goals as goal
+use Rattle.tt_cells.proofs.barring.remove_within.Goals as goal
 
 pub loop-slot-init : goal.loop-slot-init
 loop-slot-init c =

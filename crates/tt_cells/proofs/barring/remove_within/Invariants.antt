@@ -1,7 +1,7 @@
 use Rattle.std.proofs.Common.{◌≡◌}
 use Rattle.tt_cell_set.specs.Tables.{Loses}
 use Rattle.tt_cells.proofs.Barred.{is_gone}
-use Rattle.tt_cells.proofs.barring.remove_of.Given as goal
+use Rattle.tt_cells.proofs.barring.remove_within.Given as goal
 
 abbrev pub invariant-loop-slot : goal.invariant-loop-slot
 invariant-loop-slot l = record {
