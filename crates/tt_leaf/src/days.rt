@@ -8,6 +8,7 @@ ghost use Rattle.tt_leaf.specs.declared.leaf.Claim.TheVariants.{Days, Stacked};
 use crate::pinned::pinned_periods;
 use tt_bits::is_empty;
 use tt_facts::{Path, Who};
+use tt_instance::MAX_PERIODS;
 
 /// What a missing day costs, in cost points.
 const DAY_PRICE: u64 = 5;
@@ -44,7 +45,7 @@ fn is_pinned_day<'i, P: Path<'i>>(path: &P, course: u32, day: u32) -> bool
     ensures { result ≡ pinned_day (P.problem path.now) (P.facts path.now) course day }
 {
     // What is true of every instance: the periods of a day are the numbers of a word.
-    prove!(path.instance().periods() <= 64);
+    prove!(path.instance().periods() <= MAX_PERIODS);
     !is_empty(path.pinned_periods(Who::Course(course), day))
 }
 

@@ -9,12 +9,13 @@ ghost use Rattle.tt_instance.specs.Courses.{conflict};
 ghost use Rattle.tt_leaf.specs.Leaves.{all_lectures, is_clique, are_distinct, open_periods, open_rooms};
 ghost use Rattle.tt_leaf.specs.Nested.{live_for, live_in, open_in_period};
 ghost use Rattle.tt_leaf.specs.Ranges.{AreBelow};
+ghost use Rattle.tt_instance.specs.declared.limit.TheConstants.{MAX_COURSES, MAX_ROOMS, MAX_SLOTS};
 
 use crate::met::{FEW, Met};
 use crate::slots::{slot_at, slot_count};
 use tt_bits::{below, count, either};
 use tt_facts::Path;
-use tt_instance::Instance;
+use tt_instance::{Instance, MAX_PERIODS};
 
 fn excludes_each(instance: &Instance<'_>, course: u32, others: &[u32]) -> bool
     ensures { result ≡ list_all (conflict instance.now course) others.now }
@@ -64,7 +65,7 @@ fn each_two_differ(courses: &[u32]) -> bool
 /// The same by marks: no course is compared with each other one. Kept apart, since its marks stand on the stack.
 #[inline(never)]
 fn each_is_new(courses: &[u32]) -> bool
-    requires { AreBelow 2048 courses.now }
+    requires { AreBelow MAX_COURSES courses.now }
     ensures { result ≡ are_distinct courses.now }
 {
     let mut met = Met::none();
@@ -80,7 +81,7 @@ fn each_is_new(courses: &[u32]) -> bool
 
 /// Whether no course stands twice.
 pub fn are_distinct(courses: &[u32]) -> bool
-    requires { AreBelow 2048 courses.now }
+    requires { AreBelow MAX_COURSES courses.now }
     ensures { result ≡ are_distinct courses.now }
 {
     if courses.len() <= FEW {
@@ -129,10 +130,10 @@ pub fn open_on<'i, P: Path<'i>>(path: &P, courses: &[u32], day: u32) -> u64
 pub fn open_periods<'i, P: Path<'i>>(path: &P, courses: &[u32]) -> u32
     requires { AreBelow (length (P.problem path.now).courses) courses.now }
     ensures value { result ≡ open_periods (P.problem path.now) (P.facts path.now) courses.now }
-    ensures within { result ≤ 512 }
+    ensures within { result ≤ MAX_SLOTS }
 {
     // What is true of every instance: the periods of a day are the numbers of a word.
-    prove!(path.instance().periods() <= 64);
+    prove!(path.instance().periods() <= MAX_PERIODS);
     let mut total = 0;
     for day in 0..path.instance().days() {
         total += count(open_on(path, courses, day));
@@ -167,7 +168,7 @@ fn open_in_period<'i, P: Path<'i>>(path: &P, courses: &[u32], day: u32, period: 
     requires day { day < (P.problem path.now).days }
     requires period { period < (P.problem path.now).periods }
     ensures value { result ≡ open_in_period (P.problem path.now) (P.facts path.now) courses.now (slot day period) }
-    ensures within { result ≤ 512 }
+    ensures within { result ≤ MAX_ROOMS }
 {
     let mut total = 0;
     for block in 0..(path.instance().rooms() + 63) / 64 {

@@ -8,10 +8,12 @@ ghost use Rattle.tt_facts.specs.declared.facts.Who.TheVariants.{Curriculum};
 ghost use Rattle.tt_leaf.specs.Claims.{is_alone, value_of};
 ghost use Rattle.tt_leaf.specs.Nested.{isolated_periods};
 ghost use Rattle.tt_leaf.specs.declared.leaf.Claim.TheVariants.{Compact};
+ghost use Rattle.tt_instance.specs.declared.limit.TheConstants.{MAX_SLOTS};
 
 use crate::groups::open_on;
 use tt_bits::{count, next, previous, without};
 use tt_facts::{Path, Who};
+use tt_instance::{MAX_DAYS, MAX_PERIODS};
 
 /// What an isolated entry costs, in cost points.
 const ISOLATED_PRICE: u64 = 2;
@@ -26,8 +28,8 @@ fn isolated_on<'i, P: Path<'i>>(path: &P, curriculum: u32, day: u32) -> u64
 {
     let instance = path.instance();
     // What is true of every instance: its members are courses, and the periods of a day are the numbers of a word.
-    prove!(instance.days() <= 64);
-    prove!(instance.periods() <= 64);
+    prove!(instance.days() <= MAX_DAYS);
+    prove!(instance.periods() <= MAX_PERIODS);
     let pinned = path.pinned_periods(Who::Curriculum(curriculum), day);
     if pinned == 0 {
         return 0;
@@ -40,10 +42,10 @@ fn isolated_on<'i, P: Path<'i>>(path: &P, curriculum: u32, day: u32) -> u64
 fn isolated_periods<'i, P: Path<'i>>(path: &P, curriculum: u32) -> u32
     requires { curriculum < length (P.problem path.now).curricula }
     ensures value { result ≡ isolated_periods (P.problem path.now) (P.facts path.now) curriculum }
-    ensures within { result ≤ 512 }
+    ensures within { result ≤ MAX_SLOTS }
 {
     // What is true of every instance: the periods of a day are the numbers of a word.
-    prove!(path.instance().periods() <= 64);
+    prove!(path.instance().periods() <= MAX_PERIODS);
     let mut total = 0;
     for day in 0..path.instance().days() {
         total += count(isolated_on(path, curriculum, day));

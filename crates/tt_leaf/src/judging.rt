@@ -16,6 +16,7 @@ use crate::leaf::{Bound, Claim, Leaf, RuleFault};
 use crate::pinned::pinned_periods;
 use crate::targets::claims_once;
 use tt_facts::{Path, Pattern, Who};
+use tt_instance::{MAX_COURSES, MAX_CURRICULA};
 
 fn fault_of_empty<'i, P: Path<'i>>(path: &P, pattern: &Pattern) -> Option<RuleFault>
     ensures { result ≡ fault_of (P.problem path.now) (P.facts path.now) Nothing (Empty pattern.now) }
@@ -58,7 +59,7 @@ fn fault_of_slots<'i, P: Path<'i>>(path: &P, courses: &[u32]) -> Option<RuleFaul
     ensures { result ≡ fault_of (P.problem path.now) (P.facts path.now) Nothing (Slots courses.now) }
 {
     // What is true of every instance: its courses have marks.
-    prove!(path.instance().courses() <= 2048);
+    prove!(path.instance().courses() <= MAX_COURSES);
     if !are_distinct(courses) {
         Some(RuleFault::ClaimedTwice)
     } else if !have_more_lectures(path.instance(), courses, open_rooms(path, courses)) {
@@ -74,8 +75,8 @@ fn fault_of_sum<'i, P: Path<'i>>(path: &P, claims: &[Claim], least: u64) -> Opti
 {
     let instance = path.instance();
     // What is true of every instance: its targets have marks.
-    prove!(instance.courses() <= 2048);
-    prove!(instance.curricula() <= 8192);
+    prove!(instance.courses() <= MAX_COURSES);
+    prove!(instance.curricula() <= MAX_CURRICULA);
     if !claims_once(claims) {
         Some(RuleFault::ClaimedTwice)
     } else if !are_fair(path, claims) {
@@ -129,7 +130,7 @@ fn exact_total<'i, P: Path<'i>>(path: &P, claims: &[Claim]) -> u64
 {
     let instance = path.instance();
     // There are no more targets, and each is worth at most 2 ^ 44.
-    prove!(3 * instance.courses() + instance.curricula() <= 14_336);
+    prove!(3 * instance.courses() + instance.curricula() <= 3 * MAX_COURSES + MAX_CURRICULA);
     total(path, claims)
 }
 

@@ -3,18 +3,20 @@
 ghost use Rattle.std.specs.Prelude.{◌≡◌, ◌≤◌};
 ghost use Rattle.tt_facts.specs.Facts.{IsWho};
 ghost use Rattle.tt_facts.specs.Live.{pinned_periods};
+ghost use Rattle.tt_instance.specs.declared.limit.TheConstants.{MAX_SLOTS};
 
 use tt_bits::count;
 use tt_facts::{Path, Who};
+use tt_instance::MAX_PERIODS;
 
 /// How many periods of the week are pinned for a course or a curriculum.
 pub fn pinned_periods<'i, P: Path<'i>>(path: &P, who: Who) -> u32
     requires { IsWho (P.problem path.now) who }
     ensures value { result ≡ pinned_periods (P.problem path.now) (P.facts path.now) who }
-    ensures within { result ≤ 512 }
+    ensures within { result ≤ MAX_SLOTS }
 {
     // What is true of every instance: the periods of a day are the numbers of a word.
-    prove!(path.instance().periods() <= 64);
+    prove!(path.instance().periods() <= MAX_PERIODS);
     let mut total = 0;
     for day in 0..path.instance().days() {
         total += count(path.pinned_periods(who, day));

@@ -7,6 +7,7 @@ ghost use Rattle.tt_leaf.specs.Claims.{price_in, are_covered, open_in, value_of}
 ghost use Rattle.tt_leaf.specs.Nested.{PricesBelow, dead_in, priced_live_in, course_prices, room_prices, covered_in, covered};
 ghost use Rattle.tt_leaf.specs.Ranges.{ArePrices};
 ghost use Rattle.tt_leaf.specs.declared.leaf.Claim.TheVariants.{Prices};
+ghost use Rattle.tt_instance.specs.declared.limit.TheConstants.{MAX_COURSES, MAX_ROOMS, MAX_SLOTS};
 
 use crate::slots::{slot_at, slot_count};
 use tt_facts::Path;
@@ -126,7 +127,7 @@ fn open_in<'i, P: Path<'i>>(path: &P, courses: &[(u32, u32)], room: u32) -> u32
     requires courses { PricesBelow (length (P.problem path.now).courses) courses.now }
     requires room { room < length (P.problem path.now).rooms }
     ensures value { result ≡ open_in (P.problem path.now) (P.facts path.now) courses.now room }
-    ensures within { result ≤ 512 }
+    ensures within { result ≤ MAX_SLOTS }
 {
     let instance = path.instance();
     let mut total = 0;
@@ -149,7 +150,7 @@ fn course_price(instance: &Instance<'_>, course: u32, price: u32) -> u64
 
 fn course_prices(instance: &Instance<'_>, courses: &[(u32, u32)]) -> u64
     requires below { PricesBelow (length instance.now.courses) courses.now }
-    requires few { length courses.now ≤ 2048 }
+    requires few { length courses.now ≤ MAX_COURSES }
     ensures value { result ≡ course_prices instance.now courses.now }
     ensures within { result ≤ length courses.now * 2 ^ 44 }
 {
@@ -172,7 +173,7 @@ fn room_price<'i, P: Path<'i>>(path: &P, courses: &[(u32, u32)], room: u32, pric
 fn room_prices<'i, P: Path<'i>>(path: &P, courses: &[(u32, u32)], rooms: &[(u32, u32)]) -> u64
     requires courses { PricesBelow (length (P.problem path.now).courses) courses.now }
     requires rooms { PricesBelow (length (P.problem path.now).rooms) rooms.now }
-    requires few { length rooms.now ≤ 512 }
+    requires few { length rooms.now ≤ MAX_ROOMS }
     ensures { result ≡ room_prices (P.problem path.now) (P.facts path.now) courses.now rooms.now }
 {
     let mut total: u64 = 0;

@@ -3,13 +3,14 @@
 ghost use Rattle.std.specs.Prelude.{◌≡◌, ◌<◌, ◌≤◌, length, slice_index_or};
 ghost use Rattle.tt_instance.specs.Cells.{all_slots};
 ghost use Rattle.tt_instance.specs.Limits.{IsInstance};
+ghost use Rattle.tt_instance.specs.declared.limit.TheConstants.{MAX_SLOTS};
 
 use tt_instance::{Instance, Slot};
 
 /// How many periods the week has.
 pub fn slot_count(instance: &Instance<'_>) -> u32
     ensures value { result ≡ length (all_slots instance.now) }
-    ensures within { result ≤ 512 }
+    ensures within { result ≤ MAX_SLOTS }
     ensures instance { IsInstance instance.now }
 {
     instance.days() * instance.periods()

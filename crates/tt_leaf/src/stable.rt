@@ -4,6 +4,7 @@ ghost use Rattle.std.specs.Prelude.{◌≡◌, ◌<◌, ◌≤◌, length};
 ghost use Rattle.tt_leaf.specs.Claims.{value_of};
 ghost use Rattle.tt_leaf.specs.Nested.{pinned_rooms};
 ghost use Rattle.tt_leaf.specs.declared.leaf.Claim.TheVariants.{Stable};
+ghost use Rattle.tt_instance.specs.declared.limit.TheConstants.{MAX_ROOMS};
 
 use tt_bits::count;
 use tt_facts::Path;
@@ -11,7 +12,7 @@ use tt_facts::Path;
 fn pinned_rooms<'i, P: Path<'i>>(path: &P, course: u32) -> u32
     requires { course < length (P.problem path.now).courses }
     ensures value { result ≡ pinned_rooms (P.problem path.now) (P.facts path.now) course }
-    ensures within { result ≤ 512 }
+    ensures within { result ≤ MAX_ROOMS }
 {
     let mut total = 0;
     for block in 0..(path.instance().rooms() + 63) / 64 {
@@ -24,7 +25,7 @@ fn pinned_rooms<'i, P: Path<'i>>(path: &P, course: u32) -> u32
 pub fn stable_value<'i, P: Path<'i>>(path: &P, course: u32) -> u64
     requires { course < length (P.problem path.now).courses }
     ensures value { result ≡ value_of (P.problem path.now) (P.facts path.now) (Stable course) }
-    ensures within { result ≤ 512 }
+    ensures within { result ≤ MAX_ROOMS }
 {
     u64::from(pinned_rooms(path, course).saturating_sub(1))
 }

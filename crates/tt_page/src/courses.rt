@@ -9,6 +9,7 @@ ghost use Rattle.tt_table.specs.declared.table.TheConstants.{MAX_ENTRIES};
 ghost use Rattle.tt_rules.specs.Hard.{entries_of, periods_of, lectures_off};
 ghost use Rattle.tt_rules.specs.Soft.{days_of, stability_cost};
 ghost use Rattle.tt_page.specs.Courses.{is_taught_in, rooms_text, room_text, course_marks, course_numbers, course_row, courses_head_text, courses_text};
+ghost use Rattle.tt_instance.specs.declared.limit.TheConstants.{MAX_MIN_DAYS, MAX_ROOMS};
 
 use crate::groups::{some_at, some_in, some_on};
 use crate::kind::{Kind, course_name};
@@ -113,7 +114,7 @@ pub fn lectures_off(plan: &Plan<'_, '_>, course: u32) -> u64
 pub fn missing_days(plan: &Plan<'_, '_>, course: u32) -> u64
     requires { course < length plan.now.problem.courses }
     ensures days { result ≡ min_days plan.now.problem course - days_of plan.now.problem plan.now.table course }
-    ensures few { result ≤ 512 }
+    ensures few { result ≤ MAX_MIN_DAYS }
 {
     u64::from(plan.instance().min_days(course)).saturating_sub(days_of(plan, course))
 }
@@ -123,7 +124,7 @@ pub fn missing_days(plan: &Plan<'_, '_>, course: u32) -> u64
 fn rooms_of(plan: &Plan<'_, '_>, course: u32) -> u64
     requires { course < length plan.now.problem.courses }
     ensures count { result ≡ count_by (λ r. is_taught_in plan.now.table course r) (range_below (length plan.now.problem.rooms)) }
-    ensures few { result ≤ 512 }
+    ensures few { result ≤ MAX_ROOMS }
 {
     let mut rooms: u64 = 0;
     for room in 0..plan.instance().rooms() {
@@ -138,7 +139,7 @@ fn rooms_of(plan: &Plan<'_, '_>, course: u32) -> u64
 pub fn other_rooms(plan: &Plan<'_, '_>, course: u32) -> u64
     requires { course < length plan.now.problem.courses }
     ensures rooms { result ≡ stability_cost plan.now.problem plan.now.table course }
-    ensures few { result ≤ 512 }
+    ensures few { result ≤ MAX_ROOMS }
 {
     rooms_of(plan, course).saturating_sub(1)
 }

@@ -8,7 +8,7 @@ ghost use Rattle.tt_table.specs.declared.groups.GroupBy.TheVariants as by;
 ghost use Rattle.tt_page.specs.Planned.{Planned};
 
 use std::marker::Model;
-use tt_instance::Instance;
+use tt_instance::{Instance, MAX_COURSES};
 use tt_table::{Entry, Group, GroupBy, Groups, Timetable};
 
 /// A timetable of an instance, its entries by period and by course.
@@ -47,7 +47,8 @@ fn by_course<'t>(instance: &Instance<'_>, entries: &'t [Entry]) -> Groups<'t>
     requires few { length entries.now ≤ MAX_ENTRIES }
     ensures { result ≡ record { by = by.Course; entries = entries.now } }
 {
-    let _courses = instance.courses();
+    // What is true of every instance: each course is a group.
+    prove!(instance.courses() <= MAX_COURSES);
     Groups::new(entries, GroupBy::Course)
 }
 

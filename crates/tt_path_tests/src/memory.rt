@@ -1,9 +1,10 @@
-//! The path with tables, between two marks: hostile/run.py refuses its growths in turn. After a refusal each of its answers is as before.
+//! Both paths, between two marks: hostile/run.py refuses their growths in turn. After a refusal each of their answers is as before.
 
 use crate::answers::all_told;
+use crate::deadness::fact_in_period;
 use crate::dice::{Dice, Ranges, ranges_of};
 use std::test::Fail;
-use tt_facts::{Path, PathFault, PlainPath};
+use tt_facts::{Path, PathFault, PlainPath, Who};
 use tt_instance::read_instance;
 use tt_samples::{GAP, MARK};
 use tt_trail_path::TrailPath;
@@ -45,5 +46,33 @@ fn the_call_push_of_trail_paths(rt: HostRuntime) -> Result<(), Fail> {
     assert_eq!(rt; all_told(&path, ranges, 5), all_told(&plain, ranges, 5));
     pushed?;
     assert_eq!(rt; path.depth(), FACTS);
+    Ok(())
+}
+
+/// Pushes a fact of each of forty periods, until one is refused.
+fn push_facts(path: &mut PlainPath<'_, '_>) -> Result<(), PathFault> {
+    for period in 0..40 {
+        path.push(fact_in_period(Who::Course(0), period, true))?;
+    }
+    Ok(())
+}
+
+/// How many of those facts stand on a path.
+fn standing(path: &PlainPath<'_, '_>) -> u32 {
+    (0..40)
+        .filter(|period| path.has(&fact_in_period(Who::Course(0), *period, true).pattern, true))
+        .count() as u32
+}
+
+#[test]
+fn the_call_push_of_plain_paths(rt: HostRuntime) -> Result<(), Fail> {
+    let instance = read_instance(rt.alloc(), GAP.as_bytes())?;
+    let mut path = PlainPath::new(rt.alloc(), &instance);
+    println!(rt; "{MARK}")?;
+    let pushed = push_facts(&mut path);
+    println!(rt; "{MARK}")?;
+    assert_eq!(rt; path.depth(), standing(&path));
+    pushed?;
+    assert_eq!(rt; path.depth(), 40);
     Ok(())
 }

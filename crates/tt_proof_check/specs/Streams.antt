@@ -1,6 +1,7 @@
 -- What the answers of a checker that reads node by node say of the text.
 use Rattle.std.specs.Prelude.{◌≡◌, ℕ, ◌+◌, List, [], ◌∷◌, ◌++◌, length, take, All, Result, Ok, ⊤, ◌⊎◌}
-use Rattle.tt_text.specs.Feeds.{Stream, stream_from, most_bytes}
+use Rattle.tt_text.specs.Feeds.{Stream, stream_from}
+use Rattle.tt_text.specs.declared.feed.TheConstants.{MAX_BYTES}
 use Rattle.tt_text.specs.Reading.{FailsUnless}
 use Rattle.tt_text.specs.declared.feed.FeedFault.TheVariants as feed
 use Rattle.tt_instance.specs.Problem.{Problem}
@@ -29,7 +30,7 @@ IsSilent e = (e ≡ OutOfMemory) ⊎ (e ≡ Text (text.Feed feed.Read))
 
 -- what a feed gives of the bytes
 abbrev pub stream_of : List ℕ → Stream
-stream_of bytes = stream_from most_bytes 0 bytes
+stream_of bytes = stream_from MAX_BYTES 0 bytes
 
 -- how many there are of each thing
 abbrev pub sizes_of : Problem → Sizes

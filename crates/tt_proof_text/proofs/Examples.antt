@@ -2,7 +2,8 @@
 use Rattle.std.proofs.Common.{◌≡◌, ℕ, List, [], ◌∷◌, Some, None, Ok, Err, codes, refl}
 use Rattle.tt_text.specs.Tokens.{tokens_from, tokens_of}
 use Rattle.tt_text.specs.Numbers.{number_of}
-use Rattle.tt_text.specs.Feeds.{Stream, fault_from, stream_from, most_bytes, stopped}
+use Rattle.tt_text.specs.Feeds.{Stream, fault_from, stream_from, stopped}
+use Rattle.tt_text.specs.declared.feed.TheConstants.{MAX_BYTES}
 use Rattle.tt_text.specs.CutShort.{cut_short}
 use Rattle.tt_text.specs.declared.feed.FeedFault.TheVariants.{Read}
 use Rattle.tt_facts.specs.declared.facts.Who.TheVariants.{Curriculum}
@@ -72,16 +73,16 @@ trailing = refl
 -- ---- bytes after which a read fails
 
 -- the number may go on
-bound_goes_on : header_at (cut_short (stream_from most_bytes 0 (codes "CTTP 1 bound 5"))) ≡ Err read_failed
+bound_goes_on : header_at (cut_short (stream_from MAX_BYTES 0 (codes "CTTP 1 bound 5"))) ≡ Err read_failed
 unfolding stream_from fault_from tokens_from number_of token_at word_at version_at bound_of bound_at header_at
 bound_goes_on = refl
 
 -- it has come whole
-bound_is_whole : header_at (cut_short (stream_from most_bytes 0 (codes "CTTP 1 bound 5 "))) ≡ Ok ((1, AtLeast 5), stopped (Err Read))
+bound_is_whole : header_at (cut_short (stream_from MAX_BYTES 0 (codes "CTTP 1 bound 5 "))) ≡ Ok ((1, AtLeast 5), stopped (Err Read))
 unfolding stream_from fault_from tokens_from number_of token_at word_at version_at bound_of bound_at header_at
 bound_is_whole = refl
 
 -- a fault before it is told
-fault_first : header_at (cut_short (stream_from most_bytes 0 (codes "CTTP 3 bound 5"))) ≡ Err (fault.Expected word.One 5)
+fault_first : header_at (cut_short (stream_from MAX_BYTES 0 (codes "CTTP 3 bound 5"))) ≡ Err (fault.Expected word.One 5)
 unfolding stream_from fault_from tokens_from number_of token_at word_at version_at bound_of bound_at header_at
 fault_first = refl

@@ -4,7 +4,8 @@ use Rattle.std.specs.Prelude.{All}
 use Rattle.std.proofs.lemmas.List.Elements.{All-nil, All-cons, All-head, All-tail, All-from_recursion, recursion_from_All}
 use Rattle.tt_text.specs.Tokens.{Placed, tokens_of}
 use Rattle.tt_text.specs.Pieces.{Piece, Text, Begins}
-use Rattle.tt_text.specs.Feeds.{Stream, most_bytes, stopped}
+use Rattle.tt_text.specs.Feeds.{Stream, stopped}
+use Rattle.tt_text.specs.declared.feed.TheConstants.{MAX_BYTES}
 use Rattle.tt_text.specs.declared.feed.FeedFault.{FeedFault}
 use Rattle.tt_text.proofs.Steps.{ok_is, bind_ok}
 use Rattle.tt_text.proofs.Unlimited.{unlimited, limited}
@@ -140,8 +141,8 @@ module _ (p : Problem) (sizes : Sizes) (are : AreSizes p sizes) where
       let nodes = nodes_took p sizes are v 0 r.headed (preorder tree) r.noded (omega arith) r.nodes in
       let last = end_took r.noded r.ended r.finish in
       let whole = took_then s r.headed last.rest (header_pieces v b) (nodes.body ++ fixed word.End ∷ []) header.took (took_then r.headed r.noded last.rest nodes.body (fixed word.End ∷ []) nodes.took last.took) in
-      let within = limited most_bytes last.bytes bytes (whole.stop ∙ last.stop) in
-      let same = unlimited most_bytes 0 bytes (omega (arith, within.0)) within.1 in
+      let within = limited MAX_BYTES last.bytes bytes (whole.stop ∙ last.stop) in
+      let same = unlimited MAX_BYTES 0 bytes (omega (arith, within.0)) within.1 in
       let tokens = subst (λ (ts : List Placed). Begins (header_pieces v b ++ (nodes.body ++ fixed word.End ∷ [])) ts []) (ap (λ (x : Stream). x.tokens) same)
       (subst (Begins (header_pieces v b ++ (nodes.body ++ fixed word.End ∷ [])) s.tokens) last.none whole.begins) in
       record {
@@ -159,7 +160,7 @@ module _ (p : Problem) (sizes : Sizes) (are : AreSizes p sizes) where
   spelled_reads small bytes v b tree spelled =
       let s = stream_of_bytes bytes in
       let size = spelled.within.size in
-      let same = unlimited most_bytes 0 bytes (omega (arith, size)) (recursion_from_All (λ t. length t.text ≤ 32) (tokens_of bytes) spelled.within.tokens) in
+      let same = unlimited MAX_BYTES 0 bytes (omega (arith, size)) (recursion_from_All (λ t. length t.text ≤ 32) (tokens_of bytes) spelled.within.tokens) in
       let after = stopped (Ok (0 + length bytes)) in
       let tail = spelled.body ++ fixed word.End ∷ [] in
       let whole : Took s (header_pieces v b ++ tail) after = subst (λ (x : Stream). Took x (header_pieces v b ++ tail) after) (sym same) (record { begins = spelled.tokens; stop = refl }) in

@@ -1,7 +1,8 @@
 -- A proof that a stream gives node by node.
 use Rattle.std.specs.Prelude.{◌≡◌, ℕ, zero, suc, ◌+◌, List, [], ◌∷◌, Option, Some, None, Ok}
 use Rattle.tt_leaf.specs.declared.leaf.Bound.{Bound}
-use Rattle.tt_text.specs.Feeds.{Stream, stream_from, most_bytes}
+use Rattle.tt_text.specs.Feeds.{Stream, stream_from}
+use Rattle.tt_text.specs.declared.feed.TheConstants.{MAX_BYTES}
 use Rattle.tt_proof_text.specs.Reading.{header_at, node_at, end_at}
 use Rattle.tt_proof_text.specs.Trees.{Tree, preorder}
 use Rattle.tt_proof_text.specs.declared.node.Node.{Node}
@@ -25,7 +26,7 @@ pub record Reads (sizes : Sizes) (s : Stream) (version : ℕ) (bound : Bound) (t
 
 -- what a feed gives of bytes
 abbrev pub stream_of_bytes : List ℕ → Stream
-stream_of_bytes bytes = stream_from most_bytes 0 bytes
+stream_of_bytes bytes = stream_from MAX_BYTES 0 bytes
 
 -- How many places of a tree are open after nodes, each of which fills one: a leaf opens none, a split two. None where no place is open for a node.
 abbrev pub open_after : ℕ → List Node → Option ℕ

@@ -2,6 +2,7 @@
 use Rattle.std.specs.Prelude.{◌≡◌, ℕ, ◌≤◌, ◌==◌, true, not, List, [], ◌∷◌, ◌++◌, length, map, flat_map, codes, All, if◌then◌else◌, Option, Some, None, ⊤}
 use Rattle.tt_lists.specs.Words.{each_two}
 use Rattle.tt_text.specs.Tokens.{tokens_of}
+use Rattle.tt_text.specs.declared.feed.TheConstants.{MAX_BYTES, MAX_TOKEN_BYTES}
 use Rattle.tt_text.specs.Pieces.{Piece, Text, Number, Index, AreTokens}
 use Rattle.tt_instance.specs.Problem.{Problem}
 use Rattle.tt_facts.specs.declared.facts.Who.{Who}
@@ -18,7 +19,7 @@ use Rattle.tt_leaf.specs.declared.leaf.Leaf.{Leaf}
 use Rattle.tt_leaf.specs.declared.leaf.Leaf.TheVariants.{Empty, Many, Clique, Slots, Cost}
 use Rattle.tt_proof_text.specs.declared.fault.Word.{Word}
 use Rattle.tt_proof_text.specs.declared.fault.Word.TheVariants as word
-use Rattle.tt_proof_text.specs.declared.format.TheConstants.{COURSE_LETTER, CURRICULUM_LETTER, DAY_LETTER, MAX_NODES, MAX_POINTS, MAX_PRICE, MAX_PROOF_BYTES, PERIOD_LETTER, ROOM_LETTER}
+use Rattle.tt_proof_text.specs.declared.format.TheConstants.{COURSE_LETTER, CURRICULUM_LETTER, DAY_LETTER, MAX_NODES, MAX_POINTS, MAX_PRICE, PERIOD_LETTER, ROOM_LETTER}
 use Rattle.tt_proof_text.specs.declared.node.Node.{Node}
 use Rattle.tt_proof_text.specs.declared.node.Node.TheVariants as node
 use Rattle.tt_proof_text.specs.Trees.{Tree, preorder, on_paths}
@@ -143,8 +144,8 @@ IsBound Nothing = ⊤
 
 -- the limits of a file
 pub record IsWithinLimits (bytes : List ℕ) (tree : Tree) : Type 0 where
-  pub size : length bytes ≤ MAX_PROOF_BYTES
-  pub tokens : All (λ t. length t.text ≤ 32) (tokens_of bytes)
+  pub size : length bytes ≤ MAX_BYTES
+  pub tokens : All (λ t. length t.text ≤ MAX_TOKEN_BYTES) (tokens_of bytes)
   pub nodes : length (preorder tree) ≤ MAX_NODES
   pub depth : All (λ x. length x.path ≤ MAX_FACTS) (on_paths [] tree)
 

@@ -9,9 +9,6 @@ pub const MAX_POINTS: u64 = 1_000_000_000_000;
 /// The most nodes of a proof.
 pub const MAX_NODES: u32 = 16_777_216;
 
-/// The most bytes of a proof.
-pub const MAX_PROOF_BYTES: u64 = 4_294_967_295;
-
 /// Stands before the number of a course.
 pub const COURSE_LETTER: u8 = b'c';
 

@@ -21,7 +21,7 @@ mod tree;
 pub use fault::{TextFault, Word};
 pub use format::{
     COURSE_LETTER, CURRICULUM_LETTER, DAY_LETTER, MAX_NODES, MAX_POINTS, MAX_PRICE,
-    MAX_PROOF_BYTES, PERIOD_LETTER, ROOM_LETTER,
+    PERIOD_LETTER, ROOM_LETTER,
 };
 pub use laws::{filled_trees_are_whole, read_proofs_are_spelled};
 pub use node::Node;

@@ -2,3 +2,14 @@ pub mod Bytes
 pub mod Numbers
 pub mod Within
 pub mod Written
+pub use Rattle.tt_proof_text.specs.Answers
+pub use Rattle.tt_proof_text.specs.Faults
+pub use Rattle.tt_proof_text.specs.Listed
+pub use Rattle.tt_proof_text.specs.Pricing
+pub use Rattle.tt_proof_text.specs.Readers
+pub use Rattle.tt_proof_text.specs.Reading
+pub use Rattle.tt_proof_text.specs.Reads
+pub use Rattle.tt_proof_text.specs.Sizes
+pub use Rattle.tt_proof_text.specs.Spelling
+pub use Rattle.tt_proof_text.specs.Trees
+pub use Rattle.tt_proof_text.specs.Words

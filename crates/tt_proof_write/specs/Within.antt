@@ -3,7 +3,8 @@ use Rattle.std.specs.Prelude.{◌≡◌, ℕ, ◌≤◌, List, [], length, All, 
 use Rattle.tt_leaf.specs.declared.leaf.Bound.{Bound}
 use Rattle.tt_leaf.specs.declared.leaf.Leaf.{Leaf}
 use Rattle.tt_leaf.specs.declared.leaf.Leaf.TheVariants.{Cost}
-use Rattle.tt_proof_text.specs.declared.format.TheConstants.{MAX_NODES, MAX_PROOF_BYTES}
+use Rattle.tt_text.specs.declared.feed.TheConstants.{MAX_BYTES}
+use Rattle.tt_proof_text.specs.declared.format.TheConstants.{MAX_NODES}
 use Rattle.tt_proof_text.specs.declared.node.Node.{Node}
 use Rattle.tt_proof_text.specs.declared.node.Node.TheVariants as node
 use Rattle.tt_proof_text.specs.Spelling.{IsShortClaim, IsLeafIn, IsBound}
@@ -36,7 +37,7 @@ pub record AreWithin (b : Bound) (nodes : List Node) : Type 0 where
 -- the limits of a file
 pub record FitsFile (v : ℕ) (b : Bound) (nodes : List Node) : Type 0 where
   pub parts : AreWithin b nodes
-  pub bytes : length (proof_text v b nodes) ≤ MAX_PROOF_BYTES
+  pub bytes : length (proof_text v b nodes) ≤ MAX_BYTES
 
 -- the claims of a node are the version's
 abbrev pub IsNodeIn : ℕ → Node → Type 0

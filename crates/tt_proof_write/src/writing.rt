@@ -16,8 +16,8 @@ use crate::limits::{are_nodes_in, are_within};
 use crate::nodes::put_nodes;
 use std::alloc::{AllocError, Global};
 use tt_leaf::Bound;
-use tt_proof_text::{MAX_PROOF_BYTES, Node, Word, is_tree};
-use tt_text::{put_line_end, put_next_number, put_next_token, put_token};
+use tt_proof_text::{Node, Word, is_tree};
+use tt_text::{MAX_BYTES, put_line_end, put_next_number, put_next_token, put_token};
 
 fn put_header(out: &mut Vec<u8>, version: u8, bound: Bound) -> Result<(), AllocError>
     ensures { OnOk result (out.new.items ≡ out.old.items ++ line_text (header_pieces version bound)) }
@@ -69,7 +69,7 @@ pub fn write_proof(
         return Err(WriteFault::NotATree);
     }
     let bytes = proof_bytes(version, bound, nodes);
-    if bytes > MAX_PROOF_BYTES || !are_within(bound, nodes) {
+    if bytes > MAX_BYTES as u64 || !are_within(bound, nodes) {
         return Err(WriteFault::OverLimit);
     }
     if !are_nodes_in(version, nodes) {

@@ -8,6 +8,8 @@ ghost use Rattle.tt_rules.specs.Soft.{is_isolated, compactness_count};
 ghost use Rattle.tt_rules.specs.Places.{place_of, is_alone};
 ghost use Rattle.tt_table.specs.declared.groups.GroupBy.TheVariants as by;
 ghost use Rattle.tt_table.specs.declared.table.TheConstants.{MAX_ENTRIES};
+ghost use Rattle.tt_instance.specs.declared.limit.TheConstants.{MAX_COURSES, MAX_MEMBERS};
+ghost use Rattle.tt_rules.specs.declared.marks.TheConstants.{PLACES};
 
 use crate::marks::Marks;
 use tt_instance::Instance;
@@ -19,7 +21,7 @@ use tt_table::{Entry, Group, Groups};
 fn place(instance: &Instance<'_>, entry: &Entry) -> usize
     ensures value { result ≡ place_of instance.now entry.now }
     ensures within { result < 2 ^ 40 }
-    ensures few { InRange instance.now entry.now → result < 2048 }
+    ensures few { InRange instance.now entry.now → result < PLACES }
 {
     entry.day as usize * (instance.periods() as usize + 1) + entry.period as usize + 1
 }
@@ -38,7 +40,7 @@ fn mark_places(instance: &Instance<'_>, group: Group<'_>, marks: &mut Marks)
 /// The places in which some of the courses is taught.
 fn taught(instance: &Instance<'_>, by_course: &Groups<'_>, courses: &[u32]) -> Marks
     requires by { by_course.now.by ≡ by.Course }
-    requires courses { All (λ c. c < 2048) courses.now }
+    requires courses { All (λ c. c < MAX_COURSES) courses.now }
     requires in_range { All (InRange instance.now) by_course.now.entries }
     ensures { (k : ℕ) → slice_index_or result k false
         ≡ list_any (λ c. list_any (λ e. is_of c e && (place_of instance.now e == k)) by_course.now.entries) courses.now }
@@ -67,8 +69,8 @@ fn alone(instance: &Instance<'_>, group: Group<'_>, taught: &Marks) -> u64
 /// The entries of courses with no mark right before their place or right after it.
 fn alone_of(instance: &Instance<'_>, by_course: &Groups<'_>, courses: &[u32], taught: &Marks) -> u64
     requires by { by_course.now.by ≡ by.Course }
-    requires courses { All (λ c. c < 2048) courses.now }
-    requires listed { length courses.now ≤ 4096 }
+    requires courses { All (λ c. c < MAX_COURSES) courses.now }
+    requires listed { length courses.now ≤ MAX_MEMBERS }
     requires few { length by_course.now.entries ≤ MAX_ENTRIES }
     ensures count { result
         ≡ sum_by (λ c. count_by (λ e. is_of c e && is_alone instance.now taught.now e) by_course.now.entries) courses.now }

@@ -3,6 +3,7 @@
 ghost use Rattle.std.specs.Prelude.{◌≡◌, ◌≤◌, count_by, All};
 ghost use Rattle.std.specs.List.{list_any};
 ghost use Rattle.tt_instance.specs.Cells.{InRange, all_slots, all_days, all_rooms, is_at, is_on, is_in};
+ghost use Rattle.tt_instance.specs.declared.limit.TheConstants.{MAX_ROOMS};
 
 use crate::marks::Marks;
 use crate::slots;
@@ -41,7 +42,7 @@ pub fn days(instance: &Instance<'_>, group: Group<'_>) -> u64
 pub fn rooms(instance: &Instance<'_>, group: Group<'_>) -> u64
     requires { All (InRange instance.now) group }
     ensures count { result ≡ count_by (λ r. list_any (is_in r) group.entry) (all_rooms instance.now) }
-    ensures few { result ≤ 512 }
+    ensures few { result ≤ MAX_ROOMS }
 {
     let rooms = instance.rooms();
     let mut marks = Marks::none();

@@ -1,6 +1,6 @@
 //! Lectures: all lectures of a course are placed, in distinct periods.
 
-ghost use Rattle.std.specs.Prelude.{◌≡◌, ◌<◌, ◌≤◌, ◌^◌, length, All};
+ghost use Rattle.std.specs.Prelude.{◌≡◌, ◌<◌, ◌≤◌, ◌*◌, ◌^◌, length, All};
 ghost use Rattle.tt_instance.specs.Cells.{InRange};
 ghost use Rattle.tt_rules.specs.Hard.{entries_of, periods_of, lectures_off, lectures_count};
 ghost use Rattle.tt_table.specs.declared.groups.GroupBy.TheVariants as by;
@@ -13,7 +13,7 @@ use tt_table::Groups;
 /// The entries of a course.
 fn entries_of(by_course: &Groups<'_>, course: u32) -> u64
     requires by { by_course.now.by ≡ by.Course }
-    requires course { course < 2048 }
+    requires course { course < MAX_COURSES }
     requires few { length by_course.now.entries ≤ MAX_ENTRIES }
     ensures count { result ≡ entries_of by_course.now.entries course }
     ensures few { result ≤ length by_course.now.entries }
@@ -24,7 +24,7 @@ fn entries_of(by_course: &Groups<'_>, course: u32) -> u64
 /// The periods in which the course is taught.
 fn periods_of(instance: &Instance<'_>, by_course: &Groups<'_>, course: u32) -> u64
     requires by { by_course.now.by ≡ by.Course }
-    requires course { course < 2048 }
+    requires course { course < MAX_COURSES }
     requires in_range { All (InRange instance.now) by_course.now.entries }
     ensures { result ≡ periods_of instance.now by_course.now.entries course }
 {
@@ -38,7 +38,7 @@ fn lectures_off(instance: &Instance<'_>, by_course: &Groups<'_>, course: u32) ->
     requires in_range { All (InRange instance.now) by_course.now.entries }
     requires few { length by_course.now.entries ≤ MAX_ENTRIES }
     ensures value { result ≡ lectures_off instance.now by_course.now.entries course }
-    ensures within { result ≤ 65536 }
+    ensures within { result ≤ 4 * MAX_ENTRIES }
 {
     // What is true of every instance: each course is a group.
     prove!(instance.courses() <= MAX_COURSES);

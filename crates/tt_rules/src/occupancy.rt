@@ -6,6 +6,7 @@ ghost use Rattle.tt_instance.specs.Cells.{InRange, all_slots, is_in, is_at};
 ghost use Rattle.tt_rules.specs.Hard.{entries_in, occupancy_count};
 ghost use Rattle.tt_table.specs.declared.groups.GroupBy.TheVariants as by;
 ghost use Rattle.tt_table.specs.declared.table.TheConstants.{MAX_ENTRIES};
+ghost use Rattle.tt_table.specs.declared.groups.TheConstants.{GROUPS};
 
 use crate::distinct;
 use tt_instance::Instance;
@@ -14,7 +15,7 @@ use tt_table::Groups;
 /// The entries in a room.
 fn entries_in(by_room: &Groups<'_>, room: u32) -> u64
     requires by { by_room.now.by ≡ by.Room }
-    requires room { room < 2048 }
+    requires room { room < GROUPS }
     requires few { length by_room.now.entries ≤ MAX_ENTRIES }
     ensures count { result ≡ count_by (is_in room) by_room.now.entries }
     ensures few { result ≤ length by_room.now.entries }
@@ -25,7 +26,7 @@ fn entries_in(by_room: &Groups<'_>, room: u32) -> u64
 /// The periods in which the room is used.
 fn periods_of(instance: &Instance<'_>, by_room: &Groups<'_>, room: u32) -> u64
     requires by { by_room.now.by ≡ by.Room }
-    requires room { room < 2048 }
+    requires room { room < GROUPS }
     requires in_range { All (InRange instance.now) by_room.now.entries }
     ensures { result
         ≡ count_by (λ s. list_any (λ e. is_in room e && is_at s e) by_room.now.entries)
@@ -37,7 +38,7 @@ fn periods_of(instance: &Instance<'_>, by_room: &Groups<'_>, room: u32) -> u64
 /// The entries of a room but the first of each period.
 fn doubled(instance: &Instance<'_>, by_room: &Groups<'_>, room: u32) -> u64
     requires by { by_room.now.by ≡ by.Room }
-    requires room { room < 2048 }
+    requires room { room < GROUPS }
     requires in_range { All (InRange instance.now) by_room.now.entries }
     requires few { length by_room.now.entries ≤ MAX_ENTRIES }
     ensures count { result

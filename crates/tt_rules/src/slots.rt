@@ -2,6 +2,7 @@
 
 ghost use Rattle.std.specs.Prelude.{◌≡◌, ◌+◌, ◌*◌, ◌<◌, ◌≤◌};
 ghost use Rattle.tt_instance.specs.Cells.{InRange};
+ghost use Rattle.tt_instance.specs.declared.limit.TheConstants.{MAX_SLOTS};
 
 use tt_instance::Instance;
 use tt_table::Entry;
@@ -9,7 +10,7 @@ use tt_table::Entry;
 /// How many periods the week has.
 pub fn in_week(instance: &Instance<'_>) -> u32
     ensures value { result ≡ instance.now.days * instance.now.periods }
-    ensures within { result ≤ 512 }
+    ensures within { result ≤ MAX_SLOTS }
 {
     instance.days() * instance.periods()
 }
@@ -19,7 +20,7 @@ pub fn in_week(instance: &Instance<'_>) -> u32
 pub fn number(instance: &Instance<'_>, entry: &Entry) -> usize
     requires { InRange instance.now entry.now }
     ensures value { result ≡ entry.now.day * instance.now.periods + entry.now.period }
-    ensures within { result < 512 }
+    ensures within { result < MAX_SLOTS }
 {
     (entry.day * instance.periods() + entry.period) as usize
 }

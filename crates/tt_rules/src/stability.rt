@@ -5,6 +5,8 @@ ghost use Rattle.std.specs.List.{list_any};
 ghost use Rattle.tt_instance.specs.Cells.{InRange, all_rooms, is_of, is_in};
 ghost use Rattle.tt_rules.specs.Soft.{stability_cost, stability_count};
 ghost use Rattle.tt_table.specs.declared.groups.GroupBy.TheVariants as by;
+ghost use Rattle.tt_instance.specs.declared.limit.TheConstants.{MAX_ROOMS};
+ghost use Rattle.tt_table.specs.declared.groups.TheConstants.{GROUPS};
 
 use crate::distinct;
 use tt_instance::Instance;
@@ -13,12 +15,12 @@ use tt_table::Groups;
 /// The rooms in which the course is taught.
 fn rooms_of(instance: &Instance<'_>, by_course: &Groups<'_>, course: u32) -> u64
     requires by { by_course.now.by ≡ by.Course }
-    requires course { course < 2048 }
+    requires course { course < GROUPS }
     requires in_range { All (InRange instance.now) by_course.now.entries }
     ensures count { result
         ≡ count_by (λ r. list_any (λ e. is_of course e && is_in r e) by_course.now.entries)
         (all_rooms instance.now) }
-    ensures few { result ≤ 512 }
+    ensures few { result ≤ MAX_ROOMS }
 {
     distinct::rooms(instance, by_course.of_course(course))
 }
@@ -26,10 +28,10 @@ fn rooms_of(instance: &Instance<'_>, by_course: &Groups<'_>, course: u32) -> u64
 /// The cost of a course.
 fn cost_of(instance: &Instance<'_>, by_course: &Groups<'_>, course: u32) -> u64
     requires by { by_course.now.by ≡ by.Course }
-    requires course { course < 2048 }
+    requires course { course < GROUPS }
     requires in_range { All (InRange instance.now) by_course.now.entries }
     ensures cost { result ≡ stability_cost instance.now by_course.now.entries course }
-    ensures few { result ≤ 512 }
+    ensures few { result ≤ MAX_ROOMS }
 {
     rooms_of(instance, by_course, course).saturating_sub(1)
 }

@@ -1,9 +1,10 @@
 //! Minimum working days: 5 for each day that a course is below its minimum.
 
-ghost use Rattle.std.specs.Prelude.{◌≡◌, ◌<◌, ◌≤◌, ◌^◌, length, All};
+ghost use Rattle.std.specs.Prelude.{◌≡◌, ◌<◌, ◌≤◌, ◌*◌, ◌^◌, length, All};
 ghost use Rattle.tt_instance.specs.Cells.{InRange};
 ghost use Rattle.tt_rules.specs.Soft.{days_of, days_cost, days_count};
 ghost use Rattle.tt_table.specs.declared.groups.GroupBy.TheVariants as by;
+ghost use Rattle.tt_instance.specs.declared.limit.TheConstants.{MAX_MIN_DAYS};
 
 use crate::distinct;
 use tt_instance::{Instance, MAX_COURSES};
@@ -12,7 +13,7 @@ use tt_table::Groups;
 /// The days on which the course is taught.
 fn days_of(instance: &Instance<'_>, by_course: &Groups<'_>, course: u32) -> u64
     requires by { by_course.now.by ≡ by.Course }
-    requires course { course < 2048 }
+    requires course { course < MAX_COURSES }
     requires in_range { All (InRange instance.now) by_course.now.entries }
     ensures { result ≡ days_of instance.now by_course.now.entries course }
 {
@@ -25,7 +26,7 @@ fn cost_of(instance: &Instance<'_>, by_course: &Groups<'_>, course: u32) -> u64
     requires course { course < length instance.now.courses }
     requires in_range { All (InRange instance.now) by_course.now.entries }
     ensures cost { result ≡ days_cost instance.now by_course.now.entries course }
-    ensures few { result ≤ 2560 }
+    ensures few { result ≤ 5 * MAX_MIN_DAYS }
 {
     // What is true of every instance: each course is a group.
     prove!(instance.courses() <= MAX_COURSES);

@@ -2,6 +2,7 @@
 use Rattle.std.specs.Prelude.{◌≡◌, ℕ, ◌+◌, ◌*◌, ◌<◌, ◌≤◌, ◌==◌, Bool, not, List, [], ◌∷◌, length, drop, filter, slice_index_or}
 use Rattle.std.specs.List.{prefix_len}
 use Rattle.tt_instance.specs.declared.cell.Cell.{Cell}
+use Rattle.tt_table.specs.declared.groups.TheConstants.{GROUPS}
 use Rattle.tt_table.specs.declared.groups.GroupBy.{GroupBy}
 use Rattle.tt_table.specs.declared.groups.GroupBy.TheVariants.{Course, Room, Period}
 
@@ -37,13 +38,13 @@ NamesNext by t next i = (j : ℕ) → i ≤ j → j < length t → slice_index_o
 
 -- the first entry of each group from a place on is named
 abbrev pub NamesFirst : GroupBy → List Cell → List ℕ → ℕ → Type 0
-NamesFirst by t first i = (g : ℕ) → g < 2048 → slice_index_or first g 0 ≡ first_at by t g i
+NamesFirst by t first i = (g : ℕ) → g < GROUPS → slice_index_or first g 0 ≡ first_at by t g i
 
 pub record IsChained (by : GroupBy) (t : List Cell) (next : List ℕ) : Type 0 where
   pub room : length t ≤ length next
   pub named : NamesNext by t next 0
 
 pub record IsLinked (by : GroupBy) (t : List Cell) (first next : List ℕ) : Type 0 where
-  pub groups : length first ≡ 2048
+  pub groups : length first ≡ GROUPS
   pub begins : NamesFirst by t first 0
   pub chained : IsChained by t next

@@ -1,6 +1,7 @@
 //! How often each row stands at each place, and at how many places.
 
 ghost use Rattle.std.specs.Prelude.{◌≡◌, ℕ, ◌+◌, ◌*◌, ◌^◌, ◌<◌, ◌≤◌, IfOk, length};
+ghost use Rattle.tt_instance.specs.declared.limit.TheConstants.{MAX_COURSES, MAX_SLOTS};
 
 use crate::grid::Grid;
 use std::alloc::{AllocError, Global};
@@ -11,7 +12,7 @@ pub struct Spread {
     pub counts: Grid,
     pub used: Vec<u16>,
     ghost covers: { length used.items ≡ counts.rows },
-    ghost few: { counts.columns ≤ 512 },
+    ghost few: { counts.columns ≤ MAX_SLOTS },
 }
 
 impl Spread {
@@ -19,8 +20,8 @@ impl Spread {
 
     /// All counts are 0.
     pub fn new(alloc: Global, rows: u32, places: u32) -> Result<Spread, AllocError>
-        requires rows { rows ≤ 2048 }
-        requires places { places ≤ 512 }
+        requires rows { rows ≤ MAX_COURSES }
+        requires places { places ≤ MAX_SLOTS }
         ensures rows { IfOk result (λ x. x.counts.rows ≡ rows) }
         ensures places { IfOk result (λ x. x.counts.columns ≡ places) }
         ensures counts { IfOk result (λ x. (i j : ℕ) → at x.counts i j ≡ 0) }

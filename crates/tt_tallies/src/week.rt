@@ -1,6 +1,7 @@
 //! Tables of counts with one for each period of the week.
 
 ghost use Rattle.std.specs.Prelude.{◌≡◌, ℕ, ◌+◌, ◌*◌, ◌^◌, ◌<◌, ◌≤◌, ◌==◌, ◌&&◌, IfOk, cond, count_by, All};
+ghost use Rattle.tt_instance.specs.declared.limit.TheConstants.{MAX_CURRICULA, MAX_PERIODS, MAX_SLOTS};
 
 use crate::grid::Grid;
 use std::alloc::{AllocError, Global};
@@ -12,8 +13,8 @@ pub struct Week {
     pub periods: u32,
     pub grid: Grid,
     ghost covers: { grid.columns ≡ days * periods },
-    ghost few: { grid.rows ≤ 8192 },
-    ghost short: { periods ≤ 64 },
+    ghost few: { grid.rows ≤ MAX_CURRICULA },
+    ghost short: { periods ≤ MAX_PERIODS },
 }
 
 impl Week {
@@ -21,9 +22,9 @@ impl Week {
 
     /// All counts are 0.
     pub fn new(alloc: Global, rows: u32, days: u32, periods: u32) -> Result<Week, AllocError>
-        requires rows { rows ≤ 8192 }
-        requires week { days * periods ≤ 512 }
-        requires day { periods ≤ 64 }
+        requires rows { rows ≤ MAX_CURRICULA }
+        requires week { days * periods ≤ MAX_SLOTS }
+        requires day { periods ≤ MAX_PERIODS }
         ensures rows { IfOk result (λ w. w.grid.rows ≡ rows) }
         ensures days { IfOk result (λ w. w.days ≡ days) }
         ensures periods { IfOk result (λ w. w.periods ≡ periods) }

@@ -1,9 +1,7 @@
 //! Calls that take memory, each between two marks: hostile/run.py refuses their growths in turn. A call answers what it does without a
 //! refusal, or that memory ran out, and then what it was lent is as before.
 
-use crate::paths::fact_in_period;
 use std::test::Fail;
-use tt_facts::{Path, PathFault, PlainPath, Who};
 use tt_instance::{read_instance, write_instance};
 use tt_leaf::{Bound, ClaimList, Leaf};
 use tt_proof_text::{Node, NodeReader, TextFault};
@@ -185,34 +183,6 @@ fn the_call_push_of_timetables(rt: HostRuntime) -> Result<(), Fail> {
     }
     pushed?;
     assert_eq!(rt; table.len(), 40);
-    Ok(())
-}
-
-/// Pushes a fact of each of forty periods, until one is refused.
-fn push_facts(path: &mut PlainPath<'_, '_>) -> Result<(), PathFault> {
-    for period in 0..40 {
-        path.push(fact_in_period(Who::Course(0), period, true))?;
-    }
-    Ok(())
-}
-
-/// How many of those facts stand on a path.
-fn standing(path: &PlainPath<'_, '_>) -> u32 {
-    (0..40)
-        .filter(|period| path.has(&fact_in_period(Who::Course(0), *period, true).pattern, true))
-        .count() as u32
-}
-
-#[test]
-fn the_call_push_of_plain_paths(rt: HostRuntime) -> Result<(), Fail> {
-    let instance = read_instance(rt.alloc(), GAP.as_bytes())?;
-    let mut path = PlainPath::new(rt.alloc(), &instance);
-    println!(rt; "{MARK}")?;
-    let pushed = push_facts(&mut path);
-    println!(rt; "{MARK}")?;
-    assert_eq!(rt; path.depth(), standing(&path));
-    pushed?;
-    assert_eq!(rt; path.depth(), 40);
     Ok(())
 }
 

@@ -6,7 +6,8 @@ use Rattle.std.proofs.lemmas.Bool.{lt-ltb}
 use Rattle.std.proofs.lemmas.List.{length-drop, length-take-le}
 use Rattle.std.proofs.Math.Seq.{take-append_seam}
 use Rattle.tt_text.specs.Tokens.{Placed}
-use Rattle.tt_text.specs.Feeds.{Fault, fault_from, ends_before, stop_of, stream_from, with_token, stopped, Fed, most_bytes}
+use Rattle.tt_text.specs.Feeds.{Fault, fault_from, ends_before, stop_of, stream_from, with_token, stopped, Fed}
+use Rattle.tt_text.specs.declared.feed.TheConstants.{MAX_BYTES}
 use Rattle.tt_text.specs.Found.{FindsToken, FindsMore, has_token}
 use Rattle.tt_text.specs.Fed.{Filled, list_is_empty, is_ready}
 use Rattle.tt_text.specs.CutShort.{cut_short_by, cut_short, all_before, rest_of, cut_at, MayFail}
@@ -27,7 +28,7 @@ front_known known given rest e = ap (all_before rest) e ∙ ap Some (front_is gi
 
 -- a feed that is not at its end
 pub cut_is : (rest : List ℕ) (fed : Fed) (known : Option (List ℕ)) (given : List ℕ) → fed.fault ≡ None → fed.ended ≡ false → known ≡ Some (given ++ rest)
-    → cut_at rest fed known ≡ cut_short (stream_from most_bytes fed.at (fed.held ++ given))
+    → cut_at rest fed known ≡ cut_short (stream_from MAX_BYTES fed.at (fed.held ++ given))
 unfolding cut_at
 cut_is rest fed known given sound goes_on e = rw (front_known known given rest e, goes_on, sound) refl
 

@@ -6,7 +6,7 @@ use Rattle.std.proofs.lemmas.List.{take-append-drop, take_all, drop_all, length-
 use Rattle.std.proofs.lemmas.List.Folds.{length-prefix_len}
 use Rattle.tt_text.specs.Tokens.{is_separator, in_token, Placed, tokens_from, tokens_of, IsToken}
 use Rattle.tt_text.specs.Standing.{IsApart, StandsFirst, HasTokens}
-use Rattle.tt_text.proofs.Runs.{tokens-begins, tokens-some, tokens-none, run_passes, is_a_token, ended}
+use Rattle.tt_text.proofs.Runs.{tokens-begins, tokens-some, run_passes, is_a_token, ended}
 use Rattle.tt_text.proofs.Written.{after_separator, tokens-written}
 
 -- ---- what stands in a text is read

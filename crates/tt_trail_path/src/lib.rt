@@ -5,3 +5,4 @@ mod both;
 mod trail_path;
 
 pub use trail_path::TrailPath;
+pub use tt_facts::{Cell, Fact, MAX_FACTS, Path, PathFault, Pattern, PlainPath, Who, agrees};
