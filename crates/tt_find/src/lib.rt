@@ -15,6 +15,6 @@ pub use best::best_claims;
 pub use find::find_leaf;
 pub use laws::pinned_paths_close;
 pub use tt_leaf::{
-    Bound, Claim, ClaimList, CourseList, Leaf, PriceList, RuleFault, claim_value, holds, leaf_value,
-    right_leaves_hold, slot_at, slot_count,
+    Bound, Claim, ClaimList, CourseList, Leaf, PriceList, RuleFault, claim_value, holds,
+    leaf_value, right_leaves_hold, slot_at, slot_count,
 };

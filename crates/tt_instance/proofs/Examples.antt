@@ -1,7 +1,13 @@
 -- Small instances on which the definitions compute.
-use Rattle.std.proofs.Common.{ℕ, List, [], ◌∷◌, codes}
+use Rattle.std.proofs.Common.{◌≡◌, ℕ, List, [], ◌∷◌, Err, codes, refl}
+use Rattle.tt_text.specs.Tokens.{tokens_from}
+use Rattle.tt_text.specs.Numbers.{number_of}
+use Rattle.tt_text.specs.Reading.{token_or}
 use Rattle.tt_instance.specs.Problem.{Course, Room, Curriculum, Bar, Problem}
+use Rattle.tt_instance.specs.Beginnings.{texts_of, tokens_up_to, BeginsAs}
+use Rattle.tt_instance.specs.Reading.{word_at, limited_at, name_at, header_at, instance_of}
 use Rattle.tt_instance.specs.declared.cell.Cell.{Cell}
+use Rattle.tt_instance.specs.declared.fault.InstanceFault.TheVariants as fault
 
 -- an entry by course, room, day and period
 abbrev pub at : ℕ → ℕ → ℕ → ℕ → Cell
@@ -66,3 +72,22 @@ trio =
 
 abbrev pub tour : Problem
 tour = week 3 1 (course (codes "x") (codes "t1") 3 3 1 ∷ []) two_rooms []
+
+-- ---- a file that is wrong at a token
+
+-- the number of courses is none
+abbrev wrong : List ℕ
+wrong = codes "Name: A Courses: x Rooms: 1"
+
+wrong_there : instance_of wrong ≡ Err (fault.NotANumber 17)
+unfolding instance_of word_at name_at header_at limited_at number_of token_or tokens_from
+wrong_there = refl
+
+texts_so_far : texts_of (tokens_up_to 17 wrong) ≡ codes "Name:" ∷ codes "A" ∷ codes "Courses:" ∷ codes "x" ∷ []
+unfolding tokens_from
+texts_so_far = refl
+
+-- where a token stands and what comes after says nothing
+wrong_too : BeginsAs 17 wrong (codes " Name:  A  Courses:  x y")
+unfolding tokens_from
+wrong_too = record { more = codes "y" ∷ []; same = refl }

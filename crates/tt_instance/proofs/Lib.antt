@@ -1,5 +1,7 @@
 pub mod AfterLaws
 pub mod BarLaws
+pub mod BeginningLaws
+pub mod Beginnings
 pub mod Cells
 pub mod CourseLaws
 pub mod CourseLimits
@@ -25,6 +27,7 @@ pub mod Repeating
 pub mod RoomLaws
 pub mod SectionLaws
 pub mod SeriesLaws
+pub mod Shared
 pub mod Slots
 pub mod Steps
 pub mod Texts

@@ -1,3 +1,4 @@
+pub mod Beginnings
 pub mod Cells
 pub mod Courses
 pub mod Indexed

@@ -7,6 +7,7 @@ mod conflicts;
 mod courses;
 mod curricula;
 mod fault;
+mod faulty;
 mod fields;
 mod header;
 mod instance;
@@ -20,6 +21,7 @@ mod writing;
 
 pub use cell::{Cell, Slot};
 pub use fault::{InstanceFault, Word};
+pub use faulty::faulty_beginnings_spell_none;
 pub use instance::{Instance, read_instance, write_instance};
 pub use limit::{
     MAX_BARS, MAX_CELLS, MAX_COURSES, MAX_CURRICULA, MAX_DAYS, MAX_LECTURES, MAX_MEMBERS,

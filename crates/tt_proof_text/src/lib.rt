@@ -20,8 +20,8 @@ mod tree;
 
 pub use fault::{TextFault, Word};
 pub use format::{
-    COURSE_LETTER, CURRICULUM_LETTER, DAY_LETTER, MAX_NODES, MAX_POINTS, MAX_PRICE,
-    PERIOD_LETTER, ROOM_LETTER,
+    COURSE_LETTER, CURRICULUM_LETTER, DAY_LETTER, MAX_NODES, MAX_POINTS, MAX_PRICE, PERIOD_LETTER,
+    ROOM_LETTER,
 };
 pub use laws::{filled_trees_are_whole, read_proofs_are_spelled};
 pub use node::Node;

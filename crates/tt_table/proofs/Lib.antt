@@ -1,3 +1,4 @@
+pub mod BeginningLaws
 pub mod EntryLaws
 pub mod Grouping
 pub mod Loops

@@ -1,3 +1,4 @@
+pub mod Beginnings
 pub mod Groups
 pub mod Reading
 pub mod Spelling

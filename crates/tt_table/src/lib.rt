@@ -2,12 +2,14 @@
 #![tactic(auto)]
 
 mod fault;
+mod faulty;
 mod groups;
 mod reading;
 mod table;
 mod writing;
 
 pub use fault::{PushFault, SolutionFault};
+pub use faulty::faulty_beginnings_spell_none;
 pub use groups::{Group, GroupBy, Groups};
 pub use reading::read_solution;
 pub use table::{MAX_ENTRIES, Timetable};
