@@ -6,7 +6,7 @@ use Rattle.tt_instance.specs.Spelling.{Spells}
 use Rattle.tt_instance.specs.declared.fault.InstanceFault.{InstanceFault}
 use Rattle.tt_instance.specs.declared.fault.InstanceFault.TheVariants as instance
 use Rattle.tt_instance.proofs.Laws.{is_read}
-use Rattle.tt_leaf.specs.declared.leaf.Bound.{Bound}
+use Rattle.tt_leaf_rules.specs.declared.leaf.Bound.{Bound}
 use Rattle.tt_proof_check.proofs.Files.{one_instance}
 use Rattle.tt_sum.specs.Faults.{TellsSum, IsSilentSum, all_points, OutOfMemoryIsOneFault as TellsMemoryOfSum, read_failed_at as read_failed_below}
 use Rattle.tt_sum.specs.Sums.{IsSum}

@@ -10,12 +10,12 @@ use Rattle.tt_instance.specs.declared.fault.InstanceFault.TheVariants as instanc
 use Rattle.tt_instance.proofs.Laws.{is_read}
 use Rattle.tt_table.specs.Table.{IsTimetable}
 use Rattle.tt_rules.specs.Score.{IsFeasible}
-use Rattle.tt_leaf.specs.declared.leaf.Bound.{Bound}
-use Rattle.tt_proof_text.specs.declared.node.Node.{Node}
-use Rattle.tt_proof_text.specs.Trees.{IsPreorder}
-use Rattle.tt_proof_write.specs.Within.{IsNodeIn, Refuses, Writes}
-use Rattle.tt_proof_write.specs.declared.fault.WriteFault.{WriteFault}
-use Rattle.tt_proof_write.specs.declared.fault.WriteFault.TheVariants as write
+use Rattle.tt_leaf_rules.specs.declared.leaf.Bound.{Bound}
+use Rattle.tt_proof_read.specs.declared.node.Node.{Node}
+use Rattle.tt_proof_read.specs.Trees.{IsPreorder}
+use Rattle.tt_proof_text.specs.Within.{IsNodeIn, Refuses, Writes}
+use Rattle.tt_proof_text.specs.declared.fault.WriteFault.{WriteFault}
+use Rattle.tt_proof_text.specs.declared.fault.WriteFault.TheVariants as write
 use Rattle.tt_upgrade.proofs.Written.{node_in_two}
 use Rattle.tt_branch.specs.Outcomes.{IsOutcome}
 use Rattle.tt_app.specs.Solved.{IsProofFile, IsTextRefusal, IsSolveRefusal}

@@ -5,12 +5,12 @@ use Rattle.tt_instance.specs.Reading.{instance_of}
 use Rattle.tt_instance.specs.Spelling.{Spells}
 use Rattle.tt_instance.specs.declared.cell.Cell.{Cell}
 use Rattle.tt_table.specs.Spelling.{solution_text}
-use Rattle.tt_leaf.specs.declared.leaf.Bound.{Bound}
-use Rattle.tt_proof_text.specs.declared.node.Node.{Node}
-use Rattle.tt_proof_write.specs.Within.{FitsFile, IsNodeIn}
-use Rattle.tt_proof_write.specs.Written.{proof_text}
-use Rattle.tt_proof_write.specs.declared.fault.WriteFault.{WriteFault}
-use Rattle.tt_proof_write.specs.declared.fault.WriteFault.TheVariants as write
+use Rattle.tt_leaf_rules.specs.declared.leaf.Bound.{Bound}
+use Rattle.tt_proof_read.specs.declared.node.Node.{Node}
+use Rattle.tt_proof_text.specs.Within.{FitsFile, IsNodeIn}
+use Rattle.tt_proof_text.specs.Written.{proof_text}
+use Rattle.tt_proof_text.specs.declared.fault.WriteFault.{WriteFault}
+use Rattle.tt_proof_text.specs.declared.fault.WriteFault.TheVariants as write
 use Rattle.tt_branch.specs.Outcomes.{IsOutcome}
 use Rattle.tt_app.specs.Lines.{solve_line}
 use Rattle.tt_app.specs.declared.answer.Answer.{Answer}

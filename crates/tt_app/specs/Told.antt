@@ -9,8 +9,8 @@ use Rattle.tt_proof_check.specs.declared.fault.CheckFault.{CheckFault}
 use Rattle.tt_proof_check.specs.declared.fault.CheckFault.TheVariants as check
 use Rattle.tt_proof_check.specs.declared.fault.CertifyFault.{CertifyFault}
 use Rattle.tt_proof_check.specs.declared.fault.CertifyFault.TheVariants as certify
-use Rattle.tt_proof_write.specs.declared.fault.WriteFault.{WriteFault}
-use Rattle.tt_proof_write.specs.declared.fault.WriteFault.TheVariants as write
+use Rattle.tt_proof_text.specs.declared.fault.WriteFault.{WriteFault}
+use Rattle.tt_proof_text.specs.declared.fault.WriteFault.TheVariants as write
 use Rattle.tt_upgrade.specs.declared.fault.UpgradeFault.{UpgradeFault}
 use Rattle.tt_upgrade.specs.declared.fault.UpgradeFault.TheVariants as upgrade
 use Rattle.tt_report.specs.declared.fault.ReportFault.{ReportFault}

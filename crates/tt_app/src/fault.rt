@@ -4,7 +4,7 @@ use std::alloc::AllocError;
 use thiserror::Error;
 use tt_instance::InstanceFault;
 use tt_proof_check::{CertifyFault, CheckFault};
-use tt_proof_write::WriteFault;
+use tt_proof_text::WriteFault;
 use tt_report::ReportFault;
 use tt_sum::SumFault;
 use tt_table::SolutionFault;

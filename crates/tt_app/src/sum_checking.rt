@@ -2,7 +2,7 @@
 
 ghost use Rattle.std.specs.Prelude.{◌≡◌, ◌+◌, ◌<◌, ◌^◌, ℕ, List, Some, Err, true, IfOk, IfErr, MatchResult, slice_get};
 ghost use Rattle.tt_rules.specs.Score.{IsFeasible};
-ghost use Rattle.tt_leaf.specs.declared.leaf.Bound.TheVariants.{AtLeast};
+ghost use Rattle.tt_leaf_rules.specs.declared.leaf.Bound.TheVariants.{AtLeast};
 ghost use Rattle.tt_proof_check.specs.Derives.{HoldsOfAll};
 ghost use Rattle.tt_proof_check.specs.FailedReads.{IsJudgedUpToFailedRead, IsSpelledAndJudgedUpToFailedRead};
 ghost use Rattle.tt_proof_check.specs.Headline.{BreaksARule};
@@ -19,7 +19,7 @@ use crate::calls::check::{broken_answer, yes_answer};
 use crate::fault::AppFault;
 use std::alloc::Global;
 use tt_instance::{Instance, read_instance};
-use tt_leaf::Bound;
+use tt_leaf_rules::Bound;
 use tt_rules::score;
 use tt_sum::{SumFault, sum_proofs};
 use tt_table::{Timetable, read_solution};

@@ -11,30 +11,30 @@ use Rattle.tt_instance.specs.Problem.{Problem}
 use Rattle.tt_instance.specs.Limits.{IsInstance}
 use Rattle.tt_instance.specs.declared.cell.Cell.{Cell}
 use Rattle.tt_rules.specs.Score.{IsFeasible}
-use Rattle.tt_facts.specs.Live.{least, least_with}
-use Rattle.tt_facts.specs.declared.facts.Fact.{Fact}
-use Rattle.tt_facts.proofs.Least.{least_with-le}
-use Rattle.tt_leaf.specs.Claims.{is_fair, total_of}
-use Rattle.tt_leaf.specs.Leaves.{claims_once, IsRight}
-use Rattle.tt_leaf.specs.Outcomes.{IsClaimedOnce}
-use Rattle.tt_leaf.specs.declared.leaf.Bound.{Bound}
-use Rattle.tt_leaf.specs.declared.leaf.Bound.TheVariants.{AtLeast, Nothing}
-use Rattle.tt_leaf.specs.declared.leaf.Claim.TheVariants.{Days}
-use Rattle.tt_leaf.specs.declared.leaf.Leaf.{Leaf}
-use Rattle.tt_leaf.specs.declared.leaf.Leaf.TheVariants.{Empty, Many, Clique, Slots, Cost}
+use Rattle.tt_paths.specs.Live.{least, least_with}
+use Rattle.tt_paths.specs.declared.facts.Fact.{Fact}
+use Rattle.tt_paths.proofs.Least.{least_with-le}
+use Rattle.tt_leaf_rules.specs.Claims.{is_fair, total_of}
+use Rattle.tt_leaf_rules.specs.Leaves.{claims_once, IsRight}
+use Rattle.tt_leaf_rules.specs.Outcomes.{IsClaimedOnce}
+use Rattle.tt_leaf_rules.specs.declared.leaf.Bound.{Bound}
+use Rattle.tt_leaf_rules.specs.declared.leaf.Bound.TheVariants.{AtLeast, Nothing}
+use Rattle.tt_leaf_rules.specs.declared.leaf.Claim.TheVariants.{Days}
+use Rattle.tt_leaf_rules.specs.declared.leaf.Leaf.{Leaf}
+use Rattle.tt_leaf_rules.specs.declared.leaf.Leaf.TheVariants.{Empty, Many, Clique, Slots, Cost}
 use Rattle.std.specs.Prelude.{nat_le}
 use Rattle.std.specs.List.{list_all}
-use Rattle.tt_proof_text.specs.Spelling.{IsBound}
-use Rattle.tt_proof_text.specs.Trees.{preorder, OnPath, on_paths}
-use Rattle.tt_proof_text.specs.declared.node.Node.{Node}
-use Rattle.tt_proof_text.specs.declared.node.Node.TheVariants as node
-use Rattle.tt_proof_write.specs.Within.{HasShortPrices}
+use Rattle.tt_proof_read.specs.Spelling.{IsBound}
+use Rattle.tt_proof_read.specs.Trees.{preorder, OnPath, on_paths}
+use Rattle.tt_proof_read.specs.declared.node.Node.{Node}
+use Rattle.tt_proof_read.specs.declared.node.Node.TheVariants as node
+use Rattle.tt_proof_text.specs.Within.{HasShortPrices}
 use Rattle.tt_proof_check.specs.Derives.{Derives, HoldsOfAll}
 use Rattle.tt_proof_check.specs.Nodes.{IsNodeOf}
 use Rattle.tt_proof_check.proofs.Reading.{whole_places}
-use Rattle.tt_find.specs.Best.{best_claims}
-use Rattle.tt_find.proofs.Answering.{best_answer}
-use Rattle.tt_find.proofs.Claims.{once}
+use Rattle.tt_leaf.specs.Best.{best_claims}
+use Rattle.tt_leaf.proofs.Answering.{best_answer}
+use Rattle.tt_leaf.proofs.Claims.{once}
 use Rattle.tt_branch.specs.declared.best.Best.{Best}
 use Rattle.tt_branch.specs.declared.entry.Mark.{Mark}
 use Rattle.tt_branch.specs.declared.entry.Mark.TheVariants.{Divided, Closed, Opened, Waiting}

@@ -13,19 +13,19 @@ use Rattle.tt_lists.proofs.Zipped.{zip_each, zip_length}
 use Rattle.tt_instance.specs.Problem.{Problem}
 use Rattle.tt_instance.specs.declared.cell.Cell.{Cell}
 use Rattle.tt_rules.specs.Score.{cost}
-use Rattle.tt_facts.specs.declared.facts.Fact.{Fact}
-use Rattle.tt_facts.specs.Live.{least, least_with}
-use Rattle.tt_facts.proofs.Least.{least-le}
-use Rattle.tt_leaf.specs.Claims.{total_of}
-use Rattle.tt_leaf.specs.declared.leaf.Bound.{Bound}
-use Rattle.tt_leaf.specs.declared.leaf.Bound.TheVariants.{AtLeast}
-use Rattle.tt_leaf.specs.declared.leaf.Leaf.{Leaf}
-use Rattle.tt_proof_text.specs.Trees.{Tree, Close, Branch, OnPath, on_paths, preorder, with_fact}
-use Rattle.tt_proof_text.specs.declared.node.Node.TheVariants as node
+use Rattle.tt_paths.specs.declared.facts.Fact.{Fact}
+use Rattle.tt_paths.specs.Live.{least, least_with}
+use Rattle.tt_paths.proofs.Least.{least-le}
+use Rattle.tt_leaf_rules.specs.Claims.{total_of}
+use Rattle.tt_leaf_rules.specs.declared.leaf.Bound.{Bound}
+use Rattle.tt_leaf_rules.specs.declared.leaf.Bound.TheVariants.{AtLeast}
+use Rattle.tt_leaf_rules.specs.declared.leaf.Leaf.{Leaf}
+use Rattle.tt_proof_read.specs.Trees.{Tree, Close, Branch, OnPath, on_paths, preorder, with_fact}
+use Rattle.tt_proof_read.specs.declared.node.Node.TheVariants as node
 use Rattle.tt_proof_check.specs.Derives.{Derives, IsShallow}
 use Rattle.tt_proof_check.specs.Tells.{IsRightOn, Passes}
 use Rattle.tt_proof_check.proofs.Walking.{passed_tree}
-use Rattle.tt_find.specs.Best.{best_claims, best_leaf}
+use Rattle.tt_leaf.specs.Best.{best_claims, best_leaf}
 use Rattle.tt_branch.specs.declared.entry.Mark.{Mark}
 use Rattle.tt_branch.specs.declared.entry.Mark.TheVariants.{Divided, Closed, Opened, Waiting}
 use Rattle.tt_branch.specs.declared.entry.Entry.{Entry}

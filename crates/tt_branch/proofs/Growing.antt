@@ -4,11 +4,11 @@ use Rattle.std.proofs.lemmas.List.{append-nil}
 use Rattle.std.specs.Prelude.{◌⊎◌, slice_get, slice_set}
 use Rattle.std.specs.List.{AllZip, AllByRecursion, insert}
 use Rattle.tt_lists.proofs.Cuts.{cut_cases}
-use Rattle.tt_facts.specs.declared.facts.Fact.{Fact}
-use Rattle.tt_leaf.specs.declared.leaf.Leaf.{Leaf}
-use Rattle.tt_proof_text.specs.Trees.{Tree, Close, Branch, OnPath, on_paths, with_fact}
-use Rattle.tt_proof_text.specs.declared.node.Node.{Node}
-use Rattle.tt_proof_text.specs.declared.node.Node.TheVariants as node
+use Rattle.tt_paths.specs.declared.facts.Fact.{Fact}
+use Rattle.tt_leaf_rules.specs.declared.leaf.Leaf.{Leaf}
+use Rattle.tt_proof_read.specs.Trees.{Tree, Close, Branch, OnPath, on_paths, with_fact}
+use Rattle.tt_proof_read.specs.declared.node.Node.{Node}
+use Rattle.tt_proof_read.specs.declared.node.Node.TheVariants as node
 
 abbrev pub on_path : List Fact → Node → OnPath
 on_path path n = record { path = path; node = n }

@@ -23,11 +23,11 @@ use Rattle.tt_instance.specs.Courses.{lectures, no_course}
 use Rattle.tt_instance.specs.declared.cell.Cell.{Cell}
 use Rattle.tt_instance.proofs.CourseLimits.{few_lectures}
 use Rattle.tt_rules.specs.Hard.{entries_of}
-use Rattle.tt_facts.specs.declared.facts.Fact.{Fact}
-use Rattle.tt_facts.proofs.LiveCells.{live_cells, range_of}
-use Rattle.tt_leaf.specs.declared.leaf.Bound.{Bound}
-use Rattle.tt_find.specs.Pinned.{IsPinnedDown, IsOpen}
-use Rattle.tt_find.proofs.Fitting.{lectures_placed}
+use Rattle.tt_paths.specs.declared.facts.Fact.{Fact}
+use Rattle.tt_paths.proofs.LiveCells.{live_cells, range_of}
+use Rattle.tt_leaf_rules.specs.declared.leaf.Bound.{Bound}
+use Rattle.tt_leaf.specs.Pinned.{IsPinnedDown, IsOpen}
+use Rattle.tt_leaf.proofs.Fitting.{lectures_placed}
 use Rattle.tt_branch.specs.Steps.{cells_in, cells_of}
 
 in_room : (p : Problem) (c r : ℕ) → map (cell c r) (all_slots p) ≡ cells_in p c r

@@ -9,20 +9,20 @@ use Rattle.tt_instance.specs.Limits.{IsInstance}
 use Rattle.tt_instance.specs.Courses.{unavailable}
 use Rattle.tt_instance.specs.declared.cell.Cell.{Cell}
 use Rattle.tt_rules.specs.Score.{IsFeasible, cost}
-use Rattle.tt_facts.specs.Facts.{matches, same_answer, same_pattern, has_fact}
-use Rattle.tt_facts.specs.Live.{is_live}
-use Rattle.tt_facts.specs.declared.facts.Pattern.{Pattern}
-use Rattle.tt_facts.specs.declared.facts.Fact.{Fact}
-use Rattle.tt_facts.proofs.LiveCells.{live_cells, live_not_barred}
-use Rattle.tt_facts.proofs.Same.{fact_there}
-use Rattle.tt_leaf.specs.declared.leaf.Bound.{Bound}
-use Rattle.tt_leaf.specs.declared.leaf.Bound.TheVariants.{AtLeast}
-use Rattle.tt_find.specs.Best.{best_leaf}
-use Rattle.tt_find.specs.Found.{Closes}
-use Rattle.tt_find.specs.Pinned.{IsPinnedDown, IsOpen}
-use Rattle.tt_find.proofs.Fitting.{is_feasible}
-use Rattle.tt_find.proofs.Closing.{cost-le_total}
-use Rattle.tt_find.proofs.Answering.{best_answer}
+use Rattle.tt_paths.specs.Facts.{matches, same_answer, same_pattern, has_fact}
+use Rattle.tt_paths.specs.Live.{is_live}
+use Rattle.tt_paths.specs.declared.facts.Pattern.{Pattern}
+use Rattle.tt_paths.specs.declared.facts.Fact.{Fact}
+use Rattle.tt_paths.proofs.LiveCells.{live_cells, live_not_barred}
+use Rattle.tt_paths.proofs.Same.{fact_there}
+use Rattle.tt_leaf_rules.specs.declared.leaf.Bound.{Bound}
+use Rattle.tt_leaf_rules.specs.declared.leaf.Bound.TheVariants.{AtLeast}
+use Rattle.tt_leaf.specs.Best.{best_leaf}
+use Rattle.tt_leaf.specs.Found.{Closes}
+use Rattle.tt_leaf.specs.Pinned.{IsPinnedDown, IsOpen}
+use Rattle.tt_leaf.proofs.Fitting.{is_feasible}
+use Rattle.tt_leaf.proofs.Closing.{cost-le_total}
+use Rattle.tt_leaf.proofs.Answering.{best_answer}
 use Rattle.tt_branch.specs.Outcomes.{final_bound}
 use Rattle.tt_choice.specs.Choice.{IsNewSplit}
 use Rattle.tt_branch.specs.Proofs.{IsSplitOn}

@@ -8,20 +8,20 @@ use Rattle.tt_lists.proofs.Cuts.{at_first, at_next}
 use Rattle.tt_instance.specs.Problem.{Problem}
 use Rattle.tt_instance.specs.declared.cell.Cell.{Cell}
 use Rattle.tt_rules.specs.Score.{cost}
-use Rattle.tt_facts.specs.Facts.{IsPattern}
-use Rattle.tt_facts.specs.declared.facts.Pattern.{Pattern}
-use Rattle.tt_facts.specs.declared.facts.Fact.{Fact}
-use Rattle.tt_leaf.specs.Claims.{is_fair, total_of}
-use Rattle.tt_leaf.specs.Leaves.{claims_once, IsRight}
-use Rattle.tt_leaf.specs.declared.leaf.Bound.{Bound}
-use Rattle.tt_leaf.specs.declared.leaf.Bound.TheVariants.{AtLeast, Nothing}
-use Rattle.tt_leaf.specs.declared.leaf.Claim.TheVariants.{Days}
-use Rattle.tt_leaf.specs.declared.leaf.Leaf.{Leaf}
-use Rattle.tt_leaf.specs.declared.leaf.Leaf.TheVariants.{Empty, Many, Clique, Slots, Cost}
-use Rattle.tt_proof_text.specs.Trees.{Close, Branch, OnPath, on_paths, with_fact}
-use Rattle.tt_proof_text.specs.declared.node.Node.TheVariants as node
-use Rattle.tt_find.specs.Best.{best_claims, best_leaf}
-use Rattle.tt_find.proofs.Claims.{once, all_fair}
+use Rattle.tt_paths.specs.Facts.{IsPattern}
+use Rattle.tt_paths.specs.declared.facts.Pattern.{Pattern}
+use Rattle.tt_paths.specs.declared.facts.Fact.{Fact}
+use Rattle.tt_leaf_rules.specs.Claims.{is_fair, total_of}
+use Rattle.tt_leaf_rules.specs.Leaves.{claims_once, IsRight}
+use Rattle.tt_leaf_rules.specs.declared.leaf.Bound.{Bound}
+use Rattle.tt_leaf_rules.specs.declared.leaf.Bound.TheVariants.{AtLeast, Nothing}
+use Rattle.tt_leaf_rules.specs.declared.leaf.Claim.TheVariants.{Days}
+use Rattle.tt_leaf_rules.specs.declared.leaf.Leaf.{Leaf}
+use Rattle.tt_leaf_rules.specs.declared.leaf.Leaf.TheVariants.{Empty, Many, Clique, Slots, Cost}
+use Rattle.tt_proof_read.specs.Trees.{Close, Branch, OnPath, on_paths, with_fact}
+use Rattle.tt_proof_read.specs.declared.node.Node.TheVariants as node
+use Rattle.tt_leaf.specs.Best.{best_claims, best_leaf}
+use Rattle.tt_leaf.proofs.Claims.{once, all_fair}
 use Rattle.tt_branch.specs.declared.entry.Mark.{Mark}
 use Rattle.tt_branch.specs.declared.entry.Mark.TheVariants.{Divided, Closed, Opened, Waiting}
 use Rattle.tt_branch.specs.declared.entry.Entry.{Entry}

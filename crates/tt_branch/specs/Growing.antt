@@ -4,12 +4,12 @@ use Rattle.std.specs.Prelude.{◌≡◌, ℕ, ◌≤◌, Bool, true, false, List
 use Rattle.std.specs.List.{AllZip, filter_map}
 use Rattle.tt_instance.specs.Problem.{Problem}
 use Rattle.tt_instance.specs.declared.cell.Cell.{Cell}
-use Rattle.tt_facts.specs.declared.facts.Fact.{Fact}
-use Rattle.tt_proof_text.specs.Trees.{Tree, OnPath, on_paths}
-use Rattle.tt_proof_text.specs.declared.node.Node.{Node}
-use Rattle.tt_proof_text.specs.declared.node.Node.TheVariants as node
-use Rattle.tt_find.specs.Best.{best_leaf}
-use Rattle.tt_find.specs.Found.{Closes, ArePatterns}
+use Rattle.tt_paths.specs.declared.facts.Fact.{Fact}
+use Rattle.tt_proof_read.specs.Trees.{Tree, OnPath, on_paths}
+use Rattle.tt_proof_read.specs.declared.node.Node.{Node}
+use Rattle.tt_proof_read.specs.declared.node.Node.TheVariants as node
+use Rattle.tt_leaf.specs.Best.{best_leaf}
+use Rattle.tt_leaf.specs.Found.{Closes, ArePatterns}
 use Rattle.tt_branch.specs.declared.entry.Mark.{Mark}
 use Rattle.tt_branch.specs.declared.entry.Mark.TheVariants.{Divided, Closed, Opened, Waiting}
 use Rattle.tt_branch.specs.declared.entry.Entry.{Entry}

@@ -1,8 +1,8 @@
 -- Only proofs rest on this file: nobody has to believe it.
 -- Paths by links to the parent: each fact stands after the facts of its parent.
 use Rattle.std.specs.Prelude.{◌≡◌, ℕ, zero, suc, ◌≤◌, Bool, true, false, List, [], ◌∷◌, ◌++◌, Some, None, slice_get}
-use Rattle.tt_facts.specs.declared.facts.Fact.{Fact}
-use Rattle.tt_facts.specs.declared.facts.Pattern.{Pattern}
+use Rattle.tt_paths.specs.declared.facts.Fact.{Fact}
+use Rattle.tt_paths.specs.declared.facts.Pattern.{Pattern}
 use Rattle.tt_branch.specs.declared.links.Link.{Link}
 
 -- the facts at a place, which is 0 for the root and one more than the number of its link for another node; the first number is how far back

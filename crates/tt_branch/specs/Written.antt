@@ -1,17 +1,17 @@
 -- Only proofs rest on this file: nobody has to believe it.
 -- Entries that can be written as nodes of a proof.
 use Rattle.std.specs.Prelude.{◌≡◌, ℕ, ◌≤◌, Bool, true, List, ◌++◌, length, reverse, Option, ⊤}
-use Rattle.tt_facts.specs.Live.{least}
+use Rattle.tt_paths.specs.Live.{least}
 use Rattle.tt_instance.specs.Problem.{Problem}
-use Rattle.tt_leaf.specs.Outcomes.{IsClaimedOnce}
-use Rattle.tt_proof_text.specs.declared.node.Node.{Node}
-use Rattle.tt_proof_text.specs.declared.node.Node.TheVariants as node
+use Rattle.tt_leaf_rules.specs.Outcomes.{IsClaimedOnce}
+use Rattle.tt_proof_read.specs.declared.node.Node.{Node}
+use Rattle.tt_proof_read.specs.declared.node.Node.TheVariants as node
 use Rattle.tt_proof_check.specs.Nodes.{IsNodeOf}
 use Rattle.tt_branch.specs.declared.entry.Entry.{Entry}
 use Rattle.tt_branch.specs.declared.links.Link.{Link}
 use Rattle.tt_branch.specs.Growing.{node_at, nodes_of, worths_of}
 use Rattle.tt_branch.specs.Links.{path_at}
-use Rattle.tt_facts.specs.declared.path.TheConstants.{MAX_FACTS}
+use Rattle.tt_paths.specs.declared.path.TheConstants.{MAX_FACTS}
 
 -- there is such a node, and its facts fit on a path
 pub record IsReached (links : List Link) (place : ℕ) : Type 0 where

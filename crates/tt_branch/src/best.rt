@@ -12,7 +12,7 @@ ghost use Rattle.tt_branch.specs.Kept.{IsKept, table_of, IsCosted};
 use crate::limit::FIRST_STEPS;
 use std::alloc::{AllocError, Global};
 use tt_instance::Instance;
-use tt_leaf::Bound;
+use tt_leaf_rules::Bound;
 use tt_rules::score;
 use tt_search::{construct, descend, improve};
 use tt_table::Timetable;

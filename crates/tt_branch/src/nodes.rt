@@ -1,7 +1,7 @@
 //! The proof that a tree is.
 
 ghost use Rattle.std.specs.Prelude.{◌≡◌, ◌≤◌, length, true, IfOk, All, IsTrue};
-ghost use Rattle.tt_facts.specs.Live.{least};
+ghost use Rattle.tt_paths.specs.Live.{least};
 ghost use Rattle.tt_proof_check.specs.Nodes.{IsNodeOf};
 ghost use Rattle.tt_branch.specs.Growing.{node_at, worth_at, nodes_of, worths_of};
 ghost use Rattle.tt_branch.specs.Links.{path_at, AreLinks};
@@ -13,10 +13,10 @@ use crate::entry::{Entry, Mark};
 use crate::links::Link;
 use crate::visit::go_to;
 use std::alloc::{AllocError, Global};
-use tt_facts::Path;
-use tt_find::best_claims;
-use tt_leaf::{Leaf, leaf_value};
-use tt_proof_text::Node;
+use tt_leaf::best_claims;
+use tt_leaf_rules::{Leaf, leaf_value};
+use tt_paths::Path;
+use tt_proof_read::Node;
 
 /// The nodes of a proof in preorder, and the least that a Cost leaf is worth, where that was asked.
 #[derive(Drop)]

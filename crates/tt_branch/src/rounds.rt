@@ -10,7 +10,7 @@ use crate::entry::Mark;
 use crate::search::{Search, next_open, split};
 use crate::visit::open_at;
 use std::alloc::{AllocError, Global};
-use tt_facts::{Path, Pattern};
+use tt_paths::{Path, Pattern};
 
 /// Splits a node that was opened; where the node is that is opened next, of two children the one that is thought to
 /// be worth less.

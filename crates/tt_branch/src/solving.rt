@@ -16,13 +16,13 @@ use crate::rounds::grow;
 use crate::search::Search;
 use crate::visit::{best_worth, open_at};
 use std::alloc::{AllocError, Global};
-use tt_facts::Path;
+use tt_facts::TrailPath;
 use tt_instance::Instance;
-use tt_leaf::Bound;
+use tt_leaf_rules::Bound;
+use tt_paths::Path;
 use tt_proof_check::check_nodes;
-use tt_proof_text::Node;
+use tt_proof_read::Node;
 use tt_table::Timetable;
-use tt_trail_path::TrailPath;
 
 /// What a search found.
 #[derive(Drop)]

@@ -2,9 +2,9 @@
 
 ghost use Rattle.std.specs.Prelude.{◌≡◌, ◌<◌, ◌≤◌, ◌+◌, length, true, IfOk, OnOk};
 ghost use Rattle.tt_instance.specs.Problem.{Problem};
-ghost use Rattle.tt_facts.specs.declared.path.TheConstants.{MAX_FACTS};
-ghost use Rattle.tt_find.specs.Found.{ArePatterns};
-ghost use Rattle.tt_find.specs.Pinned.{IsPinnedDown, IsOpen};
+ghost use Rattle.tt_paths.specs.declared.path.TheConstants.{MAX_FACTS};
+ghost use Rattle.tt_leaf.specs.Found.{ArePatterns};
+ghost use Rattle.tt_leaf.specs.Pinned.{IsPinnedDown, IsOpen};
 ghost use Rattle.tt_branch.specs.Growing.{IsKnown, IsSingle, HasMark, was_opened, opened_in};
 ghost use Rattle.tt_branch.specs.Kept.{IsKept, table_of, Advances};
 ghost use Rattle.tt_branch.specs.Links.{path_at, AreLinks};
@@ -19,9 +19,9 @@ use crate::moves::move_to;
 use crate::search::{Search, put};
 use std::alloc::{AllocError, Global};
 use tt_choice::choose_split;
-use tt_facts::{Fact, Path, PathFault, Pattern};
-use tt_find::{best_claims, find_leaf};
-use tt_leaf::{Leaf, leaf_value};
+use tt_leaf::{best_claims, find_leaf};
+use tt_leaf_rules::{Leaf, leaf_value};
+use tt_paths::{Fact, Path, PathFault, Pattern};
 use tt_rules::score;
 
 /// Makes the facts of a path those of a node.

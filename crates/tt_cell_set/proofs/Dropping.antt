@@ -7,7 +7,7 @@ use Rattle.tt_lists.proofs.Truth.{same_truth, still_there, taken_twice}
 use Rattle.tt_instance.specs.Problem.{Problem}
 use Rattle.tt_instance.specs.Cells.{slot, cell, InRange}
 use Rattle.tt_instance.specs.declared.cell.Cell.{Cell}
-use Rattle.tt_facts.specs.Facts.{agrees}
+use Rattle.tt_paths.specs.Facts.{agrees}
 use Rattle.tt_bits.specs.Bits.{has_bit, Clears}
 use Rattle.tt_cell_set.specs.Words.{Bit, IsBit, width, place, size, bit_of, is_set, in_force, is_here, Drops}
 use Rattle.tt_cell_set.specs.Tables.{has_cell, IsTable, Loses, is_placed, is_open}

@@ -2,7 +2,7 @@
 
 ghost use Rattle.std.specs.Prelude.{◌≡◌, ◌<◌, ◌≤◌, ◌+◌, ◌*◌, ℕ, length};
 ghost use Rattle.tt_instance.specs.Cells.{slot, cell};
-ghost use Rattle.tt_facts.specs.Facts.{agrees};
+ghost use Rattle.tt_paths.specs.Facts.{agrees};
 ghost use Rattle.tt_bits.specs.Bits.{has_bit};
 ghost use Rattle.tt_cell_set.specs.Words.{width, place, size};
 ghost use Rattle.tt_cell_set.specs.Tables.{has_cell, is_open, IsTable};

@@ -1,7 +1,7 @@
 //! Cells taken out of a table.
 
 ghost use Rattle.std.specs.Prelude.{◌≡◌, ◌<◌, ◌&&◌, true, not, length, OnOk, OnErr};
-ghost use Rattle.tt_facts.specs.Facts.{agrees};
+ghost use Rattle.tt_paths.specs.Facts.{agrees};
 ghost use Rattle.tt_cell_set.specs.Tables.{has_cell, is_placed, IsTable, Loses};
 
 use crate::places::{allowed, open_word, place, width};

@@ -12,8 +12,8 @@ use Rattle.tt_instance.specs.Problem.{Problem}
 use Rattle.tt_instance.specs.Cells.{slot, cell, all_rooms, InRange}
 use Rattle.tt_instance.specs.Courses.{unavailable}
 use Rattle.tt_instance.specs.declared.cell.Cell.{Cell}
-use Rattle.tt_facts.specs.Live.{is_barred, is_dead, is_live, live_period}
-use Rattle.tt_facts.specs.declared.facts.Fact.{Fact}
+use Rattle.tt_paths.specs.Live.{is_barred, is_dead, is_live, live_period}
+use Rattle.tt_paths.specs.declared.facts.Fact.{Fact}
 use Rattle.tt_cell_set.specs.Tables.{has_cell, is_open, Shows}
 use Rattle.tt_cell_set.proofs.Reading.{spare-cell}
 use Rattle.tt_cells.specs.Shown.{is_free_of, AreTables, AreEarlier}

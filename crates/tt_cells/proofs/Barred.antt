@@ -11,9 +11,9 @@ use Rattle.tt_lists.proofs.Truth.{same_truth}
 use Rattle.tt_instance.specs.Problem.{Problem}
 use Rattle.tt_instance.specs.Cells.{InRange}
 use Rattle.tt_instance.specs.declared.cell.Cell.{Cell}
-use Rattle.tt_facts.specs.Facts.{agrees, is_who, matches}
-use Rattle.tt_facts.specs.Nested.{agrees_at, courses_of}
-use Rattle.tt_facts.specs.declared.facts.Pattern.{Pattern}
+use Rattle.tt_paths.specs.Facts.{agrees, is_who, matches}
+use Rattle.tt_paths.specs.Nested.{agrees_at, courses_of}
+use Rattle.tt_paths.specs.declared.facts.Pattern.{Pattern}
 use Rattle.tt_cell_set.specs.Tables.{is_placed}
 use Rattle.tt_cells.specs.Slots.{allows, Covers}
 use Rattle.tt_cells.proofs.Losing.{placed_at}

@@ -5,7 +5,7 @@ use Rattle.std.proofs.lemmas.List.{take-append-le, get_or_push, get_or_append_le
 use Rattle.std.proofs.lemmas.Bool.{cases_lt}
 use Rattle.std.proofs.Math.Seq.{take-append_seam}
 use Rattle.tt_instance.specs.Problem.{Problem}
-use Rattle.tt_facts.specs.declared.facts.Fact.{Fact}
+use Rattle.tt_paths.specs.declared.facts.Fact.{Fact}
 use Rattle.tt_cells.specs.Shown.{AreTables, AreEarlier}
 
 -- the tables of one place, with the lists that they are taken from replaced by equal ones

@@ -10,8 +10,8 @@ use Rattle.tt_instance.specs.Cells.{slot, cell, all_rooms, InRange}
 use Rattle.tt_instance.specs.Courses.{conflict}
 use Rattle.tt_instance.specs.declared.cell.Cell.{Cell}
 use Rattle.tt_instance.proofs.Exclusion.{conflict-itself}
-use Rattle.tt_facts.specs.Facts.{agrees}
-use Rattle.tt_facts.specs.declared.facts.Pattern.{Pattern}
+use Rattle.tt_paths.specs.Facts.{agrees}
+use Rattle.tt_paths.specs.declared.facts.Pattern.{Pattern}
 use Rattle.tt_links.specs.Links.{conflicts_of}
 use Rattle.tt_links.proofs.Linked.{conflicts-has}
 use Rattle.tt_cell_set.specs.Tables.{has_cell, is_open, is_placed}

@@ -10,11 +10,11 @@ use Rattle.tt_instance.specs.Problem.{Problem}
 use Rattle.tt_instance.specs.Cells.{cell, all_rooms}
 use Rattle.tt_instance.specs.Courses.{students, capacity, excess}
 use Rattle.tt_instance.specs.declared.cell.Slot.{Slot}
-use Rattle.tt_facts.specs.Live.{least, least_with, is_live, least_excess}
-use Rattle.tt_facts.specs.declared.facts.Fact.{Fact}
+use Rattle.tt_paths.specs.Live.{least, least_with, is_live, least_excess}
+use Rattle.tt_paths.specs.declared.facts.Fact.{Fact}
 use Rattle.tt_cells.specs.Order.{ranked, IsRoomOrder, IsRoomiest}
 use Rattle.tt_cells.specs.declared.order.Ranked.{Ranked}
-use Rattle.tt_facts.proofs.Least.{least_more}
+use Rattle.tt_paths.proofs.Least.{least_more}
 
 -- ---- the least value of the numbers that pass
 

@@ -15,13 +15,13 @@ use Rattle.tt_instance.specs.Problem.{Problem}
 use Rattle.tt_instance.specs.Cells.{InRange}
 use Rattle.tt_instance.specs.Courses.{in_curriculum}
 use Rattle.tt_instance.specs.declared.cell.Cell.{Cell}
-use Rattle.tt_facts.specs.Facts.{agrees, is_who, matches}
-use Rattle.tt_facts.specs.Live.{is_barred, excludes, is_dead, is_live}
-use Rattle.tt_facts.specs.Nested.{is_excluded}
-use Rattle.tt_facts.specs.declared.facts.Who.{Who}
-use Rattle.tt_facts.specs.declared.facts.Who.TheVariants.{Course, Curriculum}
-use Rattle.tt_facts.specs.declared.facts.Pattern.{Pattern}
-use Rattle.tt_facts.specs.declared.facts.Fact.{Fact}
+use Rattle.tt_paths.specs.Facts.{agrees, is_who, matches}
+use Rattle.tt_paths.specs.Live.{is_barred, excludes, is_dead, is_live}
+use Rattle.tt_paths.specs.Nested.{is_excluded}
+use Rattle.tt_paths.specs.declared.facts.Who.{Who}
+use Rattle.tt_paths.specs.declared.facts.Who.TheVariants.{Course, Curriculum}
+use Rattle.tt_paths.specs.declared.facts.Pattern.{Pattern}
+use Rattle.tt_paths.specs.declared.facts.Fact.{Fact}
 use Rattle.tt_kills.proofs.More.{is_barred-yes, is_barred-no, is_dead-yes}
 use Rattle.tt_kills.proofs.Recomputed.{excludes-untouched, is_dead-no-more}
 use Rattle.tt_cell_set.specs.Tables.{Shows, Loses}

@@ -8,11 +8,11 @@ use Rattle.tt_lists.proofs.Truth.{same_truth}
 use Rattle.tt_instance.specs.Problem.{Problem}
 use Rattle.tt_instance.specs.Cells.{slot, cell, InRange}
 use Rattle.tt_instance.specs.declared.cell.Cell.{Cell}
-use Rattle.tt_facts.specs.Facts.{agrees, is_who, matches}
-use Rattle.tt_facts.specs.Live.{excludes}
-use Rattle.tt_facts.specs.Nested.{courses_of}
-use Rattle.tt_facts.specs.declared.facts.Pattern.{Pattern}
-use Rattle.tt_facts.specs.declared.facts.Fact.{Fact}
+use Rattle.tt_paths.specs.Facts.{agrees, is_who, matches}
+use Rattle.tt_paths.specs.Live.{excludes}
+use Rattle.tt_paths.specs.Nested.{courses_of}
+use Rattle.tt_paths.specs.declared.facts.Pattern.{Pattern}
+use Rattle.tt_paths.specs.declared.facts.Fact.{Fact}
 use Rattle.tt_kills.specs.Killing.{is_free, IsConfined}
 use Rattle.tt_kills.proofs.Confined.{kills_there, kills_all, spares_all, spares_elsewhere}
 use Rattle.tt_cell_set.specs.Tables.{IsTable, Shows, Loses}

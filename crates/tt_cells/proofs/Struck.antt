@@ -15,13 +15,13 @@ use Rattle.tt_instance.specs.Problem.{Problem, Curriculum}
 use Rattle.tt_instance.specs.Cells.{slot, cell, all_rooms, InRange}
 use Rattle.tt_instance.specs.Courses.{conflict, one_teacher, one_curriculum, members, no_curriculum}
 use Rattle.tt_instance.specs.declared.cell.Cell.{Cell}
-use Rattle.tt_facts.specs.Facts.{matches, is_who, agrees}
-use Rattle.tt_facts.specs.Live.{clash}
-use Rattle.tt_facts.specs.Nested.{courses_of}
-use Rattle.tt_facts.specs.declared.facts.Who.{Who}
-use Rattle.tt_facts.specs.declared.facts.Who.TheVariants as Whose
-use Rattle.tt_facts.specs.declared.facts.Pattern.{Pattern}
-use Rattle.tt_facts.specs.declared.facts.Fact.{Fact}
+use Rattle.tt_paths.specs.Facts.{matches, is_who, agrees}
+use Rattle.tt_paths.specs.Live.{clash}
+use Rattle.tt_paths.specs.Nested.{courses_of}
+use Rattle.tt_paths.specs.declared.facts.Who.{Who}
+use Rattle.tt_paths.specs.declared.facts.Who.TheVariants as Whose
+use Rattle.tt_paths.specs.declared.facts.Pattern.{Pattern}
+use Rattle.tt_paths.specs.declared.facts.Fact.{Fact}
 use Rattle.tt_kills.specs.Killing.{is_free, kills_by, kills_at}
 use Rattle.tt_cell_set.specs.Tables.{has_cell, Shows, is_open}
 use Rattle.tt_cells.specs.Struck.{is_left_to, is_left, is_beside, loses_room}

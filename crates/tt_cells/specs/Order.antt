@@ -6,8 +6,8 @@ use Rattle.tt_instance.specs.Problem.{Problem}
 use Rattle.tt_instance.specs.Cells.{cell, all_rooms}
 use Rattle.tt_instance.specs.Courses.{capacity}
 use Rattle.tt_instance.specs.declared.cell.Slot.{Slot}
-use Rattle.tt_facts.specs.Live.{is_live}
-use Rattle.tt_facts.specs.declared.facts.Fact.{Fact}
+use Rattle.tt_paths.specs.Live.{is_live}
+use Rattle.tt_paths.specs.declared.facts.Fact.{Fact}
 use Rattle.tt_cells.specs.declared.order.Ranked.{Ranked}
 
 abbrev pub ranked : Problem → ℕ → Ranked

@@ -3,10 +3,10 @@
 use Rattle.std.specs.Prelude.{◌≡◌, ℕ, ◌<◌, ◌==◌, Bool, false, not, ◌&&◌, List, [], ◌∷◌, ◌++◌, length, take, map, filter, slice_index_or}
 use Rattle.tt_instance.specs.Problem.{Problem}
 use Rattle.tt_instance.specs.declared.cell.Cell.{Cell}
-use Rattle.tt_facts.specs.Facts.{matches}
-use Rattle.tt_facts.specs.Live.{is_barred, is_live, excludes}
-use Rattle.tt_facts.specs.declared.facts.Fact.{Fact}
-use Rattle.tt_facts.specs.declared.facts.Pattern.{Pattern}
+use Rattle.tt_paths.specs.Facts.{matches}
+use Rattle.tt_paths.specs.Live.{is_barred, is_live, excludes}
+use Rattle.tt_paths.specs.declared.facts.Fact.{Fact}
+use Rattle.tt_paths.specs.declared.facts.Pattern.{Pattern}
 use Rattle.tt_cell_set.specs.Tables.{IsTable, Shows, Loses}
 use Rattle.tt_cells.specs.Struck.{loses_room}
 

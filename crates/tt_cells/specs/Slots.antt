@@ -2,8 +2,8 @@
 -- Periods of the week as numbers, day by day. These are steps of the code, and nobody has to believe them.
 use Rattle.std.specs.Prelude.{◌≡◌, ℕ, ◌+◌, ◌*◌, ◌/◌, ◌%◌, ◌<◌, ◌≤◌, Bool, true, false, ◌&&◌, List}
 use Rattle.tt_instance.specs.Problem.{Problem}
-use Rattle.tt_facts.specs.Facts.{agrees}
-use Rattle.tt_facts.specs.declared.facts.Pattern.{Pattern}
+use Rattle.tt_paths.specs.Facts.{agrees}
+use Rattle.tt_paths.specs.declared.facts.Pattern.{Pattern}
 use Rattle.tt_cells.specs.Struck.{is_left}
 
 -- the pattern allows the day and the period

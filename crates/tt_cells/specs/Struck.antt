@@ -7,7 +7,7 @@ use Rattle.tt_lists.specs.Words.{has_number}
 use Rattle.tt_instance.specs.Problem.{Problem}
 use Rattle.tt_instance.specs.Cells.{all_rooms}
 use Rattle.tt_instance.specs.Courses.{conflict}
-use Rattle.tt_facts.specs.declared.facts.Pattern.{Pattern}
+use Rattle.tt_paths.specs.declared.facts.Pattern.{Pattern}
 use Rattle.tt_cell_set.specs.Tables.{is_open}
 
 -- the course has a free room in the period that the pattern allows

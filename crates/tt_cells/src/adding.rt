@@ -9,9 +9,9 @@ use crate::again::settle_again;
 use crate::barring::remove_matched;
 use crate::settling::settle;
 use std::alloc::AllocError;
-use tt_facts::{Fact, Pattern};
 use tt_instance::Instance;
 use tt_links::Conflicts;
+use tt_paths::{Fact, Pattern};
 use tt_trail::Trail;
 
 /// Changes both tables for a no-fact, the last of the facts, whose yes-facts have these patterns.

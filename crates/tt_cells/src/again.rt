@@ -8,9 +8,9 @@ ghost use Rattle.tt_cells.specs.Shown.{Renews};
 
 use crate::settling::settle;
 use std::alloc::AllocError;
-use tt_facts::{Pattern, Who};
 use tt_instance::Instance;
 use tt_links::Conflicts;
+use tt_paths::{Pattern, Who};
 use tt_trail::Trail;
 
 /// Whether some number agrees with both, as far as is given.

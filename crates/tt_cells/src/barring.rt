@@ -1,16 +1,16 @@
 //! What a no-fact takes from the tables.
 
 ghost use Rattle.std.specs.Prelude.{◌≡◌, ◌<◌, ◌==◌, ◌&&◌, Some, length, OnOk};
-ghost use Rattle.tt_facts.specs.Facts.{matches};
-ghost use Rattle.tt_facts.specs.Nested.{agrees_at};
+ghost use Rattle.tt_paths.specs.Facts.{matches};
+ghost use Rattle.tt_paths.specs.Nested.{agrees_at};
 ghost use Rattle.tt_cell_set.specs.Tables.{IsTable, Loses};
 
 use crate::courses::courses_of;
 use crate::periods::{allows, slots_of};
 use std::alloc::AllocError;
 use tt_cell_set::remove_rooms;
-use tt_facts::Pattern;
 use tt_instance::Instance;
+use tt_paths::Pattern;
 use tt_trail::Trail;
 
 /// Takes a course's cells away that agree with a pattern which gives this day and this period.

@@ -1,7 +1,7 @@
 //! The facts of a path, and tables of what they leave possible.
 
 ghost use Rattle.std.specs.Prelude.{◌≡◌, ◌<◌, ◌≤◌, length};
-ghost use Rattle.tt_facts.specs.declared.path.TheConstants.{MAX_FACTS};
+ghost use Rattle.tt_paths.specs.declared.path.TheConstants.{MAX_FACTS};
 
 use crate::adding::add;
 use crate::listing::{list_fact, unlist_fact};
@@ -10,9 +10,9 @@ use std::alloc::{AllocError, Global};
 use std::marker::Model;
 use tt_bits::is_empty;
 use tt_cell_set::{cells_word, first_table, has_cell, has_period, periods_of};
-use tt_facts::{Cell, Fact, Pattern};
 use tt_instance::Instance;
 use tt_links::Conflicts;
+use tt_paths::{Cell, Fact, Pattern};
 use tt_trail::Trail;
 
 /// The facts, the patterns of the yes-facts, the cells that nothing bars, and the live ones.
@@ -29,8 +29,8 @@ pub struct Cells<'p, 'i> {
 
 impl<'p, 'i> Model for Cells<'p, 'i> {
     ghost use Rattle.std.specs.Prelude.{◌≡◌, ◌≤◌, length};
-    ghost use Rattle.tt_facts.specs.Paths.{Facts};
-    ghost use Rattle.tt_facts.specs.declared.path.TheConstants.{MAX_FACTS};
+    ghost use Rattle.tt_paths.specs.Paths.{Facts};
+    ghost use Rattle.tt_paths.specs.declared.path.TheConstants.{MAX_FACTS};
     ghost use Rattle.tt_links.specs.Linked.{AreConflicts};
     ghost use Rattle.tt_cells.specs.Order.{IsRoomOrder};
     ghost use Rattle.tt_cells.specs.Shown.{yes_facts, AreTables, AreEarlier};
@@ -54,7 +54,7 @@ impl<'p, 'i> Cells<'p, 'i> {
     ghost use Rattle.tt_bits.specs.Bits.{has_bit};
     ghost use Rattle.tt_instance.specs.Cells.{InRange, slot, cell};
     ghost use Rattle.tt_cells.specs.Order.{IsRoomiest};
-    ghost use Rattle.tt_facts.specs.Live.{is_dead, is_live, live_period, live_day, least_excess};
+    ghost use Rattle.tt_paths.specs.Live.{is_dead, is_live, live_period, live_day, least_excess};
 
     /// A path with no facts. The tables take their memory at once.
     pub fn new(alloc: Global, instance: &'p Instance<'i>) -> Result<Cells<'p, 'i>, AllocError>

@@ -2,11 +2,11 @@
 
 ghost use Rattle.std.specs.Prelude.{◌≡◌};
 ghost use Rattle.tt_lists.specs.Words.{has_number};
-ghost use Rattle.tt_facts.specs.Nested.{courses_of};
+ghost use Rattle.tt_paths.specs.Nested.{courses_of};
 
 use std::slice;
-use tt_facts::Who;
 use tt_instance::Instance;
+use tt_paths::Who;
 
 /// The course that is meant, or the members of the curriculum that is meant.
 pub fn courses_of<'a>(instance: &'a Instance<'_>, who: &'a Who) -> &'a [u32]

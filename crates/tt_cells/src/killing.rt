@@ -13,9 +13,9 @@ ghost use Rattle.tt_cells.specs.Shown.{is_struck};
 use crate::courses::is_one;
 use std::alloc::AllocError;
 use tt_cell_set::{Rooms, common_rooms, keep_rooms, remove_rooms};
-use tt_facts::Pattern;
 use tt_instance::Instance;
 use tt_links::Conflicts;
+use tt_paths::Pattern;
 use tt_trail::Trail;
 
 /// The rooms that a course loses in the period where another has to have one of its free rooms.

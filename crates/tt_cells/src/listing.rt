@@ -4,7 +4,7 @@ ghost use Rattle.std.specs.Prelude.{◌≡◌, ◌<◌, [], ◌∷◌, ◌++◌,
 ghost use Rattle.tt_cells.specs.Shown.{yes_facts};
 
 use std::alloc::AllocError;
-use tt_facts::{Fact, Pattern};
+use tt_paths::{Fact, Pattern};
 
 /// Adds a fact to the lists where it belongs. Kept apart, since the fact is copied field by field where it is inlined.
 #[inline(never)]

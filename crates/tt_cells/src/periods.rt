@@ -1,14 +1,14 @@
 //! The periods in which a yes-fact has a free cell.
 
 ghost use Rattle.std.specs.Prelude.{◌≡◌, ◌<◌, ◌≤◌, ◌*◌, length, MatchOption};
-ghost use Rattle.tt_facts.specs.Facts.{agrees};
+ghost use Rattle.tt_paths.specs.Facts.{agrees};
 ghost use Rattle.tt_cell_set.specs.Tables.{IsTable};
 ghost use Rattle.tt_cells.specs.Struck.{is_left_to, is_left};
 ghost use Rattle.tt_cells.specs.Slots.{allows, is_left_in, Covers, IsNone, IsFirst};
 
 use tt_cell_set::has_period;
-use tt_facts::Pattern;
 use tt_instance::Instance;
+use tt_paths::Pattern;
 use tt_trail::Trail;
 
 /// Whether a number is the one that is given; each number is where none is given.

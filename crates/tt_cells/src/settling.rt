@@ -1,7 +1,7 @@
 //! What a yes-fact takes from the live cells.
 
 ghost use Rattle.std.specs.Prelude.{◌≡◌, ◌<◌, ◌≤◌, ◌*◌, Some, OnOk};
-ghost use Rattle.tt_facts.specs.Nested.{courses_of};
+ghost use Rattle.tt_paths.specs.Nested.{courses_of};
 ghost use Rattle.tt_links.specs.Linked.{AreConflicts};
 ghost use Rattle.tt_cell_set.specs.Tables.{IsTable};
 ghost use Rattle.tt_cells.specs.Slots.{is_left_in, Covers, IsFirst};
@@ -12,9 +12,9 @@ use crate::killing::kill_by_links;
 use crate::periods::{first_left, is_left, slots_of};
 use std::alloc::AllocError;
 use tt_cell_set::remove_all;
-use tt_facts::Pattern;
 use tt_instance::Instance;
 use tt_links::Conflicts;
+use tt_paths::Pattern;
 use tt_trail::Trail;
 
 /// Takes away the live cells that a pattern excludes whose first free period is this one.

@@ -1,8 +1,8 @@
 -- A split on a small instance, as the definitions judge it.
 use Rattle.std.proofs.Common.{[], refl, lit≤}
 use Rattle.tt_instance.proofs.Examples.{at, gap}
-use Rattle.tt_facts.specs.declared.facts.Who.TheVariants.{Course}
-use Rattle.tt_facts.proofs.Examples.{first_day}
+use Rattle.tt_paths.specs.declared.facts.Who.TheVariants.{Course}
+use Rattle.tt_paths.proofs.Examples.{first_day}
 use Rattle.tt_choice.specs.Choice.{Aims}
 
 -- a in the first period aims at its cell there

@@ -4,12 +4,12 @@ use Rattle.std.specs.Prelude.{◌≡◌, ℕ, true, false, List, Some, None}
 use Rattle.tt_instance.specs.Problem.{Problem}
 use Rattle.tt_instance.specs.Cells.{InRange}
 use Rattle.tt_instance.specs.declared.cell.Cell.{Cell}
-use Rattle.tt_facts.specs.Facts.{IsPattern, matches, has_fact}
-use Rattle.tt_facts.specs.Live.{is_live}
-use Rattle.tt_facts.specs.declared.facts.Pattern.{Pattern}
-use Rattle.tt_facts.specs.declared.facts.Who.TheVariants.{Course}
-use Rattle.tt_facts.specs.declared.facts.Fact.{Fact}
-use Rattle.tt_find.specs.Pinned.{own_pattern}
+use Rattle.tt_paths.specs.Facts.{IsPattern, matches, has_fact}
+use Rattle.tt_paths.specs.Live.{is_live}
+use Rattle.tt_paths.specs.declared.facts.Pattern.{Pattern}
+use Rattle.tt_paths.specs.declared.facts.Who.TheVariants.{Course}
+use Rattle.tt_paths.specs.declared.facts.Fact.{Fact}
+use Rattle.tt_leaf.specs.Pinned.{own_pattern}
 
 -- the cell is live, and its own pattern does not stand on the path as yes
 pub record IsFree (p : Problem) (path : List Fact) (x : Cell) : Type 0 where

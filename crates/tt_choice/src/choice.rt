@@ -2,7 +2,7 @@
 
 ghost use Rattle.std.specs.Prelude.{◌≡◌, ◌<◌, length, IfOk, IfSome, IsNone};
 ghost use Rattle.tt_instance.specs.Cells.{InRange};
-ghost use Rattle.tt_find.specs.Pinned.{IsPinnedDown};
+ghost use Rattle.tt_leaf.specs.Pinned.{IsPinnedDown};
 ghost use Rattle.tt_choice.specs.Choice.{IsFree, IsNewSplit};
 
 use crate::free::{find_free, is_free, own_pattern};
@@ -10,8 +10,8 @@ use crate::leeway::Freedom;
 use crate::prospects::Prospects;
 use crate::strong::best_candidate;
 use std::alloc::{AllocError, Global};
-use tt_facts::{Cell, Path, Pattern, Who};
 use tt_instance::Instance;
+use tt_paths::{Cell, Path, Pattern, Who};
 
 /// The most ways to choose the periods of all courses, as a logarithm in sixteenths, where one curriculum is fixed
 /// after the other: a search below is likely to end.

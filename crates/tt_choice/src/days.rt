@@ -1,7 +1,7 @@
 //! The choice of a split in a small part of an instance, which tries whole days first.
 
 ghost use Rattle.std.specs.Prelude.{◌≡◌, ◌<◌, length, true, IfOk, IfSome, IsNone};
-ghost use Rattle.tt_find.specs.Pinned.{IsPinnedDown};
+ghost use Rattle.tt_leaf.specs.Pinned.{IsPinnedDown};
 ghost use Rattle.tt_choice.specs.Choice.{Aims, day_pattern, IsNewSplit};
 
 use crate::choice::{aim_within, choose_split};
@@ -10,9 +10,9 @@ use crate::helpers::{Aim, Helpers, on_day};
 use crate::prospects::Prospects;
 use crate::strong::best_candidate;
 use std::alloc::{AllocError, Global};
-use tt_facts::{Cell, Path, Pattern};
-use tt_find::best_claims;
-use tt_leaf::leaf_value;
+use tt_leaf::best_claims;
+use tt_leaf_rules::leaf_value;
+use tt_paths::{Cell, Path, Pattern};
 
 /// Whether a cell of a course in a room on a day is free.
 fn is_free_on<'i, P: Path<'i>>(path: &P, course: u32, room: u32, day: u32) -> bool

@@ -2,10 +2,10 @@
 
 ghost use Rattle.std.specs.Prelude.{◌≡◌, ℕ, ◌<◌, length, true, false, IsTrue, ◌↔◌, IfSome, IsNone};
 ghost use Rattle.tt_instance.specs.Cells.{InRange, cell, slot};
-ghost use Rattle.tt_find.specs.Pinned.{own_pattern, IsPinnedDown};
+ghost use Rattle.tt_leaf.specs.Pinned.{own_pattern, IsPinnedDown};
 ghost use Rattle.tt_choice.specs.Choice.{IsFree};
 
-use tt_facts::{Cell, Path, Pattern, Who};
+use tt_paths::{Cell, Path, Pattern, Who};
 
 /// The pattern that matches a cell alone.
 pub fn own_pattern(cell: Cell) -> Pattern

@@ -6,8 +6,8 @@ ghost use Rattle.tt_choice.specs.Choice.{day_pattern};
 
 use crate::prospects::{Prospects, bit_of};
 use std::alloc::{AllocError, Global};
-use tt_facts::{Path, Pattern, Who};
 use tt_instance::Instance;
+use tt_paths::{Path, Pattern, Who};
 
 /// The cost of a lecture that is alone.
 const ALONE: u64 = 2;

@@ -1,4 +1,4 @@
-pub mod Facts
-pub mod Live
-pub mod Nested
-pub mod Paths
+pub use Rattle.tt_paths.specs.Facts
+pub use Rattle.tt_paths.specs.Live
+pub use Rattle.tt_paths.specs.Nested
+pub use Rattle.tt_paths.specs.Paths

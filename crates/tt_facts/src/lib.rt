@@ -1,11 +1,8 @@
-//! Facts about timetables, and paths of facts.
+//! Paths that answer from tables and take changes back by trails.
 #![tactic(auto)]
 
-mod facts;
-mod path;
-mod plain;
+mod both;
+mod trail_path;
 
-pub use facts::{Fact, Pattern, Who, agrees};
-pub use path::{MAX_FACTS, Path, PathFault};
-pub use plain::PlainPath;
-pub use tt_instance::Cell;
+pub use trail_path::TrailPath;
+pub use tt_paths::{Cell, Fact, MAX_FACTS, Path, PathFault, Pattern, PlainPath, Who, agrees};

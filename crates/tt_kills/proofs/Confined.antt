@@ -10,10 +10,10 @@ use Rattle.tt_instance.specs.Courses.{conflict}
 use Rattle.tt_instance.specs.declared.cell.Cell.{Cell}
 use Rattle.tt_instance.proofs.Places.{each_cell_at}
 use Rattle.tt_instance.proofs.Cells.{all_cells_pass}
-use Rattle.tt_facts.specs.Facts.{matches}
-use Rattle.tt_facts.specs.Live.{clash, is_barred, excludes}
-use Rattle.tt_facts.specs.declared.facts.Pattern.{Pattern}
-use Rattle.tt_facts.specs.declared.facts.Fact.{Fact}
+use Rattle.tt_paths.specs.Facts.{matches}
+use Rattle.tt_paths.specs.Live.{clash, is_barred, excludes}
+use Rattle.tt_paths.specs.declared.facts.Pattern.{Pattern}
+use Rattle.tt_paths.specs.declared.facts.Fact.{Fact}
 use Rattle.tt_kills.specs.Killing.{is_free, IsSamePeriod, IsConfined, kills_by, kills_at}
 
 -- the test of "excludes" at one cell

@@ -12,12 +12,12 @@ use Rattle.tt_instance.specs.Problem.{Problem}
 use Rattle.tt_instance.specs.Cells.{all_cells}
 use Rattle.tt_instance.specs.Courses.{unavailable}
 use Rattle.tt_instance.specs.declared.cell.Cell.{Cell}
-use Rattle.tt_facts.specs.Facts.{matches, same_pattern, same_answer, has_fact}
-use Rattle.tt_facts.specs.Live.{clash, is_barred, excludes, is_dead}
-use Rattle.tt_facts.specs.Nested.{is_denied, is_excluded}
-use Rattle.tt_facts.specs.declared.facts.Pattern.{Pattern}
-use Rattle.tt_facts.specs.declared.facts.Fact.{Fact}
-use Rattle.tt_facts.proofs.Same.{same_fact}
+use Rattle.tt_paths.specs.Facts.{matches, same_pattern, same_answer, has_fact}
+use Rattle.tt_paths.specs.Live.{clash, is_barred, excludes, is_dead}
+use Rattle.tt_paths.specs.Nested.{is_denied, is_excluded}
+use Rattle.tt_paths.specs.declared.facts.Pattern.{Pattern}
+use Rattle.tt_paths.specs.declared.facts.Fact.{Fact}
+use Rattle.tt_paths.proofs.Same.{same_fact}
 use Rattle.tt_kills.proofs.Confined.{excluded-clash, excluded_from}
 
 or-assoc : (a b c : Bool) → (a || (b || c)) ≡ ((a || b) || c)

@@ -6,10 +6,10 @@ use Rattle.tt_lists.proofs.Truth.{same_truth}
 use Rattle.tt_instance.specs.Problem.{Problem}
 use Rattle.tt_instance.specs.Cells.{InRange}
 use Rattle.tt_instance.specs.declared.cell.Cell.{Cell}
-use Rattle.tt_facts.specs.Facts.{matches}
-use Rattle.tt_facts.specs.Live.{is_barred, excludes, is_dead}
-use Rattle.tt_facts.specs.declared.facts.Pattern.{Pattern}
-use Rattle.tt_facts.specs.declared.facts.Fact.{Fact}
+use Rattle.tt_paths.specs.Facts.{matches}
+use Rattle.tt_paths.specs.Live.{is_barred, excludes, is_dead}
+use Rattle.tt_paths.specs.declared.facts.Pattern.{Pattern}
+use Rattle.tt_paths.specs.declared.facts.Fact.{Fact}
 use Rattle.tt_kills.proofs.Confined.{excluded-clash, excluded_from}
 use Rattle.tt_kills.proofs.More.{is_dead-no, dead_stays}
 

@@ -5,10 +5,10 @@ use Rattle.std.specs.List.{list_all}
 use Rattle.tt_instance.specs.Problem.{Problem}
 use Rattle.tt_instance.specs.Cells.{slot, cell, all_rooms, all_courses, InRange}
 use Rattle.tt_instance.specs.declared.cell.Cell.{Cell}
-use Rattle.tt_facts.specs.Facts.{matches}
-use Rattle.tt_facts.specs.Live.{clash, is_barred}
-use Rattle.tt_facts.specs.declared.facts.Pattern.{Pattern}
-use Rattle.tt_facts.specs.declared.facts.Fact.{Fact}
+use Rattle.tt_paths.specs.Facts.{matches}
+use Rattle.tt_paths.specs.Live.{clash, is_barred}
+use Rattle.tt_paths.specs.declared.facts.Pattern.{Pattern}
+use Rattle.tt_paths.specs.declared.facts.Fact.{Fact}
 
 -- the pattern matches the cell and nothing bars it
 abbrev pub is_free : Problem → List Fact → Pattern → Cell → Bool

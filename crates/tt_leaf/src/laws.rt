@@ -1,18 +1,20 @@
-//! What the leaf rules mean.
+//! What the leaves that are tried close.
 
 ghost use Rattle.std.specs.Prelude.{List};
 ghost use Rattle.tt_instance.specs.Problem.{Problem};
+ghost use Rattle.tt_instance.specs.Limits.{IsInstance};
 ghost use Rattle.tt_instance.specs.declared.cell.Cell.{Cell};
 ghost use Rattle.tt_rules.specs.Score.{IsFeasible, cost};
-ghost use Rattle.tt_facts.specs.Facts.{Fits};
-ghost use Rattle.tt_facts.specs.declared.facts.Fact.{Fact};
-ghost use Rattle.tt_leaf.specs.Bounds.{Respects};
-ghost use Rattle.tt_leaf.specs.Leaves.{IsRight};
-ghost use Rattle.tt_leaf.specs.declared.leaf.Bound.{Bound};
-ghost use Rattle.tt_leaf.specs.declared.leaf.Leaf.{Leaf};
+ghost use Rattle.tt_paths.specs.Facts.{Fits};
+ghost use Rattle.tt_paths.specs.declared.facts.Fact.{Fact};
+ghost use Rattle.tt_leaf_rules.specs.Bounds.{Respects};
+ghost use Rattle.tt_leaf_rules.specs.declared.leaf.Bound.{Bound};
+ghost use Rattle.tt_leaf.specs.Pinned.{IsPinnedDown, IsOpen};
 
-/// A right leaf says of every feasible timetable that fits its path that it costs at least the bound, or that there is none.
-pub fn right_leaves_hold()
-    ensures { (p : Problem) (path : List Fact) (b : Bound) (leaf : Leaf) → IsRight p path b leaf →
-        (t : List Cell) → IsFeasible p t → Fits p t path → Respects b (cost p t) }
+/// Where each live cell's own pattern stands on the path as yes, one of the leaves that are tried is
+/// right for each bound that the feasible timetables on the path respect: for each bound up to their
+/// cost, and for every bound where there is none.
+pub fn pinned_paths_close()
+    ensures { (p : Problem) (path : List Fact) (b : Bound) → IsInstance p → IsPinnedDown p path →
+        ((t : List Cell) → IsFeasible p t → Fits p t path → Respects b (cost p t)) → ¬ IsOpen p path b }
 {}

@@ -1,26 +1,20 @@
-//! The leaf rules of proofs of lower bounds.
+//! Leaves that close a node: the claims that are worth something, and the search for a right leaf.
 #![tactic(auto)]
 
-mod capacity;
-mod claims;
-mod days;
-mod empty;
-mod groups;
-mod isolated;
-mod judging;
+mod best;
+mod crowds;
+mod find;
+mod grid;
+mod group_prices;
 mod laws;
-mod leaf;
-mod lists;
-mod met;
-mod pinned;
+mod priced;
 mod prices;
-mod slots;
-mod stable;
-mod targets;
+mod rivals;
 
-pub use claims::claim_value;
-pub use judging::{holds, leaf_value};
-pub use laws::right_leaves_hold;
-pub use leaf::{Bound, Claim, ClaimList, Leaf, RuleFault};
-pub use lists::{CourseList, PriceList};
-pub use slots::{slot_at, slot_count};
+pub use best::best_claims;
+pub use find::find_leaf;
+pub use laws::pinned_paths_close;
+pub use tt_leaf_rules::{
+    Bound, Claim, ClaimList, CourseList, Leaf, PriceList, RuleFault, claim_value, holds,
+    leaf_value, right_leaves_hold, slot_at, slot_count,
+};

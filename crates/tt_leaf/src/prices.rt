@@ -1,199 +1,113 @@
-//! The seats that several courses lack, with prices of courses and of rooms.
+//! Prices of capacity claims.
 
-ghost use Rattle.std.specs.Prelude.{◌≡◌, ◌<◌, ◌≤◌, ◌*◌, ◌^◌, length};
+ghost use Rattle.std.specs.Prelude.{◌≡◌, ◌<◌, ◌≤◌, [], ◌++◌, true, length, All, Contains, IfOk, IfSome, OnOk};
+ghost use Rattle.std.specs.List.{cons_option};
+ghost use Rattle.std.specs.Ordering.{nat_cmp};
+ghost use Rattle.std.specs.Vec.Iter.{into_iter_items};
+ghost use Rattle.itertools.specs.Extremes.{IsKLeast, by_cmp};
 ghost use Rattle.tt_instance.specs.Cells.{slot};
 ghost use Rattle.tt_instance.specs.Courses.{lectures};
-ghost use Rattle.tt_leaf.specs.Claims.{price_in, are_covered, open_in, value_of};
-ghost use Rattle.tt_leaf.specs.Nested.{PricesBelow, dead_in, priced_live_in, course_prices, room_prices, covered_in, covered};
-ghost use Rattle.tt_leaf.specs.Ranges.{ArePrices};
-ghost use Rattle.tt_leaf.specs.declared.leaf.Claim.TheVariants.{Prices};
-ghost use Rattle.tt_instance.specs.declared.limit.TheConstants.{MAX_COURSES, MAX_ROOMS, MAX_SLOTS};
+ghost use Rattle.tt_leaf.specs.Best.{kth_smallest, least_excesses, price_of};
+ghost use Rattle.tt_leaf.specs.Seated.{is_seated, seated_periods};
 
-use crate::slots::{slot_at, slot_count};
-use tt_facts::Path;
-use tt_instance::{Cell, Instance};
+use itertools::Itertools;
+use std::alloc::{AllocError, Global};
+use std::vec::IntoIter;
+use tt_instance::Slot;
+use tt_leaf_rules::{slot_at, slot_count};
+use tt_paths::Path;
 
-// ---- covered prices
-
-fn price_in(rooms: &[(u32, u32)], room: u32) -> u32
-    ensures { result ≡ price_in rooms.now room }
+/// The `k` smallest numbers, in rising order.
+fn smallest(alloc: Global, numbers: &[u32], k: usize) -> Result<IntoIter<u32>, AllocError>
+    ensures { IfOk result (λ it. IsKLeast (by_cmp nat_cmp) k numbers.now (into_iter_items it)) }
 {
-    let mut rest = rooms;
-    while let Some((first, others)) = rest.split_first() {
-        if room == first.0 {
-            return first.1;
-        }
-        rest = others;
-    }
-    0
+    numbers.iter().copied().k_smallest(alloc, k)
 }
 
-fn is_dead_in<'i, P: Path<'i>>(path: &P, course: u32, room: u32) -> bool
-    requires course { course < length (P.problem path.now).courses }
-    requires room { room < length (P.problem path.now).rooms }
-    ensures { result ≡ dead_in (P.problem path.now) (P.facts path.now) course room }
+/// The `k`-th smallest number, counted from 1, or the greatest where there are fewer.
+fn kth_smallest(alloc: Global, numbers: &[u32], k: usize) -> Result<Option<u32>, AllocError>
+    ensures value { IfOk result (λ found. found ≡ kth_smallest k numbers.now) }
+    ensures member { IfOk result (λ found. IfSome found (Contains numbers.now)) }
+{
+    Ok(smallest(alloc, numbers, k)?.next_back())
+}
+
+/// Adds the excess, if there is one.
+fn push_some(excesses: &mut Vec<u32>, found: Option<u64>) -> Result<(), AllocError>
+    requires { IfSome found (λ n. n ≤ 1000000) }
+    ensures { OnOk result (excesses.new.items ≡ excesses.old.items ++ cons_option found []) }
+{
+    if let Some(excess) = found {
+        excesses.push(excess as u32)?;
+    }
+    Ok(())
+}
+
+/// The least excesses of a course's live periods, in students.
+fn least_excesses<'i, P: Path<'i>>(
+    alloc: Global,
+    path: &P,
+    course: u32,
+) -> Result<Vec<u32>, AllocError>
+    requires { course < length (P.problem path.now).courses }
+    ensures value { IfOk result (λ found. found.items ≡ least_excesses (P.problem path.now) (P.facts path.now) course) }
+    ensures within { IfOk result (λ found. All (λ n. n ≤ 1000000) found.items) }
 {
     let instance = path.instance();
+    let mut excesses = Vec::new(alloc);
     for place in 0..slot_count(instance) {
         let slot = slot_at(instance, place);
-        let cell = Cell {
-            course,
-            room,
-            day: slot.day,
-            period: slot.period,
-        };
-        if !path.dead(cell) {
-            return false;
-        }
+        push_some(
+            &mut excesses,
+            path.least_excess(course, slot.day, slot.period),
+        )?;
     }
-    true
+    Ok(excesses)
 }
 
-fn is_covered_in<'i, P: Path<'i>>(
+/// The price at which a course's capacity is claimed.
+pub fn price_of<'i, P: Path<'i>>(
+    alloc: Global,
     path: &P,
-    rooms: &[(u32, u32)],
-    priced: (u32, u32),
-    room: u32,
-) -> bool
-    requires course { priced.0 < length (P.problem path.now).courses }
-    requires room { room < length (P.problem path.now).rooms }
-    ensures { result ≡ covered_in (P.problem path.now) (P.facts path.now) rooms.now priced room }
+    course: u32,
+) -> Result<Option<u32>, AllocError>
+    requires { course < length (P.problem path.now).courses }
+    ensures value { IfOk result (λ price. price ≡ price_of (P.problem path.now) (P.facts path.now) course) }
+    ensures within { IfOk result (λ price. IfSome price (λ n. n ≤ 1000000)) }
 {
-    let (course, price) = priced;
+    let excesses = least_excesses(alloc, path, course)?;
+    kth_smallest(
+        alloc,
+        excesses.as_slice(),
+        path.instance().lectures(course) as usize,
+    )
+}
+
+/// Whether some live cell of the course in the period seats its students.
+fn is_seated<'i, P: Path<'i>>(path: &P, course: u32, slot: Slot) -> bool
+    requires course { course < length (P.problem path.now).courses }
+    requires day { slot.day < (P.problem path.now).days }
+    requires period { slot.period < (P.problem path.now).periods }
+    ensures { result ≡ is_seated (P.problem path.now) (P.facts path.now) course slot }
+{
+    path.least_excess(course, slot.day, slot.period) == Some(0)
+}
+
+/// Whether a course has as many periods that seat its students as lectures. Its seats are worth nothing then.
+pub fn has_seats<'i, P: Path<'i>>(path: &P, course: u32) -> bool
+    requires { course < length (P.problem path.now).courses }
+    ensures { result ≡ true → lectures (P.problem path.now) course ≤ seated_periods (P.problem path.now) (P.facts path.now) course }
+{
     let instance = path.instance();
-    let excess = instance
-        .students(course)
-        .saturating_sub(instance.capacity(room));
-    u64::from(price) <= u64::from(excess) + u64::from(price_in(rooms, room))
-        || is_dead_in(path, course, room)
-}
-
-#[tactic(auto, using(tt_lists::proofs::Below::all_more))]
-fn is_covered<'i, P: Path<'i>>(path: &P, rooms: &[(u32, u32)], priced: (u32, u32)) -> bool
-    requires { priced.0 < length (P.problem path.now).courses }
-    ensures { result ≡ covered (P.problem path.now) (P.facts path.now) rooms.now priced }
-{
-    for room in 0..path.instance().rooms() {
-        if !is_covered_in(path, rooms, priced, room) {
-            return false;
-        }
-    }
-    true
-}
-
-/// Whether on each live cell of a listed course the excess and the room's price cover the course's price.
-pub fn are_covered<'i, P: Path<'i>>(path: &P, courses: &[(u32, u32)], rooms: &[(u32, u32)]) -> bool
-    requires { PricesBelow (length (P.problem path.now).courses) courses.now }
-    ensures { result ≡ are_covered (P.problem path.now) (P.facts path.now) courses.now rooms.now }
-{
-    for priced in courses {
-        if !is_covered(path, rooms, *priced) {
-            return false;
-        }
-    }
-    true
-}
-
-// ---- what the prices are worth
-
-fn is_room_open<'i, P: Path<'i>>(
-    path: &P,
-    courses: &[(u32, u32)],
-    room: u32,
-    day: u32,
-    period: u32,
-) -> bool
-    requires courses { PricesBelow (length (P.problem path.now).courses) courses.now }
-    requires room { room < length (P.problem path.now).rooms }
-    requires day { day < (P.problem path.now).days }
-    requires period { period < (P.problem path.now).periods }
-    ensures { result ≡ priced_live_in (P.problem path.now) (P.facts path.now) courses.now room (slot day period) }
-{
-    for (course, _) in courses {
-        let cell = Cell {
-            course: *course,
-            room,
-            day,
-            period,
-        };
-        if !path.dead(cell) {
-            return true;
+    let wanted = instance.lectures(course);
+    let mut seated = 0;
+    for place in 0..slot_count(instance) {
+        if is_seated(path, course, slot_at(instance, place)) {
+            seated += 1;
+            if wanted <= seated {
+                return true;
+            }
         }
     }
     false
-}
-
-fn open_in<'i, P: Path<'i>>(path: &P, courses: &[(u32, u32)], room: u32) -> u32
-    requires courses { PricesBelow (length (P.problem path.now).courses) courses.now }
-    requires room { room < length (P.problem path.now).rooms }
-    ensures value { result ≡ open_in (P.problem path.now) (P.facts path.now) courses.now room }
-    ensures within { result ≤ MAX_SLOTS }
-{
-    let instance = path.instance();
-    let mut total = 0;
-    for place in 0..slot_count(instance) {
-        let slot = slot_at(instance, place);
-        if is_room_open(path, courses, room, slot.day, slot.period) {
-            total += 1;
-        }
-    }
-    total
-}
-
-fn course_price(instance: &Instance<'_>, course: u32, price: u32) -> u64
-    requires { course < length instance.now.courses }
-    ensures value { result ≡ lectures instance.now course * price }
-    ensures within { result ≤ 2 ^ 44 }
-{
-    u64::from(instance.lectures(course)) * u64::from(price)
-}
-
-fn course_prices(instance: &Instance<'_>, courses: &[(u32, u32)]) -> u64
-    requires below { PricesBelow (length instance.now.courses) courses.now }
-    requires few { length courses.now ≤ MAX_COURSES }
-    ensures value { result ≡ course_prices instance.now courses.now }
-    ensures within { result ≤ length courses.now * 2 ^ 44 }
-{
-    let mut total: u64 = 0;
-    for (course, price) in courses {
-        total += course_price(instance, *course, *price);
-    }
-    total
-}
-
-fn room_price<'i, P: Path<'i>>(path: &P, courses: &[(u32, u32)], room: u32, price: u32) -> u64
-    requires courses { PricesBelow (length (P.problem path.now).courses) courses.now }
-    requires room { room < length (P.problem path.now).rooms }
-    ensures value { result ≡ price * open_in (P.problem path.now) (P.facts path.now) courses.now room }
-    ensures within { result ≤ 2 ^ 44 }
-{
-    u64::from(price) * u64::from(open_in(path, courses, room))
-}
-
-fn room_prices<'i, P: Path<'i>>(path: &P, courses: &[(u32, u32)], rooms: &[(u32, u32)]) -> u64
-    requires courses { PricesBelow (length (P.problem path.now).courses) courses.now }
-    requires rooms { PricesBelow (length (P.problem path.now).rooms) rooms.now }
-    requires few { length rooms.now ≤ MAX_ROOMS }
-    ensures { result ≡ room_prices (P.problem path.now) (P.facts path.now) courses.now rooms.now }
-{
-    let mut total: u64 = 0;
-    for (room, price) in rooms {
-        total += room_price(path, courses, *room, *price);
-    }
-    total
-}
-
-/// What a claim of prices is worth, in cost points.
-#[tactic(auto, using(crate::proofs::Sizes::prices_below))]
-pub fn prices_value<'i, P: Path<'i>>(path: &P, courses: &[(u32, u32)], rooms: &[(u32, u32)]) -> u64
-    requires courses { ArePrices (length (P.problem path.now).courses) courses.now }
-    requires rooms { ArePrices (length (P.problem path.now).rooms) rooms.now }
-    ensures value { result ≡ value_of (P.problem path.now) (P.facts path.now) (Prices courses.now rooms.now) }
-    ensures within { result ≤ length courses.now * 2 ^ 44 }
-{
-    let instance = path.instance();
-    // Each course and each room has one price at most.
-    prove!(courses.len() <= instance.courses() as usize);
-    prove!(rooms.len() <= instance.rooms() as usize);
-    course_prices(instance, courses).saturating_sub(room_prices(path, courses, rooms))
 }

@@ -2,9 +2,9 @@
 use Rattle.std.proofs.Common.{◌≡◌, List, [], ◌∷◌, ◌++◌, Some, sym, subst}
 use Rattle.std.proofs.lemmas.List.Elements.{All-pop, All-push}
 use Rattle.tt_instance.specs.Problem.{Problem}
-use Rattle.tt_facts.specs.Facts.{IsPattern}
-use Rattle.tt_facts.specs.declared.facts.Fact.{Fact}
-use Rattle.tt_find.specs.Found.{ArePatterns}
+use Rattle.tt_paths.specs.Facts.{IsPattern}
+use Rattle.tt_paths.specs.declared.facts.Fact.{Fact}
+use Rattle.tt_leaf.specs.Found.{ArePatterns}
 
 pub popped : (p q : Problem) (facts less : List Fact) (f : Fact) → q ≡ p → facts ≡ less ++ f ∷ [] → ArePatterns p facts → ArePatterns q less × IsPattern q f.pattern
 popped p q facts less f same e h =

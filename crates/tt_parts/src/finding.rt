@@ -8,7 +8,7 @@ use crate::rounds::Finder;
 use crate::together::sum_of;
 use std::alloc::{AllocError, Global};
 use tt_instance::Instance;
-use tt_leaf::Bound;
+use tt_leaf_rules::Bound;
 
 /// Proofs that claim different targets, as texts, and the sum of their bounds.
 #[derive(Drop)]

@@ -1,17 +1,17 @@
 //! Trees that prove a given bound.
 
 ghost use Rattle.std.specs.Prelude.{◌≡◌, OnOk};
-ghost use Rattle.tt_facts.specs.Facts.{IsPattern};
-ghost use Rattle.tt_find.specs.Found.{ArePatterns};
+ghost use Rattle.tt_paths.specs.Facts.{IsPattern};
+ghost use Rattle.tt_leaf.specs.Found.{ArePatterns};
 
 use std::alloc::{AllocError, Global};
 use tt_choice::choose_day_split;
-use tt_facts::{Fact, Path, PathFault, Pattern};
-use tt_find::find_leaf;
+use tt_facts::TrailPath;
 use tt_instance::Instance;
-use tt_leaf::Bound;
-use tt_proof_text::Node;
-use tt_trail_path::TrailPath;
+use tt_leaf::find_leaf;
+use tt_leaf_rules::Bound;
+use tt_paths::{Fact, Path, PathFault, Pattern};
+use tt_proof_read::Node;
 
 /// What came of a tree.
 #[derive(Drop)]

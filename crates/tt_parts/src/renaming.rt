@@ -1,9 +1,9 @@
 //! The nodes of a proof about a part, as nodes of a proof about the whole.
 
 use crate::group::Group;
-use tt_facts::{Pattern, Who};
-use tt_leaf::{Claim, ClaimList, CourseList, Leaf, PriceList};
-use tt_proof_text::Node;
+use tt_leaf_rules::{Claim, ClaimList, CourseList, Leaf, PriceList};
+use tt_paths::{Pattern, Who};
+use tt_proof_read::Node;
 
 /// The number in the whole of what stands at a place of a list.
 fn number_at(list: &[u32], place: u32) -> u32 {

@@ -7,9 +7,9 @@ use crate::text::part_text;
 use crate::together::sum_of;
 use std::alloc::{AllocError, Global};
 use tt_instance::{Instance, InstanceFault, read_instance};
-use tt_leaf::Bound;
-use tt_proof_text::Node;
-use tt_proof_write::{WriteFault, write_proof};
+use tt_leaf_rules::Bound;
+use tt_proof_read::Node;
+use tt_proof_text::{WriteFault, write_proof};
 use tt_rules::score;
 use tt_search::{construct, improve};
 

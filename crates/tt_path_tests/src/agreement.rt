@@ -5,10 +5,10 @@ use crate::dice::{Dice, Ranges, ranges_of};
 use crate::instances::{SMALL01, TINY05};
 use crate::large::large_text;
 use std::test::Fail;
-use tt_facts::{Fact, Path, PlainPath};
+use tt_facts::TrailPath;
 use tt_instance::read_instance;
+use tt_paths::{Fact, Path, PlainPath};
 use tt_samples::GAP;
-use tt_trail_path::TrailPath;
 
 /// How many pushes and pops.
 const STEPS: u32 = 500;

@@ -1,7 +1,7 @@
 //! The answers of a path, put together to one number.
 
 use crate::dice::{Dice, Ranges};
-use tt_facts::{Cell, Fact, Path, Who};
+use tt_paths::{Cell, Fact, Path, Who};
 
 /// A number that tells what came before and one answer more.
 fn mixed(told: u64, answer: u64) -> u64 {

@@ -1,10 +1,10 @@
 //! Cells that die as facts come and are live again as facts go, by both paths.
 
 use std::test::Fail;
-use tt_facts::{Cell, Fact, MAX_FACTS, Path, PathFault, Pattern, PlainPath, Who};
+use tt_facts::TrailPath;
 use tt_instance::read_instance;
+use tt_paths::{Cell, Fact, MAX_FACTS, Path, PathFault, Pattern, PlainPath, Who};
 use tt_samples::{GAP, MINI};
-use tt_trail_path::TrailPath;
 
 /// A fact of all cells of a course or of a curriculum's members.
 pub fn fact_of(who: Who, holds: bool) -> Fact {

@@ -1,7 +1,7 @@
 //! Facts that are drawn from a seed.
 
-use tt_facts::{Fact, Pattern, Who};
 use tt_instance::Instance;
+use tt_paths::{Fact, Pattern, Who};
 
 /// How many courses, curricula, rooms, days and periods facts are drawn from.
 #[derive(Clone, Copy)]

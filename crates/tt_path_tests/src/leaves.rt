@@ -1,19 +1,19 @@
 //! Leaves that are judged on both paths.
 
 ghost use Rattle.std.specs.Prelude.{◌≡◌, [], ◌∷◌, IfOk};
-ghost use Rattle.tt_leaf.specs.declared.leaf.Claim.{Claim};
-ghost use Rattle.tt_leaf.specs.declared.leaf.Leaf.{Leaf};
+ghost use Rattle.tt_leaf_rules.specs.declared.leaf.Claim.{Claim};
+ghost use Rattle.tt_leaf_rules.specs.declared.leaf.Leaf.{Leaf};
 
 use crate::deadness::{fact_in_period, fact_of, pushed};
 use std::alloc::{AllocError, Global};
 use std::test::Fail;
-use tt_facts::{Path, PlainPath, Who};
+use tt_facts::TrailPath;
 use tt_instance::read_instance;
-use tt_leaf::{
+use tt_leaf_rules::{
     Bound, Claim, ClaimList, CourseList, Leaf, RuleFault, claim_value, holds, leaf_value,
 };
+use tt_paths::{Path, PlainPath, Who};
 use tt_samples::{APART, GAP};
-use tt_trail_path::TrailPath;
 
 /// Puts Gap's courses into its first and its last period; whether the path took both facts.
 fn pin_both<'i, P: Path<'i>>(path: &mut P) -> bool {

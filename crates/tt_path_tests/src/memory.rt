@@ -4,10 +4,10 @@ use crate::answers::all_told;
 use crate::deadness::fact_in_period;
 use crate::dice::{Dice, Ranges, ranges_of};
 use std::test::Fail;
-use tt_facts::{Path, PathFault, PlainPath, Who};
+use tt_facts::TrailPath;
 use tt_instance::read_instance;
+use tt_paths::{Path, PathFault, PlainPath, Who};
 use tt_samples::{GAP, MARK};
-use tt_trail_path::TrailPath;
 
 /// How many facts are pushed at most.
 const FACTS: u32 = 100;

@@ -6,9 +6,9 @@ use Rattle.std.proofs.lemmas.Bool.{eqb-true, and_from, and_parts}
 use Rattle.std.proofs.lemmas.Nat.{mul-add-lt, mod-mul-add, div-mul-add}
 use Rattle.tt_lists.proofs.Truth.{same_truth}
 use Rattle.tt_instance.specs.Problem.{Problem}
-use Rattle.tt_facts.specs.Facts.{IsWho}
-use Rattle.tt_facts.specs.declared.facts.Who.{Who}
-use Rattle.tt_facts.specs.declared.facts.Who.TheVariants.{Course, Curriculum}
+use Rattle.tt_paths.specs.Facts.{IsWho}
+use Rattle.tt_paths.specs.declared.facts.Who.{Who}
+use Rattle.tt_paths.specs.declared.facts.Who.TheVariants.{Course, Curriculum}
 use Rattle.tt_pins.specs.Tables.{row_of, rows, day_place, days_size, width}
 
 pub within_row : (a w b h : ℕ) → a < h → b < w → a * w + b < h * w

@@ -4,7 +4,7 @@ use Rattle.std.specs.Prelude.{slice_index_or}
 use Rattle.std.proofs.lemmas.List.{take-append-le, get_or_push, get_or_append_left}
 use Rattle.std.proofs.lemmas.Bool.{cases_lt}
 use Rattle.std.proofs.Math.Seq.{take-append_seam}
-use Rattle.tt_facts.specs.declared.facts.Fact.{Fact}
+use Rattle.tt_paths.specs.declared.facts.Fact.{Fact}
 use Rattle.tt_pins.specs.Kept.{AreEarlier}
 
 moved : (Shows : List Fact → List ℕ → Type 0) (a b : List Fact) (v w : List ℕ) → a ≡ b → v ≡ w → Shows a v → Shows b w

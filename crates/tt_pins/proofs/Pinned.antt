@@ -12,10 +12,10 @@ use Rattle.tt_instance.specs.Limits.{IsInstance}
 use Rattle.tt_instance.proofs.Limits.{members_below}
 use Rattle.tt_links.specs.Links.{curricula_of}
 use Rattle.tt_links.proofs.Linked.{has-curricula_of}
-use Rattle.tt_facts.specs.Facts.{IsWho}
-use Rattle.tt_facts.specs.Live.{gives, is_pinned_by}
-use Rattle.tt_facts.specs.declared.facts.Who.{Who}
-use Rattle.tt_facts.specs.declared.facts.Who.TheVariants.{Course, Curriculum}
+use Rattle.tt_paths.specs.Facts.{IsWho}
+use Rattle.tt_paths.specs.Live.{gives, is_pinned_by}
+use Rattle.tt_paths.specs.declared.facts.Who.{Who}
+use Rattle.tt_paths.specs.declared.facts.Who.TheVariants.{Course, Curriculum}
 use Rattle.tt_pins.specs.Sets.{has_at}
 use Rattle.tt_pins.specs.Tables.{row_of, day_place, days_size, width, room_place, Adds, is_day_of, pins_period, pins_room, PinsPeriods, PinsRooms}
 use Rattle.tt_pins.proofs.Grid.{row_within, day_within, same_day, room_within, same_room, apart, apart_back}

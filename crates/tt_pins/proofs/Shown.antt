@@ -5,9 +5,9 @@ use Rattle.std.proofs.Math.Bool.{or-false}
 use Rattle.std.proofs.lemmas.List.Folds.{list_any-append}
 use Rattle.tt_instance.specs.Problem.{Problem}
 use Rattle.tt_instance.specs.Cells.{slot}
-use Rattle.tt_facts.specs.Live.{gives, is_pinned_by, pinned, pinned_room}
-use Rattle.tt_facts.specs.declared.facts.Who.TheVariants.{Course}
-use Rattle.tt_facts.specs.declared.facts.Fact.{Fact}
+use Rattle.tt_paths.specs.Live.{gives, is_pinned_by, pinned, pinned_room}
+use Rattle.tt_paths.specs.declared.facts.Who.TheVariants.{Course}
+use Rattle.tt_paths.specs.declared.facts.Fact.{Fact}
 use Rattle.tt_pins.specs.Sets.{has_at}
 use Rattle.tt_pins.specs.Tables.{row_of, day_place, block_place, room_place, pins_period, pins_room, ShowsPins, PinsPeriods, PinsRooms, Pins}
 use Rattle.tt_pins.proofs.Grid.{row_within, day_within, block_within, of_block, in_block}

@@ -2,11 +2,11 @@
 -- The table of the facts that stand: nobody has to believe these.
 use Rattle.std.specs.Prelude.{◌≡◌, ℕ, ◌+◌, ◌*◌, ◌/◌, ◌%◌, nat_lt, Bool, true, false, ◌&&◌, ◌||◌, if◌then◌else◌, List, length, Option, Some, None, filter}
 use Rattle.tt_instance.specs.Problem.{Problem}
-use Rattle.tt_facts.specs.Facts.{same_answer, same_pattern, has_fact}
-use Rattle.tt_facts.specs.declared.facts.Who.{Who}
-use Rattle.tt_facts.specs.declared.facts.Who.TheVariants.{Course, Curriculum}
-use Rattle.tt_facts.specs.declared.facts.Pattern.{Pattern}
-use Rattle.tt_facts.specs.declared.facts.Fact.{Fact}
+use Rattle.tt_paths.specs.Facts.{same_answer, same_pattern, has_fact}
+use Rattle.tt_paths.specs.declared.facts.Who.{Who}
+use Rattle.tt_paths.specs.declared.facts.Who.TheVariants.{Course, Curriculum}
+use Rattle.tt_paths.specs.declared.facts.Pattern.{Pattern}
+use Rattle.tt_paths.specs.declared.facts.Fact.{Fact}
 use Rattle.tt_pins.specs.declared.spots.Spot.{Spot}
 use Rattle.tt_pins.specs.Sets.{has_at}
 use Rattle.tt_pins.specs.Tables.{width}

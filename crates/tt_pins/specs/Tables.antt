@@ -4,11 +4,11 @@ use Rattle.std.specs.Prelude.{◌≡◌, ℕ, ◌+◌, ◌*◌, ◌/◌, ◌%◌
 use Rattle.std.specs.List.{list_any}
 use Rattle.tt_instance.specs.Problem.{Problem}
 use Rattle.tt_instance.specs.Cells.{slot}
-use Rattle.tt_facts.specs.Facts.{IsWho}
-use Rattle.tt_facts.specs.Live.{gives, is_pinned_by, pinned, pinned_room}
-use Rattle.tt_facts.specs.declared.facts.Who.{Who}
-use Rattle.tt_facts.specs.declared.facts.Who.TheVariants.{Course, Curriculum}
-use Rattle.tt_facts.specs.declared.facts.Fact.{Fact}
+use Rattle.tt_paths.specs.Facts.{IsWho}
+use Rattle.tt_paths.specs.Live.{gives, is_pinned_by, pinned, pinned_room}
+use Rattle.tt_paths.specs.declared.facts.Who.{Who}
+use Rattle.tt_paths.specs.declared.facts.Who.TheVariants.{Course, Curriculum}
+use Rattle.tt_paths.specs.declared.facts.Fact.{Fact}
 use Rattle.tt_pins.specs.Sets.{has_at}
 
 -- ---- where the words stand: those of the days of each course, of each curriculum, and those of the rooms of each course

@@ -8,9 +8,9 @@ ghost use Rattle.tt_pins.specs.Standing.{standing_size, Stands};
 use crate::pinning::{pin_period, pin_room};
 use crate::standing::stand;
 use std::alloc::AllocError;
-use tt_facts::Fact;
 use tt_instance::Instance;
 use tt_links::Curricula;
+use tt_paths::Fact;
 use tt_trail::Trail;
 
 /// Writes what a fact pins.

@@ -1,13 +1,13 @@
 //! The facts as a list, and beside it the list of those that have no place in the table.
 
 ghost use Rattle.std.specs.Prelude.{◌≡◌, ◌<◌, [], ◌∷◌, ◌++◌, length, OnOk, OnErr};
-ghost use Rattle.tt_facts.specs.Facts.{has_fact};
+ghost use Rattle.tt_paths.specs.Facts.{has_fact};
 ghost use Rattle.tt_pins.specs.Standing.{others_of};
 
 use crate::spots::has_spot;
 use std::alloc::AllocError;
-use tt_facts::{Fact, Pattern};
 use tt_instance::Instance;
+use tt_paths::{Fact, Pattern};
 
 /// Adds a fact to the lists where it belongs. Kept apart, since the fact is copied field by field where it is inlined.
 #[inline(never)]

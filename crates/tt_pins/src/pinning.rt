@@ -3,15 +3,15 @@
 ghost use Rattle.std.specs.Prelude.{◌≡◌, ◌<◌, ◌==◌, All, Some, length, OnOk};
 ghost use Rattle.tt_instance.specs.Limits.{IsInstance};
 ghost use Rattle.tt_links.specs.Linked.{AreCurricula};
-ghost use Rattle.tt_facts.specs.Facts.{IsWho};
+ghost use Rattle.tt_paths.specs.Facts.{IsWho};
 ghost use Rattle.tt_pins.specs.Tables.{size, row_of, day_place, is_day_of, Adds, PinsPeriods, PinsRooms};
 
 use crate::places::{day_place, room_place};
 use crate::sets::put;
 use std::alloc::AllocError;
-use tt_facts::Who;
 use tt_instance::Instance;
 use tt_links::Curricula;
+use tt_paths::Who;
 use tt_trail::Trail;
 
 /// Puts a period into the set of a course or a curriculum on a day.

@@ -3,9 +3,9 @@
 ghost use Rattle.std.specs.Prelude.{◌≡◌, ◌<◌, ◌+◌, ◌*◌, ◌&&◌, ℕ, nat_lt, length, slice_get, Some};
 ghost use Rattle.tt_bits.specs.Bits.{has_bit};
 ghost use Rattle.tt_instance.specs.Cells.{slot};
-ghost use Rattle.tt_facts.specs.Facts.{IsWho, has_fact};
-ghost use Rattle.tt_facts.specs.Live.{pinned, pinned_room};
-ghost use Rattle.tt_facts.specs.declared.path.TheConstants.{MAX_FACTS};
+ghost use Rattle.tt_paths.specs.Facts.{IsWho, has_fact};
+ghost use Rattle.tt_paths.specs.Live.{pinned, pinned_room};
+ghost use Rattle.tt_paths.specs.declared.path.TheConstants.{MAX_FACTS};
 
 use crate::adding::add;
 use crate::listing::{is_other, list_fact, unlist_fact};
@@ -14,9 +14,9 @@ use crate::spots::{find_spot, standing_size};
 use std::alloc::{AllocError, Global};
 use std::marker::Model;
 use tt_bits::has_bit;
-use tt_facts::{Fact, Pattern, Who};
 use tt_instance::Instance;
 use tt_links::Curricula;
+use tt_paths::{Fact, Pattern, Who};
 use tt_trail::Trail;
 
 /// The facts, with a table of the periods and rooms that they pin and one of the facts that stand.
@@ -33,8 +33,8 @@ pub struct Pins<'p, 'i> {
 impl<'p, 'i> Model for Pins<'p, 'i> {
     ghost use Rattle.std.specs.Prelude.{◌≡◌, ◌≤◌, length};
     ghost use Rattle.tt_links.specs.Linked.{AreCurricula};
-    ghost use Rattle.tt_facts.specs.Paths.{Facts};
-    ghost use Rattle.tt_facts.specs.declared.path.TheConstants.{MAX_FACTS};
+    ghost use Rattle.tt_paths.specs.Paths.{Facts};
+    ghost use Rattle.tt_paths.specs.declared.path.TheConstants.{MAX_FACTS};
     ghost use Rattle.tt_pins.specs.Tables.{ShowsPins};
     ghost use Rattle.tt_pins.specs.Standing.{ShowsStanding, others_of};
     ghost use Rattle.tt_pins.specs.Kept.{AreEarlier};

@@ -1,11 +1,11 @@
 //! Where the words of the table stand.
 
 ghost use Rattle.std.specs.Prelude.{◌≡◌, ◌<◌, ◌≤◌, ◌*◌, length};
-ghost use Rattle.tt_facts.specs.Facts.{IsWho};
+ghost use Rattle.tt_paths.specs.Facts.{IsWho};
 ghost use Rattle.tt_pins.specs.Tables.{row_of, rows, day_place, days_size, width, block_place, room_place, size};
 
-use tt_facts::Who;
 use tt_instance::Instance;
+use tt_paths::Who;
 
 /// The row of a course or a curriculum.
 pub fn row_of(instance: &Instance<'_>, who: Who) -> usize

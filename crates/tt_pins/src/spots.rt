@@ -3,8 +3,8 @@
 ghost use Rattle.std.specs.Prelude.{◌≡◌, ◌<◌, ◌≤◌, ℕ, not, length, IfSome, Bool};
 ghost use Rattle.tt_pins.specs.Standing.{fact_row, fact_rows, open_place, open_size, closed_place, standing_size, spot_in, spot_at, is_nowhere};
 
-use tt_facts::{Fact, Pattern, Who};
 use tt_instance::Instance;
+use tt_paths::{Fact, Pattern, Who};
 
 /// A place of the table and a number of the set there.
 #[derive(Clone, Copy)]

@@ -6,8 +6,8 @@ ghost use Rattle.tt_pins.specs.Standing.{standing_size, Stands};
 use crate::sets::put;
 use crate::spots::find_spot;
 use std::alloc::AllocError;
-use tt_facts::Fact;
 use tt_instance::Instance;
+use tt_paths::Fact;
 use tt_trail::Trail;
 
 /// Writes that a fact stands, where the table has a place for it.

@@ -1,10 +1,10 @@
 -- Nodes that are read one by one.
 use Rattle.std.proofs.Common.{◌≡◌, ℕ, ◌+◌, ◌<◌, List, [], ◌∷◌, ◌++◌, length, take, drop, get_or, sym, ap, ◌∙◌, arith, append_assoc}
 use Rattle.std.proofs.lemmas.List.{take_more, take-append-drop}
-use Rattle.tt_facts.specs.declared.facts.Fact.{Fact}
-use Rattle.tt_proof_text.specs.Readers.{places_after}
-use Rattle.tt_proof_text.specs.declared.node.Node.{Node}
-use Rattle.tt_proof_text.specs.declared.node.Node.TheVariants as node
+use Rattle.tt_paths.specs.declared.facts.Fact.{Fact}
+use Rattle.tt_proof_read.specs.Readers.{places_after}
+use Rattle.tt_proof_read.specs.declared.node.Node.{Node}
+use Rattle.tt_proof_read.specs.declared.node.Node.TheVariants as node
 use Rattle.tt_proof_check.proofs.Reading.{Stack, next_stack}
 
 -- one more of the nodes

@@ -7,19 +7,19 @@ use Rattle.tt_text.specs.Feeds.{Stream, fault_from, stream_from}
 use Rattle.tt_text.specs.CutShort.{cut_short}
 use Rattle.tt_text.specs.declared.feed.FeedFault.TheVariants.{Read}
 use Rattle.tt_instance.proofs.Examples.{gap}
-use Rattle.tt_facts.specs.declared.facts.Fact.{Fact}
-use Rattle.tt_facts.specs.declared.facts.Pattern.{Pattern}
-use Rattle.tt_leaf.specs.declared.leaf.Bound.TheVariants.{AtLeast}
-use Rattle.tt_leaf.specs.declared.leaf.Claim.TheVariants.{Capacity, Compact}
-use Rattle.tt_leaf.specs.declared.leaf.Leaf.{Leaf}
-use Rattle.tt_leaf.specs.declared.leaf.Leaf.TheVariants.{Clique, Cost}
-use Rattle.tt_leaf.specs.declared.leaf.RuleFault.TheVariants.{TooCheap}
-use Rattle.tt_leaf.proofs.Examples.{when}
-use Rattle.tt_leaf.proofs.Rightness.{right_of}
-use Rattle.tt_proof_text.specs.Faults.{read_failed}
-use Rattle.tt_proof_text.specs.Reading.{token_at, word_at, numbered_below, index_of, who_at, given_of, given_at, pattern_at, node_after_word, node_at, version_at, bound_of, bound_at, header_at}
-use Rattle.tt_proof_text.specs.declared.node.Node.TheVariants as node
-use Rattle.tt_proof_text.specs.Trees.{Tree, Close, Branch, with_fact, on_paths}
+use Rattle.tt_paths.specs.declared.facts.Fact.{Fact}
+use Rattle.tt_paths.specs.declared.facts.Pattern.{Pattern}
+use Rattle.tt_leaf_rules.specs.declared.leaf.Bound.TheVariants.{AtLeast}
+use Rattle.tt_leaf_rules.specs.declared.leaf.Claim.TheVariants.{Capacity, Compact}
+use Rattle.tt_leaf_rules.specs.declared.leaf.Leaf.{Leaf}
+use Rattle.tt_leaf_rules.specs.declared.leaf.Leaf.TheVariants.{Clique, Cost}
+use Rattle.tt_leaf_rules.specs.declared.leaf.RuleFault.TheVariants.{TooCheap}
+use Rattle.tt_leaf_rules.proofs.Examples.{when}
+use Rattle.tt_leaf_rules.proofs.Rightness.{right_of}
+use Rattle.tt_proof_read.specs.Faults.{read_failed}
+use Rattle.tt_proof_read.specs.Reading.{token_at, word_at, numbered_below, index_of, who_at, given_of, given_at, pattern_at, node_after_word, node_at, version_at, bound_of, bound_at, header_at}
+use Rattle.tt_proof_read.specs.declared.node.Node.TheVariants as node
+use Rattle.tt_proof_read.specs.Trees.{Tree, Close, Branch, with_fact, on_paths}
 use Rattle.tt_proof_check.specs.Derives.{Derives}
 use Rattle.tt_proof_check.specs.FailedReads.{IsCutOff}
 use Rattle.tt_proof_check.specs.Pending.{pending}

@@ -1,7 +1,7 @@
 -- The places that a path leaves open.
 use Rattle.std.proofs.Common.{◌≡◌, true, false, List, [], ◌∷◌, ◌++◌, sym, ap, ◌∙◌, append_assoc, append-nil}
-use Rattle.tt_facts.specs.declared.facts.Fact.{Fact}
-use Rattle.tt_proof_text.specs.Trees.{with_fact}
+use Rattle.tt_paths.specs.declared.facts.Fact.{Fact}
+use Rattle.tt_proof_read.specs.Trees.{with_fact}
 use Rattle.tt_proof_check.specs.Pending.{other_side, pending_after, pending}
 
 pending_after-push : (before path : List Fact) (f : Fact) → pending_after before (path ++ f ∷ []) ≡ other_side (before ++ path) f ++ pending_after before path

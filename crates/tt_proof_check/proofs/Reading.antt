@@ -1,11 +1,11 @@
 -- Nodes in preorder, read with a stack of the paths whose nodes are still to come.
 use Rattle.std.proofs.Common.{◌≡◌, ℕ, zero, suc, ◌≤◌, ◌<◌, true, false, List, [], ◌∷◌, ◌++◌, map, length, Option, Some, None, refl, sym, ap, ◌∙◌, arith, append_assoc, append-nil, le_of_suc-le-suc}
 use Rattle.std.specs.Prelude.{slice_get}
-use Rattle.tt_facts.specs.declared.facts.Fact.{Fact}
-use Rattle.tt_leaf.specs.declared.leaf.Leaf.TheVariants.{Many}
-use Rattle.tt_proof_text.specs.Trees.{Tree, Close, Branch, with_fact, preorder, OnPath, on_paths, IsPreorder}
-use Rattle.tt_proof_text.specs.declared.node.Node.{Node}
-use Rattle.tt_proof_text.specs.declared.node.Node.TheVariants.{Split, Leaf}
+use Rattle.tt_paths.specs.declared.facts.Fact.{Fact}
+use Rattle.tt_leaf_rules.specs.declared.leaf.Leaf.TheVariants.{Many}
+use Rattle.tt_proof_read.specs.Trees.{Tree, Close, Branch, with_fact, preorder, OnPath, on_paths, IsPreorder}
+use Rattle.tt_proof_read.specs.declared.node.Node.{Node}
+use Rattle.tt_proof_read.specs.declared.node.Node.TheVariants.{Split, Leaf}
 
 abbrev pub Stack : Type 0
 Stack = List (List Fact)

@@ -6,13 +6,13 @@ use Rattle.std.proofs.lemmas.Bool.{cases_Bool}
 use Rattle.tt_instance.specs.Problem.{Problem}
 use Rattle.tt_instance.specs.declared.cell.Cell.{Cell}
 use Rattle.tt_rules.specs.Score.{IsFeasible, cost}
-use Rattle.tt_facts.specs.Facts.{matches, Holds, Fits}
-use Rattle.tt_facts.specs.declared.facts.Fact.{Fact}
-use Rattle.tt_leaf.specs.Bounds.{Respects}
-use Rattle.tt_leaf.specs.declared.leaf.Bound.{Bound}
-use Rattle.tt_leaf.proofs.Soundness.{leaf_sound}
-use Rattle.tt_proof_text.specs.Trees.{Tree, Close, Branch, with_fact}
-use Rattle.tt_proof_text.specs.declared.node.Node.{Node}
+use Rattle.tt_paths.specs.Facts.{matches, Holds, Fits}
+use Rattle.tt_paths.specs.declared.facts.Fact.{Fact}
+use Rattle.tt_leaf_rules.specs.Bounds.{Respects}
+use Rattle.tt_leaf_rules.specs.declared.leaf.Bound.{Bound}
+use Rattle.tt_leaf_rules.proofs.Soundness.{leaf_sound}
+use Rattle.tt_proof_read.specs.Trees.{Tree, Close, Branch, with_fact}
+use Rattle.tt_proof_read.specs.declared.node.Node.{Node}
 use Rattle.tt_proof_check.specs.Derives.{Derives, HoldsOfAll, Proves}
 
 -- by induction over the tree: a timetable meets the pattern of a split or it doesn't

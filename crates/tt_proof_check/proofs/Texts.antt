@@ -4,16 +4,16 @@ use Rattle.std.specs.Prelude.{slice_get, MatchResult}
 use Rattle.tt_text.specs.Feeds.{Stream, stream_at, fresh}
 use Rattle.tt_instance.specs.Problem.{Problem}
 use Rattle.tt_instance.specs.Limits.{IsInstance}
-use Rattle.tt_leaf.specs.declared.leaf.Bound.{Bound}
-use Rattle.tt_proof_text.specs.Reading.{header_at, node_at, end_at}
-use Rattle.tt_proof_text.specs.Reads.{ReadsNodes, Reads}
-use Rattle.tt_proof_text.specs.Spelling.{SpellsProof}
-use Rattle.tt_proof_text.specs.Trees.{Tree, preorder, on_paths}
-use Rattle.tt_proof_text.specs.declared.fault.TextFault.{TextFault}
-use Rattle.tt_proof_text.specs.declared.fault.TextFault.TheVariants as text
-use Rattle.tt_proof_text.specs.declared.node.Node.{Node}
-use Rattle.tt_proof_text.proofs.ProofLaws.{reads_spelled, spelled_reads}
-use Rattle.tt_proof_text.proofs.Small.{are_small}
+use Rattle.tt_leaf_rules.specs.declared.leaf.Bound.{Bound}
+use Rattle.tt_proof_read.specs.Reading.{header_at, node_at, end_at}
+use Rattle.tt_proof_read.specs.Reads.{ReadsNodes, Reads}
+use Rattle.tt_proof_read.specs.Spelling.{SpellsProof}
+use Rattle.tt_proof_read.specs.Trees.{Tree, preorder, on_paths}
+use Rattle.tt_proof_read.specs.declared.fault.TextFault.{TextFault}
+use Rattle.tt_proof_read.specs.declared.fault.TextFault.TheVariants as text
+use Rattle.tt_proof_read.specs.declared.node.Node.{Node}
+use Rattle.tt_proof_read.proofs.ProofLaws.{reads_spelled, spelled_reads}
+use Rattle.tt_proof_read.proofs.Small.{are_small}
 use Rattle.tt_proof_check.specs.declared.fault.CheckFault.{CheckFault}
 use Rattle.tt_proof_check.specs.declared.fault.CheckFault.TheVariants as told
 use Rattle.tt_proof_check.specs.Derives.{Derives, IsShallow, HoldsOfAll}

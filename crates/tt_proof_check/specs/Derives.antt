@@ -3,14 +3,14 @@ use Rattle.std.specs.Prelude.{◌≡◌, ◌≤◌, List, [], length, All}
 use Rattle.tt_instance.specs.Problem.{Problem}
 use Rattle.tt_instance.specs.declared.cell.Cell.{Cell}
 use Rattle.tt_rules.specs.Score.{IsFeasible, cost}
-use Rattle.tt_facts.specs.Facts.{Fits}
-use Rattle.tt_facts.specs.declared.facts.Fact.{Fact}
-use Rattle.tt_leaf.specs.Bounds.{Respects}
-use Rattle.tt_leaf.specs.Leaves.{IsRight}
-use Rattle.tt_leaf.specs.declared.leaf.Bound.{Bound}
-use Rattle.tt_proof_text.specs.Trees.{Tree, AllLeaves, preorder, on_paths}
-use Rattle.tt_proof_text.specs.declared.node.Node.{Node}
-use Rattle.tt_facts.specs.declared.path.TheConstants.{MAX_FACTS}
+use Rattle.tt_paths.specs.Facts.{Fits}
+use Rattle.tt_paths.specs.declared.facts.Fact.{Fact}
+use Rattle.tt_leaf_rules.specs.Bounds.{Respects}
+use Rattle.tt_leaf_rules.specs.Leaves.{IsRight}
+use Rattle.tt_leaf_rules.specs.declared.leaf.Bound.{Bound}
+use Rattle.tt_proof_read.specs.Trees.{Tree, AllLeaves, preorder, on_paths}
+use Rattle.tt_proof_read.specs.declared.node.Node.{Node}
+use Rattle.tt_paths.specs.declared.path.TheConstants.{MAX_FACTS}
 
 -- each leaf is right on its path
 abbrev pub Derives : Problem → Bound → List Fact → Tree → Type 0

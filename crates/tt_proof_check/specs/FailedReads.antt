@@ -5,9 +5,9 @@ use Rattle.tt_text.specs.CutShort.{cut_short, rest_of, cut_at, MayFail}
 use Rattle.tt_text.specs.Feeds.{Stream, Fed}
 use Rattle.tt_instance.specs.Problem.{Problem}
 use Rattle.tt_instance.specs.Spelling.{Spells}
-use Rattle.tt_leaf.specs.declared.leaf.Bound.{Bound}
-use Rattle.tt_proof_text.specs.Faults.{read_failed}
-use Rattle.tt_proof_text.specs.Reading.{header_at, node_at, end_at}
+use Rattle.tt_leaf_rules.specs.declared.leaf.Bound.{Bound}
+use Rattle.tt_proof_read.specs.Faults.{read_failed}
+use Rattle.tt_proof_read.specs.Reading.{header_at, node_at, end_at}
 use Rattle.tt_proof_check.specs.Streams.{stream_of, sizes_of, NodeFails, EndFails, HasHeader}
 
 -- after a header with this version and bound, nodes have been read, each of which passes, and the failure breaks the next node off

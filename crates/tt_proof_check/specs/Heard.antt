@@ -1,10 +1,10 @@
 -- What hears nodes, one after another.
 use Rattle.std.specs.Prelude.{◌≡◌, ℕ, ◌+◌, List, [], ◌∷◌, Option, Some, ⊤}
 use Rattle.tt_instance.specs.Problem.{Problem}
-use Rattle.tt_leaf.specs.declared.leaf.Bound.{Bound}
-use Rattle.tt_proof_text.specs.Spelling.{SpellsProof}
-use Rattle.tt_proof_text.specs.Trees.{Tree, preorder}
-use Rattle.tt_proof_text.specs.declared.node.Node.{Node}
+use Rattle.tt_leaf_rules.specs.declared.leaf.Bound.{Bound}
+use Rattle.tt_proof_read.specs.Spelling.{SpellsProof}
+use Rattle.tt_proof_read.specs.Trees.{Tree, preorder}
+use Rattle.tt_proof_read.specs.declared.node.Node.{Node}
 use Rattle.tt_proof_check.specs.Derives.{Derives}
 
 -- from the old state it has heard these nodes, the first by the number i and each further one by the next, and come to the new one

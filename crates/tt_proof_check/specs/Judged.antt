@@ -3,13 +3,13 @@
 use Rattle.std.specs.Prelude.{◌≡◌, ℕ, Bool, true, List, [], Ok, ⊤}
 use Rattle.tt_text.specs.Feeds.{Stream}
 use Rattle.tt_instance.specs.Problem.{Problem}
-use Rattle.tt_leaf.specs.declared.leaf.Bound.{Bound}
-use Rattle.tt_proof_text.specs.Reading.{node_at}
-use Rattle.tt_proof_text.specs.Reads.{ReadsNodes, Reads}
-use Rattle.tt_proof_text.specs.Trees.{Tree, preorder}
-use Rattle.tt_proof_text.specs.declared.fault.TextFault.TheVariants as text
-use Rattle.tt_proof_text.specs.declared.node.Node.{Node}
-use Rattle.tt_proof_text.specs.declared.sizes.Sizes.{Sizes}
+use Rattle.tt_leaf_rules.specs.declared.leaf.Bound.{Bound}
+use Rattle.tt_proof_read.specs.Reading.{node_at}
+use Rattle.tt_proof_read.specs.Reads.{ReadsNodes, Reads}
+use Rattle.tt_proof_read.specs.Trees.{Tree, preorder}
+use Rattle.tt_proof_read.specs.declared.fault.TextFault.TheVariants as text
+use Rattle.tt_proof_read.specs.declared.node.Node.{Node}
+use Rattle.tt_proof_read.specs.declared.sizes.Sizes.{Sizes}
 use Rattle.tt_proof_check.specs.declared.fault.CheckFault.{CheckFault}
 use Rattle.tt_proof_check.specs.declared.fault.CheckFault.TheVariants.{Text, Rule, TooDeep, OutOfMemory}
 use Rattle.tt_proof_check.specs.Derives.{Derives, IsShallow}

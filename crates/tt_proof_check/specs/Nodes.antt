@@ -1,9 +1,9 @@
 -- Lists of nodes.
 use Rattle.tt_instance.specs.Problem.{Problem}
-use Rattle.tt_facts.specs.Facts.{IsPattern}
-use Rattle.tt_leaf.specs.Ranges.{IsLeafOf}
-use Rattle.tt_proof_text.specs.declared.node.Node.{Node}
-use Rattle.tt_proof_text.specs.declared.node.Node.TheVariants.{Split, Leaf}
+use Rattle.tt_paths.specs.Facts.{IsPattern}
+use Rattle.tt_leaf_rules.specs.Ranges.{IsLeafOf}
+use Rattle.tt_proof_read.specs.declared.node.Node.{Node}
+use Rattle.tt_proof_read.specs.declared.node.Node.TheVariants.{Split, Leaf}
 
 -- the numbers of a node are the instance's, and no price is given twice
 abbrev pub IsNodeOf : Problem → Node → Type 0

@@ -1,8 +1,8 @@
 -- Only proofs rest on this file: nobody has to believe it.
 -- The places that a path leaves open.
 use Rattle.std.specs.Prelude.{◌≡◌, ◌⊎◌, false, List, [], ◌∷◌, ◌++◌, if◌then◌else◌}
-use Rattle.tt_facts.specs.declared.facts.Fact.{Fact}
-use Rattle.tt_proof_text.specs.Trees.{with_fact}
+use Rattle.tt_paths.specs.declared.facts.Fact.{Fact}
+use Rattle.tt_proof_read.specs.Trees.{with_fact}
 
 -- the second child of the split that added the fact, if its first child is on the path
 abbrev pub other_side : List Fact → Fact → List (List Fact)

@@ -2,19 +2,19 @@
 -- What one node does to a path.
 use Rattle.std.specs.Prelude.{◌≡◌, true, List, length, Some, ⊤}
 use Rattle.tt_instance.specs.Problem.{Problem}
-use Rattle.tt_facts.specs.declared.facts.Fact.{Fact}
-use Rattle.tt_facts.specs.declared.path.PathFault.{PathFault}
-use Rattle.tt_facts.specs.declared.path.PathFault.TheVariants as path
-use Rattle.tt_leaf.specs.Faults.{fault_of}
-use Rattle.tt_leaf.specs.Leaves.{IsRight}
-use Rattle.tt_leaf.specs.declared.leaf.Bound.{Bound}
-use Rattle.tt_proof_text.specs.Trees.{with_fact}
-use Rattle.tt_proof_text.specs.declared.node.Node.{Node}
-use Rattle.tt_proof_text.specs.declared.node.Node.TheVariants.{Split, Leaf}
+use Rattle.tt_paths.specs.declared.facts.Fact.{Fact}
+use Rattle.tt_paths.specs.declared.path.PathFault.{PathFault}
+use Rattle.tt_paths.specs.declared.path.PathFault.TheVariants as path
+use Rattle.tt_leaf_rules.specs.Faults.{fault_of}
+use Rattle.tt_leaf_rules.specs.Leaves.{IsRight}
+use Rattle.tt_leaf_rules.specs.declared.leaf.Bound.{Bound}
+use Rattle.tt_proof_read.specs.Trees.{with_fact}
+use Rattle.tt_proof_read.specs.declared.node.Node.{Node}
+use Rattle.tt_proof_read.specs.declared.node.Node.TheVariants.{Split, Leaf}
 use Rattle.tt_proof_check.specs.declared.walk.Stop.{Stop}
 use Rattle.tt_proof_check.specs.declared.walk.Stop.TheVariants.{Rule, TooDeep, OutOfMemory}
 use Rattle.tt_proof_check.specs.Pending.{GoesOn}
-use Rattle.tt_facts.specs.declared.path.TheConstants.{MAX_FACTS}
+use Rattle.tt_paths.specs.declared.path.TheConstants.{MAX_FACTS}
 
 -- a split goes down to its first child, and a right leaf on to the next place
 abbrev pub Steps : Problem → Bound → List Fact → Node → List Fact → Type 0

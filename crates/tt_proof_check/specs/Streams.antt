@@ -5,16 +5,16 @@ use Rattle.tt_text.specs.declared.feed.TheConstants.{MAX_BYTES}
 use Rattle.tt_text.specs.Reading.{FailsUnless}
 use Rattle.tt_text.specs.declared.feed.FeedFault.TheVariants as feed
 use Rattle.tt_instance.specs.Problem.{Problem}
-use Rattle.tt_leaf.specs.declared.leaf.Bound.{Bound}
-use Rattle.tt_proof_text.specs.Faults.{is_silent}
-use Rattle.tt_proof_text.specs.Reading.{header_at, node_at, end_at}
-use Rattle.tt_proof_text.specs.Reads.{ReadsNodes}
-use Rattle.tt_proof_text.specs.Spelling.{SpellsProof}
-use Rattle.tt_proof_text.specs.Trees.{Tree, preorder, on_paths}
-use Rattle.tt_proof_text.specs.declared.fault.TextFault.{TextFault}
-use Rattle.tt_proof_text.specs.declared.fault.TextFault.TheVariants as text
-use Rattle.tt_proof_text.specs.declared.node.Node.{Node}
-use Rattle.tt_proof_text.specs.declared.sizes.Sizes.{Sizes}
+use Rattle.tt_leaf_rules.specs.declared.leaf.Bound.{Bound}
+use Rattle.tt_proof_read.specs.Faults.{is_silent}
+use Rattle.tt_proof_read.specs.Reading.{header_at, node_at, end_at}
+use Rattle.tt_proof_read.specs.Reads.{ReadsNodes}
+use Rattle.tt_proof_read.specs.Spelling.{SpellsProof}
+use Rattle.tt_proof_read.specs.Trees.{Tree, preorder, on_paths}
+use Rattle.tt_proof_read.specs.declared.fault.TextFault.{TextFault}
+use Rattle.tt_proof_read.specs.declared.fault.TextFault.TheVariants as text
+use Rattle.tt_proof_read.specs.declared.node.Node.{Node}
+use Rattle.tt_proof_read.specs.declared.sizes.Sizes.{Sizes}
 use Rattle.tt_proof_check.specs.declared.fault.CheckFault.{CheckFault}
 use Rattle.tt_proof_check.specs.declared.fault.CheckFault.TheVariants.{Text, Rule, TooDeep, OutOfMemory}
 use Rattle.tt_proof_check.specs.Derives.{Derives, IsShallow}

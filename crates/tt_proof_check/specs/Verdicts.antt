@@ -12,7 +12,7 @@ use Rattle.tt_table.specs.declared.fault.SolutionFault.{SolutionFault}
 use Rattle.tt_table.specs.declared.fault.SolutionFault.TheVariants as solution
 use Rattle.tt_rules.specs.Score.{IsScore, IsFeasible}
 use Rattle.tt_rules.specs.declared.counts.Score.{Score}
-use Rattle.tt_proof_text.specs.declared.fault.TextFault.TheVariants as text
+use Rattle.tt_proof_read.specs.declared.fault.TextFault.TheVariants as text
 use Rattle.tt_proof_check.specs.Faults.{OutOfMemoryIsNoTextFault}
 use Rattle.tt_proof_check.specs.Headline.{SpellsBoth, Solves, BreaksARule, Certifies, BoundsAll}
 use Rattle.tt_proof_check.specs.Streams.{stream_of, IsSilent, IsProofFault}

@@ -2,7 +2,7 @@
 
 ghost use Rattle.std.specs.Prelude.{◌≡◌, ◌↔◌, ℕ, List, Some, Ok, Err, true, false, IfOk, IfErr};
 ghost use Rattle.tt_rules.specs.Score.{IsFeasible};
-ghost use Rattle.tt_leaf.specs.declared.leaf.Bound.TheVariants.{AtLeast};
+ghost use Rattle.tt_leaf_rules.specs.declared.leaf.Bound.TheVariants.{AtLeast};
 ghost use Rattle.tt_proof_check.specs.Derives.{HoldsOfAll};
 ghost use Rattle.tt_proof_check.specs.FailedReads.{IsJudgedUpToFailedRead, IsSpelledAndJudgedUpToFailedRead};
 ghost use Rattle.tt_proof_check.specs.Headline.{BoundsAll, BreaksARule, Certifies};
@@ -15,7 +15,7 @@ use crate::fault::{CertifyFault, Verdict};
 use crate::stream::check_proof;
 use std::alloc::Global;
 use tt_instance::{Instance, read_instance};
-use tt_leaf::Bound;
+use tt_leaf_rules::Bound;
 use tt_rules::score;
 use tt_table::{Timetable, read_solution};
 use tt_text::Source;

@@ -1,9 +1,9 @@
 //! What hears the nodes of a proof.
 
 ghost use Rattle.std.specs.Prelude.{ℕ};
-ghost use Rattle.tt_proof_text.specs.declared.node.Node.{Node};
+ghost use Rattle.tt_proof_read.specs.declared.node.Node.{Node};
 
-use tt_proof_text::Node;
+use tt_proof_read::Node;
 
 /// Hears the nodes of a proof as they are judged.
 pub trait Listener {

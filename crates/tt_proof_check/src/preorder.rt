@@ -2,18 +2,18 @@
 
 ghost use Rattle.std.specs.Prelude.{◌≡◌, [], IsOkUnless, IfErr, OnOk, All};
 ghost use Rattle.tt_proof_check.specs.Derives.{Proves, HoldsOfAll};
-ghost use Rattle.tt_proof_text.specs.Trees.{IsPreorder};
+ghost use Rattle.tt_proof_read.specs.Trees.{IsPreorder};
 ghost use Rattle.tt_proof_check.specs.Nodes.{IsNodeOf};
 ghost use Rattle.tt_proof_check.specs.Tells.{Tells};
 
 use crate::fault::NodesFault;
 use crate::walk::{Stop, take_node};
 use std::alloc::Global;
-use tt_facts::Path;
+use tt_facts::TrailPath;
 use tt_instance::Instance;
-use tt_leaf::Bound;
-use tt_proof_text::{Node, is_tree};
-use tt_trail_path::TrailPath;
+use tt_leaf_rules::Bound;
+use tt_paths::Path;
+use tt_proof_read::{Node, is_tree};
 
 /// Judges the nodes of a tree, each on its path.
 fn judge_tree<'i, P: Path<'i>>(path: &mut P, bound: Bound, nodes: &[Node]) -> Result<(), NodesFault>

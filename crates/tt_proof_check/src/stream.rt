@@ -1,13 +1,13 @@
 //! Proofs that are judged as they are read.
 
 ghost use Rattle.std.specs.Prelude.{◌≡◌, ◌<◌, ◌≤◌, ℕ, List, [], length, true, is_some, Some, None, Err, OnOk, IfOk, IfErr, MatchResult};
-ghost use Rattle.tt_facts.specs.declared.path.TheConstants.{MAX_FACTS};
-ghost use Rattle.tt_leaf.specs.declared.leaf.Bound.{Bound};
+ghost use Rattle.tt_paths.specs.declared.path.TheConstants.{MAX_FACTS};
+ghost use Rattle.tt_leaf_rules.specs.declared.leaf.Bound.{Bound};
 ghost use Rattle.tt_text.specs.Feeds.{stream_at, fresh};
-ghost use Rattle.tt_proof_text.specs.Answers.{StaysKnown};
-ghost use Rattle.tt_proof_text.specs.Faults.{read_failed};
-ghost use Rattle.tt_proof_text.specs.Reading.{node_at};
-ghost use Rattle.tt_proof_text.specs.Sizes.{AreSizes};
+ghost use Rattle.tt_proof_read.specs.Answers.{StaysKnown};
+ghost use Rattle.tt_proof_read.specs.Faults.{read_failed};
+ghost use Rattle.tt_proof_read.specs.Reading.{node_at};
+ghost use Rattle.tt_proof_read.specs.Sizes.{AreSizes};
 ghost use Rattle.tt_proof_check.specs.Derives.{HoldsOfAll};
 ghost use Rattle.tt_proof_check.specs.FailedReads.{NodeIsCutOff, IsCutOff, IsJudgedUpToFailedRead, UpToFailure, BeforeFailure};
 ghost use Rattle.tt_proof_check.specs.Faults.{OutOfMemoryIsNoTextFault};
@@ -21,12 +21,12 @@ use crate::fault::CheckFault;
 use crate::listener::{Deaf, Listener};
 use crate::walk::{Stop, take_node};
 use std::alloc::Global;
-use tt_facts::Path;
+use tt_facts::TrailPath;
 use tt_instance::Instance;
-use tt_leaf::Bound;
-use tt_proof_text::{Node, NodeReader};
+use tt_leaf_rules::Bound;
+use tt_paths::Path;
+use tt_proof_read::{Node, NodeReader};
 use tt_text::Source;
-use tt_trail_path::TrailPath;
 
 /// Takes a node and lets it go.
 #[inline(always)]

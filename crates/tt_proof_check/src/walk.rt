@@ -1,14 +1,14 @@
 //! Nodes in preorder, one after another. One path is the whole stack: a yes-fact on it has its second child still to come.
 
 ghost use Rattle.std.specs.Prelude.{◌≡◌, ◌≤◌, length, OnOk, IfErr, IsOkUnless};
-ghost use Rattle.tt_facts.specs.declared.path.TheConstants.{MAX_FACTS};
+ghost use Rattle.tt_paths.specs.declared.path.TheConstants.{MAX_FACTS};
 ghost use Rattle.tt_proof_check.specs.Nodes.{IsNodeOf};
 ghost use Rattle.tt_proof_check.specs.Pending.{GoesOn};
 ghost use Rattle.tt_proof_check.specs.Steps.{Steps, Stops};
 
-use tt_facts::{Fact, Path, PathFault};
-use tt_leaf::{Bound, RuleFault, holds};
-use tt_proof_text::Node;
+use tt_leaf_rules::{Bound, RuleFault, holds};
+use tt_paths::{Fact, Path, PathFault};
+use tt_proof_read::Node;
 
 /// Why a node was not taken.
 #[derive(Clone, Copy, Debug)]

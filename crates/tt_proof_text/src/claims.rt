@@ -1,151 +1,78 @@
 //! The claims of a cost leaf.
 
-ghost use Rattle.std.specs.Prelude.{◌<◌, IfOk, IfSome, All};
-ghost use Rattle.tt_text.specs.Feeds.{room_of};
-ghost use Rattle.tt_proof_text.specs.Answers.{StaysKnown, TellsReads, ReadsAs, AgreesWhenCutAs};
-ghost use Rattle.tt_proof_text.specs.Faults.{TellsNoFailedRead, Gives};
-ghost use Rattle.tt_proof_text.specs.Pricing.{AreTables};
-ghost use Rattle.tt_proof_text.specs.Readers.{IsWordIn, IsClaimAt};
-ghost use Rattle.tt_proof_text.specs.Reading.{claim_word_of, claim_after_word, claim_at, claims_at};
+ghost use Rattle.std.specs.Prelude.{◌≡◌, ◌++◌, ◌∷◌, [], OnOk, All, flat_map, codes};
+ghost use Rattle.tt_text.specs.Pieces.{Text};
+ghost use Rattle.tt_proof_text.specs.Numbers.{IsNarrowPair, IsNarrowClaim};
+ghost use Rattle.tt_proof_text.specs.Written.{priced_pieces, claim_word, claim_rest, claim_pieces, tail_text};
 
-use crate::fault::TextFault;
-use crate::fields::{read_course, read_curriculum, read_price, token};
-use crate::prices::read_prices;
-use crate::sizes::Sizes;
-use crate::tables::Tables;
-use std::alloc::Global;
-use tt_leaf::{Claim, PriceList};
-use tt_text::{Feed, Source};
+use crate::fields::{put_index, put_price};
+use std::alloc::AllocError;
+use tt_leaf_rules::Claim;
+use tt_text::put_next_token;
 
-/// The first token of a claim.
-#[derive(Clone, Copy, Debug)]
-pub enum ClaimWord {
-    Capacity,
-    Days,
-    Compact,
-    Stable,
-    Prices,
-    Stacked,
+/// Numbers of one kind, each with its price.
+fn put_prices(out: &mut Vec<u8>, letter: u8, prices: &[(u32, u32)]) -> Result<(), AllocError>
+    ensures text { OnOk result (out.new.items ≡ out.old.items ++ tail_text (flat_map (priced_pieces letter) prices.now)) }
+    ensures narrow { OnOk result (All IsNarrowPair prices.now) }
+{
+    for (number, price) in prices {
+        put_index(out, letter, *number)?;
+        put_price(out, *price)?;
+    }
+    Ok(())
 }
 
-/// The word of a claim, or none at `;`, in one token.
-fn claim_word(text: &[u8], at: usize, version: u8) -> Result<Option<ClaimWord>, TextFault>
-    ensures read { Gives (λ w. w) result (claim_word_of version (record { text = text.now; at = at })) }
-    ensures within { IfOk result (λ w. IfSome w (IsWordIn version)) }
-    ensures unread { TellsNoFailedRead result }
+fn claim_word(claim: &Claim) -> &'static [u8]
+    ensures { result.now ≡ claim_word claim.now }
 {
-    match text {
-        b";" => Ok(None),
-        b"C" => Ok(Some(ClaimWord::Capacity)),
-        b"D" => Ok(Some(ClaimWord::Days)),
-        b"Q" => Ok(Some(ClaimWord::Compact)),
-        b"R" => Ok(Some(ClaimWord::Stable)),
-        b"P" if version == 2 => Ok(Some(ClaimWord::Prices)),
-        b"T" if version == 2 => Ok(Some(ClaimWord::Stacked)),
-        _ => Err(TextFault::UnknownWord(at)),
+    match claim {
+        Claim::Capacity { .. } => b"C",
+        Claim::Days(_) => b"D",
+        Claim::Compact(_) => b"Q",
+        Claim::Stable(_) => b"R",
+        Claim::Prices { .. } => b"P",
+        Claim::Stacked(_) => b"T",
     }
 }
 
 /// What follows the word of a claim.
-#[tactic(auto, unfolding(crate::specs::Reading::claim_after_word))]
-fn read_claim_after_word<R: Source>(
-    alloc: Global,
-    feed: &mut Feed,
-    source: &mut R,
-    sizes: Sizes,
-    version: u8,
-    word: ClaimWord,
-    tables: &mut Tables,
-) -> Result<Claim, TextFault>
-    requires word { IsWordIn version word }
-    requires tables { AreTables sizes tables.old }
-    ensures tables { AreTables sizes tables.new }
-    ensures known { StaysKnown (R.remaining source.old) (R.remaining source.new) }
-    ensures failed { TellsReads feed.old.fault (R.has_failed source.old) feed.new.fault (R.has_failed source.new) result }
-    ensures forward { IfOk result (λ _. room_of feed.new < room_of feed.old) }
-    ensures read { ReadsAs feed.old (R.remaining source.old) feed.new (R.remaining source.new) (λ c. c) result (claim_after_word sizes word) }
-    ensures cut_short { AgreesWhenCutAs feed.old (R.remaining source.old) feed.new (R.remaining source.new) (λ c. c) result (claim_after_word sizes word) }
-    ensures within { IfOk result (IsClaimAt sizes version) }
+fn put_claim_rest(out: &mut Vec<u8>, claim: &Claim) -> Result<(), AllocError>
+    ensures text { OnOk result (out.new.items ≡ out.old.items ++ tail_text (claim_rest claim.now)) }
+    ensures narrow { OnOk result (IsNarrowClaim claim.now) }
 {
-    match word {
-        ClaimWord::Capacity => {
-            let course = read_course(feed, source, sizes)?;
-            let price = read_price(feed, source)?;
-            Ok(Claim::Capacity { course, price })
+    match claim {
+        Claim::Capacity { course, price } => {
+            put_index(out, b'c', *course)?;
+            put_price(out, *price)
         }
-        ClaimWord::Days => {
-            let course = read_course(feed, source, sizes)?;
-            Ok(Claim::Days(course))
+        Claim::Days(course) | Claim::Stable(course) | Claim::Stacked(course) => {
+            put_index(out, b'c', *course)
         }
-        ClaimWord::Compact => {
-            let curriculum = read_curriculum(feed, source, sizes)?;
-            Ok(Claim::Compact(curriculum))
-        }
-        ClaimWord::Stable => {
-            let course = read_course(feed, source, sizes)?;
-            Ok(Claim::Stable(course))
-        }
-        ClaimWord::Prices => {
-            let prices = read_prices(alloc, feed, source, sizes, tables)?;
-            Ok(Claim::Prices {
-                courses: PriceList::new(prices.courses),
-                rooms: PriceList::new(prices.rooms),
-            })
-        }
-        ClaimWord::Stacked => {
-            let course = read_course(feed, source, sizes)?;
-            Ok(Claim::Stacked(course))
+        Claim::Compact(curriculum) => put_index(out, b'q', *curriculum),
+        Claim::Prices { courses, rooms } => {
+            put_prices(out, b'c', courses.as_slice())?;
+            put_prices(out, b'r', rooms.as_slice())?;
+            put_next_token(out, b"/")
         }
     }
 }
 
-/// A claim, or none at `;`.
-#[tactic(auto, unfolding(crate::specs::Reading::claim_at))]
-fn read_claim<R: Source>(
-    alloc: Global,
-    feed: &mut Feed,
-    source: &mut R,
-    sizes: Sizes,
-    version: u8,
-    tables: &mut Tables,
-) -> Result<Option<Claim>, TextFault>
-    requires { AreTables sizes tables.old }
-    ensures tables { AreTables sizes tables.new }
-    ensures known { StaysKnown (R.remaining source.old) (R.remaining source.new) }
-    ensures failed { TellsReads feed.old.fault (R.has_failed source.old) feed.new.fault (R.has_failed source.new) result }
-    ensures forward { IfOk result (λ _. room_of feed.new < room_of feed.old) }
-    ensures read { ReadsAs feed.old (R.remaining source.old) feed.new (R.remaining source.new) (λ c. c) result (claim_at sizes version) }
-    ensures cut_short { AgreesWhenCutAs feed.old (R.remaining source.old) feed.new (R.remaining source.new) (λ c. c) result (claim_at sizes version) }
-    ensures within { IfOk result (λ c. IfSome c (IsClaimAt sizes version)) }
+fn put_claim(out: &mut Vec<u8>, claim: &Claim) -> Result<(), AllocError>
+    ensures text { OnOk result (out.new.items ≡ out.old.items ++ tail_text (claim_pieces claim.now)) }
+    ensures narrow { OnOk result (IsNarrowClaim claim.now) }
 {
-    let at = token(feed, source)?;
-    let Some(word) = claim_word(feed.token(), at, version)? else {
-        return Ok(None);
-    };
-    let claim = read_claim_after_word(alloc, feed, source, sizes, version, word, tables)?;
-    Ok(Some(claim))
+    put_next_token(out, claim_word(claim))?;
+    put_claim_rest(out, claim)
 }
 
 /// Claims up to `;`.
-pub fn read_claims<R: Source>(
-    alloc: Global,
-    feed: &mut Feed,
-    source: &mut R,
-    sizes: Sizes,
-    version: u8,
-    tables: &mut Tables,
-) -> Result<Vec<Claim>, TextFault>
-    requires { AreTables sizes tables.old }
-    ensures tables { AreTables sizes tables.new }
-    ensures known { StaysKnown (R.remaining source.old) (R.remaining source.new) }
-    ensures failed { TellsReads feed.old.fault (R.has_failed source.old) feed.new.fault (R.has_failed source.new) result }
-    ensures read { ReadsAs feed.old (R.remaining source.old) feed.new (R.remaining source.new) (λ v. v.items) result (claims_at sizes version) }
-    ensures cut_short { AgreesWhenCutAs feed.old (R.remaining source.old) feed.new (R.remaining source.new) (λ v. v.items) result (claims_at sizes version) }
-    ensures within { IfOk result (λ v. All (IsClaimAt sizes version) v.items) }
+pub fn put_claims(out: &mut Vec<u8>, claims: &[Claim]) -> Result<(), AllocError>
+    ensures text { OnOk result (out.new.items ≡ out.old.items
+        ++ tail_text (flat_map claim_pieces claims.now ++ Text (codes ";") ∷ [])) }
+    ensures narrow { OnOk result (All IsNarrowClaim claims.now) }
 {
-    let mut claims = Vec::new(alloc);
-    while let Some(claim) = read_claim(alloc, feed, source, sizes, version, tables)? {
-        claims.push(claim)?;
+    for claim in claims {
+        put_claim(out, claim)?;
     }
-    Ok(claims)
+    put_next_token(out, b";")
 }

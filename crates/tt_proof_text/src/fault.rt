@@ -1,101 +1,32 @@
-//! Why a text is no proof.
+//! Why a list of nodes can't be written.
 
 ghost use Rattle.std.specs.Prelude.{◌≡◌};
-ghost use Rattle.tt_proof_text.specs.declared.fault.TextFault.TheVariants.{OutOfMemory};
-ghost use Rattle.tt_proof_text.specs.Words.{word_text};
+ghost use Rattle.tt_proof_text.specs.declared.fault.WriteFault.TheVariants.{OutOfMemory};
 
-use std::alloc::{AllocError, AllocFailed};
-use std::fmt;
+use std::alloc::AllocError;
 use thiserror::Error;
-use tt_text::FeedFault;
 
-/// A fixed word of the format.
-#[derive(Clone, Copy, Debug, PartialEq, Eq)]
-pub enum Word {
-    Cttp,
-    One,
-    Bound,
-    End,
-}
-
-impl Word {
-    /// The word as text.
-    pub fn as_str(self) -> &'static str
-        ensures { result.now ≡ word_text self }
-    {
-        match self {
-            Word::Cttp => "CTTP",
-            Word::One => "1",
-            Word::Bound => "bound",
-            Word::End => "end",
-        }
-    }
-
-    /// The bytes of the word.
-    pub fn text(self) -> &'static [u8]
-        ensures { result.now ≡ word_text self }
-    {
-        self.as_str().as_bytes()
-    }
-}
-
-impl fmt::Display for Word {
-    fn fmt<W: fmt::Write>(&self, f: &mut fmt::Formatter<W>) -> fmt::Result {
-        f.write_str(self.as_str())
-    }
-}
-
-/// The first fault from the left, with the offset of its token (of the end, where one is missing), or what the feed met.
+/// Why a list of nodes can't be written: the first in this order that applies.
 #[derive(Clone, Copy, Debug, PartialEq, Eq, Error)]
-pub enum TextFault {
-    #[error("Ended at byte {0}")]
-    Ended(usize),
-    #[error("Expected {0} at byte {1}")]
-    Expected(Word, usize),
-    #[error("UnknownWord at byte {0}")]
-    UnknownWord(usize),
-    /// No number where one is due, or one above its limit.
-    #[error("NotANumber at byte {0}")]
-    NotANumber(usize),
-    #[error("UnknownIndex at byte {0}")]
-    UnknownIndex(usize),
-    #[error("RepeatedIndex at byte {0}")]
-    RepeatedIndex(usize),
-    #[error("TrailingToken at byte {0}")]
-    TrailingToken(usize),
-    #[error("TooManyNodes at byte {0}")]
-    TooManyNodes(usize),
-    #[error("{0}")]
-    Feed(FeedFault),
+pub enum WriteFault {
+    /// The nodes are not one tree in preorder.
+    #[error("NotATree")]
+    NotATree,
+    /// A number, the nodes, the depth or the bytes pass the format's limit.
+    #[error("OverLimit")]
+    OverLimit,
+    /// Version 1 was asked for, and a node has a claim of version 2.
+    #[error("NotInVersion")]
+    NotInVersion,
+    /// Memory for the text was refused.
     #[error("out of memory")]
     OutOfMemory,
 }
 
-impl From<FeedFault> for TextFault {
-    ghost use Rattle.tt_proof_text.specs.Faults.{fault_from_feed};
-
-    ghost from_gives = { λ f e. e ≡ fault_from_feed f };
-
-    fn from(fault: FeedFault) -> TextFault {
-        match fault {
-            FeedFault::OutOfMemory => TextFault::OutOfMemory,
-            fault => TextFault::Feed(fault),
-        }
-    }
-}
-
-impl From<AllocError> for TextFault {
+impl From<AllocError> for WriteFault {
     ghost from_gives = { λ _ e. e ≡ OutOfMemory };
 
-    fn from(_e: AllocError) -> TextFault {
-        TextFault::OutOfMemory
-    }
-}
-
-impl<T: Drop> From<AllocFailed<T>> for TextFault {
-    ghost from_gives = { λ _ e. e ≡ OutOfMemory };
-
-    fn from(_e: AllocFailed<T>) -> TextFault {
-        TextFault::OutOfMemory
+    fn from(_e: AllocError) -> WriteFault {
+        WriteFault::OutOfMemory
     }
 }

@@ -1,153 +1,79 @@
-//! Single tokens of a proof.
+//! Parts of a line after its first token, each after a space.
 
-ghost use Rattle.std.specs.Prelude.{◌≡◌, ◌≤◌, ◌<◌, true, is_some, None, IfOk};
-ghost use Rattle.tt_text.specs.Feeds.{stream_at, room_of};
-ghost use Rattle.tt_text.specs.Numbers.{number_of};
-ghost use Rattle.tt_proof_text.specs.Answers.{StaysKnown, TellsReads, ReadsAs, AgreesWhenCut, AgreesWhenCutAs};
-ghost use Rattle.tt_proof_text.specs.Faults.{TellsNoFailedRead, TellsNoOutOfMemory, Gives};
-ghost use Rattle.tt_proof_text.specs.Reading.{token_at, word_at, numbered_below, index_of, course_at, curriculum_at, priced_as, price_at};
+ghost use Rattle.std.specs.Prelude.{◌≡◌, ◌++◌, ◌∷◌, [], IfSome, OnOk, All};
+ghost use Rattle.tt_text.specs.Pieces.{Number, Index};
+ghost use Rattle.tt_proof_read.specs.Spelling.{given_piece, who_piece, pattern_pieces, listed_pieces, version_text};
+ghost use Rattle.tt_proof_text.specs.Numbers.{IsNarrow, IsNarrowWho, IsNarrowPattern};
+ghost use Rattle.tt_proof_text.specs.Written.{tail_text};
 
-use crate::fault::{TextFault, Word};
-use crate::format::{COURSE_LETTER, CURRICULUM_LETTER, MAX_PRICE};
-use crate::sizes::Sizes;
-use tt_text::{Feed, NumberFault, Source, Token, number};
+use std::alloc::AllocError;
+use tt_paths::{Pattern, Who};
+use tt_proof_read::{COURSE_LETTER, CURRICULUM_LETTER, DAY_LETTER, PERIOD_LETTER, ROOM_LETTER};
+use tt_text::{put_next_number, put_next_token, put_number, put_token};
 
-/// The next token.
-#[tactic(auto, unfolding(crate::specs::Reading::token_at))]
-#[inline(always)]
-pub fn token<R: Source>(feed: &mut Feed, source: &mut R) -> Result<usize, TextFault>
-    ensures known { StaysKnown (R.remaining source.old) (R.remaining source.new) }
-    ensures failed { TellsReads feed.old.fault (R.has_failed source.old) feed.new.fault (R.has_failed source.new) result }
-    ensures memory { feed.old.fault ≡ None → TellsNoOutOfMemory result }
-    ensures forward { IfOk result (λ _. room_of feed.new < room_of feed.old) }
-    ensures read { ReadsAs feed.old (R.remaining source.old) feed.new (R.remaining source.new) (λ at. record { text = feed.new.token; at = at }) result token_at }
-    ensures cut_short { AgreesWhenCutAs feed.old (R.remaining source.old) feed.new (R.remaining source.new) (λ at. record { text = feed.new.token; at = at }) result token_at }
+/// The number of a version.
+pub fn version_text(version: u8) -> &'static [u8]
+    ensures { result.now ≡ version_text version }
 {
-    match feed.next(source) {
-        Ok(Some(at)) => Ok(at),
-        Ok(None) => match feed.ended() {
-            Some(end) => Err(TextFault::Ended(end)),
-            None => unreachable!(),
-        },
-        Err(fault) => Err(TextFault::from(fault)),
-    }
+    if version == 1 { b"1" } else { b"2" }
 }
 
-/// A fixed word.
-#[tactic(auto, unfolding(crate::specs::Reading::word_at))]
-pub fn read_word<R: Source>(feed: &mut Feed, source: &mut R, word: Word) -> Result<(), TextFault>
-    ensures known { StaysKnown (R.remaining source.old) (R.remaining source.new) }
-    ensures failed { TellsReads feed.old.fault (R.has_failed source.old) feed.new.fault (R.has_failed source.new) result }
-    ensures memory { feed.old.fault ≡ None → TellsNoOutOfMemory result }
-    ensures read { is_some (R.remaining source.old) ≡ true →
-        Gives (λ _. stream_at feed.new (R.remaining source.new)) result (word_at word (stream_at feed.old (R.remaining source.old))) }
-    ensures cut_short { AgreesWhenCut feed.old (R.remaining source.old) feed.new (R.remaining source.new) (λ _ s. s) result (word_at word) }
+/// A letter and a number.
+pub fn put_index(out: &mut Vec<u8>, letter: u8, number: u32) -> Result<(), AllocError>
+    ensures text { OnOk result (out.new.items ≡ out.old.items ++ tail_text (Index letter number ∷ [])) }
+    ensures narrow { IsNarrow number }
 {
-    let at = token(feed, source)?;
-    if word.text() == feed.token() {
-        Ok(())
-    } else {
-        Err(TextFault::Expected(word, at))
-    }
-}
-
-/// The number after a letter, below a count.
-#[tactic(auto, unfolding(crate::specs::Reading::numbered_below))]
-pub fn number_below(digits: &[u8], at: usize, count: u32) -> Result<u32, TextFault>
-    ensures read { Gives (λ n. n) result (numbered_below at count digits.now) }
-    ensures within { IfOk result (λ n. n < count) }
-    ensures unread { TellsNoFailedRead result }
-{
-    match number(&Token { bytes: digits, at }, 4_294_967_295) {
-        Ok(n) => {
-            if n < u64::from(count) {
-                Ok(n as u32)
-            } else {
-                Err(TextFault::UnknownIndex(at))
-            }
-        }
-        Err(NumberFault::NotANumber) => Err(TextFault::UnknownWord(at)),
-        Err(NumberFault::TooLarge) => Err(TextFault::UnknownIndex(at)),
-    }
-}
-
-/// A letter and a number below a count, in one token.
-#[tactic(auto, unfolding(crate::specs::Reading::index_of))]
-pub fn index(text: &[u8], at: usize, letter: u8, count: u32) -> Result<u32, TextFault>
-    ensures read { Gives (λ n. n) result (index_of letter count (record { text = text.now; at = at })) }
-    ensures within { IfOk result (λ n. n < count) }
-    ensures unread { TellsNoFailedRead result }
-{
-    match text.split_first() {
-        Some((first, digits)) => {
-            if *first == letter {
-                number_below(digits, at, count)
-            } else {
-                Err(TextFault::UnknownWord(at))
-            }
-        }
-        None => Err(TextFault::UnknownWord(at)),
-    }
-}
-
-/// A course.
-#[tactic(auto, unfolding(crate::specs::Reading::course_at))]
-pub fn read_course<R: Source>(
-    feed: &mut Feed,
-    source: &mut R,
-    sizes: Sizes,
-) -> Result<u32, TextFault>
-    ensures known { StaysKnown (R.remaining source.old) (R.remaining source.new) }
-    ensures failed { TellsReads feed.old.fault (R.has_failed source.old) feed.new.fault (R.has_failed source.new) result }
-    ensures forward { IfOk result (λ _. room_of feed.new < room_of feed.old) }
-    ensures read { ReadsAs feed.old (R.remaining source.old) feed.new (R.remaining source.new) (λ c. c) result (course_at sizes) }
-    ensures cut_short { AgreesWhenCutAs feed.old (R.remaining source.old) feed.new (R.remaining source.new) (λ c. c) result (course_at sizes) }
-    ensures within { IfOk result (λ c. c < sizes.courses) }
-{
-    let at = token(feed, source)?;
-    index(feed.token(), at, COURSE_LETTER, sizes.courses)
-}
-
-/// A curriculum.
-#[tactic(auto, unfolding(crate::specs::Reading::curriculum_at))]
-pub fn read_curriculum<R: Source>(
-    feed: &mut Feed,
-    source: &mut R,
-    sizes: Sizes,
-) -> Result<u32, TextFault>
-    ensures known { StaysKnown (R.remaining source.old) (R.remaining source.new) }
-    ensures failed { TellsReads feed.old.fault (R.has_failed source.old) feed.new.fault (R.has_failed source.new) result }
-    ensures forward { IfOk result (λ _. room_of feed.new < room_of feed.old) }
-    ensures read { ReadsAs feed.old (R.remaining source.old) feed.new (R.remaining source.new) (λ q. q) result (curriculum_at sizes) }
-    ensures cut_short { AgreesWhenCutAs feed.old (R.remaining source.old) feed.new (R.remaining source.new) (λ q. q) result (curriculum_at sizes) }
-    ensures within { IfOk result (λ q. q < sizes.curricula) }
-{
-    let at = token(feed, source)?;
-    index(feed.token(), at, CURRICULUM_LETTER, sizes.curricula)
-}
-
-/// A price, in one token.
-fn price(text: &[u8], at: usize) -> Result<u32, TextFault>
-    ensures read { Gives (λ u. u) result (priced_as at (number_of MAX_PRICE text.now)) }
-    ensures within { IfOk result (λ u. u ≤ MAX_PRICE) }
-    ensures unread { TellsNoFailedRead result }
-{
-    match number(&Token { bytes: text, at }, u64::from(MAX_PRICE)) {
-        Ok(points) => Ok(points as u32),
-        Err(_) => Err(TextFault::NotANumber(at)),
-    }
+    put_token(out, &[b' ', letter])?;
+    put_number(out, u64::from(number))
 }
 
 /// A price in cost points.
-#[tactic(auto, unfolding(crate::specs::Reading::price_at))]
-pub fn read_price<R: Source>(feed: &mut Feed, source: &mut R) -> Result<u32, TextFault>
-    ensures known { StaysKnown (R.remaining source.old) (R.remaining source.new) }
-    ensures failed { TellsReads feed.old.fault (R.has_failed source.old) feed.new.fault (R.has_failed source.new) result }
-    ensures forward { IfOk result (λ _. room_of feed.new < room_of feed.old) }
-    ensures read { ReadsAs feed.old (R.remaining source.old) feed.new (R.remaining source.new) (λ u. u) result price_at }
-    ensures cut_short { AgreesWhenCutAs feed.old (R.remaining source.old) feed.new (R.remaining source.new) (λ u. u) result price_at }
-    ensures within { IfOk result (λ u. u ≤ MAX_PRICE) }
+pub fn put_price(out: &mut Vec<u8>, price: u32) -> Result<(), AllocError>
+    ensures text { OnOk result (out.new.items ≡ out.old.items ++ tail_text (Number price ∷ [])) }
+    ensures narrow { IsNarrow price }
 {
-    let at = token(feed, source)?;
-    price(feed.token(), at)
+    put_next_number(out, u64::from(price))
+}
+
+/// A letter and a number, or `*`.
+fn put_given(out: &mut Vec<u8>, letter: u8, number: Option<u32>) -> Result<(), AllocError>
+    ensures text { OnOk result (out.new.items ≡ out.old.items ++ tail_text (given_piece letter number ∷ [])) }
+    ensures narrow { IfSome number IsNarrow }
+{
+    match number {
+        Some(number) => put_index(out, letter, number),
+        None => put_next_token(out, b"*"),
+    }
+}
+
+fn put_who(out: &mut Vec<u8>, who: Who) -> Result<(), AllocError>
+    ensures text { OnOk result (out.new.items ≡ out.old.items ++ tail_text (who_piece who ∷ [])) }
+    ensures narrow { IsNarrowWho who }
+{
+    match who {
+        Who::Course(course) => put_index(out, COURSE_LETTER, course),
+        Who::Curriculum(curriculum) => put_index(out, CURRICULUM_LETTER, curriculum),
+    }
+}
+
+/// Who, room, day and period.
+pub fn put_pattern(out: &mut Vec<u8>, pattern: &Pattern) -> Result<(), AllocError>
+    ensures text { OnOk result (out.new.items ≡ out.old.items ++ tail_text (pattern_pieces pattern.now)) }
+    ensures narrow { OnOk result (IsNarrowPattern pattern.now) }
+{
+    put_who(out, pattern.who)?;
+    put_given(out, ROOM_LETTER, pattern.room)?;
+    put_given(out, DAY_LETTER, pattern.day)?;
+    put_given(out, PERIOD_LETTER, pattern.period)
+}
+
+/// Courses up to `;`.
+pub fn put_courses(out: &mut Vec<u8>, courses: &[u32]) -> Result<(), AllocError>
+    ensures text { OnOk result (out.new.items ≡ out.old.items ++ tail_text (listed_pieces courses.now)) }
+    ensures narrow { OnOk result (All IsNarrow courses.now) }
+{
+    for course in courses {
+        put_index(out, COURSE_LETTER, *course)?;
+    }
+    put_next_token(out, b";")
 }

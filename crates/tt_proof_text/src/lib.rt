@@ -1,30 +1,19 @@
-//! Proofs of lower bounds as text.
+//! Proofs of lower bounds to text.
 #![tactic(auto)]
 
+mod bytes;
 mod claims;
+mod depth;
 mod fault;
 mod fields;
-mod format;
-mod header;
-mod laws;
-mod lists;
-mod node;
+mod limits;
 mod nodes;
-mod patterns;
-mod prices;
-mod reader;
-mod seen;
-mod sizes;
-mod tables;
-mod tree;
+mod writing;
 
-pub use fault::{TextFault, Word};
-pub use format::{
-    COURSE_LETTER, CURRICULUM_LETTER, DAY_LETTER, MAX_NODES, MAX_POINTS, MAX_PRICE, PERIOD_LETTER,
-    ROOM_LETTER,
+pub use fault::WriteFault;
+pub use tt_proof_read::{
+    COURSE_LETTER, CURRICULUM_LETTER, DAY_LETTER, MAX_NODES, MAX_POINTS, MAX_PRICE, Node,
+    NodeReader, PERIOD_LETTER, ROOM_LETTER, Sizes, TextFault, Word, filled_trees_are_whole,
+    is_tree, read_proofs_are_spelled,
 };
-pub use laws::{filled_trees_are_whole, read_proofs_are_spelled};
-pub use node::Node;
-pub use reader::NodeReader;
-pub use sizes::Sizes;
-pub use tree::is_tree;
+pub use writing::write_proof;

@@ -1,123 +1,62 @@
-//! Single nodes.
+//! The lines of nodes.
 
-ghost use Rattle.std.specs.Prelude.{◌<◌, IfOk};
-ghost use Rattle.tt_proof_text.specs.Answers.{StaysKnown, TellsReads, ReadsAs, AgreesWhenCutAs};
-ghost use Rattle.tt_proof_text.specs.Faults.{TellsNoFailedRead, Gives};
-ghost use Rattle.tt_proof_text.specs.Pricing.{AreTables};
-ghost use Rattle.tt_proof_text.specs.Readers.{IsNodeAt};
-ghost use Rattle.tt_proof_text.specs.Reading.{node_word_of, node_after_word, node_at};
+ghost use Rattle.std.specs.Prelude.{◌≡◌, ◌++◌, OnOk, All, map};
+ghost use Rattle.tt_text.specs.Lines.{line_text, lines_text};
+ghost use Rattle.tt_proof_text.specs.Numbers.{IsNarrowNode};
+ghost use Rattle.tt_proof_text.specs.Written.{node_word, node_rest, node_pieces, tail_text};
 
-use crate::claims::read_claims;
-use crate::fault::TextFault;
-use crate::fields::{read_course, token};
-use crate::format::MAX_NODES;
-use crate::lists::read_list;
-use crate::node::Node;
-use crate::patterns::read_pattern;
-use crate::sizes::Sizes;
-use crate::tables::Tables;
-use std::alloc::Global;
-use tt_leaf::{ClaimList, CourseList, Leaf};
-use tt_text::{Feed, Source};
+use crate::claims::put_claims;
+use crate::fields::{put_courses, put_index, put_pattern};
+use std::alloc::AllocError;
+use tt_leaf_rules::Leaf;
+use tt_proof_read::Node;
+use tt_text::{put_line_end, put_token};
 
-/// The first token of a node.
-#[derive(Clone, Copy, Debug)]
-pub enum NodeWord {
-    Split,
-    Empty,
-    Many,
-    Clique,
-    Slots,
-    Cost,
-}
-
-/// The word of a node, in one token.
-fn node_word(text: &[u8], at: usize) -> Result<NodeWord, TextFault>
-    ensures read { Gives (λ w. w) result (node_word_of (record { text = text.now; at = at })) }
-    ensures unread { TellsNoFailedRead result }
+fn node_word(node: &Node) -> &'static [u8]
+    ensures { result.now ≡ node_word node.now }
 {
-    match text {
-        b"S" => Ok(NodeWord::Split),
-        b"E" => Ok(NodeWord::Empty),
-        b"M" => Ok(NodeWord::Many),
-        b"K" => Ok(NodeWord::Clique),
-        b"H" => Ok(NodeWord::Slots),
-        b"B" => Ok(NodeWord::Cost),
-        _ => Err(TextFault::UnknownWord(at)),
+    match node {
+        Node::Split(_) => b"S",
+        Node::Leaf(Leaf::Empty(_)) => b"E",
+        Node::Leaf(Leaf::Many(_)) => b"M",
+        Node::Leaf(Leaf::Clique(_)) => b"K",
+        Node::Leaf(Leaf::Slots(_)) => b"H",
+        Node::Leaf(Leaf::Cost(_)) => b"B",
     }
 }
 
 /// What follows the word of a node.
-#[tactic(auto, unfolding(crate::specs::Reading::node_after_word))]
-fn read_node_after_word<R: Source>(
-    alloc: Global,
-    feed: &mut Feed,
-    source: &mut R,
-    sizes: Sizes,
-    version: u8,
-    word: NodeWord,
-    tables: &mut Tables,
-) -> Result<Node, TextFault>
-    requires { AreTables sizes tables.old }
-    ensures tables { AreTables sizes tables.new }
-    ensures known { StaysKnown (R.remaining source.old) (R.remaining source.new) }
-    ensures failed { TellsReads feed.old.fault (R.has_failed source.old) feed.new.fault (R.has_failed source.new) result }
-    ensures read { ReadsAs feed.old (R.remaining source.old) feed.new (R.remaining source.new) (λ n. n) result (node_after_word sizes version word) }
-    ensures cut_short { AgreesWhenCutAs feed.old (R.remaining source.old) feed.new (R.remaining source.new) (λ n. n) result (node_after_word sizes version word) }
-    ensures node { IfOk result (IsNodeAt sizes version) }
+fn put_node_rest(out: &mut Vec<u8>, node: &Node) -> Result<(), AllocError>
+    ensures text { OnOk result (out.new.items ≡ out.old.items ++ tail_text (node_rest node.now)) }
+    ensures narrow { OnOk result (IsNarrowNode node.now) }
 {
-    match word {
-        NodeWord::Split => {
-            let pattern = read_pattern(feed, source, sizes)?;
-            Ok(Node::Split(pattern))
+    match node {
+        Node::Split(pattern) | Node::Leaf(Leaf::Empty(pattern)) => put_pattern(out, pattern),
+        Node::Leaf(Leaf::Many(course)) => put_index(out, b'c', *course),
+        Node::Leaf(Leaf::Clique(courses) | Leaf::Slots(courses)) => {
+            put_courses(out, courses.as_slice())
         }
-        NodeWord::Empty => {
-            let pattern = read_pattern(feed, source, sizes)?;
-            Ok(Node::Leaf(Leaf::Empty(pattern)))
-        }
-        NodeWord::Many => {
-            let course = read_course(feed, source, sizes)?;
-            Ok(Node::Leaf(Leaf::Many(course)))
-        }
-        NodeWord::Clique => {
-            let courses = read_list(alloc, feed, source, sizes, &mut tables.courses)?;
-            Ok(Node::Leaf(Leaf::Clique(CourseList::new(courses))))
-        }
-        NodeWord::Slots => {
-            let courses = read_list(alloc, feed, source, sizes, &mut tables.courses)?;
-            Ok(Node::Leaf(Leaf::Slots(CourseList::new(courses))))
-        }
-        NodeWord::Cost => {
-            let claims = read_claims(alloc, feed, source, sizes, version, tables)?;
-            Ok(Node::Leaf(Leaf::Cost(ClaimList::new(claims))))
-        }
+        Node::Leaf(Leaf::Cost(claims)) => put_claims(out, claims.as_slice()),
     }
 }
 
-/// A node, with this many nodes before it.
-#[tactic(auto, unfolding(crate::specs::Reading::node_at))]
-pub fn read_node<R: Source>(
-    alloc: Global,
-    feed: &mut Feed,
-    source: &mut R,
-    sizes: Sizes,
-    version: u8,
-    count: u32,
-    tables: &mut Tables,
-) -> Result<Node, TextFault>
-    requires { AreTables sizes tables.old }
-    ensures tables { AreTables sizes tables.new }
-    ensures known { StaysKnown (R.remaining source.old) (R.remaining source.new) }
-    ensures failed { TellsReads feed.old.fault (R.has_failed source.old) feed.new.fault (R.has_failed source.new) result }
-    ensures read { ReadsAs feed.old (R.remaining source.old) feed.new (R.remaining source.new) (λ n. n) result (node_at sizes version count) }
-    ensures cut_short { AgreesWhenCutAs feed.old (R.remaining source.old) feed.new (R.remaining source.new) (λ n. n) result (node_at sizes version count) }
-    ensures node { IfOk result (IsNodeAt sizes version) }
-    ensures room { IfOk result (λ _. count < MAX_NODES) }
+/// The line of a node.
+fn put_node(out: &mut Vec<u8>, node: &Node) -> Result<(), AllocError>
+    ensures text { OnOk result (out.new.items ≡ out.old.items ++ line_text (node_pieces node.now)) }
+    ensures narrow { OnOk result (IsNarrowNode node.now) }
 {
-    let at = token(feed, source)?;
-    if count >= MAX_NODES {
-        return Err(TextFault::TooManyNodes(at));
+    put_token(out, node_word(node))?;
+    put_node_rest(out, node)?;
+    put_line_end(out)
+}
+
+/// One line for each node.
+pub fn put_nodes(out: &mut Vec<u8>, nodes: &[Node]) -> Result<(), AllocError>
+    ensures text { OnOk result (out.new.items ≡ out.old.items ++ lines_text (map node_pieces nodes.now)) }
+    ensures narrow { OnOk result (All IsNarrowNode nodes.now) }
+{
+    for node in nodes {
+        put_node(out, node)?;
     }
-    let word = node_word(feed.token(), at)?;
-    read_node_after_word(alloc, feed, source, sizes, version, word, tables)
+    Ok(())
 }

@@ -10,11 +10,11 @@ use Rattle.tt_lists.proofs.Twos.{each_two-push, each_two-last}
 use Rattle.tt_lists.proofs.Tested.{all_at}
 use Rattle.tt_instance.specs.Problem.{Problem}
 use Rattle.tt_instance.specs.Limits.{IsInstance}
-use Rattle.tt_leaf.specs.Claims.{Target, same_target}
-use Rattle.tt_leaf.specs.declared.leaf.Bound.{Bound}
-use Rattle.tt_leaf.specs.declared.leaf.Bound.TheVariants.{AtLeast, Nothing}
-use Rattle.tt_proof_text.specs.Trees.{Tree, preorder}
-use Rattle.tt_proof_text.specs.declared.node.Node.{Node}
+use Rattle.tt_leaf_rules.specs.Claims.{Target, same_target}
+use Rattle.tt_leaf_rules.specs.declared.leaf.Bound.{Bound}
+use Rattle.tt_leaf_rules.specs.declared.leaf.Bound.TheVariants.{AtLeast, Nothing}
+use Rattle.tt_proof_read.specs.Trees.{Tree, preorder}
+use Rattle.tt_proof_read.specs.declared.node.Node.{Node}
 use Rattle.tt_proof_check.proofs.Texts.{proved_silent, spelled_once}
 use Rattle.tt_sum.specs.declared.fault.SumFault.{SumFault}
 use Rattle.tt_sum.specs.declared.fault.SumFault.TheVariants.{Proof, ClaimedElsewhere, TooLarge, OutOfMemory}

@@ -4,14 +4,14 @@ use Rattle.tt_lists.specs.Words.{each_two}
 use Rattle.tt_instance.proofs.Examples.{gap}
 use Rattle.tt_instance.specs.Cells.{slot, cell}
 use Rattle.tt_instance.specs.declared.cell.Cell.{Cell}
-use Rattle.tt_leaf.specs.Claims.{Target, RoomCapacity, WorkingDays, Compactness, Stability}
-use Rattle.tt_leaf.specs.declared.leaf.Bound.{Bound}
-use Rattle.tt_leaf.specs.declared.leaf.Bound.TheVariants.{AtLeast, Nothing}
-use Rattle.tt_leaf.specs.declared.leaf.Claim.TheVariants.{Capacity, Days, Compact, Prices, Stacked}
-use Rattle.tt_leaf.specs.declared.leaf.Leaf.{Leaf}
-use Rattle.tt_leaf.specs.declared.leaf.Leaf.TheVariants.{Clique, Cost}
-use Rattle.tt_leaf.proofs.Examples.{when}
-use Rattle.tt_proof_text.specs.Trees.{Tree, Close, Branch}
+use Rattle.tt_leaf_rules.specs.Claims.{Target, RoomCapacity, WorkingDays, Compactness, Stability}
+use Rattle.tt_leaf_rules.specs.declared.leaf.Bound.{Bound}
+use Rattle.tt_leaf_rules.specs.declared.leaf.Bound.TheVariants.{AtLeast, Nothing}
+use Rattle.tt_leaf_rules.specs.declared.leaf.Claim.TheVariants.{Capacity, Days, Compact, Prices, Stacked}
+use Rattle.tt_leaf_rules.specs.declared.leaf.Leaf.{Leaf}
+use Rattle.tt_leaf_rules.specs.declared.leaf.Leaf.TheVariants.{Clique, Cost}
+use Rattle.tt_leaf_rules.proofs.Examples.{when}
+use Rattle.tt_proof_read.specs.Trees.{Tree, Close, Branch}
 use Rattle.tt_sum.specs.Sums.{are_apart, cost_over, every_target, Part, claims_of, AreApart, sum_of}
 
 abbrev proof : Bound → Tree → Part

@@ -14,17 +14,17 @@ use Rattle.tt_lists.proofs.Tests.{test_turned}
 use Rattle.tt_lists.proofs.Twos.{list_all-swap}
 use Rattle.tt_instance.specs.Problem.{Problem}
 use Rattle.tt_instance.specs.Limits.{IsInstance}
-use Rattle.tt_leaf.specs.Claims.{Target, same_target, targets_of, claimed}
-use Rattle.tt_leaf.specs.Met.{place, places_of, IsPlaced}
-use Rattle.tt_leaf.specs.declared.leaf.Bound.{Bound}
-use Rattle.tt_leaf.specs.declared.leaf.Claim.{Claim}
-use Rattle.tt_leaf.specs.declared.leaf.Leaf.TheVariants.{Empty, Many, Clique, Slots, Cost}
-use Rattle.tt_leaf.proofs.Totals.{same_target-true, same_target-itself}
-use Rattle.tt_leaf.proofs.Meeting.{same_place, each_placed}
-use Rattle.tt_proof_text.specs.Spelling.{IsNode}
-use Rattle.tt_proof_text.specs.Trees.{Tree, Close, Branch, preorder}
-use Rattle.tt_proof_text.specs.declared.node.Node.{Node}
-use Rattle.tt_proof_text.specs.declared.node.Node.TheVariants.{Split, Leaf}
+use Rattle.tt_leaf_rules.specs.Claims.{Target, same_target, targets_of, claimed}
+use Rattle.tt_leaf_rules.specs.Met.{place, places_of, IsPlaced}
+use Rattle.tt_leaf_rules.specs.declared.leaf.Bound.{Bound}
+use Rattle.tt_leaf_rules.specs.declared.leaf.Claim.{Claim}
+use Rattle.tt_leaf_rules.specs.declared.leaf.Leaf.TheVariants.{Empty, Many, Clique, Slots, Cost}
+use Rattle.tt_leaf_rules.proofs.Totals.{same_target-true, same_target-itself}
+use Rattle.tt_leaf_rules.proofs.Meeting.{same_place, each_placed}
+use Rattle.tt_proof_read.specs.Spelling.{IsNode}
+use Rattle.tt_proof_read.specs.Trees.{Tree, Close, Branch, preorder}
+use Rattle.tt_proof_read.specs.declared.node.Node.{Node}
+use Rattle.tt_proof_read.specs.declared.node.Node.TheVariants.{Split, Leaf}
 use Rattle.tt_proof_check.specs.Heard.{Heard, IsHeardProof}
 use Rattle.tt_sum.specs.declared.table.Clash.{Clash}
 use Rattle.tt_sum.specs.Added.{Joins}

@@ -13,18 +13,18 @@ use Rattle.std.proofs.lemmas.List.Folds.{list_all-append}
 use Rattle.tt_instance.specs.Problem.{Problem}
 use Rattle.tt_instance.specs.declared.cell.Cell.{Cell}
 use Rattle.tt_rules.specs.Score.{IsFeasible, cost}
-use Rattle.tt_facts.specs.Facts.{matches, Holds, Fits}
-use Rattle.tt_facts.specs.declared.facts.Fact.{Fact}
-use Rattle.tt_leaf.specs.Bounds.{Respects}
-use Rattle.tt_leaf.specs.Claims.{Target, part, same_target, targets_of, value_of, claimed}
-use Rattle.tt_leaf.specs.Leaves.{IsRight}
-use Rattle.tt_leaf.specs.declared.leaf.Bound.{Bound}
-use Rattle.tt_leaf.specs.declared.leaf.Bound.TheVariants.{AtLeast, Nothing}
-use Rattle.tt_leaf.specs.declared.leaf.Leaf.{Leaf}
-use Rattle.tt_leaf.specs.declared.leaf.Leaf.TheVariants.{Empty, Many, Clique, Slots, Cost}
-use Rattle.tt_leaf.proofs.Soundness.{leaf_sound}
-use Rattle.tt_leaf.proofs.Totals.{same_target-true, same_target-itself, each_claim_sound, parts_of_cost, target_there}
-use Rattle.tt_proof_text.specs.Trees.{Tree, Close, Branch, with_fact}
+use Rattle.tt_paths.specs.Facts.{matches, Holds, Fits}
+use Rattle.tt_paths.specs.declared.facts.Fact.{Fact}
+use Rattle.tt_leaf_rules.specs.Bounds.{Respects}
+use Rattle.tt_leaf_rules.specs.Claims.{Target, part, same_target, targets_of, value_of, claimed}
+use Rattle.tt_leaf_rules.specs.Leaves.{IsRight}
+use Rattle.tt_leaf_rules.specs.declared.leaf.Bound.{Bound}
+use Rattle.tt_leaf_rules.specs.declared.leaf.Bound.TheVariants.{AtLeast, Nothing}
+use Rattle.tt_leaf_rules.specs.declared.leaf.Leaf.{Leaf}
+use Rattle.tt_leaf_rules.specs.declared.leaf.Leaf.TheVariants.{Empty, Many, Clique, Slots, Cost}
+use Rattle.tt_leaf_rules.proofs.Soundness.{leaf_sound}
+use Rattle.tt_leaf_rules.proofs.Totals.{same_target-true, same_target-itself, each_claim_sound, parts_of_cost, target_there}
+use Rattle.tt_proof_read.specs.Trees.{Tree, Close, Branch, with_fact}
 use Rattle.tt_proof_check.specs.Derives.{Derives}
 use Rattle.tt_sum.specs.Sums.{claimed_in, claimed_by, is_among, are_among, cost_over, every_target}
 

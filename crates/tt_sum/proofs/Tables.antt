@@ -7,10 +7,10 @@ use Rattle.std.proofs.lemmas.Bool.{leb-false, eq-eqb, eqb-true, false_from_ne_tr
 use Rattle.std.proofs.lemmas.List.{take_more, map-append}
 use Rattle.tt_lists.specs.Words.{has_number}
 use Rattle.std.proofs.lemmas.Grind.{flat_map-append}
-use Rattle.tt_leaf.specs.Claims.{RoomCapacity, targets_of, claimed}
-use Rattle.tt_leaf.specs.Met.{place, places_of}
-use Rattle.tt_leaf.specs.declared.leaf.Claim.{Claim}
-use Rattle.tt_proof_text.specs.declared.node.Node.{Node}
+use Rattle.tt_leaf_rules.specs.Claims.{RoomCapacity, targets_of, claimed}
+use Rattle.tt_leaf_rules.specs.Met.{place, places_of}
+use Rattle.tt_leaf_rules.specs.declared.leaf.Claim.{Claim}
+use Rattle.tt_proof_read.specs.declared.node.Node.{Node}
 use Rattle.tt_proof_check.specs.Heard.{Heard}
 use Rattle.tt_sum.specs.declared.table.Clash.{Clash}
 use Rattle.tt_sum.specs.Tables.{State, owner, clash_with, clash_at, first_clash, Claims, at_node, places_in}

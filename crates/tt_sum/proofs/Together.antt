@@ -12,13 +12,13 @@ use Rattle.tt_lists.proofs.Apart.{distinct_sum}
 use Rattle.tt_instance.specs.Problem.{Problem}
 use Rattle.tt_instance.specs.declared.cell.Cell.{Cell}
 use Rattle.tt_rules.specs.Score.{IsFeasible, cost}
-use Rattle.tt_facts.specs.Facts.{Holds, Fits}
-use Rattle.tt_facts.specs.declared.facts.Fact.{Fact}
-use Rattle.tt_leaf.specs.Bounds.{Respects}
-use Rattle.tt_leaf.specs.Claims.{Target, part, same_target}
-use Rattle.tt_leaf.specs.declared.leaf.Bound.{Bound}
-use Rattle.tt_leaf.specs.declared.leaf.Bound.TheVariants.{AtLeast, Nothing}
-use Rattle.tt_leaf.proofs.Totals.{same_target-true, same_target-itself, target_there}
+use Rattle.tt_paths.specs.Facts.{Holds, Fits}
+use Rattle.tt_paths.specs.declared.facts.Fact.{Fact}
+use Rattle.tt_leaf_rules.specs.Bounds.{Respects}
+use Rattle.tt_leaf_rules.specs.Claims.{Target, part, same_target}
+use Rattle.tt_leaf_rules.specs.declared.leaf.Bound.{Bound}
+use Rattle.tt_leaf_rules.specs.declared.leaf.Bound.TheVariants.{AtLeast, Nothing}
+use Rattle.tt_leaf_rules.proofs.Totals.{same_target-true, same_target-itself, target_there}
 use Rattle.tt_proof_check.specs.Derives.{Derives, HoldsOfAll}
 use Rattle.tt_sum.specs.Sums.{is_among, are_apart, every_target, both_bounds, sum_of, Part, IsPart, claims_of, AreApart, IsSum}
 use Rattle.tt_sum.proofs.Over.{tree_by, over_all, IsMost}

@@ -2,9 +2,9 @@
 use Rattle.std.specs.Prelude.{◌≡◌, ℕ, ◌+◌, true, List, [], ◌∷◌, ◌++◌, Option, Some}
 use Rattle.std.specs.List.{list_all, AllZip}
 use Rattle.tt_instance.specs.Problem.{Problem}
-use Rattle.tt_leaf.specs.declared.leaf.Bound.{Bound}
+use Rattle.tt_leaf_rules.specs.declared.leaf.Bound.{Bound}
 use Rattle.tt_proof_check.specs.Derives.{Derives}
-use Rattle.tt_proof_text.specs.Spelling.{SpellsProof}
+use Rattle.tt_proof_read.specs.Spelling.{SpellsProof}
 use Rattle.tt_sum.specs.declared.summed.Sum.{Sum}
 use Rattle.tt_sum.specs.Sums.{are_apart, Part, claims_of, AreApart, sum_of}
 use Rattle.tt_sum.specs.Tables.{State, IsTableOf}

@@ -6,16 +6,16 @@ use Rattle.tt_instance.specs.Problem.{Problem}
 use Rattle.tt_instance.specs.Cells.{all_courses, all_curricula}
 use Rattle.tt_instance.specs.declared.cell.Cell.{Cell}
 use Rattle.tt_rules.specs.Score.{IsFeasible, cost}
-use Rattle.tt_facts.specs.Facts.{Fits}
-use Rattle.tt_facts.specs.declared.facts.Fact.{Fact}
-use Rattle.tt_leaf.specs.Bounds.{Respects}
-use Rattle.tt_leaf.specs.Claims.{Target, RoomCapacity, WorkingDays, Compactness, Stability, part, same_target, claimed}
-use Rattle.tt_leaf.specs.declared.leaf.Bound.{Bound}
-use Rattle.tt_leaf.specs.declared.leaf.Bound.TheVariants.{AtLeast, Nothing}
-use Rattle.tt_leaf.specs.declared.leaf.Leaf.{Leaf}
-use Rattle.tt_leaf.specs.declared.leaf.Leaf.TheVariants.{Cost}
-use Rattle.tt_proof_text.specs.Spelling.{SpellsProof}
-use Rattle.tt_proof_text.specs.Trees.{Tree, Close, Branch}
+use Rattle.tt_paths.specs.Facts.{Fits}
+use Rattle.tt_paths.specs.declared.facts.Fact.{Fact}
+use Rattle.tt_leaf_rules.specs.Bounds.{Respects}
+use Rattle.tt_leaf_rules.specs.Claims.{Target, RoomCapacity, WorkingDays, Compactness, Stability, part, same_target, claimed}
+use Rattle.tt_leaf_rules.specs.declared.leaf.Bound.{Bound}
+use Rattle.tt_leaf_rules.specs.declared.leaf.Bound.TheVariants.{AtLeast, Nothing}
+use Rattle.tt_leaf_rules.specs.declared.leaf.Leaf.{Leaf}
+use Rattle.tt_leaf_rules.specs.declared.leaf.Leaf.TheVariants.{Cost}
+use Rattle.tt_proof_read.specs.Spelling.{SpellsProof}
+use Rattle.tt_proof_read.specs.Trees.{Tree, Close, Branch}
 use Rattle.tt_proof_check.specs.Derives.{Derives}
 
 -- ---- targets

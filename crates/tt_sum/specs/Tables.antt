@@ -2,10 +2,10 @@
 use Rattle.std.specs.Prelude.{◌≡◌, ℕ, ◌+◌, ◌<◌, ◌==◌, nat_le, Bool, not, ◌&&◌, ◌||◌, List, [], ◌∷◌, length, map, Option, Some, None, slice_index_or, if◌then◌else◌}
 use Rattle.std.specs.Option.{option_or}
 use Rattle.tt_lists.specs.Words.{has_number}
-use Rattle.tt_leaf.specs.Claims.{Target}
-use Rattle.tt_leaf.specs.Met.{place}
-use Rattle.tt_proof_text.specs.declared.node.Node.{Node}
-use Rattle.tt_proof_text.specs.declared.node.Node.TheVariants.{Split, Leaf}
+use Rattle.tt_leaf_rules.specs.Claims.{Target}
+use Rattle.tt_leaf_rules.specs.Met.{place}
+use Rattle.tt_proof_read.specs.declared.node.Node.{Node}
+use Rattle.tt_proof_read.specs.declared.node.Node.TheVariants.{Split, Leaf}
 use Rattle.tt_sum.specs.declared.table.Clash.{Clash}
 use Rattle.tt_sum.specs.Sums.{claimed_in, Part, claims_of}
 

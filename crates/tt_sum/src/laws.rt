@@ -4,10 +4,10 @@ ghost use Rattle.std.specs.Prelude.{◌≡◌, true, List, ℕ, All};
 ghost use Rattle.tt_instance.specs.Problem.{Problem};
 ghost use Rattle.tt_instance.specs.declared.cell.Cell.{Cell};
 ghost use Rattle.tt_rules.specs.Score.{IsFeasible};
-ghost use Rattle.tt_facts.specs.declared.facts.Fact.{Fact};
-ghost use Rattle.tt_leaf.specs.Claims.{Target};
-ghost use Rattle.tt_leaf.specs.declared.leaf.Bound.{Bound};
-ghost use Rattle.tt_proof_text.specs.Trees.{Tree};
+ghost use Rattle.tt_paths.specs.declared.facts.Fact.{Fact};
+ghost use Rattle.tt_leaf_rules.specs.Claims.{Target};
+ghost use Rattle.tt_leaf_rules.specs.declared.leaf.Bound.{Bound};
+ghost use Rattle.tt_proof_read.specs.Trees.{Tree};
 ghost use Rattle.tt_proof_check.specs.Derives.{Derives, HoldsOn, HoldsOfAll};
 ghost use Rattle.tt_sum.specs.Sums.{claimed_by, are_among, every_target, HoldsOver, IsWithinCost, Part, AreApart, sum_of, IsSum};
 

@@ -11,7 +11,7 @@ use crate::fault::{SumFault, fault_of_proof};
 use crate::table::Table;
 use std::alloc::Global;
 use tt_instance::Instance;
-use tt_leaf::Bound;
+use tt_leaf_rules::Bound;
 use tt_proof_check::hear_proof;
 use tt_text::Source;
 

@@ -1,7 +1,7 @@
 //! The sum of a list of proofs.
 
 ghost use Rattle.std.specs.Prelude.{◌≡◌, ◌+◌, ◌-◌, ◌<◌, ◌≤◌, ◌^◌, ℕ, List, Some, Err, true, IfOk, IfErr, MatchResult, slice_get};
-ghost use Rattle.tt_leaf.specs.declared.leaf.Bound.{Bound};
+ghost use Rattle.tt_leaf_rules.specs.declared.leaf.Bound.{Bound};
 ghost use Rattle.tt_proof_check.specs.Derives.{HoldsOfAll};
 ghost use Rattle.tt_proof_check.specs.FailedReads.{IsJudgedUpToFailedRead};
 ghost use Rattle.tt_sum.specs.Added.{Give};
@@ -12,7 +12,7 @@ use crate::fault::SumFault;
 use crate::summed::Sum;
 use std::alloc::Global;
 use tt_instance::Instance;
-use tt_leaf::Bound;
+use tt_leaf_rules::Bound;
 use tt_text::Source;
 
 /// The sum of the bounds of proofs that claim different targets; `Nothing` where one of them says that there is no timetable, and 0

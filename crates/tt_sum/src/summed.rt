@@ -11,7 +11,7 @@ use crate::one_more::take_proof;
 use crate::table::Table;
 use std::alloc::{AllocError, Global};
 use tt_instance::Instance;
-use tt_leaf::Bound;
+use tt_leaf_rules::Bound;
 use tt_text::Source;
 
 /// The sum of two bounds, where it is below 2^64.

@@ -2,15 +2,15 @@
 
 ghost use Rattle.std.specs.Prelude.{◌≡◌, ℕ, ◌+◌, ◌*◌, ◌<◌, ◌∷◌, [], map, flat_map, Some, IfOk};
 ghost use Rattle.std.specs.Option.{option_or};
-ghost use Rattle.tt_leaf.specs.Met.{place, places_of};
+ghost use Rattle.tt_leaf_rules.specs.Met.{place, places_of};
 ghost use Rattle.tt_sum.specs.Sums.{claimed_in};
 ghost use Rattle.tt_sum.specs.Tables.{Claims, at_node, IsTableOf};
 
 use std::alloc::{AllocError, Global};
 use std::marker::Model;
-use tt_leaf::{Claim, Leaf};
+use tt_leaf_rules::{Claim, Leaf};
 use tt_proof_check::Listener;
-use tt_proof_text::Node;
+use tt_proof_read::Node;
 
 /// The targets' places are below this: four for each curriculum.
 const PLACES: usize = 32_768;

@@ -3,9 +3,9 @@
 use std::alloc::Global;
 use std::test::Fail;
 use tt_instance::read_instance;
-use tt_leaf::Bound;
+use tt_leaf_rules::Bound;
 use tt_proof_check::check_nodes;
-use tt_proof_write::write_proof;
+use tt_proof_text::write_proof;
 use tt_samples::{GAP, GAP_PROOF, SEATS, edited};
 use tt_test_files::{MemoryFiles, Refusal};
 use tt_test_runs::{Outcome, run_on};

@@ -3,7 +3,7 @@
 use std::test::Fail;
 use tt_app::{AppFault, check};
 use tt_proof_check::CheckFault;
-use tt_proof_text::TextFault;
+use tt_proof_read::TextFault;
 use tt_samples::{MINI, WIDE, WIDE_SOLUTION, edited};
 use tt_test_runs::{checked, run_with};
 use tt_text::{FeedFault, Pieces, Source};

@@ -3,11 +3,11 @@
 use std::alloc::Global;
 use std::test::Fail;
 use tt_app::{AppFault, check};
-use tt_facts::{Pattern, Who};
 use tt_instance::read_instance;
-use tt_leaf::{Bound, Leaf, RuleFault};
+use tt_leaf_rules::{Bound, Leaf, RuleFault};
+use tt_paths::{Pattern, Who};
 use tt_proof_check::{CheckFault, NodesFault, check_nodes};
-use tt_proof_text::{Node, TextFault};
+use tt_proof_read::{Node, TextFault};
 use tt_samples::{APART, CROWDED, GAP, GAP_PROOF, MINI, SAME, SEATS, WIDE, edited};
 use tt_test_files::StoredFile;
 use tt_test_runs::{Outcome, checked, run_with};

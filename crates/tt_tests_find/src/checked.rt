@@ -1,15 +1,15 @@
 //! Leaves found and judged on paths whose facts are the instance's.
 
 ghost use Rattle.std.specs.Prelude.{◌≡◌, ◌<◌, true};
-ghost use Rattle.tt_facts.specs.Facts.{IsPattern, IsGiven, IsWho};
-ghost use Rattle.tt_find.specs.Found.{ArePatterns};
-ghost use Rattle.tt_leaf.specs.Ranges.{IsLeafOf};
+ghost use Rattle.tt_paths.specs.Facts.{IsPattern, IsGiven, IsWho};
+ghost use Rattle.tt_leaf.specs.Found.{ArePatterns};
+ghost use Rattle.tt_leaf_rules.specs.Ranges.{IsLeafOf};
 
 use std::alloc::{AllocError, Global};
-use tt_facts::{Fact, Path, Pattern, Who};
-use tt_find::find_leaf;
 use tt_instance::Instance;
-use tt_leaf::{Bound, Leaf, holds};
+use tt_leaf::find_leaf;
+use tt_leaf_rules::{Bound, Leaf, holds};
+use tt_paths::{Fact, Path, Pattern, Who};
 
 fn is_given(given: Option<u32>, count: u32) -> bool
     ensures { result ≡ true → IsGiven count given }

@@ -1,17 +1,17 @@
 //! Leaves on drawn paths: what one path finds the other finds too, and it is right by the judge over the plain path.
 
 ghost use Rattle.std.specs.Prelude.{◌≡◌, []};
-ghost use Rattle.tt_find.specs.Found.{ArePatterns};
+ghost use Rattle.tt_leaf.specs.Found.{ArePatterns};
 
 use crate::checked::{Found, find, push};
 use crate::judged::is_closed;
 use std::alloc::{AllocError, Global};
 use std::test::Fail;
-use tt_facts::{Fact, Path, Pattern, PlainPath, Who};
+use tt_facts::TrailPath;
 use tt_instance::read_instance;
-use tt_leaf::Bound;
+use tt_leaf_rules::Bound;
+use tt_paths::{Fact, Path, Pattern, PlainPath, Who};
 use tt_samples::{GAP, MINI, SAME, SEATS, TOUR, TRIO};
-use tt_trail_path::TrailPath;
 
 /// How many paths are drawn for each instance.
 const PATHS: u64 = 60;

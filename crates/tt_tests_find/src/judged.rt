@@ -1,14 +1,14 @@
 //! The leaves that `find_leaf` lists, each judged by itself.
 
 ghost use Rattle.std.specs.Prelude.{◌<◌, length, All, IfOk, OnOk};
-ghost use Rattle.tt_find.specs.Found.{ArePatterns};
-ghost use Rattle.tt_leaf.specs.Ranges.{IsClaimOf, IsLeafOf};
+ghost use Rattle.tt_leaf.specs.Found.{ArePatterns};
+ghost use Rattle.tt_leaf_rules.specs.Ranges.{IsClaimOf, IsLeafOf};
 
 use crate::checked::is_right;
 use std::alloc::{AllocError, Global};
-use tt_facts::Path;
-use tt_find::best_claims;
-use tt_leaf::{Bound, Claim, ClaimList, CourseList, Leaf, claim_value};
+use tt_leaf::best_claims;
+use tt_leaf_rules::{Bound, Claim, ClaimList, CourseList, Leaf, claim_value};
+use tt_paths::Path;
 
 /// Whether the Empty leaf of some yes-fact is right.
 fn is_empty_right<'i, P: Path<'i>>(path: &P, bound: Bound) -> bool

@@ -3,9 +3,9 @@
 
 use std::test::Fail;
 use tt_instance::{read_instance, write_instance};
-use tt_leaf::{Bound, ClaimList, Leaf};
-use tt_proof_text::{Node, NodeReader, TextFault};
-use tt_proof_write::write_proof;
+use tt_leaf_rules::{Bound, ClaimList, Leaf};
+use tt_proof_read::{Node, NodeReader, TextFault};
+use tt_proof_text::write_proof;
 use tt_samples::{GAP, GAP_PROOF, MARK, MINI, MINI_SOLUTION};
 use tt_table::{Entry, PushFault, Timetable, read_solution, write_solution};
 use tt_text::{

@@ -4,8 +4,8 @@ use std::io;
 use std::io::{Error, ErrorKind, Read};
 use std::test::Fail;
 use tt_instance::read_instance;
-use tt_leaf::Bound;
-use tt_proof_text::{NodeReader, TextFault};
+use tt_leaf_rules::Bound;
+use tt_proof_read::{NodeReader, TextFault};
 use tt_samples::{MINI, WIDE};
 use tt_text::{Feed, FeedFault, Pieces, ReadFailed, Reading, Source, WholeFault, read_whole};
 

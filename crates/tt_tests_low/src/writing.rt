@@ -1,10 +1,10 @@
 //! What `write_proof` refuses, and what it writes.
 
 use std::test::Fail;
-use tt_facts::{Pattern, Who};
-use tt_leaf::{Bound, Claim, ClaimList, Leaf};
-use tt_proof_text::Node;
-use tt_proof_write::{WriteFault, write_proof};
+use tt_leaf_rules::{Bound, Claim, ClaimList, Leaf};
+use tt_paths::{Pattern, Who};
+use tt_proof_read::Node;
+use tt_proof_text::{WriteFault, write_proof};
 
 const BOUND: Bound = Bound::AtLeast(0);
 

@@ -4,17 +4,17 @@
 use std::alloc::{AllocError, Global};
 use std::test::Fail;
 use tt_app::{Answer, check, improve, page, report, solve, upgrade, validate};
-use tt_facts::{Pattern, PlainPath, Who};
-use tt_find::{best_claims, find_leaf};
+use tt_facts::TrailPath;
 use tt_instance::{Instance, read_instance};
-use tt_leaf::{Bound, Claim, ClaimList, Leaf};
+use tt_leaf::{best_claims, find_leaf};
+use tt_leaf_rules::{Bound, Claim, ClaimList, Leaf};
 use tt_page::put_shown;
+use tt_paths::{Pattern, PlainPath, Who};
 use tt_proof_check::{NodesFault, Verdict, certify, check_nodes, check_proof};
-use tt_proof_text::Node;
+use tt_proof_read::Node;
 use tt_report::{By, Writing};
 use tt_samples::{GAP, GAP_PROOF, MARK, MINI, MINI_SOLUTION};
 use tt_text::Pieces;
-use tt_trail_path::TrailPath;
 use tt_upgrade::read_proof;
 
 const YES: &str = "yes cost 5 bound 5 optimal\n";

@@ -3,7 +3,7 @@
 use std::alloc::Global;
 use std::test::Fail;
 use tt_instance::read_instance;
-use tt_leaf::Bound;
+use tt_leaf_rules::Bound;
 use tt_parts::find_parts;
 use tt_samples::{GAP, MINI, WIDE};
 use tt_sum::sum_proofs;

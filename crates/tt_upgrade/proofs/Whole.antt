@@ -2,15 +2,15 @@
 use Rattle.std.proofs.Common.{◌≡◌, ℕ, Bool, true, List, Some, Option, Ok, Err, sym, ap, subst, inl, inr, is_some}
 use Rattle.tt_text.specs.Feeds.{Stream, stream_at, fresh}
 use Rattle.tt_instance.specs.Problem.{Problem}
-use Rattle.tt_leaf.specs.declared.leaf.Bound.{Bound}
-use Rattle.tt_proof_text.specs.Faults.{read_failed}
-use Rattle.tt_proof_text.specs.Reading.{header_at, end_at}
-use Rattle.tt_proof_text.specs.Reads.{ReadsNodes}
-use Rattle.tt_proof_text.specs.Sizes.{AreSizes}
-use Rattle.tt_proof_text.specs.Trees.{preorder}
-use Rattle.tt_proof_text.specs.declared.fault.TextFault.{TextFault}
-use Rattle.tt_proof_text.specs.declared.node.Node.{Node}
-use Rattle.tt_proof_text.specs.declared.sizes.Sizes.{Sizes}
+use Rattle.tt_leaf_rules.specs.declared.leaf.Bound.{Bound}
+use Rattle.tt_proof_read.specs.Faults.{read_failed}
+use Rattle.tt_proof_read.specs.Reading.{header_at, end_at}
+use Rattle.tt_proof_read.specs.Reads.{ReadsNodes}
+use Rattle.tt_proof_read.specs.Sizes.{AreSizes}
+use Rattle.tt_proof_read.specs.Trees.{preorder}
+use Rattle.tt_proof_read.specs.declared.fault.TextFault.{TextFault}
+use Rattle.tt_proof_read.specs.declared.node.Node.{Node}
+use Rattle.tt_proof_read.specs.declared.sizes.Sizes.{Sizes}
 use Rattle.tt_proof_check.specs.Streams.{sizes_of, Fails}
 use Rattle.tt_proof_check.proofs.Sizes.{sizes_are}
 use Rattle.tt_upgrade.specs.Texts.{IsRead, IsCollected, NodeTextFails, NodeIsCutOff, IsTextFault, TextIsCutOff}

@@ -4,22 +4,22 @@ use Rattle.std.specs.Prelude.{All, slice_get}
 use Rattle.tt_text.specs.Feeds.{Stream}
 use Rattle.tt_instance.specs.Problem.{Problem}
 use Rattle.tt_instance.specs.Limits.{IsInstance}
-use Rattle.tt_leaf.specs.declared.leaf.Bound.{Bound}
-use Rattle.tt_leaf.specs.declared.leaf.Claim.{Claim}
-use Rattle.tt_leaf.specs.declared.leaf.Claim.TheVariants.{Capacity, Days, Compact, Stable, Prices, Stacked}
-use Rattle.tt_leaf.specs.declared.leaf.Leaf.{Leaf}
-use Rattle.tt_leaf.specs.declared.leaf.Leaf.TheVariants.{Empty, Many, Clique, Slots, Cost}
-use Rattle.tt_proof_text.specs.Reading.{header_at}
-use Rattle.tt_proof_text.specs.Reads.{ReadsNodes, Reads}
-use Rattle.tt_proof_text.specs.Spelling.{IsNode, IsLeafIn, IsClaimIn, SpellsProof}
-use Rattle.tt_proof_text.specs.Trees.{Tree, preorder, on_paths}
-use Rattle.tt_proof_text.specs.declared.fault.TextFault.{TextFault}
-use Rattle.tt_proof_text.specs.declared.fault.TextFault.TheVariants as text
-use Rattle.tt_proof_text.specs.declared.node.Node.{Node}
-use Rattle.tt_proof_text.specs.declared.node.Node.TheVariants as node
-use Rattle.tt_proof_text.specs.declared.sizes.Sizes.{Sizes}
-use Rattle.tt_proof_text.proofs.ProofLaws.{reads_spelled, spelled_reads}
-use Rattle.tt_proof_text.proofs.Small.{are_small}
+use Rattle.tt_leaf_rules.specs.declared.leaf.Bound.{Bound}
+use Rattle.tt_leaf_rules.specs.declared.leaf.Claim.{Claim}
+use Rattle.tt_leaf_rules.specs.declared.leaf.Claim.TheVariants.{Capacity, Days, Compact, Stable, Prices, Stacked}
+use Rattle.tt_leaf_rules.specs.declared.leaf.Leaf.{Leaf}
+use Rattle.tt_leaf_rules.specs.declared.leaf.Leaf.TheVariants.{Empty, Many, Clique, Slots, Cost}
+use Rattle.tt_proof_read.specs.Reading.{header_at}
+use Rattle.tt_proof_read.specs.Reads.{ReadsNodes, Reads}
+use Rattle.tt_proof_read.specs.Spelling.{IsNode, IsLeafIn, IsClaimIn, SpellsProof}
+use Rattle.tt_proof_read.specs.Trees.{Tree, preorder, on_paths}
+use Rattle.tt_proof_read.specs.declared.fault.TextFault.{TextFault}
+use Rattle.tt_proof_read.specs.declared.fault.TextFault.TheVariants as text
+use Rattle.tt_proof_read.specs.declared.node.Node.{Node}
+use Rattle.tt_proof_read.specs.declared.node.Node.TheVariants as node
+use Rattle.tt_proof_read.specs.declared.sizes.Sizes.{Sizes}
+use Rattle.tt_proof_read.proofs.ProofLaws.{reads_spelled, spelled_reads}
+use Rattle.tt_proof_read.proofs.Small.{are_small}
 use Rattle.tt_proof_check.specs.Derives.{Proves}
 use Rattle.tt_proof_check.specs.Streams.{IsProved, stream_of, sizes_of, HasHeader}
 use Rattle.tt_proof_check.specs.Streams as checked
@@ -30,10 +30,10 @@ use Rattle.tt_proof_check.proofs.Judging.{tree_passes, never_fails, never_deep}
 use Rattle.tt_proof_check.proofs.Sizes.{are_sizes_of}
 use Rattle.tt_proof_check.proofs.TextFaults.{fails_silently}
 use Rattle.tt_proof_check.proofs.Texts.{node_silent, end_silent}
-use Rattle.tt_proof_write.specs.Within.{FitsFile, IsNodeIn, Refuses, Writes}
-use Rattle.tt_proof_write.specs.Written.{proof_text}
-use Rattle.tt_proof_write.specs.declared.fault.WriteFault.{WriteFault}
-use Rattle.tt_proof_write.specs.declared.fault.WriteFault.TheVariants as write
+use Rattle.tt_proof_text.specs.Within.{FitsFile, IsNodeIn, Refuses, Writes}
+use Rattle.tt_proof_text.specs.Written.{proof_text}
+use Rattle.tt_proof_text.specs.declared.fault.WriteFault.{WriteFault}
+use Rattle.tt_proof_text.specs.declared.fault.WriteFault.TheVariants as write
 use Rattle.tt_upgrade.specs.Faults.{fault_from_text, fault_from_write, IsNodesFault}
 use Rattle.tt_upgrade.specs.Texts.{IsRead, AreNodesOf, NodeTextFails, EndTextFails, IsTextFault}
 use Rattle.tt_upgrade.specs.Upgrades.{IsUpgraded, IsUpgradeFault, IsSilent}

@@ -2,15 +2,15 @@
 use Rattle.std.specs.Prelude.{◌≡◌, ℕ, ◌≤◌, ◌⊎◌, Bool, true, List, ◌∷◌, ◌++◌, length, All, Option, Err}
 use Rattle.tt_text.specs.Feeds.{Stream}
 use Rattle.tt_instance.specs.Problem.{Problem}
-use Rattle.tt_leaf.specs.declared.leaf.Bound.{Bound}
-use Rattle.tt_proof_text.specs.Faults.{read_failed}
-use Rattle.tt_proof_text.specs.Reading.{header_at, node_at, end_at}
-use Rattle.tt_proof_text.specs.Reads.{ReadsNodes, Reads}
-use Rattle.tt_proof_text.specs.Spelling.{IsNode}
-use Rattle.tt_proof_text.specs.Trees.{Tree, preorder, IsPreorder}
-use Rattle.tt_proof_text.specs.declared.fault.TextFault.{TextFault}
-use Rattle.tt_proof_text.specs.declared.node.Node.{Node}
-use Rattle.tt_proof_text.specs.declared.sizes.Sizes.{Sizes}
+use Rattle.tt_leaf_rules.specs.declared.leaf.Bound.{Bound}
+use Rattle.tt_proof_read.specs.Faults.{read_failed}
+use Rattle.tt_proof_read.specs.Reading.{header_at, node_at, end_at}
+use Rattle.tt_proof_read.specs.Reads.{ReadsNodes, Reads}
+use Rattle.tt_proof_read.specs.Spelling.{IsNode}
+use Rattle.tt_proof_read.specs.Trees.{Tree, preorder, IsPreorder}
+use Rattle.tt_proof_read.specs.declared.fault.TextFault.{TextFault}
+use Rattle.tt_proof_read.specs.declared.node.Node.{Node}
+use Rattle.tt_proof_read.specs.declared.sizes.Sizes.{Sizes}
 use Rattle.tt_proof_check.specs.FailedReads.{HoldsOfGiven}
 use Rattle.tt_proof_check.specs.Streams.{sizes_of, Fails, HasHeader}
 

@@ -2,17 +2,17 @@
 use Rattle.std.specs.Prelude.{◌≡◌, ℕ, ◌⊎◌, List, [], ⊤}
 use Rattle.tt_text.specs.Feeds.{Stream}
 use Rattle.tt_instance.specs.Problem.{Problem}
-use Rattle.tt_leaf.specs.declared.leaf.Bound.{Bound}
-use Rattle.tt_proof_text.specs.Reads.{Reads}
-use Rattle.tt_proof_text.specs.Spelling.{SpellsProof}
-use Rattle.tt_proof_text.specs.Trees.{Tree, preorder}
-use Rattle.tt_proof_text.specs.declared.fault.TextFault.TheVariants as text
+use Rattle.tt_leaf_rules.specs.declared.leaf.Bound.{Bound}
+use Rattle.tt_proof_read.specs.Reads.{Reads}
+use Rattle.tt_proof_read.specs.Spelling.{SpellsProof}
+use Rattle.tt_proof_read.specs.Trees.{Tree, preorder}
+use Rattle.tt_proof_read.specs.declared.fault.TextFault.TheVariants as text
 use Rattle.tt_proof_check.specs.Derives.{Derives, IsShallow}
 use Rattle.tt_proof_check.specs.Streams.{sizes_of}
 use Rattle.tt_proof_check.specs.Tells.{FailsAt, IsDeepAt}
 use Rattle.tt_proof_check.specs.declared.fault.CheckFault.TheVariants as check
-use Rattle.tt_proof_write.specs.Within.{FitsFile}
-use Rattle.tt_proof_write.specs.Written.{proof_text}
+use Rattle.tt_proof_text.specs.Within.{FitsFile}
+use Rattle.tt_proof_text.specs.Written.{proof_text}
 use Rattle.tt_upgrade.specs.Faults.{read_failed}
 use Rattle.tt_upgrade.specs.Texts.{IsTextFault}
 use Rattle.tt_upgrade.specs.declared.fault.UpgradeFault.{UpgradeFault}

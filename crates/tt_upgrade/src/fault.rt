@@ -5,8 +5,8 @@ ghost use Rattle.tt_upgrade.specs.Faults.{IsOfNode, fault_from_node};
 
 use thiserror::Error;
 use tt_proof_check::{CheckFault, NodesFault};
-use tt_proof_text::TextFault;
-use tt_proof_write::WriteFault;
+use tt_proof_read::TextFault;
+use tt_proof_text::WriteFault;
 
 /// Why a proof is not written anew.
 #[derive(Clone, Copy, Debug, PartialEq, Eq, Error)]

@@ -2,18 +2,18 @@
 
 ghost use Rattle.std.specs.Prelude.{◌≡◌, ◌≤◌, List, ℕ, length, true, is_some, Some, None, Err, All, IfOk, IfErr, OnOk};
 ghost use Rattle.tt_text.specs.Feeds.{stream_at};
-ghost use Rattle.tt_proof_text.specs.Answers.{StaysKnown};
-ghost use Rattle.tt_proof_text.specs.Faults.{read_failed};
-ghost use Rattle.tt_proof_text.specs.Readers.{IsNodeAt};
-ghost use Rattle.tt_proof_text.specs.declared.fault.TextFault.{TextFault};
+ghost use Rattle.tt_proof_read.specs.Answers.{StaysKnown};
+ghost use Rattle.tt_proof_read.specs.Faults.{read_failed};
+ghost use Rattle.tt_proof_read.specs.Readers.{IsNodeAt};
+ghost use Rattle.tt_proof_read.specs.declared.fault.TextFault.{TextFault};
 ghost use Rattle.tt_proof_check.specs.FailedReads.{UpToFailure, BeforeFailure};
 ghost use Rattle.tt_proof_check.specs.Streams.{stream_of};
 ghost use Rattle.tt_upgrade.specs.Texts.{IsRead, AreNodesOf, IsCollected, NodeTextFails, NodeIsCutOff, IsTextFault, IsReadUpToFailedRead};
 
 use std::alloc::Global;
 use tt_instance::Instance;
-use tt_leaf::Bound;
-use tt_proof_text::{Node, NodeReader, TextFault};
+use tt_leaf_rules::Bound;
+use tt_proof_read::{Node, NodeReader, TextFault};
 use tt_text::Source;
 
 /// A proof that was read whole: its version, 1 or 2, its bound and the nodes of its tree in preorder. Nothing was judged.

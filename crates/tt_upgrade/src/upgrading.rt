@@ -1,9 +1,9 @@
 //! Proofs that are written anew.
 
 ghost use Rattle.std.specs.Prelude.{◌≡◌, ◌≤◌, List, ℕ, length, All, true, Some, Err, IfOk, IfErr, OnOk, MatchResult};
-ghost use Rattle.tt_leaf.specs.declared.leaf.Bound.{Bound};
+ghost use Rattle.tt_leaf_rules.specs.declared.leaf.Bound.{Bound};
 ghost use Rattle.tt_proof_check.specs.Derives.{HoldsOfAll, Proves};
-ghost use Rattle.tt_proof_text.specs.Trees.{IsPreorder};
+ghost use Rattle.tt_proof_read.specs.Trees.{IsPreorder};
 ghost use Rattle.tt_proof_check.specs.Nodes.{IsNodeOf};
 ghost use Rattle.tt_proof_check.specs.Streams.{IsProved, stream_of};
 ghost use Rattle.tt_upgrade.specs.Faults.{read_failed, IsNodesFault, OutOfMemoryIsOneFault};
@@ -14,10 +14,10 @@ use crate::fault::{UpgradeFault, node_fault};
 use crate::reading::read_proof;
 use std::alloc::Global;
 use tt_instance::Instance;
-use tt_leaf::Bound;
+use tt_leaf_rules::Bound;
 use tt_proof_check::check_nodes;
-use tt_proof_text::Node;
-use tt_proof_write::write_proof;
+use tt_proof_read::Node;
+use tt_proof_text::write_proof;
 use tt_text::Source;
 
 /// The bound that a proof derives, and the text of the same proof in version 2.

@@ -3,7 +3,7 @@
 ghost use Rattle.std.specs.Prelude.{◌≡◌, ℕ, List, Some, Err, true, IfOk, IfErr};
 ghost use Rattle.tt_instance.specs.Problem.{Problem};
 ghost use Rattle.tt_instance.specs.Spelling.{Spells};
-ghost use Rattle.tt_leaf.specs.declared.leaf.Bound.{Bound};
+ghost use Rattle.tt_leaf_rules.specs.declared.leaf.Bound.{Bound};
 ghost use Rattle.tt_proof_check.specs.FailedReads.{IsSpelledAndJudgedUpToFailedRead};
 ghost use Rattle.tt_proof_check.specs.Streams.{IsProved};
 ghost use Rattle.tt_app.specs.Checked.{read_failed};
@@ -15,7 +15,7 @@ use crate::fault::AppFault;
 use crate::lines::bound_line;
 use std::alloc::{AllocError, Global};
 use tt_instance::read_instance;
-use tt_leaf::Bound;
+use tt_leaf_rules::Bound;
 use tt_proof_check::check_proof;
 use tt_text::Source;
 

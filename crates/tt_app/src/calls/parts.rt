@@ -11,7 +11,7 @@ use crate::calls::solve::put_bound;
 use crate::fault::AppFault;
 use std::alloc::{AllocError, Global};
 use tt_instance::read_instance;
-use tt_leaf::Bound;
+use tt_leaf_rules::Bound;
 use tt_parts::{Parts, find_parts};
 use tt_text::{put_line_end, put_number, put_token};
 

@@ -3,7 +3,7 @@
 ghost use Rattle.std.specs.Prelude.{◌≡◌, ◌+◌, ◌<◌, ◌^◌, ℕ, List, Some, Err, true, IfOk, IfErr, slice_get};
 ghost use Rattle.tt_instance.specs.Problem.{Problem};
 ghost use Rattle.tt_instance.specs.Spelling.{Spells};
-ghost use Rattle.tt_leaf.specs.declared.leaf.Bound.{Bound};
+ghost use Rattle.tt_leaf_rules.specs.declared.leaf.Bound.{Bound};
 ghost use Rattle.tt_proof_check.specs.FailedReads.{IsSpelledAndJudgedUpToFailedRead};
 ghost use Rattle.tt_sum.specs.Added.{Give};
 ghost use Rattle.tt_sum.specs.Faults.{TellsSum, all_points};

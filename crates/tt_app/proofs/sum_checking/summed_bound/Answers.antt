@@ -1,6 +1,6 @@
 use Rattle.std.proofs.Common.{◌≡◌}
 use Rattle.std.proofs.lemmas.Result.{err_from_is_err_and}
-use Rattle.tt_leaf.specs.declared.leaf.Bound.TheVariants.{AtLeast}
+use Rattle.tt_leaf_rules.specs.declared.leaf.Bound.TheVariants.{AtLeast}
 use Rattle.tt_app.proofs.sum_checking.summed_bound.Goals as goal
 
 pub returns-in_err-bound-clause-only : goal.returns-in_err-bound-clause-only

@@ -4,7 +4,7 @@ use Rattle.std.specs.List.{list_all}
 use Rattle.tt_lists.specs.Words.{range_below}
 use Rattle.tt_bits.specs.Bits.{has_bit, bits}
 use Rattle.tt_bits.proofs.BitLaws.{all_bits}
-use Rattle.tt_facts.specs.Facts.{agrees}
+use Rattle.tt_paths.specs.Facts.{agrees}
 use Rattle.tt_cell_set.specs.Rooms.{has_room}
 use Rattle.tt_cell_set.specs.Words.{width}
 use Rattle.tt_cell_set.specs.Tables.{is_open}

@@ -1,5 +1,5 @@
 use Rattle.std.proofs.Common.{◌+◌, ◌*◌, ◌&&◌, ap, ◌∙◌}
-use Rattle.tt_facts.specs.Facts.{agrees}
+use Rattle.tt_paths.specs.Facts.{agrees}
 use Rattle.tt_cell_set.specs.Tables.{is_open}
 use Rattle.tt_cell_set.proofs.Reading.{any_block, spare-cell}
 use Rattle.tt_cell_set.proofs.asking.has_period.Goals as goal

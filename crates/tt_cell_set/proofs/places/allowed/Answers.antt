@@ -1,5 +1,5 @@
 use Rattle.std.proofs.Common.{◌+◌, ◌*◌, sym, ap, ◌∙◌}
-use Rattle.tt_facts.specs.Facts.{agrees}
+use Rattle.tt_paths.specs.Facts.{agrees}
 use Rattle.tt_bits.proofs.BitLaws.{has_bit-full}
 use Rattle.tt_cell_set.proofs.places.allowed.Goals as goal
 

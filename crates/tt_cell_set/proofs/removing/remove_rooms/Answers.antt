@@ -1,6 +1,6 @@
 use Rattle.std.proofs.Common.{◌≡◌, ◌+◌, ◌*◌, ◌<◌, ◌&&◌, ◌∙◌, subst, arith}
 use Rattle.std.specs.Prelude.{nat_lt}
-use Rattle.tt_facts.specs.Facts.{agrees}
+use Rattle.tt_paths.specs.Facts.{agrees}
 use Rattle.tt_bits.specs.Bits.{Clears}
 use Rattle.tt_cell_set.specs.Words.{width, is_here, Drops}
 use Rattle.tt_cell_set.proofs.Dropping.{block_dropped, word_dropped, rooms_removed}

@@ -1,6 +1,6 @@
 use Rattle.std.proofs.Common.{◌≡◌, ◌+◌, ◌*◌, ◌&&◌}
 use Rattle.std.specs.Prelude.{nat_lt}
-use Rattle.tt_facts.specs.Facts.{agrees}
+use Rattle.tt_paths.specs.Facts.{agrees}
 use Rattle.tt_cell_set.specs.Words.{is_here, Drops}
 use Rattle.tt_cell_set.proofs.removing.remove_rooms.Given as goal
 

@@ -1,7 +1,7 @@
 use Rattle.std.proofs.Common.{◌≡◌, false, not, ◌&&◌, List, [], ◌∷◌, ◌++◌, take, map}
-use Rattle.tt_facts.specs.Facts.{matches}
-use Rattle.tt_facts.specs.Live.{is_live}
-use Rattle.tt_facts.specs.declared.facts.Fact.{Fact}
+use Rattle.tt_paths.specs.Facts.{matches}
+use Rattle.tt_paths.specs.Live.{is_live}
+use Rattle.tt_paths.specs.declared.facts.Fact.{Fact}
 use Rattle.tt_cell_set.specs.Tables.{IsTable, Shows}
 use Rattle.tt_cells.specs.Shown.{is_free_of, yes_facts}
 use Rattle.tt_cells.proofs.Renewed.{so_far, as_yes}

@@ -3,8 +3,8 @@ use Rattle.std.specs.Prelude.{◌==◌}
 use Rattle.std.proofs.Math.Seq.{take-length}
 use Rattle.std.specs.Prelude.{slice_index_or}
 use Rattle.tt_lists.specs.Words.{has_number}
-use Rattle.tt_facts.specs.Facts.{matches}
-use Rattle.tt_facts.specs.Nested.{agrees_at, courses_of}
+use Rattle.tt_paths.specs.Facts.{matches}
+use Rattle.tt_paths.specs.Nested.{agrees_at, courses_of}
 use Rattle.tt_cells.proofs.Losing.{loses-same, loses-more}
 use Rattle.tt_cells.proofs.Barred.{course_at, courses_gone}
 use Rattle.tt_cells.proofs.barring.remove_matched.Goals as goal

@@ -1,6 +1,6 @@
 use Rattle.std.proofs.Common.{◌≡◌, ◌&&◌, take}
 use Rattle.tt_lists.specs.Words.{has_number}
-use Rattle.tt_facts.specs.Nested.{agrees_at}
+use Rattle.tt_paths.specs.Nested.{agrees_at}
 use Rattle.tt_cell_set.specs.Tables.{Loses}
 use Rattle.tt_cells.proofs.barring.remove_matched.Given as goal
 

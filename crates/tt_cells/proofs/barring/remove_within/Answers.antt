@@ -1,7 +1,7 @@
 use Rattle.std.proofs.Common.{ℕ, ◌+◌, ◌/◌, ◌%◌, ◌≤◌, ◌&&◌, refl, sym, ◌∙◌, subst, arith}
 use Rattle.std.specs.Prelude.{◌==◌}
-use Rattle.tt_facts.specs.Facts.{agrees}
-use Rattle.tt_facts.specs.Nested.{agrees_at}
+use Rattle.tt_paths.specs.Facts.{agrees}
+use Rattle.tt_paths.specs.Nested.{agrees_at}
 use Rattle.tt_cell_set.specs.Tables.{Loses, is_placed}
 use Rattle.tt_instance.specs.declared.cell.Cell.{Cell}
 use Rattle.tt_cells.proofs.Losing.{loses-none, loses-same, loses-more}

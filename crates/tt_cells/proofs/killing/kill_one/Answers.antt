@@ -2,7 +2,7 @@ use Rattle.std.proofs.Common.{refl, not, ◌&&◌, ◌||◌, [], ◌∷◌, ◌�
 use Rattle.std.specs.Prelude.{◌==◌}
 use Rattle.tt_lists.specs.Words.{has_number}
 use Rattle.tt_links.specs.Links.{conflicts_of}
-use Rattle.tt_facts.specs.Facts.{agrees}
+use Rattle.tt_paths.specs.Facts.{agrees}
 use Rattle.tt_cell_set.specs.Tables.{Loses, has_cell, is_placed}
 use Rattle.tt_instance.specs.declared.cell.Cell.{Cell}
 use Rattle.tt_cells.specs.Shown.{is_struck}

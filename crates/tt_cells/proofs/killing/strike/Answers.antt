@@ -1,6 +1,6 @@
 use Rattle.std.proofs.Common.{◌≡◌, Bool, true, false, not, ◌&&◌, ◌||◌, refl, sym, ap, ◌∙◌}
 use Rattle.std.specs.List.{list_all}
-use Rattle.tt_facts.specs.Facts.{agrees}
+use Rattle.tt_paths.specs.Facts.{agrees}
 use Rattle.tt_instance.specs.Cells.{slot, cell}
 use Rattle.tt_lists.specs.Words.{has_number}
 use Rattle.tt_cell_set.specs.Rooms.{has_room}

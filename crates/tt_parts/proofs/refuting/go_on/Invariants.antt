@@ -1,5 +1,5 @@
 use Rattle.std.proofs.Common.{◌≡◌, length}
-use Rattle.tt_find.specs.Found.{ArePatterns}
+use Rattle.tt_leaf.specs.Found.{ArePatterns}
 use Rattle.tt_parts.proofs.refuting.go_on.Given as goal
 
 abbrev pub invariant-loop-path : goal.invariant-loop-path

@@ -1,4 +1,4 @@
-use Rattle.tt_find.specs.Found.{ArePatterns}
+use Rattle.tt_leaf.specs.Found.{ArePatterns}
 use Rattle.tt_parts.proofs.refuting.grow.Given as goal
 
 abbrev pub invariant-loop-opened : goal.invariant-loop-opened

@@ -1,8 +1,8 @@
 use Rattle.std.proofs.Common.{◌≡◌, ◌+◌, sym, ap, ◌∙◌, arith, refl, true, Err, is_some}
 use Rattle.tt_text.specs.Feeds.{stream_at}
 use Rattle.tt_text.specs.CutShort.{cut_at}
-use Rattle.tt_proof_text.specs.Faults.{read_failed, is_failed_read}
-use Rattle.tt_proof_text.specs.Readers.{Reader}
+use Rattle.tt_proof_read.specs.Faults.{read_failed, is_failed_read}
+use Rattle.tt_proof_read.specs.Readers.{Reader}
 use Rattle.tt_proof_check.specs.declared.fault.CheckFault.TheVariants.{Text}
 use Rattle.tt_proof_check.specs.declared.walk.Stop.TheVariants.{Rule, TooDeep}
 use Rattle.tt_proof_check.specs.Faults.{OutOfMemoryIsNoTextFault}

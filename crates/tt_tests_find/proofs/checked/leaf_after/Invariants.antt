@@ -1,4 +1,4 @@
-use Rattle.tt_find.specs.Found.{ArePatterns}
+use Rattle.tt_leaf.specs.Found.{ArePatterns}
 use Rattle.tt_tests_find.proofs.checked.leaf_after.Given as goal
 
 abbrev pub invariant-loop-fact : goal.invariant-loop-fact

@@ -1,5 +1,5 @@
 use Rattle.std.proofs.Common.{◌≡◌}
-use Rattle.tt_find.specs.Found.{ArePatterns}
+use Rattle.tt_leaf.specs.Found.{ArePatterns}
 use Rattle.tt_tests_find.proofs.drawn.push_drawn.Given as goal
 
 abbrev pub invariant-loop-number : goal.invariant-loop-number

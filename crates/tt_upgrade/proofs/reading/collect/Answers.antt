@@ -2,8 +2,8 @@ use Rattle.std.proofs.Common.{◌≡◌, ◌+◌, ◌∙◌, true, Err, arith, a
 use Rattle.std.proofs.lemmas.Result.{err_from_is_err_and}
 use Rattle.tt_text.specs.Feeds.{stream_at}
 use Rattle.tt_text.specs.CutShort.{cut_at}
-use Rattle.tt_proof_text.specs.Faults.{read_failed, is_failed_read}
-use Rattle.tt_proof_text.specs.Readers.{Reader}
+use Rattle.tt_proof_read.specs.Faults.{read_failed, is_failed_read}
+use Rattle.tt_proof_read.specs.Readers.{Reader}
 use Rattle.tt_proof_check.proofs.TextFaults.{err_same}
 use Rattle.tt_upgrade.proofs.Collected.{collected_start, collected_next, collected_end, collected_breaks, collected_breaks_off}
 use Rattle.tt_upgrade.proofs.reading.collect.Goals as goal

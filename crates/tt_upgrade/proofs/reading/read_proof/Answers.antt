@@ -1,7 +1,7 @@
 use Rattle.std.proofs.Common.{◌∙◌, true, Err, ap, refl, inl, is_some}
 use Rattle.std.proofs.lemmas.Result.{err_from_is_err_and}
 use Rattle.tt_text.specs.Feeds.{stream_at, fresh}
-use Rattle.tt_proof_text.specs.Faults.{read_failed, is_failed_read}
+use Rattle.tt_proof_read.specs.Faults.{read_failed, is_failed_read}
 use Rattle.tt_proof_check.proofs.FailedReads.{of_given}
 use Rattle.tt_proof_check.proofs.TextFaults.{err_same}
 use Rattle.tt_upgrade.specs.Texts.{IsRead, IsTextFault, TextIsCutOff}

@@ -1,7 +1,7 @@
 use Rattle.std.proofs.Common.{Err, ap, subst, sym, ◌∙◌}
 use Rattle.std.proofs.lemmas.Result.{err_from_is_err_and}
 use Rattle.std.specs.Prelude.{All}
-use Rattle.tt_proof_text.specs.Spelling.{IsNode}
+use Rattle.tt_proof_read.specs.Spelling.{IsNode}
 use Rattle.tt_proof_check.specs.Derives.{Proves}
 use Rattle.tt_proof_check.specs.Streams.{stream_of}
 use Rattle.tt_proof_check.proofs.Soundness.{proof_sound}

@@ -1,6 +1,6 @@
 use Rattle.std.proofs.Common.{subst}
 use Rattle.std.proofs.lemmas.Result.{IfOk-weaker, IfErr-weaker}
-use Rattle.tt_proof_write.specs.Within.{Refuses, Writes}
+use Rattle.tt_proof_text.specs.Within.{Refuses, Writes}
 use Rattle.tt_app.specs.Solved.{IsProofFile, IsTextRefusal}
 use Rattle.tt_app.proofs.Searching.{second_file, second_refused}
 use Rattle.tt_app.proofs.calls.solve.least_text.Goals as goal

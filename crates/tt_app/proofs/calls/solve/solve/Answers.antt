@@ -1,7 +1,7 @@
 use Rattle.std.proofs.Common.{List, inl, ap, subst}
 use Rattle.std.specs.Prelude.{option_map}
 use Rattle.std.proofs.lemmas.Result.{err_from_is_err_and}
-use Rattle.tt_proof_text.specs.declared.node.Node.{Node}
+use Rattle.tt_proof_read.specs.declared.node.Node.{Node}
 use Rattle.tt_app.specs.Solved.{IsTextRefusal}
 use Rattle.tt_app.proofs.Searching.{best_fits, read_memory, tells_text}
 use Rattle.tt_app.proofs.calls.solve.solve.Goals as goal

@@ -1,7 +1,7 @@
 use Rattle.std.proofs.Common.{not, sym, ap, ◌∙◌, subst}
 use Rattle.tt_instance.specs.Cells.{InRange}
-use Rattle.tt_facts.specs.Live.{is_dead}
-use Rattle.tt_facts.specs.Paths.{Facts}
+use Rattle.tt_paths.specs.Live.{is_dead}
+use Rattle.tt_paths.specs.Paths.{Facts}
 use Rattle.tt_cells.proofs.Asked.{dead-cell}
 use Rattle.tt_cells.proofs.cells.Cells.dead.Goals as goal
 

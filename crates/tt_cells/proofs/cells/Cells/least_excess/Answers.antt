@@ -1,6 +1,6 @@
 use Rattle.std.proofs.Common.{◌-◌, Some, sym, ap, ◌∙◌}
 use Rattle.tt_instance.specs.Cells.{slot}
-use Rattle.tt_facts.specs.Paths.{Facts}
+use Rattle.tt_paths.specs.Paths.{Facts}
 use Rattle.tt_instance.specs.Courses.{students}
 use Rattle.tt_cells.proofs.Ranked.{least_excess-roomiest, least_excess-none}
 use Rattle.tt_cells.proofs.cells.Cells.least_excess.Goals as goal

@@ -4,8 +4,8 @@ use Rattle.std.proofs.Math.Bool.{not-not}
 use Rattle.tt_bits.specs.Bits.{has_bit, bits}
 use Rattle.tt_bits.proofs.Counts.{any-set}
 use Rattle.tt_instance.specs.Cells.{slot}
-use Rattle.tt_facts.specs.Live.{live_period}
-use Rattle.tt_facts.specs.Paths.{Facts}
+use Rattle.tt_paths.specs.Live.{live_period}
+use Rattle.tt_paths.specs.Paths.{Facts}
 use Rattle.tt_cells.proofs.cells.Cells.live_day.Goals as goal
 
 pub returns : goal.returns

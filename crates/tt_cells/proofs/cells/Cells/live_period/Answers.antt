@@ -1,7 +1,7 @@
 use Rattle.std.proofs.Common.{◌<◌, length, ap, ◌∙◌, arith}
 use Rattle.tt_instance.specs.Cells.{slot}
-use Rattle.tt_facts.specs.Live.{live_period}
-use Rattle.tt_facts.specs.Paths.{Facts}
+use Rattle.tt_paths.specs.Live.{live_period}
+use Rattle.tt_paths.specs.Paths.{Facts}
 use Rattle.tt_cells.proofs.Asked.{live-cells}
 use Rattle.tt_cells.proofs.cells.Cells.live_period.Goals as goal
 

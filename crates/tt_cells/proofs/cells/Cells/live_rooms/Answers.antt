@@ -1,8 +1,8 @@
 use Rattle.std.proofs.Common.{◌+◌, ◌*◌, ◌<◌, ◌&&◌, length, ap, ◌∙◌, arith}
 use Rattle.std.specs.Prelude.{nat_lt}
 use Rattle.tt_instance.specs.Cells.{slot, cell}
-use Rattle.tt_facts.specs.Live.{is_live}
-use Rattle.tt_facts.specs.Paths.{Facts}
+use Rattle.tt_paths.specs.Live.{is_live}
+use Rattle.tt_paths.specs.Paths.{Facts}
 use Rattle.tt_cells.proofs.Asked.{live-rooms}
 use Rattle.tt_cells.proofs.cells.Cells.live_rooms.Goals as goal
 

@@ -1,6 +1,6 @@
 use Rattle.std.proofs.Common.{◌≡◌, [], ◌∷◌, ◌++◌, length, ap, ◌∙◌, subst, sym, arith}
 use Rattle.std.proofs.Common.{length-append}
-use Rattle.tt_facts.specs.Paths.{Facts}
+use Rattle.tt_paths.specs.Paths.{Facts}
 use Rattle.tt_cells.specs.Shown.{yes_facts, AreTables}
 use Rattle.tt_cells.proofs.Kept.{earlier_pushed}
 use Rattle.tt_cells.proofs.cells.Cells.push.Goals as goal

@@ -2,8 +2,8 @@ use Rattle.std.proofs.Common.{ℕ, ◌<◌, length, sym, ◌∙◌, subst, arith
 use Rattle.std.proofs.lemmas.Bool.{both_ways, false_from_ne_true}
 use Rattle.tt_lists.proofs.Numbers.{any_below}
 use Rattle.tt_instance.specs.Cells.{slot, cell}
-use Rattle.tt_facts.specs.Live.{is_live, live_period}
-use Rattle.tt_facts.specs.Paths.{Facts}
+use Rattle.tt_paths.specs.Live.{is_live, live_period}
+use Rattle.tt_paths.specs.Paths.{Facts}
 use Rattle.tt_cells.specs.Order.{IsRoomOrder}
 use Rattle.tt_cells.specs.declared.order.Ranked.{Ranked}
 use Rattle.tt_cells.proofs.Ranked.{is_ranked, roomiest_at, none_live}

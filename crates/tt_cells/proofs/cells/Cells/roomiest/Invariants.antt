@@ -1,6 +1,6 @@
 use Rattle.std.proofs.Common.{◌≡◌, ℕ, ◌<◌, false, get_or}
 use Rattle.tt_instance.specs.Cells.{slot, cell}
-use Rattle.tt_facts.specs.Live.{is_live}
+use Rattle.tt_paths.specs.Live.{is_live}
 use Rattle.tt_cells.specs.declared.order.Ranked.{Ranked}
 use Rattle.tt_cells.proofs.cells.Cells.roomiest.Given as goal
 

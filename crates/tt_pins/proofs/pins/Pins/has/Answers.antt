@@ -1,6 +1,6 @@
 use Rattle.std.proofs.Common.{sym, ap, ◌∙◌}
-use Rattle.tt_facts.specs.Facts.{has_fact}
-use Rattle.tt_facts.specs.Paths.{Facts}
+use Rattle.tt_paths.specs.Facts.{has_fact}
+use Rattle.tt_paths.specs.Paths.{Facts}
 use Rattle.tt_pins.proofs.Stood.{other_stands}
 use Rattle.tt_pins.proofs.pins.Pins.has.Goals as goal
 

@@ -1,7 +1,7 @@
 use Rattle.std.proofs.Common.{◌+◌, ◌*◌, ◌<◌, ◌&&◌, length, ap, ◌∙◌, arith}
 use Rattle.std.specs.Prelude.{nat_lt, slice_index_or}
-use Rattle.tt_facts.specs.Live.{pinned_room}
-use Rattle.tt_facts.specs.Paths.{Facts}
+use Rattle.tt_paths.specs.Live.{pinned_room}
+use Rattle.tt_paths.specs.Paths.{Facts}
 use Rattle.tt_bits.specs.Bits.{has_bit}
 use Rattle.tt_pins.proofs.Shown.{block_shown}
 use Rattle.tt_pins.proofs.pins.Pins.pinned_rooms.Goals as goal

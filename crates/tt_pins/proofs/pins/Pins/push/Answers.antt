@@ -1,5 +1,5 @@
 use Rattle.std.proofs.Common.{◌≡◌, ◌++◌, [], ◌∷◌, length, length-append, ap, arith}
-use Rattle.tt_facts.specs.Paths.{Facts}
+use Rattle.tt_paths.specs.Paths.{Facts}
 use Rattle.tt_pins.specs.Tables.{ShowsPins}
 use Rattle.tt_pins.specs.Standing.{ShowsStanding}
 use Rattle.tt_pins.proofs.Kept.{earlier_pushed}

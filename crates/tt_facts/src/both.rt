@@ -1,0 +1,42 @@
+//! One more fact in both parts of a path.
+
+ghost use Rattle.std.specs.Prelude.{◌≡◌, ◌<◌, [], ◌∷◌, ◌++◌, length, OnOk, OnErr};
+ghost use Rattle.tt_paths.specs.declared.path.TheConstants.{MAX_FACTS};
+
+use std::alloc::AllocError;
+use tt_cells::Cells;
+use tt_paths::Fact;
+use tt_pins::Pins;
+
+/// Adds a fact to both parts, or to neither.
+pub fn push_both(
+    cells: &mut Cells<'_, '_>,
+    pins: &mut Pins<'_, '_>,
+    fact: Fact,
+) -> Result<(), AllocError>
+    requires depth { length cells.old.facts < MAX_FACTS }
+    requires one { pins.old ≡ cells.old }
+    ensures ok { OnOk result (cells.new.facts ≡ cells.old.facts ++ fact ∷ []) }
+    ensures err { OnErr result (cells.new.facts ≡ cells.old.facts) }
+    ensures same { cells.new.problem ≡ cells.old.problem }
+    ensures one { pins.new ≡ cells.new }
+{
+    cells.push(fact)?;
+    if let Err(fault) = pins.push(fact) {
+        let _ = cells.pop();
+        return Err(fault);
+    }
+    Ok(())
+}
+
+/// Takes the newest fact of both parts away.
+pub fn pop_both(cells: &mut Cells<'_, '_>, pins: &mut Pins<'_, '_>) -> Fact
+    requires some { 0 < length cells.old.facts }
+    requires one { pins.old ≡ cells.old }
+    ensures fact { cells.old.facts ≡ cells.new.facts ++ result ∷ [] }
+    ensures same { cells.new.problem ≡ cells.old.problem }
+    ensures one { pins.new ≡ cells.new }
+{
+    let _ = pins.pop();
+    cells.pop()
+}

@@ -1,0 +1,39 @@
+-- The leaves of the claims that are worth something may stand in a proof.
+use Rattle.std.proofs.Common.{◌≡◌, ℕ, ◌≤◌, ◌<◌, List, length, Some, refl, arith}
+use Rattle.std.proofs.lemmas.List.Elements.{All-contains, All-from_recursion}
+use Rattle.tt_lists.proofs.Finding.{find_member}
+use Rattle.tt_lists.proofs.Given.{each_given}
+use Rattle.tt_instance.specs.Problem.{Problem}
+use Rattle.tt_instance.specs.Limits.{IsInstance}
+use Rattle.tt_instance.specs.Cells.{cell, all_slots, all_rooms}
+use Rattle.tt_instance.specs.Courses.{excess}
+use Rattle.tt_instance.proofs.CourseLimits.{few_students}
+use Rattle.tt_paths.specs.Live.{is_live, least_excess}
+use Rattle.tt_paths.specs.declared.facts.Fact.{Fact}
+use Rattle.tt_paths.proofs.Least.{least_short}
+use Rattle.tt_leaf_rules.specs.Ranges.{IsClaimOf}
+use Rattle.tt_leaf_rules.specs.declared.leaf.Claim.TheVariants.{Days, Stacked}
+use Rattle.tt_proof_read.specs.Spelling.{IsShortClaim}
+use Rattle.tt_leaf.specs.Best.{is_kth, least_excesses, price_of, best_leaf, stacked_leaf}
+use Rattle.tt_leaf.specs.Found.{IsAnswer}
+use Rattle.tt_leaf.proofs.Claims.{each_claim}
+
+module _ (p : Problem) (path : List Fact) (ok : IsInstance p) where
+  pub price_short : (c u : ℕ) → c < length p.courses → price_of p path c ≡ Some u → u ≤ 1000000
+  price_short c u h e =
+      let ns = least_excesses p path c in
+      let all = All-from_recursion (λ m. m ≤ 1000000) ns (each_given (least_excess p path c) (λ m. m ≤ 1000000) (all_slots p) (λ s m k.
+      least_short 1000000 (excess p c) (λ r. is_live p path (cell c r s)) (all_rooms p) (λ r. let a = few_students p ok c h in omega arith) m k)) in
+      All-contains (λ m. m ≤ 1000000) ns u all (find_member (is_kth ns _) ns u e)
+
+  pub best_answer : IsAnswer p (best_leaf p path)
+  best_answer = record {
+    numbers = each_claim Days (λ c. refl) p path (IsClaimOf p) (λ c u h e. h) (λ c h. h) (λ q h. h) (λ c h. h);
+    short = each_claim Days (λ c. refl) p path IsShortClaim (λ c u h e. price_short c u h e) (λ c h. tt) (λ q h. tt) (λ c h. tt);
+  }
+
+  pub stacked_answer : IsAnswer p (stacked_leaf p path)
+  stacked_answer = record {
+    numbers = each_claim Stacked (λ c. refl) p path (IsClaimOf p) (λ c u h e. h) (λ c h. h) (λ q h. h) (λ c h. h);
+    short = each_claim Stacked (λ c. refl) p path IsShortClaim (λ c u h e. price_short c u h e) (λ c h. tt) (λ q h. tt) (λ c h. tt);
+  }

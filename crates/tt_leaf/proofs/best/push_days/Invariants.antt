@@ -1,0 +1,11 @@
+use Rattle.std.proofs.Common.{◌≡◌, ◌++◌, map}
+use Rattle.tt_leaf.specs.Best.{worth}
+use Rattle.tt_leaf_rules.specs.declared.leaf.Claim.TheVariants.{Days}
+use Rattle.tt_lists.specs.Words.{range_below}
+use Rattle.tt_leaf.proofs.best.push_days.Given as goal
+
+abbrev pub invariant-loop-course : goal.invariant-loop-course
+invariant-loop-course g l =
+    let p = g.P.Path.problem l.path in
+    let facts = g.P.Path.facts l.path in
+    l.claims.items ≡ l.fn.claims.items ++ worth p facts (map Days (range_below l.course))

@@ -1,0 +1,30 @@
+-- What is true of a leaf that was found.
+use Rattle.tt_instance.specs.Problem.{Problem}
+use Rattle.std.specs.Prelude.{List, All}
+use Rattle.tt_paths.specs.Facts.{IsPattern}
+use Rattle.tt_paths.specs.declared.facts.Fact.{Fact}
+use Rattle.tt_leaf_rules.specs.Leaves.{IsRight}
+use Rattle.tt_leaf_rules.specs.Ranges.{IsClaimOf, IsLeafOf}
+use Rattle.tt_leaf_rules.specs.declared.leaf.Claim.{Claim}
+use Rattle.tt_leaf_rules.specs.declared.leaf.Bound.{Bound}
+use Rattle.tt_leaf_rules.specs.declared.leaf.Leaf.{Leaf}
+use Rattle.tt_proof_read.specs.Spelling.{IsShortClaim, IsShortLeaf}
+
+-- its numbers are the instance's, and it may stand in a proof
+pub record IsAnswer (p : Problem) (leaf : Leaf) : Type 0 where
+  pub numbers : IsLeafOf p leaf
+  pub short : IsShortLeaf leaf
+
+-- it is right for the bound
+pub record Closes (p : Problem) (path : List Fact) (b : Bound) (leaf : Leaf) : Type 0 where
+  pub right : IsRight p path b leaf
+  pub answer : IsAnswer p leaf
+
+-- the numbers of each fact are the instance's
+abbrev pub ArePatterns : Problem → List Fact → Type 0
+ArePatterns p path = All (λ f. IsPattern p f.pattern) path
+
+-- the numbers of a claim are the instance's, and it may stand in a proof
+pub record IsFitClaim (p : Problem) (claim : Claim) : Type 0 where
+  pub numbers : IsClaimOf p claim
+  pub short : IsShortClaim claim

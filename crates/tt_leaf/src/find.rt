@@ -1,0 +1,153 @@
+//! The search for a leaf that closes a node.
+
+ghost use Rattle.std.specs.Prelude.{◌≡◌, ◌<◌, ◌↔◌, [], ◌∷◌, List, length, All, Contains, true, IsTrue, IfOk, IfSome, IsSome, IsNone, ℕ};
+ghost use Rattle.tt_instance.specs.declared.cell.Cell.{Cell};
+ghost use Rattle.tt_rules.specs.Score.{IsFeasible, cost};
+ghost use Rattle.tt_paths.specs.Facts.{IsPattern, Fits};
+ghost use Rattle.tt_paths.specs.declared.facts.Fact.{Fact};
+ghost use Rattle.tt_leaf_rules.specs.Bounds.{Respects};
+ghost use Rattle.tt_leaf_rules.specs.Leaves.{IsRight};
+ghost use Rattle.tt_leaf_rules.specs.Ranges.{IsLeafOf};
+ghost use Rattle.tt_leaf_rules.specs.declared.leaf.Leaf.TheVariants.{Empty, Many, Clique};
+ghost use Rattle.tt_leaf.specs.Found.{IsAnswer, Closes, ArePatterns};
+ghost use Rattle.tt_leaf.specs.Pinned.{IsPinnedDown, IsOpen};
+
+use crate::best::{best_claims, stacked_claims};
+use crate::priced::priced_claims;
+use std::alloc::{AllocError, Global};
+use tt_leaf_rules::{Bound, CourseList, Leaf, holds};
+use tt_paths::Path;
+
+/// Whether a leaf is right.
+fn is_right<'i, P: Path<'i>>(path: &P, leaf: &Leaf, bound: Bound) -> bool
+    requires { IsLeafOf (P.problem path.now) leaf.now }
+    ensures { IsTrue result ↔ IsRight (P.problem path.now) (P.facts path.now) bound leaf.now }
+{
+    holds(path, leaf, bound).is_ok()
+}
+
+/// An Empty leaf of a yes-fact that is right, if there is one.
+fn find_empty<'i, P: Path<'i>>(path: &P, bound: Bound) -> Option<Leaf>
+    requires { ArePatterns (P.problem path.now) (P.facts path.now) }
+    ensures some { IfSome result (Closes (P.problem path.now) (P.facts path.now) bound) }
+    ensures none { IsNone result → All (λ f. f.holds ≡ true → ¬ IsRight (P.problem path.now) (P.facts path.now) bound (Empty f.pattern)) (P.facts path.now) }
+{
+    for index in 0..path.depth() {
+        let fact = path.fact(index);
+        if fact.holds {
+            let leaf = Leaf::Empty(fact.pattern);
+            if is_right(path, &leaf, bound) {
+                return Some(leaf);
+            }
+        }
+    }
+    None
+}
+
+/// A Many leaf that is right, if there is one.
+fn find_many<'i, P: Path<'i>>(path: &P, bound: Bound) -> Option<Leaf>
+    ensures some { IfSome result (Closes (P.problem path.now) (P.facts path.now) bound) }
+    ensures none { IsNone result → (c : ℕ) → c < length (P.problem path.now).courses → ¬ IsRight (P.problem path.now) (P.facts path.now) bound (Many c) }
+{
+    for course in 0..path.instance().courses() {
+        let leaf = Leaf::Many(course);
+        if is_right(path, &leaf, bound) {
+            return Some(leaf);
+        }
+    }
+    None
+}
+
+/// A Clique of one course.
+fn clique_of(alloc: Global, course: u32) -> Result<Leaf, AllocError>
+    ensures { IfOk result (λ leaf. leaf ≡ Clique (course ∷ [])) }
+{
+    let mut courses = Vec::new(alloc);
+    courses.push(course)?;
+    Ok(Leaf::Clique(CourseList::new(courses)))
+}
+
+/// A Clique of one course that is right, if there is one.
+fn find_clique<'i, P: Path<'i>>(
+    alloc: Global,
+    path: &P,
+    bound: Bound,
+) -> Result<Option<Leaf>, AllocError>
+    ensures some { IfOk result (λ found. IfSome found (Closes (P.problem path.now) (P.facts path.now) bound)) }
+    ensures none { IfOk result (λ found. IsNone found → (c : ℕ) → c < length (P.problem path.now).courses → ¬ IsRight (P.problem path.now) (P.facts path.now) bound (Clique (c ∷ []))) }
+{
+    for course in 0..path.instance().courses() {
+        let leaf = clique_of(alloc, course)?;
+        if is_right(path, &leaf, bound) {
+            return Ok(Some(leaf));
+        }
+    }
+    Ok(None)
+}
+
+/// The leaf, if it is right.
+fn if_right<'i, P: Path<'i>>(path: &P, leaf: Leaf, bound: Bound) -> Option<Leaf>
+    requires { IsAnswer (P.problem path.now) leaf }
+    ensures some { IfSome result (Closes (P.problem path.now) (P.facts path.now) bound) }
+    ensures none { IsNone result → ¬ IsRight (P.problem path.now) (P.facts path.now) bound leaf }
+{
+    if is_right(path, &leaf, bound) {
+        Some(leaf)
+    } else {
+        None
+    }
+}
+
+/// A leaf with prices over groups of courses, if it is right.
+fn find_priced<'i, P: Path<'i>>(
+    alloc: Global,
+    path: &P,
+    bound: Bound,
+) -> Result<Option<Leaf>, AllocError>
+    ensures { IfOk result (λ found. IfSome found (Closes (P.problem path.now) (P.facts path.now) bound)) }
+{
+    if bound == Bound::Nothing {
+        return Ok(None);
+    }
+    match priced_claims(alloc, path)? {
+        Some(leaf) => Ok(if_right(path, leaf, bound)),
+        None => Ok(None),
+    }
+}
+
+/// A leaf that is right on a path, if one of those that are tried is: that the cells of some yes-fact are all
+/// dead, that a course has too many pinned periods or too few live ones, the best claims, and the best claims
+/// with stacked days. Leaves with prices over groups of courses are tried too.
+/// Where each live cell's own pattern stands on the path as yes, one is right for each bound that all
+/// feasible timetables on the path respect.
+pub fn find_leaf<'i, P: Path<'i>>(
+    alloc: Global,
+    path: &P,
+    bound: Bound,
+) -> Result<Option<Leaf>, AllocError>
+    requires { ArePatterns (P.problem path.now) (P.facts path.now) }
+    ensures some { IfOk result (λ found. IfSome found (Closes (P.problem path.now) (P.facts path.now) bound)) }
+    ensures none { IfOk result (λ found. IsNone found → IsOpen (P.problem path.now) (P.facts path.now) bound) }
+    ensures pinned { IsPinnedDown (P.problem path.now) (P.facts path.now) →
+        ((t : List Cell) → IsFeasible (P.problem path.now) t → Fits (P.problem path.now) t (P.facts path.now) → Respects bound (cost (P.problem path.now) t)) →
+        IfOk result IsSome }
+{
+    // What is true of every instance: the members of a curriculum are courses.
+    prove!(path.instance().days() <= 64);
+    if let Some(leaf) = find_empty(path, bound) {
+        return Ok(Some(leaf));
+    }
+    if let Some(leaf) = find_many(path, bound) {
+        return Ok(Some(leaf));
+    }
+    if let Some(leaf) = find_clique(alloc, path, bound)? {
+        return Ok(Some(leaf));
+    }
+    if let Some(leaf) = if_right(path, best_claims(alloc, path)?, bound) {
+        return Ok(Some(leaf));
+    }
+    if let Some(leaf) = if_right(path, stacked_claims(alloc, path)?, bound) {
+        return Ok(Some(leaf));
+    }
+    find_priced(alloc, path, bound)
+}

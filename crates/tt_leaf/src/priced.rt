@@ -1,0 +1,171 @@
+//! A leaf with prices over groups of courses.
+
+ghost use Rattle.std.specs.Prelude.{◌+◌, ◌<◌, ◌≤◌, length, All, IfOk, IfSome, OnOk};
+ghost use Rattle.tt_leaf_rules.specs.Ranges.{ArePrices};
+ghost use Rattle.tt_leaf.specs.Found.{IsAnswer, IsFitClaim};
+
+use crate::crowds::{Crowd, find_crowds};
+use crate::group_prices::Pricing;
+use crate::prices::{has_seats, price_of};
+use std::alloc::{AllocError, Global};
+use tt_leaf_rules::{Claim, ClaimList, Leaf, PriceList, claim_value};
+use tt_paths::Path;
+
+/// The greatest price that may stand in a proof.
+const MOST_PRICE: u32 = 1_000_000;
+
+/// Adds a claim, if it is worth something.
+fn add<'i, P: Path<'i>>(path: &P, claims: &mut Vec<Claim>, claim: Claim) -> Result<(), AllocError>
+    requires fit { IsFitClaim (P.problem path.now) claim }
+    requires all { All (IsFitClaim (P.problem path.now)) claims.old.items }
+    ensures { OnOk result (All (IsFitClaim (P.problem path.now)) claims.new.items) }
+{
+    if claim_value(path, &claim) > 0 {
+        claims.push(claim)?;
+    }
+    Ok(())
+}
+
+/// Adds the price of the next number, if it has one.
+fn push_price(list: &mut Vec<(u32, u32)>, number: u32, price: u32) -> Result<(), AllocError>
+    requires prices { ArePrices number list.old.items }
+    requires short { All (λ k. k.1 ≤ 1000000) list.old.items }
+    ensures prices { OnOk result (ArePrices (number + 1) list.new.items) }
+    ensures short { OnOk result (All (λ k. k.1 ≤ 1000000) list.new.items) }
+{
+    if price == 0 {
+        return Ok(());
+    }
+    list.push((number, price.min(MOST_PRICE)))?;
+    Ok(())
+}
+
+/// The prices of the numbers below a bound that have one.
+fn list_prices(alloc: Global, count: u32, prices: &[u32]) -> Result<PriceList, AllocError>
+    ensures prices { IfOk result (λ list. ArePrices count list) }
+    ensures short { IfOk result (λ list. All (λ k. k.1 ≤ 1000000) list) }
+{
+    let mut list = Vec::new(alloc);
+    for number in 0..count {
+        let price = prices.get(number as usize).copied().unwrap_or(0);
+        push_price(&mut list, number, price)?;
+    }
+    Ok(PriceList::new(list))
+}
+
+fn add_prices<'i, P: Path<'i>>(
+    alloc: Global,
+    path: &P,
+    claims: &mut Vec<Claim>,
+    pricing: &Pricing,
+) -> Result<(), AllocError>
+    requires { All (IsFitClaim (P.problem path.now)) claims.old.items }
+    ensures { OnOk result (All (IsFitClaim (P.problem path.now)) claims.new.items) }
+{
+    let instance = path.instance();
+    let courses = list_prices(alloc, instance.courses(), pricing.courses.as_slice())?;
+    let rooms = list_prices(alloc, instance.rooms(), pricing.rooms.as_slice())?;
+    add(path, claims, Claim::Prices { courses, rooms })
+}
+
+fn add_crowds<'i, P: Path<'i>>(
+    alloc: Global,
+    path: &P,
+    claims: &mut Vec<Claim>,
+    crowds: &[Pricing],
+) -> Result<(), AllocError>
+    requires { All (IsFitClaim (P.problem path.now)) claims.old.items }
+    ensures { OnOk result (All (IsFitClaim (P.problem path.now)) claims.new.items) }
+{
+    for crowd in crowds {
+        add_prices(alloc, path, claims, crowd)?;
+    }
+    Ok(())
+}
+
+fn add_capacity<'i, P: Path<'i>>(
+    alloc: Global,
+    path: &P,
+    claims: &mut Vec<Claim>,
+    course: u32,
+) -> Result<(), AllocError>
+    requires course { course < length (P.problem path.now).courses }
+    requires all { All (IsFitClaim (P.problem path.now)) claims.old.items }
+    ensures { OnOk result (All (IsFitClaim (P.problem path.now)) claims.new.items) }
+{
+    if has_seats(path, course) {
+        return Ok(());
+    }
+    if let Some(price) = price_of(alloc, path, course)? {
+        add(path, claims, Claim::Capacity { course, price })?;
+    }
+    Ok(())
+}
+
+/// Claims the seats of the courses that are in no group.
+fn add_capacities<'i, P: Path<'i>>(
+    alloc: Global,
+    path: &P,
+    claims: &mut Vec<Claim>,
+    crowd: &Crowd,
+) -> Result<(), AllocError>
+    requires { All (IsFitClaim (P.problem path.now)) claims.old.items }
+    ensures { OnOk result (All (IsFitClaim (P.problem path.now)) claims.new.items) }
+{
+    for course in 0..path.instance().courses() {
+        if crowd.is_alone(course) {
+            add_capacity(alloc, path, claims, course)?;
+        }
+    }
+    Ok(())
+}
+
+/// The claim on the working days of a course that is worth more.
+fn days_claim<'i, P: Path<'i>>(path: &P, course: u32) -> Claim
+    requires { course < length (P.problem path.now).courses }
+    ensures { IsFitClaim (P.problem path.now) result }
+{
+    if claim_value(path, &Claim::Days(course)) < claim_value(path, &Claim::Stacked(course)) {
+        Claim::Stacked(course)
+    } else {
+        Claim::Days(course)
+    }
+}
+
+fn add_of_courses<'i, P: Path<'i>>(path: &P, claims: &mut Vec<Claim>) -> Result<(), AllocError>
+    requires { All (IsFitClaim (P.problem path.now)) claims.old.items }
+    ensures { OnOk result (All (IsFitClaim (P.problem path.now)) claims.new.items) }
+{
+    for course in 0..path.instance().courses() {
+        add(path, claims, days_claim(path, course))?;
+        add(path, claims, Claim::Stable(course))?;
+    }
+    Ok(())
+}
+
+fn add_of_curricula<'i, P: Path<'i>>(path: &P, claims: &mut Vec<Claim>) -> Result<(), AllocError>
+    requires { All (IsFitClaim (P.problem path.now)) claims.old.items }
+    ensures { OnOk result (All (IsFitClaim (P.problem path.now)) claims.new.items) }
+{
+    for curriculum in 0..path.instance().curricula() {
+        add(path, claims, Claim::Compact(curriculum))?;
+    }
+    Ok(())
+}
+
+/// A leaf of claims in which courses that compete for rooms have prices together, and each course the
+/// better one of the two claims on its working days; none where no courses were found to compete, or the instance is
+/// too large to look.
+pub fn priced_claims<'i, P: Path<'i>>(alloc: Global, path: &P) -> Result<Option<Leaf>, AllocError>
+    ensures { IfOk result (λ found. IfSome found (IsAnswer (P.problem path.now))) }
+{
+    let Some(crowd) = find_crowds(alloc, path)? else {
+        return Ok(None);
+    };
+    let mut claims = Vec::new(alloc);
+    add_crowds(alloc, path, &mut claims, crowd.pricings.as_slice())?;
+    add_capacities(alloc, path, &mut claims, &crowd)?;
+    add_of_courses(path, &mut claims)?;
+    add_of_curricula(path, &mut claims)?;
+    Ok(Some(Leaf::Cost(ClaimList::new(claims))))
+}

@@ -1,0 +1,16 @@
+pub mod Apart
+pub mod Clash
+pub mod Contradictions
+pub mod Examples
+pub mod Live
+pub mod Meeting
+pub mod MoreValues
+pub mod Nested
+pub mod Sizes
+pub mod Soundness
+pub mod Totals
+pub mod Values
+pub mod Week
+pub mod Blocks
+pub mod Alone
+pub mod Rightness

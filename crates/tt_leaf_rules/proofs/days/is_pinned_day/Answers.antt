@@ -1,0 +1,19 @@
+use Rattle.std.proofs.Common.{◌≡◌, ◌≤◌, Bool, true, false, not, refl, ap, ◌∙◌, arith}
+use Rattle.std.specs.List.{list_any}
+use Rattle.tt_bits.specs.Bits.{has_bit, bits}
+use Rattle.tt_bits.proofs.Counts.{any-set}
+use Rattle.tt_instance.specs.Cells.{slot}
+use Rattle.tt_paths.specs.Live.{pinned}
+use Rattle.tt_paths.specs.declared.facts.Who.TheVariants.{Course}
+use Rattle.tt_leaf_rules.proofs.days.is_pinned_day.Goals as goal
+
+not_not : (b : Bool) → not (not b) ≡ b
+not_not true = refl
+not_not false = refl
+
+pub returns : goal.returns
+returns g c =
+    let p = g.P.Path.problem c.args.path.now in
+    let few : p.periods ≤ 64 = omega (arith, c.periods.ensures.value, c.periods.ensures.within, ap (λ q. q.periods) c.instance.ensures) in
+    ap not c.is_empty.ensures ∙ not_not (list_any (has_bit c.pinned_periods.result) bits)
+    ∙ any-set c.pinned_periods.result p.periods (λ s. pinned p (g.P.Path.facts c.args.path.now) (Course c.args.course) (slot c.args.day s)) few c.pinned_periods.ensures

@@ -1,0 +1,11 @@
+use Rattle.std.proofs.Common.{◌≡◌, ◌≤◌}
+use Rattle.std.specs.Prelude.{count_by}
+use Rattle.tt_lists.specs.Words.{range_below}
+use Rattle.tt_paths.specs.Live.{live_day}
+use Rattle.tt_leaf_rules.proofs.days.live_days.Given as goal
+
+abbrev pub invariant-loop-day : goal.invariant-loop-day
+invariant-loop-day g l = record {
+  counted : l.total ≡ count_by (live_day (g.P.Path.problem l.path) (g.P.Path.facts l.path) l.course) (range_below l.day);
+  few : l.total ≤ l.day;
+}

@@ -1,0 +1,27 @@
+use Rattle.std.proofs.Common.{◌*◌, ◌≤◌, ◌&&◌, ap, subst, arith}
+use Rattle.tt_paths.specs.Live.{pinned}
+use Rattle.tt_paths.specs.declared.facts.Who.TheVariants.{Curriculum}
+use Rattle.tt_leaf_rules.specs.Claims.{is_alone}
+use Rattle.tt_leaf_rules.proofs.Week.{week_next, week_whole, week_within}
+use Rattle.tt_leaf_rules.proofs.isolated.isolated_periods.Goals as goal
+
+pub loop-day-preserved : goal.loop-day-preserved
+loop-day-preserved g c =
+    let p = g.P.Path.problem c.args.path.now in
+    let few : p.periods ≤ 64 = omega (arith, c.periods.ensures.value, c.periods.ensures.within, ap (λ q. q.periods) c.instance.ensures) in
+    record {
+      counted = week_next p (λ s. pinned p (g.P.Path.facts c.args.path.now) (Curriculum c.args.curriculum) s && is_alone p (g.P.Path.facts c.args.path.now) c.args.curriculum s) c.loop-day.day c.isolated_on.result c.loop-day.total c.count-total.result few c.isolated_on.ensures c.loop-day.invariant.counted c.count-total.ensures.value;
+      few = omega (arith, c.loop-day.invariant.few, c.count-total.ensures.within);
+    }
+
+pub returns-clause-value : goal.returns-clause-value
+returns-clause-value g c =
+    let p = g.P.Path.problem c.args.path.now in
+    week_whole p (λ s. pinned p (g.P.Path.facts c.args.path.now) (Curriculum c.args.curriculum) s && is_alone p (g.P.Path.facts c.args.path.now) c.args.curriculum s) c.loop-day.day c.loop-day.total c.loop-day.invariant.counted (omega (arith, c.days-day-end.ensures.value, ap (λ q. q.days) c.instance-2.ensures))
+
+pub returns-clause-within : goal.returns-clause-within
+returns-clause-within g c =
+    let p = g.P.Path.problem c.args.path.now in
+    let week : p.days * p.periods ≤ 512 = subst (λ q. q.days * q.periods ≤ 512) c.instance.ensures (subst (λ n. c.instance.result.now.days * n ≤ 512) c.periods.ensures.value c.periods.ensures.week) in
+    week_within p (λ s. pinned p (g.P.Path.facts c.args.path.now) (Curriculum c.args.curriculum) s && is_alone p (g.P.Path.facts c.args.path.now) c.args.curriculum s) c.loop-day.total week
+    (week_whole p (λ s. pinned p (g.P.Path.facts c.args.path.now) (Curriculum c.args.curriculum) s && is_alone p (g.P.Path.facts c.args.path.now) c.args.curriculum s) c.loop-day.day c.loop-day.total c.loop-day.invariant.counted (omega (arith, c.days-day-end.ensures.value, ap (λ q. q.days) c.instance-2.ensures)))

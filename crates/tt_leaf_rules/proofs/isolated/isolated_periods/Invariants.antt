@@ -1,0 +1,14 @@
+use Rattle.std.proofs.Common.{◌≡◌, ◌≤◌, ◌*◌, ◌&&◌}
+use Rattle.std.specs.Prelude.{sum_by}
+use Rattle.tt_lists.specs.Words.{range_below}
+use Rattle.tt_paths.specs.Live.{pinned}
+use Rattle.tt_paths.specs.declared.facts.Who.TheVariants.{Curriculum}
+use Rattle.tt_leaf_rules.specs.Claims.{is_alone}
+use Rattle.tt_leaf_rules.proofs.Week.{on_day}
+use Rattle.tt_leaf_rules.proofs.isolated.isolated_periods.Given as goal
+
+abbrev pub invariant-loop-day : goal.invariant-loop-day
+invariant-loop-day g l =
+    let p = g.P.Path.problem l.path in
+    let path = g.P.Path.facts l.path in
+    record { counted : l.total ≡ sum_by (on_day p (λ s. pinned p path (Curriculum l.curriculum) s && is_alone p path l.curriculum s)) (range_below l.day); few : l.total ≤ l.day * 64 }

@@ -1,0 +1,99 @@
+-- What the claims of a cost leaf are worth, and the parts of the cost that they claim.
+use Rattle.std.specs.Prelude.{ℕ, ◌+◌, ◌-◌, ◌*◌, min, ◌==◌, nat_le, Bool, true, false, not, ◌&&◌, ◌||◌, List, [], ◌∷◌, map, flat_map, Option, Some, None, sum_by, count_by, if◌then◌else◌}
+use Rattle.std.specs.List.{list_any, list_all}
+use Rattle.tt_lists.specs.Words.{range_below}
+use Rattle.tt_instance.specs.Problem.{Problem}
+use Rattle.tt_instance.specs.Cells.{slot, cell, next_to, is_of, all_rooms, all_days, all_slots}
+use Rattle.tt_instance.specs.Courses.{lectures, min_days, members, excess}
+use Rattle.tt_instance.specs.declared.cell.Cell.{Cell}
+use Rattle.tt_instance.specs.declared.cell.Slot.{Slot}
+use Rattle.tt_rules.specs.Soft.{days_cost, compactness_cost, stability_cost}
+use Rattle.tt_paths.specs.Live.{is_live, pinned_periods, live_period, live_day, least_excess, pinned, pinned_room}
+use Rattle.tt_paths.specs.declared.facts.Who.TheVariants.{Course, Curriculum}
+use Rattle.tt_paths.specs.declared.facts.Fact.{Fact}
+use Rattle.tt_leaf_rules.specs.declared.leaf.Claim.{Claim}
+use Rattle.tt_leaf_rules.specs.declared.leaf.Claim.TheVariants.{Capacity, Days, Compact, Stable, Prices, Stacked}
+
+-- ---- targets: the kinds of cost, each with its course or curriculum
+
+pub data Target : Type 0 where
+  RoomCapacity : ℕ → Target
+  WorkingDays : ℕ → Target
+  Compactness : ℕ → Target
+  Stability : ℕ → Target
+
+-- the part of the cost that is a target's
+abbrev pub part : Problem → List Cell → Target → ℕ
+part p t (RoomCapacity c) = sum_by (λ e. if is_of c e then excess p e.course e.room else 0) t
+part p t (WorkingDays c) = days_cost p t c
+part p t (Compactness q) = compactness_cost p t q
+part p t (Stability c) = stability_cost p t c
+
+abbrev pub same_target : Target → Target → Bool
+same_target (RoomCapacity a) (RoomCapacity b) = a == b
+same_target (WorkingDays a) (WorkingDays b) = a == b
+same_target (Compactness a) (Compactness b) = a == b
+same_target (Stability a) (Stability b) = a == b
+same_target _ _ = false
+
+abbrev pub targets_of : Claim → List Target
+targets_of (Capacity c u) = RoomCapacity c ∷ []
+targets_of (Days c) = WorkingDays c ∷ []
+targets_of (Compact q) = Compactness q ∷ []
+targets_of (Stable c) = Stability c ∷ []
+targets_of (Prices courses rooms) = map (λ k. RoomCapacity k.0) courses
+targets_of (Stacked c) = WorkingDays c ∷ []
+
+-- ---- values
+
+-- what a price is above the least excess of a period that has one
+abbrev pub discount : ℕ → Option ℕ → ℕ
+discount u None = 0
+discount u (Some m) = u - m
+
+-- no neighbour of the period on its day has a live cell of a member
+abbrev pub is_alone : Problem → List Fact → ℕ → Slot → Bool
+is_alone p path q s =
+    not (list_any (λ n. next_to n s && list_any (λ c. live_period p path c n) (members p q)) (all_slots p))
+
+-- the price that the list gives, and 0 where it gives none
+abbrev pub price_in : List (ℕ × ℕ) → ℕ → ℕ
+price_in [] r = 0
+price_in (x ∷ xs) r = if r == x.0 then x.1 else price_in xs r
+
+-- on each live cell of a listed course, the excess and the room's price cover the course's price
+abbrev pub are_covered : Problem → List Fact → List (ℕ × ℕ) → List (ℕ × ℕ) → Bool
+are_covered p path courses rooms =
+    list_all (λ k. list_all (λ r. list_all (λ s. not (is_live p path (cell k.0 r s)) || nat_le k.1 (excess p k.0 r + price_in rooms r)) (all_slots p)) (all_rooms p)) courses
+
+abbrev pub is_fair : Problem → List Fact → Claim → Bool
+is_fair p path (Prices courses rooms) = are_covered p path courses rooms
+is_fair p path _ = true
+
+-- the periods in which a listed course has a live cell in the room
+abbrev pub open_in : Problem → List Fact → List (ℕ × ℕ) → ℕ → ℕ
+open_in p path courses r = count_by (λ s. list_any (λ k. is_live p path (cell k.0 r s)) courses) (all_slots p)
+
+-- the day has a pinned period of the course
+abbrev pub pinned_day : Problem → List Fact → ℕ → ℕ → Bool
+pinned_day p path c d = list_any (λ s. pinned p path (Course c) (slot d s)) (range_below p.periods)
+
+abbrev pub value_of : Problem → List Fact → Claim → ℕ
+value_of p path (Capacity c u) =
+    lectures p c * u - sum_by (λ s. discount u (least_excess p path c s)) (all_slots p)
+value_of p path (Days c) =
+    5 * (min_days p c - min (lectures p c) (count_by (live_day p path c) (all_days p)))
+value_of p path (Compact q) =
+    2 * count_by (λ s. pinned p path (Curriculum q) s && is_alone p path q s) (all_slots p)
+value_of p path (Stable c) = count_by (pinned_room p path c) (all_rooms p) - 1
+value_of p path (Prices courses rooms) =
+    sum_by (λ k. lectures p k.0 * k.1) courses - sum_by (λ k. k.1 * open_in p path courses k.0) rooms
+value_of p path (Stacked c) =
+    5 * (min_days p c - min (count_by (live_day p path c) (all_days p))
+    (count_by (pinned_day p path c) (all_days p) + (lectures p c - pinned_periods p path (Course c))))
+
+abbrev pub claimed : List Claim → List Target
+claimed claims = flat_map targets_of claims
+
+abbrev pub total_of : Problem → List Fact → List Claim → ℕ
+total_of p path claims = sum_by (value_of p path) claims

@@ -1,0 +1,37 @@
+-- The first fault of a leaf, or none where it is right.
+use Rattle.std.specs.Prelude.{nat_lt, nat_le, Bool, true, List, Option, Some, None, if◌then◌else◌}
+use Rattle.std.specs.List.{list_all}
+use Rattle.tt_instance.specs.Problem.{Problem}
+use Rattle.tt_instance.specs.Courses.{lectures}
+use Rattle.tt_paths.specs.Facts.{has_fact}
+use Rattle.tt_paths.specs.Live.{pinned_periods}
+use Rattle.tt_paths.specs.declared.facts.Who.TheVariants.{Course}
+use Rattle.tt_paths.specs.declared.facts.Fact.{Fact}
+use Rattle.tt_leaf_rules.specs.Claims.{is_fair, total_of}
+use Rattle.tt_leaf_rules.specs.Leaves.{all_dead, all_lectures, is_clique, open_periods, are_distinct, open_rooms, claims_once}
+use Rattle.tt_leaf_rules.specs.declared.leaf.Bound.{Bound}
+use Rattle.tt_leaf_rules.specs.declared.leaf.Bound.TheVariants.{AtLeast, Nothing}
+use Rattle.tt_leaf_rules.specs.declared.leaf.Claim.{Claim}
+use Rattle.tt_leaf_rules.specs.declared.leaf.Leaf.{Leaf}
+use Rattle.tt_leaf_rules.specs.declared.leaf.Leaf.TheVariants.{Empty, Many, Clique, Slots, Cost}
+use Rattle.tt_leaf_rules.specs.declared.leaf.RuleFault.{RuleFault}
+use Rattle.tt_leaf_rules.specs.declared.leaf.RuleFault.TheVariants.{NotOnPath, StillAlive, NotTooMany, NotAClique, EnoughRoom, ClaimedTwice, TooCheap, NoBound, BadPrice}
+
+-- the fault where the test fails, and else what the rest says
+abbrev pub demand : Bool → RuleFault → Option RuleFault → Option RuleFault
+demand holds f rest = if holds then rest else Some f
+
+abbrev pub fault_of_cost : Problem → List Fact → Bound → List Claim → Option RuleFault
+fault_of_cost p path Nothing claims = Some NoBound
+fault_of_cost p path (AtLeast b) claims =
+    demand (claims_once claims) ClaimedTwice
+    (demand (list_all (is_fair p path) claims) BadPrice (demand (nat_le b (total_of p path claims)) TooCheap None))
+
+abbrev pub fault_of : Problem → List Fact → Bound → Leaf → Option RuleFault
+fault_of p path b (Empty g) = demand (has_fact path g true) NotOnPath (demand (all_dead p path g) StillAlive None)
+fault_of p path b (Many c) = demand (nat_lt (lectures p c) (pinned_periods p path (Course c))) NotTooMany None
+fault_of p path b (Clique cs) =
+    demand (is_clique p cs) NotAClique (demand (nat_lt (open_periods p path cs) (all_lectures p cs)) EnoughRoom None)
+fault_of p path b (Slots cs) =
+    demand (are_distinct cs) ClaimedTwice (demand (nat_lt (open_rooms p path cs) (all_lectures p cs)) EnoughRoom None)
+fault_of p path b (Cost claims) = fault_of_cost p path b claims

@@ -1,0 +1,8 @@
+pub mod Bounds
+pub mod Claims
+pub mod Faults
+pub mod Leaves
+pub mod Met
+pub mod Nested
+pub mod Outcomes
+pub mod Ranges

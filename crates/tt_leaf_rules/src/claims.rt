@@ -1,0 +1,81 @@
+//! What claims are worth.
+
+ghost use Rattle.std.specs.Prelude.{◌≡◌, ◌≤◌, ◌*◌, ◌-◌, ◌^◌, min, nat_le, length, All};
+ghost use Rattle.std.specs.List.{list_all};
+ghost use Rattle.tt_leaf_rules.specs.Claims.{targets_of, is_fair, value_of, claimed, total_of};
+ghost use Rattle.tt_leaf_rules.specs.Ranges.{IsClaimOf};
+
+use crate::capacity::capacity_value;
+use crate::days::{days_value, stacked_value};
+use crate::isolated::compact_value;
+use crate::leaf::Claim;
+use crate::prices::{are_covered, prices_value};
+use crate::stable::stable_value;
+use tt_paths::Path;
+
+/// What a claim is worth on a path, in cost points.
+#[tactic(auto, using(crate::proofs::Sizes::prices_below))]
+pub fn claim_value<'i, P: Path<'i>>(path: &P, claim: &Claim) -> u64
+    requires { IsClaimOf (P.problem path.now) claim.now }
+    ensures value { result ≡ value_of (P.problem path.now) (P.facts path.now) claim.now }
+    ensures within { result ≤ length (targets_of claim.now) * 2 ^ 44 }
+{
+    match claim {
+        Claim::Capacity { course, price } => capacity_value(path, *course, *price),
+        Claim::Days(course) => days_value(path, *course),
+        Claim::Compact(curriculum) => compact_value(path, *curriculum),
+        Claim::Stable(course) => stable_value(path, *course),
+        Claim::Prices { courses, rooms } => prices_value(
+            path,
+            courses.as_slice(),
+            rooms.as_slice(),
+        ),
+        Claim::Stacked(course) => stacked_value(path, *course),
+    }
+}
+
+#[tactic(auto, using(crate::proofs::Sizes::prices_below))]
+fn is_fair<'i, P: Path<'i>>(path: &P, claim: &Claim) -> bool
+    requires { IsClaimOf (P.problem path.now) claim.now }
+    ensures { result ≡ is_fair (P.problem path.now) (P.facts path.now) claim.now }
+{
+    match claim {
+        Claim::Prices { courses, rooms } => are_covered(path, courses.as_slice(), rooms.as_slice()),
+        _ => true,
+    }
+}
+
+/// Whether the prices of each claim are covered.
+pub fn are_fair<'i, P: Path<'i>>(path: &P, claims: &[Claim]) -> bool
+    requires { All (IsClaimOf (P.problem path.now)) claims.now }
+    ensures { result ≡ list_all (is_fair (P.problem path.now) (P.facts path.now)) claims.now }
+{
+    for claim in claims {
+        if !is_fair(path, claim) {
+            return false;
+        }
+    }
+    true
+}
+
+/// What claims are worth in all, at most what a u64 holds, in cost points.
+pub fn total<'i, P: Path<'i>>(path: &P, claims: &[Claim]) -> u64
+    requires { All (IsClaimOf (P.problem path.now)) claims.now }
+    ensures value { result ≡ min (total_of (P.problem path.now) (P.facts path.now) claims.now) (2 ^ 64 - 1) }
+    ensures within { total_of (P.problem path.now) (P.facts path.now) claims.now ≤ length (claimed claims.now) * 2 ^ 44 }
+{
+    let mut total: u64 = 0;
+    for claim in claims {
+        total = total.saturating_add(claim_value(path, claim));
+    }
+    total
+}
+
+/// Whether claims are worth this many cost points at least.
+#[tactic(auto, using(crate::proofs::Sizes::at_most_capped))]
+pub fn are_worth<'i, P: Path<'i>>(path: &P, claims: &[Claim], least: u64) -> bool
+    requires { All (IsClaimOf (P.problem path.now)) claims.now }
+    ensures { result ≡ nat_le least (total_of (P.problem path.now) (P.facts path.now) claims.now) }
+{
+    least <= total(path, claims)
+}

@@ -1,0 +1,193 @@
+//! Courses that exclude each other, different courses, and the periods and rooms that are open to them.
+
+ghost use Rattle.std.specs.Prelude.{◌≡◌, ◌<◌, ◌≤◌, ◌+◌, ◌-◌, ◌*◌, ◌^◌, ◌==◌, ◌&&◌, ℕ, not, min, nat_lt, length};
+ghost use Rattle.std.specs.List.{list_all};
+ghost use Rattle.tt_lists.specs.Words.{each_two};
+ghost use Rattle.tt_bits.specs.Bits.{has_bit};
+ghost use Rattle.tt_instance.specs.Cells.{slot};
+ghost use Rattle.tt_instance.specs.Courses.{conflict};
+ghost use Rattle.tt_leaf_rules.specs.Leaves.{all_lectures, is_clique, are_distinct, open_periods, open_rooms};
+ghost use Rattle.tt_leaf_rules.specs.Nested.{live_for, live_in, open_in_period};
+ghost use Rattle.tt_leaf_rules.specs.Ranges.{AreBelow};
+ghost use Rattle.tt_instance.specs.declared.limit.TheConstants.{MAX_COURSES, MAX_ROOMS, MAX_SLOTS};
+
+use crate::met::{FEW, Met};
+use crate::slots::{slot_at, slot_count};
+use tt_bits::{below, count, either};
+use tt_instance::{Instance, MAX_PERIODS};
+use tt_paths::Path;
+
+fn excludes_each(instance: &Instance<'_>, course: u32, others: &[u32]) -> bool
+    ensures { result ≡ list_all (conflict instance.now course) others.now }
+{
+    others.iter().all(|other| instance.conflict(course, *other))
+}
+
+fn each_two_exclude(instance: &Instance<'_>, courses: &[u32]) -> bool
+    ensures { result ≡ each_two (conflict instance.now) courses.now }
+{
+    let mut rest = courses;
+    while let Some((first, others)) = rest.split_first() {
+        if !excludes_each(instance, *first, others) {
+            return false;
+        }
+        rest = others;
+    }
+    true
+}
+
+/// Whether there is a course, and each two exclude each other.
+pub fn is_clique(instance: &Instance<'_>, courses: &[u32]) -> bool
+    ensures { result ≡ is_clique instance.now courses.now }
+{
+    !courses.is_empty() && each_two_exclude(instance, courses)
+}
+
+fn differs_from_each(course: u32, others: &[u32]) -> bool
+    ensures { result ≡ list_all (λ other. not (course == other)) others.now }
+{
+    others.iter().all(|other| course != *other)
+}
+
+fn each_two_differ(courses: &[u32]) -> bool
+    ensures { result ≡ are_distinct courses.now }
+{
+    let mut rest = courses;
+    while let Some((first, others)) = rest.split_first() {
+        if !differs_from_each(*first, others) {
+            return false;
+        }
+        rest = others;
+    }
+    true
+}
+
+/// The same by marks: no course is compared with each other one. Kept apart, since its marks stand on the stack.
+#[inline(never)]
+fn each_is_new(courses: &[u32]) -> bool
+    requires { AreBelow MAX_COURSES courses.now }
+    ensures { result ≡ are_distinct courses.now }
+{
+    let mut met = Met::none();
+    let mut rest = courses;
+    while let Some((first, others)) = rest.split_first() {
+        if !met.meet(*first as usize) {
+            return false;
+        }
+        rest = others;
+    }
+    true
+}
+
+/// Whether no course stands twice.
+pub fn are_distinct(courses: &[u32]) -> bool
+    requires { AreBelow MAX_COURSES courses.now }
+    ensures { result ≡ are_distinct courses.now }
+{
+    if courses.len() <= FEW {
+        each_two_differ(courses)
+    } else {
+        each_is_new(courses)
+    }
+}
+
+/// The lectures of courses in all, at most what a u64 holds.
+fn all_lectures(instance: &Instance<'_>, courses: &[u32]) -> u64
+    requires { AreBelow (length instance.now.courses) courses.now }
+    ensures { result ≡ min (all_lectures instance.now courses.now) (2 ^ 64 - 1) }
+{
+    let mut total: u64 = 0;
+    for course in courses {
+        total = total.saturating_add(u64::from(instance.lectures(*course)));
+    }
+    total
+}
+
+/// Whether courses have more lectures than there are places.
+#[tactic(auto, using(crate::proofs::Sizes::below_capped))]
+pub fn have_more_lectures(instance: &Instance<'_>, courses: &[u32], places: u32) -> bool
+    requires { AreBelow (length instance.now.courses) courses.now }
+    ensures { result ≡ nat_lt places (all_lectures instance.now courses.now) }
+{
+    u64::from(places) < all_lectures(instance, courses)
+}
+
+/// The periods of a day in which one of the courses has a live cell, as a set.
+pub fn open_on<'i, P: Path<'i>>(path: &P, courses: &[u32], day: u32) -> u64
+    requires courses { AreBelow (length (P.problem path.now).courses) courses.now }
+    requires day { day < (P.problem path.now).days }
+    ensures { (s : ℕ) → s < 64 → has_bit result s ≡ (nat_lt s (P.problem path.now).periods
+        && live_for (P.problem path.now) (P.facts path.now) courses.now (slot day s)) }
+{
+    let mut open = 0;
+    for course in courses {
+        open = either(open, path.live_periods(*course, day));
+    }
+    open
+}
+
+/// How many periods have a live cell of one of the courses.
+pub fn open_periods<'i, P: Path<'i>>(path: &P, courses: &[u32]) -> u32
+    requires { AreBelow (length (P.problem path.now).courses) courses.now }
+    ensures value { result ≡ open_periods (P.problem path.now) (P.facts path.now) courses.now }
+    ensures within { result ≤ MAX_SLOTS }
+{
+    // What is true of every instance: the periods of a day are the numbers of a word.
+    prove!(path.instance().periods() <= MAX_PERIODS);
+    let mut total = 0;
+    for day in 0..path.instance().days() {
+        total += count(open_on(path, courses, day));
+    }
+    total
+}
+
+/// The rooms of a block in which one of the courses has a live cell in the period, as a set. No course is asked once each room
+/// has one.
+fn open_block<'i, P: Path<'i>>(path: &P, courses: &[u32], day: u32, period: u32, block: u32) -> u64
+    requires courses { AreBelow (length (P.problem path.now).courses) courses.now }
+    requires day { day < (P.problem path.now).days }
+    requires period { period < (P.problem path.now).periods }
+    requires block { block * 64 < length (P.problem path.now).rooms }
+    ensures { (n : ℕ) → n < 64 → has_bit result n ≡ (nat_lt (block * 64 + n) (length (P.problem path.now).rooms)
+        && live_in (P.problem path.now) (P.facts path.now) courses.now (block * 64 + n) (slot day period)) }
+{
+    let all = below(path.instance().rooms() - block * 64);
+    let mut open = 0;
+    for course in courses {
+        if open == all {
+            return open;
+        }
+        open = either(open, path.live_rooms(*course, day, period, block));
+    }
+    open
+}
+
+/// How many rooms have a live cell of one of the courses in the period.
+fn open_in_period<'i, P: Path<'i>>(path: &P, courses: &[u32], day: u32, period: u32) -> u32
+    requires courses { AreBelow (length (P.problem path.now).courses) courses.now }
+    requires day { day < (P.problem path.now).days }
+    requires period { period < (P.problem path.now).periods }
+    ensures value { result ≡ open_in_period (P.problem path.now) (P.facts path.now) courses.now (slot day period) }
+    ensures within { result ≤ MAX_ROOMS }
+{
+    let mut total = 0;
+    for block in 0..(path.instance().rooms() + 63) / 64 {
+        total += count(open_block(path, courses, day, period, block));
+    }
+    total
+}
+
+/// How many rooms in how many periods have a live cell of one of the courses.
+pub fn open_rooms<'i, P: Path<'i>>(path: &P, courses: &[u32]) -> u32
+    requires { AreBelow (length (P.problem path.now).courses) courses.now }
+    ensures value { result ≡ open_rooms (P.problem path.now) (P.facts path.now) courses.now }
+    ensures within { result ≤ 262144 }
+{
+    let instance = path.instance();
+    let mut total = 0;
+    for place in 0..slot_count(instance) {
+        let slot = slot_at(instance, place);
+        total += open_in_period(path, courses, slot.day, slot.period);
+    }
+    total
+}

@@ -1,0 +1,63 @@
+//! The isolated entries of a curriculum.
+
+ghost use Rattle.std.specs.Prelude.{◌≡◌, ◌<◌, ◌≤◌, ◌&&◌, ℕ, nat_lt, length};
+ghost use Rattle.tt_bits.specs.Bits.{has_bit};
+ghost use Rattle.tt_instance.specs.Cells.{slot};
+ghost use Rattle.tt_paths.specs.Live.{pinned};
+ghost use Rattle.tt_paths.specs.declared.facts.Who.TheVariants.{Curriculum};
+ghost use Rattle.tt_leaf_rules.specs.Claims.{is_alone, value_of};
+ghost use Rattle.tt_leaf_rules.specs.Nested.{isolated_periods};
+ghost use Rattle.tt_leaf_rules.specs.declared.leaf.Claim.TheVariants.{Compact};
+ghost use Rattle.tt_instance.specs.declared.limit.TheConstants.{MAX_SLOTS};
+
+use crate::groups::open_on;
+use tt_bits::{count, next, previous, without};
+use tt_instance::{MAX_DAYS, MAX_PERIODS};
+use tt_paths::{Path, Who};
+
+/// What an isolated entry costs, in cost points.
+const ISOLATED_PRICE: u64 = 2;
+
+/// The pinned periods of a curriculum on a day beside which none is live, as a set.
+fn isolated_on<'i, P: Path<'i>>(path: &P, curriculum: u32, day: u32) -> u64
+    requires curriculum { curriculum < length (P.problem path.now).curricula }
+    requires day { day < (P.problem path.now).days }
+    ensures { (s : ℕ) → s < 64 → has_bit result s ≡ (nat_lt s (P.problem path.now).periods
+        && (pinned (P.problem path.now) (P.facts path.now) (Curriculum curriculum) (slot day s)
+        && is_alone (P.problem path.now) (P.facts path.now) curriculum (slot day s))) }
+{
+    let instance = path.instance();
+    // What is true of every instance: its members are courses, and the periods of a day are the numbers of a word.
+    prove!(instance.days() <= MAX_DAYS);
+    prove!(instance.periods() <= MAX_PERIODS);
+    let pinned = path.pinned_periods(Who::Curriculum(curriculum), day);
+    if pinned == 0 {
+        return 0;
+    }
+    let members = instance.members(curriculum);
+    let live = open_on(path, members, day);
+    without(without(pinned, next(live)), previous(live))
+}
+
+fn isolated_periods<'i, P: Path<'i>>(path: &P, curriculum: u32) -> u32
+    requires { curriculum < length (P.problem path.now).curricula }
+    ensures value { result ≡ isolated_periods (P.problem path.now) (P.facts path.now) curriculum }
+    ensures within { result ≤ MAX_SLOTS }
+{
+    // What is true of every instance: the periods of a day are the numbers of a word.
+    prove!(path.instance().periods() <= MAX_PERIODS);
+    let mut total = 0;
+    for day in 0..path.instance().days() {
+        total += count(isolated_on(path, curriculum, day));
+    }
+    total
+}
+
+/// What a claim on the isolated entries of a curriculum is worth, in cost points.
+pub fn compact_value<'i, P: Path<'i>>(path: &P, curriculum: u32) -> u64
+    requires { curriculum < length (P.problem path.now).curricula }
+    ensures value { result ≡ value_of (P.problem path.now) (P.facts path.now) (Compact curriculum) }
+    ensures within { result ≤ 1024 }
+{
+    ISOLATED_PRICE * u64::from(isolated_periods(path, curriculum))
+}

@@ -1,0 +1,26 @@
+//! The leaf rules of proofs of lower bounds.
+#![tactic(auto)]
+
+mod capacity;
+mod claims;
+mod days;
+mod empty;
+mod groups;
+mod isolated;
+mod judging;
+mod laws;
+mod leaf;
+mod lists;
+mod met;
+mod pinned;
+mod prices;
+mod slots;
+mod stable;
+mod targets;
+
+pub use claims::claim_value;
+pub use judging::{holds, leaf_value};
+pub use laws::right_leaves_hold;
+pub use leaf::{Bound, Claim, ClaimList, Leaf, RuleFault};
+pub use lists::{CourseList, PriceList};
+pub use slots::{slot_at, slot_count};

@@ -1,0 +1,61 @@
+//! Numbers that have been met.
+
+ghost use Rattle.std.specs.Prelude.{◌≡◌, ℕ, ◌<◌, ◌==◌, ◌||◌, ◌&&◌, ◌∷◌, not, false, List, slice_index_or};
+ghost use Rattle.tt_leaf_rules.specs.Met.{marked, are_new};
+
+use std::marker::Model;
+
+/// Numbers are below this: four for each curriculum.
+const PLACES: usize = 32_768;
+
+/// Up to this many numbers, comparing each with each other one is sooner than clearing the marks.
+pub const FEW: usize = 32;
+
+/// Whether each number has been met.
+#[derive(Drop)]
+pub struct Met {
+    marks: [bool; PLACES],
+}
+
+impl Model for Met {
+    ghost use Rattle.std.specs.Prelude.{List, Bool};
+
+    ghost Value = { List Bool };
+
+    ghost view = { λ m. m.marks };
+}
+
+impl Met {
+    /// No number has been met.
+    pub fn none() -> Self
+        ensures { (k : ℕ) → marked result k ≡ false }
+    {
+        Met {
+            marks: [false; PLACES],
+        }
+    }
+
+    fn has(&self, number: usize) -> bool
+        requires { number < PLACES }
+        ensures { result ≡ marked self.now number }
+    {
+        self.marks[number]
+    }
+
+    fn add(&mut self, number: usize)
+        requires { number < PLACES }
+        ensures { (k : ℕ) → marked self.new k ≡ (marked self.old k || (number == k)) }
+    {
+        self.marks[number] = true;
+    }
+
+    /// Meets a number; whether it had not been met.
+    pub fn meet(&mut self, number: usize) -> bool
+        requires { number < PLACES }
+        ensures { (behind : List ℕ) → are_new self.old (number ∷ behind) ≡ (result && are_new self.new behind) }
+    {
+        let is_new = !self.has(number);
+        self.add(number);
+        is_new
+    }
+}

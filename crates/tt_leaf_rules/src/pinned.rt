@@ -1,0 +1,25 @@
+//! What the yes-facts of a path pin.
+
+ghost use Rattle.std.specs.Prelude.{◌≡◌, ◌≤◌};
+ghost use Rattle.tt_paths.specs.Facts.{IsWho};
+ghost use Rattle.tt_paths.specs.Live.{pinned_periods};
+ghost use Rattle.tt_instance.specs.declared.limit.TheConstants.{MAX_SLOTS};
+
+use tt_bits::count;
+use tt_instance::MAX_PERIODS;
+use tt_paths::{Path, Who};
+
+/// How many periods of the week are pinned for a course or a curriculum.
+pub fn pinned_periods<'i, P: Path<'i>>(path: &P, who: Who) -> u32
+    requires { IsWho (P.problem path.now) who }
+    ensures value { result ≡ pinned_periods (P.problem path.now) (P.facts path.now) who }
+    ensures within { result ≤ MAX_SLOTS }
+{
+    // What is true of every instance: the periods of a day are the numbers of a word.
+    prove!(path.instance().periods() <= MAX_PERIODS);
+    let mut total = 0;
+    for day in 0..path.instance().days() {
+        total += count(path.pinned_periods(who, day));
+    }
+    total
+}

@@ -1,0 +1,165 @@
+//! The targets of claims, none of which two claims may have.
+
+ghost use Rattle.std.specs.Prelude.{◌≡◌, ℕ, ◌*◌, ◌<◌, ◌==◌, ◌&&◌, ◌++◌, not, map, List, All};
+ghost use Rattle.std.specs.List.{list_any, list_all};
+ghost use Rattle.tt_leaf_rules.specs.Claims.{RoomCapacity, WorkingDays, Compactness, Stability};
+ghost use Rattle.tt_leaf_rules.specs.Leaves.{claims_once};
+ghost use Rattle.tt_leaf_rules.specs.Met.{are_new, places_of, IsPlaced};
+ghost use Rattle.tt_leaf_rules.specs.Nested.{claims_target, are_apart, IsOnce};
+
+use crate::leaf::Claim;
+use crate::met::{FEW, Met};
+
+fn is_priced(courses: &[(u32, u32)], course: u32) -> bool
+    ensures { result ≡ list_any (λ k. course == k.0) courses.now }
+{
+    courses.iter().any(|priced| course == priced.0)
+}
+
+fn claims_capacity(claim: &Claim, course: u32) -> bool
+    ensures { result ≡ claims_target claim.now (RoomCapacity course) }
+{
+    match claim {
+        Claim::Capacity {
+            course: claimed,
+            ..
+        } => course == *claimed,
+        Claim::Prices { courses, .. } => is_priced(courses.as_slice(), course),
+        _ => false,
+    }
+}
+
+fn claims_days(claim: &Claim, course: u32) -> bool
+    ensures { result ≡ claims_target claim.now (WorkingDays course) }
+{
+    match claim {
+        Claim::Days(claimed) | Claim::Stacked(claimed) => course == *claimed,
+        _ => false,
+    }
+}
+
+fn claims_compactness(claim: &Claim, curriculum: u32) -> bool
+    ensures { result ≡ claims_target claim.now (Compactness curriculum) }
+{
+    match claim {
+        Claim::Compact(claimed) => curriculum == *claimed,
+        _ => false,
+    }
+}
+
+fn claims_stability(claim: &Claim, course: u32) -> bool
+    ensures { result ≡ claims_target claim.now (Stability course) }
+{
+    match claim {
+        Claim::Stable(claimed) => course == *claimed,
+        _ => false,
+    }
+}
+
+fn claims_no_capacity(claim: &Claim, courses: &[(u32, u32)]) -> bool
+    ensures { result ≡ list_all (λ k. not (claims_target claim.now (RoomCapacity k.0))) courses.now }
+{
+    courses
+        .iter()
+        .all(|priced| !claims_capacity(claim, priced.0))
+}
+
+fn are_apart(claim: &Claim, other: &Claim) -> bool
+    ensures { result ≡ are_apart claim.now other.now }
+{
+    match claim {
+        Claim::Capacity { course, .. } => !claims_capacity(other, *course),
+        Claim::Days(course) | Claim::Stacked(course) => !claims_days(other, *course),
+        Claim::Compact(curriculum) => !claims_compactness(other, *curriculum),
+        Claim::Stable(course) => !claims_stability(other, *course),
+        Claim::Prices { courses, .. } => claims_no_capacity(other, courses.as_slice()),
+    }
+}
+
+fn is_apart_from_each(claim: &Claim, others: &[Claim]) -> bool
+    ensures { result ≡ list_all (are_apart claim.now) others.now }
+{
+    others.iter().all(|other| are_apart(claim, other))
+}
+
+fn each_two_apart(claims: &[Claim]) -> bool
+    requires { All IsOnce claims.now }
+    ensures { result ≡ claims_once claims.now }
+{
+    let mut rest = claims;
+    while let Some((first, others)) = rest.split_first() {
+        if !is_apart_from_each(first, others) {
+            return false;
+        }
+        rest = others;
+    }
+    true
+}
+
+/// Meets the room capacity of each course, until one has been met; whether none had been.
+fn meet_capacities(met: &mut Met, courses: &[(u32, u32)]) -> bool
+    requires { All (λ n. n < 32768) (map (λ k. 4 * k.0) courses.now) }
+    ensures { (behind : List ℕ) → are_new met.old (map (λ k. 4 * k.0) courses.now ++ behind) ≡ (result && are_new met.new behind) }
+{
+    let mut rest = courses;
+    while let Some((first, others)) = rest.split_first() {
+        if !met.meet(4 * first.0 as usize) {
+            return false;
+        }
+        rest = others;
+    }
+    true
+}
+
+/// Meets the targets of a claim, until one has been met; whether none had been.
+fn meet_targets(met: &mut Met, claim: &Claim) -> bool
+    requires { IsPlaced claim.now }
+    ensures { (behind : List ℕ) → are_new met.old (places_of claim.now ++ behind) ≡ (result && are_new met.new behind) }
+{
+    match claim {
+        Claim::Capacity { course, .. } => met.meet(4 * *course as usize),
+        Claim::Days(course) | Claim::Stacked(course) => met.meet(4 * *course as usize + 1),
+        Claim::Compact(curriculum) => met.meet(4 * *curriculum as usize + 2),
+        Claim::Stable(course) => met.meet(4 * *course as usize + 3),
+        Claim::Prices { courses, .. } => meet_capacities(met, courses.as_slice()),
+    }
+}
+
+/// The same by marks: no target is compared with each other one. Kept apart, since its marks stand on the stack.
+#[inline(never)]
+fn each_is_new(claims: &[Claim]) -> bool
+    requires { All IsPlaced claims.now }
+    ensures { result ≡ claims_once claims.now }
+{
+    let mut met = Met::none();
+    let mut rest = claims;
+    while let Some((first, others)) = rest.split_first() {
+        if !meet_targets(&mut met, first) {
+            return false;
+        }
+        rest = others;
+    }
+    true
+}
+
+/// Whether the claims have so few targets that to compare each two is quick.
+fn are_few(claims: &[Claim]) -> bool {
+    claims.len() <= 1
+        || claims.len() <= FEW
+            && claims
+                .iter()
+                .all(|claim| !matches!(claim, Claim::Prices { .. }))
+}
+
+/// Whether no target is claimed twice.
+pub fn claims_once(claims: &[Claim]) -> bool
+    requires once { All IsOnce claims.now }
+    requires placed { All IsPlaced claims.now }
+    ensures { result ≡ claims_once claims.now }
+{
+    if are_few(claims) {
+        each_two_apart(claims)
+    } else {
+        each_is_new(claims)
+    }
+}

@@ -1,0 +1,4 @@
+pub mod Facts
+pub mod Live
+pub mod Nested
+pub mod Paths

@@ -1,0 +1,17 @@
+pub mod ClaimLaws
+pub mod ClaimTurns
+pub mod Distinct
+pub mod Examples
+pub mod ListLaws
+pub mod ListTurns
+pub mod Loops
+pub mod NodeLaws
+pub mod PriceLaws
+pub mod PriceTurns
+pub mod Progress
+pub mod ProofLaws
+pub mod SeriesLaws
+pub mod Small
+pub mod Taking
+pub mod TokenLaws
+pub mod Whole

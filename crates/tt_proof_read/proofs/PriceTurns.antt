@@ -1,0 +1,122 @@
+-- One turn of the loop that reads prices.
+use Rattle.std.proofs.Common.{◌≡◌, ℕ, ◌<◌, ◌≤◌, ◌==◌, ◌||◌, Bool, false, List, [], ◌∷◌, ◌++◌, Option, Some, None, Result, Ok, refl, sym, ap, subst, append_assoc, ◌∙◌}
+use Rattle.std.specs.Prelude.{map, All}
+use Rattle.std.specs.List.{list_any}
+use Rattle.tt_lists.specs.Words.{has_number}
+use Rattle.std.proofs.lemmas.List.{map-append}
+use Rattle.std.proofs.lemmas.List.Elements.{All-nil, All-push, recursion_from_All}
+use Rattle.tt_lists.proofs.Members.{each_of_append}
+use Rattle.tt_leaf_rules.specs.Ranges.{ArePrices, AreBelow}
+use Rattle.tt_text.specs.Feeds.{Stream}
+use Rattle.tt_text.specs.Reading.{FailsUnless}
+use Rattle.tt_proof_read.specs.Pricing.{with_seen, IsUnseen, AreKept}
+use Rattle.tt_proof_read.specs.Reading.{Kept, Seen, seen_in, with_priced, with_pair, pair_at, next_pair_at, prices_at}
+use Rattle.tt_proof_read.specs.declared.fault.TextFault.{TextFault}
+use Rattle.tt_proof_read.specs.declared.format.TheConstants.{MAX_PRICE}
+use Rattle.tt_proof_read.specs.declared.prices.Priced.{Priced}
+use Rattle.tt_proof_read.specs.declared.prices.Priced.TheVariants.{Course, Room}
+use Rattle.tt_proof_read.specs.declared.sizes.Sizes.{Sizes}
+use Rattle.tt_proof_read.proofs.Loops.{IsLeft, all_left, left_then, left_end, left_fails}
+use Rattle.tt_proof_read.proofs.Progress.{pair_takes}
+use Rattle.tt_proof_read.proofs.Distinct.{each_two_push, is_new}
+
+-- a number among the pairs is among their numbers
+any_number : (prices : List (ℕ × ℕ)) (n : ℕ) → list_any (λ k. k.0 == n) prices ≡ has_number (map (λ k. k.0) prices) n
+any_number [] n = refl
+any_number (k ∷ ks) n = ap (λ b. (k.0 == n) || b) (any_number ks n)
+
+-- one price more
+prices_push : (count : ℕ) (prices : List (ℕ × ℕ)) (n u : ℕ) → ArePrices count prices → n < count → has_number (map (λ k. k.0) prices) n ≡ false → ArePrices count (prices ++ (n, u) ∷ [])
+prices_push count prices n u are below new = record {
+  within = subst (AreBelow count) (sym (map-append (λ k. k.0) prices ((n, u) ∷ []))) (All-push (λ m. m < count) (map (λ k. k.0) prices) n are.within below);
+  once = each_two_push (λ a b. a.0 == b.0) prices (n, u) are.once (any_number prices n ∙ new);
+}
+
+-- one pair more
+pub kept_push : (sizes : Sizes) (kept : Kept) (x : Priced) (u : ℕ) → AreKept sizes kept → IsUnseen sizes (seen_in kept) x → u ≤ MAX_PRICE → AreKept sizes (with_priced kept x u)
+kept_push sizes kept (Course c) u are new within = record {
+  courses = prices_push sizes.courses kept.0 c u are.courses new.0 new.1;
+  rooms = are.rooms;
+  course_prices = All-push (λ k. k.1 ≤ MAX_PRICE) kept.0 (c, u) are.course_prices within;
+  room_prices = are.room_prices;
+}
+kept_push sizes kept (Room r) u are new within = record {
+  courses = are.courses;
+  rooms = prices_push sizes.rooms kept.1 r u are.rooms new.0 new.1;
+  course_prices = are.course_prices;
+  room_prices = All-push (λ k. k.1 ≤ MAX_PRICE) kept.1 (r, u) are.room_prices within;
+}
+
+-- no pair
+pub kept_nothing : (sizes : Sizes) (kept : Kept) → kept ≡ ([], []) → AreKept sizes kept
+kept_nothing sizes kept e = subst (AreKept sizes) (sym e) (record {
+  courses = record { within = All-nil (λ m. m < sizes.courses); once = refl };
+  rooms = record { within = All-nil (λ m. m < sizes.rooms); once = refl };
+  course_prices = All-nil (λ (k : ℕ × ℕ). k.1 ≤ MAX_PRICE);
+  room_prices = All-nil (λ (k : ℕ × ℕ). k.1 ≤ MAX_PRICE);
+})
+
+-- before the first pair
+pub prices_left : (sizes : Sizes) (kept : Kept) (s : Stream) → kept ≡ ([], []) → IsLeft with_pair (next_pair_at sizes) kept s (prices_at sizes s)
+unfolding prices_at
+prices_left sizes kept s e = subst (λ k. IsLeft with_pair (next_pair_at sizes) k s (prices_at sizes s)) (sym e) (all_left with_pair (next_pair_at sizes) ([], []) s)
+
+-- ---- what the prices are
+
+-- what holds of each element holds of one in the middle
+middle : {X : Type 0} (P : X → Type 0) (before : List X) (x : X) (xs : List X) → All P (before ++ x ∷ xs) → P x
+middle P before x xs all = (each_of_append P before (x ∷ xs) (recursion_from_All P (before ++ x ∷ xs) all)).1.0
+
+-- a price among others is of a number below the count that is not priced before it
+price_before : (count : ℕ) (before : List (ℕ × ℕ)) (n u : ℕ) (xs : List (ℕ × ℕ)) → ArePrices count (before ++ (n, u) ∷ xs) → (n < count) × (has_number (map (λ k. k.0) before) n ≡ false)
+price_before count before n u xs are = (
+  middle (λ m. m < count) (map (λ k. k.0) before) n (map (λ k. k.0) xs) (subst (AreBelow count) (map-append (λ k. k.0) before ((n, u) ∷ xs)) are.within),
+  sym (any_number before n) ∙ is_new (λ a b. a.0 == b.0) before (n, u) xs are.once,
+)
+
+-- prices among which one comes next
+pub kept_before : (sizes : Sizes) (kept : Kept) (x : Priced) (u : ℕ) (courses rooms : List (ℕ × ℕ)) → AreKept sizes ((with_priced kept x u).0 ++ courses, (with_priced kept x u).1 ++ rooms) → IsUnseen sizes (seen_in kept) x × (u ≤ MAX_PRICE)
+kept_before sizes kept (Course c) u courses rooms are =
+    let grouped : (kept.0 ++ (c, u) ∷ []) ++ courses ≡ kept.0 ++ (c, u) ∷ courses = append_assoc kept.0 ((c, u) ∷ []) courses in (
+      price_before sizes.courses kept.0 c u courses (subst (ArePrices sizes.courses) grouped are.courses),
+      middle (λ k. k.1 ≤ MAX_PRICE) kept.0 (c, u) courses (subst (All (λ k. k.1 ≤ MAX_PRICE)) grouped are.course_prices),
+    )
+kept_before sizes kept (Room r) u courses rooms are =
+    let grouped : (kept.1 ++ (r, u) ∷ []) ++ rooms ≡ kept.1 ++ (r, u) ∷ rooms = append_assoc kept.1 ((r, u) ∷ []) rooms in (
+      price_before sizes.rooms kept.1 r u rooms (subst (ArePrices sizes.rooms) grouped are.rooms),
+      middle (λ k. k.1 ≤ MAX_PRICE) kept.1 (r, u) rooms (subst (All (λ k. k.1 ≤ MAX_PRICE)) grouped are.room_prices),
+    )
+
+-- courses and rooms
+abbrev seen : List ℕ → List ℕ → Seen
+seen courses rooms = (courses, rooms)
+
+-- the numbers of pairs and of one more
+pub seen_push : (kept : Kept) (x : Priced) (u : ℕ) → with_seen (seen_in kept) x ≡ seen_in (with_priced kept x u)
+seen_push kept (Course c) u = ap (λ (l : List ℕ). seen l (map (λ k. k.0) kept.1)) (sym (map-append (λ k. k.0) kept.0 ((c, u) ∷ [])))
+seen_push kept (Room r) u = ap (λ (l : List ℕ). seen (map (λ k. k.0) kept.0) l) (sym (map-append (λ k. k.0) kept.1 ((r, u) ∷ [])))
+
+-- ---- one turn
+
+-- what reading all prices gives
+abbrev Total : Type 0
+Total = Result (Kept × Stream) TextFault
+
+-- the prices so far come with those that are left to the total
+abbrev pub ArePricesLeft : Sizes → Kept → Stream → Total → Type 0
+ArePricesLeft sizes kept s total = IsLeft with_pair (next_pair_at sizes) kept s total
+
+-- a pair was read
+pub prices_then : (sizes : Sizes) (listed : Seen) (kept : Kept) (s rest : Stream) (o : Option (Priced × ℕ)) (x : Priced × ℕ) (total : Total) → listed ≡ seen_in kept → pair_at sizes listed s ≡ Ok (o, rest) → o ≡ Some x
+    → ArePricesLeft sizes kept s total → ArePricesLeft sizes (with_pair kept x) rest total
+prices_then sizes listed kept s rest o x total same e some left = left_then with_pair (next_pair_at sizes) (pair_takes sizes) kept s rest o x total (ap (λ l. pair_at sizes l s) (sym same) ∙ e) some left
+
+-- the end was read
+pub prices_end : (sizes : Sizes) (listed : Seen) (kept : Kept) (s rest : Stream) (o : Option (Priced × ℕ)) (total : Total) → listed ≡ seen_in kept → pair_at sizes listed s ≡ Ok (o, rest) → o ≡ None
+    → ArePricesLeft sizes kept s total → total ≡ Ok (kept, rest)
+prices_end sizes listed kept s rest o total same e none left = left_end with_pair (next_pair_at sizes) kept s rest o total (ap (λ l. pair_at sizes l s) (sym same) ∙ e) none left
+
+-- a token is refused
+pub prices_fail : (silent : TextFault → Bool) (f : TextFault) (sizes : Sizes) (listed : Seen) (kept : Kept) (s : Stream) (total : Total) → listed ≡ seen_in kept → FailsUnless silent f (pair_at sizes listed s) → ArePricesLeft sizes kept s total
+    → FailsUnless silent f total
+prices_fail silent f sizes listed kept s total same fails left = left_fails with_pair (next_pair_at sizes) silent f kept s total (subst (λ l. FailsUnless silent f (pair_at sizes l s)) same fails) left

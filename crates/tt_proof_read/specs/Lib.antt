@@ -1,0 +1,11 @@
+pub mod Answers
+pub mod Faults
+pub mod Listed
+pub mod Pricing
+pub mod Readers
+pub mod Reading
+pub mod Reads
+pub mod Sizes
+pub mod Spelling
+pub mod Trees
+pub mod Words

@@ -1,0 +1,76 @@
+-- What a reader of nodes has read, and what it says.
+use Rattle.std.specs.Prelude.{◌≡◌, ℕ, ◌+◌, ◌-◌, ◌<◌, true, is_some, List, Option, Some, None, Result, Ok, Err, ⊤}
+use Rattle.tt_instance.specs.Problem.{Problem}
+use Rattle.tt_leaf_rules.specs.Ranges.{IsClaimOf}
+use Rattle.tt_leaf_rules.specs.declared.leaf.Bound.{Bound}
+use Rattle.tt_leaf_rules.specs.declared.leaf.Claim.{Claim}
+use Rattle.tt_text.specs.Feeds.{Fed, Stream, fresh}
+use Rattle.tt_text.specs.CutShort.{cut_at, MayFail}
+use Rattle.tt_text.specs.Reading.{FailsUnless}
+use Rattle.tt_proof_read.specs.Answers.{AgreesWhenCutAs}
+use Rattle.tt_proof_read.specs.Faults.{is_silent}
+use Rattle.tt_proof_read.specs.Reading.{header_at, node_at}
+use Rattle.tt_proof_read.specs.Sizes.{AreSizes}
+use Rattle.tt_proof_read.specs.Spelling.{IsShortClaim, IsClaimIn, IsNode}
+use Rattle.tt_proof_read.specs.declared.claims.ClaimWord.{ClaimWord}
+use Rattle.tt_proof_read.specs.declared.claims.ClaimWord.TheVariants.{Capacity, Days, Compact, Stable, Prices, Stacked}
+use Rattle.tt_proof_read.specs.declared.fault.TextFault.{TextFault}
+use Rattle.tt_proof_read.specs.declared.node.Node.{Node}
+use Rattle.tt_proof_read.specs.declared.node.Node.TheVariants.{Split, Leaf}
+use Rattle.tt_proof_read.specs.declared.sizes.Sizes.{Sizes}
+
+-- prices and the stacked claims are of version 2
+abbrev pub IsWordIn : ℕ → ClaimWord → Type 0
+IsWordIn version Capacity = ⊤
+IsWordIn version Days = ⊤
+IsWordIn version Compact = ⊤
+IsWordIn version Stable = ⊤
+IsWordIn version Prices = version ≡ 2
+IsWordIn version Stacked = version ≡ 2
+
+-- a claim of this version on any problem of these sizes
+abbrev pub IsClaimAt : Sizes → ℕ → Claim → Type 0
+IsClaimAt sizes version claim = (p : Problem) → AreSizes p sizes → IsClaimOf p claim × IsShortClaim claim × IsClaimIn version claim
+
+-- a node of this version on any problem of these sizes
+abbrev pub IsNodeAt : Sizes → ℕ → Node → Type 0
+IsNodeAt sizes version node = (p : Problem) → AreSizes p sizes → IsNode p version node
+
+-- a reader: its feed, what the header said, how many nodes were read, how many places of the tree are open, and its fault
+pub record Reader : Type 0 where
+  pub fed : Fed
+  pub sizes : Sizes
+  pub version : ℕ
+  pub bound : Bound
+  pub count : ℕ
+  pub places : ℕ
+  pub fault : Option TextFault
+
+-- the open places after a node
+abbrev pub places_after : Node → ℕ → ℕ
+places_after (Split g) n = n + 1
+places_after (Leaf leaf) n = n - 1
+
+-- None where the tree is whole, and else a node, which takes a place, or a fault, which stays
+abbrev pub Goes : Reader → Result (Option Node) TextFault → Reader → Type 0
+Goes old (Ok None) new = (old.places ≡ 0) × (new ≡ old)
+Goes old (Ok (Some node)) new = (0 < old.places) × (new ≡ record old { fed = new.fed; count = old.count + 1; places = places_after node old.places })
+Goes old (Err f) new = (0 < old.places) × (new ≡ record old { fed = new.fed; fault = Some f })
+
+-- the answer is what the stream gives
+abbrev pub Says : Reader → Stream → Result (Option Node) TextFault → Stream → Type 0
+Says old s (Ok None) after = after ≡ s
+Says old s (Ok (Some node)) after = node_at old.sizes old.version old.count s ≡ Ok (node, after)
+Says old s (Err f) after = FailsUnless is_silent f (node_at old.sizes old.version old.count s)
+
+-- what a reader that has read its header, or has not, says of the failure of a read
+abbrev pub HeaderAgreesWhenCut : Option (List ℕ) → Result Reader TextFault → Option (List ℕ) → Type 0
+HeaderAgreesWhenCut before (Ok r) after = AgreesWhenCutAs {X = ℕ × Bound} fresh before r.fed after (λ h. h) (Ok (r.version, r.bound)) header_at
+HeaderAgreesWhenCut before (Err f) after = AgreesWhenCutAs {X = ℕ × Bound} fresh before fresh after (λ h. h) (Err f) header_at
+
+-- what a reader that has read a node, or has not, says of the failure of a read
+abbrev pub NodeAgreesWhenCut : Reader → Option (List ℕ) → Result (Option Node) TextFault → Fed → Option (List ℕ) → Type 0
+NodeAgreesWhenCut old before (Ok None) new after =
+    is_some before ≡ true → (rest : List ℕ) → MayFail rest new after → MayFail rest old.fed before × (cut_at rest new after ≡ cut_at rest old.fed before)
+NodeAgreesWhenCut old before (Ok (Some node)) new after = AgreesWhenCutAs {X = Node} old.fed before new after (λ n. n) (Ok node) (node_at old.sizes old.version old.count)
+NodeAgreesWhenCut old before (Err f) new after = AgreesWhenCutAs {X = Node} old.fed before new after (λ n. n) (Err f) (node_at old.sizes old.version old.count)

@@ -1,0 +1,160 @@
+-- Which proofs the bytes of a CTTP file spell.
+use Rattle.std.specs.Prelude.{◌≡◌, ℕ, ◌≤◌, ◌==◌, true, not, List, [], ◌∷◌, ◌++◌, length, map, flat_map, codes, All, if◌then◌else◌, Option, Some, None, ⊤}
+use Rattle.tt_lists.specs.Words.{each_two}
+use Rattle.tt_text.specs.Tokens.{tokens_of}
+use Rattle.tt_text.specs.declared.feed.TheConstants.{MAX_BYTES, MAX_TOKEN_BYTES}
+use Rattle.tt_text.specs.Pieces.{Piece, Text, Number, Index, AreTokens}
+use Rattle.tt_instance.specs.Problem.{Problem}
+use Rattle.tt_paths.specs.declared.facts.Who.{Who}
+use Rattle.tt_paths.specs.declared.facts.Who.TheVariants.{Course, Curriculum}
+use Rattle.tt_paths.specs.declared.facts.Pattern.{Pattern}
+use Rattle.tt_paths.specs.Facts.{IsPattern}
+use Rattle.tt_paths.specs.declared.path.TheConstants.{MAX_FACTS}
+use Rattle.tt_leaf_rules.specs.Ranges.{IsLeafOf}
+use Rattle.tt_leaf_rules.specs.declared.leaf.Bound.{Bound}
+use Rattle.tt_leaf_rules.specs.declared.leaf.Bound.TheVariants.{AtLeast, Nothing}
+use Rattle.tt_leaf_rules.specs.declared.leaf.Claim.{Claim}
+use Rattle.tt_leaf_rules.specs.declared.leaf.Claim.TheVariants.{Capacity, Days, Compact, Stable, Prices, Stacked}
+use Rattle.tt_leaf_rules.specs.declared.leaf.Leaf.{Leaf}
+use Rattle.tt_leaf_rules.specs.declared.leaf.Leaf.TheVariants.{Empty, Many, Clique, Slots, Cost}
+use Rattle.tt_proof_read.specs.declared.fault.Word.{Word}
+use Rattle.tt_proof_read.specs.declared.fault.Word.TheVariants as word
+use Rattle.tt_proof_read.specs.declared.format.TheConstants.{COURSE_LETTER, CURRICULUM_LETTER, DAY_LETTER, MAX_NODES, MAX_POINTS, MAX_PRICE, PERIOD_LETTER, ROOM_LETTER}
+use Rattle.tt_proof_read.specs.declared.node.Node.{Node}
+use Rattle.tt_proof_read.specs.declared.node.Node.TheVariants as node
+use Rattle.tt_proof_read.specs.Trees.{Tree, preorder, on_paths}
+use Rattle.tt_proof_read.specs.Words.{word_text}
+
+-- ---- how each part is spelled
+
+abbrev pub fixed : Word → Piece
+fixed w = Text (word_text w)
+
+-- the number after its letter, or `*` where none is given
+abbrev pub given_piece : ℕ → Option ℕ → Piece
+given_piece letter None = Text (codes "*")
+given_piece letter (Some n) = Index letter n
+
+-- `c` and a number
+abbrev pub course_piece : ℕ → Piece
+course_piece c = Index COURSE_LETTER c
+
+-- `r` and a number
+abbrev pub room_piece : ℕ → Piece
+room_piece r = Index ROOM_LETTER r
+
+abbrev pub who_piece : Who → Piece
+who_piece (Course c) = course_piece c
+who_piece (Curriculum q) = Index CURRICULUM_LETTER q
+
+-- who, room, day and period
+abbrev pub pattern_pieces : Pattern → List Piece
+pattern_pieces g = who_piece g.who ∷ given_piece ROOM_LETTER g.room ∷ given_piece DAY_LETTER g.day ∷ given_piece PERIOD_LETTER g.period ∷ []
+
+-- courses up to `;`
+abbrev pub listed_pieces : List ℕ → List Piece
+listed_pieces cs = map course_piece cs ++ Text (codes ";") ∷ []
+
+-- a price of a course or of a room
+pub data Price : Type 0 where
+  OfCourse : ℕ → ℕ → Price
+  OfRoom : ℕ → ℕ → Price
+
+abbrev pub price_pieces : Price → List Piece
+price_pieces (OfCourse c u) = course_piece c ∷ Number u ∷ []
+price_pieces (OfRoom r u) = room_piece r ∷ Number u ∷ []
+
+abbrev pub course_prices : List Price → List (ℕ × ℕ)
+course_prices [] = []
+course_prices (OfCourse c u ∷ xs) = (c, u) ∷ course_prices xs
+course_prices (OfRoom r u ∷ xs) = course_prices xs
+
+abbrev pub room_prices : List Price → List (ℕ × ℕ)
+room_prices [] = []
+room_prices (OfCourse c u ∷ xs) = room_prices xs
+room_prices (OfRoom r u ∷ xs) = (r, u) ∷ room_prices xs
+
+-- The prices of courses and of rooms may stand in any order.
+abbrev pub SpellsPrices : List (ℕ × ℕ) → List (ℕ × ℕ) → List Piece → Type 0
+SpellsPrices courses rooms ps =
+    (prices : List Price) × (course_prices prices ≡ courses) × (room_prices prices ≡ rooms)
+    × (ps ≡ Text (codes "P") ∷ (flat_map price_pieces prices ++ Text (codes "/") ∷ []))
+
+abbrev pub SpellsClaim : Claim → List Piece → Type 0
+SpellsClaim (Capacity c u) ps = ps ≡ Text (codes "C") ∷ course_piece c ∷ Number u ∷ []
+SpellsClaim (Days c) ps = ps ≡ Text (codes "D") ∷ course_piece c ∷ []
+SpellsClaim (Compact q) ps = ps ≡ Text (codes "Q") ∷ Index CURRICULUM_LETTER q ∷ []
+SpellsClaim (Stable c) ps = ps ≡ Text (codes "R") ∷ course_piece c ∷ []
+SpellsClaim (Prices courses rooms) ps = SpellsPrices courses rooms ps
+SpellsClaim (Stacked c) ps = ps ≡ Text (codes "T") ∷ course_piece c ∷ []
+
+-- each part in order
+abbrev pub SpellsEach : {X : Type 0} → (X → List Piece → Type 0) → List X → List Piece → Type 0
+SpellsEach S [] ps = ps ≡ []
+SpellsEach S (x ∷ xs) ps = (first rest : List Piece) × S x first × SpellsEach S xs rest × (ps ≡ first ++ rest)
+
+abbrev pub SpellsNode : Node → List Piece → Type 0
+SpellsNode (node.Split g) ps = ps ≡ Text (codes "S") ∷ pattern_pieces g
+SpellsNode (node.Leaf (Empty g)) ps = ps ≡ Text (codes "E") ∷ pattern_pieces g
+SpellsNode (node.Leaf (Many c)) ps = ps ≡ Text (codes "M") ∷ course_piece c ∷ []
+SpellsNode (node.Leaf (Clique cs)) ps = ps ≡ Text (codes "K") ∷ listed_pieces cs
+SpellsNode (node.Leaf (Slots cs)) ps = ps ≡ Text (codes "H") ∷ listed_pieces cs
+SpellsNode (node.Leaf (Cost claims)) ps =
+    (body : List Piece) × SpellsEach SpellsClaim claims body × (ps ≡ Text (codes "B") ∷ (body ++ Text (codes ";") ∷ []))
+
+abbrev pub bound_piece : Bound → Piece
+bound_piece (AtLeast b) = Number b
+bound_piece Nothing = Text (codes "none")
+
+abbrev pub version_text : ℕ → List ℕ
+version_text v = if v == 1 then codes "1" else codes "2"
+
+-- ---- what a file may say
+
+-- The courses of one `K` or `H` are distinct, and no price is above 1,000,000.
+abbrev pub IsShortClaim : Claim → Type 0
+IsShortClaim (Capacity c u) = u ≤ MAX_PRICE
+IsShortClaim (Prices courses rooms) = All (λ k. k.1 ≤ MAX_PRICE) courses × All (λ k. k.1 ≤ MAX_PRICE) rooms
+IsShortClaim _ = ⊤
+
+abbrev pub IsShortLeaf : Leaf → Type 0
+IsShortLeaf (Clique cs) = each_two (λ a b. not (a == b)) cs ≡ true
+IsShortLeaf (Slots cs) = each_two (λ a b. not (a == b)) cs ≡ true
+IsShortLeaf (Cost claims) = All IsShortClaim claims
+IsShortLeaf _ = ⊤
+
+-- Prices and Stacked are claims of version 2.
+abbrev pub IsClaimIn : ℕ → Claim → Type 0
+IsClaimIn v (Prices courses rooms) = v ≡ 2
+IsClaimIn v (Stacked c) = v ≡ 2
+IsClaimIn v _ = ⊤
+
+abbrev pub IsLeafIn : ℕ → Leaf → Type 0
+IsLeafIn v (Cost claims) = All (IsClaimIn v) claims
+IsLeafIn v _ = ⊤
+
+-- the numbers of a node are the instance's and within the limits, and its claims are the version's
+abbrev pub IsNode : Problem → ℕ → Node → Type 0
+IsNode p v (node.Split g) = IsPattern p g
+IsNode p v (node.Leaf leaf) = IsLeafOf p leaf × IsShortLeaf leaf × IsLeafIn v leaf
+
+abbrev pub IsBound : Bound → Type 0
+IsBound (AtLeast b) = b ≤ MAX_POINTS
+IsBound Nothing = ⊤
+
+-- the limits of a file
+pub record IsWithinLimits (bytes : List ℕ) (tree : Tree) : Type 0 where
+  pub size : length bytes ≤ MAX_BYTES
+  pub tokens : All (λ t. length t.text ≤ MAX_TOKEN_BYTES) (tokens_of bytes)
+  pub nodes : length (preorder tree) ≤ MAX_NODES
+  pub depth : All (λ x. length x.path ≤ MAX_FACTS) (on_paths [] tree)
+
+-- The tokens of the bytes are `CTTP`, the version, `bound`, the bound, the tree in preorder and `end`, and no more.
+pub record SpellsProof (p : Problem) (bytes : List ℕ) (v : ℕ) (b : Bound) (tree : Tree) : Type 0 where
+  pub version : (1 ≤ v) × (v ≤ 2)
+  pub bound : IsBound b
+  pub body : List Piece
+  pub nodes : SpellsEach SpellsNode (preorder tree) body
+  pub tokens : AreTokens (fixed word.Cttp ∷ Text (version_text v) ∷ fixed word.Bound ∷ bound_piece b ∷ (body ++ fixed word.End ∷ [])) (tokens_of bytes)
+  pub each : All (IsNode p v) (preorder tree)
+  pub within : IsWithinLimits bytes tree

@@ -1,0 +1,30 @@
+//! Proofs of lower bounds as text.
+#![tactic(auto)]
+
+mod claims;
+mod fault;
+mod fields;
+mod format;
+mod header;
+mod laws;
+mod lists;
+mod node;
+mod nodes;
+mod patterns;
+mod prices;
+mod reader;
+mod seen;
+mod sizes;
+mod tables;
+mod tree;
+
+pub use fault::{TextFault, Word};
+pub use format::{
+    COURSE_LETTER, CURRICULUM_LETTER, DAY_LETTER, MAX_NODES, MAX_POINTS, MAX_PRICE, PERIOD_LETTER,
+    ROOM_LETTER,
+};
+pub use laws::{filled_trees_are_whole, read_proofs_are_spelled};
+pub use node::Node;
+pub use reader::NodeReader;
+pub use sizes::Sizes;
+pub use tree::is_tree;

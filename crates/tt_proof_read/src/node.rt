@@ -1,0 +1,12 @@
+//! The nodes of a proof.
+
+use tt_leaf_rules::Leaf;
+use tt_paths::Pattern;
+
+/// A node of a proof; in a file nodes stand in preorder.
+#[derive(Debug, Drop)]
+pub enum Node {
+    /// The first child is under the yes-fact of the pattern, the second under its no-fact.
+    Split(Pattern),
+    Leaf(Leaf),
+}

@@ -1,0 +1,123 @@
+//! Single nodes.
+
+ghost use Rattle.std.specs.Prelude.{◌<◌, IfOk};
+ghost use Rattle.tt_proof_read.specs.Answers.{StaysKnown, TellsReads, ReadsAs, AgreesWhenCutAs};
+ghost use Rattle.tt_proof_read.specs.Faults.{TellsNoFailedRead, Gives};
+ghost use Rattle.tt_proof_read.specs.Pricing.{AreTables};
+ghost use Rattle.tt_proof_read.specs.Readers.{IsNodeAt};
+ghost use Rattle.tt_proof_read.specs.Reading.{node_word_of, node_after_word, node_at};
+
+use crate::claims::read_claims;
+use crate::fault::TextFault;
+use crate::fields::{read_course, token};
+use crate::format::MAX_NODES;
+use crate::lists::read_list;
+use crate::node::Node;
+use crate::patterns::read_pattern;
+use crate::sizes::Sizes;
+use crate::tables::Tables;
+use std::alloc::Global;
+use tt_leaf_rules::{ClaimList, CourseList, Leaf};
+use tt_text::{Feed, Source};
+
+/// The first token of a node.
+#[derive(Clone, Copy, Debug)]
+pub enum NodeWord {
+    Split,
+    Empty,
+    Many,
+    Clique,
+    Slots,
+    Cost,
+}
+
+/// The word of a node, in one token.
+fn node_word(text: &[u8], at: usize) -> Result<NodeWord, TextFault>
+    ensures read { Gives (λ w. w) result (node_word_of (record { text = text.now; at = at })) }
+    ensures unread { TellsNoFailedRead result }
+{
+    match text {
+        b"S" => Ok(NodeWord::Split),
+        b"E" => Ok(NodeWord::Empty),
+        b"M" => Ok(NodeWord::Many),
+        b"K" => Ok(NodeWord::Clique),
+        b"H" => Ok(NodeWord::Slots),
+        b"B" => Ok(NodeWord::Cost),
+        _ => Err(TextFault::UnknownWord(at)),
+    }
+}
+
+/// What follows the word of a node.
+#[tactic(auto, unfolding(crate::specs::Reading::node_after_word))]
+fn read_node_after_word<R: Source>(
+    alloc: Global,
+    feed: &mut Feed,
+    source: &mut R,
+    sizes: Sizes,
+    version: u8,
+    word: NodeWord,
+    tables: &mut Tables,
+) -> Result<Node, TextFault>
+    requires { AreTables sizes tables.old }
+    ensures tables { AreTables sizes tables.new }
+    ensures known { StaysKnown (R.remaining source.old) (R.remaining source.new) }
+    ensures failed { TellsReads feed.old.fault (R.has_failed source.old) feed.new.fault (R.has_failed source.new) result }
+    ensures read { ReadsAs feed.old (R.remaining source.old) feed.new (R.remaining source.new) (λ n. n) result (node_after_word sizes version word) }
+    ensures cut_short { AgreesWhenCutAs feed.old (R.remaining source.old) feed.new (R.remaining source.new) (λ n. n) result (node_after_word sizes version word) }
+    ensures node { IfOk result (IsNodeAt sizes version) }
+{
+    match word {
+        NodeWord::Split => {
+            let pattern = read_pattern(feed, source, sizes)?;
+            Ok(Node::Split(pattern))
+        }
+        NodeWord::Empty => {
+            let pattern = read_pattern(feed, source, sizes)?;
+            Ok(Node::Leaf(Leaf::Empty(pattern)))
+        }
+        NodeWord::Many => {
+            let course = read_course(feed, source, sizes)?;
+            Ok(Node::Leaf(Leaf::Many(course)))
+        }
+        NodeWord::Clique => {
+            let courses = read_list(alloc, feed, source, sizes, &mut tables.courses)?;
+            Ok(Node::Leaf(Leaf::Clique(CourseList::new(courses))))
+        }
+        NodeWord::Slots => {
+            let courses = read_list(alloc, feed, source, sizes, &mut tables.courses)?;
+            Ok(Node::Leaf(Leaf::Slots(CourseList::new(courses))))
+        }
+        NodeWord::Cost => {
+            let claims = read_claims(alloc, feed, source, sizes, version, tables)?;
+            Ok(Node::Leaf(Leaf::Cost(ClaimList::new(claims))))
+        }
+    }
+}
+
+/// A node, with this many nodes before it.
+#[tactic(auto, unfolding(crate::specs::Reading::node_at))]
+pub fn read_node<R: Source>(
+    alloc: Global,
+    feed: &mut Feed,
+    source: &mut R,
+    sizes: Sizes,
+    version: u8,
+    count: u32,
+    tables: &mut Tables,
+) -> Result<Node, TextFault>
+    requires { AreTables sizes tables.old }
+    ensures tables { AreTables sizes tables.new }
+    ensures known { StaysKnown (R.remaining source.old) (R.remaining source.new) }
+    ensures failed { TellsReads feed.old.fault (R.has_failed source.old) feed.new.fault (R.has_failed source.new) result }
+    ensures read { ReadsAs feed.old (R.remaining source.old) feed.new (R.remaining source.new) (λ n. n) result (node_at sizes version count) }
+    ensures cut_short { AgreesWhenCutAs feed.old (R.remaining source.old) feed.new (R.remaining source.new) (λ n. n) result (node_at sizes version count) }
+    ensures node { IfOk result (IsNodeAt sizes version) }
+    ensures room { IfOk result (λ _. count < MAX_NODES) }
+{
+    let at = token(feed, source)?;
+    if count >= MAX_NODES {
+        return Err(TextFault::TooManyNodes(at));
+    }
+    let word = node_word(feed.token(), at)?;
+    read_node_after_word(alloc, feed, source, sizes, version, word, tables)
+}

@@ -1,0 +1,30 @@
+//! How many there are of each thing that a proof numbers.
+
+use tt_instance::Instance;
+
+/// How many there are of each thing that a proof numbers.
+#[derive(Clone, Copy, Debug, Drop)]
+pub struct Sizes {
+    pub courses: u32,
+    pub curricula: u32,
+    pub rooms: u32,
+    pub days: u32,
+    pub periods: u32,
+}
+
+impl Sizes {
+    ghost use Rattle.tt_proof_read.specs.Sizes.{AreSizes};
+
+    /// The sizes of an instance.
+    pub fn of(instance: &Instance<'_>) -> Sizes
+        ensures { AreSizes instance.now result }
+    {
+        Sizes {
+            courses: instance.courses(),
+            curricula: instance.curricula(),
+            rooms: instance.rooms(),
+            days: instance.days(),
+            periods: instance.periods(),
+        }
+    }
+}

@@ -1,5 +1,0 @@
-use Rattle.tt_proof_text.proofs.Whole.{filled_tree, preorder_fills}
-use Rattle.tt_proof_text.proofs.laws.filled_trees_are_whole.Goals as goal
-
-pub returns : goal.returns
-returns c = λ nodes. (filled_tree nodes, preorder_fills nodes)

@@ -1,0 +1,59 @@
+-- Which nodes can be written.
+use Rattle.std.specs.Prelude.{◌≡◌, ℕ, ◌≤◌, List, [], length, All, ⊤}
+use Rattle.tt_leaf_rules.specs.declared.leaf.Bound.{Bound}
+use Rattle.tt_leaf_rules.specs.declared.leaf.Leaf.{Leaf}
+use Rattle.tt_leaf_rules.specs.declared.leaf.Leaf.TheVariants.{Cost}
+use Rattle.tt_text.specs.declared.feed.TheConstants.{MAX_BYTES}
+use Rattle.tt_proof_read.specs.declared.format.TheConstants.{MAX_NODES}
+use Rattle.tt_proof_read.specs.declared.node.Node.{Node}
+use Rattle.tt_proof_read.specs.declared.node.Node.TheVariants as node
+use Rattle.tt_proof_read.specs.Spelling.{IsShortClaim, IsLeafIn, IsBound}
+use Rattle.tt_proof_read.specs.Trees.{Tree, preorder, IsPreorder, on_paths}
+use Rattle.tt_proof_text.specs.declared.fault.WriteFault.{WriteFault}
+use Rattle.tt_proof_text.specs.declared.fault.WriteFault.TheVariants.{NotATree, OverLimit, NotInVersion, OutOfMemory}
+use Rattle.tt_proof_text.specs.Written.{proof_text}
+use Rattle.tt_paths.specs.declared.path.TheConstants.{MAX_FACTS}
+
+abbrev pub HasShortClaims : Leaf → Type 0
+HasShortClaims (Cost claims) = All IsShortClaim claims
+HasShortClaims _ = ⊤
+
+-- no price of its claims is above 1,000,000
+abbrev pub HasShortPrices : Node → Type 0
+HasShortPrices (node.Split g) = ⊤
+HasShortPrices (node.Leaf leaf) = HasShortClaims leaf
+
+-- no node stands below more than 65,536 splits
+abbrev pub IsShallow : List Node → Type 0
+IsShallow nodes = (tree : Tree) → preorder tree ≡ nodes → All (λ x. length x.path ≤ MAX_FACTS) (on_paths [] tree)
+
+-- the limits of a file, its bytes aside
+pub record AreWithin (b : Bound) (nodes : List Node) : Type 0 where
+  pub bound : IsBound b
+  pub count : length nodes ≤ MAX_NODES
+  pub prices : All HasShortPrices nodes
+  pub depth : IsShallow nodes
+
+-- the limits of a file
+pub record FitsFile (v : ℕ) (b : Bound) (nodes : List Node) : Type 0 where
+  pub parts : AreWithin b nodes
+  pub bytes : length (proof_text v b nodes) ≤ MAX_BYTES
+
+-- the claims of a node are the version's
+abbrev pub IsNodeIn : ℕ → Node → Type 0
+IsNodeIn v (node.Split g) = ⊤
+IsNodeIn v (node.Leaf leaf) = IsLeafIn v leaf
+
+-- why nodes were not written: the first of the faults that applies, being out of memory last
+abbrev pub Refuses : ℕ → Bound → List Node → WriteFault → Type 0
+Refuses v b nodes NotATree = ¬ IsPreorder nodes
+Refuses v b nodes OverLimit = IsPreorder nodes × ¬ FitsFile v b nodes
+Refuses v b nodes NotInVersion = IsPreorder nodes × FitsFile v b nodes × ¬ All (IsNodeIn v) nodes
+Refuses v b nodes OutOfMemory = IsPreorder nodes × FitsFile v b nodes × All (IsNodeIn v) nodes
+
+-- what was written
+pub record Writes (v : ℕ) (b : Bound) (nodes : List Node) (bytes : List ℕ) : Type 0 where
+  pub tree : IsPreorder nodes
+  pub within : FitsFile v b nodes
+  pub version : All (IsNodeIn v) nodes
+  pub text : bytes ≡ proof_text v b nodes

@@ -1,8 +1,0 @@
-//! Paths that answer from tables and take changes back by trails.
-#![tactic(auto)]
-
-mod both;
-mod trail_path;
-
-pub use trail_path::TrailPath;
-pub use tt_facts::{Cell, Fact, MAX_FACTS, Path, PathFault, Pattern, PlainPath, Who, agrees};
