@@ -14,4 +14,5 @@ pub mod SeriesLaws
 pub mod Small
 pub mod Taking
 pub mod TokenLaws
+pub mod Underway
 pub mod Whole

@@ -1,5 +1,5 @@
 -- One turn of the loop that reads prices.
-use Rattle.std.proofs.Common.{◌≡◌, ℕ, ◌<◌, ◌≤◌, ◌==◌, ◌||◌, Bool, false, List, [], ◌∷◌, ◌++◌, Option, Some, None, Result, Ok, refl, sym, ap, subst, append_assoc, ◌∙◌}
+use Rattle.std.proofs.Common.{◌≡◌, ℕ, ◌<◌, ◌≤◌, ◌==◌, ◌||◌, false, List, [], ◌∷◌, ◌++◌, Option, Result, refl, sym, ap, subst, append_assoc, ◌∙◌}
 use Rattle.std.specs.Prelude.{map, All}
 use Rattle.std.specs.List.{list_any}
 use Rattle.tt_lists.specs.Words.{has_number}
@@ -8,7 +8,7 @@ use Rattle.std.proofs.lemmas.List.Elements.{All-nil, All-push, recursion_from_Al
 use Rattle.tt_lists.proofs.Members.{each_of_append}
 use Rattle.tt_leaf_rules.specs.Ranges.{ArePrices, AreBelow}
 use Rattle.tt_text.specs.Feeds.{Stream}
-use Rattle.tt_text.specs.Reading.{FailsUnless}
+use Rattle.tt_proof_read.specs.Contract.{State, IsReading}
 use Rattle.tt_proof_read.specs.Pricing.{with_seen, IsUnseen, AreKept}
 use Rattle.tt_proof_read.specs.Reading.{Kept, Seen, seen_in, with_priced, with_pair, pair_at, next_pair_at, prices_at}
 use Rattle.tt_proof_read.specs.declared.fault.TextFault.{TextFault}
@@ -16,8 +16,8 @@ use Rattle.tt_proof_read.specs.declared.format.TheConstants.{MAX_PRICE}
 use Rattle.tt_proof_read.specs.declared.prices.Priced.{Priced}
 use Rattle.tt_proof_read.specs.declared.prices.Priced.TheVariants.{Course, Room}
 use Rattle.tt_proof_read.specs.declared.sizes.Sizes.{Sizes}
-use Rattle.tt_proof_read.proofs.Loops.{IsLeft, all_left, left_then, left_end, left_fails}
-use Rattle.tt_proof_read.proofs.Progress.{pair_takes}
+use Rattle.tt_proof_read.proofs.Loops.{IsLeft, all_left}
+use Rattle.tt_proof_read.proofs.Underway.{ReadsPart}
 use Rattle.tt_proof_read.proofs.Distinct.{each_two_push, is_new}
 
 -- a number among the pairs is among their numbers
@@ -98,25 +98,7 @@ seen_push kept (Room r) u = ap (λ (l : List ℕ). seen (map (λ k. k.0) kept.0)
 
 -- ---- one turn
 
--- what reading all prices gives
-abbrev Total : Type 0
-Total = Result (Kept × Stream) TextFault
-
--- the prices so far come with those that are left to the total
-abbrev pub ArePricesLeft : Sizes → Kept → Stream → Total → Type 0
-ArePricesLeft sizes kept s total = IsLeft with_pair (next_pair_at sizes) kept s total
-
--- a pair was read
-pub prices_then : (sizes : Sizes) (listed : Seen) (kept : Kept) (s rest : Stream) (o : Option (Priced × ℕ)) (x : Priced × ℕ) (total : Total) → listed ≡ seen_in kept → pair_at sizes listed s ≡ Ok (o, rest) → o ≡ Some x
-    → ArePricesLeft sizes kept s total → ArePricesLeft sizes (with_pair kept x) rest total
-prices_then sizes listed kept s rest o x total same e some left = left_then with_pair (next_pair_at sizes) (pair_takes sizes) kept s rest o x total (ap (λ l. pair_at sizes l s) (sym same) ∙ e) some left
-
--- the end was read
-pub prices_end : (sizes : Sizes) (listed : Seen) (kept : Kept) (s rest : Stream) (o : Option (Priced × ℕ)) (total : Total) → listed ≡ seen_in kept → pair_at sizes listed s ≡ Ok (o, rest) → o ≡ None
-    → ArePricesLeft sizes kept s total → total ≡ Ok (kept, rest)
-prices_end sizes listed kept s rest o total same e none left = left_end with_pair (next_pair_at sizes) kept s rest o total (ap (λ l. pair_at sizes l s) (sym same) ∙ e) none left
-
--- a token is refused
-pub prices_fail : (silent : TextFault → Bool) (f : TextFault) (sizes : Sizes) (listed : Seen) (kept : Kept) (s : Stream) (total : Total) → listed ≡ seen_in kept → FailsUnless silent f (pair_at sizes listed s) → ArePricesLeft sizes kept s total
-    → FailsUnless silent f total
-prices_fail silent f sizes listed kept s total same fails left = left_fails with_pair (next_pair_at sizes) silent f kept s total (subst (λ l. FailsUnless silent f (pair_at sizes l s)) same fails) left
+-- a pair after those that are seen is one after those that are kept
+pub pair_kept : (sizes : Sizes) (now next : State) (result : Result (Option (Priced × ℕ)) TextFault) (listed : Seen) (kept : Kept) → listed ≡ seen_in kept → IsReading now next (λ o s. (o, s)) result (pair_at sizes listed)
+    → ReadsPart with_pair (next_pair_at sizes) (prices_at sizes) now next result kept
+pair_kept sizes now next result listed kept same read = subst (λ l. IsReading now next (λ o s. (o, s)) result (pair_at sizes l)) same read

@@ -1,24 +1,13 @@
 -- What a reader over a feed answers.
-use Rattle.std.specs.Prelude.{◌≡◌, ℕ, Bool, true, if◌then◌else◌, is_some, List, Option, None, Result, Ok, Err}
-use Rattle.tt_text.specs.Feeds.{Fed, Stream, stream_at}
+use Rattle.std.specs.Prelude.{◌≡◌, ℕ, true, is_some, List, Option, Result, Ok, Err}
+use Rattle.tt_text.specs.Feeds.{Fed, Stream}
 use Rattle.tt_text.specs.CutShort.{rest_of, cut_at, MayFail}
-use Rattle.tt_text.specs.declared.feed.FeedFault.{FeedFault}
-use Rattle.tt_proof_read.specs.Faults.{is_failed_read, Gives}
+use Rattle.tt_proof_read.specs.Faults.{is_failed_read}
 use Rattle.tt_proof_read.specs.declared.fault.TextFault.{TextFault}
 
 -- a source that tells its bytes still tells them
 abbrev pub StaysKnown : Option (List ℕ) → Option (List ℕ) → Type 0
 StaysKnown before after = is_some before ≡ true → is_some after ≡ true
-
--- Where the feed had no fault before, a read has failed since exactly if the answer says so, and after a value the feed has no fault.
-abbrev pub TellsReads : {X : Type 0} → Option FeedFault → Bool → Option FeedFault → Bool → Result X TextFault → Type 0
-TellsReads before failed after fails (Ok x) = before ≡ None → (after ≡ None) × (fails ≡ failed)
-TellsReads before failed after fails (Err f) = before ≡ None → fails ≡ (if is_failed_read f then true else failed)
-
--- Where the source tells its bytes, the answer and the stream after it are what reading gives of the stream before it.
-abbrev pub ReadsAs : {X Y : Type 0} → Fed → Option (List ℕ) → Fed → Option (List ℕ) → (X → Y) → Result X TextFault → (Stream → Result (Y × Stream) TextFault) → Type 0
-ReadsAs old before new after view result reading =
-    is_some before ≡ true → Gives (λ x. (view x, stream_at new after)) result (reading (stream_at old before))
 
 -- What an answer says of the failure of a read, its own or a later one, where the source tells its bytes. A value is what reading gives of what comes
 -- before a later failure. A failed read is told where reading comes to that very failure.

@@ -1,4 +1,5 @@
 pub mod Answers
+pub mod Contract
 pub mod Faults
 pub mod Listed
 pub mod Pricing

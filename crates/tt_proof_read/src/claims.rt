@@ -2,7 +2,7 @@
 
 ghost use Rattle.std.specs.Prelude.{◌<◌, IfOk, IfSome, All};
 ghost use Rattle.tt_text.specs.Feeds.{room_of};
-ghost use Rattle.tt_proof_read.specs.Answers.{StaysKnown, TellsReads, ReadsAs, AgreesWhenCutAs};
+ghost use Rattle.tt_proof_read.specs.Contract.{ReadsAs};
 ghost use Rattle.tt_proof_read.specs.Faults.{TellsNoFailedRead, Gives};
 ghost use Rattle.tt_proof_read.specs.Pricing.{AreTables};
 ghost use Rattle.tt_proof_read.specs.Readers.{IsWordIn, IsClaimAt};
@@ -60,11 +60,8 @@ fn read_claim_after_word<R: Source>(
     requires word { IsWordIn version word }
     requires tables { AreTables sizes tables.old }
     ensures tables { AreTables sizes tables.new }
-    ensures known { StaysKnown (R.remaining source.old) (R.remaining source.new) }
-    ensures failed { TellsReads feed.old.fault (R.has_failed source.old) feed.new.fault (R.has_failed source.new) result }
+    ensures read { ReadsAs R.Source feed.old source.old feed.new source.new (λ c. c) result (claim_after_word sizes word) }
     ensures forward { IfOk result (λ _. room_of feed.new < room_of feed.old) }
-    ensures read { ReadsAs feed.old (R.remaining source.old) feed.new (R.remaining source.new) (λ c. c) result (claim_after_word sizes word) }
-    ensures cut_short { AgreesWhenCutAs feed.old (R.remaining source.old) feed.new (R.remaining source.new) (λ c. c) result (claim_after_word sizes word) }
     ensures within { IfOk result (IsClaimAt sizes version) }
 {
     match word {
@@ -111,11 +108,8 @@ fn read_claim<R: Source>(
 ) -> Result<Option<Claim>, TextFault>
     requires { AreTables sizes tables.old }
     ensures tables { AreTables sizes tables.new }
-    ensures known { StaysKnown (R.remaining source.old) (R.remaining source.new) }
-    ensures failed { TellsReads feed.old.fault (R.has_failed source.old) feed.new.fault (R.has_failed source.new) result }
+    ensures read { ReadsAs R.Source feed.old source.old feed.new source.new (λ c. c) result (claim_at sizes version) }
     ensures forward { IfOk result (λ _. room_of feed.new < room_of feed.old) }
-    ensures read { ReadsAs feed.old (R.remaining source.old) feed.new (R.remaining source.new) (λ c. c) result (claim_at sizes version) }
-    ensures cut_short { AgreesWhenCutAs feed.old (R.remaining source.old) feed.new (R.remaining source.new) (λ c. c) result (claim_at sizes version) }
     ensures within { IfOk result (λ c. IfSome c (IsClaimAt sizes version)) }
 {
     let at = token(feed, source)?;
@@ -137,10 +131,7 @@ pub fn read_claims<R: Source>(
 ) -> Result<Vec<Claim>, TextFault>
     requires { AreTables sizes tables.old }
     ensures tables { AreTables sizes tables.new }
-    ensures known { StaysKnown (R.remaining source.old) (R.remaining source.new) }
-    ensures failed { TellsReads feed.old.fault (R.has_failed source.old) feed.new.fault (R.has_failed source.new) result }
-    ensures read { ReadsAs feed.old (R.remaining source.old) feed.new (R.remaining source.new) (λ v. v.items) result (claims_at sizes version) }
-    ensures cut_short { AgreesWhenCutAs feed.old (R.remaining source.old) feed.new (R.remaining source.new) (λ v. v.items) result (claims_at sizes version) }
+    ensures read { ReadsAs R.Source feed.old source.old feed.new source.new (λ v. v.items) result (claims_at sizes version) }
     ensures within { IfOk result (λ v. All (IsClaimAt sizes version) v.items) }
 {
     let mut claims = Vec::new(alloc);

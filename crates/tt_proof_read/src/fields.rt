@@ -1,9 +1,9 @@
 //! Single tokens of a proof.
 
-ghost use Rattle.std.specs.Prelude.{◌≡◌, ◌≤◌, ◌<◌, true, is_some, None, IfOk};
-ghost use Rattle.tt_text.specs.Feeds.{stream_at, room_of};
+ghost use Rattle.std.specs.Prelude.{◌≡◌, ◌≤◌, ◌<◌, None, IfOk};
+ghost use Rattle.tt_text.specs.Feeds.{room_of};
 ghost use Rattle.tt_text.specs.Numbers.{number_of};
-ghost use Rattle.tt_proof_read.specs.Answers.{StaysKnown, TellsReads, ReadsAs, AgreesWhenCut, AgreesWhenCutAs};
+ghost use Rattle.tt_proof_read.specs.Contract.{ReadsAs, ReadsPast};
 ghost use Rattle.tt_proof_read.specs.Faults.{TellsNoFailedRead, TellsNoOutOfMemory, Gives};
 ghost use Rattle.tt_proof_read.specs.Reading.{token_at, word_at, numbered_below, index_of, course_at, curriculum_at, priced_as, price_at};
 
@@ -16,12 +16,9 @@ use tt_text::{Feed, NumberFault, Source, Token, number};
 #[tactic(auto, unfolding(crate::specs::Reading::token_at))]
 #[inline(always)]
 pub fn token<R: Source>(feed: &mut Feed, source: &mut R) -> Result<usize, TextFault>
-    ensures known { StaysKnown (R.remaining source.old) (R.remaining source.new) }
-    ensures failed { TellsReads feed.old.fault (R.has_failed source.old) feed.new.fault (R.has_failed source.new) result }
+    ensures read { ReadsAs R.Source feed.old source.old feed.new source.new (λ at. record { text = feed.new.token; at = at }) result token_at }
     ensures memory { feed.old.fault ≡ None → TellsNoOutOfMemory result }
     ensures forward { IfOk result (λ _. room_of feed.new < room_of feed.old) }
-    ensures read { ReadsAs feed.old (R.remaining source.old) feed.new (R.remaining source.new) (λ at. record { text = feed.new.token; at = at }) result token_at }
-    ensures cut_short { AgreesWhenCutAs feed.old (R.remaining source.old) feed.new (R.remaining source.new) (λ at. record { text = feed.new.token; at = at }) result token_at }
 {
     match feed.next(source) {
         Ok(Some(at)) => Ok(at),
@@ -36,12 +33,8 @@ pub fn token<R: Source>(feed: &mut Feed, source: &mut R) -> Result<usize, TextFa
 /// A fixed word.
 #[tactic(auto, unfolding(crate::specs::Reading::word_at))]
 pub fn read_word<R: Source>(feed: &mut Feed, source: &mut R, word: Word) -> Result<(), TextFault>
-    ensures known { StaysKnown (R.remaining source.old) (R.remaining source.new) }
-    ensures failed { TellsReads feed.old.fault (R.has_failed source.old) feed.new.fault (R.has_failed source.new) result }
+    ensures read { ReadsPast R.Source feed.old source.old feed.new source.new result (word_at word) }
     ensures memory { feed.old.fault ≡ None → TellsNoOutOfMemory result }
-    ensures read { is_some (R.remaining source.old) ≡ true →
-        Gives (λ _. stream_at feed.new (R.remaining source.new)) result (word_at word (stream_at feed.old (R.remaining source.old))) }
-    ensures cut_short { AgreesWhenCut feed.old (R.remaining source.old) feed.new (R.remaining source.new) (λ _ s. s) result (word_at word) }
 {
     let at = token(feed, source)?;
     if word.text() == feed.token() {
@@ -97,11 +90,8 @@ pub fn read_course<R: Source>(
     source: &mut R,
     sizes: Sizes,
 ) -> Result<u32, TextFault>
-    ensures known { StaysKnown (R.remaining source.old) (R.remaining source.new) }
-    ensures failed { TellsReads feed.old.fault (R.has_failed source.old) feed.new.fault (R.has_failed source.new) result }
+    ensures read { ReadsAs R.Source feed.old source.old feed.new source.new (λ c. c) result (course_at sizes) }
     ensures forward { IfOk result (λ _. room_of feed.new < room_of feed.old) }
-    ensures read { ReadsAs feed.old (R.remaining source.old) feed.new (R.remaining source.new) (λ c. c) result (course_at sizes) }
-    ensures cut_short { AgreesWhenCutAs feed.old (R.remaining source.old) feed.new (R.remaining source.new) (λ c. c) result (course_at sizes) }
     ensures within { IfOk result (λ c. c < sizes.courses) }
 {
     let at = token(feed, source)?;
@@ -115,11 +105,8 @@ pub fn read_curriculum<R: Source>(
     source: &mut R,
     sizes: Sizes,
 ) -> Result<u32, TextFault>
-    ensures known { StaysKnown (R.remaining source.old) (R.remaining source.new) }
-    ensures failed { TellsReads feed.old.fault (R.has_failed source.old) feed.new.fault (R.has_failed source.new) result }
+    ensures read { ReadsAs R.Source feed.old source.old feed.new source.new (λ q. q) result (curriculum_at sizes) }
     ensures forward { IfOk result (λ _. room_of feed.new < room_of feed.old) }
-    ensures read { ReadsAs feed.old (R.remaining source.old) feed.new (R.remaining source.new) (λ q. q) result (curriculum_at sizes) }
-    ensures cut_short { AgreesWhenCutAs feed.old (R.remaining source.old) feed.new (R.remaining source.new) (λ q. q) result (curriculum_at sizes) }
     ensures within { IfOk result (λ q. q < sizes.curricula) }
 {
     let at = token(feed, source)?;
@@ -141,11 +128,8 @@ fn price(text: &[u8], at: usize) -> Result<u32, TextFault>
 /// A price in cost points.
 #[tactic(auto, unfolding(crate::specs::Reading::price_at))]
 pub fn read_price<R: Source>(feed: &mut Feed, source: &mut R) -> Result<u32, TextFault>
-    ensures known { StaysKnown (R.remaining source.old) (R.remaining source.new) }
-    ensures failed { TellsReads feed.old.fault (R.has_failed source.old) feed.new.fault (R.has_failed source.new) result }
+    ensures read { ReadsAs R.Source feed.old source.old feed.new source.new (λ u. u) result price_at }
     ensures forward { IfOk result (λ _. room_of feed.new < room_of feed.old) }
-    ensures read { ReadsAs feed.old (R.remaining source.old) feed.new (R.remaining source.new) (λ u. u) result price_at }
-    ensures cut_short { AgreesWhenCutAs feed.old (R.remaining source.old) feed.new (R.remaining source.new) (λ u. u) result price_at }
     ensures within { IfOk result (λ u. u ≤ MAX_PRICE) }
 {
     let at = token(feed, source)?;

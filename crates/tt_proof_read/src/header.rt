@@ -1,8 +1,7 @@
 //! The header and the end of a proof.
 
-ghost use Rattle.std.specs.Prelude.{◌≡◌, true, is_some, None};
-ghost use Rattle.tt_text.specs.Feeds.{stream_at};
-ghost use Rattle.tt_proof_read.specs.Answers.{StaysKnown, TellsReads, ReadsAs, AgreesWhenCut, AgreesWhenCutAs};
+ghost use Rattle.std.specs.Prelude.{◌≡◌, None};
+ghost use Rattle.tt_proof_read.specs.Contract.{ReadsAs, ReadsPast};
 ghost use Rattle.tt_proof_read.specs.Faults.{TellsNoFailedRead, TellsNoOutOfMemory, Gives};
 ghost use Rattle.tt_proof_read.specs.Reading.{version_of, version_at, bound_of, bound_at, header_at, end_at};
 
@@ -26,10 +25,7 @@ fn version(text: &[u8], at: usize) -> Result<u8, TextFault>
 
 #[tactic(auto, unfolding(crate::specs::Reading::version_at))]
 fn read_version<R: Source>(feed: &mut Feed, source: &mut R) -> Result<u8, TextFault>
-    ensures known { StaysKnown (R.remaining source.old) (R.remaining source.new) }
-    ensures failed { TellsReads feed.old.fault (R.has_failed source.old) feed.new.fault (R.has_failed source.new) result }
-    ensures read { ReadsAs feed.old (R.remaining source.old) feed.new (R.remaining source.new) (λ v. v) result version_at }
-    ensures cut_short { AgreesWhenCutAs feed.old (R.remaining source.old) feed.new (R.remaining source.new) (λ v. v) result version_at }
+    ensures read { ReadsAs R.Source feed.old source.old feed.new source.new (λ v. v) result version_at }
 {
     let at = token(feed, source)?;
     version(feed.token(), at)
@@ -52,10 +48,7 @@ fn bound(text: &[u8], at: usize) -> Result<Bound, TextFault>
 
 #[tactic(auto, unfolding(crate::specs::Reading::bound_at))]
 fn read_bound<R: Source>(feed: &mut Feed, source: &mut R) -> Result<Bound, TextFault>
-    ensures known { StaysKnown (R.remaining source.old) (R.remaining source.new) }
-    ensures failed { TellsReads feed.old.fault (R.has_failed source.old) feed.new.fault (R.has_failed source.new) result }
-    ensures read { ReadsAs feed.old (R.remaining source.old) feed.new (R.remaining source.new) (λ b. b) result bound_at }
-    ensures cut_short { AgreesWhenCutAs feed.old (R.remaining source.old) feed.new (R.remaining source.new) (λ b. b) result bound_at }
+    ensures read { ReadsAs R.Source feed.old source.old feed.new source.new (λ b. b) result bound_at }
 {
     let at = token(feed, source)?;
     bound(feed.token(), at)
@@ -64,10 +57,7 @@ fn read_bound<R: Source>(feed: &mut Feed, source: &mut R) -> Result<Bound, TextF
 /// The version and the bound.
 #[tactic(auto, unfolding(crate::specs::Reading::header_at))]
 pub fn read_header<R: Source>(feed: &mut Feed, source: &mut R) -> Result<(u8, Bound), TextFault>
-    ensures known { StaysKnown (R.remaining source.old) (R.remaining source.new) }
-    ensures failed { TellsReads feed.old.fault (R.has_failed source.old) feed.new.fault (R.has_failed source.new) result }
-    ensures read { ReadsAs feed.old (R.remaining source.old) feed.new (R.remaining source.new) (λ h. h) result header_at }
-    ensures cut_short { AgreesWhenCutAs feed.old (R.remaining source.old) feed.new (R.remaining source.new) (λ h. h) result header_at }
+    ensures read { ReadsAs R.Source feed.old source.old feed.new source.new (λ h. h) result header_at }
 {
     read_word(feed, source, Word::Cttp)?;
     let version = read_version(feed, source)?;
@@ -79,12 +69,8 @@ pub fn read_header<R: Source>(feed: &mut Feed, source: &mut R) -> Result<(u8, Bo
 /// The last token, and none after it.
 #[tactic(auto, unfolding(crate::specs::Reading::end_at))]
 pub fn read_end<R: Source>(feed: &mut Feed, source: &mut R) -> Result<(), TextFault>
-    ensures known { StaysKnown (R.remaining source.old) (R.remaining source.new) }
-    ensures failed { TellsReads feed.old.fault (R.has_failed source.old) feed.new.fault (R.has_failed source.new) result }
+    ensures read { ReadsPast R.Source feed.old source.old feed.new source.new result end_at }
     ensures memory { feed.old.fault ≡ None → TellsNoOutOfMemory result }
-    ensures read { is_some (R.remaining source.old) ≡ true →
-        Gives (λ _. stream_at feed.new (R.remaining source.new)) result (end_at (stream_at feed.old (R.remaining source.old))) }
-    ensures cut_short { AgreesWhenCut feed.old (R.remaining source.old) feed.new (R.remaining source.new) (λ _ s. s) result end_at }
 {
     read_word(feed, source, Word::End)?;
     match feed.next(source) {

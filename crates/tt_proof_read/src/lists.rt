@@ -4,7 +4,7 @@ ghost use Rattle.std.specs.Prelude.{◌≡◌, ◌<◌, ◌==◌, not, true, fal
 ghost use Rattle.tt_lists.specs.Words.{each_two, has_number};
 ghost use Rattle.tt_leaf_rules.specs.Ranges.{AreBelow};
 ghost use Rattle.tt_text.specs.Feeds.{room_of};
-ghost use Rattle.tt_proof_read.specs.Answers.{StaysKnown, TellsReads, ReadsAs, AgreesWhenCutAs};
+ghost use Rattle.tt_proof_read.specs.Contract.{ReadsAs};
 ghost use Rattle.tt_proof_read.specs.Faults.{TellsNoFailedRead, Gives};
 ghost use Rattle.tt_proof_read.specs.Reading.{listed_of, listed_at, list_at};
 
@@ -39,11 +39,8 @@ fn read_listed<R: Source>(
     sizes: Sizes,
     seen: &Seen,
 ) -> Result<Option<u32>, TextFault>
-    ensures known { StaysKnown (R.remaining source.old) (R.remaining source.new) }
-    ensures failed { TellsReads feed.old.fault (R.has_failed source.old) feed.new.fault (R.has_failed source.new) result }
+    ensures read { ReadsAs R.Source feed.old source.old feed.new source.new (λ c. c) result (listed_at sizes seen.now.numbers) }
     ensures forward { IfOk result (λ _. room_of feed.new < room_of feed.old) }
-    ensures read { ReadsAs feed.old (R.remaining source.old) feed.new (R.remaining source.new) (λ c. c) result (listed_at sizes seen.now.numbers) }
-    ensures cut_short { AgreesWhenCutAs feed.old (R.remaining source.old) feed.new (R.remaining source.new) (λ c. c) result (listed_at sizes seen.now.numbers) }
     ensures within { IfOk result (λ c. IfSome c (λ n. n < sizes.courses)) }
     ensures new { IfOk result (λ c. IfSome c (λ n. has_number seen.now.numbers n ≡ false)) }
 {
@@ -61,10 +58,7 @@ pub fn read_list<R: Source>(
 ) -> Result<Vec<u32>, TextFault>
     requires { seen.old.count ≡ sizes.courses }
     ensures count { seen.new.count ≡ seen.old.count }
-    ensures known { StaysKnown (R.remaining source.old) (R.remaining source.new) }
-    ensures failed { TellsReads feed.old.fault (R.has_failed source.old) feed.new.fault (R.has_failed source.new) result }
-    ensures read { ReadsAs feed.old (R.remaining source.old) feed.new (R.remaining source.new) (λ v. v.items) result (list_at sizes) }
-    ensures cut_short { AgreesWhenCutAs feed.old (R.remaining source.old) feed.new (R.remaining source.new) (λ v. v.items) result (list_at sizes) }
+    ensures read { ReadsAs R.Source feed.old source.old feed.new source.new (λ v. v.items) result (list_at sizes) }
     ensures within { IfOk result (λ v. AreBelow sizes.courses v.items) }
     ensures once { IfOk result (λ v. each_two (λ a b. not (a == b)) v.items ≡ true) }
 {

@@ -1,7 +1,7 @@
 //! Single nodes.
 
 ghost use Rattle.std.specs.Prelude.{◌<◌, IfOk};
-ghost use Rattle.tt_proof_read.specs.Answers.{StaysKnown, TellsReads, ReadsAs, AgreesWhenCutAs};
+ghost use Rattle.tt_proof_read.specs.Contract.{ReadsAs};
 ghost use Rattle.tt_proof_read.specs.Faults.{TellsNoFailedRead, Gives};
 ghost use Rattle.tt_proof_read.specs.Pricing.{AreTables};
 ghost use Rattle.tt_proof_read.specs.Readers.{IsNodeAt};
@@ -60,10 +60,7 @@ fn read_node_after_word<R: Source>(
 ) -> Result<Node, TextFault>
     requires { AreTables sizes tables.old }
     ensures tables { AreTables sizes tables.new }
-    ensures known { StaysKnown (R.remaining source.old) (R.remaining source.new) }
-    ensures failed { TellsReads feed.old.fault (R.has_failed source.old) feed.new.fault (R.has_failed source.new) result }
-    ensures read { ReadsAs feed.old (R.remaining source.old) feed.new (R.remaining source.new) (λ n. n) result (node_after_word sizes version word) }
-    ensures cut_short { AgreesWhenCutAs feed.old (R.remaining source.old) feed.new (R.remaining source.new) (λ n. n) result (node_after_word sizes version word) }
+    ensures read { ReadsAs R.Source feed.old source.old feed.new source.new (λ n. n) result (node_after_word sizes version word) }
     ensures node { IfOk result (IsNodeAt sizes version) }
 {
     match word {
@@ -107,10 +104,7 @@ pub fn read_node<R: Source>(
 ) -> Result<Node, TextFault>
     requires { AreTables sizes tables.old }
     ensures tables { AreTables sizes tables.new }
-    ensures known { StaysKnown (R.remaining source.old) (R.remaining source.new) }
-    ensures failed { TellsReads feed.old.fault (R.has_failed source.old) feed.new.fault (R.has_failed source.new) result }
-    ensures read { ReadsAs feed.old (R.remaining source.old) feed.new (R.remaining source.new) (λ n. n) result (node_at sizes version count) }
-    ensures cut_short { AgreesWhenCutAs feed.old (R.remaining source.old) feed.new (R.remaining source.new) (λ n. n) result (node_at sizes version count) }
+    ensures read { ReadsAs R.Source feed.old source.old feed.new source.new (λ n. n) result (node_at sizes version count) }
     ensures node { IfOk result (IsNodeAt sizes version) }
     ensures room { IfOk result (λ _. count < MAX_NODES) }
 {

@@ -3,7 +3,7 @@
 ghost use Rattle.std.specs.Prelude.{◌<◌, IfOk};
 ghost use Rattle.tt_instance.specs.Problem.{Problem};
 ghost use Rattle.tt_paths.specs.Facts.{IsWho, IsGiven, IsPattern};
-ghost use Rattle.tt_proof_read.specs.Answers.{StaysKnown, TellsReads, ReadsAs, AgreesWhenCutAs};
+ghost use Rattle.tt_proof_read.specs.Contract.{ReadsAs};
 ghost use Rattle.tt_proof_read.specs.Faults.{TellsNoFailedRead, Gives};
 ghost use Rattle.tt_proof_read.specs.Sizes.{AreSizes};
 ghost use Rattle.tt_proof_read.specs.Reading.{who_in, who_at, given_of, given_at, pattern_at};
@@ -36,10 +36,7 @@ fn who(text: &[u8], at: usize, sizes: Sizes) -> Result<Who, TextFault>
 
 #[tactic(auto, unfolding(crate::specs::Reading::who_at))]
 fn read_who<R: Source>(feed: &mut Feed, source: &mut R, sizes: Sizes) -> Result<Who, TextFault>
-    ensures known { StaysKnown (R.remaining source.old) (R.remaining source.new) }
-    ensures failed { TellsReads feed.old.fault (R.has_failed source.old) feed.new.fault (R.has_failed source.new) result }
-    ensures read { ReadsAs feed.old (R.remaining source.old) feed.new (R.remaining source.new) (λ w. w) result (who_at sizes) }
-    ensures cut_short { AgreesWhenCutAs feed.old (R.remaining source.old) feed.new (R.remaining source.new) (λ w. w) result (who_at sizes) }
+    ensures read { ReadsAs R.Source feed.old source.old feed.new source.new (λ w. w) result (who_at sizes) }
     ensures within { (p : Problem) → AreSizes p sizes → IfOk result (IsWho p) }
 {
     let at = token(feed, source)?;
@@ -67,10 +64,7 @@ fn read_given<R: Source>(
     letter: u8,
     count: u32,
 ) -> Result<Option<u32>, TextFault>
-    ensures known { StaysKnown (R.remaining source.old) (R.remaining source.new) }
-    ensures failed { TellsReads feed.old.fault (R.has_failed source.old) feed.new.fault (R.has_failed source.new) result }
-    ensures read { ReadsAs feed.old (R.remaining source.old) feed.new (R.remaining source.new) (λ n. n) result (given_at letter count) }
-    ensures cut_short { AgreesWhenCutAs feed.old (R.remaining source.old) feed.new (R.remaining source.new) (λ n. n) result (given_at letter count) }
+    ensures read { ReadsAs R.Source feed.old source.old feed.new source.new (λ n. n) result (given_at letter count) }
     ensures within { IfOk result (IsGiven count) }
 {
     let at = token(feed, source)?;
@@ -84,10 +78,7 @@ pub fn read_pattern<R: Source>(
     source: &mut R,
     sizes: Sizes,
 ) -> Result<Pattern, TextFault>
-    ensures known { StaysKnown (R.remaining source.old) (R.remaining source.new) }
-    ensures failed { TellsReads feed.old.fault (R.has_failed source.old) feed.new.fault (R.has_failed source.new) result }
-    ensures read { ReadsAs feed.old (R.remaining source.old) feed.new (R.remaining source.new) (λ g. g) result (pattern_at sizes) }
-    ensures cut_short { AgreesWhenCutAs feed.old (R.remaining source.old) feed.new (R.remaining source.new) (λ g. g) result (pattern_at sizes) }
+    ensures read { ReadsAs R.Source feed.old source.old feed.new source.new (λ g. g) result (pattern_at sizes) }
     ensures within { (p : Problem) → AreSizes p sizes → IfOk result (IsPattern p) }
 {
     let who = read_who(feed, source, sizes)?;

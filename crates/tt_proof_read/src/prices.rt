@@ -2,7 +2,7 @@
 
 ghost use Rattle.std.specs.Prelude.{◌≡◌, ◌≤◌, ◌<◌, IfOk, IfSome, OnOk};
 ghost use Rattle.tt_text.specs.Feeds.{room_of};
-ghost use Rattle.tt_proof_read.specs.Answers.{StaysKnown, TellsReads, ReadsAs, AgreesWhenCutAs};
+ghost use Rattle.tt_proof_read.specs.Contract.{ReadsAs};
 ghost use Rattle.tt_proof_read.specs.Faults.{TellsNoFailedRead, Gives};
 ghost use Rattle.tt_proof_read.specs.Pricing.{kept_of, seen_of, AreTables, IsUnseen, AreKept};
 ghost use Rattle.tt_proof_read.specs.Reading.{priced_in, priced_of, pair_at, prices_at};
@@ -102,11 +102,8 @@ fn read_pair<R: Source>(
     sizes: Sizes,
     tables: &Tables,
 ) -> Result<Option<(Priced, u32)>, TextFault>
-    ensures known { StaysKnown (R.remaining source.old) (R.remaining source.new) }
-    ensures failed { TellsReads feed.old.fault (R.has_failed source.old) feed.new.fault (R.has_failed source.new) result }
+    ensures read { ReadsAs R.Source feed.old source.old feed.new source.new (λ x. x) result (pair_at sizes (seen_of tables.now)) }
     ensures forward { IfOk result (λ _. room_of feed.new < room_of feed.old) }
-    ensures read { ReadsAs feed.old (R.remaining source.old) feed.new (R.remaining source.new) (λ x. x) result (pair_at sizes (seen_of tables.now)) }
-    ensures cut_short { AgreesWhenCutAs feed.old (R.remaining source.old) feed.new (R.remaining source.new) (λ x. x) result (pair_at sizes (seen_of tables.now)) }
     ensures within { IfOk result (λ x. IfSome x (λ k. IsUnseen sizes (seen_of tables.now) k.0 × (k.1 ≤ MAX_PRICE))) }
 {
     let at = token(feed, source)?;
@@ -127,11 +124,8 @@ pub fn read_prices<R: Source>(
 ) -> Result<Prices, TextFault>
     requires { AreTables sizes tables.old }
     ensures tables { AreTables sizes tables.new }
-    ensures known { StaysKnown (R.remaining source.old) (R.remaining source.new) }
-    ensures failed { TellsReads feed.old.fault (R.has_failed source.old) feed.new.fault (R.has_failed source.new) result }
+    ensures read { ReadsAs R.Source feed.old source.old feed.new source.new (λ k. kept_of k) result (prices_at sizes) }
     ensures forward { IfOk result (λ _. room_of feed.new < room_of feed.old) }
-    ensures read { ReadsAs feed.old (R.remaining source.old) feed.new (R.remaining source.new) (λ k. kept_of k) result (prices_at sizes) }
-    ensures cut_short { AgreesWhenCutAs feed.old (R.remaining source.old) feed.new (R.remaining source.new) (λ k. kept_of k) result (prices_at sizes) }
     ensures within { IfOk result (λ k. AreKept sizes (kept_of k)) }
 {
     let mut prices = Prices {
