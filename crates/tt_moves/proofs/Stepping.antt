@@ -1,4 +1,4 @@
--- The rest of a timetable for each step, and the entries put back.
+-- The exchanges that make a step, and the rests of the timetable beside them.
 use Rattle.std.proofs.Common.{◌≡◌, ℕ, ◌+◌, ◌<◌, ◌≢◌, Bool, false, ◌&&◌, List, ◌∷◌, length, get_or, set, refl, sym, ap, ◌∙◌, subst, arith, inl, inr, ne_eqb, Bor}
 use Rattle.std.specs.Prelude.{sum_by, count_by, remove, All}
 use Rattle.std.proofs.lemmas.Bool.{cases_lt, cases_eq}
@@ -11,14 +11,15 @@ use Rattle.tt_instance.specs.Problem.{Problem}
 use Rattle.tt_instance.specs.Cells.{InRange, is_of}
 use Rattle.tt_instance.specs.declared.cell.Cell.{Cell}
 use Rattle.tt_table.specs.Table.{IsTimetable}
-use Rattle.tt_rules.specs.Score.{hard, cost}
 use Rattle.tt_change.specs.Bag.{SameBag}
 use Rattle.tt_change.proofs.Bags.{bag_front, bag_set, bag_swap}
-use Rattle.tt_change.proofs.Same.{hard_same, cost_same}
 use Rattle.tt_occupancy.specs.Filled.{Filled}
-use Rattle.tt_moves.specs.Rests.{IsRest}
+use Rattle.tt_moves.specs.Exchanges.{IsExchange, IsFirst, Lead}
+use Rattle.tt_moves.specs.Rests.{IsRest, rest_without}
 use Rattle.tt_moves.specs.Steps.{no_entry, entry_at, in_place_of, stepped}
-use Rattle.tt_moves.specs.declared.step.Step.TheVariants.{Swap}
+use Rattle.tt_moves.specs.declared.exchanges.Exchanges.TheVariants.{Two}
+use Rattle.tt_moves.specs.declared.rest.Rest.{Rest}
+use Rattle.tt_moves.specs.declared.step.Step.TheVariants.{Move, Swap}
 
 All-remove : {X : Type 0} (P : X → Type 0) (xs : List X) (i : ℕ) → i < length xs → All P xs → All P (remove xs i)
 All-remove P xs i h all k d l =
@@ -41,91 +42,123 @@ rest_count q t i j from to gone h k a b =
     omega arith
 
 -- an entry of another course stays where it was
-still : (t : List Cell) (i j : ℕ) (x y z : Cell) → x ≡ entry_at t i → y ≡ entry_at t j → x.course ≢ y.course → y ≡ entry_at (set t i z) j
-still t i j x y z x_is y_is apart =
-    y_is ∙ sym (get_or-set_other t i j z no_entry (λ e. apart (ap (λ c. c.course) (x_is ∙ ap (entry_at t) (sym e) ∙ sym y_is))))
+still : (t : List Cell) (i j : ℕ) (z : Cell) → (entry_at t i).course ≢ (entry_at t j).course → entry_at t j ≡ entry_at (set t i z) j
+still t i j z apart = sym (get_or-set_other t i j z no_entry (λ e. apart (ap (λ n. (entry_at t n).course) (sym e))))
 
--- an entry before the others, and another one in its place
-module _ (p : Problem) (t : List Cell) (i : ℕ) (x : Cell) (h : i < length t) where
-  front : x ≡ entry_at t i → SameBag t (x ∷ remove t i)
-  front is f = bag_front t i no_entry h f ∙ ap (λ z. sum_by f (z ∷ remove t i)) (sym is)
-
-  pub hard_front : x ≡ entry_at t i → hard p t ≡ hard p (x ∷ remove t i)
-  hard_front is = hard_same p t (x ∷ remove t i) (front is)
-
-  pub cost_front : x ≡ entry_at t i → cost p t ≡ cost p (x ∷ remove t i)
-  cost_front is = cost_same p t (x ∷ remove t i) (front is)
-
-  pub hard_set : hard p (set t i x) ≡ hard p (x ∷ remove t i)
-  hard_set = hard_same p (set t i x) (x ∷ remove t i) (bag_set t i x x h)
-
-  pub cost_set : cost p (set t i x) ≡ cost p (x ∷ remove t i)
-  cost_set = cost_same p (set t i x) (x ∷ remove t i) (bag_set t i x x h)
-
--- two entries x and y
-module _ (t : List Cell) (i j : ℕ) (x y : Cell) (x_is : x ≡ entry_at t i) (y_is : y ≡ entry_at t j) where
-  pub exchanged_is : stepped t (Swap i j) ≡ set (set t i (in_place_of x y)) j (in_place_of y x)
-  exchanged_is =
-      ap (λ z. set (set t i (in_place_of z (entry_at t j))) j (in_place_of (entry_at t j) z)) (sym x_is)
-      ∙ ap (λ z. set (set t i (in_place_of x z)) j (in_place_of z x)) (sym y_is)
-
-  -- of one course they only change their places in the list
-  pub exchanged_same : i < length t → j < length t → x.course ≡ y.course → SameBag (stepped t (Swap i j)) t
-  exchanged_same h k course f =
-      let there : in_place_of x y ≡ y = ap (λ c. in_place_of (record { course = c; room = 0; day = 0; period = 0 }) y) course in
-      let here : in_place_of y x ≡ x = ap (λ c. in_place_of (record { course = c; room = 0; day = 0; period = 0 }) x) (sym course) in
-      ap (sum_by f) (exchanged_is ∙ ap (λ z. set (set t i z) j (in_place_of y x)) there ∙ ap (λ z. set (set t i y) j z) here)
-      ∙ bag_swap t i j x y no_entry h (let l = length-set t i y in omega arith) (sym x_is) after f
-    where
-      after : get_or (set t i y) j no_entry ≡ y
-      after = elim (cases_eq j i) [
-        | inl e ↦ ap (λ n. get_or (set t i y) n no_entry) e ∙ get_or-set_same t i y no_entry h
-        | inr other ↦ get_or-set_other t i j y no_entry other ∙ sym y_is
-      ]
+-- two entries of one course only change their places in the list
+pub swapped_same : (t : List Cell) (i j : ℕ) → i < length t → j < length t → (entry_at t i).course ≡ (entry_at t j).course → SameBag (stepped t (Swap i j)) t
+swapped_same t i j h k course f =
+    let x = entry_at t i in
+    let y = entry_at t j in
+    let there : in_place_of x y ≡ y = ap (λ c. in_place_of (record { course = c; room = 0; day = 0; period = 0 }) y) course in
+    let here : in_place_of y x ≡ x = ap (λ c. in_place_of (record { course = c; room = 0; day = 0; period = 0 }) x) (sym course) in
+    ap (sum_by f) (ap (λ z. set (set t i z) j (in_place_of y x)) there ∙ ap (λ z. set (set t i y) j z) here)
+    ∙ bag_swap t i j x y no_entry h (let l = length-set t i y in omega arith) refl after f
+  where
+    after : get_or (set t i (entry_at t j)) j no_entry ≡ entry_at t j
+    after = elim (cases_eq j i) [
+      | inl e ↦ ap (λ n. get_or (set t i (entry_at t j)) n no_entry) e ∙ get_or-set_same t i (entry_at t j) no_entry h
+      | inr other ↦ get_or-set_other t i j (entry_at t j) no_entry other
+    ]
 
 -- a timetable o
-module _ (o : Bor Filled) (ok : IsTimetable o.now.problem o.now.entries) where
-  abbrev pub entries : List Cell
-  entries = o.now.entries
+module _ (o : Bor Filled) where
+  abbrev p : Problem
+  p = o.now.problem
 
-  pub entry_in_range : (i : ℕ) (x : Cell) → i < length entries → x ≡ entry_at entries i → InRange o.now.problem x
-  entry_in_range i x h is = subst (InRange o.now.problem) (sym is) (ok i no_entry h)
+  abbrev t : List Cell
+  t = o.now.entries
 
-  -- the entries but one
-  pub without_one : (i : ℕ) (x : Cell) → i < length entries → x ≡ entry_at entries i → IsRest (record { occupied = o; from = x; to = x; gone = x }) (remove entries i)
-  without_one i x h is = record {
-    in_range = All-remove (InRange o.now.problem) entries i h ok;
-    gone = entry_in_range i x h is;
-    course = refl;
-    counts = λ test. let f = λ (e : Cell). one_if (test e) in let n = sum_by-remove f entries i no_entry h in let e = ap f is in omega arith;
-    own = λ test. refl;
+  -- an entry goes, and another one comes in its place
+  pub exchanged : (i : ℕ) (to : Cell) → i < length t → IsRest (rest_without o i) (remove t i) → InRange p to → to.course ≡ (entry_at t i).course → IsExchange p (record { rest = rest_without o i; to = to }) (remove t i) t (set t i to)
+  exchanged i to h rest in_range course = record {
+    problem = refl;
+    rest = rest;
+    in_range = in_range;
+    course = course;
+    before = bag_front t i no_entry h;
+    after = bag_set t i to no_entry h;
   }
 
-  -- two entries of different courses, the first in the place of the second
-  module _ (i j : ℕ) (x y : Cell) (h : i < length entries) (k : j < length entries) (x_is : x ≡ entry_at entries i) (y_is : y ≡ entry_at entries j) (apart : x.course ≢ y.course) where
-    abbrev pub there : Cell
-    there = in_place_of x y
+  -- a move by one exchange
+  pub moved_by_one : (i r d s : ℕ) (rest : Rest) → rest ≡ rest_without o i → IsRest rest (remove t i) → i < length t → r < length p.rooms → d < p.days → s < p.periods → IsFirst o.now (Move i r d s) (record { rest = rest; to = record { course = rest.gone.course; room = r; day = d; period = s } }) (stepped t (Move i r d s))
+  moved_by_one i r d s rest is ok h room day period =
+      let whole = subst (λ z. IsRest z (remove t i)) is ok in
+      let at = whole.gone in
+      let to : Cell = record { course = (entry_at t i).course; room = r; day = d; period = s } in
+      subst (λ z. IsFirst o.now (Move i r d s) (record { rest = z; to = record { course = z.gone.course; room = r; day = d; period = s } }) (stepped t (Move i r d s))) (sym is) (record {
+        gone = refl;
+        exchange = exchanged i to h whole (record { course = at.course; room = room; day = day; period = period }) refl;
+      })
 
-    pub there_in_range : InRange o.now.problem there
-    there_in_range =
-        let rx = entry_in_range i x h x_is in
-        let ry = entry_in_range j y k y_is in
-        record { course = rx.course; room = ry.room; day = ry.day; period = ry.period }
+  module _ (ok : IsTimetable p t) where
+    -- the entries but one
+    pub without_one : (i : ℕ) → i < length t → IsRest (rest_without o i) (remove t i)
+    without_one i h = record {
+      in_range = All-remove (InRange p) t i h ok;
+      gone = ok i no_entry h;
+      course = refl;
+      counts = λ test. let n = sum_by-remove (λ (e : Cell). one_if (test e)) t i no_entry h in omega arith;
+      own = λ test. refl;
+    }
 
-    pub still_inside : j < length (set entries i there)
-    still_inside = let l = length-set entries i there in omega arith
+    -- two entries of different courses, the first in the place of the second
+    module _ (i j : ℕ) (h : i < length t) (k : j < length t) (apart : (entry_at t i).course ≢ (entry_at t j).course) where
+      abbrev there : Cell
+      there = in_place_of (entry_at t i) (entry_at t j)
 
-    pub still_there : y ≡ entry_at (set entries i there) j
-    still_there = still entries i j x y there x_is y_is apart
+      abbrev here : Cell
+      here = in_place_of (entry_at t j) (entry_at t i)
 
-    pub without_other : IsRest (record { occupied = o; from = x; to = there; gone = y }) (remove (set entries i there) j)
-    without_other =
-        let p = o.now.problem in
-        let other : is_of y.course x ≡ false = ne_eqb x.course y.course apart in
-        record {
-          in_range = All-remove (InRange p) (set entries i there) j still_inside (All-set (InRange p) entries i there there_in_range ok);
-          gone = entry_in_range j y k y_is;
-          course = refl;
-          counts = λ test. rest_count test entries i j x there y h k x_is still_there;
-          own = λ test. ap (λ b. b && test x) other ∙ sym (ap (λ b. b && test there) other);
-        }
+      -- the entries but the second
+      abbrev rest_other : Rest
+      rest_other = record { occupied = o; from = entry_at t i; to = there; gone = entry_at t j }
+
+      there_in_range : InRange p there
+      there_in_range =
+          let x = ok i no_entry h in
+          let y = ok j no_entry k in
+          record { course = x.course; room = y.room; day = y.day; period = y.period }
+
+      here_in_range : InRange p here
+      here_in_range =
+          let x = ok i no_entry h in
+          let y = ok j no_entry k in
+          record { course = y.course; room = x.room; day = x.day; period = x.period }
+
+      inside : j < length (set t i there)
+      inside = let l = length-set t i there in omega arith
+
+      stays : entry_at t j ≡ entry_at (set t i there) j
+      stays = still t i j there apart
+
+      without_other : IsRest rest_other (remove (set t i there) j)
+      without_other =
+          let other : is_of (entry_at t j).course (entry_at t i) ≡ false = ne_eqb (entry_at t i).course (entry_at t j).course apart in
+          record {
+            in_range = All-remove (InRange p) (set t i there) j inside (All-set (InRange p) t i there there_in_range ok);
+            gone = ok j no_entry k;
+            course = refl;
+            counts = λ test. rest_count test t i j (entry_at t i) there (entry_at t j) h k refl stays;
+            own = λ test. ap (λ b. b && test (entry_at t i)) other ∙ sym (ap (λ b. b && test there) other);
+          }
+
+      pub there_first : IsFirst o.now (Swap i j) (record { rest = rest_without o i; to = there }) (set t i there)
+      there_first = record {
+        gone = refl;
+        exchange = exchanged i there h (without_one i h) there_in_range refl;
+      }
+
+      pub then_here : IsExchange p (record { rest = rest_other; to = here }) (remove (set t i there) j) (set t i there) (stepped t (Swap i j))
+      then_here = record {
+        problem = refl;
+        rest = without_other;
+        in_range = here_in_range;
+        course = refl;
+        before = λ f. bag_front (set t i there) j no_entry inside f ∙ ap (λ z. sum_by f (z ∷ remove (set t i there) j)) (sym stays);
+        after = bag_set (set t i there) j here no_entry inside;
+      }
+
+      -- the first goes to the second's place, then the second to its
+      pub swapped_by_two : Lead o.now (Swap i j) (Two (record { rest = rest_without o i; to = there }) (record { rest = rest_other; to = here }))
+      swapped_by_two = (remove (set t i there) j, set t i there, there_first, then_here)

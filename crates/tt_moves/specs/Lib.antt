@@ -1,5 +1,5 @@
-pub mod Around
 pub mod Changes
+pub mod Exchanges
 pub mod Pricing
 pub mod Rests
 pub mod Steps

@@ -1,11 +1,17 @@
 -- Only proofs rest on this file: nobody has to believe it.
 -- A timetable less an entry.
 use Rattle.std.specs.Prelude.{◌≡◌, ℕ, ◌+◌, Bool, true, cond, ◌&&◌, List, count_by}
+use Rattle.std.specs.Borrow.{Bor}
 use Rattle.tt_instance.specs.Cells.{InRange, slot, is_of, is_at}
 use Rattle.tt_instance.specs.Courses.{in_curriculum}
 use Rattle.tt_instance.specs.declared.cell.Cell.{Cell}
 use Rattle.tt_table.specs.Table.{IsTimetable}
+use Rattle.tt_occupancy.specs.Filled.{Filled, entry_at}
 use Rattle.tt_moves.specs.declared.rest.Rest.{Rest}
+
+-- all entries of a timetable but the one at place i
+abbrev pub rest_without : Bor Filled → ℕ → Rest
+rest_without o i = record { occupied = o; from = entry_at o.now.entries i; to = entry_at o.now.entries i; gone = entry_at o.now.entries i }
 
 -- u has the entries of the timetable, but one stands elsewhere and one is left out
 pub record IsRest (r : Rest) (u : List Cell) : Type 0 where

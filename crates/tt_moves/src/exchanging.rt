@@ -1,12 +1,14 @@
 //! What another entry in the place of one changes in the score.
 
-ghost use Rattle.std.specs.Prelude.{◌≡◌, List, ◌∷◌, pos, ◌+ℤ◌};
-ghost use Rattle.tt_instance.specs.Cells.{InRange};
+ghost use Rattle.std.specs.Prelude.{◌≡◌, List, pos, neg_ℤ, ◌+ℤ◌, ◌≤ℤ◌, ◌^◌};
+ghost use Rattle.tt_instance.specs.Problem.{Problem};
 ghost use Rattle.tt_instance.specs.declared.cell.Cell.{Cell};
 ghost use Rattle.tt_rules.specs.Score.{hard, cost};
 ghost use Rattle.tt_moves.specs.Changes.{IsSmall};
-ghost use Rattle.tt_moves.specs.Rests.{IsRest};
+ghost use Rattle.tt_moves.specs.Exchanges.{IsExchange, CanExchange};
+ghost use Rattle.tt_moves.specs.Pricing.{IsCost};
 
+use crate::cost::EntryCost;
 use crate::rest::Rest;
 use tt_table::Entry;
 
@@ -17,25 +19,63 @@ pub struct Change {
     pub cost: i64,
 }
 
-/// The change where an entry of its course stands in the place of the one left out.
-pub fn exchange(rest: &Rest<'_, '_, '_>, to: Entry) -> Change
-    requires in_range { InRange rest.now.occupied.now.problem to }
-    requires course { to.course ≡ rest.now.gone.course }
-    requires rest { (u : List Cell) × IsRest rest.now u }
-    ensures hard { (u : List Cell) → IsRest rest.now u
-        → pos (hard rest.now.occupied.now.problem (rest.now.gone ∷ u)) +ℤ result.hard
-        ≡ pos (hard rest.now.occupied.now.problem (to ∷ u)) }
-    ensures cost { (u : List Cell) → IsRest rest.now u
-        → pos (cost rest.now.occupied.now.problem (rest.now.gone ∷ u)) +ℤ result.cost
-        ≡ pos (cost rest.now.occupied.now.problem (to ∷ u)) }
-    ensures small { IsSmall result }
-{
-    let before = rest.weigh(rest.gone);
-    let after = rest.weigh(to);
-    Change {
-        hard: i64::from(after.hard) - i64::from(before.hard),
-        cost: i64::from(after.rise) + i64::from(before.fall)
+/// The entry that a rest leaves out goes, and another one of its course comes.
+#[derive(Clone, Copy)]
+pub struct Exchange<'b, 'a, 'i> {
+    pub rest: Rest<'b, 'a, 'i>,
+    pub to: Entry,
+}
+
+impl Exchange<'_, '_, '_> {
+    /// What it changes in the hard count.
+    fn hard_change(&self) -> i64
+        requires { CanExchange self.now }
+        ensures value { (p : Problem) (u s t : List Cell) → IsExchange p self.now u s t
+            → pos (hard p s) +ℤ result ≡ pos (hard p t) }
+        ensures low { neg_ℤ (pos (2 ^ 40)) ≤ℤ result }
+        ensures high { result ≤ℤ pos (2 ^ 40) }
+    {
+        let before = self.rest.hard_weight(self.rest.gone);
+        let after = self.rest.hard_weight(self.to);
+        i64::from(after) - i64::from(before)
+    }
+
+    /// What the entry costs that goes.
+    pub fn cost_before(&self) -> EntryCost
+        requires { CanExchange self.now }
+        ensures { (p : Problem) (u s t : List Cell) → IsExchange p self.now u s t
+            → IsCost p u self.now.rest.gone result }
+    {
+        self.rest.cost_weight(self.rest.gone)
+    }
+
+    /// What it changes in the cost, where the entry that goes costs this.
+    pub fn cost_change(&self, before: EntryCost) -> i64
+        requires { CanExchange self.now }
+        ensures value { (p : Problem) (u s t : List Cell) → IsExchange p self.now u s t
+            → IsCost p u self.now.rest.gone before
+            → pos (cost p s) +ℤ result ≡ pos (cost p t) }
+        ensures low { neg_ℤ (pos (2 ^ 40)) ≤ℤ result }
+        ensures high { result ≤ℤ pos (2 ^ 40) }
+    {
+        let after = self.rest.cost_weight(self.to);
+        i64::from(after.rise) + i64::from(before.fall)
             - i64::from(before.rise)
-            - i64::from(after.fall),
+            - i64::from(after.fall)
+    }
+
+    /// What it changes in the score.
+    pub fn change(&self) -> Change
+        requires { CanExchange self.now }
+        ensures hard { (p : Problem) (u s t : List Cell) → IsExchange p self.now u s t
+            → pos (hard p s) +ℤ result.hard ≡ pos (hard p t) }
+        ensures cost { (p : Problem) (u s t : List Cell) → IsExchange p self.now u s t
+            → pos (cost p s) +ℤ result.cost ≡ pos (cost p t) }
+        ensures small { IsSmall result }
+    {
+        Change {
+            hard: self.hard_change(),
+            cost: self.cost_change(self.cost_before()),
+        }
     }
 }

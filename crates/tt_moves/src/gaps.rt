@@ -7,18 +7,10 @@ ghost use Rattle.tt_instance.specs.declared.cell.Cell.{Cell};
 ghost use Rattle.tt_change.specs.Weight.{alone, all_joined};
 ghost use Rattle.tt_moves.specs.Rests.{IsRest};
 
-use crate::rest::{Rest, one_if};
+use crate::rest::Rest;
 use tt_instance::MAX_CURRICULA;
+use tt_occupancy::Gaps;
 use tt_table::Entry;
-
-/// What an entry would change in the isolated entries of its curricula.
-#[derive(Clone, Copy)]
-pub struct Gaps {
-    /// The curricula in which it would be isolated.
-    pub alone: u32,
-    /// The isolated entries that it would join.
-    pub joined: u32,
-}
 
 impl Rest<'_, '_, '_> {
     /// The curricula of the course left out.
@@ -30,7 +22,7 @@ impl Rest<'_, '_, '_> {
         ensures below { All (λ q. q < length self.now.occupied.now.problem.curricula) result.now }
         ensures members { All (λ q. in_curriculum self.now.occupied.now.problem q self.now.gone.course ≡ true)
             result.now }
-        ensures few { length result.now ≤ 8192 }
+        ensures few { length result.now ≤ MAX_CURRICULA }
     {
         // What is true of every instance: its curricula are few.
         prove!(self.occupied.instance().curricula() <= MAX_CURRICULA);
@@ -46,17 +38,17 @@ impl Rest<'_, '_, '_> {
             → result.alone ≡ alone self.now.occupied.now.problem u entry }
         ensures joined { (u : List Cell) → IsRest self.now u
             → result.joined ≡ all_joined self.now.occupied.now.problem u entry }
-        ensures few_alone { result.alone ≤ 8192 }
-        ensures few_joined { result.joined ≤ 8192 * 32770 }
+        ensures few_alone { result.alone ≤ MAX_CURRICULA }
+        ensures few_joined { result.joined ≤ MAX_CURRICULA * 32770 }
     {
         let is_still = self.is_still(entry.day);
-        let mut alone: u32 = 0;
-        let mut joined: u32 = 0;
+        let mut gaps = Gaps {
+            alone: 0,
+            joined: 0,
+        };
         for curriculum in self.curricula() {
-            let around = self.around(*curriculum, is_still, entry.day, entry.period);
-            alone += one_if(around.is_alone());
-            joined += around.joined();
+            gaps = gaps.with(self.around(*curriculum, is_still, entry.day, entry.period));
         }
-        Gaps { alone, joined }
+        gaps
     }
 }

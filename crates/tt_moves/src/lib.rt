@@ -1,8 +1,9 @@
 //! Steps, what they change in the score, and Kempe chains.
 #![tactic(auto)]
 
-mod around;
 mod changing;
+mod cost;
+mod exchanges;
 mod exchanging;
 mod gaps;
 mod near;
@@ -13,7 +14,8 @@ mod still;
 mod weight;
 
 pub use changing::{change, lowers};
+pub use cost::EntryCost;
 pub use exchanging::Change;
-pub use pricing::{EntryCost, cost_change, entry_cost};
+pub use pricing::{cost_change, entry_cost};
 pub use step::{Step, apply, apply_all, can_step, undo};
 pub use tt_chain::{Chain, ChainFault, chain, swap_chain};

@@ -4,12 +4,12 @@ ghost use Rattle.std.specs.Prelude.{◌≡◌, ◌+◌, ◌-◌, ◌<◌, ◌≤
 ghost use Rattle.tt_instance.specs.Courses.{in_curriculum};
 ghost use Rattle.tt_instance.specs.declared.cell.Cell.{Cell};
 ghost use Rattle.tt_change.specs.Standing.{standing};
-ghost use Rattle.tt_moves.specs.Around.{IsAround};
+ghost use Rattle.tt_occupancy.specs.Around.{IsAround};
 ghost use Rattle.tt_moves.specs.Rests.{IsRest, IsStill};
 
-use crate::around::Around;
 use crate::rest::Rest;
 use tt_instance::MAX_PERIODS;
+use tt_occupancy::Around;
 
 impl Rest<'_, '_, '_> {
     /// The entries this many periods before a period; none before the first one of the day.

@@ -1,6 +1,6 @@
 //! A timetable less an entry, read without writing.
 
-ghost use Rattle.std.specs.Prelude.{◌≡◌, ◌+◌, ◌-◌, ◌<◌, ◌≤◌, ◌==◌, ◌&&◌, true, cond, List, ◌∷◌, length};
+ghost use Rattle.std.specs.Prelude.{◌≡◌, ◌+◌, ◌-◌, ◌<◌, ◌≤◌, ◌==◌, ◌&&◌, true, cond, List, ◌∷◌, length, remove};
 ghost use Rattle.tt_instance.specs.Cells.{InRange, slot, slot_of, is_at, is_in};
 ghost use Rattle.tt_instance.specs.Courses.{in_curriculum, conflict};
 ghost use Rattle.tt_instance.specs.declared.cell.Cell.{Cell};
@@ -9,10 +9,11 @@ ghost use Rattle.tt_rules.specs.Soft.{days_of};
 ghost use Rattle.tt_tallies.specs.Tallies.{rooms_of};
 ghost use Rattle.tt_change.specs.Standing.{standing};
 ghost use Rattle.tt_change.specs.Weight.{repeats, shares, against};
-ghost use Rattle.tt_moves.specs.Rests.{IsRest};
+ghost use Rattle.tt_moves.specs.Rests.{IsRest, rest_without};
+ghost use Rattle.tt_instance.specs.declared.limit.TheConstants.{MAX_SLOTS};
 
 use tt_instance::Instance;
-use tt_occupancy::Occupied;
+use tt_occupancy::{Occupied, one_if};
 use tt_table::Entry;
 
 /// The entries of a timetable, but that one may stand elsewhere and one is left out.
@@ -48,13 +49,6 @@ fn collides(instance: &Instance<'_>, entry: Entry, place: Entry) -> bool
     instance.conflict(place.course, entry.course) && stands_at(entry, place.day, place.period)
 }
 
-/// 1 or 0.
-pub fn one_if(test: bool) -> u32
-    ensures { result ≡ cond test 1 0 }
-{
-    u32::from(test)
-}
-
 /// A count over the timetable, as one over the rest.
 fn adjusted(count: u32, to: bool, from: bool, gone: bool) -> u32
     requires few { count ≤ MAX_ENTRIES }
@@ -67,14 +61,32 @@ fn adjusted(count: u32, to: bool, from: bool, gone: bool) -> u32
 
 /// The places used, once an entry of one place stands in another.
 fn used_anew(used: u32, at_old: u32, at_new: u32, is_same: bool) -> u32
-    requires few { used ≤ 512 }
+    requires few { used ≤ MAX_SLOTS }
     requires some { cond (at_old == 1) 1 0 ≤ used }
     requires counted { cond is_same 1 0 ≤ at_new }
     ensures value { result ≡ (used - cond (at_old == 1) 1 0)
         + cond ((at_new - cond is_same 1 0) == 0) 1 0 }
-    ensures few { result ≤ 513 }
+    ensures few { result ≤ MAX_SLOTS + 1 }
 {
     used - one_if(at_old == 1) + one_if(at_new - one_if(is_same) == 0)
+}
+
+impl<'b, 'a, 'i> Rest<'b, 'a, 'i> {
+    /// All entries but one.
+    #[inline(always)]
+    pub fn without(occupied: &'b Occupied<'a, 'i>, entry: u32) -> Rest<'b, 'a, 'i>
+        requires { entry < length occupied.now.entries }
+        ensures value { result ≡ rest_without occupied.entry entry }
+        ensures rest { IsRest result (remove occupied.now.entries entry) }
+    {
+        let gone = occupied.entry(entry);
+        Rest {
+            occupied,
+            from: gone,
+            to: gone,
+            gone,
+        }
+    }
 }
 
 impl Rest<'_, '_, '_> {
@@ -156,7 +168,7 @@ impl Rest<'_, '_, '_> {
         requires rest { (u : List Cell) × IsRest self.now u }
         ensures value { (u : List Cell) → IsRest self.now u
             → result ≡ days_of self.now.occupied.now.problem (entry ∷ u) entry.course }
-        ensures few { result ≤ 513 }
+        ensures few { result ≤ MAX_SLOTS + 1 }
     {
         used_anew(
             self.occupied.days_used(entry.course),
@@ -173,7 +185,7 @@ impl Rest<'_, '_, '_> {
         requires rest { (u : List Cell) × IsRest self.now u }
         ensures value { (u : List Cell) → IsRest self.now u
             → result ≡ rooms_of self.now.occupied.now.problem (entry ∷ u) entry.course }
-        ensures few { result ≤ 513 }
+        ensures few { result ≤ MAX_SLOTS + 1 }
     {
         used_anew(
             self.occupied.rooms_used(entry.course),

@@ -7,7 +7,8 @@ ghost use Rattle.tt_table.specs.declared.table.TheConstants.{MAX_ENTRIES};
 ghost use Rattle.tt_change.specs.Standing.{standing};
 ghost use Rattle.tt_moves.specs.Rests.{IsRest, IsStill};
 
-use crate::rest::{Rest, one_if, stands_at};
+use crate::rest::{Rest, stands_at};
+use tt_occupancy::one_if;
 
 impl Rest<'_, '_, '_> {
     /// Whether the entry that stands elsewhere is of a course that shares no curriculum with the one left out.

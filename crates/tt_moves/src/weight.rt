@@ -4,28 +4,14 @@ ghost use Rattle.std.specs.Prelude.{◌≡◌, ◌+◌, ◌-◌, ◌*◌, ◌<�
 ghost use Rattle.tt_instance.specs.Cells.{InRange};
 ghost use Rattle.tt_instance.specs.declared.cell.Cell.{Cell};
 ghost use Rattle.tt_rules.specs.Soft.{days_cost, stability_cost};
-ghost use Rattle.tt_change.specs.Weight.{hard_weight, cost_rise, cost_fall};
+ghost use Rattle.tt_change.specs.Weight.{hard_weight};
+ghost use Rattle.tt_moves.specs.Pricing.{IsCost};
 ghost use Rattle.tt_moves.specs.Rests.{IsRest};
 
-use crate::rest::{Rest, one_if};
+use crate::cost::EntryCost;
+use crate::rest::Rest;
+use tt_occupancy::one_if;
 use tt_table::Entry;
-
-/// What an entry adds to the cost beside the other entries, and what it takes from it.
-#[derive(Clone, Copy)]
-pub struct EntryCost {
-    pub rise: u32,
-    pub fall: u32,
-    ghost small_rise: { rise < 2 ^ 30 },
-    ghost small_fall: { fall < 2 ^ 30 },
-}
-
-/// What an entry adds to the hard count and to the cost, and what it takes from the cost.
-#[derive(Clone, Copy)]
-pub struct Weight {
-    pub hard: u32,
-    pub rise: u32,
-    pub fall: u32,
-}
 
 impl Rest<'_, '_, '_> {
     /// What the days and rooms of the course left out cost, with an entry of it.
@@ -48,10 +34,8 @@ impl Rest<'_, '_, '_> {
         requires in_range { InRange self.now.occupied.now.problem entry }
         requires course { entry.course ≡ self.now.gone.course }
         requires rest { (u : List Cell) × IsRest self.now u }
-        ensures rise { (u : List Cell) → IsRest self.now u
-            → result.rise ≡ cost_rise self.now.occupied.now.problem u entry }
-        ensures fall { (u : List Cell) → IsRest self.now u
-            → result.fall ≡ cost_fall self.now.occupied.now.problem u entry }
+        ensures { (u : List Cell) → IsRest self.now u
+            → IsCost self.now.occupied.now.problem u entry result }
     {
         let instance = self.occupied.instance();
         let students = instance.students(entry.course);
@@ -63,29 +47,20 @@ impl Rest<'_, '_, '_> {
         }
     }
 
-    /// The weight of an entry of the course left out.
-    pub fn weigh(&self, entry: Entry) -> Weight
+    /// What an entry of the course left out adds to the hard count.
+    pub fn hard_weight(&self, entry: Entry) -> u32
         requires in_range { InRange self.now.occupied.now.problem entry }
         requires course { entry.course ≡ self.now.gone.course }
         requires rest { (u : List Cell) × IsRest self.now u }
-        ensures hard { (u : List Cell) → IsRest self.now u
-            → result.hard ≡ hard_weight self.now.occupied.now.problem u entry }
-        ensures rise { (u : List Cell) → IsRest self.now u
-            → result.rise ≡ cost_rise self.now.occupied.now.problem u entry }
-        ensures fall { (u : List Cell) → IsRest self.now u
-            → result.fall ≡ cost_fall self.now.occupied.now.problem u entry }
-        ensures few { (result.hard < 2 ^ 30) × (result.rise < 2 ^ 30) × (result.fall < 2 ^ 30) }
+        ensures value { (u : List Cell) → IsRest self.now u
+            → result ≡ hard_weight self.now.occupied.now.problem u entry }
+        ensures few { result < 2 ^ 30 }
     {
         let instance = self.occupied.instance();
         let barred = instance.unavailable(entry.course, entry.day, entry.period);
-        let cost = self.cost_weight(entry);
-        Weight {
-            hard: one_if(self.repeats(entry))
-                + self.against(entry)
-                + one_if(barred)
-                + one_if(self.shares(entry)),
-            rise: cost.rise,
-            fall: cost.fall,
-        }
+        one_if(self.repeats(entry))
+            + self.against(entry)
+            + one_if(barred)
+            + one_if(self.shares(entry))
     }
 }

@@ -1,4 +1,4 @@
-pub mod Around
 pub mod Examples
 pub mod Exchanging
 pub mod Replaced
+pub mod Standings

@@ -6,6 +6,7 @@ ghost use Rattle.tt_instance.specs.Courses.{teachers, in_curriculum, conflict};
 ghost use Rattle.tt_table.specs.declared.table.TheConstants.{MAX_ENTRIES};
 ghost use Rattle.tt_rules.specs.Soft.{days_of};
 ghost use Rattle.tt_tallies.specs.Tallies.{teaches, rooms_of};
+ghost use Rattle.tt_instance.specs.declared.limit.TheConstants.{MAX_DAYS, MAX_ROOMS};
 
 use crate::occupied::Occupied;
 use tt_instance::Instance;
@@ -116,7 +117,7 @@ impl<'a, 'i> Occupied<'a, 'i> {
     pub fn days_used(&self, course: u32) -> u32
         requires { course < length self.now.problem.courses }
         ensures count { result ≡ days_of self.now.problem self.now.entries course }
-        ensures few { result ≤ 64 }
+        ensures few { result ≤ MAX_DAYS }
     {
         u32::from(self.tables.days.used(course))
     }
@@ -125,7 +126,7 @@ impl<'a, 'i> Occupied<'a, 'i> {
     pub fn rooms_used(&self, course: u32) -> u32
         requires { course < length self.now.problem.courses }
         ensures count { result ≡ rooms_of self.now.problem self.now.entries course }
-        ensures few { result ≤ 512 }
+        ensures few { result ≤ MAX_ROOMS }
     {
         u32::from(self.tables.course_rooms.used(course))
     }

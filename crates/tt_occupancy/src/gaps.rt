@@ -1,86 +1,114 @@
-//! The isolated entries round a period.
+//! The isolated entries that an entry would make and join.
 
-ghost use Rattle.std.specs.Prelude.{◌≡◌, ◌+◌, ◌*◌, ◌^◌, ◌<◌, ◌≤◌, not, length, sum_by, count_by, All};
-ghost use Rattle.tt_occupancy.specs.Gaps.{standing_in, beside_in, joined_in};
+ghost use Rattle.std.specs.Prelude.{◌≡◌, ℕ, ◌+◌, ◌-◌, ◌*◌, ◌^◌, ◌<◌, ◌≤◌, nat_le, cond, List, [], ◌∷◌, ◌++◌, length, All};
+ghost use Rattle.tt_instance.specs.Problem.{Problem};
+ghost use Rattle.tt_instance.specs.declared.cell.Cell.{Cell};
+ghost use Rattle.tt_table.specs.Table.{IsTimetable};
+ghost use Rattle.tt_change.specs.Standing.{standing};
+ghost use Rattle.tt_tallies.specs.Tallies.{IsTally, of_curriculum};
+ghost use Rattle.tt_occupancy.specs.Around.{IsAround, AreGaps};
+ghost use Rattle.tt_instance.specs.declared.limit.TheConstants.{MAX_CURRICULA};
 
+use crate::around::Around;
+use crate::weighing::one_if;
 use tt_tallies::Week;
 
 /// What an entry would change in the isolated entries of its curricula.
 #[derive(Clone, Copy)]
 pub struct Gaps {
     /// The curricula in which it would be isolated.
-    pub alone: u64,
+    pub alone: u32,
     /// The isolated entries that it would join.
-    pub joined: u64,
+    pub joined: u32,
 }
 
-/// The entries of a row in a period; none past the day's end.
-fn standing(week: &Week, row: u32, day: u32, period: u32) -> u64
+impl Gaps {
+    /// With those of one more curriculum, whose entries stand so round the period.
+    pub fn with(self, around: Around) -> Gaps
+        requires alone { self.alone + 1 < 2 ^ 32 }
+        requires joined { self.joined + around.before + around.after < 2 ^ 32 }
+        ensures gaps { (p : Problem) (u : List Cell) (rows : List ℕ) (q d s : ℕ)
+            → AreGaps p u rows d s self → IsAround p u q d s around
+            → AreGaps p u (rows ++ q ∷ []) d s result }
+        ensures few_alone { result.alone ≤ self.alone + 1 }
+        ensures few_joined { result.joined ≤ self.joined + around.before + around.after }
+    {
+        Gaps {
+            alone: self.alone + one_if(around.is_alone()),
+            joined: self.joined + around.joined(),
+        }
+    }
+}
+
+/// The entries of a curriculum in a period; none past the day's end.
+fn standing(week: &Week, row: u32, day: u32, period: u32) -> u32
     requires row { row < week.now.grid.rows }
     requires day { day < week.now.days }
-    ensures value { result ≡ standing_in week.now row day period }
+    ensures value { (p : Problem) (u : List Cell) → IsTimetable p u
+        → IsTally p (length p.curricula) (of_curriculum p) u week.now
+        → result ≡ standing p u row day period }
     ensures few { result < 2 ^ 16 }
 {
     if period < week.periods {
-        u64::from(week.get(row, day, period))
+        u32::from(week.get(row, day, period))
     } else {
         0
     }
 }
 
-/// Whether an entry of a row stands in the period before or after.
-fn is_beside(week: &Week, row: u32, day: u32, period: u32) -> bool
+/// Those this many periods before a period; none before the first one of the day.
+fn standing_before(week: &Week, row: u32, day: u32, period: u32, by: u32) -> u32
     requires row { row < week.now.grid.rows }
     requires day { day < week.now.days }
-    requires small { period < 2 ^ 16 }
-    ensures { result ≡ beside_in week.now row day period }
+    ensures value { (p : Problem) (u : List Cell) → IsTimetable p u
+        → IsTally p (length p.curricula) (of_curriculum p) u week.now
+        → result ≡ cond (nat_le by period) (standing p u row day (period - by)) 0 }
+    ensures few { result < 2 ^ 16 }
 {
-    standing(week, row, day, period + 1) > 0
-        || (period > 0 && standing(week, row, day, period - 1) > 0)
+    if by <= period {
+        standing(week, row, day, period - by)
+    } else {
+        0
+    }
 }
 
-/// The isolated entries of a row that one in the period would join.
-fn joined(week: &Week, row: u32, day: u32, period: u32) -> u64
+/// The entries of a curriculum round a period.
+fn around(week: &Week, row: u32, day: u32, period: u32) -> Around
     requires row { row < week.now.grid.rows }
     requires day { day < week.now.days }
-    requires small { period < 2 ^ 15 }
-    ensures value { result ≡ joined_in week.now row day period }
-    ensures few { result < 2 ^ 17 }
+    requires period { period < week.now.periods }
+    ensures around { (p : Problem) (u : List Cell) → IsTimetable p u
+        → IsTally p (length p.curricula) (of_curriculum p) u week.now
+        → IsAround p u row day period result }
+    ensures few { result.before + result.after < 2 ^ 17 }
 {
-    let before = if period > 0 && !is_beside(week, row, day, period - 1) {
-        standing(week, row, day, period - 1)
-    } else {
-        0
-    };
-    let after = if !is_beside(week, row, day, period + 1) {
-        standing(week, row, day, period + 1)
-    } else {
-        0
-    };
-    before + after
+    Around {
+        two_before: standing_before(week, row, day, period, 2),
+        before: standing_before(week, row, day, period, 1),
+        here: standing(week, row, day, period),
+        after: standing(week, row, day, period + 1),
+        two_after: standing(week, row, day, period + 2),
+    }
 }
 
-/// What an entry of these rows would change, in a period.
+/// What an entry of these curricula would change, in a period.
 pub fn gaps_round(week: &Week, rows: &[u32], day: u32, period: u32) -> Gaps
     requires rows { All (λ q. q < week.now.grid.rows) rows.now }
     requires day { day < week.now.days }
     requires period { period < week.now.periods }
-    requires few { length rows.now ≤ 8192 }
-    ensures alone { result.alone ≡ count_by (λ q. not (beside_in week.now q day period)) rows.now }
-    ensures joined { result.joined ≡ sum_by (λ q. joined_in week.now q day period) rows.now }
-    ensures few_alone { result.alone ≤ 8192 }
+    requires few { length rows.now ≤ MAX_CURRICULA }
+    ensures gaps { (p : Problem) (u : List Cell) → IsTimetable p u
+        → IsTally p (length p.curricula) (of_curriculum p) u week.now
+        → AreGaps p u rows.now day period result }
+    ensures few_alone { result.alone ≤ MAX_CURRICULA }
     ensures few_joined { result.joined ≤ 2 ^ 30 }
 {
-    let mut alone: u64 = 0;
-    let mut joined_to: u64 = 0;
+    let mut gaps = Gaps {
+        alone: 0,
+        joined: 0,
+    };
     for row in rows {
-        if !is_beside(week, *row, day, period) {
-            alone += 1;
-        }
-        joined_to += joined(week, *row, day, period);
+        gaps = gaps.with(around(week, *row, day, period));
     }
-    Gaps {
-        alone,
-        joined: joined_to,
-    }
+    gaps
 }

@@ -1,6 +1,7 @@
 //! A timetable with the counts of its entries and its score, all kept up to date.
 #![tactic(auto)]
 
+mod around;
 mod counting;
 mod counts;
 mod gaps;
@@ -10,4 +11,7 @@ mod rescoring;
 mod weighing;
 mod weight;
 
+pub use around::Around;
+pub use gaps::Gaps;
 pub use occupied::{Occupied, Refused};
+pub use weighing::one_if;

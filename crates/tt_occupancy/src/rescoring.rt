@@ -10,11 +10,11 @@ use crate::weight::Weight;
 use tt_rules::Score;
 
 /// A count, one weight less and another one more.
-fn exchanged(total: u64, from: u64, to: u64) -> u64
+fn exchanged(total: u64, from: u32, to: u32) -> u64
     requires { (n : ℕ) × IsExchanged n total from to }
     ensures { (n : ℕ) → IsExchanged n total from to → result ≡ n }
 {
-    total + to - from
+    total + u64::from(to) - u64::from(from)
 }
 
 /// The score once an entry is replaced by another one of its course, from the weights of both

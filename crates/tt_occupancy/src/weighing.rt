@@ -15,33 +15,33 @@ use tt_table::Entry;
 use tt_tallies::Tables;
 
 /// 1 or 0.
-fn one_if(test: bool) -> u64
+pub fn one_if(test: bool) -> u32
     ensures { result ≡ cond test 1 0 }
 {
-    u64::from(test)
+    u32::from(test)
 }
 
 /// What the days of a course cost, with an entry of it more.
-fn days_with(instance: &Instance<'_>, tables: &Tables, entry: Entry) -> u64
+fn days_with(instance: &Instance<'_>, tables: &Tables, entry: Entry) -> u32
     requires in_range { InRange instance.now entry }
     requires counted { (t : List Cell) × AreTables instance.now t tables.now }
     ensures { (t : List Cell) → AreTables instance.now t tables.now
         → result ≡ days_cost instance.now (entry ∷ t) entry.course }
 {
     let is_new = tables.days.get(entry.course, entry.day) == 0;
-    let used = u64::from(tables.days.used(entry.course)) + one_if(is_new);
-    5 * u64::from(instance.min_days(entry.course)).saturating_sub(used)
+    let used = u32::from(tables.days.used(entry.course)) + one_if(is_new);
+    5 * instance.min_days(entry.course).saturating_sub(used)
 }
 
 /// What the rooms of a course cost, with an entry of it more.
-fn rooms_with(instance: &Instance<'_>, tables: &Tables, entry: Entry) -> u64
+fn rooms_with(instance: &Instance<'_>, tables: &Tables, entry: Entry) -> u32
     requires in_range { InRange instance.now entry }
     requires counted { (t : List Cell) × AreTables instance.now t tables.now }
     ensures { (t : List Cell) → AreTables instance.now t tables.now
         → result ≡ stability_cost instance.now (entry ∷ t) entry.course }
 {
     let is_new = tables.course_rooms.get(entry.course, entry.room) == 0;
-    let used = u64::from(tables.course_rooms.used(entry.course)) + one_if(is_new);
+    let used = u32::from(tables.course_rooms.used(entry.course)) + one_if(is_new);
     used.saturating_sub(1)
 }
 
@@ -57,14 +57,12 @@ pub fn weigh(instance: &Instance<'_>, tables: &Tables, entry: Entry) -> Weight
     let gaps = gaps_round(&tables.curricula, curricula, day, period);
     Weight {
         repeats: one_if(tables.courses.get(course, day, period) > 0),
-        against: u64::from(tables.opponents.get(course, day, period)),
+        against: u32::from(tables.opponents.get(course, day, period)),
         barred: one_if(instance.unavailable(course, day, period)),
         shares: one_if(tables.rooms.get(room, day, period) > 0),
-        excess: u64::from(
-            instance
-                .students(course)
-                .saturating_sub(instance.capacity(room)),
-        ),
+        excess: instance
+            .students(course)
+            .saturating_sub(instance.capacity(room)),
         days: days_with(instance, tables, entry),
         alone: gaps.alone,
         joined: gaps.joined,

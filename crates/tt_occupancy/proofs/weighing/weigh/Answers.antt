@@ -5,7 +5,7 @@ use Rattle.tt_instance.specs.Cells.{slot_of, is_of, is_at, is_in}
 use Rattle.tt_instance.specs.Courses.{in_curriculum}
 use Rattle.tt_tallies.specs.Tallies.{of_curriculum}
 use Rattle.tt_tallies.proofs.Rows.{rows_below, passing_few}
-use Rattle.tt_occupancy.proofs.Around.{rows_alone, rows_joined}
+use Rattle.tt_occupancy.proofs.Standings.{gaps_alone, gaps_joined}
 use Rattle.tt_change.proofs.Against.{against_is}
 use Rattle.tt_change.proofs.Chosen.{any_counted}
 use Rattle.tt_occupancy.proofs.weighing.weigh.Goals as goal
@@ -35,7 +35,7 @@ returns c = λ t timetable ok.
     let r = c.requires.in_range in
     let rows = c.curricula_of-curricula in
     let are = rows.ensures ∙ ok.links.curricula e.course r.course in
-    let w = c.args.tables.now.curricula in
+    let gaps = c.gaps_round-gaps.ensures.gaps p t timetable ok.curricula in
     record {
       repeats = c.one_if.ensures ∙ ap (λ n. one_if (nat_lt 0 n)) (c.get.ensures ∙ ok.courses.counts e.course e.day e.period r.course r.day r.period)
           ∙ ap one_if (any_counted (λ z. is_of e.course z && is_at (slot_of e) z) t);
@@ -45,7 +45,7 @@ returns c = λ t timetable ok.
           ∙ ap one_if (any_counted (λ z. is_in e.room z && is_at (slot_of e) z) t);
       excess = omega arith;
       days = c.days_with.ensures t ok;
-      alone = c.gaps_round-gaps.ensures.alone ∙ rows_alone p t w timetable ok.curricula e r rows.result.now are;
-      joined = c.gaps_round-gaps.ensures.joined ∙ rows_joined p t w timetable ok.curricula e r rows.result.now are;
+      alone = gaps_alone p t e rows.result.now are c.gaps_round-gaps.result gaps;
+      joined = gaps_joined p t e rows.result.now are c.gaps_round-gaps.result gaps;
       rooms = c.rooms_with.ensures t ok;
     }

@@ -2,9 +2,12 @@ use Rattle.std.proofs.Common.{ap, arith}
 use Rattle.tt_instance.specs.Courses.{students, capacity}
 use Rattle.tt_moves.proofs.rest.Rest.cost_weight.Goals as goal
 
-pub returns-clause-rise : goal.returns-clause-rise
-returns-clause-rise c = λ u rest.
+pub returns : goal.returns
+returns c = λ u rest.
     let x = c.args.entry in
     let seated = ap (λ z. students z x.course) c.instance-instance.ensures in
     let seats = ap (λ z. capacity z x.room) c.instance-instance.ensures in
-    omega (arith, seated, seats, c.students-students.ensures.value, c.capacity.ensures.value, c.saturating_sub-excess.ensures, c.spread_cost.ensures.value u rest, c.gaps-gaps.ensures.alone u rest)
+    record {
+      rise = omega (arith, seated, seats, c.students-students.ensures.value, c.capacity.ensures.value, c.saturating_sub-excess.ensures, c.spread_cost.ensures.value u rest, c.gaps-gaps.ensures.alone u rest);
+      fall = omega (arith, c.gaps-gaps.ensures.joined u rest);
+    }

@@ -1,5 +1,5 @@
 use Rattle.std.proofs.Common.{ap, arith}
-use Rattle.tt_moves.proofs.Standings.{none_standing}
+use Rattle.tt_occupancy.proofs.Standings.{none_standing}
 use Rattle.tt_moves.proofs.rest.Rest.standing.Goals as goal
 
 pub returns-then-period-periods-clause-value : goal.returns-then-period-periods-clause-value

@@ -3,7 +3,7 @@ use Rattle.tt_lists.proofs.Sums.{one_if}
 use Rattle.tt_instance.specs.Cells.{slot, is_at}
 use Rattle.tt_instance.specs.Courses.{in_curriculum}
 use Rattle.tt_instance.specs.declared.cell.Cell.{Cell}
-use Rattle.tt_moves.proofs.Standings.{none_standing}
+use Rattle.tt_occupancy.proofs.Standings.{none_standing}
 use Rattle.tt_moves.proofs.rest.Rest.standing_still.Goals as goal
 
 pub returns-then-period-periods-clause-value : goal.returns-then-period-periods-clause-value

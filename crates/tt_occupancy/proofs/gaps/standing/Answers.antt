@@ -1,0 +1,11 @@
+use Rattle.std.proofs.Common.{◌∙◌, arith}
+use Rattle.tt_occupancy.proofs.Standings.{none_standing}
+use Rattle.tt_occupancy.proofs.gaps.standing.Goals as goal
+
+pub returns-then-period-week-clause-value : goal.returns-then-period-week-clause-value
+returns-then-period-week-clause-value c = λ p u ok tally.
+    c.from.ensures ∙ c.get.ensures ∙ tally.counts c.args.row c.args.day c.args.period (omega (arith, c.requires.row, tally.rows)) (omega (arith, c.requires.day, tally.days)) (omega (arith, tally.periods))
+
+pub returns-else-period-week-clause-value : goal.returns-else-period-week-clause-value
+returns-else-period-week-clause-value c = λ p u ok tally.
+    none_standing p u c.args.row c.args.day c.args.period ok (omega (arith, tally.periods))
