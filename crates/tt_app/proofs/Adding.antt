@@ -8,7 +8,7 @@ use Rattle.tt_instance.specs.declared.fault.InstanceFault.TheVariants as instanc
 use Rattle.tt_instance.proofs.Laws.{is_read}
 use Rattle.tt_leaf_rules.specs.declared.leaf.Bound.{Bound}
 use Rattle.tt_proof_check.proofs.Files.{one_instance}
-use Rattle.tt_sum.specs.Faults.{TellsSum, IsSilentSum, all_points, OutOfMemoryIsOneFault as TellsMemoryOfSum, read_failed_at as read_failed_below}
+use Rattle.tt_sum.specs.Faults.{IsSumFault, IsSilentSum, all_points, OutOfMemoryIsOneFault as OneFaultOfSum, read_failed_at as read_failed_below}
 use Rattle.tt_sum.specs.Sums.{IsSum}
 use Rattle.tt_sum.specs.declared.fault.SumFault.{SumFault}
 use Rattle.tt_sum.specs.declared.fault.SumFault.TheVariants as sum
@@ -27,7 +27,7 @@ spelled_memory i p (instance.UnknownCourse n) b spells h = let e = is_read i p s
 spelled_memory i p (instance.OutOfRange n) b spells h = let e = is_read i p spells in absurd cc
 
 -- a fault of the proofs is told
-pub sum_tells : (i : List ℕ) (p : Problem) (gives : List (List ℕ) → Type 0) (f : SumFault) → Spells i p → ((proofs : List (List ℕ)) → gives proofs → TellsSum p proofs f) → IsSumRefusal i gives (fault_from_sum f)
+pub sum_tells : (i : List ℕ) (p : Problem) (gives : List (List ℕ) → Type 0) (f : SumFault) → Spells i p → ((proofs : List (List ℕ)) → gives proofs → IsSumFault p proofs f) → IsSumRefusal i gives (fault_from_sum f)
 sum_tells i p gives (sum.Proof n f) spells h = record { problem = p; spelled = spells; fails = h }
 sum_tells i p gives (sum.ClaimedElsewhere n k e) spells h = record { problem = p; spelled = spells; fails = h }
 sum_tells i p gives (sum.TooLarge n) spells h = record { problem = p; spelled = spells; fails = h }
@@ -40,7 +40,7 @@ silent_sum (sum.ClaimedElsewhere n k e) b h = absurd h
 silent_sum (sum.TooLarge n) b h = absurd h
 silent_sum sum.OutOfMemory b h = inl refl
 
-pub memory_sum : (f : SumFault) → TellsMemoryOfSum f → OutOfMemoryIsOneFault (fault_from_sum f)
+pub memory_sum : (f : SumFault) → OneFaultOfSum f → OutOfMemoryIsOneFault (fault_from_sum f)
 memory_sum (sum.Proof n f) h = (λ e. cc, h)
 memory_sum (sum.ClaimedElsewhere n k e) h = (λ x. cc, tt)
 memory_sum (sum.TooLarge n) h = (λ e. cc, tt)

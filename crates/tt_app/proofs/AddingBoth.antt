@@ -11,11 +11,11 @@ use Rattle.tt_leaf_rules.specs.declared.leaf.Bound.TheVariants.{AtLeast}
 use Rattle.tt_proof_check.specs.Derives.{HoldsOfAll}
 use Rattle.tt_proof_check.specs.Headline.{SpellsBoth, Solves, BoundsAll}
 use Rattle.tt_proof_check.proofs.Files.{one_instance, one_table}
-use Rattle.tt_sum.specs.Faults.{TellsSum, IsSilentSum, all_points}
+use Rattle.tt_sum.specs.Faults.{IsSumFault, IsSilentSum, all_points}
 use Rattle.tt_sum.specs.Sums.{IsSum}
 use Rattle.tt_sum.specs.declared.fault.SumFault.{SumFault}
 use Rattle.tt_sum.specs.declared.fault.SumFault.TheVariants as sum
-use Rattle.tt_app.specs.Summed.{CertifiesSum, IsSumYes, TellsOfSumCheck, AnswersSumYes, fault_from_sum}
+use Rattle.tt_app.specs.Summed.{CertifiesSum, IsSumYes, IsSumCheckFault, AnswersSumYes, fault_from_sum}
 
 -- a silent fault says nothing of the bytes
 pub silent_yes : (f : SumFault) (c b : ℕ) → IsSilentSum f → AnswersSumYes (Err (fault_from_sum f)) c b
@@ -63,7 +63,7 @@ module _ (i s : List ℕ) (p : Problem) (t : List Cell) (spelled : Spells i p) (
     solves_here e = record { problem = p; table = t; both = both; feasible = feasible_here e; costs = sym (cost_is p t score is) }
 
     -- a refusal of the proofs
-    pub sum_fails : (gives : List (List ℕ) → Type 0) (f : SumFault) → broken_by score ≡ 0 → ((files : List (List ℕ)) → gives files → TellsSum p files f) → TellsOfSumCheck i s gives (fault_from_sum f)
+    pub sum_fails : (gives : List (List ℕ) → Type 0) (f : SumFault) → broken_by score ≡ 0 → ((files : List (List ℕ)) → gives files → IsSumFault p files f) → IsSumCheckFault i s gives (fault_from_sum f)
     sum_fails gives (sum.Proof n f) e h = record { problem = p; table = t; both = both; feasible = feasible_here e; fails = h }
     sum_fails gives (sum.ClaimedElsewhere n k x) e h = record { problem = p; table = t; both = both; feasible = feasible_here e; fails = h }
     sum_fails gives (sum.TooLarge n) e h = record { problem = p; table = t; both = both; feasible = feasible_here e; fails = h }

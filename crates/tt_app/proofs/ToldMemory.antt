@@ -4,12 +4,12 @@ use Rattle.tt_instance.specs.declared.fault.InstanceFault.TheVariants as instanc
 use Rattle.tt_table.specs.declared.fault.SolutionFault.{SolutionFault}
 use Rattle.tt_table.specs.declared.fault.SolutionFault.TheVariants as solution
 use Rattle.tt_proof_check.specs.Faults.{OutOfMemoryIsNoTextFault}
-use Rattle.tt_proof_check.specs.Verdicts.{OutOfMemoryIsOneFault as TellsMemoryBelow}
+use Rattle.tt_proof_check.specs.Verdicts.{OutOfMemoryIsOneFault as OneFaultOfCertify}
 use Rattle.tt_proof_check.specs.declared.fault.CheckFault.{CheckFault}
 use Rattle.tt_proof_check.specs.declared.fault.CheckFault.TheVariants as check
 use Rattle.tt_proof_check.specs.declared.fault.CertifyFault.{CertifyFault}
 use Rattle.tt_proof_check.specs.declared.fault.CertifyFault.TheVariants as certify
-use Rattle.tt_upgrade.specs.Faults.{OutOfMemoryIsOneFault as TellsMemoryOfUpgrade}
+use Rattle.tt_upgrade.specs.Faults.{OutOfMemoryIsOneFault as OneFaultOfUpgrade}
 use Rattle.tt_upgrade.specs.declared.fault.UpgradeFault.{UpgradeFault}
 use Rattle.tt_upgrade.specs.declared.fault.UpgradeFault.TheVariants as upgrade
 use Rattle.tt_app.specs.Told.{fault_from_instance, fault_from_solution, fault_from_check, fault_from_certify, fault_from_upgrade, OutOfMemoryIsOneFault}
@@ -28,13 +28,13 @@ memory_check (check.Text f) h = (λ e. cc, h)
 memory_check (check.Rule n f) h = (λ e. cc, h)
 memory_check (check.TooDeep n) h = (λ e. cc, h)
 
-pub memory_certify : (f : CertifyFault) → TellsMemoryBelow f → OutOfMemoryIsOneFault (fault_from_certify f)
+pub memory_certify : (f : CertifyFault) → OneFaultOfCertify f → OutOfMemoryIsOneFault (fault_from_certify f)
 memory_certify (certify.Instance f) h = memory_instance f
 memory_certify (certify.Solution f) h = memory_solution f
 memory_certify (certify.Proof f) h = memory_check f h.1
 memory_certify certify.OutOfMemory h = tt
 
-pub memory_upgrade : (f : UpgradeFault) → TellsMemoryOfUpgrade f → OutOfMemoryIsOneFault (fault_from_upgrade f)
+pub memory_upgrade : (f : UpgradeFault) → OneFaultOfUpgrade f → OutOfMemoryIsOneFault (fault_from_upgrade f)
 memory_upgrade (upgrade.Proof f) h = memory_check f h.1
 memory_upgrade upgrade.TooLarge h = tt
 memory_upgrade upgrade.OutOfMemory h = tt

@@ -11,7 +11,7 @@ use Rattle.tt_leaf_rules.specs.declared.leaf.Bound.TheVariants.{AtLeast}
 use Rattle.tt_proof_check.specs.Derives.{HoldsOfAll}
 use Rattle.tt_proof_check.specs.Headline.{SpellsBoth, Solves, BoundsAll}
 use Rattle.tt_proof_check.specs.Verdicts.{IsBroken, FailsSolution}
-use Rattle.tt_sum.specs.Faults.{TellsSum}
+use Rattle.tt_sum.specs.Faults.{IsSumFault}
 use Rattle.tt_sum.specs.Faults as below
 use Rattle.tt_sum.specs.Sums.{IsSum}
 use Rattle.tt_sum.specs.declared.fault.SumFault.{SumFault}
@@ -37,7 +37,7 @@ pub record IsSummed (instance : List ℕ) (gives : List (List ℕ) → Type 0) (
 pub record FailsSum (instance : List ℕ) (gives : List (List ℕ) → Type 0) (f : SumFault) : Type 0 where
   pub problem : Problem
   pub spelled : Spells instance problem
-  pub fails : (proofs : List (List ℕ)) → gives proofs → TellsSum problem proofs f
+  pub fails : (proofs : List (List ℕ)) → gives proofs → IsSumFault problem proofs f
 
 -- a refusal tells the first fault: the instance's, then that of the first proof that is refused
 abbrev pub IsSumRefusal : List ℕ → (List (List ℕ) → Type 0) → AppFault → Type 0
@@ -94,15 +94,15 @@ pub record FailsSumOfBoth (instance solution : List ℕ) (gives : List (List ℕ
   pub table : List Cell
   pub both : SpellsBoth instance solution problem table
   pub feasible : IsFeasible problem table
-  pub fails : (proofs : List (List ℕ)) → gives proofs → TellsSum problem proofs f
+  pub fails : (proofs : List (List ℕ)) → gives proofs → IsSumFault problem proofs f
 
 -- a refusal tells the first fault: the instance's, then the solution's, then that of the first proof that is refused
-abbrev pub TellsOfSumCheck : List ℕ → List ℕ → (List (List ℕ) → Type 0) → AppFault → Type 0
-TellsOfSumCheck i s gives (fault.Instance f) = instance_of i ≡ Err f
-TellsOfSumCheck i s gives (fault.Solution f) = FailsSolution i s f
-TellsOfSumCheck i s gives (fault.Sum f) = FailsSumOfBoth i s gives f
-TellsOfSumCheck i s gives fault.OutOfMemory = ⊤
-TellsOfSumCheck i s gives _ = ⊥
+abbrev pub IsSumCheckFault : List ℕ → List ℕ → (List (List ℕ) → Type 0) → AppFault → Type 0
+IsSumCheckFault i s gives (fault.Instance f) = instance_of i ≡ Err f
+IsSumCheckFault i s gives (fault.Solution f) = FailsSolution i s f
+IsSumCheckFault i s gives (fault.Sum f) = FailsSumOfBoth i s gives f
+IsSumCheckFault i s gives fault.OutOfMemory = ⊤
+IsSumCheckFault i s gives _ = ⊥
 
 -- yes with c and b, unless memory runs out or a read of a proof fails
 abbrev pub AnswersSumYes : Result Answer AppFault → ℕ → ℕ → Type 0

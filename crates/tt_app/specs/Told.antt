@@ -14,7 +14,7 @@ use Rattle.tt_proof_text.specs.declared.fault.WriteFault.TheVariants as write
 use Rattle.tt_upgrade.specs.declared.fault.UpgradeFault.{UpgradeFault}
 use Rattle.tt_upgrade.specs.declared.fault.UpgradeFault.TheVariants as upgrade
 use Rattle.tt_report.specs.declared.fault.ReportFault.{ReportFault}
-use Rattle.tt_sum.specs.Faults.{OutOfMemoryIsOneFault as TellsMemoryOfSum}
+use Rattle.tt_sum.specs.Faults.{OutOfMemoryIsOneFault as OneFaultOfSum}
 use Rattle.tt_sum.specs.declared.fault.SumFault.TheVariants as sum
 use Rattle.tt_report.specs.declared.fault.ReportFault.TheVariants as report
 use Rattle.tt_app.specs.declared.fault.AppFault.{AppFault}
@@ -56,5 +56,5 @@ abbrev pub OutOfMemoryIsOneFault : AppFault → Type 0
 OutOfMemoryIsOneFault (fault.Instance f) = ¬ (f ≡ instance.OutOfMemory)
 OutOfMemoryIsOneFault (fault.Solution f) = ¬ (f ≡ solution.OutOfMemory)
 OutOfMemoryIsOneFault (fault.Proof f) = ¬ (f ≡ check.OutOfMemory) × OutOfMemoryIsNoTextFault f
-OutOfMemoryIsOneFault (fault.Sum f) = ¬ (f ≡ sum.OutOfMemory) × TellsMemoryOfSum f
+OutOfMemoryIsOneFault (fault.Sum f) = ¬ (f ≡ sum.OutOfMemory) × OneFaultOfSum f
 OutOfMemoryIsOneFault _ = ⊤

@@ -8,10 +8,10 @@ ghost use Rattle.tt_proof_check.specs.FailedReads.{IsJudgedUpToFailedRead, IsSpe
 ghost use Rattle.tt_proof_check.specs.Headline.{BreaksARule};
 ghost use Rattle.tt_sum.specs.Added.{Give};
 ghost use Rattle.tt_sum.specs.Faults as below;
-ghost use Rattle.tt_sum.specs.Faults.{TellsSum, IsSilentSum, all_points};
+ghost use Rattle.tt_sum.specs.Faults.{IsSumFault, IsSilentSum, all_points};
 ghost use Rattle.tt_sum.specs.Sums.{IsSum};
 ghost use Rattle.tt_app.specs.Checked.{IsOfFiles, AnswersBroken};
-ghost use Rattle.tt_app.specs.Summed.{read_failed_at, CertifiesSum, IsSumChecked, TellsOfSumCheck, AnswersSumYes};
+ghost use Rattle.tt_app.specs.Summed.{read_failed_at, CertifiesSum, IsSumChecked, IsSumCheckFault, AnswersSumYes};
 ghost use Rattle.tt_app.specs.Told.{OutOfMemoryIsOneFault};
 
 use crate::answer::Answer;
@@ -37,7 +37,7 @@ fn summed_bound<R: Source>(
     ensures only { (files : List (List ℕ)) (b : ℕ) → Give R.remaining proofs.old files → (h : IsSum instance.now files (AtLeast b)) →
         all_points h.parts < 2 ^ 64 → MatchResult result (λ c. c ≡ b) IsSilentSum }
     ensures holds { IfOk result (λ b. HoldsOfAll instance.now (AtLeast b)) }
-    ensures fault { IfErr result (λ e. (files : List (List ℕ)) → Give R.remaining proofs.old files → TellsSum instance.now files e) }
+    ensures fault { IfErr result (λ e. (files : List (List ℕ)) → Give R.remaining proofs.old files → IsSumFault instance.now files e) }
     ensures failed { (i : ℕ) (r : R) → result ≡ Err (below.read_failed_at (i + 1)) → slice_get proofs.new i ≡ Some r → R.has_failed r ≡ true }
     ensures unfailed { (i : ℕ) (r q : R) → ¬ (result ≡ Err (below.read_failed_at (i + 1))) → slice_get proofs.old i ≡ Some r → slice_get proofs.new i ≡ Some q →
         R.has_failed q ≡ R.has_failed r }
@@ -62,7 +62,7 @@ pub fn check_sum<R: Source>(
     // What is answered is so.
     ensures found { IfOk result (IsSumChecked instance.now solution.now (Give R.remaining proofs.old)) }
     // A refusal tells the first fault.
-    ensures fault { IfErr result (TellsOfSumCheck instance.now solution.now (Give R.remaining proofs.old)) }
+    ensures fault { IfErr result (IsSumCheckFault instance.now solution.now (Give R.remaining proofs.old)) }
     // What is certified is answered with yes, if the sum is below 2^64.
     ensures yes { (c b : ℕ) (files : List (List ℕ)) → Give R.remaining proofs.old files → (h : CertifiesSum instance.now solution.now files c b) →
         all_points h.sum.parts < 2 ^ 64 → AnswersSumYes result c b }

@@ -19,7 +19,7 @@ use Rattle.tt_sum.specs.declared.fault.SumFault.{SumFault}
 use Rattle.tt_sum.specs.declared.fault.SumFault.TheVariants.{Proof, ClaimedElsewhere, TooLarge, OutOfMemory}
 use Rattle.tt_sum.specs.declared.summed.Sum.{Sum}
 use Rattle.tt_sum.specs.Added.{IsPartOf, IsSumOf, Adds, due, Give}
-use Rattle.tt_sum.specs.Faults.{points, all_points, IsNumbered, IsRefused, TellsAdded, TellsSum, OutOfMemoryIsOneFault, IsSilentSum}
+use Rattle.tt_sum.specs.Faults.{points, all_points, IsNumbered, IsRefused, TellsAdded, IsSumFault, OutOfMemoryIsOneFault, IsSilentSum}
 use Rattle.tt_sum.specs.Sums.{are_apart, Part, IsPart, claims_of, AreApart, sum_of, IsSum}
 use Rattle.tt_sum.proofs.Added.{tells_silent}
 use Rattle.tt_sum.proofs.Together.{parts_hold}
@@ -72,7 +72,7 @@ module _ (p : Problem) (is : IsInstance p) where
       let all : all_points h.parts ≡ all_points ((r.parts ++ z.at ∷ []) ++ z.more) = ap all_points split in
       tells_silent p is r.parts r.bytes z.at z.one apart (omega (arith, total, all, within)) e memory r.tells
 
-  pub sum_silent : (proofs : List (List ℕ)) (s : Bound) (h : IsSum p proofs s) → all_points h.parts < 2 ^ 64 → (e : SumFault) → OutOfMemoryIsOneFault e → TellsSum p proofs e → IsSilentSum e
+  pub sum_silent : (proofs : List (List ℕ)) (s : Bound) (h : IsSum p proofs s) → all_points h.parts < 2 ^ 64 → (e : SumFault) → OutOfMemoryIsOneFault e → IsSumFault p proofs e → IsSilentSum e
   sum_silent proofs s h within (Proof n f) memory told = refused_silent proofs s h within (Proof n f) memory told
   sum_silent proofs s h within (ClaimedElsewhere n i e) memory told = refused_silent proofs s h within (ClaimedElsewhere n i e) memory told
   sum_silent proofs s h within (TooLarge n) memory told = refused_silent proofs s h within (TooLarge n) memory told
@@ -82,7 +82,7 @@ module _ (p : Problem) (is : IsInstance p) where
   pub same_sum : (proofs : List (List ℕ)) (s t : Bound) → IsSum p proofs s → IsSum p proofs t → s ≡ t
   same_sum proofs s t h i = sym h.total ∙ ap sum_of (same_parts proofs h.parts i.parts h.each i.each) ∙ i.total
 
-pub tells_sum : (p : Problem) (proofs : List (List ℕ)) (e : SumFault) → IsRefused p proofs e → TellsSum p proofs e
+pub tells_sum : (p : Problem) (proofs : List (List ℕ)) (e : SumFault) → IsRefused p proofs e → IsSumFault p proofs e
 tells_sum p proofs (Proof n f) r = r
 tells_sum p proofs (ClaimedElsewhere n i e) r = r
 tells_sum p proofs (TooLarge n) r = r
@@ -180,7 +180,7 @@ module _ {R : Type 0} (p : Problem) (remaining : R → Option (List ℕ)) (faile
 
   -- a refusal of the source at i
   pub sofar_refused : (old now : List R) (i : ℕ) (s : Sum) (r : R) (e : SumFault) → i < length old → r ≡ get_or now i r → Sofar old now i s → IsNumbered (due s) e
-      → ((parts : List Part) (bytes : List ℕ) → IsSumOf s parts → remaining r ≡ Some bytes → TellsAdded p parts bytes e) → (proofs : List (List ℕ)) → Give remaining old proofs → TellsSum p proofs e
+      → ((parts : List Part) (bytes : List ℕ) → IsSumOf s parts → remaining r ≡ Some bytes → TellsAdded p parts bytes e) → (proofs : List (List ℕ)) → Give remaining old proofs → IsSumFault p proofs e
   sofar_refused old now i s r e l is h numbered tells proofs given =
       let first : r ≡ get_or old i r = is ∙ h.rest i r (omega arith) in
       let g = gives_at p remaining old proofs i r given (slice_get_read old (length old) i r refl l first) in

@@ -76,9 +76,9 @@ pub record IsRefused (p : Problem) (proofs : List (List ℕ)) (e : SumFault) : T
   pub tells : TellsAdded p parts bytes e
 
 -- a fault is that of the first proof that does not join those before it
-abbrev pub TellsSum : Problem → List (List ℕ) → SumFault → Type 0
-TellsSum p proofs OutOfMemory = ⊤
-TellsSum p proofs e = IsRefused p proofs e
+abbrev pub IsSumFault : Problem → List (List ℕ) → SumFault → Type 0
+IsSumFault p proofs OutOfMemory = ⊤
+IsSumFault p proofs e = IsRefused p proofs e
 
 -- ---- memory, and reads that failed
 

@@ -5,7 +5,7 @@ ghost use Rattle.tt_leaf_rules.specs.declared.leaf.Bound.{Bound};
 ghost use Rattle.tt_proof_check.specs.Derives.{HoldsOfAll};
 ghost use Rattle.tt_proof_check.specs.FailedReads.{IsJudgedUpToFailedRead};
 ghost use Rattle.tt_sum.specs.Added.{Give};
-ghost use Rattle.tt_sum.specs.Faults.{TellsSum, OutOfMemoryIsOneFault, IsSilentSum, read_failed_at, all_points};
+ghost use Rattle.tt_sum.specs.Faults.{IsSumFault, OutOfMemoryIsOneFault, IsSilentSum, read_failed_at, all_points};
 ghost use Rattle.tt_sum.specs.Sums.{IsSum};
 
 use crate::fault::SumFault;
@@ -30,7 +30,7 @@ pub fn sum_proofs<R: Source>(
     // This holds whatever the sources give.
     ensures holds { IfOk result (HoldsOfAll instance.now) }
     // A refusal tells the first proof that does not join those before it, and its first fault.
-    ensures fault { IfErr result (λ e. (proofs : List (List ℕ)) → Give R.remaining sources.old proofs → TellsSum instance.now proofs e) }
+    ensures fault { IfErr result (λ e. (proofs : List (List ℕ)) → Give R.remaining sources.old proofs → IsSumFault instance.now proofs e) }
     // A read is said to have failed exactly where one did.
     ensures failed { (i : ℕ) (r : R) → result ≡ Err (read_failed_at (i + 1)) → slice_get sources.new i ≡ Some r → R.has_failed r ≡ true }
     ensures unfailed { (i : ℕ) (r q : R) → ¬ (result ≡ Err (read_failed_at (i + 1))) → slice_get sources.old i ≡ Some r → slice_get sources.new i ≡ Some q →

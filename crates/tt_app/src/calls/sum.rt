@@ -6,7 +6,7 @@ ghost use Rattle.tt_instance.specs.Spelling.{Spells};
 ghost use Rattle.tt_leaf_rules.specs.declared.leaf.Bound.{Bound};
 ghost use Rattle.tt_proof_check.specs.FailedReads.{IsSpelledAndJudgedUpToFailedRead};
 ghost use Rattle.tt_sum.specs.Added.{Give};
-ghost use Rattle.tt_sum.specs.Faults.{TellsSum, all_points};
+ghost use Rattle.tt_sum.specs.Faults.{IsSumFault, all_points};
 ghost use Rattle.tt_sum.specs.Sums.{IsSum};
 ghost use Rattle.tt_app.specs.Bounded.{IsOfInstance};
 ghost use Rattle.tt_app.specs.Summed.{IsSummed, IsSumRefusal, AnswersSum, read_failed_at};
