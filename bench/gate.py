@@ -4,7 +4,7 @@
     python3 bench/gate.py [LOG]
 
 runs `rt ci` at the top of the repository, writes what it says to LOG (gate.log if none is given), and prints the table once it has ended;
-the status is the gate's. The gate says no times itself, so the prover's processes are looked at twice a second: a process that lives
+until then the table so far stands in LOG.table, written anew every minute, so that a run that is cut off is not lost. The status is the gate's. The gate says no times itself, so the prover's processes are looked at twice a second: a process that lives
 shorter than that is left out.
 """
 import os
@@ -60,8 +60,9 @@ def descendants(top, parents):
     return set(found)
 
 
-def watch(gate, used):
-    """Notes the seconds of each prover's process below the gate until it ends."""
+def watch(gate, used, so_far):
+    """Notes the seconds of each prover's process below the gate until it ends; the table so far goes to a file every minute."""
+    told = time.time()
     while gate.poll() is None:
         seen = {int(it): parent_and_seconds(it) for it in os.listdir("/proc") if it.isdigit()}
         below = descendants(gate.pid, {it: parent for it, (parent, _) in seen.items()})
@@ -72,20 +73,24 @@ def watch(gate, used):
             if key and not crate_and_step(words_of(parent)):
                 copies = sum(seen[it][1] for it in descendants(process, {k: v[0] for k, v in seen.items()}) if it in seen)
                 used[process, key] = max(used[process, key], copies)
+        if time.time() - told > 60:
+            told = time.time()
+            with open(so_far, "w") as out:
+                table(used, out)
         time.sleep(0.5)
 
 
-def table(used):
+def table(used, out):
     sums = defaultdict(lambda: dict.fromkeys(STEPS, 0.0))
     for (_, (crate, step)), seconds in used.items():
         sums[crate][step] += seconds
-    print("| Crate | Proof, s | Tests, s | Edits, s | All, min |")
-    print("|---|---|---|---|---|")
+    print("| Crate | Proof, s | Tests, s | Edits, s | All, min |", file=out)
+    print("|---|---|---|---|---|", file=out)
     for crate in sorted(sums, key=lambda it: -sum(sums[it].values())):
         steps = sums[crate]
-        print(f"| `{crate}` | {steps['proof']:.0f} | {steps['tests']:.0f} | {steps['edits']:.0f} | {sum(steps.values()) / 60:.1f} |")
+        print(f"| `{crate}` | {steps['proof']:.0f} | {steps['tests']:.0f} | {steps['edits']:.0f} | {sum(steps.values()) / 60:.1f} |", file=out)
     whole = {step: sum(it[step] for it in sums.values()) for step in STEPS}
-    print(f"| all | {whole['proof']:.0f} | {whole['tests']:.0f} | {whole['edits']:.0f} | {sum(whole.values()) / 60:.1f} |")
+    print(f"| all | {whole['proof']:.0f} | {whole['tests']:.0f} | {whole['edits']:.0f} | {sum(whole.values()) / 60:.1f} |", file=out)
 
 
 def main():
@@ -93,8 +98,8 @@ def main():
     used, begun = defaultdict(float), time.time()
     with open(log, "w") as out:
         gate = subprocess.Popen(["rt", "ci"], stdout=out, stderr=subprocess.STDOUT)
-        watch(gate, used)
-    table(used)
+        watch(gate, used, log + ".table")
+    table(used, sys.stdout)
     cores = len(os.sched_getaffinity(0))
     print(f"{(time.time() - begun) / 60:.1f} minutes on {cores} cores, status {gate.returncode}")
     return gate.returncode
