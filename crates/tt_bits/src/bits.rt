@@ -110,6 +110,7 @@ pub fn below(bound: u32) -> u64
 }
 
 /// Takes the numbers of a mask out of the set at a place of a table.
+#[inline(always)]
 pub fn clear(table: &mut Trail, place: usize, mask: u64) -> Result<(), AllocError>
     requires { place < length table.old.words }
     ensures ok { OnOk result (Clears table.old.words place mask table.new.words) }

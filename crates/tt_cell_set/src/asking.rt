@@ -73,6 +73,7 @@ fn has_blocks(
 }
 
 /// Whether the table has some cell of the course in the period, in the given room if one is given.
+#[inline(always)]
 pub fn has_period(
     instance: &Instance<'_>,
     table: &Trail,
@@ -108,6 +109,7 @@ pub fn periods_of(instance: &Instance<'_>, table: &Trail, course: u32, day: u32)
 }
 
 /// The rooms that are each room of the course's cells in the period, in the given room if one is given.
+#[inline(always)]
 pub fn common_rooms(
     instance: &Instance<'_>,
     table: &Trail,

@@ -11,6 +11,7 @@ use tt_instance::Instance;
 use tt_trail::Trail;
 
 /// Takes away the course's cells in a period, in the given room if one is given.
+#[inline(always)]
 pub fn remove_rooms(
     instance: &Instance<'_>,
     table: &mut Trail,
@@ -38,6 +39,7 @@ pub fn remove_rooms(
 }
 
 /// Takes away the course's cells in a period but those that another table has, in the given room if one is given.
+#[inline(always)]
 pub fn keep_rooms(
     instance: &Instance<'_>,
     table: &mut Trail,

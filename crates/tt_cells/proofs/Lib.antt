@@ -7,3 +7,4 @@ pub mod Kept
 pub mod Asked
 pub mod Linked
 pub mod Ranked
+pub mod OneLeft

@@ -54,6 +54,7 @@ impl<'p, 'i> Cells<'p, 'i> {
     ghost use Rattle.tt_bits.specs.Bits.{has_bit};
     ghost use Rattle.tt_instance.specs.Cells.{InRange, slot, cell};
     ghost use Rattle.tt_cells.specs.Order.{IsRoomiest};
+    ghost use Rattle.tt_paths.specs.Facts.{has_fact};
     ghost use Rattle.tt_paths.specs.Live.{is_dead, is_live, live_period, live_day, least_excess};
 
     /// A path with no facts. The tables take their memory at once.
@@ -133,6 +134,15 @@ impl<'p, 'i> Cells<'p, 'i> {
         self.free.undo();
         self.live.undo();
         unlist_fact(&mut self.facts, &mut self.yes)
+    }
+
+    /// Whether that very fact is one of them; each is looked at.
+    pub fn has(&self, pattern: &Pattern, holds: bool) -> bool
+        ensures { result ≡ has_fact self.now.facts pattern.now holds }
+    {
+        self.facts
+            .iter()
+            .any(|fact| fact.holds == holds && fact.pattern == *pattern)
     }
 
     /// Whether a cell is barred, or left no place beside it by some yes-fact.

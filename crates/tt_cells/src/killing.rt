@@ -153,6 +153,7 @@ fn kill(
 }
 
 /// Takes a period away from the courses that are given.
+#[inline(always)]
 fn strike_period(
     instance: &Instance<'_>,
     live: &mut Trail,
@@ -224,9 +225,10 @@ fn strike_room(
     Ok(())
 }
 
-/// The same as `kill` for one course: those lose the period that conflict with it, and where it has one free room, the others
-/// lose that.
-fn kill_one(
+/// The same as `kill` for one course, by what is common to its free rooms: those lose the period that conflict with it, and
+/// where it has one free room, the others lose that.
+#[inline(always)]
+pub fn kill_one(
     instance: &Instance<'_>,
     links: &Conflicts,
     free: &Trail,
@@ -235,18 +237,20 @@ fn kill_one(
     day: u32,
     period: u32,
     course: u32,
+    common: Rooms,
 ) -> Result<(), AllocError>
     requires links { AreConflicts instance.now links.now }
     requires day { day < instance.now.days }
     requires period { period < instance.now.periods }
     requires course { course < length instance.now.courses }
+    requires common { (r : ℕ) → has_room common r ≡ list_all
+        (λ k. not (is_open instance.now free.now.words pattern.now.room course day period k) || (k == r)) (all_rooms instance.now) }
     requires free { IsTable instance.now free.now.words }
     requires live { IsTable instance.now live.old.words }
     ensures ok { OnOk result (Loses instance.now live.old.words
         (is_struck instance.now free.now.words pattern.now day period (course ∷ [])) live.new.words) }
     ensures same { live.new.earlier ≡ live.old.earlier }
 {
-    let common = common_rooms(instance, free, pattern.room, course, day, period);
     match common {
         Rooms::Nothing => {
             strike_period(instance, live, links.conflicts_of(course), day, period)?;
@@ -287,8 +291,10 @@ pub fn kill_by_links(
     ensures same { live.new.earlier ≡ live.old.earlier }
 {
     if courses.len() == 1 && courses[0] < instance.courses() {
+        let course = courses[0];
+        let common = common_rooms(instance, free, pattern.room, course, day, period);
         kill_one(
-            instance, links, free, live, pattern, day, period, courses[0],
+            instance, links, free, live, pattern, day, period, course, common,
         )?;
         return Ok(());
     }

@@ -60,6 +60,7 @@ fn is_left_to(
 }
 
 /// Whether one of the courses has.
+#[inline(always)]
 pub fn is_left(
     instance: &Instance<'_>,
     free: &Trail,

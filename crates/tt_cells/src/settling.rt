@@ -1,6 +1,6 @@
 //! What a yes-fact takes from the live cells.
 
-ghost use Rattle.std.specs.Prelude.{◌≡◌, ◌<◌, ◌≤◌, ◌*◌, Some, OnOk};
+ghost use Rattle.std.specs.Prelude.{◌≡◌, ◌<◌, ◌≤◌, ◌*◌, [], ◌∷◌, length, Some, OnOk};
 ghost use Rattle.tt_paths.specs.Nested.{courses_of};
 ghost use Rattle.tt_links.specs.Linked.{AreConflicts};
 ghost use Rattle.tt_cell_set.specs.Tables.{IsTable};
@@ -8,10 +8,10 @@ ghost use Rattle.tt_cells.specs.Slots.{is_left_in, Covers, IsFirst};
 ghost use Rattle.tt_cells.specs.Shown.{Settles};
 
 use crate::courses::courses_of;
-use crate::killing::kill_by_links;
+use crate::killing::{kill_by_links, kill_one};
 use crate::periods::{first_left, is_left, slots_of};
 use std::alloc::AllocError;
-use tt_cell_set::remove_all;
+use tt_cell_set::{Rooms, common_rooms, remove_all};
 use tt_instance::Instance;
 use tt_links::Conflicts;
 use tt_paths::Pattern;
@@ -57,7 +57,47 @@ fn settle_from(
     }
 }
 
+/// Takes away the live cells that a pattern of one course excludes which gives this day and this period.
+#[inline(always)]
+fn settle_one(
+    instance: &Instance<'_>,
+    links: &Conflicts,
+    free: &Trail,
+    live: &mut Trail,
+    pattern: &Pattern,
+    day: u32,
+    period: u32,
+    course: u32,
+) -> Result<(), AllocError>
+    requires links { AreConflicts instance.now links.now }
+    requires one { courses_of instance.now pattern.now.who ≡ course ∷ [] }
+    requires course { course < length instance.now.courses }
+    requires given_day { pattern.now.day ≡ Some day }
+    requires given_period { pattern.now.period ≡ Some period }
+    requires day { day < instance.now.days }
+    requires period { period < instance.now.periods }
+    requires free { IsTable instance.now free.now.words }
+    requires live { IsTable instance.now live.old.words }
+    ensures ok { OnOk result (Settles instance.now free.now.words live.old.words pattern.now live.new.words) }
+    ensures same { live.new.earlier ≡ live.old.earlier }
+{
+    let common = common_rooms(instance, free, pattern.room, course, day, period);
+    match common {
+        Rooms::All => {
+            remove_all(instance, live)?;
+            Ok(())
+        }
+        _ => {
+            kill_one(
+                instance, links, free, live, pattern, day, period, course, common,
+            )?;
+            Ok(())
+        }
+    }
+}
+
 /// Takes away the live cells that a pattern excludes which gives this day and this period.
+#[inline(always)]
 fn settle_at(
     instance: &Instance<'_>,
     links: &Conflicts,
@@ -79,6 +119,10 @@ fn settle_at(
     ensures ok { OnOk result (Settles instance.now free.now.words live.old.words pattern.now live.new.words) }
     ensures same { live.new.earlier ≡ live.old.earlier }
 {
+    if courses.len() == 1 && courses[0] < instance.courses() {
+        settle_one(instance, links, free, live, pattern, day, period, courses[0])?;
+        return Ok(());
+    }
     if !is_left(instance, free, pattern, day, period, courses) {
         remove_all(instance, live)?;
         return Ok(());

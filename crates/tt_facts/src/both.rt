@@ -1,27 +1,31 @@
-//! One more fact in both parts of a path.
+//! One more fact in the parts of a path.
 
 ghost use Rattle.std.specs.Prelude.{◌≡◌, ◌<◌, [], ◌∷◌, ◌++◌, length, OnOk, OnErr};
 ghost use Rattle.tt_paths.specs.declared.path.TheConstants.{MAX_FACTS};
+ghost use Rattle.tt_facts.specs.Halves.{AreHalves};
 
 use std::alloc::AllocError;
 use tt_cells::Cells;
 use tt_paths::Fact;
 use tt_pins::Pins;
 
-/// Adds a fact to both parts, or to neither.
+/// Adds a fact to the cells and, if it is a yes-fact, to the pins; or to neither.
 pub fn push_both(
     cells: &mut Cells<'_, '_>,
     pins: &mut Pins<'_, '_>,
     fact: Fact,
 ) -> Result<(), AllocError>
     requires depth { length cells.old.facts < MAX_FACTS }
-    requires one { pins.old ≡ cells.old }
+    requires halves { AreHalves cells.old pins.old }
     ensures ok { OnOk result (cells.new.facts ≡ cells.old.facts ++ fact ∷ []) }
     ensures err { OnErr result (cells.new.facts ≡ cells.old.facts) }
     ensures same { cells.new.problem ≡ cells.old.problem }
-    ensures one { pins.new ≡ cells.new }
+    ensures halves { AreHalves cells.new pins.new }
 {
     cells.push(fact)?;
+    if !fact.holds {
+        return Ok(());
+    }
     if let Err(fault) = pins.push(fact) {
         let _ = cells.pop();
         return Err(fault);
@@ -29,14 +33,17 @@ pub fn push_both(
     Ok(())
 }
 
-/// Takes the newest fact of both parts away.
+/// Takes the newest fact away.
 pub fn pop_both(cells: &mut Cells<'_, '_>, pins: &mut Pins<'_, '_>) -> Fact
     requires some { 0 < length cells.old.facts }
-    requires one { pins.old ≡ cells.old }
+    requires halves { AreHalves cells.old pins.old }
     ensures fact { cells.old.facts ≡ cells.new.facts ++ result ∷ [] }
     ensures same { cells.new.problem ≡ cells.old.problem }
-    ensures one { pins.new ≡ cells.new }
+    ensures halves { AreHalves cells.new pins.new }
 {
-    let _ = pins.pop();
-    cells.pop()
+    let fact = cells.pop();
+    if fact.holds {
+        let _ = pins.pop();
+    }
+    fact
 }

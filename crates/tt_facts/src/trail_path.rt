@@ -10,22 +10,23 @@ use tt_instance::Instance;
 use tt_paths::{Cell, Fact, MAX_FACTS, Path, PathFault, Pattern, Who};
 use tt_pins::Pins;
 
-/// The facts with tables of the live cells and of what is pinned. Of the answers only `has` may look through facts, where
-/// the pattern leaves out its day or its period or speaks of a curriculum. A pop writes back what the push wrote.
+/// The facts with tables of the live cells and of what is pinned, which only yes-facts change. Of the answers only `has` may
+/// look through facts: for a no-fact, or where the pattern leaves out its day or its period or speaks of a curriculum. A pop
+/// writes back what the push wrote.
 pub struct TrailPath<'p, 'i> {
     cells: Cells<'p, 'i>,
     pins: Pins<'p, 'i>,
 }
 
 impl<'p, 'i> Model for TrailPath<'p, 'i> {
-    ghost use Rattle.std.specs.Prelude.{◌≡◌};
     ghost use Rattle.tt_paths.specs.Paths.{Facts};
+    ghost use Rattle.tt_facts.specs.Halves.{AreHalves};
 
     ghost Value = { Facts };
 
     ghost view = { λ s. s.cells };
 
-    ghost invariant = { λ s. s.pins ≡ s.cells };
+    ghost invariant = { λ s. AreHalves s.cells s.pins };
 }
 
 impl<'p, 'i> Drop for TrailPath<'p, 'i> {
@@ -77,7 +78,11 @@ impl<'p, 'i> Path<'i> for TrailPath<'p, 'i> {
     }
 
     fn has(&self, pattern: &Pattern, holds: bool) -> bool {
-        self.pins.has(pattern, holds)
+        if holds {
+            self.pins.has(pattern, true)
+        } else {
+            self.cells.has(pattern, false)
+        }
     }
 
     fn dead(&self, cell: Cell) -> bool {

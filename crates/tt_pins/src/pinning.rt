@@ -15,6 +15,7 @@ use tt_paths::Who;
 use tt_trail::Trail;
 
 /// Puts a period into the set of a course or a curriculum on a day.
+#[inline(always)]
 fn pin_one(
     instance: &Instance<'_>,
     table: &mut Trail,

@@ -16,6 +16,7 @@ fn with(word: u64, number: u32) -> u64
 }
 
 /// Puts a number into the set at a place of a table. A set that has it is not written.
+#[inline(always)]
 pub fn put(table: &mut Trail, place: usize, number: u32) -> Result<(), AllocError>
     requires place { place < length table.old.words }
     requires number { number < 64 }

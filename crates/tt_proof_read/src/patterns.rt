@@ -50,11 +50,13 @@ fn given(text: &[u8], at: usize, letter: u8, count: u32) -> Result<Option<u32>, 
     ensures within { IfOk result (IsGiven count) }
     ensures unread { TellsNoFailedRead result }
 {
-    if b"*".as_slice() == text {
-        return Ok(None);
+    match text {
+        b"*" => Ok(None),
+        _ => {
+            let number = index(text, at, letter, count)?;
+            Ok(Some(number))
+        }
     }
-    let number = index(text, at, letter, count)?;
-    Ok(Some(number))
 }
 
 #[tactic(auto, unfolding(crate::specs::Reading::given_at))]

@@ -36,11 +36,7 @@ impl<'a> Model for Tokens<'a> {
 pub fn is_space(byte: u8) -> bool
     ensures { result ≡ is_separator byte }
 {
-    if byte < b' ' {
-        matches!(byte, b'\t'..=b'\r')
-    } else {
-        byte == b' '
-    }
+    byte == b' ' || matches!(byte, b'\t'..=b'\r')
 }
 
 /// How many separators the bytes begin with.
@@ -48,8 +44,8 @@ pub fn gap_len(bytes: &[u8]) -> usize
     ensures len { result ≡ prefix_len is_separator bytes.now }
     ensures within { result ≤ length bytes.now }
 {
-    // Mostly it is one space.
-    if bytes.len() > 1 && bytes[0] == b' ' && bytes[1] > b' ' {
+    // Mostly it is one space or the end of a line.
+    if bytes.len() > 1 && bytes[1] > b' ' && (bytes[0] == b' ' || bytes[0] == b'\n') {
         return 1;
     }
     let mut len = 0;

@@ -1,8 +1,9 @@
-use Rattle.std.proofs.Common.{refl, not, ◌&&◌, ◌||◌, [], ◌∷◌, ◌∙◌, subst}
+use Rattle.std.proofs.Common.{refl, sym, ap, not, ◌&&◌, ◌||◌, [], ◌∷◌, ◌∙◌, subst}
 use Rattle.std.specs.Prelude.{◌==◌}
 use Rattle.tt_lists.specs.Words.{has_number}
 use Rattle.tt_links.specs.Links.{conflicts_of}
 use Rattle.tt_paths.specs.Facts.{agrees}
+use Rattle.tt_cell_set.specs.Rooms.{has_room}
 use Rattle.tt_cell_set.specs.Tables.{Loses, has_cell, is_placed}
 use Rattle.tt_instance.specs.declared.cell.Cell.{Cell}
 use Rattle.tt_cells.specs.Shown.{is_struck}
@@ -23,7 +24,7 @@ returns-in_ok-keep_rooms-in-Nothing-clause-ok c =
     loses-more p old mid new (λ x. has_number (conflicts_of p a.course) x.course && ((x.day == a.day) && (x.period == a.period))) (λ x. is_placed a.course a.day a.period x && not (has_cell p free x && agrees g.room x.room)) (is_struck p free g a.day a.period (a.course ∷ []))
     (subst (λ ks. Loses p old (λ x. has_number ks x.course && ((x.day == a.day) && (x.period == a.period))) mid) given c.in_ok-strike_period-in-Nothing.ensures.ok)
     c.in_ok-keep_rooms-in-Nothing.ensures.ok
-    (struck_by_links p free g a.day a.period a.course c.requires.course c.in-Nothing.ensures)
+    (struck_by_links p free g a.day a.period a.course c.requires.course (λ r. ap (λ m. has_room m r) (sym c.in-Nothing.is) ∙ c.requires.common r))
 
 pub returns-in_ok-keep_rooms-in-One-clause-ok : goal.returns-in_ok-keep_rooms-in-One-clause-ok
 returns-in_ok-keep_rooms-in-One-clause-ok c =
@@ -45,4 +46,4 @@ returns-in_ok-keep_rooms-in-One-clause-ok c =
     (subst (λ ks. Loses p old (λ x. has_number ks x.course && ((x.day == a.day) && (x.period == a.period))) first) given c.in_ok-strike_period-in-One.ensures.ok)
     c.in_ok-strike_room-in-One.ensures.ok (λ x h. refl))
     c.in_ok-keep_rooms-in-One.ensures.ok
-    (struck_beside p free g a.day a.period a.course c.requires.course (λ r. room == r) c.in-One.ensures)
+    (struck_beside p free g a.day a.period a.course c.requires.course (λ r. room == r) (λ r. ap (λ m. has_room m r) (sym c.in-One.is) ∙ c.requires.common r))
