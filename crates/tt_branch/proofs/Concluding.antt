@@ -15,8 +15,9 @@ use Rattle.tt_paths.specs.Live.{least, least_with}
 use Rattle.tt_paths.specs.declared.facts.Fact.{Fact}
 use Rattle.tt_paths.proofs.Least.{least_with-le}
 use Rattle.tt_leaf_rules.specs.Claims.{is_fair, total_of}
-use Rattle.tt_leaf_rules.specs.Leaves.{claims_once, IsRight}
+use Rattle.tt_leaf_rules.specs.Leaves.{IsRight}
 use Rattle.tt_leaf_rules.specs.Outcomes.{IsClaimedOnce}
+use Rattle.tt_leaf_rules.proofs.Rightness.{targets_once}
 use Rattle.tt_leaf_rules.specs.declared.leaf.Bound.{Bound}
 use Rattle.tt_leaf_rules.specs.declared.leaf.Bound.TheVariants.{AtLeast, Nothing}
 use Rattle.tt_leaf_rules.specs.declared.leaf.Claim.TheVariants.{Days}
@@ -28,6 +29,7 @@ use Rattle.tt_proof_read.specs.Spelling.{IsBound}
 use Rattle.tt_proof_read.specs.Trees.{preorder, OnPath, on_paths}
 use Rattle.tt_proof_read.specs.declared.node.Node.{Node}
 use Rattle.tt_proof_read.specs.declared.node.Node.TheVariants as node
+use Rattle.tt_proof_read.proofs.Depth.{leaves_low}
 use Rattle.tt_proof_text.specs.Within.{HasShortPrices}
 use Rattle.tt_proof_check.specs.Derives.{Derives, HoldsOfAll}
 use Rattle.tt_proof_check.specs.Nodes.{IsNodeOf}
@@ -60,7 +62,7 @@ once_closed p path b (Many c) e = tt
 once_closed p path b (Clique cs) e = tt
 once_closed p path b (Slots cs) e = tt
 once_closed p path Nothing (Cost claims) e = absurd e
-once_closed p path (AtLeast m) (Cost claims) e = e.0
+once_closed p path (AtLeast m) (Cost claims) e = targets_once claims e.0
 
 -- what is true of the node of a mark
 pub record IsFit (p : Problem) (n : Node) : Type 0 where
@@ -202,8 +204,8 @@ module _ (p : Problem) (ok : IsInstance p) where
         count = omega (arith, as_long);
         prices = All-from_recursion HasShortPrices nodes (each_weaker (IsFit p) HasShortPrices (λ n f. short_prices n f.short) nodes fits);
         depth = λ tree e.
-            subst (λ l. All (λ x. length x.path ≤ 65536) l) (sym (whole_places u.grown.tree nodes spelled) ∙ whole_places tree nodes e)
-            (All-from_recursion (λ x. length x.path ≤ 65536) (on_paths [] u.grown.tree) (shallow p best links entries u.grown (omega arith)));
+            leaves_low 65536 tree (subst (λ l. All (λ x. length x.path ≤ 65536) l) (sym (whole_places u.grown.tree nodes spelled) ∙ whole_places tree nodes e)
+            (All-from_recursion (λ x. length x.path ≤ 65536) (on_paths [] u.grown.tree) (shallow p best links entries u.grown (omega arith))));
       };
     }
 

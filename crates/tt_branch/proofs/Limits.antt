@@ -4,19 +4,17 @@ use Rattle.std.proofs.Common.{◌&&◌, zero-le}
 use Rattle.std.specs.Prelude.{sum_by}
 use Rattle.std.specs.List.{AllByRecursion, list_any}
 use Rattle.std.proofs.lemmas.List.Sums.{sum_by-cons, count_by-le-length}
-use Rattle.std.proofs.lemmas.List.Elements.{All-get_or}
 use Rattle.std.proofs.lemmas.List.FromFn.{length-range_with_len}
 use Rattle.std.proofs.Math.Nat.{mul-le-mul_left}
 use Rattle.tt_lists.proofs.Members.{each_member}
 use Rattle.tt_lists.proofs.Sums.{sum_by-le, sum_by-times, each}
 use Rattle.tt_lists.proofs.Range.{each_below}
 use Rattle.tt_lists.proofs.Counting.{sum_by-ones}
-use Rattle.tt_instance.specs.Problem.{Problem, Course}
-use Rattle.tt_instance.specs.Limits.{IsInstance, IsNextCourse}
+use Rattle.tt_instance.specs.Problem.{Problem}
+use Rattle.tt_instance.specs.Limits.{IsInstance}
 use Rattle.tt_instance.specs.Cells.{all_courses, all_curricula, all_rooms, all_slots, is_of, is_in}
 use Rattle.tt_instance.specs.Courses.{lectures, min_days, students, excess, no_course, in_curriculum}
 use Rattle.tt_instance.specs.declared.cell.Cell.{Cell}
-use Rattle.tt_instance.proofs.AfterLaws.{All-from_each_after}
 use Rattle.tt_instance.proofs.Slots.{length-all_slots}
 use Rattle.tt_instance.proofs.CourseLimits.{few_students, few_lectures}
 use Rattle.tt_rules.specs.Hard.{entries_of}
@@ -55,9 +53,7 @@ module _ (p : Problem) (ok : IsInstance p) where
   many_slots = omega (arith, length-all_slots p, ok.within.slots)
 
   few_days : (c : ℕ) → c < length p.courses → min_days p c ≤ 512
-  few_days c h =
-      let P : Course → Type 0 = λ k. k.min_days ≤ 512 in
-      All-get_or P p.courses c no_course h (All-from_each_after IsNextCourse P (λ before k next. next.min_days) [] p.courses ok.within.each_course)
+  few_days c h = (ok.within.each_course c no_course h).min_days
 
   -- ---- a feasible timetable
 

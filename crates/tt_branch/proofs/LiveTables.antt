@@ -17,7 +17,7 @@ use Rattle.tt_lists.proofs.Tests.{sum_by-same_below}
 use Rattle.tt_lists.proofs.Growing.{map-of_flat_map}
 use Rattle.tt_lists.proofs.Counting.{sum_by-ones}
 use Rattle.tt_instance.specs.Problem.{Problem, Course}
-use Rattle.tt_instance.specs.Limits.{IsInstance, EachAfter, IsNextCourse, lectures_of}
+use Rattle.tt_instance.specs.Limits.{IsInstance}
 use Rattle.tt_instance.specs.Cells.{slot, cell, is_of, all_days, all_rooms, all_courses, all_slots, all_cells, InRange}
 use Rattle.tt_instance.specs.Courses.{lectures, no_course}
 use Rattle.tt_instance.specs.declared.cell.Cell.{Cell}

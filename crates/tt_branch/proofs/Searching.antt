@@ -12,7 +12,7 @@ use Rattle.tt_paths.specs.Facts.{IsPattern}
 use Rattle.tt_paths.specs.declared.facts.Pattern.{Pattern}
 use Rattle.tt_paths.specs.declared.facts.Fact.{Fact}
 use Rattle.tt_leaf_rules.specs.Claims.{is_fair, total_of}
-use Rattle.tt_leaf_rules.specs.Leaves.{claims_once, IsRight}
+use Rattle.tt_leaf_rules.specs.Leaves.{IsRight}
 use Rattle.tt_leaf_rules.specs.declared.leaf.Bound.{Bound}
 use Rattle.tt_leaf_rules.specs.declared.leaf.Bound.TheVariants.{AtLeast, Nothing}
 use Rattle.tt_leaf_rules.specs.declared.leaf.Claim.TheVariants.{Days}
@@ -21,7 +21,7 @@ use Rattle.tt_leaf_rules.specs.declared.leaf.Leaf.TheVariants.{Empty, Many, Cliq
 use Rattle.tt_proof_read.specs.Trees.{Close, Branch, OnPath, on_paths, with_fact}
 use Rattle.tt_proof_read.specs.declared.node.Node.TheVariants as node
 use Rattle.tt_leaf.specs.Best.{best_claims, best_leaf}
-use Rattle.tt_leaf.proofs.Claims.{once, all_fair}
+use Rattle.tt_leaf.proofs.Claims.{all_different, all_fair}
 use Rattle.tt_branch.specs.declared.entry.Mark.{Mark}
 use Rattle.tt_branch.specs.declared.entry.Mark.TheVariants.{Divided, Closed, Opened, Waiting}
 use Rattle.tt_branch.specs.declared.entry.Entry.{Entry}
@@ -47,7 +47,7 @@ right_for p path (AtLeast m) (Cost claims) n e f = (e.0, e.1, f (total_of p path
 
 -- the leaf of the best claims is right for what it is worth
 pub best_right : (p : Problem) (path : List Fact) (n : ℕ) → n ≤ total_of p path (best_claims p path) → IsRight p path (AtLeast n) (best_leaf p path)
-best_right p path n h = (once Days (λ c. refl) p path, all_fair Days (λ c. refl) p path (λ c. refl), h)
+best_right p path n h = (all_different Days (λ c. refl) p path, all_fair Days (λ c. refl) p path (λ c. refl), h)
 
 -- what a right Cost leaf is worth reaches the bound
 pub worth_reaches : (p : Problem) (path : List Fact) (m : ℕ) (leaf : Leaf) (v : ℕ) → IsRight p path (AtLeast m) leaf → leaf_worth p path leaf ≡ Some v → m ≤ v

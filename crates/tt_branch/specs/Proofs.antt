@@ -13,7 +13,7 @@ use Rattle.tt_leaf_rules.specs.declared.leaf.Bound.{Bound}
 use Rattle.tt_leaf_rules.specs.declared.leaf.Bound.TheVariants.{AtLeast, Nothing}
 use Rattle.tt_leaf_rules.specs.declared.leaf.Leaf.{Leaf}
 use Rattle.tt_leaf_rules.specs.declared.leaf.Leaf.TheVariants.{Empty, Many, Clique, Slots, Cost}
-use Rattle.tt_proof_read.specs.Spelling.{IsShortLeaf}
+use Rattle.tt_proof_read.specs.Limits.{IsShortLeaf}
 use Rattle.tt_proof_read.specs.Trees.{Tree, preorder, OnPath, on_paths}
 use Rattle.tt_proof_read.specs.declared.node.Node.{Node}
 use Rattle.tt_proof_read.specs.declared.node.Node.TheVariants as node

@@ -7,12 +7,12 @@ use Rattle.std.proofs.lemmas.List.{get_or_past}
 use Rattle.std.proofs.lemmas.List.FromFn.{length-range_with_len}
 use Rattle.std.proofs.lemmas.List.Sums.{sum_by-le, count_by-le-length}
 use Rattle.tt_lists.specs.Words.{range_below, count_pairs}
-use Rattle.tt_instance.specs.Problem.{Problem, Course}
+use Rattle.tt_instance.specs.Problem.{Problem}
 use Rattle.tt_instance.specs.Cells.{all_rooms, all_slots, is_of, is_at, is_in}
 use Rattle.tt_instance.specs.Courses.{no_course, in_curriculum, unavailable, excess}
-use Rattle.tt_instance.specs.Limits.{IsInstance, IsNextCourse}
+use Rattle.tt_instance.specs.Limits.{IsInstance}
 use Rattle.tt_instance.specs.declared.cell.Cell.{Cell}
-use Rattle.tt_instance.proofs.AfterLaws.{All-from_each_after}
+use Rattle.tt_instance.proofs.CourseLimits.{IsFewCourse, each_few}
 use Rattle.tt_instance.proofs.Slots.{length-all_slots}
 use Rattle.tt_rules.specs.Hard.{lectures_off, lectures_count, collide, conflicts_count, availability_count, entries_in, occupancy_count}
 use Rattle.tt_rules.specs.Soft.{capacity_count, days_cost, days_count, is_isolated, compactness_cost, compactness_count, stability_cost, stability_count}
@@ -35,12 +35,9 @@ pairs_few related m (x ∷ xs) h = omega (arith, pairs_few related m xs (omega a
 
 -- an instance and at most 16384 entries of it
 module _ (p : Problem) (ok : IsInstance p) (t : List Cell) (few : length t ≤ 16384) where
-  abbrev IsFewCourse : Course → Type 0
-  IsFewCourse c = (c.lectures ≤ 4096) × (c.min_days ≤ 512) × (c.students ≤ 1000000)
-
   course_few : (c : ℕ) → IsFewCourse (get_or p.courses c no_course)
   course_few c = elim (cases_lt c (length p.courses)) [
-    | inl h ↦ All-from_each_after IsNextCourse IsFewCourse (λ before c next. (omega (arith, next.lectures), next.min_days, next.students)) [] p.courses ok.within.each_course c no_course h
+    | inl h ↦ each_few p ok.within c no_course h
     | inr h ↦ rw (get_or_past p.courses c no_course h) (zero-le, zero-le, zero-le)
   ]
 

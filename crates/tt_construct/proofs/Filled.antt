@@ -2,14 +2,14 @@
 use Rattle.std.proofs.Common.{◌≡◌, ℕ, ◌+◌, ◌<◌, ◌≤◌, Bool, true, false, cond, List, [], ◌∷◌, ◌++◌, length, take, refl, sym, ap, subst, arith, inl, inr, length-append, eq-eqb, ne_eqb}
 use Rattle.std.specs.Prelude.{◌==◌}
 use Rattle.std.proofs.lemmas.Bool.{cases_eq}
-use Rattle.std.proofs.lemmas.List.Sums.{sum_by-append, sum_by_more}
+use Rattle.std.proofs.lemmas.List.Sums.{sum_by-append, sum_by_more, sum_by_more_le}
 use Rattle.std.proofs.lemmas.List.Elements.{All-append, All-cons, All-nil}
 use Rattle.tt_instance.specs.Problem.{Problem, Course}
 use Rattle.tt_instance.specs.Cells.{InRange, is_of}
 use Rattle.tt_instance.specs.Courses.{no_course, lectures}
-use Rattle.tt_instance.specs.Limits.{IsInstance, IsNextCourse, lectures_of}
+use Rattle.tt_instance.specs.Limits.{IsInstance}
+use Rattle.tt_instance.specs.Reading.{lectures_of}
 use Rattle.tt_instance.specs.declared.cell.Cell.{Cell}
-use Rattle.tt_instance.proofs.AfterLaws.{EachAfter-at}
 use Rattle.tt_lists.proofs.Sums.{one_if, count_by-cons}
 use Rattle.tt_table.specs.Table.{IsTimetable}
 use Rattle.tt_rules.specs.Hard.{entries_of}
@@ -58,9 +58,7 @@ filled_none p = record { in_range = All-nil (InRange p); size = refl; placed = �
 
 -- the lectures of one course more are few enough
 pub few_more : (p : Problem) (n : ℕ) (t : List Cell) → IsInstance p → IsFilledTo p n t → n < length p.courses → length t + lectures p n ≤ 4096
-few_more p n t ok filled h =
-    let next = EachAfter-at IsNextCourse [] p.courses n no_course ok.within.each_course h in
-    omega (arith, filled.size, next.lectures)
+few_more p n t ok filled h = omega (arith, filled.size, sum_by_more_le (λ (c : Course). c.lectures) p.courses n no_course h, ok.within.lectures)
 
 pub filled_more : (p : Problem) (n : ℕ) (t u : List Cell) → IsFilledTo p n t → n < length p.courses → HasMore p n (lectures p n) t u → IsFilledTo p (n + 1) u
 filled_more p n t u filled h more = record {

@@ -10,12 +10,12 @@ use Rattle.tt_text.proofs.Steps.{done, ok_is, bind_ok, bind_is, Takes, takes_the
 use Rattle.tt_text.proofs.Fields.{ReadsOn}
 use Rattle.tt_instance.specs.declared.fault.InstanceFault.{InstanceFault}
 use Rattle.tt_instance.specs.Problem.{Course, Bar}
-use Rattle.tt_instance.specs.Limits.{ids_of, same_bar, IsNextCourse, IsBar, EachAfter}
-use Rattle.tt_instance.specs.Reading.{named_at, below_at, bar_at, bars_at}
+use Rattle.tt_instance.specs.Limits.{same_bar, IsBar}
+use Rattle.tt_instance.specs.Reading.{ids_of, named_at, below_at, bar_at, bars_at}
 use Rattle.tt_instance.specs.Spelling.{bar_pieces}
 use Rattle.tt_instance.proofs.AfterLaws.{EachAfter-from_all}
 use Rattle.tt_instance.proofs.FieldLaws.{below_takes, below_reads}
-use Rattle.tt_instance.proofs.NameLaws.{named_takes, named_reads}
+use Rattle.tt_instance.proofs.NameLaws.{AreNamed, named_takes, named_reads}
 use Rattle.tt_instance.proofs.Repeating.{bars_repeat}
 use Rattle.tt_instance.proofs.SeriesLaws.{OneTaken, ManyTaken, series_takes, series_reads}
 
@@ -58,20 +58,20 @@ module _ (cs : List Course) (days periods : ℕ) where
         series_takes bars_once (bar_pieces cs) IsNextBar (λ _. Unit {0}) one (bars_at end (ids_of cs) days periods) (bars_repeat end (ids_of cs) days periods) (bar_takes some_day some_period) (λ before b fits ok. tt) n [] ts x tt e
 
     -- one unavailability that is spelled is read
-    bar_reads : EachAfter IsNextCourse [] cs → (before : List Bar) (ts : List Placed) (b : Bar) (qs : List Piece) (rest : List Placed) → IsBar (length cs) days periods b → Begins (bar_pieces cs b ++ qs) ts rest
+    bar_reads : AreNamed cs → (before : List Bar) (ts : List Placed) (b : Bar) (qs : List Piece) (rest : List Placed) → IsBar (length cs) days periods b → Begins (bar_pieces cs b ++ qs) ts rest
         → ReadsOn (one (bars_once before) ts) (bars_once (before ++ b ∷ [])) qs rest
     unfolding bar_at
-    bar_reads each before ts b qs rest ok h =
+    bar_reads apart before ts b qs rest ok h =
         let q2 : List Piece = Number b.period ∷ qs in
         let q1 : List Piece = Number b.day ∷ q2 in
-        let course = named_reads end cs ts b.course q1 rest each ok.course h in
+        let course = named_reads end cs ts b.course q1 rest apart ok.course h in
         let day = below_reads end days course.mid b.day q2 rest ok.day course.left in
         let period = below_reads end periods day.mid b.period qs rest ok.period day.left in
         let made = ap (λ l. done {A = List Bar × List Placed} (l, period.mid)) (sym (distinct_push same_bar before b)) in
         record { mid = period.mid; is = bind_is _ (b.course, course.mid) _ _ course.is (bind_is _ (b.day, day.mid) _ _ day.is (bind_is _ (b.period, period.mid) _ _ period.is made)); left = period.left }
 
     -- unavailabilities that are spelled are read
-    pub bars_read : EachAfter IsNextCourse [] cs → (ts : List Placed) (bs : List Bar) (qs : List Piece) (rest : List Placed) → All (IsBar (length cs) days periods) bs → Begins (flat_map (bar_pieces cs) bs ++ qs) ts rest
+    pub bars_read : AreNamed cs → (ts : List Placed) (bs : List Bar) (qs : List Piece) (rest : List Placed) → All (IsBar (length cs) days periods) bs → Begins (flat_map (bar_pieces cs) bs ++ qs) ts rest
         → ReadsOn (bars_at end (ids_of cs) days periods (length bs) [] ts) (bars_once bs) qs rest
-    bars_read each ts bs qs rest ok h =
-        series_reads bars_once (bar_pieces cs) IsNextBar one (bars_at end (ids_of cs) days periods) (bars_repeat end (ids_of cs) days periods) (bar_reads each) [] ts bs qs rest (EachAfter-from_all (IsBar (length cs) days periods) [] bs ok) h
+    bars_read apart ts bs qs rest ok h =
+        series_reads bars_once (bar_pieces cs) IsNextBar one (bars_at end (ids_of cs) days periods) (bars_repeat end (ids_of cs) days periods) (bar_reads apart) [] ts bs qs rest (EachAfter-from_all (IsBar (length cs) days periods) [] bs ok) h

@@ -15,8 +15,7 @@ use Rattle.tt_instance.specs.declared.limit.TheConstants.{MAX_DAYS, MAX_PERIODS,
 use Rattle.tt_instance.specs.Words.{word_text}
 use Rattle.tt_instance.specs.Beginnings.{token_offset, BeginsAs}
 use Rattle.tt_instance.specs.Problem.{Course, Room, Curriculum, Bar, Problem}
-use Rattle.tt_instance.specs.Limits.{ids_of}
-use Rattle.tt_instance.specs.Reading.{Counts, word_at, numbered, ranged, known, limited_at, below_at, course_at, courses_at, room_at, rooms_at, named_at, member_at, members_at, curriculum_at, curricula_at, bar_at, bars_at, name_at, counted_at, days_at, periods_at, header_at, places_at, groups_at, sections_at, instance_of}
+use Rattle.tt_instance.specs.Reading.{Counts, ids_of, word_at, numbered, ranged, known, limited_at, below_at, course_at, courses_at, room_at, rooms_at, named_at, member_at, members_at, curriculum_at, curricula_at, bar_at, bars_at, name_at, counted_at, days_at, periods_at, header_at, places_at, groups_at, sections_at, instance_of}
 use Rattle.tt_instance.specs.Spelling.{Spells}
 use Rattle.tt_instance.proofs.Beginnings.{begins_shared, told_stands, told_stays}
 use Rattle.tt_instance.proofs.WholeLaws.{is_read}

@@ -9,10 +9,12 @@ use Rattle.tt_text.proofs.Steps.{done, ok_is, bind_ok, Takes, takes_then}
 use Rattle.tt_text.proofs.Fields.{ReadsOn, has_piece}
 use Rattle.tt_instance.specs.declared.fault.InstanceFault.TheVariants as fault
 use Rattle.tt_instance.specs.Problem.{Course, Curriculum}
-use Rattle.tt_instance.specs.Limits.{ids_of, curriculum_ids_of, IsNextCourse, IsNextCurriculum, EachAfter}
-use Rattle.tt_instance.specs.Reading.{token_at, limited_at, members_at, curriculum_at, curricula_at}
+use Rattle.tt_instance.specs.Reading.{ids_of, curriculum_ids_of, token_at, limited_at, members_at, curriculum_at, curricula_at}
 use Rattle.tt_instance.specs.Spelling.{named, curriculum_pieces, members_kept}
+use Rattle.tt_instance.proofs.AfterLaws.{EachAfter}
+use Rattle.tt_instance.proofs.NextLaws.{IsNextCurriculum}
 use Rattle.tt_instance.proofs.FieldLaws.{guard_passed, text_takes, limited_takes, limited_reads}
+use Rattle.tt_instance.proofs.NameLaws.{AreNamed}
 use Rattle.tt_instance.proofs.MemberLaws.{once, members_take, members_read}
 use Rattle.tt_instance.proofs.Repeating.{curricula_repeat}
 use Rattle.tt_instance.proofs.SeriesLaws.{OneTaken, ManyTaken, series_takes, series_reads}
@@ -49,7 +51,7 @@ module _ (end : ℕ) (cs : List Course) where
       let list : all_kept before ++ record { id = q.id; members = members.0.0 } ∷ [] ≡ all_kept (before ++ q ∷ []) =
       ap (λ ms. all_kept before ++ record { id = q.id; members = ms } ∷ []) m.list ∙ sym (map_push members_kept before q) in
       subst (OneTaken all_kept (curriculum_pieces cs) (IsNextCurriculum (length cs)) before ts) (ok_is (all_kept before ++ record { id = q.id; members = members.0.0 } ∷ [], members.0.1) x members.2)
-      (record { item = q; list = list; next = record { fresh = fresh; few = omega (arith, m.len, n.1); members = m.each }; takes = pieces })
+      (record { item = q; list = list; next = record { fresh = fresh; is = record { few = omega (arith, m.len, n.1); members = m.each } }; takes = pieces })
 
   -- this many curricula that were read are spelled
   pub curricula_take : (n : ℕ) (ts : List Placed) (x : List Curriculum × List Placed) → curricula_at end (ids_of cs) n [] ts ≡ Ok x → CurriculaTaken n ts x
@@ -57,7 +59,7 @@ module _ (end : ℕ) (cs : List Course) where
       series_takes all_kept (curriculum_pieces cs) (IsNextCurriculum (length cs)) (λ _. Unit {0}) (curriculum_at end (ids_of cs)) (curricula_at end (ids_of cs)) (curricula_repeat end (ids_of cs)) curriculum_takes
       (λ before q fits next. tt) n [] ts x tt e
 
-  module _ (each : EachAfter IsNextCourse [] cs) where
+  module _ (apart : AreNamed cs) where
     -- one curriculum that is spelled is read
     curriculum_reads : (before : List Curriculum) (ts : List Placed) (q : Curriculum) (qs : List Piece) (rest : List Placed) → IsNextCurriculum (length cs) before q → Begins (curriculum_pieces cs q ++ qs) ts rest
         → ReadsOn (curriculum_at end (ids_of cs) (all_kept before) ts) (all_kept (before ++ q ∷ [])) qs rest
@@ -65,8 +67,8 @@ module _ (end : ℕ) (cs : List Course) where
     curriculum_reads before ts q qs rest next h =
         let after_count : List Piece = map (named cs) q.members ++ qs in
         let id = has_piece (fault.Ended end) ts (Text q.id) (Number (length q.members) ∷ after_count) rest h in
-        let count = limited_reads end 4096 id.token.1 (length q.members) after_count rest next.few id.left in
-        let members = members_read end cs each count.mid q.members qs rest next.members count.left in
+        let count = limited_reads end 4096 id.token.1 (length q.members) after_count rest next.is.few id.left in
+        let members = members_read end cs apart count.mid q.members qs rest next.is.members count.left in
         let fresh : has_name (curriculum_ids_of (all_kept before)) id.token.0.text ≡ false = ap (has_name (curriculum_ids_of (all_kept before))) id.piece ∙ ap (λ names. has_name names q.id) (ids_kept before) ∙ next.fresh in
         let made : done {A = List Curriculum × List Placed} (all_kept before ++ record { id = id.token.0.text; members = once q.members } ∷ [], members.mid) ≡ Ok (all_kept (before ++ q ∷ []), members.mid) =
         ap (λ name. done {A = List Curriculum × List Placed} (all_kept before ++ record { id = name; members = once q.members } ∷ [], members.mid)) id.piece

@@ -12,9 +12,8 @@ use Rattle.tt_text.proofs.Fields.{ReadsOn, takes_piece, has_piece, text_is, is_t
 use Rattle.tt_instance.specs.declared.fault.Word.{Word}
 use Rattle.tt_instance.specs.declared.fault.InstanceFault.{InstanceFault}
 use Rattle.tt_instance.specs.declared.fault.InstanceFault.TheVariants as fault
-use Rattle.tt_instance.specs.Words.{word_text}
+use Rattle.tt_instance.specs.Words.{word_text, fixed}
 use Rattle.tt_instance.specs.Reading.{token_at, word_at, numbered, ranged, limited_at, below_at}
-use Rattle.tt_instance.specs.Spelling.{fixed}
 
 -- a guard that let pass
 pub guard_passed : {A : Type 0} (b : Bool) (d : InstanceFault) (f : Unit {0} → Result A InstanceFault) (y : A) → (cond b (Err d) (Ok tt) >>= f) ≡ Ok y → (b ≡ false) × (f tt ≡ Ok y)

@@ -1,5 +1,5 @@
 -- A field of a row is that field of what a contract sees.
-use Rattle.std.proofs.Common.{◌≡◌, ℕ, ◌≤◌, ◌<◌, List, [], length, get_or, map, Some, slice_get, refl, sym, ap, subst, ◌∙◌, arith}
+use Rattle.std.proofs.Common.{◌≡◌, ℕ, ◌≤◌, ◌<◌, List, length, get_or, map, Some, slice_get, refl, sym, ap, subst, ◌∙◌, arith}
 use Rattle.std.specs.Prelude.{All}
 use Rattle.std.specs.Option.{option_map}
 use Rattle.std.proofs.lemmas.List.{get_or-map, length-map}
@@ -11,12 +11,12 @@ use Rattle.tt_instance.specs.declared.rows.CourseList.{CourseList}
 use Rattle.tt_instance.specs.declared.rows.RoomRow.{RoomRow}
 use Rattle.tt_instance.specs.declared.rows.CurriculumRow.{CurriculumRow}
 use Rattle.tt_instance.specs.declared.parts.Parts.{Parts}
-use Rattle.tt_instance.specs.Problem.{Course, Room, Curriculum, Problem}
+use Rattle.tt_instance.specs.Problem.{Course, Problem}
 use Rattle.tt_instance.specs.Courses.{no_course, teachers}
-use Rattle.tt_instance.specs.Limits.{IsNextCourse, IsNextRoom, IsNextCurriculum, IsInstance}
+use Rattle.tt_instance.specs.Limits.{IsCurriculum, IsInstance}
 use Rattle.tt_instance.specs.Seen.{course_seen, courses_seen, room_seen, curriculum_seen, problem_seen}
 use Rattle.tt_instance.specs.Indexed.{IsIndexed, IsTeacher, teachers_of}
-use Rattle.tt_instance.proofs.AfterLaws.{All-from_each_after}
+use Rattle.tt_instance.proofs.CourseLimits.{IsFewCourse, each_few}
 
 module _ {X Y : Type 0} (f : X → Y) (xs : List X) (i : ℕ) (x : X) where
   -- a field of what is seen of a row
@@ -46,25 +46,20 @@ module _ (a : Parts) (p : Problem) (is_seen : problem_seen a ≡ p) (instance : 
   pub course_within : (i : ℕ) (x : CourseRow) → i < length p.courses → x ≡ get_or a.courses.rows.items i x → (x.lectures ≤ 4096) × (x.min_days ≤ 512) × (x.students ≤ 1000000)
   course_within i x lt is =
       let are : courses_seen a.courses.rows.items ≡ p.courses = ap (λ (q : Problem). q.courses) is_seen in
-      let Q : Course → Type 0 = λ c. (c.lectures ≤ 4096) × (c.min_days ≤ 512) × (c.students ≤ 1000000) in
-      let all : All Q (courses_seen a.courses.rows.items) = All-from_each_after IsNextCourse Q (λ before c next. (omega (arith, next.lectures), next.min_days, next.students)) [] (courses_seen a.courses.rows.items) instance.within.each_course in
-      holds_at course_seen a.courses.rows.items i x Q all (within_rows course_seen a.courses.rows.items i x p.courses are lt) is
+      holds_at course_seen a.courses.rows.items i x IsFewCourse (each_few (problem_seen a) instance.within) (within_rows course_seen a.courses.rows.items i x p.courses are lt) is
 
   -- the seats of a room are within the limit
   pub room_within : (i : ℕ) (x : RoomRow) → i < length p.rooms → x ≡ get_or a.rooms.rows.items i x → x.capacity ≤ 1000000
   room_within i x lt is =
       let are : map room_seen a.rooms.rows.items ≡ p.rooms = ap (λ (q : Problem). q.rooms) is_seen in
-      let Q : Room → Type 0 = λ r. r.capacity ≤ 1000000 in
-      let all : All Q (map room_seen a.rooms.rows.items) = All-from_each_after IsNextRoom Q (λ before r next. next.capacity) [] (map room_seen a.rooms.rows.items) instance.within.each_room in
-      holds_at room_seen a.rooms.rows.items i x Q all (within_rows room_seen a.rooms.rows.items i x p.rooms are lt) is
+      holds_at room_seen a.rooms.rows.items i x (λ r. r.capacity ≤ 1000000) instance.within.each_room (within_rows room_seen a.rooms.rows.items i x p.rooms are lt) is
 
   -- the members of a curriculum are within the limit
   pub curriculum_within : (i : ℕ) (x : CurriculumRow) → i < length p.curricula → x ≡ get_or a.curricula.rows.items i x → length x.members.courses.items ≤ 4096
   curriculum_within i x lt is =
       let are : map curriculum_seen a.curricula.rows.items ≡ p.curricula = ap (λ (q : Problem). q.curricula) is_seen in
-      let Q : Curriculum → Type 0 = λ q. length q.members ≤ 4096 in
-      let all : All Q (map curriculum_seen a.curricula.rows.items) = All-from_each_after (IsNextCurriculum (length (courses_seen a.courses.rows.items))) Q (λ before q next. next.few) [] (map curriculum_seen a.curricula.rows.items) instance.within.each_curriculum in
-      holds_at curriculum_seen a.curricula.rows.items i x Q all (within_rows curriculum_seen a.curricula.rows.items i x p.curricula are lt) is
+      let kept = holds_at curriculum_seen a.curricula.rows.items i x (IsCurriculum (length (courses_seen a.courses.rows.items))) instance.within.each_curriculum (within_rows curriculum_seen a.curricula.rows.items i x p.curricula are lt) is in
+      kept.few
 
 -- the number that a row has for its teacher
 pub teacher_seen : (l : CourseList) (p : Problem) (i : ℕ) (x : CourseRow) → IsIndexed l → courses_seen l.rows.items ≡ p.courses → i < length p.courses → x ≡ get_or l.rows.items i x

@@ -1,9 +1,9 @@
 -- The name and the header: what is read is spelled, and what is spelled is read.
-use Rattle.std.proofs.Common.{◌≡◌, ℕ, ◌*◌, ◌<◌, ◌≤◌, Bool, true, false, cond, ltb, eqb, List, [], ◌∷◌, ◌++◌, map, Ok, refl, sym, ap, subst, ◌∙◌, append_assoc, arith}
+use Rattle.std.proofs.Common.{◌≡◌, ◌≢◌, ℕ, ◌*◌, ◌<◌, ◌≤◌, Bool, true, false, cond, ltb, eqb, List, [], ◌∷◌, ◌++◌, map, Ok, refl, sym, ap, subst, ◌∙◌, append_assoc, arith, codes}
 use Rattle.std.specs.Prelude.{All}
 use Rattle.std.proofs.lemmas.List.{append-nil}
 use Rattle.std.proofs.lemmas.List.Elements.{All-nil, All-cons, All-head, All-tail}
-use Rattle.std.proofs.lemmas.Bool.{ltb-false, le-ltb}
+use Rattle.std.proofs.lemmas.Bool.{ltb-false, le-ltb, false_from_ne_true, both_ways}
 use Rattle.std.proofs.lemmas.Bool.Decides.{nat_tests}
 use Rattle.tt_text.specs.Tokens.{Placed}
 use Rattle.tt_text.specs.Texts.{is_text}
@@ -14,16 +14,15 @@ use Rattle.tt_text.proofs.Fields.{ReadsOn, takes_piece, has_piece, text_is, is_t
 use Rattle.tt_instance.specs.declared.fault.Word.{Word}
 use Rattle.tt_instance.specs.declared.fault.Word.TheVariants as word
 use Rattle.tt_instance.specs.declared.fault.InstanceFault.TheVariants as fault
-use Rattle.tt_instance.specs.Words.{word_text}
+use Rattle.tt_instance.specs.Words.{word_text, fixed}
 use Rattle.tt_instance.specs.Reading.{Counts, token_at, word_at, numbered, limited_at, counted_at, name_at, days_at, periods_at, header_at}
-use Rattle.tt_instance.specs.Spelling.{fixed}
 use Rattle.tt_instance.proofs.FieldLaws.{word_takes, has_word, numbered_ok, limited_takes, limited_reads}
 
 -- ---- the name
 
 -- a token that does not end the name
 abbrev pub IsNamePart : List ℕ → Type 0
-IsNamePart text = is_text (word_text word.Courses) text ≡ false
+IsNamePart text = text ≢ codes "Courses:"
 
 -- what reading the tokens before the word that ends the name gave
 pub record NameTaken (before : List (List ℕ)) (ts : List Placed) (x : List (List ℕ) × List Placed) : Type 0 where
@@ -48,7 +47,7 @@ name_step end before t ts x false is e more =
     record {
       name = t.text ∷ m.name;
       list = m.list ∙ append_assoc before (t.text ∷ []) m.name;
-      other = All-cons IsNamePart t.text m.name is m.other;
+      other = All-cons IsNamePart t.text m.name (λ same. both_ways _ is (is_text_of t.text (word_text word.Courses) same)) m.other;
       takes = record { take = λ qs rest h. (refl, m.takes.take qs rest h) };
     }
 
@@ -68,7 +67,8 @@ name_reads end before [] (t ∷ ts) qs rest other h =
     record { mid = ts; is = rw is (ap (λ (b : List (List ℕ)). done {A = List (List ℕ) × List Placed} (b, ts)) (sym (append-nil before))); left = h.1 }
 name_reads end before (n ∷ ns) [] qs rest other h = absurd h
 name_reads end before (n ∷ ns) (t ∷ ts) qs rest other h =
-    let is : is_text (word_text word.Courses) t.text ≡ false = ap (is_text (word_text word.Courses)) h.0 ∙ All-head IsNamePart n ns other in
+    let is : is_text (word_text word.Courses) t.text ≡ false =
+    false_from_ne_true _ (λ same. All-head IsNamePart n ns other (sym h.0 ∙ text_is t.text (word_text word.Courses) same)) in
     let more = name_reads end (before ++ n ∷ []) ns ts qs rest (All-tail IsNamePart n ns other) h.1 in
     let same : name_at end (before ++ t.text ∷ []) ts ≡ name_at end (before ++ n ∷ []) ts = ap (λ (x : List ℕ). name_at end (before ++ x ∷ []) ts) h.0 in
     record { mid = more.mid; is = rw is (same ∙ more.is ∙ ap (λ (b : List (List ℕ)). done {A = List (List ℕ) × List Placed} (b, more.mid)) (append_assoc before (n ∷ []) ns)); left = more.left }

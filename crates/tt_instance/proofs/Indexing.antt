@@ -10,7 +10,7 @@ use Rattle.tt_instance.specs.declared.rows.CourseList.{CourseList}
 use Rattle.tt_instance.specs.declared.rows.RoomList.{RoomList}
 use Rattle.tt_instance.specs.declared.rows.RoomRow.{RoomRow}
 use Rattle.tt_instance.specs.Problem.{Course, Room}
-use Rattle.tt_instance.specs.Limits.{ids_of, room_ids_of, lectures_of}
+use Rattle.tt_instance.specs.Reading.{ids_of, room_ids_of, lectures_of}
 use Rattle.tt_instance.specs.Seen.{course_seen, courses_seen, room_seen, rooms_seen}
 use Rattle.tt_instance.specs.Indexed.{IsIndexed, IsRoomsIndexed, IsTeacher, teachers_of}
 use Rattle.tt_instance.proofs.Naming.{length-with_name, index_of_name-with_name}

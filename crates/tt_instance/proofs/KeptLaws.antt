@@ -1,29 +1,35 @@
 -- What is kept of the lines of a file: within the limits, each member and each unavailability once, and no more where each stands once.
-use Rattle.std.proofs.Common.{◌≡◌, ℕ, ◌<◌, true, not, List, [], length, get_or, refl, ap, ◌∙◌, arith}
-use Rattle.std.specs.Prelude.{◌==◌, All}
-use Rattle.std.proofs.lemmas.List.{length-map}
+use Rattle.std.proofs.Common.{◌≡◌, ◌≢◌, ℕ, ◌<◌, true, not, List, length, get_or, refl, sym, ap, ◌∙◌, arith}
+use Rattle.std.specs.Prelude.{◌==◌, All, AllPairs}
+use Rattle.std.proofs.lemmas.List.{length-map, get_or-map}
 use Rattle.std.proofs.lemmas.List.Elements.{All-map, All-weaker}
 use Rattle.std.proofs.lemmas.List.Folds.{map_fixed}
 use Rattle.tt_lists.specs.Words.{each_two, distinct}
 use Rattle.tt_lists.proofs.Distinct.{All-distinct, length-distinct, each_two-distinct, distinct_stays}
-use Rattle.tt_text.specs.Texts.{has_name}
 use Rattle.tt_instance.specs.Problem.{Curriculum, Bar, Problem}
-use Rattle.tt_instance.specs.Limits.{same_bar, IsNextCurriculum, IsBar, IsWithinLimits}
+use Rattle.tt_instance.specs.Limits.{same_bar, IsCurriculum, IsBar, IsWithinLimits}
 use Rattle.tt_instance.specs.Spelling.{members_kept, without_repeats}
-use Rattle.tt_instance.proofs.AfterLaws.{EachAfter-map}
-use Rattle.tt_instance.proofs.CurriculumLaws.{all_kept, ids_kept}
+use Rattle.tt_instance.proofs.CurriculumLaws.{all_kept}
 
--- the next curriculum is one of what is kept, too
-curriculum_within : (courses : ℕ) (before : List Curriculum) (q : Curriculum) → IsNextCurriculum courses before q → IsNextCurriculum courses (all_kept before) (members_kept q)
-curriculum_within courses before q next = record {
-  fresh = ap (λ names. has_name names q.id) (ids_kept before) ∙ next.fresh;
-  few = omega (arith, length-distinct (λ a b. a == b) q.members, next.few);
-  members = All-distinct (λ a b. a == b) (λ c. c < courses) q.members next.members;
+-- what is kept of a curriculum is within the limits, too
+curriculum_within : (courses : ℕ) (q : Curriculum) → IsCurriculum courses q → IsCurriculum courses (members_kept q)
+curriculum_within courses q is = record {
+  few = omega (arith, length-distinct (λ a b. a == b) q.members, is.few);
+  members = All-distinct (λ a b. a == b) (λ c. c < courses) q.members is.members;
 }
+
+-- what is kept of curricula has their names
+names_apart : (qs : List Curriculum) → AllPairs (λ q r. q.id ≢ r.id) qs → AllPairs (λ q r. q.id ≢ r.id) (all_kept qs)
+names_apart qs apart = λ i j d below l same.
+    let in_list : j < length qs = omega (arith, l, length-map qs members_kept) in
+    let one = get_or-map members_kept qs i d d (omega (arith, below, in_list)) in
+    let other = get_or-map members_kept qs j d d in_list in
+    let name : Curriculum → List ℕ = λ q. q.id in
+    apart i j d below in_list (sym (ap name one) ∙ same ∙ ap name other)
 
 -- what is kept of an instance within the limits is within them
 pub kept_within : (w : Problem) → IsWithinLimits w → IsWithinLimits (without_repeats w)
-kept_within w within = record {
+kept_within w within = let Is : Curriculum → Type 0 = IsCurriculum (length w.courses) in record {
   name = within.name;
   courses = within.courses;
   rooms = within.rooms;
@@ -35,9 +41,13 @@ kept_within w within = record {
   cells = within.cells;
   curricula = omega (arith, length-map w.curricula members_kept, within.curricula);
   bars = omega (arith, length-distinct same_bar w.bars, within.bars);
+  course_names = within.course_names;
+  room_names = within.room_names;
+  curriculum_names = names_apart w.curricula within.curriculum_names;
+  lectures = within.lectures;
   each_course = within.each_course;
   each_room = within.each_room;
-  each_curriculum = EachAfter-map members_kept (IsNextCurriculum (length w.courses)) (curriculum_within (length w.courses)) [] w.curricula within.each_curriculum;
+  each_curriculum = All-map Is members_kept w.curricula (All-weaker Is (λ q. Is (members_kept q)) (curriculum_within (length w.courses)) w.curricula within.each_curriculum);
   each_bar = All-distinct same_bar (IsBar (length w.courses) w.days w.periods) w.bars within.each_bar;
 }
 

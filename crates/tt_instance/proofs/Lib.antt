@@ -22,6 +22,7 @@ pub mod MemberLaws
 pub mod NameLaws
 pub mod NameSteps
 pub mod Naming
+pub mod NextLaws
 pub mod Places
 pub mod Repeating
 pub mod RoomLaws

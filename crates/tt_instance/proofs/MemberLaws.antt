@@ -9,11 +9,10 @@ use Rattle.tt_text.specs.Pieces.{Piece, Begins}
 use Rattle.tt_text.proofs.Steps.{done, ok_is, bind_ok, bind_is, Takes}
 use Rattle.tt_text.proofs.Fields.{ReadsOn}
 use Rattle.tt_instance.specs.Problem.{Course}
-use Rattle.tt_instance.specs.Limits.{ids_of, IsNextCourse, EachAfter}
-use Rattle.tt_instance.specs.Reading.{named_at, member_at, members_at}
+use Rattle.tt_instance.specs.Reading.{ids_of, named_at, member_at, members_at}
 use Rattle.tt_instance.specs.Spelling.{named}
 use Rattle.tt_instance.proofs.AfterLaws.{All-from_each_after, EachAfter-from_all}
-use Rattle.tt_instance.proofs.NameLaws.{named_takes, named_reads}
+use Rattle.tt_instance.proofs.NameLaws.{AreNamed, named_takes, named_reads}
 use Rattle.tt_instance.proofs.Repeating.{members_repeat}
 use Rattle.tt_instance.proofs.SeriesLaws.{OneTaken, series_takes, series_reads}
 
@@ -59,13 +58,13 @@ module _ (end : ℕ) (cs : List Course) where
         takes = subst (λ ps. Takes ts ps x.1) (flat_map_single (named cs) m.items) m.takes;
       }
 
-  module _ (each : EachAfter IsNextCourse [] cs) where
+  module _ (apart : AreNamed cs) where
     -- one member that is spelled is read
     member_reads : (before : List ℕ) (ts : List Placed) (m : ℕ) (qs : List Piece) (rest : List Placed) → m < length cs → Begins (member_pieces m ++ qs) ts rest
         → ReadsOn (member_at end (ids_of cs) (once before) ts) (once (before ++ m ∷ [])) qs rest
     unfolding member_at
     member_reads before ts m qs rest below h =
-        let c = named_reads end cs ts m qs rest each below h in
+        let c = named_reads end cs ts m qs rest apart below h in
         let made = ap (λ l. done {A = List ℕ × List Placed} (l, c.mid)) (sym (distinct_push (λ a b. a == b) before m)) in
         record { mid = c.mid; is = bind_is _ (m, c.mid) _ _ c.is made; left = c.left }
 

@@ -7,12 +7,15 @@ use Rattle.tt_text.specs.Pieces.{Piece, Begins}
 use Rattle.tt_text.proofs.Steps.{ok_is, bind_ok, bind_is, Takes, takes_then}
 use Rattle.tt_text.proofs.Fields.{ReadsOn}
 use Rattle.tt_instance.specs.declared.fault.Word.TheVariants as word
+use Rattle.tt_instance.specs.Words.{fixed}
 use Rattle.tt_instance.specs.Problem.{Course, Room, Curriculum, Bar}
-use Rattle.tt_instance.specs.Limits.{ids_of, IsNextCourse, IsNextRoom, IsNextCurriculum, IsBar, EachAfter}
-use Rattle.tt_instance.specs.Reading.{Counts, Sections, word_at, courses_at, rooms_at, curricula_at, bars_at, places_at, groups_at, sections_at}
-use Rattle.tt_instance.specs.Spelling.{fixed, course_pieces, room_pieces, curriculum_pieces, bar_pieces}
+use Rattle.tt_instance.specs.Limits.{IsBar}
+use Rattle.tt_instance.specs.Reading.{Counts, Sections, ids_of, word_at, courses_at, rooms_at, curricula_at, bars_at, places_at, groups_at, sections_at}
+use Rattle.tt_instance.specs.Spelling.{course_pieces, room_pieces, curriculum_pieces, bar_pieces}
 use Rattle.tt_instance.proofs.AfterLaws.{All-from_each_after}
 use Rattle.tt_instance.proofs.FieldLaws.{word_takes, has_word}
+use Rattle.tt_instance.proofs.NextLaws.{AreCourses, AreRooms, AreCurricula, courses_next, courses_are, rooms_next, rooms_are, curricula_next, curricula_are}
+use Rattle.tt_instance.proofs.NameLaws.{AreNamed}
 use Rattle.tt_instance.proofs.CourseLaws.{courses_take, courses_read}
 use Rattle.tt_instance.proofs.RoomLaws.{rooms_take, rooms_read}
 use Rattle.tt_instance.proofs.CurriculumLaws.{all_kept, curricula_take, curricula_read}
@@ -28,8 +31,8 @@ place_pieces cs rs = (fixed word.CoursesPart ∷ flat_map course_pieces cs) ++ (
 pub record ArePlaces (counts : Counts) (cs : List Course) (rs : List Room) : Type 0 where
   pub courses : length cs ≡ counts.courses
   pub rooms : length rs ≡ counts.rooms
-  pub each_course : EachAfter IsNextCourse [] cs
-  pub each_room : EachAfter IsNextRoom [] rs
+  pub all_courses : AreCourses cs
+  pub all_rooms : AreRooms rs
 
 -- courses and rooms that were read are spelled
 places_take : (end : ℕ) (counts : Counts) (ts : List Placed) (x : (List Course × List Room) × List Placed) → places_at end counts ts ≡ Ok x → Takes ts (place_pieces x.0.0 x.0.1) x.1 × ArePlaces counts x.0.0 x.0.1
@@ -48,7 +51,7 @@ places_take end counts ts x e =
     (subst (λ rs. Takes ts (place_pieces c.items rs) rooms.0.1) (sym r.list) (takes_then _ _ _ _ _ t1 t2)) in
     let are : ArePlaces counts courses.0.0 rooms.0.0 =
     subst (λ cs. ArePlaces counts cs rooms.0.0) (sym c.list) (subst (λ rs. ArePlaces counts c.items rs) (sym r.list)
-    (record { courses = c.len; rooms = r.len; each_course = c.each; each_room = r.each })) in
+    (record { courses = c.len; rooms = r.len; all_courses = courses_are c.items c.each; all_rooms = rooms_are r.items r.each })) in
     subst (λ (y : (List Course × List Room) × List Placed). Takes ts (place_pieces y.0.0 y.0.1) y.1 × ArePlaces counts y.0.0 y.0.1) (ok_is ((courses.0.0, rooms.0.0), rooms.0.1) x rooms.2) (takes, are)
 
 -- courses and rooms that are spelled are read
@@ -60,9 +63,9 @@ places_read end counts ts cs rs qs rest ok h =
     let course_part : List Piece = flat_map course_pieces cs ++ (fixed word.RoomsPart ∷ room_part) in
     let grouped : place_pieces cs rs ++ qs ≡ fixed word.CoursesPart ∷ course_part = simp append_assoc in
     let w1 = has_word end word.CoursesPart ts course_part rest (subst (λ (ps : List Piece). Begins ps ts rest) grouped h) in
-    let courses = courses_read end w1.mid cs (fixed word.RoomsPart ∷ room_part) rest ok.each_course w1.left in
+    let courses = courses_read end w1.mid cs (fixed word.RoomsPart ∷ room_part) rest (courses_next cs ok.all_courses) w1.left in
     let w2 = has_word end word.RoomsPart courses.mid room_part rest courses.left in
-    let rooms = rooms_read end w2.mid rs qs rest ok.each_room w2.left in
+    let rooms = rooms_read end w2.mid rs qs rest (rooms_next rs ok.all_rooms) w2.left in
     let c_is : courses_at end counts.courses [] w1.mid ≡ Ok (cs, courses.mid) = subst (λ (n : ℕ). courses_at end n [] w1.mid ≡ Ok (cs, courses.mid)) ok.courses courses.is in
     let r_is : rooms_at end counts.rooms [] w2.mid ≡ Ok (rs, rooms.mid) = subst (λ (n : ℕ). rooms_at end n [] w2.mid ≡ Ok (rs, rooms.mid)) ok.rooms rooms.is in
     record {
@@ -82,7 +85,7 @@ group_pieces cs qs bs =
 pub record AreGroups (counts : Counts) (cs : List Course) (qs : List Curriculum) (bs : List Bar) : Type 0 where
   pub curricula : length qs ≡ counts.curricula
   pub bars : length bs ≡ counts.bars
-  pub each_curriculum : EachAfter (IsNextCurriculum (length cs)) [] qs
+  pub all_curricula : AreCurricula (length cs) qs
   pub each_bar : All (IsBar (length cs) counts.days counts.periods) bs
 
 -- what reading curricula and unavailabilities gave
@@ -113,25 +116,25 @@ groups_take end counts cs ts x some_day some_period e =
     subst (GroupsTaken counts cs ts) (ok_is ((curricula.0.0, bars.0.0), w3.0) x w3.2) (record {
       curricula = q.items;
       bars = b.items;
-      are = record { curricula = q.len; bars = b.len; each_curriculum = q.each; each_bar = each_bar };
+      are = record { curricula = q.len; bars = b.len; all_curricula = curricula_are (length cs) q.items q.each; each_bar = each_bar };
       curricula_kept = q.list;
       bars_kept = b.list;
       takes = takes_then _ _ _ _ _ t1 (takes_then _ _ _ _ _ t2 t3);
     })
 
 -- curricula and unavailabilities that are spelled are read
-groups_read : (end : ℕ) (counts : Counts) (cs : List Course) (ts : List Placed) (qs : List Curriculum) (bs : List Bar) (ps : List Piece) (rest : List Placed) → EachAfter IsNextCourse [] cs
+groups_read : (end : ℕ) (counts : Counts) (cs : List Course) (ts : List Placed) (qs : List Curriculum) (bs : List Bar) (ps : List Piece) (rest : List Placed) → AreNamed cs
     → AreGroups counts cs qs bs → Begins (group_pieces cs qs bs ++ ps) ts rest → ReadsOn (groups_at end counts (ids_of cs) ts) (all_kept qs, bars_once bs) ps rest
 unfolding groups_at
-groups_read end counts cs ts qs bs ps rest each ok h =
+groups_read end counts cs ts qs bs ps rest apart ok h =
     let end_part : List Piece = fixed word.End ∷ ps in
     let bar_part : List Piece = flat_map (bar_pieces cs) bs ++ end_part in
     let curriculum_part : List Piece = flat_map (curriculum_pieces cs) qs ++ (fixed word.UnavailabilityPart ∷ bar_part) in
     let grouped : group_pieces cs qs bs ++ ps ≡ fixed word.CurriculaPart ∷ curriculum_part = simp append_assoc in
     let w1 = has_word end word.CurriculaPart ts curriculum_part rest (subst (λ (l : List Piece). Begins l ts rest) grouped h) in
-    let curricula = curricula_read end cs each w1.mid qs (fixed word.UnavailabilityPart ∷ bar_part) rest ok.each_curriculum w1.left in
+    let curricula = curricula_read end cs apart w1.mid qs (fixed word.UnavailabilityPart ∷ bar_part) rest (curricula_next (length cs) qs ok.all_curricula) w1.left in
     let w2 = has_word end word.UnavailabilityPart curricula.mid bar_part rest curricula.left in
-    let bars = bars_read cs counts.days counts.periods end each w2.mid bs end_part rest ok.each_bar w2.left in
+    let bars = bars_read cs counts.days counts.periods end apart w2.mid bs end_part rest ok.each_bar w2.left in
     let w3 = has_word end word.End bars.mid ps rest bars.left in
     let q_is : curricula_at end (ids_of cs) counts.curricula [] w1.mid ≡ Ok (all_kept qs, curricula.mid) =
     subst (λ (n : ℕ). curricula_at end (ids_of cs) n [] w1.mid ≡ Ok (all_kept qs, curricula.mid)) ok.curricula curricula.is in
@@ -186,7 +189,7 @@ unfolding sections_at
 sections_read end counts ts cs rs qs bs ps rest places_ok groups_ok h =
     let grouped : section_pieces cs rs qs bs ++ ps ≡ place_pieces cs rs ++ (group_pieces cs qs bs ++ ps) = append_assoc (place_pieces cs rs) (group_pieces cs qs bs) ps in
     let places = places_read end counts ts cs rs (group_pieces cs qs bs ++ ps) rest places_ok (subst (λ (l : List Piece). Begins l ts rest) grouped h) in
-    let groups = groups_read end counts cs places.mid qs bs ps rest places_ok.each_course groups_ok places.left in
+    let groups = groups_read end counts cs places.mid qs bs ps rest places_ok.all_courses.names groups_ok places.left in
     record {
       mid = groups.mid;
       is = bind_is _ ((cs, rs), places.mid) _ _ places.is (bind_is _ ((all_kept qs, bars_once bs), groups.mid) _ _ groups.is refl);

@@ -14,13 +14,13 @@ use Rattle.tt_instance.specs.declared.rows.CourseRow.{CourseRow}
 use Rattle.tt_instance.specs.declared.rows.CurriculumRow.{CurriculumRow}
 use Rattle.tt_instance.specs.declared.rows.BarRow.{BarRow}
 use Rattle.tt_instance.specs.declared.parts.Parts.{Parts}
+use Rattle.tt_instance.specs.Words.{fixed}
 use Rattle.tt_instance.specs.Problem.{Course, Room, Curriculum, Bar, Problem}
 use Rattle.tt_instance.specs.Courses.{no_course}
-use Rattle.tt_instance.specs.Limits.{IsNextCurriculum, IsBar, IsInstance}
-use Rattle.tt_instance.specs.Spelling.{fixed, named, course_pieces, room_pieces, curriculum_pieces, bar_pieces}
+use Rattle.tt_instance.specs.Limits.{IsCurriculum, IsBar, IsInstance}
+use Rattle.tt_instance.specs.Spelling.{named, course_pieces, room_pieces, curriculum_pieces, bar_pieces}
 use Rattle.tt_instance.specs.Writing.{counted_line, section, header_lines, instance_text}
 use Rattle.tt_instance.specs.Seen.{course_seen, courses_seen, curriculum_seen, curricula_seen, bar_seen, bars_seen, problem_seen}
-use Rattle.tt_instance.proofs.AfterLaws.{All-from_each_after}
 
 module _ {X Y : Type 0} (v : X → Y) where
   -- a line for each row
@@ -117,8 +117,9 @@ module _ (p : Parts) (courses : List CourseRow) (courses_are : courses ≡ p.cou
   members_within rows rows_are =
       let Q : Curriculum → Type 0 = λ q. All (λ c. c < length courses) q.members in
       let count : ℕ = length (courses_seen p.courses.rows.items) in
-      let all : All Q (curricula_seen p.curricula.rows.items) = All-from_each_after (IsNextCurriculum count) Q
-      (λ before q next. All-weaker (λ (c : ℕ). c < count) (λ (c : ℕ). c < length courses) (λ c lt. omega (arith, lt, count_is)) q.members next.members) [] (curricula_seen p.curricula.rows.items) instance.within.each_curriculum in
+      let Is : Curriculum → Type 0 = IsCurriculum count in
+      let all : All Q (curricula_seen p.curricula.rows.items) = All-weaker Is Q
+      (λ q is. All-weaker (λ (c : ℕ). c < count) (λ (c : ℕ). c < length courses) (λ c lt. omega (arith, lt, count_is)) q.members is.members) (curricula_seen p.curricula.rows.items) instance.within.each_curriculum in
       subst (λ (qs : List CurriculumRow). All (λ q. All (λ c. c < length courses) q.members.courses.items) qs) (sym rows_are) (all_seen curriculum_seen Q p.curricula.rows.items all)
 
   -- the course of each unavailability has a row

@@ -9,10 +9,11 @@ use Rattle.tt_text.specs.Tokens.{IsToken, tokens_of}
 use Rattle.tt_text.specs.Pieces.{Piece, Text}
 use Rattle.tt_text.proofs.EachToken.{IsTokenPiece, each_token, each_piece_token}
 use Rattle.tt_instance.specs.declared.fault.Word.TheVariants as word
+use Rattle.tt_instance.specs.Words.{fixed}
 use Rattle.tt_instance.specs.Problem.{Problem}
 use Rattle.tt_instance.specs.Limits.{same_bar, IsInstance}
 use Rattle.tt_instance.specs.Reading.{instance_of}
-use Rattle.tt_instance.specs.Spelling.{fixed, header_pieces, course_pieces, room_pieces, curriculum_pieces, bar_pieces, pieces, members_kept, Spells}
+use Rattle.tt_instance.specs.Spelling.{header_pieces, course_pieces, room_pieces, curriculum_pieces, bar_pieces, pieces, members_kept, Spells}
 use Rattle.tt_instance.proofs.KeptLaws.{kept_within, members_once}
 use Rattle.tt_instance.proofs.WholeLaws.{is_spelled}
 

@@ -7,10 +7,11 @@ use Rattle.tt_text.specs.Pieces.{Piece, Text, Begins}
 use Rattle.tt_text.proofs.Steps.{done, bind_ok, bind_is, Takes, takes_then}
 use Rattle.tt_instance.specs.declared.fault.InstanceFault.{InstanceFault}
 use Rattle.tt_instance.specs.declared.fault.Word.TheVariants as word
+use Rattle.tt_instance.specs.Words.{fixed}
 use Rattle.tt_instance.specs.Problem.{Curriculum, Bar, Problem}
 use Rattle.tt_instance.specs.Limits.{IsWithinLimits}
 use Rattle.tt_instance.specs.Reading.{Counts, Sections, word_at, name_at, header_at, sections_at, instance_of}
-use Rattle.tt_instance.specs.Spelling.{fixed, pieces, without_repeats, Spells}
+use Rattle.tt_instance.specs.Spelling.{pieces, without_repeats, Spells}
 use Rattle.tt_instance.proofs.FieldLaws.{word_takes, has_word}
 use Rattle.tt_instance.proofs.HeaderLaws.{IsNamePart, IsHeader, count_pieces, name_takes, name_reads, header_takes, header_reads}
 use Rattle.tt_instance.proofs.CurriculumLaws.{all_kept}
@@ -45,9 +46,13 @@ within_limits w name header places groups = record {
   cells = header.periods.cells;
   curricula = header.curricula;
   bars = header.bars;
-  each_course = places.each_course;
-  each_room = places.each_room;
-  each_curriculum = groups.each_curriculum;
+  course_names = places.all_courses.names;
+  room_names = places.all_rooms.names;
+  curriculum_names = groups.all_curricula.names;
+  lectures = places.all_courses.lectures;
+  each_course = places.all_courses.each;
+  each_room = places.all_rooms.each;
+  each_curriculum = groups.all_curricula.each;
   each_bar = groups.each_bar;
 }
 
@@ -61,6 +66,24 @@ header_within w within = record {
   periods = record { some = within.some_period; within = within.periods; slots = within.slots; cells = within.cells };
   curricula = within.curricula;
   bars = within.bars;
+}
+
+-- the limits of the whole are those of its courses and rooms
+places_within : (w : Problem) → IsWithinLimits w → ArePlaces (counts_of w) w.courses w.rooms
+places_within w within = record {
+  courses = refl;
+  rooms = refl;
+  all_courses = record { names = within.course_names; lectures = within.lectures; each = within.each_course };
+  all_rooms = record { names = within.room_names; each = within.each_room };
+}
+
+-- the limits of the whole are those of its curricula and unavailabilities
+groups_within : (w : Problem) → IsWithinLimits w → AreGroups (counts_of w) w.courses w.curricula w.bars
+groups_within w within = record {
+  curricula = refl;
+  bars = refl;
+  all_curricula = record { names = within.curriculum_names; each = within.each_curriculum };
+  each_bar = within.each_bar;
 }
 
 -- ---- what is read is spelled
@@ -131,8 +154,6 @@ unfolding instance_of
 is_read bytes p spelled =
     let w : Problem = spelled.written in
     let after_name : List Piece = count_pieces (counts_of w) ++ sections_of w in
-    let places : ArePlaces (counts_of w) w.courses w.rooms = record { courses = refl; rooms = refl; each_course = spelled.within.each_course; each_room = spelled.within.each_room } in
-    let groups : AreGroups (counts_of w) w.courses w.curricula w.bars = record { curricula = refl; bars = refl; each_curriculum = spelled.within.each_curriculum; each_bar = spelled.within.each_bar } in
     let grouped : pieces w ≡ fixed word.Name ∷ (map Text w.name ++ (fixed word.Courses ∷ after_name)) = simp append_assoc in
     let first =
     has_word (length bytes) word.Name (tokens_of bytes) (map Text w.name ++ (fixed word.Courses ∷ after_name)) spelled.rest
@@ -140,7 +161,7 @@ is_read bytes p spelled =
     let name = name_reads (length bytes) [] w.name first.mid after_name spelled.rest spelled.within.name first.left in
     let header = header_reads (length bytes) name.mid (counts_of w) (sections_of w) spelled.rest (header_within w spelled.within) name.left in
     let sections =
-    sections_read (length bytes) (counts_of w) header.mid w.courses w.rooms w.curricula w.bars [] spelled.rest places groups
+    sections_read (length bytes) (counts_of w) header.mid w.courses w.rooms w.curricula w.bars [] spelled.rest (places_within w spelled.within) (groups_within w spelled.within)
     (subst (λ (ps : List Piece). Begins ps header.mid spelled.rest) (sym (append-nil (sections_of w))) header.left) in
     let read : Sections = record { courses = w.courses; rooms = w.rooms; curricula = all_kept w.curricula; bars = bars_once w.bars } in
     bind_is _ first.mid _ _ first.is (bind_is _ (w.name, name.mid) _ _ name.is (bind_is _ (counts_of w, header.mid) _ _ header.is (bind_is _ (read, sections.mid) _ _ sections.is

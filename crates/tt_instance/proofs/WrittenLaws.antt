@@ -1,6 +1,5 @@
 -- An instance that is written out spells itself.
 use Rattle.std.proofs.Common.{◌≡◌, ℕ, ◌<◌, ◌≤◌, ◌^◌, List, [], ◌∷◌, ◌++◌, length, map, get_or, refl, ap, subst, ◌∙◌, arith, lit≤}
-use Rattle.std.specs.Prelude.{All}
 use Rattle.std.specs.List.{flat_map}
 use Rattle.std.proofs.lemmas.List.Elements.{All-weaker}
 use Rattle.tt_text.specs.Tokens.{IsToken, tokens_of}
@@ -10,13 +9,13 @@ use Rattle.tt_text.proofs.Lines.{lines_begin}
 use Rattle.tt_text.proofs.Parts.{all_pieces-append, all_pieces-map, AreWritable-map, LinesWritable-append, LinesWritable-map}
 use Rattle.tt_instance.specs.declared.fault.Word.{Word}
 use Rattle.tt_instance.specs.declared.fault.Word.TheVariants as word
-use Rattle.tt_instance.specs.Words.{word_text}
+use Rattle.tt_instance.specs.Words.{word_text, fixed}
 use Rattle.tt_instance.specs.Problem.{Course, Bar, Problem}
 use Rattle.tt_instance.specs.Courses.{no_course}
-use Rattle.tt_instance.specs.Limits.{IsNextCourse, IsNextRoom, IsNextCurriculum, IsBar, IsInstance}
-use Rattle.tt_instance.specs.Spelling.{fixed, course_pieces, room_pieces, curriculum_pieces, bar_pieces, pieces, named, Spells}
+use Rattle.tt_instance.specs.Limits.{IsCurriculum, IsBar, IsInstance}
+use Rattle.tt_instance.specs.Spelling.{course_pieces, room_pieces, curriculum_pieces, bar_pieces, pieces, named, Spells}
 use Rattle.tt_instance.specs.Writing.{section, header_lines, instance_lines, instance_text}
-use Rattle.tt_instance.proofs.AfterLaws.{All-from_each_after}
+use Rattle.tt_instance.proofs.CourseLimits.{each_few}
 use Rattle.tt_instance.proofs.KeptLaws.{kept_stays}
 
 -- each fixed word is a token
@@ -45,10 +44,6 @@ counted w n h = (word_token w, (small n h, tt))
 -- the head of a section can be written
 section_writable : (w : Word) → LinesWritable (section w)
 section_writable w = (tt, ((word_token w, tt), tt))
-
--- the numbers of a course that stands after others
-course_numbers : (before : List Course) (c : Course) → IsNextCourse before c → (c.lectures ≤ 1000000) × (c.min_days ≤ 1000000) × (c.students ≤ 1000000)
-course_numbers before c next = (omega (arith, next.lectures), omega (arith, next.min_days), next.students)
 
 -- ---- a file in its parts
 
@@ -97,18 +92,15 @@ module _ (p : Problem) (ok : IsInstance p) where
   -- the courses can be written
   courses_writable : LinesWritable (map course_pieces p.courses)
   courses_writable =
-      let numbers = All-from_each_after IsNextCourse (λ c. (c.lectures ≤ 1000000) × (c.min_days ≤ 1000000) × (c.students ≤ 1000000)) course_numbers [] p.courses ok.within.each_course in
       LinesWritable-map course_pieces p.courses (λ k d h.
       let c : Course = get_or p.courses k d in
       let texts = ok.course_tokens k d h in
-      let n = numbers k d h in
-      (texts.0, (texts.1, (small c.lectures n.0, (small c.min_days n.1, (small c.students n.2, tt))))))
+      let n = each_few p ok.within k d h in
+      (texts.0, (texts.1, (small c.lectures (omega (arith, n.0)), (small c.min_days (omega (arith, n.1)), (small c.students n.2, tt))))))
 
   -- the rooms can be written
   rooms_writable : LinesWritable (map room_pieces p.rooms)
-  rooms_writable =
-      let numbers = All-from_each_after IsNextRoom (λ r. r.capacity ≤ 1000000) (λ before r next. next.capacity) [] p.rooms ok.within.each_room in
-      LinesWritable-map room_pieces p.rooms (λ k d h. (ok.room_tokens k d h, (small (get_or p.rooms k d).capacity (numbers k d h), tt)))
+  rooms_writable = LinesWritable-map room_pieces p.rooms (λ k d h. (ok.room_tokens k d h, (small (get_or p.rooms k d).capacity (ok.within.each_room k d h), tt)))
 
   -- the name of a course can be written
   named_writable : (c : ℕ) → c < length p.courses → IsWritable (named p.courses c)
@@ -117,12 +109,11 @@ module _ (p : Problem) (ok : IsInstance p) where
   -- the curricula can be written
   curricula_writable : LinesWritable (map (curriculum_pieces p.courses) p.curricula)
   curricula_writable =
-      let few = All-from_each_after (IsNextCurriculum (length p.courses)) (λ q. length q.members ≤ 4096) (λ before q next. next.few) [] p.curricula ok.within.each_curriculum in
-      let members = All-from_each_after (IsNextCurriculum (length p.courses)) (λ q. All (λ c. c < length p.courses) q.members) (λ before q next. next.members) [] p.curricula ok.within.each_curriculum in
       LinesWritable-map (curriculum_pieces p.courses) p.curricula (λ k d h.
+      let is : IsCurriculum (length p.courses) (get_or p.curricula k d) = ok.within.each_curriculum k d h in
       let ms : List ℕ = (get_or p.curricula k d).members in
-      let names = AreWritable-map (named p.courses) ms (All-weaker (λ c. c < length p.courses) (λ c. IsWritable (named p.courses c)) named_writable ms (members k d h)) in
-      (ok.curriculum_tokens k d h, (small (length ms) (omega (arith, few k d h)), names)))
+      let names = AreWritable-map (named p.courses) ms (All-weaker (λ c. c < length p.courses) (λ c. IsWritable (named p.courses c)) named_writable ms is.members) in
+      (ok.curriculum_tokens k d h, (small (length ms) (omega (arith, is.few)), names)))
 
   -- the unavailabilities can be written
   bars_writable : LinesWritable (map (bar_pieces p.courses) p.bars)

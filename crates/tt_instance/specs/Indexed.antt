@@ -14,7 +14,7 @@ use Rattle.tt_instance.specs.declared.rows.BarList.{BarList}
 use Rattle.tt_instance.specs.declared.parts.Parts.{Parts}
 use Rattle.tt_instance.specs.Problem.{Course, Bar, Problem}
 use Rattle.tt_instance.specs.Courses.{conflict}
-use Rattle.tt_instance.specs.Limits.{ids_of, room_ids_of, curriculum_ids_of, lectures_of}
+use Rattle.tt_instance.specs.Reading.{ids_of, room_ids_of, curriculum_ids_of, lectures_of}
 use Rattle.tt_instance.specs.Seen.{courses_seen, rooms_seen, curricula_seen, bars_seen}
 
 -- the teachers of courses, each once, in the order of their first mention

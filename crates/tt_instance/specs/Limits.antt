@@ -1,45 +1,16 @@
 -- The limits of an instance, and what is true of every instance that was read.
-use Rattle.std.specs.Prelude.{◌≡◌, ℕ, ◌+◌, ◌*◌, ◌≤◌, ◌<◌, ◌==◌, Bool, true, false, not, ◌&&◌, List, [], ◌∷◌, ◌++◌, length, map, sum_by, All}
+use Rattle.std.specs.Prelude.{◌≡◌, ◌≢◌, ℕ, ◌*◌, ◌≤◌, ◌<◌, ◌==◌, Bool, true, not, ◌&&◌, length, sum_by, All, AllPairs, codes}
 use Rattle.tt_lists.specs.Words.{each_two}
 use Rattle.tt_text.specs.Tokens.{IsToken}
-use Rattle.tt_text.specs.Texts.{is_text, has_name}
-use Rattle.tt_instance.specs.declared.fault.Word.TheVariants as word
 use Rattle.tt_instance.specs.declared.limit.TheConstants.{MAX_COURSES, MAX_ROOMS, MAX_DAYS, MAX_PERIODS, MAX_SLOTS, MAX_CELLS, MAX_CURRICULA, MAX_MEMBERS, MAX_BARS, MAX_LECTURES, MAX_MIN_DAYS, MAX_SEATS}
-use Rattle.tt_instance.specs.Words.{word_text}
-use Rattle.tt_instance.specs.Problem.{Course, Room, Curriculum, Bar, Problem}
+use Rattle.tt_instance.specs.Problem.{Course, Curriculum, Bar, Problem}
 
--- each element is right after those before it
-abbrev pub EachAfter : {X : Type 0} → (List X → X → Type 0) → List X → List X → Type 0
-EachAfter P before [] = Unit {0}
-EachAfter P before (x ∷ xs) = P before x × EachAfter P (before ++ x ∷ []) xs
-
-abbrev pub ids_of : List Course → List (List ℕ)
-ids_of cs = map (λ c. c.id) cs
-
--- the lectures of courses in all
-abbrev pub lectures_of : List Course → ℕ
-lectures_of cs = sum_by (λ c. c.lectures) cs
-
-abbrev pub room_ids_of : List Room → List (List ℕ)
-room_ids_of rs = map (λ r. r.id) rs
-
-abbrev pub curriculum_ids_of : List Curriculum → List (List ℕ)
-curriculum_ids_of qs = map (λ q. q.id) qs
-
--- a course has a new name, and with those before it no more lectures than the limit
-pub record IsNextCourse (before : List Course) (c : Course) : Type 0 where
-  pub fresh : has_name (ids_of before) c.id ≡ false
-  pub lectures : lectures_of before + c.lectures ≤ MAX_LECTURES
+pub record IsCourse (c : Course) : Type 0 where
   pub min_days : c.min_days ≤ MAX_MIN_DAYS
   pub students : c.students ≤ MAX_SEATS
 
-pub record IsNextRoom (before : List Room) (r : Room) : Type 0 where
-  pub fresh : has_name (room_ids_of before) r.id ≡ false
-  pub capacity : r.capacity ≤ MAX_SEATS
-
--- a curriculum of this many courses in all has a new name, and its members are courses
-pub record IsNextCurriculum (courses : ℕ) (before : List Curriculum) (q : Curriculum) : Type 0 where
-  pub fresh : has_name (curriculum_ids_of before) q.id ≡ false
+-- the members of a curriculum are courses, of which there are this many
+pub record IsCurriculum (courses : ℕ) (q : Curriculum) : Type 0 where
   pub few : length q.members ≤ MAX_MEMBERS
   pub members : All (λ c. c < courses) q.members
 
@@ -48,9 +19,9 @@ pub record IsBar (courses days periods : ℕ) (b : Bar) : Type 0 where
   pub day : b.day < days
   pub period : b.period < periods
 
--- the limits of the format
+-- the limits of the format; no two courses, rooms or curricula have one name
 pub record IsWithinLimits (p : Problem) : Type 0 where
-  pub name : All (λ text. is_text (word_text word.Courses) text ≡ false) p.name
+  pub name : All (λ text. text ≢ codes "Courses:") p.name
   pub courses : length p.courses ≤ MAX_COURSES
   pub rooms : length p.rooms ≤ MAX_ROOMS
   pub some_day : 0 < p.days
@@ -61,9 +32,13 @@ pub record IsWithinLimits (p : Problem) : Type 0 where
   pub cells : (length p.courses * length p.rooms) * (p.days * p.periods) ≤ MAX_CELLS
   pub curricula : length p.curricula ≤ MAX_CURRICULA
   pub bars : length p.bars ≤ MAX_BARS
-  pub each_course : EachAfter IsNextCourse [] p.courses
-  pub each_room : EachAfter IsNextRoom [] p.rooms
-  pub each_curriculum : EachAfter (IsNextCurriculum (length p.courses)) [] p.curricula
+  pub course_names : AllPairs (λ c d. c.id ≢ d.id) p.courses
+  pub room_names : AllPairs (λ r s. r.id ≢ s.id) p.rooms
+  pub curriculum_names : AllPairs (λ q r. q.id ≢ r.id) p.curricula
+  pub lectures : sum_by (λ c. c.lectures) p.courses ≤ MAX_LECTURES
+  pub each_course : All IsCourse p.courses
+  pub each_room : All (λ r. r.capacity ≤ MAX_SEATS) p.rooms
+  pub each_curriculum : All (IsCurriculum (length p.courses)) p.curricula
   pub each_bar : All (IsBar (length p.courses) p.days p.periods) p.bars
 
 abbrev pub same_bar : Bar → Bar → Bool

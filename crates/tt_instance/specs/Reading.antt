@@ -1,5 +1,5 @@
 -- What reading an instance gives: its parts, or the first fault from the left. All checks of one token come before the next token.
-use Rattle.std.specs.Prelude.{ℕ, zero, suc, ◌*◌, ◌-◌, ◌==◌, nat_lt, Bool, true, false, if◌then◌else◌, List, [], ◌∷◌, ◌++◌, length, Option, Some, None, Result, Ok, Err}
+use Rattle.std.specs.Prelude.{ℕ, zero, suc, ◌*◌, ◌-◌, ◌==◌, nat_lt, Bool, true, false, if◌then◌else◌, List, [], ◌∷◌, ◌++◌, length, map, sum_by, Option, Some, None, Result, Ok, Err}
 use Rattle.tt_lists.specs.Words.{with_new}
 use Rattle.tt_text.specs.Tokens.{Placed, tokens_of}
 use Rattle.tt_text.specs.Texts.{is_text, has_name, index_of_name}
@@ -14,7 +14,7 @@ use Rattle.tt_instance.specs.declared.fault.InstanceFault.TheVariants as fault
 use Rattle.tt_instance.specs.declared.limit.TheConstants.{MAX_COURSES, MAX_ROOMS, MAX_DAYS, MAX_PERIODS, MAX_SLOTS, MAX_CELLS, MAX_CURRICULA, MAX_MEMBERS, MAX_BARS, MAX_LECTURES, MAX_MIN_DAYS, MAX_SEATS}
 use Rattle.tt_instance.specs.Words.{word_text}
 use Rattle.tt_instance.specs.Problem.{Course, Room, Curriculum, Bar, Problem}
-use Rattle.tt_instance.specs.Limits.{ids_of, room_ids_of, curriculum_ids_of, lectures_of, same_bar}
+use Rattle.tt_instance.specs.Limits.{same_bar}
 
 -- being out of memory says nothing of the bytes
 abbrev pub is_silent : InstanceFault → Bool
@@ -69,6 +69,16 @@ new_name names t = if has_name names t.text then Err (fault.Repeated t.at) else 
 
 -- ---- courses and rooms
 
+abbrev pub ids_of : List Course → List (List ℕ)
+ids_of cs = map (λ c. c.id) cs
+
+abbrev pub room_ids_of : List Room → List (List ℕ)
+room_ids_of rs = map (λ r. r.id) rs
+
+-- the lectures of courses in all
+abbrev pub lectures_of : List Course → ℕ
+lectures_of cs = sum_by (λ c. c.lectures) cs
+
 -- one more course after those before
 unfoldable pub course_at : ℕ → List Course → List Placed → Result (List Course × List Placed) InstanceFault
 course_at end before ts = do
@@ -103,6 +113,9 @@ rooms_at end (suc n) before ts = do
   rooms_at end n r.0 r.1
 
 -- ---- curricula and unavailabilities
+
+abbrev pub curriculum_ids_of : List Curriculum → List (List ℕ)
+curriculum_ids_of qs = map (λ q. q.id) qs
 
 abbrev pub known : ℕ → Option ℕ → Result ℕ InstanceFault
 known at None = Err (fault.UnknownCourse at)

@@ -1,18 +1,12 @@
 -- Which instance the bytes of a `.ctt` file spell: their tokens are those of the instance written out, up to the leading zeros
 -- of its numbers (the competition's input format; the limits are this project's own).
-use Rattle.std.specs.Prelude.{◌≡◌, ℕ, ◌==◌, List, [], ◌∷◌, ◌++◌, length, map, flat_map, slice_index_or}
+use Rattle.std.specs.Prelude.{◌≡◌, ℕ, ◌==◌, List, [], ◌∷◌, ◌++◌, length, map, flat_map, slice_index_or, codes}
 use Rattle.tt_lists.specs.Words.{distinct}
 use Rattle.tt_text.specs.Tokens.{Placed, tokens_of}
 use Rattle.tt_text.specs.Pieces.{Piece, Text, Number, Begins}
-use Rattle.tt_instance.specs.declared.fault.Word.{Word}
-use Rattle.tt_instance.specs.declared.fault.Word.TheVariants as word
-use Rattle.tt_instance.specs.Words.{word_text}
 use Rattle.tt_instance.specs.Problem.{Course, Room, Curriculum, Bar, Problem}
 use Rattle.tt_instance.specs.Courses.{no_course}
 use Rattle.tt_instance.specs.Limits.{same_bar, IsWithinLimits}
-
-abbrev pub fixed : Word → Piece
-fixed w = Text (word_text w)
 
 -- a course by its name
 abbrev pub named : List Course → ℕ → Piece
@@ -32,20 +26,20 @@ bar_pieces cs b = named cs b.course ∷ Number b.day ∷ Number b.period ∷ []
 
 abbrev pub header_pieces : Problem → List Piece
 header_pieces p =
-    fixed word.Courses ∷ Number (length p.courses) ∷ fixed word.Rooms ∷ Number (length p.rooms)
-    ∷ fixed word.Days ∷ Number p.days ∷ fixed word.PeriodsPerDay ∷ Number p.periods
-    ∷ fixed word.Curricula ∷ Number (length p.curricula) ∷ fixed word.Constraints ∷ Number (length p.bars) ∷ []
+    Text (codes "Courses:") ∷ Number (length p.courses) ∷ Text (codes "Rooms:") ∷ Number (length p.rooms)
+    ∷ Text (codes "Days:") ∷ Number p.days ∷ Text (codes "Periods_per_day:") ∷ Number p.periods
+    ∷ Text (codes "Curricula:") ∷ Number (length p.curricula) ∷ Text (codes "Constraints:") ∷ Number (length p.bars) ∷ []
 
 -- a whole file
 abbrev pub pieces : Problem → List Piece
 pieces p =
-    (fixed word.Name ∷ map Text p.name)
+    (Text (codes "Name:") ∷ map Text p.name)
     ++ header_pieces p
-    ++ (fixed word.CoursesPart ∷ flat_map course_pieces p.courses)
-    ++ (fixed word.RoomsPart ∷ flat_map room_pieces p.rooms)
-    ++ (fixed word.CurriculaPart ∷ flat_map (curriculum_pieces p.courses) p.curricula)
-    ++ (fixed word.UnavailabilityPart ∷ flat_map (bar_pieces p.courses) p.bars)
-    ++ (fixed word.End ∷ [])
+    ++ (Text (codes "COURSES:") ∷ flat_map course_pieces p.courses)
+    ++ (Text (codes "ROOMS:") ∷ flat_map room_pieces p.rooms)
+    ++ (Text (codes "CURRICULA:") ∷ flat_map (curriculum_pieces p.courses) p.curricula)
+    ++ (Text (codes "UNAVAILABILITY_CONSTRAINTS:") ∷ flat_map (bar_pieces p.courses) p.bars)
+    ++ (Text (codes "END.") ∷ [])
 
 abbrev pub members_kept : Curriculum → Curriculum
 members_kept q = record { id = q.id; members = distinct (λ a b. a == b) q.members }

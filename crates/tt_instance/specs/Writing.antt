@@ -4,8 +4,9 @@ use Rattle.tt_text.specs.Pieces.{Piece, Text, Number}
 use Rattle.tt_text.specs.Lines.{lines_text}
 use Rattle.tt_instance.specs.declared.fault.Word.{Word}
 use Rattle.tt_instance.specs.declared.fault.Word.TheVariants as word
+use Rattle.tt_instance.specs.Words.{fixed}
 use Rattle.tt_instance.specs.Problem.{Problem}
-use Rattle.tt_instance.specs.Spelling.{fixed, course_pieces, room_pieces, curriculum_pieces, bar_pieces}
+use Rattle.tt_instance.specs.Spelling.{course_pieces, room_pieces, curriculum_pieces, bar_pieces}
 
 abbrev pub counted_line : Word → ℕ → List Piece
 counted_line w n = fixed w ∷ Number n ∷ []

@@ -5,8 +5,9 @@ ghost use Rattle.std.specs.Fmt.{decimal};
 ghost use Rattle.tt_text.specs.Pieces.{Text};
 ghost use Rattle.tt_text.specs.Lines.{line_text, lines_text};
 ghost use Rattle.tt_instance.specs.declared.fault.Word.TheVariants as word;
+ghost use Rattle.tt_instance.specs.Words.{fixed};
 ghost use Rattle.tt_instance.specs.Limits.{IsInstance};
-ghost use Rattle.tt_instance.specs.Spelling.{fixed, course_pieces, room_pieces, curriculum_pieces, bar_pieces};
+ghost use Rattle.tt_instance.specs.Spelling.{course_pieces, room_pieces, curriculum_pieces, bar_pieces};
 ghost use Rattle.tt_instance.specs.Writing.{counted_line, section, header_lines, instance_text};
 ghost use Rattle.tt_instance.specs.Seen.{name_seen, course_seen, courses_seen, room_seen, rooms_seen, curriculum_seen, curricula_seen, bar_seen, bars_seen, problem_seen};
 

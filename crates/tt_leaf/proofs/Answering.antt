@@ -13,7 +13,7 @@ use Rattle.tt_paths.specs.declared.facts.Fact.{Fact}
 use Rattle.tt_paths.proofs.Least.{least_short}
 use Rattle.tt_leaf_rules.specs.Ranges.{IsClaimOf}
 use Rattle.tt_leaf_rules.specs.declared.leaf.Claim.TheVariants.{Days, Stacked}
-use Rattle.tt_proof_read.specs.Spelling.{IsShortClaim}
+use Rattle.tt_proof_read.specs.Limits.{IsShortClaim}
 use Rattle.tt_leaf.specs.Best.{is_kth, least_excesses, price_of, best_leaf, stacked_leaf}
 use Rattle.tt_leaf.specs.Found.{IsAnswer}
 use Rattle.tt_leaf.proofs.Claims.{each_claim}

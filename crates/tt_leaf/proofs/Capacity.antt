@@ -21,9 +21,11 @@ use Rattle.tt_paths.specs.Live.{is_live, live_period, least_excess}
 use Rattle.tt_paths.specs.declared.facts.Fact.{Fact}
 use Rattle.tt_paths.proofs.Least.{is_some-least, least_over}
 use Rattle.tt_paths.proofs.LiveCells.{live_cells, range_of, is_live_of}
-use Rattle.tt_leaf_rules.specs.Claims.{RoomCapacity, part, discount, value_of}
+use Rattle.tt_leaf_rules.specs.Claims.{RoomCapacity, part, value_of}
+use Rattle.tt_leaf_rules.specs.Nested.{above_least}
 use Rattle.tt_leaf_rules.specs.declared.leaf.Bound.{Bound}
 use Rattle.tt_leaf_rules.specs.declared.leaf.Claim.TheVariants.{Capacity}
+use Rattle.tt_leaf_rules.proofs.Values.{discounts_are}
 use Rattle.tt_leaf.specs.Best.{is_kth, kth_smallest, least_excesses, price_of, at_price}
 use Rattle.tt_leaf.specs.Pinned.{IsPinnedDown, IsOpen}
 use Rattle.tt_leaf.proofs.LiveCells.{same_live, once_of}
@@ -118,9 +120,10 @@ module _ (p : Problem) (path : List Fact) (pins : IsPinnedDown p path) where
         let some : Slot → ℕ = λ s. one_if (is_some (least_excess p path c s)) in
         let low : Slot → ℕ = λ s. count_in (λ m. nat_le m u) (least_excess p path c s) in
         let tight = sum_by-tight low some (all_slots p) (each (λ s. low s ≤ some s) (λ s. no_more (least_excess p path c s)) (all_slots p)) (omega (arith, as_many, counted)) in
-        let covered = sum_by-le (λ s. or_zero (least_excess p path c s) + discount u (least_excess p path c s)) (λ s. some s * u) (all_slots p)
-        (each_weaker (λ s. some s ≤ low s) (λ s. or_zero (least_excess p path c s) + discount u (least_excess p path c s) ≤ some s * u) (λ s k. by_case (least_excess p path c s) k) (all_slots p) tight) in
-        let parts = sum_by-plus (λ s. or_zero (least_excess p path c s)) (λ s. discount u (least_excess p path c s)) (all_slots p) in
+        let covered = sum_by-le (λ s. or_zero (least_excess p path c s) + above_least u (least_excess p path c s)) (λ s. some s * u) (all_slots p)
+        (each_weaker (λ s. some s ≤ low s) (λ s. or_zero (least_excess p path c s) + above_least u (least_excess p path c s) ≤ some s * u) (λ s k. by_case (least_excess p path c s) k) (all_slots p) tight) in
+        let parts = sum_by-plus (λ s. or_zero (least_excess p path c s)) (λ s. above_least u (least_excess p path c s)) (all_slots p) in
+        let off = discounts_are p path c u in
         let times = sum_by-times some u (all_slots p) in
         let full : sum_by some (all_slots p) * u ≡ lectures p c * u = ap (λ k. k * u) counted in
         omega arith
@@ -129,7 +132,7 @@ module _ (p : Problem) (path : List Fact) (pins : IsPinnedDown p path) where
         no_more None = zero-le
         no_more (Some m) = one_if-le (nat_le m u)
 
-        by_case : (o : Option ℕ) → one_if (is_some o) ≤ count_in (λ m. nat_le m u) o → or_zero o + discount u o ≤ one_if (is_some o) * u
+        by_case : (o : Option ℕ) → one_if (is_some o) ≤ count_in (λ m. nat_le m u) o → or_zero o + above_least u o ≤ one_if (is_some o) * u
         by_case None k = zero-le
         by_case (Some m) k = elim (cases_Bool (nat_le m u)) [
           | inl d ↦ let l = leb-true m u d in omega arith

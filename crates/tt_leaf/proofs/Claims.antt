@@ -17,10 +17,12 @@ use Rattle.tt_lists.proofs.Tested.{each_append, each_flat, each_map}
 use Rattle.tt_instance.specs.Problem.{Problem}
 use Rattle.tt_instance.specs.Cells.{all_courses, all_curricula}
 use Rattle.tt_paths.specs.declared.facts.Fact.{Fact}
-use Rattle.tt_leaf_rules.specs.Claims.{Target, RoomCapacity, WorkingDays, Compactness, Stability, same_target, targets_of, claimed, is_fair, value_of, total_of}
-use Rattle.tt_leaf_rules.specs.Leaves.{claims_once}
+use Rattle.tt_leaf_rules.specs.Claims.{Target, RoomCapacity, WorkingDays, Compactness, Stability, targets_of, claimed, is_fair, value_of, total_of}
+use Rattle.tt_leaf_rules.specs.Different.{AreDifferent}
+use Rattle.tt_leaf_rules.specs.Tests.{claims_once, same_target}
 use Rattle.tt_leaf_rules.specs.declared.leaf.Claim.{Claim}
 use Rattle.tt_leaf_rules.specs.declared.leaf.Claim.TheVariants.{Capacity, Compact, Stable}
+use Rattle.tt_leaf_rules.proofs.Rightness.{targets_different}
 use Rattle.tt_leaf.specs.Best.{price_of, at_price, capacity_claims, worth, claims_with}
 
 -- ---- targets of four kinds
@@ -141,6 +143,9 @@ module _ (days : ℕ → Claim) (time : (c : ℕ) → targets_of (days c) ≡ Wo
   -- no target is claimed twice
   pub once : claims_once (claims_with days p path) ≡ true
   once = ap claims_once worth_joined ∙ each_two_kept differ targets_of is_worth (all_claims days p path) all_once
+
+  pub all_different : AreDifferent (claimed (claims_with days p path))
+  all_different = targets_different (claims_with days p path) once
 
   -- ---- no claim gives prices of rooms
 

@@ -36,7 +36,7 @@ use Rattle.tt_leaf.specs.Pinned.{IsPinnedDown, IsOpen}
 use Rattle.tt_leaf.proofs.LiveCells.{once_of_curriculum}
 use Rattle.tt_leaf.proofs.Fitting.{pinned_at, pinned_room_at, live_at, is_feasible, fits}
 use Rattle.tt_leaf.proofs.Capacity.{capacity_worth}
-use Rattle.tt_leaf.proofs.Claims.{once, all_fair, total-claims}
+use Rattle.tt_leaf.proofs.Claims.{all_different, all_fair, total-claims}
 
 module _ (p : Problem) (path : List Fact) (pins : IsPinnedDown p path) where
   abbrev t : List Cell
@@ -156,4 +156,4 @@ module _ (p : Problem) (path : List Fact) (pins : IsPinnedDown p path) where
       let below : n ≤ cost p t = holds t (is_feasible p path pins (AtLeast n) none) (fits p path pins (AtLeast n) none) in
       let total = total_of p path (best_claims p path) in
       let dear : n ≤ total = omega (arith, cost-le_total ok (AtLeast n) none) in
-      none.best (once Days (λ c. refl) p path, all_fair Days (λ c. refl) p path (λ c. refl), dear)
+      none.best (all_different Days (λ c. refl) p path, all_fair Days (λ c. refl) p path (λ c. refl), dear)

@@ -30,7 +30,6 @@ use Rattle.tt_paths.specs.declared.facts.Who.{Who}
 use Rattle.tt_paths.specs.declared.facts.Who.TheVariants.{Course}
 use Rattle.tt_paths.specs.declared.facts.Pattern.{Pattern}
 use Rattle.tt_paths.specs.declared.facts.Fact.{Fact}
-use Rattle.tt_paths.proofs.Same.{yes_on_path}
 use Rattle.tt_paths.proofs.LiveCells.{live_cells, live_in_range, range_of, is_live_of, any_live, live_not_barred}
 use Rattle.tt_leaf_rules.specs.Leaves.{all_dead, open_periods, all_lectures}
 use Rattle.tt_leaf_rules.specs.declared.leaf.Bound.{Bound}
@@ -125,7 +124,7 @@ module _ (p : Problem) (path : List Fact) (pins : IsPinnedDown p path) where
     enough_live c h =
         let more = nat_lt (open_periods p path (c ∷ [])) (all_lectures p (c ∷ [])) in
         let k = ltb-false (open_periods p path (c ∷ [])) (all_lectures p (c ∷ []))
-        (false_from_ne_true more (λ e. none.clique c h (refl, ltb-true (open_periods p path (c ∷ [])) (all_lectures p (c ∷ [])) e))) in
+        (false_from_ne_true more (λ e. none.clique c h (omega arith, refl, ltb-true (open_periods p path (c ∷ [])) (all_lectures p (c ∷ [])) e))) in
         omega (arith, k, sum_by-cons (lectures p) c [], same)
       where
         or_nothing : (x : Bool) → (x || false) ≡ x
@@ -187,7 +186,8 @@ module _ (p : Problem) (path : List Fact) (pins : IsPinnedDown p path) where
 
     holds_yes : (f : Fact) → Contains path f → f.holds ≡ true → list_any (matches p f.pattern) t ≡ true
     holds_yes f m e =
-        let dead = false_from_ne_true (all_dead p path f.pattern) (λ d. none.empty f m e (yes_on_path path f m e, d)) in
+        let there = subst (λ b. Contains path (record { pattern = f.pattern; holds = b })) e m in
+        let dead = false_from_ne_true (all_dead p path f.pattern) (λ d. none.empty f m e (there, d)) in
         let w = fails_with (InRange p) (λ x. not (matches p f.pattern x) || is_dead p path x) (all_cells p) (each_cell p) dead in
         let a = or_parts (not (matches p f.pattern w.0)) (is_dead p path w.0) w.2 in
         any_live p path (matches p f.pattern) w.0 w.1 (not_from_false (is_dead p path w.0) a.1) (not-false (matches p f.pattern w.0) a.0)

@@ -1,7 +1,8 @@
 -- A course that has as many periods that seat its students as lectures has no claim on seats.
-use Rattle.std.proofs.Common.{◌≡◌, ℕ, ◌≤◌, ◌<◌, List, [], ◌∷◌, ◌++◌, length, min, Option, Some, None, cond, refl, ap, ◌∙◌, arith, inl, inr, eqb-true, lt-ltb, ltb-true}
+use Rattle.std.proofs.Common.{◌≡◌, ℕ, ◌+◌, ◌≤◌, ◌<◌, Bool, true, take, get_or, List, [], ◌∷◌, ◌++◌, length, min, Option, Some, None, cond, refl, ap, ◌∙◌, arith, inl, inr, eqb-true, lt-ltb, ltb-true}
 use Rattle.std.specs.Prelude.{◌==◌, nat_lt, nat_le, count_by}
 use Rattle.std.proofs.lemmas.Bool.{and_parts, cases_lt}
+use Rattle.std.proofs.lemmas.List.Sums.{sum_by-take-le}
 use Rattle.tt_lists.proofs.Sums.{sum_by-le, cond-le, each}
 use Rattle.tt_lists.proofs.Finding.{find_passes}
 use Rattle.tt_lists.proofs.Given.{count_in, count_by-filter_map}
@@ -9,12 +10,19 @@ use Rattle.tt_instance.specs.Problem.{Problem}
 use Rattle.tt_instance.specs.Cells.{all_slots}
 use Rattle.tt_instance.specs.Courses.{lectures}
 use Rattle.tt_instance.specs.declared.cell.Slot.{Slot}
+use Rattle.tt_instance.proofs.Slots.{slots_count_yes}
 use Rattle.tt_paths.specs.Live.{least_excess}
 use Rattle.tt_paths.specs.declared.facts.Fact.{Fact}
 use Rattle.tt_leaf_rules.specs.Claims.{value_of}
 use Rattle.tt_leaf_rules.specs.declared.leaf.Claim.TheVariants.{Capacity}
 use Rattle.tt_leaf.specs.Best.{is_kth, least_excesses, price_of, at_price, capacity_claims, worth}
 use Rattle.tt_leaf.specs.Seated.{is_nothing, is_seated, seated_periods}
+
+-- a period that passes, and those before it that do, are among all that pass
+pub passes_among : (p q : Problem) (t : Slot → Bool) (i total : ℕ) (s : Slot) → q ≡ p → i < length (all_slots q) → s ≡ get_or (all_slots q) i s → total ≡ count_by t (take i (all_slots p)) → true ≡ t s → total + 1 ≤ count_by t (all_slots p)
+passes_among p q t i total s same h is e pass =
+    let k = slots_count_yes p q t i total (total + 1) s same h is e pass refl in
+    omega (arith, k, sum_by-take-le (λ z. cond (t z) 1 0) (all_slots p) (i + 1))
 
 seated_below : (u : ℕ) → 0 < u → (o : Option ℕ) → cond (is_nothing o) 1 0 ≤ count_in (λ m. nat_lt m u) o
 seated_below u h None = omega arith

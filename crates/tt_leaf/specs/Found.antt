@@ -8,7 +8,7 @@ use Rattle.tt_leaf_rules.specs.Ranges.{IsClaimOf, IsLeafOf}
 use Rattle.tt_leaf_rules.specs.declared.leaf.Claim.{Claim}
 use Rattle.tt_leaf_rules.specs.declared.leaf.Bound.{Bound}
 use Rattle.tt_leaf_rules.specs.declared.leaf.Leaf.{Leaf}
-use Rattle.tt_proof_read.specs.Spelling.{IsShortClaim, IsShortLeaf}
+use Rattle.tt_proof_read.specs.Limits.{IsShortClaim, IsShortLeaf}
 
 -- its numbers are the instance's, and it may stand in a proof
 pub record IsAnswer (p : Problem) (leaf : Leaf) : Type 0 where

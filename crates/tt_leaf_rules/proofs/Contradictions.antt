@@ -10,10 +10,10 @@ use Rattle.tt_instance.specs.Courses.{lectures, conflict}
 use Rattle.tt_instance.specs.declared.cell.Slot.{Slot}
 use Rattle.tt_rules.specs.Hard.{entries_of, periods_of, entries_in}
 use Rattle.tt_rules.specs.Score.{IsFeasible}
-use Rattle.tt_paths.specs.Facts.{matches, Fits, has_fact}
+use Rattle.tt_paths.specs.Facts.{matches, Fits}
 use Rattle.tt_paths.specs.Live.{is_dead, is_live, live_period, pinned, pinned_periods}
-use Rattle.tt_leaf_rules.specs.Leaves.{all_dead, is_clique, has_member, open_periods, are_distinct, open_rooms}
-use Rattle.tt_leaf_rules.specs.Leaves.{all_lectures}
+use Rattle.tt_leaf_rules.specs.Leaves.{all_dead, open_periods, open_rooms, all_lectures}
+use Rattle.tt_leaf_rules.specs.Tests.{are_distinct}
 use Rattle.tt_instance.specs.declared.cell.Cell.{Cell}
 use Rattle.tt_paths.specs.declared.facts.Who.TheVariants.{Course}
 use Rattle.tt_paths.specs.declared.facts.Pattern.{Pattern}
@@ -21,7 +21,6 @@ use Rattle.tt_paths.specs.declared.facts.Fact.{Fact}
 use Rattle.tt_lists.proofs.Sums.{one_if, cond-le, sum_by-le, sum_by-same, each, each_weaker, any_if_count, spread_up, once_at_least}
 use Rattle.tt_instance.proofs.Places.{any_slot, each_cell_at}
 use Rattle.tt_instance.proofs.Cells.{at_itself, is_at-slot}
-use Rattle.tt_paths.proofs.Same.{fact_there}
 use Rattle.tt_lists.proofs.Numbers.{any_below}
 use Rattle.tt_lists.proofs.Members.{at_member, each_member, any_member, member_from_any, only_one}
 use Rattle.tt_lists.proofs.Apart.{one_at_most}
@@ -29,14 +28,13 @@ use Rattle.tt_rules.proofs.Feasible.{in_range, lectures_met, once_a_period, one_
 use Rattle.tt_leaf_rules.proofs.Live.{matched, not_dead, live_entry, live_period_of, pinned_entry}
 
 module _ (p : Problem) (t : List Cell) (ok : IsFeasible p t) (path : List Fact) (fits : Fits p t path) where
-  pub empty_sound : (g : Pattern) → has_fact path g true ≡ true → all_dead p path g ≡ true → ⊥
-  empty_sound g e d =
-      let w = fact_there path g true e in
-      let m = matched p t ok path fits w.0 w.1 w.2 in
+  pub empty_sound : (g : Pattern) → Contains path (record { pattern = g; holds = true }) → all_dead p path g ≡ true → ⊥
+  empty_sound g there d =
+      let m = matched p t ok path fits (record { pattern = g; holds = true }) there refl in
       let x = m.0 in
       let here = each_cell_at p (λ z. not (matches p g z) || is_dead p path z) x d (in_range p t ok x m.1) in
       elim (or_cases (not (matches p g x)) (is_dead p path x) here) [
-        | inl n ↦ both_ways (matches p g x) (not-true (matches p g x) n) (subst (λ z. matches p z x ≡ true) w.3 m.2)
+        | inl n ↦ both_ways (matches p g x) (not-true (matches p g x) n) m.2
         | inr b ↦ not_dead p t ok path fits x m.1 b
       ]
 
@@ -84,15 +82,14 @@ module _ (p : Problem) (t : List Cell) (ok : IsFeasible p t) (path : List Fact) 
       let w = entry_at c s h in
       subst (λ z. live_period p path c z ≡ true) w.3 (subst (λ a. live_period p path a (slot_of w.0) ≡ true) w.2 (live_period_of p t ok path fits w.0 w.1))
 
-  pub clique_sound : (cs : List ℕ) → is_clique p cs ≡ true → open_periods p path cs < all_lectures p cs → ⊥
+  pub clique_sound : (cs : List ℕ) → each_two (conflict p) cs ≡ true → open_periods p path cs < all_lectures p cs → ⊥
   clique_sound cs k h =
       let n : Slot → ℕ → ℕ = λ s c. count_by (λ e. is_of c e && is_at s e) t in
-      let two = and_parts (has_member cs) (each_two (conflict p) cs) k in
       let met = sum_by-same (lectures p) (entries_of t) cs (λ c. sym (lectures_met p t ok c)) in
       let up = spread_up (entries_of t) n cs (all_slots p) (each (λ c. entries_of t c ≤ sum_by (λ s. n s c) (all_slots p)) slots_up cs) in
       let most = sum_by-le (λ s. sum_by (n s) cs) (λ s. one_if (list_any (λ c. live_period p path c s) cs)) (all_slots p)
       (each_member (λ s. sum_by (n s) cs ≤ one_if (list_any (λ c. live_period p path c s) cs)) (all_slots p) (λ s m.
-      one_at_most (conflict p) (n s) (λ c. live_period p path c s) cs two.1
+      one_at_most (conflict p) (n s) (λ c. live_period p path c s) cs k
       (λ a b r x y. never_both a b s r x y)
       (λ c. at_member (λ z. n z c ≤ 1) (all_slots p) s (once_a_period p t ok c) m)
       (λ c x. live_at c s x))) in

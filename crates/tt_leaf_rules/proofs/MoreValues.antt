@@ -14,8 +14,8 @@ use Rattle.tt_rules.specs.Score.{IsFeasible}
 use Rattle.tt_paths.specs.Facts.{Fits}
 use Rattle.tt_paths.specs.Live.{is_live, pinned, pinned_periods}
 use Rattle.tt_leaf_rules.specs.Claims.{RoomCapacity}
-use Rattle.tt_leaf_rules.specs.Claims.{part, price_in, are_covered, open_in, pinned_day, same_target, targets_of, value_of}
-use Rattle.tt_leaf_rules.specs.Leaves.{are_distinct}
+use Rattle.tt_leaf_rules.specs.Claims.{part, price_in, are_covered, open_in, pinned_day, targets_of, value_of}
+use Rattle.tt_leaf_rules.specs.Tests.{are_distinct, same_target}
 use Rattle.tt_instance.specs.declared.cell.Cell.{Cell}
 use Rattle.tt_paths.specs.declared.facts.Who.TheVariants.{Course}
 use Rattle.tt_paths.specs.declared.facts.Fact.{Fact}

@@ -14,9 +14,9 @@ use Rattle.tt_instance.specs.Cells.{all_courses, all_curricula, all_rooms, is_of
 use Rattle.tt_rules.specs.Soft.{is_isolated}
 use Rattle.tt_rules.specs.Score.{cost, IsFeasible}
 use Rattle.tt_paths.specs.Facts.{Fits}
-use Rattle.tt_leaf_rules.specs.Claims.{Target, part, same_target, targets_of, value_of, is_fair, claimed, total_of}
+use Rattle.tt_leaf_rules.specs.Claims.{Target, part, targets_of, value_of, is_fair, claimed, total_of}
 use Rattle.tt_leaf_rules.specs.Claims.{RoomCapacity, WorkingDays, Compactness, Stability}
-use Rattle.tt_leaf_rules.specs.Leaves.{claims_once}
+use Rattle.tt_leaf_rules.specs.Tests.{claims_once, same_target}
 use Rattle.tt_instance.specs.declared.cell.Cell.{Cell}
 use Rattle.tt_paths.specs.declared.facts.Fact.{Fact}
 use Rattle.tt_leaf_rules.specs.declared.leaf.Claim.{Claim}

@@ -1,6 +1,6 @@
 -- What a claim is worth is no more than the part of the cost that it claims.
-use Rattle.std.proofs.Common.{◌≡◌, ℕ, ◌+◌, ◌-◌, ◌*◌, ◌≤◌, Bool, true, false, cond, ◌&&◌, List, [], ◌∷◌, map, length, Option, Some, None, refl, sym, ap, subst, arith, inl, inr, eqb-true, zero-le, mul-le-mul_right}
-use Rattle.std.specs.Prelude.{Contains, ◌==◌, sum_by, count_by, filter}
+use Rattle.std.proofs.Common.{◌≡◌, ℕ, ◌+◌, ◌-◌, ◌*◌, ◌≤◌, Bool, true, false, cond, ◌&&◌, List, [], ◌∷◌, map, length, Option, Some, None, refl, sym, ap, subst, arith, inl, inr, eqb-true, mul-le-mul_right}
+use Rattle.std.specs.Prelude.{Contains, ◌==◌, max, sum_by, count_by, filter}
 use Rattle.std.specs.List.{list_any}
 use Rattle.std.proofs.lemmas.Bool.{and_parts, and_from, false_from_ne_true, not-true, both_ways, not_from_false}
 use Rattle.tt_instance.specs.Problem.{Problem}
@@ -13,7 +13,8 @@ use Rattle.tt_rules.specs.Score.{IsFeasible}
 use Rattle.tt_paths.specs.Facts.{Fits}
 use Rattle.tt_paths.specs.Live.{is_live, live_period, live_day, least_with, least, least_excess, pinned, pinned_room}
 use Rattle.tt_leaf_rules.specs.Claims.{RoomCapacity}
-use Rattle.tt_leaf_rules.specs.Claims.{part, discount, is_alone, value_of}
+use Rattle.tt_leaf_rules.specs.Claims.{part, greatest, discount, is_alone, value_of}
+use Rattle.tt_leaf_rules.specs.Nested.{above_least, discounts}
 use Rattle.tt_instance.specs.declared.cell.Cell.{Cell}
 use Rattle.tt_paths.specs.declared.facts.Who.TheVariants.{Curriculum}
 use Rattle.tt_paths.specs.declared.facts.Fact.{Fact}
@@ -28,30 +29,37 @@ use Rattle.tt_rules.proofs.Feasible.{lectures_met, once_a_period}
 use Rattle.tt_leaf_rules.proofs.Live.{live_entry, live_period_of, live_day_of, pinned_entry, pinned_room_entry}
 use Rattle.tt_instance.proofs.Cells.{is_at-slot, at_itself}
 
--- ---- the least of some numbers
+-- ---- discounts
 
-least_below : (u a : ℕ) (o : Option ℕ) → u ≤ a + (u - least_with a o)
-least_below u a None = omega arith
-least_below u a (Some m) = omega arith
-
-least_wider : (u a : ℕ) (o : Option ℕ) → discount u o ≤ u - least_with a o
-least_wider u a None = zero-le
-least_wider u a (Some m) = omega arith
-
--- a price is covered by any number of the list and what the price is above the least
-pub discount_least : (u : ℕ) (f : ℕ → ℕ) (q : ℕ → Bool) (xs : List ℕ) (x : ℕ) → Contains xs x → q x ≡ true → u ≤ f x + discount u (least (map f (filter q xs)))
-discount_least u f q [] x h e = absurd (omega (arith, h.1))
-discount_least u f q (z ∷ xs) x h e = by_test (q z) refl (λ m. discount_least u f q xs x m e)
+-- a price is covered by any number of the list that passes and the greatest discount of those
+price_covered : (u : ℕ) (f : ℕ → ℕ) (q : ℕ → Bool) (xs : List ℕ) (x : ℕ) → Contains xs x → q x ≡ true → u ≤ f x + greatest (map (λ y. u - f y) (filter q xs))
+price_covered u f q [] x h e = absurd (omega (arith, h.1))
+price_covered u f q (z ∷ xs) x h e = by_test (q z) refl (λ m. price_covered u f q xs x m e)
   where
-    by_test : (b : Bool) → q z ≡ b → (Contains xs x → u ≤ f x + discount u (least (map f (filter q xs)))) → u ≤ f x + discount u (least (map f (cond (q z) (z ∷ filter q xs) (filter q xs))))
+    by_test : (b : Bool) → q z ≡ b → (Contains xs x → u ≤ f x + greatest (map (λ y. u - f y) (filter q xs))) → u ≤ f x + greatest (map (λ y. u - f y) (cond (q z) (z ∷ filter q xs) (filter q xs)))
     by_test true b later = rw b (elim (member_cases z xs x h) [
-      | inl ex ↦ subst (λ y. u ≤ f y + (u - least_with (f z) (least (map f (filter q xs))))) ex (least_below u (f z) (least (map f (filter q xs))))
-      | inr m ↦ omega (arith, later m, least_wider u (f z) (least (map f (filter q xs))))
+      | inl ex ↦ subst (λ y. u ≤ f y + max (u - f z) (greatest (map (λ y. u - f y) (filter q xs)))) ex (omega arith)
+      | inr m ↦ omega (arith, later m)
     ])
     by_test false b later = rw b (elim (member_cases z xs x h) [
       | inl ex ↦ absurd (both_ways (q z) b (subst (λ y. q y ≡ true) (sym ex) e))
       | inr m ↦ later m
     ])
+
+-- the greatest discount is that of the least number
+greatest_above : (u : ℕ) (f : ℕ → ℕ) (xs : List ℕ) → above_least u (least (map f xs)) ≡ greatest (map (λ x. u - f x) xs)
+greatest_above u f [] = refl
+greatest_above u f (x ∷ xs) = by_rest (least (map f xs)) (greatest (map (λ y. u - f y) xs)) (greatest_above u f xs)
+  where
+    by_rest : (o : Option ℕ) (n : ℕ) → above_least u o ≡ n → u - least_with (f x) o ≡ max (u - f x) n
+    by_rest None n e = omega arith
+    by_rest (Some m) n e = omega arith
+
+-- what a price is above the least excess of each period are its discounts
+pub discounts_are : (p : Problem) (path : List Fact) (c u : ℕ) → discounts p path c u ≡ sum_by (discount p path c u) (all_slots p)
+discounts_are p path c u =
+    sum_by-same (λ s. above_least u (least_excess p path c s)) (discount p path c u) (all_slots p) (λ s.
+    greatest_above u (excess p c) (filter (λ r. is_live p path (cell c r s)) (all_rooms p)))
 
 module _ (p : Problem) (t : List Cell) (ok : IsFeasible p t) (path : List Fact) (fits : Fits p t path) where
   -- ---- Days
@@ -136,18 +144,18 @@ module _ (p : Problem) (t : List Cell) (ok : IsFeasible p t) (path : List Fact) 
 
   -- ---- Capacity
 
-  covered : (c u : ℕ) (e : Cell) → Contains t e → is_of c e ≡ true → u ≤ excess p e.course e.room + discount u (least_excess p path c (slot_of e))
+  covered : (c u : ℕ) (e : Cell) → Contains t e → is_of c e ≡ true → u ≤ excess p e.course e.room + discount p path c u (slot_of e)
   covered c u e h m =
       let same = eqb-true e.course c m in
-      subst (λ k. u ≤ excess p k e.room + discount u (least_excess p path c (slot_of e))) (sym same)
-      (discount_least u (excess p c) (λ r. is_live p path (cell c r (slot_of e))) (all_rooms p) e.room
+      subst (λ k. u ≤ excess p k e.room + discount p path c u (slot_of e)) (sym same)
+      (price_covered u (excess p c) (λ r. is_live p path (cell c r (slot_of e))) (all_rooms p) e.room
       (number_below (length p.rooms) e.room (in_range p t ok e h).room)
       (subst (λ k. is_live p path (cell k e.room (slot_of e)) ≡ true) same (live_entry p t ok path fits e h)))
 
   pub capacity_sound : (c u : ℕ) → value_of p path (Capacity c u) ≤ part p t (RoomCapacity c)
   capacity_sound c u =
       let cost_of : Cell → ℕ = λ e. excess p e.course e.room in
-      let off : Slot → ℕ = λ s. discount u (least_excess p path c s) in
+      let off : Slot → ℕ = discount p path c u in
       let priced = sum_by-at_places (is_of c) u t in
       let met = ap (λ n. n * u) (lectures_met p t ok c) in
       let split = sum_by-le (λ e. cond (is_of c e) u 0) (λ e. cond (is_of c e) (cost_of e) 0 + cond (is_of c e) (off (slot_of e)) 0) t

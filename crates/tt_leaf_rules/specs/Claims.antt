@@ -1,5 +1,5 @@
 -- What the claims of a cost leaf are worth, and the parts of the cost that they claim.
-use Rattle.std.specs.Prelude.{ℕ, ◌+◌, ◌-◌, ◌*◌, min, ◌==◌, nat_le, Bool, true, false, not, ◌&&◌, ◌||◌, List, [], ◌∷◌, map, flat_map, Option, Some, None, sum_by, count_by, if◌then◌else◌}
+use Rattle.std.specs.Prelude.{ℕ, ◌+◌, ◌-◌, ◌*◌, min, max, ◌==◌, nat_le, Bool, true, not, ◌&&◌, ◌||◌, List, [], ◌∷◌, map, filter, flat_map, sum_by, count_by, if◌then◌else◌}
 use Rattle.std.specs.List.{list_any, list_all}
 use Rattle.tt_lists.specs.Words.{range_below}
 use Rattle.tt_instance.specs.Problem.{Problem}
@@ -8,7 +8,7 @@ use Rattle.tt_instance.specs.Courses.{lectures, min_days, members, excess}
 use Rattle.tt_instance.specs.declared.cell.Cell.{Cell}
 use Rattle.tt_instance.specs.declared.cell.Slot.{Slot}
 use Rattle.tt_rules.specs.Soft.{days_cost, compactness_cost, stability_cost}
-use Rattle.tt_paths.specs.Live.{is_live, pinned_periods, live_period, live_day, least_excess, pinned, pinned_room}
+use Rattle.tt_paths.specs.Live.{is_live, pinned_periods, live_period, live_day, pinned, pinned_room}
 use Rattle.tt_paths.specs.declared.facts.Who.TheVariants.{Course, Curriculum}
 use Rattle.tt_paths.specs.declared.facts.Fact.{Fact}
 use Rattle.tt_leaf_rules.specs.declared.leaf.Claim.{Claim}
@@ -29,13 +29,6 @@ part p t (WorkingDays c) = days_cost p t c
 part p t (Compactness q) = compactness_cost p t q
 part p t (Stability c) = stability_cost p t c
 
-abbrev pub same_target : Target → Target → Bool
-same_target (RoomCapacity a) (RoomCapacity b) = a == b
-same_target (WorkingDays a) (WorkingDays b) = a == b
-same_target (Compactness a) (Compactness b) = a == b
-same_target (Stability a) (Stability b) = a == b
-same_target _ _ = false
-
 abbrev pub targets_of : Claim → List Target
 targets_of (Capacity c u) = RoomCapacity c ∷ []
 targets_of (Days c) = WorkingDays c ∷ []
@@ -46,10 +39,15 @@ targets_of (Stacked c) = WorkingDays c ∷ []
 
 -- ---- values
 
--- what a price is above the least excess of a period that has one
-abbrev pub discount : ℕ → Option ℕ → ℕ
-discount u None = 0
-discount u (Some m) = u - m
+-- the greatest number of a list, 0 of none
+abbrev pub greatest : List ℕ → ℕ
+greatest [] = 0
+greatest (n ∷ ns) = max n (greatest ns)
+
+-- the most by which the price is above the excess of a live cell of the course in the period
+abbrev pub discount : Problem → List Fact → ℕ → ℕ → Slot → ℕ
+discount p path c u s =
+    greatest (map (λ r. u - excess p c r) (filter (λ r. is_live p path (cell c r s)) (all_rooms p)))
 
 -- no neighbour of the period on its day has a live cell of a member
 abbrev pub is_alone : Problem → List Fact → ℕ → Slot → Bool
@@ -80,7 +78,7 @@ pinned_day p path c d = list_any (λ s. pinned p path (Course c) (slot d s)) (ra
 
 abbrev pub value_of : Problem → List Fact → Claim → ℕ
 value_of p path (Capacity c u) =
-    lectures p c * u - sum_by (λ s. discount u (least_excess p path c s)) (all_slots p)
+    lectures p c * u - sum_by (discount p path c u) (all_slots p)
 value_of p path (Days c) =
     5 * (min_days p c - min (lectures p c) (count_by (live_day p path c) (all_days p)))
 value_of p path (Compact q) =

@@ -8,7 +8,8 @@ use Rattle.tt_paths.specs.Live.{pinned_periods}
 use Rattle.tt_paths.specs.declared.facts.Who.TheVariants.{Course}
 use Rattle.tt_paths.specs.declared.facts.Fact.{Fact}
 use Rattle.tt_leaf_rules.specs.Claims.{is_fair, total_of}
-use Rattle.tt_leaf_rules.specs.Leaves.{all_dead, all_lectures, is_clique, open_periods, are_distinct, open_rooms, claims_once}
+use Rattle.tt_leaf_rules.specs.Leaves.{all_dead, all_lectures, open_periods, open_rooms}
+use Rattle.tt_leaf_rules.specs.Tests.{are_distinct, claims_once, is_clique}
 use Rattle.tt_leaf_rules.specs.declared.leaf.Bound.{Bound}
 use Rattle.tt_leaf_rules.specs.declared.leaf.Bound.TheVariants.{AtLeast, Nothing}
 use Rattle.tt_leaf_rules.specs.declared.leaf.Claim.{Claim}

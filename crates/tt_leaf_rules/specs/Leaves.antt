@@ -1,16 +1,17 @@
 -- When a leaf closes a node.
-use Rattle.std.specs.Prelude.{◌≡◌, ℕ, ◌<◌, ◌≤◌, ◌==◌, Bool, true, false, not, ◌&&◌, ◌||◌, List, [], ◌∷◌, sum_by, count_by}
+use Rattle.std.specs.Prelude.{◌≡◌, ℕ, ◌<◌, ◌≤◌, Bool, true, not, ◌||◌, List, length, Contains, sum_by, count_by}
 use Rattle.std.specs.List.{list_any, list_all}
 use Rattle.tt_lists.specs.Words.{each_two}
 use Rattle.tt_instance.specs.Problem.{Problem}
 use Rattle.tt_instance.specs.Cells.{cell, all_rooms, all_slots, all_cells}
 use Rattle.tt_instance.specs.Courses.{lectures, conflict}
-use Rattle.tt_paths.specs.Facts.{matches, has_fact}
+use Rattle.tt_paths.specs.Facts.{matches}
 use Rattle.tt_paths.specs.Live.{is_dead, is_live, live_period, pinned_periods}
 use Rattle.tt_paths.specs.declared.facts.Who.TheVariants.{Course}
 use Rattle.tt_paths.specs.declared.facts.Pattern.{Pattern}
 use Rattle.tt_paths.specs.declared.facts.Fact.{Fact}
-use Rattle.tt_leaf_rules.specs.Claims.{same_target, claimed, is_fair, total_of}
+use Rattle.tt_leaf_rules.specs.Claims.{claimed, is_fair, total_of}
+use Rattle.tt_leaf_rules.specs.Different.{AreDifferent}
 use Rattle.tt_leaf_rules.specs.declared.leaf.Bound.{Bound}
 use Rattle.tt_leaf_rules.specs.declared.leaf.Bound.TheVariants.{AtLeast, Nothing}
 use Rattle.tt_leaf_rules.specs.declared.leaf.Claim.{Claim}
@@ -24,29 +25,14 @@ all_dead p path g = list_all (λ x. not (matches p g x) || is_dead p path x) (al
 abbrev pub all_lectures : Problem → List ℕ → ℕ
 all_lectures p cs = sum_by (lectures p) cs
 
-abbrev pub has_member : List ℕ → Bool
-has_member [] = false
-has_member (c ∷ cs) = true
-
--- each two are courses that exclude each other
-abbrev pub is_clique : Problem → List ℕ → Bool
-is_clique p cs = has_member cs && each_two (conflict p) cs
-
 -- how many periods have a live cell of one of these courses
 abbrev pub open_periods : Problem → List Fact → List ℕ → ℕ
 open_periods p path cs = count_by (λ s. list_any (λ c. live_period p path c s) cs) (all_slots p)
-
--- each two are different
-abbrev pub are_distinct : List ℕ → Bool
-are_distinct cs = each_two (λ a b. not (a == b)) cs
 
 -- how many rooms in how many periods have a live cell of one of these courses
 abbrev pub open_rooms : Problem → List Fact → List ℕ → ℕ
 open_rooms p path cs =
     sum_by (λ r. count_by (λ s. list_any (λ c. is_live p path (cell c r s)) cs) (all_slots p)) (all_rooms p)
-
-abbrev pub claims_once : List Claim → Bool
-claims_once claims = each_two (λ a b. not (same_target a b)) (claimed claims)
 
 -- ---- when a leaf is right
 
@@ -54,13 +40,14 @@ claims_once claims = each_two (λ a b. not (same_target a b)) (claimed claims)
 abbrev pub IsRightCost : Problem → List Fact → Bound → List Claim → Type 0
 IsRightCost p path Nothing claims = ⊥
 IsRightCost p path (AtLeast b) claims =
-    (claims_once claims ≡ true) × (list_all (is_fair p path) claims ≡ true) × (b ≤ total_of p path claims)
+    AreDifferent (claimed claims) × (list_all (is_fair p path) claims ≡ true) × (b ≤ total_of p path claims)
 
--- Empty: the pattern stands on the path as yes, and each cell that it matches is dead. Many: the course has more pinned periods than lectures. Clique: the
--- courses exclude each other and have more lectures than open periods. Slots: the courses have more lectures than rooms in open periods.
+-- Empty: the pattern stands on the path as yes, and each cell that it matches is dead. Many: the course has more pinned periods than lectures. Clique: there
+-- are courses, which exclude each other and have more lectures than open periods. Slots: the courses differ, and have more lectures than rooms in open periods.
 abbrev pub IsRight : Problem → List Fact → Bound → Leaf → Type 0
-IsRight p path b (Empty g) = (has_fact path g true ≡ true) × (all_dead p path g ≡ true)
+IsRight p path b (Empty g) = Contains path (record { pattern = g; holds = true }) × (all_dead p path g ≡ true)
 IsRight p path b (Many c) = lectures p c < pinned_periods p path (Course c)
-IsRight p path b (Clique cs) = (is_clique p cs ≡ true) × (open_periods p path cs < all_lectures p cs)
-IsRight p path b (Slots cs) = (are_distinct cs ≡ true) × (open_rooms p path cs < all_lectures p cs)
+IsRight p path b (Clique cs) =
+    (0 < length cs) × (each_two (conflict p) cs ≡ true) × (open_periods p path cs < all_lectures p cs)
+IsRight p path b (Slots cs) = AreDifferent cs × (open_rooms p path cs < all_lectures p cs)
 IsRight p path b (Cost claims) = IsRightCost p path b claims

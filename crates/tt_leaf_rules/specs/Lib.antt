@@ -1,8 +1,10 @@
 pub mod Bounds
 pub mod Claims
+pub mod Different
 pub mod Faults
 pub mod Leaves
 pub mod Met
 pub mod Nested
 pub mod Outcomes
 pub mod Ranges
+pub mod Tests

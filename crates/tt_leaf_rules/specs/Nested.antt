@@ -1,6 +1,6 @@
 -- Only proofs rest on this file: nobody has to believe it.
 -- The leaf rules one number at a time, as the code goes through them.
-use Rattle.std.specs.Prelude.{◌≡◌, ℕ, ◌+◌, ◌-◌, ◌*◌, ◌<◌, nat_lt, nat_le, sum_by, count_by, All, Bool, true, not, ◌&&◌, ◌||◌, List, length, Option}
+use Rattle.std.specs.Prelude.{◌≡◌, ℕ, ◌+◌, ◌-◌, ◌*◌, ◌<◌, nat_lt, nat_le, sum_by, count_by, All, Bool, true, not, ◌&&◌, ◌||◌, List, length, Option, Some, None}
 use Rattle.std.specs.List.{list_any, list_all}
 use Rattle.tt_lists.specs.Words.{each_two}
 use Rattle.tt_instance.specs.Problem.{Problem}
@@ -12,7 +12,8 @@ use Rattle.tt_paths.specs.Live.{is_dead, is_live, live_period, live_day, least_e
 use Rattle.tt_paths.specs.declared.facts.Who.TheVariants.{Curriculum}
 use Rattle.tt_paths.specs.declared.facts.Pattern.{Pattern}
 use Rattle.tt_paths.specs.declared.facts.Fact.{Fact}
-use Rattle.tt_leaf_rules.specs.Claims.{Target, same_target, targets_of, discount, is_alone, price_in, open_in, pinned_day}
+use Rattle.tt_leaf_rules.specs.Claims.{Target, targets_of, is_alone, price_in, open_in, pinned_day}
+use Rattle.tt_leaf_rules.specs.Tests.{same_target}
 use Rattle.tt_leaf_rules.specs.declared.leaf.Claim.{Claim}
 
 -- ---- dead cells
@@ -67,9 +68,14 @@ abbrev pub isolated_periods : Problem → List Fact → ℕ → ℕ
 isolated_periods p path q =
     count_by (λ s. pinned p path (Curriculum q) s && is_alone p path q s) (all_slots p)
 
+-- what a price is above the least excess of a period that has one
+abbrev pub above_least : ℕ → Option ℕ → ℕ
+above_least u None = 0
+above_least u (Some m) = u - m
+
 -- the discounts of a price in all periods
 abbrev pub discounts : Problem → List Fact → ℕ → ℕ → ℕ
-discounts p path c u = sum_by (λ s. discount u (least_excess p path c s)) (all_slots p)
+discounts p path c u = sum_by (λ s. above_least u (least_excess p path c s)) (all_slots p)
 
 -- ---- the neighbours of a period
 

@@ -1,15 +1,15 @@
 //! The seats that a course lacks, at a price for each of its lectures.
 
 ghost use Rattle.std.specs.Prelude.{◌≡◌, ◌<◌, ◌≤◌, ◌*◌, ◌^◌, length};
-ghost use Rattle.tt_leaf_rules.specs.Claims.{discount, value_of};
-ghost use Rattle.tt_leaf_rules.specs.Nested.{discounts};
+ghost use Rattle.tt_leaf_rules.specs.Claims.{value_of};
+ghost use Rattle.tt_leaf_rules.specs.Nested.{above_least, discounts};
 ghost use Rattle.tt_leaf_rules.specs.declared.leaf.Claim.TheVariants.{Capacity};
 
 use crate::slots::{slot_at, slot_count};
 use tt_paths::Path;
 
-fn discount(price: u64, least: Option<u64>) -> u64
-    ensures value { result ≡ discount price least }
+fn above_least(price: u64, least: Option<u64>) -> u64
+    ensures value { result ≡ above_least price least }
     ensures few { result ≤ price }
 {
     match least {
@@ -26,7 +26,7 @@ fn all_discounts<'i, P: Path<'i>>(path: &P, course: u32, price: u32) -> u64
     let mut total: u64 = 0;
     for place in 0..slot_count(instance) {
         let slot = slot_at(instance, place);
-        total += discount(
+        total += above_least(
             u64::from(price),
             path.least_excess(course, slot.day, slot.period),
         );

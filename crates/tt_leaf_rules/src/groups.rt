@@ -6,9 +6,10 @@ ghost use Rattle.tt_lists.specs.Words.{each_two};
 ghost use Rattle.tt_bits.specs.Bits.{has_bit};
 ghost use Rattle.tt_instance.specs.Cells.{slot};
 ghost use Rattle.tt_instance.specs.Courses.{conflict};
-ghost use Rattle.tt_leaf_rules.specs.Leaves.{all_lectures, is_clique, are_distinct, open_periods, open_rooms};
+ghost use Rattle.tt_leaf_rules.specs.Leaves.{all_lectures, open_periods, open_rooms};
 ghost use Rattle.tt_leaf_rules.specs.Nested.{live_for, live_in, open_in_period};
 ghost use Rattle.tt_leaf_rules.specs.Ranges.{AreBelow};
+ghost use Rattle.tt_leaf_rules.specs.Tests.{are_distinct, is_clique};
 ghost use Rattle.tt_instance.specs.declared.limit.TheConstants.{MAX_COURSES, MAX_ROOMS, MAX_SLOTS};
 
 use crate::met::{FEW, Met};

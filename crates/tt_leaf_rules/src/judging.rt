@@ -3,9 +3,10 @@
 ghost use Rattle.std.specs.Prelude.{◌≡◌, ◌<◌, ◌↔◌, true, is_ok, All, IsTrue, length};
 ghost use Rattle.tt_leaf_rules.specs.Claims.{total_of};
 ghost use Rattle.tt_leaf_rules.specs.Faults.{fault_of};
-ghost use Rattle.tt_leaf_rules.specs.Leaves.{claims_once, IsRight};
+ghost use Rattle.tt_leaf_rules.specs.Leaves.{IsRight};
 ghost use Rattle.tt_leaf_rules.specs.Outcomes.{outcome, leaf_total, IsClaimedOnce};
 ghost use Rattle.tt_leaf_rules.specs.Ranges.{AreBelow, IsClaimOf, IsLeafOf};
+ghost use Rattle.tt_leaf_rules.specs.Tests.{claims_once};
 ghost use Rattle.tt_leaf_rules.specs.declared.leaf.Bound.TheVariants.{AtLeast, Nothing};
 ghost use Rattle.tt_leaf_rules.specs.declared.leaf.Leaf.TheVariants.{Empty, Many, Clique, Slots, Cost};
 

@@ -3,9 +3,9 @@
 ghost use Rattle.std.specs.Prelude.{◌≡◌, ℕ, ◌*◌, ◌<◌, ◌==◌, ◌&&◌, ◌++◌, not, map, List, All};
 ghost use Rattle.std.specs.List.{list_any, list_all};
 ghost use Rattle.tt_leaf_rules.specs.Claims.{RoomCapacity, WorkingDays, Compactness, Stability};
-ghost use Rattle.tt_leaf_rules.specs.Leaves.{claims_once};
 ghost use Rattle.tt_leaf_rules.specs.Met.{are_new, places_of, IsPlaced};
 ghost use Rattle.tt_leaf_rules.specs.Nested.{claims_target, are_apart, IsOnce};
+ghost use Rattle.tt_leaf_rules.specs.Tests.{claims_once};
 
 use crate::leaf::Claim;
 use crate::met::{FEW, Met};

@@ -6,11 +6,13 @@ use Rattle.std.proofs.lemmas.List.{take_all, take-append-drop, length-take-le}
 use Rattle.std.proofs.lemmas.List.Elements.{All-from_recursion, recursion_from_All}
 use Rattle.tt_instance.specs.Problem.{Problem}
 use Rattle.tt_paths.specs.declared.facts.Fact.{Fact}
+use Rattle.tt_paths.specs.declared.path.TheConstants.{MAX_FACTS}
 use Rattle.tt_leaf_rules.specs.declared.leaf.Bound.{Bound}
 use Rattle.tt_leaf_rules.specs.declared.leaf.RuleFault.{RuleFault}
 use Rattle.tt_leaf_rules.proofs.Rightness.{faultless}
 use Rattle.tt_proof_read.specs.Trees.{Tree, Close, Branch, with_fact, preorder, OnPath, on_paths, IsPreorder}
 use Rattle.tt_proof_read.specs.declared.node.Node.{Node}
+use Rattle.tt_proof_read.proofs.Depth.{nodes_low}
 use Rattle.tt_proof_check.specs.declared.fault.NodesFault.{NodesFault}
 use Rattle.tt_proof_check.specs.declared.fault.NodesFault.TheVariants as told
 use Rattle.tt_proof_check.specs.declared.walk.Stop.TheVariants.{Rule, TooDeep}
@@ -71,7 +73,8 @@ right_on p b (Branch g x y) path d =
 pub tree_passes : (p : Problem) (b : Bound) (tree : Tree) → IsShallow tree → Derives p b [] tree → All (Passes p b) (on_paths [] tree)
 tree_passes p b tree shallow d =
     let right = All-from_recursion (λ x. IsRightOn p b x.path x.node) (on_paths [] tree) (right_on p b tree [] d) in
-    λ k x h. (shallow k x h, right k x h)
+    let low = nodes_low MAX_FACTS tree shallow in
+    λ k x h. (low k x h, right k x h)
 
 pub at_place : {X : Type 0} (P : X → Type 0) (xs : List X) (i : ℕ) (x : X) → slice_get xs i ≡ Some x → AllByRecursion P xs → P x
 at_place P [] i x e a = cc

@@ -5,6 +5,7 @@ pub mod Examples
 pub mod FailedReads
 pub mod Files
 pub mod Judging
+pub mod Nodes
 pub mod OneFault
 pub mod Places
 pub mod Reading

@@ -5,11 +5,13 @@ use Rattle.std.specs.List.{AllByRecursion}
 use Rattle.std.proofs.lemmas.List.Elements.{All-push, All-nil, recursion_from_All}
 use Rattle.tt_instance.specs.Problem.{Problem}
 use Rattle.tt_paths.specs.declared.facts.Fact.{Fact}
+use Rattle.tt_paths.specs.declared.path.TheConstants.{MAX_FACTS}
 use Rattle.tt_leaf_rules.specs.declared.leaf.Bound.{Bound}
 use Rattle.tt_leaf_rules.specs.declared.leaf.RuleFault.{RuleFault}
 use Rattle.tt_proof_read.specs.Trees.{Tree, Close, Branch, with_fact, preorder, OnPath, on_paths}
 use Rattle.tt_proof_read.specs.declared.node.Node.{Node}
 use Rattle.tt_proof_read.specs.declared.node.Node.TheVariants.{Split, Leaf}
+use Rattle.tt_proof_read.proofs.Depth.{leaves_low}
 use Rattle.tt_proof_check.specs.declared.walk.Stop.{Stop}
 use Rattle.tt_proof_check.specs.declared.walk.Stop.TheVariants.{Rule, TooDeep}
 use Rattle.tt_proof_check.specs.Derives.{Derives, IsShallow, Proves}
@@ -89,7 +91,7 @@ derives_on p b (Branch g x y) path a =
 
 -- a tree whose nodes pass derives the bound, and is not too deep
 pub passed_tree : (p : Problem) (b : Bound) (tree : Tree) → All (Passes p b) (on_paths [] tree) → IsShallow tree × Derives p b [] tree
-passed_tree p b tree a = (λ k d h. (a k d h).0, derives_on p b tree [] (recursion_from_All (Passes p b) (on_paths [] tree) a))
+passed_tree p b tree a = (leaves_low MAX_FACTS tree (λ k d h. (a k d h).0), derives_on p b tree [] (recursion_from_All (Passes p b) (on_paths [] tree) a))
 
 -- where no node is due, the nodes are a tree's, and it derives the bound
 pub walked_end : (p : Problem) (b : Bound) (nodes : List Node) (path : List Fact) → Walked p b nodes path false → Proves p b nodes

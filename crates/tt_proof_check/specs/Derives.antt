@@ -1,5 +1,5 @@
 -- What a tree derives, and what that means.
-use Rattle.std.specs.Prelude.{◌≡◌, ◌≤◌, List, [], length, All}
+use Rattle.std.specs.Prelude.{◌≡◌, ◌≤◌, List, [], length}
 use Rattle.tt_instance.specs.Problem.{Problem}
 use Rattle.tt_instance.specs.declared.cell.Cell.{Cell}
 use Rattle.tt_rules.specs.Score.{IsFeasible, cost}
@@ -8,7 +8,7 @@ use Rattle.tt_paths.specs.declared.facts.Fact.{Fact}
 use Rattle.tt_leaf_rules.specs.Bounds.{Respects}
 use Rattle.tt_leaf_rules.specs.Leaves.{IsRight}
 use Rattle.tt_leaf_rules.specs.declared.leaf.Bound.{Bound}
-use Rattle.tt_proof_read.specs.Trees.{Tree, AllLeaves, preorder, on_paths}
+use Rattle.tt_proof_read.specs.Trees.{Tree, AllLeaves, preorder}
 use Rattle.tt_proof_read.specs.declared.node.Node.{Node}
 use Rattle.tt_paths.specs.declared.path.TheConstants.{MAX_FACTS}
 
@@ -24,9 +24,9 @@ HoldsOn p b path = (t : List Cell) → IsFeasible p t → Fits p t path → Resp
 abbrev pub HoldsOfAll : Problem → Bound → Type 0
 HoldsOfAll p b = (t : List Cell) → IsFeasible p t → Respects b (cost p t)
 
--- no node stands below more than 65,536 splits
+-- no leaf stands below more than 65,536 splits
 abbrev pub IsShallow : Tree → Type 0
-IsShallow tree = All (λ x. length x.path ≤ MAX_FACTS) (on_paths [] tree)
+IsShallow tree = AllLeaves (λ path _. length path ≤ MAX_FACTS) [] tree
 
 -- the nodes are a tree's that is not too deep, and it derives the bound
 abbrev pub Proves : Problem → Bound → List Node → Type 0

@@ -12,13 +12,13 @@ use Rattle.tt_text.specs.Reading.{◌>>=◌}
 use Rattle.tt_text.proofs.Steps.{ok_is, bind_ok}
 use Rattle.tt_text.proofs.Fields.{text_is, is_text_of}
 use Rattle.tt_instance.specs.Problem.{Problem}
-use Rattle.tt_leaf_rules.specs.Ranges.{ArePrices, IsClaimOf}
+use Rattle.tt_leaf_rules.specs.Ranges.{ArePrices}
 use Rattle.tt_leaf_rules.specs.declared.leaf.Claim.{Claim}
 use Rattle.tt_leaf_rules.specs.declared.leaf.Claim.TheVariants as claim
 use Rattle.tt_proof_read.specs.Pricing.{AreKept}
 use Rattle.tt_proof_read.specs.Readers.{IsWordIn}
 use Rattle.tt_proof_read.specs.Sizes.{AreSizes}
-use Rattle.tt_proof_read.specs.Spelling.{course_piece, price_pieces, course_prices, room_prices, SpellsClaim, SpellsEach, IsShortClaim, IsClaimIn}
+use Rattle.tt_proof_read.specs.Spelling.{course_piece, price_pieces, course_prices, room_prices, SpellsClaim, SpellsEach, IsClaim}
 use Rattle.tt_proof_read.specs.Reading.{token_at, course_at, curriculum_at, price_at, prices_at, claim_word_of, claim_after_word, claim_then, claim_at, claims_at}
 use Rattle.tt_proof_read.specs.declared.claims.ClaimWord.{ClaimWord}
 use Rattle.tt_proof_read.specs.declared.claims.ClaimWord.TheVariants as word
@@ -75,20 +75,16 @@ abbrev last : Piece
 last = Text (codes ";")
 
 module _ (p : Problem) (sizes : Sizes) (are : AreSizes p sizes) (version : ℕ) where
-  -- a claim of the instance and of the version, within the limits
-  abbrev pub IsClaim : Claim → Type 0
-  IsClaim c = IsClaimOf p c × IsShortClaim c × IsClaimIn version c
-
   -- any claim may come next
   abbrev IsNext : List Claim → Claim → Type 0
-  IsNext before c = IsClaim c
+  IsNext before c = IsClaim p version c
 
   -- what was read after a word is spelled
   record Behind (w : ClaimWord) (s : Stream) (x : Claim × Stream) : Type 0 where
     rest : List Piece
     spells : SpellsClaim x.0 (Text (code_of w) ∷ rest)
     took : Took s rest x.1
-    is : IsClaim x.0
+    is : IsClaim p version x.0
 
   -- what was read after a word is spelled
   behind_took : (w : ClaimWord) (s : Stream) (x : Claim × Stream) → IsWordIn version w → claim_after_word sizes w s ≡ Ok x → Behind w s x
@@ -102,20 +98,20 @@ module _ (p : Problem) (sizes : Sizes) (are : AreSizes p sizes) (version : ℕ) 
         rest = course_piece c.0.0 ∷ Number u.0.0 ∷ [];
         spells = refl;
         took = took_then s c.0.1 u.0.1 (course_piece c.0.0 ∷ []) (Number u.0.0 ∷ []) a.0 b.0;
-        is = (omega (arith, are.courses, a.1), b.1, tt);
+        is = (omega (arith, are.courses, a.1), b.1);
       })
   behind_took word.Days s x fits e =
       let c = bind_ok (course_at sizes s) (λ c. Ok (claim.Days c.0, c.1)) x e in
       let a = course_took sizes s c.0 c.1 in
-      subst (Behind word.Days s) (ok_is (claim.Days c.0.0, c.0.1) x c.2) (record { rest = course_piece c.0.0 ∷ []; spells = refl; took = a.0; is = (omega (arith, are.courses, a.1), tt, tt) })
+      subst (Behind word.Days s) (ok_is (claim.Days c.0.0, c.0.1) x c.2) (record { rest = course_piece c.0.0 ∷ []; spells = refl; took = a.0; is = omega (arith, are.courses, a.1) })
   behind_took word.Compact s x fits e =
       let q = bind_ok (curriculum_at sizes s) (λ c. Ok (claim.Compact c.0, c.1)) x e in
       let a = curriculum_took sizes s q.0 q.1 in
-      subst (Behind word.Compact s) (ok_is (claim.Compact q.0.0, q.0.1) x q.2) (record { rest = Index CURRICULUM_LETTER q.0.0 ∷ []; spells = refl; took = a.0; is = (omega (arith, are.curricula, a.1), tt, tt) })
+      subst (Behind word.Compact s) (ok_is (claim.Compact q.0.0, q.0.1) x q.2) (record { rest = Index CURRICULUM_LETTER q.0.0 ∷ []; spells = refl; took = a.0; is = omega (arith, are.curricula, a.1) })
   behind_took word.Stable s x fits e =
       let c = bind_ok (course_at sizes s) (λ c. Ok (claim.Stable c.0, c.1)) x e in
       let a = course_took sizes s c.0 c.1 in
-      subst (Behind word.Stable s) (ok_is (claim.Stable c.0.0, c.0.1) x c.2) (record { rest = course_piece c.0.0 ∷ []; spells = refl; took = a.0; is = (omega (arith, are.courses, a.1), tt, tt) })
+      subst (Behind word.Stable s) (ok_is (claim.Stable c.0.0, c.0.1) x c.2) (record { rest = course_piece c.0.0 ∷ []; spells = refl; took = a.0; is = omega (arith, are.courses, a.1) })
   behind_took word.Prices s x fits e =
       let k = bind_ok (prices_at sizes s) (λ k. Ok (claim.Prices k.0.0 k.0.1, k.1)) x e in
       let a = prices_took sizes s k.0 k.1 in
@@ -124,15 +120,15 @@ module _ (p : Problem) (sizes : Sizes) (are : AreSizes p sizes) (version : ℕ) 
         spells = (a.prices, a.courses, a.rooms, refl);
         took = a.took;
         is = (
-          (subst (λ n. ArePrices n k.0.0.0) are.courses a.kept.courses, subst (λ n. ArePrices n k.0.0.1) are.rooms a.kept.rooms),
-          (a.kept.course_prices, a.kept.room_prices),
           fits,
+          (subst (λ n. ArePrices n k.0.0.0) are.courses a.kept.courses, a.kept.course_prices),
+          (subst (λ n. ArePrices n k.0.0.1) are.rooms a.kept.rooms, a.kept.room_prices),
         );
       })
   behind_took word.Stacked s x fits e =
       let c = bind_ok (course_at sizes s) (λ c. Ok (claim.Stacked c.0, c.1)) x e in
       let a = course_took sizes s c.0 c.1 in
-      subst (Behind word.Stacked s) (ok_is (claim.Stacked c.0.0, c.0.1) x c.2) (record { rest = course_piece c.0.0 ∷ []; spells = refl; took = a.0; is = (omega (arith, are.courses, a.1), tt, fits) })
+      subst (Behind word.Stacked s) (ok_is (claim.Stacked c.0.0, c.0.1) x c.2) (record { rest = course_piece c.0.0 ∷ []; spells = refl; took = a.0; is = (fits, omega (arith, are.courses, a.1)) })
 
   -- a claim that was read, or the end, is spelled
   claim_took : (before : List Claim) (s : Stream) (x : Option Claim × Stream) → claim_at sizes version s ≡ Ok x → PartTook push (λ _ rest. claim_at sizes version rest) SpellsClaim IsNext last before s x.0 x.1
@@ -172,26 +168,26 @@ module _ (p : Problem) (sizes : Sizes) (are : AreSizes p sizes) (version : ℕ) 
         let parts = took_split (course_piece c ∷ []) (Number u ∷ []) mid after t in
         rw (course_in c mid parts.0 next.0 parts.1, price_reads u parts.0 after next.1 parts.2) refl) (subst (λ qs. Took s qs after) spell took)
     claim_reads before (claim.Days c) ps s after spell next took =
-        by_claim word.Days (claim.Days c) (course_piece c ∷ []) s after tt (λ mid t. rw (course_in c mid after next.0 t) refl) (subst (λ qs. Took s qs after) spell took)
+        by_claim word.Days (claim.Days c) (course_piece c ∷ []) s after tt (λ mid t. rw (course_in c mid after next t) refl) (subst (λ qs. Took s qs after) spell took)
     claim_reads before (claim.Compact q) ps s after spell next took =
-        by_claim word.Compact (claim.Compact q) (Index CURRICULUM_LETTER q ∷ []) s after tt (λ mid t. rw (curriculum_reads sizes q mid after small.curricula (omega (arith, are.curricula, next.0)) t) refl)
+        by_claim word.Compact (claim.Compact q) (Index CURRICULUM_LETTER q ∷ []) s after tt (λ mid t. rw (curriculum_reads sizes q mid after small.curricula (omega (arith, are.curricula, next)) t) refl)
         (subst (λ qs. Took s qs after) spell took)
     claim_reads before (claim.Stable c) ps s after spell next took =
-        by_claim word.Stable (claim.Stable c) (course_piece c ∷ []) s after tt (λ mid t. rw (course_in c mid after next.0 t) refl) (subst (λ qs. Took s qs after) spell took)
+        by_claim word.Stable (claim.Stable c) (course_piece c ∷ []) s after tt (λ mid t. rw (course_in c mid after next t) refl) (subst (λ qs. Took s qs after) spell took)
     claim_reads before (claim.Prices courses rooms) ps s after spell next took =
-        by_claim word.Prices (claim.Prices courses rooms) (flat_map price_pieces spell.0 ++ Text (codes "/") ∷ []) s after next.2 (λ mid t.
+        by_claim word.Prices (claim.Prices courses rooms) (flat_map price_pieces spell.0 ++ Text (codes "/") ∷ []) s after next.0 (λ mid t.
         let kept : AreKept sizes (courses, rooms) = record {
-          courses = subst (λ n. ArePrices n courses) (sym are.courses) next.0.0;
-          rooms = subst (λ n. ArePrices n rooms) (sym are.rooms) next.0.1;
-          course_prices = next.1.0;
-          room_prices = next.1.1;
+          courses = subst (λ n. ArePrices n courses) (sym are.courses) next.1.0;
+          rooms = subst (λ n. ArePrices n rooms) (sym are.rooms) next.2.0;
+          course_prices = next.1.1;
+          room_prices = next.2.1;
         } in
         let shown : (course_prices spell.0, room_prices spell.0) ≡ (courses, rooms) = let a = spell.1 in let b = spell.2 in cc in
         let read = prices_read sizes spell.0 mid after small (subst (AreKept sizes) (sym shown) kept) t in
         let one = spell.1 in let two = spell.2 in
         rw (read, one, two) refl) (subst (λ qs. Took s qs after) spell.3 took)
     claim_reads before (claim.Stacked c) ps s after spell next took =
-        by_claim word.Stacked (claim.Stacked c) (course_piece c ∷ []) s after next.2 (λ mid t. rw (course_in c mid after next.0 t) refl) (subst (λ qs. Took s qs after) spell took)
+        by_claim word.Stacked (claim.Stacked c) (course_piece c ∷ []) s after next.0 (λ mid t. rw (course_in c mid after next.1 t) refl) (subst (λ qs. Took s qs after) spell took)
 
     -- the end that is spelled is read
     last_reads : (before : List Claim) (s after : Stream) → Took s (last ∷ []) after → claim_at sizes version s ≡ Ok (None, after)
@@ -202,20 +198,20 @@ module _ (p : Problem) (sizes : Sizes) (are : AreSizes p sizes) (version : ℕ) 
         rw (f.is, is) (ap (λ (m : Stream). let r : Result (Option Claim × Stream) TextFault = Ok (None, m) in r) (took_same f.mid after f.rest))
 
   -- claims that may each come next are right
-  each_all : (before cs : List Claim) → EachNext push (λ _ rest. claim_at sizes version rest) SpellsClaim IsNext last before cs → All IsClaim cs
-  each_all before [] each = All-nil IsClaim
-  each_all before (c ∷ cs) each = All-cons IsClaim c cs each.0 (each_all (before ++ c ∷ []) cs each.1)
+  each_all : (before cs : List Claim) → EachNext push (λ _ rest. claim_at sizes version rest) SpellsClaim IsNext last before cs → All (IsClaim p version) cs
+  each_all before [] each = All-nil (IsClaim p version)
+  each_all before (c ∷ cs) each = All-cons (IsClaim p version) c cs each.0 (each_all (before ++ c ∷ []) cs each.1)
 
   -- right claims may each come next
-  all_each : (before cs : List Claim) → All IsClaim cs → EachNext push (λ _ rest. claim_at sizes version rest) SpellsClaim IsNext last before cs
+  all_each : (before cs : List Claim) → All (IsClaim p version) cs → EachNext push (λ _ rest. claim_at sizes version rest) SpellsClaim IsNext last before cs
   all_each before [] all = tt
-  all_each before (c ∷ cs) all = (All-head IsClaim c cs all, all_each (before ++ c ∷ []) cs (All-tail IsClaim c cs all))
+  all_each before (c ∷ cs) all = (All-head (IsClaim p version) c cs all, all_each (before ++ c ∷ []) cs (All-tail (IsClaim p version) c cs all))
 
   pub record ClaimsTook (s : Stream) (x : List Claim × Stream) : Type 0 where
     pub body : List Piece
     pub spells : SpellsEach SpellsClaim x.0 body
     pub took : Took s (body ++ Text (codes ";") ∷ []) x.1
-    pub all : All IsClaim x.0
+    pub all : All (IsClaim p version) x.0
 
   -- claims that were read are spelled
   pub claims_took : (s : Stream) (x : List Claim × Stream) → claims_at sizes version s ≡ Ok x → ClaimsTook s x
@@ -227,11 +223,11 @@ module _ (p : Problem) (sizes : Sizes) (are : AreSizes p sizes) (version : ℕ) 
         body = h.body;
         spells = subst (λ cs. SpellsEach SpellsClaim cs h.body) items h.spells;
         took = h.took;
-        all = subst (All IsClaim) items (each_all [] h.items h.each);
+        all = subst (All (IsClaim p version)) items (each_all [] h.items h.each);
       }
 
   -- claims that are spelled are read
-  pub claims_read : AreSmall sizes → (cs : List Claim) (body : List Piece) (s after : Stream) → SpellsEach SpellsClaim cs body → All IsClaim cs → Took s (body ++ Text (codes ";") ∷ []) after
+  pub claims_read : AreSmall sizes → (cs : List Claim) (body : List Piece) (s after : Stream) → SpellsEach SpellsClaim cs body → All (IsClaim p version) cs → Took s (body ++ Text (codes ";") ∷ []) after
       → claims_at sizes version s ≡ Ok (cs, after)
   unfolding claims_at
   claims_read small cs body s after spells all took =

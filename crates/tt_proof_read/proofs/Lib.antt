@@ -1,7 +1,9 @@
 pub mod ClaimLaws
 pub mod ClaimTurns
+pub mod Depth
 pub mod Distinct
 pub mod Examples
+pub mod LeafParts
 pub mod ListLaws
 pub mod ListTurns
 pub mod Loops

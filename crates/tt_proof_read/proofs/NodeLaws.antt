@@ -2,8 +2,6 @@
 use Rattle.std.proofs.Common.{◌≡◌, ℕ, ◌<◌, true, List, [], ◌∷◌, ◌++◌, Ok, refl, sym, subst, arith, codes}
 use Rattle.std.specs.Prelude.{nat_lt}
 use Rattle.std.proofs.lemmas.Bool.{leb-true, le-leb}
-use Rattle.std.proofs.lemmas.List.Elements.{All-from_recursion, recursion_from_All}
-use Rattle.std.specs.List.{AllByRecursion}
 use Rattle.tt_text.specs.Tokens.{Placed}
 use Rattle.tt_text.specs.Texts.{is_text}
 use Rattle.tt_text.specs.Pieces.{Piece, Text}
@@ -16,11 +14,10 @@ use Rattle.tt_paths.specs.Facts.{IsWho, IsGiven, IsPattern}
 use Rattle.tt_paths.specs.declared.facts.Who.{Who}
 use Rattle.tt_paths.specs.declared.facts.Who.TheVariants.{Course, Curriculum}
 use Rattle.tt_paths.specs.declared.facts.Pattern.{Pattern}
-use Rattle.tt_leaf_rules.specs.Ranges.{AreBelow, IsClaimOf}
-use Rattle.tt_leaf_rules.specs.declared.leaf.Claim.{Claim}
+use Rattle.tt_leaf_rules.specs.Ranges.{AreBelow}
 use Rattle.tt_leaf_rules.specs.declared.leaf.Leaf.TheVariants as leaf
 use Rattle.tt_proof_read.specs.Sizes.{AreSizes}
-use Rattle.tt_proof_read.specs.Spelling.{who_piece, given_piece, course_piece, pattern_pieces, listed_pieces, SpellsNode, IsShortClaim, IsClaimIn, IsNode}
+use Rattle.tt_proof_read.specs.Spelling.{who_piece, given_piece, course_piece, pattern_pieces, listed_pieces, SpellsNode, IsNode}
 use Rattle.tt_proof_read.specs.Reading.{token_at, course_at, who_at, given_at, pattern_at, list_at, claims_at, node_word_of, node_after_word, counted, node_at}
 use Rattle.tt_proof_read.specs.declared.fault.TextFault.TheVariants as fault
 use Rattle.tt_proof_read.specs.declared.format.TheConstants.{DAY_LETTER, MAX_NODES, PERIOD_LETTER, ROOM_LETTER}
@@ -29,7 +26,7 @@ use Rattle.tt_proof_read.specs.declared.node.Node.TheVariants as node
 use Rattle.tt_proof_read.specs.declared.nodes.NodeWord.{NodeWord}
 use Rattle.tt_proof_read.specs.declared.nodes.NodeWord.TheVariants as word
 use Rattle.tt_proof_read.specs.declared.sizes.Sizes.{Sizes}
-use Rattle.tt_proof_read.proofs.ClaimLaws.{IsClaim, claims_took, claims_read}
+use Rattle.tt_proof_read.proofs.ClaimLaws.{claims_took, claims_read}
 use Rattle.tt_proof_read.proofs.ListLaws.{list_took, list_reads}
 use Rattle.tt_proof_read.proofs.Small.{AreSmall, IsWhoIn}
 use Rattle.tt_proof_read.proofs.Taking.{Took, first_of_pieces, took_piece, took_then, took_split}
@@ -130,16 +127,6 @@ module _ (p : Problem) (sizes : Sizes) (are : AreSizes p sizes) where
       took : Took s rest x.1
       is : IsNode p version x.0
 
-    -- what holds of claims, in three parts
-    claims_parts : (cs : List Claim) → AllByRecursion (IsClaim p sizes are version) cs → AllByRecursion (IsClaimOf p) cs × AllByRecursion IsShortClaim cs × AllByRecursion (IsClaimIn version) cs
-    claims_parts [] all = (tt, tt, tt)
-    claims_parts (c ∷ cs) all = let more = claims_parts cs all.1 in ((all.0.0, more.0), (all.0.1, more.1), (all.0.2, more.2))
-
-    -- and put together
-    parts_claims : (cs : List Claim) → AllByRecursion (IsClaimOf p) cs → AllByRecursion IsShortClaim cs → AllByRecursion (IsClaimIn version) cs → AllByRecursion (IsClaim p sizes are version) cs
-    parts_claims [] a b c = tt
-    parts_claims (x ∷ xs) a b c = ((a.0, b.0, c.0), parts_claims xs a.1 b.1 c.1)
-
     -- what was read after a word is spelled
     behind_took : (w : NodeWord) (s : Stream) (x : Node × Stream) → node_after_word sizes version w s ≡ Ok x → Behind w s x
     unfolding node_after_word
@@ -150,32 +137,26 @@ module _ (p : Problem) (sizes : Sizes) (are : AreSizes p sizes) where
     behind_took word.Empty s x e =
         let g = bind_ok (pattern_at sizes s) (λ g. Ok (node.Leaf (leaf.Empty g.0), g.1)) x e in
         let a = pattern_took s g.0 g.1 in
-        subst (Behind word.Empty s) (ok_is (node.Leaf (leaf.Empty g.0.0), g.0.1) x g.2) (record { rest = pattern_pieces g.0.0; spells = refl; took = a.took; is = (a.is, tt, tt) })
+        subst (Behind word.Empty s) (ok_is (node.Leaf (leaf.Empty g.0.0), g.0.1) x g.2) (record { rest = pattern_pieces g.0.0; spells = refl; took = a.took; is = a.is })
     behind_took word.Many s x e =
         let c = bind_ok (course_at sizes s) (λ c. Ok (node.Leaf (leaf.Many c.0), c.1)) x e in
         let a = course_took sizes s c.0 c.1 in
         subst (Behind word.Many s) (ok_is (node.Leaf (leaf.Many c.0.0), c.0.1) x c.2)
-        (record { rest = course_piece c.0.0 ∷ []; spells = refl; took = a.0; is = (omega (arith, are.courses, a.1), tt, tt) })
+        (record { rest = course_piece c.0.0 ∷ []; spells = refl; took = a.0; is = omega (arith, are.courses, a.1) })
     behind_took word.Clique s x e =
         let l = bind_ok (list_at sizes s) (λ l. Ok (node.Leaf (leaf.Clique l.0), l.1)) x e in
         let a = list_took sizes s l.0 l.1 in
         subst (Behind word.Clique s) (ok_is (node.Leaf (leaf.Clique l.0.0), l.0.1) x l.2)
-        (record { rest = listed_pieces l.0.0; spells = refl; took = a.took; is = (subst (λ n. AreBelow n l.0.0) are.courses a.below, a.once, tt) })
+        (record { rest = listed_pieces l.0.0; spells = refl; took = a.took; is = (subst (λ n. AreBelow n l.0.0) are.courses a.below, a.once) })
     behind_took word.Slots s x e =
         let l = bind_ok (list_at sizes s) (λ l. Ok (node.Leaf (leaf.Slots l.0), l.1)) x e in
         let a = list_took sizes s l.0 l.1 in
         subst (Behind word.Slots s) (ok_is (node.Leaf (leaf.Slots l.0.0), l.0.1) x l.2)
-        (record { rest = listed_pieces l.0.0; spells = refl; took = a.took; is = (subst (λ n. AreBelow n l.0.0) are.courses a.below, a.once, tt) })
+        (record { rest = listed_pieces l.0.0; spells = refl; took = a.took; is = (subst (λ n. AreBelow n l.0.0) are.courses a.below, a.once) })
     behind_took word.Cost s x e =
         let l = bind_ok (claims_at sizes version s) (λ l. Ok (node.Leaf (leaf.Cost l.0), l.1)) x e in
         let a = claims_took p sizes are version s l.0 l.1 in
-        let all = claims_parts l.0.0 (recursion_from_All (IsClaim p sizes are version) l.0.0 a.all) in
-        subst (Behind word.Cost s) (ok_is (node.Leaf (leaf.Cost l.0.0), l.0.1) x l.2) (record {
-          rest = a.body ++ Text (codes ";") ∷ [];
-          spells = (a.body, a.spells, refl);
-          took = a.took;
-          is = (All-from_recursion (IsClaimOf p) l.0.0 all.0, All-from_recursion IsShortClaim l.0.0 all.1, All-from_recursion (IsClaimIn version) l.0.0 all.2);
-        })
+        subst (Behind word.Cost s) (ok_is (node.Leaf (leaf.Cost l.0.0), l.0.1) x l.2) (record { rest = a.body ++ Text (codes ";") ∷ []; spells = (a.body, a.spells, refl); took = a.took; is = a.all })
 
     pub record NodeTook (count : ℕ) (s : Stream) (x : Node × Stream) : Type 0 where
       pub pieces : List Piece
@@ -216,9 +197,9 @@ module _ (p : Problem) (sizes : Sizes) (are : AreSizes p sizes) where
     node_reads small count (node.Split g) ps s after room spell is took =
         by_word word.Split (node.Split g) (pattern_pieces g) count s after room (λ mid t. rw (pattern_reads small g mid after is t) refl) (subst (λ qs. Took s qs after) spell took)
     node_reads small count (node.Leaf (leaf.Empty g)) ps s after room spell is took =
-        by_word word.Empty (node.Leaf (leaf.Empty g)) (pattern_pieces g) count s after room (λ mid t. rw (pattern_reads small g mid after is.0 t) refl) (subst (λ qs. Took s qs after) spell took)
+        by_word word.Empty (node.Leaf (leaf.Empty g)) (pattern_pieces g) count s after room (λ mid t. rw (pattern_reads small g mid after is t) refl) (subst (λ qs. Took s qs after) spell took)
     node_reads small count (node.Leaf (leaf.Many c)) ps s after room spell is took =
-        by_word word.Many (node.Leaf (leaf.Many c)) (course_piece c ∷ []) count s after room (λ mid t. rw (course_reads sizes c mid after small.courses (omega (arith, are.courses, is.0)) t) refl)
+        by_word word.Many (node.Leaf (leaf.Many c)) (course_piece c ∷ []) count s after room (λ mid t. rw (course_reads sizes c mid after small.courses (omega (arith, are.courses, is)) t) refl)
         (subst (λ qs. Took s qs after) spell took)
     node_reads small count (node.Leaf (leaf.Clique cs)) ps s after room spell is took =
         by_word word.Clique (node.Leaf (leaf.Clique cs)) (listed_pieces cs) count s after room
@@ -227,7 +208,5 @@ module _ (p : Problem) (sizes : Sizes) (are : AreSizes p sizes) where
         by_word word.Slots (node.Leaf (leaf.Slots cs)) (listed_pieces cs) count s after room
         (λ mid t. rw (list_reads sizes cs mid after small (subst (λ n. AreBelow n cs) (sym are.courses) is.0) is.1 t) refl) (subst (λ qs. Took s qs after) spell took)
     node_reads small count (node.Leaf (leaf.Cost cs)) ps s after room spell is took =
-        let all = All-from_recursion (IsClaim p sizes are version) cs
-        (parts_claims cs (recursion_from_All (IsClaimOf p) cs is.0) (recursion_from_All IsShortClaim cs is.1) (recursion_from_All (IsClaimIn version) cs is.2)) in
-        by_word word.Cost (node.Leaf (leaf.Cost cs)) (spell.0 ++ Text (codes ";") ∷ []) count s after room (λ mid t. rw (claims_read p sizes are version small cs spell.0 mid after spell.1 all t) refl)
+        by_word word.Cost (node.Leaf (leaf.Cost cs)) (spell.0 ++ Text (codes ";") ∷ []) count s after room (λ mid t. rw (claims_read p sizes are version small cs spell.0 mid after spell.1 is t) refl)
         (subst (λ qs. Took s qs after) spell.2 took)

@@ -14,9 +14,10 @@ use Rattle.tt_paths.specs.declared.path.TheConstants.{MAX_FACTS}
 use Rattle.tt_leaf_rules.specs.declared.leaf.Bound.{Bound}
 use Rattle.tt_proof_read.specs.Reads.{ReadsNodes, Reads, stream_of_bytes}
 use Rattle.tt_proof_read.specs.Sizes.{AreSizes}
-use Rattle.tt_proof_read.specs.Spelling.{fixed, version_text, bound_piece, SpellsEach, SpellsNode, IsBound, IsNode, SpellsProof}
+use Rattle.tt_proof_read.specs.Spelling.{version_text, bound_piece, SpellsEach, SpellsNode, IsBound, IsNode, SpellsProof}
 use Rattle.tt_proof_read.specs.Reading.{word_at, version_at, bound_at, header_at, no_more, end_at}
-use Rattle.tt_proof_read.specs.Trees.{Tree, preorder, on_paths}
+use Rattle.tt_proof_read.specs.Trees.{Tree, AllLeaves, preorder}
+use Rattle.tt_proof_read.specs.Words.{fixed}
 use Rattle.tt_proof_read.specs.declared.fault.Word.TheVariants as word
 use Rattle.tt_proof_read.specs.declared.format.TheConstants.{MAX_NODES}
 use Rattle.tt_proof_read.specs.declared.node.Node.{Node}
@@ -134,7 +135,7 @@ module _ (p : Problem) (sizes : Sizes) (are : AreSizes p sizes) (version : ℕ) 
 
 module _ (p : Problem) (sizes : Sizes) (are : AreSizes p sizes) where
   -- a proof that was read is spelled, where no path is too long
-  pub reads_spelled : (bytes : List ℕ) (v : ℕ) (b : Bound) (tree : Tree) → All (λ x. length x.path ≤ MAX_FACTS) (on_paths [] tree) → Reads sizes (stream_of_bytes bytes) v b tree → SpellsProof p bytes v b tree
+  pub reads_spelled : (bytes : List ℕ) (v : ℕ) (b : Bound) (tree : Tree) → AllLeaves (λ path _. length path ≤ MAX_FACTS) [] tree → Reads sizes (stream_of_bytes bytes) v b tree → SpellsProof p bytes v b tree
   reads_spelled bytes v b tree depth r =
       let s = stream_of_bytes bytes in
       let header = header_took s ((v, b), r.headed) r.header in

@@ -18,8 +18,8 @@ use Rattle.tt_paths.specs.declared.facts.Who.{Who}
 use Rattle.tt_paths.specs.declared.facts.Who.TheVariants.{Course, Curriculum}
 use Rattle.tt_leaf_rules.specs.declared.leaf.Bound.{Bound}
 use Rattle.tt_leaf_rules.specs.declared.leaf.Bound.TheVariants.{AtLeast, Nothing}
-use Rattle.tt_proof_read.specs.Words.{word_text}
-use Rattle.tt_proof_read.specs.Spelling.{fixed, given_piece, course_piece, who_piece, bound_piece, version_text, IsBound}
+use Rattle.tt_proof_read.specs.Words.{word_text, fixed}
+use Rattle.tt_proof_read.specs.Spelling.{given_piece, course_piece, who_piece, bound_piece, version_text, IsBound}
 use Rattle.tt_proof_read.specs.Reading.{token_at, word_at, numbered, below, numbered_below, index_in, index_of, new_number, course_at, curriculum_at, priced_as, price_at, who_in, who_at, given_of, given_at, version_of, version_at, bounded, bound_of, bound_at}
 use Rattle.tt_proof_read.specs.declared.fault.Word.{Word}
 use Rattle.tt_proof_read.specs.declared.fault.Word.TheVariants as word

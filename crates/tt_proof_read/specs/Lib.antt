@@ -1,6 +1,7 @@
 pub mod Answers
 pub mod Contract
 pub mod Faults
+pub mod Limits
 pub mod Listed
 pub mod Pricing
 pub mod Readers

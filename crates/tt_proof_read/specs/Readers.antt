@@ -1,7 +1,6 @@
 -- What a reader of nodes has read, and what it says.
 use Rattle.std.specs.Prelude.{◌≡◌, ℕ, ◌+◌, ◌-◌, ◌<◌, true, is_some, List, Option, Some, None, Result, Ok, Err, ⊤}
 use Rattle.tt_instance.specs.Problem.{Problem}
-use Rattle.tt_leaf_rules.specs.Ranges.{IsClaimOf}
 use Rattle.tt_leaf_rules.specs.declared.leaf.Bound.{Bound}
 use Rattle.tt_leaf_rules.specs.declared.leaf.Claim.{Claim}
 use Rattle.tt_text.specs.Feeds.{Fed, Stream, fresh}
@@ -11,7 +10,7 @@ use Rattle.tt_proof_read.specs.Answers.{AgreesWhenCutAs}
 use Rattle.tt_proof_read.specs.Faults.{is_silent}
 use Rattle.tt_proof_read.specs.Reading.{header_at, node_at}
 use Rattle.tt_proof_read.specs.Sizes.{AreSizes}
-use Rattle.tt_proof_read.specs.Spelling.{IsShortClaim, IsClaimIn, IsNode}
+use Rattle.tt_proof_read.specs.Spelling.{IsClaim, IsNode}
 use Rattle.tt_proof_read.specs.declared.claims.ClaimWord.{ClaimWord}
 use Rattle.tt_proof_read.specs.declared.claims.ClaimWord.TheVariants.{Capacity, Days, Compact, Stable, Prices, Stacked}
 use Rattle.tt_proof_read.specs.declared.fault.TextFault.{TextFault}
@@ -30,7 +29,7 @@ IsWordIn version Stacked = version ≡ 2
 
 -- a claim of this version on any problem of these sizes
 abbrev pub IsClaimAt : Sizes → ℕ → Claim → Type 0
-IsClaimAt sizes version claim = (p : Problem) → AreSizes p sizes → IsClaimOf p claim × IsShortClaim claim × IsClaimIn version claim
+IsClaimAt sizes version claim = (p : Problem) → AreSizes p sizes → IsClaim p version claim
 
 -- a node of this version on any problem of these sizes
 abbrev pub IsNodeAt : Sizes → ℕ → Node → Type 0

@@ -1,5 +1,5 @@
 -- Which proofs the bytes of a CTTP file spell.
-use Rattle.std.specs.Prelude.{◌≡◌, ℕ, ◌≤◌, ◌==◌, true, not, List, [], ◌∷◌, ◌++◌, length, map, flat_map, codes, All, if◌then◌else◌, Option, Some, None, ⊤}
+use Rattle.std.specs.Prelude.{◌≡◌, ℕ, ◌<◌, ◌≤◌, ◌==◌, true, not, List, [], ◌∷◌, ◌++◌, length, map, flat_map, codes, All, if◌then◌else◌, Option, Some, None, ⊤}
 use Rattle.tt_lists.specs.Words.{each_two}
 use Rattle.tt_text.specs.Tokens.{tokens_of}
 use Rattle.tt_text.specs.declared.feed.TheConstants.{MAX_BYTES, MAX_TOKEN_BYTES}
@@ -10,25 +10,19 @@ use Rattle.tt_paths.specs.declared.facts.Who.TheVariants.{Course, Curriculum}
 use Rattle.tt_paths.specs.declared.facts.Pattern.{Pattern}
 use Rattle.tt_paths.specs.Facts.{IsPattern}
 use Rattle.tt_paths.specs.declared.path.TheConstants.{MAX_FACTS}
-use Rattle.tt_leaf_rules.specs.Ranges.{IsLeafOf}
+use Rattle.tt_leaf_rules.specs.Ranges.{AreBelow, ArePrices}
 use Rattle.tt_leaf_rules.specs.declared.leaf.Bound.{Bound}
 use Rattle.tt_leaf_rules.specs.declared.leaf.Bound.TheVariants.{AtLeast, Nothing}
 use Rattle.tt_leaf_rules.specs.declared.leaf.Claim.{Claim}
 use Rattle.tt_leaf_rules.specs.declared.leaf.Claim.TheVariants.{Capacity, Days, Compact, Stable, Prices, Stacked}
 use Rattle.tt_leaf_rules.specs.declared.leaf.Leaf.{Leaf}
 use Rattle.tt_leaf_rules.specs.declared.leaf.Leaf.TheVariants.{Empty, Many, Clique, Slots, Cost}
-use Rattle.tt_proof_read.specs.declared.fault.Word.{Word}
-use Rattle.tt_proof_read.specs.declared.fault.Word.TheVariants as word
 use Rattle.tt_proof_read.specs.declared.format.TheConstants.{COURSE_LETTER, CURRICULUM_LETTER, DAY_LETTER, MAX_NODES, MAX_POINTS, MAX_PRICE, PERIOD_LETTER, ROOM_LETTER}
 use Rattle.tt_proof_read.specs.declared.node.Node.{Node}
 use Rattle.tt_proof_read.specs.declared.node.Node.TheVariants as node
-use Rattle.tt_proof_read.specs.Trees.{Tree, preorder, on_paths}
-use Rattle.tt_proof_read.specs.Words.{word_text}
+use Rattle.tt_proof_read.specs.Trees.{Tree, AllLeaves, preorder}
 
 -- ---- how each part is spelled
-
-abbrev pub fixed : Word → Piece
-fixed w = Text (word_text w)
 
 -- the number after its letter, or `*` where none is given
 abbrev pub given_piece : ℕ → Option ℕ → Piece
@@ -111,32 +105,33 @@ version_text v = if v == 1 then codes "1" else codes "2"
 
 -- ---- what a file may say
 
--- The courses of one `K` or `H` are distinct, and no price is above 1,000,000.
-abbrev pub IsShortClaim : Claim → Type 0
-IsShortClaim (Capacity c u) = u ≤ MAX_PRICE
-IsShortClaim (Prices courses rooms) = All (λ k. k.1 ≤ MAX_PRICE) courses × All (λ k. k.1 ≤ MAX_PRICE) rooms
-IsShortClaim _ = ⊤
+-- prices of numbers below a count, each once, and none above 1,000,000
+abbrev pub AreShortPrices : ℕ → List (ℕ × ℕ) → Type 0
+AreShortPrices count prices = ArePrices count prices × All (λ k. k.1 ≤ MAX_PRICE) prices
 
-abbrev pub IsShortLeaf : Leaf → Type 0
-IsShortLeaf (Clique cs) = each_two (λ a b. not (a == b)) cs ≡ true
-IsShortLeaf (Slots cs) = each_two (λ a b. not (a == b)) cs ≡ true
-IsShortLeaf (Cost claims) = All IsShortClaim claims
-IsShortLeaf _ = ⊤
+-- The numbers of a claim are the instance's and within the limits; Prices and Stacked are claims of version 2.
+abbrev pub IsClaim : Problem → ℕ → Claim → Type 0
+IsClaim p v (Capacity c u) = (c < length p.courses) × (u ≤ MAX_PRICE)
+IsClaim p v (Days c) = c < length p.courses
+IsClaim p v (Compact q) = q < length p.curricula
+IsClaim p v (Stable c) = c < length p.courses
+IsClaim p v (Prices courses rooms) = (v ≡ 2) × AreShortPrices (length p.courses) courses × AreShortPrices (length p.rooms) rooms
+IsClaim p v (Stacked c) = (v ≡ 2) × (c < length p.courses)
 
--- Prices and Stacked are claims of version 2.
-abbrev pub IsClaimIn : ℕ → Claim → Type 0
-IsClaimIn v (Prices courses rooms) = v ≡ 2
-IsClaimIn v (Stacked c) = v ≡ 2
-IsClaimIn v _ = ⊤
+-- courses of the instance, none of them twice
+abbrev pub AreCourses : Problem → List ℕ → Type 0
+AreCourses p cs = AreBelow (length p.courses) cs × (each_two (λ a b. not (a == b)) cs ≡ true)
 
-abbrev pub IsLeafIn : ℕ → Leaf → Type 0
-IsLeafIn v (Cost claims) = All (IsClaimIn v) claims
-IsLeafIn v _ = ⊤
+abbrev pub IsLeaf : Problem → ℕ → Leaf → Type 0
+IsLeaf p v (Empty g) = IsPattern p g
+IsLeaf p v (Many c) = c < length p.courses
+IsLeaf p v (Clique cs) = AreCourses p cs
+IsLeaf p v (Slots cs) = AreCourses p cs
+IsLeaf p v (Cost claims) = All (IsClaim p v) claims
 
--- the numbers of a node are the instance's and within the limits, and its claims are the version's
 abbrev pub IsNode : Problem → ℕ → Node → Type 0
 IsNode p v (node.Split g) = IsPattern p g
-IsNode p v (node.Leaf leaf) = IsLeafOf p leaf × IsShortLeaf leaf × IsLeafIn v leaf
+IsNode p v (node.Leaf leaf) = IsLeaf p v leaf
 
 abbrev pub IsBound : Bound → Type 0
 IsBound (AtLeast b) = b ≤ MAX_POINTS
@@ -147,7 +142,7 @@ pub record IsWithinLimits (bytes : List ℕ) (tree : Tree) : Type 0 where
   pub size : length bytes ≤ MAX_BYTES
   pub tokens : All (λ t. length t.text ≤ MAX_TOKEN_BYTES) (tokens_of bytes)
   pub nodes : length (preorder tree) ≤ MAX_NODES
-  pub depth : All (λ x. length x.path ≤ MAX_FACTS) (on_paths [] tree)
+  pub depth : AllLeaves (λ path _. length path ≤ MAX_FACTS) [] tree
 
 -- The tokens of the bytes are `CTTP`, the version, `bound`, the bound, the tree in preorder and `end`, and no more.
 pub record SpellsProof (p : Problem) (bytes : List ℕ) (v : ℕ) (b : Bound) (tree : Tree) : Type 0 where
@@ -155,6 +150,6 @@ pub record SpellsProof (p : Problem) (bytes : List ℕ) (v : ℕ) (b : Bound) (t
   pub bound : IsBound b
   pub body : List Piece
   pub nodes : SpellsEach SpellsNode (preorder tree) body
-  pub tokens : AreTokens (fixed word.Cttp ∷ Text (version_text v) ∷ fixed word.Bound ∷ bound_piece b ∷ (body ++ fixed word.End ∷ [])) (tokens_of bytes)
+  pub tokens : AreTokens (Text (codes "CTTP") ∷ Text (version_text v) ∷ Text (codes "bound") ∷ bound_piece b ∷ (body ++ Text (codes "end") ∷ [])) (tokens_of bytes)
   pub each : All (IsNode p v) (preorder tree)
   pub within : IsWithinLimits bytes tree

@@ -18,7 +18,8 @@ use Rattle.tt_proof_read.specs.declared.format.TheConstants.{COURSE_LETTER, ROOM
 use Rattle.tt_proof_read.specs.declared.node.Node.{Node}
 use Rattle.tt_proof_read.specs.declared.node.Node.TheVariants.{Split, Leaf}
 use Rattle.tt_proof_read.specs.Trees.{Tree, preorder}
-use Rattle.tt_proof_read.specs.Spelling.{fixed, Price, OfCourse, OfRoom, price_pieces, course_prices, room_prices, SpellsClaim, SpellsEach, SpellsNode, IsNode, SpellsProof}
+use Rattle.tt_proof_read.specs.Words.{fixed}
+use Rattle.tt_proof_read.specs.Spelling.{Price, OfCourse, OfRoom, price_pieces, course_prices, room_prices, SpellsClaim, SpellsEach, SpellsNode, IsNode, SpellsProof}
 use Rattle.tt_proof_text.specs.Numbers.{IsNarrowNode}
 use Rattle.tt_proof_text.specs.Written.{priced_pieces, claim_pieces, node_pieces, header_pieces, proof_lines, proof_text}
 use Rattle.tt_proof_text.specs.Within.{Writes}

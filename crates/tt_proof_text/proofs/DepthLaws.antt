@@ -1,9 +1,8 @@
 -- How deep the nodes of a tree stand, from the depths of the second children that are still to come.
-use Rattle.std.proofs.Common.{◌≡◌, ℕ, ◌+◌, ◌<◌, ◌≤◌, Bool, true, false, ◌&&◌, nat_lt, List, [], ◌∷◌, ◌++◌, length, get_or, drop, reverse, refl, sym, ap, ◌∙◌, append_assoc, arith, length-append, ◌↔◌, IsTrue, All, lit≤, ◌≢◌, Option, None, Some, IsSome, unwrap_or}
+use Rattle.std.proofs.Common.{◌≡◌, ℕ, ◌+◌, ◌<◌, ◌≤◌, Bool, true, false, ◌&&◌, nat_lt, List, [], ◌∷◌, ◌++◌, length, get_or, drop, reverse, refl, sym, ap, ◌∙◌, append_assoc, arith, length-append, ◌↔◌, IsTrue, lit≤, ◌≢◌, Option, None, Some, IsSome, unwrap_or}
 use Rattle.std.specs.Option.{option_to_list}
 use Rattle.std.proofs.lemmas.Bool.{lt-ltb, and_parts, and_from}
 use Rattle.std.proofs.lemmas.Bool.Decides.{nat_tests}
-use Rattle.std.proofs.lemmas.List.Elements.{All-nil, All-cons, All-head, All-tail, All-append}
 use Rattle.std.proofs.lemmas.List.{append-nil, at_drop_more, at_drop_all, length-reverse, reverse-append}
 use Rattle.tt_paths.specs.declared.facts.Fact.{Fact}
 use Rattle.tt_paths.specs.declared.facts.Pattern.{Pattern}
@@ -11,7 +10,8 @@ use Rattle.tt_paths.specs.declared.path.TheConstants.{MAX_FACTS}
 use Rattle.tt_leaf_rules.specs.declared.leaf.Leaf.{Leaf as Closed}
 use Rattle.tt_proof_read.specs.declared.node.Node.{Node}
 use Rattle.tt_proof_read.specs.declared.node.Node.TheVariants.{Split, Leaf}
-use Rattle.tt_proof_read.specs.Trees.{Tree, Close, Branch, OnPath, preorder, on_paths, with_fact, IsPreorder}
+use Rattle.tt_proof_read.specs.Trees.{Tree, Close, Branch, AllLeaves, preorder, with_fact, IsPreorder}
+use Rattle.tt_proof_read.proofs.Depth.{root_low}
 use Rattle.tt_proof_text.specs.Within.{IsShallow}
 
 -- the depth after a leaf
@@ -52,41 +52,28 @@ shallow-tree (Branch g first second) d ds rest =
     ap (λ (b : Bool). nat_lt d MAX_FACTS && b) (firsts ∙ seconds)
     ∙ regrouped (nat_lt d MAX_FACTS) (is_shallow_tree (d + 1) first) (is_shallow_tree (d + 1) second) (are_shallow (next_depth ds) (later_depths ds) rest)
 
-All_parts : {X : Type 0} (P : X → Type 0) (xs ys : List X) → All P (xs ++ ys) → All P xs × All P ys
-All_parts P [] ys h = (All-nil P, h)
-All_parts P (x ∷ xs) ys h =
-    let rest = All_parts P xs ys (All-tail P x (xs ++ ys) h) in
-    (All-cons P x xs (All-head P x (xs ++ ys) h) rest.0, rest.1)
-
-abbrev IsLow : OnPath → Type 0
-IsLow x = length x.path ≤ MAX_FACTS
+abbrev IsLow : List Fact → Closed → Type 0
+IsLow path leaf = length path ≤ MAX_FACTS
 
 longer : (path : List Fact) (g : Pattern) (holds : Bool) (d : ℕ) → length path ≡ d → length (with_fact path g holds) ≡ d + 1
 longer path g holds d e = length-append path _ ∙ omega arith
 
 -- the paths of a shallow tree are short
-shallow_paths : (tree : Tree) (path : List Fact) (d : ℕ) → length path ≡ d → d ≤ MAX_FACTS → is_shallow_tree d tree ≡ true → All IsLow (on_paths path tree)
-shallow_paths (Close leaf) path d e low h = All-cons IsLow _ [] (omega arith) (All-nil IsLow)
+shallow_paths : (tree : Tree) (path : List Fact) (d : ℕ) → length path ≡ d → d ≤ MAX_FACTS → is_shallow_tree d tree ≡ true → AllLeaves IsLow path tree
+shallow_paths (Close leaf) path d e low h = omega arith
 shallow_paths (Branch g first second) path d e low h =
     let here = and_parts (nat_lt d MAX_FACTS) _ h in
     let both = and_parts (is_shallow_tree (d + 1) first) (is_shallow_tree (d + 1) second) here.1 in
     let lower : d + 1 ≤ MAX_FACTS = grind (arith, nat_tests) in
-    All-cons IsLow _ _ (omega arith)
-    (All-append IsLow _ _ (shallow_paths first (with_fact path g true) (d + 1) (longer path g true d e) lower both.0) (shallow_paths second (with_fact path g false) (d + 1) (longer path g false d e) lower both.1))
-
--- a tree has a node on the path to it
-root_low : (tree : Tree) (path : List Fact) → All IsLow (on_paths path tree) → length path ≤ MAX_FACTS
-root_low (Close leaf) path h = All-head IsLow _ [] h
-root_low (Branch g first second) path h = All-head IsLow _ _ h
+    (shallow_paths first (with_fact path g true) (d + 1) (longer path g true d e) lower both.0, shallow_paths second (with_fact path g false) (d + 1) (longer path g false d e) lower both.1)
 
 -- and a tree with short paths is shallow
-paths_shallow : (tree : Tree) (path : List Fact) (d : ℕ) → length path ≡ d → All IsLow (on_paths path tree) → is_shallow_tree d tree ≡ true
+paths_shallow : (tree : Tree) (path : List Fact) (d : ℕ) → length path ≡ d → AllLeaves IsLow path tree → is_shallow_tree d tree ≡ true
 paths_shallow (Close leaf) path d e h = refl
 paths_shallow (Branch g first second) path d e h =
-    let rest = All_parts IsLow (on_paths (with_fact path g true) first) (on_paths (with_fact path g false) second) (All-tail IsLow _ _ h) in
-    let low = root_low first (with_fact path g true) rest.0 in
+    let low = root_low MAX_FACTS first (with_fact path g true) h.0 in
     and_from (nat_lt d MAX_FACTS) _ (lt-ltb d MAX_FACTS (omega (arith, low, longer path g true d e)))
-    (and_from _ _ (paths_shallow first (with_fact path g true) (d + 1) (longer path g true d e) rest.0) (paths_shallow second (with_fact path g false) (d + 1) (longer path g false d e) rest.1))
+    (and_from _ _ (paths_shallow first (with_fact path g true) (d + 1) (longer path g true d e) h.0) (paths_shallow second (with_fact path g false) (d + 1) (longer path g false d e) h.1))
 
 whole : (tree : Tree) → are_shallow 0 [] (preorder tree) ≡ is_shallow_tree 0 tree
 whole tree = ap (are_shallow 0 []) (sym (append-nil (preorder tree))) ∙ shallow-tree tree 0 [] [] ∙ and_true (is_shallow_tree 0 tree)

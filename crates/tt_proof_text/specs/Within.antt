@@ -7,8 +7,9 @@ use Rattle.tt_text.specs.declared.feed.TheConstants.{MAX_BYTES}
 use Rattle.tt_proof_read.specs.declared.format.TheConstants.{MAX_NODES}
 use Rattle.tt_proof_read.specs.declared.node.Node.{Node}
 use Rattle.tt_proof_read.specs.declared.node.Node.TheVariants as node
-use Rattle.tt_proof_read.specs.Spelling.{IsShortClaim, IsLeafIn, IsBound}
-use Rattle.tt_proof_read.specs.Trees.{Tree, preorder, IsPreorder, on_paths}
+use Rattle.tt_proof_read.specs.Limits.{IsShortClaim, IsLeafIn}
+use Rattle.tt_proof_read.specs.Spelling.{IsBound}
+use Rattle.tt_proof_read.specs.Trees.{Tree, AllLeaves, preorder, IsPreorder}
 use Rattle.tt_proof_text.specs.declared.fault.WriteFault.{WriteFault}
 use Rattle.tt_proof_text.specs.declared.fault.WriteFault.TheVariants.{NotATree, OverLimit, NotInVersion, OutOfMemory}
 use Rattle.tt_proof_text.specs.Written.{proof_text}
@@ -23,9 +24,9 @@ abbrev pub HasShortPrices : Node → Type 0
 HasShortPrices (node.Split g) = ⊤
 HasShortPrices (node.Leaf leaf) = HasShortClaims leaf
 
--- no node stands below more than 65,536 splits
+-- no leaf stands below more than 65,536 splits
 abbrev pub IsShallow : List Node → Type 0
-IsShallow nodes = (tree : Tree) → preorder tree ≡ nodes → All (λ x. length x.path ≤ MAX_FACTS) (on_paths [] tree)
+IsShallow nodes = (tree : Tree) → preorder tree ≡ nodes → AllLeaves (λ path _. length path ≤ MAX_FACTS) [] tree
 
 -- the limits of a file, its bytes aside
 pub record AreWithin (b : Bound) (nodes : List Node) : Type 0 where

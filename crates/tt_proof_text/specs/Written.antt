@@ -10,7 +10,8 @@ use Rattle.tt_proof_read.specs.declared.fault.Word.TheVariants as word
 use Rattle.tt_proof_read.specs.declared.format.TheConstants.{COURSE_LETTER, CURRICULUM_LETTER, ROOM_LETTER}
 use Rattle.tt_proof_read.specs.declared.node.Node.{Node}
 use Rattle.tt_proof_read.specs.declared.node.Node.TheVariants.{Split, Leaf}
-use Rattle.tt_proof_read.specs.Spelling.{fixed, version_text, bound_piece, course_piece, pattern_pieces, listed_pieces}
+use Rattle.tt_proof_read.specs.Words.{fixed}
+use Rattle.tt_proof_read.specs.Spelling.{version_text, bound_piece, course_piece, pattern_pieces, listed_pieces}
 
 -- numbers with prices, each after the letter of its kind
 abbrev pub priced_pieces : ℕ → ℕ × ℕ → List Piece

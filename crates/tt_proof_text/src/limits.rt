@@ -1,7 +1,8 @@
 //! The limits of a file, and the claims of a version. What is asked here takes no memory.
 
 ghost use Rattle.std.specs.Prelude.{◌↔◌, ◌≤◌, IsTrue, All};
-ghost use Rattle.tt_proof_read.specs.Spelling.{IsShortClaim, IsClaimIn, IsBound};
+ghost use Rattle.tt_proof_read.specs.Limits.{IsShortClaim, IsClaimIn};
+ghost use Rattle.tt_proof_read.specs.Spelling.{IsBound};
 ghost use Rattle.tt_proof_read.specs.Trees.{IsPreorder};
 ghost use Rattle.tt_proof_text.specs.Within.{HasShortPrices, IsNodeIn, AreWithin};
 

@@ -10,7 +10,8 @@ use Rattle.tt_lists.proofs.Twos.{each_two-push, each_two-last}
 use Rattle.tt_lists.proofs.Tested.{all_at}
 use Rattle.tt_instance.specs.Problem.{Problem}
 use Rattle.tt_instance.specs.Limits.{IsInstance}
-use Rattle.tt_leaf_rules.specs.Claims.{Target, same_target}
+use Rattle.tt_leaf_rules.specs.Claims.{Target}
+use Rattle.tt_leaf_rules.specs.Tests.{same_target}
 use Rattle.tt_leaf_rules.specs.declared.leaf.Bound.{Bound}
 use Rattle.tt_leaf_rules.specs.declared.leaf.Bound.TheVariants.{AtLeast, Nothing}
 use Rattle.tt_proof_read.specs.Trees.{Tree, preorder}

@@ -14,8 +14,9 @@ use Rattle.tt_lists.proofs.Tests.{test_turned}
 use Rattle.tt_lists.proofs.Twos.{list_all-swap}
 use Rattle.tt_instance.specs.Problem.{Problem}
 use Rattle.tt_instance.specs.Limits.{IsInstance}
-use Rattle.tt_leaf_rules.specs.Claims.{Target, same_target, targets_of, claimed}
+use Rattle.tt_leaf_rules.specs.Claims.{Target, targets_of, claimed}
 use Rattle.tt_leaf_rules.specs.Met.{place, places_of, IsPlaced}
+use Rattle.tt_leaf_rules.specs.Tests.{same_target}
 use Rattle.tt_leaf_rules.specs.declared.leaf.Bound.{Bound}
 use Rattle.tt_leaf_rules.specs.declared.leaf.Claim.{Claim}
 use Rattle.tt_leaf_rules.specs.declared.leaf.Leaf.TheVariants.{Empty, Many, Clique, Slots, Cost}
@@ -25,6 +26,7 @@ use Rattle.tt_proof_read.specs.Spelling.{IsNode}
 use Rattle.tt_proof_read.specs.Trees.{Tree, Close, Branch, preorder}
 use Rattle.tt_proof_read.specs.declared.node.Node.{Node}
 use Rattle.tt_proof_read.specs.declared.node.Node.TheVariants.{Split, Leaf}
+use Rattle.tt_proof_read.proofs.LeafParts.{claim_parts}
 use Rattle.tt_proof_check.specs.Heard.{Heard, IsHeardProof}
 use Rattle.tt_sum.specs.declared.table.Clash.{Clash}
 use Rattle.tt_sum.specs.Added.{Joins}
@@ -259,7 +261,7 @@ node_placed p is v (Leaf (Many c)) h y e = absurd cc
 node_placed p is v (Leaf (Clique cs)) h y e = absurd cc
 node_placed p is v (Leaf (Slots cs)) h y e = absurd cc
 node_placed p is v (Leaf (Cost claims)) h y e =
-    claims_placed claims y (recursion_from_All IsPlaced claims (each_placed p is.within.courses is.within.curricula claims h.0)) e
+    claims_placed claims y (recursion_from_All IsPlaced claims (each_placed p is.within.courses is.within.curricula claims (λ k c i. (claim_parts p v _ (h k c i)).0))) e
 
 -- ---- a proof that was heard
 

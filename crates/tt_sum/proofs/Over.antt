@@ -16,12 +16,14 @@ use Rattle.tt_rules.specs.Score.{IsFeasible, cost}
 use Rattle.tt_paths.specs.Facts.{matches, Holds, Fits}
 use Rattle.tt_paths.specs.declared.facts.Fact.{Fact}
 use Rattle.tt_leaf_rules.specs.Bounds.{Respects}
-use Rattle.tt_leaf_rules.specs.Claims.{Target, part, same_target, targets_of, value_of, claimed}
+use Rattle.tt_leaf_rules.specs.Claims.{Target, part, targets_of, value_of, claimed}
 use Rattle.tt_leaf_rules.specs.Leaves.{IsRight}
+use Rattle.tt_leaf_rules.specs.Tests.{same_target}
 use Rattle.tt_leaf_rules.specs.declared.leaf.Bound.{Bound}
 use Rattle.tt_leaf_rules.specs.declared.leaf.Bound.TheVariants.{AtLeast, Nothing}
 use Rattle.tt_leaf_rules.specs.declared.leaf.Leaf.{Leaf}
 use Rattle.tt_leaf_rules.specs.declared.leaf.Leaf.TheVariants.{Empty, Many, Clique, Slots, Cost}
+use Rattle.tt_leaf_rules.proofs.Rightness.{targets_once}
 use Rattle.tt_leaf_rules.proofs.Soundness.{leaf_sound}
 use Rattle.tt_leaf_rules.proofs.Totals.{same_target-true, same_target-itself, each_claim_sound, parts_of_cost, target_there}
 use Rattle.tt_proof_read.specs.Trees.{Tree, Close, Branch, with_fact}
@@ -46,9 +48,10 @@ module _ (p : Problem) (t : List Cell) (ok : IsFeasible p t) where
     leaf_by path fits Nothing (Cost claims) in_test e = absurd e
     leaf_by path fits (AtLeast b) (Cost claims) in_test e =
         let k = e.2 in
-        let values = sum_by-le (value_of p path) (λ c. sum_by (part p t) (targets_of c)) claims (each_claim_sound p t ok path fits claims e.0 e.1) in
+        let once = targets_once claims e.0 in
+        let values = sum_by-le (value_of p path) (λ c. sum_by (part p t) (targets_of c)) claims (each_claim_sound p t ok path fits claims once e.1) in
         let joined = sum_by-of_flat_map (part p t) targets_of claims in
-        omega (arith, values, joined, most (claimed claims) e.0 in_test)
+        omega (arith, values, joined, most (claimed claims) once in_test)
 
     pub tree_by : (b : Bound) (path : List Fact) (tree : Tree) → list_all test (claimed_by tree) ≡ true → Derives p b path tree → Fits p t path → Respects b n
     tree_by b path (Close leaf) in_test d fits = leaf_by path fits b leaf in_test d

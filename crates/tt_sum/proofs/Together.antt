@@ -15,7 +15,8 @@ use Rattle.tt_rules.specs.Score.{IsFeasible, cost}
 use Rattle.tt_paths.specs.Facts.{Holds, Fits}
 use Rattle.tt_paths.specs.declared.facts.Fact.{Fact}
 use Rattle.tt_leaf_rules.specs.Bounds.{Respects}
-use Rattle.tt_leaf_rules.specs.Claims.{Target, part, same_target}
+use Rattle.tt_leaf_rules.specs.Claims.{Target, part}
+use Rattle.tt_leaf_rules.specs.Tests.{same_target}
 use Rattle.tt_leaf_rules.specs.declared.leaf.Bound.{Bound}
 use Rattle.tt_leaf_rules.specs.declared.leaf.Bound.TheVariants.{AtLeast, Nothing}
 use Rattle.tt_leaf_rules.proofs.Totals.{same_target-true, same_target-itself, target_there}

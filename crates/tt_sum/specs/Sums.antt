@@ -9,7 +9,8 @@ use Rattle.tt_rules.specs.Score.{IsFeasible, cost}
 use Rattle.tt_paths.specs.Facts.{Fits}
 use Rattle.tt_paths.specs.declared.facts.Fact.{Fact}
 use Rattle.tt_leaf_rules.specs.Bounds.{Respects}
-use Rattle.tt_leaf_rules.specs.Claims.{Target, RoomCapacity, WorkingDays, Compactness, Stability, part, same_target, claimed}
+use Rattle.tt_leaf_rules.specs.Claims.{Target, RoomCapacity, WorkingDays, Compactness, Stability, part, claimed}
+use Rattle.tt_leaf_rules.specs.Tests.{same_target}
 use Rattle.tt_leaf_rules.specs.declared.leaf.Bound.{Bound}
 use Rattle.tt_leaf_rules.specs.declared.leaf.Bound.TheVariants.{AtLeast, Nothing}
 use Rattle.tt_leaf_rules.specs.declared.leaf.Leaf.{Leaf}

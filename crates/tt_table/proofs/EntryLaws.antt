@@ -14,7 +14,7 @@ use Rattle.tt_text.proofs.Fields.{ReadsOn, takes_piece, has_piece, number_spelle
 use Rattle.tt_instance.specs.Problem.{Problem}
 use Rattle.tt_instance.specs.Cells.{InRange}
 use Rattle.tt_instance.specs.Courses.{no_course, no_room, course_ids, room_ids}
-use Rattle.tt_instance.specs.Limits.{IsNextCourse, IsNextRoom, IsWithinLimits}
+use Rattle.tt_instance.specs.Limits.{IsWithinLimits}
 use Rattle.tt_instance.specs.declared.cell.Cell.{Cell}
 use Rattle.tt_instance.proofs.FreshLaws.{found_is, index_is}
 use Rattle.tt_table.specs.declared.fault.SolutionFault.{SolutionFault}
@@ -97,9 +97,9 @@ entry_reads end p e (first ∷ more) qs rest limits inside h =
     let day = index_reads end p.days room.token.1 e.day (Number e.period ∷ qs) rest inside.day room.left in
     let period = index_reads end p.periods day.mid e.period qs rest inside.period day.left in
     let course_is : index_of_name (course_ids p) first.text ≡ Some e.course =
-    ap (index_of_name (course_ids p)) h.0 ∙ index_is (λ c. c.id) no_course p.courses IsNextCourse (λ before c k. k.fresh) limits.each_course e.course inside.course in
+    ap (index_of_name (course_ids p)) h.0 ∙ index_is (λ c. c.id) no_course p.courses limits.course_names e.course inside.course in
     let room_is : index_of_name (room_ids p) room.token.0.text ≡ Some e.room =
-    ap (index_of_name (room_ids p)) room.piece ∙ index_is (λ r. r.id) no_room p.rooms IsNextRoom (λ before r k. k.fresh) limits.each_room e.room inside.room in
+    ap (index_of_name (room_ids p)) room.piece ∙ index_is (λ r. r.id) no_room p.rooms limits.room_names e.room inside.room in
     record { first = first; more = more; split = refl; mid = period.mid; is = rw (course_is, room.is, room_is, day.is, period.is) refl; left = period.left }
 
 -- ---- all entries

@@ -11,13 +11,15 @@ use Rattle.tt_leaf_rules.specs.declared.leaf.Leaf.{Leaf}
 use Rattle.tt_leaf_rules.specs.declared.leaf.Leaf.TheVariants.{Empty, Many, Clique, Slots, Cost}
 use Rattle.tt_proof_read.specs.Reading.{header_at}
 use Rattle.tt_proof_read.specs.Reads.{ReadsNodes, Reads}
-use Rattle.tt_proof_read.specs.Spelling.{IsNode, IsLeafIn, IsClaimIn, SpellsProof}
+use Rattle.tt_proof_read.specs.Limits.{IsLeafIn, IsClaimIn}
+use Rattle.tt_proof_read.specs.Spelling.{IsNode, SpellsProof}
 use Rattle.tt_proof_read.specs.Trees.{Tree, preorder, on_paths}
 use Rattle.tt_proof_read.specs.declared.fault.TextFault.{TextFault}
 use Rattle.tt_proof_read.specs.declared.fault.TextFault.TheVariants as text
 use Rattle.tt_proof_read.specs.declared.node.Node.{Node}
 use Rattle.tt_proof_read.specs.declared.node.Node.TheVariants as node
 use Rattle.tt_proof_read.specs.declared.sizes.Sizes.{Sizes}
+use Rattle.tt_proof_read.proofs.LeafParts.{leaf_parts, leaf_whole}
 use Rattle.tt_proof_read.proofs.ProofLaws.{reads_spelled, spelled_reads}
 use Rattle.tt_proof_read.proofs.Small.{are_small}
 use Rattle.tt_proof_check.specs.Derives.{Proves}
@@ -63,7 +65,7 @@ node_in_two (node.Leaf leaf) = leaf_in_two leaf
 
 node_of_two : (p : Problem) (v : ℕ) (n : Node) → IsNode p v n → IsNode p 2 n
 node_of_two p v (node.Split g) h = h
-node_of_two p v (node.Leaf leaf) h = (h.0, h.1, leaf_in_two leaf)
+node_of_two p v (node.Leaf leaf) h = let parts = leaf_parts p v leaf h in leaf_whole p 2 leaf parts.0 parts.1 (leaf_in_two leaf)
 
 -- ---- one text has one tree
 

@@ -1,8 +1,8 @@
 use Rattle.std.proofs.Common.{◌<◌, ◌∷◌, []}
 use Rattle.std.proofs.lemmas.List.Elements.{All-rest}
-use Rattle.tt_leaf_rules.specs.Leaves.{are_distinct}
 use Rattle.tt_leaf_rules.proofs.Meeting.{new_at_first, met_goes_on}
 use Rattle.tt_leaf_rules.proofs.groups.each_is_new.Goals as goal
+use Rattle.tt_leaf_rules.specs.Tests.{are_distinct}
 
 pub loop-first-init : goal.loop-first-init
 loop-first-init c = record { same = new_at_first c.none-met.result c.args.courses.now c.none-met.ensures; below = c.requires }

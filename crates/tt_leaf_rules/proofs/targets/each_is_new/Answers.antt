@@ -1,8 +1,8 @@
 use Rattle.std.proofs.Common.{All, subst, ap}
 use Rattle.std.specs.Prelude.{flat_map}
 use Rattle.std.proofs.lemmas.List.Elements.{All-head, All-rest}
-use Rattle.tt_leaf_rules.specs.Leaves.{claims_once}
 use Rattle.tt_leaf_rules.specs.Met.{places_of, IsPlaced}
+use Rattle.tt_leaf_rules.specs.Tests.{claims_once}
 use Rattle.tt_leaf_rules.proofs.Meeting.{claims_at_first, met_goes_on}
 use Rattle.tt_leaf_rules.proofs.targets.each_is_new.Goals as goal
 

@@ -1,7 +1,7 @@
 use Rattle.std.proofs.Common.{◌≡◌, length}
 use Rattle.std.specs.Prelude.{All}
-use Rattle.tt_leaf_rules.specs.Leaves.{claims_once}
 use Rattle.tt_leaf_rules.specs.Nested.{IsOnce}
+use Rattle.tt_leaf_rules.specs.Tests.{claims_once}
 use Rattle.tt_leaf_rules.proofs.targets.each_two_apart.Given as goal
 
 abbrev pub invariant-loop-first : goal.invariant-loop-first

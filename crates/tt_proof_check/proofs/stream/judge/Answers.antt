@@ -1,6 +1,7 @@
-use Rattle.std.proofs.Common.{◌≡◌, ◌+◌, sym, ap, ◌∙◌, arith, refl, true, Err, is_some}
+use Rattle.std.proofs.Common.{◌≡◌, ◌+◌, sym, ap, subst, ◌∙◌, arith, refl, true, Err, is_some}
 use Rattle.tt_text.specs.Feeds.{stream_at}
 use Rattle.tt_text.specs.CutShort.{cut_at}
+use Rattle.tt_instance.specs.Problem.{Problem}
 use Rattle.tt_proof_read.specs.Faults.{read_failed, is_failed_read}
 use Rattle.tt_proof_read.specs.Readers.{Reader}
 use Rattle.tt_proof_check.specs.declared.fault.CheckFault.TheVariants.{Text}
@@ -8,6 +9,8 @@ use Rattle.tt_proof_check.specs.declared.walk.Stop.TheVariants.{Rule, TooDeep}
 use Rattle.tt_proof_check.specs.Faults.{OutOfMemoryIsNoTextFault}
 use Rattle.tt_proof_check.specs.Heard.{Heard, Unheard}
 use Rattle.tt_proof_check.specs.Judged.{TellsNodes}
+use Rattle.tt_proof_check.specs.Nodes.{IsNodeOf}
+use Rattle.tt_proof_check.proofs.Nodes.{node_numbers}
 use Rattle.tt_proof_check.proofs.Streaming.{sofar_start, sofar_next, sofar_wrong, sofar_deep, sofar_end, sofar_unread, sofar_breaks, sofar_deep_breaks, heard_push}
 use Rattle.tt_proof_check.proofs.TextFaults.{memory_text, err_gives, err_read}
 use Rattle.tt_proof_check.proofs.Walking.{steps_as, stops_as}
@@ -29,6 +32,14 @@ loop-node-init g c =
       known = λ k. k;
       unfailed = refl;
     }
+
+pub take-requires : goal.take-requires
+take-requires g c = λ κs.
+    let e = rw c.in-Some.is at c.in_ok-node.ensures in
+    let inv = c.loop-node.invariant in
+    let p = g.P.Path.problem c.args.path.now in
+    let n = c.in-Some.node in
+    ((refl, tt), (subst (λ (q : Problem). IsNodeOf q n) (sym inv.problem) (node_numbers p c.loop-node.reader.version n (e.node p inv.sofar.sizes)), inv.sofar.walked.within))
 
 pub loop-node-preserved : goal.loop-node-preserved
 loop-node-preserved g c =

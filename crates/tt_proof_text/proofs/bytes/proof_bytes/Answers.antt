@@ -1,5 +1,5 @@
 use Rattle.std.proofs.Common.{map, [], ◌∷◌}
-use Rattle.tt_proof_read.specs.Spelling.{fixed}
+use Rattle.tt_proof_read.specs.Words.{fixed}
 use Rattle.tt_proof_read.specs.declared.fault.Word.TheVariants as word
 use Rattle.tt_proof_text.specs.Written.{header_pieces, node_pieces}
 use Rattle.tt_proof_text.proofs.ByteLaws.{all_counted}

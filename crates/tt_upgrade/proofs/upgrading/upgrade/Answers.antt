@@ -3,13 +3,21 @@ use Rattle.std.proofs.lemmas.Result.{err_from_is_err_and}
 use Rattle.std.specs.Prelude.{All}
 use Rattle.tt_proof_read.specs.Spelling.{IsNode}
 use Rattle.tt_proof_check.specs.Derives.{Proves}
+use Rattle.tt_proof_check.specs.Nodes.{IsNodeOf}
 use Rattle.tt_proof_check.specs.Streams.{stream_of}
+use Rattle.tt_proof_check.proofs.Nodes.{node_numbers}
 use Rattle.tt_proof_check.proofs.Soundness.{proof_sound}
 use Rattle.tt_proof_check.proofs.TextFaults.{err_same}
 use Rattle.tt_upgrade.specs.Faults.{read_failed}
 use Rattle.tt_upgrade.proofs.Faults.{read_told, memory_text, memory_nodes, memory_write}
 use Rattle.tt_upgrade.proofs.Written.{nodes_tell, write_tells, upgraded, text_tells, bound_read, silent}
 use Rattle.tt_upgrade.proofs.upgrading.upgrade.Goals as goal
+
+pub judge-requires-clause-nodes : goal.judge-requires-clause-nodes
+judge-requires-clause-nodes g c =
+    let p = c.args.instance.now in
+    let read = c.in_ok-read.read in
+    subst (All (IsNodeOf p)) (sym c.deref.ensures.value) (λ k n e. node_numbers p read.version _ (c.in_ok-read.ensures.nodes.each k n e))
 
 pub returns-in_err-read-clause-only : goal.returns-in_err-read-clause-only
 returns-in_err-read-clause-only g c =
