@@ -120,7 +120,9 @@ fn settle_at(
     ensures same { live.new.earlier ≡ live.old.earlier }
 {
     if courses.len() == 1 && courses[0] < instance.courses() {
-        settle_one(instance, links, free, live, pattern, day, period, courses[0])?;
+        settle_one(
+            instance, links, free, live, pattern, day, period, courses[0],
+        )?;
         return Ok(());
     }
     if !is_left(instance, free, pattern, day, period, courses) {
