@@ -43,7 +43,7 @@ def blocks_of(text):
     for block in re.split(r"\n\s*\n", text):
         head = re.search(r"^(?:abbrev |unfoldable )?pub (?:abbrev |unfoldable )?(?:record |data )?(\S+)", block, re.M)
         if head and not re.match(r"pub mod|use ", block):
-            found[head[1]] = block
+            found[head[1]] = block.strip("\n")
     return found
 
 

@@ -53,7 +53,7 @@ module _ (p : Problem) (ok : IsInstance p) where
   many_slots = omega (arith, length-all_slots p, ok.within.slots)
 
   few_days : (c : ℕ) → c < length p.courses → min_days p c ≤ 512
-  few_days c h = (ok.within.each_course c no_course h).min_days
+  few_days c h = (ok.within.each_course c no_course h).0
 
   -- ---- a feasible timetable
 

@@ -10,9 +10,10 @@ use Rattle.tt_text.proofs.Steps.{done, ok_is, bind_ok, bind_is, Takes, takes_the
 use Rattle.tt_text.proofs.Fields.{ReadsOn}
 use Rattle.tt_instance.specs.declared.fault.InstanceFault.{InstanceFault}
 use Rattle.tt_instance.specs.Problem.{Course, Bar}
-use Rattle.tt_instance.specs.Limits.{same_bar, IsBar}
+use Rattle.tt_instance.specs.Limits.{same_bar}
 use Rattle.tt_instance.specs.Reading.{ids_of, named_at, below_at, bar_at, bars_at}
 use Rattle.tt_instance.specs.Spelling.{bar_pieces}
+use Rattle.tt_instance.proofs.Each.{IsBar}
 use Rattle.tt_instance.proofs.AfterLaws.{EachAfter-from_all}
 use Rattle.tt_instance.proofs.FieldLaws.{below_takes, below_reads}
 use Rattle.tt_instance.proofs.NameLaws.{AreNamed, named_takes, named_reads}
@@ -50,7 +51,7 @@ module _ (cs : List Course) (days periods : ℕ) where
         let b : Bar = record { course = course.0.0; day = day.0.0; period = period.0.0 } in
         let pieces : Takes ts (bar_pieces cs b) period.0.1 = takes_then _ _ _ _ _ c.0 (takes_then _ _ _ _ _ d.0 p.0) in
         subst (OneTaken bars_once (bar_pieces cs) IsNextBar before ts) (ok_is (with_new same_bar (bars_once before) b, period.0.1) x period.2)
-        (record { item = b; list = sym (distinct_push same_bar before b); next = record { course = c.1; day = d.1; period = p.1 }; takes = pieces })
+        (record { item = b; list = sym (distinct_push same_bar before b); next = (c.1, d.1, p.1); takes = pieces })
 
     -- this many unavailabilities that were read are spelled
     pub bars_take : 0 < days → 0 < periods → (n : ℕ) (ts : List Placed) (x : List Bar × List Placed) → bars_at end (ids_of cs) days periods n [] ts ≡ Ok x → BarsTaken n ts x
@@ -64,9 +65,9 @@ module _ (cs : List Course) (days periods : ℕ) where
     bar_reads apart before ts b qs rest ok h =
         let q2 : List Piece = Number b.period ∷ qs in
         let q1 : List Piece = Number b.day ∷ q2 in
-        let course = named_reads end cs ts b.course q1 rest apart ok.course h in
-        let day = below_reads end days course.mid b.day q2 rest ok.day course.left in
-        let period = below_reads end periods day.mid b.period qs rest ok.period day.left in
+        let course = named_reads end cs ts b.course q1 rest apart ok.0 h in
+        let day = below_reads end days course.mid b.day q2 rest ok.1 course.left in
+        let period = below_reads end periods day.mid b.period qs rest ok.2 day.left in
         let made = ap (λ l. done {A = List Bar × List Placed} (l, period.mid)) (sym (distinct_push same_bar before b)) in
         record { mid = period.mid; is = bind_is _ (b.course, course.mid) _ _ course.is (bind_is _ (b.day, day.mid) _ _ day.is (bind_is _ (b.period, period.mid) _ _ period.is made)); left = period.left }
 

@@ -39,7 +39,7 @@ course_takes end before ts x fits e =
     takes_then _ _ _ _ _ (text_takes end ts id.0 id.1)
     (takes_then _ _ _ _ _ (text_takes end id.0.1 teacher.0 teacher.1) (takes_then _ _ _ _ _ l.0 (takes_then _ _ _ _ _ m.0 s.0))) in
     subst (OneTaken (λ cs. cs) course_pieces IsNextCourse before ts) (ok_is (before ++ c ∷ [], students.0.1) x students.2)
-    (record { item = c; list = refl; next = record { fresh = g.0; lectures = omega (arith, l.1, fits); is = record { min_days = m.1; students = s.1 } }; takes = pieces })
+    (record { item = c; list = refl; next = record { fresh = g.0; lectures = omega (arith, l.1, fits); is = (m.1, s.1) }; takes = pieces })
 
 -- one course that is spelled is read
 course_reads : (end : ℕ) (before : List Course) (ts : List Placed) (c : Course) (qs : List Piece) (rest : List Placed) → IsNextCourse before c → Begins (course_pieces c ++ qs) ts rest
@@ -53,8 +53,8 @@ course_reads end before ts c qs rest next h =
     let id = has_piece (fault.Ended end) ts (Text c.id) (Text c.teacher ∷ q1) rest h in
     let teacher = has_piece (fault.Ended end) id.token.1 (Text c.teacher) q1 rest id.left in
     let lectures = limited_reads end (4096 - lectures_of before) teacher.token.1 c.lectures q2 rest room teacher.left in
-    let min_days = limited_reads end 512 lectures.mid c.min_days q3 rest next.is.min_days lectures.left in
-    let students = limited_reads end 1000000 min_days.mid c.students qs rest next.is.students min_days.left in
+    let min_days = limited_reads end 512 lectures.mid c.min_days q3 rest next.is.0 lectures.left in
+    let students = limited_reads end 1000000 min_days.mid c.students qs rest next.is.1 min_days.left in
     let fresh : has_name (ids_of before) id.token.0.text ≡ false = ap (has_name (ids_of before)) id.piece ∙ next.fresh in
     let made : done {A = List Course × List Placed} (before ++ record { id = id.token.0.text; teacher = teacher.token.0.text; lectures = c.lectures; min_days = c.min_days; students = c.students } ∷ [], students.mid) ≡ Ok (before ++ c ∷ [], students.mid) = rw (id.piece, teacher.piece) refl in
     record { mid = students.mid; is = rw (id.is, fresh, teacher.is, lectures.is, min_days.is, students.is) made; left = students.left }

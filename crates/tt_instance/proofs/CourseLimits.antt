@@ -18,11 +18,11 @@ IsFewCourse c = (c.lectures ≤ 4096) × (c.min_days ≤ 512) × (c.students ≤
 pub each_few : (p : Problem) → IsWithinLimits p → All IsFewCourse p.courses
 each_few p within = λ c d h.
     let is = within.each_course c d h in
-    (omega (arith, get_or-le-sum_by (λ (k : Course). k.lectures) p.courses c d h, within.lectures), is.min_days, is.students)
+    (omega (arith, get_or-le-sum_by (λ (k : Course). k.lectures) p.courses c d h, within.lectures), is.0, is.1)
 
 -- a course has few students
 pub few_students : (p : Problem) → IsInstance p → (c : ℕ) → c < length p.courses → students p c ≤ 1000000
-few_students p ok c h = (ok.within.each_course c no_course h).students
+few_students p ok c h = (ok.within.each_course c no_course h).1
 
 up_to : (f : Course → ℕ) (xs : List Course) (d : Course) (i : ℕ) → i ≤ length xs → sum_by (λ k. f (get_or xs k d)) (range_below i) ≡ sum_by f (take i xs)
 up_to f xs d zero h = refl

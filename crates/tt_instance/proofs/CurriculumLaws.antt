@@ -51,7 +51,7 @@ module _ (end : ℕ) (cs : List Course) where
       let list : all_kept before ++ record { id = q.id; members = members.0.0 } ∷ [] ≡ all_kept (before ++ q ∷ []) =
       ap (λ ms. all_kept before ++ record { id = q.id; members = ms } ∷ []) m.list ∙ sym (map_push members_kept before q) in
       subst (OneTaken all_kept (curriculum_pieces cs) (IsNextCurriculum (length cs)) before ts) (ok_is (all_kept before ++ record { id = q.id; members = members.0.0 } ∷ [], members.0.1) x members.2)
-      (record { item = q; list = list; next = record { fresh = fresh; is = record { few = omega (arith, m.len, n.1); members = m.each } }; takes = pieces })
+      (record { item = q; list = list; next = record { fresh = fresh; is = (omega (arith, m.len, n.1), m.each) }; takes = pieces })
 
   -- this many curricula that were read are spelled
   pub curricula_take : (n : ℕ) (ts : List Placed) (x : List Curriculum × List Placed) → curricula_at end (ids_of cs) n [] ts ≡ Ok x → CurriculaTaken n ts x
@@ -67,8 +67,8 @@ module _ (end : ℕ) (cs : List Course) where
     curriculum_reads before ts q qs rest next h =
         let after_count : List Piece = map (named cs) q.members ++ qs in
         let id = has_piece (fault.Ended end) ts (Text q.id) (Number (length q.members) ∷ after_count) rest h in
-        let count = limited_reads end 4096 id.token.1 (length q.members) after_count rest next.is.few id.left in
-        let members = members_read end cs apart count.mid q.members qs rest next.is.members count.left in
+        let count = limited_reads end 4096 id.token.1 (length q.members) after_count rest next.is.0 id.left in
+        let members = members_read end cs apart count.mid q.members qs rest next.is.1 count.left in
         let fresh : has_name (curriculum_ids_of (all_kept before)) id.token.0.text ≡ false = ap (has_name (curriculum_ids_of (all_kept before))) id.piece ∙ ap (λ names. has_name names q.id) (ids_kept before) ∙ next.fresh in
         let made : done {A = List Curriculum × List Placed} (all_kept before ++ record { id = id.token.0.text; members = once q.members } ∷ [], members.mid) ≡ Ok (all_kept (before ++ q ∷ []), members.mid) =
         ap (λ name. done {A = List Curriculum × List Placed} (all_kept before ++ record { id = name; members = once q.members } ∷ [], members.mid)) id.piece

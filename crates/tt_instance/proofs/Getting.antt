@@ -13,9 +13,10 @@ use Rattle.tt_instance.specs.declared.rows.CurriculumRow.{CurriculumRow}
 use Rattle.tt_instance.specs.declared.parts.Parts.{Parts}
 use Rattle.tt_instance.specs.Problem.{Course, Problem}
 use Rattle.tt_instance.specs.Courses.{no_course, teachers}
-use Rattle.tt_instance.specs.Limits.{IsCurriculum, IsInstance}
+use Rattle.tt_instance.specs.Limits.{IsInstance}
 use Rattle.tt_instance.specs.Seen.{course_seen, courses_seen, room_seen, curriculum_seen, problem_seen}
 use Rattle.tt_instance.specs.Indexed.{IsIndexed, IsTeacher, teachers_of}
+use Rattle.tt_instance.proofs.Each.{IsCurriculum}
 use Rattle.tt_instance.proofs.CourseLimits.{IsFewCourse, each_few}
 
 module _ {X Y : Type 0} (f : X → Y) (xs : List X) (i : ℕ) (x : X) where
@@ -59,7 +60,7 @@ module _ (a : Parts) (p : Problem) (is_seen : problem_seen a ≡ p) (instance : 
   curriculum_within i x lt is =
       let are : map curriculum_seen a.curricula.rows.items ≡ p.curricula = ap (λ (q : Problem). q.curricula) is_seen in
       let kept = holds_at curriculum_seen a.curricula.rows.items i x (IsCurriculum (length (courses_seen a.courses.rows.items))) instance.within.each_curriculum (within_rows curriculum_seen a.curricula.rows.items i x p.curricula are lt) is in
-      kept.few
+      kept.0
 
 -- the number that a row has for its teacher
 pub teacher_seen : (l : CourseList) (p : Problem) (i : ℕ) (x : CourseRow) → IsIndexed l → courses_seen l.rows.items ≡ p.courses → i < length p.courses → x ≡ get_or l.rows.items i x

@@ -7,16 +7,14 @@ use Rattle.std.proofs.lemmas.List.Folds.{map_fixed}
 use Rattle.tt_lists.specs.Words.{each_two, distinct}
 use Rattle.tt_lists.proofs.Distinct.{All-distinct, length-distinct, each_two-distinct, distinct_stays}
 use Rattle.tt_instance.specs.Problem.{Curriculum, Bar, Problem}
-use Rattle.tt_instance.specs.Limits.{same_bar, IsCurriculum, IsBar, IsWithinLimits}
+use Rattle.tt_instance.specs.Limits.{same_bar, IsWithinLimits}
 use Rattle.tt_instance.specs.Spelling.{members_kept, without_repeats}
+use Rattle.tt_instance.proofs.Each.{IsCurriculum, IsBar}
 use Rattle.tt_instance.proofs.CurriculumLaws.{all_kept}
 
 -- what is kept of a curriculum is within the limits, too
 curriculum_within : (courses : ℕ) (q : Curriculum) → IsCurriculum courses q → IsCurriculum courses (members_kept q)
-curriculum_within courses q is = record {
-  few = omega (arith, length-distinct (λ a b. a == b) q.members, is.few);
-  members = All-distinct (λ a b. a == b) (λ c. c < courses) q.members is.members;
-}
+curriculum_within courses q is = (omega (arith, length-distinct (λ a b. a == b) q.members, is.0), All-distinct (λ a b. a == b) (λ c. c < courses) q.members is.1)
 
 -- what is kept of curricula has their names
 names_apart : (qs : List Curriculum) → AllPairs (λ q r. q.id ≢ r.id) qs → AllPairs (λ q r. q.id ≢ r.id) (all_kept qs)

@@ -6,6 +6,7 @@ pub mod Cells
 pub mod CourseLaws
 pub mod CourseLimits
 pub mod CurriculumLaws
+pub mod Each
 pub mod Examples
 pub mod Excluding
 pub mod Exclusion

@@ -7,4 +7,4 @@ use Rattle.tt_instance.specs.Limits.{IsInstance}
 
 -- the members of a curriculum are courses
 pub members_below : (p : Problem) (q : ℕ) → IsInstance p → q < length p.curricula → All (λ c. c < length p.courses) (members p q)
-members_below p q ok h = (ok.within.each_curriculum q no_curriculum h).members
+members_below p q ok h = (ok.within.each_curriculum q no_curriculum h).1

@@ -5,8 +5,8 @@ use Rattle.std.proofs.lemmas.List.Sums.{sum_by-append, sum_by-cons, sum_by_more_
 use Rattle.tt_text.specs.Texts.{has_name}
 use Rattle.tt_instance.specs.declared.limit.TheConstants.{MAX_LECTURES, MAX_SEATS}
 use Rattle.tt_instance.specs.Problem.{Course, Room, Curriculum}
-use Rattle.tt_instance.specs.Limits.{IsCourse, IsCurriculum}
 use Rattle.tt_instance.specs.Reading.{ids_of, room_ids_of, curriculum_ids_of, lectures_of}
+use Rattle.tt_instance.proofs.Each.{IsCourse, IsCurriculum}
 use Rattle.tt_instance.proofs.AfterLaws.{EachAfter, EachAfter-from_at, All-from_each_after}
 use Rattle.tt_instance.proofs.FreshLaws.{is_new, apart_from_new}
 

@@ -9,9 +9,9 @@ use Rattle.tt_text.proofs.Fields.{ReadsOn}
 use Rattle.tt_instance.specs.declared.fault.Word.TheVariants as word
 use Rattle.tt_instance.specs.Words.{fixed}
 use Rattle.tt_instance.specs.Problem.{Course, Room, Curriculum, Bar}
-use Rattle.tt_instance.specs.Limits.{IsBar}
 use Rattle.tt_instance.specs.Reading.{Counts, Sections, ids_of, word_at, courses_at, rooms_at, curricula_at, bars_at, places_at, groups_at, sections_at}
 use Rattle.tt_instance.specs.Spelling.{course_pieces, room_pieces, curriculum_pieces, bar_pieces}
+use Rattle.tt_instance.proofs.Each.{IsBar}
 use Rattle.tt_instance.proofs.AfterLaws.{All-from_each_after}
 use Rattle.tt_instance.proofs.FieldLaws.{word_takes, has_word}
 use Rattle.tt_instance.proofs.NextLaws.{AreCourses, AreRooms, AreCurricula, courses_next, courses_are, rooms_next, rooms_are, curricula_next, curricula_are}

@@ -17,10 +17,11 @@ use Rattle.tt_instance.specs.declared.parts.Parts.{Parts}
 use Rattle.tt_instance.specs.Words.{fixed}
 use Rattle.tt_instance.specs.Problem.{Course, Room, Curriculum, Bar, Problem}
 use Rattle.tt_instance.specs.Courses.{no_course}
-use Rattle.tt_instance.specs.Limits.{IsCurriculum, IsBar, IsInstance}
+use Rattle.tt_instance.specs.Limits.{IsInstance}
 use Rattle.tt_instance.specs.Spelling.{named, course_pieces, room_pieces, curriculum_pieces, bar_pieces}
 use Rattle.tt_instance.specs.Writing.{counted_line, section, header_lines, instance_text}
 use Rattle.tt_instance.specs.Seen.{course_seen, courses_seen, curriculum_seen, curricula_seen, bar_seen, bars_seen, problem_seen}
+use Rattle.tt_instance.proofs.Each.{IsCurriculum, IsBar}
 
 module _ {X Y : Type 0} (v : X → Y) where
   -- a line for each row
@@ -119,7 +120,7 @@ module _ (p : Parts) (courses : List CourseRow) (courses_are : courses ≡ p.cou
       let count : ℕ = length (courses_seen p.courses.rows.items) in
       let Is : Curriculum → Type 0 = IsCurriculum count in
       let all : All Q (curricula_seen p.curricula.rows.items) = All-weaker Is Q
-      (λ q is. All-weaker (λ (c : ℕ). c < count) (λ (c : ℕ). c < length courses) (λ c lt. omega (arith, lt, count_is)) q.members is.members) (curricula_seen p.curricula.rows.items) instance.within.each_curriculum in
+      (λ q is. All-weaker (λ (c : ℕ). c < count) (λ (c : ℕ). c < length courses) (λ c lt. omega (arith, lt, count_is)) q.members is.1) (curricula_seen p.curricula.rows.items) instance.within.each_curriculum in
       subst (λ (qs : List CurriculumRow). All (λ q. All (λ c. c < length courses) q.members.courses.items) qs) (sym rows_are) (all_seen curriculum_seen Q p.curricula.rows.items all)
 
   -- the course of each unavailability has a row
@@ -127,5 +128,5 @@ module _ (p : Parts) (courses : List CourseRow) (courses_are : courses ≡ p.cou
   bars_within rows rows_are =
       let Q : Bar → Type 0 = λ b. b.course < length courses in
       let Is : Bar → Type 0 = IsBar (length (courses_seen p.courses.rows.items)) p.days p.periods in
-      let all : All Q (bars_seen p.bars.rows.items) = All-weaker Is Q (λ b is. omega (arith, is.course, count_is)) (bars_seen p.bars.rows.items) instance.within.each_bar in
+      let all : All Q (bars_seen p.bars.rows.items) = All-weaker Is Q (λ b is. omega (arith, is.0, count_is)) (bars_seen p.bars.rows.items) instance.within.each_bar in
       subst (λ (bs : List BarRow). All (λ b. b.course < length courses) bs) (sym rows_are) (all_seen bar_seen Q p.bars.rows.items all)

@@ -12,9 +12,10 @@ use Rattle.tt_instance.specs.declared.fault.Word.TheVariants as word
 use Rattle.tt_instance.specs.Words.{word_text, fixed}
 use Rattle.tt_instance.specs.Problem.{Course, Bar, Problem}
 use Rattle.tt_instance.specs.Courses.{no_course}
-use Rattle.tt_instance.specs.Limits.{IsCurriculum, IsBar, IsInstance}
+use Rattle.tt_instance.specs.Limits.{IsInstance}
 use Rattle.tt_instance.specs.Spelling.{course_pieces, room_pieces, curriculum_pieces, bar_pieces, pieces, named, Spells}
 use Rattle.tt_instance.specs.Writing.{section, header_lines, instance_lines, instance_text}
+use Rattle.tt_instance.proofs.Each.{IsCurriculum, IsBar}
 use Rattle.tt_instance.proofs.CourseLimits.{each_few}
 use Rattle.tt_instance.proofs.KeptLaws.{kept_stays}
 
@@ -112,8 +113,8 @@ module _ (p : Problem) (ok : IsInstance p) where
       LinesWritable-map (curriculum_pieces p.courses) p.curricula (λ k d h.
       let is : IsCurriculum (length p.courses) (get_or p.curricula k d) = ok.within.each_curriculum k d h in
       let ms : List ℕ = (get_or p.curricula k d).members in
-      let names = AreWritable-map (named p.courses) ms (All-weaker (λ c. c < length p.courses) (λ c. IsWritable (named p.courses c)) named_writable ms is.members) in
-      (ok.curriculum_tokens k d h, (small (length ms) (omega (arith, is.few)), names)))
+      let names = AreWritable-map (named p.courses) ms (All-weaker (λ c. c < length p.courses) (λ c. IsWritable (named p.courses c)) named_writable ms is.1) in
+      (ok.curriculum_tokens k d h, (small (length ms) (omega (arith, is.0)), names)))
 
   -- the unavailabilities can be written
   bars_writable : LinesWritable (map (bar_pieces p.courses) p.bars)
@@ -121,7 +122,7 @@ module _ (p : Problem) (ok : IsInstance p) where
       LinesWritable-map (bar_pieces p.courses) p.bars (λ k d h.
       let b : Bar = get_or p.bars k d in
       let is : IsBar (length p.courses) p.days p.periods b = ok.within.each_bar k d h in
-      (named_writable b.course is.course, (small b.day (omega (arith, is.day, ok.within.days)), (small b.period (omega (arith, is.period, ok.within.periods)), tt))))
+      (named_writable b.course is.0, (small b.day (omega (arith, is.1, ok.within.days)), (small b.period (omega (arith, is.2, ok.within.periods)), tt))))
 
   -- an instance can be written
   writable : LinesWritable (instance_lines p)

@@ -3,23 +3,9 @@ use Rattle.std.specs.Prelude.{◌≡◌, ◌≢◌, ℕ, ◌*◌, ◌≤◌, ◌
 use Rattle.tt_lists.specs.Words.{each_two}
 use Rattle.tt_text.specs.Tokens.{IsToken}
 use Rattle.tt_instance.specs.declared.limit.TheConstants.{MAX_COURSES, MAX_ROOMS, MAX_DAYS, MAX_PERIODS, MAX_SLOTS, MAX_CELLS, MAX_CURRICULA, MAX_MEMBERS, MAX_BARS, MAX_LECTURES, MAX_MIN_DAYS, MAX_SEATS}
-use Rattle.tt_instance.specs.Problem.{Course, Curriculum, Bar, Problem}
+use Rattle.tt_instance.specs.Problem.{Bar, Problem}
 
-pub record IsCourse (c : Course) : Type 0 where
-  pub min_days : c.min_days ≤ MAX_MIN_DAYS
-  pub students : c.students ≤ MAX_SEATS
-
--- the members of a curriculum are courses, of which there are this many
-pub record IsCurriculum (courses : ℕ) (q : Curriculum) : Type 0 where
-  pub few : length q.members ≤ MAX_MEMBERS
-  pub members : All (λ c. c < courses) q.members
-
-pub record IsBar (courses days periods : ℕ) (b : Bar) : Type 0 where
-  pub course : b.course < courses
-  pub day : b.day < days
-  pub period : b.period < periods
-
--- the limits of the format; no two courses, rooms or curricula have one name
+-- the limits of the format; no two courses, rooms or curricula have one name; members and unavailabilities speak of what is there
 pub record IsWithinLimits (p : Problem) : Type 0 where
   pub name : All (λ text. text ≢ codes "Courses:") p.name
   pub courses : length p.courses ≤ MAX_COURSES
@@ -36,10 +22,10 @@ pub record IsWithinLimits (p : Problem) : Type 0 where
   pub room_names : AllPairs (λ r s. r.id ≢ s.id) p.rooms
   pub curriculum_names : AllPairs (λ q r. q.id ≢ r.id) p.curricula
   pub lectures : sum_by (λ c. c.lectures) p.courses ≤ MAX_LECTURES
-  pub each_course : All IsCourse p.courses
+  pub each_course : All (λ c. (c.min_days ≤ MAX_MIN_DAYS) × (c.students ≤ MAX_SEATS)) p.courses
   pub each_room : All (λ r. r.capacity ≤ MAX_SEATS) p.rooms
-  pub each_curriculum : All (IsCurriculum (length p.courses)) p.curricula
-  pub each_bar : All (IsBar (length p.courses) p.days p.periods) p.bars
+  pub each_curriculum : All (λ q. (length q.members ≤ MAX_MEMBERS) × All (λ c. c < length p.courses) q.members) p.curricula
+  pub each_bar : All (λ b. (b.course < length p.courses) × (b.day < p.days) × (b.period < p.periods)) p.bars
 
 abbrev pub same_bar : Bar → Bar → Bool
 same_bar a b = (a.course == b.course) && (a.day == b.day) && (a.period == b.period)

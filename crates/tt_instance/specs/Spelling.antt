@@ -42,19 +42,11 @@ pieces p =
     ++ (Text (codes "END.") ∷ [])
 
 abbrev pub members_kept : Curriculum → Curriculum
-members_kept q = record { id = q.id; members = distinct (λ a b. a == b) q.members }
+members_kept q = record q { members = distinct (λ a b. a == b) q.members }
 
 -- the instance that is kept of a file's lines: each member of a curriculum and each unavailability once, in the order of first mention
 abbrev pub without_repeats : Problem → Problem
-without_repeats w = record {
-  name = w.name;
-  days = w.days;
-  periods = w.periods;
-  courses = w.courses;
-  rooms = w.rooms;
-  curricula = map members_kept w.curricula;
-  bars = distinct same_bar w.bars;
-}
+without_repeats w = record w { curricula = map members_kept w.curricula; bars = distinct same_bar w.bars }
 
 -- The bytes spell the instance: they begin with the pieces of lines of which it is kept. What stands after `END.` is not read.
 pub record Spells (bytes : List ℕ) (p : Problem) : Type 0 where

@@ -18,11 +18,11 @@ use Rattle.tt_instance.specs.Problem.{Problem}
 use Rattle.tt_instance.specs.Cells.{all_courses, all_curricula}
 use Rattle.tt_paths.specs.declared.facts.Fact.{Fact}
 use Rattle.tt_leaf_rules.specs.Claims.{Target, RoomCapacity, WorkingDays, Compactness, Stability, targets_of, claimed, is_fair, value_of, total_of}
-use Rattle.tt_leaf_rules.specs.Different.{AreDifferent}
 use Rattle.tt_leaf_rules.specs.Tests.{claims_once, same_target}
 use Rattle.tt_leaf_rules.specs.declared.leaf.Claim.{Claim}
 use Rattle.tt_leaf_rules.specs.declared.leaf.Claim.TheVariants.{Capacity, Compact, Stable}
 use Rattle.tt_leaf_rules.proofs.Rightness.{targets_different}
+use Rattle.tt_leaf_rules.proofs.Different.{AreDifferent}
 use Rattle.tt_leaf.specs.Best.{price_of, at_price, capacity_claims, worth, claims_with}
 
 -- ---- targets of four kinds

@@ -1,12 +1,15 @@
 -- Elements that differ by a test, where it finds out whether two are the same.
 use Rattle.std.proofs.Common.{◌≡◌, Bool, true, not, List, [], ◌∷◌, zero, suc, refl, subst, arith}
-use Rattle.std.specs.Prelude.{All}
+use Rattle.std.specs.Prelude.{All, AllPairs}
 use Rattle.std.specs.List.{list_all}
 use Rattle.std.proofs.lemmas.Bool.{and_parts, and_from, not-true, both_ways, not_from_false, false_from_ne_true}
 use Rattle.std.proofs.lemmas.List.Kept.{AllPairs-cons}
 use Rattle.std.proofs.lemmas.List.Sums.{AllPass-from_list_all, list_all-from_AllPass}
 use Rattle.tt_lists.specs.Words.{each_two}
-use Rattle.tt_leaf_rules.specs.Different.{AreDifferent}
+
+-- each two are different
+abbrev pub AreDifferent : {X : Type 0} → List X → Type 0
+AreDifferent xs = AllPairs (λ a b. ¬ (a ≡ b)) xs
 
 module _ {X : Type 0} (same : X → X → Bool) (is : (x y : X) → same x y ≡ true → x ≡ y) (itself : (x : X) → same x x ≡ true) where
   differ : (x y : X) → not (same x y) ≡ true → ¬ (x ≡ y)

@@ -13,7 +13,6 @@ use Rattle.tt_paths.specs.declared.facts.Pattern.{Pattern}
 use Rattle.tt_paths.specs.declared.facts.Fact.{Fact}
 use Rattle.tt_paths.proofs.Same.{fact_there, yes_on_path}
 use Rattle.tt_leaf_rules.specs.Claims.{claimed, is_fair, total_of}
-use Rattle.tt_leaf_rules.specs.Different.{AreDifferent}
 use Rattle.tt_leaf_rules.specs.Faults.{demand, fault_of}
 use Rattle.tt_leaf_rules.specs.Leaves.{all_dead, open_periods, all_lectures, open_rooms, IsRight}
 use Rattle.tt_leaf_rules.specs.Outcomes.{outcome}
@@ -25,7 +24,7 @@ use Rattle.tt_leaf_rules.specs.declared.leaf.Leaf.{Leaf}
 use Rattle.tt_leaf_rules.specs.declared.leaf.Leaf.TheVariants.{Empty, Many, Clique, Slots, Cost}
 use Rattle.tt_leaf_rules.specs.declared.leaf.RuleFault.{RuleFault}
 use Rattle.tt_leaf_rules.specs.declared.leaf.RuleFault.TheVariants.{NotOnPath, StillAlive, NotTooMany, NotAClique, EnoughRoom, ClaimedTwice, TooCheap, BadPrice}
-use Rattle.tt_leaf_rules.proofs.Different.{different, each_two_differ}
+use Rattle.tt_leaf_rules.proofs.Different.{AreDifferent, different, each_two_differ}
 use Rattle.tt_leaf_rules.proofs.Totals.{same_target-true, same_target-itself}
 
 -- ---- what the tests find

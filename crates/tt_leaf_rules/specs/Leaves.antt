@@ -1,5 +1,5 @@
 -- When a leaf closes a node.
-use Rattle.std.specs.Prelude.{◌≡◌, ℕ, ◌<◌, ◌≤◌, Bool, true, not, ◌||◌, List, length, Contains, sum_by, count_by}
+use Rattle.std.specs.Prelude.{◌≡◌, ◌≢◌, ℕ, ◌<◌, ◌≤◌, Bool, true, not, ◌||◌, List, length, AllPairs, Contains, sum_by, count_by}
 use Rattle.std.specs.List.{list_any, list_all}
 use Rattle.tt_lists.specs.Words.{each_two}
 use Rattle.tt_instance.specs.Problem.{Problem}
@@ -11,7 +11,6 @@ use Rattle.tt_paths.specs.declared.facts.Who.TheVariants.{Course}
 use Rattle.tt_paths.specs.declared.facts.Pattern.{Pattern}
 use Rattle.tt_paths.specs.declared.facts.Fact.{Fact}
 use Rattle.tt_leaf_rules.specs.Claims.{claimed, is_fair, total_of}
-use Rattle.tt_leaf_rules.specs.Different.{AreDifferent}
 use Rattle.tt_leaf_rules.specs.declared.leaf.Bound.{Bound}
 use Rattle.tt_leaf_rules.specs.declared.leaf.Bound.TheVariants.{AtLeast, Nothing}
 use Rattle.tt_leaf_rules.specs.declared.leaf.Claim.{Claim}
@@ -36,18 +35,15 @@ open_rooms p path cs =
 
 -- ---- when a leaf is right
 
--- no target is claimed twice, the prices cover what they stand for, and what is claimed reaches the bound; that there is no timetable can't be claimed
-abbrev pub IsRightCost : Problem → List Fact → Bound → List Claim → Type 0
-IsRightCost p path Nothing claims = ⊥
-IsRightCost p path (AtLeast b) claims =
-    AreDifferent (claimed claims) × (list_all (is_fair p path) claims ≡ true) × (b ≤ total_of p path claims)
-
 -- Empty: the pattern stands on the path as yes, and each cell that it matches is dead. Many: the course has more pinned periods than lectures. Clique: there
--- are courses, which exclude each other and have more lectures than open periods. Slots: the courses differ, and have more lectures than rooms in open periods.
+-- are courses, which exclude each other and have more lectures than open periods. Slots: the courses differ, and have more lectures than rooms in open periods. Cost: no
+-- target is claimed twice, the prices cover what they stand for, and what is claimed reaches the bound; that there is no timetable can't be claimed.
 abbrev pub IsRight : Problem → List Fact → Bound → Leaf → Type 0
 IsRight p path b (Empty g) = Contains path (record { pattern = g; holds = true }) × (all_dead p path g ≡ true)
 IsRight p path b (Many c) = lectures p c < pinned_periods p path (Course c)
 IsRight p path b (Clique cs) =
     (0 < length cs) × (each_two (conflict p) cs ≡ true) × (open_periods p path cs < all_lectures p cs)
-IsRight p path b (Slots cs) = AreDifferent cs × (open_rooms p path cs < all_lectures p cs)
-IsRight p path b (Cost claims) = IsRightCost p path b claims
+IsRight p path b (Slots cs) = AllPairs (λ a b. a ≢ b) cs × (open_rooms p path cs < all_lectures p cs)
+IsRight p path (AtLeast b) (Cost claims) =
+    AllPairs (λ a b. a ≢ b) (claimed claims) × (list_all (is_fair p path) claims ≡ true) × (b ≤ total_of p path claims)
+IsRight p path Nothing (Cost claims) = ⊥

@@ -1,6 +1,5 @@
 pub mod Bounds
 pub mod Claims
-pub mod Different
 pub mod Faults
 pub mod Leaves
 pub mod Met

@@ -1,5 +1,5 @@
 -- Patterns, facts, and which timetables fit a path of facts.
-use Rattle.std.specs.Prelude.{◌≡◌, ℕ, ◌==◌, ◌<◌, Bool, true, false, ◌&&◌, List, length, Option, Some, None, All, ⊤}
+use Rattle.std.specs.Prelude.{◌≡◌, ℕ, ◌==◌, ◌<◌, Bool, true, false, ◌&&◌, List, length, Option, Some, None, IfSome, All}
 use Rattle.std.specs.List.{list_any}
 use Rattle.tt_instance.specs.Problem.{Problem}
 use Rattle.tt_instance.specs.Courses.{in_curriculum}
@@ -32,10 +32,6 @@ Fits p t path = All (Holds p t) path
 
 -- ---- the numbers of a pattern
 
-abbrev pub IsGiven : ℕ → Option ℕ → Type 0
-IsGiven count None = ⊤
-IsGiven count (Some n) = n < count
-
 abbrev pub IsWho : Problem → Who → Type 0
 IsWho p (Course c) = c < length p.courses
 IsWho p (Curriculum q) = q < length p.curricula
@@ -43,9 +39,9 @@ IsWho p (Curriculum q) = q < length p.curricula
 -- the numbers of a pattern are the instance's
 pub record IsPattern (p : Problem) (g : Pattern) : Type 0 where
   pub who : IsWho p g.who
-  pub room : IsGiven (length p.rooms) g.room
-  pub day : IsGiven p.days g.day
-  pub period : IsGiven p.periods g.period
+  pub room : IfSome g.room (λ n. n < length p.rooms)
+  pub day : IfSome g.day (λ n. n < p.days)
+  pub period : IfSome g.period (λ n. n < p.periods)
 
 -- ---- patterns as values
 

@@ -29,8 +29,7 @@ pub record BreaksARule (instance solution : List ℕ) : Type 0 where
   pub both : SpellsBoth instance solution problem table
   pub some : 0 < hard problem table
 
--- The solution breaks no hard rule of the instance and costs c by the competition's definition, and the proof derives the bound b by
--- the written rules.
+-- the solution breaks no hard rule and costs c by the competition's definition, and the proof derives the bound b by the written rules
 pub record Certifies (instance solution proof : List ℕ) (c b : ℕ) : Type 0 where
   pub solves : Solves instance solution c
   pub proved : IsProved solves.problem proof (AtLeast b)

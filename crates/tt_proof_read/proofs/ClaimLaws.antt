@@ -18,7 +18,7 @@ use Rattle.tt_leaf_rules.specs.declared.leaf.Claim.TheVariants as claim
 use Rattle.tt_proof_read.specs.Pricing.{AreKept}
 use Rattle.tt_proof_read.specs.Readers.{IsWordIn}
 use Rattle.tt_proof_read.specs.Sizes.{AreSizes}
-use Rattle.tt_proof_read.specs.Spelling.{course_piece, price_pieces, course_prices, room_prices, SpellsClaim, SpellsEach, IsClaim}
+use Rattle.tt_proof_read.specs.Spelling.{course_piece, price_pieces, by_kind, SpellsClaim, SpellsEach, IsClaim}
 use Rattle.tt_proof_read.specs.Reading.{token_at, course_at, curriculum_at, price_at, prices_at, claim_word_of, claim_after_word, claim_then, claim_at, claims_at}
 use Rattle.tt_proof_read.specs.declared.claims.ClaimWord.{ClaimWord}
 use Rattle.tt_proof_read.specs.declared.claims.ClaimWord.TheVariants as word
@@ -117,7 +117,7 @@ module _ (p : Problem) (sizes : Sizes) (are : AreSizes p sizes) (version : ℕ) 
       let a = prices_took sizes s k.0 k.1 in
       subst (Behind word.Prices s) (ok_is (claim.Prices k.0.0.0 k.0.0.1, k.0.1) x k.2) (record {
         rest = flat_map price_pieces a.prices ++ Text (codes "/") ∷ [];
-        spells = (a.prices, a.courses, a.rooms, refl);
+        spells = (a.prices, a.kinds, refl);
         took = a.took;
         is = (
           fits,
@@ -182,10 +182,9 @@ module _ (p : Problem) (sizes : Sizes) (are : AreSizes p sizes) (version : ℕ) 
           course_prices = next.1.1;
           room_prices = next.2.1;
         } in
-        let shown : (course_prices spell.0, room_prices spell.0) ≡ (courses, rooms) = let a = spell.1 in let b = spell.2 in cc in
+        let shown : by_kind spell.0 ≡ (courses, rooms) = spell.1 in
         let read = prices_read sizes spell.0 mid after small (subst (AreKept sizes) (sym shown) kept) t in
-        let one = spell.1 in let two = spell.2 in
-        rw (read, one, two) refl) (subst (λ qs. Took s qs after) spell.3 took)
+        rw (read, shown) refl) (subst (λ qs. Took s qs after) spell.2 took)
     claim_reads before (claim.Stacked c) ps s after spell next took =
         by_claim word.Stacked (claim.Stacked c) (course_piece c ∷ []) s after next.0 (λ mid t. rw (course_in c mid after next.1 t) refl) (subst (λ qs. Took s qs after) spell took)
 

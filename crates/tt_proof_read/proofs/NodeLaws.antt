@@ -1,6 +1,6 @@
 -- Nodes: what is read is spelled, and what is spelled is read.
 use Rattle.std.proofs.Common.{◌≡◌, ℕ, ◌<◌, true, List, [], ◌∷◌, ◌++◌, Ok, refl, sym, subst, arith, codes}
-use Rattle.std.specs.Prelude.{nat_lt}
+use Rattle.std.specs.Prelude.{nat_lt, IfSome}
 use Rattle.std.proofs.lemmas.Bool.{leb-true, le-leb}
 use Rattle.tt_text.specs.Tokens.{Placed}
 use Rattle.tt_text.specs.Texts.{is_text}
@@ -10,7 +10,7 @@ use Rattle.tt_text.specs.Reading.{◌>>=◌}
 use Rattle.tt_text.proofs.Steps.{ok_is, bind_ok, test_ok}
 use Rattle.tt_text.proofs.Fields.{text_is}
 use Rattle.tt_instance.specs.Problem.{Problem}
-use Rattle.tt_paths.specs.Facts.{IsWho, IsGiven, IsPattern}
+use Rattle.tt_paths.specs.Facts.{IsWho, IsPattern}
 use Rattle.tt_paths.specs.declared.facts.Who.{Who}
 use Rattle.tt_paths.specs.declared.facts.Who.TheVariants.{Course, Curriculum}
 use Rattle.tt_paths.specs.declared.facts.Pattern.{Pattern}
@@ -98,9 +98,9 @@ module _ (p : Problem) (sizes : Sizes) (are : AreSizes p sizes) where
         took = took_then s w.0.1 t.0.1 (who_piece w.0.0 ∷ []) _ who.0 (took_then w.0.1 r.0.1 t.0.1 (given_piece ROOM_LETTER r.0.0 ∷ []) _ room.0 (took_then r.0.1 d.0.1 t.0.1 (given_piece DAY_LETTER d.0.0 ∷ []) (given_piece PERIOD_LETTER t.0.0 ∷ []) day.0 period.0));
         is = record {
           who = who_is w.0.0 who.1;
-          room = subst (λ n. IsGiven n r.0.0) are.rooms room.1;
-          day = subst (λ n. IsGiven n d.0.0) are.days day.1;
-          period = subst (λ n. IsGiven n t.0.0) are.periods period.1;
+          room = subst (λ n. IfSome r.0.0 (λ k. k < n)) are.rooms room.1;
+          day = subst (λ n. IfSome d.0.0 (λ k. k < n)) are.days day.1;
+          period = subst (λ n. IfSome t.0.0 (λ k. k < n)) are.periods period.1;
         };
       })
 
@@ -112,9 +112,9 @@ module _ (p : Problem) (sizes : Sizes) (are : AreSizes p sizes) where
       let b = took_split (given_piece ROOM_LETTER g.room ∷ []) (given_piece DAY_LETTER g.day ∷ given_piece PERIOD_LETTER g.period ∷ []) a.0 after a.2 in
       let c = took_split (given_piece DAY_LETTER g.day ∷ []) (given_piece PERIOD_LETTER g.period ∷ []) b.0 after b.2 in
       let who = who_reads sizes g.who s a.0 small (is_who g.who is.who) a.1 in
-      let room = given_reads ROOM_LETTER sizes.rooms g.room a.0 b.0 small.rooms (subst (λ n. IsGiven n g.room) (sym are.rooms) is.room) b.1 in
-      let day = given_reads DAY_LETTER sizes.days g.day b.0 c.0 small.days (subst (λ n. IsGiven n g.day) (sym are.days) is.day) c.1 in
-      let period = given_reads PERIOD_LETTER sizes.periods g.period c.0 after small.periods (subst (λ n. IsGiven n g.period) (sym are.periods) is.period) c.2 in
+      let room = given_reads ROOM_LETTER sizes.rooms g.room a.0 b.0 small.rooms (subst (λ n. IfSome g.room (λ k. k < n)) (sym are.rooms) is.room) b.1 in
+      let day = given_reads DAY_LETTER sizes.days g.day b.0 c.0 small.days (subst (λ n. IfSome g.day (λ k. k < n)) (sym are.days) is.day) c.1 in
+      let period = given_reads PERIOD_LETTER sizes.periods g.period c.0 after small.periods (subst (λ n. IfSome g.period (λ k. k < n)) (sym are.periods) is.period) c.2 in
       rw (who, room, day, period) refl
 
   -- ---- nodes

@@ -4,13 +4,13 @@ use Rattle.std.specs.Prelude.{map, flat_map, fold}
 use Rattle.std.proofs.lemmas.List.{append-nil}
 use Rattle.tt_text.specs.Tokens.{Placed}
 use Rattle.tt_text.specs.Texts.{is_text}
-use Rattle.tt_text.specs.Pieces.{Piece, Text, Number, IsPiece}
+use Rattle.tt_text.specs.Pieces.{Piece, Text, Number, Index, IsPiece}
 use Rattle.tt_text.specs.Feeds.{Stream}
 use Rattle.tt_text.specs.Reading.{◌>>=◌}
 use Rattle.tt_text.proofs.Steps.{ok_is, bind_ok}
 use Rattle.tt_text.proofs.Fields.{text_is, is_text_of}
 use Rattle.tt_proof_read.specs.Pricing.{IsUnseen, AreKept}
-use Rattle.tt_proof_read.specs.Spelling.{Price, OfCourse, OfRoom, price_pieces, course_prices, room_prices, course_piece, room_piece, SpellsEach}
+use Rattle.tt_proof_read.specs.Spelling.{Price, OfCourse, OfRoom, price_pieces, by_kind, course_piece, SpellsEach}
 use Rattle.tt_proof_read.specs.Reading.{token_at, numbered_below, new_number, Kept, Seen, seen_in, priced_in, priced_of, with_price, price_at, pair_at, next_pair_at, with_priced, with_pair, prices_at}
 use Rattle.tt_proof_read.specs.declared.fault.TextFault.{TextFault}
 use Rattle.tt_proof_read.specs.declared.fault.TextFault.TheVariants as fault
@@ -25,6 +25,14 @@ use Rattle.tt_proof_read.proofs.Small.{AreSmall}
 use Rattle.tt_proof_read.proofs.Taking.{Took, first_of_pieces, took_piece, took_then, took_same}
 use Rattle.tt_proof_read.proofs.TokenLaws.{choice, new_number_ok, number_took, number_reads, not_single, price_took, price_reads}
 
+-- the prices of courses
+abbrev pub course_prices : List Price → List (ℕ × ℕ)
+course_prices prices = (by_kind prices).0
+
+-- the prices of rooms
+abbrev pub room_prices : List Price → List (ℕ × ℕ)
+room_prices prices = (by_kind prices).1
+
 -- the end of prices
 abbrev last : Piece
 last = Text (codes "/")
@@ -32,7 +40,7 @@ last = Text (codes "/")
 -- a course or a room is one piece
 abbrev priced_piece : Priced → Piece
 priced_piece (Course c) = course_piece c
-priced_piece (Room r) = room_piece r
+priced_piece (Room r) = Index ROOM_LETTER r
 
 -- a course or a room, or the end
 abbrev first_piece : Option Priced → Piece
@@ -222,8 +230,7 @@ prices_pairs (x ∷ xs) = ap (λ y. y ∷ map price_is (map pair_of xs)) (price_
 
 pub record PricesTook (sizes : Sizes) (s : Stream) (x : Kept × Stream) : Type 0 where
   pub prices : List Price
-  pub courses : course_prices prices ≡ x.0.0
-  pub rooms : room_prices prices ≡ x.0.1
+  pub kinds : by_kind prices ≡ x.0
   pub took : Took s (flat_map price_pieces prices ++ Text (codes "/") ∷ []) x.1
   pub kept : AreKept sizes x.0
 
@@ -235,8 +242,7 @@ prices_took sizes s x e =
     let shown = h.list ∙ fold_pairs ([], []) h.items in
     record {
       prices = map price_is h.items;
-      courses = sym (ap (λ (k : Kept). k.0) shown);
-      rooms = sym (ap (λ (k : Kept). k.1) shown);
+      kinds = sym shown;
       took = subst (λ ps. Took s (ps ++ last ∷ []) x.1) (body_is h.items h.body h.spells) h.took;
       kept = subst (AreKept sizes) (sym h.list) (each_kept sizes ([], []) h.items (kept_nothing sizes ([], []) refl) h.each);
     }

@@ -1,6 +1,6 @@
 -- Single tokens of a proof: what is read is spelled, and what is spelled is read.
 use Rattle.std.proofs.Common.{◌≡◌, ℕ, ◌≤◌, ◌<◌, Bool, true, false, cond, List, [], ◌∷◌, Option, Some, None, Result, Ok, Err, refl, sym, ap, subst, ◌∙◌, arith, inl, inr, eqb-true, lit≤, codes}
-use Rattle.std.specs.Prelude.{◌==◌, nat_lt}
+use Rattle.std.specs.Prelude.{◌==◌, nat_lt, IfSome}
 use Rattle.std.proofs.lemmas.Bool.{leb-true, le-leb, cases_eq, false_from_ne_true}
 use Rattle.tt_lists.specs.Words.{has_number}
 use Rattle.tt_text.specs.Tokens.{Placed}
@@ -13,7 +13,6 @@ use Rattle.tt_text.specs.declared.numbers.NumberFault.{NumberFault}
 use Rattle.tt_text.specs.declared.numbers.NumberFault.TheVariants as number
 use Rattle.tt_text.proofs.Steps.{ok_is, bind_ok, test_ok, refusal_ok}
 use Rattle.tt_text.proofs.Fields.{text_is, is_text_of, number_spelled, number_read}
-use Rattle.tt_paths.specs.Facts.{IsGiven}
 use Rattle.tt_paths.specs.declared.facts.Who.{Who}
 use Rattle.tt_paths.specs.declared.facts.Who.TheVariants.{Course, Curriculum}
 use Rattle.tt_leaf_rules.specs.declared.leaf.Bound.{Bound}
@@ -180,12 +179,12 @@ unfolding who_at
 who_reads sizes w s after small less took = one_reads (λ t. who_in t.at sizes t.text) (who_piece w) w s after (λ t piece. who_reads_in t.at sizes w t.text small less piece) took
 
 -- a token that was read as a given number or `*` is its piece
-given_took_of : (letter count : ℕ) (t : Placed) (o : Option ℕ) → given_of letter count t ≡ Ok o → IsPiece (given_piece letter o) t.text × IsGiven count o
+given_took_of : (letter count : ℕ) (t : Placed) (o : Option ℕ) → given_of letter count t ≡ Ok o → IsPiece (given_piece letter o) t.text × IfSome o (λ n. n < count)
 unfolding given_of
 given_took_of letter count t o e =
-    choice (λ v. IsPiece (given_piece letter v) t.text × IsGiven count v) (is_text (codes "*") t.text) None o (index_of letter count t >>= λ n. Ok (Some n)) (λ star. (text_is t.text (codes "*") star, tt)) (λ other h.
+    choice (λ v. IsPiece (given_piece letter v) t.text × IfSome v (λ k. k < count)) (is_text (codes "*") t.text) None o (index_of letter count t >>= λ n. Ok (Some n)) (λ star. (text_is t.text (codes "*") star, tt)) (λ other h.
     let n = bind_ok (index_of letter count t) (λ n. Ok (Some n)) o h in
-    subst (λ v. IsPiece (given_piece letter v) t.text × IsGiven count v) (ok_is (Some n.0) o n.2) (index_took letter count t n.0 n.1)) e
+    subst (λ v. IsPiece (given_piece letter v) t.text × IfSome v (λ k. k < count)) (ok_is (Some n.0) o n.2) (index_took letter count t n.0 n.1)) e
 
 -- a letter with a number after it is not a single byte
 pub not_single : (byte letter n : ℕ) (text : List ℕ) → IsPiece (Index letter n) text → is_text (byte ∷ []) text ≡ false
@@ -196,18 +195,18 @@ not_single byte letter n text piece = false_from_ne_true (is_text (byte ∷ []) 
     cc)
 
 -- the piece of a given number or `*` is read as it
-given_reads_of : (letter count : ℕ) (o : Option ℕ) (t : Placed) → count ≤ 4294967295 → IsGiven count o → IsPiece (given_piece letter o) t.text → given_of letter count t ≡ Ok o
+given_reads_of : (letter count : ℕ) (o : Option ℕ) (t : Placed) → count ≤ 4294967295 → IfSome o (λ n. n < count) → IsPiece (given_piece letter o) t.text → given_of letter count t ≡ Ok o
 unfolding given_of
 given_reads_of letter count None t few less piece = rw (is_text_of t.text (codes "*") piece) refl
 given_reads_of letter count (Some n) t few less piece = rw (not_single 42 letter n t.text piece, index_reads letter count n t few less piece) refl
 
 -- a given number or `*` that was read is spelled
-pub given_took : (letter count : ℕ) (s : Stream) (x : Option ℕ × Stream) → given_at letter count s ≡ Ok x → Took s (given_piece letter x.0 ∷ []) x.1 × IsGiven count x.0
+pub given_took : (letter count : ℕ) (s : Stream) (x : Option ℕ × Stream) → given_at letter count s ≡ Ok x → Took s (given_piece letter x.0 ∷ []) x.1 × IfSome x.0 (λ n. n < count)
 unfolding given_at
-given_took letter count s x e = one_took (given_of letter count) (given_piece letter) (IsGiven count) s x (given_took_of letter count) e
+given_took letter count s x e = one_took (given_of letter count) (given_piece letter) (λ o. IfSome o (λ n. n < count)) s x (given_took_of letter count) e
 
 -- a given number or `*` that is spelled is read
-pub given_reads : (letter count : ℕ) (o : Option ℕ) (s after : Stream) → count ≤ 4294967295 → IsGiven count o → Took s (given_piece letter o ∷ []) after → given_at letter count s ≡ Ok (o, after)
+pub given_reads : (letter count : ℕ) (o : Option ℕ) (s after : Stream) → count ≤ 4294967295 → IfSome o (λ n. n < count) → Took s (given_piece letter o ∷ []) after → given_at letter count s ≡ Ok (o, after)
 unfolding given_at
 given_reads letter count o s after few less took = one_reads (given_of letter count) (given_piece letter o) o s after (λ t piece. given_reads_of letter count o t few less piece) took
 

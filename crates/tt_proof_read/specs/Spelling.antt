@@ -3,7 +3,7 @@ use Rattle.std.specs.Prelude.{◌≡◌, ℕ, ◌<◌, ◌≤◌, ◌==◌, true
 use Rattle.tt_lists.specs.Words.{each_two}
 use Rattle.tt_text.specs.Tokens.{tokens_of}
 use Rattle.tt_text.specs.declared.feed.TheConstants.{MAX_BYTES, MAX_TOKEN_BYTES}
-use Rattle.tt_text.specs.Pieces.{Piece, Text, Number, Index, AreTokens}
+use Rattle.tt_text.specs.Pieces.{Piece, Text, Number, Index, Begins}
 use Rattle.tt_instance.specs.Problem.{Problem}
 use Rattle.tt_paths.specs.declared.facts.Who.{Who}
 use Rattle.tt_paths.specs.declared.facts.Who.TheVariants.{Course, Curriculum}
@@ -33,10 +33,6 @@ given_piece letter (Some n) = Index letter n
 abbrev pub course_piece : ℕ → Piece
 course_piece c = Index COURSE_LETTER c
 
--- `r` and a number
-abbrev pub room_piece : ℕ → Piece
-room_piece r = Index ROOM_LETTER r
-
 abbrev pub who_piece : Who → Piece
 who_piece (Course c) = course_piece c
 who_piece (Curriculum q) = Index CURRICULUM_LETTER q
@@ -56,30 +52,21 @@ pub data Price : Type 0 where
 
 abbrev pub price_pieces : Price → List Piece
 price_pieces (OfCourse c u) = course_piece c ∷ Number u ∷ []
-price_pieces (OfRoom r u) = room_piece r ∷ Number u ∷ []
+price_pieces (OfRoom r u) = Index ROOM_LETTER r ∷ Number u ∷ []
 
-abbrev pub course_prices : List Price → List (ℕ × ℕ)
-course_prices [] = []
-course_prices (OfCourse c u ∷ xs) = (c, u) ∷ course_prices xs
-course_prices (OfRoom r u ∷ xs) = course_prices xs
-
-abbrev pub room_prices : List Price → List (ℕ × ℕ)
-room_prices [] = []
-room_prices (OfCourse c u ∷ xs) = room_prices xs
-room_prices (OfRoom r u ∷ xs) = (r, u) ∷ room_prices xs
-
--- The prices of courses and of rooms may stand in any order.
-abbrev pub SpellsPrices : List (ℕ × ℕ) → List (ℕ × ℕ) → List Piece → Type 0
-SpellsPrices courses rooms ps =
-    (prices : List Price) × (course_prices prices ≡ courses) × (room_prices prices ≡ rooms)
-    × (ps ≡ Text (codes "P") ∷ (flat_map price_pieces prices ++ Text (codes "/") ∷ []))
+-- the prices of courses and those of rooms, which may stand in any order
+abbrev pub by_kind : List Price → List (ℕ × ℕ) × List (ℕ × ℕ)
+by_kind [] = ([], [])
+by_kind (OfCourse c u ∷ xs) = ((c, u) ∷ (by_kind xs).0, (by_kind xs).1)
+by_kind (OfRoom r u ∷ xs) = ((by_kind xs).0, (r, u) ∷ (by_kind xs).1)
 
 abbrev pub SpellsClaim : Claim → List Piece → Type 0
 SpellsClaim (Capacity c u) ps = ps ≡ Text (codes "C") ∷ course_piece c ∷ Number u ∷ []
 SpellsClaim (Days c) ps = ps ≡ Text (codes "D") ∷ course_piece c ∷ []
 SpellsClaim (Compact q) ps = ps ≡ Text (codes "Q") ∷ Index CURRICULUM_LETTER q ∷ []
 SpellsClaim (Stable c) ps = ps ≡ Text (codes "R") ∷ course_piece c ∷ []
-SpellsClaim (Prices courses rooms) ps = SpellsPrices courses rooms ps
+SpellsClaim (Prices courses rooms) ps =
+    (prices : List Price) × (by_kind prices ≡ (courses, rooms)) × (ps ≡ Text (codes "P") ∷ (flat_map price_pieces prices ++ Text (codes "/") ∷ []))
 SpellsClaim (Stacked c) ps = ps ≡ Text (codes "T") ∷ course_piece c ∷ []
 
 -- each part in order
@@ -105,17 +92,14 @@ version_text v = if v == 1 then codes "1" else codes "2"
 
 -- ---- what a file may say
 
--- prices of numbers below a count, each once, and none above 1,000,000
-abbrev pub AreShortPrices : ℕ → List (ℕ × ℕ) → Type 0
-AreShortPrices count prices = ArePrices count prices × All (λ k. k.1 ≤ MAX_PRICE) prices
-
 -- The numbers of a claim are the instance's and within the limits; Prices and Stacked are claims of version 2.
 abbrev pub IsClaim : Problem → ℕ → Claim → Type 0
 IsClaim p v (Capacity c u) = (c < length p.courses) × (u ≤ MAX_PRICE)
 IsClaim p v (Days c) = c < length p.courses
 IsClaim p v (Compact q) = q < length p.curricula
 IsClaim p v (Stable c) = c < length p.courses
-IsClaim p v (Prices courses rooms) = (v ≡ 2) × AreShortPrices (length p.courses) courses × AreShortPrices (length p.rooms) rooms
+IsClaim p v (Prices courses rooms) =
+    (v ≡ 2) × (ArePrices (length p.courses) courses × All (λ k. k.1 ≤ MAX_PRICE) courses) × (ArePrices (length p.rooms) rooms × All (λ k. k.1 ≤ MAX_PRICE) rooms)
 IsClaim p v (Stacked c) = (v ≡ 2) × (c < length p.courses)
 
 -- courses of the instance, none of them twice
@@ -150,6 +134,6 @@ pub record SpellsProof (p : Problem) (bytes : List ℕ) (v : ℕ) (b : Bound) (t
   pub bound : IsBound b
   pub body : List Piece
   pub nodes : SpellsEach SpellsNode (preorder tree) body
-  pub tokens : AreTokens (Text (codes "CTTP") ∷ Text (version_text v) ∷ Text (codes "bound") ∷ bound_piece b ∷ (body ++ Text (codes "end") ∷ [])) (tokens_of bytes)
+  pub tokens : Begins (Text (codes "CTTP") ∷ Text (version_text v) ∷ Text (codes "bound") ∷ bound_piece b ∷ (body ++ Text (codes "end") ∷ [])) (tokens_of bytes) []
   pub each : All (IsNode p v) (preorder tree)
   pub within : IsWithinLimits bytes tree

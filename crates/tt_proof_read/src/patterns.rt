@@ -1,8 +1,8 @@
 //! Patterns.
 
-ghost use Rattle.std.specs.Prelude.{◌<◌, IfOk};
+ghost use Rattle.std.specs.Prelude.{◌<◌, IfOk, IfSome};
 ghost use Rattle.tt_instance.specs.Problem.{Problem};
-ghost use Rattle.tt_paths.specs.Facts.{IsWho, IsGiven, IsPattern};
+ghost use Rattle.tt_paths.specs.Facts.{IsWho, IsPattern};
 ghost use Rattle.tt_proof_read.specs.Contract.{ReadsAs};
 ghost use Rattle.tt_proof_read.specs.Faults.{TellsNoFailedRead, Gives};
 ghost use Rattle.tt_proof_read.specs.Sizes.{AreSizes};
@@ -47,7 +47,7 @@ fn read_who<R: Source>(feed: &mut Feed, source: &mut R, sizes: Sizes) -> Result<
 #[tactic(auto, unfolding(crate::specs::Reading::given_of))]
 fn given(text: &[u8], at: usize, letter: u8, count: u32) -> Result<Option<u32>, TextFault>
     ensures read { Gives (λ n. n) result (given_of letter count (record { text = text.now; at = at })) }
-    ensures within { IfOk result (IsGiven count) }
+    ensures within { IfOk result (λ given. IfSome given (λ n. n < count)) }
     ensures unread { TellsNoFailedRead result }
 {
     match text {
@@ -67,7 +67,7 @@ fn read_given<R: Source>(
     count: u32,
 ) -> Result<Option<u32>, TextFault>
     ensures read { ReadsAs R.Source feed.old source.old feed.new source.new (λ n. n) result (given_at letter count) }
-    ensures within { IfOk result (IsGiven count) }
+    ensures within { IfOk result (λ given. IfSome given (λ n. n < count)) }
 {
     let at = token(feed, source)?;
     given(feed.token(), at, letter, count)

@@ -19,7 +19,7 @@ use Rattle.tt_proof_read.specs.declared.node.Node.{Node}
 use Rattle.tt_proof_read.specs.declared.node.Node.TheVariants.{Split, Leaf}
 use Rattle.tt_proof_read.specs.Trees.{Tree, preorder}
 use Rattle.tt_proof_read.specs.Words.{fixed}
-use Rattle.tt_proof_read.specs.Spelling.{Price, OfCourse, OfRoom, price_pieces, course_prices, room_prices, SpellsClaim, SpellsEach, SpellsNode, IsNode, SpellsProof}
+use Rattle.tt_proof_read.specs.Spelling.{Price, OfCourse, OfRoom, price_pieces, by_kind, SpellsClaim, SpellsEach, SpellsNode, IsNode, SpellsProof}
 use Rattle.tt_proof_text.specs.Numbers.{IsNarrowNode}
 use Rattle.tt_proof_text.specs.Written.{priced_pieces, claim_pieces, node_pieces, header_pieces, proof_lines, proof_text}
 use Rattle.tt_proof_text.specs.Within.{Writes}
@@ -36,21 +36,20 @@ of_room k = OfRoom k.0 k.1
 abbrev prices_of : List (ℕ × ℕ) → List (ℕ × ℕ) → List Price
 prices_of courses rooms = map of_course courses ++ map of_room rooms
 
-no_courses : (rooms : List (ℕ × ℕ)) → course_prices (map of_room rooms) ≡ []
-no_courses [] = refl
-no_courses (k ∷ ks) = no_courses ks
+-- the prices of both kinds with one more of a course, and of a room
+abbrev with_course : ℕ × ℕ → List (ℕ × ℕ) × List (ℕ × ℕ) → List (ℕ × ℕ) × List (ℕ × ℕ)
+with_course k kinds = (k ∷ kinds.0, kinds.1)
 
-all_rooms : (rooms : List (ℕ × ℕ)) → room_prices (map of_room rooms) ≡ rooms
+abbrev with_room : ℕ × ℕ → List (ℕ × ℕ) × List (ℕ × ℕ) → List (ℕ × ℕ) × List (ℕ × ℕ)
+with_room k kinds = (kinds.0, k ∷ kinds.1)
+
+all_rooms : (rooms : List (ℕ × ℕ)) → by_kind (map of_room rooms) ≡ ([], rooms)
 all_rooms [] = refl
-all_rooms (k ∷ ks) = ap (λ (xs : List (ℕ × ℕ)). k ∷ xs) (all_rooms ks)
+all_rooms (k ∷ ks) = ap (with_room k) (all_rooms ks)
 
-courses_of : (courses rooms : List (ℕ × ℕ)) → course_prices (prices_of courses rooms) ≡ courses
-courses_of [] rooms = no_courses rooms
-courses_of (k ∷ ks) rooms = ap (λ (xs : List (ℕ × ℕ)). k ∷ xs) (courses_of ks rooms)
-
-rooms_of : (courses rooms : List (ℕ × ℕ)) → room_prices (prices_of courses rooms) ≡ rooms
-rooms_of [] rooms = all_rooms rooms
-rooms_of (k ∷ ks) rooms = rooms_of ks rooms
+kinds_of : (courses rooms : List (ℕ × ℕ)) → by_kind (prices_of courses rooms) ≡ (courses, rooms)
+kinds_of [] rooms = all_rooms rooms
+kinds_of (k ∷ ks) rooms = ap (with_course k) (kinds_of ks rooms)
 
 pieces_of : (courses rooms : List (ℕ × ℕ)) → flat_map price_pieces (prices_of courses rooms) ≡ flat_map (priced_pieces COURSE_LETTER) courses ++ flat_map (priced_pieces ROOM_LETTER) rooms
 pieces_of courses rooms =
@@ -64,7 +63,7 @@ claim_spelled (Days c) = refl
 claim_spelled (Compact q) = refl
 claim_spelled (Stable c) = refl
 claim_spelled (Prices courses rooms) =
-    (prices_of courses rooms, courses_of courses rooms, rooms_of courses rooms, ap (λ (ps : List Piece). Text (codes "P") ∷ (ps ++ Text (codes "/") ∷ [])) (sym (pieces_of courses rooms)))
+    (prices_of courses rooms, kinds_of courses rooms, ap (λ (ps : List Piece). Text (codes "P") ∷ (ps ++ Text (codes "/") ∷ [])) (sym (pieces_of courses rooms)))
 claim_spelled (Stacked c) = refl
 
 each_spelled : {X : Type 0} (S : X → List Piece → Type 0) (f : X → List Piece) → ((x : X) → S x (f x)) → (xs : List X) → SpellsEach S xs (flat_map f xs)

@@ -1,22 +1,22 @@
 -- Which timetable the bytes of a solution file spell (the competition's output format: course, room, day and period of each entry).
 use Rattle.std.specs.Prelude.{◌≤◌, ℕ, List, [], ◌∷◌, length, map, flat_map, slice_index_or}
 use Rattle.tt_text.specs.Tokens.{tokens_of}
-use Rattle.tt_text.specs.Pieces.{Piece, Text, Number, AreTokens}
+use Rattle.tt_text.specs.Pieces.{Piece, Text, Number, Begins}
 use Rattle.tt_text.specs.Lines.{lines_text}
 use Rattle.tt_instance.specs.Problem.{Problem}
-use Rattle.tt_instance.specs.Courses.{no_course, no_room}
+use Rattle.tt_instance.specs.Courses.{no_room}
+use Rattle.tt_instance.specs.Spelling.{named}
 use Rattle.tt_instance.specs.declared.cell.Cell.{Cell}
 use Rattle.tt_table.specs.Table.{IsTimetable}
 use Rattle.tt_table.specs.declared.table.TheConstants.{MAX_ENTRIES}
 
 abbrev pub entry_pieces : Problem → Cell → List Piece
 entry_pieces p e =
-    Text (slice_index_or p.courses e.course no_course).id ∷ Text (slice_index_or p.rooms e.room no_room).id
-    ∷ Number e.day ∷ Number e.period ∷ []
+    named p.courses e.course ∷ Text (slice_index_or p.rooms e.room no_room).id ∷ Number e.day ∷ Number e.period ∷ []
 
 -- the tokens of the bytes are the entries' and no more
 pub record SpellsTable (p : Problem) (bytes : List ℕ) (t : List Cell) : Type 0 where
-  pub tokens : AreTokens (flat_map (entry_pieces p) t) (tokens_of bytes)
+  pub tokens : Begins (flat_map (entry_pieces p) t) (tokens_of bytes) []
   pub few : length t ≤ MAX_ENTRIES
   pub in_range : IsTimetable p t
 

@@ -1,7 +1,7 @@
 //! Leaves found and judged on paths whose facts are the instance's.
 
-ghost use Rattle.std.specs.Prelude.{◌≡◌, ◌<◌, true};
-ghost use Rattle.tt_paths.specs.Facts.{IsPattern, IsGiven, IsWho};
+ghost use Rattle.std.specs.Prelude.{◌≡◌, ◌<◌, true, IfSome};
+ghost use Rattle.tt_paths.specs.Facts.{IsPattern, IsWho};
 ghost use Rattle.tt_leaf.specs.Found.{ArePatterns};
 ghost use Rattle.tt_leaf_rules.specs.Ranges.{IsLeafOf};
 
@@ -12,7 +12,7 @@ use tt_leaf_rules::{Bound, Leaf, holds};
 use tt_paths::{Fact, Path, Pattern, Who};
 
 fn is_given(given: Option<u32>, count: u32) -> bool
-    ensures { result ≡ true → IsGiven count given }
+    ensures { result ≡ true → IfSome given (λ n. n < count) }
 {
     match given {
         None => true,

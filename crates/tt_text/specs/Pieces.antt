@@ -25,7 +25,3 @@ abbrev pub Begins : List Piece → List Placed → List Placed → Type 0
 Begins [] ts rest = ts ≡ rest
 Begins (p ∷ ps) [] rest = ⊥
 Begins (p ∷ ps) (t ∷ ts) rest = IsPiece p t.text × Begins ps ts rest
-
--- the tokens are these pieces and no more
-abbrev pub AreTokens : List Piece → List Placed → Type 0
-AreTokens ps ts = Begins ps ts []
