@@ -184,7 +184,7 @@ module _ (p : Problem) (sizes : Sizes) (are : AreSizes p sizes) (version : ℕ) 
         } in
         let shown : by_kind spell.0 ≡ (courses, rooms) = spell.1 in
         let read = prices_read sizes spell.0 mid after small (subst (AreKept sizes) (sym shown) kept) t in
-        rw (read, shown) refl) (subst (λ qs. Took s qs after) spell.2 took)
+        rw read (ap (λ (k : List (ℕ × ℕ) × List (ℕ × ℕ)). let r : Result (Claim × Stream) TextFault = Ok (claim.Prices k.0 k.1, after) in r) shown)) (subst (λ qs. Took s qs after) spell.2 took)
     claim_reads before (claim.Stacked c) ps s after spell next took =
         by_claim word.Stacked (claim.Stacked c) (course_piece c ∷ []) s after next.0 (λ mid t. rw (course_in c mid after next.1 t) refl) (subst (λ qs. Took s qs after) spell took)
 
