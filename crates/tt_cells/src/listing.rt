@@ -30,6 +30,7 @@ pub fn list_fact(
 }
 
 /// Takes the newest fact from the lists.
+#[inline(always)]
 pub fn unlist_fact(facts: &mut Vec<Fact>, yes: &mut Vec<Pattern>) -> Fact
     requires some { 0 < length facts.old.items }
     requires yes { yes.old.items ≡ yes_facts facts.old.items }

@@ -10,6 +10,7 @@ use tt_paths::Fact;
 use tt_pins::Pins;
 
 /// Adds a fact to the cells and, if it is a yes-fact, to the pins; or to neither.
+#[inline(always)]
 pub fn push_both(
     cells: &mut Cells<'_, '_>,
     pins: &mut Pins<'_, '_>,
@@ -34,6 +35,7 @@ pub fn push_both(
 }
 
 /// Takes the newest fact away.
+#[inline(always)]
 pub fn pop_both(cells: &mut Cells<'_, '_>, pins: &mut Pins<'_, '_>) -> Fact
     requires some { 0 < length cells.old.facts }
     requires halves { AreHalves cells.old pins.old }

@@ -66,6 +66,7 @@ impl<'p, 'i> Path<'i> for TrailPath<'p, 'i> {
         self.cells.fact(index)
     }
 
+    #[inline(always)]
     fn push(&mut self, fact: Fact) -> Result<(), PathFault> {
         if self.depth() == MAX_FACTS {
             return Err(PathFault::TooDeep);
@@ -73,6 +74,7 @@ impl<'p, 'i> Path<'i> for TrailPath<'p, 'i> {
         push_both(&mut self.cells, &mut self.pins, fact).map_err(|_| PathFault::OutOfMemory)
     }
 
+    #[inline(always)]
     fn pop(&mut self) -> Fact {
         pop_both(&mut self.cells, &mut self.pins)
     }

@@ -34,6 +34,7 @@ pub fn list_fact(
 }
 
 /// Takes the newest fact from the lists.
+#[inline(always)]
 pub fn unlist_fact(instance: &Instance<'_>, facts: &mut Vec<Fact>, others: &mut Vec<Fact>) -> Fact
     requires some { 0 < length facts.old.items }
     requires others { others.old.items ≡ others_of instance.now facts.old.items }

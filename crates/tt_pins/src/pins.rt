@@ -121,6 +121,7 @@ impl<'p, 'i> Pins<'p, 'i> {
     }
 
     /// Takes the newest fact away.
+    #[inline(always)]
     pub fn pop(&mut self) -> Fact
         requires { 0 < length self.old.facts }
         ensures fact { self.old.facts ≡ self.new.facts ++ result ∷ [] }

@@ -42,6 +42,8 @@ fn take<'i, P: Path<'i>>(path: &mut P, bound: Bound, node: Node) -> Result<(), S
 }
 
 /// The fault of a split whose children are too deep: its first child is read before it is told.
+#[cold]
+#[inline(never)]
 fn deep_fault<R: Source>(reader: &mut NodeReader, source: &mut R, node: u32) -> CheckFault
     requires sound { reader.old.fault ≡ None }
     requires room { 0 < reader.old.places }

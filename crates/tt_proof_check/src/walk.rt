@@ -46,6 +46,7 @@ impl From<PathFault> for Stop {
 }
 
 /// Goes on to the second child of the newest split that has one still to come.
+#[inline(always)]
 fn go_on<'i, P: Path<'i>>(path: &mut P) -> Result<(), PathFault>
     requires { length (P.facts path.old) ≤ MAX_FACTS }
     ensures next { OnOk result (GoesOn (P.facts path.old) (P.facts path.new)) }
@@ -66,6 +67,7 @@ fn go_on<'i, P: Path<'i>>(path: &mut P) -> Result<(), PathFault>
 }
 
 /// Takes the node that is due, and goes on to the next place.
+#[inline(always)]
 pub fn take_node<'i, P: Path<'i>>(path: &mut P, bound: Bound, node: &Node) -> Result<(), Stop>
     requires node { IsNodeOf (P.problem path.old) node.now }
     requires within { length (P.facts path.old) ≤ MAX_FACTS }

@@ -46,6 +46,7 @@ pub fn read_word<R: Source>(feed: &mut Feed, source: &mut R, word: Word) -> Resu
 
 /// The number after a letter, below a count.
 #[tactic(auto, unfolding(crate::specs::Reading::numbered_below))]
+#[inline(always)]
 pub fn number_below(digits: &[u8], at: usize, count: u32) -> Result<u32, TextFault>
     ensures read { Gives (λ n. n) result (numbered_below at count digits.now) }
     ensures within { IfOk result (λ n. n < count) }
@@ -66,6 +67,7 @@ pub fn number_below(digits: &[u8], at: usize, count: u32) -> Result<u32, TextFau
 
 /// A letter and a number below a count, in one token.
 #[tactic(auto, unfolding(crate::specs::Reading::index_of))]
+#[inline(always)]
 pub fn index(text: &[u8], at: usize, letter: u8, count: u32) -> Result<u32, TextFault>
     ensures read { Gives (λ n. n) result (index_of letter count (record { text = text.now; at = at })) }
     ensures within { IfOk result (λ n. n < count) }
@@ -85,6 +87,7 @@ pub fn index(text: &[u8], at: usize, letter: u8, count: u32) -> Result<u32, Text
 
 /// A course.
 #[tactic(auto, unfolding(crate::specs::Reading::course_at))]
+#[inline(always)]
 pub fn read_course<R: Source>(
     feed: &mut Feed,
     source: &mut R,
@@ -114,6 +117,7 @@ pub fn read_curriculum<R: Source>(
 }
 
 /// A price, in one token.
+#[inline(always)]
 fn price(text: &[u8], at: usize) -> Result<u32, TextFault>
     ensures read { Gives (λ u. u) result (priced_as at (number_of MAX_PRICE text.now)) }
     ensures within { IfOk result (λ u. u ≤ MAX_PRICE) }
@@ -127,6 +131,7 @@ fn price(text: &[u8], at: usize) -> Result<u32, TextFault>
 
 /// A price in cost points.
 #[tactic(auto, unfolding(crate::specs::Reading::price_at))]
+#[inline(always)]
 pub fn read_price<R: Source>(feed: &mut Feed, source: &mut R) -> Result<u32, TextFault>
     ensures read { ReadsAs R.Source feed.old source.old feed.new source.new (λ u. u) result price_at }
     ensures forward { IfOk result (λ _. room_of feed.new < room_of feed.old) }

@@ -49,6 +49,7 @@ fn node_word(text: &[u8], at: usize) -> Result<NodeWord, TextFault>
 
 /// What follows the word of a node.
 #[tactic(auto, unfolding(crate::specs::Reading::node_after_word))]
+#[inline(always)]
 fn read_node_after_word<R: Source>(
     alloc: Global,
     feed: &mut Feed,
@@ -93,6 +94,7 @@ fn read_node_after_word<R: Source>(
 
 /// A node, with this many nodes before it.
 #[tactic(auto, unfolding(crate::specs::Reading::node_at))]
+#[inline(always)]
 pub fn read_node<R: Source>(
     alloc: Global,
     feed: &mut Feed,

@@ -16,6 +16,7 @@ use tt_paths::{Pattern, Who};
 use tt_text::{Feed, Source};
 
 /// A course or a curriculum, in one token.
+#[inline(always)]
 fn who(text: &[u8], at: usize, sizes: Sizes) -> Result<Who, TextFault>
     ensures read { Gives (λ w. w) result (who_in at sizes text.now) }
     ensures within { (p : Problem) → AreSizes p sizes → IfOk result (IsWho p) }
@@ -35,6 +36,7 @@ fn who(text: &[u8], at: usize, sizes: Sizes) -> Result<Who, TextFault>
 }
 
 #[tactic(auto, unfolding(crate::specs::Reading::who_at))]
+#[inline(always)]
 fn read_who<R: Source>(feed: &mut Feed, source: &mut R, sizes: Sizes) -> Result<Who, TextFault>
     ensures read { ReadsAs R.Source feed.old source.old feed.new source.new (λ w. w) result (who_at sizes) }
     ensures within { (p : Problem) → AreSizes p sizes → IfOk result (IsWho p) }
@@ -45,6 +47,7 @@ fn read_who<R: Source>(feed: &mut Feed, source: &mut R, sizes: Sizes) -> Result<
 
 /// A letter and a number below a count, or `*`, in one token.
 #[tactic(auto, unfolding(crate::specs::Reading::given_of))]
+#[inline(always)]
 fn given(text: &[u8], at: usize, letter: u8, count: u32) -> Result<Option<u32>, TextFault>
     ensures read { Gives (λ n. n) result (given_of letter count (record { text = text.now; at = at })) }
     ensures within { IfOk result (λ given. IfSome given (λ n. n < count)) }
@@ -60,6 +63,7 @@ fn given(text: &[u8], at: usize, letter: u8, count: u32) -> Result<Option<u32>, 
 }
 
 #[tactic(auto, unfolding(crate::specs::Reading::given_at))]
+#[inline(always)]
 fn read_given<R: Source>(
     feed: &mut Feed,
     source: &mut R,
@@ -75,6 +79,7 @@ fn read_given<R: Source>(
 
 /// A pattern.
 #[tactic(auto, unfolding(crate::specs::Reading::pattern_at))]
+#[inline(always)]
 pub fn read_pattern<R: Source>(
     feed: &mut Feed,
     source: &mut R,

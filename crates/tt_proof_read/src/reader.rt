@@ -106,6 +106,7 @@ impl NodeReader {
     }
 
     /// The next node, `None` once the tree is whole. After a fault the same fault again.
+    #[inline(always)]
     pub fn next_node<R: Source>(&mut self, source: &mut R) -> Result<Option<Node>, TextFault>
         ensures known { StaysKnown (R.remaining source.old) (R.remaining source.new) }
         ensures failed { self.old.fault ≡ None → result ≡ Err read_failed → R.has_failed source.new ≡ true }

@@ -99,6 +99,7 @@ impl Trail {
     }
 
     /// Takes the table back to the newest mark, and that mark away.
+    #[inline(always)]
     pub fn undo(&mut self)
         requires { 0 < length self.old.earlier }
         ensures { self.old.earlier ≡ self.new.earlier ++ self.new.words ∷ [] }
