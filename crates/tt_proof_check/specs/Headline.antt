@@ -29,7 +29,7 @@ pub record BreaksARule (instance solution : List ℕ) : Type 0 where
   pub both : SpellsBoth instance solution problem table
   pub some : 0 < hard problem table
 
--- the solution breaks no hard rule and costs c by the competition's definition, and the proof derives the bound b by the written rules
+-- the solution keeps the hard rules at the cost c, as the competition counts it, and the proof derives that nothing feasible costs less than b
 pub record Certifies (instance solution proof : List ℕ) (c b : ℕ) : Type 0 where
   pub solves : Solves instance solution c
   pub proved : IsProved solves.problem proof (AtLeast b)
