@@ -15,6 +15,7 @@ use tt_paths::Path;
 
 /// What a claim is worth on a path, in cost points.
 #[tactic(auto, using(crate::proofs::Sizes::prices_below))]
+#[inline(always)]
 pub fn claim_value<'i, P: Path<'i>>(path: &P, claim: &Claim) -> u64
     requires { IsClaimOf (P.problem path.now) claim.now }
     ensures value { result ≡ value_of (P.problem path.now) (P.facts path.now) claim.now }

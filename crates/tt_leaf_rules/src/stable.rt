@@ -9,6 +9,7 @@ ghost use Rattle.tt_instance.specs.declared.limit.TheConstants.{MAX_ROOMS};
 use tt_bits::count;
 use tt_paths::Path;
 
+#[inline(always)]
 fn pinned_rooms<'i, P: Path<'i>>(path: &P, course: u32) -> u32
     requires { course < length (P.problem path.now).courses }
     ensures value { result ≡ pinned_rooms (P.problem path.now) (P.facts path.now) course }
@@ -22,6 +23,7 @@ fn pinned_rooms<'i, P: Path<'i>>(path: &P, course: u32) -> u32
 }
 
 /// What a claim on the rooms of a course is worth, in cost points.
+#[inline(always)]
 pub fn stable_value<'i, P: Path<'i>>(path: &P, course: u32) -> u64
     requires { course < length (P.problem path.now).courses }
     ensures value { result ≡ value_of (P.problem path.now) (P.facts path.now) (Stable course) }

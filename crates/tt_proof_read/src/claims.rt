@@ -29,6 +29,7 @@ pub enum ClaimWord {
 }
 
 /// The word of a claim, or none at `;`, in one token.
+#[inline(always)]
 fn claim_word(text: &[u8], at: usize, version: u8) -> Result<Option<ClaimWord>, TextFault>
     ensures read { Gives (λ w. w) result (claim_word_of version (record { text = text.now; at = at })) }
     ensures within { IfOk result (λ w. IfSome w (IsWordIn version)) }
@@ -48,6 +49,7 @@ fn claim_word(text: &[u8], at: usize, version: u8) -> Result<Option<ClaimWord>, 
 
 /// What follows the word of a claim.
 #[tactic(auto, unfolding(crate::specs::Reading::claim_after_word))]
+#[inline(always)]
 fn read_claim_after_word<R: Source>(
     alloc: Global,
     feed: &mut Feed,
@@ -98,6 +100,7 @@ fn read_claim_after_word<R: Source>(
 
 /// A claim, or none at `;`.
 #[tactic(auto, unfolding(crate::specs::Reading::claim_at))]
+#[inline(always)]
 fn read_claim<R: Source>(
     alloc: Global,
     feed: &mut Feed,

@@ -103,6 +103,7 @@ pub fn read_course<R: Source>(
 
 /// A curriculum.
 #[tactic(auto, unfolding(crate::specs::Reading::curriculum_at))]
+#[inline(always)]
 pub fn read_curriculum<R: Source>(
     feed: &mut Feed,
     source: &mut R,

@@ -18,6 +18,7 @@ use std::alloc::Global;
 use tt_text::{Feed, Source};
 
 /// A course that is none of those before it, or none at `;`, in one token.
+#[inline(always)]
 fn listed(text: &[u8], at: usize, sizes: Sizes, seen: &Seen) -> Result<Option<u32>, TextFault>
     ensures read { Gives (λ c. c) result (listed_of sizes seen.now.numbers (record { text = text.now; at = at })) }
     ensures within { IfOk result (λ c. IfSome c (λ n. n < sizes.courses)) }
@@ -33,6 +34,7 @@ fn listed(text: &[u8], at: usize, sizes: Sizes, seen: &Seen) -> Result<Option<u3
 }
 
 #[tactic(auto, unfolding(crate::specs::Reading::listed_at))]
+#[inline(always)]
 fn read_listed<R: Source>(
     feed: &mut Feed,
     source: &mut R,

@@ -35,6 +35,7 @@ impl Prices {
     ghost use Rattle.tt_proof_read.specs.Reading.{with_priced};
 
     /// One more price, of a number that the tables have from then on.
+    #[inline(always)]
     fn add(&mut self, tables: &mut Tables, priced: Priced, points: u32) -> Result<(), AllocError>
         requires { IsIn (tables.old.courses.count) (tables.old.rooms.count) priced }
         ensures kept { OnOk result (kept_of self.new ≡ with_priced (kept_of self.old) priced points) }
@@ -57,6 +58,7 @@ impl Prices {
 }
 
 /// A course or a room without a price, in one token.
+#[inline(always)]
 fn new_priced(text: &[u8], at: usize, sizes: Sizes, tables: &Tables) -> Result<Priced, TextFault>
     ensures read { Gives (λ x. x) result (priced_in at sizes (seen_of tables.now) text.now) }
     ensures within { IfOk result (IsUnseen sizes (seen_of tables.now)) }
@@ -78,6 +80,7 @@ fn new_priced(text: &[u8], at: usize, sizes: Sizes, tables: &Tables) -> Result<P
 }
 
 /// A course or a room without a price, or none at `/`, in one token.
+#[inline(always)]
 fn priced_or_end(
     text: &[u8],
     at: usize,
@@ -96,6 +99,7 @@ fn priced_or_end(
 }
 
 #[tactic(auto, unfolding(crate::specs::Reading::pair_at))]
+#[inline(always)]
 fn read_pair<R: Source>(
     feed: &mut Feed,
     source: &mut R,

@@ -47,6 +47,7 @@ impl Seen {
     }
 
     /// Whether a number has been seen.
+    #[inline(always)]
     pub fn has(&self, number: u32) -> bool
         ensures { result ≡ has_number self.now.numbers number }
     {
@@ -54,6 +55,7 @@ impl Seen {
     }
 
     /// One number more.
+    #[inline(always)]
     pub fn add(&mut self, number: u32) -> Result<(), AllocError>
         requires { number < self.old.count }
         ensures ok { OnOk result (self.new ≡ record self.old { numbers = self.old.numbers ++ number ∷ [] }) }
