@@ -1,39 +1,42 @@
 #!/usr/bin/env python3
-"""Prints what `tt improve` comes to: the cost with the seeds 1 to 5, their mean, and the least and the greatest time.
+"""Prints what `tt improve` comes to: the cost with the seeds 1 to 5, their mean, the least and the greatest processor time of a run, and how
+many of the steps that it was given went by in a second.
 
 Run by hand, after ./tt has built the program:  python3 bench/search.py [--steps N[,N..]] [--again] [NAME..]
-The names are examples (tiny01, tiny05, small01, small05, like01, like02, like05, like11 where none is given); a search begins with the
-example's own timetable. With --again a second search, with a seed of its own, goes on from what each came to. Every timetable is counted
-by `tt validate`, and one that breaks a hard rule ends the script.
+The names are examples (those below where none is given); a search begins with the example's own timetable. With --again a second search,
+with a seed of its own, goes on from what each came to, and the line tells how many of these gained. Every timetable is counted by
+`tt validate`, and one that breaks a hard rule ends the script.
 """
 
 import argparse
+import os
 import subprocess
 import sys
 import tempfile
-import time
 from pathlib import Path
 
 HERE = Path(__file__).resolve().parent
 PROGRAM = HERE.parent / "crates" / "tt" / "out" / "tt"
 EXAMPLES = HERE.parent / "examples"
-NAMES = ["tiny01", "tiny05", "small01", "small05", "like01", "like02", "like05", "like11"]
+NAMES = ["tiny01", "tiny05", "small01", "small05", "like01", "like02", "like04", "like05", "like11"]
 SEEDS = range(1, 6)
 
 
 def said(*words):
-    done = subprocess.run([PROGRAM, *map(str, words)], capture_output=True, text=True)
-    if done.returncode:
-        sys.exit(f"{words}: {done.stdout}{done.stderr}")
-    return done.stdout
+    """What the program prints, and the seconds of a processor that it takes."""
+    with subprocess.Popen([PROGRAM, *map(str, words)], stdout=subprocess.PIPE, text=True) as run:
+        text = run.stdout.read()
+        _, status, used = os.wait4(run.pid, 0)
+        run.returncode = os.waitstatus_to_exitcode(status)
+    if run.returncode:
+        sys.exit(f"{words}: {text}")
+    return text, used.ru_utime + used.ru_stime
 
 
 def improved(instance, solution, out, seed, steps):
     """The cost that a search comes to, and its seconds."""
-    start = time.perf_counter()
-    said("improve", instance, solution, out, "--seed", seed, "--steps", steps)
-    seconds = time.perf_counter() - start
-    counts = dict(line.split() for line in said("validate", instance, out).splitlines())
+    _, seconds = said("improve", instance, solution, out, "--seed", seed, "--steps", steps)
+    counts = dict(line.split() for line in said("validate", instance, out)[0].splitlines())
     return int(counts["cost"]), seconds
 
 
@@ -49,7 +52,11 @@ def row(name, steps, again, folder):
         if again:
             second.append(improved(instance, out, folder / "again.sol", seed + len(SEEDS), steps)[0])
     text = f"{name}: {' '.join(map(str, costs))}, mean {sum(costs) / len(costs):.1f}; {min(times):.2f} to {max(times):.2f} s"
-    print(text + (f"; again {' '.join(map(str, second))}" if again else ""), flush=True)
+    text += f", {steps * len(times) / max(sum(times), 0.01):,.0f} steps a second"
+    if again:
+        gains = sum(after < before for before, after in zip(costs, second))
+        text += f"; again {' '.join(map(str, second))}, {gains} gain"
+    print(text, flush=True)
 
 
 def main():
