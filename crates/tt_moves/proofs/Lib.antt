@@ -1,4 +1,5 @@
 pub mod Examples
 pub mod Rests
+pub mod Rounds
 pub mod Stepping
 pub mod Undoing

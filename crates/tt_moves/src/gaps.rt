@@ -47,7 +47,7 @@ impl Rest<'_, '_, '_> {
             joined: 0,
         };
         for curriculum in self.curricula() {
-            gaps = gaps.with(self.around(*curriculum, is_still, entry.day, entry.period));
+            gaps = self.with(gaps, *curriculum, is_still, entry.day, entry.period);
         }
         gaps
     }

@@ -1,14 +1,15 @@
 //! Steps, what they change in the score, and Kempe chains.
 #![tactic(auto)]
 
+mod beside;
 mod changing;
 mod cost;
 mod exchanges;
 mod exchanging;
 mod gaps;
-mod near;
 mod pricing;
 mod rest;
+mod round;
 mod step;
 mod still;
 mod weight;

@@ -10,6 +10,7 @@ ghost use Rattle.tt_tallies.specs.Tallies.{rooms_of};
 ghost use Rattle.tt_change.specs.Standing.{standing};
 ghost use Rattle.tt_change.specs.Weight.{repeats, shares, against};
 ghost use Rattle.tt_moves.specs.Rests.{IsRest, rest_without};
+ghost use Rattle.tt_moves.specs.Rounds.{CountsOther};
 ghost use Rattle.tt_instance.specs.declared.limit.TheConstants.{MAX_SLOTS};
 
 use tt_instance::Instance;
@@ -95,8 +96,7 @@ impl Rest<'_, '_, '_> {
         requires curriculum { curriculum < length self.now.occupied.now.problem.curricula }
         requires day { day < self.now.occupied.now.problem.days }
         requires gone { in_curriculum self.now.occupied.now.problem curriculum self.now.gone.course ≡ true }
-        // Whether the course that may stand elsewhere belongs to the curriculum too.
-        requires other { other ≡ in_curriculum self.now.occupied.now.problem curriculum self.now.from.course }
+        requires other { CountsOther self.now curriculum day other }
         requires rest { (u : List Cell) × IsRest self.now u }
         ensures value { (u : List Cell) → IsRest self.now u
             → result ≡ standing self.now.occupied.now.problem u curriculum day period }

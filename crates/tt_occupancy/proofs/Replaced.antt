@@ -54,7 +54,7 @@ module _ (p : Problem) (s t : List Cell) (same : SameBag s t) where
     rooms = tally_same (length p.rooms) is_in x.rooms ok.rooms;
     teachers = tally_same (length (teachers p)) (of_teacher p) x.teachers ok.teachers;
     courses = tally_same (length p.courses) is_of x.courses ok.courses;
-    curricula = tally_same (length p.curricula) (of_curriculum p) x.curricula ok.curricula;
+    curricula = tally_same (length p.curricula) (of_curriculum p) x.curricula.week ok.curricula;
     opponents = tally_same (length p.courses) (opposes p) x.opponents ok.opponents;
     days = spread_same p.days (λ e. e.day) x.days ok.days;
     course_rooms = spread_same (length p.rooms) (λ e. e.room) x.course_rooms ok.course_rooms;

@@ -1,7 +1,7 @@
 -- Entries of a curriculum round a period, by their counts.
-use Rattle.std.proofs.Common.{◌≡◌, ℕ, ◌+◌, ◌-◌, ◌≤◌, ◌<◌, Bool, cond, not, ◌&&◌, ◌||◌, List, sym, ap, ◌∙◌, subst, arith, eqb-true}
+use Rattle.std.proofs.Common.{◌≡◌, ℕ, ◌+◌, ◌-◌, ◌≤◌, ◌<◌, Bool, cond, not, ◌&&◌, ◌||◌, List, length, sym, ap, ◌∙◌, subst, arith, inl, inr, eqb-true}
 use Rattle.std.specs.Prelude.{◌==◌, nat_lt, nat_le, sum_by, filter}
-use Rattle.std.proofs.lemmas.Bool.{and_parts}
+use Rattle.std.proofs.lemmas.Bool.{cases_lt, lt-ltb, le-ltb, and_parts}
 use Rattle.std.proofs.lemmas.Bool.Decides.{nat_tests}
 use Rattle.tt_lists.proofs.Members.{none_counted}
 use Rattle.tt_lists.proofs.Sums.{sum_by-same}
@@ -15,6 +15,9 @@ use Rattle.tt_change.specs.Standing.{standing, stands, stands_beside, joined_bef
 use Rattle.tt_change.specs.Weight.{alone, joined, all_joined}
 use Rattle.tt_change.proofs.Chosen.{sum_by-filter, any_counted}
 use Rattle.tt_change.proofs.Neighbours.{isolated_by_periods, joined_by_periods}
+use Rattle.tt_tallies.specs.Counts.{in_period}
+use Rattle.tt_tallies.specs.Tallies.{IsTally, of_curriculum}
+use Rattle.tt_tallies.specs.declared.week.Week.{Week}
 use Rattle.tt_occupancy.specs.Around.{IsAround, AreGaps}
 use Rattle.tt_occupancy.specs.declared.around.Around.{Around}
 use Rattle.tt_occupancy.specs.declared.gaps.Gaps.{Gaps}
@@ -28,6 +31,13 @@ none_standing p u q d s ok h = sym (none_counted (λ e. in_curriculum p q e.cour
     let c = eqb-true x.period s b.1 in
     let k = r.period in
     omega arith))
+
+-- where the table w counts the entries, by its periods
+pub some_standing : (p : Problem) (u : List Cell) (w : Week) → IsTimetable p u → IsTally p (length p.curricula) (of_curriculum p) u w → (q d s : ℕ) → q < length p.curricula → d < p.days → (nat_lt s w.periods && nat_lt 0 (in_period w q d s)) ≡ nat_lt 0 (standing p u q d s)
+some_standing p u w ok tally q d s row day = elim (cases_lt s w.periods) [
+  | inl h ↦ ap (λ b. b && nat_lt 0 (in_period w q d s)) (lt-ltb s w.periods h) ∙ ap (nat_lt 0) (tally.counts q d s row day (omega (arith, tally.periods)))
+  | inr h ↦ ap (λ b. b && nat_lt 0 (in_period w q d s)) (le-ltb s w.periods h) ∙ ap (nat_lt 0) (none_standing p u q d s ok (omega (arith, tally.periods)))
+]
 
 -- ---- counts f by period
 

@@ -1,6 +1,7 @@
 //! How many entries stand in a place.
 
-ghost use Rattle.std.specs.Prelude.{◌≡◌, ◌<◌, ◌≤◌, ◌&&◌, length, filter, count_by};
+ghost use Rattle.std.specs.Prelude.{◌≡◌, ℕ, ◌<◌, ◌≤◌, ◌&&◌, nat_lt, length, filter, count_by};
+ghost use Rattle.tt_bits.specs.Bits.{has_bit};
 ghost use Rattle.tt_instance.specs.Cells.{all_curricula, slot, is_of, is_at, is_in, is_on};
 ghost use Rattle.tt_instance.specs.Courses.{teachers, in_curriculum, conflict};
 ghost use Rattle.tt_table.specs.declared.table.TheConstants.{MAX_ENTRIES};
@@ -64,7 +65,18 @@ impl<'a, 'i> Occupied<'a, 'i> {
             self.now.entries }
         ensures few { result ≤ MAX_ENTRIES }
     {
-        u32::from(self.tables.curricula.get(curriculum, day, period))
+        u32::from(self.tables.curricula.week.get(curriculum, day, period))
+    }
+
+    /// The periods of a day with an entry of a course of a curriculum, as a set.
+    pub fn curriculum_on(&self, curriculum: u32, day: u32) -> u64
+        requires curriculum { curriculum < length self.now.problem.curricula }
+        requires day { day < self.now.problem.days }
+        ensures { (s : ℕ) → s < 64 → has_bit result s ≡ nat_lt 0
+            (count_by (λ e. in_curriculum self.now.problem curriculum e.course && is_at (slot day s) e)
+            self.now.entries) }
+    {
+        self.tables.curricula.word(curriculum, day)
     }
 
     /// The entries of a course in a period.

@@ -54,7 +54,7 @@ pub fn weigh(instance: &Instance<'_>, tables: &Tables, entry: Entry) -> Weight
 {
     let (course, room, day, period) = (entry.course, entry.room, entry.day, entry.period);
     let curricula = tables.links.curricula_of(course);
-    let gaps = gaps_round(&tables.curricula, curricula, day, period);
+    let gaps = gaps_round(&tables.curricula.week, curricula, day, period);
     Weight {
         repeats: one_if(tables.courses.get(course, day, period) > 0),
         against: u32::from(tables.opponents.get(course, day, period)),

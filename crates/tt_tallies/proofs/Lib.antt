@@ -1,4 +1,5 @@
 pub mod Examples
+pub mod Marks
 pub mod Places
 pub mod Rows
 pub mod Spreads

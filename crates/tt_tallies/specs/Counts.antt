@@ -1,6 +1,7 @@
 -- Only proofs rest on this file: nobody has to believe it.
 -- What tables of counts hold.
-use Rattle.std.specs.Prelude.{◌≡◌, ℕ, ◌+◌, ◌*◌, ◌<◌, ◌==◌, ◌&&◌, slice_index, cond}
+use Rattle.std.specs.Prelude.{◌≡◌, ℕ, ◌+◌, ◌*◌, ◌<◌, ◌==◌, ◌&&◌, List, nat_lt, slice_index, cond}
+use Rattle.tt_bits.specs.Bits.{has_bit}
 use Rattle.tt_tallies.specs.declared.grid.Grid.{Grid}
 use Rattle.tt_tallies.specs.declared.spread.Spread.{Spread}
 use Rattle.tt_tallies.specs.declared.week.Week.{Week}
@@ -19,6 +20,10 @@ pub record IsMore (old new : Week) (more : ℕ → ℕ → ℕ → ℕ) : Type 0
   pub days : new.days ≡ old.days
   pub periods : new.periods ≡ old.periods
   pub counts : (i d s : ℕ) → d < old.days → s < old.periods → in_period new i d s ≡ in_period old i d s + more i d s
+
+-- the word of row i and day d, which stands at its number, is the set of the periods in which the count is above 0
+abbrev pub AreMarks : Week → List ℕ → Type 0
+AreMarks w words = (i d s : ℕ) → i < w.grid.rows → d < w.days → s < 64 → has_bit (slice_index words (i * w.days + d)) s ≡ (nat_lt s w.periods && nat_lt 0 (in_period w i d s))
 
 -- how many places of row i have a count above 0
 abbrev pub used_at : Spread → ℕ → ℕ

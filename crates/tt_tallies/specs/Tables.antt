@@ -15,7 +15,7 @@ pub record AreTables (p : Problem) (t : List Cell) (x : Tables) : Type 0 where
   pub rooms : IsTally p (length p.rooms) is_in t x.rooms
   pub teachers : IsTally p (length (teachers p)) (of_teacher p) t x.teachers
   pub courses : IsTally p (length p.courses) is_of t x.courses
-  pub curricula : IsTally p (length p.curricula) (of_curriculum p) t x.curricula
+  pub curricula : IsTally p (length p.curricula) (of_curriculum p) t x.curricula.week
   pub opponents : IsTally p (length p.courses) (opposes p) t x.opponents
   pub days : IsSpread p p.days (λ e. e.day) t x.days
   pub course_rooms : IsSpread p (length p.rooms) (λ e. e.room) t x.course_rooms

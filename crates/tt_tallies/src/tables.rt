@@ -8,6 +8,7 @@ ghost use Rattle.tt_table.specs.declared.table.TheConstants.{MAX_ENTRIES};
 ghost use Rattle.tt_tallies.specs.Tables.{AreTables};
 
 use crate::links::Links;
+use crate::marked::Marked;
 use crate::spread::Spread;
 use crate::week::Week;
 use std::alloc::{AllocError, Global};
@@ -25,7 +26,7 @@ pub struct Tables {
     /// Those of each course.
     pub courses: Week,
     /// Those of each curriculum.
-    pub curricula: Week,
+    pub curricula: Marked,
     /// Those whose courses exclude each course.
     pub opponents: Week,
     /// Those of each course on each day.
@@ -50,7 +51,7 @@ impl Tables {
             rooms: Week::new(alloc, rooms, days, periods)?,
             teachers: Week::new(alloc, instance.teachers(), days, periods)?,
             courses: Week::new(alloc, courses, days, periods)?,
-            curricula: Week::new(alloc, instance.curricula(), days, periods)?,
+            curricula: Marked::new(alloc, instance.curricula(), days, periods)?,
             opponents: Week::new(alloc, courses, days, periods)?,
             days: Spread::new(alloc, courses, days)?,
             course_rooms: Spread::new(alloc, courses, rooms)?,

@@ -17,7 +17,7 @@ gaps_round-gaps-requires-clause-rows c =
     let r = c.requires.in_range in
     let ok = c.requires.counted.1 in
     let rows = c.curricula_of-curricula in
-    rows_below p (length p.curricula) (of_curriculum p) e rows.result.now (rows.ensures ∙ ok.links.curricula e.course r.course) r c.requires.counted.0 c.args.tables.now.curricula ok.curricula
+    rows_below p (length p.curricula) (of_curriculum p) e rows.result.now (rows.ensures ∙ ok.links.curricula e.course r.course) r c.requires.counted.0 c.args.tables.now.curricula.week ok.curricula
 
 pub gaps_round-gaps-requires-clause-few : goal.gaps_round-gaps-requires-clause-few
 gaps_round-gaps-requires-clause-few c =
@@ -25,7 +25,7 @@ gaps_round-gaps-requires-clause-few c =
     let e = c.args.entry in
     let ok = c.requires.counted.1 in
     let rows = c.curricula_of-curricula in
-    let w = c.args.tables.now.curricula in
+    let w = c.args.tables.now.curricula.week in
     omega (arith, w.few, ok.curricula.rows, passing_few (λ q. in_curriculum p q e.course) (length p.curricula) rows.result.now (rows.ensures ∙ ok.links.curricula e.course c.requires.in_range.course))
 
 pub returns : goal.returns

@@ -1,4 +1,4 @@
-use Rattle.std.proofs.Common.{sym, ap, ◌∙◌, subst, arith, get_or, take}
+use Rattle.std.proofs.Common.{sym, ap, ◌∙◌, subst, arith, take}
 use Rattle.std.specs.Prelude.{filter}
 use Rattle.std.proofs.lemmas.List.{take_all, take_more}
 use Rattle.tt_instance.specs.Cells.{all_curricula}
@@ -16,9 +16,9 @@ loop-curriculum-preserved c =
     record {
       gaps = λ u rest.
           subst (λ z. AreGaps p u z e.day e.period c.with-gaps.result) (sym (take_more rows k 0 c.loop-curriculum-test.true))
-          (c.with-gaps.ensures.gaps p u (take k rows) (get_or rows k 0) e.day e.period (c.loop-curriculum.invariant.gaps u rest) (c.around.ensures.around u rest));
+          (c.with-gaps.ensures.gaps u (take k rows) rest (c.loop-curriculum.invariant.gaps u rest));
       few_alone = omega (arith, c.with-gaps.ensures.few_alone);
-      few_joined = omega (arith, c.with-gaps.ensures.few_joined, c.around.ensures.few);
+      few_joined = omega (arith, c.with-gaps.ensures.few_joined);
     }
 
 pub returns-clause-alone : goal.returns-clause-alone

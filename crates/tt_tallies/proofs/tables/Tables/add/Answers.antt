@@ -15,7 +15,7 @@ add_rows-requires-clause-rows c =
     let r = c.requires.in_range in
     let ok = c.requires.counted.1 in
     let rows = c.curricula_of-curricula in
-    rows_below p (length p.curricula) (of_curriculum p) e rows.result.now (rows.ensures ∙ ok.links.curricula e.course r.course) r c.requires.counted.0 c.args.self.now.curricula ok.curricula
+    rows_below p (length p.curricula) (of_curriculum p) e rows.result.now (rows.ensures ∙ ok.links.curricula e.course r.course) r c.requires.counted.0 c.args.self.now.curricula.week ok.curricula
 
 pub add_rows-requires-clause-room : goal.add_rows-requires-clause-room
 add_rows-requires-clause-room c =
@@ -24,7 +24,7 @@ add_rows-requires-clause-room c =
     let r = c.requires.in_range in
     let ok = c.requires.counted.1 in
     let rows = c.curricula_of-curricula in
-    rows_room p (length p.curricula) (of_curriculum p) e rows.result.now (rows.ensures ∙ ok.links.curricula e.course r.course) r c.requires.counted.0 c.args.self.now.curricula ok.curricula c.requires.counted.2
+    rows_room p (length p.curricula) (of_curriculum p) e rows.result.now (rows.ensures ∙ ok.links.curricula e.course r.course) r c.requires.counted.0 c.args.self.now.curricula.week ok.curricula c.requires.counted.2
 
 pub add_rows-requires-2-clause-rows : goal.add_rows-requires-2-clause-rows
 add_rows-requires-2-clause-rows c =
@@ -75,7 +75,7 @@ returns c = λ t ok.
       teachers = tally_added p (length (teachers p)) (of_teacher p) t x.teachers e c.add-2.new.self _
           (λ i d s h. sym (ap (λ o. one_if (is_number o i && is_at (slot d s) e)) teacher.ensures.value)) c.add-2.ensures ok.teachers;
       courses = tally_added p (length p.courses) is_of t x.courses e c.add-3.new.self _ (λ i d s h. refl) c.add-3.ensures ok.courses;
-      curricula = tally_added p (length p.curricula) (of_curriculum p) t x.curricula e c.add_rows.new.self _
+      curricula = tally_added p (length p.curricula) (of_curriculum p) t x.curricula.week e c.add_rows.new.self.week _
           (rows_same p (length p.curricula) (of_curriculum p) e curricula.result.now (curricula.ensures ∙ ok.links.curricula e.course r.course)) c.add_rows.ensures ok.curricula;
       opponents = tally_added p (length p.courses) (opposes p) t x.opponents e c.add_rows-2.new.self _
           (rows_same p (length p.courses) (opposes p) e opponents.result.now (opponents.ensures ∙ ok.links.opponents e.course r.course)) c.add_rows-2.ensures ok.opponents;

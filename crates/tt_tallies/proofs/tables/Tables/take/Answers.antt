@@ -15,7 +15,7 @@ take_rows-requires-clause-rows c =
     let r = c.requires.in_range in
     let ok = c.requires.counted.1 in
     let rows = c.curricula_of-curricula in
-    rows_below p (length p.curricula) (of_curriculum p) e rows.result.now (rows.ensures ∙ ok.links.curricula e.course r.course) r (e ∷ c.requires.counted.0) c.args.self.now.curricula ok.curricula
+    rows_below p (length p.curricula) (of_curriculum p) e rows.result.now (rows.ensures ∙ ok.links.curricula e.course r.course) r (e ∷ c.requires.counted.0) c.args.self.now.curricula.week ok.curricula
 
 pub take_rows-requires-clause-some : goal.take_rows-requires-clause-some
 take_rows-requires-clause-some c =
@@ -24,7 +24,7 @@ take_rows-requires-clause-some c =
     let r = c.requires.in_range in
     let ok = c.requires.counted.1 in
     let rows = c.curricula_of-curricula in
-    rows_some p (length p.curricula) (of_curriculum p) e rows.result.now (rows.ensures ∙ ok.links.curricula e.course r.course) r c.requires.counted.0 c.args.self.now.curricula ok.curricula
+    rows_some p (length p.curricula) (of_curriculum p) e rows.result.now (rows.ensures ∙ ok.links.curricula e.course r.course) r c.requires.counted.0 c.args.self.now.curricula.week ok.curricula
 
 pub take_rows-requires-2-clause-rows : goal.take_rows-requires-2-clause-rows
 take_rows-requires-2-clause-rows c =
@@ -73,7 +73,7 @@ returns c = λ t ok.
       teachers = tally_taken p (length (teachers p)) (of_teacher p) t x.teachers e c.take-2.new.self _
           (λ i d s h. sym (ap (λ o. one_if (is_number o i && is_at (slot d s) e)) teacher.ensures.value)) c.take-2.ensures ok.teachers;
       courses = tally_taken p (length p.courses) is_of t x.courses e c.take-3.new.self _ (λ i d s h. refl) c.take-3.ensures ok.courses;
-      curricula = tally_taken p (length p.curricula) (of_curriculum p) t x.curricula e c.take_rows.new.self _
+      curricula = tally_taken p (length p.curricula) (of_curriculum p) t x.curricula.week e c.take_rows.new.self.week _
           (rows_same p (length p.curricula) (of_curriculum p) e curricula.result.now (curricula.ensures ∙ ok.links.curricula e.course r.course)) c.take_rows.ensures ok.curricula;
       opponents = tally_taken p (length p.courses) (opposes p) t x.opponents e c.take_rows-2.new.self _
           (rows_same p (length p.courses) (opposes p) e opponents.result.now (opponents.ensures ∙ ok.links.opponents e.course r.course)) c.take_rows-2.ensures ok.opponents;

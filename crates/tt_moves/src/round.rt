@@ -1,0 +1,157 @@
+//! The periods of a day with an entry of a curriculum, and what one more entry would change.
+
+ghost use Rattle.std.specs.Prelude.{◌≡◌, ℕ, ◌+◌, ◌^◌, ◌<◌, ◌≤◌, ◌&&◌, nat_lt, cond, not, true, List, [], ◌∷◌, ◌++◌, length};
+ghost use Rattle.tt_bits.specs.Bits.{has_bit};
+ghost use Rattle.tt_instance.specs.Cells.{slot, is_at};
+ghost use Rattle.tt_instance.specs.Courses.{in_curriculum};
+ghost use Rattle.tt_instance.specs.declared.cell.Cell.{Cell};
+ghost use Rattle.tt_change.specs.Standing.{standing, joined_before, joined_after};
+ghost use Rattle.tt_occupancy.specs.Around.{AreGaps};
+ghost use Rattle.tt_moves.specs.Rests.{IsRest, IsStill};
+ghost use Rattle.tt_moves.specs.Rounds.{AreStanding, AreIsolated, CountsOther};
+
+use crate::beside::beside;
+use crate::rest::Rest;
+use tt_bits::{has_bit, next, previous, without};
+use tt_instance::MAX_PERIODS;
+use tt_occupancy::{Gaps, one_if};
+use tt_table::Entry;
+use tt_tallies::put;
+
+impl Rest<'_, '_, '_> {
+    /// Whether the entry that stands elsewhere is to be counted anew in a curriculum.
+    fn is_other(&self, curriculum: u32, is_still: bool) -> bool
+        ensures { result ≡ (not is_still
+            && in_curriculum self.now.occupied.now.problem curriculum self.now.from.course) }
+    {
+        !is_still
+            && self
+                .occupied
+                .instance()
+                .in_curriculum(curriculum, self.from.course)
+    }
+
+    /// The set with the period of an entry on this day counted anew.
+    fn recounted(&self, set: u64, curriculum: u32, other: bool, day: u32, entry: Entry) -> u64
+        requires curriculum { curriculum < length self.now.occupied.now.problem.curricula }
+        requires day { day < self.now.occupied.now.problem.days }
+        requires gone { in_curriculum self.now.occupied.now.problem curriculum self.now.gone.course ≡ true }
+        requires other { CountsOther self.now curriculum day other }
+        requires rest { (u : List Cell) × IsRest self.now u }
+        ensures { (u : List Cell) → IsRest self.now u → (s : ℕ) → s < 64
+            → has_bit result s ≡ cond (is_at (slot day s) entry)
+            (nat_lt 0 (standing self.now.occupied.now.problem u curriculum day s)) (has_bit set s) }
+    {
+        if entry.day != day || entry.period >= MAX_PERIODS {
+            return set;
+        }
+        let count = self.standing(curriculum, other, day, entry.period);
+        put(set, entry.period, count > 0)
+    }
+
+    /// The periods of a day with an entry of a curriculum of the course left out, as a set.
+    fn standing_on(&self, curriculum: u32, other: bool, day: u32) -> u64
+        requires curriculum { curriculum < length self.now.occupied.now.problem.curricula }
+        requires day { day < self.now.occupied.now.problem.days }
+        requires gone { in_curriculum self.now.occupied.now.problem curriculum self.now.gone.course ≡ true }
+        requires other { CountsOther self.now curriculum day other }
+        requires rest { (u : List Cell) × IsRest self.now u }
+        ensures { AreStanding self.now curriculum day result }
+    {
+        let all = self.occupied.curriculum_on(curriculum, day);
+        let set = self.recounted(all, curriculum, other, day, self.gone);
+        if !other {
+            return set;
+        }
+        let left = self.recounted(set, curriculum, other, day, self.from);
+        self.recounted(left, curriculum, other, day, self.to)
+    }
+
+    /// The isolated entries in the period before, which an entry in this period would join.
+    fn joined_before(
+        &self,
+        isolated: u64,
+        curriculum: u32,
+        other: bool,
+        day: u32,
+        period: u32,
+    ) -> u32
+        requires curriculum { curriculum < length self.now.occupied.now.problem.curricula }
+        requires day { day < self.now.occupied.now.problem.days }
+        requires period { period < self.now.occupied.now.problem.periods }
+        requires gone { in_curriculum self.now.occupied.now.problem curriculum self.now.gone.course ≡ true }
+        requires other { CountsOther self.now curriculum day other }
+        requires rest { (u : List Cell) × IsRest self.now u }
+        requires isolated { AreIsolated self.now curriculum day isolated }
+        ensures value { (u : List Cell) → IsRest self.now u
+            → result ≡ joined_before self.now.occupied.now.problem u curriculum day period }
+        ensures few { result ≤ 16385 }
+    {
+        // What is true of every instance: its periods fit a word.
+        prove!(self.occupied.instance().periods() <= MAX_PERIODS);
+        if has_bit(next(isolated), period) {
+            self.standing(curriculum, other, day, period - 1)
+        } else {
+            0
+        }
+    }
+
+    /// Those in the period after.
+    fn joined_after(
+        &self,
+        isolated: u64,
+        curriculum: u32,
+        other: bool,
+        day: u32,
+        period: u32,
+    ) -> u32
+        requires curriculum { curriculum < length self.now.occupied.now.problem.curricula }
+        requires day { day < self.now.occupied.now.problem.days }
+        requires period { period < self.now.occupied.now.problem.periods }
+        requires gone { in_curriculum self.now.occupied.now.problem curriculum self.now.gone.course ≡ true }
+        requires other { CountsOther self.now curriculum day other }
+        requires rest { (u : List Cell) × IsRest self.now u }
+        requires isolated { AreIsolated self.now curriculum day isolated }
+        ensures value { (u : List Cell) → IsRest self.now u
+            → result ≡ joined_after self.now.occupied.now.problem u curriculum day period }
+        ensures few { result ≤ 16385 }
+    {
+        // What is true of every instance: its periods fit a word.
+        prove!(self.occupied.instance().periods() <= MAX_PERIODS);
+        if has_bit(previous(isolated), period) {
+            self.standing(curriculum, other, day, period + 1)
+        } else {
+            0
+        }
+    }
+
+    /// With what an entry of the course left out would change in one more curriculum.
+    pub fn with(&self, gaps: Gaps, curriculum: u32, is_still: bool, day: u32, period: u32) -> Gaps
+        requires curriculum { curriculum < length self.now.occupied.now.problem.curricula }
+        requires day { day < self.now.occupied.now.problem.days }
+        requires period { period < self.now.occupied.now.problem.periods }
+        requires gone { in_curriculum self.now.occupied.now.problem curriculum self.now.gone.course ≡ true }
+        requires still { is_still ≡ true → IsStill self.now day }
+        requires rest { (u : List Cell) × IsRest self.now u }
+        requires alone { gaps.alone + 1 < 2 ^ 32 }
+        requires joined { gaps.joined + 32770 < 2 ^ 32 }
+        ensures gaps { (u : List Cell) (rows : List ℕ) → IsRest self.now u
+            → AreGaps self.now.occupied.now.problem u rows day period gaps
+            → AreGaps self.now.occupied.now.problem u (rows ++ curriculum ∷ []) day period result }
+        ensures few_alone { result.alone ≤ gaps.alone + 1 }
+        ensures few_joined { result.joined ≤ gaps.joined + 32770 }
+    {
+        // What is true of every instance: its periods fit a word.
+        prove!(self.occupied.instance().periods() <= MAX_PERIODS);
+        let other = self.is_other(curriculum, is_still);
+        let set = self.standing_on(curriculum, other, day);
+        let beside = beside(set);
+        let isolated = without(set, beside);
+        let before = self.joined_before(isolated, curriculum, other, day, period);
+        let after = self.joined_after(isolated, curriculum, other, day, period);
+        Gaps {
+            alone: gaps.alone + one_if(!has_bit(beside, period)),
+            joined: gaps.joined + before + after,
+        }
+    }
+}
