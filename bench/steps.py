@@ -1,7 +1,8 @@
 #!/usr/bin/env python3
 """Prints how many steps a second `tt_moves::change` judges, moves and swaps apart, in the order of the tables and drawn at random,
-on a timetable of 300 lectures that it makes and on the examples like02 and like05, whose curricula are many; and beside it what
-steps.rs, plain Rust over the same tables of counts, does.
+and how many drawn ones `tt_moves::change_within`, which prices only those that break no more hard rules than the timetable, on a
+timetable of 300 lectures that it makes and on the examples like02 and like05, whose curricula are many; and beside it what steps.rs,
+plain Rust over the same tables of counts, does.
 
 Run by hand:  python3 bench/steps.py
 The Rattle side is the program in steps/: it is proved and built, as rt run builds programs, in a repository made for it, with the
@@ -52,11 +53,17 @@ def files(rng):
     return "\n".join(lines), "".join(f"c{c:03} r{r:02} {d} {p}\n" for c, r, d, p in entries)
 
 
+def crates_from(name, below):
+    """A crate and those that it stands on, however far below: each once, after what it stands on itself."""
+    lower = [crate for word in below[name] if word in below for crate in crates_from(word, below)]
+    return list(dict.fromkeys([*lower, name]))
+
+
 def repository(folder):
     """A repository with the program of steps/ and the crates below it."""
     lines = [line.split(":") for line in (PROJECT / "crates.txt").read_text().splitlines() if line and line[0] != "#"]
     below = {name.strip(): words.split() for name, words in lines}
-    crates = [*below["tt_moves"], "tt_moves"]
+    crates = crates_from("tt_moves", below)
     (folder / "crates").mkdir(parents=True)
     for name in crates:
         for part in ("src", "specs", "proofs", "out/rlib"):
@@ -99,7 +106,7 @@ def compared(programs, paths):
                 sys.exit(f"{name}: the programs differ: {sums}, {runs['plain'][name][0]}")
             for key in programs:
                 best[name, key] = min(best.get((name, key), 1 << 62), runs[key][name][1])
-    print("| Steps | How many | Hard changes, cost changes in all | `tt_moves::change` | Plain Rust | Of its speed |\n|---|---|---|---|---|---|")
+    print("| Steps | How many | Hard changes, cost changes in all | `tt_moves` | Plain Rust | Of its speed |\n|---|---|---|---|---|---|")
     for name, ((steps, hard, cost), _) in runs["proved"].items():
         rates = [steps / best[name, key] * 1000 for key in programs]
         print(f"| {name.replace('-', ' ')} | {steps:,} | {hard:,}, {cost:,} | {rates[0]:.1f} million a second | {rates[1]:.1f} million a second | {rates[0] / rates[1]:.2f} |")

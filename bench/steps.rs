@@ -135,8 +135,13 @@ struct Rest<'a> {
     gone: Entry,
 }
 
-struct Weight {
-    hard: i64,
+/// Another entry in the place of the one that a rest leaves out.
+struct Exchange<'a> {
+    rest: Rest<'a>,
+    new: Entry,
+}
+
+struct Cost {
     rise: i64,
     fall: i64,
 }
@@ -171,26 +176,70 @@ impl Tables {
         self.rooms_used[entry.course] += u16::from(*room == 1);
     }
 
-    fn exchange(&self, from: Entry, to: Entry, gone: Entry, new: Entry) -> Change {
-        let rest = Rest { tables: self, from, to, gone };
-        let (before, after) = (rest.weigh(gone), rest.weigh(new));
-        Change { hard: after.hard - before.hard, cost: after.rise + before.fall - before.rise - after.fall }
+    fn exchange(&self, from: Entry, to: Entry, gone: Entry, new: Entry) -> Exchange<'_> {
+        Exchange { rest: Rest { tables: self, from, to, gone }, new }
     }
 
-    fn move_change(&self, entry: usize, room: usize, day: usize, period: usize) -> Change {
+    fn exchange_of_move(&self, entry: usize, room: usize, day: usize, period: usize) -> Exchange<'_> {
         let from = self.entries[entry];
         self.exchange(from, from, from, Entry { room, day, period, ..from })
     }
 
-    fn swap_change(&self, first: usize, second: usize) -> Change {
+    fn exchanges_of_swap(&self, first: usize, second: usize) -> Option<(Exchange<'_>, Exchange<'_>)> {
         let (one, other) = (self.entries[first], self.entries[second]);
         if one.course == other.course {
-            return Change { hard: 0, cost: 0 };
+            return None;
         }
         let there = Entry { course: one.course, ..other };
         let here = Entry { course: other.course, ..one };
-        let (a, b) = (self.exchange(one, one, one, there), self.exchange(one, there, other, here));
-        Change { hard: a.hard + b.hard, cost: a.cost + b.cost }
+        Some((self.exchange(one, one, one, there), self.exchange(one, there, other, here)))
+    }
+
+    fn move_change(&self, entry: usize, room: usize, day: usize, period: usize) -> Change {
+        self.exchange_of_move(entry, room, day, period).change()
+    }
+
+    fn swap_change(&self, first: usize, second: usize) -> Change {
+        match self.exchanges_of_swap(first, second) {
+            None => Change { hard: 0, cost: 0 },
+            Some((a, b)) => {
+                let (a, b) = (a.change(), b.change());
+                Change { hard: a.hard + b.hard, cost: a.cost + b.cost }
+            }
+        }
+    }
+
+    /// A move's change, where it breaks no more hard rules than the timetable.
+    fn move_within(&self, entry: usize, room: usize, day: usize, period: usize) -> Option<Change> {
+        let exchange = self.exchange_of_move(entry, room, day, period);
+        let hard = exchange.hard();
+        (hard <= 0).then(|| Change { hard, cost: exchange.cost() })
+    }
+
+    /// The same of a swap.
+    fn swap_within(&self, first: usize, second: usize) -> Option<Change> {
+        match self.exchanges_of_swap(first, second) {
+            None => Some(Change { hard: 0, cost: 0 }),
+            Some((a, b)) => {
+                let hard = a.hard() + b.hard();
+                (hard <= 0).then(|| Change { hard, cost: a.cost() + b.cost() })
+            }
+        }
+    }
+}
+
+impl Exchange<'_> {
+    fn hard(&self) -> i64 {
+        self.rest.hard(self.new) - self.rest.hard(self.rest.gone)
+    }
+
+    fn cost(&self) -> i64 {
+        let (before, after) = (self.rest.cost(self.rest.gone), self.rest.cost(self.new));
+        after.rise + before.fall - before.rise - after.fall
+    }
+
+    fn change(&self) -> Change {
+        Change { hard: self.hard(), cost: self.cost() }
     }
 }
 
@@ -235,19 +284,22 @@ impl Rest<'_> {
         (alone, joined)
     }
 
-    fn weigh(&self, entry: Entry) -> Weight {
+    fn hard(&self, entry: Entry) -> i64 {
         let tables = self.tables;
-        let course = &tables.courses[entry.course];
-        let (slots, slot) = (tables.slots, tables.slot(entry.day, entry.period));
-        let of_course = tables.of_course[entry.course * slots + slot];
-        let repeats = u32::from(of_course) > u32::from(stands_at(self.gone, entry.day, entry.period));
-        let against = self.adjusted(tables.opposing[entry.course * slots + slot], |e| {
+        let slot = entry.course * tables.slots + tables.slot(entry.day, entry.period);
+        let repeats = u32::from(tables.of_course[slot]) > u32::from(stands_at(self.gone, entry.day, entry.period));
+        let against = self.adjusted(tables.opposing[slot], |e| {
             tables.conflicts[entry.course][e.course] && stands_at(e, entry.day, entry.period)
         });
-        let barred = tables.unavailable[entry.course][slot];
-        let shares = self.adjusted(tables.in_room[entry.room * slots + slot], |e| {
-            e.room == entry.room && stands_at(e, entry.day, entry.period)
-        });
+        let barred = tables.unavailable[entry.course][tables.slot(entry.day, entry.period)];
+        let in_room = tables.in_room[entry.room * tables.slots + tables.slot(entry.day, entry.period)];
+        let shares = self.adjusted(in_room, |e| e.room == entry.room && stands_at(e, entry.day, entry.period));
+        i64::from(u32::from(repeats) + against + u32::from(barred) + u32::from(shares > 0))
+    }
+
+    fn cost(&self, entry: Entry) -> Cost {
+        let tables = self.tables;
+        let course = &tables.courses[entry.course];
         let excess = course.students.saturating_sub(tables.capacities[entry.room]);
         let days_row = &tables.on_day[entry.course * tables.days..][..tables.days];
         let days = used_anew(tables.days_used[entry.course], days_row[self.gone.day], days_row[entry.day], self.gone.day == entry.day);
@@ -255,9 +307,8 @@ impl Rest<'_> {
         let rooms_row = &tables.course_in_room[entry.course * rooms..][..rooms];
         let rooms = used_anew(tables.rooms_used[entry.course], rooms_row[self.gone.room], rooms_row[entry.room], self.gone.room == entry.room);
         let (alone, joined) = self.gaps(entry);
-        let hard = u32::from(repeats) + against + u32::from(barred) + u32::from(shares > 0);
         let rise = excess + 5 * course.min_days.saturating_sub(days) + rooms.saturating_sub(1) + 2 * alone;
-        Weight { hard: i64::from(hard), rise: i64::from(rise), fall: i64::from(2 * joined) }
+        Cost { rise: i64::from(rise), fall: i64::from(2 * joined) }
     }
 }
 
@@ -273,6 +324,14 @@ impl Tally {
         self.steps += 1;
         self.hard += change.hard;
         self.cost += change.cost;
+    }
+
+    /// One step more, whose change counts only where there is one.
+    fn add_within(&mut self, change: Option<Change>) {
+        match change {
+            Some(change) => self.add(change),
+            None => self.steps += 1,
+        }
     }
 }
 
@@ -338,6 +397,28 @@ fn swaps_drawn(tables: &Tables) -> Tally {
     tally
 }
 
+fn moves_within(tables: &Tables) -> Tally {
+    let (mut tally, mut draws) = (Tally::default(), Draws { state: 1 });
+    for _ in 0..DRAWS {
+        let entry = draws.below(tables.entries.len());
+        let room = draws.below(tables.capacities.len());
+        let day = draws.below(tables.days);
+        let period = draws.below(tables.periods);
+        tally.add_within(tables.move_within(entry, room, day, period));
+    }
+    tally
+}
+
+fn swaps_within(tables: &Tables) -> Tally {
+    let (mut tally, mut draws) = (Tally::default(), Draws { state: 1 });
+    for _ in 0..DRAWS {
+        let first = draws.below(tables.entries.len());
+        let second = draws.below(tables.entries.len());
+        tally.add_within(tables.swap_within(first, second));
+    }
+    tally
+}
+
 fn measure(name: &str, way: fn(&Tables) -> Tally, tables: &Tables) {
     let start = Instant::now();
     let tally = way(tables);
@@ -354,4 +435,6 @@ fn main() {
     measure("swaps-in-order", swaps_in_order, &tables);
     measure("moves-drawn", moves_drawn, &tables);
     measure("swaps-drawn", swaps_drawn, &tables);
+    measure("moves-drawn-within", moves_within, &tables);
+    measure("swaps-drawn-within", swaps_within, &tables);
 }

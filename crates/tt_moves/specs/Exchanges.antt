@@ -36,3 +36,7 @@ abbrev pub Lead : Filled → Step → Exchanges → Type 0
 Lead o step Same = SameBag (stepped o.entries step) o.entries
 Lead o step (One x) = IsFirst o step x (stepped o.entries step)
 Lead o step (Two x y) = (u : List Cell) × (t : List Cell) × IsFirst o step x t × IsExchange o.problem y u t (stepped o.entries step)
+
+-- there is a timetable and a step of it whose exchanges they are
+abbrev pub CanLead : Exchanges → Type 0
+CanLead x = (o : Filled) × (step : Step) × Lead o step x

@@ -5,9 +5,10 @@ ghost use Rattle.tt_rules.specs.Score.{hard, cost};
 ghost use Rattle.tt_moves.specs.Changes.{IsBelow};
 ghost use Rattle.tt_moves.specs.Steps.{CanStep, stepped};
 
-use crate::exchanges::{Exchanges, exchanges_of};
+use crate::exchanges::exchanges_of;
 use crate::exchanging::Change;
 use crate::step::Step;
+use crate::within::change_within;
 use tt_occupancy::Occupied;
 
 /// What a step would change. Nothing is written and no memory is taken.
@@ -18,17 +19,10 @@ pub fn change(occupied: &Occupied<'_, '_>, step: Step) -> Change
     ensures cost { pos (cost occupied.now.problem occupied.now.entries) +ℤ result.cost
         ≡ pos (cost occupied.now.problem (stepped occupied.now.entries step)) }
 {
-    match exchanges_of(occupied, step) {
-        Exchanges::Same => Change { hard: 0, cost: 0 },
-        Exchanges::One(exchange) => exchange.change(),
-        Exchanges::Two(there, here) => {
-            let moved_there = there.change();
-            let moved_here = here.change();
-            Change {
-                hard: moved_there.hard + moved_here.hard,
-                cost: moved_there.cost + moved_here.cost,
-            }
-        }
+    let exchanges = exchanges_of(occupied, step);
+    Change {
+        hard: exchanges.hard_change(),
+        cost: exchanges.cost_change(),
     }
 }
 
@@ -38,6 +32,8 @@ pub fn lowers(occupied: &Occupied<'_, '_>, step: Step) -> bool
     ensures { IsTrue result
         ↔ IsBelow occupied.now.problem (stepped occupied.now.entries step) occupied.now.entries }
 {
-    let change = change(occupied, step);
-    change.hard < 0 || (change.hard == 0 && change.cost < 0)
+    match change_within(occupied, step, 0) {
+        Some(change) => change.hard < 0 || change.cost < 0,
+        None => false,
+    }
 }

@@ -1,8 +1,11 @@
 //! The exchanges of entries that make a step.
 
-ghost use Rattle.std.specs.Prelude.{◌≡◌, ◌<◌, length};
-ghost use Rattle.tt_moves.specs.Exchanges.{IsFirst, Lead};
+ghost use Rattle.std.specs.Prelude.{◌≡◌, ◌<◌, length, pos, ◌+ℤ◌};
+ghost use Rattle.tt_rules.specs.Score.{hard, cost};
+ghost use Rattle.tt_occupancy.specs.Filled.{Filled};
+ghost use Rattle.tt_moves.specs.Exchanges.{IsFirst, Lead, CanLead};
 ghost use Rattle.tt_moves.specs.Steps.{CanStep, in_place_of, stepped};
+ghost use Rattle.tt_moves.specs.declared.step.Step.{Step};
 
 use crate::exchanging::Exchange;
 use crate::rest::Rest;
@@ -17,6 +20,44 @@ pub enum Exchanges<'b, 'a, 'i> {
     Same,
     One(Exchange<'b, 'a, 'i>),
     Two(Exchange<'b, 'a, 'i>, Exchange<'b, 'a, 'i>),
+}
+
+impl Exchanges<'_, '_, '_> {
+    /// What they change in the hard count.
+    #[inline(always)]
+    pub fn hard_change(&self) -> i64
+        requires { CanLead self.now }
+        ensures { (o : Filled) (step : Step) → Lead o step self.now
+            → pos (hard o.problem o.entries) +ℤ result ≡ pos (hard o.problem (stepped o.entries step)) }
+    {
+        match self {
+            Exchanges::Same => 0,
+            Exchanges::One(exchange) => exchange.hard_change(),
+            Exchanges::Two(there, here) => {
+                let hard_there = there.hard_change();
+                let hard_here = here.hard_change();
+                hard_there + hard_here
+            }
+        }
+    }
+
+    /// What they change in the cost.
+    #[inline(always)]
+    pub fn cost_change(&self) -> i64
+        requires { CanLead self.now }
+        ensures { (o : Filled) (step : Step) → Lead o step self.now
+            → pos (cost o.problem o.entries) +ℤ result ≡ pos (cost o.problem (stepped o.entries step)) }
+    {
+        match self {
+            Exchanges::Same => 0,
+            Exchanges::One(exchange) => exchange.cost_change(exchange.cost_before()),
+            Exchanges::Two(there, here) => {
+                let cost_there = there.cost_change(there.cost_before());
+                let cost_here = here.cost_change(here.cost_before());
+                cost_there + cost_here
+            }
+        }
+    }
 }
 
 /// An entry with its own course, in the place of another one.

@@ -4,7 +4,6 @@ ghost use Rattle.std.specs.Prelude.{◌≡◌, List, pos, neg_ℤ, ◌+ℤ◌, �
 ghost use Rattle.tt_instance.specs.Problem.{Problem};
 ghost use Rattle.tt_instance.specs.declared.cell.Cell.{Cell};
 ghost use Rattle.tt_rules.specs.Score.{hard, cost};
-ghost use Rattle.tt_moves.specs.Changes.{IsSmall};
 ghost use Rattle.tt_moves.specs.Exchanges.{IsExchange, CanExchange};
 ghost use Rattle.tt_moves.specs.Pricing.{IsCost};
 
@@ -28,7 +27,7 @@ pub struct Exchange<'b, 'a, 'i> {
 
 impl Exchange<'_, '_, '_> {
     /// What it changes in the hard count.
-    fn hard_change(&self) -> i64
+    pub fn hard_change(&self) -> i64
         requires { CanExchange self.now }
         ensures value { (p : Problem) (u s t : List Cell) → IsExchange p self.now u s t
             → pos (hard p s) +ℤ result ≡ pos (hard p t) }
@@ -62,20 +61,5 @@ impl Exchange<'_, '_, '_> {
         i64::from(after.rise) + i64::from(before.fall)
             - i64::from(before.rise)
             - i64::from(after.fall)
-    }
-
-    /// What it changes in the score.
-    pub fn change(&self) -> Change
-        requires { CanExchange self.now }
-        ensures hard { (p : Problem) (u s t : List Cell) → IsExchange p self.now u s t
-            → pos (hard p s) +ℤ result.hard ≡ pos (hard p t) }
-        ensures cost { (p : Problem) (u s t : List Cell) → IsExchange p self.now u s t
-            → pos (cost p s) +ℤ result.cost ≡ pos (cost p t) }
-        ensures small { IsSmall result }
-    {
-        Change {
-            hard: self.hard_change(),
-            cost: self.cost_change(self.cost_before()),
-        }
     }
 }

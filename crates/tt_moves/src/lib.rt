@@ -13,6 +13,7 @@ mod round;
 mod step;
 mod still;
 mod weight;
+mod within;
 
 pub use changing::{change, lowers};
 pub use cost::EntryCost;
@@ -20,3 +21,4 @@ pub use exchanging::Change;
 pub use pricing::{cost_change, entry_cost};
 pub use step::{Step, apply, apply_all, can_step, undo};
 pub use tt_chain::{Chain, ChainFault, chain, swap_chain};
+pub use within::{change_within, hard_change};
