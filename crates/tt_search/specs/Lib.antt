@@ -1,4 +1,5 @@
 pub mod Improved
 pub mod Pairs
+pub mod Settled
 pub use Rattle.tt_construct.specs.Constructed
 pub use Rattle.tt_descend.specs.Descent

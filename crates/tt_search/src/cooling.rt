@@ -1,9 +1,7 @@
 //! How far a walk has come, and how warm it is.
 
 use crate::logarithm::{STEPS, logarithm, power};
-
-/// What the last draws take half of the time, in thousandths of a point.
-const COLDEST: u64 = 50;
+use crate::rounds::Part;
 
 /// What a first draw takes half of the time at most, in thousandths of a point.
 const HOTTEST: u64 = 5_600;
@@ -41,6 +39,8 @@ pub struct Cooling {
     sampled: u64,
     /// Of how many steps that change no cost one is made.
     level: u32,
+    /// What the last draws take half of the time, in thousandths of a point.
+    coldest: u64,
     /// The logarithm of how much warmer the round begins than it ends.
     height: u64,
 }
@@ -55,23 +55,26 @@ pub fn samples(draws: u64) -> u64 {
     (SAMPLES / draws.isqrt().max(1)).clamp(16, 1024)
 }
 
-/// What a first draw takes half of the time, beside a timetable of this cost and this many entries.
+/// What a first draw usually takes half of the time, beside a timetable of this cost and this many entries.
 fn first(cost: u64, entries: u64) -> u64 {
     let more = cost.saturating_mul(WARMER) / entries.max(1);
     WARM.saturating_add(more).min(HOTTEST)
 }
 
 impl Cooling {
-    /// A round of this many draws, of this many samples each in the mean, from a timetable of this cost and this many
-    /// entries.
-    pub fn new(draws: u64, samples: u64, cost: u64, entries: u64) -> Cooling {
-        let warmer = first(cost, entries).saturating_mul(STEPS) / COLDEST;
+    /// The cooling of a round, of this many draws, of this many samples each in the mean, from a timetable of this cost
+    /// and this many entries.
+    pub fn new(part: Part, draws: u64, samples: u64, cost: u64, entries: u64) -> Cooling {
+        let coldest = part.coldest.max(1);
+        let warmest = first(cost, entries).saturating_mul(part.start) / 1_000;
+        let warmer = warmest.saturating_mul(STEPS) / coldest;
         Cooling {
             draws,
             samples: draws.saturating_mul(samples),
             drawn: 0,
             sampled: 0,
             level: (samples / SAMPLES_A_LEVEL).clamp(FEWEST_LEVELS, MOST_LEVELS) as u32,
+            coldest,
             height: logarithm(warmer).saturating_sub(logarithm(STEPS)),
         }
     }
@@ -80,7 +83,8 @@ impl Cooling {
     pub fn temperature(self) -> u64 {
         let gone = share(self.drawn, self.draws).max(share(self.sampled, self.samples));
         let left = WHOLE.saturating_sub(gone);
-        COLDEST.saturating_mul(power(self.height.saturating_mul(left) / WHOLE)) / STEPS
+        let warmer = power(self.height.saturating_mul(left) / WHOLE);
+        self.coldest.saturating_mul(warmer) / STEPS
     }
 
     /// Of how many steps that change no cost one is made.

@@ -14,7 +14,7 @@ use tt_moves::{Change, EntryCost, Step, change, cost_change, entry_cost};
 use tt_occupancy::Occupied;
 
 /// How many samples are steps of one entry, one after the other.
-const SAMPLES_AN_ENTRY: u64 = 8;
+pub const SAMPLES_AN_ENTRY: u64 = 8;
 
 /// What a step would change. Where the timetable breaks no hard rule, a sample is taken to break none either.
 fn judge(occupied: &Occupied<'_, '_>, step: Step, before: EntryCost, is_feasible: bool) -> Change

@@ -9,6 +9,8 @@ ghost use Rattle.tt_search.specs.Pairs.{IsBest};
 use crate::best::Best;
 use crate::cooling::{Cooling, samples};
 use crate::restoring::restore;
+use crate::rounds::{Part, SETTLED, UNSETTLED};
+use crate::settled::seems_settled;
 use crate::walking::{Walker, walk};
 use std::alloc::{AllocError, Global};
 use tt_descend::descend_in;
@@ -16,14 +18,12 @@ use tt_instance::Instance;
 use tt_occupancy::Occupied;
 use tt_table::Timetable;
 
-/// One of how many draws belongs to the first round.
-const FIRST_ROUND: u64 = 4;
-
 /// Walks from the best timetable, and goes to the best one then. No memory is taken.
 fn go_round(
     occupied: &mut Occupied<'_, '_>,
     best: &mut Best,
     walker: &mut Walker,
+    part: Part,
     draws: u64,
     samples: u64,
 )
@@ -39,9 +39,35 @@ fn go_round(
 {
     walker.begin(occupied);
     let entries = occupied.table().len() as u64;
-    let cooling = Cooling::new(draws, samples, best.pair.cost, entries);
+    let cooling = Cooling::new(part, draws, samples, best.pair.cost, entries);
     walk(occupied, best, walker, cooling, draws);
     restore(occupied, &best.entries);
+}
+
+/// Walks in rounds, each from the best timetable so far, and goes to the best one then. No memory is taken.
+fn go_rounds(
+    occupied: &mut Occupied<'_, '_>,
+    best: &mut Best,
+    walker: &mut Walker,
+    parts: &[Part],
+    draws: u64,
+)
+    requires some { 0 < length occupied.old.entries }
+    requires here { best.old.entries.items ≡ occupied.old.entries }
+    requires best { (t : List Cell) × IsBest occupied.old.problem t best.old }
+    ensures problem { occupied.new.problem ≡ occupied.old.problem }
+    ensures here { best.new.entries.items ≡ occupied.new.entries }
+    ensures best { (t : List Cell) → IsBest occupied.old.problem t best.old
+        → IsBest occupied.old.problem t best.new }
+    ensures reached { LeadsWithin occupied.old.problem occupied.old.entries draws occupied.new.entries }
+{
+    let samples = samples(draws);
+    let mut made = 0;
+    for part in parts {
+        let next = part.draws(draws, made);
+        go_round(occupied, best, walker, *part, next, samples);
+        made += next;
+    }
 }
 
 /// Goes on to the best timetable that this many drawn steps lead to.
@@ -60,10 +86,13 @@ fn walk_to_best(
     }
     let mut best = Best::new(alloc, occupied)?;
     let mut walker = Walker::new(alloc, occupied, seed)?;
-    let first = draws / FIRST_ROUND;
-    let samples = samples(draws);
-    go_round(occupied, &mut best, &mut walker, first, samples);
-    go_round(occupied, &mut best, &mut walker, draws - first, samples);
+    walker.begin(occupied);
+    let parts = if seems_settled(occupied, &mut walker) {
+        SETTLED.as_slice()
+    } else {
+        UNSETTLED.as_slice()
+    };
+    go_rounds(occupied, &mut best, &mut walker, parts, draws);
     Ok(())
 }
 

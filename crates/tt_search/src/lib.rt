@@ -13,7 +13,9 @@ mod pair;
 mod places;
 mod random;
 mod restoring;
+mod rounds;
 mod sampling;
+mod settled;
 mod violations;
 mod walking;
 

@@ -19,9 +19,9 @@ use tt_occupancy::Occupied;
 /// What draws steps.
 #[derive(Drop)]
 pub struct Walker {
-    board: Board,
-    open: Open,
-    rng: Pcg32,
+    pub board: Board,
+    pub open: Open,
+    pub rng: Pcg32,
 }
 
 impl Walker {

@@ -1,0 +1,51 @@
+//! The rounds of a walk.
+
+ghost use Rattle.std.specs.Prelude.{◌+◌, ◌≤◌};
+
+/// A round of a walk: where it ends, and how warm it is.
+#[derive(Clone, Copy)]
+pub struct Part {
+    /// How many sixteenths of all draws are made at its end.
+    pub end: u64,
+    /// How warm it begins, in thousandths of what is usual.
+    pub start: u64,
+    /// What its last draws take half of the time, in thousandths of a point.
+    pub coldest: u64,
+}
+
+/// The rounds from a timetable that is far from the best.
+pub const UNSETTLED: [Part; 3] = [
+    Part {
+        end: 2,
+        start: 1_000,
+        coldest: 100,
+    },
+    Part {
+        end: 10,
+        start: 700,
+        coldest: 100,
+    },
+    Part {
+        end: 16,
+        start: 500,
+        coldest: 90,
+    },
+];
+
+/// The round from a timetable that seems to be near the best.
+pub const SETTLED: [Part; 1] = [Part {
+    end: 16,
+    start: 500,
+    coldest: 90,
+}];
+
+impl Part {
+    /// How many draws the round makes, of this many in all, after those that are made.
+    pub fn draws(self, all: u64, made: u64) -> u64
+        requires { made ≤ all }
+        ensures { made + result ≤ all }
+    {
+        let end = u128::from(all) * u128::from(self.end) / 16;
+        end.min(u128::from(all)).saturating_sub(u128::from(made)) as u64
+    }
+}
