@@ -18,8 +18,8 @@ pub fn hard_change(occupied: &Occupied<'_, '_>, step: Step) -> i64
     exchanges_of(occupied, step).hard_change()
 }
 
-/// What a step would change, where it adds at most so many broken hard rules, and nothing where it adds more: its cost is
-/// not computed then. Nothing is written and no memory is taken.
+/// What a step would change, where it breaks at most `limit` more hard rules than the timetable, and `None` where it breaks
+/// more: then its cost is not computed. Nothing is written and no memory is taken.
 pub fn change_within(occupied: &Occupied<'_, '_>, step: Step, limit: i64) -> Option<Change>
     requires { CanStep occupied.now.problem occupied.now.entries step }
     ensures hard { IfSome result (λ c. pos (hard occupied.now.problem occupied.now.entries) +ℤ c.hard

@@ -4,7 +4,10 @@ use crate::timetables::{occupied, text_of};
 use std::alloc::Global;
 use std::test::Fail;
 use tt_instance::{Instance, read_instance};
-use tt_moves::{ChainFault, Step, apply, can_step, chain, change, lowers, swap_chain, undo};
+use tt_moves::{
+    ChainFault, Change, Step, apply, can_step, chain, change, change_within, hard_change, lowers,
+    swap_chain, undo,
+};
 use tt_occupancy::Occupied;
 use tt_samples::{MINI, MINI_SOLUTION, TOUR, edited};
 
@@ -47,6 +50,32 @@ fn changes_of_steps(rt: HostRuntime) -> Result<(), Fail> {
     ] {
         assert_eq!(rt; changed(&occupied, step), changes, "{step:?}");
     }
+    Ok(())
+}
+
+/// What a step changes in the hard count, and what in the score within a limit; nothing where it can't be made.
+fn changed_within(
+    occupied: &Occupied<'_, '_>,
+    step: Step,
+    limit: i64,
+) -> Option<(i64, Option<Change>)> {
+    if !can_step(occupied, step) {
+        return None;
+    }
+    Some((
+        hard_change(occupied, step),
+        change_within(occupied, step, limit),
+    ))
+}
+
+#[test]
+fn changes_within_a_limit(rt: HostRuntime) -> Result<(), Fail> {
+    let instance = read_instance(rt.alloc(), MINI.as_bytes())?;
+    let occupied = occupied(rt.alloc(), &instance, MINI_SOLUTION)?;
+    let step = moved_to(1, 0, 0, 0);
+    let within = Change { hard: 2, cost: 0 };
+    assert_eq!(rt; changed_within(&occupied, step, 2), Some((2, Some(within))));
+    assert_eq!(rt; changed_within(&occupied, step, 1), Some((2, None)));
     Ok(())
 }
 
