@@ -10,24 +10,30 @@ use crate::cooling::Cooling;
 use crate::open::Open;
 use crate::sampling::{entry_to_move, sample};
 use rand_pcg::Pcg32;
-use tt_moves::{Change, EntryCost, Step, change, cost_change, entry_cost};
+use tt_moves::{Change, EntryCost, Step, change_within, cost_change, entry_cost};
 use tt_occupancy::Occupied;
 
 /// How many samples are steps of one entry, one after the other.
 pub const SAMPLES_AN_ENTRY: u64 = 8;
 
-/// What a step would change. Where the timetable breaks no hard rule, a sample is taken to break none either.
-fn judge(occupied: &Occupied<'_, '_>, step: Step, before: EntryCost, is_feasible: bool) -> Change
+/// What a step would change, unless it would break more hard rules. Where the timetable breaks none, a sample is taken to
+/// break none either.
+fn judge(
+    occupied: &Occupied<'_, '_>,
+    step: Step,
+    before: EntryCost,
+    is_feasible: bool,
+) -> Option<Change>
     requires step { CanStep occupied.now.problem occupied.now.entries step }
     requires before { IsEntryCost occupied.now.problem occupied.now.entries (first_of step) before }
 {
     if is_feasible {
-        Change {
+        Some(Change {
             hard: 0,
             cost: cost_change(occupied, step, before),
-        }
+        })
     } else {
-        change(occupied, step)
+        change_within(occupied, step, 0)
     }
 }
 
@@ -49,13 +55,10 @@ fn draw_of(
     for _ in 0..cooling.patience().min(SAMPLES_AN_ENTRY) {
         cooling.sample();
         if let Some(step) = sample(occupied, board, open, rng, entry) {
-            if admits(
-                rng,
-                temperature,
-                level,
-                judge(occupied, step, before, is_feasible),
-            ) {
-                return Some(step);
+            if let Some(change) = judge(occupied, step, before, is_feasible) {
+                if admits(rng, temperature, level, change) {
+                    return Some(step);
+                }
             }
         }
     }
