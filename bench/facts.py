@@ -193,7 +193,7 @@ def row(name, instance, proof, nodes, plain):
     if best["tt"] is None or best["plain"] is None:
         print(f"| {name} | {nodes:,} nodes, {size:.1f} MB | {rate('tt')} | | {rate('plain')} | | |", flush=True)
         return
-    print(f"| {name} | {nodes:,} nodes, {size:.1f} MB | {best['tt']:.2f} s, {rate('tt')} | {1e6 * best['tt'] / nodes:.2f} µs | {best['plain']:.2f} s, {rate('plain')} | {best['tt'] / best['plain']:.1f} | {rate('wc')} |", flush=True)
+    print(f"| {name} | {nodes:,} nodes, {size:.1f} MB | {best['tt']:.2f} s, {rate('tt')} | {1e6 * best['tt'] / nodes:.2f} µs | {best['plain']:.2f} s, {rate('plain')} | {best['tt'] / best['plain']:.2f} | {rate('wc')} |", flush=True)
 
 
 def main():
