@@ -3,7 +3,7 @@
 the peak memory of both: many small nodes, and few leaves with long lists; each in two lengths, of about 50 and 200 MB.
 
 Run by hand, after ./tt has built the program:  python3 bench/bound.py
-Each command is run five times, in turn with the others, and the least time counts. `wc -w` is run in the locales C.UTF-8 and C.
+Each command is run five times, in turn with the others, and the least processor time counts (user and system). `wc -w` is run in the locales C.UTF-8 and C.
 A MB is 1,000,000 bytes. The peak is what /usr/bin/time says where it is there, else what the system says, which is no less than
 what this script itself has.
 """
@@ -14,7 +14,6 @@ import shutil
 import subprocess
 import sys
 import tempfile
-import time
 from pathlib import Path
 
 HERE = Path(__file__).resolve().parent
@@ -74,15 +73,14 @@ def shapes(rng):
 
 
 def run(words, locale):
-    """The time of one run in seconds, the peak memory in KiB, and what was printed."""
+    """The processor time of one run in seconds, the peak memory in KiB, and what was printed."""
     timer = shutil.which("time")
     if timer:
         words = [timer, "-q", "-f", "%M", *words]
     with tempfile.TemporaryFile() as out, tempfile.TemporaryFile() as err:
-        start = time.perf_counter()
         child = subprocess.Popen(words, stdout=out, stderr=err, env={**os.environ, "LC_ALL": locale})
         _, status, usage = os.wait4(child.pid, 0)
-        taken = time.perf_counter() - start
+        taken = usage.ru_utime + usage.ru_stime
         out.seek(0)
         err.seek(0)
         text, told = out.read().decode(), err.read().decode()

@@ -5,16 +5,16 @@ which split on cells that are live as far as this script can see, and whose leav
 Run by hand, after ./tt has built the program:  python3 bench/facts.py [NODES]
 NODES is how many nodes each proof has at most (default 1,000,000). Beside each time stand those of bench/paths.rs, a checker of the same
 proofs in plain Rust (`rustc -O`), and of `wc -w` on the same bytes. Every command is run five times, in turn with the others, and the least
-time counts; one that takes more than 120 seconds is stopped and says so.
+processor time counts (user and system); one that takes more than 120 seconds is stopped and says so.
 """
 
 import os
 import random
+import resource
 import shutil
 import subprocess
 import sys
 import tempfile
-import time
 from pathlib import Path
 
 HERE = Path(__file__).resolve().parent
@@ -164,17 +164,22 @@ def write_deep(path, instance, facts, nodes):
     return count + tree.nodes
 
 
+def processor_seconds():
+    """What all commands so far have taken of a processor."""
+    used = resource.getrusage(resource.RUSAGE_CHILDREN)
+    return used.ru_utime + used.ru_stime
+
+
 def run(words):
-    """The seconds of a run, none where it was stopped, and what it printed."""
-    start = time.perf_counter()
+    """The processor seconds of a run, none where it was stopped, and what it printed."""
+    before = processor_seconds()
     try:
         done = subprocess.run(words, capture_output=True, text=True, timeout=MOST_SECONDS, env={**os.environ, "LC_ALL": "C.UTF-8"})
     except subprocess.TimeoutExpired:
         return None, ""
-    taken = time.perf_counter() - start
     if done.returncode:
         sys.exit(f"{words}: {done.stderr}")
-    return taken, done.stdout
+    return processor_seconds() - before, done.stdout
 
 
 def row(name, instance, proof, nodes, plain):
