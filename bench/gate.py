@@ -1,12 +1,15 @@
 #!/usr/bin/env python3
-"""Runs the gate and prints where its minutes go: a line for each crate with the processor seconds of its proof, its tests and its must-fail edits.
+"""Runs the gate and prints where its minutes go: a line for each crate with the processor seconds of its proof, of its tests, of the check
+of the crate as it stands that its must-fail edits begin with, and of those edits; then the edits that took longest.
 
     python3 bench/gate.py [LOG]
 
-runs `rt ci` at the top of the repository, writes what it says to LOG (gate.log if none is given), and prints the table once it has ended;
-until then the table so far stands in LOG.table, written anew every minute, so that a run that is cut off is not lost. The status is the gate's. The gate says no times itself, so the prover's processes are looked at twice a second: a process that lives
-shorter than that is left out.
+runs `rt ci --anew` at the top of the repository, so that nothing which an earlier run kept is taken, writes what it says to LOG (gate.log
+if none is given), and prints the table once it has ended; until then the table so far stands in LOG.table, written anew every minute, so
+that a run that is cut off is not lost. The status is the gate's. The gate says no times itself, so the prover's processes are looked at
+twice a second: a process that lives shorter than that is left out.
 """
+import glob
 import os
 import subprocess
 import sys
@@ -14,7 +17,8 @@ import time
 from collections import defaultdict
 
 TICKS = os.sysconf("SC_CLK_TCK")
-STEPS = ["proof", "tests", "edits"]
+STEPS = ["proof", "tests", "as it stands", "edits"]
+DEAREST = 25
 
 
 def words_of(process):
@@ -36,16 +40,19 @@ def parent_and_seconds(process):
 
 
 def crate_and_step(words):
-    """Which crate a prover's process works on, and at which step of the gate."""
+    """Which crate a prover's process works on, at which step of the gate, and on which of the crate's edits."""
     if not words or not words[0].endswith("/rattle") or "--crate-name" not in words:
         return None
     crate = words[words.index("--crate-name") + 1]
     if "--test" in words:
-        return crate, "tests"
+        return crate, "tests", None
     kept = words[words.index("--incremental") + 1] if "--incremental" in words else ""
-    if "rt-edits-" in kept or (words[1] == "check" and "-o" not in words):
-        return crate, "edits"
-    return crate, "proof"
+    if "rt-edits-" in kept:
+        base = os.path.basename(kept)
+        return (crate, "edits", int(base)) if base.isdigit() else (crate, "as it stands", None)
+    if words[1] == "check" and "-o" not in words:
+        return crate, "edits", None
+    return crate, "proof", None
 
 
 def descendants(top, parents):
@@ -81,23 +88,38 @@ def watch(gate, used, so_far):
 
 
 def table(used, out):
-    sums = defaultdict(lambda: dict.fromkeys(STEPS, 0.0))
-    for (_, (crate, step)), seconds in used.items():
+    sums, edits = defaultdict(lambda: dict.fromkeys(STEPS, 0.0)), defaultdict(float)
+    for (_, (crate, step, number)), seconds in used.items():
         sums[crate][step] += seconds
-    print("| Crate | Proof, s | Tests, s | Edits, s | All, min |", file=out)
-    print("|---|---|---|---|---|", file=out)
+        if number is not None:
+            edits[crate, number] += seconds
+    print("| Crate | Proof, s | Tests, s | As it stands, s | Edits, s | All, min |", file=out)
+    print("|---|---|---|---|---|---|", file=out)
     for crate in sorted(sums, key=lambda it: -sum(sums[it].values())):
-        steps = sums[crate]
-        print(f"| `{crate}` | {steps['proof']:.0f} | {steps['tests']:.0f} | {steps['edits']:.0f} | {sum(steps.values()) / 60:.1f} |", file=out)
-    whole = {step: sum(it[step] for it in sums.values()) for step in STEPS}
-    print(f"| all | {whole['proof']:.0f} | {whole['tests']:.0f} | {whole['edits']:.0f} | {sum(whole.values()) / 60:.1f} |", file=out)
+        print(line(f"`{crate}`", sums[crate]), file=out)
+    print(line("all", {step: sum(it[step] for it in sums.values()) for step in STEPS}), file=out)
+    print("\nThe edits that took longest, s:\n", file=out)
+    for crate, number in sorted(edits, key=lambda it: -edits[it])[:DEAREST]:
+        print(f"- {edits[crate, number]:.0f} {crate} {edit_name(crate, number)}", file=out)
+
+
+def line(name, steps):
+    """A row of the table."""
+    seconds = " | ".join(f"{steps[it]:.0f}" for it in STEPS)
+    return f"| {name} | {seconds} | {sum(steps.values()) / 60:.1f} |"
+
+
+def edit_name(crate, number):
+    """The name of a crate's edit; the gate counts them in their order, from 0."""
+    names = sorted(os.path.basename(it) for it in glob.glob(f"crates/{crate}/must-fail/*.edit"))
+    return names[number].removesuffix(".edit") if number < len(names) else number
 
 
 def main():
     log = sys.argv[1] if len(sys.argv) > 1 else "gate.log"
     used, begun = defaultdict(float), time.time()
     with open(log, "w") as out:
-        gate = subprocess.Popen(["rt", "ci"], stdout=out, stderr=subprocess.STDOUT)
+        gate = subprocess.Popen(["rt", "ci", "--anew"], stdout=out, stderr=subprocess.STDOUT)
         watch(gate, used, log + ".table")
     table(used, sys.stdout)
     cores = len(os.sched_getaffinity(0))

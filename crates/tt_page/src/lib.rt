@@ -17,11 +17,6 @@ mod rule;
 mod shown;
 mod style;
 
-pub use marks::{
-    is_in_conflict, is_in_other_room, is_isolated, is_repeated, is_room_taken, is_unavailable,
-    without_seat,
-};
 pub use pages::page;
-pub use plan::Plan;
 pub use shown::put_shown;
 pub use style::STYLE;
