@@ -4,6 +4,7 @@ use crate::answers::{all_told, some_told};
 use crate::dice::{Dice, Ranges, ranges_of};
 use crate::instances::{SMALL01, TINY05};
 use crate::large::large_text;
+use std::alloc::Global;
 use std::test::Fail;
 use tt_facts::TrailPath;
 use tt_instance::read_instance;
@@ -12,6 +13,13 @@ use tt_samples::GAP;
 
 /// How many pushes and pops.
 const STEPS: u32 = 500;
+
+/// Which answers are looked at after each step.
+#[derive(Clone, Copy)]
+enum Look {
+    All,
+    Drawn,
+}
 
 /// Takes the newest fact away; nothing where there is none.
 fn popped<'i, P: Path<'i>>(path: &mut P) -> Option<Fact> {
@@ -22,7 +30,7 @@ fn popped<'i, P: Path<'i>>(path: &mut P) -> Option<Fact> {
 }
 
 /// One push, or one pop where a fact is to go; whether both paths answered the same.
-fn step(plain: &mut PlainPath<'_, '_>, trail: &mut TrailPath<'_, '_>, fact: Option<Fact>) -> bool {
+fn step<'i, P: Path<'i>, Q: Path<'i>>(plain: &mut P, trail: &mut Q, fact: Option<Fact>) -> bool {
     match fact {
         Some(fact) => plain.push(fact).is_ok() == trail.push(fact).is_ok(),
         None => popped(plain) == popped(trail),
@@ -39,75 +47,66 @@ fn next_fact(dice: &mut Dice, depth: u32, ranges: Ranges) -> Option<Fact> {
     }
 }
 
-/// The first step after which the paths differ in any answer.
-fn first_difference(
-    plain: &mut PlainPath<'_, '_>,
-    trail: &mut TrailPath<'_, '_>,
+/// What a path answers.
+fn told<'i, P: Path<'i>>(path: &P, ranges: Ranges, seed: u64, look: Look) -> u64 {
+    match look {
+        Look::All => all_told(path, ranges, seed),
+        Look::Drawn => some_told(path, ranges, seed),
+    }
+}
+
+/// The first step after which the paths differ in an answer.
+fn first_difference<'i, P: Path<'i>, Q: Path<'i>>(
+    plain: &mut P,
+    trail: &mut Q,
     seed: u64,
+    look: Look,
 ) -> Option<u32> {
     let ranges = ranges_of(plain.instance());
     let mut dice = Dice { state: seed };
     for number in 0..STEPS {
         let fact = next_fact(&mut dice, plain.depth(), ranges);
         let same = step(plain, trail, fact);
-        if !same || all_told(plain, ranges, dice.state) != all_told(trail, ranges, dice.state) {
+        let seed = dice.state;
+        if !same || told(plain, ranges, seed, look) != told(trail, ranges, seed, look) {
             return Some(number);
         }
     }
     None
 }
 
-/// The first step after which the paths differ in one of the answers that are looked at.
-fn first_difference_seen(
-    plain: &mut PlainPath<'_, '_>,
-    trail: &mut TrailPath<'_, '_>,
-    seed: u64,
-) -> Option<u32> {
-    let ranges = ranges_of(plain.instance());
-    let mut dice = Dice { state: seed };
-    for number in 0..STEPS {
-        let fact = next_fact(&mut dice, plain.depth(), ranges);
-        let same = step(plain, trail, fact);
-        if !same || some_told(plain, ranges, dice.state) != some_told(trail, ranges, dice.state) {
-            return Some(number);
-        }
-    }
-    None
+/// The first step after which both paths of an instance differ.
+fn difference(alloc: Global, text: &str, seed: u64, look: Look) -> Result<Option<u32>, Fail> {
+    let instance = read_instance(alloc, text.as_bytes())?;
+    let mut plain = PlainPath::new(alloc, &instance);
+    let mut trail = TrailPath::new(alloc, &instance)?;
+    Ok(first_difference(&mut plain, &mut trail, seed, look))
 }
 
 #[test]
 fn both_paths_agree_on_gap(rt: HostRuntime) -> Result<(), Fail> {
-    let instance = read_instance(rt.alloc(), GAP.as_bytes())?;
-    let mut plain = PlainPath::new(rt.alloc(), &instance);
-    let mut trail = TrailPath::new(rt.alloc(), &instance)?;
-    assert_eq!(rt; first_difference(&mut plain, &mut trail, 1), None);
+    assert_eq!(rt; difference(rt.alloc(), GAP, 1, Look::All)?, None);
     Ok(())
 }
 
 #[test]
 fn both_paths_agree_on_tiny05(rt: HostRuntime) -> Result<(), Fail> {
-    let instance = read_instance(rt.alloc(), TINY05.as_bytes())?;
-    let mut plain = PlainPath::new(rt.alloc(), &instance);
-    let mut trail = TrailPath::new(rt.alloc(), &instance)?;
-    assert_eq!(rt; first_difference(&mut plain, &mut trail, 3), None);
+    assert_eq!(rt; difference(rt.alloc(), TINY05, 3, Look::All)?, None);
     Ok(())
 }
 
 #[test]
 fn both_paths_agree_on_small01(rt: HostRuntime) -> Result<(), Fail> {
-    let instance = read_instance(rt.alloc(), SMALL01.as_bytes())?;
-    let mut plain = PlainPath::new(rt.alloc(), &instance);
-    let mut trail = TrailPath::new(rt.alloc(), &instance)?;
-    assert_eq!(rt; first_difference(&mut plain, &mut trail, 4), None);
+    assert_eq!(rt; difference(rt.alloc(), SMALL01, 4, Look::All)?, None);
     Ok(())
 }
 
 #[test]
 fn both_paths_agree_on_a_large_instance(rt: HostRuntime) -> Result<(), Fail> {
     let text = large_text(rt.alloc())?;
-    let instance = read_instance(rt.alloc(), text.as_bytes())?;
-    let mut plain = PlainPath::new(rt.alloc(), &instance);
-    let mut trail = TrailPath::new(rt.alloc(), &instance)?;
-    assert_eq!(rt; first_difference_seen(&mut plain, &mut trail, 2), None);
+    assert_eq!(rt;
+        difference(rt.alloc(), text.as_str(), 2, Look::Drawn)?,
+        None
+    );
     Ok(())
 }

@@ -1,5 +1,6 @@
 //! Cells that die as facts come and are live again as facts go, by both paths.
 
+use std::alloc::Global;
 use std::test::Fail;
 use tt_facts::TrailPath;
 use tt_instance::read_instance;
@@ -60,7 +61,7 @@ fn is_dead<'i, P: Path<'i>>(path: &P, course: u32, period: u32) -> Option<bool> 
 }
 
 /// Whether the second course's cells in the first and in the last period of Gap are dead, and the first course's in the last.
-#[derive(Clone, Copy, Debug, PartialEq, Eq)]
+#[derive(Clone, Copy, PartialEq, Eq)]
 struct DeadCells {
     second_first: Option<bool>,
     second_last: Option<bool>,
@@ -84,70 +85,74 @@ fn of_cells(second_first: bool, second_last: bool, first_last: bool) -> DeadCell
     }
 }
 
-/// What is seen after a fact, and after its pop.
-fn around_a_fact<'i, P: Path<'i>>(path: &mut P, fact: Fact) -> (DeadCells, DeadCells) {
-    let _taken = pushed(path, fact);
-    let after = seen(path);
-    let _gone = popped(path);
-    (after, seen(path))
+/// Adds facts, as far as the path takes them.
+fn push_all<'i, P: Path<'i>>(path: &mut P, facts: &[Fact]) {
+    for fact in facts {
+        let _taken = pushed(path, *fact);
+    }
+}
+
+/// Whether a path shows this after these facts, and this after each pop.
+fn shows<'i, P: Path<'i>>(path: &mut P, facts: &[Fact], told: &[DeadCells]) -> bool {
+    push_all(path, facts);
+    for cells in told {
+        if seen(path) != *cells {
+            return false;
+        }
+        let _gone = popped(path);
+    }
+    true
+}
+
+/// Whether the plain path and the other of Gap show it.
+fn both_show(alloc: Global, facts: &[Fact], told: &[DeadCells]) -> Result<(bool, bool), Fail> {
+    let instance = read_instance(alloc, GAP.as_bytes())?;
+    let mut plain = PlainPath::new(alloc, &instance);
+    let mut trail = TrailPath::new(alloc, &instance)?;
+    Ok((
+        shows(&mut plain, facts, told),
+        shows(&mut trail, facts, told),
+    ))
 }
 
 #[test]
 fn a_fact_bars_cells_and_its_pop_frees_them(rt: HostRuntime) -> Result<(), Fail> {
-    let instance = read_instance(rt.alloc(), GAP.as_bytes())?;
-    let mut plain = PlainPath::new(rt.alloc(), &instance);
-    let mut trail = TrailPath::new(rt.alloc(), &instance)?;
     let fact = fact_in_period(Who::Course(0), 0, true);
     // The first course takes the first period: its other cells stay live, since it may have more lectures.
-    let told = (of_cells(true, false, false), of_cells(false, false, false));
-    assert_eq!(rt; around_a_fact(&mut plain, fact), told);
-    assert_eq!(rt; around_a_fact(&mut trail, fact), told);
+    let told = [of_cells(true, false, false), of_cells(false, false, false)];
+    assert_eq!(rt; both_show(rt.alloc(), &[fact], &told)?, (true, true));
     Ok(())
-}
-
-/// What is seen after both facts, after a pop, and after another.
-fn around_two_facts<'i, P: Path<'i>>(
-    path: &mut P,
-    first: Fact,
-    second: Fact,
-) -> (DeadCells, DeadCells, DeadCells) {
-    let _taken = pushed(path, first);
-    let (both, one) = around_a_fact(path, second);
-    let _gone = popped(path);
-    (both, one, seen(path))
 }
 
 #[test]
 fn a_no_fact_of_a_curriculum_then_a_yes_fact(rt: HostRuntime) -> Result<(), Fail> {
-    let instance = read_instance(rt.alloc(), GAP.as_bytes())?;
-    let mut plain = PlainPath::new(rt.alloc(), &instance);
-    let mut trail = TrailPath::new(rt.alloc(), &instance)?;
     let barred = fact_in_period(Who::Curriculum(0), 0, false);
     let taken = fact_of(Who::Course(0), true);
-    let told = (
+    let told = [
         of_cells(true, true, false),
         of_cells(true, false, false),
         of_cells(false, false, false),
+    ];
+    assert_eq!(rt;
+        both_show(rt.alloc(), &[barred, taken], &told)?,
+        (true, true)
     );
-    assert_eq!(rt; around_two_facts(&mut plain, barred, taken), told);
-    assert_eq!(rt; around_two_facts(&mut trail, barred, taken), told);
     Ok(())
 }
 
 #[test]
 fn a_yes_fact_then_a_no_fact_that_leaves_it_one_period(rt: HostRuntime) -> Result<(), Fail> {
-    let instance = read_instance(rt.alloc(), GAP.as_bytes())?;
-    let mut plain = PlainPath::new(rt.alloc(), &instance);
-    let mut trail = TrailPath::new(rt.alloc(), &instance)?;
     let taken = fact_of(Who::Course(0), true);
     let barred = fact_in_period(Who::Course(0), 0, false);
-    let told = (
+    let told = [
         of_cells(false, true, false),
         of_cells(false, false, false),
         of_cells(false, false, false),
+    ];
+    assert_eq!(rt;
+        both_show(rt.alloc(), &[taken, barred], &told)?,
+        (true, true)
     );
-    assert_eq!(rt; around_two_facts(&mut plain, taken, barred), told);
-    assert_eq!(rt; around_two_facts(&mut trail, taken, barred), told);
     Ok(())
 }
 
@@ -161,9 +166,13 @@ fn filled<'i, P: Path<'i>>(path: &mut P, fact: Fact) -> bool {
     true
 }
 
-/// What a full path says to one fact more, and how many facts it has then.
-fn more<'i, P: Path<'i>>(path: &mut P, fact: Fact) -> (Result<(), PathFault>, u32) {
-    (path.push(fact), path.depth())
+/// Whether a path takes one fact as often as it takes facts, and then no other.
+fn takes_no_more<'i, P: Path<'i>>(path: &mut P, fact: Fact, other: Fact) -> bool {
+    filled(path, fact)
+        && path.push(other) == Err(PathFault::TooDeep)
+        && path.depth() == MAX_FACTS
+        && path.has(&fact.pattern, true)
+        && !path.has(&other.pattern, true)
 }
 
 #[test]
@@ -172,18 +181,8 @@ fn a_path_of_all_facts_takes_no_more(rt: HostRuntime) -> Result<(), Fail> {
     let mut plain = PlainPath::new(rt.alloc(), &instance);
     let mut trail = TrailPath::new(rt.alloc(), &instance)?;
     let fact = fact_of(Who::Course(0), true);
-    assert!(rt; filled(&mut plain, fact));
-    assert!(rt; filled(&mut trail, fact));
     let other = fact_of(Who::Course(1), true);
-    assert_eq!(rt; more(&mut plain, other), (Err(PathFault::TooDeep), 65_536));
-    assert_eq!(rt; more(&mut trail, other), (Err(PathFault::TooDeep), 65_536));
-    for stands in [
-        plain.has(&fact.pattern, true),
-        trail.has(&fact.pattern, true),
-        !plain.has(&other.pattern, true),
-        !trail.has(&other.pattern, true),
-    ] {
-        assert!(rt; stands);
-    }
+    assert!(rt; takes_no_more(&mut plain, fact, other));
+    assert!(rt; takes_no_more(&mut trail, fact, other));
     Ok(())
 }

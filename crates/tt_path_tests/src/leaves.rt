@@ -84,31 +84,21 @@ struct Verdicts {
     at_nothing: Option<Result<(), RuleFault>>,
 }
 
-fn judged<'i, P: Path<'i>>(alloc: Global, path: &P) -> Result<Verdicts, AllocError> {
+/// The verdicts once both courses are pinned; nothing where the path didn't take the facts.
+fn pinned_verdicts<'i, P: Path<'i>>(
+    alloc: Global,
+    path: &mut P,
+) -> Result<Option<Verdicts>, AllocError> {
+    if !pin_both(path) {
+        return Ok(None);
+    }
     let value = both_value(alloc, path)?;
-    Ok(Verdicts {
+    Ok(Some(Verdicts {
         values: (seats_value(path), gaps_value(path), value),
         at_five: both_judged(alloc, path, Bound::AtLeast(5))?,
         at_six: both_judged(alloc, path, Bound::AtLeast(6))?,
         at_nothing: both_judged(alloc, path, Bound::Nothing)?,
-    })
-}
-
-#[test]
-fn claims_of_two_pinned_courses(rt: HostRuntime) -> Result<(), Fail> {
-    let instance = read_instance(rt.alloc(), GAP.as_bytes())?;
-    let mut plain = PlainPath::new(rt.alloc(), &instance);
-    let mut trail = TrailPath::new(rt.alloc(), &instance)?;
-    assert!(rt; pin_both(&mut plain) && pin_both(&mut trail));
-    let told = Verdicts {
-        values: (Some(1), Some(4), Some(5)),
-        at_five: Some(Ok(())),
-        at_six: Some(Err(RuleFault::TooCheap)),
-        at_nothing: Some(Err(RuleFault::NoBound)),
-    };
-    assert_eq!(rt; judged(rt.alloc(), &plain)?, told);
-    assert_eq!(rt; judged(rt.alloc(), &trail)?, told);
-    Ok(())
+    }))
 }
 
 /// A leaf of a list of courses.
@@ -137,24 +127,6 @@ fn list_judged<'i, P: Path<'i>>(
     Ok(Some(holds(path, &leaf, Bound::Nothing)))
 }
 
-#[test]
-fn lists_of_courses(rt: HostRuntime) -> Result<(), Fail> {
-    let instance = read_instance(rt.alloc(), APART.as_bytes())?;
-    let plain = PlainPath::new(rt.alloc(), &instance);
-    let trail = TrailPath::new(rt.alloc(), &instance)?;
-    for (list, courses, fault) in [
-        (List::Slots, [0, 0].as_slice(), RuleFault::ClaimedTwice),
-        (List::Slots, &[], RuleFault::EnoughRoom),
-        (List::Clique, &[], RuleFault::NotAClique),
-        (List::Clique, &[0, 1], RuleFault::NotAClique),
-    ] {
-        let told = Some(Err(fault));
-        assert_eq!(rt; list_judged(rt.alloc(), &plain, list, courses)?, told);
-        assert_eq!(rt; list_judged(rt.alloc(), &trail, list, courses)?, told);
-    }
-    Ok(())
-}
-
 /// What a Clique of the second course comes to on an empty path, and after a no-fact and a yes-fact have left it no period.
 fn clique_judged<'i, P: Path<'i>>(
     alloc: Global,
@@ -167,13 +139,81 @@ fn clique_judged<'i, P: Path<'i>>(
     Ok((before, after))
 }
 
+/// What a path is asked.
+#[derive(Clone, Copy)]
+enum Question<'a> {
+    Pinned,
+    Courses(List, &'a [u32]),
+    OneCourse,
+}
+
+/// What it answers.
+#[derive(Clone, Copy, Debug, PartialEq, Eq)]
+enum Told {
+    Pinned(Option<Verdicts>),
+    Courses(Option<Result<(), RuleFault>>),
+    OneCourse(Option<Result<(), RuleFault>>, Option<Result<(), RuleFault>>),
+}
+
+fn ask<'i, P: Path<'i>>(
+    alloc: Global,
+    path: &mut P,
+    question: Question<'_>,
+) -> Result<Told, AllocError> {
+    match question {
+        Question::Pinned => Ok(Told::Pinned(pinned_verdicts(alloc, path)?)),
+        Question::Courses(list, courses) => {
+            Ok(Told::Courses(list_judged(alloc, path, list, courses)?))
+        }
+        Question::OneCourse => {
+            let (before, after) = clique_judged(alloc, path)?;
+            Ok(Told::OneCourse(before, after))
+        }
+    }
+}
+
+/// The answers of the plain path and of the other.
+fn answers(alloc: Global, text: &str, question: Question<'_>) -> Result<(Told, Told), Fail> {
+    let instance = read_instance(alloc, text.as_bytes())?;
+    let mut plain = PlainPath::new(alloc, &instance);
+    let mut trail = TrailPath::new(alloc, &instance)?;
+    let plainly = ask(alloc, &mut plain, question)?;
+    Ok((plainly, ask(alloc, &mut trail, question)?))
+}
+
+#[test]
+fn claims_of_two_pinned_courses(rt: HostRuntime) -> Result<(), Fail> {
+    let told = Told::Pinned(Some(Verdicts {
+        values: (Some(1), Some(4), Some(5)),
+        at_five: Some(Ok(())),
+        at_six: Some(Err(RuleFault::TooCheap)),
+        at_nothing: Some(Err(RuleFault::NoBound)),
+    }));
+    assert_eq!(rt; answers(rt.alloc(), GAP, Question::Pinned)?, (told, told));
+    Ok(())
+}
+
+#[test]
+fn lists_of_courses(rt: HostRuntime) -> Result<(), Fail> {
+    for (list, courses, fault) in [
+        (List::Slots, [0, 0].as_slice(), RuleFault::ClaimedTwice),
+        (List::Slots, &[], RuleFault::EnoughRoom),
+        (List::Clique, &[], RuleFault::NotAClique),
+        (List::Clique, &[0, 1], RuleFault::NotAClique),
+    ] {
+        let told = Told::Courses(Some(Err(fault)));
+        let question = Question::Courses(list, courses);
+        assert_eq!(rt; answers(rt.alloc(), APART, question)?, (told, told));
+    }
+    Ok(())
+}
+
 #[test]
 fn a_clique_of_one(rt: HostRuntime) -> Result<(), Fail> {
-    let instance = read_instance(rt.alloc(), GAP.as_bytes())?;
-    let mut plain = PlainPath::new(rt.alloc(), &instance);
-    let mut trail = TrailPath::new(rt.alloc(), &instance)?;
-    let told = (Some(Err(RuleFault::EnoughRoom)), Some(Ok(())));
-    assert_eq!(rt; clique_judged(rt.alloc(), &mut plain)?, told);
-    assert_eq!(rt; clique_judged(rt.alloc(), &mut trail)?, told);
+    let told = Told::OneCourse(Some(Err(RuleFault::EnoughRoom)), Some(Ok(())));
+    assert_eq!(rt;
+        answers(rt.alloc(), GAP, Question::OneCourse)?,
+        (told, told)
+    );
     Ok(())
 }

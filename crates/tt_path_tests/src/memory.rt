@@ -31,22 +31,29 @@ fn push_drawn<'i, P: Path<'i>>(path: &mut P, ranges: Ranges, most: u32) -> Resul
     Ok(())
 }
 
+/// Whether a path answers what another does that is given as many of the same facts.
+fn is_as<'i, P: Path<'i>, Q: Path<'i>>(
+    path: &P,
+    other: &mut Q,
+    ranges: Ranges,
+) -> Result<bool, PathFault> {
+    push_drawn(other, ranges, path.depth())?;
+    let same = all_told(path, ranges, 5) == all_told(other, ranges, 5);
+    Ok(same && path.depth() == other.depth())
+}
+
 #[test]
 fn the_call_push_of_trail_paths(rt: HostRuntime) -> Result<(), Fail> {
     let instance = read_instance(rt.alloc(), GAP.as_bytes())?;
     let ranges = ranges_of(&instance);
+    let mut plain = PlainPath::new(rt.alloc(), &instance);
     let mut path = TrailPath::new(rt.alloc(), &instance)?;
     println!(rt; "{MARK}")?;
     let pushed = push_drawn(&mut path, ranges, FACTS);
     println!(rt; "{MARK}")?;
-    // A plain path with as many of the same facts answers the same.
-    let mut plain = PlainPath::new(rt.alloc(), &instance);
-    push_drawn(&mut plain, ranges, path.depth())?;
-    assert_eq!(rt; path.depth(), plain.depth());
-    assert_eq!(rt; all_told(&path, ranges, 5), all_told(&plain, ranges, 5));
-    pushed?;
-    assert_eq!(rt; path.depth(), FACTS);
-    Ok(())
+    assert_eq!(rt; is_as(&path, &mut plain, ranges), Ok(true));
+    assert!(rt; pushed.is_err() || path.depth() == FACTS);
+    Ok(pushed?)
 }
 
 /// Pushes a fact of each of forty periods, until one is refused.
@@ -72,7 +79,6 @@ fn the_call_push_of_plain_paths(rt: HostRuntime) -> Result<(), Fail> {
     let pushed = push_facts(&mut path);
     println!(rt; "{MARK}")?;
     assert_eq!(rt; path.depth(), standing(&path));
-    pushed?;
-    assert_eq!(rt; path.depth(), 40);
-    Ok(())
+    assert!(rt; pushed.is_err() || path.depth() == 40);
+    Ok(pushed?)
 }

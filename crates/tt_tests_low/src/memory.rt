@@ -192,8 +192,9 @@ fn the_call_node_reader_new(rt: HostRuntime) -> Result<(), Fail> {
     let mut source = Pieces::new(GAP_PROOF.as_bytes(), 64, 0);
     println!(rt; "{MARK}")?;
     let reader = NodeReader::new(rt.alloc(), &instance, &mut source);
+    let bound = reader.map(|reader| reader.bound());
     println!(rt; "{MARK}")?;
-    assert_eq!(rt; reader?.bound(), Bound::AtLeast(5));
+    assert_eq!(rt; bound?, Bound::AtLeast(5));
     Ok(())
 }
 
@@ -207,19 +208,29 @@ fn nodes_read(reader: &mut NodeReader, source: &mut Pieces<'_>) -> Result<usize,
     Ok(20)
 }
 
+/// The same between the marks.
+fn nodes_between_marks(
+    rt: &impl Print,
+    reader: &mut NodeReader,
+    source: &mut Pieces<'_>,
+) -> Result<usize, Fail> {
+    println!(rt; "{MARK}")?;
+    let count = nodes_read(reader, source);
+    println!(rt; "{MARK}")?;
+    // After a fault it answers the same fault again, though there is memory now.
+    if count.is_err() && nodes_read(reader, source) != count {
+        return Err(Fail::new(format_args!("another answer after a fault")));
+    }
+    Ok(count?)
+}
+
 #[test]
 fn the_call_next_node(rt: HostRuntime) -> Result<(), Fail> {
     let instance = read_instance(rt.alloc(), GAP.as_bytes())?;
     let mut source = Pieces::new(GAP_PROOF.as_bytes(), 64, 0);
     let mut reader = NodeReader::new(rt.alloc(), &instance, &mut source)?;
-    println!(rt; "{MARK}")?;
-    let count = nodes_read(&mut reader, &mut source);
-    println!(rt; "{MARK}")?;
-    if count.is_err() {
-        // It answers the same fault again, though there is memory now.
-        assert_eq!(rt; nodes_read(&mut reader, &mut source), count);
-    }
-    assert_eq!(rt; count?, 9);
+    let count = nodes_between_marks(&rt, &mut reader, &mut source)?;
+    assert_eq!(rt; count, 9);
     Ok(())
 }
 

@@ -2,7 +2,7 @@
 
 use std::alloc::{AllocError, Global};
 use std::test::Fail;
-use tt_instance::{InstanceFault, read_instance, write_instance};
+use tt_instance::{Instance, InstanceFault, read_instance, write_instance};
 use tt_samples::{GAP, MINI, TOUR, TRIO, WIDE, edited};
 use tt_text::{Pieces, Source, WholeFault, read_whole};
 
@@ -75,25 +75,41 @@ fn names_of_any_number_of_tokens(rt: HostRuntime) -> Result<(), Fail> {
     Ok(())
 }
 
+/// How many there are of each, and the days and periods.
+fn counts_of(instance: &Instance<'_>) -> [u32; 7] {
+    [
+        instance.days(),
+        instance.periods(),
+        instance.courses(),
+        instance.rooms(),
+        instance.curricula(),
+        instance.teachers(),
+        instance.bars(),
+    ]
+}
+
+/// Which course and which room has a name.
+fn named(instance: &Instance<'_>, name: &[u8]) -> (Option<u32>, Option<u32>) {
+    (instance.course_named(name), instance.room_named(name))
+}
+
+/// Whether two courses exclude each other, whether the second is in the first curriculum, and whether it is unavailable in two periods.
+fn relations_of(instance: &Instance<'_>) -> [bool; 4] {
+    [
+        instance.conflict(0, 1),
+        instance.in_curriculum(0, 1),
+        instance.unavailable(1, 0, 1),
+        instance.unavailable(1, 0, 2),
+    ]
+}
+
 #[test]
 fn an_instance_and_its_getters(rt: HostRuntime) -> Result<(), Fail> {
     let instance = read_instance(rt.alloc(), GAP.as_bytes())?;
-    assert_eq!(rt; (instance.days(), instance.periods()), (1, 3));
-    assert_eq!(rt;
-        (instance.courses(), instance.rooms(), instance.curricula()),
-        (2, 1, 1)
-    );
-    assert_eq!(rt; (instance.teachers(), instance.bars()), (2, 2));
-    assert_eq!(rt;
-        (instance.course_named(b"b"), instance.course_named(b"R")),
-        (Some(1), None)
-    );
-    assert_eq!(rt;
-        (instance.room_named(b"R"), instance.room_named(b"a")),
-        (Some(0), None)
-    );
-    assert!(rt; instance.conflict(0, 1) && instance.in_curriculum(0, 1));
-    assert!(rt; instance.unavailable(1, 0, 1) && !instance.unavailable(1, 0, 2));
+    assert_eq!(rt; counts_of(&instance), [1, 3, 2, 1, 1, 2, 2]);
+    assert_eq!(rt; named(&instance, b"b"), (Some(1), None));
+    assert_eq!(rt; named(&instance, b"R"), (None, Some(0)));
+    assert_eq!(rt; relations_of(&instance), [true, true, true, false]);
     Ok(())
 }
 
@@ -118,23 +134,26 @@ fn instances_that_end_anywhere(rt: HostRuntime) {
     }
 }
 
+/// Whether a source that is at most this long gives Mini's text, and whether a read had failed.
+fn whole_of(alloc: Global, limit: usize, fail_at: u64) -> (Result<bool, WholeFault>, bool) {
+    let mut source = Pieces::new(MINI.as_bytes(), 100, fail_at);
+    let whole = read_whole(alloc, &mut source, limit);
+    let same = whole.map(|bytes| bytes.as_slice() == MINI.as_bytes());
+    (same, source.failed())
+}
+
 #[test]
 fn whole_sources(rt: HostRuntime) -> Result<(), Fail> {
     for (limit, fail_at, wanted) in [
-        (188, 0, Ok(MINI.as_bytes())),
-        (189, 0, Ok(MINI.as_bytes())),
+        (188, 0, Ok(true)),
+        (189, 0, Ok(true)),
         (187, 0, Err(WholeFault::TooLong)),
         (0, 0, Err(WholeFault::TooLong)),
         (188, 1, Err(WholeFault::Read)),
         (188, 3, Err(WholeFault::Read)),
     ] {
-        let mut source = Pieces::new(MINI.as_bytes(), 100, fail_at);
-        let whole = read_whole(rt.alloc(), &mut source, limit);
-        assert_eq!(rt; source.failed(), wanted == Err(WholeFault::Read));
-        match whole {
-            Ok(bytes) => assert_eq!(rt; Ok(bytes.as_slice()), wanted),
-            Err(fault) => assert_eq!(rt; Err(fault), wanted),
-        }
+        let failed = wanted == Err(WholeFault::Read);
+        assert_eq!(rt; whole_of(rt.alloc(), limit, fail_at), (wanted, failed));
     }
     Ok(())
 }

@@ -1,9 +1,10 @@
 //! Readers, feeds and readers of proofs by the calls.
 
+use std::alloc::Global;
 use std::io;
 use std::io::{Error, ErrorKind, Read};
 use std::test::Fail;
-use tt_instance::read_instance;
+use tt_instance::{Instance, read_instance};
 use tt_leaf_rules::Bound;
 use tt_proof_read::{NodeReader, TextFault};
 use tt_samples::{MINI, WIDE};
@@ -77,6 +78,52 @@ fn a_source_without_end(rt: HostRuntime) {
     assert_eq!(rt; whole.err(), Some(WholeFault::TooLong));
 }
 
+/// What a feed says: where its next token begins or why it has none, the first byte of that token, and where the text ended.
+#[derive(Clone, Copy, Debug, PartialEq, Eq)]
+struct Said {
+    next: Result<Option<usize>, FeedFault>,
+    first: Option<u8>,
+    ended: Option<usize>,
+}
+
+/// What it says of a token.
+fn token_said(at: usize, first: u8) -> Said {
+    Said {
+        next: Ok(Some(at)),
+        first: Some(first),
+        ended: None,
+    }
+}
+
+/// What it says after a fault.
+fn fault_said(fault: FeedFault) -> Said {
+    Said {
+        next: Err(fault),
+        first: None,
+        ended: None,
+    }
+}
+
+fn say(feed: &mut Feed, source: &mut Pieces<'_>) -> Said {
+    Said {
+        next: feed.next(source),
+        first: feed.token().first().copied(),
+        ended: feed.ended(),
+    }
+}
+
+/// What a feed says the first four times.
+fn said_by_feed(alloc: Global, text: &[u8], fail_at: u64) -> Result<[Said; 4], FeedFault> {
+    let mut source = Pieces::new(text, 4, fail_at);
+    let mut feed = Feed::new(alloc)?;
+    Ok([
+        say(&mut feed, &mut source),
+        say(&mut feed, &mut source),
+        say(&mut feed, &mut source),
+        say(&mut feed, &mut source),
+    ])
+}
+
 #[test]
 fn a_feed_after_its_fault(rt: HostRuntime) -> Result<(), Fail> {
     for (text, fail_at, fault) in [
@@ -87,18 +134,50 @@ fn a_feed_after_its_fault(rt: HostRuntime) -> Result<(), Fail> {
             FeedFault::TokenTooLong(4),
         ),
     ] {
-        let mut source = Pieces::new(text, 4, fail_at);
-        let mut feed = Feed::new(rt.alloc())?;
-        assert_eq!(rt; feed.next(&mut source), Ok(Some(0)));
-        assert_eq!(rt; feed.next(&mut source), Ok(Some(2)));
-        assert_eq!(rt; feed.token(), b"b".as_slice());
-        for _ in 0..2 {
-            assert_eq!(rt; feed.next(&mut source), Err(fault));
-            assert_eq!(rt; feed.token(), b"".as_slice());
-            assert_eq!(rt; feed.ended(), None);
-        }
+        let said = [
+            token_said(0, b'a'),
+            token_said(2, b'b'),
+            fault_said(fault),
+            fault_said(fault),
+        ];
+        assert_eq!(rt; said_by_feed(rt.alloc(), text, fail_at)?, said);
     }
     Ok(())
+}
+
+/// What a reader of a proof of one leaf says at its end.
+#[derive(Clone, Copy, Debug, PartialEq, Eq)]
+struct Ending {
+    finished: Result<(), TextFault>,
+    /// It is whole after that, too.
+    whole: bool,
+    version: u8,
+    bound: Bound,
+}
+
+/// Reads one node; nothing where there is none, or where more are to come.
+fn end(reader: &mut NodeReader, source: &mut Pieces<'_>) -> Result<Option<Ending>, TextFault> {
+    let is_there = reader.next_node(source)?.is_some();
+    if !is_there || !reader.whole() {
+        return Ok(None);
+    }
+    Ok(Some(Ending {
+        finished: reader.finish(source),
+        whole: reader.whole(),
+        version: reader.version(),
+        bound: reader.bound(),
+    }))
+}
+
+/// The same of a text.
+fn end_of(
+    alloc: Global,
+    instance: &Instance<'_>,
+    text: &[u8],
+) -> Result<Option<Ending>, TextFault> {
+    let mut source = Pieces::new(text, 4, 0);
+    let mut reader = NodeReader::new(alloc, instance, &mut source)?;
+    end(&mut reader, &mut source)
 }
 
 #[test]
@@ -112,13 +191,13 @@ fn a_proof_reader_after_its_end(rt: HostRuntime) -> Result<(), Fail> {
         ),
         (b"CTTP 2 bound 5 B T c0 ;", Err(TextFault::Ended(23))),
     ] {
-        let mut source = Pieces::new(text, 4, 0);
-        let mut reader = NodeReader::new(rt.alloc(), &instance, &mut source)?;
-        assert!(rt; reader.next_node(&mut source)?.is_some());
-        assert!(rt; reader.whole());
-        assert_eq!(rt; reader.finish(&mut source), finished);
-        assert!(rt; reader.whole());
-        assert_eq!(rt; (reader.version(), reader.bound()), (2, Bound::AtLeast(5)));
+        let ending = Ending {
+            finished,
+            whole: true,
+            version: 2,
+            bound: Bound::AtLeast(5),
+        };
+        assert_eq!(rt; end_of(rt.alloc(), &instance, text), Ok(Some(ending)));
     }
     Ok(())
 }

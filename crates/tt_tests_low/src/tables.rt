@@ -1,7 +1,8 @@
 //! Timetables by the calls.
 
+use std::alloc::Global;
 use std::test::Fail;
-use tt_instance::read_instance;
+use tt_instance::{Instance, read_instance};
 use tt_rules::score;
 use tt_samples::{MINI, repeated};
 use tt_table::{Entry, MAX_ENTRIES, PushFault, Timetable, read_solution, write_solution};
@@ -22,6 +23,21 @@ const ENTRIES: [Entry; 2] = [
     },
 ];
 
+/// Whether a text is read as these entries, a copy of them fits, and the copy is written in these lines.
+fn is_read_as(
+    alloc: Global,
+    instance: &Instance<'_>,
+    text: &str,
+    entries: &[Entry],
+    lines: &str,
+) -> Result<bool, Fail> {
+    let table = read_solution(alloc, instance, text.as_bytes())?;
+    let copy = table.copy()?;
+    let same = table.entries() == entries && copy.entries() == entries && copy.fits(instance);
+    let written = write_solution(alloc, instance, &copy)?;
+    Ok(same && written.as_slice() == lines.as_bytes())
+}
+
 #[test]
 fn a_solution_is_read_copied_and_written(rt: HostRuntime) -> Result<(), Fail> {
     let instance = read_instance(rt.alloc(), MINI.as_bytes())?;
@@ -29,15 +45,22 @@ fn a_solution_is_read_copied_and_written(rt: HostRuntime) -> Result<(), Fail> {
         ("a R 0 0 b R 0 1", ENTRIES.as_slice(), "a R 0 0\nb R 0 1\n"),
         ("\x0b\n", [].as_slice(), ""),
     ] {
-        let table = read_solution(rt.alloc(), &instance, text.as_bytes())?;
-        assert_eq!(rt; table.entries(), entries);
-        let copy = table.copy()?;
-        assert_eq!(rt; copy.entries(), entries);
-        assert!(rt; copy.fits(&instance));
-        let written = write_solution(rt.alloc(), &instance, &copy)?;
-        assert_eq!(rt; written.as_slice(), lines.as_bytes());
+        assert!(rt;
+            is_read_as(rt.alloc(), &instance, text, entries, lines)?,
+            "{text}"
+        );
     }
     Ok(())
+}
+
+/// Pushes an entry to a table with room for one more, and then another one, and answers what the table said.
+fn push_two(
+    table: &mut Timetable,
+    first: Entry,
+    second: Entry,
+) -> (Result<(), PushFault>, Result<(), PushFault>) {
+    let pushed = table.push(first);
+    (pushed, table.push(second))
 }
 
 #[test]
@@ -46,12 +69,15 @@ fn pushed_entries(rt: HostRuntime) -> Result<(), Fail> {
     let [first, last] = ENTRIES;
     let lines = repeated(rt.alloc(), "a R 0 0\n", MAX_ENTRIES - 1)?;
     let mut table = read_solution(rt.alloc(), &instance, lines.as_bytes())?;
-    assert_eq!(rt; table.push(last), Ok(()));
-    assert_eq!(rt; table.len(), 16_384);
-    assert_eq!(rt; (table.get(0), table.get(16_383)), (first, last));
-    let before = table.copy()?;
-    assert_eq!(rt; table.push(first), Err(PushFault::Full));
-    assert_eq!(rt; table.entries(), before.entries());
+    let pushed = push_two(&mut table, last, first);
+    assert_eq!(rt; pushed, (Ok(()), Err(PushFault::Full)));
+    // The refused entry leaves the table as it was.
+    let entries = table.entries();
+    assert_eq!(rt; entries.len(), 16_384);
+    assert_eq!(rt;
+        (entries.first(), entries.last()),
+        (Some(&first), Some(&last))
+    );
     Ok(())
 }
 
@@ -77,6 +103,16 @@ fn entries_out_of_range_do_not_fit(rt: HostRuntime) -> Result<(), Fail> {
     Ok(())
 }
 
+/// The hard count and the cost of a text, and whether it is feasible.
+fn score_of(alloc: Global, instance: &Instance<'_>, text: &str) -> Result<(u64, u64, bool), Fail> {
+    let table = read_solution(alloc, instance, text.as_bytes())?;
+    if !table.fits(instance) {
+        return Err(Fail::new(format_args!("{text} doesn't fit")));
+    }
+    let score = score(instance, &table);
+    Ok((score.hard(), score.cost(), score.feasible()))
+}
+
 #[test]
 fn scores(rt: HostRuntime) -> Result<(), Fail> {
     let instance = read_instance(rt.alloc(), MINI.as_bytes())?;
@@ -85,11 +121,8 @@ fn scores(rt: HostRuntime) -> Result<(), Fail> {
         ("a R 0 0 b R 0 2", 0, 5),
         ("", 2, 10),
     ] {
-        let table = read_solution(rt.alloc(), &instance, text.as_bytes())?;
-        assert!(rt; table.fits(&instance));
-        let score = score(&instance, &table);
-        assert_eq!(rt; (score.hard(), score.cost()), (hard, cost), "of {text}");
-        assert_eq!(rt; score.feasible(), hard == 0);
+        let wanted = (hard, cost, hard == 0);
+        assert_eq!(rt; score_of(rt.alloc(), &instance, text)?, wanted, "of {text}");
     }
     Ok(())
 }

@@ -3,7 +3,7 @@
 use crate::timetables::{occupied, text_of};
 use std::alloc::Global;
 use std::test::Fail;
-use tt_instance::{Instance, read_instance};
+use tt_instance::read_instance;
 use tt_moves::{
     ChainFault, Change, Step, apply, can_step, chain, change, change_within, hard_change, lowers,
     swap_chain, undo,
@@ -33,10 +33,20 @@ fn changed(occupied: &Occupied<'_, '_>, step: Step) -> Option<(i64, i64, bool)> 
     Some((change.hard, change.cost, lowers(occupied, step)))
 }
 
+/// The same of the timetable that a solution spells.
+fn changed_in(
+    alloc: Global,
+    instance: &str,
+    solution: &str,
+    step: Step,
+) -> Result<Option<(i64, i64, bool)>, Fail> {
+    let instance = read_instance(alloc, instance.as_bytes())?;
+    let occupied = occupied(alloc, &instance, solution)?;
+    Ok(changed(&occupied, step))
+}
+
 #[test]
 fn changes_of_steps(rt: HostRuntime) -> Result<(), Fail> {
-    let instance = read_instance(rt.alloc(), MINI.as_bytes())?;
-    let occupied = occupied(rt.alloc(), &instance, MINI_SOLUTION)?;
     let swap = Step::Swap {
         first: 0,
         second: 1,
@@ -48,7 +58,11 @@ fn changes_of_steps(rt: HostRuntime) -> Result<(), Fail> {
         (moved_to(2, 0, 0, 0), None),
         (moved_to(1, 1, 0, 0), None),
     ] {
-        assert_eq!(rt; changed(&occupied, step), changes, "{step:?}");
+        assert_eq!(rt;
+            changed_in(rt.alloc(), MINI, MINI_SOLUTION, step)?,
+            changes,
+            "{step:?}"
+        );
     }
     Ok(())
 }
@@ -68,40 +82,55 @@ fn changed_within(
     ))
 }
 
+/// The same of Mini's solution.
+fn mini_changed_within(
+    alloc: Global,
+    step: Step,
+    limit: i64,
+) -> Result<Option<(i64, Option<Change>)>, Fail> {
+    let instance = read_instance(alloc, MINI.as_bytes())?;
+    let occupied = occupied(alloc, &instance, MINI_SOLUTION)?;
+    Ok(changed_within(&occupied, step, limit))
+}
+
 #[test]
 fn changes_within_a_limit(rt: HostRuntime) -> Result<(), Fail> {
-    let instance = read_instance(rt.alloc(), MINI.as_bytes())?;
-    let occupied = occupied(rt.alloc(), &instance, MINI_SOLUTION)?;
     let step = moved_to(1, 0, 0, 0);
     let within = Change { hard: 2, cost: 0 };
-    assert_eq!(rt; changed_within(&occupied, step, 2), Some((2, Some(within))));
-    assert_eq!(rt; changed_within(&occupied, step, 1), Some((2, None)));
+    for (limit, change) in [(2, Some(within)), (1, None)] {
+        assert_eq!(rt;
+            mini_changed_within(rt.alloc(), step, limit)?,
+            Some((2, change))
+        );
+    }
     Ok(())
 }
 
 #[test]
 fn a_room_that_is_used_no_longer(rt: HostRuntime) -> Result<(), Fail> {
-    let instance = read_instance(rt.alloc(), TOUR.as_bytes())?;
-    let occupied = occupied(rt.alloc(), &instance, "x A 0 0 x B 1 0 x A 2 0")?;
-    let step = moved_to(1, 0, 1, 0);
-    assert_eq!(rt; changed(&occupied, step), Some((0, -1, true)));
+    let solution = "x A 0 0 x B 1 0 x A 2 0";
+    let change = changed_in(rt.alloc(), TOUR, solution, moved_to(1, 0, 1, 0))?;
+    assert_eq!(rt; change, Some((0, -1, true)));
     Ok(())
 }
 
-/// Makes a step, if it can be made, and answers the one that takes it back.
-fn made(occupied: &mut Occupied<'_, '_>, step: Step) -> Option<Step> {
-    if !can_step(occupied, step) {
-        return None;
-    }
-    Some(apply(occupied, step))
+/// A step that is made and taken back.
+#[derive(Drop)]
+struct TakenBack {
+    /// The cost between and after.
+    costs: (u64, u64),
+    between: String,
+    after: String,
+    /// What takes the step back.
+    back: Step,
 }
 
-/// Makes a step, and takes it back; answers the score between and the texts between and after.
-fn taken_back(
+/// Makes a step and takes it back.
+fn take_back(
     alloc: Global,
     occupied: &mut Occupied<'_, '_>,
     step: Step,
-) -> Result<(u64, String, String), Fail> {
+) -> Result<TakenBack, Fail> {
     if !can_step(occupied, step) {
         return Err(Fail::new(format_args!("no such step")));
     }
@@ -109,19 +138,28 @@ fn taken_back(
     let cost = occupied.score().cost();
     let between = text_of(alloc, occupied)?;
     undo(occupied, back);
-    Ok((cost, between, text_of(alloc, occupied)?))
+    let after = text_of(alloc, occupied)?;
+    Ok(TakenBack {
+        costs: (cost, occupied.score().cost()),
+        between,
+        after,
+        back,
+    })
+}
+
+/// The same on Mini's solution.
+fn mini_taken_back(alloc: Global, step: Step) -> Result<TakenBack, Fail> {
+    let instance = read_instance(alloc, MINI.as_bytes())?;
+    let mut occupied = occupied(alloc, &instance, MINI_SOLUTION)?;
+    take_back(alloc, &mut occupied, step)
 }
 
 #[test]
 fn steps_that_are_taken_back(rt: HostRuntime) -> Result<(), Fail> {
-    let instance = read_instance(rt.alloc(), MINI.as_bytes())?;
-    let mut occupied = occupied(rt.alloc(), &instance, MINI_SOLUTION)?;
-    let step = moved_to(1, 0, 0, 1);
-    let (cost, between, after) = taken_back(rt.alloc(), &mut occupied, step)?;
-    assert_eq!(rt; (cost, between.as_str()), (1, "a R 0 0\nb R 0 1\n"));
-    assert_eq!(rt; after.as_str(), MINI_SOLUTION);
-    assert_eq!(rt; occupied.score().cost(), 5);
-    assert_eq!(rt; made(&mut occupied, step), Some(moved_to(1, 0, 0, 2)));
+    let taken = mini_taken_back(rt.alloc(), moved_to(1, 0, 0, 1))?;
+    assert_eq!(rt; (taken.costs, taken.back), ((1, 5), moved_to(1, 0, 0, 2)));
+    let texts = (taken.between.as_str(), taken.after.as_str());
+    assert_eq!(rt; texts, ("a R 0 0\nb R 0 1\n", MINI_SOLUTION));
     Ok(())
 }
 
@@ -138,32 +176,38 @@ struct ChainSwap {
 /// Swaps the chain of the first entry to a period of the first day.
 fn swap_from_first(
     alloc: Global,
-    instance: &Instance<'_>,
-    solution: &str,
+    occupied: &mut Occupied<'_, '_>,
     period: u32,
 ) -> Result<ChainSwap, Fail> {
-    let mut occupied = occupied(alloc, instance, solution)?;
-    let inside = !occupied.table().is_empty() && period < occupied.instance().periods();
-    if !inside {
+    let instance = occupied.instance();
+    let inside = instance.days() > 0 && period < instance.periods();
+    if occupied.table().is_empty() || !inside {
         return Err(Fail::new(format_args!("no such entry or period")));
     }
-    let chain = match chain(alloc, &occupied, 0, 0, period) {
+    let chain = match chain(alloc, occupied, 0, 0, period) {
         Ok(chain) => chain,
         Err(fault) => return Err(Fail::new(format_args!("{fault:?}"))),
     };
-    if !chain.is_of(&occupied) {
+    if !chain.is_of(occupied) {
         return Err(Fail::new(format_args!("no chain of this timetable")));
     }
-    swap_chain(&mut occupied, &chain);
+    swap_chain(occupied, &chain);
     let mut members = Vec::new(alloc);
     members.extend_from_slice(chain.members())?;
     let score = occupied.score();
     Ok(ChainSwap {
         members,
-        text: text_of(alloc, &occupied)?,
+        text: text_of(alloc, occupied)?,
         feasible: score.feasible(),
         cost: score.cost(),
     })
+}
+
+/// The same of the timetable that a solution spells, to the second period.
+fn swapped_in(alloc: Global, instance: &str, solution: &str) -> Result<ChainSwap, Fail> {
+    let instance = read_instance(alloc, instance.as_bytes())?;
+    let mut occupied = occupied(alloc, &instance, solution)?;
+    swap_from_first(alloc, &mut occupied, 1)
 }
 
 #[test]
@@ -179,10 +223,11 @@ fn chains_that_change_places(rt: HostRuntime) -> Result<(), Fail> {
         (PAIR, "x A 0 0 y A 0 1", &[0, 1], "x A 0 1\ny A 0 0\n", 0),
         (PAIR, "x A 0 0 y B 0 1", &[0], "x A 0 1\ny B 0 1\n", 0),
     ] {
-        let instance = read_instance(rt.alloc(), instance.as_bytes())?;
-        let after = swap_from_first(rt.alloc(), &instance, solution, 1)?;
-        assert_eq!(rt; after.members.as_slice(), members);
-        assert_eq!(rt; after.text.as_str(), text);
+        let after = swapped_in(rt.alloc(), instance, solution)?;
+        assert_eq!(rt;
+            (after.members.as_slice(), after.text.as_str()),
+            (members, text)
+        );
         assert_eq!(rt; (after.feasible, after.cost), (true, cost));
     }
     Ok(())
@@ -191,15 +236,27 @@ fn chains_that_change_places(rt: HostRuntime) -> Result<(), Fail> {
 /// Why the first entry has no chain to a period of the first day.
 fn refused(
     alloc: Global,
-    instance: &Instance<'_>,
+    occupied: &Occupied<'_, '_>,
+    period: u32,
+) -> Result<Option<ChainFault>, Fail> {
+    let instance = occupied.instance();
+    let inside = instance.days() > 0 && period < instance.periods();
+    if occupied.table().is_empty() || !inside {
+        return Err(Fail::new(format_args!("no such entry or period")));
+    }
+    Ok(chain(alloc, occupied, 0, 0, period).err())
+}
+
+/// The same in the timetable that a solution spells.
+fn refused_in(
+    alloc: Global,
+    instance: &str,
     solution: &str,
     period: u32,
 ) -> Result<Option<ChainFault>, Fail> {
-    let occupied = occupied(alloc, instance, solution)?;
-    if occupied.table().is_empty() || period >= occupied.instance().periods() {
-        return Err(Fail::new(format_args!("no such entry or period")));
-    }
-    Ok(chain(alloc, &occupied, 0, 0, period).err())
+    let instance = read_instance(alloc, instance.as_bytes())?;
+    let occupied = occupied(alloc, &instance, solution)?;
+    refused(alloc, &occupied, period)
 }
 
 #[test]
@@ -215,8 +272,7 @@ fn chains_that_are_refused(rt: HostRuntime) -> Result<(), Fail> {
         (MINI, 0, ChainFault::SamePeriod),
         (barred.as_str(), 1, ChainFault::Unavailable(1)),
     ] {
-        let instance = read_instance(rt.alloc(), instance.as_bytes())?;
-        let told = refused(rt.alloc(), &instance, "a R 0 0 b R 0 1", period)?;
+        let told = refused_in(rt.alloc(), instance, "a R 0 0 b R 0 1", period)?;
         assert_eq!(rt; told, Some(fault));
     }
     Ok(())

@@ -3,6 +3,7 @@
 ghost use Rattle.std.specs.Prelude.{◌<◌, ◌↔◌, IsTrue};
 
 use crate::timetables::{occupied, text_of};
+use std::alloc::Global;
 use std::test::Fail;
 use tt_instance::{Instance, read_instance};
 use tt_occupancy::Occupied;
@@ -103,31 +104,56 @@ fn swapped(occupied: &mut Occupied<'_, '_>, first: u32, second: u32) -> Option<(
     Some(pair(occupied))
 }
 
+/// Counts of some entries.
+fn counts(occupied: &Occupied<'_, '_>) -> [Option<u32>; 6] {
+    [
+        in_room(occupied, 0, 0, 2),
+        of_teacher(occupied, 0, 0, 0),
+        of_curriculum(occupied, 0, 0, 1),
+        of_course(occupied, 1, 0, 2),
+        on_day(occupied, 0, 0),
+        course_in_room(occupied, 0, 0),
+    ]
+}
+
+/// The same of Mini's solution, after its hard count and cost.
+fn mini_counts(alloc: Global) -> Result<((u64, u64), [Option<u32>; 6]), Fail> {
+    let instance = read_instance(alloc, MINI.as_bytes())?;
+    let occupied = occupied(alloc, &instance, MINI_SOLUTION)?;
+    Ok((pair(&occupied), counts(&occupied)))
+}
+
 #[test]
 fn counts_of_entries(rt: HostRuntime) -> Result<(), Fail> {
-    let instance = read_instance(rt.alloc(), MINI.as_bytes())?;
-    let occupied = occupied(rt.alloc(), &instance, MINI_SOLUTION)?;
-    assert_eq!(rt; pair(&occupied), (0, 5));
-    assert_eq!(rt; in_room(&occupied, 0, 0, 2), Some(1));
-    assert_eq!(rt; of_teacher(&occupied, 0, 0, 0), Some(1));
-    assert_eq!(rt; of_curriculum(&occupied, 0, 0, 1), Some(0));
-    assert_eq!(rt; of_course(&occupied, 1, 0, 2), Some(1));
-    assert_eq!(rt; on_day(&occupied, 0, 0), Some(1));
-    assert_eq!(rt; course_in_room(&occupied, 0, 0), Some(1));
+    let (pair, counts) = mini_counts(rt.alloc())?;
+    assert_eq!(rt; pair, (0, 5));
+    let wanted = [Some(1), Some(1), Some(0), Some(1), Some(1), Some(1)];
+    assert_eq!(rt; counts, wanted);
     Ok(())
+}
+
+/// The pair after a move, after a swap, and after an entry has changed places with itself.
+fn pairs(occupied: &mut Occupied<'_, '_>) -> [Option<(u64, u64)>; 3] {
+    [
+        moved(occupied, 1, 0, 0, 1),
+        swapped(occupied, 0, 1),
+        swapped(occupied, 0, 0),
+    ]
+}
+
+/// The same of Mini's solution, with a count and the text then.
+fn mini_pairs(alloc: Global) -> Result<([Option<(u64, u64)>; 3], Option<u32>, String), Fail> {
+    let instance = read_instance(alloc, MINI.as_bytes())?;
+    let mut occupied = occupied(alloc, &instance, MINI_SOLUTION)?;
+    let pairs = pairs(&mut occupied);
+    let count = in_room(&occupied, 0, 0, 2);
+    Ok((pairs, count, text_of(alloc, &occupied)?))
 }
 
 #[test]
 fn moves_and_swaps(rt: HostRuntime) -> Result<(), Fail> {
-    let instance = read_instance(rt.alloc(), MINI.as_bytes())?;
-    let mut occupied = occupied(rt.alloc(), &instance, MINI_SOLUTION)?;
-    assert_eq!(rt; moved(&mut occupied, 1, 0, 0, 1), Some((0, 1)));
-    assert_eq!(rt; in_room(&occupied, 0, 0, 2), Some(0));
-    assert_eq!(rt; swapped(&mut occupied, 0, 1), Some((0, 1)));
-    assert_eq!(rt; swapped(&mut occupied, 0, 0), Some((0, 1)));
-    assert_eq!(rt;
-        text_of(rt.alloc(), &occupied)?.as_str(),
-        "a R 0 1\nb R 0 0\n"
-    );
+    let (pairs, count, text) = mini_pairs(rt.alloc())?;
+    assert_eq!(rt; pairs, [Some((0, 1)), Some((0, 1)), Some((0, 1))]);
+    assert_eq!(rt; (count, text.as_str()), (Some(0), "a R 0 1\nb R 0 0\n"));
     Ok(())
 }

@@ -6,18 +6,28 @@ use tt_instance::read_instance;
 use tt_rules::score;
 use tt_samples::{FLAT, FLAT_SOLUTION, MINI, MINI_SOLUTION, WIDE, edited};
 use tt_search::{construct, descend, improve};
-use tt_table::{read_solution, write_solution};
+use tt_table::{Timetable, read_solution, write_solution};
+
+/// How many entries a course has.
+fn lectures_of(table: &Timetable, course: u32) -> usize {
+    table
+        .entries()
+        .iter()
+        .filter(|it| it.course == course)
+        .count()
+}
+
+/// How often the first and the second course are taught in a first timetable of Mini, and its hard count.
+fn constructed(alloc: Global, seed: u64) -> Result<((usize, usize), u64), Fail> {
+    let instance = read_instance(alloc, MINI.as_bytes())?;
+    let table = construct(alloc, &instance, seed)?;
+    let lectures = (lectures_of(&table, 0), lectures_of(&table, 1));
+    Ok((lectures, score(&instance, &table).hard()))
+}
 
 #[test]
 fn the_lectures_of_each_course(rt: HostRuntime) -> Result<(), Fail> {
-    let instance = read_instance(rt.alloc(), MINI.as_bytes())?;
-    let table = construct(rt.alloc(), &instance, 7)?;
-    assert_eq!(rt; table.len(), 2);
-    assert_eq!(rt;
-        (table.entries()[0].course, table.entries()[1].course),
-        (0, 1)
-    );
-    assert_eq!(rt; score(&instance, &table).hard(), 0);
+    assert_eq!(rt; constructed(rt.alloc(), 7)?, ((1, 1), 0));
     Ok(())
 }
 
@@ -31,24 +41,33 @@ fn no_lectures_without_rooms(rt: HostRuntime) -> Result<(), Fail> {
     Ok(())
 }
 
+/// Whether a descent settled, the cost then, and whether the timetable stayed as it was.
+fn descended(
+    alloc: Global,
+    instance: &str,
+    solution: &str,
+    steps: u64,
+) -> Result<(bool, u64, bool), Fail> {
+    let instance = read_instance(alloc, instance.as_bytes())?;
+    let table = read_solution(alloc, &instance, solution.as_bytes())?;
+    let descent = descend(alloc, &instance, table, steps)?;
+    let after = write_solution(alloc, &instance, &descent.table)?;
+    let stayed = after.as_slice() == solution.as_bytes();
+    Ok((
+        descent.settled,
+        score(&instance, &descent.table).cost(),
+        stayed,
+    ))
+}
+
 #[test]
 fn descents(rt: HostRuntime) -> Result<(), Fail> {
-    for (instance, solution, steps, cost, settled, text) in [
-        (MINI, MINI_SOLUTION, 0, 5, false, Some(MINI_SOLUTION)),
-        (MINI, MINI_SOLUTION, 10, 1, true, None),
-        (FLAT, FLAT_SOLUTION, 10, 1, true, Some(FLAT_SOLUTION)),
+    for (instance, solution, steps, told) in [
+        (MINI, MINI_SOLUTION, 0, (false, 5, true)),
+        (MINI, MINI_SOLUTION, 10, (true, 1, false)),
+        (FLAT, FLAT_SOLUTION, 10, (true, 1, true)),
     ] {
-        let instance = read_instance(rt.alloc(), instance.as_bytes())?;
-        let table = read_solution(rt.alloc(), &instance, solution.as_bytes())?;
-        let descent = descend(rt.alloc(), &instance, table, steps)?;
-        assert_eq!(rt;
-            (descent.settled, score(&instance, &descent.table).cost()),
-            (settled, cost)
-        );
-        if let Some(text) = text {
-            let after = write_solution(rt.alloc(), &instance, &descent.table)?;
-            assert_eq!(rt; after.as_slice(), text.as_bytes());
-        }
+        assert_eq!(rt; descended(rt.alloc(), instance, solution, steps)?, told);
     }
     Ok(())
 }
