@@ -12,6 +12,7 @@ pub mod PriceLaws
 pub mod PriceTurns
 pub mod Progress
 pub mod ProofLaws
+pub mod Readings
 pub mod SeriesLaws
 pub mod Small
 pub mod Taking
