@@ -2,6 +2,7 @@
 
 use std::alloc::AllocError;
 use thiserror::Error;
+use tt_app_files::OutputFault;
 use tt_instance::InstanceFault;
 use tt_proof_check::{CertifyFault, CheckFault};
 use tt_proof_text::WriteFault;
@@ -52,6 +53,15 @@ impl From<AllocError> for AppFault {
 
     fn from(_e: AllocError) -> AppFault {
         AppFault::OutOfMemory
+    }
+}
+
+impl From<OutputFault> for AppFault {
+    fn from(fault: OutputFault) -> AppFault {
+        match fault {
+            OutputFault::CannotWrite => AppFault::CannotWrite,
+            OutputFault::OutOfMemory => AppFault::OutOfMemory,
+        }
     }
 }
 

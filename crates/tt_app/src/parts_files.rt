@@ -1,80 +1,88 @@
-//! What `parts` does with its files.
+//! The files of the command `parts`.
 
 use crate::answer::Answer;
 use crate::calls::parts::{PartsAnswer, parts};
-use crate::disk::{Beside, read_file};
+use crate::disk::read_file;
 use crate::fault::{AppFault, Input};
 use std::alloc::{AllocError, Global};
-use std::rt::Files;
+use std::rt::{Clock, Files};
+use tt_app_files::{Batch, Output, Ready};
 use tt_arguments::PartSearch;
 
-/// The places of this many proofs in a folder.
-fn places_in(alloc: Global, folder: &str, count: usize) -> Result<Vec<String>, AllocError> {
-    let mut places = Vec::new(alloc);
-    for index in 0..count {
-        let number = (index as u64).saturating_add(1);
-        let zero = if number < 10 { "0" } else { "" };
-        places.push(format!(in alloc; "{folder}/part{zero}{number}.proof")?)?;
-    }
-    Ok(places)
+/// How many of the folder's names are compared with the instance before the search; the others are compared after it.
+const FIRST_NAMES: u64 = 99;
+
+/// Returns the path of a proof by its number, from 1 on.
+fn path_of(alloc: Global, folder: &str, number: u64) -> Result<String, AllocError> {
+    let zero = if number < 10 { "0" } else { "" };
+    format!(in alloc; "{folder}/part{zero}{number}.proof")
 }
 
-/// Takes files away that aren't in their places yet.
-fn remove_all<R: Files>(rt: &R, files: &[Beside<'_>]) {
-    for file in files {
-        file.remove(rt);
-    }
-}
-
-/// Writes a file beside its place, after others; where that fails they are taken away.
-fn write_next<'p, R: Files + AllocGlobal>(
+/// Finds where a proof goes; refuses the file of the instance.
+fn output_of<R: Files + AllocGlobal>(
     rt: &R,
-    files: &mut Vec<Beside<'p>>,
-    place: &'p str,
-    bytes: &[u8],
+    folder: &str,
+    number: u64,
+    instance: &str,
+) -> Result<Output, AppFault> {
+    let path = path_of(rt.alloc(), folder, number)?;
+    Ok(Output::apart_from(rt, path.as_str(), &[instance])?)
+}
+
+/// Compares the names that proofs may take with the instance.
+fn try_names<R: Files + AllocGlobal>(
+    rt: &R,
+    folder: &str,
+    instance: &str,
 ) -> Result<(), AppFault> {
-    let file = match Beside::write(rt, place, bytes) {
-        Ok(file) => file,
-        Err(fault) => {
-            remove_all(rt, files.as_slice());
-            return Err(fault);
-        }
-    };
-    if let Err(failed) = files.push(file) {
-        failed.value.remove(rt);
-        remove_all(rt, files.as_slice());
-        return Err(AppFault::OutOfMemory);
+    for number in 1..=FIRST_NAMES {
+        let _ = output_of(rt, folder, number, instance)?;
     }
     Ok(())
 }
 
-/// Puts files in their places, up to the first that can't be put there; those after it are taken away.
-fn put_all<R: Files>(rt: &R, files: Vec<Beside<'_>>) -> Result<(), AppFault> {
-    let mut put = Ok(());
-    for file in files {
-        match put {
-            Ok(()) => put = file.put(rt),
-            Err(_) => file.remove(rt),
-        }
+/// Finds and tries where each of this many proofs goes.
+fn prepare_outputs<R: Files + Clock + AllocGlobal>(
+    rt: &R,
+    folder: &str,
+    count: usize,
+    instance: &str,
+) -> Result<Vec<Ready<R::File>>, AppFault> {
+    let mut outputs = Vec::new(rt.alloc());
+    for index in 0..count {
+        let number = (index as u64).saturating_add(1);
+        let output = output_of(rt, folder, number, instance)?.prepare(rt)?;
+        outputs.push(output).map_err(AllocError::from)?;
     }
-    put
+    Ok(outputs)
 }
 
-/// The answer, once the proofs stand in their places; none does before all are written.
-pub fn answer_parts<R: Files + AllocGlobal>(
+/// Writes each proof to its file.
+fn write_proofs<R: Files + Clock + AllocGlobal>(
+    rt: &R,
+    outputs: &mut [Ready<R::File>],
+    proofs: &[Vec<u8>],
+) -> Result<(), AppFault> {
+    let mut batch = Batch::new(rt.alloc());
+    for (output, proof) in outputs.iter_mut().zip(proofs) {
+        batch = batch.write(rt, output, proof)?;
+    }
+    Ok(batch.put(rt)?)
+}
+
+/// Returns the answer, once all proofs are in their files.
+pub fn answer_parts<R: Files + Clock + AllocGlobal>(
     rt: &R,
     instance: &str,
     folder: &str,
     search: PartSearch,
 ) -> Result<Answer, AppFault> {
-    let instance = read_file(rt, instance, Input::Instance)?;
-    let PartsAnswer { out, proofs } = parts(rt.alloc(), &instance, search.seed, search.nodes)?;
-    let places = places_in(rt.alloc(), folder, proofs.len())?;
-    let mut files = Vec::new(rt.alloc());
-    for (place, proof) in places.iter().zip(&proofs) {
-        write_next(rt, &mut files, place, proof)?;
-    }
-    put_all(rt, files)?;
+    try_names(rt, folder, instance)?;
+    let bytes = read_file(rt, instance, Input::Instance)?;
+    let _ = output_of(rt, folder, 1, instance)?.prepare(rt)?;
+    let PartsAnswer { out, proofs } = parts(rt.alloc(), &bytes, search.seed, search.nodes)?;
+    let mut outputs = prepare_outputs(rt, folder, proofs.len(), instance)?;
+    write_proofs(rt, &mut outputs, &proofs)?;
     Ok(Answer {
         status: 0,
         out,

@@ -11,7 +11,7 @@ use crate::requests::{
 use crate::sums::answer_sum;
 use clap::error::ErrorKind;
 use std::io::Write;
-use std::rt::Files;
+use std::rt::{Clock, Files};
 use tt_arguments::{Request, parse_arguments};
 
 /// Tells of a refusal, and gives its status.
@@ -44,7 +44,7 @@ fn print_answer<O: Write, E: Write>(
 }
 
 /// Does what the arguments ask for, and gives the exit status.
-fn run_request<R: Files + AllocGlobal, O: Write, E: Write>(
+fn run_request<R: Files + Clock + AllocGlobal, O: Write, E: Write>(
     rt: &R,
     asked: &Request<'_>,
     out: &mut O,
@@ -125,7 +125,7 @@ fn print_clap_message<O: Write, E: Write>(fault: &clap::Error, out: &mut O, err:
 
 /// Runs the program on its arguments, without its own name, and gives its exit status: 0 says yes, or that the work is
 /// done; 1 that a hard rule is broken, or that there is no timetable; 2 that it refused (why is on `err`). Without arguments it checks a stored proof.
-pub fn run<R: Files + AllocGlobal, O: Write, E: Write>(
+pub fn run<R: Files + Clock + AllocGlobal, O: Write, E: Write>(
     rt: &R,
     arguments: &[String],
     out: &mut O,

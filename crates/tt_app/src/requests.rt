@@ -9,11 +9,12 @@ use crate::calls::report::report;
 use crate::calls::solve::solve;
 use crate::calls::upgrade::upgrade;
 use crate::calls::validate::validate;
-use crate::disk::{Beside, read_file};
+use crate::disk::read_file;
 use crate::fault::{AppFault, Input};
 use std::fs;
 use std::io::Write;
-use std::rt::Files;
+use std::rt::{Clock, Files};
+use tt_app_files::{Batch, Output, Ready};
 use tt_arguments::{MAX_NODES, Search, TreeSearch};
 use tt_report::{By, Writing};
 use tt_text::{Pieces, Reading};
@@ -65,106 +66,90 @@ pub fn answer_stored<R: Files + AllocGlobal>(rt: &R) -> Result<Answer, AppFault>
     )
 }
 
-/// The answer, once the timetable is written to its file.
-pub fn answer_improve<R: Files + AllocGlobal>(
+/// Writes one file, if there is one to write.
+fn write_given<R: Files + Clock + AllocGlobal>(
+    rt: &R,
+    out: &mut Ready<R::File>,
+    bytes: &Option<Vec<u8>>,
+) -> Result<(), AppFault> {
+    if let Some(bytes) = bytes {
+        Batch::new(rt.alloc()).write(rt, out, bytes)?.put(rt)?;
+    }
+    Ok(())
+}
+
+/// Returns the answer, once the timetable is in its file.
+pub fn answer_improve<R: Files + Clock + AllocGlobal>(
     rt: &R,
     instance: &str,
     solution: &str,
     out: &str,
     search: Search,
 ) -> Result<Answer, AppFault> {
+    let out = Output::apart_from(rt, out, &[instance, solution])?;
     let instance = read_file(rt, instance, Input::Instance)?;
     let solution = read_file(rt, solution, Input::Solution)?;
+    let mut out = out.prepare(rt)?;
     let answer = improve(rt.alloc(), &instance, &solution, search.seed, search.steps)?;
-    write_given(rt, out, &answer.table)?;
+    write_given(rt, &mut out, &answer.table)?;
     Ok(answer)
 }
 
-/// The answer, once the proof is written to its file.
-pub fn answer_upgrade<R: Files + AllocGlobal>(
+/// Returns the answer, once the proof is in its file.
+pub fn answer_upgrade<R: Files + Clock + AllocGlobal>(
     rt: &R,
     instance: &str,
     proof: &str,
     out: &str,
 ) -> Result<Answer, AppFault> {
+    let out = Output::apart_from(rt, out, &[instance, proof])?;
     let instance = read_file(rt, instance, Input::Instance)?;
     let Ok(proof) = fs::open(rt, proof) else {
         return Err(AppFault::CannotRead(Input::Proof));
     };
+    let mut out = out.prepare(rt)?;
     let answer = upgrade(rt.alloc(), &instance, &mut Reading::new(proof))?;
-    write_given(rt, out, &answer.proof)?;
+    write_given(rt, &mut out, &answer.proof)?;
     Ok(answer)
 }
 
-/// The answer, once the best timetable and then the proof stand in their places; neither does before both are written.
-pub fn answer_solve<R: Files + AllocGlobal>(
+/// Writes the best timetable, if there is one, and the proof.
+fn write_both<R: Files + Clock + AllocGlobal>(
+    rt: &R,
+    out: &mut Ready<R::File>,
+    proof: &mut Ready<R::File>,
+    answer: &Answer,
+) -> Result<(), AppFault> {
+    let mut batch = Batch::new(rt.alloc());
+    if let Some(bytes) = &answer.table {
+        batch = batch.write(rt, out, bytes)?;
+    }
+    if let Some(bytes) = &answer.proof {
+        batch = batch.write(rt, proof, bytes)?;
+    }
+    Ok(batch.put(rt)?)
+}
+
+/// Returns the answer, once the best timetable and the proof are in their files.
+pub fn answer_solve<R: Files + Clock + AllocGlobal>(
     rt: &R,
     instance: &str,
     out: &str,
     proof: &str,
     tree: TreeSearch,
 ) -> Result<Answer, AppFault> {
+    let out = Output::apart_from(rt, out, &[instance])?;
+    let proof = Output::apart_from(rt, proof, &[instance])?;
+    if out.is_same(rt, &proof) {
+        return Err(AppFault::CannotWrite);
+    }
     let instance = read_file(rt, instance, Input::Instance)?;
+    let mut out = out.prepare(rt)?;
+    let mut proof = proof.prepare(rt)?;
     let nodes = tree.nodes.clamp(1, MAX_NODES);
     let answer = solve(rt.alloc(), &instance, tree.seed, nodes)?;
-    let table = write_beside(rt, out, &answer.table)?;
-    match write_beside(rt, proof, &answer.proof) {
-        Ok(proof) => put_both(rt, table, proof)?,
-        Err(fault) => {
-            remove_given(rt, &table);
-            return Err(fault);
-        }
-    }
+    write_both(rt, &mut out, &mut proof, &answer)?;
     Ok(answer)
-}
-
-/// Writes a file beside its place, where there is one to write.
-fn write_beside<'p, R: Files + AllocGlobal>(
-    rt: &R,
-    place: &'p str,
-    bytes: &Option<Vec<u8>>,
-) -> Result<Option<Beside<'p>>, AppFault> {
-    match bytes {
-        Some(bytes) => Ok(Some(Beside::write(rt, place, bytes)?)),
-        None => Ok(None),
-    }
-}
-
-/// Puts a file in its place, where there is one.
-fn put_given<R: Files>(rt: &R, file: Option<Beside<'_>>) -> Result<(), AppFault> {
-    match file {
-        Some(file) => file.put(rt),
-        None => Ok(()),
-    }
-}
-
-/// Takes a file away that isn't in its place yet, where there is one.
-fn remove_given<R: Files>(rt: &R, file: &Option<Beside<'_>>) {
-    if let Some(file) = file {
-        file.remove(rt);
-    }
-}
-
-/// Puts two files in their places. Where the first can't be put there, the second isn't.
-fn put_both<R: Files>(
-    rt: &R,
-    first: Option<Beside<'_>>,
-    second: Option<Beside<'_>>,
-) -> Result<(), AppFault> {
-    if let Err(fault) = put_given(rt, first) {
-        remove_given(rt, &second);
-        return Err(fault);
-    }
-    put_given(rt, second)
-}
-
-/// Writes a file, where there is one to write.
-fn write_given<R: Files + AllocGlobal>(
-    rt: &R,
-    place: &str,
-    bytes: &Option<Vec<u8>>,
-) -> Result<(), AppFault> {
-    put_given(rt, write_beside(rt, place, bytes)?)
 }
 
 /// Writes a report, and gives the status.

@@ -4,7 +4,8 @@ use std::alloc::Allocator;
 use std::fs::{Metadata, OpenFile, OpenOptions};
 use std::io;
 use std::io::{Error, ErrorKind, Read, Seek, SeekFrom, Write};
-use std::rt::Files;
+use std::rt::{Clock, Files};
+use std::time::Duration;
 
 /// A file of a disk. The read `fails_at`, counted from 1, fails; 0 says that none does.
 #[derive(Clone, Copy)]
@@ -142,5 +143,16 @@ impl<'a> Files for Disk<'a> {
 
     fn remove_dir_all<B: Allocator>(&self, _alloc: B, _path: &str) -> io::Result<()> {
         Err(unsupported())
+    }
+}
+
+/// A clock that never moves.
+impl<'a> Clock for Disk<'a> {
+    fn monotonic(&self) -> io::Result<Duration> {
+        Ok(Duration::ZERO)
+    }
+
+    fn since_1970(&self) -> io::Result<Duration> {
+        Ok(Duration::ZERO)
     }
 }

@@ -5,7 +5,8 @@ use std::cell::RefCell;
 use std::fs::{Metadata, OpenFile, OpenOptions};
 use std::io;
 use std::io::{Error, ErrorKind, Read, Seek, SeekFrom, Write};
-use std::rt::Files;
+use std::rt::{Clock, Files};
+use std::time::Duration;
 use std::test::Fail;
 
 /// What is refused.
@@ -258,5 +259,16 @@ impl<'s> Files for &'s MemoryFiles {
 
     fn remove_dir_all<B: Allocator>(&self, _alloc: B, _path: &str) -> io::Result<()> {
         Err(fault(ErrorKind::Unsupported))
+    }
+}
+
+/// A clock that never moves.
+impl<'s> Clock for &'s MemoryFiles {
+    fn monotonic(&self) -> io::Result<Duration> {
+        Ok(Duration::ZERO)
+    }
+
+    fn since_1970(&self) -> io::Result<Duration> {
+        Ok(Duration::ZERO)
     }
 }

@@ -1,7 +1,7 @@
 //! The program on a disk in memory.
 
 use std::alloc::Global;
-use std::rt::Files;
+use std::rt::{Clock, Files};
 use std::test::Fail;
 use tt_app::run;
 use tt_test_files::{Disk, StoredFile};
@@ -22,7 +22,7 @@ impl Outcome {
 }
 
 /// Runs the program on words, over a file system.
-pub fn run_on<F: Files + Drop>(alloc: Global, words: &[&str], files: F) -> Result<Outcome, Fail> {
+pub fn run_on<F: Files + Clock + Drop>(alloc: Global, words: &[&str], files: F) -> Result<Outcome, Fail> {
     let mut owned = Vec::new(alloc);
     for word in words {
         owned.push(String::from_str(alloc, word)?)?;

@@ -1,0 +1,98 @@
+//! Names in folders, under which files are written.
+
+use crate::fault::OutputFault;
+use crate::identity::find_id;
+use std::alloc::{AllocError, Global};
+use std::fs;
+use std::path::Path;
+use std::rt::Files;
+
+/// How many links in a row are followed.
+const MAX_LINKS: u32 = 40;
+
+/// A name in a folder, links followed, and the permissions of the file that has the name.
+#[derive(Debug, Drop)]
+pub struct Place {
+    path: String,
+    mode: Option<u32>,
+}
+
+/// Returns the folder of a path.
+fn folder_of(path: &str) -> &str {
+    match Path::new(path).parent() {
+        Some(folder) => match folder.as_str() {
+            "" => ".",
+            folder => folder,
+        },
+        None => ".",
+    }
+}
+
+/// Returns the path that a link leads to.
+fn read_target<R: Files + AllocGlobal>(rt: &R, link: &str) -> Result<String, OutputFault> {
+    let target = fs::read_link(rt, link)?;
+    let path = Path::new(folder_of(link)).join(rt.alloc(), target.as_path())?;
+    Ok(path.into_string())
+}
+
+/// Follows links from a path to a path that is no link.
+fn follow_links<R: Files + AllocGlobal>(rt: &R, path: &str) -> Result<String, OutputFault> {
+    let mut path = String::from_str(rt.alloc(), path)?;
+    for _ in 0..MAX_LINKS {
+        match fs::symlink_metadata(rt, path.as_str()) {
+            Ok(found) if found.is_symlink() => path = read_target(rt, path.as_str())?,
+            _ => return Ok(path),
+        }
+    }
+    Err(OutputFault::CannotWrite)
+}
+
+impl Place {
+    /// Finds the place that a path leads to; `mode` is what its file has now, `None` if there is no file.
+    pub fn find<R: Files + AllocGlobal>(
+        rt: &R,
+        path: &str,
+        mode: Option<u32>,
+    ) -> Result<Place, OutputFault> {
+        let path = follow_links(rt, path)?;
+        if path.as_str().is_empty() || path.as_str().ends_with('/') {
+            return Err(OutputFault::CannotWrite);
+        }
+        Ok(Place { path, mode })
+    }
+
+    pub fn path(&self) -> &str {
+        self.path.as_str()
+    }
+
+    /// Returns the permissions of the file that is there, `None` if there is none.
+    pub fn mode(&self) -> Option<u32> {
+        self.mode
+    }
+
+    pub fn folder(&self) -> &str {
+        folder_of(self.path.as_str())
+    }
+
+    /// Returns the path of another name in the folder.
+    pub fn neighbor(&self, alloc: Global, name: &str) -> Result<String, AllocError> {
+        let folder = self.folder();
+        format!(in alloc; "{folder}/{name}")
+    }
+
+    /// Whether two places are one name in one folder.
+    pub fn is_same<R: Files>(&self, rt: &R, other: &Place) -> bool {
+        if self.path() == other.path() {
+            return true;
+        }
+        let names = (Path::new(self.path()).file_name(), Path::new(other.path()).file_name());
+        match names {
+            (Some(name), Some(other_name)) if name == other_name => {}
+            _ => return false,
+        }
+        match (find_id(rt, self.folder()), find_id(rt, other.folder())) {
+            (Some(folder), Some(other_folder)) => folder == other_folder,
+            _ => false,
+        }
+    }
+}
