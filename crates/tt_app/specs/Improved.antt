@@ -5,6 +5,7 @@ use Rattle.tt_instance.specs.declared.cell.Cell.{Cell}
 use Rattle.tt_table.specs.Spelling.{solution_text}
 use Rattle.tt_rules.specs.Score.{hard, cost}
 use Rattle.tt_search.specs.Improved.{IsNoWorse, IsDescended}
+use Rattle.tt_search.specs.Runs.{Runs}
 use Rattle.tt_proof_check.specs.Headline.{SpellsBoth}
 use Rattle.tt_app.specs.Lines.{pair_line}
 use Rattle.tt_app.specs.declared.answer.Answer.{Answer}
@@ -24,4 +25,14 @@ pub record IsImproved (instance solution : List ℕ) (steps : ℕ) (a : Answer) 
   pub better : List Cell
   pub no_worse : IsNoWorse problem table better
   pub descended : IsDescended problem table (steps / 2) (steps - steps / 2) better
+  pub answer : IsTableAnswer problem better a
+
+-- the same in this many runs, each from the timetable that the run before it found
+pub record IsImprovedInRuns (instance solution : List ℕ) (steps runs : ℕ) (a : Answer) : Type 0 where
+  pub problem : Problem
+  pub table : List Cell
+  pub both : SpellsBoth instance solution problem table
+  pub better : List Cell
+  pub no_worse : IsNoWorse problem table better
+  pub in_runs : Runs problem table (steps / 2) (steps - steps / 2) runs better
   pub answer : IsTableAnswer problem better a

@@ -1,13 +1,16 @@
 //! The files of the command `parts`.
 
 use crate::answer::Answer;
-use crate::calls::parts::{PartsAnswer, parts};
+use crate::calls::parts::{PartsAnswer, parts_watched};
 use crate::disk::read_file;
 use crate::fault::{AppFault, Input};
+use crate::showing::ticker_of;
 use std::alloc::{AllocError, Global};
+use std::io::Write;
 use std::rt::{Clock, Files};
 use tt_app_files::{Batch, Output, Ready};
-use tt_arguments::PartSearch;
+use tt_app_watch::Watching;
+use tt_arguments::{PartSearch, Showing};
 
 /// How many of the folder's names are compared with the instance before the search; the others are compared after it.
 const FIRST_NAMES: u64 = 99;
@@ -30,11 +33,7 @@ fn output_of<R: Files + AllocGlobal>(
 }
 
 /// Compares the names that proofs may take with the instance.
-fn try_names<R: Files + AllocGlobal>(
-    rt: &R,
-    folder: &str,
-    instance: &str,
-) -> Result<(), AppFault> {
+fn try_names<R: Files + AllocGlobal>(rt: &R, folder: &str, instance: &str) -> Result<(), AppFault> {
     for number in 1..=FIRST_NAMES {
         let _ = output_of(rt, folder, number, instance)?;
     }
@@ -70,17 +69,43 @@ fn write_proofs<R: Files + Clock + AllocGlobal>(
     Ok(batch.put(rt)?)
 }
 
-/// Returns the answer, once all proofs are in their files.
-pub fn answer_parts<R: Files + Clock + AllocGlobal>(
+/// Searches for parts, shown on standard error.
+fn parts_shown<R: Files + Clock + AllocGlobal, E: Write>(
     rt: &R,
-    instance: &str,
-    folder: &str,
+    err: &mut E,
+    instance: &[u8],
     search: PartSearch,
+    showing: Showing,
+) -> Result<PartsAnswer, AppFault> {
+    let mut watching = Watching {
+        ticker: ticker_of(rt, err, "parts", showing),
+        keeper: None,
+        saves_feasible_only: true,
+    };
+    let answer = parts_watched(
+        rt.alloc(),
+        instance,
+        search.seed,
+        search.nodes,
+        &mut watching,
+    );
+    watching.clear();
+    answer
+}
+
+/// Returns the answer, once all proofs are in their files.
+pub fn answer_parts<R: Files + Clock + AllocGlobal, E: Write>(
+    rt: &R,
+    err: &mut E,
+    paths: (&str, &str),
+    search: PartSearch,
+    showing: Showing,
 ) -> Result<Answer, AppFault> {
+    let (instance, folder) = paths;
     try_names(rt, folder, instance)?;
     let bytes = read_file(rt, instance, Input::Instance)?;
     let _ = output_of(rt, folder, 1, instance)?.prepare(rt)?;
-    let PartsAnswer { out, proofs } = parts(rt.alloc(), &bytes, search.seed, search.nodes)?;
+    let PartsAnswer { out, proofs } = parts_shown(rt, err, &bytes, search, showing)?;
     let mut outputs = prepare_outputs(rt, folder, proofs.len(), instance)?;
     write_proofs(rt, &mut outputs, &proofs)?;
     Ok(Answer {

@@ -5,9 +5,9 @@ use crate::fault::AppFault;
 use crate::page_file::page_to;
 use crate::parts_files::answer_parts;
 use crate::requests::{
-    answer_bound, answer_check, answer_improve, answer_solve, answer_stored, answer_upgrade,
-    answer_validate, report_to,
+    answer_bound, answer_check, answer_stored, answer_upgrade, answer_validate, report_to,
 };
+use crate::searches::{answer_improve, answer_solve};
 use crate::sums::answer_sum;
 use clap::error::ErrorKind;
 use std::io::Write;
@@ -43,69 +43,70 @@ fn print_answer<O: Write, E: Write>(
     }
 }
 
-/// Does what the arguments ask for, and gives the exit status.
+/// Does what the arguments ask for, and returns the exit status.
 fn run_request<R: Files + Clock + AllocGlobal, O: Write, E: Write>(
     rt: &R,
     asked: &Request<'_>,
     out: &mut O,
     err: &mut E,
 ) -> u8 {
-    match asked {
-        Request::Validate { instance, solution } => {
-            print_answer(answer_validate(rt, instance, solution), out, err)
-        }
+    let answered = match asked {
         Request::Page {
             instance,
             solution,
-            out: path,
-        } => print_status(page_to(rt, instance, solution, path), err),
-        Request::Check {
-            instance,
-            solution,
-            proof,
-        } => print_answer(answer_check(rt, instance, solution, proof), out, err),
-        Request::Bound { instance, proof } => print_answer(
-            answer_bound(rt, instance, proof),
             out,
-            err,
-        ),
-        Request::Sum {
-            instance,
-            solution,
-            proofs,
-        } => print_answer(answer_sum(rt, instance, *solution, proofs), out, err),
-        Request::Improve {
-            instance,
-            solution,
-            out: path,
-            search,
-        } => print_answer(
-            answer_improve(rt, instance, solution, path, *search),
-            out,
-            err,
-        ),
-        Request::Upgrade {
-            instance,
-            proof,
-            out: path,
-        } => print_answer(answer_upgrade(rt, instance, proof, path), out, err),
-        Request::Solve {
-            instance,
-            out: path,
-            proof,
-            tree,
-        } => print_answer(answer_solve(rt, instance, path, proof, *tree), out, err),
-        Request::Parts {
-            instance,
-            folder,
-            search,
-        } => print_answer(answer_parts(rt, instance, folder, *search), out, err),
+        } => return print_status(page_to(rt, instance, solution, out), err),
         Request::Report {
             instance,
             solution,
             by,
-        } => print_status(report_to(rt, instance, solution, *by, out), err),
-    }
+        } => return print_status(report_to(rt, instance, solution, *by, out), err),
+        Request::Validate { instance, solution } => answer_validate(rt, instance, solution),
+        Request::Check {
+            instance,
+            solution,
+            proof,
+            showing,
+        } => answer_check(rt, err, (instance, solution, proof), *showing),
+        Request::Bound {
+            instance,
+            proof,
+            showing,
+        } => answer_bound(rt, err, (instance, proof), *showing),
+        Request::Sum {
+            instance,
+            solution,
+            proofs,
+            showing,
+        } => answer_sum(rt, err, instance, *solution, proofs, *showing),
+        Request::Improve {
+            instance,
+            solution,
+            out,
+            search,
+            showing,
+        } => answer_improve(rt, err, (instance, solution, out), *search, *showing),
+        Request::Upgrade {
+            instance,
+            proof,
+            out,
+            showing,
+        } => answer_upgrade(rt, err, (instance, proof, out), *showing),
+        Request::Solve {
+            instance,
+            out,
+            proof,
+            tree,
+            showing,
+        } => answer_solve(rt, err, (instance, out, proof), *tree, *showing),
+        Request::Parts {
+            instance,
+            folder,
+            search,
+            showing,
+        } => answer_parts(rt, err, (instance, folder), *search, *showing),
+    };
+    print_answer(answered, out, err)
 }
 
 /// Prints what clap says of arguments that it refuses, or of a wish for help.

@@ -1,24 +1,29 @@
 //! Files of proofs, of which one is open at a time.
 
-use std::fs;
-use std::io::Read;
-use std::rt::Files;
+use crate::showing::{Shown, open_counted};
+use std::io::{Read, Write};
+use std::rt::{Clock, Files};
+use tt_app_watch::Counted;
 use tt_text::{ReadFailed, Source};
 
 /// A file that is opened by its first read, and closed at its end.
-pub struct ProofFile<'r, R: Files> {
+pub struct ProofFile<'r, 't, R: Files + Clock, E: Write> {
     rt: &'r R,
     path: &'r str,
-    file: Option<R::File>,
+    number: u64,
+    shown: &'r Shown<'t, R, E>,
+    file: Option<Counted<'r, 't, R::File, R, E>>,
     ended: bool,
     failed: bool,
 }
 
-impl<'r, R: Files> Drop for ProofFile<'r, R> {
+impl<'r, 't, R: Files + Clock, E: Write> Drop for ProofFile<'r, 't, R, E> {
     fn drop(self) {
         let ProofFile {
             rt: _,
             path: _,
+            number: _,
+            shown: _,
             file: _,
             ended: _,
             failed: _,
@@ -26,12 +31,14 @@ impl<'r, R: Files> Drop for ProofFile<'r, R> {
     }
 }
 
-impl<'r, R: Files> ProofFile<'r, R> {
-    /// The file of this path, not opened yet.
-    pub fn new(rt: &'r R, path: &'r str) -> Self {
+impl<'r, 't, R: Files + Clock, E: Write> ProofFile<'r, 't, R, E> {
+    /// The file of this path, not opened yet, and its number, from 1 on.
+    pub fn new(rt: &'r R, path: &'r str, number: u64, shown: &'r Shown<'t, R, E>) -> Self {
         ProofFile {
             rt,
             path,
+            number,
+            shown,
             file: None,
             ended: false,
             failed: false,
@@ -39,7 +46,7 @@ impl<'r, R: Files> ProofFile<'r, R> {
     }
 }
 
-impl<'r, R: Files> Source for ProofFile<'r, R> {
+impl<'r, 't, R: Files + Clock, E: Write> Source for ProofFile<'r, 't, R, E> {
     ghost use Rattle.std.specs.Prelude.{None};
 
     ghost remaining = { λ s. None };
@@ -51,9 +58,9 @@ impl<'r, R: Files> Source for ProofFile<'r, R> {
             return Ok(0);
         }
         if self.file.is_none() {
-            match fs::open(self.rt, self.path) {
-                Ok(file) => self.file = Some(file),
-                Err(_) => {
+            match open_counted(self.rt, self.path, Some(self.number), self.shown) {
+                Some(file) => self.file = Some(file),
+                None => {
                     self.failed = true;
                     return Err(ReadFailed);
                 }
@@ -63,7 +70,13 @@ impl<'r, R: Files> Source for ProofFile<'r, R> {
             return Ok(0);
         };
         match file.read(buffer) {
-            Ok(count) => Ok(count),
+            Ok(count) => {
+                if count == 0 && !buffer.is_empty() {
+                    self.ended = true;
+                    self.file = None;
+                }
+                Ok(count)
+            }
             Err(_) => {
                 self.failed = true;
                 Err(ReadFailed)

@@ -5,34 +5,58 @@ use crate::calls::sum::sum;
 use crate::disk::read_file;
 use crate::fault::{AppFault, Input};
 use crate::proof_files::ProofFile;
+use crate::showing::{Shown, clear, ticker_of};
 use crate::sum_checking::check_sum;
 use std::alloc::AllocError;
-use std::rt::Files;
+use std::cell::RefCell;
+use std::io::Write;
+use std::rt::{Clock, Files};
+use tt_arguments::Showing;
 
-fn proof_files<'r, R: Files + AllocGlobal>(
+fn proof_files<'r, 't, R: Files + Clock + AllocGlobal, E: Write>(
     rt: &'r R,
     paths: &[&'r str],
-) -> Result<Vec<ProofFile<'r, R>>, AllocError> {
+    shown: &'r Shown<'t, R, E>,
+) -> Result<Vec<ProofFile<'r, 't, R, E>>, AllocError> {
     let mut files = Vec::new(rt.alloc());
+    let mut number: u64 = 0;
     for path in paths {
-        files.push(ProofFile::new(rt, path))?;
+        number = number.saturating_add(1);
+        files.push(ProofFile::new(rt, path, number, shown))?;
     }
     Ok(files)
 }
 
-pub fn answer_sum<R: Files + AllocGlobal>(
+/// Sums what proofs derive, whose reading is shown.
+fn sum_files<R: Files + Clock + AllocGlobal, E: Write>(
     rt: &R,
+    instance: &[u8],
+    solution: Option<&str>,
+    proofs: &[&str],
+    shown: &Shown<'_, R, E>,
+) -> Result<Answer, AppFault> {
+    let mut files = proof_files(rt, proofs, shown)?;
+    match solution {
+        None => sum(rt.alloc(), instance, &mut files),
+        Some(solution) => {
+            let solution = read_file(rt, solution, Input::Solution)?;
+            check_sum(rt.alloc(), instance, &solution, &mut files)
+        }
+    }
+}
+
+/// Returns what `sum` answers.
+pub fn answer_sum<R: Files + Clock + AllocGlobal, E: Write>(
+    rt: &R,
+    err: &mut E,
     instance: &str,
     solution: Option<&str>,
     proofs: &[&str],
+    showing: Showing,
 ) -> Result<Answer, AppFault> {
     let instance = read_file(rt, instance, Input::Instance)?;
-    let mut files = proof_files(rt, proofs)?;
-    match solution {
-        None => sum(rt.alloc(), &instance, &mut files),
-        Some(solution) => {
-            let solution = read_file(rt, solution, Input::Solution)?;
-            check_sum(rt.alloc(), &instance, &solution, &mut files)
-        }
-    }
+    let shown = RefCell::new(ticker_of(rt, err, "sum", showing));
+    let answer = sum_files(rt, &instance, solution, proofs, &shown);
+    clear(&shown);
+    answer
 }

@@ -1,6 +1,7 @@
 //! What the arguments of the command line ask for.
 
 use crate::parts::{PartSearch, parts_command, parts_request};
+use crate::showing::{Showing, showing_of, with_showing};
 use crate::sums::{sum_command, sum_request};
 use clap::builder::ValueParser;
 use clap::{Arg, ArgAction, ArgMatches, Command, Error};
@@ -13,21 +14,27 @@ const KINDS: [&str; 3] = ["room", "teacher", "curriculum"];
 /// The most steps of a search.
 const MAX_STEPS: u64 = 1_000_000;
 
-/// A seed, and how many steps a search makes.
+/// The most runs of a search.
+const MAX_RUNS: u64 = 1_000;
+
+/// A seed, how many steps each run of a search makes, how many runs there are, and whether the best timetable is saved on the way.
 #[derive(Clone, Copy, Debug)]
 pub struct Search {
     pub seed: u64,
     pub steps: u64,
+    pub runs: u64,
+    pub keeps: bool,
 }
 
 /// The most nodes of a tree that a search opens.
 pub const MAX_NODES: u32 = 65_536;
 
-/// A seed, and how many nodes of its tree a search opens at most: 1 to MAX_NODES.
+/// A seed, how many nodes of its tree a search opens at most, 1 to MAX_NODES, and whether the best timetable is saved on the way.
 #[derive(Clone, Copy, Debug)]
 pub struct TreeSearch {
     pub seed: u64,
     pub nodes: u32,
+    pub keeps: bool,
 }
 
 /// What a command line asks for; files are paths.
@@ -46,37 +53,44 @@ pub enum Request<'a> {
         instance: &'a str,
         solution: &'a str,
         proof: &'a str,
+        showing: Showing,
     },
     Bound {
         instance: &'a str,
         proof: &'a str,
+        showing: Showing,
     },
     Sum {
         instance: &'a str,
         solution: Option<&'a str>,
         proofs: Vec<&'a str>,
+        showing: Showing,
     },
     Improve {
         instance: &'a str,
         solution: &'a str,
         out: &'a str,
         search: Search,
+        showing: Showing,
     },
     Upgrade {
         instance: &'a str,
         proof: &'a str,
         out: &'a str,
+        showing: Showing,
     },
     Solve {
         instance: &'a str,
         out: &'a str,
         proof: &'a str,
         tree: TreeSearch,
+        showing: Showing,
     },
     Parts {
         instance: &'a str,
         folder: &'a str,
         search: PartSearch,
+        showing: Showing,
     },
     Report {
         instance: &'a str,
@@ -147,20 +161,22 @@ fn page_command<'a>(alloc: Global) -> Result<Command<'a>, AllocError> {
 }
 
 fn check_command<'a>(alloc: Global) -> Result<Command<'a>, AllocError> {
-    Command::new(alloc, "check")
+    let command = Command::new(alloc, "check")
         .about("Checks a solution, and a proof of a lower bound")
         .after_help("Example: tt check week.ctt week.sol week.proof")
         .arg(instance(alloc))?
         .arg(solution(alloc))?
-        .arg(proof(alloc))
+        .arg(proof(alloc))?;
+    with_showing(alloc, command)
 }
 
 fn bound_command<'a>(alloc: Global) -> Result<Command<'a>, AllocError> {
-    Command::new(alloc, "bound")
+    let command = Command::new(alloc, "bound")
         .about("Checks a proof of a lower bound, and prints the bound")
         .after_help("Example: tt bound week.ctt week.proof")
         .arg(instance(alloc))?
-        .arg(proof(alloc))
+        .arg(proof(alloc))?;
+    with_showing(alloc, command)
 }
 
 /// An option with a number in a range, and the one that is taken where it isn't given.
@@ -185,6 +201,22 @@ fn steps<'a>(alloc: Global) -> Arg<'a> {
     number(alloc, "steps", (0, MAX_STEPS), "10000").help("How long to search, 0 to 1000000 steps")
 }
 
+fn runs<'a>(alloc: Global) -> Arg<'a> {
+    number(alloc, "runs", (1, MAX_RUNS), "1").help(
+        "How many searches to make, 1 to 1000, each from the best timetable so far, with the seed counted up",
+    )
+}
+
+/// The option that saves the best timetable while a search goes on.
+fn keep<'a>(alloc: Global) -> Arg<'a> {
+    Arg::new(alloc, "keep")
+        .long("keep")
+        .action(ArgAction::SetTrue)
+        .help(
+            "Writes the best timetable so far to OUT while the search goes on, once a second at most",
+        )
+}
+
 fn nodes<'a>(alloc: Global) -> Arg<'a> {
     number(alloc, "nodes", (1, u64::from(MAX_NODES)), "1000").help(
         "How many nodes of the tree to open at most, 1 to 65536",
@@ -192,27 +224,31 @@ fn nodes<'a>(alloc: Global) -> Arg<'a> {
 }
 
 fn improve_command<'a>(alloc: Global) -> Result<Command<'a>, AllocError> {
-    Command::new(alloc, "improve")
+    let command = Command::new(alloc, "improve")
         .about("Searches from a solution, and writes a timetable that is no worse")
         .after_help("Example: tt improve week.ctt week.sol better.sol --steps 100000")
         .arg(instance(alloc))?
         .arg(solution(alloc))?
         .arg(out(alloc))?
         .arg(seed(alloc))?
-        .arg(steps(alloc))
+        .arg(steps(alloc))?
+        .arg(runs(alloc))?
+        .arg(keep(alloc))?;
+    with_showing(alloc, command)
 }
 
 fn upgrade_command<'a>(alloc: Global) -> Result<Command<'a>, AllocError> {
-    Command::new(alloc, "upgrade")
+    let command = Command::new(alloc, "upgrade")
         .about("Checks a proof, and writes it in version 2")
         .after_help("Example: tt upgrade week.ctt old.proof new.proof")
         .arg(instance(alloc))?
         .arg(proof(alloc))?
-        .arg(out(alloc))
+        .arg(out(alloc))?;
+    with_showing(alloc, command)
 }
 
 fn solve_command<'a>(alloc: Global) -> Result<Command<'a>, AllocError> {
-    Command::new(alloc, "solve")
+    let command = Command::new(alloc, "solve")
         .about("Searches for a best timetable, and writes it with a proof of a lower bound")
         .after_help("Example: tt solve week.ctt week.sol week.proof --nodes 5000")
         .arg(instance(alloc))?
@@ -223,7 +259,9 @@ fn solve_command<'a>(alloc: Global) -> Result<Command<'a>, AllocError> {
             "The proof that is written, after OUT; an older one is replaced",
         ))?
         .arg(seed(alloc))?
-        .arg(nodes(alloc))
+        .arg(nodes(alloc))?
+        .arg(keep(alloc))?;
+    with_showing(alloc, command)
 }
 
 fn by_option<'a>(alloc: Global) -> Arg<'a> {
@@ -287,6 +325,7 @@ fn check_request<'a>(found: &ArgMatches<'a>) -> Option<Request<'a>> {
         instance: found.get_str("INSTANCE")?,
         solution: found.get_str("SOLUTION")?,
         proof: found.get_str("PROOF")?,
+        showing: showing_of(found),
     })
 }
 
@@ -294,6 +333,7 @@ fn bound_request<'a>(found: &ArgMatches<'a>) -> Option<Request<'a>> {
     Some(Request::Bound {
         instance: found.get_str("INSTANCE")?,
         proof: found.get_str("PROOF")?,
+        showing: showing_of(found),
     })
 }
 
@@ -305,7 +345,10 @@ fn improve_request<'a>(found: &ArgMatches<'a>) -> Option<Request<'a>> {
         search: Search {
             seed: found.get_one("seed")?,
             steps: found.get_one("steps")?,
+            runs: found.get_one("runs")?,
+            keeps: found.get_flag("keep"),
         },
+        showing: showing_of(found),
     })
 }
 
@@ -314,6 +357,7 @@ fn upgrade_request<'a>(found: &ArgMatches<'a>) -> Option<Request<'a>> {
         instance: found.get_str("INSTANCE")?,
         proof: found.get_str("PROOF")?,
         out: found.get_str("OUT")?,
+        showing: showing_of(found),
     })
 }
 
@@ -330,7 +374,9 @@ fn solve_request<'a>(found: &ArgMatches<'a>) -> Option<Request<'a>> {
         tree: TreeSearch {
             seed: found.get_one("seed")?,
             nodes: nodes_of(found.get_one("nodes")?)?,
+            keeps: found.get_flag("keep"),
         },
+        showing: showing_of(found),
     })
 }
 

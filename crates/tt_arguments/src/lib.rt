@@ -3,7 +3,9 @@
 
 mod arguments;
 mod parts;
+mod showing;
 mod sums;
 
 pub use arguments::{MAX_NODES, Request, Search, TreeSearch, parse_arguments};
 pub use parts::PartSearch;
+pub use showing::Showing;

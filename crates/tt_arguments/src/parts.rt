@@ -1,6 +1,7 @@
 //! The arguments of `parts`.
 
 use crate::arguments::{Request, instance, nodes_of, number, seed};
+use crate::showing::{showing_of, with_showing};
 use clap::{Arg, ArgAction, ArgMatches, Command};
 use std::alloc::{AllocError, Global};
 
@@ -31,13 +32,14 @@ fn nodes<'a>(alloc: Global) -> Arg<'a> {
 
 /// The command `parts`.
 pub fn parts_command<'a>(alloc: Global) -> Result<Command<'a>, AllocError> {
-    Command::new(alloc, "parts")
+    let command = Command::new(alloc, "parts")
         .about("Searches for proofs of lower bounds that add up, and writes them")
         .after_help("Example: tt parts week.ctt proofs --nodes 300000")
         .arg(instance(alloc))?
         .arg(folder(alloc))?
         .arg(seed(alloc))?
-        .arg(nodes(alloc))
+        .arg(nodes(alloc))?;
+    with_showing(alloc, command)
 }
 
 /// What is asked of `parts`.
@@ -49,5 +51,6 @@ pub fn parts_request<'a>(found: &ArgMatches<'a>) -> Option<Request<'a>> {
             seed: found.get_one("seed")?,
             nodes: nodes_of(found.get_one("nodes")?)?,
         },
+        showing: showing_of(found),
     })
 }

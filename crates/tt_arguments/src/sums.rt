@@ -1,6 +1,7 @@
 //! The arguments of `sum`.
 
 use crate::arguments::{Request, instance};
+use crate::showing::{showing_of, with_showing};
 use clap::{Arg, ArgAction, ArgMatches, Command};
 use std::alloc::{AllocError, Global};
 
@@ -25,12 +26,13 @@ fn proofs<'a>(alloc: Global) -> Arg<'a> {
 
 /// The command `sum`.
 pub fn sum_command<'a>(alloc: Global) -> Result<Command<'a>, AllocError> {
-    Command::new(alloc, "sum")
+    let command = Command::new(alloc, "sum")
         .about("Checks proofs of lower bounds that add up, and prints their sum")
         .after_help("Example: tt sum week.ctt --solution week.sol rooms.proof days.proof")
         .arg(instance(alloc))?
         .arg(solution_option(alloc))?
-        .arg(proofs(alloc))
+        .arg(proofs(alloc))?;
+    with_showing(alloc, command)
 }
 
 /// What is asked of `sum`.
@@ -49,5 +51,6 @@ pub fn sum_request<'a>(
         instance,
         solution: found.get_str("solution"),
         proofs,
+        showing: showing_of(found),
     }))
 }

@@ -14,7 +14,7 @@ use std::alloc::{AllocError, Global};
 use tt_instance::Instance;
 use tt_leaf_rules::Bound;
 use tt_rules::score;
-use tt_search::{construct, descend, improve};
+use tt_search::{Watch, construct, descend, improve_watched};
 use tt_table::Timetable;
 
 /// The steps of a turn of the improvement after it, at least and at most, and for each entry in each cell of a room: one
@@ -108,13 +108,14 @@ fn is_cheaper(instance: &Instance<'_>, one: &Timetable, other: &Timetable) -> bo
 }
 
 /// Improves a timetable in turns, each from the start, until one reaches the goal; the best of all.
-fn improve_to(
+fn improve_to<W: Watch>(
     alloc: Global,
     instance: &Instance<'_>,
     table: Timetable,
     seed: u64,
     goal: u64,
     turns: u32,
+    watch: &mut W,
 ) -> Result<Timetable, AllocError>
     requires { IsTimetable instance.now table }
     ensures { IfOk result (IsNoWorse instance.now table) }
@@ -127,12 +128,13 @@ fn improve_to(
             break;
         }
         let turn_seed = seed.wrapping_add(u64::from(turn));
-        let found = improve(
+        let found = improve_watched(
             alloc,
             instance,
             start.copy()?,
             turn_seed,
             steps_of(turn, size),
+            watch,
         )?;
         if is_cheaper(instance, &found, &best) {
             best = found;
@@ -143,19 +145,20 @@ fn improve_to(
 
 /// The timetable that a search begins with: where a descent from a constructed one leads, improved in this many turns
 /// or until it costs no more than a goal, if it breaks no hard rule. The same seed gives the same one.
-pub fn first_best(
+pub fn first_best<W: Watch>(
     alloc: Global,
     instance: &Instance<'_>,
     seed: u64,
     goal: u64,
     turns: u32,
+    watch: &mut W,
 ) -> Result<Option<Best>, AllocError>
     ensures kept { IfOk result (IsKept instance.now) }
     ensures begun { IfOk result (λ best. BeginsWell instance.now (table_of best)) }
 {
     let table = construct(alloc, instance, seed)?;
     let descent = descend(alloc, instance, table, FIRST_STEPS)?;
-    let improved = improve_to(alloc, instance, descent.table, seed, goal, turns)?;
+    let improved = improve_to(alloc, instance, descent.table, seed, goal, turns, watch)?;
     Ok(if_feasible(instance, improved))
 }
 

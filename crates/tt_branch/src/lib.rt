@@ -12,6 +12,7 @@ mod rounds;
 mod search;
 mod solving;
 mod visit;
+mod watching;
 
 pub use limit::{FIRST_STEPS, MAX_OPENED};
-pub use solving::{Outcome, solve};
+pub use solving::{Outcome, solve, solve_watched};

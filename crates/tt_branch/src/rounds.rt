@@ -9,8 +9,10 @@ ghost use Rattle.tt_branch.specs.declared.limit.TheConstants.{MAX_OPENED};
 use crate::entry::Mark;
 use crate::search::{Search, next_open, split};
 use crate::visit::open_at;
+use crate::watching::show;
 use std::alloc::{AllocError, Global};
 use tt_paths::{Path, Pattern};
+use tt_search::Watch;
 
 /// Splits a node that was opened; where the node is that is opened next, of two children the one that is thought to
 /// be worth less.
@@ -49,11 +51,12 @@ fn open_next<'i, P: Path<'i>>(
 }
 
 /// Opens nodes until none is open, or this many were opened, the root among them; whether none is open.
-pub fn grow<'i, P: Path<'i>>(
+pub fn grow<'i, P: Path<'i>, W: Watch>(
     alloc: Global,
     path: &mut P,
     search: &mut Search,
     limit: u32,
+    watch: &mut W,
 ) -> Result<bool, AllocError>
     requires under_way { IsUnderWay (P.problem path.old) search.old }
     requires root { opened_in search.old.entries.items ≡ 1 }
@@ -69,6 +72,7 @@ pub fn grow<'i, P: Path<'i>>(
         let Some(place) = next_open(search.entries.as_slice()) else {
             return Ok(true);
         };
+        show(watch, search, place, _opened, limit);
         open_next(alloc, path, search, place)?;
     }
     Ok(next_open(search.entries.as_slice()).is_none())

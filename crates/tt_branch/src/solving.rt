@@ -22,6 +22,7 @@ use tt_leaf_rules::Bound;
 use tt_paths::Path;
 use tt_proof_check::check_nodes;
 use tt_proof_read::Node;
+use tt_search::{Unwatched, Watch};
 use tt_table::Timetable;
 
 /// What a search found.
@@ -106,11 +107,12 @@ fn table_in(best: Option<Best>) -> Option<Timetable>
 }
 
 /// Searches over a path, from a first best timetable.
-fn solve_over<'i, P: Path<'i>>(
+fn solve_over<'i, P: Path<'i>, W: Watch>(
     alloc: Global,
     path: &mut P,
     best: Option<Best>,
     limit: u32,
+    watch: &mut W,
 ) -> Result<Outcome, AllocError>
     requires kept { IsKept (P.problem path.old) best }
     requires begun { BeginsWell (P.problem path.old) (table_of best) }
@@ -120,13 +122,31 @@ fn solve_over<'i, P: Path<'i>>(
 {
     let mut search = Search::new(alloc, best)?;
     open_at(alloc, path, &mut search, 0)?;
-    let finished = grow(alloc, path, &mut search, limit)?;
+    let finished = grow(alloc, path, &mut search, limit, watch)?;
     conclude(alloc, path, search, limit, finished)
 }
 
-/// Searches for a best timetable, with at most this many nodes of the tree opened. It answers the best
-/// timetable that it found and a proof of a lower bound; where each node is closed the two meet, or there
-/// is no timetable without a broken hard rule. Which nodes are opened is not promised.
+/// Searches for a best timetable as `solve` does, and shows the search to a watch.
+pub fn solve_watched<W: Watch>(
+    alloc: Global,
+    instance: &Instance<'_>,
+    nodes: u32,
+    seed: u64,
+    watch: &mut W,
+) -> Result<Outcome, AllocError>
+    requires some { 1 ≤ nodes }
+    requires few { nodes ≤ MAX_OPENED }
+    ensures { IfOk result (λ o. IsOutcome instance.now nodes o.best o.bound (option_map (λ v. v.items) o.proof) o.finished) }
+{
+    let mut path = TrailPath::new(alloc, instance)?;
+    let goal = best_worth(alloc, &path)?;
+    let best = first_best(alloc, instance, seed, goal, turns_for(nodes), watch)?;
+    solve_over(alloc, &mut path, best, nodes, watch)
+}
+
+/// Searches for a best timetable, with at most this many nodes of the tree opened. Returns the best timetable that it found and a
+/// proof of a lower bound; where each node is closed the two meet, or there is no timetable without a broken hard rule. Which nodes
+/// are opened is not promised.
 pub fn solve(
     alloc: Global,
     instance: &Instance<'_>,
@@ -137,8 +157,5 @@ pub fn solve(
     requires few { nodes ≤ MAX_OPENED }
     ensures { IfOk result (λ o. IsOutcome instance.now nodes o.best o.bound (option_map (λ v. v.items) o.proof) o.finished) }
 {
-    let mut path = TrailPath::new(alloc, instance)?;
-    let goal = best_worth(alloc, &path)?;
-    let best = first_best(alloc, instance, seed, goal, turns_for(nodes))?;
-    solve_over(alloc, &mut path, best, nodes)
+    solve_watched(alloc, instance, nodes, seed, &mut Unwatched)
 }

@@ -29,6 +29,15 @@ impl Chosen {
         points
     }
 
+    /// What all chosen parts prove together.
+    pub fn points(&self) -> u64 {
+        let mut points: u64 = 0;
+        for part in &self.parts {
+            points = points.saturating_add(part.points);
+        }
+        points
+    }
+
     /// Puts a part in the place of those that it meets.
     pub fn replace(&mut self, part: Part) -> Result<(), AllocError> {
         self.parts.retain(|other| !other.group.meets(&part.group));

@@ -10,4 +10,4 @@ mod rounds;
 mod text;
 mod together;
 
-pub use finding::{Parts, find_parts};
+pub use finding::{Parts, find_parts, find_parts_watched};

@@ -11,7 +11,7 @@ use tt_leaf_rules::Bound;
 use tt_proof_read::Node;
 use tt_proof_text::{WriteFault, write_proof};
 use tt_rules::score;
-use tt_search::{construct, improve};
+use tt_search::{Progress, Unit, Watch, construct, improve};
 
 /// The most nodes of a tree, round by round.
 const LIMITS: [u32; 5] = [256, 1_024, 4_096, 16_384, 65_536];
@@ -83,7 +83,8 @@ pub struct Finder<'s, 'i> {
     alloc: Global,
     instance: &'s Instance<'i>,
     seed: u64,
-    /// How many nodes may still be opened.
+    /// How many nodes may be opened in all, and how many still.
+    nodes: u32,
     left: u32,
     pub chosen: Chosen,
 }
@@ -95,6 +96,7 @@ impl<'s, 'i> Finder<'s, 'i> {
             alloc,
             instance,
             seed,
+            nodes,
             left: nodes,
             chosen: Chosen {
                 parts: Vec::new(alloc),
@@ -166,12 +168,33 @@ impl<'s, 'i> Finder<'s, 'i> {
         Ok(())
     }
 
+    /// Shows the search, and which group it tries.
+    fn show<W: Watch>(&self, watch: &mut W, group: &Group) {
+        watch.see(
+            Progress {
+                unit: Unit::Nodes,
+                done: u64::from(self.nodes.saturating_sub(self.left)),
+                limit: u64::from(self.nodes),
+                best: None,
+                bound: Some(self.chosen.points()),
+                tried: Some(group.curricula.len() as u64),
+            },
+            &[],
+        );
+    }
+
     /// Tries each candidate that may still be raised.
-    fn round(&mut self, candidates: &mut [Candidate], limit: u32) -> Result<(), AllocError> {
+    fn round<W: Watch>(
+        &mut self,
+        candidates: &mut [Candidate],
+        limit: u32,
+        watch: &mut W,
+    ) -> Result<(), AllocError> {
         for candidate in candidates {
             let met = self.chosen.met(&candidate.group);
             let may_rise = candidate.most.is_none_or(|most| next_points(met) <= most);
             if self.left > 0 && may_rise {
+                self.show(watch, &candidate.group);
                 self.try_one(candidate, limit)?;
             }
         }
@@ -179,10 +202,14 @@ impl<'s, 'i> Finder<'s, 'i> {
     }
 
     /// Goes through the candidates with each limit.
-    pub fn go_through(&mut self, groups: Vec<Group>) -> Result<(), AllocError> {
+    pub fn go_through<W: Watch>(
+        &mut self,
+        groups: Vec<Group>,
+        watch: &mut W,
+    ) -> Result<(), AllocError> {
         let mut candidates = candidates_of(self.alloc, groups)?;
         for limit in LIMITS {
-            self.round(candidates.as_mut_slice(), limit)?;
+            self.round(candidates.as_mut_slice(), limit, watch)?;
         }
         Ok(())
     }

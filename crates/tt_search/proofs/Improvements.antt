@@ -27,6 +27,14 @@ IsNoWorse-descends {p} {t} {u} {v} kept down = record {
   ];
 }
 
+-- a timetable that is no worse than one that is no worse is no worse
+pub IsNoWorse-trans : {p : Problem} {t u v : List Cell} → IsNoWorse p t u → IsNoWorse p u v → IsNoWorse p t v
+IsNoWorse-trans first second = record {
+  timetable = second.timetable;
+  courses = second.courses ∙ first.courses;
+  no_higher = λ below. grind (arith, below, first.no_higher, second.no_higher);
+}
+
 -- no step leads to where one stands
 pub leads_here : (p : Problem) (t : List Cell) (n : ℕ) → LeadsWithin p t n t
 leads_here p t n = record { made = 0; path = here p t; within = omega arith }

@@ -1,5 +1,6 @@
 pub mod Improved
 pub mod Pairs
+pub mod Runs
 pub mod Settled
 pub use Rattle.tt_construct.specs.Constructed
 pub use Rattle.tt_descend.specs.Descent

@@ -12,6 +12,7 @@ use crate::restoring::restore;
 use crate::rounds::{Part, SETTLED, UNSETTLED};
 use crate::settled::seems_settled;
 use crate::walking::{Walker, walk};
+use crate::watch::{Span, Unwatched, Watch};
 use std::alloc::{AllocError, Global};
 use tt_descend::descend_in;
 use tt_instance::Instance;
@@ -19,13 +20,15 @@ use tt_occupancy::Occupied;
 use tt_table::Timetable;
 
 /// Walks from the best timetable, and goes to the best one then. No memory is taken.
-fn go_round(
+fn go_round<W: Watch>(
     occupied: &mut Occupied<'_, '_>,
     best: &mut Best,
     walker: &mut Walker,
     part: Part,
     draws: u64,
     samples: u64,
+    span: Span,
+    watch: &mut W,
 )
     requires some { 0 < length occupied.old.entries }
     requires here { best.old.entries.items ≡ occupied.old.entries }
@@ -40,17 +43,19 @@ fn go_round(
     walker.begin(occupied);
     let entries = occupied.table().len() as u64;
     let cooling = Cooling::new(part, draws, samples, best.pair.cost, entries);
-    walk(occupied, best, walker, cooling, draws);
+    walk(occupied, best, walker, cooling, draws, span, watch);
     restore(occupied, &best.entries);
 }
 
 /// Walks in rounds, each from the best timetable so far, and goes to the best one then. No memory is taken.
-fn go_rounds(
+fn go_rounds<W: Watch>(
     occupied: &mut Occupied<'_, '_>,
     best: &mut Best,
     walker: &mut Walker,
     parts: &[Part],
     draws: u64,
+    limit: u64,
+    watch: &mut W,
 )
     requires some { 0 < length occupied.old.entries }
     requires here { best.old.entries.items ≡ occupied.old.entries }
@@ -65,17 +70,23 @@ fn go_rounds(
     let mut made = 0;
     for part in parts {
         let next = part.draws(draws, made);
-        go_round(occupied, best, walker, *part, next, samples);
+        let span = Span {
+            before: made,
+            limit,
+        };
+        go_round(occupied, best, walker, *part, next, samples, span, watch);
         made += next;
     }
 }
 
 /// Goes on to the best timetable that this many drawn steps lead to.
-fn walk_to_best(
+fn walk_to_best<W: Watch>(
     alloc: Global,
     occupied: &mut Occupied<'_, '_>,
     seed: u64,
     draws: u64,
+    limit: u64,
+    watch: &mut W,
 ) -> Result<(), AllocError>
     ensures problem { occupied.new.problem ≡ occupied.old.problem }
     ensures best { OnOk result (IsNoWorse occupied.old.problem occupied.old.entries occupied.new.entries) }
@@ -92,12 +103,34 @@ fn walk_to_best(
     } else {
         UNSETTLED.as_slice()
     };
-    go_rounds(occupied, &mut best, &mut walker, parts, draws);
+    go_rounds(occupied, &mut best, &mut walker, parts, draws, limit, watch);
     Ok(())
 }
 
-/// A timetable with the same courses, from a seed and this many steps: half of them are drawn, and make a walk near the
-/// best timetable so far; the others descend from the best one. The same seed gives the same answer on every machine.
+/// Improves a timetable as `improve` does, and shows the search to a watch.
+pub fn improve_watched<W: Watch>(
+    alloc: Global,
+    instance: &Instance<'_>,
+    table: Timetable,
+    seed: u64,
+    steps: u64,
+    watch: &mut W,
+) -> Result<Timetable, AllocError>
+    requires { IsTimetable instance.now table }
+    ensures kept { IfOk result (IsNoWorse instance.now table) }
+    ensures descended { IfOk result (IsDescended instance.now table (steps / 2) (steps - steps / 2)) }
+{
+    let draws = steps / 2;
+    let Ok(mut occupied) = Occupied::new(alloc, instance, table) else {
+        return Err(AllocError);
+    };
+    walk_to_best(alloc, &mut occupied, seed, draws, steps, watch)?;
+    descend_in(&mut occupied, steps - draws);
+    Ok(occupied.into_timetable())
+}
+
+/// Searches for a better timetable with the same courses, from a seed and this many steps: half of them are drawn, and make a walk
+/// near the best timetable so far; the others descend from the best one. The same seed gives the same answer on every machine.
 /// The table is used up also where memory runs out. That it is mostly better is not proved.
 pub fn improve(
     alloc: Global,
@@ -110,11 +143,5 @@ pub fn improve(
     ensures kept { IfOk result (IsNoWorse instance.now table) }
     ensures descended { IfOk result (IsDescended instance.now table (steps / 2) (steps - steps / 2)) }
 {
-    let draws = steps / 2;
-    let Ok(mut occupied) = Occupied::new(alloc, instance, table) else {
-        return Err(AllocError);
-    };
-    walk_to_best(alloc, &mut occupied, seed, draws)?;
-    descend_in(&mut occupied, steps - draws);
-    Ok(occupied.into_timetable())
+    improve_watched(alloc, instance, table, seed, steps, &mut Unwatched)
 }

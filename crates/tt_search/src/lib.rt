@@ -14,11 +14,16 @@ mod places;
 mod random;
 mod restoring;
 mod rounds;
+mod runs;
 mod sampling;
 mod settled;
 mod violations;
 mod walking;
+mod watch;
 
-pub use improving::improve;
+pub use improving::{improve, improve_watched};
+pub use pair::Pair;
+pub use runs::improve_in_runs;
 pub use tt_construct::construct;
 pub use tt_descend::{Descent, descend};
+pub use watch::{Progress, Unit, Unwatched, Watch};

@@ -10,6 +10,7 @@ use crate::board::Board;
 use crate::cooling::Cooling;
 use crate::drawing::draw;
 use crate::open::Open;
+use crate::watch::{Span, Watch};
 use rand_core::SeedableRng;
 use rand_pcg::Pcg32;
 use std::alloc::{AllocError, Global};
@@ -66,12 +67,14 @@ fn try_draw(occupied: &mut Occupied<'_, '_>, walker: &mut Walker, cooling: &mut 
 }
 
 /// Makes drawn steps, and keeps the best timetable on the way. No memory is taken.
-pub fn walk(
+pub fn walk<W: Watch>(
     occupied: &mut Occupied<'_, '_>,
     best: &mut Best,
     walker: &mut Walker,
     cooling: Cooling,
     draws: u64,
+    span: Span,
+    watch: &mut W,
 )
     requires some { 0 < length occupied.old.entries }
     requires best { (t : List Cell) × (courses_of occupied.old.entries ≡ courses_of t)
@@ -87,5 +90,6 @@ pub fn walk(
     for made in 0..draws {
         try_draw(occupied, walker, &mut cooling);
         best.keep(occupied);
+        span.show(watch, made, best);
     }
 }

@@ -5,7 +5,7 @@ ghost use Rattle.tt_instance.specs.Problem.{Problem};
 ghost use Rattle.tt_instance.specs.declared.cell.Cell.{Cell};
 ghost use Rattle.tt_table.specs.Table.{IsTimetable};
 ghost use Rattle.tt_proof_check.specs.Headline.{SpellsBoth};
-ghost use Rattle.tt_app.specs.Improved.{IsImproved, IsTableAnswer};
+ghost use Rattle.tt_app.specs.Improved.{IsImproved, IsImprovedInRuns, IsTableAnswer};
 ghost use Rattle.tt_app.specs.Validated.{IsFileRefusal};
 ghost use Rattle.tt_app.specs.declared.fault.AppFault.TheVariants as fault;
 
@@ -15,6 +15,7 @@ use crate::lines::pair_line;
 use std::alloc::{AllocError, Global};
 use tt_instance::{Instance, read_instance};
 use tt_rules::score;
+use tt_search::{Unwatched, Watch};
 use tt_table::{Timetable, read_solution, write_solution};
 
 fn table_answer(
@@ -34,16 +35,18 @@ fn table_answer(
     })
 }
 
-/// Searches from a solution by this many steps, and answers a timetable that is no worse; status 1 where it breaks a hard rule.
-pub fn improve(
+/// Searches from a solution in this many runs, each from the best timetable so far and by this many steps, shown to a watch. Answers a
+/// timetable that is no worse; status 1 where it breaks a hard rule.
+pub fn improve_in_runs<W: Watch>(
     alloc: Global,
     instance: &[u8],
     solution: &[u8],
     seed: u64,
     steps: u64,
+    runs: u64,
+    watch: &mut W,
 ) -> Result<Answer, AppFault>
-    // What is answered is no worse, and each entry keeps its course.
-    ensures found { IfOk result (IsImproved instance.now solution.now steps) }
+    ensures found { IfOk result (IsImprovedInRuns instance.now solution.now steps runs) }
     // A refusal tells the first fault.
     ensures fault { IfErr result (IsFileRefusal instance.now solution.now) }
     // What is spelled is answered, unless memory runs out.
@@ -52,6 +55,25 @@ pub fn improve(
 {
     let instance = read_instance(alloc, instance)?;
     let table = read_solution(alloc, &instance, solution)?;
-    let better = tt_search::improve(alloc, &instance, table, seed, steps)?;
+    let better = tt_search::improve_in_runs(alloc, &instance, table, seed, steps, runs, watch)?;
     Ok(table_answer(alloc, &instance, &better)?)
+}
+
+/// Searches from a solution by this many steps, and answers a timetable that is no worse; status 1 where it breaks a hard rule.
+pub fn improve(
+    alloc: Global,
+    instance: &[u8],
+    solution: &[u8],
+    seed: u64,
+    steps: u64,
+) -> Result<Answer, AppFault>
+    // The answer is no worse, and each entry keeps its course.
+    ensures found { IfOk result (IsImproved instance.now solution.now steps) }
+    // A refusal tells the first fault.
+    ensures fault { IfErr result (IsFileRefusal instance.now solution.now) }
+    // What is spelled is answered, unless memory runs out.
+    ensures only { (p : Problem) (t : List Cell) → SpellsBoth instance.now solution.now p t →
+        MatchResult result (λ _. ⊤) (λ f. f ≡ fault.OutOfMemory) }
+{
+    improve_in_runs(alloc, instance, solution, seed, steps, 1, &mut Unwatched)
 }

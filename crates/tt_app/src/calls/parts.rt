@@ -12,7 +12,8 @@ use crate::fault::AppFault;
 use std::alloc::{AllocError, Global};
 use tt_instance::read_instance;
 use tt_leaf_rules::Bound;
-use tt_parts::{Parts, find_parts};
+use tt_parts::{Parts, find_parts_watched};
+use tt_search::{Unwatched, Watch};
 use tt_text::{put_line_end, put_number, put_token};
 
 /// What `parts` prints, and the texts of the proofs that it writes.
@@ -36,6 +37,27 @@ fn line_of(alloc: Global, bound: Bound, count: u64) -> Result<Vec<u8>, AllocErro
     Ok(out)
 }
 
+/// Searches for proofs as `parts` does, and shows the search to a watch.
+pub fn parts_watched<W: Watch>(
+    alloc: Global,
+    instance: &[u8],
+    seed: u64,
+    nodes: u32,
+    watch: &mut W,
+) -> Result<PartsAnswer, AppFault>
+    // What is answered adds up, and holds.
+    ensures found { IfOk result (IsParted instance.now) }
+    // A refusal tells the first fault.
+    ensures fault { IfErr result (IsPartsRefusal instance.now) }
+    // What is spelled is answered, unless memory runs out.
+    ensures only { (p : Problem) → Spells instance.now p → MatchResult result (λ _. ⊤) (λ f. f ≡ fault.OutOfMemory) }
+{
+    let instance = read_instance(alloc, instance)?;
+    let Parts { proofs, bound } = find_parts_watched(alloc, &instance, nodes, seed, watch)?;
+    let out = line_of(alloc, bound, proofs.as_slice().len() as u64)?;
+    Ok(PartsAnswer { out, proofs })
+}
+
 /// Searches for proofs of lower bounds that add up, with at most this many nodes of their trees opened, and answers them and their sum.
 /// Which ones it finds is not promised.
 pub fn parts(alloc: Global, instance: &[u8], seed: u64, nodes: u32) -> Result<PartsAnswer, AppFault>
@@ -46,8 +68,5 @@ pub fn parts(alloc: Global, instance: &[u8], seed: u64, nodes: u32) -> Result<Pa
     // What is spelled is answered, unless memory runs out.
     ensures only { (p : Problem) → Spells instance.now p → MatchResult result (λ _. ⊤) (λ f. f ≡ fault.OutOfMemory) }
 {
-    let instance = read_instance(alloc, instance)?;
-    let Parts { proofs, bound } = find_parts(alloc, &instance, nodes, seed)?;
-    let out = line_of(alloc, bound, proofs.as_slice().len() as u64)?;
-    Ok(PartsAnswer { out, proofs })
+    parts_watched(alloc, instance, seed, nodes, &mut Unwatched)
 }

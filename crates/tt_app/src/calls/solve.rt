@@ -20,6 +20,7 @@ use tt_leaf_rules::Bound;
 use tt_proof_read::Node;
 use tt_proof_text::{WriteFault, write_proof};
 use tt_rules::score;
+use tt_search::{Unwatched, Watch};
 use tt_table::{Timetable, write_solution};
 use tt_text::{put_line_end, put_number, put_token};
 
@@ -128,9 +129,14 @@ fn search_answer(
     })
 }
 
-/// Searches for a best timetable with at most this many nodes of the tree opened, and answers it with a proof of a lower bound; status 1
-/// where it found no timetable. Which nodes are opened is not promised.
-pub fn solve(alloc: Global, instance: &[u8], seed: u64, nodes: u32) -> Result<Answer, AppFault>
+/// Searches for a best timetable as `solve` does, and shows the search to a watch.
+pub fn solve_watched<W: Watch>(
+    alloc: Global,
+    instance: &[u8],
+    seed: u64,
+    nodes: u32,
+    watch: &mut W,
+) -> Result<Answer, AppFault>
     requires some { 1 ≤ nodes }
     requires few { nodes ≤ MAX_OPENED }
     // What is answered is feasible, and the proof derives its bound.
@@ -147,10 +153,26 @@ pub fn solve(alloc: Global, instance: &[u8], seed: u64, nodes: u32) -> Result<An
         bound,
         proof,
         finished,
-    } = tt_branch::solve(alloc, &instance, nodes, seed)?;
+    } = tt_branch::solve_watched(alloc, &instance, nodes, seed, watch)?;
     let Some(nodes) = proof else {
         unreachable!();
     };
     let text = least_text(alloc, bound, &nodes)?;
     Ok(search_answer(alloc, &instance, &best, bound, finished, text)?)
+}
+
+/// Searches for a best timetable with at most this many nodes of the tree opened, and answers it with a proof of a lower bound; status 1
+/// where it found no timetable. Which nodes are opened is not promised.
+pub fn solve(alloc: Global, instance: &[u8], seed: u64, nodes: u32) -> Result<Answer, AppFault>
+    requires some { 1 ≤ nodes }
+    requires few { nodes ≤ MAX_OPENED }
+    // What is answered is feasible, and the proof derives its bound.
+    ensures found { IfOk result (IsSolved instance.now nodes) }
+    // A refusal tells the first fault.
+    ensures fault { IfErr result (IsSolveRefusal instance.now nodes) }
+    // What is spelled is answered, unless memory runs out or the proof grows too large.
+    ensures only { (p : Problem) → Spells instance.now p →
+        MatchResult result (λ _. ⊤) (λ f. (f ≡ fault.OutOfMemory) ⊎ (f ≡ fault.ProofTooLarge)) }
+{
+    solve_watched(alloc, instance, seed, nodes, &mut Unwatched)
 }

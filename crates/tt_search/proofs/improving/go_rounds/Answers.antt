@@ -5,7 +5,7 @@ use Rattle.tt_search.proofs.Improvements.{leads_here, leads_then}
 use Rattle.tt_search.proofs.improving.go_rounds.Goals as goal
 
 pub loop-part-init : goal.loop-part-init
-loop-part-init c = record {
+loop-part-init g c = record {
   problem = refl;
   some = c.requires.some;
   here = c.requires.here;
@@ -15,7 +15,7 @@ loop-part-init c = record {
 }
 
 pub loop-part-preserved : goal.loop-part-preserved
-loop-part-preserved c =
+loop-part-preserved g c =
     let l = c.loop-part in
     let round = c.go_round in
     let same = l.invariant.problem in

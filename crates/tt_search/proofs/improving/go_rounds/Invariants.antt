@@ -5,7 +5,7 @@ use Rattle.tt_search.specs.Pairs.{IsBest}
 use Rattle.tt_search.proofs.improving.go_rounds.Given as goal
 
 abbrev pub invariant-loop-part : goal.invariant-loop-part
-invariant-loop-part l = record {
+invariant-loop-part g l = record {
   problem : l.occupied.problem ≡ l.initial.occupied.problem;
   some : 0 < length l.occupied.entries;
   here : l.best.entries.items ≡ l.occupied.entries;

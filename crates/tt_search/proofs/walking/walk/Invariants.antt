@@ -5,7 +5,7 @@ use Rattle.tt_search.specs.Pairs.{IsBest}
 use Rattle.tt_search.proofs.walking.walk.Given as goal
 
 abbrev pub invariant-loop-made : goal.invariant-loop-made
-invariant-loop-made l = record {
+invariant-loop-made g l = record {
   problem : l.occupied.problem ≡ l.initial.occupied.problem;
   courses : courses_of l.occupied.entries ≡ courses_of l.initial.occupied.entries;
   here : LeadsWithin l.initial.occupied.problem l.initial.occupied.entries l.made l.occupied.entries;

@@ -1,14 +1,14 @@
 use Rattle.std.proofs.Common.{◌-◌, ◌/◌, subst, sym}
 use Rattle.tt_search.specs.Improved.{IsDescended}
 use Rattle.tt_search.proofs.Improvements.{no_worse_then_down, no_worse_down}
-use Rattle.tt_search.proofs.improving.improve.Goals as goal
+use Rattle.tt_search.proofs.improving.improve_watched.Goals as goal
 
 pub returns-clause-descended : goal.returns-clause-descended
-returns-clause-descended c =
+returns-clause-descended g c =
     let a = c.args in
     let w = c.walk_to_best in
     subst (IsDescended a.instance.now a.table (a.steps / 2) (a.steps - a.steps / 2)) (sym c.into_timetable.ensures)
     (no_worse_then_down a.instance.now a.table c.descend_in.new.occupied.entries c.in-Ok.occupied w.new.occupied _ _ _ c.in-Ok.ensures.ok w.ensures.problem c.in_ok-walk_to_best.ensures.best c.in_ok-walk_to_best.ensures.reached c.descend_in.ensures.descent)
 
 pub returns-clause-kept : goal.returns-clause-kept
-returns-clause-kept c = no_worse_down (returns-clause-descended c)
+returns-clause-kept g c = no_worse_down (returns-clause-descended g c)

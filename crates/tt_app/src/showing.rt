@@ -1,0 +1,54 @@
+//! Showing how far a command is.
+
+use std::cell::RefCell;
+use std::fs;
+use std::fs::OpenFile;
+use std::io::Write;
+use std::rt::{Clock, Files};
+use tt_app_watch::{Counted, Ticker, is_terminal};
+use tt_arguments::Showing;
+
+/// Where the bytes of proofs are shown, if they are.
+pub type Shown<'s, R, E> = RefCell<Option<Ticker<'s, R, E>>>;
+
+/// Returns the line that shows how far a command is, if it is to be shown.
+pub fn ticker_of<'s, R: Files + Clock + AllocGlobal, E: Write>(
+    rt: &'s R,
+    err: &'s mut E,
+    command: &'s str,
+    showing: Showing,
+) -> Option<Ticker<'s, R, E>> {
+    let is_shown = match showing {
+        Showing::Always => true,
+        Showing::IfTerminal => is_terminal(rt),
+        Showing::Never => false,
+    };
+    if !is_shown {
+        return None;
+    }
+    Ticker::new(rt, err, command)
+}
+
+/// Opens a proof whose reading is shown; `None` if it can't be opened.
+pub fn open_counted<'c, 't, R: Files + Clock, E: Write>(
+    rt: &R,
+    path: &str,
+    number: Option<u64>,
+    shown: &'c Shown<'t, R, E>,
+) -> Option<Counted<'c, 't, R::File, R, E>> {
+    let file = fs::open(rt, path).ok()?;
+    let size = match file.metadata() {
+        Ok(found) => found.len(),
+        Err(_) => 0,
+    };
+    Some(Counted::new(file, number, size, shown))
+}
+
+/// Clears the line.
+pub fn clear<R: Clock, E: Write>(shown: &Shown<'_, R, E>) {
+    if let Ok(mut ticker) = shown.try_borrow_mut()
+        && let Some(ticker) = &mut *ticker
+    {
+        ticker.clear();
+    }
+}

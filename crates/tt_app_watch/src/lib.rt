@@ -1,0 +1,15 @@
+//! Showing how far a command is, and saving what a search has found so far.
+#![tactic(auto)]
+
+mod counted;
+mod keeper;
+mod numbers;
+mod terminal;
+mod ticker;
+mod watching;
+
+pub use counted::Counted;
+pub use keeper::Keeper;
+pub use terminal::is_terminal;
+pub use ticker::Ticker;
+pub use watching::Watching;

@@ -1,0 +1,139 @@
+//! A line that shows how far a command is.
+
+use crate::numbers::Grouped;
+use std::fmt;
+use std::io::Write;
+use std::rt::Clock;
+use std::time::Duration;
+use tt_search::{Progress, Unit};
+
+/// How many milliseconds a line stays before it is written again.
+const MILLISECONDS_BETWEEN: u128 = 250;
+
+/// Writes over the line from its first column.
+const LINE_START: &str = "\r";
+
+/// Clears the rest of the line.
+const LINE_END: &str = "\x1b[K";
+
+/// A line on standard error that is written over, at most four times a second.
+pub struct Ticker<'r, R: Clock, E: Write> {
+    rt: &'r R,
+    err: &'r mut E,
+    command: &'r str,
+    start: Duration,
+    last: Duration,
+    is_shown: bool,
+}
+
+impl<'r, R: Clock, E: Write> Drop for Ticker<'r, R, E> {
+    fn drop(self) {
+        let Ticker {
+            rt: _,
+            err: _,
+            command: _,
+            start: _,
+            last: _,
+            is_shown: _,
+        } = self;
+    }
+}
+
+/// How far a search is, in words.
+#[derive(Clone, Copy, Debug)]
+struct Words(Progress);
+
+impl fmt::Display for Words {
+    fn fmt<W: fmt::Write>(&self, f: &mut fmt::Formatter<W>) -> fmt::Result {
+        let progress = self.0;
+        let (done, limit) = (Grouped(progress.done), Grouped(progress.limit));
+        let unit = match progress.unit {
+            Unit::Steps => "steps",
+            Unit::Nodes => "nodes",
+        };
+        write!(f, "{done} of {limit} {unit}")?;
+        if let Some(bound) = progress.bound {
+            write!(f, ", bound {bound}")?;
+        }
+        if let Some(best) = progress.best {
+            write_best(f, best.hard, best.cost)?;
+        }
+        if let Some(tried) = progress.tried {
+            write!(f, ", trying {tried} curricula")?;
+        }
+        Ok(())
+    }
+}
+
+/// Writes what the best timetable breaks and costs.
+fn write_best<W: fmt::Write>(f: &mut fmt::Formatter<W>, hard: u64, cost: u64) -> fmt::Result {
+    if hard > 0 {
+        return write!(f, ", hard {hard} cost {cost}");
+    }
+    write!(f, ", cost {cost}")
+}
+
+impl<'r, R: Clock, E: Write> Ticker<'r, R, E> {
+    /// A line for a command that begins now; `None` without a clock.
+    pub fn new(rt: &'r R, err: &'r mut E, command: &'r str) -> Option<Ticker<'r, R, E>> {
+        let start = rt.monotonic().ok()?;
+        Some(Ticker {
+            rt,
+            err,
+            command,
+            start,
+            last: start,
+            is_shown: false,
+        })
+    }
+
+    /// Returns the seconds since the beginning, if the line is due.
+    fn due(&mut self) -> Option<u64> {
+        let now = self.rt.monotonic().ok()?;
+        let since = now.checked_sub(self.last)?;
+        if since.as_millis() < MILLISECONDS_BETWEEN {
+            return None;
+        }
+        self.last = now;
+        Some(now.checked_sub(self.start)?.as_secs())
+    }
+
+    /// Shows a search.
+    pub fn show(&mut self, progress: Progress) {
+        let Some(seconds) = self.due() else {
+            return;
+        };
+        let (command, words) = (self.command, Words(progress));
+        self.is_shown = true;
+        let _ = write!(
+            self.err,
+            "{LINE_START}{command}: {words}, {seconds} s{LINE_END}"
+        );
+    }
+
+    /// Shows how many bytes of a proof are read, of how many; a number says which proof.
+    pub fn show_bytes(&mut self, number: Option<u64>, bytes: u64, size: u64) {
+        let Some(seconds) = self.due() else {
+            return;
+        };
+        let (command, bytes, size) = (self.command, Grouped(bytes), Grouped(size));
+        self.is_shown = true;
+        let _ = match number {
+            Some(number) => write!(
+                self.err,
+                "{LINE_START}{command}: proof {number}: {bytes} of {size} bytes, {seconds} s{LINE_END}"
+            ),
+            None => write!(
+                self.err,
+                "{LINE_START}{command}: {bytes} of {size} bytes, {seconds} s{LINE_END}"
+            ),
+        };
+    }
+
+    /// Clears the line.
+    pub fn clear(&mut self) {
+        if self.is_shown {
+            let _ = write!(self.err, "{LINE_START}{LINE_END}");
+        }
+    }
+}

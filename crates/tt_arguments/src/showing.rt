@@ -1,0 +1,40 @@
+//! Whether a command shows how far it is.
+
+use clap::{Arg, ArgAction, ArgMatches, Command};
+use std::alloc::{AllocError, Global};
+
+/// When a command shows how far it is, on standard error.
+#[derive(Clone, Copy, Debug, PartialEq, Eq)]
+pub enum Showing {
+    IfTerminal,
+    Always,
+    Never,
+}
+
+/// Adds the options that say when a command shows how far it is.
+pub fn with_showing<'a>(alloc: Global, command: Command<'a>) -> Result<Command<'a>, AllocError> {
+    command
+        .arg(
+            Arg::new(alloc, "progress")
+                .long("progress")
+                .action(ArgAction::SetTrue)
+                .help("Shows how far the work is also where standard error is no terminal"),
+        )?
+        .arg(
+            Arg::new(alloc, "quiet")
+                .long("quiet")
+                .action(ArgAction::SetTrue)
+                .help("Never shows how far the work is"),
+        )
+}
+
+/// Returns what the options ask for; `--quiet` wins.
+pub fn showing_of(found: &ArgMatches<'_>) -> Showing {
+    if found.get_flag("quiet") {
+        Showing::Never
+    } else if found.get_flag("progress") {
+        Showing::Always
+    } else {
+        Showing::IfTerminal
+    }
+}

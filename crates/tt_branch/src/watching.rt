@@ -1,0 +1,30 @@
+//! Showing a search to a watch.
+
+use crate::search::Search;
+use tt_search::{Pair, Progress, Unit, Watch};
+use tt_table::Entry;
+
+/// Shows a search that has opened this many nodes, and whose cheapest open node is at a place: what that node is worth bounds every
+/// timetable that is cheaper than the best.
+pub fn show<W: Watch>(watch: &mut W, search: &Search, place: usize, opened: u32, limit: u32) {
+    let bound = search.entries.get(place).map(|entry| entry.key);
+    let best = search.best.as_ref();
+    let entries: &[Entry] = match best {
+        Some(best) => best.table.entries(),
+        None => &[],
+    };
+    watch.see(
+        Progress {
+            unit: Unit::Nodes,
+            done: u64::from(opened),
+            limit: u64::from(limit),
+            best: best.map(|best| Pair {
+                hard: 0,
+                cost: best.cost,
+            }),
+            bound,
+            tried: None,
+        },
+        entries,
+    );
+}
