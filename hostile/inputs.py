@@ -1,7 +1,12 @@
 """Cut files, numbers at their limits, and files that aren't there or are something else, through the program."""
 
+import os
 import re
+import signal
+import stat
 import subprocess
+import threading
+import time
 from dataclasses import dataclass
 
 from program import PROGRAM
@@ -183,6 +188,127 @@ def folders_in_the_place_of_files(desk):
         assert {it.name for it in desk.folder.iterdir()} == before, f"{words} leaves something"
 
 
+CANNOT_WRITE = refused(b"cannot write")
+
+
+def filled(desk):
+    """Puts the files of most commands on the desk, and returns what is there."""
+    desk.put(instance=GAP, solution=APART, proof=GAP_PROOF)
+    return texts(desk)
+
+
+def texts(desk):
+    return {it.name: it.read_bytes() for it in desk.folder.iterdir() if it.is_file()}
+
+
+def outputs_that_are_inputs(desk):
+    """An output that is an input under any name is refused, and so are two outputs that are one; no file changes."""
+    filled(desk)
+    os.symlink("instance", desk.folder / "link")
+    os.link(desk.folder / "solution", desk.folder / "hard")
+    (desk.folder / "room").mkdir()
+    os.link(desk.folder / "instance", desk.folder / "room" / "part01.proof")
+    os.symlink("nowhere", desk.folder / "loose")
+    before = texts(desk)
+    for words in [
+        "improve instance solution instance",
+        "improve instance solution ./solution",
+        "improve instance solution room/../instance",
+        "improve instance solution link",
+        "improve instance solution hard",
+        "page instance solution link",
+        "upgrade instance proof ./proof",
+        "upgrade instance proof instance",
+        "solve instance link other",
+        "solve instance other instance",
+        "solve instance same same",
+        "solve instance same ./same",
+        "solve instance loose nowhere",
+        "parts instance room",
+        "improve instance solution room",
+        "improve instance solution other/",
+    ]:
+        same(desk.told(words), CANNOT_WRITE)
+        assert texts(desk) == before, f"{words} changes a file"
+
+
+def outputs_behind_links(desk):
+    """The file that a link leads to is written, and the link stays; a file's permissions stay."""
+    filled(desk)
+    (desk.folder / "room").mkdir()
+    os.symlink("room/target", desk.folder / "first")
+    os.symlink("first", desk.folder / "second")
+    for mode in (None, 0o600, 0o640, 0o444):
+        target = desk.folder / "room" / "target"
+        if mode is not None:
+            target.chmod(mode)
+        same(desk.told("improve instance solution second"), (0, b"hard 0 cost 5\n", b""))
+        assert os.readlink(desk.folder / "second") == "first" and os.readlink(desk.folder / "first") == "room/target"
+        assert mode is None or stat.S_IMODE(target.stat().st_mode) == mode
+    assert {it.name for it in (desk.folder / "room").iterdir()} == {"target"}
+
+
+def devices_and_pipes(desk):
+    """A device or a pipe is written to, and stays one."""
+    filled(desk)
+    os.mkfifo(desk.folder / "pipe")
+    read = []
+    reader = threading.Thread(target=lambda: read.append((desk.folder / "pipe").read_bytes()))
+    reader.start()
+    same(desk.told("improve instance solution pipe"), (0, b"hard 0 cost 5\n", b""))
+    reader.join()
+    assert len(read[0].split()) == 8 and stat.S_ISFIFO((desk.folder / "pipe").stat().st_mode)
+    same(desk.told("page instance solution /dev/null"), (0, b"", b""))
+    assert stat.S_ISCHR(os.stat("/dev/null").st_mode)
+    told = desk.told("upgrade instance proof /dev/stdout")
+    assert told[0] == 0 and told[1].startswith(b"CTTP 2 bound 5") and told[1].endswith(b"bound 5\n")
+    same(desk.told("page instance solution /dev/full"), CANNOT_WRITE)
+
+
+def outputs_in_missing_folders(desk):
+    """What can't be written is refused before a search begins."""
+    before = filled(desk)
+    like = PROGRAM.parents[3] / "examples" / "like02"
+    for words in [
+        f"improve {like}.ctt {like}.sol none/out --steps 1000000",
+        f"solve {like}.ctt none/out other --nodes 65536",
+        f"solve {like}.ctt other none/out --nodes 65536",
+        f"parts {like}.ctt none",
+        "page instance solution none/out",
+        "upgrade instance proof none/out",
+    ]:
+        start = time.perf_counter()
+        same(desk.told(words), CANNOT_WRITE)
+        assert time.perf_counter() - start < 2, f"{words} takes long"
+    assert texts(desk) == before
+
+
+def left_over_files(desk):
+    """Runs that were killed keep no later one from writing; a search that keeps its best timetable leaves it."""
+    filled(desk)
+    for number in range(200):
+        (desk.folder / f"out.new{number}").touch()
+        (desk.folder / f"tt-{number:016x}.new").touch()
+    same(desk.told("improve instance solution out"), (0, b"hard 0 cost 5\n", b""))
+    like = PROGRAM.parents[3] / "examples" / "like02"
+    words = [PROGRAM, "improve", f"{like}.ctt", f"{like}.sol", "best", "--steps", "1000000", "--runs", "1000", "--keep"]
+    run = subprocess.Popen(words, cwd=desk.folder, stdout=subprocess.DEVNULL)
+    time.sleep(4)
+    run.send_signal(signal.SIGKILL)
+    run.wait()
+    told = desk.told(f"validate {like}.ctt best")
+    assert told[0] == 0 and b"hard 0 cost" in told[1], f"{told}"
+
+
+def progress(desk):
+    """What is shown goes to standard error, only where it is asked for or a terminal is there, and is cleared."""
+    like = PROGRAM.parents[3] / "examples" / "like02"
+    words = f"improve {like}.ctt {like}.sol out --steps 300000"
+    assert desk.told(words)[2] == b"" and desk.told(f"{words} --progress --quiet")[2] == b""
+    shown = desk.told(f"{words} --progress")[2]
+    assert re.match(rb"\rimprove: [\d,]+ of 300,000 steps, cost \d+, \d+ s\x1b\[K", shown) and shown.endswith(b"\r\x1b[K")
+
+
 def a_closed_output(desk):
     desk.put(instance=GAP, solution=APART, proof=GAP_PROOF)
     for words in ["", "--help", "check instance solution proof", "sum instance proof", "report instance solution --by room"]:
@@ -202,5 +328,11 @@ ROWS = [
     ("4,096 lectures at the greatest price", many_dear_lectures),
     ("files that aren't there", missing_files),
     ("folders in the place of files", folders_in_the_place_of_files),
+    ("outputs that are inputs", outputs_that_are_inputs),
+    ("outputs behind links", outputs_behind_links),
+    ("devices and pipes as outputs", devices_and_pipes),
+    ("outputs in folders that aren't there", outputs_in_missing_folders),
+    ("files that killed runs leave", left_over_files),
+    ("progress on standard error", progress),
     ("an output that takes nothing", a_closed_output),
 ]

@@ -47,6 +47,9 @@ COMMANDS = [
     Command("check mini bad gap.proof", 2, b"", b"refused: solution: UnknownCourse at byte 0\n"),
     Command("bound gap gap.proof", out=b"bound 5\n"),
     Command("improve mini gap.sol out --seed 1 --steps 100", out=b"hard 0 cost 1\n", written={"out": None}),
+    Command("improve mini gap.sol out --steps 100 --runs 3", out=b"hard 0 cost 1\n", written={"out": None}),
+    Command("improve mini gap.sol mini", 2, b"", b"refused: cannot write\n"),
+    Command("solve gap out out", 2, b"", b"refused: cannot write\n"),
     Command("upgrade gap gap.proof out.proof", out=b"bound 5\n", written={"out.proof": GAP_UPGRADED}),
     Command("solve gap out out.proof --nodes 100", out=b"cost 5 bound 5 finished\n", written=SOLVE_GAP),
     Command("solve gap out out.proof --nodes 1", out=b"cost 5 bound 1 unfinished\n", written=SOLVE_GAP),
@@ -150,7 +153,7 @@ class Runs:
 
     def judge(self, refusal, outcome, files):
         """After a failed call the answer is the command's own, or a refusal of the file that failed; each file that it writes is the
-        older one or the new one, whole."""
+        older one or the new one, whole, and of several all are new or none. A file that can't be removed stays."""
         where = f"with {refusal}: {outcome.told()}, files {sorted(files)}"
         for name, text in self.shelf.files.items():
             assert name in files, f"{name} is lost {where}"
@@ -165,5 +168,10 @@ class Runs:
             assert self.own.out.startswith(outcome.out), where
             told = CANNOT.fullmatch(outcome.err) or (self.own.status == 2 and self.own.err.startswith(outcome.err))
             assert told or (refusal.from_there and not outcome.err), where
-        if not refusal.from_there:
+        if refusal.from_there:
+            return
+        if outcome.counted.unlinks == 0:
             assert files.keys() == self.own_files.keys(), f"something is left {where}"
+        new = [it for it in self.command.written if files[it] != self.shelf.files.get(it)]
+        wanted = [it for it in self.command.written if self.own_files[it] != self.shelf.files.get(it)]
+        assert len(new) in (0, len(wanted)), f"only {new} are new {where}"

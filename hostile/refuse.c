@@ -30,6 +30,7 @@ struct page {
   long calls;
   long refused;
   long marks;
+  long unlinks;       // of those refused, how many would have removed a file
 };
 
 static struct page none;
@@ -62,6 +63,12 @@ static int fails(void) {
   return 1;
 }
 
+static int fails_to_remove(void) {
+  if (!fails()) return 0;
+  page->unlinks++;
+  return 1;
+}
+
 static size_t part(size_t count) { return page->narrow && count > 1 ? 1 : count; }
 
 #define REAL(type, name) \
@@ -79,6 +86,11 @@ typedef int renaming_at(int, const char *, int, const char *);
 typedef int removing(const char *);
 typedef int removing_at(int, const char *, int);
 typedef int syncing(int);
+typedef int linking(const char *, const char *);
+typedef ssize_t reading_link(const char *, char *, size_t);
+typedef int setting_mode(int, unsigned);
+typedef int looking(int, const char *, int, unsigned, void *);
+typedef long seeking(int, long, int);
 
 void *malloc(size_t count) {
   REAL(growing *, "malloc");
@@ -139,12 +151,12 @@ int renameat(int from_folder, const char *from, int to_folder, const char *to) {
 
 int unlink(const char *path) {
   REAL(removing *, "unlink");
-  return fails() ? -1 : real(path);
+  return fails_to_remove() ? -1 : real(path);
 }
 
 int unlinkat(int folder, const char *path, int how) {
   REAL(removing_at *, "unlinkat");
-  return fails() ? -1 : real(folder, path, how);
+  return fails_to_remove() ? -1 : real(folder, path, how);
 }
 
 int fsync(int file) {
@@ -160,4 +172,29 @@ int fdatasync(int file) {
 int close(int file) {
   REAL(syncing *, "close");
   return fails() ? -1 : real(file);
+}
+
+int link(const char *from, const char *to) {
+  REAL(linking *, "link");
+  return fails() ? -1 : real(from, to);
+}
+
+ssize_t readlink(const char *path, char *bytes, size_t count) {
+  REAL(reading_link *, "readlink");
+  return fails() ? -1 : real(path, bytes, count);
+}
+
+int fchmod(int file, unsigned mode) {
+  REAL(setting_mode *, "fchmod");
+  return fails() ? -1 : real(file, mode);
+}
+
+int statx(int folder, const char *path, int how, unsigned mask, void *found) {
+  REAL(looking *, "statx");
+  return fails() ? -1 : real(folder, path, how, mask, found);
+}
+
+long lseek(int file, long offset, int from) {
+  REAL(seeking *, "lseek");
+  return fails() ? -1 : real(file, offset, from);
 }

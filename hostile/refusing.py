@@ -36,6 +36,7 @@ class Counted:
     calls: int
     refused: int
     marks: int
+    unlinks: int
 
 
 @dataclass

@@ -139,7 +139,7 @@ pub fn answer_solve<R: Files + Clock + AllocGlobal, E: Write>(
     let (instance, out, proof) = paths;
     let out = Output::apart_from(rt, out, &[instance])?;
     let proof = Output::apart_from(rt, proof, &[instance])?;
-    if out.is_same(rt, &proof) {
+    if out.is_same(rt, &proof)? {
         return Err(AppFault::CannotWrite);
     }
     let instance = read_file(rt, instance, Input::Instance)?;

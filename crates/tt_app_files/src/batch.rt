@@ -73,7 +73,11 @@ fn take_step<'p, R: Files + Clock + AllocGlobal>(
     draft: Draft<'p>,
     is_alone: bool,
 ) -> Result<Step<'p>, OutputFault> {
-    let linked = if is_alone { Ok(None) } else { draft.link_older(rt) };
+    let linked = if is_alone {
+        Ok(None)
+    } else {
+        draft.link_older(rt)
+    };
     let older = match linked {
         Ok(older) => older,
         Err(_) => {

@@ -64,7 +64,10 @@ pub fn sync_folder<R: Files>(rt: &R, folder: &str) -> Result<(), OutputFault> {
 }
 
 /// Writes all bytes, and has the system store them.
-pub fn write_whole<F: Write + OpenFile + Drop>(mut file: F, bytes: &[u8]) -> Result<(), OutputFault> {
+pub fn write_whole<F: Write + OpenFile + Drop>(
+    mut file: F,
+    bytes: &[u8],
+) -> Result<(), OutputFault> {
     file.write_all(bytes)?;
     finish(file)
 }

@@ -2,7 +2,7 @@
 
 use crate::draft::Draft;
 use crate::fault::OutputFault;
-use crate::identity::{FileId, find_id};
+use crate::identity::{FileId, find_id, is_absent};
 use crate::place::Place;
 use std::fs;
 use std::fs::{Metadata, OpenOptions};
@@ -35,7 +35,7 @@ fn replaced<R: Files + AllocGlobal>(
 ) -> Result<Output, OutputFault> {
     Ok(Output::Replaced {
         place: Place::find(rt, path, Some(found.mode() & PERMISSIONS))?,
-        older: find_id(rt, path),
+        older: find_id(rt, path)?,
     })
 }
 
@@ -47,12 +47,13 @@ impl Output {
             Ok(found) if found.is_dir() => Err(OutputFault::CannotWrite),
             Ok(_) => Ok(Output::Opened {
                 path: String::from_str(rt.alloc(), path)?,
-                file: find_id(rt, path),
+                file: find_id(rt, path)?,
             }),
-            Err(_) => Ok(Output::Replaced {
+            Err(fault) if is_absent(fault.kind()) => Ok(Output::Replaced {
                 place: Place::find(rt, path, None)?,
                 older: None,
             }),
+            Err(_) => Err(OutputFault::CannotWrite),
         }
     }
 
@@ -64,7 +65,7 @@ impl Output {
     ) -> Result<Output, OutputFault> {
         let output = Output::find(rt, path)?;
         for input in inputs {
-            if output.replaces(rt, input) {
+            if output.replaces(rt, input)? {
                 return Err(OutputFault::CannotWrite);
             }
         }
@@ -72,20 +73,20 @@ impl Output {
     }
 
     /// Whether writing replaces the file that a path leads to.
-    fn replaces<R: Files>(&self, rt: &R, input: &str) -> bool {
+    fn replaces<R: Files>(&self, rt: &R, input: &str) -> Result<bool, OutputFault> {
         match self {
-            Output::Replaced { place, older } => match (older, find_id(rt, input)) {
-                (Some(older), Some(read)) => *older == read,
-                _ => place.path() == input,
+            Output::Replaced { place, older } => match (older, find_id(rt, input)?) {
+                (Some(older), Some(read)) => Ok(*older == read),
+                _ => Ok(place.path() == input),
             },
-            Output::Opened { .. } => false,
+            Output::Opened { .. } => Ok(false),
         }
     }
 
     /// Whether two outputs are one file, or one name in one folder.
-    pub fn is_same<R: Files>(&self, rt: &R, other: &Output) -> bool {
+    pub fn is_same<R: Files>(&self, rt: &R, other: &Output) -> Result<bool, OutputFault> {
         match (self.file(), other.file()) {
-            (Some(file), Some(other_file)) => file == other_file,
+            (Some(file), Some(other_file)) => Ok(file == other_file),
             _ => self.has_name_of(rt, other),
         }
     }
@@ -97,21 +98,23 @@ impl Output {
         }
     }
 
-    fn has_name_of<R: Files>(&self, rt: &R, other: &Output) -> bool {
+    fn has_name_of<R: Files>(&self, rt: &R, other: &Output) -> Result<bool, OutputFault> {
         match (self, other) {
             (
                 Output::Replaced { place, .. },
                 Output::Replaced {
-                    place: other_place, ..
+                    place: other_place,
+                    ..
                 },
             ) => place.is_same(rt, other_place),
             (
                 Output::Opened { path, .. },
                 Output::Opened {
-                    path: other_path, ..
+                    path: other_path,
+                    ..
                 },
-            ) => path.as_str() == other_path.as_str(),
-            _ => false,
+            ) => Ok(path.as_str() == other_path.as_str()),
+            _ => Ok(false),
         }
     }
 

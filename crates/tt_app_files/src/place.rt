@@ -1,7 +1,7 @@
 //! Names in folders, under which files are written.
 
 use crate::fault::OutputFault;
-use crate::identity::find_id;
+use crate::identity::{find_id, is_absent};
 use std::alloc::{AllocError, Global};
 use std::fs;
 use std::path::Path;
@@ -41,7 +41,9 @@ fn follow_links<R: Files + AllocGlobal>(rt: &R, path: &str) -> Result<String, Ou
     for _ in 0..MAX_LINKS {
         match fs::symlink_metadata(rt, path.as_str()) {
             Ok(found) if found.is_symlink() => path = read_target(rt, path.as_str())?,
-            _ => return Ok(path),
+            Ok(_) => return Ok(path),
+            Err(fault) if is_absent(fault.kind()) => return Ok(path),
+            Err(_) => return Err(OutputFault::CannotWrite),
         }
     }
     Err(OutputFault::CannotWrite)
@@ -81,18 +83,16 @@ impl Place {
     }
 
     /// Whether two places are one name in one folder.
-    pub fn is_same<R: Files>(&self, rt: &R, other: &Place) -> bool {
+    pub fn is_same<R: Files>(&self, rt: &R, other: &Place) -> Result<bool, OutputFault> {
         if self.path() == other.path() {
-            return true;
+            return Ok(true);
         }
-        let names = (Path::new(self.path()).file_name(), Path::new(other.path()).file_name());
-        match names {
-            (Some(name), Some(other_name)) if name == other_name => {}
-            _ => return false,
+        if Path::new(self.path()).file_name() != Path::new(other.path()).file_name() {
+            return Ok(false);
         }
-        match (find_id(rt, self.folder()), find_id(rt, other.folder())) {
-            (Some(folder), Some(other_folder)) => folder == other_folder,
-            _ => false,
+        match (find_id(rt, self.folder())?, find_id(rt, other.folder())?) {
+            (Some(folder), Some(other_folder)) => Ok(folder == other_folder),
+            _ => Ok(false),
         }
     }
 }

@@ -5,9 +5,9 @@ use std::io;
 use std::io::{Error, ErrorKind, Write};
 use std::test::Fail;
 use tt_app::run;
-use tt_samples::{WIDE, WIDE_SOLUTION};
-use tt_test_files::{Disk, StoredFile};
-use tt_test_runs::run_with;
+use tt_samples::{GAP, GAP_PROOF, MINI_SOLUTION, WIDE, WIDE_SOLUTION};
+use tt_test_files::{Disk, MemoryFiles, Refusal, StoredFile};
+use tt_test_runs::{run_on, run_with};
 
 const PROOF: &[u8] = b"CTTP 1 bound 5 B D c0 ; end";
 
@@ -93,11 +93,17 @@ fn missing_files(rt: HostRuntime) -> Result<(), Fail> {
     Ok(())
 }
 
+/// What the program says with files named bad and a.ctt.
+fn refusal_of(alloc: Global, words: &[&str]) -> Result<String, Fail> {
+    let memory = MemoryFiles::new(alloc, Refusal::Nothing);
+    memory.put("bad", "bad")?;
+    memory.put("a.ctt", WIDE)?;
+    let outcome = run_on(alloc, words, &memory)?;
+    Ok(outcome.err)
+}
+
 #[test]
 fn missing_files_of_proofs(rt: HostRuntime) -> Result<(), Fail> {
-    let bad = StoredFile::new("bad", b"bad");
-    let [instance, _, _] = wide_files([0, 0, 0]);
-    let files = [bad, instance];
     for (instance, proof, err) in [
         ("none", "none", "refused: instance: cannot read\n"),
         ("a.ctt", "none", "refused: proof: cannot read\n"),
@@ -108,13 +114,46 @@ fn missing_files_of_proofs(rt: HostRuntime) -> Result<(), Fail> {
             "refused: instance: Expected Name: at byte 0\n",
         ),
     ] {
-        for words in [
-            ["bound", instance, proof].as_slice(),
-            ["upgrade", instance, proof, "a.out"].as_slice(),
-        ] {
-            let outcome = run_with(rt.alloc(), words, &files)?;
-            assert_eq!(rt; outcome.answer(), (2, "", err), "{words:?}");
-        }
+        let told = refusal_of(rt.alloc(), &["bound", instance, proof])?;
+        assert_eq!(rt; told.as_str(), err);
+        let told = refusal_of(rt.alloc(), &["upgrade", instance, proof, "a.out"])?;
+        assert_eq!(rt; told.as_str(), err);
+    }
+    Ok(())
+}
+
+/// What the program says of an output that is one of its inputs or its other output, and whether its files are as they were.
+fn overlap(alloc: Global, words: &[&str]) -> Result<(String, bool), Fail> {
+    let memory = MemoryFiles::new(alloc, Refusal::Nothing);
+    memory.put("a.ctt", GAP)?;
+    memory.put("a.sol", MINI_SOLUTION)?;
+    memory.put("a.proof", GAP_PROOF)?;
+    let outcome = run_on(alloc, words, &memory)?;
+    let is_same = memory.text("a.ctt")?.as_deref() == Some(GAP)
+        && memory.text("a.sol")?.as_deref() == Some(MINI_SOLUTION)
+        && memory.text("a.proof")?.as_deref() == Some(GAP_PROOF)
+        && memory.count() == 3;
+    Ok((outcome.err, is_same))
+}
+
+#[test]
+fn outputs_are_apart(rt: HostRuntime) -> Result<(), Fail> {
+    for words in [
+        ["improve", "a.ctt", "a.sol", "a.ctt"].as_slice(),
+        ["improve", "a.ctt", "a.sol", "a.sol"].as_slice(),
+        ["page", "a.ctt", "a.sol", "a.ctt"].as_slice(),
+        ["page", "a.ctt", "a.sol", "a.sol"].as_slice(),
+        ["upgrade", "a.ctt", "a.proof", "a.ctt"].as_slice(),
+        ["upgrade", "a.ctt", "a.proof", "a.proof"].as_slice(),
+        ["solve", "a.ctt", "a.ctt", "b.proof"].as_slice(),
+        ["solve", "a.ctt", "b.sol", "a.ctt"].as_slice(),
+        ["solve", "a.ctt", "same", "same"].as_slice(),
+        ["improve", "a.ctt", "a.sol", "out/"].as_slice(),
+        ["improve", "a.ctt", "a.sol", ""].as_slice(),
+    ] {
+        let (told, is_same) = overlap(rt.alloc(), words)?;
+        assert_eq!(rt; told.as_str(), "refused: cannot write\n", "{words:?}");
+        assert!(rt; is_same, "{words:?}");
     }
     Ok(())
 }

@@ -72,3 +72,34 @@ fn broken_rules_and_refusals(rt: HostRuntime) -> Result<(), Fail> {
     assert_eq!(rt; memory.text("a.out")?, None);
     Ok(())
 }
+
+/// The status of `improve` with more options on Mini, its line, and whether it wrote a timetable.
+fn with_options(alloc: Global, options: &[&str]) -> Result<(u8, String, bool), Fail> {
+    let memory = filled(alloc, MINI, MINI_SOLUTION)?;
+    let mut words = Vec::new(alloc);
+    for word in ["improve", "a.ctt", "a.sol", "a.out", "--steps", "50"] {
+        words.push(word)?;
+    }
+    words.extend_from_slice(options)?;
+    let outcome = run_on(alloc, &words, &memory)?;
+    let has_written = memory.text("a.out")?.is_some();
+    Ok((outcome.status, outcome.out, has_written))
+}
+
+#[test]
+fn runs_and_ways_to_show_them(rt: HostRuntime) -> Result<(), Fail> {
+    for options in [
+        ["--runs", "3"].as_slice(),
+        ["--keep"].as_slice(),
+        ["--progress"].as_slice(),
+        ["--quiet", "--progress"].as_slice(),
+    ] {
+        let (status, out, has_written) = with_options(rt.alloc(), options)?;
+        assert_eq!(rt; (status, out.as_str(), has_written), (0, "hard 0 cost 1\n", true));
+    }
+    for options in [["--runs", "0"].as_slice(), ["--runs", "1001"].as_slice()] {
+        let (status, _, has_written) = with_options(rt.alloc(), options)?;
+        assert_eq!(rt; (status, has_written), (2, false));
+    }
+    Ok(())
+}
