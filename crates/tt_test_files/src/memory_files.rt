@@ -6,8 +6,8 @@ use std::fs::{Metadata, OpenFile, OpenOptions};
 use std::io;
 use std::io::{Error, ErrorKind, Read, Seek, SeekFrom, Write};
 use std::rt::{Clock, Files};
-use std::time::Duration;
 use std::test::Fail;
+use std::time::Duration;
 
 /// What is refused.
 #[derive(Clone, Copy, Debug, PartialEq, Eq)]

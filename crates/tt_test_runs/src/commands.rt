@@ -22,7 +22,11 @@ impl Outcome {
 }
 
 /// Runs the program on words, over a file system.
-pub fn run_on<F: Files + Clock + Drop>(alloc: Global, words: &[&str], files: F) -> Result<Outcome, Fail> {
+pub fn run_on<F: Files + Clock + Drop>(
+    alloc: Global,
+    words: &[&str],
+    files: F,
+) -> Result<Outcome, Fail> {
     let mut owned = Vec::new(alloc);
     for word in words {
         owned.push(String::from_str(alloc, word)?)?;

@@ -95,7 +95,10 @@ fn runs_and_ways_to_show_them(rt: HostRuntime) -> Result<(), Fail> {
         ["--quiet", "--progress"].as_slice(),
     ] {
         let (status, out, has_written) = with_options(rt.alloc(), options)?;
-        assert_eq!(rt; (status, out.as_str(), has_written), (0, "hard 0 cost 1\n", true));
+        assert_eq!(rt;
+            (status, out.as_str(), has_written),
+            (0, "hard 0 cost 1\n", true)
+        );
     }
     for options in [["--runs", "0"].as_slice(), ["--runs", "1001"].as_slice()] {
         let (status, _, has_written) = with_options(rt.alloc(), options)?;

@@ -26,8 +26,8 @@ loop-made-preserved g c =
     let same : drawn.problem ≡ p = c.try_draw.ensures.problem ∙ l.invariant.problem in
     let courses : courses_of drawn.entries ≡ courses_of first = c.try_draw.ensures.courses ∙ l.invariant.courses in
     let here : LeadsWithin p first (l.made + 1) drawn.entries =
-      subst (λ (q : Problem). LeadsWithin q first (l.made + 1) drawn.entries) l.invariant.problem
-      (c.try_draw.ensures.reached first l.made (subst (λ (q : Problem). LeadsWithin q first l.made l.occupied.entries) (sym l.invariant.problem) l.invariant.here)) in
+    subst (λ (q : Problem). LeadsWithin q first (l.made + 1) drawn.entries) l.invariant.problem
+    (c.try_draw.ensures.reached first l.made (subst (λ (q : Problem). LeadsWithin q first l.made l.occupied.entries) (sym l.invariant.problem) l.invariant.here)) in
     record {
       problem = same;
       courses = courses;
@@ -37,5 +37,5 @@ loop-made-preserved g c =
         | inr new ↦ subst (λ (t : List Cell). LeadsWithin p first (l.made + 1) t) (sym new) here
       ];
       best = λ t begun good. subst (λ (q : Problem). IsBest q t best) same
-      (c.keep.ensures.best t (courses ∙ begun) (subst (λ (q : Problem). IsBest q t l.best) (sym same) (l.invariant.best t begun good)));
+          (c.keep.ensures.best t (courses ∙ begun) (subst (λ (q : Problem). IsBest q t l.best) (sym same) (l.invariant.best t begun good)));
     }
