@@ -90,6 +90,11 @@ fn parts_shown<R: Files + Clock + AllocGlobal, E: Write>(
         &mut watching,
     );
     watching.clear();
+    let Watching {
+        ticker: _,
+        keeper: _,
+        saves_feasible_only: _,
+    } = watching;
     answer
 }
 

@@ -64,6 +64,11 @@ fn improve_shown<R: Files + Clock + AllocGlobal, E: Write>(
         &mut watching,
     );
     watching.clear();
+    let Watching {
+        ticker: _,
+        keeper: _,
+        saves_feasible_only: _,
+    } = watching;
     answer
 }
 
@@ -108,6 +113,11 @@ fn solve_shown<R: Files + Clock + AllocGlobal, E: Write>(
     let nodes = tree.nodes.clamp(1, MAX_NODES);
     let answer = solve_watched(rt.alloc(), instance, tree.seed, nodes, &mut watching);
     watching.clear();
+    let Watching {
+        ticker: _,
+        keeper: _,
+        saves_feasible_only: _,
+    } = watching;
     answer
 }
 

@@ -15,16 +15,6 @@ pub struct Watching<'w, 'i, R: Files + Clock + AllocGlobal, E: Write> {
     pub saves_feasible_only: bool,
 }
 
-impl<'w, 'i, R: Files + Clock + AllocGlobal, E: Write> Drop for Watching<'w, 'i, R, E> {
-    fn drop(self) {
-        let Watching {
-            ticker: _,
-            keeper: _,
-            saves_feasible_only: _,
-        } = self;
-    }
-}
-
 impl<'w, 'i, R: Files + Clock + AllocGlobal, E: Write> Watch for Watching<'w, 'i, R, E> {
     fn see(&mut self, progress: Progress, best: &[Entry]) {
         if let Some(ticker) = &mut self.ticker {
