@@ -1,0 +1,5 @@
+pub mod Group
+pub mod Listed
+pub mod Places
+pub mod Plans
+pub mod Tables

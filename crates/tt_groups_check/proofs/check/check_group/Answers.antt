@@ -1,0 +1,98 @@
+use Rattle.tt_groups_check.specs.Limits.{courses_of}
+use Rattle.std.proofs.Common.{get_or, ◌≤◌, ◌≡◌, ℕ, ◌-◌, ◌<◌, List, length, sym, ap, ◌∙◌, subst, arith, Vec}
+use Rattle.std.specs.Global.{Global}
+use Rattle.std.specs.Prelude.{All}
+use Rattle.tt_groups.specs.Places.{group_sizes}
+use Rattle.tt_groups_week.specs.Fold.{AreReady}
+use Rattle.tt_groups_week.specs.WeekLists.{Suits}
+use Rattle.std.proofs.lemmas.List.Elements.{Contains-get_or}
+use Rattle.tt_instance.specs.Courses.{lectures}
+use Rattle.tt_groups_check.specs.Setting.{IsSetting}
+use Rattle.tt_groups_check.specs.Lists.{AreOfDays}
+use Rattle.tt_groups_week.specs.declared.moves.Move.{Move}
+use Rattle.tt_groups_check.proofs.Setting.{narrow_from, courses_below, digits_between, digits_few, base_bound}
+use Rattle.tt_groups_check.proofs.check.check_group.Goals as goal
+
+pub sizes_of-requires-clause-courses : goal.sizes_of-requires-clause-courses
+sizes_of-requires-clause-courses c =
+    let p = c.args.instance.now in
+    subst (λ (l : List ℕ). All (λ n. n < length p.courses) l) (sym (c.deref.ensures.value ∙ c.in_ok-courses.ensures.value)) (courses_below p c.args.group.now)
+
+pub new-requires-clause-few : goal.new-requires-clause-few
+new-requires-clause-few c =
+    let p = c.args.instance.now in
+    let g = c.args.group.now in
+    let narrow = narrow_from p g c.args.value (sym c.is_too_wide.ensures ∙ c.if-is_too_wide.false) in
+    digits_few p g c.args.value c.in_ok-courses.courses.items c.in_ok-sizes.sizes.items c.in_ok-courses.ensures.value narrow (c.in_ok-sizes.ensures ∙ ap (group_sizes p g) c.deref.ensures.value)
+
+pub new-requires-clause-narrow : goal.new-requires-clause-narrow
+new-requires-clause-narrow c =
+    let narrow = narrow_from c.args.instance.now c.args.group.now c.args.value (sym c.is_too_wide.ensures ∙ c.if-is_too_wide.false) in
+    omega (arith, narrow.concerned, ap length c.in_ok-courses.ensures.value, c.len.ensures)
+
+pub new-requires-clause-some : goal.new-requires-clause-some
+new-requires-clause-some c = λ j h.
+    let p = c.args.instance.now in
+    let g = c.args.group.now in
+    let narrow = narrow_from p g c.args.value (sym c.is_too_wide.ensures ∙ c.if-is_too_wide.false) in
+    (digits_between p g c.args.value c.in_ok-courses.courses.items c.in_ok-sizes.sizes.items c.in_ok-courses.ensures.value c.in_ok-courses.ensures.courses narrow (c.in_ok-sizes.ensures ∙ ap (group_sizes p g) c.deref.ensures.value) j h).0
+
+pub new-requires-clause-small : goal.new-requires-clause-small
+new-requires-clause-small c = λ j h.
+    let p = c.args.instance.now in
+    let g = c.args.group.now in
+    let narrow = narrow_from p g c.args.value (sym c.is_too_wide.ensures ∙ c.if-is_too_wide.false) in
+    (digits_between p g c.args.value c.in_ok-courses.courses.items c.in_ok-sizes.sizes.items c.in_ok-courses.ensures.value c.in_ok-courses.ensures.courses narrow (c.in_ok-sizes.ensures ∙ ap (group_sizes p g) c.deref.ensures.value) j h).1
+
+pub returns-then-value-base-clause-holds : goal.returns-then-value-base-clause-holds
+returns-then-value-base-clause-holds c = base_bound c.args.instance.now c.args.group.now c.args.value (omega (arith, c.base_cost-base.ensures.value, c.if-value-base.true))
+
+pub week_holds-requires-clause-ready : goal.week_holds-requires-clause-ready
+week_holds-requires-clause-ready c =
+    let d = c.in-Some.digits in
+    subst (λ (l : List (Vec Move Global)). All (λ (v : Vec Move Global). AreReady d.sizes.items d.weights.items d.courses v.items) l) (sym c.deref-3.ensures.value) c.in_ok-lists.ensures.listed.ready
+
+pub returns-then-holds-clause-holds : goal.returns-then-holds-clause-holds
+returns-then-holds-clause-holds c =
+    let p = c.args.instance.now in
+    let g = c.args.group.now in
+    let cs = c.in_ok-courses.courses.items in
+    let d = c.in-Some.digits in
+    let lists = c.in_ok-lists.lists in
+    let bound = c.args.value - c.base_cost-base.result in
+    let made = rw c.in-Some.is at c.in_ok-digits.ensures.made in
+    let sized : d.sizes.items ≡ group_sizes p g cs = made.0 ∙ c.in_ok-sizes.ensures ∙ ap (group_sizes p g) c.deref.ensures.value in
+    let many : d.courses ≡ length cs = omega (arith, made.1, c.len.ensures) in
+    let days = subst (λ (l : List ℕ). AreOfDays p g l d.sizes.items d.weights.items d.courses bound lists.moves.items lists.of_day.items) c.deref-2.ensures.value c.in_ok-lists.ensures.of_days in
+    let suits : Suits p g cs d.sizes.items d.weights.items d.courses bound lists.moves.items lists.of_day.items = record {
+      group = c.in_ok-courses.ensures.courses;
+      sizes_are = sized;
+      weights_are = d.are.weighed;
+      courses_are = many;
+      all_days = c.in_ok-lists.ensures.all;
+      each_day = days;
+    } in
+    let same = subst (λ (l : List ℕ). Suits p g cs d.sizes.items d.weights.items d.courses bound c.deref-3.result.now l) (sym c.deref-4.ensures.value)
+    (subst (λ (l : List (Vec Move Global)). Suits p g cs d.sizes.items d.weights.items d.courses bound l lists.of_day.items) (sym c.deref-3.ensures.value) suits) in
+    λ t relaxed. omega (arith, c.in_ok-holds.ensures c.if-holds.true p g cs same t relaxed, c.base_cost-base.ensures.value, c.if-value-base.false)
+
+pub lists_of-requires : goal.lists_of-requires
+lists_of-requires c =
+    let p = c.args.instance.now in
+    let g = c.args.group.now in
+    let cs = c.in_ok-courses.courses.items in
+    let d = c.in-Some.digits in
+    let narrow = narrow_from p g c.args.value (sym c.is_too_wide.ensures ∙ c.if-is_too_wide.false) in
+    let is = c.in_ok-courses.ensures.value in
+    let made = rw c.in-Some.is at c.in_ok-digits.ensures.made in
+    let there : IsSetting p g cs d.sizes.items d.courses = record {
+      group = c.in_ok-courses.ensures.courses;
+      few = omega (arith, narrow.concerned, ap length is);
+      own = narrow.courses;
+      curricula = narrow.curricula;
+      in_range = subst (λ (l : List ℕ). All (λ n. n < length p.courses) l) (sym is) (courses_below p g);
+      lectures_few = subst (λ (l : List ℕ). All (λ n. lectures p n ≤ 255) l) (sym is) (λ k e h. narrow.lectures_few (get_or (courses_of p g) k e) (Contains-get_or (courses_of p g) k e h));
+      sizes_are = made.0 ∙ c.in_ok-sizes.ensures ∙ ap (group_sizes p g) c.deref.ensures.value;
+      courses_are = omega (arith, made.1, c.len.ensures);
+    } in
+    subst (λ (l : List ℕ). IsSetting p g l d.sizes.items d.courses) (sym c.deref-2.ensures.value) there

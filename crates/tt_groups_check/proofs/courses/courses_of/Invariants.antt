@@ -1,0 +1,8 @@
+use Rattle.std.proofs.Common.{◌≡◌}
+use Rattle.std.specs.Prelude.{filter}
+use Rattle.tt_lists.specs.Words.{range_below}
+use Rattle.tt_groups.specs.Group.{concerns}
+use Rattle.tt_groups_check.proofs.courses.courses_of.Given as goal
+
+abbrev pub invariant-loop-course : goal.invariant-loop-course
+invariant-loop-course l = l.courses.items ≡ filter (concerns l.instance l.group) (range_below l.course)

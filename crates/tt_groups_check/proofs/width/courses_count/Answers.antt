@@ -1,0 +1,21 @@
+use Rattle.std.proofs.Common.{sym, ◌∙◌, arith}
+use Rattle.tt_lists.proofs.Numbers.{count_more}
+use Rattle.tt_lists.proofs.Sums.{one_if_true, one_if_false}
+use Rattle.tt_groups.specs.Group.{concerns}
+use Rattle.tt_groups_check.proofs.width.courses_count.Goals as goal
+use Rattle.tt_groups_check.proofs.width.courses_count.Goals.{then-concerns, else-concerns}
+
+pub loop-course-preserved : goal.loop-course-preserved
+loop-course-preserved c =
+    let q = concerns c.args.instance.now c.args.group.now in
+    let i = c.loop-course.course in
+    elim c.if-concerns.branch [
+      | then-concerns w ↦ record {
+        count = omega (arith, w.count-is, c.loop-course.invariant.count, count_more q i, one_if_true (q i) (sym c.concerns.ensures ∙ w.if-concerns.true));
+        few = omega (arith, w.count-is, c.loop-course.invariant.few);
+      }
+      | else-concerns w ↦ record {
+        count = omega (arith, w.count-is, c.loop-course.invariant.count, count_more q i, one_if_false (q i) (sym c.concerns.ensures ∙ w.if-concerns.false));
+        few = omega (arith, w.count-is, c.loop-course.invariant.few);
+      }
+    ]

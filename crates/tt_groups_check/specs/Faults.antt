@@ -1,0 +1,34 @@
+-- Refusals of a group.
+use Rattle.std.specs.Prelude.{Bool, true, false}
+use Rattle.tt_groups_day.specs.declared.fault.DaysFault.{DaysFault}
+use Rattle.tt_groups_day.specs.declared.fault.DaysFault.TheVariants as days
+use Rattle.tt_groups_day.specs.declared.sets.SetsFault.{SetsFault}
+use Rattle.tt_groups_day.specs.declared.sets.SetsFault.TheVariants as sets
+use Rattle.tt_groups_week.specs.declared.fault.WeekFault.{WeekFault}
+use Rattle.tt_groups_week.specs.declared.fault.WeekFault.TheVariants as week
+use Rattle.tt_groups_check.specs.declared.fault.GroupFault.{GroupFault}
+use Rattle.tt_groups_check.specs.declared.fault.GroupFault.TheVariants as fault
+
+-- The refusal comes after those of width and states.
+abbrev pub is_late : GroupFault → Bool
+is_late fault.TooWide = false
+is_late fault.TooManyStates = false
+is_late fault.TooManySets = true
+is_late fault.TooMuchWork = true
+is_late fault.TooCheap = true
+is_late fault.OutOfMemory = true
+
+-- The refusal of a group that a refusal of its sets is.
+abbrev pub fault_from_sets : SetsFault → GroupFault
+fault_from_sets sets.TooManySets = fault.TooManySets
+fault_from_sets sets.OutOfMemory = fault.OutOfMemory
+
+-- The refusal of a group that a refusal of a day is.
+abbrev pub fault_from_days : DaysFault → GroupFault
+fault_from_days days.TooMuchWork = fault.TooMuchWork
+fault_from_days days.OutOfMemory = fault.OutOfMemory
+
+-- The refusal of a group that a refusal of its week is.
+abbrev pub fault_from_week : WeekFault → GroupFault
+fault_from_week week.TooMuchWork = fault.TooMuchWork
+fault_from_week week.OutOfMemory = fault.OutOfMemory

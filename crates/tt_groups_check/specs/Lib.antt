@@ -1,0 +1,5 @@
+pub mod Availability
+pub mod Faults
+pub mod Limits
+pub mod Lists
+pub mod Setting

@@ -1,0 +1,34 @@
+-- What a group has to be for its check: numbers of the instance, and no more than its tables hold.
+use Rattle.std.specs.Prelude.{ℕ, ◌+◌, ◌<◌, nat_lt, Bool, ◌&&◌, ◌||◌, List, length, filter, count_by, All}
+use Rattle.std.specs.List.{list_any}
+use Rattle.tt_instance.specs.Problem.{Problem}
+use Rattle.tt_instance.specs.Cells.{all_courses}
+use Rattle.tt_instance.specs.Courses.{lectures}
+use Rattle.tt_groups.specs.Group.{Group, concerns}
+use Rattle.tt_groups.specs.Places.{places, group_sizes}
+use Rattle.tt_groups.specs.Plans.{base_cost}
+use Rattle.tt_groups_check.specs.declared.width.TheConstants.{GROUP_CURRICULA, GROUP_COURSES, GROUP_LECTURES, GROUP_VALUE}
+
+-- The group's curricula and courses are those of the instance.
+pub record IsGroupOf (p : Problem) (g : Group) : Type 0 where
+  pub curricula : All (λ q. q < length p.curricula) g.curricula
+  pub courses : All (λ c. c < length p.courses) g.courses
+
+-- The courses that the group concerns, in the instance's order.
+abbrev pub courses_of : Problem → Group → List ℕ
+courses_of p g = filter (concerns p g) (all_courses p)
+
+-- The group concerns a course with more lectures than a table holds.
+abbrev pub has_long_course : Problem → Group → Bool
+has_long_course p g = list_any (λ c. concerns p g c && nat_lt GROUP_LECTURES (lectures p c)) (all_courses p)
+
+-- A claim is too wide where the group has too many curricula or courses, or a course with too many lectures, or where the value is too far
+-- above the base.
+abbrev pub is_too_wide : Problem → Group → ℕ → Bool
+is_too_wide p g value =
+    nat_lt GROUP_CURRICULA (length g.curricula) || (nat_lt GROUP_COURSES (length g.courses) || (nat_lt GROUP_COURSES (count_by (concerns p g) (all_courses p))
+    || (has_long_course p g || nat_lt (base_cost p g + GROUP_VALUE) value)))
+
+-- The states of a group are the places of its table of the week.
+abbrev pub states_of : Problem → Group → ℕ
+states_of p g = places (group_sizes p g (courses_of p g))

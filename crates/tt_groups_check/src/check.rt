@@ -1,0 +1,96 @@
+//! The check of one group's claim.
+
+ghost use Rattle.std.specs.Prelude.{◌≡◌, ◌<◌, ◌⊎◌, ◌↔◌, false, true, Err, IsErrAnd, OnOk};
+ghost use Rattle.tt_groups.specs.Group.{IsGroupBound};
+ghost use Rattle.tt_groups_check.specs.Limits.{IsGroupOf, is_too_wide, states_of};
+ghost use Rattle.tt_groups_check.specs.declared.fault.GroupFault.TheVariants as fault;
+
+use crate::courses::{courses_of, sizes_of};
+use crate::days::lists_of;
+use crate::fault::GroupFault;
+use crate::width::{base_cost, is_too_wide};
+use std::alloc::Global;
+use tt_groups::Group;
+use tt_groups_week::{Digits, MAX_PLACES, week_holds};
+use tt_instance::Instance;
+
+/// The most sequences of sets that the days of one group may try.
+pub const MAX_SEQUENCES: u64 = 16_777_216;
+
+/// The most relaxations that all groups of a file may take.
+pub const MAX_RELAXATIONS: u64 = 4_294_967_296;
+
+/// The work that checks may still do: sequences for one group, relaxations for all groups of a file.
+#[derive(Clone, Copy, Debug, PartialEq, Eq)]
+pub struct Work {
+    pub sequences: u64,
+    pub relaxations: u64,
+}
+
+impl Work {
+    /// The work of a whole file.
+    pub fn new() -> Work
+        ensures sequences { result.sequences ≡ MAX_SEQUENCES }
+        ensures relaxations { result.relaxations ≡ MAX_RELAXATIONS }
+    {
+        Work {
+            sequences: MAX_SEQUENCES,
+            relaxations: MAX_RELAXATIONS,
+        }
+    }
+}
+
+/// Checks that each relaxed timetable costs the group at least `value`, with tables for the days and the week. What is too cheap or too much
+/// work is left open: `Err` of these says only that the value was not shown.
+pub fn check_group(
+    alloc: Global,
+    instance: &Instance<'_>,
+    group: &Group,
+    value: u64,
+    work: &mut Work,
+) -> Result<(), GroupFault>
+    requires in_range { IsGroupOf instance.now group.now }
+    ensures holds { OnOk result (IsGroupBound instance.now group.now value) }
+    ensures too_wide { (result ≡ Err fault.TooWide) ↔ (is_too_wide instance.now group.now value ≡ true) }
+    ensures states_only { result ≡ Err fault.TooManyStates →
+        (is_too_wide instance.now group.now value ≡ false) × (MAX_PLACES < states_of instance.now group.now) }
+    ensures states { is_too_wide instance.now group.now value ≡ false → MAX_PLACES < states_of instance.now group.now →
+        IsErrAnd result (λ e. (e ≡ fault.TooManyStates) ⊎ (e ≡ fault.OutOfMemory)) }
+{
+    if is_too_wide(instance, group, value) {
+        return Err(GroupFault::TooWide);
+    }
+    let courses = courses_of(alloc, instance, group)?;
+    let sizes = sizes_of(alloc, instance, group, &courses)?;
+    let Some(digits) = Digits::new(alloc, sizes, courses.len())? else {
+        return Err(GroupFault::TooManyStates);
+    };
+    let base = base_cost(instance, group);
+    if value <= base {
+        return Ok(());
+    }
+    let bound = (value - base) as u8;
+    work.sequences = MAX_SEQUENCES;
+    let lists = lists_of(
+        alloc,
+        instance,
+        group,
+        &courses,
+        &digits,
+        bound,
+        &mut work.sequences,
+    )?;
+    let holds = week_holds(
+        alloc,
+        &digits,
+        &lists.moves,
+        &lists.of_day,
+        bound,
+        &mut work.relaxations,
+    )?;
+    if holds {
+        Ok(())
+    } else {
+        Err(GroupFault::TooCheap)
+    }
+}

@@ -1,0 +1,59 @@
+//! The moves of all days of a group.
+
+ghost use Rattle.std.specs.Prelude.{◌≡◌, ℕ, ◌≤◌, length, All, IfErr, IfOk, IsTrue, slice_index};
+ghost use Rattle.tt_groups_check.specs.Faults.{is_late};
+ghost use Rattle.tt_groups_check.specs.Lists.{AreListed, AreOfDays};
+ghost use Rattle.tt_groups_check.specs.Setting.{IsSetting};
+
+use crate::availability::same_day;
+use crate::fault::GroupFault;
+use crate::lists::Lists;
+use std::alloc::Global;
+use tt_groups::Group;
+use tt_groups_day::{list_days, list_sets};
+use tt_groups_week::Digits;
+use tt_instance::Instance;
+
+/// The moves of all days. The sequences that are left go down with each that is tried.
+pub fn lists_of(
+    alloc: Global,
+    instance: &Instance<'_>,
+    group: &Group,
+    courses: &[u32],
+    digits: &Digits,
+    bound: u8,
+    sequences: &mut u64,
+) -> Result<Lists, GroupFault>
+    requires { IsSetting instance.now group.now courses.now digits.now.sizes.items digits.now.courses }
+    ensures listed { IfOk result (λ l. AreListed digits.now.sizes.items digits.now.weights.items digits.now.courses l.moves.items l.of_day.items) }
+    ensures all { IfOk result (λ l. length l.of_day.items ≡ instance.now.days) }
+    ensures of_days { IfOk result (λ l. AreOfDays instance.now group.now courses.now
+        digits.now.sizes.items digits.now.weights.items digits.now.courses bound l.moves.items l.of_day.items) }
+    ensures late { IfErr result (λ e. IsTrue (is_late e)) }
+{
+    let sets = list_sets(alloc, instance, group, courses, &digits.weights)?;
+    let places = digits.count as usize;
+    let mut lists = Lists::new(alloc);
+    for day in 0..instance.days() {
+        match same_day(instance, courses, day) {
+            Some(earlier) => lists.share(digits, earlier as usize)?,
+            None => {
+                let entries = list_days(
+                    alloc,
+                    instance,
+                    group,
+                    courses,
+                    &digits.sizes,
+                    &digits.weights,
+                    places,
+                    &sets,
+                    bound,
+                    day,
+                    sequences,
+                )?;
+                lists.add(alloc, digits, &entries)?;
+            }
+        }
+    }
+    Ok(lists)
+}

@@ -1,0 +1,6 @@
+pub mod Beginning
+pub mod Choosing
+pub mod Reading
+pub mod Running
+pub mod Searching
+pub mod Starting

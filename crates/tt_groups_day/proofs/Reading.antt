@@ -1,0 +1,145 @@
+-- Entries read off a table that covers all days are a list of the day.
+use Rattle.std.proofs.Common.{◌≡◌, true, ℕ, zero, suc, ◌+◌, ◌-◌, ◌*◌, ◌/◌, ◌%◌, ◌<◌, ◌≤◌, List, [], ◌∷◌, ◌++◌, map, length, Some, refl, sym, ap, ◌∙◌, subst, arith, inl, inr, ◌||◌, eq-eqb}
+use Rattle.std.specs.Prelude.{All, ◌==◌, Contains, sum_by, slice_get, slice_index}
+use Rattle.std.specs.List.{list_any}
+use Rattle.std.proofs.lemmas.Bool.{cases_lt}
+use Rattle.std.proofs.lemmas.List.{length-map}
+use Rattle.std.proofs.lemmas.List.Elements.{Contains-append_left, Contains-append_right}
+use Rattle.tt_lists.specs.Words.{range_below}
+use Rattle.tt_lists.proofs.Members.{any_member}
+use Rattle.tt_lists.proofs.Tests.{sum_by-same_below}
+use Rattle.tt_instance.specs.Problem.{Problem}
+use Rattle.tt_instance.specs.Courses.{lectures, in_curriculum}
+use Rattle.tt_groups.specs.Group.{Group, concerns}
+use Rattle.tt_groups.specs.Listed.{AreCourses, IsDayList}
+use Rattle.tt_groups.specs.Places.{weights_from, place_of, group_amounts}
+use Rattle.tt_groups.specs.Plans.{Day, lectures_on}
+use Rattle.tt_groups.specs.Tables.{Vector, Fits}
+use Rattle.tt_groups.specs.declared.entry.DayEntry.{DayEntry}
+use Rattle.tt_groups.proofs.Radix.{AreBelow, digit_of, place_below, place-by_index, at_left, at_right, at_map, length-weights_from}
+use Rattle.tt_groups_day.specs.Entries.{lecture_sizes, AreLectureDigits, HasLectures, IsEntryAt, HasEntries}
+use Rattle.tt_groups_day.specs.Sets.{Covers, Begins}
+use Rattle.tt_groups_day.specs.declared.morning.CourseSet.{CourseSet}
+
+-- ---- amounts
+
+-- amounts of two kinds, in turn
+pub two_amounts : (g : Group) (cs amounts : List ℕ) (k : Vector) → ((i : ℕ) → i < length cs → slice_index amounts i ≡ k (slice_index cs i))
+    → ((i : ℕ) → i < length g.courses → slice_index amounts (length cs + i) ≡ k (slice_index g.courses i) - 1)
+    → (j : ℕ) → j < length cs + length g.courses → slice_index amounts j ≡ slice_index (group_amounts g cs k) j
+two_amounts g cs amounts k first more j h = elim (cases_lt j (length cs)) [
+  | inl l ↦ first j l ∙ sym (at_left k (λ c. k c - 1) cs g.courses j l)
+  | inr l ↦
+      let i = j - length cs in
+      let e : length cs + i ≡ j = omega arith in
+      let m : i < length g.courses = omega arith in
+      ap (slice_index amounts) (sym e) ∙ more i m ∙ sym (at_right k (λ c. k c - 1) cs g.courses i m) ∙ ap (slice_index (group_amounts g cs k)) e
+]
+
+-- ---- one place more
+
+module _ (g : Group) (cs sizes weights : List ℕ) (b : ℕ) (table : List ℕ) (n : ℕ) (xs : List DayEntry) (before : HasEntries g cs sizes weights b table n xs) where
+  pub entries_skip : b ≤ slice_index table n → HasEntries g cs sizes weights b table (n + 1) xs
+  entries_skip h = λ s l less. elim (cases_lt s n) [
+    | inl m ↦ before s m less
+    | inr m ↦ let e : s ≡ n = omega arith in absurd (omega (arith, less, h, ap (slice_index table) e))
+  ]
+
+  pub entries_more : (x : DayEntry) → IsEntryAt g cs sizes weights n x → x.cost ≡ slice_index table n → HasEntries g cs sizes weights b table (n + 1) (xs ++ x ∷ [])
+  entries_more x at cost = λ s l less. elim (cases_lt s n) [
+    | inl m ↦ let y = before s m less in (y.0, Contains-append_left xs (x ∷ []) y.0 y.1, y.2, y.3)
+    | inr m ↦
+        let e : n ≡ s = omega arith in
+        (x, Contains-append_right xs (x ∷ []) x (0, omega arith, refl), subst (λ i. IsEntryAt g cs sizes weights i x) e at, cost ∙ ap (slice_index table) e)
+  ]
+
+-- ---- the list of the day
+
+zip_maps : (a h : ℕ → ℕ) (xs : List ℕ) → ((x : ℕ) → Contains xs x → h x < a x) → AreBelow (map a xs) (map h xs)
+zip_maps a h [] f = tt
+zip_maps a h (x ∷ xs) f = (f x (0, omega arith, refl), zip_maps a h xs (λ y m. f y (Contains-append_right (x ∷ []) xs y m)))
+
+module _ (p : Problem) (g : Group) (cs sizes weights table : List ℕ) (group : AreCourses p g cs) (are : AreLectureDigits p cs sizes weights (length table)) (k : Vector) (fits : Fits p g k) where
+  abbrev us : List ℕ
+  us = lecture_sizes p cs
+
+  abbrev ws : List ℕ
+  ws = weights_from 1 us
+
+  abbrev place : ℕ
+  place = sum_by (λ i. k (slice_index cs i) * slice_index weights i) (range_below (length cs))
+
+  long : length us ≡ length cs
+  long = length-map cs (λ c. lectures p c + 1)
+
+  digits_below : AreBelow us (map k cs)
+  digits_below = zip_maps (λ c. lectures p c + 1) k cs (λ c m. omega (arith, fits c (group.own c m)))
+
+  place_is : place ≡ place_of ws (map k cs)
+  place_is =
+      let l : length cs ≡ length ws = sym (length-weights_from 1 us ∙ long) in
+      sum_by-same_below (λ i. k (slice_index cs i) * slice_index weights i) (λ i. slice_index (map k cs) i * slice_index ws i) (length cs)
+      (λ i h. ap (λ z. z * slice_index weights i) (sym (at_map k cs i h)) ∙ ap (λ z. slice_index (map k cs) i * z) (are.weights_are i h))
+      ∙ ap (λ n. sum_by (λ i. slice_index (map k cs) i * slice_index ws i) (range_below n)) l
+      ∙ place-by_index ws (map k cs) (length-map cs k ∙ l)
+
+  pub place_inside : place < length table
+  place_inside = omega (arith, place_is, place_below 1 us (map k cs) digits_below 0 (omega arith), are.all_places)
+
+  pub digits_are : HasLectures cs sizes weights place k
+  digits_are = λ i h.
+      let e : place ≡ 0 + place_of ws (map k cs) = omega (arith, place_is) in
+      ap (λ z. place / z % slice_index sizes i) (are.weights_are i h)
+      ∙ ap (λ z. place / slice_index ws i % z) (are.sizes_are i h)
+      ∙ ap (λ z. z / slice_index ws i % slice_index us i) e
+      ∙ digit_of 1 us (map k cs) digits_below 0 (omega arith) i (omega (arith, h, long))
+      ∙ at_map k cs i h
+
+-- each digit has a weight above 0
+pub weights-positive : (m : ℕ) (ns : List ℕ) → 0 < m → ((j : ℕ) → j < length ns → 0 < slice_index ns j) → (j : ℕ) → j < length ns → 0 < slice_index (weights_from m ns) j
+weights-positive m [] h some j l = absurd (omega arith)
+weights-positive m (n ∷ ns) h some zero l = h
+weights-positive m (n ∷ ns) h some (suc j) l =
+    weights-positive (m * n) ns (above m n h (some 0 (omega arith))) (λ i k. some (suc i) (omega (arith, k))) j (omega (arith, l))
+  where
+    above : (a b : ℕ) → 0 < a → 0 < b → 0 < a * b
+    above zero b x y = absurd (omega arith)
+    above (suc a) zero x y = absurd (omega arith)
+    above (suc a) (suc b) x y = omega arith
+
+-- a course of the group is one of its courses
+own_concerned : (p : Problem) (g : Group) (c : ℕ) → Contains g.courses c → concerns p g c ≡ true
+own_concerned p g c m =
+    ap (λ b. b || list_any (λ q. in_curriculum p q c) g.curricula) (any_member (λ n. n == c) g.courses c m (eq-eqb c c refl))
+
+begins_none : (p : Problem) (cs : List ℕ) (g : Group) (day : Day) → Begins p g cs day []
+begins_none p cs g day = λ s x e. absurd (nothing s x e)
+  where
+    nothing : (s : ℕ) (x : CourseSet) → slice_get {X = CourseSet} [] s ≡ Some x → ⊥
+    nothing s x e = cc
+
+pub day_list : (p : Problem) (g : Group) (cs sizes weights table : List ℕ) (b d : ℕ) (xs : List DayEntry) → AreCourses p g cs → AreLectureDigits p cs sizes weights (length table) → HasEntries g cs sizes weights b table (length table) xs
+    → Covers p g cs b d weights table [] → IsDayList p g cs b d xs
+day_list p g cs sizes weights table b d xs group are has covers = record {
+  low = λ day is fits less.
+      let k = lectures_on p day in
+      let s = sum_by (λ i. k (slice_index cs i) * slice_index weights i) (range_below (length cs)) in
+      let low = covers.low day is fits (begins_none p cs g day) less in
+      let x = has s (place_inside p g cs sizes weights table group are k fits) (omega (arith, low, less)) in
+      (x.0, x.1, x.2 k (digits_are p g cs sizes weights table group are k fits) (λ c m. group.all c (own_concerned p g c m)), omega (arith, x.3, low));
+}
+
+module _ (p : Problem) (cs sizes weights : List ℕ) (count : ℕ) (are : AreLectureDigits p cs sizes weights count) where
+  size_is : (i : ℕ) → i < length cs → slice_index sizes i ≡ lectures p (slice_index cs i) + 1
+  size_is i h = are.sizes_are i h ∙ at_map (λ c. lectures p c + 1) cs i h
+
+  pub sizes_some : (i : ℕ) → i < length cs → 0 < slice_index sizes i
+  sizes_some i h = omega (arith, size_is i h)
+
+  pub sizes_small : All (λ c. lectures p c ≤ 255) cs → (i : ℕ) → i < length cs → slice_index sizes i ≤ 256
+  sizes_small few i h = omega (arith, size_is i h, few i 0 h)
+
+  pub weights_placed : (i : ℕ) → i < length cs → 0 < slice_index weights i
+  weights_placed i h =
+      let l = length-map cs (λ c. lectures p c + 1) in
+      omega (arith, are.weights_are i h, weights-positive 1 (lecture_sizes p cs) (omega arith) (λ j m. let k : j < length cs = omega (arith, m, l) in omega (arith, at_map (λ c. lectures p c + 1) cs j k)) i (omega (arith, h, l)))

@@ -1,0 +1,5 @@
+use Rattle.tt_groups_day.specs.Entries.{HasEntries}
+use Rattle.tt_groups_day.proofs.entries.list_entries.Given as goal
+
+abbrev pub invariant-loop-place : goal.invariant-loop-place
+invariant-loop-place l = HasEntries l.group l.courses l.sizes l.weights l.bound l.table l.place l.entries.items

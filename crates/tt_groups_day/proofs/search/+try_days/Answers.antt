@@ -1,0 +1,45 @@
+use Rattle.std.proofs.Common.{ℕ, List, get_or, sym, ap, subst, arith}
+use Rattle.std.specs.Prelude.{slice_index}
+use Rattle.tt_groups_day.specs.Sets.{Falls, IsTriedWith}
+use Rattle.tt_groups_day.proofs.Searching.{tried-end, tried-all, with-more, with-next, day_at, no_set, no_period}
+use Rattle.tt_groups_day.proofs.search.+try_days.Goals as goal
+use Rattle.tt_groups_day.proofs.search.+try_days.Goals.{in-Some+in_ok-sequences+in_ok-try_days, in_default}
+
+pub loop-set-preserved : goal.loop-set-preserved
+loop-set-preserved t c =
+    let a = c.args in
+    let most = a.most.now in
+    let periods = a.periods.now in
+    let sets = a.sets.now in
+    let m = a.morning.now in
+    let i = c.loop-set.set-index in
+    let set = get_or sets i no_set in
+    let now = c.match-more.table in
+    let before = c.loop-set.invariant in
+    elim c.match-more.branch [
+      | in-Some+in_ok-sequences+in_ok-try_days w ↦
+          let falls : Falls c.loop-set.table now = λ k. omega (arith, w.in_ok-try_days.ensures.falls k, ap (λ (l : List ℕ). slice_index l k) w.table-is) in
+          let tried = with-next most periods sets a.bound a.period m w.in-Some.next set w.try_days.new.table w.in-Some.ensures.leads w.in_ok-try_days.ensures.tried in
+          record {
+            falls = λ k. omega (arith, falls k, before.falls k);
+            tried = with-more most periods sets a.bound a.period m i no_set c.loop-set.table now c.loop-set-test.true falls before.tried
+                (subst (λ (l : List ℕ). IsTriedWith most periods sets a.bound a.period m l set) (sym w.table-is) tried);
+          }
+      | in_default w ↦
+          let falls : Falls c.loop-set.table now = λ k. omega (arith, ap (λ (l : List ℕ). slice_index l k) w.table-is) in
+          let barred = rw w.in_default.is at c.more.ensures.barred in
+          let tried : IsTriedWith most periods sets a.bound a.period m now set = λ p g cs weights d sets_before days len inside sets_are complete morning is.
+          barred p g cs weights now d sets_before (day_at p g cs d a.period most periods no_period sets_before days len inside) is morning in
+          record {
+            falls = λ k. omega (arith, falls k, before.falls k);
+            tried = with-more most periods sets a.bound a.period m i no_set c.loop-set.table now c.loop-set-test.true falls before.tried tried;
+          }
+    ]
+
+pub returns-then-period-periods-clause-tried : goal.returns-then-period-periods-clause-tried
+returns-then-period-periods-clause-tried t c =
+    tried-end c.args.most.now c.args.periods.now c.args.sets.now c.args.bound c.args.period c.args.morning.now c.end.new.table c.if-period-periods.true (omega arith) c.end.ensures.there
+
+pub returns-clause-tried : goal.returns-clause-tried
+returns-clause-tried t c =
+    tried-all c.args.most.now c.args.periods.now c.args.sets.now c.args.bound c.args.period c.loop-set.set-index c.args.morning.now c.loop-set.table (omega (arith, c.requires.inside, c.if-period-periods.false)) c.loop-set-test.false c.loop-set.invariant.tried

@@ -1,0 +1,13 @@
+use Rattle.std.proofs.Common.{◌-◌, length, take}
+use Rattle.std.specs.Prelude.{All}
+use Rattle.tt_groups_day.specs.Sets.{Falls, IsTriedWith}
+use Rattle.tt_groups_day.proofs.search.+try_days.Given as goal
+
+abbrev pub decreases-try_days : goal.decreases-try_days
+decreases-try_days l = length l.periods.now - l.period
+
+abbrev pub invariant-loop-set : goal.invariant-loop-set
+invariant-loop-set l = record {
+  falls : Falls l.initial.table l.table;
+  tried : All (IsTriedWith l.most l.periods l.sets l.bound l.period l.morning l.table) (take l.set-index l.sets);
+}

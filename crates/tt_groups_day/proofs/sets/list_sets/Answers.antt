@@ -1,0 +1,62 @@
+use Rattle.std.proofs.Common.{◌≡◌, ◌+◌, ◌<◌, ◌^◌, ◌++◌, ◌∷◌, [], List, length, arith, sym, ap, ◌∙◌, subst, get_or}
+use Rattle.std.specs.Prelude.{All}
+use Rattle.tt_groups_day.specs.Choosing.{IsChoice, HasChoices}
+use Rattle.tt_groups_day.specs.declared.morning.CourseSet.{CourseSet}
+use Rattle.tt_groups_day.proofs.Choosing.{All-one, each_next, found_next, complete_sets, small_sets, room_left, no_course_set, first_choice, first_found}
+use Rattle.tt_groups_day.proofs.sets.list_sets.Goals as goal
+
+pub loop-i-init : goal.loop-i-init
+loop-i-init c =
+    let p = c.args.instance.now in
+    let g = c.args.group.now in
+    let cs = c.args.courses.now in
+    let ws = c.args.weights.now in
+    let e : no_course_set ∷ [] ≡ c.append.new.sets.items = sym (c.in_ok-append.ensures ∙ ap (λ (l : List CourseSet). l ++ no_course_set ∷ []) c.new-sets.ensures.items) in
+    record {
+      each = subst (λ (l : List CourseSet). All (IsChoice p g cs ws 0) l) e (All-one (IsChoice p g cs ws 0) no_course_set (first_choice p g cs ws));
+      found = subst (λ (l : List CourseSet). HasChoices p cs 0 l) e (first_found p g cs ws);
+    }
+
+pub add_course-requires-clause-room : goal.add_course-requires-clause-room
+add_course-requires-clause-room c = λ k d h.
+    let p = c.args.instance.now in
+    let g = c.args.group.now in
+    let cs = c.args.courses.now in
+    let ws = c.args.weights.now in
+    let sets = c.loop-i.sets.items in
+    let m : 2 ^ 20 ≡ 1048576 = omega arith in
+    omega (arith, room_left p g cs ws sets 1048576 c.loop-i.i (get_or sets k d) (c.loop-i.invariant.each k d h) (λ i. omega (arith, c.requires.small i, m)))
+
+pub loop-i-preserved : goal.loop-i-preserved
+loop-i-preserved c =
+    let p = c.args.instance.now in
+    let g = c.args.group.now in
+    let cs = c.args.courses.now in
+    let ws = c.args.weights.now in
+    let i = c.loop-i.i in
+    let met = c.curricula_with-met.result in
+    let sets = c.loop-i.sets.items in
+    let below : i < 16 = omega arith in
+    let e = sym c.in_ok-add_course.ensures in
+    record {
+      each = subst (λ (l : List CourseSet). All (IsChoice p g cs ws (i + 1)) l) e (each_next p g cs ws i met below c.curricula_with-met.ensures sets c.loop-i.invariant.each);
+      found = subst (λ (l : List CourseSet). HasChoices p cs (i + 1) l) e (found_next p g cs ws i met below c.curricula_with-met.ensures sets c.loop-i.invariant.each c.loop-i.invariant.found);
+    }
+
+pub returns-clause-complete : goal.returns-clause-complete
+returns-clause-complete c =
+    let cs = c.args.courses.now in
+    let e : c.loop-i.i ≡ length cs = omega arith in
+    complete_sets c.args.instance.now c.args.group.now cs c.args.weights.now c.loop-i.sets.items c.requires.courses
+    (subst (λ n. HasChoices c.args.instance.now cs n c.loop-i.sets.items) e c.loop-i.invariant.found)
+
+pub returns-clause-small : goal.returns-clause-small
+returns-clause-small c =
+    let p = c.args.instance.now in
+    let g = c.args.group.now in
+    let cs = c.args.courses.now in
+    let ws = c.args.weights.now in
+    let e : c.loop-i.i ≡ length cs = omega arith in
+    let m : 2 ^ 20 ≡ 1048576 = omega arith in
+    small_sets p g cs ws c.loop-i.sets.items 1048576 c.requires.few (λ i. omega (arith, c.requires.small i, m))
+    (subst (λ n. All (IsChoice p g cs ws n) c.loop-i.sets.items) e c.loop-i.invariant.each)

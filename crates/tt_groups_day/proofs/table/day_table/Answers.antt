@@ -1,0 +1,29 @@
+use Rattle.std.proofs.Common.{◌≡◌, List, [], drop, length, refl, sym, ap, ◌∙◌, subst, arith}
+use Rattle.std.proofs.lemmas.List.{length-replicate}
+use Rattle.tt_groups_day.specs.Sets.{ArePeriodsOf}
+use Rattle.tt_groups_day.specs.declared.search.Period.{Period}
+use Rattle.tt_groups_day.proofs.Starting.{zeros, morning-start, take_written}
+use Rattle.tt_groups_day.proofs.table.day_table.Goals as goal
+
+pub try_days-requires-clause-few : goal.try_days-requires-clause-few
+try_days-requires-clause-few c = omega (arith, ap length c.deref.ensures.value, c.in_ok-periods.ensures.few)
+
+pub returns-clause-low : goal.returns-clause-low
+returns-clause-low c = λ g weights are few sets complete.
+    let p = c.args.instance.now in
+    let cs = c.args.courses.now in
+    let items = c.in_ok-table.table.items in
+    let new = c.try_days.new.table in
+    let long : length items ≡ c.args.places = ap length (c.in_ok-table.ensures.items_if_clones_equal (λ y e. e)) ∙ length-replicate c.args.places 255 in
+    let same : length new ≡ c.args.places = c.try_days.auto.table ∙ ap length c.deref_mut.ensures.value ∙ long in
+    let written = take_written new (drop (length new) items) c.in_ok-table.table.len (c.in_ok-table.ensures.len ∙ sym same) in
+    let there : ArePeriodsOf p g cs c.args.day c.lectures_of-most.result c.in_ok-periods.periods.items = record {
+      group = are;
+      few = few;
+      most_are = c.lectures_of-most.ensures;
+      whole = c.in_ok-periods.ensures.whole;
+      closed = c.in_ok-periods.ensures.closed;
+    } in
+    let days = subst (λ (l : List Period). ArePeriodsOf p g cs c.args.day c.lectures_of-most.result l) (sym c.deref.ensures.value) there in
+    let start = morning-start p g cs weights _ (zeros 16) refl refl refl refl in
+    rw written (c.in_ok-try_days.ensures.tried p g cs weights c.args.day [] days refl sets complete start)

@@ -1,0 +1,4 @@
+pub mod Choosing
+pub mod Entries
+pub mod Running
+pub mod Sets

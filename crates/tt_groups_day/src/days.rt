@@ -1,0 +1,50 @@
+//! The list of a day.
+
+ghost use Rattle.std.specs.Prelude.{◌≡◌, ◌<◌, ◌≤◌, length, All, IfOk};
+ghost use Rattle.tt_groups.specs.Listed.{AreCourses, IsDayList};
+ghost use Rattle.tt_groups_day.specs.Entries.{AreLectureDigits};
+ghost use Rattle.tt_groups_day.specs.Sets.{IsComplete, IsCourseSet};
+ghost use Rattle.tt_instance.specs.Courses.{lectures};
+
+use crate::entries::list_entries;
+use crate::fault::DaysFault;
+use crate::morning::{COURSES, CourseSet};
+use crate::table::day_table;
+use std::alloc::Global;
+use tt_groups::{DayEntry, Group};
+use tt_instance::Instance;
+
+/// For each numbers of lectures that the courses can have on a day at a cost below the bound: these numbers, and a cost that no such day is
+/// below. The sets are those of `list_sets`; the sequences that are left go down with each that is tried.
+pub fn list_days(
+    alloc: Global,
+    instance: &Instance<'_>,
+    group: &Group,
+    courses: &[u32],
+    sizes: &[u32],
+    weights: &[u32],
+    places: usize,
+    sets: &[CourseSet],
+    bound: u8,
+    day: u32,
+    sequences: &mut u64,
+) -> Result<Vec<DayEntry>, DaysFault>
+    requires group { AreCourses instance.now group.now courses.now }
+    requires few { length courses.now ≤ COURSES }
+    requires own { length group.now.courses ≤ 16 }
+    requires curricula { length group.now.curricula ≤ 64 }
+    requires in_range { All (λ c. c < length instance.now.courses) courses.now }
+    requires lectures { All (λ c. lectures instance.now c ≤ 255) courses.now }
+    requires digits { AreLectureDigits instance.now courses.now sizes.now weights.now places }
+    requires room { places ≤ 1048576 }
+    requires sets { All (IsCourseSet instance.now group.now courses.now weights.now) sets.now }
+    requires small { All (λ x. x.index ≤ 16777216) sets.now }
+    requires complete { IsComplete instance.now group.now courses.now sets.now }
+    ensures { IfOk result (λ entries. IsDayList instance.now group.now courses.now bound day entries.items) }
+{
+    let table = day_table(
+        alloc, instance, courses, sets, bound, day, places, sequences,
+    )?;
+    let entries = list_entries(alloc, group, courses, sizes, weights, bound, &table)?;
+    Ok(entries)
+}

@@ -1,0 +1,99 @@
+//! The entries of a day, read off its table.
+
+ghost use Rattle.std.specs.Prelude.{◌≡◌, ℕ, ◌+◌, ◌-◌, ◌/◌, ◌%◌, ◌<◌, ◌≤◌, List, [], Contains, length, slice_index, IfOk};
+ghost use Rattle.tt_instance.specs.Problem.{Problem};
+ghost use Rattle.tt_groups.specs.Listed.{AreCourses, IsDayList};
+ghost use Rattle.tt_groups.specs.Tables.{Vector};
+ghost use Rattle.tt_groups_day.specs.Entries.{AreLectureDigits, IsEntryAt};
+ghost use Rattle.tt_groups_day.specs.Sets.{Covers};
+
+use std::alloc::{AllocError, Global};
+use tt_groups::{DIGITS, DayEntry, Group};
+
+/// The digits of a place.
+fn lectures_at(count: usize, sizes: &[u32], weights: &[u32], place: u32) -> [u8; DIGITS]
+    requires count { count ≤ DIGITS }
+    requires sized { count ≤ length sizes.now }
+    requires weighed { count ≤ length weights.now }
+    requires some { (i : ℕ) → i < count → 0 < slice_index sizes.now i }
+    requires placed { (i : ℕ) → i < count → 0 < slice_index weights.now i }
+    requires small { (i : ℕ) → i < count → slice_index sizes.now i ≤ 256 }
+    ensures { (i : ℕ) → i < count → slice_index result i ≡ place / slice_index weights.now i % slice_index sizes.now i }
+{
+    let mut amounts = [0; DIGITS];
+    for i in 0..count {
+        amounts[i] = (place / weights[i] % sizes[i]) as u8;
+    }
+    amounts
+}
+
+/// The lectures of a course that are not its first on the day; 0 if it is none of the courses.
+fn further(courses: &[u32], amounts: &[u8; DIGITS], course: u32) -> u8
+    requires { length courses.now ≤ DIGITS }
+    ensures { (k : Vector) → ((i : ℕ) → i < length courses.now → slice_index amounts.now i ≡ k (slice_index courses.now i)) →
+        Contains courses.now course → result ≡ k course - 1 }
+{
+    for i in 0..courses.len() {
+        if courses[i] == course {
+            return amounts[i].saturating_sub(1);
+        }
+    }
+    0
+}
+
+/// The entry of a place.
+fn entry_at(
+    group: &Group,
+    courses: &[u32],
+    sizes: &[u32],
+    weights: &[u32],
+    place: u32,
+    cost: u8,
+) -> DayEntry
+    requires count { length courses.now + length group.now.courses ≤ DIGITS }
+    requires sized { length courses.now ≤ length sizes.now }
+    requires weighed { length courses.now ≤ length weights.now }
+    requires some { (i : ℕ) → i < length courses.now → 0 < slice_index sizes.now i }
+    requires placed { (i : ℕ) → i < length courses.now → 0 < slice_index weights.now i }
+    requires small { (i : ℕ) → i < length courses.now → slice_index sizes.now i ≤ 256 }
+    ensures amounts { IsEntryAt group.now courses.now sizes.now weights.now place result }
+    ensures cost { result.cost ≡ cost }
+{
+    let lectures = lectures_at(courses.len(), sizes, weights, place);
+    let mut amounts = lectures;
+    let own = group.courses();
+    for j in 0..own.len() {
+        amounts[courses.len() + j] = further(courses, &lectures, own[j]);
+    }
+    DayEntry { amounts, cost }
+}
+
+/// The entries of the places whose values are below the bound. The sizes and weights are those of the lectures of each course; others may follow.
+pub fn list_entries(
+    alloc: Global,
+    group: &Group,
+    courses: &[u32],
+    sizes: &[u32],
+    weights: &[u32],
+    bound: u8,
+    table: &[u8],
+) -> Result<Vec<DayEntry>, AllocError>
+    requires count { length courses.now + length group.now.courses ≤ DIGITS }
+    requires sized { length courses.now ≤ length sizes.now }
+    requires weighed { length courses.now ≤ length weights.now }
+    requires some { (i : ℕ) → i < length courses.now → 0 < slice_index sizes.now i }
+    requires placed { (i : ℕ) → i < length courses.now → 0 < slice_index weights.now i }
+    requires small { (i : ℕ) → i < length courses.now → slice_index sizes.now i ≤ 256 }
+    requires places { length table.now ≤ 1048576 }
+    ensures { IfOk result (λ entries. (p : Problem) (d : ℕ) → AreCourses p group.now courses.now → AreLectureDigits p courses.now sizes.now weights.now (length table.now) →
+        Covers p group.now courses.now bound d weights.now table.now [] → IsDayList p group.now courses.now bound d entries.items) }
+{
+    let mut entries = Vec::new(alloc);
+    for (place, cost) in table.iter().enumerate() {
+        if *cost < bound {
+            let entry = entry_at(group, courses, sizes, weights, place as u32, *cost);
+            entries.push(entry)?;
+        }
+    }
+    Ok(entries)
+}

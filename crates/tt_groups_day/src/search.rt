@@ -1,0 +1,77 @@
+//! All days that begin like a morning, set by set.
+
+ghost use Rattle.std.specs.Prelude.{◌≡◌, ℕ, ◌+◌, ◌*◌, ◌<◌, ◌≤◌, length, slice_index, All, OnOk, count_ones};
+ghost use Rattle.tt_groups_day.specs.Sets.{Falls, IsTried};
+
+use crate::fault::DaysFault;
+use crate::morning::{COURSES, CourseSet, Morning, more};
+
+/// The courses that are available in a period, 1 for each.
+#[derive(Clone, Copy, Debug, PartialEq, Eq)]
+pub struct Period {
+    pub available: [u8; COURSES],
+}
+
+/// Writes the value where the table has a higher one.
+fn lower(table: &mut [u8], place: usize, value: u8)
+    ensures there { slice_index table.new place ≤ value }
+    ensures falls { Falls table.old table.new }
+{
+    if place < table.len() && value < table[place] {
+        table[place] = value;
+    }
+}
+
+/// Lowers the entry of a whole day.
+fn end(bound: u8, morning: &Morning, table: &mut [u8])
+    requires { morning.now.cost < 256 }
+    ensures falls { Falls table.old table.new }
+    ensures there { morning.now.cost + 2 * count_ones morning.now.pending < bound → slice_index table.new morning.now.place ≤ morning.now.cost + 2 * count_ones morning.now.pending }
+{
+    let cost = morning.cost + 2 * morning.pending.count_ones();
+    if cost < u32::from(bound) {
+        lower(table, morning.place as usize, cost as u8);
+    }
+}
+
+/// Lowers the entries of all days that begin like a morning. The sequences that are left go down with each set that is tried.
+pub fn try_days(
+    most: &[u8; COURSES],
+    periods: &[Period],
+    sets: &[CourseSet],
+    bound: u8,
+    period: usize,
+    morning: &Morning,
+    table: &mut [u8],
+    sequences: &mut u64,
+) -> Result<(), DaysFault>
+    requires few { length periods.now ≤ 64 }
+    requires inside { period ≤ length periods.now }
+    requires sets { All (λ x. (x.index ≤ 16777216) × ((i : ℕ) → slice_index x.courses i ≤ 1)) sets.now }
+    requires small { (i : ℕ) → slice_index morning.now.counts i ≤ period }
+    requires place { morning.now.place ≤ 16777216 * period }
+    requires cost { morning.now.cost < 256 }
+    ensures falls { Falls table.old table.new }
+    ensures tried { OnOk result (IsTried most.now periods.now sets.now bound period morning.now table.new) }
+{
+    if period == periods.len() {
+        end(bound, morning, table);
+        return Ok(());
+    }
+    for set in sets {
+        if let Some(next) = more(bound, most, &periods[period].available, morning, set) {
+            *sequences = sequences.checked_sub(1).ok_or(DaysFault::TooMuchWork)?;
+            try_days(
+                most,
+                periods,
+                sets,
+                bound,
+                period + 1,
+                &next,
+                table,
+                sequences,
+            )?;
+        }
+    }
+    Ok(())
+}

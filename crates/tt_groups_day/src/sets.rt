@@ -1,0 +1,144 @@
+//! The sets of a group's courses of which no two conflict.
+
+ghost use Rattle.std.specs.Prelude.{◌≡◌, ℕ, ◌+◌, ◌*◌, ◌<◌, ◌≤◌, ◌^◌, ◌++◌, ◌∷◌, [], length, slice_index, All, IfOk, OnOk, OnErr, Err};
+ghost use Rattle.tt_instance.specs.Courses.{in_curriculum};
+ghost use Rattle.tt_groups.specs.Listed.{AreCourses};
+ghost use Rattle.tt_groups_day.specs.Choosing.{clashes, with_course, with_next, IsApart};
+ghost use Rattle.tt_groups_day.specs.Sets.{IsWordOf, IsCourseSet, IsComplete};
+ghost use Rattle.tt_groups_day.specs.declared.sets.SetsFault.TheVariants as fault;
+
+use crate::morning::{COURSES, CourseSet};
+use std::alloc::{AllocError, Global};
+use tt_bits::with_if;
+use tt_groups::Group;
+use tt_instance::Instance;
+
+/// The most sets of a group's courses.
+pub const MAX_SETS: usize = 4096;
+
+/// The most curricula of a group.
+const CURRICULA: usize = 64;
+
+/// Why the sets are not listed.
+#[derive(Clone, Copy, Debug, PartialEq, Eq)]
+pub enum SetsFault {
+    /// There are more than `MAX_SETS`.
+    TooManySets,
+    OutOfMemory,
+}
+
+impl From<AllocError> for SetsFault {
+    ghost from_gives = { λ _ e. e ≡ fault.OutOfMemory };
+
+    fn from(_: AllocError) -> Self {
+        SetsFault::OutOfMemory
+    }
+}
+
+/// The curricula of a group that have a course.
+fn curricula_with(instance: &Instance<'_>, group: &Group, course: u32) -> u64
+    requires { length group.now.curricula ≤ CURRICULA }
+    ensures { IsWordOf result group.now.curricula (λ q. in_curriculum instance.now q course) }
+{
+    let mut word = 0;
+    for (k, curriculum) in group.curricula().iter().enumerate() {
+        word = with_if(word, k as u32, instance.in_curriculum(*curriculum, course));
+    }
+    word
+}
+
+/// Whether a course conflicts with one of a set's courses before it.
+fn clashes(instance: &Instance<'_>, courses: &[u32], number: usize, set: &CourseSet) -> bool
+    requires there { number < length courses.now }
+    requires few { length courses.now ≤ COURSES }
+    ensures { result ≡ clashes instance.now courses.now number set.now }
+{
+    for other in 0..number {
+        if set.courses[other] == 1 && instance.conflict(courses[number], courses[other]) {
+            return true;
+        }
+    }
+    false
+}
+
+/// A set with one course more.
+fn with_course(set: &CourseSet, number: usize, weight: u32, met: u64) -> CourseSet
+    requires there { number < COURSES }
+    requires room { set.now.index + weight < 2 ^ 32 }
+    ensures { result ≡ with_course number weight met set.now }
+{
+    let mut courses = set.courses;
+    courses[number] = 1;
+    CourseSet {
+        courses,
+        index: set.index + weight,
+        curricula: set.curricula | met,
+    }
+}
+
+/// Adds a set at the end.
+fn append(sets: &mut Vec<CourseSet>, set: CourseSet) -> Result<(), AllocError>
+    ensures { OnOk result (sets.new.items ≡ sets.old.items ++ set ∷ []) }
+{
+    sets.push(set)?;
+    Ok(())
+}
+
+/// Adds each set that has no clash with a course once more, with this course.
+fn add_course(
+    instance: &Instance<'_>,
+    courses: &[u32],
+    number: usize,
+    weight: u32,
+    met: u64,
+    sets: &mut Vec<CourseSet>,
+) -> Result<(), SetsFault>
+    requires there { number < length courses.now }
+    requires few { length courses.now ≤ COURSES }
+    requires room { All (λ x. x.index + weight < 2 ^ 32) sets.old.items }
+    ensures { OnOk result (sets.new.items ≡ with_next instance.now courses.now number weight met sets.old.items) }
+{
+    let before = sets.len();
+    for k in 0..before {
+        let set = sets[k];
+        if !clashes(instance, courses, number, &set) {
+            if sets.len() == MAX_SETS {
+                return Err(SetsFault::TooManySets);
+            }
+            append(sets, with_course(&set, number, weight, met))?;
+        }
+    }
+    Ok(())
+}
+
+/// Every set of the courses that a group concerns of which no two conflict. The weights are what a lecture of each course adds to a place.
+pub fn list_sets(
+    alloc: Global,
+    instance: &Instance<'_>,
+    group: &Group,
+    courses: &[u32],
+    weights: &[u32],
+) -> Result<Vec<CourseSet>, SetsFault>
+    requires courses { AreCourses instance.now group.now courses.now }
+    requires few { length courses.now ≤ COURSES }
+    requires curricula { length group.now.curricula ≤ CURRICULA }
+    requires weighed { length courses.now ≤ length weights.now }
+    requires small { (i : ℕ) → slice_index weights.now i ≤ 2 ^ 20 }
+    ensures complete { IfOk result (λ sets. IsComplete instance.now group.now courses.now sets.items) }
+    ensures sets { IfOk result (λ sets. All (IsCourseSet instance.now group.now courses.now weights.now) sets.items) }
+    ensures apart { IfOk result (λ sets. All (IsApart instance.now courses.now) sets.items) }
+    ensures small { IfOk result (λ sets. All (λ x. x.index ≤ 16777216) sets.items) }
+{
+    let mut sets = Vec::new(alloc);
+    let none = CourseSet {
+        courses: [0; COURSES],
+        index: 0,
+        curricula: 0,
+    };
+    append(&mut sets, none)?;
+    for i in 0..courses.len() {
+        let met = curricula_with(instance, group, courses[i]);
+        add_course(instance, courses, i, weights[i], met, &mut sets)?;
+    }
+    Ok(sets)
+}

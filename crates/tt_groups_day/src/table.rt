@@ -1,0 +1,97 @@
+//! The table of a day, by the place of its lectures.
+
+ghost use Rattle.std.specs.Prelude.{◌≡◌, ℕ, ◌+◌, ◌*◌, ◌<◌, ◌≤◌, [], List, length, slice_index, true, All, IfOk};
+ghost use Rattle.tt_groups.specs.Group as spec;
+ghost use Rattle.tt_groups.specs.Listed.{AreCourses};
+ghost use Rattle.tt_groups_day.specs.Sets.{Covers, IsComplete, IsCourseSet, AreAvailable};
+ghost use Rattle.tt_instance.specs.Courses.{lectures, unavailable};
+
+use crate::fault::DaysFault;
+use crate::morning::{COURSES, CourseSet, Morning};
+use crate::search::{Period, try_days};
+use std::alloc::{AllocError, Global};
+use tt_instance::Instance;
+
+/// The courses that are available in a period.
+fn period_of(instance: &Instance<'_>, courses: &[u32], day: u32, period: u32) -> Period
+    requires { length courses.now ≤ 16 }
+    ensures { (i : ℕ) → i < length courses.now → slice_index result.available i ≡ 0 → unavailable instance.now (slice_index courses.now i) day period ≡ true }
+{
+    let mut available = [0; COURSES];
+    for (i, course) in courses.iter().enumerate() {
+        if !instance.unavailable(*course, day, period) {
+            available[i] = 1;
+        }
+    }
+    Period { available }
+}
+
+/// The courses that are available in each period of a day.
+fn periods_of(
+    alloc: Global,
+    instance: &Instance<'_>,
+    courses: &[u32],
+    day: u32,
+) -> Result<Vec<Period>, AllocError>
+    requires { length courses.now ≤ 16 }
+    ensures whole { IfOk result (λ v. length v.items ≡ instance.now.periods) }
+    ensures few { IfOk result (λ v. length v.items ≤ 64) }
+    ensures closed { IfOk result (λ v. AreAvailable instance.now courses.now day v.items) }
+{
+    let mut periods = Vec::new(alloc);
+    for period in 0..instance.periods() {
+        periods.push(period_of(instance, courses, day, period))?;
+    }
+    Ok(periods)
+}
+
+/// The lectures of the courses.
+fn lectures_of(instance: &Instance<'_>, courses: &[u32]) -> [u8; COURSES]
+    requires few { length courses.now ≤ 16 }
+    requires in_range { All (λ c. c < length instance.now.courses) courses.now }
+    requires small { All (λ c. lectures instance.now c ≤ 255) courses.now }
+    ensures { (i : ℕ) → i < length courses.now → slice_index result i ≡ lectures instance.now (slice_index courses.now i) }
+{
+    let mut most = [0; COURSES];
+    for (i, course) in courses.iter().enumerate() {
+        most[i] = instance.lectures(*course) as u8;
+    }
+    most
+}
+
+/// What a day of the group costs at least, by the place of its lectures; 255 where it is the bound or more. The sequences that are left go
+/// down with each set that is tried.
+pub fn day_table(
+    alloc: Global,
+    instance: &Instance<'_>,
+    courses: &[u32],
+    sets: &[CourseSet],
+    bound: u8,
+    day: u32,
+    places: usize,
+    sequences: &mut u64,
+) -> Result<Vec<u8>, DaysFault>
+    requires few { length courses.now ≤ 16 }
+    requires in_range { All (λ c. c < length instance.now.courses) courses.now }
+    requires lectures { All (λ c. lectures instance.now c ≤ 255) courses.now }
+    requires sets { All (λ x. (x.index ≤ 16777216) × ((i : ℕ) → slice_index x.courses i ≤ 1)) sets.now }
+    ensures whole { IfOk result (λ v. length v.items ≡ places) }
+    ensures low { IfOk result (λ v. (g : spec.Group) (weights : List ℕ) → AreCourses instance.now g courses.now → length g.curricula ≤ 64 →
+        All (IsCourseSet instance.now g courses.now weights) sets.now → IsComplete instance.now g courses.now sets.now →
+        Covers instance.now g courses.now bound day weights v.items []) }
+{
+    let most = lectures_of(instance, courses);
+    let periods = periods_of(alloc, instance, courses, day)?;
+    let start = Morning {
+        counts: [0; COURSES],
+        place: 0,
+        cost: 0,
+        occupied: 0,
+        pending: 0,
+    };
+    let mut table = vec![in alloc; u8::MAX; places]?;
+    try_days(
+        &most, &periods, sets, bound, 0, &start, &mut table, sequences,
+    )?;
+    Ok(table)
+}

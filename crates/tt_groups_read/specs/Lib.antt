@@ -1,0 +1,5 @@
+pub mod Faults
+pub mod Readers
+pub mod Reading
+pub mod Reads
+pub mod Spelling

@@ -1,0 +1,42 @@
+//! The header of a file.
+
+ghost use Rattle.std.specs.Prelude.{◌≤◌, IfOk};
+ghost use Rattle.tt_proof_read.specs.Contract.{ReadsAs};
+ghost use Rattle.tt_proof_read.specs.declared.format.TheConstants.{MAX_POINTS};
+ghost use Rattle.tt_groups_read.specs.Reading.{bound_at, opening_at};
+
+use crate::fields::{read_points, read_word, token};
+use tt_proof_read::{TextFault, Word};
+use tt_text::{Feed, Source};
+
+/// What a file begins with.
+#[derive(Clone, Copy, Debug)]
+pub enum Opening {
+    /// The header of a file of groups, with this bound.
+    Groups(u64),
+    /// Another token, at this offset.
+    Other(usize),
+}
+
+/// The version and the bound.
+#[tactic(auto, unfolding(crate::specs::Reading::bound_at))]
+fn read_bound<R: Source>(feed: &mut Feed, source: &mut R) -> Result<u64, TextFault>
+    ensures read { ReadsAs R.Source feed.old source.old feed.new source.new (λ b. b) result bound_at }
+{
+    read_word(feed, source, Word::One)?;
+    read_word(feed, source, Word::Bound)?;
+    read_points(feed, source)
+}
+
+/// The header, or the first token where it is another.
+#[tactic(auto, unfolding(crate::specs::Reading::opening_at))]
+pub fn read_opening<R: Source>(feed: &mut Feed, source: &mut R) -> Result<Opening, TextFault>
+    ensures read { ReadsAs R.Source feed.old source.old feed.new source.new (λ o. o) result opening_at }
+{
+    let at = token(feed, source)?;
+    if b"CTTG".as_slice() == feed.token() {
+        let bound = read_bound(feed, source)?;
+        return Ok(Opening::Groups(bound));
+    }
+    Ok(Opening::Other(at))
+}

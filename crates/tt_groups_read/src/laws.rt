@@ -1,0 +1,19 @@
+//! What it means that a file was read group by group.
+
+ghost use Rattle.std.specs.Prelude.{ℕ, List};
+ghost use Rattle.tt_instance.specs.Limits.{IsInstance};
+ghost use Rattle.tt_instance.specs.Problem.{Problem};
+ghost use Rattle.tt_proof_read.specs.Reads.{stream_of_bytes};
+ghost use Rattle.tt_proof_read.specs.Sizes.{AreSizes};
+ghost use Rattle.tt_proof_read.specs.declared.sizes.Sizes.{Sizes};
+ghost use Rattle.tt_groups_read.specs.Reads.{ReadsFile};
+ghost use Rattle.tt_groups_read.specs.Spelling.{SpellsGroups};
+ghost use Rattle.tt_groups_read.specs.declared.claim.GroupClaim.{GroupClaim};
+
+/// What a feed gives of bytes, group by group, are the claims that these bytes spell; and all claims that they spell are so read.
+pub fn read_groups_are_spelled()
+    ensures read { (p : Problem) (sizes : Sizes) → AreSizes p sizes → (bytes : List ℕ) (bound : ℕ) (claims : List GroupClaim) →
+        ReadsFile sizes (stream_of_bytes bytes) bound claims → SpellsGroups p bytes bound claims }
+    ensures spelled { (p : Problem) (sizes : Sizes) → IsInstance p → AreSizes p sizes → (bytes : List ℕ) (bound : ℕ) (claims : List GroupClaim) →
+        SpellsGroups p bytes bound claims → ReadsFile sizes (stream_of_bytes bytes) bound claims }
+{}

@@ -1,0 +1,119 @@
+//! Claims about groups, group by group.
+
+ghost use Rattle.std.specs.Prelude.{◌≡◌, ◌<◌, true, false, is_some, Some, None, Ok, Err, IfOk, IfErr, IfSome};
+ghost use Rattle.tt_text.specs.Feeds.{stream_at, fresh, room_of};
+ghost use Rattle.tt_proof_read.specs.Answers.{StaysKnown};
+ghost use Rattle.tt_proof_read.specs.Faults.{read_failed, TellsNoFailedRead};
+ghost use Rattle.tt_proof_read.specs.Sizes.{AreSizes};
+ghost use Rattle.tt_groups_read.specs.Faults.{HeaderIsUnfailed};
+ghost use Rattle.tt_groups_read.specs.Readers.{IsClaimAt, Goes, Says, HeaderSays, HeaderAgreesWhenCut, GroupAgreesWhenCut};
+ghost use Rattle.tt_groups_read.specs.declared.fault.GroupTextFault.TheVariants.{Text};
+
+use crate::claim::GroupClaim;
+use crate::fault::GroupTextFault;
+use crate::groups::read_group;
+use crate::header::{Opening, read_opening};
+use std::alloc::Global;
+use std::marker::Model;
+use tt_instance::Instance;
+use tt_proof_read::{Sizes, TextFault};
+use tt_text::{Feed, Source};
+
+/// Reads claims about groups from one source, and keeps none of them.
+#[derive(Drop)]
+pub struct GroupReader {
+    alloc: Global,
+    feed: Feed,
+    sizes: Sizes,
+    bound: u64,
+    over: bool,
+    fault: Option<TextFault>,
+}
+
+impl Model for GroupReader {
+    ghost use Rattle.std.specs.Prelude.{◌≡◌, None};
+    ghost use Rattle.tt_groups_read.specs.Readers.{Reader};
+
+    ghost Value = { Reader };
+
+    ghost view = { λ a. record { fed = a.feed; sizes = a.sizes; bound = a.bound; over = a.over; fault = a.fault } };
+
+    ghost invariant = { λ a. a.fault ≡ None → a.feed.fault ≡ None };
+}
+
+impl GroupReader {
+    /// Reads the header of a file of groups of an instance.
+    pub fn new<R: Source>(
+        alloc: Global,
+        instance: &Instance<'_>,
+        source: &mut R,
+    ) -> Result<GroupReader, GroupTextFault>
+        ensures known { StaysKnown (R.remaining source.old) (R.remaining source.new) }
+        ensures failed { result ≡ Err (Text read_failed) → R.has_failed source.new ≡ true }
+        ensures unfailed { HeaderIsUnfailed result → R.has_failed source.new ≡ R.has_failed source.old }
+        ensures read { is_some (R.remaining source.old) ≡ true →
+            HeaderSays (stream_at fresh (R.remaining source.old)) result (R.remaining source.new) }
+        // A failed read is reported where the bytes before it give a part of the header and no fault.
+        ensures cut_short { HeaderAgreesWhenCut (R.remaining source.old) result (R.remaining source.new) }
+        ensures start { IfOk result (λ r. (r.over ≡ false) × (r.fault ≡ None)) }
+        ensures sizes { IfOk result (λ r. AreSizes instance.now r.sizes) }
+    {
+        let Ok(mut feed) = Feed::new(alloc) else {
+            return Err(GroupTextFault::Text(TextFault::OutOfMemory));
+        };
+        match read_opening(&mut feed, source) {
+            Ok(Opening::Groups(bound)) => Ok(GroupReader {
+                alloc,
+                feed,
+                sizes: Sizes::of(instance),
+                bound,
+                over: false,
+                fault: None,
+            }),
+            Ok(Opening::Other(at)) => Err(GroupTextFault::ExpectedGroups(at)),
+            Err(fault) => Err(GroupTextFault::Text(fault)),
+        }
+    }
+
+    /// The bound that the header names, in cost points.
+    pub fn bound(&self) -> u64
+        ensures { result ≡ self.now.bound }
+    {
+        self.bound
+    }
+
+    /// The next group, `None` once the file has ended. After a fault the same fault again.
+    pub fn next_group<R: Source>(&mut self, source: &mut R) -> Result<Option<GroupClaim>, TextFault>
+        ensures known { StaysKnown (R.remaining source.old) (R.remaining source.new) }
+        ensures failed { self.old.fault ≡ None → result ≡ Err read_failed → R.has_failed source.new ≡ true }
+        ensures unfailed { self.old.fault ≡ None → TellsNoFailedRead result → R.has_failed source.new ≡ R.has_failed source.old }
+        ensures again { IfSome self.old.fault (λ f. (result ≡ Err f) × (self.new ≡ self.old)) }
+        ensures still { IfSome self.old.fault (λ _. source.new ≡ source.old) }
+        ensures goes { self.old.fault ≡ None → Goes self.old result self.new }
+        ensures forward { IfOk result (λ o. IfSome o (λ _. room_of self.new.fed < room_of self.old.fed)) }
+        ensures says { self.old.fault ≡ None → is_some (R.remaining source.old) ≡ true →
+            Says self.old (stream_at self.old.fed (R.remaining source.old)) result (stream_at self.new.fed (R.remaining source.new)) }
+        // A failed read is reported where the bytes before it give a part of the group and no fault.
+        ensures cut_short { self.old.fault ≡ None → GroupAgreesWhenCut self.old (R.remaining source.old) result self.new.fed (R.remaining source.new) }
+        // Its curricula and courses are the instance's, none of them twice.
+        ensures claim { IfOk result (λ o. IfSome o (IsClaimAt self.old.sizes)) }
+    {
+        if let Some(fault) = self.fault {
+            return Err(fault);
+        }
+        if self.over {
+            return Ok(None);
+        }
+        match read_group(self.alloc, &mut self.feed, source, self.sizes) {
+            Ok(Some(claim)) => Ok(Some(claim)),
+            Ok(None) => {
+                self.over = true;
+                Ok(None)
+            }
+            Err(fault) => {
+                self.fault = Some(fault);
+                Err(fault)
+            }
+        }
+    }
+}

@@ -1,0 +1,55 @@
+-- The fold over the days of a group.
+use Rattle.std.proofs.Common.{◌≡◌, ℕ, ◌+◌, ◌<◌, ◌≤◌, List, ◌++◌, length, take, take_all, get_or, ap, ◌∙◌, sym, subst, arith, Vec}
+use Rattle.std.specs.Global.{Global}
+use Rattle.std.specs.Prelude.{All, slice_index}
+use Rattle.std.proofs.lemmas.List.{take-append-le}
+use Rattle.tt_instance.specs.Problem.{Problem}
+use Rattle.tt_groups.specs.Group.{Group, IsGroupBound}
+use Rattle.tt_groups_week.specs.WeekLists.{IsWeekList, IsHighList, Suits, AreMovesOn}
+use Rattle.tt_groups_week.specs.declared.moves.Move.{Move}
+use Rattle.tt_groups_week.proofs.Relaxing.{Relaxed}
+use Rattle.tt_groups.specs.Places.{places, group_sizes, weights_from}
+use Rattle.tt_groups.specs.Plans.{base_cost}
+use Rattle.tt_groups_week.proofs.Listing.{list_start, list_next, list_end}
+
+-- what was written over the whole list is what it has
+pub take_written : (xs rest : List ℕ) (n : ℕ) → n ≡ length xs → take n (xs ++ rest) ≡ xs
+take_written xs rest n e =
+    let short : n ≤ length xs = omega arith in
+    take-append-le n xs rest short ∙ take_all n xs (omega arith)
+
+module _ (p : Problem) (g : Group) (cs sizes weights : List ℕ) (courses b : ℕ) (lists : List (Vec Move Global)) (of_day : List ℕ) (s : Suits p g cs sizes weights courses b lists of_day) where
+  -- as many places as the sizes give
+  long_enough : (table : List ℕ) → places sizes ≤ length table → places (group_sizes p g cs) ≤ length table
+  long_enough table h = subst (λ n. places n ≤ length table) s.sizes_are h
+
+  weights_is : weights ≡ weights_from 1 (group_sizes p g cs)
+  weights_is = s.weights_are ∙ ap (weights_from 1) s.sizes_are
+
+  pub suits_start : (table : List ℕ) → slice_index table 0 ≡ 0 → IsWeekList p g cs b 0 table
+  suits_start table h = list_start p g cs s.group b table h
+
+  -- the moves of a day
+  pub moves_on : (d : ℕ) (v : Vec Move Global) → d < length of_day → v ≡ get_or lists (slice_index of_day d) v → AreMovesOn p g cs (group_sizes p g cs) (weights_from 1 (group_sizes p g cs)) (length cs) b d v.items
+  moves_on d v h is =
+      let a = subst (λ (x : Vec Move Global). AreMovesOn p g cs sizes weights courses b d x.items) (sym is) (s.each_day d v h) in
+      let e = subst (λ (n : List ℕ). AreMovesOn p g cs n weights courses b d v.items) s.sizes_are a in
+      let c = subst (λ (n : List ℕ). AreMovesOn p g cs (group_sizes p g cs) n courses b d v.items) weights_is e in
+      subst (λ (n : ℕ). AreMovesOn p g cs (group_sizes p g cs) (weights_from 1 (group_sizes p g cs)) n b d v.items) s.courses_are c
+
+  pub suits_next : (d : ℕ) (v : Vec Move Global) (table next : List ℕ) → d < length of_day → v ≡ get_or lists (slice_index of_day d) v → places sizes ≤ length table → IsWeekList p g cs b d table
+      → ((k : ℕ) → k < length table → slice_index table k < b → All (Relaxed sizes weights courses b k (slice_index table k) next) v.items) → IsWeekList p g cs b (d + 1) next
+  suits_next d v table next h is long before relaxed =
+      let here = moves_on d v h is in
+      list_next p g cs s.group b d here.0 v.items table next (omega (arith, h, s.all_days)) (long_enough table long) here.1 here.2 before
+      (λ k l less.
+      let c = subst (λ (n : List ℕ). All (Relaxed n weights courses b k (slice_index table k) next) v.items) s.sizes_are (relaxed k l less) in
+      let e = subst (λ (n : List ℕ). All (Relaxed (group_sizes p g cs) n courses b k (slice_index table k) next) v.items) weights_is c in
+      subst (λ (n : ℕ). All (Relaxed (group_sizes p g cs) (weights_from 1 (group_sizes p g cs)) n b k (slice_index table k) next) v.items) s.courses_are e)
+
+  pub suits_end : (d : ℕ) (table : List ℕ) → d ≡ length of_day → places sizes ≤ length table → IsWeekList p g cs b d table → IsHighList sizes weights courses b table → IsGroupBound p g (base_cost p g + b)
+  suits_end d table e long last high =
+      let c = subst (λ (n : List ℕ). IsHighList n weights courses b table) s.sizes_are high in
+      let h = subst (λ (n : List ℕ). IsHighList (group_sizes p g cs) n courses b table) weights_is c in
+      let k = subst (λ (n : ℕ). IsHighList (group_sizes p g cs) (weights_from 1 (group_sizes p g cs)) n b table) s.courses_are h in
+      list_end p g cs s.group b table (long_enough table long) (subst (λ (n : ℕ). IsWeekList p g cs b n table) (e ∙ s.all_days) last) k

@@ -1,0 +1,11 @@
+use Rattle.std.proofs.Common.{take}
+use Rattle.std.specs.Prelude.{All}
+use Rattle.tt_groups_week.specs.Steps.{Falls}
+use Rattle.tt_groups_week.proofs.Relaxing.{Relaxed}
+use Rattle.tt_groups_week.proofs.fold.relax.Given as goal
+
+abbrev pub invariant-loop-tried : goal.invariant-loop-tried
+invariant-loop-tried l = record {
+  falls : Falls l.initial.table l.table;
+  relaxed : All (Relaxed l.digits.sizes.items l.digits.weights.items l.digits.courses l.bound l.state.place l.paid l.table) (take l.tried l.moves);
+}

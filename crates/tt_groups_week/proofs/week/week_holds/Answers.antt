@@ -1,0 +1,62 @@
+use Rattle.std.proofs.Common.{◌≡◌, ℕ, ◌<◌, List, length, drop, set, get_or-set_same, sym, ap, subst, ◌∙◌, arith, Vec}
+use Rattle.std.specs.Global.{Global}
+use Rattle.std.specs.Prelude.{All, slice_index}
+use Rattle.std.proofs.Math.ListN.{length-set}
+use Rattle.std.proofs.lemmas.List.{length-replicate}
+use Rattle.tt_groups_week.specs.Fold.{AreReady}
+use Rattle.tt_groups_week.specs.WeekLists.{IsHighList}
+use Rattle.tt_groups_week.specs.declared.moves.Move.{Move}
+use Rattle.tt_groups_week.proofs.Relaxing.{Relaxed}
+use Rattle.tt_groups_week.proofs.Suiting.{take_written, suits_start, suits_next, suits_end}
+use Rattle.tt_groups_week.proofs.Weights.{places_positive}
+use Rattle.tt_groups_week.proofs.week.week_holds.Goals as goal
+
+pub index_mut-requires : goal.index_mut-requires
+index_mut-requires c = omega (arith, c.in_ok-table.ensures.len, places_positive c.args.digits.now.sizes.items c.args.digits.now.are.some, c.args.digits.now.are.counted)
+
+pub loop-list-init : goal.loop-list-init
+loop-list-init c =
+    let d = c.args.digits.now in
+    let items = c.in_ok-table.table.items in
+    let long : length items ≡ d.count = ap length (c.in_ok-table.ensures.items_if_clones_equal (λ y e. e)) ∙ length-replicate d.count 255 in
+    let some : 0 < length items = omega (arith, places_positive d.sizes.items d.are.some, d.are.counted) in
+    let first : slice_index (set items 0 0) 0 ≡ 0 = rw get_or-set_same in
+    record {
+      whole = rw length-set long;
+      low = λ p g cs s. suits_start p g cs d.sizes.items d.weights.items d.courses c.args.bound c.args.lists.now c.args.of_day.now s (set items 0 0) first;
+    }
+
+pub extend-requires-clause-ready : goal.extend-requires-clause-ready
+extend-requires-clause-ready c =
+    let d = c.args.digits.now in
+    let i = slice_index c.args.of_day.now c.loop-list.list-index in
+    let inside = c.requires.inside c.loop-list.list-index 0 c.loop-list-test.true in
+    let here = c.requires.ready i c.index-lists-list.result inside in
+    let same = subst (λ (v : Vec Move Global). AreReady d.sizes.items d.weights.items d.courses v.items) (sym c.index-lists-list.is) here in
+    subst (λ (l : List Move). AreReady d.sizes.items d.weights.items d.courses l) (sym c.deref.ensures.value) same
+
+pub loop-list-preserved : goal.loop-list-preserved
+loop-list-preserved c =
+    let a = c.args in
+    let d = a.digits.now in
+    let table = c.loop-list.table.items in
+    let items = c.in_ok-next.next.items in
+    let new = c.extend.new.next in
+    let long : length items ≡ d.count = ap length (c.in_ok-next.ensures.items_if_clones_equal (λ y e. e)) ∙ length-replicate d.count 255 in
+    let same : length new ≡ d.count = c.extend.auto.next ∙ ap length c.deref_mut.ensures.value ∙ long in
+    let written = take_written new (drop (length new) items) c.in_ok-next.next.len (c.in_ok-next.ensures.len ∙ sym same) in
+    let whole = c.loop-list.invariant.whole in
+    let extended = subst (λ (l : List ℕ). (k : ℕ) → k < length l → slice_index l k < a.bound → All (Relaxed d.sizes.items d.weights.items d.courses a.bound k (slice_index l k) new) c.deref.result.now) c.deref-in-loop-list.ensures.value c.in_ok-extend.ensures.extended in
+    let relaxed = subst (λ (l : List Move). (k : ℕ) → k < length table → slice_index table k < a.bound → All (Relaxed d.sizes.items d.weights.items d.courses a.bound k (slice_index table k) new) l) c.deref.ensures.value extended in
+    record {
+      whole = ap length written ∙ same;
+      low = λ p g cs s. rw written (suits_next p g cs d.sizes.items d.weights.items d.courses a.bound a.lists.now a.of_day.now s c.loop-list.list-index c.index-lists-list.result table new c.loop-list-test.true c.index-lists-list.is (omega (arith, whole, d.are.counted)) (c.loop-list.invariant.low p g cs s) relaxed);
+    }
+
+pub returns : goal.returns
+returns c =
+    let d = c.args.digits.now in
+    λ holds p g cs s.
+    suits_end p g cs d.sizes.items d.weights.items d.courses c.args.bound c.args.lists.now c.args.of_day.now s c.loop-list.list-index c.loop-list.table.items (omega (arith, c.loop-list-test.false, c.loop-list.auto.list-index-end))
+    (omega (arith, c.loop-list.invariant.whole, d.are.counted)) (c.loop-list.invariant.low p g cs s)
+    (subst (λ (l : List ℕ). IsHighList d.sizes.items d.weights.items d.courses c.args.bound l) c.deref-2.ensures.value (c.is_high.ensures holds))

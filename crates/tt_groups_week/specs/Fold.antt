@@ -1,0 +1,43 @@
+-- What the fold computes once: of each entry of a day, and of each place.
+use Rattle.std.specs.Prelude.{◌≡◌, ℕ, ◌+◌, ◌-◌, ◌*◌, ◌<◌, ◌≤◌, nat_le, Bool, List, length, sum_by, slice_index, All, Contains}
+use Rattle.std.specs.List.Sorted.{IsNonDecreasingBy}
+use Rattle.tt_lists.specs.Words.{range_below}
+use Rattle.tt_groups.specs.declared.entry.DayEntry.{DayEntry}
+use Rattle.tt_groups_week.specs.Digits.{digit}
+use Rattle.tt_groups_week.specs.declared.moves.Move.{Move}
+use Rattle.tt_groups_week.specs.declared.state.State.{State}
+
+-- The index of a day is what its lectures add to a place.
+abbrev pub index_of : List ℕ → ℕ → List ℕ → ℕ
+index_of weights courses amounts = sum_by (λ j. slice_index amounts j * slice_index weights j) (range_below courses)
+
+-- An amount pays at least 5 for each further lecture beyond the whole slack.
+abbrev pub floor_at : List ℕ → List ℕ → ℕ → ℕ
+floor_at sizes amounts j = 5 * (slice_index amounts j - (slice_index sizes j - 1))
+
+-- The floor of a day is what its amounts pay at least, at any place.
+abbrev pub floor_of : List ℕ → List ℕ → ℕ
+floor_of sizes amounts = sum_by (floor_at sizes amounts) (range_below (length sizes))
+
+-- Each move has its index and its floor, and none costs at least less than an earlier one.
+pub record AreReady (sizes weights : List ℕ) (courses : ℕ) (moves : List Move) : Type 0 where
+  pub indexed : All (λ m. m.index ≡ index_of weights courses m.entry.amounts) moves
+  pub floored : All (λ m. m.floor ≡ floor_of sizes m.entry.amounts) moves
+  pub sorted : IsNonDecreasingBy (λ m. m.entry.cost + m.floor) moves
+
+-- The moves are ready, and each entry of the day has one.
+pub record AreMovesOf (sizes weights : List ℕ) (courses : ℕ) (days : List DayEntry) (moves : List Move) : Type 0 where
+  pub ready : AreReady sizes weights courses moves
+  pub all : (x : DayEntry) → Contains days x → (m : Move) × Contains moves m × (m.entry ≡ x)
+
+-- The amount at j is under what is left.
+abbrev pub is_under : List ℕ → List ℕ → ℕ → Bool
+is_under amounts left j = nat_le (slice_index amounts j) (slice_index left j)
+
+-- The state has the lectures that each course has left at its place, the digits of the place, and their sum by weights.
+pub record IsState (sizes weights : List ℕ) (courses : ℕ) (s : State) : Type 0 where
+  pub left : (j : ℕ) → j < courses → slice_index s.left j + digit sizes weights s.place j + 1 ≡ slice_index sizes j
+  pub free : (j : ℕ) → courses ≤ j → j < 32 → slice_index s.left j ≡ 255
+  pub read : (j : ℕ) → j < length sizes → slice_index s.digits j ≡ digit sizes weights s.place j
+  pub base : s.base ≡ sum_by (λ j. digit sizes weights s.place j * slice_index weights j) (range_below (length sizes))
+  pub small : s.base ≤ 1_048_576 * length sizes

@@ -1,0 +1,4 @@
+pub mod Digits
+pub mod Fold
+pub mod Steps
+pub mod WeekLists

@@ -1,0 +1,39 @@
+-- A step from a place of one table to a place of the next: the lectures of a day raise the digits of lectures, and its further lectures
+-- raise the others, no higher than to their slack.
+use Rattle.std.specs.Prelude.{◌≡◌, ℕ, ◌+◌, ◌-◌, ◌*◌, ◌<◌, ◌≤◌, min, nat_lt, nat_le, Bool, not, ◌&&◌, List, length, sum_by, slice_index, Option, Some, None, if◌then◌else◌}
+use Rattle.std.specs.List.{list_all}
+use Rattle.tt_lists.specs.Words.{range_below}
+use Rattle.tt_groups.specs.declared.entry.DayEntry.{DayEntry}
+use Rattle.tt_groups_week.specs.Digits.{digit}
+use Rattle.tt_groups_week.specs.declared.state.Step.{Step}
+
+module _ (sizes weights : List ℕ) (courses : ℕ) (amounts : List ℕ) (place : ℕ) where
+  -- The raised digit is the digit of the place and the amount more.
+  abbrev pub raised : ℕ → ℕ
+  raised j = digit sizes weights place j + slice_index amounts j
+
+  -- A digit of lectures has room where the raised digit is below its size; one of further lectures always has.
+  abbrev pub has_room : ℕ → Bool
+  has_room j = not (nat_lt j courses && nat_le (slice_index sizes j) (raised j))
+
+  -- What a digit counts in the place that is reached.
+  abbrev pub moved : ℕ → ℕ
+  moved j = min (raised j) (slice_index sizes j - 1) * slice_index weights j
+
+  -- A digit pays 5 for each further lecture beyond the slack.
+  abbrev pub paid_at : ℕ → ℕ
+  paid_at j = 5 * (raised j - (slice_index sizes j - 1))
+
+  -- The step reaches a place and pays for it, if there is room for all lectures.
+  abbrev pub step_of : Option Step
+  step_of =
+      if list_all has_room (range_below (length sizes)) then Some (record { place = sum_by moved (range_below (length sizes)); pay = sum_by paid_at (range_below (length sizes)) })
+      else None
+
+-- No entry of the new table is higher.
+abbrev pub Falls : List ℕ → List ℕ → Type 0
+Falls old new = (k : ℕ) → slice_index new k ≤ slice_index old k
+
+-- Where the day leads from the place to one that costs less than the bound, the table has no more there than what is paid.
+pub record IsRelaxed (sizes weights : List ℕ) (courses bound place paid : ℕ) (table : List ℕ) (day : DayEntry) : Type 0 where
+  pub low : (r : Step) → step_of sizes weights courses day.amounts place ≡ Some r → paid + day.cost + r.pay < bound → slice_index table r.place ≤ paid + day.cost + r.pay

@@ -1,0 +1,78 @@
+//! The digits of the places of a table.
+
+ghost use Rattle.std.specs.Prelude.{◌≡◌, ℕ, ◌<◌, ◌≤◌, ◌*◌, ◌^◌, length, slice_index, IfOk, IfSome, IsNone, ◌↔◌};
+ghost use Rattle.tt_groups.specs.Places.{places as place_count};
+ghost use Rattle.tt_groups_week.specs.Digits.{AreDigits, digit};
+
+use std::alloc::{AllocError, Global};
+
+/// The most places of a table.
+pub const MAX_PLACES: u32 = 1_048_576;
+
+/// How places are made up: digits of lectures for so many courses, then digits of further lectures.
+#[derive(Debug, Drop)]
+pub struct Digits {
+    pub sizes: Vec<u32>,
+    pub weights: Vec<u32>,
+    pub courses: usize,
+    pub count: u32,
+    ghost are: { AreDigits sizes.items weights.items courses count },
+}
+
+impl Digits {
+    /// Digits of these sizes; none where they have more than `MAX_PLACES` places.
+    pub fn new(alloc: Global, sizes: Vec<u32>, courses: usize) -> Result<Option<Digits>, AllocError>
+        requires few { length sizes.items ≤ 32 }
+        requires own { courses ≤ length sizes.items }
+        requires narrow { courses ≤ 16 }
+        requires some { (j : ℕ) → j < length sizes.items → 0 < slice_index sizes.items j }
+        requires small { (j : ℕ) → j < length sizes.items → slice_index sizes.items j ≤ 256 }
+        ensures made { IfOk result (λ found. IfSome found (λ d. (d.sizes.items ≡ sizes.items) × (d.courses ≡ courses))) }
+        ensures exact { IfOk result (λ found. IsNone found ↔ (MAX_PLACES < place_count sizes.items)) }
+    {
+        let mut weights = Vec::new(alloc);
+        let mut count = 1;
+        for size in &sizes {
+            weights.push(count)?;
+            count *= *size;
+            if MAX_PLACES < count {
+                return Ok(None);
+            }
+        }
+        Ok(Some(Digits {
+            sizes,
+            weights,
+            courses,
+            count,
+        }))
+    }
+
+    /// How many values a digit has.
+    pub fn size(&self, j: usize) -> u32
+        requires { j < length self.now.sizes.items }
+        ensures value { result ≡ slice_index self.now.sizes.items j }
+        ensures some { 0 < result }
+        ensures small { result ≤ 256 }
+    {
+        self.sizes[j]
+    }
+
+    /// What one of a digit counts in a place.
+    pub fn weight(&self, j: usize) -> u32
+        requires { j < length self.now.sizes.items }
+        ensures value { result ≡ slice_index self.now.weights.items j }
+        ensures some { 0 < result }
+        ensures within { slice_index self.now.sizes.items j * result ≤ MAX_PLACES }
+    {
+        self.weights[j]
+    }
+
+    /// A digit of a place.
+    pub fn digit(&self, place: u32, j: usize) -> u32
+        requires { j < length self.now.sizes.items }
+        ensures value { result ≡ digit self.now.sizes.items self.now.weights.items place j }
+        ensures below { result < slice_index self.now.sizes.items j }
+    {
+        place / self.weight(j) % self.size(j)
+    }
+}

@@ -1,0 +1,79 @@
+//! The fold of a day's moves into the table of the days before it.
+
+ghost use Rattle.std.specs.Prelude.{◌≡◌, ℕ, ◌<◌, ◌≤◌, length, slice_index, All, OnOk};
+ghost use Rattle.tt_groups_week.specs.Fold.{AreReady, IsState};
+ghost use Rattle.tt_groups_week.specs.Steps.{Falls, IsRelaxed};
+
+use crate::digits::Digits;
+use crate::fault::WeekFault;
+use crate::moves::Move;
+use crate::state::{State, advance, state_at};
+
+/// Writes the value where the table has a higher one.
+fn lower(table: &mut [u8], place: usize, value: u8)
+    ensures there { slice_index table.new place ≤ value }
+    ensures falls { Falls table.old table.new }
+{
+    if place < table.len() && value < table[place] {
+        table[place] = value;
+    }
+}
+
+/// Lowers the entries to which the moves lead from a state, where so much is paid. Answers how many moves were tried.
+pub fn relax(
+    digits: &Digits,
+    moves: &[Move],
+    bound: u8,
+    state: &State,
+    paid: u8,
+    table: &mut [u8],
+) -> usize
+    requires state { IsState digits.now.sizes.items digits.now.weights.items digits.now.courses state.now }
+    requires ready { AreReady digits.now.sizes.items digits.now.weights.items digits.now.courses moves.now }
+    ensures falls { Falls table.old table.new }
+    ensures relaxed { All (λ m. IsRelaxed digits.now.sizes.items digits.now.weights.items digits.now.courses
+        bound state.now.place paid table.new m.entry) moves.now }
+{
+    for (tried, by) in moves.iter().enumerate() {
+        let cost = u32::from(paid) + u32::from(by.entry.cost);
+        if u32::from(bound) <= cost.saturating_add(by.floor) {
+            return tried;
+        }
+        if let Some(reached) = advance(digits, state, by) {
+            let total = cost + reached.pay;
+            if total < u32::from(bound) {
+                lower(table, reached.place, total as u8);
+            }
+        }
+    }
+    moves.len()
+}
+
+/// Lowers the entries of the next table to which the moves lead from a place of this one where less than the bound is paid. The relaxations
+/// that are left go down with each that is tried.
+pub fn extend(
+    digits: &Digits,
+    moves: &[Move],
+    bound: u8,
+    table: &[u8],
+    next: &mut [u8],
+    relaxations: &mut u64,
+) -> Result<(), WeekFault>
+    requires ready { AreReady digits.now.sizes.items digits.now.weights.items digits.now.courses moves.now }
+    requires few { length table.now ≤ 1048576 }
+    ensures falls { Falls next.old next.new }
+    ensures extended { OnOk result ((place : ℕ) → place < length table.now → slice_index table.now place < bound →
+        All (λ m. IsRelaxed digits.now.sizes.items digits.now.weights.items digits.now.courses
+        bound place (slice_index table.now place) next.new m.entry) moves.now) }
+{
+    for (place, paid) in table.iter().enumerate() {
+        if *paid < bound {
+            let state = state_at(digits, place as u32);
+            let tried = relax(digits, moves, bound, &state, *paid, next);
+            *relaxations = relaxations
+                .checked_sub(tried as u64)
+                .ok_or(WeekFault::TooMuchWork)?;
+        }
+    }
+    Ok(())
+}

@@ -1,0 +1,14 @@
+//! Bounds of groups, part 2: the tables of all days, folded into one of the whole week.
+#![tactic(auto)]
+
+mod digits;
+mod fault;
+mod fold;
+mod moves;
+mod state;
+mod week;
+
+pub use digits::{Digits, MAX_PLACES};
+pub use fault::WeekFault;
+pub use moves::{Move, moves_of};
+pub use week::week_holds;

@@ -1,0 +1,59 @@
+//! The entries of a day, ready for the fold.
+
+ghost use Rattle.std.specs.Prelude.{◌≡◌, ◌≤◌, ◌*◌, length, IfOk};
+ghost use Rattle.tt_groups_week.specs.Digits.{AreDigits};
+ghost use Rattle.tt_groups_week.specs.Fold.{index_of, floor_of, AreMovesOf};
+
+use crate::digits::Digits;
+use std::alloc::{AllocError, Global};
+use tt_groups::DayEntry;
+
+/// What a further lecture beyond the slack costs, in cost points.
+pub const LECTURE_PRICE: u32 = 5;
+
+/// An entry of a day, what its lectures add to a place, and what its further lectures cost at least.
+#[derive(Clone, Copy, Debug, PartialEq, Eq)]
+pub struct Move {
+    pub entry: DayEntry,
+    pub index: u32,
+    pub floor: u32,
+}
+
+/// What the lectures of a day add to a place.
+fn index_of(digits: &Digits, entry: &DayEntry) -> u32
+    ensures { result ≡ index_of digits.now.weights.items digits.now.courses entry.now.amounts }
+{
+    let mut index = 0;
+    for j in 0..digits.courses {
+        index += u32::from(entry.amounts[j]) * digits.weight(j);
+    }
+    index
+}
+
+/// What the further lectures of a day cost at least, at any place.
+fn floor_of(digits: &Digits, entry: &DayEntry) -> u32
+    ensures value { result ≡ floor_of digits.now.sizes.items entry.now.amounts }
+    ensures small { result ≤ 40800 }
+{
+    let mut floor = 0;
+    for j in 0..digits.sizes.len() {
+        floor += LECTURE_PRICE * u32::from(entry.amounts[j]).saturating_sub(digits.size(j) - 1);
+    }
+    floor
+}
+
+/// The moves of a day, the cheapest first.
+pub fn moves_of(alloc: Global, digits: &Digits, days: &[DayEntry]) -> Result<Vec<Move>, AllocError>
+    ensures { IfOk result (λ v. AreMovesOf digits.now.sizes.items digits.now.weights.items digits.now.courses days.now v.items) }
+{
+    let mut moves = Vec::new(alloc);
+    for entry in days {
+        moves.push(Move {
+            entry: *entry,
+            index: index_of(digits, entry),
+            floor: floor_of(digits, entry),
+        })?;
+    }
+    moves.sort_unstable_by_key(|step| u64::from(step.entry.cost) + u64::from(step.floor));
+    Ok(moves)
+}

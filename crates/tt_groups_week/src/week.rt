@@ -1,0 +1,67 @@
+//! The table of the whole week.
+
+ghost use Rattle.std.specs.Prelude.{◌≡◌, ℕ, ◌<◌, ◌≤◌, ◌+◌, List, length, slice_index, All, IfOk, IsTrue};
+ghost use Rattle.tt_groups.specs.Group as spec;
+ghost use Rattle.tt_groups.specs.Group.{IsGroupBound};
+ghost use Rattle.tt_groups.specs.Plans.{base_cost};
+ghost use Rattle.tt_groups_week.specs.Fold.{AreReady};
+ghost use Rattle.tt_groups_week.specs.WeekLists.{is_full, IsHighList, Suits};
+ghost use Rattle.tt_instance.specs.Problem.{Problem};
+
+use crate::digits::Digits;
+use crate::fault::WeekFault;
+use crate::fold::extend;
+use crate::moves::Move;
+use std::alloc::Global;
+
+/// Whether each course has all its lectures at a place.
+fn is_full(digits: &Digits, place: u32) -> bool
+    ensures { result ≡ is_full digits.now.sizes.items digits.now.weights.items digits.now.courses place }
+{
+    for j in 0..digits.courses {
+        if digits.digit(place, j) != digits.size(j) - 1 {
+            return false;
+        }
+    }
+    true
+}
+
+/// Whether the bound is paid wherever each course has all its lectures.
+fn is_high(digits: &Digits, bound: u8, table: &[u8]) -> bool
+    requires { length table.now ≤ 1048576 }
+    ensures { IsTrue result → IsHighList digits.now.sizes.items digits.now.weights.items digits.now.courses bound table.now }
+{
+    for (place, paid) in table.iter().enumerate() {
+        if *paid < bound && is_full(digits, place as u32) {
+            return false;
+        }
+    }
+    true
+}
+
+/// Whether each relaxed timetable of a group costs the bound beyond its base, by the moves of its days. The relaxations that are left go
+/// down with each that is done.
+pub fn week_holds(
+    alloc: Global,
+    digits: &Digits,
+    lists: &[Vec<Move>],
+    of_day: &[usize],
+    bound: u8,
+    relaxations: &mut u64,
+) -> Result<bool, WeekFault>
+    requires ready { All (λ v. AreReady digits.now.sizes.items digits.now.weights.items digits.now.courses v.items) lists.now }
+    requires inside { All (λ i. i < length lists.now) of_day.now }
+    ensures { IfOk result (λ holds. IsTrue holds → (p : Problem) (g : spec.Group) (cs : List ℕ) →
+        Suits p g cs digits.now.sizes.items digits.now.weights.items digits.now.courses bound lists.now of_day.now →
+        IsGroupBound p g (base_cost p g + bound)) }
+{
+    let places = digits.count as usize;
+    let mut table = vec![in alloc; u8::MAX; places]?;
+    table[0] = 0;
+    for list in of_day {
+        let mut next = vec![in alloc; u8::MAX; places]?;
+        extend(digits, &lists[*list], bound, &table, &mut next, relaxations)?;
+        table = next;
+    }
+    Ok(is_high(digits, bound, &table))
+}
