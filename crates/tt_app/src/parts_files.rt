@@ -9,7 +9,6 @@ use std::alloc::{AllocError, Global};
 use std::io::Write;
 use std::rt::{Clock, Files};
 use tt_app_files::{Batch, Output, Ready};
-use tt_app_watch::Watching;
 use tt_arguments::{PartSearch, Showing};
 
 /// How many of the folder's names are compared with the instance before the search; the others are compared after it.
@@ -69,35 +68,6 @@ fn write_proofs<R: Files + Clock + AllocGlobal>(
     Ok(batch.put(rt)?)
 }
 
-/// Searches for parts, shown on standard error.
-fn parts_shown<R: Files + Clock + AllocGlobal, E: Write>(
-    rt: &R,
-    err: &mut E,
-    instance: &[u8],
-    search: PartSearch,
-    showing: Showing,
-) -> Result<PartsAnswer, AppFault> {
-    let mut watching = Watching {
-        ticker: ticker_of(rt, err, "parts", showing),
-        keeper: None,
-        saves_feasible_only: true,
-    };
-    let answer = parts_watched(
-        rt.alloc(),
-        instance,
-        search.seed,
-        search.nodes,
-        &mut watching,
-    );
-    watching.clear();
-    let Watching {
-        ticker: _,
-        keeper: _,
-        saves_feasible_only: _,
-    } = watching;
-    answer
-}
-
 /// Returns the answer, once all proofs are in their files.
 pub fn answer_parts<R: Files + Clock + AllocGlobal, E: Write>(
     rt: &R,
@@ -110,7 +80,10 @@ pub fn answer_parts<R: Files + Clock + AllocGlobal, E: Write>(
     try_names(rt, folder, instance)?;
     let bytes = read_file(rt, instance, Input::Instance)?;
     let _ = output_of(rt, folder, 1, instance)?.prepare(rt)?;
-    let PartsAnswer { out, proofs } = parts_shown(rt, err, &bytes, search, showing)?;
+    let mut ticker = ticker_of(rt, err, "parts", showing);
+    let answer = parts_watched(rt.alloc(), &bytes, search.seed, search.nodes, &mut ticker);
+    ticker.clear();
+    let PartsAnswer { out, proofs } = answer?;
     let mut outputs = prepare_outputs(rt, folder, proofs.len(), instance)?;
     write_proofs(rt, &mut outputs, &proofs)?;
     Ok(Answer {

@@ -10,7 +10,7 @@ use std::alloc::Global;
 use std::io::Write;
 use std::rt::{Clock, Files};
 use tt_app_files::{Batch, Output, Ready};
-use tt_app_watch::{Keeper, Watching};
+use tt_app_watch::{Keeper, Ticker};
 use tt_arguments::{MAX_NODES, Search, Showing, TreeSearch};
 use tt_instance::{Instance, read_instance};
 
@@ -37,39 +37,23 @@ fn saved_instance(alloc: Global, bytes: &[u8], keeps: bool) -> Option<Instance<'
 /// Improves a timetable, shown on standard error, and saved on the way if that is asked for.
 fn improve_shown<R: Files + Clock + AllocGlobal, E: Write>(
     rt: &R,
-    err: &mut E,
-    files: (&[u8], &[u8]),
+    ticker: &mut Ticker<'_, R, E>,
+    instance: &[u8],
+    solution: &[u8],
     out: &mut Ready<R::File>,
     search: Search,
-    showing: Showing,
 ) -> Result<Answer, AppFault> {
-    let (instance, solution) = files;
     let saved = saved_instance(rt.alloc(), instance, search.keeps);
-    let keeper = match &saved {
-        Some(saved) => Keeper::new(rt, out, saved, None),
-        None => None,
-    };
-    let mut watching = Watching {
-        ticker: ticker_of(rt, err, "improve", showing),
-        keeper,
-        saves_feasible_only: false,
-    };
-    let answer = improve_in_runs(
+    let mut keeper = Keeper::new(rt, ticker, out, saved, false);
+    improve_in_runs(
         rt.alloc(),
         instance,
         solution,
         search.seed,
         search.steps,
         search.runs,
-        &mut watching,
-    );
-    watching.clear();
-    let Watching {
-        ticker: _,
-        keeper: _,
-        saves_feasible_only: _,
-    } = watching;
-    answer
+        &mut keeper,
+    )
 }
 
 /// Returns the answer, once the timetable is in its file.
@@ -85,8 +69,10 @@ pub fn answer_improve<R: Files + Clock + AllocGlobal, E: Write>(
     let instance = read_file(rt, instance, Input::Instance)?;
     let solution = read_file(rt, solution, Input::Solution)?;
     let mut out = out.prepare(rt)?;
-    let files = (instance.as_slice(), solution.as_slice());
-    let answer = improve_shown(rt, err, files, &mut out, search, showing)?;
+    let mut ticker = ticker_of(rt, err, "improve", showing);
+    let answer = improve_shown(rt, &mut ticker, &instance, &solution, &mut out, search);
+    ticker.clear();
+    let answer = answer?;
     write_given(rt, &mut out, &answer.table)?;
     Ok(answer)
 }
@@ -94,31 +80,15 @@ pub fn answer_improve<R: Files + Clock + AllocGlobal, E: Write>(
 /// Searches for a best timetable, shown on standard error, and saved on the way if that is asked for.
 fn solve_shown<R: Files + Clock + AllocGlobal, E: Write>(
     rt: &R,
-    err: &mut E,
+    ticker: &mut Ticker<'_, R, E>,
     instance: &[u8],
     out: &mut Ready<R::File>,
     tree: TreeSearch,
-    showing: Showing,
 ) -> Result<Answer, AppFault> {
     let saved = saved_instance(rt.alloc(), instance, tree.keeps);
-    let keeper = match &saved {
-        Some(saved) => Keeper::new(rt, out, saved, None),
-        None => None,
-    };
-    let mut watching = Watching {
-        ticker: ticker_of(rt, err, "solve", showing),
-        keeper,
-        saves_feasible_only: true,
-    };
+    let mut keeper = Keeper::new(rt, ticker, out, saved, true);
     let nodes = tree.nodes.clamp(1, MAX_NODES);
-    let answer = solve_watched(rt.alloc(), instance, tree.seed, nodes, &mut watching);
-    watching.clear();
-    let Watching {
-        ticker: _,
-        keeper: _,
-        saves_feasible_only: _,
-    } = watching;
-    answer
+    solve_watched(rt.alloc(), instance, tree.seed, nodes, &mut keeper)
 }
 
 /// Writes the best timetable, if there is one, and the proof.
@@ -128,13 +98,15 @@ fn write_both<R: Files + Clock + AllocGlobal>(
     proof: &mut Ready<R::File>,
     answer: &Answer,
 ) -> Result<(), AppFault> {
-    let mut batch = Batch::new(rt.alloc());
-    if let Some(bytes) = &answer.table {
-        batch = batch.write(rt, out, bytes)?;
-    }
-    if let Some(bytes) = &answer.proof {
-        batch = batch.write(rt, proof, bytes)?;
-    }
+    let batch = Batch::new(rt.alloc());
+    let batch = match &answer.table {
+        Some(bytes) => batch.write(rt, out, bytes)?,
+        None => batch,
+    };
+    let batch = match &answer.proof {
+        Some(bytes) => batch.write(rt, proof, bytes)?,
+        None => batch,
+    };
     Ok(batch.put(rt)?)
 }
 
@@ -155,7 +127,10 @@ pub fn answer_solve<R: Files + Clock + AllocGlobal, E: Write>(
     let instance = read_file(rt, instance, Input::Instance)?;
     let mut out = out.prepare(rt)?;
     let mut proof = proof.prepare(rt)?;
-    let answer = solve_shown(rt, err, &instance, &mut out, tree, showing)?;
+    let mut ticker = ticker_of(rt, err, "solve", showing);
+    let answer = solve_shown(rt, &mut ticker, &instance, &mut out, tree);
+    ticker.clear();
+    let answer = answer?;
     write_both(rt, &mut out, &mut proof, &answer)?;
     Ok(answer)
 }

@@ -8,25 +8,22 @@ use std::rt::{Clock, Files};
 use tt_app_watch::{Counted, Ticker, is_terminal};
 use tt_arguments::Showing;
 
-/// Where the bytes of proofs are shown, if they are.
-pub type Shown<'s, R, E> = RefCell<Option<Ticker<'s, R, E>>>;
+/// The line that shows how much of proofs has been read.
+pub type Shown<'s, R, E> = RefCell<Ticker<'s, R, E>>;
 
-/// Returns the line that shows how far a command is, if it is to be shown.
+/// Returns the line that shows how far a command is, on if it is to be shown.
 pub fn ticker_of<'s, R: Files + Clock + AllocGlobal, E: Write>(
     rt: &'s R,
     err: &'s mut E,
     command: &'s str,
     showing: Showing,
-) -> Option<Ticker<'s, R, E>> {
-    let is_shown = match showing {
+) -> Ticker<'s, R, E> {
+    let is_on = match showing {
         Showing::Always => true,
         Showing::IfTerminal => is_terminal(rt),
         Showing::Never => false,
     };
-    if !is_shown {
-        return None;
-    }
-    Ticker::new(rt, err, command)
+    Ticker::new(rt, err, command, is_on)
 }
 
 /// Opens a proof whose reading is shown; `None` if it can't be opened.
@@ -46,9 +43,7 @@ pub fn open_counted<'c, 't, R: Files + Clock, E: Write>(
 
 /// Clears the line.
 pub fn clear<R: Clock, E: Write>(shown: &Shown<'_, R, E>) {
-    if let Ok(mut ticker) = shown.try_borrow_mut()
-        && let Some(ticker) = &mut *ticker
-    {
+    if let Ok(mut ticker) = shown.try_borrow_mut() {
         ticker.clear();
     }
 }

@@ -10,25 +10,25 @@ use std::rt::{Clock, Files};
 
 /// A new file, and a second name of the older file at its place.
 #[derive(Drop)]
-struct Step<'p> {
-    draft: Draft<'p>,
+struct Step {
+    draft: Draft,
     older: Option<String>,
 }
 
 /// New files, each whole, that aren't in their places yet.
-pub struct Batch<'p> {
-    drafts: Vec<Draft<'p>>,
+pub struct Batch {
+    drafts: Vec<Draft>,
 }
 
 /// Removes new files.
-fn remove_drafts<R: Files>(rt: &R, drafts: &[Draft<'_>]) {
+fn remove_drafts<R: Files>(rt: &R, drafts: &[Draft]) {
     for draft in drafts {
         draft.remove(rt);
     }
 }
 
 /// Removes the second names of older files.
-fn forget_older<R: Files>(rt: &R, steps: &[Step<'_>]) {
+fn forget_older<R: Files>(rt: &R, steps: &[Step]) {
     for step in steps {
         if let Some(older) = &step.older {
             let _ = fs::remove_file(rt, older.as_str());
@@ -38,7 +38,7 @@ fn forget_older<R: Files>(rt: &R, steps: &[Step<'_>]) {
 
 /// Restores the older file at a place, or removes the new one where there was none. Where the older file had no second name, the
 /// new one stays.
-fn restore<R: Files>(rt: &R, step: &Step<'_>) {
+fn restore<R: Files>(rt: &R, step: &Step) {
     let place = step.draft.place();
     let _ = match &step.older {
         Some(older) => fs::rename(rt, older.as_str(), place.path()),
@@ -48,14 +48,14 @@ fn restore<R: Files>(rt: &R, step: &Step<'_>) {
 }
 
 /// Restores what was at each place.
-fn restore_all<R: Files>(rt: &R, steps: &[Step<'_>]) {
+fn restore_all<R: Files>(rt: &R, steps: &[Step]) {
     for step in steps {
         restore(rt, step);
     }
 }
 
 /// Has the system store the names in the folders of the places; a folder that several files in a row have, once.
-fn sync_folders<R: Files>(rt: &R, steps: &[Step<'_>]) -> Result<(), OutputFault> {
+fn sync_folders<R: Files>(rt: &R, steps: &[Step]) -> Result<(), OutputFault> {
     let mut last: Option<&str> = None;
     for step in steps {
         let folder = step.draft.place().folder();
@@ -68,11 +68,11 @@ fn sync_folders<R: Files>(rt: &R, steps: &[Step<'_>]) -> Result<(), OutputFault>
 }
 
 /// Renames a new file to its place.
-fn take_step<'p, R: Files + Clock + AllocGlobal>(
+fn take_step<R: Files + Clock + AllocGlobal>(
     rt: &R,
-    draft: Draft<'p>,
+    draft: Draft,
     is_alone: bool,
-) -> Result<Step<'p>, OutputFault> {
+) -> Result<Step, OutputFault> {
     let linked = if is_alone {
         Ok(None)
     } else {
@@ -98,8 +98,8 @@ fn take_step<'p, R: Files + Clock + AllocGlobal>(
     }
 }
 
-impl<'p> Batch<'p> {
-    pub fn new(alloc: Global) -> Batch<'p> {
+impl Batch {
+    pub fn new(alloc: Global) -> Batch {
         Batch {
             drafts: Vec::new(alloc),
         }
@@ -109,9 +109,9 @@ impl<'p> Batch<'p> {
     pub fn write<R: Files + Clock + AllocGlobal>(
         self,
         rt: &R,
-        ready: &'p mut Ready<R::File>,
+        ready: &mut Ready<R::File>,
         bytes: &[u8],
-    ) -> Result<Batch<'p>, OutputFault> {
+    ) -> Result<Batch, OutputFault> {
         match ready {
             Ready::Place(place) => match Draft::write(rt, place, bytes) {
                 Ok(draft) => self.with(rt, draft),
@@ -125,7 +125,7 @@ impl<'p> Batch<'p> {
     }
 
     /// Adds a whole new file.
-    pub fn with<R: Files>(mut self, rt: &R, draft: Draft<'p>) -> Result<Batch<'p>, OutputFault> {
+    pub fn with<R: Files>(mut self, rt: &R, draft: Draft) -> Result<Batch, OutputFault> {
         match self.drafts.push(draft) {
             Ok(()) => Ok(self),
             Err(failed) => {
@@ -136,7 +136,7 @@ impl<'p> Batch<'p> {
     }
 
     /// Removes the new files, and returns the fault.
-    fn stopped_by<R: Files>(self, rt: &R, fault: OutputFault) -> Result<Batch<'p>, OutputFault> {
+    fn stopped_by<R: Files>(self, rt: &R, fault: OutputFault) -> Result<Batch, OutputFault> {
         let Batch { drafts } = self;
         remove_drafts(rt, &drafts);
         Err(fault)

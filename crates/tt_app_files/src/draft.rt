@@ -18,9 +18,9 @@ const MAX_NAMES: u64 = 1 << 20;
 
 /// A new file next to its place, to be renamed to it once it is whole.
 #[derive(Drop)]
-pub struct Draft<'p> {
+pub struct Draft {
     path: String,
-    place: &'p Place,
+    place: Place,
 }
 
 /// Returns a number that differs from run to run: the clock's nanoseconds, 0 without a clock.
@@ -78,12 +78,12 @@ pub fn finish<F: Write + OpenFile + Drop>(mut file: F) -> Result<(), OutputFault
     sync(&file)
 }
 
-impl<'p> Draft<'p> {
+impl Draft {
     /// Makes an empty file next to the place, under a name that no file has.
     pub fn create<R: Files + Clock + AllocGlobal>(
         rt: &R,
-        place: &'p Place,
-    ) -> Result<(Draft<'p>, R::File), OutputFault> {
+        place: &Place,
+    ) -> Result<(Draft, R::File), OutputFault> {
         let mut options = OpenOptions::new();
         options.write(true).create_new(true);
         options.mode(place.mode().unwrap_or(NEW_MODE));
@@ -91,9 +91,12 @@ impl<'p> Draft<'p> {
         for more in 0..MAX_NAMES {
             let number = drawn.wrapping_add(more);
             let name = format!(in rt.alloc(); "tt-{number:016x}.new")?;
-            let path = place.neighbor(rt.alloc(), name.as_str())?;
-            match options.open(rt, path.as_str()) {
-                Ok(file) => return Draft { path, place }.with_mode(rt, file),
+            let draft = Draft {
+                path: place.neighbor(rt.alloc(), name.as_str())?,
+                place: place.copy()?,
+            };
+            match options.open(rt, draft.path.as_str()) {
+                Ok(file) => return draft.with_mode(rt, file),
                 Err(fault) if fault.kind() == ErrorKind::AlreadyExists => {}
                 Err(fault) => return Err(OutputFault::from(fault)),
             }
@@ -101,11 +104,7 @@ impl<'p> Draft<'p> {
         Err(OutputFault::CannotWrite)
     }
 
-    fn with_mode<R: Files>(
-        self,
-        rt: &R,
-        file: R::File,
-    ) -> Result<(Draft<'p>, R::File), OutputFault> {
+    fn with_mode<R: Files>(self, rt: &R, file: R::File) -> Result<(Draft, R::File), OutputFault> {
         if let Some(mode) = self.place.mode()
             && let Err(fault) = set_mode(&file, mode)
         {
@@ -127,9 +126,9 @@ impl<'p> Draft<'p> {
     /// Writes a whole file next to its place; after a fault there is none.
     pub fn write<R: Files + Clock + AllocGlobal>(
         rt: &R,
-        place: &'p Place,
+        place: &Place,
         bytes: &[u8],
-    ) -> Result<Draft<'p>, OutputFault> {
+    ) -> Result<Draft, OutputFault> {
         let (draft, file) = Draft::create(rt, place)?;
         match write_whole(file, bytes) {
             Ok(()) => Ok(draft),
@@ -140,8 +139,8 @@ impl<'p> Draft<'p> {
         }
     }
 
-    pub fn place(&self) -> &'p Place {
-        self.place
+    pub fn place(&self) -> &Place {
+        &self.place
     }
 
     /// Renames the file to its place.

@@ -63,6 +63,13 @@ impl Place {
         Ok(Place { path, mode })
     }
 
+    pub fn copy(&self) -> Result<Place, AllocError> {
+        Ok(Place {
+            path: self.path.clone()?,
+            mode: self.mode,
+        })
+    }
+
     pub fn path(&self) -> &str {
         self.path.as_str()
     }

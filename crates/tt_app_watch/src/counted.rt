@@ -12,7 +12,7 @@ pub struct Counted<'c, 't, F: Read, R: Clock, E: Write> {
     number: Option<u64>,
     bytes: u64,
     size: u64,
-    ticker: &'c RefCell<Option<Ticker<'t, R, E>>>,
+    ticker: &'c RefCell<Ticker<'t, R, E>>,
 }
 
 impl<'c, 't, F: Read + Drop, R: Clock, E: Write> Drop for Counted<'c, 't, F, R, E> {
@@ -33,7 +33,7 @@ impl<'c, 't, F: Read, R: Clock, E: Write> Counted<'c, 't, F, R, E> {
         file: F,
         number: Option<u64>,
         size: u64,
-        ticker: &'c RefCell<Option<Ticker<'t, R, E>>>,
+        ticker: &'c RefCell<Ticker<'t, R, E>>,
     ) -> Self {
         Counted {
             file,
@@ -45,9 +45,7 @@ impl<'c, 't, F: Read, R: Clock, E: Write> Counted<'c, 't, F, R, E> {
     }
 
     fn show(&self) {
-        if let Ok(mut ticker) = self.ticker.try_borrow_mut()
-            && let Some(ticker) = &mut *ticker
-        {
+        if let Ok(mut ticker) = self.ticker.try_borrow_mut() {
             ticker.show_bytes(self.number, self.bytes, self.size);
         }
     }

@@ -1,31 +1,38 @@
-//! Saving the best timetable while a search goes on.
+//! Watching a search: showing it, and saving its best timetable.
 
+use crate::ticker::Ticker;
 use std::alloc::Global;
+use std::io::Write;
 use std::rt::{Clock, Files};
 use std::time::Duration;
 use tt_app_files::{Batch, OutputFault, Ready};
 use tt_instance::Instance;
-use tt_search::Pair;
+use tt_search::{Pair, Progress, Watch};
 use tt_table::{Entry, Timetable, write_solution};
 
 /// How many seconds a search goes on before its best timetable is saved again.
 const SECONDS_BETWEEN: u64 = 1;
 
-/// Writes the best timetable to its file, at most once a second.
-pub struct Keeper<'k, 'i, R: Files + Clock + AllocGlobal> {
+/// Shows a search, and writes its best timetable to a file at most once a second, if there is an instance to write it by.
+pub struct Keeper<'k, 't, R: Files + Clock + AllocGlobal, E: Write> {
     rt: &'k R,
+    ticker: &'k mut Ticker<'t, R, E>,
     out: &'k mut Ready<R::File>,
-    instance: &'k Instance<'i>,
+    instance: Option<Instance<'k>>,
+    /// Whether only a timetable that breaks no hard rule is saved.
+    is_strict: bool,
     saved: Option<Pair>,
     last: Duration,
 }
 
-impl<'k, 'i, R: Files + Clock + AllocGlobal> Drop for Keeper<'k, 'i, R> {
+impl<'k, 't, R: Files + Clock + AllocGlobal, E: Write> Drop for Keeper<'k, 't, R, E> {
     fn drop(self) {
         let Keeper {
             rt: _,
+            ticker: _,
             out: _,
             instance: _,
+            is_strict: _,
             saved: _,
             last: _,
         } = self;
@@ -44,22 +51,25 @@ fn text_of(alloc: Global, instance: &Instance<'_>, entries: &[Entry]) -> Option<
     write_solution(alloc, instance, &table).ok()
 }
 
-impl<'k, 'i, R: Files + Clock + AllocGlobal> Keeper<'k, 'i, R> {
-    /// Saves what is better than a first timetable, if there is one; `None` without a clock.
+impl<'k, 't, R: Files + Clock + AllocGlobal, E: Write> Keeper<'k, 't, R, E> {
+    /// Watches a search that begins now.
     pub fn new(
         rt: &'k R,
+        ticker: &'k mut Ticker<'t, R, E>,
         out: &'k mut Ready<R::File>,
-        instance: &'k Instance<'i>,
-        saved: Option<Pair>,
-    ) -> Option<Keeper<'k, 'i, R>> {
-        let last = rt.monotonic().ok()?;
-        Some(Keeper {
+        instance: Option<Instance<'k>>,
+        is_strict: bool,
+    ) -> Keeper<'k, 't, R, E> {
+        let last = rt.monotonic().unwrap_or(Duration::ZERO);
+        Keeper {
             rt,
+            ticker,
             out,
             instance,
-            saved,
+            is_strict,
+            saved: None,
             last,
-        })
+        }
     }
 
     /// Whether a second has passed since the last file.
@@ -82,19 +92,29 @@ impl<'k, 'i, R: Files + Clock + AllocGlobal> Keeper<'k, 'i, R> {
             .put(self.rt)
     }
 
-    /// Saves a timetable if it is better than the saved one and a second has passed. A failure changes nothing: the last file is
-    /// written at the end.
-    pub fn save(&mut self, pair: Pair, entries: &[Entry]) {
-        if matches!(self.out, Ready::Stream(_)) {
-            return;
+    /// Returns the text of a timetable that is to be saved now: one that is better than the saved one, a second after it.
+    fn text_to_save(&mut self, pair: Pair, entries: &[Entry]) -> Option<Vec<u8>> {
+        let is_better = self.saved.is_none_or(|saved| pair.is_below(saved));
+        if !is_better || (self.is_strict && pair.hard > 0) || matches!(self.out, Ready::Stream(_)) {
+            return None;
         }
-        if self.saved.is_some_and(|saved| !pair.is_below(saved)) || !self.is_due() {
-            return;
+        if self.instance.is_none() || !self.is_due() {
+            return None;
         }
-        let Some(text) = text_of(self.rt.alloc(), self.instance, entries) else {
+        text_of(self.rt.alloc(), self.instance.as_ref()?, entries)
+    }
+}
+
+impl<'k, 't, R: Files + Clock + AllocGlobal, E: Write> Watch for Keeper<'k, 't, R, E> {
+    /// A failure to save changes nothing: the last timetable is written at the end.
+    fn see(&mut self, progress: Progress, best: &[Entry]) {
+        self.ticker.show(progress);
+        let Some(pair) = progress.best else {
             return;
         };
-        if self.write(&text).is_ok() {
+        if let Some(text) = self.text_to_save(pair, best)
+            && self.write(&text).is_ok()
+        {
             self.saved = Some(pair);
         }
     }

@@ -6,10 +6,8 @@ mod keeper;
 mod numbers;
 mod terminal;
 mod ticker;
-mod watching;
 
 pub use counted::Counted;
 pub use keeper::Keeper;
 pub use terminal::is_terminal;
 pub use ticker::Ticker;
-pub use watching::Watching;

@@ -5,7 +5,8 @@ use std::fmt;
 use std::io::Write;
 use std::rt::Clock;
 use std::time::Duration;
-use tt_search::{Progress, Unit};
+use tt_search::{Progress, Unit, Watch};
+use tt_table::Entry;
 
 /// How many milliseconds a line stays before it is written again.
 const MILLISECONDS_BETWEEN: u128 = 250;
@@ -21,6 +22,7 @@ pub struct Ticker<'r, R: Clock, E: Write> {
     rt: &'r R,
     err: &'r mut E,
     command: &'r str,
+    is_on: bool,
     start: Duration,
     last: Duration,
     is_shown: bool,
@@ -32,6 +34,7 @@ impl<'r, R: Clock, E: Write> Drop for Ticker<'r, R, E> {
             rt: _,
             err: _,
             command: _,
+            is_on: _,
             start: _,
             last: _,
             is_shown: _,
@@ -74,21 +77,29 @@ fn write_best<W: fmt::Write>(f: &mut fmt::Formatter<W>, hard: u64, cost: u64) ->
 }
 
 impl<'r, R: Clock, E: Write> Ticker<'r, R, E> {
-    /// A line for a command that begins now; `None` without a clock.
-    pub fn new(rt: &'r R, err: &'r mut E, command: &'r str) -> Option<Ticker<'r, R, E>> {
-        let start = rt.monotonic().ok()?;
-        Some(Ticker {
+    /// A line for a command that begins now, which is shown if it is on and there is a clock.
+    pub fn new(rt: &'r R, err: &'r mut E, command: &'r str, is_on: bool) -> Ticker<'r, R, E> {
+        let begun = rt.monotonic();
+        let (start, is_on) = match begun {
+            Ok(start) => (start, is_on),
+            Err(_) => (Duration::ZERO, false),
+        };
+        Ticker {
             rt,
             err,
             command,
+            is_on,
             start,
             last: start,
             is_shown: false,
-        })
+        }
     }
 
     /// Returns the seconds since the beginning, if the line is due.
     fn due(&mut self) -> Option<u64> {
+        if !self.is_on {
+            return None;
+        }
         let now = self.rt.monotonic().ok()?;
         let since = now.checked_sub(self.last)?;
         if since.as_millis() < MILLISECONDS_BETWEEN {
@@ -135,5 +146,11 @@ impl<'r, R: Clock, E: Write> Ticker<'r, R, E> {
         if self.is_shown {
             let _ = write!(self.err, "{LINE_START}{LINE_END}");
         }
+    }
+}
+
+impl<'r, R: Clock, E: Write> Watch for Ticker<'r, R, E> {
+    fn see(&mut self, progress: Progress, _best: &[Entry]) {
+        self.show(progress);
     }
 }
