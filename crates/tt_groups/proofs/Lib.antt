@@ -1,3 +1,4 @@
+pub mod Built
 pub mod Exact
 pub mod Examples
 pub mod Lists

@@ -1,6 +1,6 @@
 -- Sums over numbers and over the elements of a list, and what passes a filter.
-use Rattle.std.proofs.Common.{◌≡◌, ℕ, suc, ◌+◌, ◌-◌, ◌≤◌, Bool, true, false, List, [], ◌∷◌, cond, length, refl, sym, ap, subst, arith, inl, inr}
-use Rattle.std.specs.Prelude.{Contains, filter, sum_by, slice_index}
+use Rattle.std.proofs.Common.{◌≡◌, ℕ, suc, ◌+◌, ◌-◌, ◌≤◌, Bool, true, false, List, [], ◌∷◌, cond, length, refl, sym, ap, ◌∙◌, subst, arith, inl, inr}
+use Rattle.std.specs.Prelude.{◌⊎◌, Contains, filter, sum_by, slice_index}
 use Rattle.std.proofs.lemmas.Bool.{both_ways}
 use Rattle.std.proofs.lemmas.List.Elements.{Contains-append_right}
 use Rattle.std.proofs.lemmas.List.Sums.{sum_by-cons}
@@ -69,3 +69,16 @@ member_before {X} p (y ∷ ys) x h = by_test (p y) (λ m. member_before p ys x m
       | inr k ↦ behind (later k)
     ]
     by_test false later m = behind (later m)
+
+-- ---- tables that are written
+
+-- an entry that is made, or is an old one, after two writes
+pub made-more : (Made : ℕ → ℕ → Type 0) (old mid new : List ℕ) → ((k : ℕ) → (slice_index mid k ≡ slice_index old k) ⊎ Made k (slice_index mid k))
+    → ((k : ℕ) → (slice_index new k ≡ slice_index mid k) ⊎ Made k (slice_index new k)) → (k : ℕ) → (slice_index new k ≡ slice_index old k) ⊎ Made k (slice_index new k)
+made-more Made old mid new before now k = elim (now k) [
+  | inl e ↦ elim (before k) [
+    | inl f ↦ inl (e ∙ f)
+    | inr m ↦ inr (subst (Made k) (sym e) m)
+  ]
+  | inr m ↦ inr m
+]

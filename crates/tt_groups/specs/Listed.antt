@@ -20,3 +20,10 @@ pub record IsEntryOf (g : Group) (cs : List ℕ) (k : Vector) (x : DayEntry) : T
 pub record IsDayList (p : Problem) (g : Group) (cs : List ℕ) (b d : ℕ) (days : List DayEntry) : Type 0 where
   pub low : (day : Day) → IsDay p g d day → Fits p g (lectures_on p day) → day_cost p g day < b
       → (x : DayEntry) × Contains days x × IsEntryOf g cs (lectures_on p day) x × (x.cost ≤ day_cost p g day)
+
+-- The entry has the lectures of a day that costs no more.
+pub record IsReachedDay (p : Problem) (g : Group) (cs : List ℕ) (d : ℕ) (x : DayEntry) : Type 0 where
+  pub day : Day
+  pub is : IsDay p g d day
+  pub entry : IsEntryOf g cs (lectures_on p day) x
+  pub paid : day_cost p g day ≤ x.cost

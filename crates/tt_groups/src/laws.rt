@@ -1,12 +1,12 @@
 //! What bounds of groups mean.
 
-ghost use Rattle.std.specs.Prelude.{◌≡◌, ℕ, ◌+◌, ◌<◌, ◌≤◌, List, true};
+ghost use Rattle.std.specs.Prelude.{◌≡◌, ℕ, ◌+◌, ◌<◌, ◌≤◌, List, length, true};
 ghost use Rattle.tt_instance.specs.Courses.{lectures, min_days};
 ghost use Rattle.tt_instance.specs.Problem.{Problem};
 ghost use Rattle.tt_instance.specs.declared.cell.Cell.{Cell};
 ghost use Rattle.tt_rules.specs.Score.{IsFeasible};
-ghost use Rattle.tt_groups.specs.Group.{Group, group_cost, IsRelaxedTimetable, IsGroupBound};
-ghost use Rattle.tt_groups.specs.Plans.{week_of, IsPlan, base_cost, spent};
+ghost use Rattle.tt_groups.specs.Group.{Group, group_cost, concerns, IsRelaxedTimetable, IsGroupBound};
+ghost use Rattle.tt_groups.specs.Plans.{Week, week_of, IsPlan, base_cost, spent};
 ghost use Rattle.tt_groups.specs.Tables.{Vector, IsDayTable, Extends, Starts, Reaches};
 
 /// A feasible timetable is a relaxed timetable of each group, so the group costs at least its bound there.
@@ -19,6 +19,13 @@ pub fn feasible_timetables_are_relaxed()
 pub fn relaxed_timetables_are_plans()
     ensures plan { (p : Problem) (g : Group) (t : List Cell) → IsRelaxedTimetable p g t → IsPlan p g (week_of t) }
     ensures paid { (p : Problem) (g : Group) (t : List Cell) → IsRelaxedTimetable p g t → base_cost p g + spent p g (week_of t) p.days ≡ group_cost p g t }
+{}
+
+/// A plan is the week of some relaxed timetable, and the group costs there exactly what the plan costs. The courses that the group concerns
+/// are the instance's.
+pub fn plans_are_relaxed_timetables()
+    ensures { (p : Problem) (g : Group) (week : Week) → IsPlan p g week → ((c : ℕ) → concerns p g c ≡ true → c < length p.courses) →
+        (t : List Cell) × IsRelaxedTimetable p g t × (group_cost p g t ≡ base_cost p g + spent p g week p.days) }
 {}
 
 /// Tables of all days that are never above the truth bound what the group costs in each relaxed timetable.

@@ -7,4 +7,7 @@ mod laws;
 
 pub use entry::{DIGITS, DayEntry};
 pub use group::Group;
-pub use laws::{feasible_timetables_are_relaxed, relaxed_timetables_are_plans, tables_bound};
+pub use laws::{
+    feasible_timetables_are_relaxed, plans_are_relaxed_timetables, relaxed_timetables_are_plans,
+    tables_bound,
+};

@@ -1,10 +1,11 @@
 -- The set-up of a group: its courses, and the sizes of its digits.
-use Rattle.std.proofs.Common.{◌≡◌, ℕ, ◌+◌, ◌-◌, ◌<◌, ◌≤◌, Bool, true, false, ◌&&◌, ◌||◌, cond, List, [], ◌∷◌, ◌++◌, length, get_or, refl, sym, ap, ◌∙◌, subst, arith, eqb-true, inl, inr}
+use Rattle.std.proofs.Common.{◌≡◌, ℕ, zero, suc, ◌+◌, ◌-◌, ◌<◌, ◌≤◌, Bool, true, false, ◌&&◌, ◌||◌, cond, List, [], ◌∷◌, ◌++◌, length, length-append, get_or, refl, sym, ap, ◌∙◌, subst, arith, eqb-true, inl, inr}
 use Rattle.std.specs.Prelude.{◌==◌, All, Contains, nat_lt, filter, count_by, slice_index}
 use Rattle.std.specs.List.{list_any}
-use Rattle.std.proofs.lemmas.Bool.{or_cases, both_ways, and_from, cases_lt}
+use Rattle.std.proofs.lemmas.Bool.{or_cases, both_ways, and_from, cases_lt, cases_Bool}
 use Rattle.std.proofs.Common.{lt-ltb}
-use Rattle.std.proofs.lemmas.List.{append-nil}
+use Rattle.std.proofs.Math.Seq.{get_or-append_seam}
+use Rattle.std.proofs.lemmas.List.{append-nil, get_or_append_left}
 use Rattle.std.proofs.lemmas.List.Elements.{All-contains, Contains-get_or, filter-append}
 use Rattle.std.proofs.lemmas.List.Sums.{length-filter}
 use Rattle.tt_lists.specs.Words.{has_number, range_below}
@@ -18,13 +19,14 @@ use Rattle.tt_instance.specs.Cells.{all_courses}
 use Rattle.tt_instance.specs.Courses.{lectures, members, in_curriculum, no_curriculum}
 use Rattle.tt_instance.specs.Limits.{IsInstance}
 use Rattle.tt_groups.specs.Group.{Group, concerns, IsGroupBound}
-use Rattle.tt_groups.specs.Listed.{AreCourses, IsDayList}
+use Rattle.tt_groups.specs.Listed.{AreCourses, IsDayList, IsReachedDay}
 use Rattle.tt_groups.specs.Places.{group_sizes}
 use Rattle.tt_groups.specs.Plans.{slack, base_cost}
 use Rattle.tt_groups.specs.declared.entry.DayEntry.{DayEntry}
 use Rattle.tt_groups.proofs.Lists.{passing_member, member_before}
 use Rattle.tt_groups.proofs.Projection.{course_own, plan-le_cost}
 use Rattle.tt_groups.proofs.Radix.{at_left, at_right, length-two}
+use Rattle.tt_groups_day.specs.Found.{AreDistinct}
 use Rattle.tt_groups_check.specs.Availability.{IsSameAvailability}
 use Rattle.tt_groups_check.specs.Limits.{IsGroupOf, courses_of, has_long_course, is_too_wide}
 
@@ -59,6 +61,38 @@ module _ (p : Problem) (g : Group) (instance : IsInstance p) (group : IsGroupOf 
     own = λ c m. member_passes (concerns p g) (all_courses p) c m;
     all = λ c own. passing_member (concerns p g) (all_courses p) c (number_below (length p.courses) c (concerned_below c own)) own;
   }
+
+-- one number more, above all others
+distinct_more : (xs : List ℕ) (n : ℕ) → AreDistinct xs → ((c : ℕ) → Contains xs c → c < n) → AreDistinct (xs ++ n ∷ [])
+distinct_more xs n distinct below i j hi hj e =
+    let more = length-append xs (n ∷ []) in
+    let at : (k : ℕ) → k < length xs → slice_index (xs ++ n ∷ []) k ≡ slice_index xs k = λ k l. get_or_append_left xs (n ∷ []) 0 k l in
+    let last : (k : ℕ) → length xs ≤ k → k < length (xs ++ n ∷ []) → slice_index (xs ++ n ∷ []) k ≡ n = λ k l m.
+    let z : k ≡ length xs = omega arith in
+    ap (slice_index (xs ++ n ∷ [])) z ∙ get_or-append_seam xs n [] 0 in
+    let low : (k : ℕ) → k < length xs → slice_index xs k < n = λ k l. below (slice_index xs k) (Contains-get_or xs k 0 l) in
+    elim (cases_lt i (length xs)) [
+      | inl li ↦ elim (cases_lt j (length xs)) [
+        | inl lj ↦ distinct i j li lj (sym (at i li) ∙ e ∙ at j lj)
+        | inr rj ↦ absurd (omega (arith, e, at i li, low i li, last j rj hj))
+      ]
+      | inr ri ↦ elim (cases_lt j (length xs)) [
+        | inl lj ↦ absurd (omega (arith, e, at j lj, low j lj, last i ri hi))
+        | inr rj ↦ omega arith
+      ]
+    ]
+
+-- what passes among the first numbers is there once
+pub distinct_passing : (q : ℕ → Bool) (n : ℕ) → AreDistinct (filter q (range_below n))
+distinct_passing q zero = λ i j hi hj e. absurd (omega arith)
+distinct_passing q (suc n) =
+    let z : n + 1 ≡ suc n = omega arith in
+    let before = distinct_passing q n in
+    subst (λ (m : ℕ). AreDistinct (filter q (range_below m))) z (elim (cases_Bool (q n)) [
+      | inl h ↦ subst AreDistinct (sym (filter_more-passing q n h))
+          (distinct_more (filter q (range_below n)) n before (λ c m. below_member n c (member_before q (range_below n) c m)))
+      | inr h ↦ subst AreDistinct (sym (filter_more-failing q n h)) before
+    ])
 
 -- each of them is one of the instance's
 pub courses_below : (p : Problem) (g : Group) → All (λ c. c < length p.courses) (courses_of p g)
@@ -138,6 +172,14 @@ module _ (p : Problem) (g : Group) (cs : List ℕ) (few : (c : ℕ) → Contains
 pub same_list : (p : Problem) (g : Group) (cs : List ℕ) (b d e : ℕ) (days : List DayEntry) → AreCourses p g cs → IsSameAvailability p cs d e → IsDayList p g cs b d days → IsDayList p g cs b e days
 same_list p g cs b d e days are same list = record {
   low = λ day is. list.low day (record { available = λ s c h own there. same c s (are.all c own) h ∙ is.available s c h own there; apart = is.apart });
+}
+
+pub same_days : (p : Problem) (g : Group) (cs : List ℕ) (d e : ℕ) (x : DayEntry) → AreCourses p g cs → IsSameAvailability p cs d e → IsReachedDay p g cs d x → IsReachedDay p g cs e x
+same_days p g cs d e x are same reached = record {
+  day = reached.day;
+  is = record { available = λ s c h own there. sym (same c s (are.all c own) h) ∙ reached.is.available s c h own there; apart = reached.is.apart };
+  entry = reached.entry;
+  paid = reached.paid;
 }
 
 -- ---- the base alone

@@ -9,14 +9,14 @@ use Rattle.tt_groups_week.specs.declared.fault.WeekFault.TheVariants as week
 use Rattle.tt_groups_check.specs.declared.fault.GroupFault.{GroupFault}
 use Rattle.tt_groups_check.specs.declared.fault.GroupFault.TheVariants as fault
 
--- The refusal comes after those of width and states.
-abbrev pub is_late : GroupFault → Bool
-is_late fault.TooWide = false
-is_late fault.TooManyStates = false
-is_late fault.TooManySets = true
-is_late fault.TooMuchWork = true
-is_late fault.TooCheap = true
-is_late fault.OutOfMemory = true
+-- The tables were not finished: there are too many sets or too much work, or memory ran out.
+abbrev pub is_unfinished : GroupFault → Bool
+is_unfinished fault.TooWide = false
+is_unfinished fault.TooManyStates = false
+is_unfinished fault.TooManySets = true
+is_unfinished fault.TooMuchWork = true
+is_unfinished fault.TooCheap = false
+is_unfinished fault.OutOfMemory = true
 
 -- The refusal of a group that a refusal of its sets is.
 abbrev pub fault_from_sets : SetsFault → GroupFault

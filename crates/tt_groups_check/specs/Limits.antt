@@ -1,5 +1,5 @@
 -- What a group has to be for its check: numbers of the instance, and no more than its tables hold.
-use Rattle.std.specs.Prelude.{ℕ, ◌+◌, ◌<◌, nat_lt, Bool, ◌&&◌, ◌||◌, List, length, filter, count_by, All}
+use Rattle.std.specs.Prelude.{◌≡◌, ℕ, ◌+◌, ◌<◌, ◌≤◌, nat_lt, Bool, false, ◌&&◌, ◌||◌, List, length, filter, count_by, All}
 use Rattle.std.specs.List.{list_any}
 use Rattle.tt_instance.specs.Problem.{Problem}
 use Rattle.tt_instance.specs.Cells.{all_courses}
@@ -7,6 +7,8 @@ use Rattle.tt_instance.specs.Courses.{lectures}
 use Rattle.tt_groups.specs.Group.{Group, concerns}
 use Rattle.tt_groups.specs.Places.{places, group_sizes}
 use Rattle.tt_groups.specs.Plans.{base_cost}
+use Rattle.tt_groups_day.specs.Counting.{sets_count}
+use Rattle.tt_groups_week.specs.declared.digits.TheConstants.{MAX_PLACES}
 use Rattle.tt_groups_check.specs.declared.width.TheConstants.{GROUP_CURRICULA, GROUP_COURSES, GROUP_LECTURES, GROUP_VALUE}
 
 -- The group's curricula and courses are those of the instance.
@@ -32,3 +34,13 @@ is_too_wide p g value =
 -- The states of a group are the places of its table of the week.
 abbrev pub states_of : Problem → Group → ℕ
 states_of p g = places (group_sizes p g (courses_of p g))
+
+-- The sets of a group are those of its courses of which no two conflict.
+abbrev pub sets_of : Problem → Group → ℕ
+sets_of p g = sets_count p (courses_of p g)
+
+-- The check makes tables for a claim above its base that is not too wide, of a group that has not too many states.
+pub record MakesTables (p : Problem) (g : Group) (value : ℕ) : Type 0 where
+  pub narrow : is_too_wide p g value ≡ false
+  pub states : states_of p g ≤ MAX_PLACES
+  pub above : base_cost p g < value

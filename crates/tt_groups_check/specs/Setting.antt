@@ -5,10 +5,12 @@ use Rattle.tt_instance.specs.Courses.{lectures}
 use Rattle.tt_groups.specs.Group.{Group}
 use Rattle.tt_groups.specs.Listed.{AreCourses}
 use Rattle.tt_groups.specs.Places.{group_sizes}
+use Rattle.tt_groups_day.specs.Found.{AreDistinct}
 
 -- The courses and the sizes of the digits are those of a group that is not too wide.
 pub record IsSetting (p : Problem) (g : Group) (cs sizes : List ℕ) (courses : ℕ) : Type 0 where
   pub group : AreCourses p g cs
+  pub distinct : AreDistinct cs
   pub few : length cs ≤ 16
   pub own : length g.courses ≤ 16
   pub curricula : length g.curricula ≤ 64

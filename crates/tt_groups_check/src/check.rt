@@ -1,8 +1,9 @@
 //! The check of one group's claim.
 
-ghost use Rattle.std.specs.Prelude.{◌≡◌, ◌<◌, ◌⊎◌, ◌↔◌, false, true, Err, IsErrAnd, OnOk};
-ghost use Rattle.tt_groups.specs.Group.{IsGroupBound};
-ghost use Rattle.tt_groups_check.specs.Limits.{IsGroupOf, is_too_wide, states_of};
+ghost use Rattle.std.specs.Prelude.{◌≡◌, ◌<◌, ◌≤◌, ◌⊎◌, ◌↔◌, List, false, true, Err, IsErrAnd, OnOk};
+ghost use Rattle.tt_groups.specs.Group.{group_cost, IsRelaxedTimetable, IsGroupBound};
+ghost use Rattle.tt_instance.specs.declared.cell.Cell.{Cell};
+ghost use Rattle.tt_groups_check.specs.Limits.{IsGroupOf, is_too_wide, states_of, sets_of, MakesTables};
 ghost use Rattle.tt_groups_check.specs.declared.fault.GroupFault.TheVariants as fault;
 
 use crate::courses::{courses_of, sizes_of};
@@ -11,6 +12,7 @@ use crate::fault::GroupFault;
 use crate::width::{base_cost, is_too_wide};
 use std::alloc::Global;
 use tt_groups::Group;
+use tt_groups_day::MAX_SETS;
 use tt_groups_week::{Digits, MAX_PLACES, week_holds};
 use tt_instance::Instance;
 
@@ -40,8 +42,8 @@ impl Work {
     }
 }
 
-/// Checks that each relaxed timetable costs the group at least `value`, with tables for the days and the week. What is too cheap or too much
-/// work is left open: `Err` of these says only that the value was not shown.
+/// Checks that each relaxed timetable costs the group at least `value`, with tables for the days and the week. `TooManySets` and `TooMuchWork`
+/// say nothing of the claim.
 pub fn check_group(
     alloc: Global,
     instance: &Instance<'_>,
@@ -51,11 +53,19 @@ pub fn check_group(
 ) -> Result<(), GroupFault>
     requires in_range { IsGroupOf instance.now group.now }
     ensures holds { OnOk result (IsGroupBound instance.now group.now value) }
+    // What is too cheap is no bound: some relaxed timetable costs less.
+    ensures too_cheap { result ≡ Err fault.TooCheap → (t : List Cell) × IsRelaxedTimetable instance.now group.now t × (group_cost instance.now group.now t < value) }
     ensures too_wide { (result ≡ Err fault.TooWide) ↔ (is_too_wide instance.now group.now value ≡ true) }
     ensures states_only { result ≡ Err fault.TooManyStates →
         (is_too_wide instance.now group.now value ≡ false) × (MAX_PLACES < states_of instance.now group.now) }
     ensures states { is_too_wide instance.now group.now value ≡ false → MAX_PLACES < states_of instance.now group.now →
         IsErrAnd result (λ e. (e ≡ fault.TooManyStates) ⊎ (e ≡ fault.OutOfMemory)) }
+    ensures sets_only { result ≡ Err fault.TooManySets → MakesTables instance.now group.now value × (MAX_SETS < sets_of instance.now group.now) }
+    ensures sets { MakesTables instance.now group.now value → MAX_SETS < sets_of instance.now group.now →
+        IsErrAnd result (λ e. (e ≡ fault.TooManySets) ⊎ (e ≡ fault.OutOfMemory)) }
+    // It is too much work only where all sequences of the group or all relaxations of the file are used up.
+    ensures work_only { result ≡ Err fault.TooMuchWork → MakesTables instance.now group.now value × (sets_of instance.now group.now ≤ MAX_SETS) ×
+        ((work.new.sequences ≡ 0) ⊎ (work.new.relaxations ≡ 0)) }
 {
     if is_too_wide(instance, group, value) {
         return Err(GroupFault::TooWide);

@@ -1,6 +1,8 @@
 //! The courses that a group concerns, and the sizes of their digits.
 
-ghost use Rattle.std.specs.Prelude.{◌≡◌, ◌<◌, ◌≤◌, length, All, IfOk};
+ghost use Rattle.std.specs.Prelude.{◌≡◌, ℕ, ◌<◌, ◌≤◌, length, true, All, IfOk};
+ghost use Rattle.tt_groups.specs.Group.{concerns};
+ghost use Rattle.tt_groups_day.specs.Found.{AreDistinct};
 ghost use Rattle.tt_groups.specs.Listed.{AreCourses};
 ghost use Rattle.tt_groups.specs.Places.{group_sizes};
 ghost use Rattle.tt_groups_check.specs.Limits.{IsGroupOf, courses_of};
@@ -19,6 +21,8 @@ pub fn courses_of(
     requires { IsGroupOf instance.now group.now }
     ensures value { IfOk result (λ v. v.items ≡ courses_of instance.now group.now) }
     ensures courses { IfOk result (λ v. AreCourses instance.now group.now v.items) }
+    ensures distinct { IfOk result (λ v. AreDistinct v.items) }
+    ensures in_range { IfOk result (λ _. (c : ℕ) → concerns instance.now group.now c ≡ true → c < length instance.now.courses) }
 {
     // What is true of every instance: the members of its curricula are its courses.
     prove!(0 < instance.days());

@@ -1,16 +1,19 @@
 //! The moves of all days of a group.
 
-ghost use Rattle.std.specs.Prelude.{◌≡◌, ℕ, ◌≤◌, length, All, IfErr, IfOk, IsTrue, slice_index};
-ghost use Rattle.tt_groups_check.specs.Faults.{is_late};
+ghost use Rattle.std.specs.Prelude.{◌≡◌, ℕ, ◌<◌, ◌≤◌, length, All, Err, IfErr, IfOk, OnOk, IsTrue, slice_index};
+ghost use Rattle.tt_groups_day.specs.Counting.{sets_count};
+ghost use Rattle.tt_groups_check.specs.Faults.{is_unfinished};
 ghost use Rattle.tt_groups_check.specs.Lists.{AreListed, AreOfDays};
 ghost use Rattle.tt_groups_check.specs.Setting.{IsSetting};
+ghost use Rattle.tt_groups_check.specs.declared.fault.GroupFault.TheVariants as fault;
+ghost use Rattle.tt_groups_week.specs.WeekLists.{AreReached};
 
 use crate::availability::same_day;
 use crate::fault::GroupFault;
 use crate::lists::Lists;
 use std::alloc::Global;
 use tt_groups::Group;
-use tt_groups_day::{list_days, list_sets};
+use tt_groups_day::{MAX_SETS, list_days, list_sets};
 use tt_groups_week::Digits;
 use tt_instance::Instance;
 
@@ -29,7 +32,11 @@ pub fn lists_of(
     ensures all { IfOk result (λ l. length l.of_day.items ≡ instance.now.days) }
     ensures of_days { IfOk result (λ l. AreOfDays instance.now group.now courses.now
         digits.now.sizes.items digits.now.weights.items digits.now.courses bound l.moves.items l.of_day.items) }
-    ensures late { IfErr result (λ e. IsTrue (is_late e)) }
+    ensures reached { IfOk result (λ l. AreReached instance.now group.now courses.now l.moves.items l.of_day.items) }
+    ensures unfinished { IfErr result (λ e. IsTrue (is_unfinished e)) }
+    ensures too_many { result ≡ Err fault.TooManySets → MAX_SETS < sets_count instance.now courses.now }
+    ensures few_sets { OnOk result (sets_count instance.now courses.now ≤ MAX_SETS) }
+    ensures used_up { result ≡ Err fault.TooMuchWork → (sets_count instance.now courses.now ≤ MAX_SETS) × (sequences.new ≡ 0) }
 {
     let sets = list_sets(alloc, instance, group, courses, &digits.weights)?;
     let places = digits.count as usize;

@@ -19,7 +19,7 @@ pub enum GroupFault {
     TooManySets,
     /// The limits on work were reached.
     TooMuchWork,
-    /// The tables do not show the value.
+    /// Some relaxed timetable costs less than the value.
     TooCheap,
     OutOfMemory,
 }

@@ -1,9 +1,11 @@
 //! The moves of all days of a week.
 
-ghost use Rattle.std.specs.Prelude.{◌≡◌, ℕ, ◌+◌, ◌<◌, ◌≤◌, List, [], length, OnOk, slice_index};
+ghost use Rattle.std.specs.Prelude.{◌≡◌, ℕ, ◌+◌, ◌<◌, ◌≤◌, List, [], length, Contains, OnOk, slice_index};
 ghost use Rattle.tt_instance.specs.Problem.{Problem};
 ghost use Rattle.tt_groups.specs.Group as spec;
-ghost use Rattle.tt_groups.specs.Listed.{AreCourses, IsDayList};
+ghost use Rattle.tt_groups.specs.Listed.{AreCourses, IsDayList, IsReachedDay};
+ghost use Rattle.tt_groups.specs.declared.entry.DayEntry.{DayEntry};
+ghost use Rattle.tt_groups_week.specs.WeekLists.{AreReached};
 ghost use Rattle.tt_groups_check.specs.Availability.{IsSameAvailability};
 ghost use Rattle.tt_groups_check.specs.Lists.{AreListed, AreOfDays};
 
@@ -44,6 +46,9 @@ impl Lists {
             IsDayList p g cs b (length self.old.of_day.items) entries.now →
             AreOfDays p g cs digits.now.sizes.items digits.now.weights.items digits.now.courses b self.old.moves.items self.old.of_day.items →
             AreOfDays p g cs digits.now.sizes.items digits.now.weights.items digits.now.courses b self.new.moves.items self.new.of_day.items) }
+        ensures reached { OnOk result ((p : Problem) (g : spec.Group) (cs : List ℕ) →
+            ((x : DayEntry) → Contains entries.now x → IsReachedDay p g cs (length self.old.of_day.items) x) →
+            AreReached p g cs self.old.moves.items self.old.of_day.items → AreReached p g cs self.new.moves.items self.new.of_day.items) }
     {
         let list = moves_of(alloc, digits, entries)?;
         self.of_day.push(self.moves.len())?;
@@ -61,6 +66,9 @@ impl Lists {
             IsSameAvailability p cs earlier (length self.old.of_day.items) →
             AreOfDays p g cs digits.now.sizes.items digits.now.weights.items digits.now.courses b self.old.moves.items self.old.of_day.items →
             AreOfDays p g cs digits.now.sizes.items digits.now.weights.items digits.now.courses b self.new.moves.items self.new.of_day.items) }
+        ensures reached { OnOk result ((p : Problem) (g : spec.Group) (cs : List ℕ) → AreCourses p g cs →
+            IsSameAvailability p cs earlier (length self.old.of_day.items) →
+            AreReached p g cs self.old.moves.items self.old.of_day.items → AreReached p g cs self.new.moves.items self.new.of_day.items) }
     {
         self.of_day.push(self.of_day[earlier])?;
         Ok(())

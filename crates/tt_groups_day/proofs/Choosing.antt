@@ -62,10 +62,10 @@ spread : (l a b : Bool) → ((l && a) || (l && b)) ≡ (l && (a || b))
 spread true a b = refl
 spread false a b = refl
 
-one_at : (n : ℕ) → n ≡ 1 → (n == 1) ≡ true
+pub one_at : (n : ℕ) → n ≡ 1 → (n == 1) ≡ true
 one_at n e = eq-eqb n 1 e
 
-none_at : (n : ℕ) → n ≡ 0 → (n == 1) ≡ false
+pub none_at : (n : ℕ) → n ≡ 0 → (n == 1) ≡ false
 none_at n e = ap (λ k. k == 1) e
 
 pub cut_right : (a b : Bool) → b ≡ false → (a && b) ≡ false
@@ -94,13 +94,13 @@ module _ (p : Problem) (g : Group) (cs weights : List ℕ) (n met : ℕ) (below 
   wider x = with_course n (slice_index weights n) met x
 
   -- the courses of a wider set
-  here : (x : CourseSet) → IsChoice p g cs weights n x → slice_index (wider x).courses n ≡ 1
+  pub here : (x : CourseSet) → IsChoice p g cs weights n x → slice_index (wider x).courses n ≡ 1
   here x is = get_or-set_same x.courses n 1 0 (omega (arith, is.long))
 
   there : (x : CourseSet) (i : ℕ) → i ≢ n → slice_index (wider x).courses i ≡ slice_index x.courses i
   there x i e = get_or-set_other x.courses n i 1 0 e
 
-  has_same : (x : CourseSet) (i : ℕ) → i ≢ n → has_course (wider x) i ≡ has_course x i
+  pub has_same : (x : CourseSet) (i : ℕ) → i ≢ n → has_course (wider x) i ≡ has_course x i
   has_same x i e = ap (λ k. k == 1) (there x i e)
 
   -- a course of a set that has no clash conflicts with none of the others

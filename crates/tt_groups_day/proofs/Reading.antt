@@ -1,23 +1,24 @@
 -- Entries read off a table that covers all days are a list of the day.
 use Rattle.std.proofs.Common.{◌≡◌, true, ℕ, zero, suc, ◌+◌, ◌-◌, ◌*◌, ◌/◌, ◌%◌, ◌<◌, ◌≤◌, List, [], ◌∷◌, ◌++◌, map, length, Some, refl, sym, ap, ◌∙◌, subst, arith, inl, inr, ◌||◌, eq-eqb}
-use Rattle.std.specs.Prelude.{All, ◌==◌, Contains, sum_by, slice_get, slice_index}
+use Rattle.std.specs.Prelude.{All, ◌⊎◌, ◌==◌, Contains, sum_by, slice_get, slice_index}
 use Rattle.std.specs.List.{list_any}
 use Rattle.std.proofs.lemmas.Bool.{cases_lt}
 use Rattle.std.proofs.lemmas.List.{length-map}
 use Rattle.std.proofs.lemmas.List.Elements.{Contains-append_left, Contains-append_right}
 use Rattle.tt_lists.specs.Words.{range_below}
-use Rattle.tt_lists.proofs.Members.{any_member}
+use Rattle.tt_lists.proofs.Members.{any_member, member_cases}
 use Rattle.tt_lists.proofs.Tests.{sum_by-same_below}
 use Rattle.tt_instance.specs.Problem.{Problem}
 use Rattle.tt_instance.specs.Courses.{lectures, in_curriculum}
 use Rattle.tt_groups.specs.Group.{Group, concerns}
-use Rattle.tt_groups.specs.Listed.{AreCourses, IsDayList}
+use Rattle.tt_groups.specs.Listed.{AreCourses, IsDayList, IsReachedDay}
 use Rattle.tt_groups.specs.Places.{weights_from, place_of, group_amounts}
 use Rattle.tt_groups.specs.Plans.{Day, lectures_on}
 use Rattle.tt_groups.specs.Tables.{Vector, Fits}
 use Rattle.tt_groups.specs.declared.entry.DayEntry.{DayEntry}
 use Rattle.tt_groups.proofs.Radix.{AreBelow, digit_of, place_below, place-by_index, at_left, at_right, at_map, length-weights_from}
-use Rattle.tt_groups_day.specs.Entries.{lecture_sizes, AreLectureDigits, HasLectures, IsEntryAt, HasEntries}
+use Rattle.tt_groups_day.specs.Entries.{lecture_sizes, AreLectureDigits, HasLectures, IsEntryAt, HasEntries, AreEntriesOf}
+use Rattle.tt_groups_day.specs.Found.{IsDayAt}
 use Rattle.tt_groups_day.specs.Sets.{Covers, Begins}
 use Rattle.tt_groups_day.specs.declared.morning.CourseSet.{CourseSet}
 
@@ -143,3 +144,42 @@ module _ (p : Problem) (cs sizes weights : List ℕ) (count : ℕ) (are : AreLec
   weights_placed i h =
       let l = length-map cs (λ c. lectures p c + 1) in
       omega (arith, are.weights_are i h, weights-positive 1 (lecture_sizes p cs) (omega arith) (λ j m. let k : j < length cs = omega (arith, m, l) in omega (arith, at_map (λ c. lectures p c + 1) cs j k)) i (omega (arith, h, l)))
+
+-- ---- entries of days that there can be
+
+module _ (g : Group) (cs sizes weights : List ℕ) (b : ℕ) (table : List ℕ) (n : ℕ) (xs : List DayEntry) (before : AreEntriesOf g cs sizes weights b table n xs) where
+  pub own_skip : AreEntriesOf g cs sizes weights b table (n + 1) xs
+  own_skip = λ x m. let s = before x m in (s.0, omega (arith, s.1), s.2, s.3, s.4)
+
+  pub own_more : (x : DayEntry) → slice_index table n < b → IsEntryAt g cs sizes weights n x → x.cost ≡ slice_index table n → AreEntriesOf g cs sizes weights b table (n + 1) (xs ++ x ∷ [])
+  own_more x less at cost = λ y m. elim (in_append xs y m) [
+    | inl old ↦ own_skip y old
+    | inr same ↦ (n, omega arith, less, subst (IsEntryAt g cs sizes weights n) same at, ap (λ (z : DayEntry). z.cost) (sym same) ∙ cost)
+  ]
+    where
+      in_append : (zs : List DayEntry) (y : DayEntry) → Contains (zs ++ x ∷ []) y → Contains zs y ⊎ (x ≡ y)
+      in_append [] y m = elim (member_cases x [] y m) [
+        | inl same ↦ inr same
+        | inr none ↦ absurd (omega (arith, none.1))
+      ]
+      in_append (z ∷ zs) y m = elim (member_cases z (zs ++ x ∷ []) y m) [
+        | inl same ↦ inl (0, omega arith, same)
+        | inr later ↦ elim (in_append zs y later) [
+          | inl old ↦ inl (Contains-append_right (z ∷ []) zs y old)
+          | inr same ↦ inr same
+        ]
+      ]
+
+pub reached_list : (p : Problem) (g : Group) (cs sizes weights table : List ℕ) (b d : ℕ) (xs : List DayEntry) → AreCourses p g cs → AreLectureDigits p cs sizes weights (length table) → AreEntriesOf g cs sizes weights b table (length table) xs
+    → ((k : ℕ) → k < length table → slice_index table k < b → IsDayAt p g cs d weights k (slice_index table k)) → (x : DayEntry) → Contains xs x → IsReachedDay p g cs d x
+reached_list p g cs sizes weights table b d xs group are own days x m =
+    let w = own x m in
+    let at = days w.0 w.1 w.2 in
+    let k = lectures_on p at.day in
+    let digits = digits_are p g cs sizes weights table group are k at.fits in
+    record {
+      day = at.day;
+      is = at.is;
+      entry = w.3 k (subst (λ (s : ℕ). HasLectures cs sizes weights s k) at.placed digits) (λ c h. group.all c (own_concerned p g c h));
+      paid = omega (arith, at.paid, w.4);
+    }

@@ -32,3 +32,8 @@ IsEntryAt g cs sizes weights place x = (k : Vector) → HasLectures cs sizes wei
 abbrev pub HasEntries : Group → List ℕ → List ℕ → List ℕ → ℕ → List ℕ → ℕ → List DayEntry → Type 0
 HasEntries g cs sizes weights b table n xs = (s : ℕ) → s < n → slice_index table s < b
     → (x : DayEntry) × Contains xs x × IsEntryAt g cs sizes weights s x × (x.cost ≡ slice_index table s)
+
+-- Each entry is that of a place whose value is below b, and has its cost.
+abbrev pub AreEntriesOf : Group → List ℕ → List ℕ → List ℕ → ℕ → List ℕ → ℕ → List DayEntry → Type 0
+AreEntriesOf g cs sizes weights b table n xs = (x : DayEntry) → Contains xs x
+    → (s : ℕ) × (s < n) × (slice_index table s < b) × IsEntryAt g cs sizes weights s x × (x.cost ≡ slice_index table s)

@@ -1,4 +1,6 @@
 pub mod Choosing
+pub mod Counting
 pub mod Entries
+pub mod Found
 pub mod Running
 pub mod Sets

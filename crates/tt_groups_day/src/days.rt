@@ -1,9 +1,13 @@
 //! The list of a day.
 
-ghost use Rattle.std.specs.Prelude.{◌≡◌, ◌<◌, ◌≤◌, length, All, IfOk};
-ghost use Rattle.tt_groups.specs.Listed.{AreCourses, IsDayList};
+ghost use Rattle.std.specs.Prelude.{◌≡◌, ◌<◌, ◌≤◌, length, All, Contains, IfOk, Err};
+ghost use Rattle.tt_groups.specs.Listed.{AreCourses, IsDayList, IsReachedDay};
+ghost use Rattle.tt_groups.specs.declared.entry.DayEntry.{DayEntry};
+ghost use Rattle.tt_groups_day.specs.Choosing.{IsApart};
+ghost use Rattle.tt_groups_day.specs.Found.{AreDistinct};
 ghost use Rattle.tt_groups_day.specs.Entries.{AreLectureDigits};
 ghost use Rattle.tt_groups_day.specs.Sets.{IsComplete, IsCourseSet};
+ghost use Rattle.tt_groups_day.specs.declared.fault.DaysFault.TheVariants as fault;
 ghost use Rattle.tt_instance.specs.Courses.{lectures};
 
 use crate::entries::list_entries;
@@ -40,7 +44,11 @@ pub fn list_days(
     requires sets { All (IsCourseSet instance.now group.now courses.now weights.now) sets.now }
     requires small { All (λ x. x.index ≤ 16777216) sets.now }
     requires complete { IsComplete instance.now group.now courses.now sets.now }
-    ensures { IfOk result (λ entries. IsDayList instance.now group.now courses.now bound day entries.items) }
+    ensures list { IfOk result (λ entries. IsDayList instance.now group.now courses.now bound day entries.items) }
+    // Each entry is that of a day that there can be.
+    ensures found { IfOk result (λ entries. AreDistinct courses.now → All (IsApart instance.now courses.now) sets.now →
+        (x : DayEntry) → Contains entries.items x → IsReachedDay instance.now group.now courses.now day x) }
+    ensures used_up { result ≡ Err fault.TooMuchWork → sequences.new ≡ 0 }
 {
     let table = day_table(
         alloc, instance, courses, sets, bound, day, places, sequences,

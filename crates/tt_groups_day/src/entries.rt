@@ -2,7 +2,9 @@
 
 ghost use Rattle.std.specs.Prelude.{◌≡◌, ℕ, ◌+◌, ◌-◌, ◌/◌, ◌%◌, ◌<◌, ◌≤◌, List, [], Contains, length, slice_index, IfOk};
 ghost use Rattle.tt_instance.specs.Problem.{Problem};
-ghost use Rattle.tt_groups.specs.Listed.{AreCourses, IsDayList};
+ghost use Rattle.tt_groups.specs.Listed.{AreCourses, IsDayList, IsReachedDay};
+ghost use Rattle.tt_groups.specs.declared.entry.DayEntry.{DayEntry};
+ghost use Rattle.tt_groups_day.specs.Found.{IsDayAt};
 ghost use Rattle.tt_groups.specs.Tables.{Vector};
 ghost use Rattle.tt_groups_day.specs.Entries.{AreLectureDigits, IsEntryAt};
 ghost use Rattle.tt_groups_day.specs.Sets.{Covers};
@@ -85,8 +87,11 @@ pub fn list_entries(
     requires placed { (i : ℕ) → i < length courses.now → 0 < slice_index weights.now i }
     requires small { (i : ℕ) → i < length courses.now → slice_index sizes.now i ≤ 256 }
     requires places { length table.now ≤ 1048576 }
-    ensures { IfOk result (λ entries. (p : Problem) (d : ℕ) → AreCourses p group.now courses.now → AreLectureDigits p courses.now sizes.now weights.now (length table.now) →
+    ensures list { IfOk result (λ entries. (p : Problem) (d : ℕ) → AreCourses p group.now courses.now → AreLectureDigits p courses.now sizes.now weights.now (length table.now) →
         Covers p group.now courses.now bound d weights.now table.now [] → IsDayList p group.now courses.now bound d entries.items) }
+    ensures found { IfOk result (λ entries. (p : Problem) (d : ℕ) → AreCourses p group.now courses.now → AreLectureDigits p courses.now sizes.now weights.now (length table.now) →
+        ((k : ℕ) → k < length table.now → slice_index table.now k < bound → IsDayAt p group.now courses.now d weights.now k (slice_index table.now k)) →
+        (x : DayEntry) → Contains entries.items x → IsReachedDay p group.now courses.now d x) }
 {
     let mut entries = Vec::new(alloc);
     for (place, cost) in table.iter().enumerate() {

@@ -57,11 +57,11 @@ fn fits(numbers: &[u8; COURSES], most: &[u8; COURSES]) -> bool
     all
 }
 
-/// The curricula of a set that is open in the next period, with the cost so far: none where the bound is reached or a course has too many lectures.
+/// The morning with one set more: none if the bound is reached, a course of the set is not available, or one has too many lectures.
 pub fn more(
     bound: u8,
     most: &[u8; COURSES],
-    open: &[u8; COURSES],
+    available: &[u8; COURSES],
     morning: &Morning,
     set: &CourseSet,
 ) -> Option<Morning>
@@ -73,18 +73,20 @@ pub fn more(
         AreCourses p g cs → length g.curricula ≤ 64 → length before < p.periods → IsCourseSet p g cs weights set.now → IsMorningOf p g cs weights before morning.now →
         IsMorningOf p g cs weights (before ++ set.now ∷ []) next) }
     ensures barred { IfNone result ((p : Problem) (g : spec.Group) (cs weights table : List ℕ) (d : ℕ) (before : List CourseSet) →
-        IsDayOf p g cs d most.now (length before) open.now → IsCourseSet p g cs weights set.now → IsMorningOf p g cs weights before morning.now →
+        IsDayOf p g cs d most.now (length before) available.now → IsCourseSet p g cs weights set.now → IsMorningOf p g cs weights before morning.now →
         Covers p g cs bound d weights table (before ++ set.now ∷ [])) }
     ensures cheap { IfSome result (λ next. next.cost < bound) }
     ensures counted { IfSome result (λ next. (i : ℕ) → slice_index next.counts i ≤ slice_index morning.now.counts i + 1) }
     ensures placed { IfSome result (λ next. next.place ≡ morning.now.place + set.now.index) }
+    ensures open { IfSome result (λ _. (i : ℕ) → i < 16 → slice_index set.now.courses i ≤ slice_index available.now i) }
+    ensures fitting { IfSome result (λ next. (i : ℕ) → i < 16 → slice_index next.counts i ≤ slice_index most.now i) }
 {
     let settled = morning.pending & !set.curricula;
     let cost = morning.cost + SINGLE_PRICE * settled.count_ones();
     if u32::from(bound) <= cost {
         return None;
     }
-    if !fits(&set.courses, open) {
+    if !fits(&set.courses, available) {
         return None;
     }
     let counts = sums(&morning.counts, &set.courses);

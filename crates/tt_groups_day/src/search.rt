@@ -1,6 +1,7 @@
 //! All days that begin like a morning, set by set.
 
-ghost use Rattle.std.specs.Prelude.{◌≡◌, ℕ, ◌+◌, ◌*◌, ◌<◌, ◌≤◌, length, slice_index, All, OnOk, count_ones};
+ghost use Rattle.std.specs.Prelude.{◌≡◌, ◌⊎◌, ℕ, ◌+◌, ◌*◌, ◌<◌, ◌≤◌, length, slice_index, All, OnOk, OnErr, count_ones};
+ghost use Rattle.tt_groups_day.specs.Found.{IsFound};
 ghost use Rattle.tt_groups_day.specs.Sets.{Falls, IsTried};
 
 use crate::fault::DaysFault;
@@ -16,6 +17,7 @@ pub struct Period {
 fn lower(table: &mut [u8], place: usize, value: u8)
     ensures there { slice_index table.new place ≤ value }
     ensures falls { Falls table.old table.new }
+    ensures only { (k : ℕ) → (slice_index table.new k ≡ slice_index table.old k) ⊎ ((k ≡ place) × (slice_index table.new k ≡ value)) }
 {
     if place < table.len() && value < table[place] {
         table[place] = value;
@@ -27,6 +29,8 @@ fn end(bound: u8, morning: &Morning, table: &mut [u8])
     requires { morning.now.cost < 256 }
     ensures falls { Falls table.old table.new }
     ensures there { morning.now.cost + 2 * count_ones morning.now.pending < bound → slice_index table.new morning.now.place ≤ morning.now.cost + 2 * count_ones morning.now.pending }
+    ensures only { (k : ℕ) → (slice_index table.new k ≡ slice_index table.old k) ⊎
+        ((k ≡ morning.now.place) × (slice_index table.new k ≡ morning.now.cost + 2 * count_ones morning.now.pending)) }
 {
     let cost = morning.cost + 2 * morning.pending.count_ones();
     if cost < u32::from(bound) {
@@ -53,6 +57,9 @@ pub fn try_days(
     requires cost { morning.now.cost < 256 }
     ensures falls { Falls table.old table.new }
     ensures tried { OnOk result (IsTried most.now periods.now sets.now bound period morning.now table.new) }
+    ensures found { OnOk result ((k : ℕ) → (slice_index table.new k ≡ slice_index table.old k) ⊎
+        IsFound most.now periods.now sets.now period morning.now k (slice_index table.new k)) }
+    ensures used_up { OnErr result (sequences.new ≡ 0) }
 {
     if period == periods.len() {
         end(bound, morning, table);

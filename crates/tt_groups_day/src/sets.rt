@@ -4,6 +4,7 @@ ghost use Rattle.std.specs.Prelude.{◌≡◌, ℕ, ◌+◌, ◌*◌, ◌<◌, �
 ghost use Rattle.tt_instance.specs.Courses.{in_curriculum};
 ghost use Rattle.tt_groups.specs.Listed.{AreCourses};
 ghost use Rattle.tt_groups_day.specs.Choosing.{clashes, with_course, with_next, IsApart};
+ghost use Rattle.tt_groups_day.specs.Counting.{sets_count};
 ghost use Rattle.tt_groups_day.specs.Sets.{IsWordOf, IsCourseSet, IsComplete};
 ghost use Rattle.tt_groups_day.specs.declared.sets.SetsFault.TheVariants as fault;
 
@@ -76,11 +77,17 @@ fn with_course(set: &CourseSet, number: usize, weight: u32, met: u64) -> CourseS
     }
 }
 
-/// Adds a set at the end.
-fn append(sets: &mut Vec<CourseSet>, set: CourseSet) -> Result<(), AllocError>
-    ensures { OnOk result (sets.new.items ≡ sets.old.items ++ set ∷ []) }
+/// Adds a set at the end, if there is room for one more.
+fn append(sets: &mut Vec<CourseSet>, set: CourseSet) -> Result<(), SetsFault>
+    requires { length sets.old.items ≤ MAX_SETS }
+    ensures added { OnOk result (sets.new.items ≡ sets.old.items ++ set ∷ []) }
+    ensures listed { OnOk result (length sets.new.items ≤ MAX_SETS) }
+    ensures full { result ≡ Err fault.TooManySets → length sets.old.items ≡ MAX_SETS }
 {
-    sets.push(set)?;
+    if sets.len() == MAX_SETS {
+        return Err(SetsFault::TooManySets);
+    }
+    sets.push(set).map_err(AllocError::from)?;
     Ok(())
 }
 
@@ -96,15 +103,15 @@ fn add_course(
     requires there { number < length courses.now }
     requires few { length courses.now ≤ COURSES }
     requires room { All (λ x. x.index + weight < 2 ^ 32) sets.old.items }
-    ensures { OnOk result (sets.new.items ≡ with_next instance.now courses.now number weight met sets.old.items) }
+    requires listed { length sets.old.items ≤ MAX_SETS }
+    ensures next { OnOk result (sets.new.items ≡ with_next instance.now courses.now number weight met sets.old.items) }
+    ensures listed { OnOk result (length sets.new.items ≤ MAX_SETS) }
+    ensures too_many { result ≡ Err fault.TooManySets → MAX_SETS < length (with_next instance.now courses.now number weight met sets.old.items) }
 {
     let before = sets.len();
     for k in 0..before {
         let set = sets[k];
         if !clashes(instance, courses, number, &set) {
-            if sets.len() == MAX_SETS {
-                return Err(SetsFault::TooManySets);
-            }
             append(sets, with_course(&set, number, weight, met))?;
         }
     }
@@ -128,6 +135,9 @@ pub fn list_sets(
     ensures sets { IfOk result (λ sets. All (IsCourseSet instance.now group.now courses.now weights.now) sets.items) }
     ensures apart { IfOk result (λ sets. All (IsApart instance.now courses.now) sets.items) }
     ensures small { IfOk result (λ sets. All (λ x. x.index ≤ 16777216) sets.items) }
+    // The list is refused exactly where there are too many sets, unless memory runs out.
+    ensures too_many { result ≡ Err fault.TooManySets → MAX_SETS < sets_count instance.now courses.now }
+    ensures few_sets { OnOk result (sets_count instance.now courses.now ≤ MAX_SETS) }
 {
     let mut sets = Vec::new(alloc);
     let none = CourseSet {

@@ -1,9 +1,12 @@
 //! The table of a day, by the place of its lectures.
 
-ghost use Rattle.std.specs.Prelude.{◌≡◌, ℕ, ◌+◌, ◌*◌, ◌<◌, ◌≤◌, [], List, length, slice_index, true, All, IfOk};
+ghost use Rattle.std.specs.Prelude.{◌≡◌, ℕ, ◌+◌, ◌*◌, ◌<◌, ◌≤◌, [], List, length, slice_index, true, false, All, IfOk, Err};
+ghost use Rattle.tt_groups_day.specs.Choosing.{IsApart};
+ghost use Rattle.tt_groups_day.specs.Found.{AreDistinct, AreOpened, IsDayAt};
 ghost use Rattle.tt_groups.specs.Group as spec;
 ghost use Rattle.tt_groups.specs.Listed.{AreCourses};
 ghost use Rattle.tt_groups_day.specs.Sets.{Covers, IsComplete, IsCourseSet, AreAvailable};
+ghost use Rattle.tt_groups_day.specs.declared.fault.DaysFault.TheVariants as fault;
 ghost use Rattle.tt_instance.specs.Courses.{lectures, unavailable};
 
 use crate::fault::DaysFault;
@@ -15,7 +18,8 @@ use tt_instance::Instance;
 /// The courses that are available in a period.
 fn period_of(instance: &Instance<'_>, courses: &[u32], day: u32, period: u32) -> Period
     requires { length courses.now ≤ 16 }
-    ensures { (i : ℕ) → i < length courses.now → slice_index result.available i ≡ 0 → unavailable instance.now (slice_index courses.now i) day period ≡ true }
+    ensures closed { (i : ℕ) → i < length courses.now → slice_index result.available i ≡ 0 → unavailable instance.now (slice_index courses.now i) day period ≡ true }
+    ensures opened { (i : ℕ) → i < length courses.now → 0 < slice_index result.available i → unavailable instance.now (slice_index courses.now i) day period ≡ false }
 {
     let mut available = [0; COURSES];
     for (i, course) in courses.iter().enumerate() {
@@ -37,6 +41,7 @@ fn periods_of(
     ensures whole { IfOk result (λ v. length v.items ≡ instance.now.periods) }
     ensures few { IfOk result (λ v. length v.items ≤ 64) }
     ensures closed { IfOk result (λ v. AreAvailable instance.now courses.now day v.items) }
+    ensures opened { IfOk result (λ v. AreOpened instance.now courses.now day v.items) }
 {
     let mut periods = Vec::new(alloc);
     for period in 0..instance.periods() {
@@ -79,6 +84,10 @@ pub fn day_table(
     ensures low { IfOk result (λ v. (g : spec.Group) (weights : List ℕ) → AreCourses instance.now g courses.now → length g.curricula ≤ 64 →
         All (IsCourseSet instance.now g courses.now weights) sets.now → IsComplete instance.now g courses.now sets.now →
         Covers instance.now g courses.now bound day weights v.items []) }
+    ensures found { IfOk result (λ v. (g : spec.Group) (weights : List ℕ) → AreCourses instance.now g courses.now → length g.curricula ≤ 64 → AreDistinct courses.now →
+        All (IsCourseSet instance.now g courses.now weights) sets.now → All (IsApart instance.now courses.now) sets.now →
+        (k : ℕ) → k < places → slice_index v.items k < bound → IsDayAt instance.now g courses.now day weights k (slice_index v.items k)) }
+    ensures used_up { result ≡ Err fault.TooMuchWork → sequences.new ≡ 0 }
 {
     let most = lectures_of(instance, courses);
     let periods = periods_of(alloc, instance, courses, day)?;

@@ -3,6 +3,7 @@ pub mod Floors
 pub mod Leading
 pub mod Listing
 pub mod Moving
+pub mod Reaching
 pub mod Relaxing
 pub mod Suiting
 pub mod Weights

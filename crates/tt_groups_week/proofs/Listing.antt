@@ -31,7 +31,7 @@ module _ (sizes weights : List ℕ) (courses : ℕ) (xs ys : List ℕ) (state : 
   up_same : (j : ℕ) → j < length sizes → raised sizes weights courses xs state j ≡ raised sizes weights courses ys state j
   up_same j h = ap (λ a. state / slice_index weights j % slice_index sizes j + a) (same j h)
 
-  step_same : step_of sizes weights courses xs state ≡ step_of sizes weights courses ys state
+  pub step_same : step_of sizes weights courses xs state ≡ step_of sizes weights courses ys state
   step_same =
       let n = length sizes in
       let room = all_same_below (has_room sizes weights courses xs state) (has_room sizes weights courses ys state) n (λ j h. ap (λ z. not (nat_lt j courses && nat_le (slice_index sizes j) z)) (up_same j h)) in
@@ -49,14 +49,14 @@ zip_maps : (a h : ℕ → ℕ) (xs : List ℕ) → ((x : ℕ) → Contains xs x 
 zip_maps a h [] f = tt
 zip_maps a h (x ∷ xs) f = (f x (0, omega arith, refl), zip_maps a h xs (λ y m. f y (Contains-append_right (x ∷ []) xs y m)))
 
-zero_place : (ws ds : List ℕ) → ((j : ℕ) → slice_index ds j ≡ 0) → place_of ws ds ≡ 0
+pub zero_place : (ws ds : List ℕ) → ((j : ℕ) → slice_index ds j ≡ 0) → place_of ws ds ≡ 0
 zero_place [] ds z = refl
 zero_place (w ∷ ws) [] z = refl
 zero_place (w ∷ ws) (d ∷ ds) z =
     let first : d * w ≡ 0 = ap (λ n. n * w) (z 0) ∙ omega arith in
     omega (arith, first, zero_place ws ds (λ j. z (suc j)))
 
-all_zero : (u e : Vector) (cs ws : List ℕ) → ((c : ℕ) → u c ≡ 0) → ((c : ℕ) → e c ≡ 0) → (j : ℕ) → slice_index (map u cs ++ map e ws) j ≡ 0
+pub all_zero : (u e : Vector) (cs ws : List ℕ) → ((c : ℕ) → u c ≡ 0) → ((c : ℕ) → e c ≡ 0) → (j : ℕ) → slice_index (map u cs ++ map e ws) j ≡ 0
 all_zero u e [] [] a b j = refl
 all_zero u e [] (w ∷ ws) a b zero = b w
 all_zero u e [] (w ∷ ws) a b (suc j) = all_zero u e [] ws a b j
@@ -70,7 +70,7 @@ module _ (p : Problem) (g : Group) (cs : List ℕ) (are : AreCourses p g cs) (b 
   abbrev weights : List ℕ
   weights = weights_from 1 sizes
 
-  digits_below : (u e : Vector) → Fits p g u → ((c : ℕ) → e c ≤ slack p c) → AreBelow sizes (group_digits g cs u e)
+  pub digits_below : (u e : Vector) → Fits p g u → ((c : ℕ) → e c ≤ slack p c) → AreBelow sizes (group_digits g cs u e)
   digits_below u e fits few =
       zip_append (λ n d. d < n) (map (λ c. lectures p c + 1) cs) (map u cs) (map (λ c. slack p c + 1) g.courses) (map e g.courses)
       (zip_maps (λ c. lectures p c + 1) u cs (λ c m. omega (arith, fits c (are.own c m))))

@@ -5,7 +5,7 @@ use Rattle.std.specs.List.Sorted.{IsNonDecreasingBy}
 use Rattle.std.proofs.lemmas.Bool.{cases_lt}
 use Rattle.std.proofs.lemmas.List.{get_or-take, get_or_default, length-take-le}
 use Rattle.std.proofs.lemmas.List.Elements.{All-more, Contains-append_right}
-use Rattle.std.proofs.lemmas.List.Sorted.{Contains-permutation}
+use Rattle.std.proofs.lemmas.List.Sorted.{Contains-permutation, IsPermutation-sym}
 use Rattle.tt_lists.proofs.Members.{member_cases}
 use Rattle.tt_groups_week.specs.Fold.{floor_of}
 use Rattle.tt_groups_week.proofs.Floors.{floor-le_pay}
@@ -89,4 +89,17 @@ move_of days i moves sorted long entries order x here =
     mapped (m ∷ ms) y h = elim (member_cases m.entry (map (λ k. k.entry) ms) y h) [
       | inl same ↦ (m, (0, omega arith, refl), same)
       | inr later ↦ let k = mapped ms y later in (k.0, Contains-append_right (m ∷ []) ms k.0 k.1, k.2)
+    ]
+
+-- each move's entry is one of the day
+pub entry_of : (days : List DayEntry) (i : ℕ) (moves sorted : List Move) → length days ≤ i → map (λ m. m.entry) moves ≡ take i days → IsPermutation moves sorted
+    → (m : Move) → Contains sorted m → Contains days m.entry
+entry_of days i moves sorted long entries order m here =
+    subst (λ (l : List DayEntry). Contains l m.entry) (entries ∙ take_all i days long) (there moves m (Contains-permutation sorted moves m (IsPermutation-sym moves sorted order) here))
+  where
+    there : (ms : List Move) (y : Move) → Contains ms y → Contains (map (λ k. k.entry) ms) y.entry
+    there [] y h = absurd (omega (arith, h.1))
+    there (k ∷ ms) y h = elim (member_cases k ms y h) [
+      | inl same ↦ (0, omega arith, ap (λ (z : Move). z.entry) same)
+      | inr later ↦ Contains-append_right (k.entry ∷ []) (map (λ z. z.entry) ms) y.entry (there ms y later)
     ]

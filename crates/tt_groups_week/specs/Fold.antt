@@ -25,10 +25,11 @@ pub record AreReady (sizes weights : List ℕ) (courses : ℕ) (moves : List Mov
   pub floored : All (λ m. m.floor ≡ floor_of sizes m.entry.amounts) moves
   pub sorted : IsNonDecreasingBy (λ m. m.entry.cost + m.floor) moves
 
--- The moves are ready, and each entry of the day has one.
+-- The moves are ready, and each entry of the day has one, and each is that of an entry.
 pub record AreMovesOf (sizes weights : List ℕ) (courses : ℕ) (days : List DayEntry) (moves : List Move) : Type 0 where
   pub ready : AreReady sizes weights courses moves
   pub all : (x : DayEntry) → Contains days x → (m : Move) × Contains moves m × (m.entry ≡ x)
+  pub own : (m : Move) → Contains moves m → Contains days m.entry
 
 -- The amount at j is under what is left.
 abbrev pub is_under : List ℕ → List ℕ → ℕ → Bool

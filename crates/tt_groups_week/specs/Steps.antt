@@ -1,10 +1,11 @@
 -- A step from a place of one table to a place of the next: the lectures of a day raise the digits of lectures, and its further lectures
 -- raise the others, no higher than to their slack.
-use Rattle.std.specs.Prelude.{◌≡◌, ℕ, ◌+◌, ◌-◌, ◌*◌, ◌<◌, ◌≤◌, min, nat_lt, nat_le, Bool, not, ◌&&◌, List, length, sum_by, slice_index, Option, Some, None, if◌then◌else◌}
+use Rattle.std.specs.Prelude.{◌≡◌, ℕ, ◌+◌, ◌-◌, ◌*◌, ◌<◌, ◌≤◌, min, nat_lt, nat_le, Bool, not, ◌&&◌, List, length, Contains, sum_by, slice_index, Option, Some, None, if◌then◌else◌}
 use Rattle.std.specs.List.{list_all}
 use Rattle.tt_lists.specs.Words.{range_below}
 use Rattle.tt_groups.specs.declared.entry.DayEntry.{DayEntry}
 use Rattle.tt_groups_week.specs.Digits.{digit}
+use Rattle.tt_groups_week.specs.declared.moves.Move.{Move}
 use Rattle.tt_groups_week.specs.declared.state.Step.{Step}
 
 module _ (sizes weights : List ℕ) (courses : ℕ) (amounts : List ℕ) (place : ℕ) where
@@ -37,3 +38,19 @@ Falls old new = (k : ℕ) → slice_index new k ≤ slice_index old k
 -- Where the day leads from the place to one that costs less than the bound, the table has no more there than what is paid.
 pub record IsRelaxed (sizes weights : List ℕ) (courses bound place paid : ℕ) (table : List ℕ) (day : DayEntry) : Type 0 where
   pub low : (r : Step) → step_of sizes weights courses day.amounts place ≡ Some r → paid + day.cost + r.pay < bound → slice_index table r.place ≤ paid + day.cost + r.pay
+
+-- A move leads from the place, where so much is paid, to the place k at the cost v.
+pub record IsMade (sizes weights : List ℕ) (courses : ℕ) (moves : List Move) (place paid k v : ℕ) : Type 0 where
+  pub by : Move
+  pub there : Contains moves by
+  pub step : Step
+  pub leads : step_of sizes weights courses by.entry.amounts place ≡ Some step
+  pub reached : k ≡ step.place
+  pub value : v ≡ paid + by.entry.cost + step.pay
+
+-- A move leads there from some place of the table where less than the bound is paid.
+pub record IsMadeFrom (sizes weights : List ℕ) (courses : ℕ) (moves : List Move) (bound : ℕ) (table : List ℕ) (k v : ℕ) : Type 0 where
+  pub place : ℕ
+  pub inside : place < length table
+  pub cheap : slice_index table place < bound
+  pub made : IsMade sizes weights courses moves place (slice_index table place) k v

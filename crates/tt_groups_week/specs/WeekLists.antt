@@ -1,11 +1,11 @@
 -- The tables of a group's week as lists; cs are the courses that it concerns.
-use Rattle.std.specs.Prelude.{◌≡◌, ℕ, ◌-◌, ◌<◌, ◌≤◌, ◌==◌, Bool, List, length, true, slice_index, slice_index_or, Vec}
+use Rattle.std.specs.Prelude.{◌≡◌, ℕ, ◌-◌, ◌<◌, ◌≤◌, ◌==◌, Bool, List, length, Contains, true, slice_index, slice_index_or, Vec}
 use Rattle.std.specs.Global.{Global}
 use Rattle.std.specs.List.{list_all}
 use Rattle.tt_lists.specs.Words.{range_below}
 use Rattle.tt_instance.specs.Problem.{Problem}
 use Rattle.tt_groups.specs.Group.{Group}
-use Rattle.tt_groups.specs.Listed.{AreCourses, IsDayList}
+use Rattle.tt_groups.specs.Listed.{AreCourses, IsDayList, IsReachedDay}
 use Rattle.tt_groups.specs.Places.{weights_from, place_of, group_sizes, group_digits}
 use Rattle.tt_groups.specs.Tables.{Vector, IsWeekTable}
 use Rattle.tt_groups.specs.declared.entry.DayEntry.{DayEntry}
@@ -41,3 +41,8 @@ pub record Suits (p : Problem) (g : Group) (cs sizes weights : List ℕ) (course
   pub courses_are : courses ≡ length cs
   pub all_days : length of_day ≡ p.days
   pub each_day : (d : ℕ) (v : Vec Move Global) → d < length of_day → AreMovesOn p g cs sizes weights courses b d (slice_index_or lists (slice_index of_day d) v).items
+
+-- Each move of each day is that of a day that costs no more.
+abbrev pub AreReached : Problem → Group → List ℕ → List (Vec Move Global) → List ℕ → Type 0
+AreReached p g cs lists of_day =
+    (d : ℕ) (v : Vec Move Global) (m : Move) → d < length of_day → Contains (slice_index_or lists (slice_index of_day d) v).items m → IsReachedDay p g cs d m.entry

@@ -1,8 +1,8 @@
 //! The fold of a day's moves into the table of the days before it.
 
-ghost use Rattle.std.specs.Prelude.{◌≡◌, ℕ, ◌<◌, ◌≤◌, length, slice_index, All, OnOk};
+ghost use Rattle.std.specs.Prelude.{◌≡◌, ◌⊎◌, ℕ, ◌+◌, ◌<◌, ◌≤◌, length, slice_index, All, OnOk, OnErr};
 ghost use Rattle.tt_groups_week.specs.Fold.{AreReady, IsState};
-ghost use Rattle.tt_groups_week.specs.Steps.{Falls, IsRelaxed};
+ghost use Rattle.tt_groups_week.specs.Steps.{Falls, IsRelaxed, IsMade, IsMadeFrom};
 
 use crate::digits::Digits;
 use crate::fault::WeekFault;
@@ -13,6 +13,7 @@ use crate::state::{State, advance, state_at};
 fn lower(table: &mut [u8], place: usize, value: u8)
     ensures there { slice_index table.new place ≤ value }
     ensures falls { Falls table.old table.new }
+    ensures only { (k : ℕ) → (slice_index table.new k ≡ slice_index table.old k) ⊎ ((k ≡ place) × (slice_index table.new k ≡ value)) }
 {
     if place < table.len() && value < table[place] {
         table[place] = value;
@@ -33,6 +34,8 @@ pub fn relax(
     ensures falls { Falls table.old table.new }
     ensures relaxed { All (λ m. IsRelaxed digits.now.sizes.items digits.now.weights.items digits.now.courses
         bound state.now.place paid table.new m.entry) moves.now }
+    ensures made { (k : ℕ) → (slice_index table.new k ≡ slice_index table.old k) ⊎ IsMade digits.now.sizes.items digits.now.weights.items digits.now.courses
+        moves.now state.now.place paid k (slice_index table.new k) }
 {
     for (tried, by) in moves.iter().enumerate() {
         let cost = u32::from(paid) + u32::from(by.entry.cost);
@@ -47,6 +50,23 @@ pub fn relax(
         }
     }
     moves.len()
+}
+
+/// Takes what was tried from the relaxations that are left. Where fewer are left, all are used up.
+fn use_up(relaxations: &mut u64, tried: usize) -> Result<(), WeekFault>
+    ensures taken { OnOk result (relaxations.new + tried ≡ relaxations.old) }
+    ensures used_up { OnErr result ((relaxations.old < tried) × (relaxations.new ≡ 0)) }
+{
+    match relaxations.checked_sub(tried as u64) {
+        Some(left) => {
+            *relaxations = left;
+            Ok(())
+        }
+        None => {
+            *relaxations = 0;
+            Err(WeekFault::TooMuchWork)
+        }
+    }
 }
 
 /// Lowers the entries of the next table to which the moves lead from a place of this one where less than the bound is paid. The relaxations
@@ -65,14 +85,15 @@ pub fn extend(
     ensures extended { OnOk result ((place : ℕ) → place < length table.now → slice_index table.now place < bound →
         All (λ m. IsRelaxed digits.now.sizes.items digits.now.weights.items digits.now.courses
         bound place (slice_index table.now place) next.new m.entry) moves.now) }
+    ensures made { OnOk result ((k : ℕ) → (slice_index next.new k ≡ slice_index next.old k) ⊎ IsMadeFrom digits.now.sizes.items digits.now.weights.items digits.now.courses
+        moves.now bound table.now k (slice_index next.new k)) }
+    ensures used_up { OnErr result (relaxations.new ≡ 0) }
 {
     for (place, paid) in table.iter().enumerate() {
         if *paid < bound {
             let state = state_at(digits, place as u32);
             let tried = relax(digits, moves, bound, &state, *paid, next);
-            *relaxations = relaxations
-                .checked_sub(tried as u64)
-                .ok_or(WeekFault::TooMuchWork)?;
+            use_up(relaxations, tried)?;
         }
     }
     Ok(())

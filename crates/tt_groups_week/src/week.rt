@@ -1,11 +1,12 @@
 //! The table of the whole week.
 
-ghost use Rattle.std.specs.Prelude.{◌≡◌, ℕ, ◌<◌, ◌≤◌, ◌+◌, List, length, slice_index, All, IfOk, IsTrue};
+ghost use Rattle.std.specs.Prelude.{◌≡◌, ℕ, ◌<◌, ◌≤◌, ◌+◌, List, length, slice_index, true, false, All, IfOk, IsTrue, Err};
 ghost use Rattle.tt_groups.specs.Group as spec;
 ghost use Rattle.tt_groups.specs.Group.{IsGroupBound};
-ghost use Rattle.tt_groups.specs.Plans.{base_cost};
+ghost use Rattle.tt_groups.specs.Plans.{Week, IsPlan, base_cost, spent};
 ghost use Rattle.tt_groups_week.specs.Fold.{AreReady};
-ghost use Rattle.tt_groups_week.specs.WeekLists.{is_full, IsHighList, Suits};
+ghost use Rattle.tt_groups_week.specs.declared.fault.WeekFault.TheVariants as fault;
+ghost use Rattle.tt_groups_week.specs.WeekLists.{is_full, IsHighList, Suits, AreReached};
 ghost use Rattle.tt_instance.specs.Problem.{Problem};
 
 use crate::digits::Digits;
@@ -29,7 +30,8 @@ fn is_full(digits: &Digits, place: u32) -> bool
 /// Whether the bound is paid wherever each course has all its lectures.
 fn is_high(digits: &Digits, bound: u8, table: &[u8]) -> bool
     requires { length table.now ≤ 1048576 }
-    ensures { IsTrue result → IsHighList digits.now.sizes.items digits.now.weights.items digits.now.courses bound table.now }
+    ensures high { IsTrue result → IsHighList digits.now.sizes.items digits.now.weights.items digits.now.courses bound table.now }
+    ensures low { result ≡ false → (s : ℕ) × (is_full digits.now.sizes.items digits.now.weights.items digits.now.courses s ≡ true) × (s < length table.now) × (slice_index table.now s < bound) }
 {
     for (place, paid) in table.iter().enumerate() {
         if *paid < bound && is_full(digits, place as u32) {
@@ -39,8 +41,7 @@ fn is_high(digits: &Digits, bound: u8, table: &[u8]) -> bool
     true
 }
 
-/// Whether each relaxed timetable of a group costs the bound beyond its base, by the moves of its days. The relaxations that are left go
-/// down with each that is done.
+/// Whether each plan of a group costs the bound, by the moves of its days. The relaxations that are left go down with each that is done.
 pub fn week_holds(
     alloc: Global,
     digits: &Digits,
@@ -51,9 +52,14 @@ pub fn week_holds(
 ) -> Result<bool, WeekFault>
     requires ready { All (λ v. AreReady digits.now.sizes.items digits.now.weights.items digits.now.courses v.items) lists.now }
     requires inside { All (λ i. i < length lists.now) of_day.now }
-    ensures { IfOk result (λ holds. IsTrue holds → (p : Problem) (g : spec.Group) (cs : List ℕ) →
+    ensures holds { IfOk result (λ holds. IsTrue holds → (p : Problem) (g : spec.Group) (cs : List ℕ) →
         Suits p g cs digits.now.sizes.items digits.now.weights.items digits.now.courses bound lists.now of_day.now →
         IsGroupBound p g (base_cost p g + bound)) }
+    // Where it does not hold, and the moves are those of days that there can be, some plan costs less.
+    ensures fails { IfOk result (λ holds. holds ≡ false → (p : Problem) (g : spec.Group) (cs : List ℕ) →
+        Suits p g cs digits.now.sizes.items digits.now.weights.items digits.now.courses bound lists.now of_day.now → AreReached p g cs lists.now of_day.now →
+        (week : Week) × IsPlan p g week × (spent p g week p.days < bound)) }
+    ensures used_up { result ≡ Err fault.TooMuchWork → relaxations.new ≡ 0 }
 {
     let places = digits.count as usize;
     let mut table = vec![in alloc; u8::MAX; places]?;

@@ -4,13 +4,14 @@ use Rattle.std.specs.Global.{Global}
 use Rattle.std.specs.Prelude.{All}
 use Rattle.tt_groups.specs.Places.{group_sizes}
 use Rattle.tt_groups_week.specs.Fold.{AreReady}
-use Rattle.tt_groups_week.specs.WeekLists.{Suits}
+use Rattle.tt_groups_week.specs.WeekLists.{Suits, AreReached}
 use Rattle.std.proofs.lemmas.List.Elements.{Contains-get_or}
 use Rattle.tt_instance.specs.Courses.{lectures}
 use Rattle.tt_groups_check.specs.Setting.{IsSetting}
 use Rattle.tt_groups_check.specs.Lists.{AreOfDays}
 use Rattle.tt_groups_week.specs.declared.moves.Move.{Move}
 use Rattle.tt_groups_check.proofs.Setting.{narrow_from, courses_below, digits_between, digits_few, base_bound}
+use Rattle.tt_groups.proofs.Built.{built, is_relaxed, built_cost}
 use Rattle.tt_groups_check.proofs.check.check_group.Goals as goal
 
 pub sizes_of-requires-clause-courses : goal.sizes_of-requires-clause-courses
@@ -74,7 +75,7 @@ returns-then-holds-clause-holds c =
     } in
     let same = subst (λ (l : List ℕ). Suits p g cs d.sizes.items d.weights.items d.courses bound c.deref-3.result.now l) (sym c.deref-4.ensures.value)
     (subst (λ (l : List (Vec Move Global)). Suits p g cs d.sizes.items d.weights.items d.courses bound l lists.of_day.items) (sym c.deref-3.ensures.value) suits) in
-    λ t relaxed. omega (arith, c.in_ok-holds.ensures c.if-holds.true p g cs same t relaxed, c.base_cost-base.ensures.value, c.if-value-base.false)
+    λ t relaxed. omega (arith, c.in_ok-holds.ensures.holds c.if-holds.true p g cs same t relaxed, c.base_cost-base.ensures.value, c.if-value-base.false)
 
 pub lists_of-requires : goal.lists_of-requires
 lists_of-requires c =
@@ -87,6 +88,7 @@ lists_of-requires c =
     let made = rw c.in-Some.is at c.in_ok-digits.ensures.made in
     let there : IsSetting p g cs d.sizes.items d.courses = record {
       group = c.in_ok-courses.ensures.courses;
+      distinct = c.in_ok-courses.ensures.distinct;
       few = omega (arith, narrow.concerned, ap length is);
       own = narrow.courses;
       curricula = narrow.curricula;
@@ -96,3 +98,31 @@ lists_of-requires c =
       courses_are = omega (arith, made.1, c.len.ensures);
     } in
     subst (λ (l : List ℕ). IsSetting p g l d.sizes.items d.courses) (sym c.deref-2.ensures.value) there
+
+pub returns-clause-too_cheap : goal.returns-clause-too_cheap
+returns-clause-too_cheap c = λ is.
+    let p = c.args.instance.now in
+    let g = c.args.group.now in
+    let cs = c.in_ok-courses.courses.items in
+    let d = c.in-Some.digits in
+    let lists = c.in_ok-lists.lists in
+    let bound = c.args.value - c.base_cost-base.result in
+    let made = rw c.in-Some.is at c.in_ok-digits.ensures.made in
+    let sized : d.sizes.items ≡ group_sizes p g cs = made.0 ∙ c.in_ok-sizes.ensures ∙ ap (group_sizes p g) c.deref.ensures.value in
+    let many : d.courses ≡ length cs = omega (arith, made.1, c.len.ensures) in
+    let days = subst (λ (l : List ℕ). AreOfDays p g l d.sizes.items d.weights.items d.courses bound lists.moves.items lists.of_day.items) c.deref-2.ensures.value c.in_ok-lists.ensures.of_days in
+    let suits : Suits p g cs d.sizes.items d.weights.items d.courses bound lists.moves.items lists.of_day.items = record {
+      group = c.in_ok-courses.ensures.courses;
+      sizes_are = sized;
+      weights_are = d.are.weighed;
+      courses_are = many;
+      all_days = c.in_ok-lists.ensures.all;
+      each_day = days;
+    } in
+    let same = subst (λ (l : List ℕ). Suits p g cs d.sizes.items d.weights.items d.courses bound c.deref-3.result.now l) (sym c.deref-4.ensures.value)
+    (subst (λ (l : List (Vec Move Global)). Suits p g cs d.sizes.items d.weights.items d.courses bound l lists.of_day.items) (sym c.deref-3.ensures.value) suits) in
+    let reached = subst (λ (l : List ℕ). AreReached p g l lists.moves.items lists.of_day.items) c.deref-2.ensures.value c.in_ok-lists.ensures.reached in
+    let all = subst (λ (l : List ℕ). AreReached p g cs c.deref-3.result.now l) (sym c.deref-4.ensures.value) (subst (λ (l : List (Vec Move Global)). AreReached p g cs l lists.of_day.items) (sym c.deref-3.ensures.value) reached) in
+    let w = c.in_ok-holds.ensures.fails c.if-holds.false p g cs same all in
+    let there = c.in_ok-courses.ensures.in_range in
+    (built p g w.0 w.1 there, is_relaxed p g w.0 w.1 there, omega (arith, built_cost p g w.0 w.1 there, w.2, c.base_cost-base.ensures.value, c.if-value-base.false))

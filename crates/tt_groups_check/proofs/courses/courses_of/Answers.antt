@@ -4,7 +4,8 @@ use Rattle.tt_lists.specs.Words.{range_below}
 use Rattle.tt_groups.specs.Group.{concerns}
 use Rattle.tt_groups.specs.Listed.{AreCourses}
 use Rattle.tt_groups_check.specs.Limits.{courses_of}
-use Rattle.tt_groups_check.proofs.Setting.{filter_more-passing, filter_more-failing, are_courses}
+use Rattle.tt_groups_check.proofs.Setting.{filter_more-passing, filter_more-failing, are_courses, concerned_below, distinct_passing}
+use Rattle.tt_groups_day.specs.Found.{AreDistinct}
 use Rattle.tt_groups_check.proofs.courses.courses_of.Goals as goal
 use Rattle.tt_groups_check.proofs.courses.courses_of.Goals.{then-concerns+in_ok-push, else-concerns}
 
@@ -25,3 +26,9 @@ returns-clause-courses c =
     let end : c.loop-course.course ≡ length p.courses = omega (arith, c.courses-course-end.ensures.value) in
     let is : c.loop-course.courses.items ≡ courses_of p g = c.loop-course.invariant ∙ ap (λ (n : ℕ). filter (concerns p g) (range_below n)) end in
     subst (AreCourses p g) (sym is) (are_courses p g c.days.ensures.instance c.requires)
+
+pub returns-clause-distinct : goal.returns-clause-distinct
+returns-clause-distinct c = subst AreDistinct (sym c.loop-course.invariant) (distinct_passing (concerns c.args.instance.now c.args.group.now) c.loop-course.course)
+
+pub returns-clause-in_range : goal.returns-clause-in_range
+returns-clause-in_range c = concerned_below c.args.instance.now c.args.group.now c.days.ensures.instance c.requires

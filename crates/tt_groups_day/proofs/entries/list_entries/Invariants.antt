@@ -1,5 +1,8 @@
-use Rattle.tt_groups_day.specs.Entries.{HasEntries}
+use Rattle.tt_groups_day.specs.Entries.{HasEntries, AreEntriesOf}
 use Rattle.tt_groups_day.proofs.entries.list_entries.Given as goal
 
 abbrev pub invariant-loop-place : goal.invariant-loop-place
-invariant-loop-place l = HasEntries l.group l.courses l.sizes l.weights l.bound l.table l.place l.entries.items
+invariant-loop-place l = record {
+  has : HasEntries l.group l.courses l.sizes l.weights l.bound l.table l.place l.entries.items;
+  own : AreEntriesOf l.group l.courses l.sizes l.weights l.bound l.table l.place l.entries.items;
+}

@@ -1,5 +1,9 @@
-use Rattle.std.proofs.Common.{ℕ, List, get_or, sym, ap, subst, arith}
-use Rattle.std.specs.Prelude.{slice_index}
+use Rattle.std.proofs.Common.{◌≡◌, ℕ, inl, inr, List, get_or, sym, ap, subst, arith}
+use Rattle.std.specs.Prelude.{◌⊎◌, slice_index}
+use Rattle.std.proofs.lemmas.List.Elements.{Contains-get_or}
+use Rattle.tt_groups.proofs.Lists.{made-more}
+use Rattle.tt_groups_day.specs.Found.{IsFound}
+use Rattle.tt_groups_day.proofs.Finding.{found-end, found-next}
 use Rattle.tt_groups_day.specs.Sets.{Falls, IsTriedWith}
 use Rattle.tt_groups_day.proofs.Searching.{tried-end, tried-all, with-more, with-next, day_at, no_set, no_period}
 use Rattle.tt_groups_day.proofs.search.+try_days.Goals as goal
@@ -16,6 +20,7 @@ loop-set-preserved t c =
     let set = get_or sets i no_set in
     let now = c.match-more.table in
     let before = c.loop-set.invariant in
+    let Found : ℕ → ℕ → Type 0 = λ k v. IsFound most periods sets a.period m k v in
     elim c.match-more.branch [
       | in-Some+in_ok-sequences+in_ok-try_days w ↦
           let falls : Falls c.loop-set.table now = λ k. omega (arith, w.in_ok-try_days.ensures.falls k, ap (λ (l : List ℕ). slice_index l k) w.table-is) in
@@ -24,6 +29,11 @@ loop-set-preserved t c =
             falls = λ k. omega (arith, falls k, before.falls k);
             tried = with-more most periods sets a.bound a.period m i no_set c.loop-set.table now c.loop-set-test.true falls before.tried
                 (subst (λ (l : List ℕ). IsTriedWith most periods sets a.bound a.period m l set) (sym w.table-is) tried);
+            found = made-more Found a.table.now c.loop-set.table now before.found (λ k. subst (λ (l : List ℕ). (slice_index l k ≡ slice_index c.loop-set.table k) ⊎ Found k (slice_index l k)) (sym w.table-is) (elim (w.in_ok-try_days.ensures.found k) [
+              | inl e ↦ inl e
+              | inr f ↦ inr (found-next most periods sets a.period m w.in-Some.next set (omega (arith, c.requires.inside, c.if-period-periods.false)) (Contains-get_or sets i no_set c.loop-set-test.true) w.in-Some.ensures.leads w.in-Some.ensures.open w.in-Some.ensures.fitting
+                  k (slice_index w.try_days.new.table k) f)
+            ]));
           }
       | in_default w ↦
           let falls : Falls c.loop-set.table now = λ k. omega (arith, ap (λ (l : List ℕ). slice_index l k) w.table-is) in
@@ -33,6 +43,7 @@ loop-set-preserved t c =
           record {
             falls = λ k. omega (arith, falls k, before.falls k);
             tried = with-more most periods sets a.bound a.period m i no_set c.loop-set.table now c.loop-set-test.true falls before.tried tried;
+            found = made-more Found a.table.now c.loop-set.table now before.found (λ k. inl (ap (λ (l : List ℕ). slice_index l k) w.table-is));
           }
     ]
 
@@ -43,3 +54,13 @@ returns-then-period-periods-clause-tried t c =
 pub returns-clause-tried : goal.returns-clause-tried
 returns-clause-tried t c =
     tried-all c.args.most.now c.args.periods.now c.args.sets.now c.args.bound c.args.period c.loop-set.set-index c.args.morning.now c.loop-set.table (omega (arith, c.requires.inside, c.if-period-periods.false)) c.loop-set-test.false c.loop-set.invariant.tried
+
+pub returns-then-period-periods-clause-found : goal.returns-then-period-periods-clause-found
+returns-then-period-periods-clause-found t c = λ k. elim (c.end.ensures.only k) [
+  | inl e ↦ inl e
+  | inr f ↦
+      let a = c.args in
+      let Found : ℕ → ℕ → Type 0 = IsFound a.most.now a.periods.now a.sets.now a.period a.morning.now in
+      let at = found-end a.most.now a.periods.now a.sets.now a.period a.morning.now c.if-period-periods.true (omega arith) in
+      inr (subst (λ (n : ℕ). Found n (slice_index c.end.new.table k)) (sym f.0) (subst (Found a.morning.now.place) (sym f.1) at))
+]

@@ -1,5 +1,6 @@
-use Rattle.std.proofs.Common.{◌-◌, length, take}
-use Rattle.std.specs.Prelude.{All}
+use Rattle.std.proofs.Common.{◌≡◌, ℕ, ◌-◌, length, take}
+use Rattle.std.specs.Prelude.{◌⊎◌, All, slice_index}
+use Rattle.tt_groups_day.specs.Found.{IsFound}
 use Rattle.tt_groups_day.specs.Sets.{Falls, IsTriedWith}
 use Rattle.tt_groups_day.proofs.search.+try_days.Given as goal
 
@@ -10,4 +11,5 @@ abbrev pub invariant-loop-set : goal.invariant-loop-set
 invariant-loop-set l = record {
   falls : Falls l.initial.table l.table;
   tried : All (IsTriedWith l.most l.periods l.sets l.bound l.period l.morning l.table) (take l.set-index l.sets);
+  found : (k : ℕ) → (slice_index l.table k ≡ slice_index l.initial.table k) ⊎ IsFound l.most l.periods l.sets l.period l.morning k (slice_index l.table k);
 }

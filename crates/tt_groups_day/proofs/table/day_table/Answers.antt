@@ -1,5 +1,8 @@
-use Rattle.std.proofs.Common.{◌≡◌, List, [], drop, length, refl, sym, ap, ◌∙◌, subst, arith}
-use Rattle.std.proofs.lemmas.List.{length-replicate}
+use Rattle.std.proofs.Common.{◌≡◌, ℕ, inl, inr, List, [], drop, length, refl, sym, ap, ◌∙◌, subst, arith}
+use Rattle.std.proofs.lemmas.List.{length-replicate, get_or-replicate}
+use Rattle.std.specs.Prelude.{replicate, slice_index}
+use Rattle.tt_groups_day.specs.Found.{AreOpened}
+use Rattle.tt_groups_day.proofs.Finding.{open_first}
 use Rattle.tt_groups_day.specs.Sets.{ArePeriodsOf}
 use Rattle.tt_groups_day.specs.declared.search.Period.{Period}
 use Rattle.tt_groups_day.proofs.Starting.{zeros, morning-start, take_written}
@@ -27,3 +30,30 @@ returns-clause-low c = λ g weights are few sets complete.
     let days = subst (λ (l : List Period). ArePeriodsOf p g cs c.args.day c.lectures_of-most.result l) (sym c.deref.ensures.value) there in
     let start = morning-start p g cs weights _ (zeros 16) refl refl refl refl in
     rw written (c.in_ok-try_days.ensures.tried p g cs weights c.args.day [] days refl sets complete start)
+
+pub returns-clause-found : goal.returns-clause-found
+returns-clause-found c = λ g weights are few distinct sets aparts.
+    let p = c.args.instance.now in
+    let cs = c.args.courses.now in
+    let items = c.in_ok-table.table.items in
+    let new = c.try_days.new.table in
+    let table = c.in_ok-table.ensures.items_if_clones_equal (λ y e. e) in
+    let long : length items ≡ c.args.places = ap length table ∙ length-replicate c.args.places 255 in
+    let same : length new ≡ c.args.places = c.try_days.auto.table ∙ ap length c.deref_mut.ensures.value ∙ long in
+    let written = take_written new (drop (length new) items) c.in_ok-table.table.len (c.in_ok-table.ensures.len ∙ sym same) in
+    let there : ArePeriodsOf p g cs c.args.day c.lectures_of-most.result c.in_ok-periods.periods.items = record {
+      group = are;
+      few = few;
+      most_are = c.lectures_of-most.ensures;
+      whole = c.in_ok-periods.ensures.whole;
+      closed = c.in_ok-periods.ensures.closed;
+    } in
+    let days = subst (λ (l : List Period). ArePeriodsOf p g cs c.args.day c.lectures_of-most.result l) (sym c.deref.ensures.value) there in
+    let opened = subst (λ (l : List Period). AreOpened p cs c.args.day l) (sym c.deref.ensures.value) c.in_ok-periods.ensures.opened in
+    let none : (i : ℕ) → slice_index (replicate 16 0) i ≡ 0 = zeros 16 in
+    rw written (λ k inside less. elim (c.in_ok-try_days.ensures.found k) [
+      | inl e ↦
+          let old = ap (λ (l : List ℕ). slice_index l k) (c.deref_mut.ensures.value ∙ table) in
+          absurd (omega (arith, less, e, old, c.ranges.bound.fits, get_or-replicate {A = ℕ} c.args.places k 255 0 inside))
+      | inr f ↦ f p g cs weights c.args.day [] c.requires.few distinct days opened refl sets aparts (morning-start p g cs weights _ (zeros 16) refl refl refl refl) (open_first p cs c.args.day) (λ i l. omega (arith, none i))
+    ])

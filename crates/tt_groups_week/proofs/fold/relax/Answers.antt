@@ -1,7 +1,9 @@
-use Rattle.std.proofs.Common.{ℕ, ◌+◌, ◌<◌, ◌≤◌, List, get_or, length, take_all, sym, ap, subst, ◌∙◌, arith}
-use Rattle.std.specs.Prelude.{slice_index}
-use Rattle.tt_groups_week.specs.Steps.{Falls}
+use Rattle.std.proofs.Common.{◌≡◌, ℕ, ◌+◌, ◌<◌, ◌≤◌, inl, inr, List, get_or, length, take_all, sym, ap, subst, ◌∙◌, arith}
+use Rattle.std.specs.Prelude.{◌⊎◌, slice_index}
+use Rattle.std.proofs.lemmas.List.Elements.{Contains-get_or}
+use Rattle.tt_groups_week.specs.Steps.{Falls, IsMade}
 use Rattle.tt_groups_week.specs.declared.moves.Move.{Move}
+use Rattle.tt_groups.proofs.Lists.{made-more}
 use Rattle.tt_groups_week.proofs.Relaxing.{no_move, Relaxed, relaxed-nowhere, relaxed-costly, relaxed-there, relaxed-more, relaxed-rest}
 use Rattle.tt_groups_week.proofs.fold.relax.Goals as goal
 use Rattle.tt_groups_week.proofs.fold.relax.Goals.{in-Some+then-total-from, in-Some+else-total-from, in_default}
@@ -20,6 +22,7 @@ loop-tried-preserved c =
     let now = c.match-advance.table in
     let before = c.loop-tried.invariant in
     let by = get_or a.moves.now i no_move in
+    let Made : ℕ → ℕ → Type 0 = λ k v. IsMade d.sizes.items d.weights.items d.courses a.moves.now place a.paid k v in
     elim c.match-advance.branch [
       | in-Some+then-total-from w ↦
           let falls : Falls c.loop-tried.table now = λ k. omega (arith, w.lower.ensures.falls k, ap (λ (l : List ℕ). slice_index l k) w.table-is) in
@@ -29,6 +32,17 @@ loop-tried-preserved c =
             falls = λ k. omega (arith, falls k, before.falls k);
             relaxed = relaxed-more d.sizes.items d.weights.items d.courses a.bound place a.paid a.moves.now i no_move c.loop-tried.table now c.loop-tried-test.true falls before.relaxed
                 (relaxed-there d.sizes.items d.weights.items d.courses a.bound place a.paid now by.entry r (sym w.in-Some.ensures.value) there);
+            made = made-more Made a.table.now c.loop-tried.table now before.made (λ k. subst (λ (l : List ℕ). (slice_index l k ≡ slice_index c.loop-tried.table k) ⊎ Made k (slice_index l k)) (sym w.table-is) (elim (w.lower.ensures.only k) [
+              | inl e ↦ inl e
+              | inr f ↦ inr (record {
+                by = by;
+                there = Contains-get_or a.moves.now i no_move c.loop-tried-test.true;
+                step = r;
+                leads = sym w.in-Some.ensures.value;
+                reached = f.0;
+                value = omega (arith, f.1, c.from.ensures, c.from-in-loop-tried.ensures);
+              })
+            ]));
           }
       | in-Some+else-total-from w ↦
           let falls : Falls c.loop-tried.table now = λ k. omega (arith, ap (λ (l : List ℕ). slice_index l k) w.table-is) in
@@ -37,6 +51,7 @@ loop-tried-preserved c =
             falls = λ k. omega (arith, falls k, before.falls k);
             relaxed = relaxed-more d.sizes.items d.weights.items d.courses a.bound place a.paid a.moves.now i no_move c.loop-tried.table now c.loop-tried-test.true falls before.relaxed
                 (relaxed-costly d.sizes.items d.weights.items d.courses a.bound place a.paid now by.entry r (sym w.in-Some.ensures.value) (omega (arith, w.if-total-from.false, c.from.ensures, c.from-in-loop-tried.ensures, w.from-in-Some.ensures)));
+            made = made-more Made a.table.now c.loop-tried.table now before.made (λ k. inl (ap (λ (l : List ℕ). slice_index l k) w.table-is));
           }
       | in_default w ↦
           let falls : Falls c.loop-tried.table now = λ k. omega (arith, ap (λ (l : List ℕ). slice_index l k) w.table-is) in
@@ -44,6 +59,7 @@ loop-tried-preserved c =
             falls = λ k. omega (arith, falls k, before.falls k);
             relaxed = relaxed-more d.sizes.items d.weights.items d.courses a.bound place a.paid a.moves.now i no_move c.loop-tried.table now c.loop-tried-test.true falls before.relaxed
                 (relaxed-nowhere d.sizes.items d.weights.items d.courses a.bound place a.paid now by.entry (sym c.advance.ensures.value ∙ w.in_default.is));
+            made = made-more Made a.table.now c.loop-tried.table now before.made (λ k. inl (ap (λ (l : List ℕ). slice_index l k) w.table-is));
           }
     ]
 

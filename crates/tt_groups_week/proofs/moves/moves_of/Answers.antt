@@ -1,7 +1,7 @@
 use Rattle.std.proofs.Common.{◌+◌, ◌≡◌, rules}
 use Rattle.std.proofs.lemmas.List.Sorted.{IsNonDecreasingBy-from_sort_by_key, All-permutation}
 use Rattle.tt_groups_week.specs.Fold.{index_of, floor_of}
-use Rattle.tt_groups_week.proofs.Relaxing.{move_of}
+use Rattle.tt_groups_week.proofs.Relaxing.{move_of, entry_of}
 use Rattle.tt_groups_week.specs.declared.moves.Move.{Move}
 use Rattle.tt_groups_week.proofs.moves.moves_of.Goals as goal
 
@@ -17,4 +17,5 @@ returns c =
         sorted = IsNonDecreasingBy-from_sort_by_key (λ m. m.entry.cost + m.floor) _ c.sort_unstable_by_key.ensures.sorted (λ a r q k. search rules);
       };
       all = move_of c.args.days.now c.loop-entry.entry-index c.loop-entry.moves.items _ c.loop-entry-test.false c.loop-entry.invariant.entries c.sort_unstable_by_key.ensures.permutation;
+      own = entry_of c.args.days.now c.loop-entry.entry-index c.loop-entry.moves.items _ c.loop-entry-test.false c.loop-entry.invariant.entries c.sort_unstable_by_key.ensures.permutation;
     }

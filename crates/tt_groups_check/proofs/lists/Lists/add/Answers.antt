@@ -2,7 +2,8 @@ use Rattle.std.proofs.Common.{◌≡◌, ℕ, List, [], ◌∷◌, ◌++◌, len
 use Rattle.std.specs.Global.{Global}
 use Rattle.tt_groups_week.specs.declared.moves.Move.{Move}
 use Rattle.tt_groups_check.specs.Lists.{AreListed, AreOfDays}
-use Rattle.tt_groups_check.proofs.Adding.{added, listed_more}
+use Rattle.tt_groups_week.specs.WeekLists.{AreReached}
+use Rattle.tt_groups_check.proofs.Adding.{added, listed_more, reached_added}
 use Rattle.tt_groups_check.proofs.lists.Lists.add.Goals as goal
 
 pub returns-clause-listed : goal.returns-clause-listed
@@ -24,3 +25,12 @@ returns-clause-of_days c = λ p g cs b list before.
     let days : c.push.new.self.items ≡ old.of_day.items ++ length old.moves.items ∷ [] = c.in_ok-push.ensures.items ∙ ap (λ n. old.of_day.items ++ n ∷ []) many in
     subst (λ (l : List (Vec Move Global)). AreOfDays p g cs d.sizes.items d.weights.items d.courses b l c.push.new.self.items) (sym c.in_ok-push-2.ensures.items)
     (subst (λ (l : List ℕ). AreOfDays p g cs d.sizes.items d.weights.items d.courses b (old.moves.items ++ c.in_ok-list.list ∷ []) l) (sym days) more)
+
+pub returns-clause-reached : goal.returns-clause-reached
+returns-clause-reached c = λ p g cs entries before.
+    let old = c.args.self.now in
+    let more = reached_added p g cs old.moves.items old.of_day.items before c.in_ok-list.list c.requires.inside (λ m there. entries m.entry (c.in_ok-list.ensures.own m there)) in
+    let many : c.len.result ≡ length old.moves.items = omega (arith, c.len.ensures) in
+    let days : c.push.new.self.items ≡ old.of_day.items ++ length old.moves.items ∷ [] = c.in_ok-push.ensures.items ∙ ap (λ n. old.of_day.items ++ n ∷ []) many in
+    subst (λ (l : List (Vec Move Global)). AreReached p g cs l c.push.new.self.items) (sym c.in_ok-push-2.ensures.items)
+    (subst (λ (l : List ℕ). AreReached p g cs (old.moves.items ++ c.in_ok-list.list ∷ []) l) (sym days) more)

@@ -1,0 +1,57 @@
+//! Claims of drafts.
+
+ghost use Rattle.std.specs.Prelude.{◌<◌, All, IsTrue};
+
+use crate::draft::Draft;
+use std::alloc::{AllocError, Global};
+use tt_groups::Group;
+use tt_groups_check::{GroupFault, Work, check_group};
+use tt_groups_read::GroupClaim;
+use tt_instance::Instance;
+
+/// Whether all numbers are below a count.
+fn are_below(numbers: &[u32], count: u32) -> bool
+    ensures { IsTrue result → All (λ n. n < count) numbers.now }
+{
+    numbers.iter().all(|number| *number < count)
+}
+
+/// The claim of a draft, if a check accepts it.
+fn claim_of(
+    alloc: Global,
+    instance: &Instance<'_>,
+    draft: Draft,
+    work: &mut Work,
+) -> Result<Option<GroupClaim>, AllocError> {
+    let value = draft.value;
+    if !are_below(&draft.curricula, instance.curricula()) {
+        return Ok(None);
+    }
+    if !are_below(&draft.courses, instance.courses()) {
+        return Ok(None);
+    }
+    let group = Group::new(draft.curricula, draft.courses);
+    match check_group(alloc, instance, &group, value, work) {
+        Ok(()) => Ok(Some(GroupClaim { value, group })),
+        Err(GroupFault::OutOfMemory) => Err(AllocError),
+        Err(_) => Ok(None),
+    }
+}
+
+/// The claims of drafts that are worth something, each checked, within the work that the checks of one file may do.
+pub fn claims_of(
+    alloc: Global,
+    instance: &Instance<'_>,
+    drafts: Vec<Draft>,
+) -> Result<Vec<GroupClaim>, AllocError> {
+    let mut claims = Vec::new(alloc);
+    let mut work = Work::new();
+    for draft in drafts {
+        if draft.value > 0
+            && let Some(claim) = claim_of(alloc, instance, draft, &mut work)?
+        {
+            claims.push(claim)?;
+        }
+    }
+    Ok(claims)
+}

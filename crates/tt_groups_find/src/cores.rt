@@ -1,0 +1,85 @@
+//! Targets that groups can do without.
+
+use crate::draft::{Draft, without};
+use crate::free::Free;
+use crate::judge::Judge;
+use crate::order::shuffle;
+use rand_pcg::Pcg32;
+use std::alloc::AllocError;
+use tt_groups_least::courses_of;
+
+/// Leaves out the courses that a draft is worth as much without.
+fn leave_courses(
+    judge: &mut Judge<'_, '_>,
+    draft: &mut Draft,
+    rng: &mut Pcg32,
+) -> Result<(), AllocError> {
+    let mut order = Vec::from_slice(judge.alloc, &draft.courses)?;
+    shuffle(&mut order, rng);
+    for course in &order {
+        let courses = without(judge.alloc, &draft.courses, *course)?;
+        if judge.is_worth(&draft.curricula, &courses, draft.value)? {
+            draft.courses = courses;
+        }
+    }
+    Ok(())
+}
+
+/// Leaves out the curricula that a draft is worth as much without.
+fn leave_curricula(
+    judge: &mut Judge<'_, '_>,
+    draft: &mut Draft,
+    rng: &mut Pcg32,
+) -> Result<(), AllocError> {
+    let mut order = Vec::from_slice(judge.alloc, &draft.curricula)?;
+    shuffle(&mut order, rng);
+    for curriculum in &order {
+        let curricula = without(judge.alloc, &draft.curricula, *curriculum)?;
+        if judge.is_worth(&curricula, &draft.courses, draft.value)? {
+            draft.curricula = curricula;
+        }
+    }
+    Ok(())
+}
+
+/// What a draft has after it has lost targets.
+fn recount(judge: &Judge<'_, '_>, draft: &mut Draft) -> Result<(), AllocError> {
+    let (alloc, instance) = (judge.alloc, judge.instance);
+    draft.concerned = courses_of(alloc, instance, &draft.curricula, &draft.courses)?;
+    if let Some(states) = judge.states_of(&draft.curricula, &draft.courses)? {
+        draft.states = states;
+    }
+    Ok(())
+}
+
+/// Leaves out the courses that a draft is worth as much without, and takes its other targets.
+pub fn reduce_courses(
+    judge: &mut Judge<'_, '_>,
+    free: &mut Free,
+    draft: &mut Draft,
+    rng: &mut Pcg32,
+) -> Result<(), AllocError> {
+    free.give_back(draft);
+    leave_courses(judge, draft, rng)?;
+    recount(judge, draft)?;
+    free.take(draft);
+    Ok(())
+}
+
+/// Leaves out all targets that a draft is worth as much without, and takes the others.
+pub fn reduce(
+    judge: &mut Judge<'_, '_>,
+    free: &mut Free,
+    draft: &mut Draft,
+    rng: &mut Pcg32,
+) -> Result<(), AllocError> {
+    free.give_back(draft);
+    if !draft.is_core {
+        leave_courses(judge, draft, rng)?;
+        leave_curricula(judge, draft, rng)?;
+        recount(judge, draft)?;
+        draft.is_core = judge.work > 0;
+    }
+    free.take(draft);
+    Ok(())
+}

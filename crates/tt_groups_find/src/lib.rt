@@ -1,0 +1,18 @@
+//! Groups whose bounds add up, found.
+#![tactic(auto)]
+
+mod claims;
+mod cores;
+mod draft;
+mod finding;
+mod free;
+mod growing;
+mod guide;
+mod judge;
+mod merging;
+mod order;
+mod packing;
+mod writing;
+
+pub use finding::find_groups;
+pub use writing::write_groups;

@@ -1,0 +1,92 @@
+//! Groups packed one by one: each time the one that is worth most.
+
+ghost use Rattle.std.specs.Prelude.{◌<◌, length, IfSome};
+
+use crate::cores::reduce;
+use crate::draft::Draft;
+use crate::free::Free;
+use crate::growing::grow;
+use crate::judge::Judge;
+use rand_pcg::Pcg32;
+use std::alloc::{AllocError, Global};
+
+/// A curriculum that a group can grow from, and the group once it has grown.
+#[derive(Drop)]
+pub struct Seed {
+    curriculum: u32,
+    grown: Option<Draft>,
+    is_grown: bool,
+}
+
+/// The seed whose group is worth most, if any is worth something.
+fn best_of(seeds: &[Seed]) -> Option<usize>
+    ensures { IfSome result (λ k. k < length seeds.now) }
+{
+    let mut found = None;
+    let mut best = 0;
+    for (place, seed) in seeds.iter().enumerate() {
+        if let Some(draft) = &seed.grown {
+            if best < draft.value {
+                found = Some(place);
+                best = draft.value;
+            }
+        }
+    }
+    found
+}
+
+/// Grows a group from each seed that has none.
+fn grow_all(judge: &mut Judge<'_, '_>, free: &Free, seeds: &mut [Seed]) -> Result<(), AllocError> {
+    let among = free.curricula(judge.alloc)?;
+    for seed in seeds {
+        if !seed.is_grown {
+            seed.grown = grow(judge, free, seed.curriculum, &among)?;
+            seed.is_grown = true;
+        }
+    }
+    Ok(())
+}
+
+/// Forgets the groups that a draft has a target in common with, and the seeds that it has taken.
+fn forget(free: &Free, seeds: &mut Vec<Seed>, draft: &Draft) {
+    seeds.retain(|seed| free.has_curriculum(seed.curriculum));
+    for seed in seeds.iter_mut() {
+        if seed.grown.as_ref().is_some_and(|grown| grown.meets(draft)) {
+            seed.grown = None;
+            seed.is_grown = false;
+        }
+    }
+}
+
+/// A seed for each free curriculum.
+pub fn seeds_of(alloc: Global, free: &Free) -> Result<Vec<Seed>, AllocError> {
+    let mut seeds = Vec::new(alloc);
+    for curriculum in free.curricula(alloc)? {
+        seeds.push(Seed {
+            curriculum,
+            grown: None,
+            is_grown: false,
+        })?;
+    }
+    Ok(seeds)
+}
+
+/// The group of free targets that is worth most of those that have grown, without what it can do without. None where none is worth anything.
+pub fn pack_best(
+    judge: &mut Judge<'_, '_>,
+    free: &mut Free,
+    seeds: &mut Vec<Seed>,
+    rng: &mut Pcg32,
+) -> Result<Option<Draft>, AllocError> {
+    grow_all(judge, free, seeds)?;
+    let Some(best) = best_of(seeds) else {
+        return Ok(None);
+    };
+    let Seed { grown, .. } = seeds.swap_remove(best);
+    let Some(mut draft) = grown else {
+        return Ok(None);
+    };
+    reduce(judge, free, &mut draft, rng)?;
+    forget(free, seeds, &draft);
+    Ok(Some(draft))
+}

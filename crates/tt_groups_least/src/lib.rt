@@ -1,0 +1,12 @@
+//! What a group of curricula and courses costs at least, for a search: nothing is promised of it.
+#![tactic(auto)]
+
+mod day;
+mod days;
+mod fold;
+mod layout;
+mod least;
+mod sets;
+
+pub use layout::{Layout, courses_of, lectures_of, members_of};
+pub use least::{Aim, Least, least_cost};
