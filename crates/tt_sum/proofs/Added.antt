@@ -1,10 +1,10 @@
--- One more proof is added, or its fault is told.
+-- One more file is added, or its fault is silent.
 use Rattle.std.proofs.Common.{◌≡◌, ℕ, ◌+◌, ◌-◌, ◌<◌, ◌≤◌, ◌^◌, Bool, true, ◌||◌, List, [], ◌∷◌, ◌++◌, Option, Some, refl, sym, ap, subst, ◌∙◌, arith, inl, inr, zero-le}
 use Rattle.std.specs.Prelude.{flat_map}
 use Rattle.std.specs.List.{list_any}
 use Rattle.std.proofs.lemmas.List.Folds.{list_any-append}
 use Rattle.std.proofs.lemmas.List.Sums.{sum_by-append}
-use Rattle.std.proofs.lemmas.Bool.{or_left, or_right}
+use Rattle.std.proofs.lemmas.Bool.{or_left, or_right, both_ways}
 use Rattle.tt_lists.proofs.Sums.{list_any-of_flat_map}
 use Rattle.tt_lists.proofs.Twos.{each_two-push, each_two-last}
 use Rattle.tt_lists.proofs.Tested.{all_at}
@@ -18,13 +18,15 @@ use Rattle.tt_proof_read.specs.Trees.{Tree, preorder}
 use Rattle.tt_proof_read.specs.declared.node.Node.{Node}
 use Rattle.tt_proof_check.proofs.Texts.{proved_silent, spelled_once}
 use Rattle.tt_sum.specs.declared.fault.SumFault.{SumFault}
-use Rattle.tt_sum.specs.declared.fault.SumFault.TheVariants.{Proof, ClaimedElsewhere, TooLarge, OutOfMemory}
+use Rattle.tt_sum.specs.declared.fault.SumFault.TheVariants.{Proof, Groups, ClaimedElsewhere, TooLarge, OutOfMemory}
 use Rattle.tt_sum.specs.declared.summed.Sum.{Sum}
-use Rattle.tt_sum.specs.Added.{Joins, IsSumOf, Adds}
-use Rattle.tt_sum.specs.Faults.{points, all_points, IsTooLarge, TellsAdded, OutOfMemoryIsOneFault, IsSilentSum}
-use Rattle.tt_sum.specs.Sums.{claimed_by, is_among, are_apart, Part, IsPart, claims_of, AreApart, both_bounds, sum_of}
+use Rattle.tt_peek.specs.Fronts.{is_groups}
+use Rattle.tt_sum.specs.Added.{IsPartOf, Joins, IsSumOf, Adds}
+use Rattle.tt_sum.specs.Faults.{points, all_points, IsClaimedElsewhere, IsTooLarge, TellsAdded, OutOfMemoryIsOneFault, IsSilentSum}
+use Rattle.tt_sum.specs.Sums.{claimed_by, is_among, are_apart, TreePart, GroupsPart, Part, TreeProof, GroupsFile, IsTreePart, IsGroupsPart, IsPart, bound_of, claims_of, AreApart, both_bounds, sum_of}
 use Rattle.tt_sum.specs.Tables.{State, claims_at}
 use Rattle.tt_sum.proofs.Joining.{tree_claims}
+use Rattle.tt_sum.proofs.SpelledOnce.{proofs_are_trees, same_part, read_or_tree, left_open}
 use Rattle.tt_sum.proofs.Together.{not_both}
 
 -- ---- sums of bounds
@@ -39,9 +41,9 @@ both_none : (b : Bound) → both_bounds b (AtLeast 0) ≡ both_bounds (AtLeast 0
 both_none (AtLeast n) = let e : n + 0 ≡ 0 + n = omega arith in ap AtLeast e
 both_none Nothing = refl
 
-sum_of-push : (parts : List Part) (part : Part) → sum_of (parts ++ part ∷ []) ≡ both_bounds (sum_of parts) part.bound
-sum_of-push [] part = both_none part.bound
-sum_of-push (k ∷ ks) part = ap (both_bounds k.bound) (sum_of-push ks part) ∙ both_assoc k.bound (sum_of ks) part.bound
+sum_of-push : (parts : List Part) (part : Part) → sum_of (parts ++ part ∷ []) ≡ both_bounds (sum_of parts) (bound_of part)
+sum_of-push [] part = both_none (bound_of part)
+sum_of-push (k ∷ ks) part = ap (both_bounds (bound_of k)) (sum_of-push ks part) ∙ both_assoc (bound_of k) (sum_of ks) (bound_of part)
 
 points-both : (a b : Bound) → points (both_bounds a b) ≤ points a + points b
 points-both (AtLeast a) (AtLeast b) = omega arith
@@ -51,12 +53,12 @@ points-both Nothing b = zero-le
 points-sum_of : (parts : List Part) → points (sum_of parts) ≤ all_points parts
 points-sum_of [] = zero-le
 points-sum_of (k ∷ ks) =
-    let sum = sum_by-append (λ (x : Part). points x.bound) (k ∷ []) ks in
-    let both : points (sum_of (k ∷ ks)) ≤ points k.bound + points (sum_of ks) = points-both k.bound (sum_of ks) in
+    let sum = sum_by-append (λ (x : Part). points (bound_of x)) (k ∷ []) ks in
+    let both : points (sum_of (k ∷ ks)) ≤ points (bound_of k) + points (sum_of ks) = points-both (bound_of k) (sum_of ks) in
     omega (arith, sum, both, points-sum_of ks)
 
-pub all_points-push : (parts : List Part) (part : Part) → all_points (parts ++ part ∷ []) ≡ all_points parts + points part.bound
-all_points-push parts part = let e = sum_by-append (λ (k : Part). points k.bound) parts (part ∷ []) in omega (arith, e)
+pub all_points-push : (parts : List Part) (part : Part) → all_points (parts ++ part ∷ []) ≡ all_points parts + points (bound_of part)
+all_points-push parts part = let e = sum_by-append (λ (k : Part). points (bound_of k)) parts (part ∷ []) in omega (arith, e)
 
 -- ---- parts that are apart
 
@@ -80,26 +82,56 @@ adds p remaining s parts a b total of j e = (
   },
 )
 
+-- the part is what known bytes spell
+pub spelled_part : (p : Problem) (remaining : Option (List ℕ)) (bytes : List ℕ) (k : Part) → remaining ≡ Some bytes → IsPartOf p remaining k → IsPart p bytes k
+spelled_part p remaining bytes (TreeProof k) known is = record { spelled = is.spelled bytes known; derives = is.derives }
+spelled_part p remaining bytes (GroupsFile k) known is = record { kind = is.kind bytes known; spelled = is.spelled bytes known; right = is.right }
+
 pub too_large : (p : Problem) (remaining : Option (List ℕ)) (s : Sum) (parts : List Part) (a : State) (b : Bound) → IsSumOf s parts → Joins p remaining parts a b → 2 ^ 64 ≤ points s.total + points b → (bytes : List ℕ) → remaining ≡ Some bytes → IsTooLarge p parts bytes
 too_large p remaining s parts a b of j large bytes known =
     let total : points s.total ≡ points (sum_of parts) = ap points of.total in
-    let bound : points j.part.bound ≡ points b = ap points j.bound in
-    (j.part, record { spelled = j.is.spelled bytes known; derives = j.is.derives }, omega (arith, large, total, bound, points-sum_of parts))
+    let bound : points (bound_of j.part) ≡ points b = ap points j.bound in
+    (j.part, spelled_part p remaining bytes j.part known j.is, omega (arith, large, total, bound, points-sum_of parts))
 
--- a fault of a proof that can be added is silent
-pub tells_silent : (p : Problem) → IsInstance p → (parts : List Part) (bytes : List ℕ) (part : Part) → IsPart p bytes part → AreApart (parts ++ part ∷ []) → all_points (parts ++ part ∷ []) < 2 ^ 64 → (e : SumFault) → OutOfMemoryIsOneFault e → TellsAdded p parts bytes e
+-- ---- faults
+
+-- a tree claims elsewhere what one of the parts claims, so the two are not apart
+tree_meets : (p : Problem) → IsInstance p → (parts : List Part) (bytes : List ℕ) (k : TreePart) (i e : ℕ) → IsTreePart p bytes k → AreApart (parts ++ TreeProof k ∷ []) → IsClaimedElsewhere p parts bytes i e → ⊥
+tree_meets p is parts bytes k i e spelled apart told =
+    let same = (spelled_once p is bytes told.part.version k.version told.part.bound k.bound told.part.tree k.tree told.is.spelled spelled.spelled).1 in
+    let x = all_at (λ x. are_apart (claims_of x) (claimed_by k.tree)) (λ x. is_among (claims_of x) told.target ≡ true) parts (e - 1) (each_two-last (λ x y. are_apart (claims_of x) (claims_of y)) parts (TreeProof k) apart) told.earlier in
+    not_both (claims_of x.0) (claimed_by k.tree) x.1 told.target x.2
+    (subst (λ (t : Tree). is_among (claimed_by t) told.target ≡ true) same (claimed_in_tree told.part.tree told.before told.node told.more told.target told.nodes told.here))
+
+-- a fault of a tree proof that can be added is silent
+tree_silent : (p : Problem) → IsInstance p → (parts : List Part) (bytes : List ℕ) (k : TreePart) → IsTreePart p bytes k → AreApart (parts ++ TreeProof k ∷ []) → all_points (parts ++ TreeProof k ∷ []) < 2 ^ 64 → (e : SumFault) → OutOfMemoryIsOneFault e → TellsAdded p parts bytes e
     → IsSilentSum e
-tells_silent p is parts bytes part spelled apart within (Proof n f) memory told =
-    elim (proved_silent p is bytes part.bound (part.version, part.tree, spelled.spelled, spelled.derives) f told) [
+tree_silent p is parts bytes k spelled apart within (Proof n f) memory told =
+    elim (proved_silent p is bytes k.bound (k.version, k.tree, spelled.spelled, spelled.derives) f told.fault) [
       | inl e ↦ absurd (memory.0 e)
       | inr e ↦ e
     ]
-tells_silent p is parts bytes part spelled apart within (ClaimedElsewhere n i e) memory told =
-    let same = (spelled_once p is bytes told.part.version part.version told.part.bound part.bound told.part.tree part.tree told.is.spelled spelled.spelled).1 in
-    let k = all_at (λ x. are_apart (claims_of x) (claims_of part)) (λ x. is_among (claims_of x) told.target ≡ true) parts (e - 1) (each_two-last (λ x y. are_apart (claims_of x) (claims_of y)) parts part apart) told.earlier in
-    not_both (claims_of k.0) (claims_of part) k.1 told.target k.2
-    (subst (λ (t : Tree). is_among (claimed_by t) told.target ≡ true) same (claimed_in_tree told.part.tree told.before told.node told.more told.target told.nodes told.here))
-tells_silent p is parts bytes part spelled apart within (TooLarge n) memory told =
-    let same : points told.0.bound ≡ points part.bound = ap points (spelled_once p is bytes told.0.version part.version told.0.bound part.bound told.0.tree part.tree told.1.spelled spelled.spelled).0.1 in
-    absurd (omega (arith, told.2, same, within, all_points-push parts part))
-tells_silent p is parts bytes part spelled apart within OutOfMemory memory told = tt
+tree_silent p is parts bytes k spelled apart within (Groups n f) memory told = absurd (both_ways (is_groups bytes) (proofs_are_trees p bytes k spelled.spelled) told.kind)
+tree_silent p is parts bytes k spelled apart within (ClaimedElsewhere n i e) memory told = tree_meets p is parts bytes k i e spelled apart told
+tree_silent p is parts bytes k spelled apart within (TooLarge n) memory told =
+    let same : told.0 ≡ TreeProof k = same_part p is bytes told.0 (TreeProof k) told.1 spelled in
+    let points_same : points (bound_of told.0) ≡ points k.bound = ap (λ (x : Part). points (bound_of x)) same in
+    absurd (omega (arith, told.2, points_same, within, all_points-push parts (TreeProof k)))
+tree_silent p is parts bytes k spelled apart within OutOfMemory memory told = tt
+
+-- a fault of a file of groups that can be added is silent
+groups_silent : (p : Problem) → IsInstance p → (parts : List Part) (bytes : List ℕ) (k : GroupsPart) → IsGroupsPart p bytes k → AreApart (parts ++ GroupsFile k ∷ []) → all_points (parts ++ GroupsFile k ∷ []) < 2 ^ 64 → (e : SumFault) → OutOfMemoryIsOneFault e → TellsAdded p parts bytes e
+    → IsSilentSum e
+groups_silent p is parts bytes k spelled apart within (Proof n f) memory told = read_or_tree p bytes k f spelled told
+groups_silent p is parts bytes k spelled apart within (Groups n f) memory told = left_open p is parts bytes k spelled (each_two-last (λ x y. are_apart (claims_of x) (claims_of y)) parts (GroupsFile k) apart) f told.fault
+groups_silent p is parts bytes k spelled apart within (ClaimedElsewhere n i e) memory told = both_ways (is_groups bytes) (proofs_are_trees p bytes told.part told.is.spelled) spelled.kind
+groups_silent p is parts bytes k spelled apart within (TooLarge n) memory told =
+    let same : told.0 ≡ GroupsFile k = same_part p is bytes told.0 (GroupsFile k) told.1 spelled in
+    let points_same : points (bound_of told.0) ≡ k.bound = ap (λ (x : Part). points (bound_of x)) same in
+    absurd (omega (arith, told.2, points_same, within, all_points-push parts (GroupsFile k)))
+groups_silent p is parts bytes k spelled apart within OutOfMemory memory told = tt
+
+pub tells_silent : (p : Problem) → IsInstance p → (parts : List Part) (bytes : List ℕ) (part : Part) → IsPart p bytes part → AreApart (parts ++ part ∷ []) → all_points (parts ++ part ∷ []) < 2 ^ 64 → (e : SumFault) → OutOfMemoryIsOneFault e → TellsAdded p parts bytes e
+    → IsSilentSum e
+tells_silent p is parts bytes (TreeProof k) spelled apart within e memory told = tree_silent p is parts bytes k spelled apart within e memory told
+tells_silent p is parts bytes (GroupsFile k) spelled apart within e memory told = groups_silent p is parts bytes k spelled apart within e memory told

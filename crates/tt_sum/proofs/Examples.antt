@@ -1,10 +1,10 @@
--- Proofs over different targets, whose bounds add up, and proofs that share one.
+-- Files over different targets, whose bounds add up, and files that share one.
 use Rattle.std.proofs.Common.{◌≡◌, ℕ, List, true, false, [], ◌∷◌, refl}
 use Rattle.tt_lists.specs.Words.{each_two}
 use Rattle.tt_instance.proofs.Examples.{gap}
 use Rattle.tt_instance.specs.Cells.{slot, cell}
 use Rattle.tt_instance.specs.declared.cell.Cell.{Cell}
-use Rattle.tt_leaf_rules.specs.Claims.{Target, RoomCapacity, WorkingDays, Compactness, Stability}
+use Rattle.tt_leaf_rules.specs.Claims.{RoomCapacity, WorkingDays, Compactness, Stability}
 use Rattle.tt_leaf_rules.specs.declared.leaf.Bound.{Bound}
 use Rattle.tt_leaf_rules.specs.declared.leaf.Bound.TheVariants.{AtLeast, Nothing}
 use Rattle.tt_leaf_rules.specs.declared.leaf.Claim.TheVariants.{Capacity, Days, Compact, Prices, Stacked}
@@ -12,10 +12,11 @@ use Rattle.tt_leaf_rules.specs.declared.leaf.Leaf.{Leaf}
 use Rattle.tt_leaf_rules.specs.declared.leaf.Leaf.TheVariants.{Clique, Cost}
 use Rattle.tt_leaf_rules.proofs.Examples.{when}
 use Rattle.tt_proof_read.specs.Trees.{Tree, Close, Branch}
-use Rattle.tt_sum.specs.Sums.{are_apart, cost_over, every_target, Part, claims_of, AreApart, sum_of}
+use Rattle.tt_groups_read.specs.declared.claim.GroupClaim.{GroupClaim}
+use Rattle.tt_sum.specs.Sums.{are_apart, cost_over, every_target, group_targets, AreClaimsApart, Part, TreeProof, GroupsFile, claims_of, AreApart, sum_of}
 
 abbrev proof : Bound → Tree → Part
-proof b tree = record { version = 2; bound = b; tree = tree }
+proof b tree = TreeProof (record { version = 2; bound = b; tree = tree })
 
 -- the seat that the second course lacks, and the same by a price
 abbrev seat : Part
@@ -41,12 +42,42 @@ stacked = proof (AtLeast 5) (Close (Cost (Stacked 0 ∷ [])))
 abbrev impossible : Part
 impossible = proof Nothing (Close (Clique (0 ∷ 1 ∷ [])))
 
+-- claims about groups: curricula, courses and a value
+abbrev group : ℕ → List ℕ → List ℕ → GroupClaim
+group value curricula courses = record { value = value; group = record { curricula = curricula; courses = courses } }
+
+abbrev groups : ℕ → List GroupClaim → Part
+groups bound claims = GroupsFile (record { bound = bound; claims = claims })
+
+-- the curriculum, and the days of both courses
+abbrev two_groups : List GroupClaim
+two_groups = group 4 (0 ∷ []) [] ∷ group 5 [] (0 ∷ 1 ∷ []) ∷ []
+
 -- a target is named by each leaf that claims it
 claimed_twice : claims_of isolated ≡ Compactness 0 ∷ Compactness 0 ∷ []
 claimed_twice = refl
 
 they_are_apart : AreApart (seat ∷ isolated ∷ days ∷ impossible ∷ [])
 they_are_apart = refl
+
+groups_claim : claims_of (groups 9 two_groups) ≡ Compactness 0 ∷ WorkingDays 0 ∷ WorkingDays 1 ∷ []
+groups_claim = refl
+
+groups_are_apart : AreClaimsApart two_groups
+groups_are_apart = refl
+
+one_group_twice : each_two (λ a b. are_apart (group_targets a.group) (group_targets b.group)) (group 4 (0 ∷ []) [] ∷ group 2 (0 ∷ []) (1 ∷ []) ∷ []) ≡ false
+one_group_twice = refl
+
+-- a tree and groups side by side
+kinds_are_apart : AreApart (seat ∷ groups 9 two_groups ∷ [])
+kinds_are_apart = refl
+
+kinds_add_up : sum_of (seat ∷ groups 9 two_groups ∷ []) ≡ AtLeast 10
+kinds_add_up = refl
+
+tree_and_group_share : are_apart (claims_of isolated) (claims_of (groups 4 (group 4 (0 ∷ []) [] ∷ []))) ≡ false
+tree_and_group_share = refl
 
 they_add_up : sum_of (seat ∷ isolated ∷ days ∷ []) ≡ AtLeast 10
 they_add_up = refl

@@ -31,20 +31,20 @@ use Rattle.tt_proof_check.specs.Heard.{Heard, IsHeardProof}
 use Rattle.tt_sum.specs.declared.table.Clash.{Clash}
 use Rattle.tt_sum.specs.Added.{Joins}
 use Rattle.tt_sum.specs.Faults.{IsClaimedElsewhere}
-use Rattle.tt_sum.specs.Sums.{claimed_in, claimed_by, is_among, are_apart, Part, claims_of}
-use Rattle.tt_sum.specs.Tables.{State, owner, clash_with, clash_at, first_clash, Claims, at_node, places_in, claims_at, first_claim, IsTableOf}
+use Rattle.tt_sum.specs.Sums.{claimed_in, claimed_by, is_among, are_apart, TreePart, Part, TreeProof, claims_of}
+use Rattle.tt_sum.specs.Tables.{State, owner, clash_with, clash_at, first_clash, Claims, at_node, places_in, claims_at, first_claim, begun, IsTableOf}
 use Rattle.tt_sum.proofs.Tables.{owner_after, not_none, first_clash-append, places_from, places_all, heard_claims}
 
 -- ---- lists
 
-has_place : (ys : List Target) (y : Target) → has_number (map place ys) (place y) ≡ is_among ys y
+pub has_place : (ys : List Target) (y : Target) → has_number (map place ys) (place y) ≡ is_among ys y
 has_place [] y = refl
 has_place (z ∷ zs) y =
     ap (λ b. b || has_number (map place zs) (place y)) (test_turned (place z) (place y) ∙ same_place y z) ∙ ap (λ b. same_target y z || b) (has_place zs y)
 
 -- ---- the first proof that claims a place
 
-first_claim-push : (n : ℕ) (parts : List Part) (part : Part) (k : ℕ) → 0 < n → first_claim n (parts ++ part ∷ []) k ≡ owner_after (first_claim n parts k) (has_number (map place (claims_of part)) k) (n + length parts)
+pub first_claim-push : (n : ℕ) (parts : List Part) (part : Part) (k : ℕ) → 0 < n → first_claim n (parts ++ part ∷ []) k ≡ owner_after (first_claim n parts k) (has_number (map place (claims_of part)) k) (n + length parts)
 first_claim-push n [] part k some = on (has_number (map place (claims_of part)) k)
   where
     on : (h : Bool) → cond h n 0 ≡ cond h (n + 0) 0
@@ -60,7 +60,7 @@ first_claim-push n (x ∷ xs) part k some = on (first_claim-push (n + 1) xs part
     on rest true = rw (not_none n some) refl
     on rest false = rest ∙ ap (owner_after (first_claim (n + 1) xs k) (has_number (map place (claims_of part)) k)) here
 
-claim_below : (n : ℕ) (parts : List Part) (k : ℕ) → 0 < n → first_claim n parts k < n + length parts
+pub claim_below : (n : ℕ) (parts : List Part) (k : ℕ) → 0 < n → first_claim n parts k < n + length parts
 claim_below n [] k some = omega (arith, some)
 claim_below n (x ∷ xs) k some = on (claim_below (n + 1) xs k (omega arith)) (has_number (map place (claims_of x)) k)
   where
@@ -69,7 +69,7 @@ claim_below n (x ∷ xs) k some = on (claim_below (n + 1) xs k (omega arith)) (h
     on rest false = omega (arith, rest)
 
 -- none of the proofs claims what has no first claim
-unclaimed : (n : ℕ) (parts : List Part) (y : Target) → 0 < n → first_claim n parts (place y) ≡ 0 → list_all (λ k. not (is_among (claims_of k) y)) parts ≡ true
+pub unclaimed : (n : ℕ) (parts : List Part) (y : Target) → 0 < n → first_claim n parts (place y) ≡ 0 → list_all (λ k. not (is_among (claims_of k) y)) parts ≡ true
 unclaimed n [] y some e = refl
 unclaimed n (x ∷ xs) y some e = on (λ z. unclaimed (n + 1) xs y (omega arith) z) (has_number (map place (claims_of x)) (place y)) refl e
   where
@@ -80,7 +80,7 @@ unclaimed n (x ∷ xs) y some e = on (λ z. unclaimed (n + 1) xs y (omega arith)
         (rest z)
 
 -- the proof that claims it first claims it
-claims_it : (n : ℕ) (parts : List Part) (y : Target) (o : ℕ) → first_claim n parts (place y) ≡ o → (o ≡ 0 → ⊥) → (j : ℕ) × (o ≡ n + j) × IsSomeAnd (slice_get parts j) (λ k. is_among (claims_of k) y ≡ true)
+pub claims_it : (n : ℕ) (parts : List Part) (y : Target) (o : ℕ) → first_claim n parts (place y) ≡ o → (o ≡ 0 → ⊥) → (j : ℕ) × (o ≡ n + j) × IsSomeAnd (slice_get parts j) (λ k. is_among (claims_of k) y ≡ true)
 claims_it n [] y o e some = absurd (some (sym e))
 claims_it n (x ∷ xs) y o e some = on (λ z. claims_it (n + 1) xs y o z some) (has_number (map place (claims_of x)) (place y)) refl e
   where
@@ -131,10 +131,6 @@ pub tree_claims : (tree : Tree) → flat_map claims_at (preorder tree) ≡ claim
 tree_claims (Close leaf) = append-nil (claimed_in leaf)
 tree_claims (Branch g x y) =
     flat_map-append claims_at (preorder x) (preorder y) ∙ ap (λ l. l ++ flat_map claims_at (preorder y)) (tree_claims x) ∙ ap (λ l. claimed_by x ++ l) (tree_claims y)
-
--- the table once the next proof has begun
-abbrev pub begun : State → State
-begun t = record t { proof = t.proof + 1 }
 
 module _ (before_it : State) (parts : List Part) (of : IsTableOf before_it parts) where
   abbrev t : State
@@ -225,13 +221,13 @@ module _ (before_it : State) (parts : List Part) (of : IsTableOf before_it parts
     first_is : b.clash ≡ first_clash t (places_from 0 nodes)
     first_is = claims.clash ∙ ap (λ x. option_or x (first_clash t (places_from 0 nodes))) of.free
 
-    table_after : (part : Part) → preorder part.tree ≡ nodes → b.clash ≡ None → IsTableOf b (parts ++ part ∷ [])
+    table_after : (part : TreePart) → preorder part.tree ≡ nodes → b.clash ≡ None → IsTableOf b (parts ++ TreeProof part ∷ [])
     table_after part same free = record {
       owners = λ k l.
           claims.owners k l ∙ ap (λ o. owner_after o (has_number (map (λ x. x.1) (places_from 0 nodes)) k) t.proof) (of.owners k l)
           ∙ ap (λ ks. owner_after (first_claim 1 parts k) (has_number ks k) t.proof) (places_all 0 nodes ∙ places_claims nodes ∙ ap (λ ns. map place (flat_map claims_at ns)) (sym same) ∙ ap (map place) (tree_claims part.tree))
-          ∙ ap (owner_after (first_claim 1 parts k) (has_number (map place (claims_of part)) k)) number ∙ sym (first_claim-push 1 parts part k (lit< tt));
-      number = let long = length-append parts (part ∷ []) in let newest : b.proof ≡ before_it.proof + 1 = claims.proof in omega (arith, newest, of.number, long);
+          ∙ ap (owner_after (first_claim 1 parts k) (has_number (map place (claimed_by part.tree)) k)) number ∙ sym (first_claim-push 1 parts (TreeProof part) k (lit< tt));
+      number = let long = length-append parts (TreeProof part ∷ []) in let newest : b.proof ≡ before_it.proof + 1 = claims.proof in omega (arith, newest, of.number, long);
       free = free;
     }
       where
@@ -269,12 +265,12 @@ node_placed p is v (Leaf (Cost claims)) h y e =
 abbrev pub TableHeard : State → State → List Node → Type 0
 TableHeard a b = Heard (λ s j n u. 0 < s.proof → Claims s (at_node j (places_in n)) u) 0 a b
 
-pub newest : (p : Problem) (remaining : Option (List ℕ)) (t b : State) (x : Bound) → IsHeardProof p remaining (TableHeard (begun t) b) x → b.proof ≡ t.proof + 1
-newest p remaining t b x h = let some : 0 < t.proof + 1 = omega arith in (heard_claims 0 (begun t) b (preorder h.tree) some h.heard).proof
+pub newest : (p : Problem) (remaining : Option (List ℕ)) (t b : State) → 0 < t.proof → (x : Bound) → IsHeardProof p remaining (TableHeard t b) x → b.proof ≡ t.proof
+newest p remaining t b some x h = (heard_claims 0 t b (preorder h.tree) some h.heard).proof
 
 module _ (p : Problem) (remaining : Option (List ℕ)) (t b : State) (parts : List Part) (of : IsTableOf t parts) (x : Bound)
     (h : IsHeardProof p remaining (TableHeard (begun t) b) x) where
-  abbrev part : Part
+  abbrev part : TreePart
   part = record { version = h.version; bound = x; tree = h.tree }
 
   claims : Claims (begun t) (places_from 0 (preorder h.tree)) b
@@ -282,7 +278,7 @@ module _ (p : Problem) (remaining : Option (List ℕ)) (t b : State) (parts : Li
 
   pub joins : b.clash ≡ None → Joins p remaining parts b x
   joins free = record {
-    part = part;
+    part = TreeProof part;
     is = record { spelled = h.spelled; derives = h.derives };
     bound = refl;
     apart = apart t parts of (claimed_by h.tree)

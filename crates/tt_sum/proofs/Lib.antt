@@ -2,6 +2,10 @@ pub mod Added
 pub mod Examples
 pub mod Joining
 pub mod Lists
+pub mod Looked
 pub mod Over
+pub mod Owners
+pub mod SpelledOnce
 pub mod Tables
 pub mod Together
+pub mod Underway

@@ -1,4 +1,4 @@
--- Lists of proofs.
+-- Lists of files.
 use Rattle.std.proofs.Common.{◌≡◌, ℕ, ◌+◌, ◌<◌, ◌≤◌, ◌^◌, zero, suc, Bool, ◌≢◌, List, [], ◌∷◌, ◌++◌, length, take, get_or, Option, Some, refl, sym, ap, subst, ◌∙◌, arith, append_assoc, inl, inr}
 use Rattle.std.specs.Prelude.{slice_get}
 use Rattle.std.specs.List.{AllZip}
@@ -13,16 +13,15 @@ use Rattle.tt_instance.specs.Problem.{Problem}
 use Rattle.tt_instance.specs.Limits.{IsInstance}
 use Rattle.tt_leaf_rules.specs.declared.leaf.Bound.{Bound}
 use Rattle.tt_proof_check.specs.Derives.{HoldsOfAll}
-use Rattle.tt_proof_read.specs.Trees.{Tree}
-use Rattle.tt_proof_check.proofs.Texts.{spelled_once}
 use Rattle.tt_sum.specs.declared.fault.SumFault.{SumFault}
-use Rattle.tt_sum.specs.declared.fault.SumFault.TheVariants.{Proof, ClaimedElsewhere, TooLarge, OutOfMemory}
+use Rattle.tt_sum.specs.declared.fault.SumFault.TheVariants.{Proof, Groups, ClaimedElsewhere, TooLarge, OutOfMemory}
 use Rattle.tt_sum.specs.declared.summed.Sum.{Sum}
 use Rattle.tt_sum.specs.Added.{IsPartOf, IsSumOf, Adds, due, Give}
 use Rattle.tt_sum.specs.Faults.{points, all_points, IsNumbered, IsRefused, TellsAdded, IsSumFault, OutOfMemoryIsOneFault, IsSilentSum}
-use Rattle.tt_sum.specs.Sums.{are_apart, Part, IsPart, claims_of, AreApart, sum_of, IsSum}
-use Rattle.tt_sum.proofs.Added.{tells_silent}
-use Rattle.tt_sum.proofs.Together.{parts_hold}
+use Rattle.tt_sum.specs.Sums.{are_apart, Part, IsPart, bound_of, claims_of, AreApart, sum_of, IsSum}
+use Rattle.tt_sum.proofs.Added.{spelled_part, tells_silent}
+use Rattle.tt_sum.proofs.SpelledOnce.{same_part}
+use Rattle.tt_sum.proofs.Together.{parts_hold, part_of_shows}
 
 -- ---- lists at each place
 
@@ -42,48 +41,42 @@ zip_split R (z ∷ zs) x ys (k ∷ ks) h =
     let r = zip_split R zs x ys ks h.1 in
     record { first = k ∷ r.first; at = r.at; more = r.more; split = ap (λ l. k ∷ l) r.split; each = (h.0, r.each); one = r.one }
 
--- ---- one part for each proof
+-- ---- one part for each file
 
 module _ (p : Problem) (is : IsInstance p) where
-  abbrev part_of : ℕ → Bound → Tree → Part
-  part_of v b t = record { version = v; bound = b; tree = t }
-
-  same_part : (bytes : List ℕ) (k l : Part) → IsPart p bytes k → IsPart p bytes l → k ≡ l
-  same_part bytes k l h i =
-      let same = spelled_once p is bytes k.version l.version k.bound l.bound k.tree l.tree h.spelled i.spelled in
-      ap (λ (v : ℕ). part_of v k.bound k.tree) same.0.0 ∙ ap (λ (b : Bound). part_of l.version b k.tree) same.0.1 ∙ ap (λ (t : Tree). part_of l.version l.bound t) same.1
-
   pub same_parts : (proofs : List (List ℕ)) (ks ls : List Part) → AllZip (IsPart p) proofs ks → AllZip (IsPart p) proofs ls → ks ≡ ls
   same_parts [] [] [] h i = refl
   same_parts [] [] (l ∷ ls) h i = absurd i
   same_parts [] (k ∷ ks) ls h i = absurd h
   same_parts (x ∷ xs) [] ls h i = absurd h
   same_parts (x ∷ xs) (k ∷ ks) [] h i = absurd i
-  same_parts (x ∷ xs) (k ∷ ks) (l ∷ ls) h i = ap (λ (y : Part). y ∷ ks) (same_part x k l h.0 i.0) ∙ ap (λ (zs : List Part). l ∷ zs) (same_parts xs ks ls h.1 i.1)
+  same_parts (x ∷ xs) (k ∷ ks) (l ∷ ls) h i = ap (λ (y : Part). y ∷ ks) (same_part p is x k l h.0 i.0) ∙ ap (λ (zs : List Part). l ∷ zs) (same_parts xs ks ls h.1 i.1)
 
-  -- a refusal of proofs that have a sum is silent
+  -- a refusal of files that have a sum is silent
   refused_silent : (proofs : List (List ℕ)) (s : Bound) (h : IsSum p proofs s) → all_points h.parts < 2 ^ 64 → (e : SumFault) → OutOfMemoryIsOneFault e → IsRefused p proofs e → IsSilentSum e
   refused_silent proofs s h within e memory r =
       let z = zip_split (IsPart p) r.before r.bytes r.more h.parts (subst (λ (l : List (List ℕ)). AllZip (IsPart p) l h.parts) r.split h.each) in
       let same : z.first ≡ r.parts = same_parts r.before z.first r.parts z.each r.each in
       let split : h.parts ≡ (r.parts ++ z.at ∷ []) ++ z.more = z.split ∙ ap (λ (l : List Part). l ++ z.at ∷ z.more) same ∙ sym (append_assoc r.parts (z.at ∷ []) z.more) in
       let apart = (each_two-of_append (λ a b. are_apart (claims_of a) (claims_of b)) (r.parts ++ z.at ∷ []) z.more (subst AreApart split h.apart)).0 in
-      let total = sum_by-append (λ (k : Part). points k.bound) (r.parts ++ z.at ∷ []) z.more in
+      let total = sum_by-append (λ (k : Part). points (bound_of k)) (r.parts ++ z.at ∷ []) z.more in
       let all : all_points h.parts ≡ all_points ((r.parts ++ z.at ∷ []) ++ z.more) = ap all_points split in
       tells_silent p is r.parts r.bytes z.at z.one apart (omega (arith, total, all, within)) e memory r.tells
 
   pub sum_silent : (proofs : List (List ℕ)) (s : Bound) (h : IsSum p proofs s) → all_points h.parts < 2 ^ 64 → (e : SumFault) → OutOfMemoryIsOneFault e → IsSumFault p proofs e → IsSilentSum e
   sum_silent proofs s h within (Proof n f) memory told = refused_silent proofs s h within (Proof n f) memory told
+  sum_silent proofs s h within (Groups n f) memory told = refused_silent proofs s h within (Groups n f) memory told
   sum_silent proofs s h within (ClaimedElsewhere n i e) memory told = refused_silent proofs s h within (ClaimedElsewhere n i e) memory told
   sum_silent proofs s h within (TooLarge n) memory told = refused_silent proofs s h within (TooLarge n) memory told
   sum_silent proofs s h within OutOfMemory memory told = tt
 
-  -- proofs have one sum at most
+  -- files have one sum at most
   pub same_sum : (proofs : List (List ℕ)) (s t : Bound) → IsSum p proofs s → IsSum p proofs t → s ≡ t
   same_sum proofs s t h i = sym h.total ∙ ap sum_of (same_parts proofs h.parts i.parts h.each i.each) ∙ i.total
 
 pub tells_sum : (p : Problem) (proofs : List (List ℕ)) (e : SumFault) → IsRefused p proofs e → IsSumFault p proofs e
 tells_sum p proofs (Proof n f) r = r
+tells_sum p proofs (Groups n f) r = r
 tells_sum p proofs (ClaimedElsewhere n i e) r = r
 tells_sum p proofs (TooLarge n) r = r
 tells_sum p proofs OutOfMemory r = tt
@@ -97,7 +90,7 @@ module _ {R : Type 0} (p : Problem) (remaining : R → Option (List ℕ)) where
   zip_known [] (x ∷ xs) ks g h = absurd g
   zip_known (r ∷ rs) [] ks g h = absurd g
   zip_known (r ∷ rs) (x ∷ xs) [] g h = absurd h
-  zip_known (r ∷ rs) (x ∷ xs) (k ∷ ks) g h = (record { spelled = h.0.spelled x g.0; derives = h.0.derives }, zip_known rs xs ks g.1 h.1)
+  zip_known (r ∷ rs) (x ∷ xs) (k ∷ ks) g h = (spelled_part p (remaining r) x k g.0 h.0, zip_known rs xs ks g.1 h.1)
 
   -- the proof of the source at i, between those before it and after it
   pub record GivesAt (sources : List R) (proofs : List (List ℕ)) (i : ℕ) (r : R) : Type 0 where
@@ -176,7 +169,7 @@ module _ {R : Type 0} (p : Problem) (remaining : R → Option (List ℕ)) (faile
   }
 
   pub sofar_holds : (old now : List R) (i : ℕ) (s : Sum) → (h : Sofar old now i s) → HoldsOfAll p (sum_of h.parts)
-  sofar_holds old now i s h = parts_hold p (λ x k. IsPartOf p (remaining x) k) (λ x k is. is.derives) (take i old) h.parts h.each h.of.apart
+  sofar_holds old now i s h = parts_hold p (λ x k. IsPartOf p (remaining x) k) (λ x k is. part_of_shows p (remaining x) k is) (take i old) h.parts h.each h.of.apart
 
   -- a refusal of the source at i
   pub sofar_refused : (old now : List R) (i : ℕ) (s : Sum) (r : R) (e : SumFault) → i < length old → r ≡ get_or now i r → Sofar old now i s → IsNumbered (due s) e

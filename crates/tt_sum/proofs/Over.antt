@@ -63,7 +63,7 @@ module _ (p : Problem) (t : List Cell) (ok : IsFeasible p t) where
         ]
 
   -- a list bounds the parts of different targets that it has
-  most_over : (targets : List Target) → IsMost (cost_over p t targets) (is_among targets)
+  pub most_over : (targets : List Target) → IsMost (cost_over p t targets) (is_among targets)
   most_over targets ys apart there =
       distinct_sum same_target same_target-true same_target-itself (part p t) ys targets apart
       (λ y m. inr (at_member (λ x. is_among targets x ≡ true) ys y (each_from_list_all (is_among targets) ys there) m))

@@ -1,13 +1,16 @@
--- Bounds of trees that claim different targets add up.
-use Rattle.std.proofs.Common.{◌≡◌, ℕ, ◌+◌, ◌≤◌, Bool, true, false, not, cond, ◌||◌, List, [], ◌∷◌, ◌++◌, refl, subst, ◌∙◌, arith, inl, inr, zero-le}
+-- Bounds of trees and of groups that claim different targets add up.
+use Rattle.std.proofs.Common.{◌≡◌, ℕ, ◌+◌, ◌≤◌, Bool, true, false, not, cond, ◌&&◌, ◌||◌, List, [], ◌∷◌, ◌++◌, map, Option, refl, subst, ◌∙◌, arith, inl, inr, zero-le}
 use Rattle.std.specs.Prelude.{Contains, ◌⊎◌, sum_by, flat_map}
 use Rattle.std.specs.List.{list_any, list_all, AllZip, AllByRecursion}
-use Rattle.std.proofs.lemmas.List.Elements.{All-nil, Contains-append_right}
-use Rattle.std.proofs.lemmas.List.Folds.{list_any-append, list_all-append}
+use Rattle.std.proofs.lemmas.List.Elements.{All-nil, Contains-append_right, recursion_from_All}
+use Rattle.std.proofs.lemmas.List.Folds.{list_any-append, list_all-append, list_all-map}
+use Rattle.std.proofs.lemmas.List.Sums.{sum_by-append}
 use Rattle.std.proofs.lemmas.Bool.{and_parts, cond-true, and_from, both_ways, not-true}
 use Rattle.tt_lists.specs.Words.{each_two}
-use Rattle.tt_lists.proofs.Sums.{sum_by-le, sum_by-plus, each, each_from_list_all}
-use Rattle.tt_lists.proofs.Members.{at_member, each_member, member_from_any, any_member}
+use Rattle.tt_lists.proofs.Sums.{sum_by-le, sum_by-plus, sum_by-of_map, each, each_from_list_all}
+use Rattle.tt_lists.proofs.Below.{all_pass}
+use Rattle.tt_lists.proofs.Twos.{each_two-append}
+use Rattle.tt_lists.proofs.Members.{at_member, each_member, member_from_any, any_member, each_two-of_map}
 use Rattle.tt_lists.proofs.Apart.{distinct_sum}
 use Rattle.tt_instance.specs.Problem.{Problem}
 use Rattle.tt_instance.specs.declared.cell.Cell.{Cell}
@@ -15,14 +18,19 @@ use Rattle.tt_rules.specs.Score.{IsFeasible, cost}
 use Rattle.tt_paths.specs.Facts.{Holds, Fits}
 use Rattle.tt_paths.specs.declared.facts.Fact.{Fact}
 use Rattle.tt_leaf_rules.specs.Bounds.{Respects}
-use Rattle.tt_leaf_rules.specs.Claims.{Target, part}
+use Rattle.tt_leaf_rules.specs.Claims.{Target, WorkingDays, Compactness, part}
 use Rattle.tt_leaf_rules.specs.Tests.{same_target}
 use Rattle.tt_leaf_rules.specs.declared.leaf.Bound.{Bound}
 use Rattle.tt_leaf_rules.specs.declared.leaf.Bound.TheVariants.{AtLeast, Nothing}
 use Rattle.tt_leaf_rules.proofs.Totals.{same_target-true, same_target-itself, target_there}
-use Rattle.tt_proof_check.specs.Derives.{Derives, HoldsOfAll}
-use Rattle.tt_sum.specs.Sums.{is_among, are_apart, every_target, both_bounds, sum_of, Part, IsPart, claims_of, AreApart, IsSum}
-use Rattle.tt_sum.proofs.Over.{tree_by, over_all, IsMost}
+use Rattle.tt_proof_check.specs.Derives.{HoldsOfAll}
+use Rattle.tt_groups.specs.Group.{Group, group_cost, IsGroupBound}
+use Rattle.tt_groups.proofs.Seen.{group_bound_holds}
+use Rattle.tt_groups_read.specs.Spelling.{IsClaim}
+use Rattle.tt_groups_read.specs.declared.claim.GroupClaim.{GroupClaim}
+use Rattle.tt_sum.specs.Added.{IsPartOf}
+use Rattle.tt_sum.specs.Sums.{claimed_by, is_among, are_among, are_apart, cost_over, every_target, group_targets, targets_of_claims, AreClaimsApart, both_bounds, sum_of, Part, TreeProof, GroupsFile, IsPart, ShowsOn, bound_of, claims_of, AreApart, IsSum}
+use Rattle.tt_sum.proofs.Over.{are_different, tree_by, most_over, over_all, IsMost}
 
 -- each target is one of these, if it is in the list
 itself_among : (targets ys : List Target) → ((y : Target) → Contains ys y → Contains targets y) → list_all (is_among targets) ys ≡ true
@@ -46,6 +54,20 @@ not_both xs ys apart y a b =
     let e = same_target-true y w.0 w.2 in
     let n = at_member (λ z. not (is_among xs z) ≡ true) ys w.0 (each_from_list_all (λ z. not (is_among xs z)) ys apart) w.1 in
     both_ways (is_among xs w.0) (not-true (is_among xs w.0) n) (subst (λ z. is_among xs z ≡ true) e a)
+
+-- a claim has different targets
+group_different : (p : Problem) (k : GroupClaim) → IsClaim p k → are_different (group_targets k.group) ≡ true
+group_different p k claim =
+    let g = k.group in
+    let differ : Target → Target → Bool = λ a b. not (same_target a b) in
+    let curricula = map Compactness g.curricula in
+    let courses = map WorkingDays g.courses in
+    let between : list_all (λ y. list_all (differ y) courses) curricula ≡ true =
+    list_all-map (λ y. list_all (differ y) courses) Compactness g.curricula
+    ∙ all_pass (λ q. list_all (differ (Compactness q)) courses) g.curricula (λ q. list_all-map (differ (Compactness q)) WorkingDays g.courses ∙ all_pass (λ c. true) g.courses (λ c. refl)) in
+    each_two-append differ curricula courses
+    ∙ and_from (each_two differ curricula) (list_all (λ y. list_all (differ y) courses) curricula && each_two differ courses) (each_two-of_map differ Compactness g.curricula ∙ claim.curricula.1)
+    (and_from (list_all (λ y. list_all (differ y) courses) curricula) (each_two differ courses) between (each_two-of_map differ WorkingDays g.courses ∙ claim.courses.1))
 
 module _ (p : Problem) (t : List Cell) (ok : IsFeasible p t) where
   -- the part of a target that is one of these
@@ -88,12 +110,12 @@ module _ (p : Problem) (t : List Cell) (ok : IsFeasible p t) where
       one : (y : Target) → own xs y + own ys y ≤ own (xs ++ ys) y
       one y = rw (list_any-append (same_target y) xs ys) (by (is_among xs y) (is_among ys y) (part p t y) (not_both xs ys apart y))
 
-  -- what is apart from each of several proofs is apart from all of them
-  apart_from_all : (xs : List Target) (parts : List Part) → list_all (λ k. are_apart xs (claims_of k)) parts ≡ true → are_apart xs (flat_map claims_of parts) ≡ true
-  apart_from_all xs [] e = refl
-  apart_from_all xs (k ∷ ks) e =
-      let h = and_parts (are_apart xs (claims_of k)) (list_all (λ b. are_apart xs (claims_of b)) ks) e in
-      list_all-append (λ y. not (is_among xs y)) (claims_of k) (flat_map claims_of ks) ∙ and_from (are_apart xs (claims_of k)) (are_apart xs (flat_map claims_of ks)) h.0 (apart_from_all xs ks h.1)
+  -- what is apart from each of several lists is apart from all of them
+  pub apart_from_all : {X : Type 0} (f : X → List Target) (xs : List Target) (ks : List X) → list_all (λ k. are_apart xs (f k)) ks ≡ true → are_apart xs (flat_map f ks) ≡ true
+  apart_from_all f xs [] e = refl
+  apart_from_all f xs (k ∷ ks) e =
+      let h = and_parts (are_apart xs (f k)) (list_all (λ b. are_apart xs (f b)) ks) e in
+      list_all-append (λ y. not (is_among xs y)) (f k) (flat_map f ks) ∙ and_from (are_apart xs (f k)) (are_apart xs (flat_map f ks)) h.0 (apart_from_all f xs ks h.1)
 
   share_within : (targets : List Target) → share targets ≤ cost p t
   share_within targets =
@@ -104,31 +126,79 @@ module _ (p : Problem) (t : List Cell) (ok : IsFeasible p t) where
       by true k = omega arith
       by false k = zero-le
 
+  -- ---- groups
+
+  -- what is paid for a group's targets is its cost
+  group_parts : (g : Group) → sum_by (part p t) (group_targets g) ≡ group_cost p g t
+  group_parts g =
+      let f = part p t in
+      omega (arith, sum_by-append f (map Compactness g.curricula) (map WorkingDays g.courses), sum_by-of_map f Compactness g.curricula, sum_by-of_map f WorkingDays g.courses)
+
+  -- a bound of a group is one of any number that bounds its targets
+  group_by : (n : ℕ) (test : Target → Bool) → IsMost p t ok n test → (k : GroupClaim) → IsClaim p k → list_all test (group_targets k.group) ≡ true → IsGroupBound p k.group k.value → k.value ≤ n
+  group_by n test most k claim in_test bound =
+      let within = most (group_targets k.group) (group_different p k claim) in_test in
+      omega (arith, within, group_parts k.group, group_bound_holds p t ok k.group k.value bound)
+
+  pub group_over : (k : GroupClaim) (targets : List Target) → IsClaim p k → are_among targets (group_targets k.group) ≡ true → IsGroupBound p k.group k.value → k.value ≤ cost_over p t targets
+  group_over k targets claim there bound = group_by (cost_over p t targets) (is_among targets) (most_over p t ok targets) k claim there bound
+
+  -- the claims of a file
+  claims_paid : (claims : List GroupClaim) → AllByRecursion (IsClaim p) claims → AllByRecursion (λ k. IsGroupBound p k.group k.value) claims → AreClaimsApart claims
+      → sum_by (λ k. k.value) claims ≤ share (targets_of_claims claims)
+  claims_paid [] each bounds apart = zero-le
+  claims_paid (k ∷ ks) each bounds apart =
+      let own_targets = group_targets k.group in
+      let others = targets_of_claims ks in
+      let h = and_parts (list_all (λ b. are_apart own_targets (group_targets b.group)) ks) (each_two (λ a b. are_apart (group_targets a.group) (group_targets b.group)) ks) apart in
+      let first = group_by (share own_targets) (is_among own_targets) (most_share own_targets) k each.0 (itself_among own_targets own_targets (λ y m. m)) bounds.0 in
+      let rest = claims_paid ks each.1 bounds.1 h.1 in
+      let both = shares_add own_targets others (apart_from_all (λ (z : GroupClaim). group_targets z.group) own_targets ks h.0) in
+      let sum = sum_by-append (λ (z : GroupClaim). z.value) (k ∷ []) ks in
+      omega (arith, first, rest, both, sum)
+
+  -- ---- parts
+
   module _ (path : List Fact) (fits : Fits p t path) where
-    shares_hold : (parts : List Part) → AllByRecursion (λ k. Derives p k.bound path k.tree) parts → AreApart parts → Respects (sum_of parts) (share (flat_map claims_of parts))
+    part_paid : (k : Part) → ShowsOn p path k → Respects (bound_of k) (share (claims_of k))
+    part_paid (TreeProof k) d =
+        let own_claims = claimed_by k.tree in
+        tree_by p t ok (share own_claims) (is_among own_claims) (most_share own_claims) k.bound path k.tree (itself_among own_claims own_claims (λ y m. m)) d fits
+    part_paid (GroupsFile k) d =
+        let paid = claims_paid k.claims (recursion_from_All (IsClaim p) k.claims d.0) (recursion_from_All (λ z. IsGroupBound p z.group z.value) k.claims d.1.bounds) d.1.apart in
+        omega (arith, paid, d.1.enough)
+
+    shares_hold : (parts : List Part) → AllByRecursion (ShowsOn p path) parts → AreApart parts → Respects (sum_of parts) (share (flat_map claims_of parts))
     shares_hold [] d apart = zero-le
     shares_hold (k ∷ ks) d apart =
         let own_claims = claims_of k in
         let others = flat_map claims_of ks in
         let h = and_parts (list_all (λ b. are_apart own_claims (claims_of b)) ks) (each_two (λ a b. are_apart (claims_of a) (claims_of b)) ks) apart in
-        let first = tree_by p t ok (share own_claims) (is_among own_claims) (most_share own_claims) k.bound path k.tree (itself_among own_claims own_claims (λ y m. m)) d.0 fits in
         let rest = shares_hold ks d.1 h.1 in
-        respects_more (both_bounds k.bound (sum_of ks)) (share own_claims + share others) (share (own_claims ++ others)) (shares_add own_claims others (apart_from_all own_claims ks h.0))
-        (both_respected k.bound (sum_of ks) (share own_claims) (share others) first rest)
+        respects_more (both_bounds (bound_of k) (sum_of ks)) (share own_claims + share others) (share (own_claims ++ others)) (shares_add own_claims others (apart_from_all claims_of own_claims ks h.0))
+        (both_respected (bound_of k) (sum_of ks) (share own_claims) (share others) (part_paid k d.0) rest)
 
-    pub bounds_add : (parts : List Part) → AllByRecursion (λ k. Derives p k.bound path k.tree) parts → AreApart parts → Respects (sum_of parts) (cost p t)
+    pub bounds_add : (parts : List Part) → AllByRecursion (ShowsOn p path) parts → AreApart parts → Respects (sum_of parts) (cost p t)
     bounds_add parts d apart =
         respects_more (sum_of parts) (share (flat_map claims_of parts)) (cost p t) (share_within (flat_map claims_of parts)) (shares_hold parts d apart)
 
--- parts of proofs that derive their bounds
-derive_each : {X : Type 0} (p : Problem) (R : X → Part → Type 0) → ((x : X) (k : Part) → R x k → Derives p k.bound [] k.tree) → (xs : List X) (parts : List Part) → AllZip R xs parts → AllByRecursion (λ k. Derives p k.bound [] k.tree) parts
-derive_each p R derives [] [] h = tt
-derive_each p R derives [] (k ∷ ks) h = absurd h
-derive_each p R derives (x ∷ xs) [] h = absurd h
-derive_each p R derives (x ∷ xs) (k ∷ ks) h = (derives x k h.0, derive_each p R derives xs ks h.1)
+-- parts of files that are right
+show_each : {X : Type 0} (p : Problem) (R : X → Part → Type 0) → ((x : X) (k : Part) → R x k → ShowsOn p [] k) → (xs : List X) (parts : List Part) → AllZip R xs parts → AllByRecursion (ShowsOn p []) parts
+show_each p R shows [] [] h = tt
+show_each p R shows [] (k ∷ ks) h = absurd h
+show_each p R shows (x ∷ xs) [] h = absurd h
+show_each p R shows (x ∷ xs) (k ∷ ks) h = (shows x k h.0, show_each p R shows xs ks h.1)
 
-pub parts_hold : {X : Type 0} (p : Problem) (R : X → Part → Type 0) → ((x : X) (k : Part) → R x k → Derives p k.bound [] k.tree) → (xs : List X) (parts : List Part) → AllZip R xs parts → AreApart parts → HoldsOfAll p (sum_of parts)
-parts_hold p R derives xs parts each apart t ok = bounds_add p t ok [] (All-nil (Holds p t)) parts (derive_each p R derives xs parts each) apart
+pub parts_hold : {X : Type 0} (p : Problem) (R : X → Part → Type 0) → ((x : X) (k : Part) → R x k → ShowsOn p [] k) → (xs : List X) (parts : List Part) → AllZip R xs parts → AreApart parts → HoldsOfAll p (sum_of parts)
+parts_hold p R shows xs parts zipped apart t ok = bounds_add p t ok [] (All-nil (Holds p t)) parts (show_each p R shows xs parts zipped) apart
 
-pub sum_holds : (p : Problem) (proofs : List (List ℕ)) (s : Bound) → IsSum p proofs s → HoldsOfAll p s
-sum_holds p proofs s h = subst (HoldsOfAll p) h.total (parts_hold p (IsPart p) (λ x k is. is.derives) proofs h.parts h.each h.apart)
+pub part_shows : (p : Problem) (bytes : List ℕ) (k : Part) → IsPart p bytes k → ShowsOn p [] k
+part_shows p bytes (TreeProof k) is = is.derives
+part_shows p bytes (GroupsFile k) is = (is.spelled.each, is.right)
+
+pub part_of_shows : (p : Problem) (remaining : Option (List ℕ)) (k : Part) → IsPartOf p remaining k → ShowsOn p [] k
+part_of_shows p remaining (TreeProof k) is = is.derives
+part_of_shows p remaining (GroupsFile k) is = (is.claims, is.right)
+
+pub sum_holds : (p : Problem) (files : List (List ℕ)) (s : Bound) → IsSum p files s → HoldsOfAll p s
+sum_holds p files s h = subst (HoldsOfAll p) h.total (parts_hold p (IsPart p) (part_shows p) files h.parts h.each h.apart)

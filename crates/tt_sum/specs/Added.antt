@@ -1,24 +1,41 @@
--- Proofs that have been added, and one more.
-use Rattle.std.specs.Prelude.{◌≡◌, ℕ, ◌+◌, true, List, [], ◌∷◌, ◌++◌, Option, Some}
+-- Files that have been added, and one more.
+use Rattle.std.specs.Prelude.{◌≡◌, ℕ, ◌+◌, Bool, true, List, [], ◌∷◌, ◌++◌, Option, Some, All}
 use Rattle.std.specs.List.{list_all, AllZip}
 use Rattle.tt_instance.specs.Problem.{Problem}
 use Rattle.tt_leaf_rules.specs.declared.leaf.Bound.{Bound}
 use Rattle.tt_proof_check.specs.Derives.{Derives}
 use Rattle.tt_proof_read.specs.Spelling.{SpellsProof}
 use Rattle.tt_sum.specs.declared.summed.Sum.{Sum}
-use Rattle.tt_sum.specs.Sums.{are_apart, Part, claims_of, AreApart, sum_of}
+use Rattle.tt_groups_read.specs.Spelling.{IsClaim, SpellsGroups}
+use Rattle.tt_peek.specs.Fronts.{is_groups}
+use Rattle.tt_sum.specs.Sums.{are_apart, AreRight, TreePart, GroupsPart, Part, TreeProof, GroupsFile, bound_of, claims_of, AreApart, sum_of}
 use Rattle.tt_sum.specs.Tables.{State, IsTableOf}
 
+-- the bytes, where they are known, are a file of groups, or are none
+abbrev pub IsOfKind : Bool → Option (List ℕ) → Type 0
+IsOfKind kind remaining = (bytes : List ℕ) → remaining ≡ Some bytes → is_groups bytes ≡ kind
+
 -- the part is what the bytes spell, where they are known, and derives its bound
-pub record IsPartOf (p : Problem) (remaining : Option (List ℕ)) (part : Part) : Type 0 where
-  pub spelled : (bytes : List ℕ) → remaining ≡ Some bytes → SpellsProof p bytes part.version part.bound part.tree
-  pub derives : Derives p part.bound [] part.tree
+pub record IsTreeOf (p : Problem) (remaining : Option (List ℕ)) (k : TreePart) : Type 0 where
+  pub spelled : (bytes : List ℕ) → remaining ≡ Some bytes → SpellsProof p bytes k.version k.bound k.tree
+  pub derives : Derives p k.bound [] k.tree
+
+-- the part is what the bytes, which begin with `CTTG`, spell, where they are known, and its claims are right
+pub record AreGroupsOf (p : Problem) (remaining : Option (List ℕ)) (k : GroupsPart) : Type 0 where
+  pub kind : IsOfKind true remaining
+  pub spelled : (bytes : List ℕ) → remaining ≡ Some bytes → SpellsGroups p bytes k.bound k.claims
+  pub claims : All (IsClaim p) k.claims
+  pub right : AreRight p k.bound k.claims
+
+abbrev pub IsPartOf : Problem → Option (List ℕ) → Part → Type 0
+IsPartOf p remaining (TreeProof k) = IsTreeOf p remaining k
+IsPartOf p remaining (GroupsFile k) = AreGroupsOf p remaining k
 
 -- A part with this bound claims nothing that these do, and the table is theirs and its.
 pub record Joins (p : Problem) (remaining : Option (List ℕ)) (parts : List Part) (a : State) (b : Bound) : Type 0 where
   pub part : Part
   pub is : IsPartOf p remaining part
-  pub bound : part.bound ≡ b
+  pub bound : bound_of part ≡ b
   pub apart : list_all (λ k. are_apart (claims_of k) (claims_of part)) parts ≡ true
   pub table : IsTableOf a (parts ++ part ∷ [])
 
@@ -28,7 +45,7 @@ pub record IsSumOf (s : Sum) (parts : List Part) : Type 0 where
   pub apart : AreApart parts
   pub total : s.total ≡ sum_of parts
 
--- the number of the proof that is due, from 1 on
+-- the number of the file that is due, from 1 on
 abbrev pub due : Sum → ℕ
 due s = s.table.proof + 1
 

@@ -1,5 +1,5 @@
--- What the refusals of proofs that are added up say.
-use Rattle.std.specs.Prelude.{◌≡◌, ℕ, ◌+◌, ◌-◌, ◌≤◌, ◌^◌, true, List, ◌∷◌, ◌++◌, length, sum_by, slice_get, IsSomeAnd, ⊤}
+-- What the refusals of files that are added up say.
+use Rattle.std.specs.Prelude.{◌≡◌, ℕ, ◌+◌, ◌-◌, ◌≤◌, ◌^◌, true, false, if◌then◌else◌, List, ◌∷◌, ◌++◌, length, sum_by, slice_get, IsSomeAnd, ⊤, ◌⊎◌}
 use Rattle.std.specs.List.{list_all, AllZip}
 use Rattle.tt_text.specs.declared.feed.FeedFault.TheVariants as feed
 use Rattle.tt_instance.specs.Problem.{Problem}
@@ -9,21 +9,28 @@ use Rattle.tt_leaf_rules.specs.declared.leaf.Bound.TheVariants.{AtLeast, Nothing
 use Rattle.tt_proof_read.specs.Trees.{preorder}
 use Rattle.tt_proof_read.specs.declared.fault.TextFault.TheVariants as text
 use Rattle.tt_proof_read.specs.declared.node.Node.{Node}
+use Rattle.tt_groups_read.specs.Faults.{is_silent, is_failed_read}
+use Rattle.tt_groups_read.specs.declared.fault.GroupTextFault.{GroupTextFault}
+use Rattle.tt_peek.specs.Fronts.{is_groups}
 use Rattle.tt_proof_check.specs.Faults.{OutOfMemoryIsNoTextFault}
 use Rattle.tt_proof_check.specs.Streams.{IsProofFault, stream_of}
 use Rattle.tt_proof_check.specs.declared.fault.CheckFault.{CheckFault}
 use Rattle.tt_proof_check.specs.declared.fault.CheckFault.TheVariants as check
 use Rattle.tt_sum.specs.declared.fault.SumFault.{SumFault}
-use Rattle.tt_sum.specs.declared.fault.SumFault.TheVariants.{Proof, ClaimedElsewhere, TooLarge, OutOfMemory}
-use Rattle.tt_sum.specs.Sums.{is_among, are_apart, Part, IsPart, claims_of, AreApart}
+use Rattle.tt_sum.specs.declared.fault.SumFault.TheVariants.{Proof, Groups, ClaimedElsewhere, TooLarge, OutOfMemory}
+use Rattle.tt_sum.specs.declared.groups_fault.GroupsFault.{GroupsFault}
+use Rattle.tt_sum.specs.declared.groups_fault.GroupsFault.TheVariants as groups
+use Rattle.tt_sum.specs.GroupsFaults.{IsOfFile, IsLeftOpen, TellsGroups}
+use Rattle.tt_sum.specs.Sums.{is_among, are_apart, TreePart, Part, IsTreePart, IsPart, bound_of, claims_of, AreApart}
 use Rattle.tt_sum.specs.Tables.{claims_at}
 
--- ---- one more proof, after those of these parts
+-- ---- one more file, after those of these parts
 
--- The proof spells a tree that derives its bound, and the node at i is its first that claims a target which one of the parts claims: e of them, counted from 1.
+-- The proof spells a tree that derives its bound, and the node at i is its first that claims a target which one of the parts claims: the one at e,
+-- counted from 1.
 pub record IsClaimedElsewhere (p : Problem) (parts : List Part) (bytes : List ℕ) (i e : ℕ) : Type 0 where
-  pub part : Part
-  pub is : IsPart p bytes part
+  pub part : TreePart
+  pub is : IsTreePart p bytes part
   pub before : List Node
   pub node : Node
   pub more : List Node
@@ -41,44 +48,56 @@ points (AtLeast b) = b
 points Nothing = 0
 
 abbrev pub all_points : List Part → ℕ
-all_points parts = sum_by (λ k. points k.bound) parts
+all_points parts = sum_by (λ k. points (bound_of k)) parts
 
--- The proof spells a tree that derives its bound, and with the parts' the bounds are 2^64 or more.
+-- The file spells what is right, and with the parts' the bounds are 2^64 or more.
 abbrev pub IsTooLarge : Problem → List Part → List ℕ → Type 0
-IsTooLarge p parts bytes = (part : Part) × IsPart p bytes part × (2 ^ 64 ≤ all_points parts + points part.bound)
+IsTooLarge p parts bytes = (part : Part) × IsPart p bytes part × (2 ^ 64 ≤ all_points parts + points (bound_of part))
 
--- what a fault says of one more proof
+-- A read failed, or the text is no file of groups; it has this fault as a proof.
+pub record IsTreeFault (p : Problem) (bytes : List ℕ) (f : CheckFault) : Type 0 where
+  pub kind : (f ≡ check.Text (text.Feed feed.Read)) ⊎ (is_groups bytes ≡ false)
+  pub fault : IsProofFault p (stream_of bytes) f
+
+-- The text is a file of groups, and has this fault.
+pub record IsGroupsFault (p : Problem) (parts : List Part) (bytes : List ℕ) (f : GroupsFault) : Type 0 where
+  pub kind : is_groups bytes ≡ true
+  pub fault : TellsGroups p parts (stream_of bytes) f
+
+-- what a fault says of one more file
 abbrev pub TellsAdded : Problem → List Part → List ℕ → SumFault → Type 0
-TellsAdded p parts bytes (Proof n f) = IsProofFault p (stream_of bytes) f
+TellsAdded p parts bytes (Proof n f) = IsTreeFault p bytes f
+TellsAdded p parts bytes (Groups n f) = IsGroupsFault p parts bytes f
 TellsAdded p parts bytes (ClaimedElsewhere n i e) = IsClaimedElsewhere p parts bytes i e
 TellsAdded p parts bytes (TooLarge n) = IsTooLarge p parts bytes
 TellsAdded p parts bytes OutOfMemory = ⊤
 
--- the fault tells the number of the proof
+-- the fault tells the number of the file
 abbrev pub IsNumbered : ℕ → SumFault → Type 0
 IsNumbered n (Proof m f) = m ≡ n
+IsNumbered n (Groups m f) = m ≡ n
 IsNumbered n (ClaimedElsewhere m i e) = m ≡ n
 IsNumbered n (TooLarge m) = m ≡ n
 IsNumbered n OutOfMemory = ⊤
 
--- ---- a list of proofs
+-- ---- a list of files
 
--- This proof does not join those before it.
-pub record IsRefused (p : Problem) (proofs : List (List ℕ)) (e : SumFault) : Type 0 where
+-- This file does not join those before it.
+pub record IsRefused (p : Problem) (files : List (List ℕ)) (e : SumFault) : Type 0 where
   pub before : List (List ℕ)
   pub bytes : List ℕ
   pub more : List (List ℕ)
-  pub split : proofs ≡ before ++ bytes ∷ more
+  pub split : files ≡ before ++ bytes ∷ more
   pub parts : List Part
   pub each : AllZip (IsPart p) before parts
   pub apart : AreApart parts
   pub numbered : IsNumbered (length parts + 1) e
   pub tells : TellsAdded p parts bytes e
 
--- a fault is that of the first proof that does not join those before it
+-- a fault is that of the first file that does not join those before it
 abbrev pub IsSumFault : Problem → List (List ℕ) → SumFault → Type 0
-IsSumFault p proofs OutOfMemory = ⊤
-IsSumFault p proofs e = IsRefused p proofs e
+IsSumFault p files OutOfMemory = ⊤
+IsSumFault p files e = IsRefused p files e
 
 -- ---- memory, and reads that failed
 
@@ -86,18 +105,24 @@ abbrev pub told_proof : ℕ → CheckFault → SumFault
 told_proof n check.OutOfMemory = OutOfMemory
 told_proof n f = Proof n f
 
--- a read of this proof failed
+-- a read of this file failed, whichever kind it has
 abbrev pub read_failed_at : ℕ → SumFault
 read_failed_at n = Proof n (check.Text (text.Feed feed.Read))
 
--- Being out of memory is told as itself.
+-- the fault of a file of groups that a fault of its text is
+abbrev pub told_text : ℕ → GroupTextFault → SumFault
+told_text n f = if is_failed_read f then read_failed_at n else (if is_silent f then OutOfMemory else Groups n (groups.Text f))
+
+-- Being out of memory is a fault of its own.
 abbrev pub OutOfMemoryIsOneFault : SumFault → Type 0
 OutOfMemoryIsOneFault (Proof n f) = ¬ (f ≡ check.OutOfMemory) × OutOfMemoryIsNoTextFault f
+OutOfMemoryIsOneFault (Groups n f) = IsOfFile f
 OutOfMemoryIsOneFault _ = ⊤
 
--- being out of memory or a failed read
+-- being out of memory, a failed read, or a group whose claim is left open
 abbrev pub IsSilentSum : SumFault → Type 0
 IsSilentSum (Proof n f) = f ≡ check.Text (text.Feed feed.Read)
+IsSilentSum (Groups n f) = IsLeftOpen f
 IsSilentSum (ClaimedElsewhere n i e) = ⊥
 IsSilentSum (TooLarge n) = ⊥
 IsSilentSum OutOfMemory = ⊤

@@ -1,5 +1,5 @@
--- What the Cost leaves of trees claim, and proofs whose bounds add up.
-use Rattle.std.specs.Prelude.{◌≡◌, ℕ, ◌+◌, ◌≤◌, Bool, true, not, List, [], ◌∷◌, ◌++◌, map, sum_by}
+-- What the Cost leaves of trees and the groups of files claim, and files whose bounds add up.
+use Rattle.std.specs.Prelude.{◌≡◌, ℕ, ◌+◌, ◌≤◌, Bool, true, not, List, [], ◌∷◌, ◌++◌, map, flat_map, sum_by, All}
 use Rattle.std.specs.List.{list_any, list_all, AllZip}
 use Rattle.tt_lists.specs.Words.{each_two}
 use Rattle.tt_instance.specs.Problem.{Problem}
@@ -18,6 +18,10 @@ use Rattle.tt_leaf_rules.specs.declared.leaf.Leaf.TheVariants.{Cost}
 use Rattle.tt_proof_read.specs.Spelling.{SpellsProof}
 use Rattle.tt_proof_read.specs.Trees.{Tree, Close, Branch}
 use Rattle.tt_proof_check.specs.Derives.{Derives}
+use Rattle.tt_groups.specs.Group.{Group, IsGroupBound}
+use Rattle.tt_groups_read.specs.Spelling.{IsClaim, SpellsGroups}
+use Rattle.tt_groups_read.specs.declared.claim.GroupClaim.{GroupClaim}
+use Rattle.tt_peek.specs.Fronts.{is_groups}
 
 -- ---- targets
 
@@ -62,24 +66,76 @@ HoldsOver p b path targets = (t : List Cell) → IsFeasible p t → Fits p t pat
 abbrev pub IsWithinCost : Problem → List Cell → Type 0
 IsWithinCost p t = cost_over p t (every_target p) ≤ cost p t
 
--- ---- proofs
+-- ---- groups
 
--- what a proof spells
-pub record Part : Type 0 where
+-- The targets of a group are the compactness of its curricula and the working days of its courses.
+abbrev pub group_targets : Group → List Target
+group_targets g = map Compactness g.curricula ++ map WorkingDays g.courses
+
+-- the targets of all groups of the claims
+abbrev pub targets_of_claims : List GroupClaim → List Target
+targets_of_claims claims = flat_map (λ k. group_targets k.group) claims
+
+-- no target is in two of the claims
+abbrev pub AreClaimsApart : List GroupClaim → Type 0
+AreClaimsApart claims = each_two (λ a b. are_apart (group_targets a.group) (group_targets b.group)) claims ≡ true
+
+-- each claim is a bound of its group, no target is in two of them, and the values are together at least the bound
+pub record AreRight (p : Problem) (b : ℕ) (claims : List GroupClaim) : Type 0 where
+  pub bounds : All (λ k. IsGroupBound p k.group k.value) claims
+  pub apart : AreClaimsApart claims
+  pub enough : b ≤ sum_by (λ k. k.value) claims
+
+-- ---- files
+
+-- what a tree proof spells
+pub record TreePart : Type 0 where
   pub version : ℕ
   pub bound : Bound
   pub tree : Tree
 
+-- what a file of groups spells
+pub record GroupsPart : Type 0 where
+  pub bound : ℕ
+  pub claims : List GroupClaim
+
+-- what a file spells
+pub data Part : Type 0 where
+  TreeProof : TreePart → Part
+  GroupsFile : GroupsPart → Part
+
 -- the bytes spell a tree that derives its bound
-pub record IsPart (p : Problem) (bytes : List ℕ) (part : Part) : Type 0 where
-  pub spelled : SpellsProof p bytes part.version part.bound part.tree
-  pub derives : Derives p part.bound [] part.tree
+pub record IsTreePart (p : Problem) (bytes : List ℕ) (k : TreePart) : Type 0 where
+  pub spelled : SpellsProof p bytes k.version k.bound k.tree
+  pub derives : Derives p k.bound [] k.tree
 
--- the targets that a proof's leaves claim
+-- the bytes, which begin with `CTTG`, spell claims that are right
+pub record IsGroupsPart (p : Problem) (bytes : List ℕ) (k : GroupsPart) : Type 0 where
+  pub kind : is_groups bytes ≡ true
+  pub spelled : SpellsGroups p bytes k.bound k.claims
+  pub right : AreRight p k.bound k.claims
+
+-- the bytes spell the part, which is right
+abbrev pub IsPart : Problem → List ℕ → Part → Type 0
+IsPart p bytes (TreeProof k) = IsTreePart p bytes k
+IsPart p bytes (GroupsFile k) = IsGroupsPart p bytes k
+
+-- what the part is right about on a path: a tree that derives its bound there, or claims that are right on each
+abbrev pub ShowsOn : Problem → List Fact → Part → Type 0
+ShowsOn p path (TreeProof k) = Derives p k.bound path k.tree
+ShowsOn p path (GroupsFile k) = All (IsClaim p) k.claims × AreRight p k.bound k.claims
+
+-- the bound that a file names
+abbrev pub bound_of : Part → Bound
+bound_of (TreeProof k) = k.bound
+bound_of (GroupsFile k) = AtLeast k.bound
+
+-- the targets that a tree's leaves or the groups of a file claim
 abbrev pub claims_of : Part → List Target
-claims_of k = claimed_by k.tree
+claims_of (TreeProof k) = claimed_by k.tree
+claims_of (GroupsFile k) = targets_of_claims k.claims
 
--- no target is claimed by leaves of two of the proofs
+-- no target is claimed by two of the files
 abbrev pub AreApart : List Part → Type 0
 AreApart parts = each_two (λ a b. are_apart (claims_of a) (claims_of b)) parts ≡ true
 
@@ -91,11 +147,12 @@ both_bounds _ _ = Nothing
 -- the sum of the bounds; none where one is
 abbrev pub sum_of : List Part → Bound
 sum_of [] = AtLeast 0
-sum_of (k ∷ ks) = both_bounds k.bound (sum_of ks)
+sum_of (k ∷ ks) = both_bounds (bound_of k) (sum_of ks)
 
--- Each of the proofs spells a tree that derives its bound, no target is claimed by leaves of two of them, and s is the sum of the bounds.
-pub record IsSum (p : Problem) (proofs : List (List ℕ)) (s : Bound) : Type 0 where
+-- Each of the files spells a tree that derives its bound or claims about groups that are right, no target is claimed by two of them, and s is the
+-- sum of the bounds.
+pub record IsSum (p : Problem) (files : List (List ℕ)) (s : Bound) : Type 0 where
   pub parts : List Part
-  pub each : AllZip (IsPart p) proofs parts
+  pub each : AllZip (IsPart p) files parts
   pub apart : AreApart parts
   pub total : sum_of parts ≡ s

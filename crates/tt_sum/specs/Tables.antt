@@ -1,4 +1,4 @@
--- A table of the targets that proofs have claimed.
+-- A table of the targets that files have claimed.
 use Rattle.std.specs.Prelude.{◌≡◌, ℕ, ◌+◌, ◌<◌, ◌==◌, nat_le, Bool, not, ◌&&◌, ◌||◌, List, [], ◌∷◌, length, map, Option, Some, None, slice_index_or, if◌then◌else◌}
 use Rattle.std.specs.Option.{option_or}
 use Rattle.tt_lists.specs.Words.{has_number}
@@ -7,10 +7,12 @@ use Rattle.tt_leaf_rules.specs.Met.{place}
 use Rattle.tt_proof_read.specs.declared.node.Node.{Node}
 use Rattle.tt_proof_read.specs.declared.node.Node.TheVariants.{Split, Leaf}
 use Rattle.tt_sum.specs.declared.table.Clash.{Clash}
-use Rattle.tt_sum.specs.Sums.{claimed_in, Part, claims_of}
+use Rattle.tt_sum.specs.declared.table.TheConstants.{PLACES}
+use Rattle.tt_groups.specs.Group.{Group}
+use Rattle.tt_sum.specs.Sums.{claimed_in, group_targets, Part, claims_of}
 
--- For each place of a target the number of the proof that claimed it first, 0 for none; the number of the newest proof, from 1 on,
--- and 0 before the first; and the first claim of that proof that another had.
+-- For each place of a target the number of the file that claimed it first, 0 for none; the number of the newest file, from 1 on,
+-- and 0 before the first; and the first claim of a node of that file that another had.
 pub record State : Type 0 where
   pub owners : List ℕ
   pub proof : ℕ
@@ -26,7 +28,7 @@ clash_with past n o q =
 
 -- A place beyond the table counts as another proof's.
 abbrev pub clash_at : State → ℕ → ℕ → Option Clash
-clash_at a n k = clash_with (nat_le 32768 k) n (owner a k) a.proof
+clash_at a n k = clash_with (nat_le PLACES k) n (owner a k) a.proof
 
 -- the first clash of these places, each with the node that claims it
 abbrev pub first_clash : State → List (ℕ × ℕ) → Option Clash
@@ -37,7 +39,7 @@ first_clash a (x ∷ xs) = option_or (clash_at a x.0 x.1) (first_clash a xs)
 pub record Claims (a : State) (xs : List (ℕ × ℕ)) (b : State) : Type 0 where
   pub proof : b.proof ≡ a.proof
   pub clash : b.clash ≡ option_or a.clash (first_clash a xs)
-  pub owners : (k : ℕ) → k < 32768 → owner b k ≡ (if (owner a k == 0) && has_number (map (λ x. x.1) xs) k then a.proof else owner a k)
+  pub owners : (k : ℕ) → k < PLACES → owner b k ≡ (if (owner a k == 0) && has_number (map (λ x. x.1) xs) k then a.proof else owner a k)
 
 abbrev pub at_node : ℕ → List ℕ → List (ℕ × ℕ)
 at_node n ks = map (λ k. (n, k)) ks
@@ -51,13 +53,32 @@ claims_at (Leaf leaf) = claimed_in leaf
 abbrev pub places_in : Node → List ℕ
 places_in node = map place (claims_at node)
 
--- the number of the first proof that claims the place, counted from n; 0 for none
+-- the places of a group's targets: of its curricula, and then of its courses
+abbrev pub group_places : Group → List ℕ
+group_places g = map place (group_targets g)
+
+-- the owner of the first of these places that has one
+abbrev pub first_owner : State → List ℕ → Option ℕ
+first_owner a [] = None
+first_owner a (k ∷ ks) = if owner a k == 0 then first_owner a ks else Some (owner a k)
+
+-- The newest file owns these places now, and nothing else has changed.
+pub record Marks (a : State) (ks : List ℕ) (b : State) : Type 0 where
+  pub proof : b.proof ≡ a.proof
+  pub clash : b.clash ≡ a.clash
+  pub owners : (k : ℕ) → k < PLACES → owner b k ≡ (if has_number ks k then a.proof else owner a k)
+
+-- the number of the first file that claims the place, counted from n; 0 for none
 abbrev pub first_claim : ℕ → List Part → ℕ → ℕ
 first_claim n [] k = 0
 first_claim n (part ∷ parts) k = if has_number (map place (claims_of part)) k then n else first_claim (n + 1) parts k
 
--- The owner of each place is the first of these proofs that claims it, and the last of them is the newest.
+-- the table once the next file has begun
+abbrev pub begun : State → State
+begun a = record a { proof = a.proof + 1 }
+
+-- The owner of each place is the first of these files that claims it, and the last of them is the newest.
 pub record IsTableOf (a : State) (parts : List Part) : Type 0 where
-  pub owners : (k : ℕ) → k < 32768 → owner a k ≡ first_claim 1 parts k
+  pub owners : (k : ℕ) → k < PLACES → owner a k ≡ first_claim 1 parts k
   pub number : a.proof ≡ length parts
   pub free : a.clash ≡ None

@@ -1,20 +1,30 @@
-//! What proofs over disjoint targets mean.
+//! What bounds over disjoint targets mean.
 
-ghost use Rattle.std.specs.Prelude.{◌≡◌, true, List, ℕ, All};
+ghost use Rattle.std.specs.Prelude.{◌≡◌, true, List, [], ℕ, All};
 ghost use Rattle.tt_instance.specs.Problem.{Problem};
 ghost use Rattle.tt_instance.specs.declared.cell.Cell.{Cell};
 ghost use Rattle.tt_rules.specs.Score.{IsFeasible};
 ghost use Rattle.tt_paths.specs.declared.facts.Fact.{Fact};
 ghost use Rattle.tt_leaf_rules.specs.Claims.{Target};
 ghost use Rattle.tt_leaf_rules.specs.declared.leaf.Bound.{Bound};
+ghost use Rattle.tt_leaf_rules.specs.declared.leaf.Bound.TheVariants.{AtLeast};
 ghost use Rattle.tt_proof_read.specs.Trees.{Tree};
 ghost use Rattle.tt_proof_check.specs.Derives.{Derives, HoldsOn, HoldsOfAll};
-ghost use Rattle.tt_sum.specs.Sums.{claimed_by, are_among, every_target, HoldsOver, IsWithinCost, Part, AreApart, sum_of, IsSum};
+ghost use Rattle.tt_groups.specs.Group.{IsGroupBound};
+ghost use Rattle.tt_groups_read.specs.Spelling.{IsClaim};
+ghost use Rattle.tt_groups_read.specs.declared.claim.GroupClaim.{GroupClaim};
+ghost use Rattle.tt_sum.specs.Sums.{claimed_by, are_among, every_target, HoldsOver, IsWithinCost, group_targets, Part, ShowsOn, AreApart, sum_of, IsSum};
 
 /// What a tree derives on a path holds of the part of the cost that is the targets' which its leaves claim.
 pub fn bounds_hold_over()
     ensures { (p : Problem) (b : Bound) (path : List Fact) (tree : Tree) (targets : List Target) →
         are_among targets (claimed_by tree) ≡ true → Derives p b path tree → HoldsOver p b path targets }
+{}
+
+/// A bound of a group is one of what each feasible timetable pays for its targets.
+pub fn group_bounds_hold_over()
+    ensures { (p : Problem) (k : GroupClaim) (targets : List Target) → IsClaim p k → are_among targets (group_targets k.group) ≡ true →
+        IsGroupBound p k.group k.value → HoldsOver p (AtLeast k.value) [] targets }
 {}
 
 /// With all targets of the instance it holds of the cost, and whatever a tree claims, it holds of all targets.
@@ -23,13 +33,13 @@ pub fn bounds_hold_over_all()
     ensures holds { (p : Problem) (b : Bound) (path : List Fact) (tree : Tree) → Derives p b path tree → HoldsOver p b path (every_target p) }
 {}
 
-/// Bounds of trees that claim different targets add up.
+/// Bounds of trees and of groups that claim different targets add up.
 pub fn apart_bounds_add()
     ensures { (p : Problem) (path : List Fact) (parts : List Part) →
-        All (λ k. Derives p k.bound path k.tree) parts → AreApart parts → HoldsOn p (sum_of parts) path }
+        All (ShowsOn p path) parts → AreApart parts → HoldsOn p (sum_of parts) path }
 {}
 
-/// The sum of proofs holds of every feasible timetable.
+/// The sum of files holds of every feasible timetable.
 pub fn sums_hold()
-    ensures { (p : Problem) (proofs : List (List ℕ)) (s : Bound) → IsSum p proofs s → HoldsOfAll p s }
+    ensures { (p : Problem) (files : List (List ℕ)) (s : Bound) → IsSum p files s → HoldsOfAll p s }
 {}

@@ -1,7 +1,9 @@
-//! Proofs whose bounds add up.
+//! Tree proofs and claims about groups whose bounds add up.
 #![tactic(auto)]
 
 mod fault;
+mod groups;
+mod groups_fault;
 mod laws;
 mod one_more;
 mod several;
@@ -9,7 +11,10 @@ mod summed;
 mod table;
 
 pub use fault::SumFault;
-pub use laws::{apart_bounds_add, bounds_hold_over, bounds_hold_over_all, sums_hold};
+pub use groups_fault::GroupsFault;
+pub use laws::{
+    apart_bounds_add, bounds_hold_over, bounds_hold_over_all, group_bounds_hold_over, sums_hold,
+};
 pub use several::sum_proofs;
 pub use summed::Sum;
 pub use table::{Clash, Table};

@@ -1,36 +1,36 @@
-//! The sum of a list of proofs.
+//! The sum of a list of files.
 
 ghost use Rattle.std.specs.Prelude.{◌≡◌, ◌+◌, ◌-◌, ◌<◌, ◌≤◌, ◌^◌, ℕ, List, Some, Err, true, IfOk, IfErr, MatchResult, slice_get};
 ghost use Rattle.tt_leaf_rules.specs.declared.leaf.Bound.{Bound};
 ghost use Rattle.tt_proof_check.specs.Derives.{HoldsOfAll};
-ghost use Rattle.tt_proof_check.specs.FailedReads.{IsJudgedUpToFailedRead};
 ghost use Rattle.tt_sum.specs.Added.{Give};
 ghost use Rattle.tt_sum.specs.Faults.{IsSumFault, OutOfMemoryIsOneFault, IsSilentSum, read_failed_at, all_points};
 ghost use Rattle.tt_sum.specs.Sums.{IsSum};
+ghost use Rattle.tt_sum.specs.UpToFailedRead.{IsFileJudgedUpToFailedRead};
 
 use crate::fault::SumFault;
 use crate::summed::Sum;
 use std::alloc::Global;
 use tt_instance::Instance;
 use tt_leaf_rules::Bound;
-use tt_text::Source;
+use tt_peek::Peek;
 
-/// The sum of the bounds of proofs that claim different targets; `Nothing` where one of them says that there is no timetable, and 0
-/// where there is no proof. The proofs are read one after the other.
-pub fn sum_proofs<R: Source>(
+/// The sum of the bounds of files that claim different targets, tree proofs and files of groups; `Nothing` where one of them says that there is
+/// no timetable, and 0 where there is no file. The files are read one after the other.
+pub fn sum_proofs<R: Peek>(
     alloc: Global,
     instance: &Instance<'_>,
     sources: &mut [R],
 ) -> Result<Bound, SumFault>
-    // Each proof spells a tree that derives its bound, no target is claimed by two, and this is the sum.
-    ensures found { IfOk result (λ s. (proofs : List (List ℕ)) → Give R.remaining sources.old proofs → IsSum instance.now proofs s) }
-    // What has a sum below 2^64 is answered, unless memory or a read fails.
-    ensures only { (proofs : List (List ℕ)) (s : Bound) → Give R.remaining sources.old proofs → (h : IsSum instance.now proofs s) →
+    // Each file spells what is right, no target is claimed by two, and this is the sum.
+    ensures found { IfOk result (λ s. (files : List (List ℕ)) → Give R.remaining sources.old files → IsSum instance.now files s) }
+    // What has a sum below 2^64 is answered, unless memory or a read fails or a group's claim is left open.
+    ensures only { (files : List (List ℕ)) (s : Bound) → Give R.remaining sources.old files → (h : IsSum instance.now files s) →
         all_points h.parts < 2 ^ 64 → MatchResult result (λ c. c ≡ s) IsSilentSum }
     // This holds whatever the sources give.
     ensures holds { IfOk result (HoldsOfAll instance.now) }
-    // A refusal tells the first proof that does not join those before it, and its first fault.
-    ensures fault { IfErr result (λ e. (proofs : List (List ℕ)) → Give R.remaining sources.old proofs → IsSumFault instance.now proofs e) }
+    // A refusal names the first file that does not join those before it, and its first fault.
+    ensures fault { IfErr result (λ e. (files : List (List ℕ)) → Give R.remaining sources.old files → IsSumFault instance.now files e) }
     // A read is said to have failed exactly where one did.
     ensures failed { (i : ℕ) (r : R) → result ≡ Err (read_failed_at (i + 1)) → slice_get sources.new i ≡ Some r → R.has_failed r ≡ true }
     ensures unfailed { (i : ℕ) (r q : R) → ¬ (result ≡ Err (read_failed_at (i + 1))) → slice_get sources.old i ≡ Some r → slice_get sources.new i ≡ Some q →
@@ -38,7 +38,7 @@ pub fn sum_proofs<R: Source>(
     ensures memory { IfErr result OutOfMemoryIsOneFault }
     // Where one failed, all that the bytes before it say has been judged.
     ensures up_to_failed_read { (i : ℕ) (r q : R) (bytes : List ℕ) → result ≡ Err (read_failed_at (i + 1)) → slice_get sources.old i ≡ Some r → slice_get sources.new i ≡ Some q →
-        R.remaining r ≡ Some bytes → IsJudgedUpToFailedRead instance.now bytes (R.remaining q) }
+        R.remaining r ≡ Some bytes → IsFileJudgedUpToFailedRead instance.now bytes (R.remaining q) }
 {
     // What is true of every instance: its numbers are small enough to be read.
     prove!(instance.days() > 0);

@@ -1,18 +1,18 @@
-//! A sum of proofs that takes one proof after the other.
+//! A sum of files that takes one file after the other.
 
 ghost use Rattle.std.specs.Prelude.{◌≡◌, ◌+◌, ◌<◌, ◌≤◌, ◌^◌, ℕ, List, [], ◌++◌, ◌∷◌, Some, Err, true, IfOk, IfErr, MatchOption};
-ghost use Rattle.tt_proof_check.specs.FailedReads.{IsJudgedUpToFailedRead};
 ghost use Rattle.tt_sum.specs.Added.{IsSumOf, Adds, due};
 ghost use Rattle.tt_sum.specs.Faults.{TellsAdded, IsNumbered, OutOfMemoryIsOneFault, IsSilentSum, read_failed_at, points, all_points};
 ghost use Rattle.tt_sum.specs.Sums.{Part, IsPart, AreApart, both_bounds, sum_of};
+ghost use Rattle.tt_sum.specs.UpToFailedRead.{IsFileJudgedUpToFailedRead};
 
 use crate::fault::SumFault;
-use crate::one_more::take_proof;
+use crate::one_more::take_file;
 use crate::table::Table;
 use std::alloc::{AllocError, Global};
 use tt_instance::Instance;
 use tt_leaf_rules::Bound;
-use tt_text::Source;
+use tt_peek::Peek;
 
 /// The sum of two bounds, where it is below 2^64.
 fn both(a: Bound, b: Bound) -> Option<Bound>
@@ -24,7 +24,7 @@ fn both(a: Bound, b: Bound) -> Option<Bound>
     }
 }
 
-/// The sum of the bounds of proofs that claim different targets.
+/// The sum of the bounds of files that claim different targets.
 #[derive(Drop)]
 pub struct Sum {
     table: Table,
@@ -32,7 +32,7 @@ pub struct Sum {
 }
 
 impl Sum {
-    /// The sum of no proofs.
+    /// The sum of no files.
     pub fn new(alloc: Global) -> Result<Sum, AllocError>
         ensures { IfOk result (λ s. IsSumOf s []) }
     {
@@ -42,28 +42,28 @@ impl Sum {
         })
     }
 
-    /// The bound that the proofs so far derive together.
+    /// The bound that the files so far show together.
     pub fn bound(&self) -> Bound
         ensures { (parts : List Part) → IsSumOf self.now parts → result ≡ sum_of parts }
     {
         self.total
     }
 
-    /// Checks one more proof, and adds its bound where it claims no target that an earlier proof claims.
-    pub fn add<R: Source>(
+    /// Checks one more file, and adds its bound where it claims no target that an earlier file claims.
+    pub fn add<R: Peek>(
         mut self,
         alloc: Global,
         instance: &Instance<'_>,
         source: &mut R,
     ) -> Result<Sum, SumFault>
         requires room { due self < 2 ^ 64 }
-        // The source's bytes spell a proof that is apart from the others, and its bound is added.
+        // The source's bytes spell what is right and apart from the others, and its bound is added.
         ensures added { IfOk result (λ s. (parts : List Part) → IsSumOf self parts → Adds instance.now (R.remaining source.old) parts s) }
         ensures next { IfOk result (λ s. due s ≡ due self + 1) }
-        // What spells one that is apart is added, if the sum stays below 2^64, unless memory or a read fails.
+        // What spells that is added, if the sum stays below 2^64, unless memory or a read fails or a group's claim is left open.
         ensures only { (parts : List Part) (bytes : List ℕ) (part : Part) → IsSumOf self parts → R.remaining source.old ≡ Some bytes →
             IsPart instance.now bytes part → AreApart (parts ++ part ∷ []) → all_points (parts ++ part ∷ []) < 2 ^ 64 → IfErr result IsSilentSum }
-        // A refusal tells the first fault.
+        // A refusal has the first fault.
         ensures fault { IfErr result (λ e. (parts : List Part) (bytes : List ℕ) → IsSumOf self parts → R.remaining source.old ≡ Some bytes →
             TellsAdded instance.now parts bytes e) }
         ensures numbered { IfErr result (IsNumbered (due self)) }
@@ -73,11 +73,11 @@ impl Sum {
         ensures memory { IfErr result OutOfMemoryIsOneFault }
         // Where one failed, all that the bytes before it say has been judged.
         ensures up_to_failed_read { result ≡ Err (read_failed_at (due self)) → (bytes : List ℕ) → R.remaining source.old ≡ Some bytes →
-            IsJudgedUpToFailedRead instance.now bytes (R.remaining source.new) }
+            IsFileJudgedUpToFailedRead instance.now bytes (R.remaining source.new) }
     {
         // What is true of every instance: its numbers are small enough to be read.
         prove!(instance.days() > 0);
-        let bound = take_proof(alloc, instance, &mut self.table, source)?;
+        let bound = take_file(alloc, instance, &mut self.table, source)?;
         match both(self.total, bound) {
             Some(total) => {
                 self.total = total;

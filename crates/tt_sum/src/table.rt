@@ -1,28 +1,35 @@
-//! Which proof has claimed each target.
+//! Which file has claimed each target.
 
 ghost use Rattle.std.specs.Prelude.{◌≡◌, ℕ, ◌+◌, ◌*◌, ◌<◌, ◌∷◌, [], map, flat_map, Some, IfOk};
 ghost use Rattle.std.specs.Option.{option_or};
 ghost use Rattle.tt_leaf_rules.specs.Met.{place, places_of};
 ghost use Rattle.tt_sum.specs.Sums.{claimed_in};
-ghost use Rattle.tt_sum.specs.Tables.{Claims, at_node, IsTableOf};
+ghost use Rattle.tt_sum.specs.Tables.{Claims, at_node, IsTableOf, owner, first_owner, Marks, group_places};
 
 use std::alloc::{AllocError, Global};
 use std::marker::Model;
+use tt_groups::Group;
 use tt_leaf_rules::{Claim, Leaf};
 use tt_proof_check::Listener;
 use tt_proof_read::Node;
 
-/// The targets' places are below this: four for each curriculum.
-const PLACES: usize = 32_768;
+/// The targets' places are below this: four for each number of a course or a curriculum.
+pub const PLACES: usize = 32_768;
 
-/// A node that claims what an earlier proof claims, and the number of that proof, from 1 on.
+/// The place of the working days of course 0.
+const WORKING_DAYS: usize = 1;
+
+/// The place of the compactness of curriculum 0.
+const COMPACTNESS: usize = 2;
+
+/// A node that claims what an earlier file claims, and the number of that file, from 1 on.
 #[derive(Clone, Copy, Debug, PartialEq, Eq)]
 pub struct Clash {
     pub node: u32,
     pub earlier: u64,
 }
 
-/// For each target the number of the proof that claimed it first, from 1 on, and 0 for none.
+/// For each target the number of the file that claimed it first, from 1 on, and 0 for none.
 #[derive(Drop)]
 pub struct Table {
     owners: Vec<u64>,
@@ -33,16 +40,17 @@ pub struct Table {
 impl Model for Table {
     ghost use Rattle.std.specs.Prelude.{◌≡◌, length};
     ghost use Rattle.tt_sum.specs.Tables.{State};
+    ghost use Rattle.tt_sum.specs.declared.table.TheConstants.{PLACES};
 
     ghost Value = { State };
 
     ghost view = { λ t. record { owners = t.owners.items; proof = t.proof; clash = t.clash } };
 
-    ghost invariant = { λ t. length t.owners.items ≡ 32768 };
+    ghost invariant = { λ t. length t.owners.items ≡ PLACES };
 }
 
 impl Table {
-    /// No target is claimed, and no proof has begun.
+    /// No target is claimed, and no file has begun.
     pub fn new(alloc: Global) -> Result<Table, AllocError>
         ensures { IfOk result (λ t. IsTableOf t []) }
     {
@@ -53,21 +61,21 @@ impl Table {
         })
     }
 
-    /// The first claim of the newest proof of what another has claimed.
+    /// The first claim of the newest proof of what another file has claimed.
     pub fn clash(&self) -> Option<Clash>
         ensures { result ≡ self.now.clash }
     {
         self.clash
     }
 
-    /// The number of the newest proof, from 1 on, and 0 before the first.
+    /// The number of the newest file, from 1 on, and 0 before the first.
     pub fn proof(&self) -> u64
         ensures { result ≡ self.now.proof }
     {
         self.proof
     }
 
-    /// The next proof begins.
+    /// The next file begins.
     pub fn begin(&mut self)
         requires { self.old.proof < u64.MAX }
         ensures { self.new ≡ record self.old { proof = self.old.proof + 1 } }
@@ -114,9 +122,11 @@ impl Table {
         match claim {
             Claim::Capacity { course, .. } => self.claim(node, 4 * *course as usize),
             Claim::Days(course) | Claim::Stacked(course) => {
-                self.claim(node, 4 * *course as usize + 1)
+                self.claim(node, 4 * *course as usize + WORKING_DAYS)
             }
-            Claim::Compact(curriculum) => self.claim(node, 4 * *curriculum as usize + 2),
+            Claim::Compact(curriculum) => {
+                self.claim(node, 4 * *curriculum as usize + COMPACTNESS)
+            }
             Claim::Stable(course) => self.claim(node, 4 * *course as usize + 3),
             Claim::Prices { courses, .. } => self.claim_capacities(node, courses.as_slice()),
         }
@@ -139,13 +149,71 @@ impl Table {
             self.claim_each(node, claims.as_slice());
         }
     }
+
+    fn owner(&self, place: usize) -> u64
+        ensures { result ≡ owner self.now place }
+    {
+        match self.owners.get(place) {
+            Some(owner) => *owner,
+            None => 0,
+        }
+    }
+
+    /// The owner of the first target of these curricula or courses that has one.
+    fn first_owner(&self, numbers: &[u32], kind: usize) -> Option<u64>
+        requires { kind < 4 }
+        ensures { result ≡ first_owner self.now (map (λ n. 4 * n + kind) numbers.now) }
+    {
+        for number in numbers {
+            let owner = self.owner(4 * *number as usize + kind);
+            if owner != 0 {
+                return Some(owner);
+            }
+        }
+        None
+    }
+
+    /// The file that claims the first target of the group that is claimed: of its curricula, and then of its courses.
+    pub fn owner_of_group(&self, group: &Group) -> Option<u64>
+        ensures { result ≡ first_owner self.now (group_places group.now) }
+    {
+        match self.first_owner(group.curricula(), COMPACTNESS) {
+            Some(owner) => Some(owner),
+            None => self.first_owner(group.courses(), WORKING_DAYS),
+        }
+    }
+
+    fn mark(&mut self, place: usize)
+        ensures { Marks self.old (place ∷ []) self.new }
+    {
+        if place < PLACES {
+            self.owners[place] = self.proof;
+        }
+    }
+
+    fn mark_each(&mut self, numbers: &[u32], kind: usize)
+        requires { kind < 4 }
+        ensures { Marks self.old (map (λ n. 4 * n + kind) numbers.now) self.new }
+    {
+        for number in numbers {
+            self.mark(4 * *number as usize + kind);
+        }
+    }
+
+    /// The newest file claims the targets of the group.
+    pub fn mark_group(&mut self, group: &Group)
+        ensures { Marks self.old (group_places group.now) self.new }
+    {
+        self.mark_each(group.curricula(), COMPACTNESS);
+        self.mark_each(group.courses(), WORKING_DAYS);
+    }
 }
 
 impl Listener for Table {
     ghost use Rattle.std.specs.Prelude.{◌<◌};
     ghost use Rattle.tt_sum.specs.Tables.{Claims, at_node, places_in};
 
-    // Before the first proof begins there is nothing to hear.
+    // Before the first file begins there is nothing to hear.
     ghost hears = { λ old number node new. 0 < old.proof → Claims old (at_node number (places_in node)) new };
 
     fn hear(&mut self, number: u32, node: &Node) {

@@ -1,5 +1,5 @@
 -- The faults of the nodes of a tree.
-use Rattle.std.proofs.Common.{◌≡◌, ℕ, ◌≤◌, ◌<◌, List, [], length, Some, sym, ap, ◌∙◌, arith}
+use Rattle.std.proofs.Common.{◌≡◌, ℕ, ◌≤◌, ◌<◌, List, [], length, Some, sym, ap, ◌∙◌, subst, arith}
 use Rattle.std.specs.Prelude.{slice_get}
 use Rattle.std.proofs.lemmas.Option.{slice_get_within}
 use Rattle.tt_text.specs.declared.feed.FeedFault.TheVariants as feed
@@ -14,9 +14,7 @@ use Rattle.tt_proof_check.specs.declared.fault.CheckFault.TheVariants as check
 use Rattle.tt_proof_check.specs.declared.fault.NodesFault.{NodesFault}
 use Rattle.tt_proof_check.specs.declared.fault.NodesFault.TheVariants.{NotATree, Rule, TooDeep, OutOfMemory}
 use Rattle.tt_proof_check.proofs.Reading.{root, length-places_of, whole_places, whole_stack}
-use Rattle.tt_proof_text.specs.declared.fault.WriteFault.{WriteFault}
-use Rattle.tt_proof_text.specs.declared.fault.WriteFault.TheVariants as write
-use Rattle.tt_upgrade.specs.Faults.{fault_from_text, fault_from_write, read_failed, IsOfNode, fault_from_node, IsNodesFault, OutOfMemoryIsOneFault}
+use Rattle.tt_upgrade.specs.Faults.{fault_from_text, read_failed, IsOfNode, IsFaultOfNode, IsNodesFault, IsWriteFault, OutOfMemoryIsOneFault}
 use Rattle.tt_upgrade.specs.declared.fault.UpgradeFault.{UpgradeFault}
 use Rattle.tt_upgrade.specs.declared.fault.UpgradeFault.TheVariants as upgrade
 
@@ -37,11 +35,11 @@ is_of_node p b nodes tree few (Rule i f) t = place_small t.0 nodes i _ t.1 few t
 is_of_node p b nodes tree few (TooDeep i) t = place_small t.0 nodes i _ t.1 few t.2.found
 is_of_node p b nodes tree few OutOfMemory t = tt
 
-pub told_of_node : (p : Problem) (b : Bound) (nodes : List Node) (e : NodesFault) → IsOfNode e → Tells p b nodes e → IsNodesFault p b nodes (fault_from_node e)
-told_of_node p b nodes NotATree is t = absurd is
-told_of_node p b nodes (Rule i f) is t = t
-told_of_node p b nodes (TooDeep i) is t = t
-told_of_node p b nodes OutOfMemory is t = tt
+pub fault_of_node : (p : Problem) (b : Bound) (nodes : List Node) (e : NodesFault) (u : UpgradeFault) → IsFaultOfNode e u → Tells p b nodes e → IsNodesFault p b nodes u
+fault_of_node p b nodes NotATree u is t = absurd is
+fault_of_node p b nodes (Rule i f) u is t = subst (IsNodesFault p b nodes) (sym is) t
+fault_of_node p b nodes (TooDeep i) u is t = subst (IsNodesFault p b nodes) (sym is) t
+fault_of_node p b nodes OutOfMemory u is t = subst (IsNodesFault p b nodes) (sym is) tt
 
 -- only a failed read is told as one
 pub read_told : (f : TextFault) → fault_from_text f ≡ read_failed → f ≡ text.Feed feed.Read
@@ -69,8 +67,7 @@ memory_nodes p b nodes (upgrade.Proof check.OutOfMemory) t = absurd t
 memory_nodes p b nodes upgrade.TooLarge t = tt
 memory_nodes p b nodes upgrade.OutOfMemory t = tt
 
-pub memory_write : (f : WriteFault) → OutOfMemoryIsOneFault (fault_from_write f)
-memory_write write.NotATree = tt
-memory_write write.OverLimit = tt
-memory_write write.NotInVersion = tt
-memory_write write.OutOfMemory = tt
+pub memory_write : (b : Bound) (nodes : List Node) (f : UpgradeFault) → IsWriteFault b nodes f → OutOfMemoryIsOneFault f
+memory_write b nodes (upgrade.Proof f) t = absurd t
+memory_write b nodes upgrade.TooLarge t = tt
+memory_write b nodes upgrade.OutOfMemory t = tt

@@ -32,11 +32,9 @@ use Rattle.tt_proof_check.proofs.Judging.{tree_passes, never_fails, never_deep}
 use Rattle.tt_proof_check.proofs.Sizes.{are_sizes_of}
 use Rattle.tt_proof_check.proofs.TextFaults.{fails_silently}
 use Rattle.tt_proof_check.proofs.Texts.{node_silent, end_silent}
-use Rattle.tt_proof_text.specs.Within.{FitsFile, IsNodeIn, Refuses, Writes}
+use Rattle.tt_proof_text.specs.Within.{FitsFile, IsNodeIn, Writes}
 use Rattle.tt_proof_text.specs.Written.{proof_text}
-use Rattle.tt_proof_text.specs.declared.fault.WriteFault.{WriteFault}
-use Rattle.tt_proof_text.specs.declared.fault.WriteFault.TheVariants as write
-use Rattle.tt_upgrade.specs.Faults.{fault_from_text, fault_from_write, IsNodesFault}
+use Rattle.tt_upgrade.specs.Faults.{fault_from_text, IsNodesFault, IsWriteFault}
 use Rattle.tt_upgrade.specs.Texts.{IsRead, AreNodesOf, NodeTextFails, EndTextFails, IsTextFault}
 use Rattle.tt_upgrade.specs.Upgrades.{IsUpgraded, IsUpgradeFault, IsSilent}
 use Rattle.tt_upgrade.specs.declared.fault.UpgradeFault.{UpgradeFault}
@@ -98,17 +96,16 @@ module _ (p : Problem) (s : Stream) (v : ℕ) (b : Bound) (nodes : List Node) (r
 
   module _ (h : Proves p b nodes) where
     -- that the text grows too large is told
-    pub write_tells : (f : WriteFault) → Refuses 2 b nodes f → IsUpgradeFault p s (fault_from_write f)
-    write_tells write.NotATree t = absurd (t (h.0, h.1))
-    write_tells write.OverLimit t = record {
+    pub write_tells : (f : UpgradeFault) → IsWriteFault b nodes f → IsUpgradeFault p s f
+    write_tells (Proof f) t = absurd t
+    write_tells TooLarge t = record {
       version = v;
       bound = b;
       tree = h.0;
       reads = read_as h.0 h.1;
-      is = record { shallow = h.2; derives = h.3; large = λ fits. t.1 (subst (FitsFile 2 b) h.1 fits) };
+      is = record { shallow = h.2; derives = h.3; large = λ fits. t (subst (FitsFile 2 b) h.1 fits) };
     }
-    write_tells write.NotInVersion t = absurd (t.2 (λ k n e. node_in_two _))
-    write_tells write.OutOfMemory t = tt
+    write_tells OutOfMemory t = tt
 
 -- what was read, judged and written is written anew
 pub upgraded : (p : Problem) (bytes out : List ℕ) (v : ℕ) (b : Bound) (nodes : List Node) → IsRead p (stream_of bytes) v b nodes → Proves p b nodes → AreNodesOf p v nodes → Writes 2 b nodes out

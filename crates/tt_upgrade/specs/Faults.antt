@@ -12,18 +12,13 @@ use Rattle.tt_proof_check.specs.Tells.{FailsAt, IsDeepAt}
 use Rattle.tt_proof_check.specs.declared.fault.CheckFault.TheVariants as check
 use Rattle.tt_proof_check.specs.declared.fault.NodesFault.{NodesFault}
 use Rattle.tt_proof_check.specs.declared.fault.NodesFault.TheVariants as nodes
-use Rattle.tt_proof_text.specs.declared.fault.WriteFault.{WriteFault}
-use Rattle.tt_proof_text.specs.declared.fault.WriteFault.TheVariants as write
+use Rattle.tt_proof_text.specs.Within.{FitsFile}
 use Rattle.tt_upgrade.specs.declared.fault.UpgradeFault.{UpgradeFault}
 use Rattle.tt_upgrade.specs.declared.fault.UpgradeFault.TheVariants.{Proof, TooLarge, OutOfMemory}
 
 abbrev pub fault_from_text : TextFault → UpgradeFault
 fault_from_text text.OutOfMemory = OutOfMemory
 fault_from_text f = Proof (check.Text f)
-
-abbrev pub fault_from_write : WriteFault → UpgradeFault
-fault_from_write write.OutOfMemory = OutOfMemory
-fault_from_write _ = TooLarge
 
 -- the nodes are a tree, and the number of the one that is wrong has 32 bits
 abbrev pub IsOfNode : NodesFault → Type 0
@@ -32,11 +27,18 @@ IsOfNode (nodes.Rule i f) = i < 2 ^ 32
 IsOfNode (nodes.TooDeep i) = i < 2 ^ 32
 IsOfNode nodes.OutOfMemory = ⊤
 
-abbrev pub fault_from_node : NodesFault → UpgradeFault
-fault_from_node nodes.NotATree = OutOfMemory
-fault_from_node (nodes.Rule i f) = Proof (check.Rule i f)
-fault_from_node (nodes.TooDeep i) = Proof (check.TooDeep i)
-fault_from_node nodes.OutOfMemory = OutOfMemory
+-- the fault of an upgrade that reports this one of the nodes; none reports that they are no tree
+abbrev pub IsFaultOfNode : NodesFault → UpgradeFault → Type 0
+IsFaultOfNode nodes.NotATree e = ⊥
+IsFaultOfNode (nodes.Rule i f) e = e ≡ Proof (check.Rule i f)
+IsFaultOfNode (nodes.TooDeep i) e = e ≡ Proof (check.TooDeep i)
+IsFaultOfNode nodes.OutOfMemory e = e ≡ OutOfMemory
+
+-- The text of the nodes in version 2 is more than a file may have, or memory ran out.
+abbrev pub IsWriteFault : Bound → List Node → UpgradeFault → Type 0
+IsWriteFault b nodes (Proof f) = ⊥
+IsWriteFault b nodes TooLarge = ¬ (FitsFile 2 b nodes)
+IsWriteFault b nodes OutOfMemory = ⊤
 
 -- a read of the proof failed
 abbrev pub read_failed : UpgradeFault

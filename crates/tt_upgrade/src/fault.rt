@@ -1,12 +1,10 @@
 //! Why a proof is not written anew.
 
-ghost use Rattle.std.specs.Prelude.{◌≡◌, ◌<◌};
-ghost use Rattle.tt_upgrade.specs.Faults.{IsOfNode, fault_from_node};
+ghost use Rattle.tt_upgrade.specs.Faults.{IsOfNode, IsFaultOfNode};
 
 use thiserror::Error;
 use tt_proof_check::{CheckFault, NodesFault};
 use tt_proof_read::TextFault;
-use tt_proof_text::WriteFault;
 
 /// Why a proof is not written anew.
 #[derive(Clone, Copy, Debug, PartialEq, Eq, Error)]
@@ -35,29 +33,15 @@ impl From<TextFault> for UpgradeFault {
     }
 }
 
-impl From<WriteFault> for UpgradeFault {
-    ghost use Rattle.std.specs.Prelude.{◌≡◌};
-    ghost use Rattle.tt_upgrade.specs.Faults.{fault_from_write};
-
-    ghost from_gives = { λ f e. e ≡ fault_from_write f };
-
-    fn from(fault: WriteFault) -> UpgradeFault {
-        match fault {
-            WriteFault::OutOfMemory => UpgradeFault::OutOfMemory,
-            // The nodes are a tree, and each claim is of version 2.
-            _ => UpgradeFault::TooLarge,
-        }
-    }
-}
-
 /// What a fault of the nodes of a tree is called; a file's nodes are numbered with 32 bits.
 pub fn node_fault(fault: NodesFault) -> UpgradeFault
     requires { IsOfNode fault }
-    ensures { result ≡ fault_from_node fault }
+    ensures { IsFaultOfNode fault result }
 {
     match fault {
         NodesFault::Rule(node, fault) => UpgradeFault::Proof(CheckFault::Rule(node as u32, fault)),
         NodesFault::TooDeep(node) => UpgradeFault::Proof(CheckFault::TooDeep(node as u32)),
-        NodesFault::NotATree | NodesFault::OutOfMemory => UpgradeFault::OutOfMemory,
+        NodesFault::OutOfMemory => UpgradeFault::OutOfMemory,
+        NodesFault::NotATree => unreachable!(),
     }
 }

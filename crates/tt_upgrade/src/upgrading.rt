@@ -2,11 +2,15 @@
 
 ghost use Rattle.std.specs.Prelude.{◌≡◌, ◌≤◌, List, ℕ, length, All, true, Some, Err, IfOk, IfErr, OnOk, MatchResult};
 ghost use Rattle.tt_leaf_rules.specs.declared.leaf.Bound.{Bound};
+ghost use Rattle.tt_proof_read.specs.declared.format.TheConstants.{MAX_NODES};
 ghost use Rattle.tt_proof_check.specs.Derives.{HoldsOfAll, Proves};
-ghost use Rattle.tt_proof_read.specs.Trees.{IsPreorder};
+ghost use Rattle.tt_proof_read.specs.Spelling.{IsNode, SpellsProof};
+ghost use Rattle.tt_proof_read.specs.Trees.{Tree, preorder, IsPreorder};
 ghost use Rattle.tt_proof_check.specs.Nodes.{IsNodeOf};
 ghost use Rattle.tt_proof_check.specs.Streams.{IsProved, stream_of};
-ghost use Rattle.tt_upgrade.specs.Faults.{read_failed, IsNodesFault, OutOfMemoryIsOneFault};
+ghost use Rattle.tt_proof_text.specs.Within.{Writes};
+ghost use Rattle.tt_instance.specs.Problem.{Problem};
+ghost use Rattle.tt_upgrade.specs.Faults.{read_failed, IsNodesFault, IsWriteFault, OutOfMemoryIsOneFault};
 ghost use Rattle.tt_upgrade.specs.Texts.{IsReadUpToFailedRead};
 ghost use Rattle.tt_upgrade.specs.Upgrades.{IsUpgraded, IsSilent, IsUpgradeFault};
 
@@ -17,7 +21,7 @@ use tt_instance::Instance;
 use tt_leaf_rules::Bound;
 use tt_proof_check::check_nodes;
 use tt_proof_read::Node;
-use tt_proof_text::write_proof;
+use tt_proof_text::{WriteFault, write_proof};
 use tt_text::Source;
 
 /// The bound that a proof derives, and the text of the same proof in version 2.
@@ -36,13 +40,34 @@ fn judge(
 ) -> Result<(), UpgradeFault>
     requires nodes { All (IsNodeOf instance.now) nodes.now }
     requires tree { IsPreorder nodes.now }
-    requires few { length nodes.now ≤ 16777216 }
+    requires few { length nodes.now ≤ MAX_NODES }
     ensures proves { OnOk result (Proves instance.now bound nodes.now) }
     ensures fault { IfErr result (IsNodesFault instance.now bound nodes.now) }
 {
     match check_nodes(alloc, instance, bound, nodes) {
         Ok(()) => Ok(()),
         Err(fault) => Err(node_fault(fault)),
+    }
+}
+
+/// The text of a tree in version 2.
+fn write(
+    alloc: Global,
+    instance: &Instance<'_>,
+    bound: Bound,
+    nodes: &[Node],
+) -> Result<Vec<u8>, UpgradeFault>
+    requires { Proves instance.now bound nodes.now }
+    ensures text { IfOk result (λ out. Writes 2 bound nodes.now out.items) }
+    ensures again { (p : Problem) (tree : Tree) → preorder tree ≡ nodes.now → All (IsNode p 2) nodes.now → IfOk result (λ out. SpellsProof p out.items 2 bound tree) }
+    ensures fault { IfErr result (IsWriteFault bound nodes.now) }
+{
+    match write_proof(alloc, 2, bound, nodes) {
+        Ok(bytes) => Ok(bytes),
+        Err(WriteFault::OverLimit) => Err(UpgradeFault::TooLarge),
+        Err(WriteFault::OutOfMemory) => Err(UpgradeFault::OutOfMemory),
+        Err(WriteFault::NotATree) => unreachable!(),
+        Err(WriteFault::NotInVersion) => unreachable!(),
     }
 }
 
@@ -74,7 +99,7 @@ pub fn upgrade<R: Source>(
     prove!(instance.days() > 0);
     let read = read_proof(alloc, instance, source)?;
     judge(alloc, instance, read.bound, &read.nodes)?;
-    let bytes = write_proof(alloc, 2, read.bound, &read.nodes)?;
+    let bytes = write(alloc, instance, read.bound, &read.nodes)?;
     Ok(Upgraded {
         bound: read.bound,
         bytes,

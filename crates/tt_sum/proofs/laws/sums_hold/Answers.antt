@@ -2,4 +2,4 @@ use Rattle.tt_sum.proofs.Together.{sum_holds}
 use Rattle.tt_sum.proofs.laws.sums_hold.Goals as goal
 
 pub returns : goal.returns
-returns c = λ p proofs s h. sum_holds p proofs s h
+returns c = λ p files s h. sum_holds p files s h

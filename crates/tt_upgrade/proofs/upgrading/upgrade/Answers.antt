@@ -46,7 +46,7 @@ returns-in_err-bytes-clause-fault g c =
     let e = err_from_is_err_and c.from_residual-in_err-bytes.result c.from_residual-in_err-bytes.ensures.1 in
     let p = c.args.instance.now in
     let read = c.in_ok-read.read in
-    rw (e.1, e.2) (λ bytes known. write_tells p (stream_of bytes) read.version read.bound read.nodes.items (c.in_ok-read.ensures.read bytes known) (subst (Proves p read.bound) c.deref.ensures.value c.in_ok-judge.ensures.proves) c.in_err-bytes.field-0.0 (rw c.deref-2.ensures.value at c.in_err-bytes.ensures.refuses))
+    rw (e.1, e.2) (λ bytes known. write_tells p (stream_of bytes) read.version read.bound read.nodes.items (c.in_ok-read.ensures.read bytes known) (subst (Proves p read.bound) c.deref.ensures.value c.in_ok-judge.ensures.proves) c.in_err-bytes.field-0.0 (rw c.deref-2.ensures.value at c.in_err-bytes.ensures.fault))
 
 pub returns-clause-found : goal.returns-clause-found
 returns-clause-found g c =
@@ -84,4 +84,4 @@ returns-in_err-judge-clause-memory g c =
 pub returns-in_err-bytes-clause-memory : goal.returns-in_err-bytes-clause-memory
 returns-in_err-bytes-clause-memory g c =
     let e = err_from_is_err_and c.from_residual-in_err-bytes.result c.from_residual-in_err-bytes.ensures.1 in
-    rw (e.1, e.2) (memory_write c.in_err-bytes.field-0.0)
+    rw (e.1, e.2) (memory_write _ _ c.in_err-bytes.field-0.0 c.in_err-bytes.ensures.fault)

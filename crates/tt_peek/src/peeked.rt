@@ -1,0 +1,60 @@
+//! A source with a block of bytes before it.
+
+ghost use Rattle.std.specs.Prelude.{◌≡◌, [], ℕ, List};
+ghost use Rattle.std.specs.Io.KnownBytes.{prepend_known};
+
+use crate::front::{begins_with_groups, read_front, remove_front};
+use crate::peek::{PEEKED_BYTES, Peek, PeekFault};
+use std::alloc::Global;
+use tt_text::{ReadFailed, Source};
+
+/// Gives the bytes that were looked at, and then those of the source.
+#[derive(Drop)]
+pub struct Peeked<R> {
+    front: Vec<u8>,
+    source: R,
+}
+
+impl<R: Source> Peeked<R> {
+    /// A source of which nothing was looked at.
+    pub fn new(alloc: Global, source: R) -> Self
+        ensures front { result.front.items ≡ [] }
+        ensures source { result.source ≡ source }
+    {
+        Peeked {
+            front: Vec::new(alloc),
+            source,
+        }
+    }
+}
+
+impl<R: Source> Source for Peeked<R> {
+    ghost remaining = { λ s. prepend_known s.front.items (R.remaining s.source) };
+
+    ghost has_failed = { λ s. R.has_failed s.source };
+
+    fn read(&mut self, buffer: &mut [u8]) -> Result<usize, ReadFailed> {
+        if self.front.is_empty() {
+            return self.source.read(buffer);
+        }
+        let count = self.front.len().min(buffer.len());
+        buffer[..count].copy_from_slice(&self.front[..count]);
+        remove_front(&mut self.front, count);
+        Ok(count)
+    }
+
+    fn failed(&self) -> bool {
+        self.source.failed()
+    }
+}
+
+impl<R: Source> Peek for Peeked<R> {
+    fn peek_groups(&mut self) -> Result<bool, PeekFault> {
+        if let Err(fault) = read_front(&mut self.front, &mut self.source) {
+            self.front.clear();
+            return Err(fault);
+        }
+        let end = self.front.len().min(PEEKED_BYTES);
+        Ok(begins_with_groups(&self.front[..end]))
+    }
+}
