@@ -46,6 +46,10 @@ leads_on {p} {t} {u} {n} s led able = record { made = led.made + 1; path = step 
 pub leads_longer : {p : Problem} {t u : List Cell} {n : ℕ} → LeadsWithin p t n u → LeadsWithin p t (n + 1) u
 leads_longer led = record { made = led.made; path = led.path; within = omega (arith, led.within) }
 
+-- at most more steps do
+pub leads_more : {p : Problem} {t u : List Cell} {n : ℕ} (m : ℕ) → LeadsWithin p t n u → n ≤ m → LeadsWithin p t m u
+leads_more m led within = record { made = led.made; path = led.path; within = omega (arith, led.within, within) }
+
 leads_along : {p : Problem} {t u v : List Cell} {a b : ℕ} → Leads p u b v → LeadsWithin p t a u → LeadsWithin p t (a + b) v
 leads_along {a = a} (here p u) led = record { made = led.made; path = led.path; within = omega (arith, led.within) }
 leads_along {t = t} {a = a} (step p u w n s path able) led =

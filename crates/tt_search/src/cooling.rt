@@ -28,7 +28,7 @@ const FEWEST_LEVELS: u64 = 2;
 const MOST_LEVELS: u64 = 64;
 
 /// A share that is the whole.
-const WHOLE: u64 = 65_536;
+pub const WHOLE: u64 = 65_536;
 
 /// The cooling of a round: what is left of its draws and its samples.
 #[derive(Clone, Copy)]
@@ -46,7 +46,7 @@ pub struct Cooling {
 }
 
 /// A part of a number, as a share of the whole.
-fn share(part: u64, all: u64) -> u64 {
+pub fn share(part: u64, all: u64) -> u64 {
     (part.saturating_mul(WHOLE) / all.max(1)).min(WHOLE)
 }
 

@@ -1,6 +1,6 @@
 //! The improvement of a timetable.
 
-ghost use Rattle.std.specs.Prelude.{◌≡◌, ◌<◌, ◌-◌, ◌/◌, List, length, IfOk, OnOk};
+ghost use Rattle.std.specs.Prelude.{◌≡◌, ◌<◌, ◌≤◌, ◌-◌, ◌/◌, List, length, IfOk, OnOk};
 ghost use Rattle.tt_instance.specs.declared.cell.Cell.{Cell};
 ghost use Rattle.tt_table.specs.Table.{IsTimetable};
 ghost use Rattle.tt_search.specs.Improved.{IsNoWorse, LeadsWithin, IsDescended};
@@ -8,15 +8,19 @@ ghost use Rattle.tt_search.specs.Pairs.{IsBest};
 
 use crate::best::Best;
 use crate::cooling::{Cooling, samples};
+use crate::planning::walk_by_plans;
 use crate::restoring::restore;
-use crate::rounds::{Part, SETTLED, UNSETTLED};
+use crate::rounds::{Part, parts};
+use crate::schedule::Schedule;
 use crate::settled::seems_settled;
 use crate::walking::{Walker, walk};
 use crate::watch::{Span, Unwatched, Watch};
+use rand_pcg::Pcg32;
 use std::alloc::{AllocError, Global};
 use tt_descend::descend_in;
 use tt_instance::Instance;
 use tt_occupancy::Occupied;
+use tt_replan::{Replanner, can_replan};
 use tt_table::Timetable;
 
 /// Walks from the best timetable, and goes to the best one then. No memory is taken.
@@ -47,14 +51,59 @@ fn go_round<W: Watch>(
     restore(occupied, &best.entries);
 }
 
-/// Walks in rounds, each from the best timetable so far, and goes to the best one then. No memory is taken.
+/// Whether plans can be made from a timetable.
+fn can_plan(occupied: &Occupied<'_, '_>) -> bool {
+    occupied.score().feasible() && can_replan(occupied.instance())
+}
+
+/// Walks in rounds, each from the best timetable so far, and goes to the best one then. Only the first round is walked where
+/// plans can be made. Returns how many draws were made. No memory is taken.
 fn go_rounds<W: Watch>(
     occupied: &mut Occupied<'_, '_>,
     best: &mut Best,
     walker: &mut Walker,
-    parts: &[Part],
+    is_settled: bool,
     draws: u64,
     limit: u64,
+    watch: &mut W,
+) -> u64
+    requires some { 0 < length occupied.old.entries }
+    requires here { best.old.entries.items ≡ occupied.old.entries }
+    requires best { (t : List Cell) × IsBest occupied.old.problem t best.old }
+    ensures problem { occupied.new.problem ≡ occupied.old.problem }
+    ensures some { 0 < length occupied.new.entries }
+    ensures here { best.new.entries.items ≡ occupied.new.entries }
+    ensures best { (t : List Cell) → IsBest occupied.old.problem t best.old
+        → IsBest occupied.old.problem t best.new }
+    ensures within { result ≤ draws }
+    ensures reached { LeadsWithin occupied.old.problem occupied.old.entries result occupied.new.entries }
+{
+    let parts = parts(is_settled);
+    let samples = samples(draws);
+    let mut made = 0;
+    for part in parts {
+        if made > 0 && can_plan(occupied) {
+            break;
+        }
+        let next = part.draws(draws, made);
+        let span = Span {
+            before: made,
+            limit,
+        };
+        go_round(occupied, best, walker, *part, next, samples, span, watch);
+        made += next;
+    }
+    made
+}
+
+/// Makes plans from the best timetable, where plans can be made, and goes to the best one then. No memory is taken.
+fn go_plans<W: Watch>(
+    occupied: &mut Occupied<'_, '_>,
+    best: &mut Best,
+    replanner: &mut Replanner,
+    rng: &mut Pcg32,
+    schedule: Schedule,
+    span: Span,
     watch: &mut W,
 )
     requires some { 0 < length occupied.old.entries }
@@ -64,19 +113,14 @@ fn go_rounds<W: Watch>(
     ensures here { best.new.entries.items ≡ occupied.new.entries }
     ensures best { (t : List Cell) → IsBest occupied.old.problem t best.old
         → IsBest occupied.old.problem t best.new }
-    ensures reached { LeadsWithin occupied.old.problem occupied.old.entries draws occupied.new.entries }
+    ensures reached { LeadsWithin occupied.old.problem occupied.old.entries schedule.draws occupied.new.entries }
 {
-    let samples = samples(draws);
-    let mut made = 0;
-    for part in parts {
-        let next = part.draws(draws, made);
-        let span = Span {
-            before: made,
-            limit,
-        };
-        go_round(occupied, best, walker, *part, next, samples, span, watch);
-        made += next;
+    if !can_plan(occupied) {
+        return;
     }
+    replanner.begin(occupied, rng);
+    walk_by_plans(occupied, best, replanner, rng, schedule, span, watch);
+    restore(occupied, &best.entries);
 }
 
 /// Goes on to the best timetable that this many drawn steps lead to.
@@ -97,13 +141,33 @@ fn walk_to_best<W: Watch>(
     }
     let mut best = Best::new(alloc, occupied)?;
     let mut walker = Walker::new(alloc, occupied, seed)?;
+    let mut replanner = Replanner::new(alloc, occupied)?;
     walker.begin(occupied);
-    let parts = if seems_settled(occupied, &mut walker) {
-        SETTLED.as_slice()
-    } else {
-        UNSETTLED.as_slice()
+    let is_settled = seems_settled(occupied, &mut walker);
+    let made = go_rounds(
+        occupied,
+        &mut best,
+        &mut walker,
+        is_settled,
+        draws,
+        limit,
+        watch,
+    );
+    let schedule = Schedule::new(draws - made, is_settled);
+    let span = Span {
+        before: made,
+        limit,
     };
-    go_rounds(occupied, &mut best, &mut walker, parts, draws, limit, watch);
+    let rng = &mut walker.rng;
+    go_plans(
+        occupied,
+        &mut best,
+        &mut replanner,
+        rng,
+        schedule,
+        span,
+        watch,
+    );
     Ok(())
 }
 

@@ -14,7 +14,7 @@ pub struct Part {
 }
 
 /// The rounds from a timetable that is far from the best.
-pub const UNSETTLED: [Part; 3] = [
+const UNSETTLED: [Part; 3] = [
     Part {
         end: 2,
         start: 1_000,
@@ -32,12 +32,24 @@ pub const UNSETTLED: [Part; 3] = [
     },
 ];
 
-/// The round from a timetable that seems to be near the best.
-pub const SETTLED: [Part; 1] = [Part {
-    end: 16,
-    start: 500,
-    coldest: 90,
-}];
+/// The rounds from a timetable that seems to be near the best.
+const SETTLED: [Part; 2] = [
+    Part {
+        end: 2,
+        start: 500,
+        coldest: 90,
+    },
+    Part {
+        end: 16,
+        start: 500,
+        coldest: 90,
+    },
+];
+
+/// The rounds from a timetable.
+pub fn parts(is_settled: bool) -> &'static [Part] {
+    if is_settled { &SETTLED } else { &UNSETTLED }
+}
 
 impl Part {
     /// How many draws the round makes, of this many in all, after those that are made.

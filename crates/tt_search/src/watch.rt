@@ -55,9 +55,13 @@ pub struct Span {
 impl Span {
     /// Shows a walk that has made this many steps, now and then.
     pub fn show<W: Watch>(self, watch: &mut W, made: u64, best: &Best) {
-        if made % STEPS_BETWEEN != 0 {
-            return;
+        if made % STEPS_BETWEEN == 0 {
+            self.tell(watch, made, best);
         }
+    }
+
+    /// Shows a walk that has made this many steps.
+    pub fn tell<W: Watch>(self, watch: &mut W, made: u64, best: &Best) {
         watch.see(
             Progress {
                 unit: Unit::Steps,

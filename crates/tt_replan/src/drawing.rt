@@ -1,0 +1,16 @@
+//! Numbers drawn from a generator.
+
+use rand_core::Rng;
+use rand_pcg::Pcg32;
+
+/// A number that is at most this.
+pub fn at_most(rng: &mut Pcg32, most: u32) -> u32 {
+    rng.next_u32() % most.saturating_add(1).max(1)
+}
+
+/// One of some items, if there is one.
+pub fn one_of<T: Copy + Drop>(rng: &mut Pcg32, items: &[T]) -> Option<T> {
+    let last = items.len().checked_sub(1)?;
+    let index = at_most(rng, u32::try_from(last).unwrap_or(u32::MAX));
+    items.get(index as usize).copied()
+}

@@ -1,0 +1,114 @@
+//! Sets of members that can be taught in one period.
+
+use crate::group::{Group, MOST_MEMBERS};
+use crate::links::Links;
+use crate::prices::Prices;
+use crate::week::{Slot, Week};
+
+/// How many sets of members there are at most.
+pub const MOST_LETTERS: usize = 1 << MOST_MEMBERS;
+
+/// A set of members, and what it means to teach them in a period.
+#[derive(Clone, Copy)]
+pub struct Letter {
+    /// The group's curricula that are taught in the period, as a set.
+    pub curricula: u128,
+    /// The members, a byte each.
+    pub counts: u32,
+    /// What it adds to the state.
+    pub index: u32,
+    pub price: u32,
+    pub members: u8,
+}
+
+impl Letter {
+    pub const NONE: Letter = Letter {
+        curricula: 0,
+        counts: 0,
+        index: 0,
+        price: 0,
+        members: 0,
+    };
+}
+
+/// Whether a set of members may be taught in a period, by what is there already.
+fn is_open(slot: Slot, members: u8) -> bool {
+    members & !slot.open == 0 && members.count_ones() <= slot.free.count_ones()
+}
+
+/// A set of members in a period, unless two of them exclude each other.
+fn letter_of(links: &Links, group: &Group, members: u8) -> Option<Letter> {
+    let mut letter = Letter {
+        members,
+        ..Letter::NONE
+    };
+    for member in group.members() {
+        if members & member.set != 0 {
+            let link = links.get(member.course);
+            if link.excluded & members != 0 {
+                return None;
+            }
+            letter.curricula |= link.curricula;
+            letter.counts = letter.counts.wrapping_add(member.unit);
+            letter.index = letter.index.wrapping_add(member.stride);
+        }
+    }
+    Some(letter)
+}
+
+/// The sets of members that go together.
+#[derive(Clone, Copy)]
+pub struct Alphabet {
+    letters: [Letter; MOST_LETTERS],
+    len: usize,
+}
+
+impl Alphabet {
+    pub const EMPTY: Alphabet = Alphabet {
+        letters: [Letter::NONE; MOST_LETTERS],
+        len: 0,
+    };
+
+    /// The sets of members of a group that go together.
+    pub fn find(&mut self, links: &Links, group: &Group) {
+        self.len = 0;
+        for members in 0..group.sets() {
+            if let Some(letter) = letter_of(links, group, members)
+                && let Some(place) = self.letters.get_mut(self.len)
+            {
+                *place = letter;
+                self.len = self.len.saturating_add(1);
+            }
+        }
+    }
+
+    /// Those that may be taught in a period.
+    pub fn letters(&self) -> &[Letter] {
+        self.letters.get(..self.len).unwrap_or(&[])
+    }
+}
+
+/// A set of members with its price in a period, if it may be taught there.
+pub fn priced(
+    letter: Letter,
+    week: &Week,
+    prices: &Prices,
+    group: &Group,
+    slot: usize,
+) -> Option<Letter> {
+    let place = week.slot(slot);
+    if !is_open(place, letter.members) {
+        return None;
+    }
+    let mut price: u32 = 0;
+    for (number, member) in group.members().iter().enumerate() {
+        if letter.members & member.set != 0 {
+            price = price.wrapping_add(prices.get(slot, number).noisy);
+        }
+    }
+    Some(Letter {
+        curricula: letter.curricula | place.fixed,
+        price,
+        ..letter
+    })
+}

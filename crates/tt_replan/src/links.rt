@@ -1,0 +1,114 @@
+//! What each course is to those of the group.
+
+use crate::group::Group;
+use std::alloc::{AllocError, Global};
+use tt_occupancy::Occupied;
+
+/// How many curricula the courses of a group have at most.
+const MOST_CURRICULA: u32 = 128;
+
+/// What a course is to those of the group.
+#[derive(Clone, Copy)]
+pub struct Link {
+    /// Its curricula among those of the group, as a set.
+    pub curricula: u128,
+    /// The members that it excludes, as a set.
+    pub excluded: u8,
+    /// Its own number as a member, if it is one, as a set.
+    pub member: u8,
+}
+
+impl Link {
+    const NONE: Link = Link {
+        curricula: 0,
+        excluded: 0,
+        member: 0,
+    };
+}
+
+/// The links of all courses.
+#[derive(Drop)]
+pub struct Links {
+    links: Vec<Link>,
+    /// Which curricula have a bit.
+    is_known: Vec<bool>,
+    /// How many have one.
+    known: u32,
+}
+
+impl Links {
+    pub fn new(alloc: Global, courses: u32, curricula: u32) -> Result<Links, AllocError> {
+        Ok(Links {
+            links: vec![in alloc; Link::NONE; courses as usize]?,
+            is_known: vec![in alloc; false; curricula as usize]?,
+            known: 0,
+        })
+    }
+
+    /// The link of a course.
+    pub fn get(&self, course: u32) -> Link {
+        self.links
+            .get(course as usize)
+            .copied()
+            .unwrap_or(Link::NONE)
+    }
+
+    fn clear(&mut self) {
+        self.links.fill(Link::NONE);
+        self.is_known.fill(false);
+        self.known = 0;
+    }
+
+    /// Gives a curriculum a bit, which each of its courses has then.
+    fn know(&mut self, occupied: &Occupied<'_, '_>, curriculum: u32) {
+        let instance = occupied.instance();
+        let Some(is_known) = self.is_known.get_mut(curriculum as usize) else {
+            return;
+        };
+        if *is_known || curriculum >= instance.curricula() {
+            return;
+        }
+        *is_known = true;
+        let bit = 1u128.checked_shl(self.known).unwrap_or(0);
+        self.known = self.known.saturating_add(1);
+        for course in instance.members(curriculum) {
+            if let Some(link) = self.links.get_mut(*course as usize) {
+                link.curricula |= bit;
+            }
+        }
+    }
+
+    /// Marks the courses that exclude a member.
+    fn exclude(&mut self, occupied: &Occupied<'_, '_>, course: u32, set: u8) {
+        let instance = occupied.instance();
+        for other in 0..instance.courses() {
+            if instance.conflict(course, other)
+                && let Some(link) = self.links.get_mut(other as usize)
+            {
+                link.excluded |= set;
+            }
+        }
+        if let Some(link) = self.links.get_mut(course as usize) {
+            link.member = set;
+        }
+    }
+
+    fn add(&mut self, occupied: &Occupied<'_, '_>, course: u32, set: u8) {
+        if course >= occupied.instance().courses() {
+            return;
+        }
+        for curriculum in occupied.curricula_of(course) {
+            self.know(occupied, *curriculum);
+        }
+        self.exclude(occupied, course, set);
+    }
+
+    /// Links all courses to a group. Whether its curricula are few enough.
+    pub fn set(&mut self, occupied: &Occupied<'_, '_>, group: &Group) -> bool {
+        self.clear();
+        for member in group.members() {
+            self.add(occupied, member.course, member.set);
+        }
+        self.known <= MOST_CURRICULA
+    }
+}

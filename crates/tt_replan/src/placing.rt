@@ -1,0 +1,166 @@
+//! The steps to a plan.
+
+use crate::prices::Prices;
+use crate::rooms::Rooms;
+use crate::seats::cheapest_seat;
+use crate::week::{Own, Week};
+use std::alloc::{AllocError, Global};
+use tt_moves::Step;
+use tt_occupancy::Occupied;
+
+/// How many steps lead to a plan at most.
+const MOST_STEPS: usize = 512;
+
+/// No step.
+const NO_STEP: Step = Step::Swap {
+    first: 0,
+    second: 0,
+};
+
+/// The members in each period of a plan, and the steps that lead there.
+#[derive(Drop)]
+pub struct Plan {
+    /// The members in each period, as sets.
+    members: Vec<u8>,
+    steps: Vec<Step>,
+    count: usize,
+    /// What the seats cost, and what their prices were.
+    paid: u32,
+    priced: u32,
+}
+
+impl Plan {
+    pub fn new(alloc: Global, slots: usize) -> Result<Plan, AllocError> {
+        Ok(Plan {
+            members: vec![in alloc; 0u8; slots]?,
+            steps: vec![in alloc; NO_STEP; MOST_STEPS]?,
+            count: 0,
+            paid: 0,
+            priced: 0,
+        })
+    }
+
+    /// The steps.
+    pub fn steps(&self) -> &[Step] {
+        self.steps.get(..self.count).unwrap_or(&[])
+    }
+
+    /// No step leads anywhere.
+    pub fn clear(&mut self) {
+        self.count = 0;
+        self.paid = 0;
+        self.priced = 0;
+    }
+
+    /// Writes the members of a day, four bits a period, the last period lowest.
+    pub fn write_day(&mut self, first: usize, periods: usize, spelled: u64) {
+        let mut rest = spelled;
+        for period in (0..periods).rev() {
+            if let Some(place) = self.members.get_mut(first.wrapping_add(period)) {
+                *place = (rest & 15) as u8;
+            }
+            rest >>= 4;
+        }
+    }
+
+    fn has(&self, slot: usize, member: u8) -> bool {
+        self.members
+            .get(slot)
+            .is_some_and(|members| members & member != 0)
+    }
+
+    fn push(&mut self, step: Step) {
+        if let Some(place) = self.steps.get_mut(self.count) {
+            *place = step;
+            self.count = self.count.saturating_add(1);
+        }
+    }
+
+    /// Moves an entry to a room of a period.
+    fn push_move(&mut self, rooms: &Rooms, week: &mut Week, entry: u32, slot: usize, rank: u32) {
+        week.seat(slot, rank, entry);
+        let day = slot.checked_div(week.periods).unwrap_or(0);
+        let period = slot.checked_rem(week.periods).unwrap_or(0);
+        self.push(Step::Move {
+            entry,
+            room: rooms.room(rank),
+            day: u32::try_from(day).unwrap_or(u32::MAX),
+            period: u32::try_from(period).unwrap_or(u32::MAX),
+        });
+    }
+
+    /// A period of the plan in which a member is not taught now. It is found once.
+    fn take_slot(&mut self, week: &Week, member: u8) -> Option<usize> {
+        for slot in 0..week.len() {
+            if self.has(slot, member) && week.slot(slot).present & member == 0 {
+                if let Some(members) = self.members.get_mut(slot) {
+                    *members &= !member;
+                }
+                return Some(slot);
+            }
+        }
+        None
+    }
+
+    /// Gives a lecture a seat in a period.
+    fn place(
+        &mut self,
+        occupied: &Occupied<'_, '_>,
+        rooms: &Rooms,
+        week: &mut Week,
+        own: Own,
+        slot: usize,
+    ) {
+        let Some(course) = occupied
+            .table()
+            .entries()
+            .get(own.entry as usize)
+            .map(|entry| entry.course)
+        else {
+            return;
+        };
+        if let Some(seat) = cheapest_seat(occupied, rooms, week, course, slot) {
+            self.paid = self.paid.saturating_add(seat.cost);
+            if let Some(evicted) = seat.evicted {
+                self.push_move(rooms, week, evicted.entry, slot, evicted.rank);
+            }
+            self.push_move(rooms, week, own.entry, slot, seat.rank);
+        }
+    }
+
+    /// The lectures that stay in their periods keep their rooms.
+    fn keep_staying(&self, week: &mut Week) {
+        for number in 0..week.own().len() {
+            if let Some(own) = week.own().get(number).copied()
+                && self.has(own.slot, own.member)
+            {
+                week.seat(own.slot, own.rank, own.entry);
+            }
+        }
+    }
+
+    /// Finds the steps to the plan. None is made where the seats cost more than their prices.
+    pub fn find_steps(
+        &mut self,
+        occupied: &Occupied<'_, '_>,
+        rooms: &Rooms,
+        week: &mut Week,
+        prices: &Prices,
+    ) {
+        self.clear();
+        self.keep_staying(week);
+        for number in 0..week.own().len() {
+            if let Some(own) = week.own().get(number).copied()
+                && !self.has(own.slot, own.member)
+                && let Some(slot) = self.take_slot(week, own.member)
+            {
+                let price = prices.get(slot, own.member.trailing_zeros() as usize).plain;
+                self.priced = self.priced.saturating_add(price);
+                self.place(occupied, rooms, week, own, slot);
+            }
+        }
+        if self.paid > self.priced || self.count == MOST_STEPS {
+            self.clear();
+        }
+    }
+}

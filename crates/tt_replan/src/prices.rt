@@ -1,0 +1,74 @@
+//! What a lecture of each member costs in each period, by its room.
+
+use crate::drawing::at_most;
+use crate::group::{Group, MOST_MEMBERS};
+use crate::rooms::{POINT, Rooms};
+use crate::seats::cheapest_seat;
+use crate::week::Week;
+use rand_pcg::Pcg32;
+use std::alloc::{AllocError, Global};
+use tt_occupancy::Occupied;
+
+/// A dearer seat counts as this dear.
+const DEAREST: u32 = 200 * POINT;
+
+/// A price, and the same with noise.
+#[derive(Clone, Copy)]
+pub struct Price {
+    pub plain: u32,
+    pub noisy: u32,
+}
+
+impl Price {
+    const NONE: Price = Price { plain: 0, noisy: 0 };
+}
+
+/// The prices of a group.
+#[derive(Drop)]
+pub struct Prices {
+    prices: Vec<Price>,
+}
+
+fn index(slot: usize, member: usize) -> usize {
+    slot.wrapping_mul(MOST_MEMBERS).wrapping_add(member)
+}
+
+impl Prices {
+    pub fn new(alloc: Global, slots: usize) -> Result<Prices, AllocError> {
+        Ok(Prices {
+            prices: vec![in alloc; Price::NONE; slots.saturating_mul(MOST_MEMBERS)]?,
+        })
+    }
+
+    /// The price of a member in a period where it may be taught.
+    pub fn get(&self, slot: usize, member: usize) -> Price {
+        self.prices
+            .get(index(slot, member))
+            .copied()
+            .unwrap_or(Price::NONE)
+    }
+
+    /// Finds the prices, each with a noise of its own.
+    pub fn find(
+        &mut self,
+        occupied: &Occupied<'_, '_>,
+        rooms: &Rooms,
+        week: &Week,
+        group: &Group,
+        rng: &mut Pcg32,
+        noise: u32,
+    ) {
+        for slot in 0..week.len() {
+            for (number, member) in group.members().iter().enumerate() {
+                if week.slot(slot).open & member.set != 0
+                    && let Some(seat) = cheapest_seat(occupied, rooms, week, member.course, slot)
+                    && let Some(price) = self.prices.get_mut(index(slot, number))
+                {
+                    let plain = seat.cost.min(DEAREST);
+                    let noisy = plain.wrapping_add(at_most(rng, noise));
+                    *price = Price { plain, noisy };
+                }
+            }
+        }
+    }
+}

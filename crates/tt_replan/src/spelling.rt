@@ -1,0 +1,235 @@
+//! Which lectures a day can have, and at what cost.
+
+use crate::group::{Group, MOST_STATES};
+use crate::letters::{Alphabet, Letter, MOST_LETTERS, priced};
+use crate::prices::Prices;
+use crate::rooms::POINT;
+use crate::week::Week;
+use std::alloc::{AllocError, Global};
+
+/// How many sequences of sets a day has at most.
+const MOST_SEQUENCES: usize = 50_000;
+
+/// The bits above each byte's seven, which a subtraction in a byte borrows from.
+pub const GUARDS: u32 = 0x8080_8080;
+
+/// What two isolated lectures cost.
+const ISOLATED: u32 = 2 * POINT;
+
+/// More than a plan costs.
+pub const DEAR: u32 = 1_000_000_000;
+
+/// The lectures of a day, and the least that they cost.
+#[derive(Clone, Copy)]
+pub struct Vector {
+    pub cost: u32,
+    /// The lectures of each member, a byte each.
+    pub counts: u32,
+    /// What they add to the state.
+    pub index: u32,
+    /// The sets of members by periods, four bits each, the last period lowest.
+    pub spelled: u64,
+}
+
+impl Vector {
+    pub const NONE: Vector = Vector {
+        cost: DEAR,
+        counts: 0,
+        index: 0,
+        spelled: 0,
+    };
+}
+
+/// The first periods of a day.
+#[derive(Clone, Copy)]
+struct Front {
+    vector: Vector,
+    /// The lectures that are left, a byte each.
+    left: u32,
+    /// The curricula of the last period, and of the one before.
+    last: u128,
+    before: u128,
+}
+
+/// The bytes that are left, if there are as many.
+pub fn left_after(left: u32, counts: u32) -> Option<u32> {
+    let rest = (left | GUARDS).wrapping_sub(counts);
+    if rest & GUARDS == GUARDS {
+        Some(rest & !GUARDS)
+    } else {
+        None
+    }
+}
+
+/// The cost of the curricula that are isolated in a period.
+pub fn isolation(before: u128, here: u128, after: u128) -> u32 {
+    (here & !before & !after)
+        .count_ones()
+        .wrapping_mul(ISOLATED)
+}
+
+impl Front {
+    /// A day's beginning.
+    fn first(all: u32) -> Front {
+        Front {
+            vector: Vector {
+                cost: 0,
+                ..Vector::NONE
+            },
+            left: all,
+            last: 0,
+            before: 0,
+        }
+    }
+
+    /// With a set of members in the next period, if lectures are left for it and it costs no more than the limit.
+    fn with(self, letter: Letter, limit: u32) -> Option<Front> {
+        let cost = self
+            .vector
+            .cost
+            .wrapping_add(letter.price)
+            .wrapping_add(isolation(self.before, self.last, letter.curricula));
+        if cost > limit {
+            return None;
+        }
+        Some(Front {
+            vector: Vector {
+                cost,
+                counts: self.vector.counts.wrapping_add(letter.counts),
+                index: self.vector.index.wrapping_add(letter.index),
+                spelled: self.vector.spelled << 4 | u64::from(letter.members),
+            },
+            left: left_after(self.left, letter.counts)?,
+            last: letter.curricula,
+            before: self.last,
+        })
+    }
+}
+
+/// The lectures that one day can have.
+#[derive(Drop)]
+pub struct Speller {
+    /// The sets of members of each period of the day.
+    letters: Vec<Letter>,
+    /// How many there are of each.
+    counts: Vec<usize>,
+    /// The cheapest day for each state.
+    cheapest: Vec<Vector>,
+    /// The states of days that were found.
+    found: Vec<u32>,
+    found_count: usize,
+}
+
+impl Speller {
+    pub fn new(alloc: Global, periods: usize) -> Result<Speller, AllocError> {
+        Ok(Speller {
+            letters: vec![in alloc; Letter::NONE; periods.saturating_mul(MOST_LETTERS)]?,
+            counts: vec![in alloc; 0usize; periods]?,
+            cheapest: vec![in alloc; Vector::NONE; MOST_STATES as usize]?,
+            found: vec![in alloc; 0u32; MOST_STATES as usize]?,
+            found_count: 0,
+        })
+    }
+
+    fn push(&mut self, period: usize, letter: Letter) {
+        let Some(count) = self.counts.get_mut(period) else {
+            return;
+        };
+        let index = period.wrapping_mul(MOST_LETTERS).wrapping_add(*count);
+        *count = count.saturating_add(1);
+        if let Some(place) = self.letters.get_mut(index) {
+            *place = letter;
+        }
+    }
+
+    /// The sets of members for each period of a day. Whether they are few enough.
+    fn find_letters(
+        &mut self,
+        week: &Week,
+        prices: &Prices,
+        group: &Group,
+        alphabet: &Alphabet,
+        first: usize,
+    ) -> bool {
+        let mut sequences: usize = 1;
+        self.counts.fill(0);
+        for period in 0..week.periods {
+            let slot = first.wrapping_add(period);
+            for letter in alphabet.letters() {
+                if let Some(letter) = priced(*letter, week, prices, group, slot) {
+                    self.push(period, letter);
+                }
+            }
+            let count = self.counts.get(period).copied().unwrap_or(0);
+            sequences = sequences.saturating_mul(count);
+        }
+        sequences <= MOST_SEQUENCES
+    }
+
+    /// Keeps a whole day, where it is the cheapest of its state.
+    fn keep(&mut self, front: Front, limit: u32) {
+        let vector = front.vector;
+        let cost = vector
+            .cost
+            .wrapping_add(isolation(front.before, front.last, 0));
+        let Some(best) = self.cheapest.get_mut(vector.index as usize) else {
+            return;
+        };
+        if cost > limit || cost >= best.cost {
+            return;
+        }
+        let is_new = best.cost == DEAR;
+        *best = Vector { cost, ..vector };
+        if is_new && let Some(place) = self.found.get_mut(self.found_count) {
+            *place = vector.index;
+            self.found_count = self.found_count.saturating_add(1);
+        }
+    }
+
+    /// Goes through all ways to go on with a day.
+    fn spell(&mut self, period: usize, left: usize, front: Front, limit: u32) {
+        if left == 0 {
+            self.keep(front, limit);
+            return;
+        }
+        let first = period.wrapping_mul(MOST_LETTERS);
+        let count = self.counts.get(period).copied().unwrap_or(0);
+        for number in first..first.saturating_add(count) {
+            if let Some(letter) = self.letters.get(number).copied()
+                && let Some(front) = front.with(letter, limit)
+            {
+                self.spell(period.wrapping_add(1), left - 1, front, limit);
+            }
+        }
+    }
+
+    /// Finds the lectures that a day can have at no more than the limit. Whether the day could be gone through.
+    pub fn find(
+        &mut self,
+        week: &Week,
+        prices: &Prices,
+        group: &Group,
+        alphabet: &Alphabet,
+        first: usize,
+        limit: u32,
+    ) -> bool {
+        if !self.find_letters(week, prices, group, alphabet, first) {
+            return false;
+        }
+        self.found_count = 0;
+        self.spell(0, week.periods, Front::first(group.all()), limit);
+        true
+    }
+
+    /// Takes out the day that was found at this place, if there is one.
+    pub fn take(&mut self, number: usize) -> Option<Vector> {
+        if number >= self.found_count {
+            return None;
+        }
+        let state = self.found.get(number).copied()?;
+        let place = self.cheapest.get_mut(state as usize)?;
+        let vector = *place;
+        *place = Vector::NONE;
+        Some(vector)
+    }
+}

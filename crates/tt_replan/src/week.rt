@@ -1,0 +1,205 @@
+//! The week without the lectures of the group.
+
+use crate::group::Group;
+use crate::links::Links;
+use crate::rooms::{Rooms, set_of};
+use std::alloc::{AllocError, Global};
+use tt_instance::Instance;
+use tt_occupancy::Occupied;
+use tt_table::Entry;
+
+/// How many lectures the courses of a group have at most.
+const MOST_OWN: usize = 256;
+
+/// No entry.
+const NOBODY: u32 = u32::MAX;
+
+/// A period without the lectures of the group.
+#[derive(Clone, Copy)]
+pub struct Slot {
+    /// The group's curricula that other courses teach here, as a set.
+    pub fixed: u128,
+    /// The ranks of the free rooms, as a set.
+    pub free: u64,
+    /// The members that may be taught here, as a set.
+    pub open: u8,
+    /// The members that are taught here now, as a set.
+    pub present: u8,
+}
+
+impl Slot {
+    const NONE: Slot = Slot {
+        fixed: 0,
+        free: 0,
+        open: 0,
+        present: 0,
+    };
+}
+
+/// A lecture of the group as it is now.
+#[derive(Clone, Copy)]
+pub struct Own {
+    pub entry: u32,
+    /// Its course's number as a member, as a set.
+    pub member: u8,
+    pub slot: usize,
+    pub rank: u32,
+}
+
+impl Own {
+    const NONE: Own = Own {
+        entry: 0,
+        member: 0,
+        slot: 0,
+        rank: 0,
+    };
+}
+
+/// The week without the lectures of the group. Periods are numbered through all days.
+#[derive(Drop)]
+pub struct Week {
+    pub days: usize,
+    pub periods: usize,
+    rooms: usize,
+    slots: Vec<Slot>,
+    /// The entry in each room of each period.
+    entries: Vec<u32>,
+    own: Vec<Own>,
+    own_count: usize,
+}
+
+/// The members that are not barred in a period, as a set.
+fn open_to(instance: &Instance<'_>, group: &Group, day: u32, period: u32) -> u8 {
+    let mut open = 0;
+    for member in group.members() {
+        if !instance.unavailable(member.course, day, period) {
+            open |= member.set;
+        }
+    }
+    open
+}
+
+impl Week {
+    pub fn new(alloc: Global, occupied: &Occupied<'_, '_>) -> Result<Week, AllocError> {
+        let instance = occupied.instance();
+        let (days, periods) = (instance.days() as usize, instance.periods() as usize);
+        let rooms = instance.rooms() as usize;
+        Ok(Week {
+            days,
+            periods,
+            rooms,
+            slots: vec![in alloc; Slot::NONE; days * periods]?,
+            entries: vec![in alloc; NOBODY; rooms * days * periods]?,
+            own: vec![in alloc; Own::NONE; MOST_OWN]?,
+            own_count: 0,
+        })
+    }
+
+    /// How many periods the week has.
+    pub fn len(&self) -> usize {
+        self.slots.len()
+    }
+
+    pub fn slot(&self, slot: usize) -> Slot {
+        self.slots.get(slot).copied().unwrap_or(Slot::NONE)
+    }
+
+    /// The lectures of the group as they are now.
+    pub fn own(&self) -> &[Own] {
+        self.own.get(..self.own_count).unwrap_or(&[])
+    }
+
+    pub fn number_of(&self, day: u32, period: u32) -> usize {
+        (day as usize)
+            .wrapping_mul(self.periods)
+            .wrapping_add(period as usize)
+    }
+
+    fn cell(&self, slot: usize, rank: u32) -> usize {
+        slot.wrapping_mul(self.rooms).wrapping_add(rank as usize)
+    }
+
+    /// The entry in a room of a period, if one is known there.
+    pub fn entry_in(&self, slot: usize, rank: u32) -> Option<u32> {
+        self.entries
+            .get(self.cell(slot, rank))
+            .copied()
+            .filter(|entry| *entry != NOBODY)
+    }
+
+    /// Puts an entry in a room of a period.
+    pub fn seat(&mut self, slot: usize, rank: u32, entry: u32) {
+        let cell = self.cell(slot, rank);
+        if let Some(place) = self.entries.get_mut(cell) {
+            *place = entry;
+        }
+        if let Some(slot) = self.slots.get_mut(slot) {
+            slot.free &= !set_of(rank);
+        }
+    }
+
+    /// Empties all periods, and opens them to the members that are not barred there.
+    fn clear(&mut self, instance: &Instance<'_>, group: &Group) {
+        let free = set_of(instance.rooms()).wrapping_sub(1);
+        self.entries.fill(NOBODY);
+        self.own_count = 0;
+        for day in 0..instance.days() {
+            for period in 0..instance.periods() {
+                let number = self.number_of(day, period);
+                if let Some(slot) = self.slots.get_mut(number) {
+                    *slot = Slot {
+                        free,
+                        open: open_to(instance, group, day, period),
+                        ..Slot::NONE
+                    };
+                }
+            }
+        }
+    }
+
+    fn add_own(&mut self, own: Own) {
+        if let Some(place) = self.own.get_mut(self.own_count) {
+            *place = own;
+            self.own_count = self.own_count.saturating_add(1);
+        }
+        if let Some(slot) = self.slots.get_mut(own.slot) {
+            slot.present |= own.member;
+        }
+    }
+
+    fn add(&mut self, rooms: &Rooms, links: &Links, number: u32, entry: Entry) {
+        let slot = self.number_of(entry.day, entry.period);
+        let rank = rooms.rank(entry.room);
+        let link = links.get(entry.course);
+        if link.member != 0 {
+            self.add_own(Own {
+                entry: number,
+                member: link.member,
+                slot,
+                rank,
+            });
+            return;
+        }
+        self.seat(slot, rank, number);
+        if let Some(place) = self.slots.get_mut(slot) {
+            place.fixed |= link.curricula;
+            place.open &= !link.excluded;
+        }
+    }
+
+    /// Reads a timetable without the lectures of the group.
+    pub fn read(
+        &mut self,
+        occupied: &Occupied<'_, '_>,
+        rooms: &Rooms,
+        links: &Links,
+        group: &Group,
+    ) {
+        self.clear(occupied.instance(), group);
+        for number in 0..occupied.table().len() {
+            if let Some(entry) = occupied.table().entries().get(number).copied() {
+                self.add(rooms, links, number as u32, entry);
+            }
+        }
+    }
+}

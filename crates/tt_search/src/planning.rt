@@ -1,0 +1,100 @@
+//! Walks by plans of a few courses.
+
+ghost use Rattle.std.specs.Prelude.{◌≡◌, ◌<◌, ◌≤◌, ◌+◌, ℕ, List, length};
+ghost use Rattle.tt_instance.specs.declared.cell.Cell.{Cell};
+ghost use Rattle.tt_search.specs.Improved.{courses_of, LeadsWithin};
+ghost use Rattle.tt_search.specs.Pairs.{IsBest};
+
+use crate::best::Best;
+use crate::sampling::entry_to_move;
+use crate::schedule::Schedule;
+use crate::watch::{Span, Watch};
+use rand_pcg::Pcg32;
+use tt_moves::{Step, apply, can_step};
+use tt_occupancy::Occupied;
+use tt_replan::Replanner;
+
+/// After how many plans a search is seen again.
+const PLANS_BETWEEN: u64 = 32;
+
+/// Makes a step, if it can be made.
+fn try_step(occupied: &mut Occupied<'_, '_>, step: Step)
+    ensures problem { occupied.new.problem ≡ occupied.old.problem }
+    ensures courses { courses_of occupied.new.entries ≡ courses_of occupied.old.entries }
+    ensures reached { (t : List Cell) (n : ℕ) → LeadsWithin occupied.old.problem t n occupied.old.entries
+        → LeadsWithin occupied.old.problem t (n + 1) occupied.new.entries }
+{
+    if can_step(occupied, step) {
+        apply(occupied, step);
+    }
+}
+
+/// Makes steps, one after the other, without those that can't be made.
+fn make_steps(occupied: &mut Occupied<'_, '_>, steps: &[Step])
+    ensures problem { occupied.new.problem ≡ occupied.old.problem }
+    ensures courses { courses_of occupied.new.entries ≡ courses_of occupied.old.entries }
+    ensures reached { LeadsWithin occupied.old.problem occupied.old.entries (length steps.now) occupied.new.entries }
+{
+    for step in steps {
+        try_step(occupied, *step);
+    }
+}
+
+/// Plans a few courses anew, and makes the steps to the plan if they are at most so many. Says how many of these are used
+/// up: all, where the plan has more.
+fn make_plan(
+    occupied: &mut Occupied<'_, '_>,
+    replanner: &mut Replanner,
+    rng: &mut Pcg32,
+    noise: u32,
+    left: u64,
+) -> u64
+    requires { 0 < length occupied.old.entries }
+    ensures problem { occupied.new.problem ≡ occupied.old.problem }
+    ensures courses { courses_of occupied.new.entries ≡ courses_of occupied.old.entries }
+    ensures within { result ≤ left }
+    ensures reached { LeadsWithin occupied.old.problem occupied.old.entries result occupied.new.entries }
+{
+    let entry = entry_to_move(occupied, rng);
+    let course = occupied.entry(entry).course;
+    replanner.replan(occupied, rng, course, noise);
+    let steps = replanner.steps();
+    let count = steps.len() as u64;
+    if count > left {
+        return left;
+    }
+    make_steps(occupied, steps);
+    count
+}
+
+/// Makes plans, and keeps the best timetable on the way. Each of their steps is a draw. No memory is taken.
+pub fn walk_by_plans<W: Watch>(
+    occupied: &mut Occupied<'_, '_>,
+    best: &mut Best,
+    replanner: &mut Replanner,
+    rng: &mut Pcg32,
+    schedule: Schedule,
+    span: Span,
+    watch: &mut W,
+)
+    requires some { 0 < length occupied.old.entries }
+    requires best { (t : List Cell) × (courses_of occupied.old.entries ≡ courses_of t)
+        × IsBest occupied.old.problem t best.old }
+    ensures problem { occupied.new.problem ≡ occupied.old.problem }
+    ensures courses { courses_of occupied.new.entries ≡ courses_of occupied.old.entries }
+    ensures best { (t : List Cell) → courses_of occupied.old.entries ≡ courses_of t
+        → IsBest occupied.old.problem t best.old → IsBest occupied.old.problem t best.new }
+    ensures reached { best.old.entries.items ≡ occupied.old.entries
+        → LeadsWithin occupied.old.problem occupied.old.entries schedule.draws best.new.entries.items }
+{
+    let mut made: u64 = 0;
+    for plan in 0..schedule.plans {
+        let noise = schedule.noise(plan, made);
+        let steps = make_plan(occupied, replanner, rng, noise, schedule.draws - made);
+        made += steps;
+        best.keep(occupied);
+        if plan % PLANS_BETWEEN == 0 {
+            span.tell(watch, made, best);
+        }
+    }
+}
