@@ -31,7 +31,7 @@ use Rattle.tt_proof_read.specs.declared.node.Node.{Node}
 use Rattle.tt_proof_read.specs.declared.node.Node.TheVariants as node
 use Rattle.tt_proof_read.proofs.Depth.{leaves_low}
 use Rattle.tt_proof_text.specs.Within.{HasShortPrices}
-use Rattle.tt_proof_check.specs.Derives.{Derives, HoldsOfAll}
+use Rattle.tt_proof_check.specs.Derives.{Derives, HoldsOfAll, Proves}
 use Rattle.tt_proof_check.specs.Nodes.{IsNodeOf}
 use Rattle.tt_proof_check.proofs.Reading.{whole_places}
 use Rattle.tt_leaf.specs.Best.{best_claims}
@@ -208,6 +208,17 @@ module _ (p : Problem) (ok : IsInstance p) where
             (All-from_recursion (λ x. length x.path ≤ 65536) (on_paths [] u.grown.tree) (shallow p best links entries u.grown (omega arith))));
       };
     }
+
+    -- the nodes prove the bound that is shown
+    pub proves : (finished : Bool) (lowest : Option ℕ) → EndsAt limit entries finished → (finished ≡ false → lowest ≡ least (worths_of p links entries)) → Proves p (shown_bound (final_bound p best) lowest finished) nodes
+    proves true lowest ends same = let d = finished_proves p best links entries u.grown (omega (arith, ends.1)) ends.0 in (u.grown.tree, spelled, d.0, d.1)
+    proves false lowest ends same =
+        let w = least_worth links entries ends.0 in
+        let told : lowest ≡ Some w.0 = same refl ∙ w.1 in
+        let shown : shown_bound (final_bound p best) lowest false ≡ AtLeast w.0 = ap (λ o. shown_bound (final_bound p best) o false) told in
+        let found : least (worths p (on_paths [] u.grown.tree)) ≡ Some w.0 = sym (ap least (worths_are best links entries u.grown)) ∙ w.1 in
+        let d = unfinished_proves p best links entries u.grown w.0 found (omega (arith, ends.2)) in
+        (u.grown.tree, spelled, d.0, subst (λ b. Derives p b [] u.grown.tree) (sym shown) d.1)
 
     -- the end of a search whose proof was checked
     pub concluded : (finished : Bool) (lowest : Option ℕ) → BeginsWell p best → EndsAt limit entries finished → (finished ≡ false → lowest ≡ least (worths_of p links entries)) → HoldsOfAll p (shown_bound (final_bound p best) lowest finished) → IsOutcome p limit best (shown_bound (final_bound p best) lowest finished) (Some nodes) finished

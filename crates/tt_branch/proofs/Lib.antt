@@ -13,3 +13,5 @@ pub mod Taking
 pub mod Concluding
 pub mod Improving
 pub mod Moving
+pub mod OneTimetable
+mod Numbers

@@ -1,3 +1,4 @@
+pub mod Alone
 pub mod Growing
 pub mod Kept
 pub mod Links

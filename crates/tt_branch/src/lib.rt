@@ -3,6 +3,7 @@
 
 mod best;
 mod entry;
+mod laws;
 mod limit;
 mod links;
 mod live;
@@ -14,5 +15,6 @@ mod solving;
 mod visit;
 mod watching;
 
+pub use laws::pinned_paths_leave_one_timetable;
 pub use limit::{FIRST_STEPS, MAX_OPENED};
 pub use solving::{Outcome, solve, solve_watched};

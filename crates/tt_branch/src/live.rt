@@ -8,7 +8,7 @@ ghost use Rattle.tt_branch.specs.Steps.{cells_on, cells_in, cells_of};
 
 use std::alloc::{AllocError, Global};
 use tt_paths::{Cell, Path};
-use tt_table::Timetable;
+use tt_table::{PushFault, Timetable};
 
 /// Adds a cell, if it is live.
 fn push_if_live<'i, P: Path<'i>>(
@@ -90,6 +90,18 @@ fn live_cells<'i, P: Path<'i>>(alloc: Global, path: &P) -> Result<Vec<Cell>, All
     Ok(cells)
 }
 
+/// Adds an entry to a timetable that is not full.
+fn push_entry(table: &mut Timetable, entry: Cell) -> Result<(), AllocError>
+    requires { length table.old < MAX_ENTRIES }
+    ensures { OnOk result (table.new ≡ table.old ++ entry ∷ []) }
+{
+    match table.push(entry) {
+        Ok(()) => Ok(()),
+        Err(PushFault::OutOfMemory) => Err(AllocError),
+        Err(PushFault::Full) => unreachable!(),
+    }
+}
+
 /// A timetable of entries.
 fn table_with(alloc: Global, entries: &[Cell]) -> Result<Timetable, AllocError>
     requires { length entries.now ≤ MAX_ENTRIES }
@@ -97,9 +109,7 @@ fn table_with(alloc: Global, entries: &[Cell]) -> Result<Timetable, AllocError>
 {
     let mut table = Timetable::new(alloc);
     for entry in entries {
-        if table.push(*entry).is_err() {
-            return Err(AllocError);
-        }
+        push_entry(&mut table, *entry)?;
     }
     Ok(table)
 }

@@ -4,7 +4,7 @@ ghost use Rattle.std.specs.Prelude.{◌≡◌, ◌<◌, ◌≤◌, ◌+◌, ◌*
 ghost use Rattle.tt_branch.specs.Growing.{IsOpenAt, is_open, opened_in};
 ghost use Rattle.tt_branch.specs.Kept.{Advances};
 ghost use Rattle.tt_branch.specs.State.{IsUnderWay, MakesWait, EndsAt};
-ghost use Rattle.tt_branch.specs.declared.limit.TheConstants.{MAX_OPENED};
+ghost use Rattle.tt_branch.specs.declared.limit.TheConstants.{MAX_OPENED, MAX_TREE};
 
 use crate::entry::Mark;
 use crate::search::{Search, next_open, split};
@@ -39,7 +39,7 @@ fn open_next<'i, P: Path<'i>>(
 ) -> Result<(), AllocError>
     requires under_way { IsUnderWay (P.problem path.old) search.old }
     requires place { IsOpenAt search.old.entries.items place }
-    requires few { length search.old.entries.items ≤ 131071 }
+    requires few { length search.old.entries.items ≤ MAX_TREE }
     ensures under_way { OnOk result (IsUnderWay (P.problem path.old) search.new) }
     ensures better { OnOk result (Advances (P.problem path.old) search.old.best search.new.best) }
     ensures opened { OnOk result (opened_in search.new.entries.items ≡ opened_in search.old.entries.items + 1) }

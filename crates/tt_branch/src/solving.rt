@@ -2,7 +2,7 @@
 
 ghost use Rattle.std.specs.Prelude.{◌≡◌, ◌≤◌, All, IfOk, OnOk, option_map};
 ghost use Rattle.tt_instance.specs.Problem.{Problem};
-ghost use Rattle.tt_proof_check.specs.Derives.{HoldsOfAll};
+ghost use Rattle.tt_proof_check.specs.Derives.{HoldsOfAll, Proves};
 ghost use Rattle.tt_proof_check.specs.Nodes.{IsNodeOf};
 ghost use Rattle.tt_branch.specs.Kept.{IsKept, table_of};
 ghost use Rattle.tt_branch.specs.Outcomes.{IsOutcome, BeginsWell, final_bound};
@@ -20,7 +20,7 @@ use tt_facts::TrailPath;
 use tt_instance::Instance;
 use tt_leaf_rules::Bound;
 use tt_paths::Path;
-use tt_proof_check::check_nodes;
+use tt_proof_check::{NodesFault, check_nodes};
 use tt_proof_read::Node;
 use tt_search::{Unwatched, Watch};
 use tt_table::Timetable;
@@ -49,19 +49,21 @@ fn shown(best: &Option<Best>, least: Option<u64>, finished: bool) -> Bound
     Bound::AtLeast(least.unwrap_or(0))
 }
 
-/// Passes a proof through the checker, which has no fault to tell but being out of memory.
+/// Passes a proof of a bound through the checker, which can only run out of memory.
 fn prove_bound<'i, P: Path<'i>>(
     alloc: Global,
     path: &P,
     bound: Bound,
     nodes: &[Node],
 ) -> Result<(), AllocError>
-    requires { All (IsNodeOf (P.problem path.now)) nodes.now }
+    requires numbers { All (IsNodeOf (P.problem path.now)) nodes.now }
+    requires proves { Proves (P.problem path.now) bound nodes.now }
     ensures { OnOk result (HoldsOfAll (P.problem path.now) bound) }
 {
     match check_nodes(alloc, path.instance(), bound, nodes) {
         Ok(()) => Ok(()),
-        Err(_) => Err(AllocError),
+        Err(NodesFault::OutOfMemory) => Err(AllocError),
+        Err(_) => unreachable!(),
     }
 }
 
@@ -144,9 +146,9 @@ pub fn solve_watched<W: Watch>(
     solve_over(alloc, &mut path, best, nodes, watch)
 }
 
-/// Searches for a best timetable, with at most this many nodes of the tree opened. Returns the best timetable that it found and a
-/// proof of a lower bound; where each node is closed the two meet, or there is no timetable without a broken hard rule. Which nodes
-/// are opened is not promised.
+/// Searches for a best timetable by a tree. Returns the best timetable that it found and a proof of a lower bound, of at most `nodes` nodes
+/// if each is closed, and of fewer than twice as many if not; where each is closed the cost and the bound meet, or there is no timetable
+/// without a broken hard rule. Which nodes are opened is not promised.
 pub fn solve(
     alloc: Global,
     instance: &Instance<'_>,

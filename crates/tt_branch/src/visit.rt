@@ -10,6 +10,7 @@ ghost use Rattle.tt_branch.specs.Kept.{IsKept, table_of, Advances};
 ghost use Rattle.tt_branch.specs.Links.{path_at, AreLinks};
 ghost use Rattle.tt_branch.specs.Outcomes.{final_bound};
 ghost use Rattle.tt_branch.specs.State.{IsUnderWay};
+ghost use Rattle.tt_branch.specs.declared.limit.TheConstants.{MAX_TREE};
 
 use crate::best::{Best, bound_of};
 use crate::entry::{Entry, Mark, Rises};
@@ -38,10 +39,11 @@ pub fn go_to<'i, P: Path<'i>>(
     ensures same { P.problem path.new ≡ P.problem path.old }
 {
     let facts = facts_to(alloc, links, place)?;
-    if move_to(path, facts.as_slice()).is_err() {
-        return Err(AllocError);
+    match move_to(path, facts.as_slice()) {
+        Ok(()) => Ok(()),
+        Err(PathFault::OutOfMemory) => Err(AllocError),
+        Err(PathFault::TooDeep) => unreachable!(),
     }
-    Ok(())
 }
 
 /// What the best claims are worth on a path, in cost points.
@@ -169,7 +171,7 @@ pub fn open_at<'i, P: Path<'i>>(
 ) -> Result<(), AllocError>
     requires under_way { IsUnderWay (P.problem path.old) search.old }
     requires waiting { HasMark search.old.entries.items place Mark.Waiting }
-    requires few { length search.old.entries.items ≤ 131073 }
+    requires few { length search.old.entries.items ≤ MAX_TREE + 2 }
     ensures under_way { OnOk result (IsUnderWay (P.problem path.old) search.new) }
     ensures better { OnOk result (Advances (P.problem path.old) search.old.best search.new.best) }
     ensures opened { OnOk result (opened_in search.new.entries.items ≡ opened_in search.old.entries.items + 1) }

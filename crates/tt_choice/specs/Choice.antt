@@ -1,13 +1,11 @@
--- Only proofs rest on this file: nobody has to believe it.
 -- Patterns that may split a node.
-use Rattle.std.specs.Prelude.{◌≡◌, ℕ, true, false, List, Some, None}
+use Rattle.std.specs.Prelude.{◌≡◌, true, false, List}
 use Rattle.tt_instance.specs.Problem.{Problem}
 use Rattle.tt_instance.specs.Cells.{InRange}
 use Rattle.tt_instance.specs.declared.cell.Cell.{Cell}
 use Rattle.tt_paths.specs.Facts.{IsPattern, matches, has_fact}
 use Rattle.tt_paths.specs.Live.{is_live}
 use Rattle.tt_paths.specs.declared.facts.Pattern.{Pattern}
-use Rattle.tt_paths.specs.declared.facts.Who.TheVariants.{Course}
 use Rattle.tt_paths.specs.declared.facts.Fact.{Fact}
 use Rattle.tt_leaf.specs.Pinned.{own_pattern}
 
@@ -28,7 +26,3 @@ pub record IsNewSplit (p : Problem) (path : List Fact) (g : Pattern) : Type 0 wh
   pub numbers : IsPattern p g
   pub not_yes : has_fact path g true ≡ false
   pub aims : Aims p path g
-
--- the cells of a course on a day
-abbrev pub day_pattern : ℕ → ℕ → Pattern
-day_pattern c d = record { who = Course c; room = None; day = Some d; period = None }

@@ -134,7 +134,7 @@ fn aim_at<'i, P: Path<'i>>(path: &P, course: u32, day: u32, period: u32) -> Opti
 }
 
 /// The same, where the numbers may be none of the instance's.
-pub fn aim_within<'i, P: Path<'i>>(path: &P, course: u32, day: u32, period: u32) -> Option<Pattern>
+fn aim_within<'i, P: Path<'i>>(path: &P, course: u32, day: u32, period: u32) -> Option<Pattern>
     ensures { IfSome result (IsNewSplit (P.problem path.now) (P.facts path.now)) }
 {
     let instance = path.instance();

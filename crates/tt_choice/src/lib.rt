@@ -3,13 +3,10 @@
 
 mod choice;
 mod conflicts;
-mod days;
 mod free;
-mod helpers;
 mod leeway;
 mod neighbours;
 mod prospects;
 mod strong;
 
 pub use choice::choose_split;
-pub use days::choose_day_split;

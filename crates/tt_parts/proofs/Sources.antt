@@ -1,30 +1,25 @@
--- Sources of texts, piece by piece.
-use Rattle.std.proofs.Common.{◌≡◌, ℕ, ◌+◌, ◌<◌, List, [], ◌∷◌, ◌++◌, length, take, get_or, Some, false, refl, sym, ap, subst, ◌∙◌}
-use Rattle.std.specs.Prelude.{map, Vec}
+-- Sources of texts that can look ahead, piece by piece.
+use Rattle.std.proofs.Common.{◌≡◌, ℕ, ◌+◌, ◌<◌, List, [], ◌∷◌, ◌++◌, length, take, get_or, Some, refl, sym, ap, subst, ◌∙◌}
+use Rattle.std.specs.Prelude.{Vec}
+use Rattle.std.specs.Io.KnownBytes.{prepend_known}
 use Rattle.std.specs.List.{AllZip}
 use Rattle.std.proofs.lemmas.List.{take_more}
+use Rattle.tt_lists.proofs.Zipped.{zip_append}
 use Rattle.tt_text.specs.Sources.{Cut}
+use Rattle.tt_peek.specs.declared.peeked.Peeked.{Peeked}
 use Rattle.tt_parts.specs.Found.{texts_of}
 
-abbrev pub source_of : List ℕ → Cut
-source_of bytes = record { rest = bytes; size = 4096; fails_in = 0; failed = false }
+-- the source gives the bytes
+abbrev pub Gives : Peeked Cut → List ℕ → Type 0
+Gives s bytes = prepend_known s.front.items (Some s.source.rest) ≡ Some bytes
 
--- the sources of texts
-abbrev pub sources_of : {A : Type 0} → List (Vec ℕ A) → List Cut
-sources_of proofs = map source_of (texts_of proofs)
-
-joined : {A : Type 0} (xs : List (Vec ℕ A)) (x : Vec ℕ A) → sources_of (xs ++ x ∷ []) ≡ sources_of xs ++ source_of x.items ∷ []
+joined : {A : Type 0} (xs : List (Vec ℕ A)) (x : Vec ℕ A) → texts_of (xs ++ x ∷ []) ≡ texts_of xs ++ x.items ∷ []
 joined [] x = refl
-joined (y ∷ ys) x = ap (λ l. source_of y.items ∷ l) (joined ys x)
+joined (y ∷ ys) x = ap (λ l. y.items ∷ l) (joined ys x)
 
 -- one more
-pub sources_more : {A : Type 0} (proofs : List (Vec ℕ A)) (i : ℕ) (d : Vec ℕ A) → i < length proofs → sources_of (take (i + 1) proofs) ≡ sources_of (take i proofs) ++ source_of (get_or proofs i d).items ∷ []
-sources_more proofs i d lt = ap sources_of (take_more proofs i d lt) ∙ joined (take i proofs) (get_or proofs i d)
-
-gives : {A : Type 0} (proofs : List (Vec ℕ A)) → AllZip (λ (a : Cut) (bytes : List ℕ). Some a.rest ≡ Some bytes) (sources_of proofs) (texts_of proofs)
-gives [] = tt
-gives (t ∷ ts) = (refl, gives ts)
-
--- each gives its text
-pub sources_give : {A : Type 0} (proofs : List (Vec ℕ A)) (sources : List Cut) → sources ≡ sources_of proofs → AllZip (λ (a : Cut) (bytes : List ℕ). Some a.rest ≡ Some bytes) sources (texts_of proofs)
-sources_give proofs sources e = subst (λ l. AllZip (λ (a : Cut) (bytes : List ℕ). Some a.rest ≡ Some bytes) l (texts_of proofs)) (sym e) (gives proofs)
+pub sources_more : {A : Type 0} (proofs : List (Vec ℕ A)) (i : ℕ) (d : Vec ℕ A) (sources : List (Peeked Cut)) (s : Peeked Cut) → i < length proofs
+    → AllZip Gives sources (texts_of (take i proofs)) → Gives s (get_or proofs i d).items → AllZip Gives (sources ++ s ∷ []) (texts_of (take (i + 1) proofs))
+sources_more proofs i d sources s lt before here =
+    subst (λ (l : List (List ℕ)). AllZip Gives (sources ++ s ∷ []) l) (sym (ap texts_of (take_more proofs i d lt) ∙ joined (take i proofs) (get_or proofs i d)))
+    (zip_append Gives sources (texts_of (take i proofs)) (s ∷ []) ((get_or proofs i d).items ∷ []) before (here, tt))

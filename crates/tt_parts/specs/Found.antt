@@ -9,8 +9,8 @@ use Rattle.tt_parts.specs.declared.finding.Parts.{Parts}
 abbrev pub texts_of : {A : Type 0} → List (Vec ℕ A) → List (List ℕ)
 texts_of proofs = map (λ v. v.items) proofs
 
--- Each proof spells a tree that derives its bound, no target is claimed by two of them, and the bound is the sum, which holds of every
--- feasible timetable.
+-- Each text spells a tree that derives its bound, or claims that are bounds of their groups, no target is claimed by two of them, and the bound
+-- is the sum, which holds of every feasible timetable.
 pub record AreFound (p : Problem) (k : Parts) : Type 0 where
   pub sum : IsSum p (texts_of k.proofs.items) k.bound
   pub holds : HoldsOfAll p k.bound

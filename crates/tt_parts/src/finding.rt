@@ -1,54 +1,97 @@
 //! Proofs over disjoint targets, found.
 
-ghost use Rattle.std.specs.Prelude.{IfOk};
+ghost use Rattle.std.specs.Prelude.{IfOk, IfSome};
 ghost use Rattle.tt_parts.specs.Found.{AreFound};
 
-use crate::group::{grown_groups, single_groups};
-use crate::rounds::Finder;
+use crate::rooms::find_rooms;
 use crate::together::sum_of;
 use std::alloc::{AllocError, Global};
+use tt_groups_find::{find_groups, write_groups};
 use tt_instance::Instance;
 use tt_leaf_rules::Bound;
 use tt_search::{Unwatched, Watch};
+use tt_table::Entry;
 
-/// Proofs that claim different targets, as texts, and the sum of their bounds.
+/// How many relaxations the search for groups may do for each node that is allowed.
+const RELAXATIONS_OF_NODE: u64 = 50_000;
+
+/// How much a search may do, and the seed of what it draws.
+#[derive(Clone, Copy, Debug, PartialEq, Eq)]
+pub struct Effort {
+    /// Each stands for 50,000 relaxations.
+    pub nodes: u32,
+    pub seed: u64,
+}
+
+/// Proofs that claim different targets, as texts, and the sum of their bounds. A file of groups comes first, if there is one.
 #[derive(Drop)]
 pub struct Parts {
     pub proofs: Vec<Vec<u8>>,
     pub bound: Bound,
 }
 
-/// The texts of the proofs that a search for parts chooses.
+/// Returns proofs with the sum of their bounds, if each is right and no two claim one target.
+pub fn add_up(
+    alloc: Global,
+    instance: &Instance<'_>,
+    proofs: Vec<Vec<u8>>,
+) -> Result<Option<Parts>, AllocError>
+    ensures { IfOk result (λ found. IfSome found (AreFound instance.now)) }
+{
+    let Some(bound) = sum_of(alloc, instance, proofs.as_slice())? else {
+        return Ok(None);
+    };
+    Ok(Some(Parts { proofs, bound }))
+}
+
+/// The text of the groups that are found, if there are any.
+fn groups_text<W: Watch>(
+    alloc: Global,
+    instance: &Instance<'_>,
+    effort: Effort,
+    guide: &[Entry],
+    watch: &mut W,
+) -> Result<Option<Vec<u8>>, AllocError> {
+    let relaxations = u64::from(effort.nodes).saturating_mul(RELAXATIONS_OF_NODE);
+    let claims = find_groups(alloc, instance, relaxations, effort.seed, guide, watch)?;
+    if claims.is_empty() {
+        return Ok(None);
+    }
+    Ok(Some(write_groups(alloc, claims.as_slice())?))
+}
+
+/// The texts of all proofs.
 fn find_texts<W: Watch>(
     alloc: Global,
     instance: &Instance<'_>,
-    nodes: u32,
-    seed: u64,
+    effort: Effort,
+    guide: &[Entry],
     watch: &mut W,
 ) -> Result<Vec<Vec<u8>>, AllocError> {
-    let mut finder = Finder::new(alloc, instance, nodes, seed);
-    finder.go_through(single_groups(alloc, instance)?, watch)?;
-    finder.go_through(grown_groups(alloc, instance)?, watch)?;
     let mut texts = Vec::new(alloc);
-    for part in finder.chosen.parts {
-        texts.push(part.text)?;
+    if let Some(groups) = groups_text(alloc, instance, effort, guide, watch)? {
+        texts.push(groups)?;
+    }
+    if let Some(rooms) = find_rooms(alloc, instance)? {
+        texts.push(rooms)?;
     }
     Ok(texts)
 }
 
-/// Looks for proofs as `find_parts` does, and shows the search to a watch.
+/// Looks for proofs as `find_parts` does. The entries are those of a known timetable, or none: no group is tried that would have to be worth more
+/// than it costs there. The watch sees the search.
 pub fn find_parts_watched<W: Watch>(
     alloc: Global,
     instance: &Instance<'_>,
-    nodes: u32,
-    seed: u64,
+    effort: Effort,
+    guide: &[Entry],
     watch: &mut W,
 ) -> Result<Parts, AllocError>
     ensures { IfOk result (AreFound instance.now) }
 {
-    let proofs = find_texts(alloc, instance, nodes, seed, watch)?;
-    if let Some(bound) = sum_of(alloc, instance, proofs.as_slice())? {
-        return Ok(Parts { proofs, bound });
+    let proofs = find_texts(alloc, instance, effort, guide, watch)?;
+    if let Some(parts) = add_up(alloc, instance, proofs)? {
+        return Ok(parts);
     }
     Ok(Parts {
         proofs: Vec::new(alloc),
@@ -56,16 +99,15 @@ pub fn find_parts_watched<W: Watch>(
     })
 }
 
-/// Looks for proofs that claim different targets, with this many nodes of their trees opened at most, failed ones included. The same
-/// seed gives the same ones.
+/// Looks for proofs that claim different targets: claims about groups, and one tree of a leaf about the seats of rooms. How much is found, and
+/// how long it takes, is not promised.
 pub fn find_parts(
     alloc: Global,
     instance: &Instance<'_>,
-    nodes: u32,
-    seed: u64,
+    effort: Effort,
 ) -> Result<Parts, AllocError>
-    // Each is spelled and derives its bound, no target is claimed by two, and this is the sum, which holds of every feasible timetable.
+    // Each is a right file of its kind, no target is claimed by two, and this is the sum, which holds of every feasible timetable.
     ensures { IfOk result (AreFound instance.now) }
 {
-    find_parts_watched(alloc, instance, nodes, seed, &mut Unwatched)
+    find_parts_watched(alloc, instance, effort, &[], &mut Unwatched)
 }

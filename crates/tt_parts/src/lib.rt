@@ -1,13 +1,8 @@
-//! Proofs over disjoint targets, found: the bounds of small parts of an instance add up.
+//! Proofs whose bounds add up, found: claims about groups, and the seats that rooms lack.
 #![tactic(auto)]
 
-mod chosen;
 mod finding;
-mod group;
-mod refuting;
-mod renaming;
-mod rounds;
-mod text;
+mod rooms;
 mod together;
 
-pub use finding::{Parts, find_parts, find_parts_watched};
+pub use finding::{Effort, Parts, add_up, find_parts, find_parts_watched};

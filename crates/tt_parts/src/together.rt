@@ -8,6 +8,7 @@ ghost use Rattle.tt_parts.specs.Found.{texts_of};
 use std::alloc::{AllocError, Global};
 use tt_instance::Instance;
 use tt_leaf_rules::Bound;
+use tt_peek::Peeked;
 use tt_sum::{SumFault, sum_proofs};
 use tt_text::Pieces;
 
@@ -25,7 +26,8 @@ pub fn sum_of(
 {
     let mut sources = Vec::new(alloc);
     for proof in proofs {
-        sources.push(Pieces::new(proof.as_slice(), PIECE, 0))?;
+        let pieces = Pieces::new(proof.as_slice(), PIECE, 0);
+        sources.push(Peeked::new(alloc, pieces))?;
     }
     match sum_proofs(alloc, instance, sources.as_mut_slice()) {
         Ok(bound) => Ok(Some(bound)),

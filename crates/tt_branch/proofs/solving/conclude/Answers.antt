@@ -6,7 +6,7 @@ use Rattle.tt_instance.specs.Limits.{IsInstance}
 use Rattle.tt_instance.specs.declared.cell.Cell.{Cell}
 use Rattle.tt_paths.specs.Live.{least}
 use Rattle.tt_leaf_rules.specs.declared.leaf.Bound.{Bound}
-use Rattle.tt_proof_check.specs.Derives.{HoldsOfAll}
+use Rattle.tt_proof_check.specs.Derives.{HoldsOfAll, Proves}
 use Rattle.tt_proof_check.specs.Nodes.{IsNodeOf}
 use Rattle.tt_branch.specs.declared.links.Link.{Link}
 use Rattle.tt_branch.specs.Growing.{nodes_of, worths_of}
@@ -14,7 +14,7 @@ use Rattle.tt_branch.specs.Kept.{table_of}
 use Rattle.tt_branch.specs.Links.{AreLinks}
 use Rattle.tt_branch.specs.Outcomes.{IsOutcome}
 use Rattle.tt_branch.specs.Written.{IsWritable}
-use Rattle.tt_branch.proofs.Concluding.{writable, few_ended, each_numbers, concluded}
+use Rattle.tt_branch.proofs.Concluding.{writable, few_ended, each_numbers, proves, concluded}
 use Rattle.tt_branch.proofs.solving.conclude.Goals as goal
 
 pub write_nodes-requires : goal.write_nodes-requires
@@ -36,10 +36,18 @@ prove_bound-requires g c = λ κs.
     let p = g.P.Path.problem c.args.path.now in
     let s = c.args.search in
     let ok = subst IsInstance c.instance.ensures c.days.ensures.instance in
+    let nodes = c.in_ok-nodes.field-0.nodes.items in
     let is = c.in_ok-nodes.ensures.nodes ∙ ap (λ (l : List Link). nodes_of p l s.entries.items) c.as_slice.ensures.value in
-    let all = each_numbers p ok s c.requires.under_way c.args.limit c.requires.few c.in_ok-nodes.field-0.nodes.items is in (
+    let all = each_numbers p ok s c.requires.under_way c.args.limit c.requires.few nodes is in
+    let shown = c.shown-bound.ensures p c.requires.under_way.kept in
+    let proved = proves p ok s c.requires.under_way c.args.limit c.requires.few nodes is c.args.finished c.in_ok-nodes.field-0.least c.requires.ends
+    (λ e. c.in_ok-nodes.ensures.least (not_from_false c.args.finished e) ∙ ap (λ (l : List Link). least (worths_of p l s.entries.items)) c.as_slice.ensures.value) in (
       (refl, tt),
-      subst (λ (q : Problem). All (IsNodeOf q) c.as_slice-2.result.now) (sym c.in_ok-nodes.ensures.same) (subst (All (IsNodeOf p)) (sym c.as_slice-2.ensures.value) all),
+      (
+        subst (λ (q : Problem). All (IsNodeOf q) c.as_slice-2.result.now) (sym c.in_ok-nodes.ensures.same) (subst (All (IsNodeOf p)) (sym c.as_slice-2.ensures.value) all),
+        subst (λ (q : Problem). Proves q c.shown-bound.result c.as_slice-2.result.now) (sym c.in_ok-nodes.ensures.same)
+            (subst (Proves p c.shown-bound.result) (sym c.as_slice-2.ensures.value) (subst (λ (b : Bound). Proves p b nodes) (sym shown) proved)),
+      ),
     )
 
 pub returns : goal.returns

@@ -1,11 +1,30 @@
-use Rattle.std.proofs.Common.{◌≡◌, take, ap, ◌∙◌, arith}
+use Rattle.std.proofs.Common.{◌≡◌, ℕ, ◌+◌, List, take, get_or, Some, sym, ap, subst, ◌∙◌, arith, Vec}
+use Rattle.std.specs.Global.{Global}
+use Rattle.std.specs.Io.KnownBytes.{prepend_known}
+use Rattle.std.specs.List.{AllZip}
 use Rattle.std.proofs.lemmas.List.{take_all}
+use Rattle.tt_text.specs.Sources.{Cut}
+use Rattle.tt_peek.specs.declared.peeked.Peeked.{Peeked}
 use Rattle.tt_parts.specs.Found.{texts_of}
-use Rattle.tt_parts.proofs.Sources.{sources_of, sources_give}
+use Rattle.tt_parts.proofs.Sources.{Gives, sources_more}
 use Rattle.tt_parts.proofs.together.sum_of.Goals as goal
 
 pub returns-in-Ok-clause-found : goal.returns-in-Ok-clause-found
 returns-in-Ok-clause-found c =
     let proofs = c.args.proofs.now in
     let all : take c.loop-proof.proof-index proofs ≡ proofs = take_all c.loop-proof.proof-index proofs (omega arith) in
-    c.in-Ok.ensures.found (texts_of proofs) (sources_give proofs _ (c.as_mut_slice.ensures.value ∙ c.loop-proof.invariant ∙ ap sources_of all))
+    let given = subst (λ l. AllZip Gives c.loop-proof.sources.items (texts_of l)) all c.loop-proof.invariant in
+    c.in-Ok.ensures.found (texts_of proofs) (subst (λ (l : List (Peeked Cut)). AllZip Gives l (texts_of proofs)) (sym c.as_mut_slice.ensures.value) given)
+
+pub loop-proof-preserved : goal.loop-proof-preserved
+loop-proof-preserved c =
+    let proofs = c.args.proofs.now in
+    let i = c.loop-proof.proof-index in
+    let d = c.proof-item.result in
+    let s = c.new.result in
+    let here : Gives s (get_or proofs i d).items =
+    ap (λ (l : List ℕ). prepend_known l (Some s.source.rest)) c.new.ensures.front
+    ∙ ap (λ (z : Cut). Some z.rest) (c.new.ensures.source ∙ c.new-pieces.ensures)
+    ∙ ap (λ (b : List ℕ). Some b) (c.as_slice.ensures.value ∙ ap (λ (v : Vec ℕ Global). v.items) c.proof-item.is) in
+    subst (λ (l : List (Peeked Cut)). AllZip Gives l (texts_of (take (i + 1) proofs))) (sym c.in_ok-push.ensures.items)
+    (sources_more proofs i d c.loop-proof.sources.items s c.loop-proof-test.true c.loop-proof.invariant here)

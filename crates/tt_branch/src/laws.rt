@@ -1,0 +1,15 @@
+//! What a path comes to on which no cell is free.
+
+ghost use Rattle.std.specs.Prelude.{List};
+ghost use Rattle.tt_instance.specs.Problem.{Problem};
+ghost use Rattle.tt_instance.specs.Limits.{IsInstance};
+ghost use Rattle.tt_paths.specs.declared.facts.Fact.{Fact};
+ghost use Rattle.tt_leaf.specs.Pinned.{IsPinnedDown};
+ghost use Rattle.tt_branch.specs.Alone.{LeavesOne};
+ghost use Rattle.tt_branch.specs.Proofs.{IsUnclosed};
+
+/// If each live cell's own pattern stands on the path as yes, and no Empty leaf of a yes-fact, no Many leaf and no Clique of one course is
+/// right there, then the live cells are, up to order, the one feasible timetable that fits the path, and the best claims are worth its cost.
+pub fn pinned_paths_leave_one_timetable()
+    ensures { (p : Problem) (path : List Fact) → IsInstance p → IsPinnedDown p path → IsUnclosed p path → LeavesOne p path }
+{}

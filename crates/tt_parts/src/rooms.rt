@@ -1,0 +1,63 @@
+//! A bound of the seats that rooms lack.
+
+ghost use Rattle.std.specs.Prelude.{All, IfOk};
+ghost use Rattle.tt_leaf_rules.specs.Ranges.{IsClaimOf};
+
+use std::alloc::{AllocError, Global};
+use tt_facts::TrailPath;
+use tt_instance::Instance;
+use tt_leaf::best_claims;
+use tt_leaf_rules::{Bound, Claim, ClaimList, Leaf, claim_value};
+use tt_paths::Path;
+use tt_proof_read::Node;
+use tt_proof_text::{WriteFault, write_proof};
+
+/// The version of the proof.
+const VERSION: u8 = 2;
+
+/// Claims, and the cost points that they are worth together.
+#[derive(Drop)]
+struct Claims {
+    list: Vec<Claim>,
+    points: u64,
+}
+
+/// Takes the claims about seats out of others.
+fn seats_of<'i, P: Path<'i>>(
+    alloc: Global,
+    path: &P,
+    claims: Vec<Claim>,
+) -> Result<Claims, AllocError>
+    requires { All (IsClaimOf (P.problem path.now)) claims.items }
+{
+    let mut seats = Claims {
+        list: Vec::new(alloc),
+        points: 0,
+    };
+    for claim in claims {
+        if matches!(claim, Claim::Capacity { .. } | Claim::Prices { .. }) {
+            seats.points = seats.points.saturating_add(claim_value(path, &claim));
+            seats.list.push(claim)?;
+        }
+    }
+    Ok(seats)
+}
+
+/// The text of a proof of one leaf, which prices the seats that the rooms lack; none if it would be worth nothing.
+pub fn find_rooms(alloc: Global, instance: &Instance<'_>) -> Result<Option<Vec<u8>>, AllocError> {
+    let path = TrailPath::new(alloc, instance)?;
+    let Leaf::Cost(claims) = best_claims(alloc, &path)? else {
+        return Ok(None);
+    };
+    let seats = seats_of(alloc, &path, claims.into_vec())?;
+    if seats.points == 0 {
+        return Ok(None);
+    }
+    let bound = Bound::AtLeast(seats.points);
+    let leaf = Node::Leaf(Leaf::Cost(ClaimList::new(seats.list)));
+    match write_proof(alloc, VERSION, bound, &[leaf]) {
+        Ok(text) => Ok(Some(text)),
+        Err(WriteFault::OutOfMemory) => Err(AllocError),
+        Err(_) => Ok(None),
+    }
+}
