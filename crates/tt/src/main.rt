@@ -1,4 +1,4 @@
-//! The program `tt`: the words of its command line go to `tt_app::run`.
+//! The program `tt`: the words of its command line go to `tt_app_run::run`.
 #![tactic(auto)]
 
 use std::io::{ErrorKind, Write};
@@ -27,7 +27,7 @@ fn refused<E: Write>(fault: io::Error, err: &mut E) -> u8 {
 
 fn main(rt: HostRuntime) -> ExitCode {
     let status = match words(&rt) {
-        Ok(words) => tt_app::run(&rt, &words, &mut rt.stdout(), &mut rt.stderr()),
+        Ok(words) => tt_app_run::run(&rt, &words, &mut rt.stdout(), &mut rt.stderr()),
         Err(fault) => refused(fault, &mut rt.stderr()),
     };
     ExitCode::from(status)

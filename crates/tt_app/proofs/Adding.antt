@@ -29,19 +29,22 @@ spelled_memory i p (instance.OutOfRange n) b spells h = let e = is_read i p spel
 -- a fault of the proofs is told
 pub sum_tells : (i : List ℕ) (p : Problem) (gives : List (List ℕ) → Type 0) (f : SumFault) → Spells i p → ((proofs : List (List ℕ)) → gives proofs → IsSumFault p proofs f) → IsSumRefusal i gives (fault_from_sum f)
 sum_tells i p gives (sum.Proof n f) spells h = record { problem = p; spelled = spells; fails = h }
+sum_tells i p gives (sum.Groups n f) spells h = record { problem = p; spelled = spells; fails = h }
 sum_tells i p gives (sum.ClaimedElsewhere n k e) spells h = record { problem = p; spelled = spells; fails = h }
 sum_tells i p gives (sum.TooLarge n) spells h = record { problem = p; spelled = spells; fails = h }
 sum_tells i p gives sum.OutOfMemory spells h = tt
 
 -- a silent fault says nothing of the bytes
 pub silent_sum : (f : SumFault) (b : Bound) → IsSilentSum f → AnswersSum (Err (fault_from_sum f)) b
-silent_sum (sum.Proof n f) b h = inr (n, ap (λ x. fault_from_sum (sum.Proof n x)) h)
+silent_sum (sum.Proof n f) b h = inr (inl (n, ap (λ x. fault_from_sum (sum.Proof n x)) h))
+silent_sum (sum.Groups n f) b h = inr (inr (record { file = n; found = f; is = refl; open_claim = h }))
 silent_sum (sum.ClaimedElsewhere n k e) b h = absurd h
 silent_sum (sum.TooLarge n) b h = absurd h
 silent_sum sum.OutOfMemory b h = inl refl
 
 pub memory_sum : (f : SumFault) → OneFaultOfSum f → OutOfMemoryIsOneFault (fault_from_sum f)
 memory_sum (sum.Proof n f) h = (λ e. cc, h)
+memory_sum (sum.Groups n f) h = (λ e. cc, h)
 memory_sum (sum.ClaimedElsewhere n k e) h = (λ x. cc, tt)
 memory_sum (sum.TooLarge n) h = (λ e. cc, tt)
 memory_sum sum.OutOfMemory h = tt
@@ -49,6 +52,7 @@ memory_sum sum.OutOfMemory h = tt
 -- only a failed read is told as one
 pub read_summed : (f : SumFault) (n : ℕ) → fault_from_sum f ≡ read_failed_at n → f ≡ read_failed_below n
 read_summed (sum.Proof m f) n e = cc
+read_summed (sum.Groups m f) n e = cc
 read_summed (sum.ClaimedElsewhere m k x) n e = cc
 read_summed (sum.TooLarge m) n e = cc
 read_summed sum.OutOfMemory n e = cc

@@ -19,7 +19,8 @@ use Rattle.tt_app.specs.Summed.{CertifiesSum, IsSumYes, IsSumCheckFault, Answers
 
 -- a silent fault says nothing of the bytes
 pub silent_yes : (f : SumFault) (c b : ℕ) → IsSilentSum f → AnswersSumYes (Err (fault_from_sum f)) c b
-silent_yes (sum.Proof n f) c b h = inr (n, ap (λ x. fault_from_sum (sum.Proof n x)) h)
+silent_yes (sum.Proof n f) c b h = inr (inl (n, ap (λ x. fault_from_sum (sum.Proof n x)) h))
+silent_yes (sum.Groups n f) c b h = inr (inr (record { file = n; found = f; is = refl; open_claim = h }))
 silent_yes (sum.ClaimedElsewhere n k e) c b h = absurd h
 silent_yes (sum.TooLarge n) c b h = absurd h
 silent_yes sum.OutOfMemory c b h = inl refl
@@ -65,6 +66,7 @@ module _ (i s : List ℕ) (p : Problem) (t : List Cell) (spelled : Spells i p) (
     -- a refusal of the proofs
     pub sum_fails : (gives : List (List ℕ) → Type 0) (f : SumFault) → broken_by score ≡ 0 → ((files : List (List ℕ)) → gives files → IsSumFault p files f) → IsSumCheckFault i s gives (fault_from_sum f)
     sum_fails gives (sum.Proof n f) e h = record { problem = p; table = t; both = both; feasible = feasible_here e; fails = h }
+    sum_fails gives (sum.Groups n f) e h = record { problem = p; table = t; both = both; feasible = feasible_here e; fails = h }
     sum_fails gives (sum.ClaimedElsewhere n k x) e h = record { problem = p; table = t; both = both; feasible = feasible_here e; fails = h }
     sum_fails gives (sum.TooLarge n) e h = record { problem = p; table = t; both = both; feasible = feasible_here e; fails = h }
     sum_fails gives sum.OutOfMemory e h = tt

@@ -1,6 +1,7 @@
 pub mod Adding
 pub mod AddingBoth
 pub mod Answering
+pub mod Best
 pub mod DerivedBounds
 pub mod FailedReads
 pub mod Files

@@ -1,6 +1,6 @@
 -- What `solve` answers, from what its steps answered.
-use Rattle.std.proofs.Common.{◌≡◌, ℕ, Bool, List, Option, Some, All, refl, subst, inr}
-use Rattle.std.specs.Prelude.{IfSome}
+use Rattle.std.proofs.Common.{◌≡◌, ℕ, Bool, List, Option, Some, All, refl, subst, inl, inr}
+use Rattle.std.specs.Prelude.{IfSome, ◌⊎◌}
 use Rattle.tt_instance.specs.Problem.{Problem}
 use Rattle.tt_instance.specs.Reading.{instance_of, Fails}
 use Rattle.tt_instance.specs.Spelling.{Spells}
@@ -14,12 +14,12 @@ use Rattle.tt_leaf_rules.specs.declared.leaf.Bound.{Bound}
 use Rattle.tt_proof_read.specs.declared.node.Node.{Node}
 use Rattle.tt_proof_read.specs.Trees.{IsPreorder}
 use Rattle.tt_proof_text.specs.Within.{IsNodeIn, Refuses, Writes}
-use Rattle.tt_proof_text.specs.declared.fault.WriteFault.{WriteFault}
 use Rattle.tt_proof_text.specs.declared.fault.WriteFault.TheVariants as write
 use Rattle.tt_upgrade.proofs.Written.{node_in_two}
 use Rattle.tt_branch.specs.Outcomes.{IsOutcome}
-use Rattle.tt_app.specs.Solved.{IsProofFile, IsTextRefusal, IsSolveRefusal}
-use Rattle.tt_app.specs.Told.{fault_from_instance, fault_from_write}
+use Rattle.tt_app.specs.Solved.{IsProofFile, IsOverLong, IsTextRefusal, IsSolveRefusal}
+use Rattle.tt_app.specs.Told.{fault_from_instance}
+use Rattle.tt_app.specs.declared.fault.AppFault.{AppFault}
 use Rattle.tt_app.specs.declared.fault.AppFault.TheVariants as fault
 
 -- the best timetable is one of the instance
@@ -31,12 +31,29 @@ best_fits p _ h = h
 pub second_file : (b : Bound) (nodes : List Node) (bytes : List ℕ) → ¬ All (IsNodeIn 1) nodes → Writes 2 b nodes bytes → IsProofFile b nodes bytes
 second_file b nodes bytes newer h = record { version = 2; least = inr (refl, newer); text = h.text }
 
--- in version 2 only the size is refused
-pub second_refused : (b : Bound) (nodes : List Node) → IsPreorder nodes → (f : WriteFault) → Refuses 2 b nodes f → IsTextRefusal b nodes f
-second_refused b nodes tree write.NotATree h = absurd (h tree)
-second_refused b nodes tree write.OverLimit h = record { version = 2; large = h.1 }
-second_refused b nodes tree write.NotInVersion h = absurd (h.2 (λ k x e. node_in_two _))
-second_refused b nodes tree write.OutOfMemory h = tt
+-- no tree is refused for being none
+pub is_tree : (v : ℕ) (b : Bound) (nodes : List Node) → IsPreorder nodes → Refuses v b nodes write.NotATree → ⊥
+is_tree v b nodes tree h = h tree
+
+-- no nodes are refused for being of another version than the second
+pub in_second : (b : Bound) (nodes : List Node) → Refuses 2 b nodes write.NotInVersion → ⊥
+in_second b nodes h = h.2 (λ k x e. node_in_two _)
+
+-- the text is too long in a version
+pub over_long : (v : ℕ) (b : Bound) (nodes : List Node) → Refuses v b nodes write.OverLimit → IsOverLong b nodes
+over_long v b nodes h = record { version = v; large = h.1 }
+
+-- the text is refused for two reasons alone
+pub text_refusal : (b : Bound) (nodes : List Node) (f : AppFault) → IsTextRefusal b nodes f → (f ≡ fault.OutOfMemory) ⊎ (f ≡ fault.ProofTooLarge)
+text_refusal b nodes (fault.Instance f) h = absurd h
+text_refusal b nodes (fault.Solution f) h = absurd h
+text_refusal b nodes (fault.Proof f) h = absurd h
+text_refusal b nodes (fault.Sum f) h = absurd h
+text_refusal b nodes fault.ProofTooLarge h = inr refl
+text_refusal b nodes fault.OutOfMemory h = inl refl
+text_refusal b nodes (fault.CannotRead f) h = absurd h
+text_refusal b nodes (fault.TooLong f) h = absurd h
+text_refusal b nodes fault.CannotWrite h = absurd h
 
 -- where an instance is spelled, reading it is refused for memory alone
 pub read_memory : (i : List ℕ) (p : Problem) (f : InstanceFault) → Spells i p → Fails f (instance_of i) → fault_from_instance f ≡ fault.OutOfMemory
@@ -49,11 +66,11 @@ read_memory i p (instance.Repeated n) spells h = let e = is_read i p spells in a
 read_memory i p (instance.UnknownCourse n) spells h = let e = is_read i p spells in absurd cc
 read_memory i p (instance.OutOfRange n) spells h = let e = is_read i p spells in absurd cc
 
--- why the proof's text was not written is told
-pub tells_text : (i : List ℕ) (limit : ℕ) (p : Problem) (best : Option (List Cell)) (b : Bound) (proof : Option (List Node)) (nodes : List Node) (finished : Bool) (f : WriteFault) → Spells i p
-    → IsOutcome p limit best b proof finished → proof ≡ Some nodes → IsTextRefusal b nodes f → IsSolveRefusal i limit (fault_from_write f)
-tells_text i limit p best b proof nodes finished write.OutOfMemory spells found is h = tt
-tells_text i limit p best b proof nodes finished write.OverLimit spells found is h = record {
+-- the refusal of the proof's text is one of the search
+pub text_refused : (i : List ℕ) (limit : ℕ) (p : Problem) (best : Option (List Cell)) (b : Bound) (proof : Option (List Node)) (nodes : List Node) (finished : Bool) (f : AppFault) → Spells i p
+    → IsOutcome p limit best b proof finished → proof ≡ Some nodes → IsTextRefusal b nodes f → IsSolveRefusal i limit f
+text_refused i limit p best b proof nodes finished fault.OutOfMemory spells found is h = tt
+text_refused i limit p best b proof nodes finished fault.ProofTooLarge spells found is h = record {
   problem = p;
   spelled = spells;
   best = best;
@@ -63,5 +80,10 @@ tells_text i limit p best b proof nodes finished write.OverLimit spells found is
   outcome = subst (λ (o : Option (List Node)). IsOutcome p limit best b o finished) is found;
   large = h;
 }
-tells_text i limit p best b proof nodes finished write.NotATree spells found is h = absurd h
-tells_text i limit p best b proof nodes finished write.NotInVersion spells found is h = absurd h
+text_refused i limit p best b proof nodes finished (fault.Instance f) spells found is h = absurd h
+text_refused i limit p best b proof nodes finished (fault.Solution f) spells found is h = absurd h
+text_refused i limit p best b proof nodes finished (fault.Proof f) spells found is h = absurd h
+text_refused i limit p best b proof nodes finished (fault.Sum f) spells found is h = absurd h
+text_refused i limit p best b proof nodes finished (fault.CannotRead f) spells found is h = absurd h
+text_refused i limit p best b proof nodes finished (fault.TooLong f) spells found is h = absurd h
+text_refused i limit p best b proof nodes finished fault.CannotWrite spells found is h = absurd h

@@ -1,3 +1,4 @@
+pub mod Best
 pub mod Bounded
 pub mod Checked
 pub mod Improved

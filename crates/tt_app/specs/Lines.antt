@@ -41,6 +41,14 @@ solve_line p best b finished =
 abbrev pub parts_line : Bound → ℕ → List ℕ
 parts_line b n = codes "bound " ++ bound_points b ++ codes " parts " ++ decimal n ++ 10 ∷ []
 
+-- the cost of a timetable and a bound, and whether they meet
+abbrev pub best_line : ℕ → ℕ → List ℕ
+best_line c b = codes "cost " ++ decimal c ++ codes " bound " ++ decimal b ++ (if c == b then codes " optimal" else []) ++ 10 ∷ []
+
+-- a bound where no timetable was found
+abbrev pub none_line : Bound → List ℕ
+none_line b = codes "cost none bound " ++ bound_points b ++ 10 ∷ []
+
 -- how many hard rules a timetable breaks, and its cost
 abbrev pub pair_line : ℕ → ℕ → List ℕ
 pair_line h c = codes "hard " ++ decimal h ++ codes " cost " ++ decimal c ++ 10 ∷ []

@@ -12,7 +12,7 @@ use Rattle.tt_app.specs.declared.calls.parts.PartsAnswer.{PartsAnswer}
 use Rattle.tt_app.specs.declared.fault.AppFault.{AppFault}
 use Rattle.tt_app.specs.declared.fault.AppFault.TheVariants as fault
 
--- Each proof spells a tree that derives its bound, no target is claimed by two of them, and the line tells the sum, which holds of every feasible timetable.
+-- Each proof spells what is right, no target is claimed by two of them, and the line names the sum, which holds of every feasible timetable.
 pub record IsParted (instance : List ℕ) (a : PartsAnswer) : Type 0 where
   pub problem : Problem
   pub spelled : Spells instance problem
@@ -21,7 +21,7 @@ pub record IsParted (instance : List ℕ) (a : PartsAnswer) : Type 0 where
   pub holds : HoldsOfAll problem bound
   pub text : a.out.items ≡ parts_line bound (length a.proofs.items)
 
--- a refusal tells the instance's fault
+-- a refusal names the instance's fault
 abbrev pub IsPartsRefusal : List ℕ → AppFault → Type 0
 IsPartsRefusal i (fault.Instance f) = instance_of i ≡ Err f
 IsPartsRefusal i fault.OutOfMemory = ⊤

@@ -9,8 +9,6 @@ use Rattle.tt_leaf_rules.specs.declared.leaf.Bound.{Bound}
 use Rattle.tt_proof_read.specs.declared.node.Node.{Node}
 use Rattle.tt_proof_text.specs.Within.{FitsFile, IsNodeIn}
 use Rattle.tt_proof_text.specs.Written.{proof_text}
-use Rattle.tt_proof_text.specs.declared.fault.WriteFault.{WriteFault}
-use Rattle.tt_proof_text.specs.declared.fault.WriteFault.TheVariants as write
 use Rattle.tt_branch.specs.Outcomes.{IsOutcome}
 use Rattle.tt_app.specs.Lines.{solve_line}
 use Rattle.tt_app.specs.declared.answer.Answer.{Answer}
@@ -32,10 +30,10 @@ pub record IsOverLong (b : Bound) (nodes : List Node) : Type 0 where
   pub version : ℕ
   pub large : ¬ FitsFile version b nodes
 
--- why the text of a proof was not written
-abbrev pub IsTextRefusal : Bound → List Node → WriteFault → Type 0
-IsTextRefusal b nodes write.OverLimit = IsOverLong b nodes
-IsTextRefusal b nodes write.OutOfMemory = ⊤
+-- The text of the proof is not written where it is too long, or where memory runs out.
+abbrev pub IsTextRefusal : Bound → List Node → AppFault → Type 0
+IsTextRefusal b nodes fault.ProofTooLarge = IsOverLong b nodes
+IsTextRefusal b nodes fault.OutOfMemory = ⊤
 IsTextRefusal b nodes _ = ⊥
 
 -- the line of a search, its status, and its files: that of the best timetable, if there is one, and that of the proof

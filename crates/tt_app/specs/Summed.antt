@@ -1,5 +1,5 @@
 -- What `sum` answers of the bytes of an instance, of proofs, and of a solution where one is given.
-use Rattle.std.specs.Prelude.{◌≡◌, ℕ, ◌+◌, ◌≤◌, ◌⊎◌, List, Result, Ok, Err, ⊤}
+use Rattle.std.specs.Prelude.{◌≡◌, ℕ, ◌+◌, ◌≤◌, ◌⊎◌, List, Option, Result, Ok, Err, ⊤}
 use Rattle.tt_instance.specs.Problem.{Problem}
 use Rattle.tt_instance.specs.Reading.{instance_of}
 use Rattle.tt_instance.specs.Spelling.{Spells}
@@ -13,7 +13,10 @@ use Rattle.tt_proof_check.specs.Headline.{SpellsBoth, Solves, BoundsAll}
 use Rattle.tt_proof_check.specs.Verdicts.{IsBroken, FailsSolution}
 use Rattle.tt_sum.specs.Faults.{IsSumFault}
 use Rattle.tt_sum.specs.Faults as below
+use Rattle.tt_sum.specs.GroupsFaults.{IsLeftOpen}
 use Rattle.tt_sum.specs.Sums.{IsSum}
+use Rattle.tt_sum.specs.UpToFailedRead.{IsFileJudgedUpToFailedRead}
+use Rattle.tt_sum.specs.declared.groups_fault.GroupsFault.{GroupsFault}
 use Rattle.tt_sum.specs.declared.fault.SumFault.{SumFault}
 use Rattle.tt_sum.specs.declared.fault.SumFault.TheVariants as sum
 use Rattle.tt_app.specs.Bounded.{IsBoundAnswer}
@@ -54,10 +57,27 @@ fault_from_sum f = fault.Sum f
 abbrev pub read_failed_at : ℕ → AppFault
 read_failed_at n = fault.Sum (below.read_failed_at n)
 
--- this bound, unless memory runs out or a read of a proof fails
+-- The check of a group's claim was given up, in this file of groups.
+pub record IsGivenUp (f : AppFault) : Type 0 where
+  pub file : ℕ
+  pub found : GroupsFault
+  pub is : f ≡ fault.Sum (sum.Groups file found)
+  pub open_claim : IsLeftOpen found
+
+-- memory ran out, a read of a file failed, or the check of a group's claim was given up
+abbrev pub IsSilentRefusal : AppFault → Type 0
+IsSilentRefusal f = (f ≡ fault.OutOfMemory) ⊎ (((n : ℕ) × (f ≡ read_failed_at n)) ⊎ IsGivenUp f)
+
+-- this bound, unless the refusal says nothing of the bytes
 abbrev pub AnswersSum : Result Answer AppFault → Bound → Type 0
 AnswersSum (Ok a) b = IsBoundAnswer a b
-AnswersSum (Err f) b = (f ≡ fault.OutOfMemory) ⊎ ((n : ℕ) × (f ≡ read_failed_at n))
+AnswersSum (Err f) b = IsSilentRefusal f
+
+-- The file of an instance that is spelled has been judged as far as its bytes went.
+pub record IsSpelledAndFileJudgedUpToFailedRead (instance proof : List ℕ) (left : Option (List ℕ)) : Type 0 where
+  pub problem : Problem
+  pub spelled : Spells instance problem
+  pub tells : IsFileJudgedUpToFailedRead problem proof left
 
 -- ---- a solution too
 
@@ -104,7 +124,7 @@ IsSumCheckFault i s gives (fault.Sum f) = FailsSumOfBoth i s gives f
 IsSumCheckFault i s gives fault.OutOfMemory = ⊤
 IsSumCheckFault i s gives _ = ⊥
 
--- yes with c and b, unless memory runs out or a read of a proof fails
+-- yes with c and b, unless the refusal says nothing of the bytes
 abbrev pub AnswersSumYes : Result Answer AppFault → ℕ → ℕ → Type 0
 AnswersSumYes (Ok a) c b = IsYesAnswer a c b
-AnswersSumYes (Err f) c b = (f ≡ fault.OutOfMemory) ⊎ ((n : ℕ) × (f ≡ read_failed_at n))
+AnswersSumYes (Err f) c b = IsSilentRefusal f

@@ -9,8 +9,6 @@ use Rattle.tt_proof_check.specs.declared.fault.CheckFault.{CheckFault}
 use Rattle.tt_proof_check.specs.declared.fault.CheckFault.TheVariants as check
 use Rattle.tt_proof_check.specs.declared.fault.CertifyFault.{CertifyFault}
 use Rattle.tt_proof_check.specs.declared.fault.CertifyFault.TheVariants as certify
-use Rattle.tt_proof_text.specs.declared.fault.WriteFault.{WriteFault}
-use Rattle.tt_proof_text.specs.declared.fault.WriteFault.TheVariants as write
 use Rattle.tt_upgrade.specs.declared.fault.UpgradeFault.{UpgradeFault}
 use Rattle.tt_upgrade.specs.declared.fault.UpgradeFault.TheVariants as upgrade
 use Rattle.tt_report.specs.declared.fault.ReportFault.{ReportFault}
@@ -46,10 +44,6 @@ abbrev pub fault_from_upgrade : UpgradeFault → AppFault
 fault_from_upgrade (upgrade.Proof f) = fault_from_check f
 fault_from_upgrade upgrade.TooLarge = fault.ProofTooLarge
 fault_from_upgrade upgrade.OutOfMemory = fault.OutOfMemory
-
-abbrev pub fault_from_write : WriteFault → AppFault
-fault_from_write write.OutOfMemory = fault.OutOfMemory
-fault_from_write _ = fault.ProofTooLarge
 
 -- Being out of memory is told as itself, wherever it comes from.
 abbrev pub OutOfMemoryIsOneFault : AppFault → Type 0

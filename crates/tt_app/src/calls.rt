@@ -1,5 +1,6 @@
 //! The calls, a file each.
 
+pub mod best;
 pub mod bound;
 pub mod check;
 pub mod improve;

@@ -5,7 +5,6 @@ use thiserror::Error;
 use tt_app_files::OutputFault;
 use tt_instance::InstanceFault;
 use tt_proof_check::{CertifyFault, CheckFault};
-use tt_proof_text::WriteFault;
 use tt_report::ReportFault;
 use tt_sum::SumFault;
 use tt_table::SolutionFault;
@@ -148,21 +147,6 @@ impl From<UpgradeFault> for AppFault {
             UpgradeFault::Proof(fault) => fault.into(),
             UpgradeFault::TooLarge => AppFault::ProofTooLarge,
             UpgradeFault::OutOfMemory => AppFault::OutOfMemory,
-        }
-    }
-}
-
-impl From<WriteFault> for AppFault {
-    ghost use Rattle.std.specs.Prelude.{◌≡◌};
-    ghost use Rattle.tt_app.specs.Told.{fault_from_write};
-
-    ghost from_gives = { λ f e. e ≡ fault_from_write f };
-
-    fn from(fault: WriteFault) -> AppFault {
-        match fault {
-            WriteFault::OutOfMemory => AppFault::OutOfMemory,
-            // The nodes of a search are a tree, and each claim is of version 2.
-            _ => AppFault::ProofTooLarge,
         }
     }
 }

@@ -4,14 +4,14 @@ ghost use Rattle.std.specs.Prelude.{◌≡◌, ◌+◌, ◌<◌, ◌^◌, ℕ, L
 ghost use Rattle.tt_rules.specs.Score.{IsFeasible};
 ghost use Rattle.tt_leaf_rules.specs.declared.leaf.Bound.TheVariants.{AtLeast};
 ghost use Rattle.tt_proof_check.specs.Derives.{HoldsOfAll};
-ghost use Rattle.tt_proof_check.specs.FailedReads.{IsJudgedUpToFailedRead, IsSpelledAndJudgedUpToFailedRead};
+ghost use Rattle.tt_sum.specs.UpToFailedRead.{IsFileJudgedUpToFailedRead};
 ghost use Rattle.tt_proof_check.specs.Headline.{BreaksARule};
 ghost use Rattle.tt_sum.specs.Added.{Give};
 ghost use Rattle.tt_sum.specs.Faults as below;
 ghost use Rattle.tt_sum.specs.Faults.{IsSumFault, IsSilentSum, all_points};
 ghost use Rattle.tt_sum.specs.Sums.{IsSum};
 ghost use Rattle.tt_app.specs.Checked.{IsOfFiles, AnswersBroken};
-ghost use Rattle.tt_app.specs.Summed.{read_failed_at, CertifiesSum, IsSumChecked, IsSumCheckFault, AnswersSumYes};
+ghost use Rattle.tt_app.specs.Summed.{IsSpelledAndFileJudgedUpToFailedRead, read_failed_at, CertifiesSum, IsSumChecked, IsSumCheckFault, AnswersSumYes};
 ghost use Rattle.tt_app.specs.Told.{OutOfMemoryIsOneFault};
 
 use crate::answer::Answer;
@@ -20,13 +20,13 @@ use crate::fault::AppFault;
 use std::alloc::Global;
 use tt_instance::{Instance, read_instance};
 use tt_leaf_rules::Bound;
+use tt_peek::Peek;
 use tt_rules::score;
 use tt_sum::{SumFault, sum_proofs};
 use tt_table::{Timetable, read_solution};
-use tt_text::Source;
 
 /// The bound of proofs, where some timetable breaks no hard rule: so it is a number.
-fn summed_bound<R: Source>(
+fn summed_bound<R: Peek>(
     alloc: Global,
     instance: &Instance<'_>,
     table: &Timetable,
@@ -42,7 +42,7 @@ fn summed_bound<R: Source>(
     ensures unfailed { (i : ℕ) (r q : R) → ¬ (result ≡ Err (below.read_failed_at (i + 1))) → slice_get proofs.old i ≡ Some r → slice_get proofs.new i ≡ Some q →
         R.has_failed q ≡ R.has_failed r }
     ensures up_to_failed_read { (i : ℕ) (r q : R) (bytes : List ℕ) → result ≡ Err (below.read_failed_at (i + 1)) → slice_get proofs.old i ≡ Some r →
-        slice_get proofs.new i ≡ Some q → R.remaining r ≡ Some bytes → IsJudgedUpToFailedRead instance.now bytes (R.remaining q) }
+        slice_get proofs.new i ≡ Some q → R.remaining r ≡ Some bytes → IsFileJudgedUpToFailedRead instance.now bytes (R.remaining q) }
     ensures memory { IfErr result below.OutOfMemoryIsOneFault }
 {
     match sum_proofs(alloc, instance, proofs)? {
@@ -53,7 +53,7 @@ fn summed_bound<R: Source>(
 
 /// Whether a solution of an instance breaks no hard rule, with its cost and the sum of the lower bounds that proofs derive. The proofs
 /// are read only where no hard rule is broken.
-pub fn check_sum<R: Source>(
+pub fn check_sum<R: Peek>(
     alloc: Global,
     instance: &[u8],
     solution: &[u8],
@@ -76,7 +76,7 @@ pub fn check_sum<R: Source>(
         R.has_failed q ≡ R.has_failed r }
     // Where one failed, all that the bytes of its proof before it say has been judged.
     ensures up_to_failed_read { (i : ℕ) (r q : R) (bytes : List ℕ) → result ≡ Err (read_failed_at (i + 1)) → slice_get proofs.old i ≡ Some r →
-        slice_get proofs.new i ≡ Some q → R.remaining r ≡ Some bytes → IsSpelledAndJudgedUpToFailedRead instance.now bytes (R.remaining q) }
+        slice_get proofs.new i ≡ Some q → R.remaining r ≡ Some bytes → IsSpelledAndFileJudgedUpToFailedRead instance.now bytes (R.remaining q) }
     // Being out of memory is one answer, wherever it comes from.
     ensures memory { IfErr result OutOfMemoryIsOneFault }
 {

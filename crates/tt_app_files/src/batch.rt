@@ -99,6 +99,7 @@ fn take_step<R: Files + Clock + AllocGlobal>(
 }
 
 impl Batch {
+    /// Returns a batch without files.
     pub fn new(alloc: Global) -> Batch {
         Batch {
             drafts: Vec::new(alloc),
@@ -135,10 +136,15 @@ impl Batch {
         }
     }
 
-    /// Removes the new files, and returns the fault.
-    fn stopped_by<R: Files>(self, rt: &R, fault: OutputFault) -> Result<Batch, OutputFault> {
+    /// Removes the new files.
+    pub fn abandon<R: Files>(self, rt: &R) {
         let Batch { drafts } = self;
         remove_drafts(rt, &drafts);
+    }
+
+    /// Removes the new files, and returns the fault.
+    fn stopped_by<R: Files>(self, rt: &R, fault: OutputFault) -> Result<Batch, OutputFault> {
+        self.abandon(rt);
         Err(fault)
     }
 

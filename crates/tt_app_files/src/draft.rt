@@ -139,6 +139,7 @@ impl Draft {
         }
     }
 
+    /// Returns the place that the new file is for.
     pub fn place(&self) -> &Place {
         &self.place
     }

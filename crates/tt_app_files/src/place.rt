@@ -18,7 +18,7 @@ pub struct Place {
 }
 
 /// Returns the folder of a path.
-fn folder_of(path: &str) -> &str {
+pub fn folder_of(path: &str) -> &str {
     match Path::new(path).parent() {
         Some(folder) => match folder.as_str() {
             "" => ".",
@@ -63,6 +63,7 @@ impl Place {
         Ok(Place { path, mode })
     }
 
+    /// Returns the same place.
     pub fn copy(&self) -> Result<Place, AllocError> {
         Ok(Place {
             path: self.path.clone()?,
@@ -70,6 +71,7 @@ impl Place {
         })
     }
 
+    /// Returns the path, links followed.
     pub fn path(&self) -> &str {
         self.path.as_str()
     }
@@ -79,6 +81,7 @@ impl Place {
         self.mode
     }
 
+    /// Returns the path of the folder that the name is in.
     pub fn folder(&self) -> &str {
         folder_of(self.path.as_str())
     }

@@ -1,5 +1,6 @@
 //! What the arguments of the command line ask for.
 
+use crate::best::{BestSearch, best_command, best_request};
 use crate::parts::{PartSearch, parts_command, parts_request};
 use crate::showing::{Showing, showing_of, with_showing};
 use crate::sums::{sum_command, sum_request};
@@ -89,7 +90,14 @@ pub enum Request<'a> {
     Parts {
         instance: &'a str,
         folder: &'a str,
+        solution: Option<&'a str>,
         search: PartSearch,
+        showing: Showing,
+    },
+    Best {
+        instance: &'a str,
+        folder: &'a str,
+        search: BestSearch,
         showing: Showing,
     },
     Report {
@@ -100,7 +108,7 @@ pub enum Request<'a> {
 }
 
 /// The toolchain that proves and builds the program, as `rt version` names it.
-const VERSION: &str = "0.1 (rattle-kit-13b logic dac8208d650f15bf)";
+const VERSION: &str = "0.1 (rattle-kit-13f logic dac8208d650f15bf)";
 
 /// A file that has to be named.
 fn file<'a>(alloc: Global, id: &'a str, help: &'a str) -> Arg<'a> {
@@ -302,6 +310,7 @@ fn command<'a>(alloc: Global) -> Result<Command<'a>, AllocError> {
         .subcommand(upgrade_command(alloc)?)?
         .subcommand(solve_command(alloc)?)?
         .subcommand(parts_command(alloc)?)?
+        .subcommand(best_command(alloc)?)?
         .subcommand(report_command(alloc)?)
 }
 
@@ -416,6 +425,7 @@ pub fn parse_arguments<'a>(
         "upgrade" => upgrade_request(found),
         "solve" => solve_request(found),
         "parts" => parts_request(found),
+        "best" => best_request(found),
         "report" => report_request(found),
         _ => None,
     })

@@ -2,10 +2,12 @@
 #![tactic(auto)]
 
 mod arguments;
+mod best;
 mod parts;
 mod showing;
 mod sums;
 
 pub use arguments::{MAX_NODES, Request, Search, TreeSearch, parse_arguments};
+pub use best::BestSearch;
 pub use parts::PartSearch;
 pub use showing::Showing;

@@ -20,7 +20,7 @@ fn proofs<'a>(alloc: Global) -> Arg<'a> {
         .action(ArgAction::Append)
         .num_args(0..)
         .help(
-            "Proofs of lower bounds, no two of which claim one target: CTTP files, of either version",
+            "Proofs of lower bounds, no two of which claim one target: tree proofs (CTTP, of either version) and files of groups (CTTG)",
         )
 }
 
@@ -28,7 +28,7 @@ fn proofs<'a>(alloc: Global) -> Arg<'a> {
 pub fn sum_command<'a>(alloc: Global) -> Result<Command<'a>, AllocError> {
     let command = Command::new(alloc, "sum")
         .about("Checks proofs of lower bounds that add up, and prints their sum")
-        .after_help("Example: tt sum week.ctt --solution week.sol rooms.proof days.proof")
+        .after_help("Example: tt sum week.ctt --solution week.sol groups.proof rooms.proof")
         .arg(instance(alloc))?
         .arg(solution_option(alloc))?
         .arg(proofs(alloc))?;

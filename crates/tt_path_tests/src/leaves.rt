@@ -12,8 +12,8 @@ use tt_instance::read_instance;
 use tt_leaf_rules::{
     Bound, Claim, ClaimList, CourseList, Leaf, RuleFault, claim_value, holds, leaf_value,
 };
-use tt_paths::{Path, PlainPath, Who};
-use tt_samples::{APART, GAP};
+use tt_paths::{Path, Pattern, PlainPath, Who};
+use tt_samples::{APART, GAP, MINI, SAME, WIDE};
 
 /// Puts Gap's courses into its first and its last period; whether the path took both facts.
 fn pin_both<'i, P: Path<'i>>(path: &mut P) -> bool {
@@ -101,6 +101,88 @@ fn pinned_verdicts<'i, P: Path<'i>>(
     }))
 }
 
+/// What the claim of seats of the second course comes to where it stands twice; nothing where there is no such course.
+fn twice_judged<'i, P: Path<'i>>(
+    alloc: Global,
+    path: &P,
+    bound: Bound,
+) -> Result<Option<Result<(), RuleFault>>, AllocError> {
+    if path.instance().courses() < 2 {
+        return Ok(None);
+    }
+    let leaf = seats_twice(alloc)?;
+    Ok(Some(holds(path, &leaf, bound)))
+}
+
+/// The leaf of that claim twice.
+fn seats_twice(alloc: Global) -> Result<Leaf, AllocError>
+    ensures { IfOk result (λ leaf. leaf ≡ Leaf.Cost (Claim.Capacity 1 1 ∷ Claim.Capacity 1 1 ∷ [])) }
+{
+    let first = Claim::Capacity {
+        course: 1,
+        price: 1,
+    };
+    let second = Claim::Capacity {
+        course: 1,
+        price: 1,
+    };
+    let claims = vec![in alloc; first, second]?;
+    Ok(Leaf::Cost(ClaimList::new(claims)))
+}
+
+/// The leaf of a claim of the first course's working days.
+fn days_alone(alloc: Global) -> Result<Leaf, AllocError>
+    ensures { IfOk result (λ leaf. leaf ≡ Leaf.Cost (Claim.Days 0 ∷ [])) }
+{
+    let claims = vec![in alloc; Claim::Days(0)]?;
+    Ok(Leaf::Cost(ClaimList::new(claims)))
+}
+
+/// What that leaf comes to; nothing where there is no course.
+fn days_judged<'i, P: Path<'i>>(
+    alloc: Global,
+    path: &P,
+    bound: Bound,
+) -> Result<Option<Result<(), RuleFault>>, AllocError> {
+    if path.instance().courses() == 0 {
+        return Ok(None);
+    }
+    let leaf = days_alone(alloc)?;
+    Ok(Some(holds(path, &leaf, bound)))
+}
+
+/// What a Many leaf of the first course comes to; nothing where there is no course.
+fn many_judged<'i, P: Path<'i>>(path: &P) -> Option<Result<(), RuleFault>> {
+    if path.instance().courses() == 0 {
+        return None;
+    }
+    Some(holds(path, &Leaf::Many(0), Bound::AtLeast(1)))
+}
+
+/// What an Empty leaf of the first course in the first period comes to; nothing where the instance has no such cell.
+fn empty_judged<'i, P: Path<'i>>(path: &P) -> Option<Result<(), RuleFault>> {
+    let instance = path.instance();
+    if instance.courses() == 0 || instance.days() == 0 || instance.periods() == 0 {
+        return None;
+    }
+    let pattern = Pattern {
+        who: Who::Course(0),
+        room: None,
+        day: Some(0),
+        period: Some(0),
+    };
+    Some(holds(path, &Leaf::Empty(pattern), Bound::AtLeast(1)))
+}
+
+/// What it comes to on an empty path, and once its fact stands there.
+fn emptied<'i, P: Path<'i>>(
+    path: &mut P,
+) -> (Option<Result<(), RuleFault>>, Option<Result<(), RuleFault>>) {
+    let before = empty_judged(path);
+    let _pinned = pushed(path, fact_in_period(Who::Course(0), 0, true));
+    (before, empty_judged(path))
+}
+
 /// A leaf of a list of courses.
 #[derive(Clone, Copy)]
 enum List {
@@ -145,6 +227,10 @@ enum Question<'a> {
     Pinned,
     Courses(List, &'a [u32]),
     OneCourse,
+    Twice,
+    Days(Bound),
+    Many,
+    Emptied,
 }
 
 /// What it answers.
@@ -152,7 +238,7 @@ enum Question<'a> {
 enum Told {
     Pinned(Option<Verdicts>),
     Courses(Option<Result<(), RuleFault>>),
-    OneCourse(Option<Result<(), RuleFault>>, Option<Result<(), RuleFault>>),
+    Before(Option<Result<(), RuleFault>>, Option<Result<(), RuleFault>>),
 }
 
 fn ask<'i, P: Path<'i>>(
@@ -167,7 +253,14 @@ fn ask<'i, P: Path<'i>>(
         }
         Question::OneCourse => {
             let (before, after) = clique_judged(alloc, path)?;
-            Ok(Told::OneCourse(before, after))
+            Ok(Told::Before(before, after))
+        }
+        Question::Twice => Ok(Told::Courses(twice_judged(alloc, path, Bound::AtLeast(2))?)),
+        Question::Days(bound) => Ok(Told::Courses(days_judged(alloc, path, bound)?)),
+        Question::Many => Ok(Told::Courses(many_judged(path))),
+        Question::Emptied => {
+            let (before, after) = emptied(path);
+            Ok(Told::Before(before, after))
         }
     }
 }
@@ -195,22 +288,63 @@ fn claims_of_two_pinned_courses(rt: HostRuntime) -> Result<(), Fail> {
 
 #[test]
 fn lists_of_courses(rt: HostRuntime) -> Result<(), Fail> {
-    for (list, courses, fault) in [
-        (List::Slots, [0, 0].as_slice(), RuleFault::ClaimedTwice),
-        (List::Slots, &[], RuleFault::EnoughRoom),
-        (List::Clique, &[], RuleFault::NotAClique),
-        (List::Clique, &[0, 1], RuleFault::NotAClique),
+    for (text, list, courses, verdict) in [
+        (
+            APART,
+            List::Slots,
+            [0, 0].as_slice(),
+            Err(RuleFault::ClaimedTwice),
+        ),
+        (APART, List::Slots, &[], Err(RuleFault::EnoughRoom)),
+        (APART, List::Slots, &[0, 1], Ok(())),
+        (APART, List::Clique, &[], Err(RuleFault::NotAClique)),
+        (APART, List::Clique, &[0, 1], Err(RuleFault::NotAClique)),
+        (SAME, List::Clique, &[0, 1], Ok(())),
+        (MINI, List::Clique, &[0], Err(RuleFault::EnoughRoom)),
     ] {
-        let told = Told::Courses(Some(Err(fault)));
+        let told = Told::Courses(Some(verdict));
         let question = Question::Courses(list, courses);
-        assert_eq!(rt; answers(rt.alloc(), APART, question)?, (told, told));
+        assert_eq!(rt; answers(rt.alloc(), text, question)?, (told, told));
     }
     Ok(())
 }
 
 #[test]
+fn claims_and_single_courses(rt: HostRuntime) -> Result<(), Fail> {
+    for (text, question, verdict) in [
+        (MINI, Question::Twice, Err(RuleFault::ClaimedTwice)),
+        (WIDE, Question::Days(Bound::AtLeast(5)), Ok(())),
+        (
+            WIDE,
+            Question::Days(Bound::AtLeast(6)),
+            Err(RuleFault::TooCheap),
+        ),
+        (
+            WIDE,
+            Question::Days(Bound::Nothing),
+            Err(RuleFault::NoBound),
+        ),
+        (MINI, Question::Many, Err(RuleFault::NotTooMany)),
+    ] {
+        let told = Told::Courses(Some(verdict));
+        assert_eq!(rt; answers(rt.alloc(), text, question)?, (told, told));
+    }
+    Ok(())
+}
+
+#[test]
+fn a_pattern_that_has_cells(rt: HostRuntime) -> Result<(), Fail> {
+    let told = Told::Before(
+        Some(Err(RuleFault::NotOnPath)),
+        Some(Err(RuleFault::StillAlive)),
+    );
+    assert_eq!(rt; answers(rt.alloc(), MINI, Question::Emptied)?, (told, told));
+    Ok(())
+}
+
+#[test]
 fn a_clique_of_one(rt: HostRuntime) -> Result<(), Fail> {
-    let told = Told::OneCourse(Some(Err(RuleFault::EnoughRoom)), Some(Ok(())));
+    let told = Told::Before(Some(Err(RuleFault::EnoughRoom)), Some(Ok(())));
     assert_eq!(rt;
         answers(rt.alloc(), GAP, Question::OneCourse)?,
         (told, told)

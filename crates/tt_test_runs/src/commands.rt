@@ -3,7 +3,7 @@
 use std::alloc::Global;
 use std::rt::{Clock, Files};
 use std::test::Fail;
-use tt_app::run;
+use tt_app_run::run;
 use tt_test_files::{Disk, StoredFile};
 
 /// The status of a run, and what it wrote.

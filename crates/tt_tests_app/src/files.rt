@@ -4,7 +4,7 @@ use std::alloc::{AllocError, Global};
 use std::io;
 use std::io::{Error, ErrorKind, Write};
 use std::test::Fail;
-use tt_app::run;
+use tt_app_run::run;
 use tt_samples::{GAP, GAP_PROOF, MINI_SOLUTION, WIDE, WIDE_SOLUTION};
 use tt_test_files::{Disk, MemoryFiles, Refusal, StoredFile};
 use tt_test_runs::{run_on, run_with};

@@ -2,6 +2,8 @@
 #![tactic(auto)]
 
 #[cfg(test)]
+mod best;
+#[cfg(test)]
 mod files;
 #[cfg(test)]
 mod improving;

@@ -2,7 +2,7 @@
 
 use std::alloc::Global;
 use std::test::Fail;
-use tt_samples::{GAP, MINI};
+use tt_samples::{FLAT, GAP};
 use tt_test_files::{MemoryFiles, Refusal};
 use tt_test_runs::{Outcome, run_on};
 
@@ -16,20 +16,20 @@ fn parts_that_add_up(rt: HostRuntime) -> Result<(), Fail> {
     let memory = MemoryFiles::new(rt.alloc(), Refusal::Nothing);
     memory.put("a.ctt", GAP)?;
     let outcome = parted(rt.alloc(), &memory)?;
-    assert_eq!(rt; outcome.answer(), (0, "bound 4 parts 1\n", ""));
-    let words = ["sum", "a.ctt", "found/part01.proof"];
+    assert_eq!(rt; outcome.answer(), (0, "bound 5 parts 2\n", ""));
+    let words = ["sum", "a.ctt", "found/groups.proof", "found/rooms.proof"];
     let sum = run_on(rt.alloc(), &words, &memory)?;
-    assert_eq!(rt; sum.answer(), (0, "bound 4\n", ""));
+    assert_eq!(rt; sum.answer(), (0, "bound 5\n", ""));
     Ok(())
 }
 
 #[test]
 fn an_instance_without_parts(rt: HostRuntime) -> Result<(), Fail> {
     let memory = MemoryFiles::new(rt.alloc(), Refusal::Nothing);
-    memory.put("a.ctt", MINI)?;
+    memory.put("a.ctt", FLAT)?;
     let outcome = parted(rt.alloc(), &memory)?;
     assert_eq!(rt; outcome.answer(), (0, "bound 0 parts 0\n", ""));
-    assert_eq!(rt; memory.text("found/part01.proof")?.is_some(), false);
+    assert_eq!(rt; memory.text("found/groups.proof")?.is_some(), false);
     Ok(())
 }
 
@@ -50,10 +50,10 @@ fn parts_that_cannot_be_written(rt: HostRuntime) -> Result<(), Fail> {
     for refusal in [Refusal::NewFiles, Refusal::Writes, Refusal::Renames] {
         let memory = MemoryFiles::new(rt.alloc(), refusal);
         memory.put("a.ctt", GAP)?;
-        memory.put("found/part01.proof", "older")?;
+        memory.put("found/groups.proof", "older")?;
         let outcome = parted(rt.alloc(), &memory)?;
         assert_eq!(rt; outcome.answer(), (2, "", "refused: cannot write\n"));
-        let kept = memory.text("found/part01.proof")?;
+        let kept = memory.text("found/groups.proof")?;
         assert!(rt; kept.is_some_and(|text| text.as_str() == "older"));
         assert_eq!(rt; memory.count(), 2);
     }

@@ -52,19 +52,30 @@ fn kinds_that_are_none(rt: HostRuntime) -> Result<(), Fail> {
     Ok(())
 }
 
-/// Takes one byte a write, and fails, or takes none, at the write `stops_at`, counted from 1.
+/// Takes one byte a write, and none at the write `stops_at`, counted from 1, which fails or answers so.
 #[derive(Drop)]
 pub struct Narrow {
     bytes: Vec<u8>,
     stops_in: usize,
+    fails: bool,
 }
 
 impl Narrow {
-    /// One that has taken nothing.
+    /// One that has taken nothing, and will answer that it takes nothing.
     pub fn new(alloc: Global, stops_at: usize) -> Self {
         Narrow {
             bytes: Vec::new(alloc),
             stops_in: stops_at,
+            fails: false,
+        }
+    }
+
+    /// One that has taken nothing, and will fail.
+    pub fn failing(alloc: Global, stops_at: usize) -> Self {
+        Narrow {
+            bytes: Vec::new(alloc),
+            stops_in: stops_at,
+            fails: true,
         }
     }
 
@@ -77,6 +88,9 @@ impl Narrow {
 impl Write for Narrow {
     fn write(&mut self, bytes: &[u8]) -> io::Result<usize> {
         self.stops_in = self.stops_in.saturating_sub(1);
+        if self.stops_in == 0 && self.fails {
+            return Err(Error::from(ErrorKind::BrokenPipe));
+        }
         if self.stops_in == 0 {
             return Ok(0);
         }
@@ -135,21 +149,35 @@ fn an_interrupted_write_has_failed(rt: HostRuntime) {
     assert!(rt; interrupted.bytes.is_empty());
 }
 
+/// What `report` answers over a writer, and whether the sink had failed then.
+fn reported_to(alloc: Global, narrow: &mut Narrow) -> (Result<u8, AppFault>, bool) {
+    let mut sink = Writing::new(narrow);
+    let answer = report(
+        alloc,
+        MINI.as_bytes(),
+        SOLUTION.as_bytes(),
+        By::Room,
+        &mut sink,
+    );
+    (answer, sink.failed())
+}
+
 #[test]
-fn writes_that_stop(rt: HostRuntime) -> Result<(), Fail> {
+fn writes_that_take_nothing(rt: HostRuntime) {
     for stops_at in 1..=BY_ROOM.len() {
         let mut narrow = Narrow::new(rt.alloc(), stops_at);
-        let mut sink = Writing::new(&mut narrow);
-        let answer = report(
-            rt.alloc(),
-            MINI.as_bytes(),
-            SOLUTION.as_bytes(),
-            By::Room,
-            &mut sink,
-        );
-        assert_eq!(rt; answer, Err(AppFault::CannotWrite));
-        assert!(rt; sink.failed());
+        let answer = reported_to(rt.alloc(), &mut narrow);
+        assert_eq!(rt; answer, (Err(AppFault::CannotWrite), true));
         assert_eq!(rt; narrow.bytes(), &BY_ROOM.as_bytes()[..stops_at - 1]);
     }
-    Ok(())
+}
+
+#[test]
+fn writes_that_fail(rt: HostRuntime) {
+    for stops_at in 1..=BY_ROOM.len() {
+        let mut narrow = Narrow::failing(rt.alloc(), stops_at);
+        let answer = reported_to(rt.alloc(), &mut narrow);
+        assert_eq!(rt; answer, (Err(AppFault::CannotWrite), true));
+        assert_eq!(rt; narrow.bytes(), &BY_ROOM.as_bytes()[..stops_at - 1]);
+    }
 }

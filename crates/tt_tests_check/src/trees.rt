@@ -8,7 +8,7 @@ use tt_leaf_rules::{Bound, Leaf, RuleFault};
 use tt_paths::{Pattern, Who};
 use tt_proof_check::{CheckFault, NodesFault, check_nodes};
 use tt_proof_read::{Node, TextFault};
-use tt_samples::{APART, CROWDED, GAP, GAP_PROOF, MINI, SAME, SEATS, WIDE, edited};
+use tt_samples::{APART, CROWDED, GAP, GAP_PROOF, MINI, SAME, SEATS, TOUR, WIDE, edited, repeated};
 use tt_test_files::StoredFile;
 use tt_test_runs::{Outcome, checked, run_with};
 use tt_text::{FeedFault, Pieces};
@@ -126,6 +126,23 @@ fn bounds_that_hold(rt: HostRuntime) -> Result<(), Fail> {
             "CTTP 1 bound 4096000000 B C c0 1000000 ; end",
             "bound 4096000000\n",
         ),
+        // A leaf that is empty, one of too many periods, rooms of a course, and a curriculum's pattern.
+        (
+            GAP,
+            "CTTP 1 bound 0 S c0 * d0 p1 E c0 * d0 p1 B ; end",
+            "bound 0\n",
+        ),
+        (
+            MINI,
+            "CTTP 1 bound 0 S c0 * d0 p0 S c0 * d0 p1 M c0 B ; B ; end",
+            "bound 0\n",
+        ),
+        (
+            TOUR,
+            "CTTP 1 bound 0 S c0 r0 * * S c0 r1 * * B R c0 ; B ; B ; end",
+            "bound 0\n",
+        ),
+        (MINI, "CTTP 1 bound 0 S q0 * d0 p0 B ; B ; end", "bound 0\n"),
     ] {
         let outcome = bounded(rt.alloc(), instance, proof)?;
         assert_eq!(rt; outcome.answer(), (0, out, ""), "of {proof}");
@@ -219,6 +236,19 @@ fn a_second_child_that_is_wrong(rt: HostRuntime) -> Result<(), Fail> {
         };
         let told = format!(in rt.alloc(); "refused: proof: {fault} at node {node}\n")?;
         assert_eq!(rt; outcome.answer(), (2, "", told.as_str()));
+    }
+    Ok(())
+}
+
+#[test]
+fn splits_below_one_another(rt: HostRuntime) -> Result<(), Fail> {
+    for (splits, fault) in [
+        (65_536, "UnknownWord at byte 851987"),
+        (65_537, "TooDeep at node 65537"),
+    ] {
+        let nested = repeated(rt.alloc(), "S c0 * d0 p0 ", splits)?;
+        let proof = format!(in rt.alloc(); "CTTP 1 bound 0 {nested}B ; end")?;
+        assert!(rt; is_refused(rt.alloc(), MINI, &proof, fault)?, "{splits}");
     }
     Ok(())
 }

@@ -145,6 +145,32 @@ fn a_feed_after_its_fault(rt: HostRuntime) -> Result<(), Fail> {
     Ok(())
 }
 
+/// Whether a reader gives a node.
+fn gives_node(reader: &mut NodeReader, source: &mut Pieces<'_>) -> Result<bool, TextFault> {
+    Ok(reader.next_node(source)?.is_some())
+}
+
+/// What a reader says twice of a node whose text is cut off by a read that fails once.
+fn said_of_node(
+    alloc: Global,
+    instance: &Instance<'_>,
+) -> Result<[Result<bool, TextFault>; 2], TextFault> {
+    let mut source = Pieces::new(b"CTTP 1 bound 0 B ; end", 16, 2);
+    let mut reader = NodeReader::new(alloc, instance, &mut source)?;
+    Ok([
+        gives_node(&mut reader, &mut source),
+        gives_node(&mut reader, &mut source),
+    ])
+}
+
+#[test]
+fn a_proof_reader_after_a_failed_read(rt: HostRuntime) -> Result<(), Fail> {
+    let instance = read_instance(rt.alloc(), MINI.as_bytes())?;
+    let failed = Err(TextFault::Feed(FeedFault::Read));
+    assert_eq!(rt; said_of_node(rt.alloc(), &instance), Ok([failed, failed]));
+    Ok(())
+}
+
 /// What a reader of a proof of one leaf says at its end.
 #[derive(Clone, Copy, Debug, PartialEq, Eq)]
 struct Ending {

@@ -66,6 +66,16 @@ fn is_found(alloc: Global, instance: &Instance<'_>, bound: Bound) -> Result<bool
     Ok(find_leaf(alloc, &path, bound)?.is_some())
 }
 
+/// The same on a path with tables.
+fn is_found_by_tables(
+    alloc: Global,
+    instance: &Instance<'_>,
+    bound: Bound,
+) -> Result<bool, AllocError> {
+    let path = TrailPath::new(alloc, instance)?;
+    Ok(find_leaf(alloc, &path, bound)?.is_some())
+}
+
 #[test]
 fn the_call_find_leaf_that_finds_one(rt: HostRuntime) -> Result<(), Fail> {
     let instance = read_instance(rt.alloc(), GAP.as_bytes())?;
@@ -81,6 +91,26 @@ fn the_call_find_leaf_that_finds_none(rt: HostRuntime) -> Result<(), Fail> {
     let instance = read_instance(rt.alloc(), GAP.as_bytes())?;
     println!(rt; "{MARK}")?;
     let found = is_found(rt.alloc(), &instance, Bound::AtLeast(2));
+    println!(rt; "{MARK}")?;
+    assert_eq!(rt; found?, false);
+    Ok(())
+}
+
+#[test]
+fn the_call_find_leaf_on_trail_paths(rt: HostRuntime) -> Result<(), Fail> {
+    let instance = read_instance(rt.alloc(), GAP.as_bytes())?;
+    println!(rt; "{MARK}")?;
+    let found = is_found_by_tables(rt.alloc(), &instance, Bound::AtLeast(1));
+    println!(rt; "{MARK}")?;
+    assert_eq!(rt; found?, true);
+    Ok(())
+}
+
+#[test]
+fn the_call_find_leaf_that_finds_none_on_trail_paths(rt: HostRuntime) -> Result<(), Fail> {
+    let instance = read_instance(rt.alloc(), GAP.as_bytes())?;
+    println!(rt; "{MARK}")?;
+    let found = is_found_by_tables(rt.alloc(), &instance, Bound::AtLeast(2));
     println!(rt; "{MARK}")?;
     assert_eq!(rt; found?, false);
     Ok(())

@@ -87,9 +87,11 @@ fn the_call_construct(rt: HostRuntime) -> Result<(), Fail> {
 fn the_call_descend(rt: HostRuntime) -> Result<(), Fail> {
     let instance = read_instance(rt.alloc(), MINI.as_bytes())?;
     let table = read_solution(rt.alloc(), &instance, MINI_SOLUTION.as_bytes())?;
+    let copy = table.copy()?;
     println!(rt; "{MARK}")?;
     let descent = descend(rt.alloc(), &instance, table, 10);
     println!(rt; "{MARK}")?;
+    assert_eq!(rt; copy.entries(), ENTRIES.as_slice());
     let descent = descent?;
     assert_eq!(rt;
         (descent.settled, score(&instance, &descent.table).cost()),
@@ -102,9 +104,11 @@ fn the_call_descend(rt: HostRuntime) -> Result<(), Fail> {
 fn the_call_improve(rt: HostRuntime) -> Result<(), Fail> {
     let instance = read_instance(rt.alloc(), MINI.as_bytes())?;
     let table = read_solution(rt.alloc(), &instance, MINI_SOLUTION.as_bytes())?;
+    let copy = table.copy()?;
     println!(rt; "{MARK}")?;
     let better = improve(rt.alloc(), &instance, table, 1, 100);
     println!(rt; "{MARK}")?;
+    assert_eq!(rt; copy.entries(), ENTRIES.as_slice());
     assert_eq!(rt; score(&instance, &better?).cost(), 1);
     Ok(())
 }

@@ -4,7 +4,8 @@ use std::alloc::Global;
 use std::test::Fail;
 use tt_instance::read_instance;
 use tt_leaf_rules::Bound;
-use tt_parts::find_parts;
+use tt_parts::{Effort, find_parts};
+use tt_peek::Peeked;
 use tt_samples::{GAP, MINI, WIDE};
 use tt_sum::sum_proofs;
 use tt_text::Pieces;
@@ -20,18 +21,18 @@ const CHAIN: &str =
 
 fn found(alloc: Global, text: &str, nodes: u32) -> Result<(Bound, Vec<Vec<u8>>), Fail> {
     let instance = read_instance(alloc, text.as_bytes())?;
-    let parts = find_parts(alloc, &instance, nodes, 1)?;
+    let parts = find_parts(alloc, &instance, Effort { nodes, seed: 1 })?;
     Ok((parts.bound, parts.proofs))
 }
 
 #[test]
 fn what_parts_come_to(rt: HostRuntime) -> Result<(), Fail> {
     for (text, bound, proofs) in [
-        (PAIR, 8, 2),
+        (PAIR, 8, 1),
         (CHAIN, 5, 1),
-        (GAP, 4, 1),
-        (WIDE, 0, 0),
-        (MINI, 0, 0),
+        (GAP, 5, 2),
+        (WIDE, 5, 1),
+        (MINI, 1, 1),
     ] {
         let (sum, texts) = found(rt.alloc(), text, 5_000)?;
         assert_eq!(rt;
@@ -57,7 +58,7 @@ fn the_same_seed_finds_the_same(rt: HostRuntime) -> Result<(), Fail> {
 
 #[test]
 fn few_nodes_find_less(rt: HostRuntime) -> Result<(), Fail> {
-    for (nodes, bound) in [(0, 0), (1, 0), (2_000, 8)] {
+    for (nodes, bound) in [(0, 0), (2_000, 8)] {
         let (sum, _) = found(rt.alloc(), PAIR, nodes)?;
         assert_eq!(rt; sum, Bound::AtLeast(bound), "{nodes}");
     }
@@ -70,7 +71,8 @@ fn the_texts_add_up(rt: HostRuntime) -> Result<(), Fail> {
     let (sum, texts) = found(rt.alloc(), PAIR, 2_000)?;
     let mut sources = Vec::new(rt.alloc());
     for text in &texts {
-        sources.push(Pieces::new(text.as_slice(), 7, 0))?;
+        let pieces = Pieces::new(text.as_slice(), 7, 0);
+        sources.push(Peeked::new(rt.alloc(), pieces))?;
     }
     assert_eq!(rt;
         sum_proofs(rt.alloc(), &instance, sources.as_mut_slice()),

@@ -1,19 +1,23 @@
 //! The call `parts`.
 
-ghost use Rattle.std.specs.Prelude.{◌≡◌, IfOk, IfErr, MatchResult, ⊤};
+ghost use Rattle.std.specs.Prelude.{◌≡◌, ℕ, List, IfOk, IfErr, MatchResult, ⊤};
 ghost use Rattle.tt_instance.specs.Problem.{Problem};
 ghost use Rattle.tt_instance.specs.Spelling.{Spells};
+ghost use Rattle.tt_instance.specs.declared.cell.Cell.{Cell};
+ghost use Rattle.tt_proof_check.specs.Headline.{SpellsBoth};
 ghost use Rattle.tt_app.specs.Lines.{parts_line};
 ghost use Rattle.tt_app.specs.Parted.{IsParted, IsPartsRefusal};
+ghost use Rattle.tt_app.specs.Validated.{IsFileRefusal};
 ghost use Rattle.tt_app.specs.declared.fault.AppFault.TheVariants as fault;
 
 use crate::calls::solve::put_bound;
 use crate::fault::AppFault;
 use std::alloc::{AllocError, Global};
-use tt_instance::read_instance;
+use tt_instance::{Instance, read_instance};
 use tt_leaf_rules::Bound;
-use tt_parts::{Parts, find_parts_watched};
+use tt_parts::{Effort, Parts, find_parts_watched};
 use tt_search::{Unwatched, Watch};
+use tt_table::{Entry, read_solution};
 use tt_text::{put_line_end, put_number, put_token};
 
 /// What `parts` prints, and the texts of the proofs that it writes.
@@ -21,6 +25,7 @@ use tt_text::{put_line_end, put_number, put_token};
 pub struct PartsAnswer {
     /// The text for standard output.
     pub out: Vec<u8>,
+    /// A file of groups comes first, if there is one; the others are tree proofs.
     pub proofs: Vec<Vec<u8>>,
 }
 
@@ -37,36 +42,69 @@ fn line_of(alloc: Global, bound: Bound, count: u64) -> Result<Vec<u8>, AllocErro
     Ok(out)
 }
 
+/// Searches for proofs about an instance that was read, guided by the entries of a timetable, or by none.
+fn answer_of<W: Watch>(
+    alloc: Global,
+    instance: &Instance<'_>,
+    effort: Effort,
+    guide: &[Entry],
+    watch: &mut W,
+) -> Result<PartsAnswer, AllocError>
+    ensures { IfOk result (λ a. (i : List ℕ) → Spells i instance.now → IsParted i a) }
+{
+    let Parts { proofs, bound } = find_parts_watched(alloc, instance, effort, guide, watch)?;
+    let out = line_of(alloc, bound, proofs.as_slice().len() as u64)?;
+    Ok(PartsAnswer { out, proofs })
+}
+
 /// Searches for proofs as `parts` does, and shows the search to a watch.
 pub fn parts_watched<W: Watch>(
     alloc: Global,
     instance: &[u8],
-    seed: u64,
-    nodes: u32,
+    effort: Effort,
     watch: &mut W,
 ) -> Result<PartsAnswer, AppFault>
-    // What is answered adds up, and holds.
+    // The proofs of the answer add up, and their sum holds.
     ensures found { IfOk result (IsParted instance.now) }
-    // A refusal tells the first fault.
+    // A refusal names the first fault.
     ensures fault { IfErr result (IsPartsRefusal instance.now) }
     // What is spelled is answered, unless memory runs out.
     ensures only { (p : Problem) → Spells instance.now p → MatchResult result (λ _. ⊤) (λ f. f ≡ fault.OutOfMemory) }
 {
     let instance = read_instance(alloc, instance)?;
-    let Parts { proofs, bound } = find_parts_watched(alloc, &instance, nodes, seed, watch)?;
-    let out = line_of(alloc, bound, proofs.as_slice().len() as u64)?;
-    Ok(PartsAnswer { out, proofs })
+    Ok(answer_of(alloc, &instance, effort, &[], watch)?)
 }
 
-/// Searches for proofs of lower bounds that add up, with at most this many nodes of their trees opened, and answers them and their sum.
-/// Which ones it finds is not promised.
-pub fn parts(alloc: Global, instance: &[u8], seed: u64, nodes: u32) -> Result<PartsAnswer, AppFault>
-    // What is answered adds up, and holds.
+/// Searches for proofs as `parts` does, guided by a solution: no group is tried that would have to be worth more than it costs there. It shows
+/// the search to a watch.
+pub fn guided_parts_watched<W: Watch>(
+    alloc: Global,
+    instance: &[u8],
+    solution: &[u8],
+    effort: Effort,
+    watch: &mut W,
+) -> Result<PartsAnswer, AppFault>
+    // The proofs of the answer add up, and their sum holds.
     ensures found { IfOk result (IsParted instance.now) }
-    // A refusal tells the first fault.
+    // A refusal names the first fault.
+    ensures fault { IfErr result (IsFileRefusal instance.now solution.now) }
+    // What is spelled is answered, unless memory runs out.
+    ensures only { (p : Problem) (t : List Cell) → SpellsBoth instance.now solution.now p t →
+        MatchResult result (λ _. ⊤) (λ f. f ≡ fault.OutOfMemory) }
+{
+    let instance = read_instance(alloc, instance)?;
+    let table = read_solution(alloc, &instance, solution)?;
+    Ok(answer_of(alloc, &instance, effort, table.entries(), watch)?)
+}
+
+/// Searches for proofs of lower bounds that add up, and answers them and their sum. Which ones it finds is not promised.
+pub fn parts(alloc: Global, instance: &[u8], effort: Effort) -> Result<PartsAnswer, AppFault>
+    // The proofs of the answer add up, and their sum holds.
+    ensures found { IfOk result (IsParted instance.now) }
+    // A refusal names the first fault.
     ensures fault { IfErr result (IsPartsRefusal instance.now) }
     // What is spelled is answered, unless memory runs out.
     ensures only { (p : Problem) → Spells instance.now p → MatchResult result (λ _. ⊤) (λ f. f ≡ fault.OutOfMemory) }
 {
-    parts_watched(alloc, instance, seed, nodes, &mut Unwatched)
+    parts_watched(alloc, instance, effort, &mut Unwatched)
 }

@@ -6,6 +6,7 @@ ghost use Rattle.tt_instance.specs.Spelling.{Spells};
 ghost use Rattle.tt_table.specs.Spelling.{solution_text};
 ghost use Rattle.tt_table.specs.Table.{IsTimetable};
 ghost use Rattle.tt_proof_read.specs.Trees.{IsPreorder};
+ghost use Rattle.tt_proof_text.specs.Within.{Writes};
 ghost use Rattle.tt_branch.specs.declared.limit.TheConstants.{MAX_OPENED};
 ghost use Rattle.tt_app.specs.Lines.{best_cost, bound_points, solve_line};
 ghost use Rattle.tt_app.specs.Solved.{IsProofFile, IsSolved, IsTextRefusal, IsSolveRefusal};
@@ -94,15 +95,33 @@ fn best_text(
     }
 }
 
-/// The text of a proof, in the least version that has its claims.
-fn least_text(alloc: Global, bound: Bound, nodes: &[Node]) -> Result<Vec<u8>, WriteFault>
+/// Writes a tree in version 2, which has all claims.
+fn second_text(alloc: Global, bound: Bound, nodes: &[Node]) -> Result<Vec<u8>, AppFault>
+    requires { IsPreorder nodes.now }
+    ensures text { IfOk result (λ v. Writes 2 bound nodes.now v.items) }
+    ensures fault { IfErr result (IsTextRefusal bound nodes.now) }
+{
+    match write_proof(alloc, 2, bound, nodes) {
+        Ok(text) => Ok(text),
+        Err(WriteFault::OverLimit) => Err(AppFault::ProofTooLarge),
+        Err(WriteFault::OutOfMemory) => Err(AppFault::OutOfMemory),
+        Err(WriteFault::NotATree) => unreachable!(),
+        Err(WriteFault::NotInVersion) => unreachable!(),
+    }
+}
+
+/// Writes a tree in the least version that has its claims.
+fn least_text(alloc: Global, bound: Bound, nodes: &[Node]) -> Result<Vec<u8>, AppFault>
     requires { IsPreorder nodes.now }
     ensures file { IfOk result (λ v. IsProofFile bound nodes.now v.items) }
     ensures fault { IfErr result (IsTextRefusal bound nodes.now) }
 {
     match write_proof(alloc, 1, bound, nodes) {
-        Err(WriteFault::NotInVersion) => write_proof(alloc, 2, bound, nodes),
-        written => written,
+        Ok(text) => Ok(text),
+        Err(WriteFault::NotInVersion) => second_text(alloc, bound, nodes),
+        Err(WriteFault::OverLimit) => Err(AppFault::ProofTooLarge),
+        Err(WriteFault::OutOfMemory) => Err(AppFault::OutOfMemory),
+        Err(WriteFault::NotATree) => unreachable!(),
     }
 }
 
@@ -161,8 +180,8 @@ pub fn solve_watched<W: Watch>(
     Ok(search_answer(alloc, &instance, &best, bound, finished, text)?)
 }
 
-/// Searches for a best timetable with at most this many nodes of the tree opened, and answers it with a proof of a lower bound; status 1
-/// where it found no timetable. Which nodes are opened is not promised.
+/// Searches for a best timetable by a tree, and answers it with a proof of a lower bound, of at most `nodes` nodes if each is closed, and of
+/// fewer than twice as many if not; status 1 if it found no timetable. Which nodes are opened is not promised.
 pub fn solve(alloc: Global, instance: &[u8], seed: u64, nodes: u32) -> Result<Answer, AppFault>
     requires some { 1 ≤ nodes }
     requires few { nodes ≤ MAX_OPENED }

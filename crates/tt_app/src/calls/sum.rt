@@ -4,12 +4,11 @@ ghost use Rattle.std.specs.Prelude.{◌≡◌, ◌+◌, ◌<◌, ◌^◌, ℕ, L
 ghost use Rattle.tt_instance.specs.Problem.{Problem};
 ghost use Rattle.tt_instance.specs.Spelling.{Spells};
 ghost use Rattle.tt_leaf_rules.specs.declared.leaf.Bound.{Bound};
-ghost use Rattle.tt_proof_check.specs.FailedReads.{IsSpelledAndJudgedUpToFailedRead};
 ghost use Rattle.tt_sum.specs.Added.{Give};
 ghost use Rattle.tt_sum.specs.Faults.{IsSumFault, all_points};
 ghost use Rattle.tt_sum.specs.Sums.{IsSum};
 ghost use Rattle.tt_app.specs.Bounded.{IsOfInstance};
-ghost use Rattle.tt_app.specs.Summed.{IsSummed, IsSumRefusal, AnswersSum, read_failed_at};
+ghost use Rattle.tt_app.specs.Summed.{IsSpelledAndFileJudgedUpToFailedRead, IsSummed, IsSumRefusal, AnswersSum, read_failed_at};
 ghost use Rattle.tt_app.specs.Told.{OutOfMemoryIsOneFault};
 
 use crate::answer::Answer;
@@ -17,8 +16,8 @@ use crate::calls::bound::bound_answer;
 use crate::fault::AppFault;
 use std::alloc::Global;
 use tt_instance::read_instance;
+use tt_peek::Peek;
 use tt_sum::{SumFault, sum_proofs};
-use tt_text::Source;
 
 impl From<SumFault> for AppFault {
     ghost use Rattle.std.specs.Prelude.{◌≡◌};
@@ -35,7 +34,7 @@ impl From<SumFault> for AppFault {
 }
 
 /// The sum of the lower bounds that proofs derive for an instance, no two of which claim one target.
-pub fn sum<R: Source>(alloc: Global, instance: &[u8], proofs: &mut [R]) -> Result<Answer, AppFault>
+pub fn sum<R: Peek>(alloc: Global, instance: &[u8], proofs: &mut [R]) -> Result<Answer, AppFault>
     // What is answered is the sum of what is derived, and holds.
     ensures found { IfOk result (IsSummed instance.now (Give R.remaining proofs.old)) }
     // A refusal tells the first fault.
@@ -51,7 +50,7 @@ pub fn sum<R: Source>(alloc: Global, instance: &[u8], proofs: &mut [R]) -> Resul
         R.has_failed q ≡ R.has_failed r }
     // Where one failed, all that the bytes of its proof before it say has been judged.
     ensures up_to_failed_read { (i : ℕ) (r q : R) (bytes : List ℕ) → result ≡ Err (read_failed_at (i + 1)) → slice_get proofs.old i ≡ Some r →
-        slice_get proofs.new i ≡ Some q → R.remaining r ≡ Some bytes → IsSpelledAndJudgedUpToFailedRead instance.now bytes (R.remaining q) }
+        slice_get proofs.new i ≡ Some q → R.remaining r ≡ Some bytes → IsSpelledAndFileJudgedUpToFailedRead instance.now bytes (R.remaining q) }
     // Being out of memory is one answer, wherever it comes from.
     ensures memory { IfErr result OutOfMemoryIsOneFault }
 {

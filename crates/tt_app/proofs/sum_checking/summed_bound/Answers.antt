@@ -1,6 +1,8 @@
-use Rattle.std.proofs.Common.{◌≡◌}
+use Rattle.std.proofs.Common.{◌≡◌, Err, ap}
 use Rattle.std.proofs.lemmas.Result.{err_from_is_err_and}
 use Rattle.tt_leaf_rules.specs.declared.leaf.Bound.TheVariants.{AtLeast}
+use Rattle.tt_proof_check.proofs.TextFaults.{err_same}
+use Rattle.tt_sum.specs.Faults.{read_failed_at}
 use Rattle.tt_app.proofs.sum_checking.summed_bound.Goals as goal
 
 pub returns-in_err-bound-clause-only : goal.returns-in_err-bound-clause-only
@@ -13,3 +15,9 @@ returns-clause-only g c =
     λ files b given h within.
     let is = c.in-AtLeast.is in
     let same : c.in_ok-bound.field-0 ≡ AtLeast b = c.in_ok-bound.ensures.only files (AtLeast b) given h within in cc
+
+pub returns-in_err-bound-clause-up_to_failed_read : goal.returns-in_err-bound-clause-up_to_failed_read
+returns-in_err-bound-clause-up_to_failed_read g c =
+    λ i r q bytes is_read was now known.
+    let is = err_same c.from_residual.result _ (read_failed_at _) c.from_residual.ensures.1 is_read in
+    c.in_err-bound.ensures.up_to_failed_read i r q bytes (ap (λ f. Err f) is) was now known

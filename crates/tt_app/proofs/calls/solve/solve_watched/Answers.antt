@@ -3,7 +3,7 @@ use Rattle.std.specs.Prelude.{option_map}
 use Rattle.std.proofs.lemmas.Result.{err_from_is_err_and}
 use Rattle.tt_proof_read.specs.declared.node.Node.{Node}
 use Rattle.tt_app.specs.Solved.{IsTextRefusal}
-use Rattle.tt_app.proofs.Searching.{best_fits, read_memory, tells_text}
+use Rattle.tt_app.proofs.Searching.{best_fits, read_memory, text_refusal, text_refused}
 use Rattle.tt_app.proofs.calls.solve.solve_watched.Goals as goal
 
 pub returns-in_err-instance-clause-only : goal.returns-in_err-instance-clause-only
@@ -17,6 +17,11 @@ search_answer-requires g c = best_fits c.in_ok-instance.instance c.in_ok-best.fi
 pub returns-in_err-text-clause-fault : goal.returns-in_err-text-clause-fault
 returns-in_err-text-clause-fault g c =
     let e = err_from_is_err_and c.from_residual-in_err-text.result c.from_residual-in_err-text.ensures.1 in
-    rw (e.1, e.2) (tells_text c.args.instance.now c.args.nodes c.in_ok-instance.instance c.in_ok-best.field-0.best c.in_ok-best.field-0.bound _ c.in-Some.nodes.items c.in_ok-best.field-0.finished c.in_err-text.field-0.0
+    rw (e.1, e.2) (text_refused c.args.instance.now c.args.nodes c.in_ok-instance.instance c.in_ok-best.field-0.best c.in_ok-best.field-0.bound _ c.in-Some.nodes.items c.in_ok-best.field-0.finished c.in_err-text.field-0.0
     c.in_ok-instance.ensures.found c.in_ok-best.ensures (ap (option_map (λ v. v.items)) c.in-Some.is)
     (subst (λ (ns : List Node). IsTextRefusal c.in_ok-best.field-0.bound ns c.in_err-text.field-0.0) c.deref.ensures.value c.in_err-text.ensures.fault))
+
+pub returns-in_err-text-clause-only : goal.returns-in_err-text-clause-only
+returns-in_err-text-clause-only g c =
+    let e = err_from_is_err_and c.from_residual-in_err-text.result c.from_residual-in_err-text.ensures.1 in
+    λ p spells. rw (e.1, e.2) (text_refusal c.in_ok-best.field-0.bound _ c.in_err-text.field-0.0 c.in_err-text.ensures.fault)

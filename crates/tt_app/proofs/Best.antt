@@ -1,0 +1,34 @@
+-- What `best` answers, from what its steps answered.
+use Rattle.std.proofs.Common.{◌≡◌, ◌≤◌, ℕ, List, sym, subst}
+use Rattle.tt_instance.specs.Problem.{Problem}
+use Rattle.tt_instance.specs.Spelling.{Spells}
+use Rattle.tt_instance.specs.declared.cell.Cell.{Cell}
+use Rattle.tt_table.specs.Spelling.{SpellsTable}
+use Rattle.tt_rules.specs.Score.{IsFeasible, cost}
+use Rattle.tt_leaf_rules.specs.declared.leaf.Bound.{Bound}
+use Rattle.tt_leaf_rules.specs.declared.leaf.Bound.TheVariants.{AtLeast}
+use Rattle.tt_proof_check.specs.Derives.{HoldsOfAll}
+use Rattle.tt_proof_check.specs.Headline.{BoundsAll}
+use Rattle.tt_proof_check.proofs.Files.{one_instance}
+use Rattle.tt_sum.specs.Sums.{IsSum}
+use Rattle.tt_app.specs.Summed.{CertifiesSum}
+
+-- the solution and the proofs certify a cost and a bound, which holds of every feasible timetable
+pub record IsWhole (instance solution : List ℕ) (files : List (List ℕ)) (c b : ℕ) : Type 0 where
+  pub certified : CertifiesSum instance solution files c b
+  pub bounds : BoundsAll instance b
+  pub within : b ≤ c
+
+-- so it is where the solution spells a feasible timetable of this cost, and the bound is the sum
+pub whole : (i s : List ℕ) (p : Problem) (t : List Cell) (files : List (List ℕ)) (sum : Bound) (c b : ℕ) → Spells i p → SpellsTable p s t → IsFeasible p t → c ≡ cost p t → IsSum p files sum → HoldsOfAll p sum
+    → sum ≡ AtLeast b → IsWhole i s files c b
+whole i s p t files sum c b spells solved feasible costs is holds e =
+    let here : HoldsOfAll p (AtLeast b) = subst (λ (x : Bound). HoldsOfAll p x) e holds in
+    record {
+      certified = record {
+        solves = record { problem = p; table = t; both = record { spelled = spells; solved = solved }; feasible = feasible; costs = sym costs };
+        sum = subst (λ (x : Bound). IsSum p files x) e is;
+      };
+      bounds = λ other read. subst (λ (x : Problem). HoldsOfAll x (AtLeast b)) (one_instance i p other spells read) here;
+      within = subst (λ (n : ℕ). b ≤ n) (sym costs) (here t feasible);
+    }

@@ -1,0 +1,23 @@
+use Rattle.std.proofs.Common.{refl}
+use Rattle.tt_parts.specs.Found.{texts_of}
+use Rattle.tt_app.proofs.Best.{whole}
+use Rattle.tt_app.proofs.calls.best.found_answer.Goals as goal
+
+pub returns : goal.returns
+returns c =
+    λ i spells.
+    let a = c.args in
+    let solution = c.in_ok-write_solution in
+    let is = whole i solution.field-0.items a.instance.now a.table.now (texts_of a.parts.proofs.items) a.parts.bound a.cost c.in-AtLeast.points
+    spells solution.ensures.again c.requires.feasible c.requires.cost c.requires.parts.sum c.requires.parts.holds c.in-AtLeast.is in
+    record {
+      solution = solution.field-0.items;
+      cost = a.cost;
+      bound = c.in-AtLeast.points;
+      certified = is.certified;
+      bounds = is.bounds;
+      within = is.within;
+      file = refl;
+      text = c.in_ok-found_line.ensures;
+      status = refl;
+    }

@@ -1,0 +1,39 @@
+-- What `best` answers of the bytes of an instance.
+use Rattle.std.specs.Prelude.{◌≡◌, ◌≤◌, ◌⊎◌, ℕ, List, None, IsSomeAnd}
+use Rattle.tt_instance.specs.Problem.{Problem}
+use Rattle.tt_instance.specs.Spelling.{Spells}
+use Rattle.tt_leaf_rules.specs.declared.leaf.Bound.{Bound}
+use Rattle.tt_proof_check.specs.Derives.{HoldsOfAll}
+use Rattle.tt_proof_check.specs.Headline.{BoundsAll}
+use Rattle.tt_sum.specs.Sums.{IsSum}
+use Rattle.tt_parts.specs.Found.{texts_of}
+use Rattle.tt_app.specs.Lines.{best_line, none_line}
+use Rattle.tt_app.specs.Summed.{CertifiesSum}
+use Rattle.tt_app.specs.declared.calls.best.BestAnswer.{BestAnswer}
+
+-- The solution breaks no hard rule of the instance and costs what the line says, and the proofs add up to the bound that it says, as a sum with
+-- this solution would. Every timetable of the instance that breaks no hard rule costs at least the bound.
+pub record IsBestFound (instance : List ℕ) (a : BestAnswer) : Type 0 where
+  pub solution : List ℕ
+  pub cost : ℕ
+  pub bound : ℕ
+  pub certified : CertifiesSum instance solution (texts_of a.proofs.items) cost bound
+  pub bounds : BoundsAll instance bound
+  pub within : bound ≤ cost
+  pub file : IsSomeAnd a.table (λ v. v.items ≡ solution)
+  pub text : a.out.items ≡ best_line cost bound
+  pub status : a.status ≡ 0
+
+-- No timetable is answered. The proofs add up to the bound that the line says, which holds of every timetable that breaks no hard rule.
+pub record IsNoneFound (instance : List ℕ) (a : BestAnswer) : Type 0 where
+  pub problem : Problem
+  pub spelled : Spells instance problem
+  pub bound : Bound
+  pub sum : IsSum problem (texts_of a.proofs.items) bound
+  pub holds : HoldsOfAll problem bound
+  pub no_file : a.table ≡ None
+  pub text : a.out.items ≡ none_line bound
+  pub status : a.status ≡ 1
+
+abbrev pub IsBest : List ℕ → BestAnswer → Type 0
+IsBest i a = IsBestFound i a ⊎ IsNoneFound i a

@@ -1,0 +1,154 @@
+//! The files of the command `best`.
+
+use crate::disk::read_file;
+use crate::folder_files::Folder;
+use crate::page_file::with_page;
+use crate::searches::saved_instance;
+use crate::showing::ticker_of;
+use std::io::Write;
+use std::rt::{Clock, Files};
+use tt_app::{Answer, AppFault, BestAnswer, Input, Rounds, best_watched};
+use tt_app_files::{Batch, Ready};
+use tt_app_watch::{Keeper, Ticker};
+use tt_arguments::{BestSearch, Showing};
+
+/// The name of the best timetable's file.
+const TABLE: &str = "best.sol";
+
+/// The name of the page that shows it.
+const PAGE: &str = "page.html";
+
+/// The name of the file of groups.
+const GROUPS: &str = "groups.proof";
+
+/// The name of the tree proof.
+const TREE: &str = "tree.proof";
+
+/// Returns the name of a proof's file, by its first bytes.
+fn name_of(proof: &[u8]) -> &'static str {
+    if proof.starts_with(b"CTTG") {
+        GROUPS
+    } else {
+        TREE
+    }
+}
+
+/// Adds a timetable and its page to the new files.
+fn write_table<R: Files + Clock + AllocGlobal>(
+    rt: &R,
+    folder: Folder<'_>,
+    batch: Batch,
+    instance: &[u8],
+    table: &mut Ready<R::File>,
+    text: &[u8],
+) -> Result<Batch, AppFault> {
+    match folder.prepare(rt, PAGE) {
+        Ok(page) => {
+            let (_, batch) = with_page(rt, batch, page, instance, text)?;
+            Ok(batch.write(rt, table, text)?)
+        }
+        Err(fault) => {
+            batch.abandon(rt);
+            Err(fault)
+        }
+    }
+}
+
+/// Adds a proof to the new files.
+fn write_proof<R: Files + Clock + AllocGlobal>(
+    rt: &R,
+    folder: Folder<'_>,
+    batch: Batch,
+    proof: &[u8],
+) -> Result<Batch, AppFault> {
+    match folder.prepare(rt, name_of(proof)) {
+        Ok(mut ready) => Ok(batch.write(rt, &mut ready, proof)?),
+        Err(fault) => {
+            batch.abandon(rt);
+            Err(fault)
+        }
+    }
+}
+
+/// Writes the timetable with its page, if there is one, and the proofs.
+fn write_files<R: Files + Clock + AllocGlobal>(
+    rt: &R,
+    folder: Folder<'_>,
+    instance: &[u8],
+    table: &mut Ready<R::File>,
+    answer: &BestAnswer,
+) -> Result<(), AppFault> {
+    let batch = Batch::new(rt.alloc());
+    let mut batch = match &answer.table {
+        Some(text) => write_table(rt, folder, batch, instance, table, text)?,
+        None => batch,
+    };
+    for proof in &answer.proofs {
+        batch = write_proof(rt, folder, batch, proof)?;
+    }
+    Ok(batch.put(rt)?)
+}
+
+/// Searches, shown on standard error, and saves the best timetable on the way if that is asked for.
+fn search_shown<R: Files + Clock + AllocGlobal, E: Write>(
+    rt: &R,
+    ticker: &mut Ticker<'_, R, E>,
+    instance: &[u8],
+    table: &mut Ready<R::File>,
+    search: BestSearch,
+) -> Result<BestAnswer, AppFault> {
+    let saved = saved_instance(rt.alloc(), instance, search.keeps);
+    let mut keeper = Keeper::new(rt, ticker, table, saved, true);
+    let rounds = Rounds {
+        count: search.rounds,
+        seed: search.seed,
+    };
+    best_watched(rt.alloc(), instance, rounds, &mut keeper)
+}
+
+/// Searches, and writes what is found.
+fn find_best<R: Files + Clock + AllocGlobal, E: Write>(
+    rt: &R,
+    err: &mut E,
+    folder: Folder<'_>,
+    instance: &[u8],
+    search: BestSearch,
+    showing: Showing,
+) -> Result<Answer, AppFault> {
+    folder.check(rt, &[TABLE, PAGE, GROUPS, TREE])?;
+    let mut table = folder.prepare(rt, TABLE)?;
+    let mut ticker = ticker_of(rt, err, "best", showing);
+    let found = search_shown(rt, &mut ticker, instance, &mut table, search);
+    ticker.clear();
+    let found = found?;
+    write_files(rt, folder, instance, &mut table, &found)?;
+    let BestAnswer { status, out, .. } = found;
+    Ok(Answer {
+        status,
+        out,
+        table: None,
+        proof: None,
+    })
+}
+
+/// Returns the answer, once the timetable, its page and the proofs are in their files.
+pub fn answer_best<R: Files + Clock + AllocGlobal, E: Write>(
+    rt: &R,
+    err: &mut E,
+    paths: (&str, &str),
+    search: BestSearch,
+    showing: Showing,
+) -> Result<Answer, AppFault> {
+    let (path, folder) = paths;
+    let folder = Folder {
+        path: folder,
+        inputs: &[path],
+    };
+    let instance = read_file(rt, path, Input::Instance)?;
+    let is_made = folder.make(rt)?;
+    let answer = find_best(rt, err, folder, &instance, search, showing);
+    if answer.is_err() {
+        folder.remove_made(rt, is_made);
+    }
+    answer
+}

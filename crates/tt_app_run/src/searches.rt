@@ -1,0 +1,133 @@
+//! What the commands that search do with their files.
+
+use crate::disk::read_file;
+use crate::showing::ticker_of;
+use std::alloc::Global;
+use std::io::Write;
+use std::rt::{Clock, Files};
+use tt_app::{Answer, AppFault, Input, improve_in_runs, solve_watched};
+use tt_app_files::{Batch, Output, Ready};
+use tt_app_watch::{Keeper, Ticker};
+use tt_arguments::{MAX_NODES, Search, Showing, TreeSearch};
+use tt_instance::{Instance, read_instance};
+
+/// Writes one file, if there is one to write.
+pub fn write_given<R: Files + Clock + AllocGlobal>(
+    rt: &R,
+    out: &mut Ready<R::File>,
+    bytes: &Option<Vec<u8>>,
+) -> Result<(), AppFault> {
+    if let Some(bytes) = bytes {
+        Batch::new(rt.alloc()).write(rt, out, bytes)?.put(rt)?;
+    }
+    Ok(())
+}
+
+/// Returns the instance by which timetables are saved on the way, if they are to be saved and it is one.
+pub fn saved_instance(alloc: Global, bytes: &[u8], keeps: bool) -> Option<Instance<'_>> {
+    if !keeps {
+        return None;
+    }
+    read_instance(alloc, bytes).ok()
+}
+
+/// Improves a timetable, shown on standard error, and saved on the way if that is asked for.
+fn improve_shown<R: Files + Clock + AllocGlobal, E: Write>(
+    rt: &R,
+    ticker: &mut Ticker<'_, R, E>,
+    instance: &[u8],
+    solution: &[u8],
+    out: &mut Ready<R::File>,
+    search: Search,
+) -> Result<Answer, AppFault> {
+    let saved = saved_instance(rt.alloc(), instance, search.keeps);
+    let mut keeper = Keeper::new(rt, ticker, out, saved, false);
+    improve_in_runs(
+        rt.alloc(),
+        instance,
+        solution,
+        search.seed,
+        search.steps,
+        search.runs,
+        &mut keeper,
+    )
+}
+
+/// Returns the answer, once the timetable is in its file.
+pub fn answer_improve<R: Files + Clock + AllocGlobal, E: Write>(
+    rt: &R,
+    err: &mut E,
+    paths: (&str, &str, &str),
+    search: Search,
+    showing: Showing,
+) -> Result<Answer, AppFault> {
+    let (instance, solution, out) = paths;
+    let out = Output::apart_from(rt, out, &[instance, solution])?;
+    let instance = read_file(rt, instance, Input::Instance)?;
+    let solution = read_file(rt, solution, Input::Solution)?;
+    let mut out = out.prepare(rt)?;
+    let mut ticker = ticker_of(rt, err, "improve", showing);
+    let answer = improve_shown(rt, &mut ticker, &instance, &solution, &mut out, search);
+    ticker.clear();
+    let answer = answer?;
+    write_given(rt, &mut out, &answer.table)?;
+    Ok(answer)
+}
+
+/// Searches for a best timetable, shown on standard error, and saved on the way if that is asked for.
+fn solve_shown<R: Files + Clock + AllocGlobal, E: Write>(
+    rt: &R,
+    ticker: &mut Ticker<'_, R, E>,
+    instance: &[u8],
+    out: &mut Ready<R::File>,
+    tree: TreeSearch,
+) -> Result<Answer, AppFault> {
+    let saved = saved_instance(rt.alloc(), instance, tree.keeps);
+    let mut keeper = Keeper::new(rt, ticker, out, saved, true);
+    let nodes = tree.nodes.clamp(1, MAX_NODES);
+    solve_watched(rt.alloc(), instance, tree.seed, nodes, &mut keeper)
+}
+
+/// Writes the best timetable, if there is one, and the proof.
+fn write_both<R: Files + Clock + AllocGlobal>(
+    rt: &R,
+    out: &mut Ready<R::File>,
+    proof: &mut Ready<R::File>,
+    answer: &Answer,
+) -> Result<(), AppFault> {
+    let batch = Batch::new(rt.alloc());
+    let batch = match &answer.table {
+        Some(bytes) => batch.write(rt, out, bytes)?,
+        None => batch,
+    };
+    let batch = match &answer.proof {
+        Some(bytes) => batch.write(rt, proof, bytes)?,
+        None => batch,
+    };
+    Ok(batch.put(rt)?)
+}
+
+/// Returns the answer, once the best timetable and the proof are in their files.
+pub fn answer_solve<R: Files + Clock + AllocGlobal, E: Write>(
+    rt: &R,
+    err: &mut E,
+    paths: (&str, &str, &str),
+    tree: TreeSearch,
+    showing: Showing,
+) -> Result<Answer, AppFault> {
+    let (instance, out, proof) = paths;
+    let out = Output::apart_from(rt, out, &[instance])?;
+    let proof = Output::apart_from(rt, proof, &[instance])?;
+    if out.is_same(rt, &proof)? {
+        return Err(AppFault::CannotWrite);
+    }
+    let instance = read_file(rt, instance, Input::Instance)?;
+    let mut out = out.prepare(rt)?;
+    let mut proof = proof.prepare(rt)?;
+    let mut ticker = ticker_of(rt, err, "solve", showing);
+    let answer = solve_shown(rt, &mut ticker, &instance, &mut out, tree);
+    ticker.clear();
+    let answer = answer?;
+    write_both(rt, &mut out, &mut proof, &answer)?;
+    Ok(answer)
+}

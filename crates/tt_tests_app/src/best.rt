@@ -1,0 +1,78 @@
+//! What `best` finds, and the files that it writes.
+
+use std::alloc::Global;
+use std::test::Fail;
+use tt_samples::{FLAT, GAP, edited};
+use tt_test_files::{MemoryFiles, Refusal};
+use tt_test_runs::{Outcome, run_on};
+
+fn best_of(alloc: Global, memory: &MemoryFiles) -> Result<Outcome, Fail> {
+    let words = ["best", "a.ctt", "found", "--rounds", "2"];
+    run_on(alloc, &words, memory)
+}
+
+#[test]
+fn a_best_timetable_with_its_proof(rt: HostRuntime) -> Result<(), Fail> {
+    let memory = MemoryFiles::new(rt.alloc(), Refusal::Nothing);
+    memory.put("a.ctt", GAP)?;
+    let outcome = best_of(rt.alloc(), &memory)?;
+    assert_eq!(rt; outcome.answer(), (0, "cost 5 bound 5 optimal\n", ""));
+    let words = [
+        "sum",
+        "a.ctt",
+        "--solution",
+        "found/best.sol",
+        "found/tree.proof",
+    ];
+    let sum = run_on(rt.alloc(), &words, &memory)?;
+    assert_eq!(rt; sum.answer(), (0, "yes cost 5 bound 5 optimal\n", ""));
+    let words = ["page", "a.ctt", "found/best.sol", "a.html"];
+    let page = run_on(rt.alloc(), &words, &memory)?;
+    assert_eq!(rt; page.status, 0);
+    assert_eq!(rt; memory.text("found/page.html")?, memory.text("a.html")?);
+    Ok(())
+}
+
+#[test]
+fn no_timetable_at_all(rt: HostRuntime) -> Result<(), Fail> {
+    let memory = MemoryFiles::new(rt.alloc(), Refusal::Nothing);
+    // Five lectures of a course have four periods.
+    let packed = edited(rt.alloc(), FLAT, "x t 4 1 1", "x t 5 1 1")?;
+    memory.put("a.ctt", packed.as_str())?;
+    let outcome = best_of(rt.alloc(), &memory)?;
+    assert_eq!(rt; outcome.answer(), (1, "cost none bound none\n", ""));
+    assert_eq!(rt; memory.text("found/best.sol")?, None);
+    assert_eq!(rt; memory.text("found/page.html")?, None);
+    let words = ["sum", "a.ctt", "found/tree.proof"];
+    let sum = run_on(rt.alloc(), &words, &memory)?;
+    assert_eq!(rt; sum.answer(), (0, "bound none\n", ""));
+    Ok(())
+}
+
+#[test]
+fn the_best_of_a_faulty_instance(rt: HostRuntime) -> Result<(), Fail> {
+    let memory = MemoryFiles::new(rt.alloc(), Refusal::Nothing);
+    memory.put("a.ctt", "Name:")?;
+    let outcome = best_of(rt.alloc(), &memory)?;
+    assert_eq!(rt;
+        outcome.answer(),
+        (2, "", "refused: instance: Ended at byte 5\n")
+    );
+    assert_eq!(rt; memory.count(), 1);
+    Ok(())
+}
+
+#[test]
+fn files_that_cannot_be_written(rt: HostRuntime) -> Result<(), Fail> {
+    for refusal in [Refusal::NewFiles, Refusal::Writes, Refusal::Renames] {
+        let memory = MemoryFiles::new(rt.alloc(), refusal);
+        memory.put("a.ctt", GAP)?;
+        memory.put("found/page.html", "older")?;
+        let outcome = best_of(rt.alloc(), &memory)?;
+        assert_eq!(rt; outcome.answer(), (2, "", "refused: cannot write\n"));
+        let kept = memory.text("found/page.html")?;
+        assert!(rt; kept.is_some_and(|text| text.as_str() == "older"));
+        assert_eq!(rt; memory.count(), 2);
+    }
+    Ok(())
+}
