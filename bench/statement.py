@@ -2,11 +2,14 @@
 """Prints the definitions on which a contract rests: how many lines each file of specs/ gives to it, and in all.
 
     python3 bench/statement.py [CRATE FUNCTION [CLAUSE ..]]
+    python3 bench/statement.py --write
 
 follows names through the `use` lines, from the clauses of a public function (all of them, or those that are named; without arguments the headline:
 clauses exactly and bounds of tt_proof_check's certify). Definitions are counted with their comments; structs and enums of src/ count with
-theirs. Names of the standard library end the search.
+theirs. Names of the standard library end the search. Without arguments it also says whether docs/STATEMENT.md, which has the headline's definitions
+one after the other, each after those that it uses, is current (status 1 if it isn't); with --write it writes that file.
 """
+import difflib
 import os
 import re
 import sys
@@ -14,6 +17,43 @@ import sys
 ROOT = os.path.join(os.path.dirname(os.path.abspath(__file__)), "..", "crates")
 NAME = re.compile(r"[^\s(){}\[\],;.:λ→×⊎¬≡≤<≢∷∙+*=|&-][^\s(){}\[\],;.:]*")
 HEADLINE = ["tt_proof_check", "certify", "exactly", "bounds"]
+STATEMENT = os.path.join(ROOT, "..", "docs", "STATEMENT.md")
+HEAD = """# The statement
+
+What the headline rests on, whole: the two clauses of `tt_proof_check::certify`, the trait by which they speak of the proof's bytes, and every definition and type that they name, each file after those that it uses. `python3 bench/statement.py --write` makes this document from the sources, and without `--write` that script says whether it is current. HEADLINE.md says what it means and why it holds.
+
+A definition under `src/` is a type or a limit of the code, in Rust's syntax; the others are in the language of specifications, where `abbrev pub f : A → B` gives a function's type and the lines below it its values, a `record` is a conjunction of its fields, and `(x : A) × B` says that there is an x. Numbers have no upper limit, and a `-` that would fall below 0 is 0.
+"""
+# What the standard library's words say that the headline's definitions are written in.
+WORDS = {
+    "All": "`All P xs`: P holds of each element",
+    "AllPairs": "`AllPairs R xs`: R holds of each element and each later one",
+    "Contains": "`Contains xs x`: x is an element",
+    "IfSome": "`IfSome o P`: P holds of the value, if there is one",
+    "all_ascii_digits": "`all_ascii_digits bs`: each byte is one of 48 to 57",
+    "codes": "`codes \"text\"`: the bytes of the text",
+    "count_by": "`count_by p xs`: how many elements pass the test",
+    "filter": "`filter p xs`: those that pass, in order",
+    "flat_map": "`flat_map f xs`: the lists of all elements, one after the other",
+    "fold": "`fold f a xs`: f taken from the left, from a on",
+    "length": "`length xs`",
+    "list_all": "`list_all p xs`: whether each element passes the test",
+    "list_any": "`list_any p xs`: whether some element does",
+    "map": "`map f xs`",
+    "max": "`max m n`",
+    "min": "`min m n`",
+    "nat_eq": "`nat_eq m n`: whether they are equal, also written `m == n`",
+    "nat_le": "`nat_le m n`: whether m is at most n",
+    "nat_lt": "`nat_lt m n`: whether m is below n",
+    "not": "`not b`",
+    "pointwise": "`pointwise t xs ys`: whether the lists are as long as each other, and the test passes at each place",
+    "prefix_len": "`prefix_len p xs`: how many elements at the front pass the test",
+    "range_with_len": "`range_with_len a n`: n numbers, from a on",
+    "slice_get": "`slice_get xs i`: the element at i, if there is one",
+    "slice_index_or": "`slice_index_or xs i d`: the element at i, or d past the end",
+    "sum_by": "`sum_by f xs`: the sum of f over the elements",
+    "take": "`take n xs`: the first n elements",
+}
 
 
 def read(path):
@@ -74,21 +114,37 @@ def names_in(text):
     return set(re.findall(r"[A-Za-z_][A-Za-z_0-9]*(?:-[A-Za-z_0-9]+)*(?:\.[A-Za-z_][A-Za-z_0-9]*)?", code))
 
 
+def trait_of(path, name):
+    """A trait of src/, with its comment."""
+    text = read(path)
+    head = re.search(r"((?:^///.*\n)*)^pub trait " + re.escape(name) + r"\b", text, re.M)
+    return text[head.start():text.find("\n}", head.start()) + 2] if head else None
+
+
 class Closure:
     def __init__(self):
         self.found = {}
+        # Which files name something of which others, and which words are the standard library's.
+        self.files = {}
+        self.library = {}
 
-    def follow(self, module, name):
+    def follow(self, module, name, asker=None):
         path, is_type = file_of(module)
         if not path:
+            if name and module.startswith("Rattle."):
+                self.library.setdefault(module.removeprefix("Rattle."), set()).add(name)
             return
+        self.files.setdefault(asker, set()).add(path)
         if is_type:
             parts = module.split(".")
             if parts[-1] == "TheConstants":
-                self.constant(os.path.join(ROOT, parts[1], "src", *parts[4:-1]) + ".rt", name)
+                path = os.path.join(ROOT, parts[1], "src", *parts[4:-1]) + ".rt"
+                self.files.setdefault(asker, set()).add(path)
+                self.constant(path, name)
                 return
             of = parts[-2] if parts[-1] == "TheVariants" else parts[-1]
             path = os.path.join(ROOT, parts[1], "src", *[it for it in parts[4:] if it not in (of, "TheVariants")]) + ".rt"
+            self.files.setdefault(asker, set()).add(path)
             block = type_of(path, of) if os.path.isfile(path) else None
             if block:
                 self.found.setdefault((path, of), block)
@@ -100,10 +156,10 @@ class Closure:
         if block is None:
             again = uses_of(text).get(name)
             if again and again[1]:
-                self.follow(*again)
+                self.follow(*again, asker)
             return
         self.found[path, name] = block
-        self.names(names_in(block), uses_of(text), module, blocks_of(text))
+        self.names(names_in(block), uses_of(text), module, blocks_of(text), path)
 
     def constant(self, path, name):
         if name and os.path.isfile(path):
@@ -111,14 +167,41 @@ class Closure:
             if block:
                 self.found.setdefault((path, name), block[0])
 
-    def names(self, names, uses, module, here):
-        for whole in names:
+    def names(self, names, uses, module, here, asker):
+        for whole in sorted(names):
             first, _, rest = whole.partition(".")
             if first in here:
-                self.follow(module, first)
+                self.follow(module, first, asker)
             elif first in uses:
                 of, known = uses[first]
-                self.follow(of, known or rest)
+                self.follow(of, known or rest, asker)
+
+    def in_order(self):
+        """The files that were found, each after those that it names; of several the first by crates.txt and name."""
+        crates = [line.partition(":")[0] for line in read(os.path.join(ROOT, "..", "crates.txt")).splitlines()]
+        known = {path for path, _ in self.found}
+        order = []
+
+        def rank(path):
+            parts = os.path.relpath(path, ROOT).split(os.sep)
+            return crates.index(parts[0]), parts[1] != "src", parts[2:]
+
+        def visit(path):
+            if path in order or path not in known:
+                return
+            for other in sorted(self.files.get(path, ()), key=rank):
+                if other != path:
+                    visit(other)
+            order.append(path)
+
+        for path in sorted(known, key=rank):
+            visit(path)
+        return order
+
+    def blocks(self, path):
+        """The definitions of a file that were found, in its order."""
+        text = read(path)
+        return sorted((block for (at, _), block in self.found.items() if at == path), key=text.index)
 
 
 def clauses_of(crate, function, wanted):
@@ -135,11 +218,39 @@ def clauses_of(crate, function, wanted):
     sys.exit(f"there is no public function {function} in {crate}")
 
 
+def clause_texts(crate, function, wanted):
+    """The clauses as they stand in the source, without their comments."""
+    text, _ = clauses_of(crate, function, wanted)
+    lines = [line for line in text.splitlines() if not line.strip().startswith("//")]
+    return "\n".join("ensures " + line if re.match(r"\w+ \{", line) else line for line in lines)
+
+
+def statement(closure):
+    """The text of docs/STATEMENT.md."""
+    source = os.path.join(ROOT, "tt_text", "src", "source.rt")
+    parts = [HEAD, "## The clauses\n", "```\n" + clause_texts(HEADLINE[0], HEADLINE[1], HEADLINE[2:]) + "\n```\n"]
+    parts.append("R is the type of the proof's source. `.old` and `.new` are its values before and after the call.\n")
+    parts += ["## tt_text, src/source.rt\n", "```rust\n" + trait_of(source, "Source") + "\n```\n"]
+    for path in closure.in_order():
+        crate, kind, *rest = os.path.relpath(path, ROOT).split(os.sep)
+        name = "/".join(rest)
+        title = f"{crate} {name.removesuffix('.antt')}" if kind == "specs" else f"{crate}, src/{name}"
+        fence = "```" if kind == "specs" else "```rust"
+        parts += [f"## {title}\n", fence + "\n" + "\n\n".join(closure.blocks(path)) + "\n```\n"]
+    parts.append("## Words of the standard library\n")
+    names = sorted(set().union(*closure.library.values()))
+    plain = [name for name in names if name not in WORDS]
+    parts.append("Types and values: " + ", ".join(f"`{name}`" for name in plain) + ". The rest:\n")
+    parts += [f"- {WORDS[name]}" for name in names if name in WORDS]
+    return "\n".join(parts) + "\n"
+
+
 def main():
-    crate, function, *wanted = sys.argv[1:] or HEADLINE
+    write = sys.argv[1:] == ["--write"]
+    crate, function, *wanted = HEADLINE if write else sys.argv[1:] or HEADLINE
     text, uses = clauses_of(crate, function, wanted)
     closure = Closure()
-    closure.names(names_in(text), uses, "", {})
+    closure.names(names_in(text), uses, "", {}, None)
     files = {}
     for (path, name), block in closure.found.items():
         files.setdefault(os.path.relpath(path, ROOT), []).append((name, block.count("\n") + 1))
@@ -148,7 +259,18 @@ def main():
         print(f"{sum(lines for _, lines in files[path]):5}  {path}: {listed}")
     whole = sum(lines for rows in files.values() for _, lines in rows)
     print(f"{whole:5}  lines, {len(closure.found)} definitions in {len(files)} files, of {crate}::{function} {' '.join(wanted)}".rstrip())
+    if write:
+        with open(STATEMENT, "w", encoding="utf-8") as file:
+            file.write(statement(closure))
+    if write or not sys.argv[1:]:
+        kept = read(STATEMENT) if os.path.isfile(STATEMENT) else ""
+        current = kept == statement(closure)
+        print("docs/STATEMENT.md is current" if current else "docs/STATEMENT.md is not current: run this script with --write")
+        for line in list(difflib.unified_diff(kept.splitlines(), statement(closure).splitlines(), "docs/STATEMENT.md", "the sources", "", "", 0, ""))[:20]:
+            print(line)
+        return 0 if current else 1
+    return 0
 
 
 if __name__ == "__main__":
-    main()
+    sys.exit(main())

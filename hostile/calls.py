@@ -9,6 +9,8 @@ from refusing import ROOT, Refusal
 
 # How a test fails whose call answered that memory ran out, and that by no part of another answer.
 FAILED = 101
+# Calls whose first growth is of what they make: if that is refused, there is no answer.
+MAKES_TABLES = {"memory::the_call_trail_path_new"}
 # Calls that have nothing to keep.
 TAKE_NOTHING = {"memory::the_call_find_leaf_for_nothing"}
 OUT_OF_MEMORY = re.compile(rb"(out of memory|error: (AllocError|OutOfMemory))\nthe test failed: its result gives status 1\n")
@@ -49,4 +51,6 @@ def growths(refuser, program, name):
             assert told == "as without a refusal", f"out of memory without a refusal: {done.told()}"
             assert answers or name in TAKE_NOTHING, "takes no memory"
             return answers
+        if growth == 1 and name in MAKES_TABLES:
+            assert told == "out of memory", f"its first growth isn't needed: {done.told()}"
         answers[told] += 1

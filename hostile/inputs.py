@@ -11,7 +11,7 @@ from dataclasses import dataclass
 
 from program import PROGRAM
 from refusing import READ_ERROR, Refusal
-from samples import APART, CROWDED, GAP, GAP_PROOF, MINI, NEXT_TO_EACH_OTHER
+from samples import APART, CROWDED, GAP, GAP_GROUPS, GAP_PROOF, MINI, NEXT_TO_EACH_OTHER
 
 SPACES = b" " * 65_536
 SPLIT = b"S c0 * d0 p0\n"
@@ -103,6 +103,44 @@ def cut_proofs_in_a_sum(desk):
             same(told, (0, b"bound 5\n", b""))
 
 
+def cut_groups(desk):
+    """What is cut off leaves no `CTTG` at first, and then no whole file of groups."""
+    for count in range(len(GAP_GROUPS) + 1):
+        desk.put(instance=GAP, groups=GAP_GROUPS[:count])
+        told = desk.told("sum instance groups")
+        if count < len(GAP_GROUPS) - 1:
+            at_byte(told, b"proof 1", count)
+        else:
+            same(told, (0, b"bound 4\n", b""))
+
+
+def values_of_groups(desk):
+    """Each a value and a bound, at its limit and above."""
+    for text, wanted in [
+        (b"CTTG 1 bound 0 end", (0, b"bound 0\n", b"")),
+        (b"CTTG 1 bound 0 G 0 / ; end", (0, b"bound 0\n", b"")),
+        (b"CTTG 1 bound 1 G 1 / ; end", refused(b"proof 1: TooCheap at group 0")),
+        (b"CTTG 1 bound 1 end", refused(b"proof 1: TooCheap")),
+        (b"CTTG 1 bound 5 G 4 q0 / c0 ; end", refused(b"proof 1: TooCheap")),
+        (b"CTTG 1 bound 5 G 5 q0 / c0 ; end", refused(b"proof 1: TooCheap at group 0")),
+        (b"CTTG 1 bound 0 G 127 / ; end", refused(b"proof 1: TooCheap at group 0")),
+        (b"CTTG 1 bound 0 G 128 / ; end", refused(b"proof 1: TooWide at group 0")),
+        (b"CTTG 1 bound 4 G 2 q0 / ; G 2 q0 / ; end", refused(b"proof 1: ClaimedTwice at group 1")),
+        (b"CTTG 1 bound 0 G 0 q1 / ; end", refused(b"proof 1: UnknownIndex at byte 19")),
+        (b"CTTG 1 bound 0 G 0 q0 q0 / ; end", refused(b"proof 1: RepeatedIndex at byte 22")),
+        (b"CTTG 1 bound 0 end end", refused(b"proof 1: TrailingToken at byte 19")),
+        (b"CTTG 1 bound 1000000000001 end", refused(b"proof 1: NotANumber at byte 13")),
+        (b"CTTG 2 bound 0 end", refused(b"proof 1: Expected 1 at byte 5")),
+        (b"CTTX 1 bound 0 end", refused(b"proof 1: Expected CTTP at byte 0")),
+        (b" " * 4_092 + b"CTTG 1 bound 0 end", (0, b"bound 0\n", b"")),
+        (b" " * 4_093 + b"CTTG 1 bound 0 end", refused(b"proof 1: Expected CTTP at byte 4093")),
+    ]:
+        desk.put(instance=GAP, groups=text)
+        same(desk.told("sum instance groups"), wanted)
+    desk.put(groups=GAP_GROUPS)
+    same(desk.told("bound instance groups"), refused(b"proof: Expected CTTP at byte 0"))
+
+
 def failed_reads_of_a_proof(desk):
     """One byte a read: 124 reads give a byte, and one finds the end; so do 22 and one of the proof that claims nothing. A sum tells of a
     proof that can't be opened in the same words."""
@@ -171,6 +209,7 @@ def missing_files(desk):
         ("sum none proof", b"instance"),
         ("sum instance --solution none proof", b"solution"),
         ("parts none out", b"instance"),
+        ("best none out", b"instance"),
     ]:
         same(desk.told(words), refused(what + b": cannot read"))
     assert not (desk.folder / "out").exists()
@@ -207,8 +246,13 @@ def outputs_that_are_inputs(desk):
     os.symlink("instance", desk.folder / "link")
     os.link(desk.folder / "solution", desk.folder / "hard")
     (desk.folder / "room").mkdir()
-    os.link(desk.folder / "instance", desk.folder / "room" / "part01.proof")
+    os.link(desk.folder / "instance", desk.folder / "room" / "groups.proof")
     os.symlink("nowhere", desk.folder / "loose")
+    for name in ("hall", "corner"):
+        (desk.folder / name).mkdir()
+    os.symlink("rooms.proof", desk.folder / "hall" / "groups.proof")
+    os.symlink("../page.html", desk.folder / "corner" / "best.sol")
+    os.symlink("../page.html", desk.folder / "corner" / "page.html")
     before = texts(desk)
     for words in [
         "improve instance solution instance",
@@ -225,6 +269,9 @@ def outputs_that_are_inputs(desk):
         "solve instance same ./same",
         "solve instance loose nowhere",
         "parts instance room",
+        "parts instance hall",
+        "best instance room",
+        "best instance corner",
         "improve instance solution room",
         "improve instance solution other/",
     ]:
@@ -273,7 +320,8 @@ def outputs_in_missing_folders(desk):
         f"improve {like}.ctt {like}.sol none/out --steps 1000000",
         f"solve {like}.ctt none/out other --nodes 65536",
         f"solve {like}.ctt other none/out --nodes 65536",
-        f"parts {like}.ctt none",
+        f"parts {like}.ctt none/none",
+        f"best {like}.ctt none/none",
         "page instance solution none/out",
         "upgrade instance proof none/out",
     ]:
@@ -281,6 +329,17 @@ def outputs_in_missing_folders(desk):
         same(desk.told(words), CANNOT_WRITE)
         assert time.perf_counter() - start < 2, f"{words} takes long"
     assert texts(desk) == before
+
+
+def folders_that_are_made(desk):
+    """The folder of `parts` and of `best` is made, and removed again where nothing is written to it."""
+    filled(desk)
+    desk.put(bad=b"bad")
+    for command, names in [("parts", {"groups.proof", "rooms.proof"}), ("best", {"best.sol", "page.html", "tree.proof"})]:
+        assert desk.told(f"{command} instance {command}")[0] == 0
+        assert {it.name for it in (desk.folder / command).iterdir()} == names
+        same(desk.told(f"{command} bad new"), refused(b"instance: Expected Name: at byte 0"))
+        assert not (desk.folder / "new").exists()
 
 
 def left_over_files(desk):
@@ -321,6 +380,8 @@ ROWS = [
     ("Mini cut to each length", cut_instances),
     ("the proof of Gap cut to each length", cut_proofs),
     ("the same, second of two in a sum", cut_proofs_in_a_sum),
+    ("a file of groups cut to each length", cut_groups),
+    ("values of groups, and their lists", values_of_groups),
     ("each read of a proof fails", failed_reads_of_a_proof),
     ("spaces without end", endless_spaces),
     ("65,536 nested splits, and one more", nested_splits),
@@ -332,6 +393,7 @@ ROWS = [
     ("outputs behind links", outputs_behind_links),
     ("devices and pipes as outputs", devices_and_pipes),
     ("outputs in folders that aren't there", outputs_in_missing_folders),
+    ("folders that are made", folders_that_are_made),
     ("files that killed runs leave", left_over_files),
     ("progress on standard error", progress),
     ("an output that takes nothing", a_closed_output),

@@ -5,7 +5,7 @@ from collections import Counter
 from dataclasses import dataclass, field
 
 from refusing import ENDS_THERE, INTERRUPTED, TAKES_NOTHING, NOTHING, READ_ERROR, ROOT, STOPPED, Refusal
-from samples import APART, GAP, GAP_PROOF, GAP_UPGRADED, MINI, MINI_COUNTS, NEXT_TO_EACH_OTHER, SAME
+from samples import APART, GAP, GAP_GROUPS, GAP_PROOF, GAP_UPGRADED, MINI, MINI_COUNTS, NEXT_TO_EACH_OTHER, SAME
 
 PROGRAM = ROOT / "crates" / "tt" / "out" / "tt"
 OLDER = b"an older file\n"
@@ -36,10 +36,13 @@ FILES = {
     "mini.sol": NEXT_TO_EACH_OTHER,
     "gap.sol": APART,
     "gap.proof": GAP_PROOF,
+    "gap.groups": GAP_GROUPS,
     "nothing.proof": b"CTTP 1 bound 0 B ; end",
     "bad": b"bad",
 }
 SOLVE_GAP = {"out": None, "out.proof": None}
+PARTS_OF_GAP = {"groups.proof": None, "rooms.proof": None}
+BEST_OF_GAP = {"best.sol": None, "page.html": None, "tree.proof": None}
 COMMANDS = [
     Command("", out=b"yes cost 5 bound 5 optimal\n"),
     Command("validate mini gap.sol", out=MINI_COUNTS),
@@ -62,7 +65,14 @@ COMMANDS = [
     Command("sum gap nothing.proof gap.proof", out=b"bound 5\n"),
     Command("sum gap --solution gap.sol gap.proof nothing.proof", out=b"yes cost 5 bound 5 optimal\n"),
     Command("sum gap gap.proof gap.proof", 2, b"", b"refused: proof 2: ClaimedElsewhere at node 2, by proof 1\n"),
-    Command("parts gap . --nodes 100", out=b"bound 4 parts 1\n", written={"part01.proof": None}),
+    Command("sum gap nothing.proof gap.groups", out=b"bound 4\n"),
+    Command("sum gap --solution gap.sol gap.groups", out=b"yes cost 5 bound 4\n"),
+    Command("sum gap gap.groups gap.groups", 2, b"", b"refused: proof 2: ClaimedElsewhere at group 0, by proof 1\n"),
+    Command("parts gap . --solution gap.sol --nodes 100", out=b"bound 5 parts 2\n", written=PARTS_OF_GAP),
+    Command("parts gap . --nodes 100", out=b"bound 5 parts 2\n", written=PARTS_OF_GAP),
+    Command("best gap . --rounds 2", out=b"cost 5 bound 5 optimal\n", written=BEST_OF_GAP),
+    Command("best same .", 1, b"cost none bound none\n", written={"tree.proof": None}),
+    Command("best bad .", 2, b"", b"refused: instance: Expected Name: at byte 0\n"),
     Command("--help"),
     Command("solve --help"),
     Command("grade", 2, b"", None),
@@ -71,7 +81,7 @@ COMMANDS = [
     Command("solve gap out out.proof --nodes 65537", 2, b"", None),
     Command("improve mini gap.sol out --steps x", 2, b"", None),
 ]
-WRITTEN = ["out", "out.proof", "part01.proof"]
+WRITTEN = ["out", "out.proof", "groups.proof", "rooms.proof", "tree.proof", "best.sol", "page.html"]
 
 
 class Shelf:
