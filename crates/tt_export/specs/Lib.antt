@@ -1,0 +1,4 @@
+pub mod Names
+pub mod Tables
+pub mod Weeks
+pub mod Calendars

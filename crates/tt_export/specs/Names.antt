@@ -1,0 +1,17 @@
+-- The names of an entry, as the instance's file has them.
+use Rattle.std.specs.Prelude.{ℕ, List, slice_index_or}
+use Rattle.tt_instance.specs.Problem.{Problem}
+use Rattle.tt_instance.specs.Courses.{no_course, no_room}
+use Rattle.tt_instance.specs.declared.cell.Cell.{Cell}
+
+abbrev pub teacher_of : Problem → ℕ → List ℕ
+teacher_of p c = (slice_index_or p.courses c no_course).teacher
+
+abbrev pub course_name : Problem → Cell → List ℕ
+course_name p e = (slice_index_or p.courses e.course no_course).id
+
+abbrev pub teacher_name : Problem → Cell → List ℕ
+teacher_name p e = teacher_of p e.course
+
+abbrev pub room_name : Problem → Cell → List ℕ
+room_name p e = (slice_index_or p.rooms e.room no_room).id

@@ -1,0 +1,16 @@
+//! A timetable as a table for spreadsheets, and weeks of it as calendars.
+#![tactic(auto)]
+
+mod calendar;
+mod digits;
+mod escaping;
+mod names;
+mod quoting;
+mod table;
+mod term;
+mod week;
+
+pub use calendar::write_calendar;
+pub use table::write_table;
+pub use term::{Term, TermFault};
+pub use week::Week;
