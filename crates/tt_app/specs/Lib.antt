@@ -1,6 +1,7 @@
 pub mod Best
 pub mod Bounded
 pub mod Checked
+pub mod Exported
 pub mod Improved
 pub mod Lines
 pub mod Paged

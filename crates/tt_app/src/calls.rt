@@ -2,6 +2,7 @@
 
 pub mod best;
 pub mod bound;
+pub mod calendar;
 pub mod check;
 pub mod improve;
 pub mod page;
@@ -9,5 +10,6 @@ pub mod parts;
 pub mod report;
 pub mod solve;
 pub mod sum;
+pub mod table;
 pub mod upgrade;
 pub mod validate;

@@ -3,6 +3,7 @@
 use std::alloc::AllocError;
 use thiserror::Error;
 use tt_app_files::OutputFault;
+use tt_export::TermFault;
 use tt_instance::InstanceFault;
 use tt_proof_check::{CertifyFault, CheckFault};
 use tt_report::ReportFault;
@@ -42,6 +43,11 @@ pub enum AppFault {
     TooLong(Input),
     #[error("cannot write")]
     CannotWrite,
+    /// No room, teacher or curriculum has the name.
+    #[error("unknown name")]
+    UnknownName,
+    #[error("{0}")]
+    Term(TermFault),
 }
 
 impl From<AllocError> for AppFault {
@@ -52,6 +58,19 @@ impl From<AllocError> for AppFault {
 
     fn from(_e: AllocError) -> AppFault {
         AppFault::OutOfMemory
+    }
+}
+
+impl From<TermFault> for AppFault {
+    ghost use Rattle.tt_app.specs.Exported.{IsNoTerm};
+
+    ghost from_gives = { λ _ e. IsNoTerm e };
+
+    fn from(fault: TermFault) -> AppFault {
+        match fault {
+            TermFault::OutOfMemory => AppFault::OutOfMemory,
+            fault => AppFault::Term(fault),
+        }
     }
 }
 

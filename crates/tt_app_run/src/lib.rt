@@ -4,6 +4,7 @@
 mod best_files;
 mod built_in;
 mod disk;
+mod exports;
 mod folder_files;
 mod page_file;
 mod parts_files;

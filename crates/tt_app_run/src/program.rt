@@ -1,6 +1,7 @@
 //! The program: arguments in, texts and an exit status out.
 
 use crate::best_files::answer_best;
+use crate::exports::{answer_calendar, answer_table};
 use crate::page_file::page_to;
 use crate::parts_files::{PartsPaths, answer_parts};
 use crate::requests::{
@@ -62,6 +63,12 @@ fn run_request<R: Files + Clock + AllocGlobal, O: Write, E: Write>(
             by,
         } => return print_status(report_to(rt, instance, solution, *by, out), err),
         Request::Validate { instance, solution } => answer_validate(rt, instance, solution),
+        Request::Table { instance, solution } => answer_table(rt, instance, solution),
+        Request::Calendar {
+            instance,
+            solution,
+            calendar,
+        } => answer_calendar(rt, instance, solution, *calendar),
         Request::Check {
             instance,
             solution,

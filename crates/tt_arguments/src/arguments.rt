@@ -2,15 +2,13 @@
 
 use crate::best::{BestSearch, best_command, best_request};
 use crate::parts::{PartSearch, parts_command, parts_request};
+use crate::reports::{CalendarWish, report_command, report_request};
 use crate::showing::{Showing, showing_of, with_showing};
 use crate::sums::{sum_command, sum_request};
 use clap::builder::ValueParser;
 use clap::{Arg, ArgAction, ArgMatches, Command, Error};
 use std::alloc::{AllocError, Global};
 use tt_report::By;
-
-/// By what a report may have its blocks.
-const KINDS: [&str; 3] = ["room", "teacher", "curriculum"];
 
 /// The most steps of a search.
 const MAX_STEPS: u64 = 1_000_000;
@@ -105,6 +103,15 @@ pub enum Request<'a> {
         solution: &'a str,
         by: By,
     },
+    Table {
+        instance: &'a str,
+        solution: &'a str,
+    },
+    Calendar {
+        instance: &'a str,
+        solution: &'a str,
+        calendar: CalendarWish<'a>,
+    },
 }
 
 /// The toolchain that proves and builds the program, as `rt version` names it.
@@ -127,7 +134,8 @@ pub fn instance<'a>(alloc: Global) -> Arg<'a> {
     )
 }
 
-fn solution<'a>(alloc: Global) -> Arg<'a> {
+/// The file of the solution.
+pub fn solution<'a>(alloc: Global) -> Arg<'a> {
     file(
         alloc,
         "SOLUTION",
@@ -272,25 +280,6 @@ fn solve_command<'a>(alloc: Global) -> Result<Command<'a>, AllocError> {
     with_showing(alloc, command)
 }
 
-fn by_option<'a>(alloc: Global) -> Arg<'a> {
-    Arg::new(alloc, "by")
-        .long("by")
-        .required(true)
-        .action(ArgAction::Set)
-        .value_name("KIND")
-        .value_parser(ValueParser::Names(&KINDS))
-        .help("Whose weeks are shown")
-}
-
-fn report_command<'a>(alloc: Global) -> Result<Command<'a>, AllocError> {
-    Command::new(alloc, "report")
-        .about("Prints the week of each room, teacher or curriculum")
-        .after_help("Example: tt report week.ctt week.sol --by teacher")
-        .arg(instance(alloc))?
-        .arg(solution(alloc))?
-        .arg(by_option(alloc))
-}
-
 fn command<'a>(alloc: Global) -> Result<Command<'a>, AllocError> {
     Command::new(alloc, "tt")
         .about("Course timetables with proved bounds")
@@ -386,23 +375,6 @@ fn solve_request<'a>(found: &ArgMatches<'a>) -> Option<Request<'a>> {
             keeps: found.get_flag("keep"),
         },
         showing: showing_of(found),
-    })
-}
-
-fn by_of(word: &str) -> Option<By> {
-    match word {
-        "room" => Some(By::Room),
-        "teacher" => Some(By::Teacher),
-        "curriculum" => Some(By::Curriculum),
-        _ => None,
-    }
-}
-
-fn report_request<'a>(found: &ArgMatches<'a>) -> Option<Request<'a>> {
-    Some(Request::Report {
-        instance: found.get_str("INSTANCE")?,
-        solution: found.get_str("SOLUTION")?,
-        by: by_of(found.get_str("by")?)?,
     })
 }
 

@@ -4,10 +4,12 @@
 mod arguments;
 mod best;
 mod parts;
+mod reports;
 mod showing;
 mod sums;
 
 pub use arguments::{MAX_NODES, Request, Search, TreeSearch, parse_arguments};
 pub use best::BestSearch;
 pub use parts::PartSearch;
+pub use reports::CalendarWish;
 pub use showing::Showing;

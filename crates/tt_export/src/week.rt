@@ -1,9 +1,8 @@
 //! Whose week is shown.
 
-ghost use Rattle.std.specs.Prelude.{◌≡◌, ◌<◌, length, IfSome};
+ghost use Rattle.std.specs.Prelude.{◌≡◌, ◌<◌, ℕ, length, Some, slice_get, IfSome, IsNone};
 ghost use Rattle.tt_instance.specs.Cells.{InRange};
-ghost use Rattle.tt_instance.specs.Courses.{teachers};
-ghost use Rattle.tt_export.specs.Weeks.{IsWeek, belongs_to};
+ghost use Rattle.tt_export.specs.Weeks.{IsWeek, IsWeekOf, names_by, belongs_to};
 
 use crate::names::{name_of_teacher, teacher_of};
 use tt_instance::Instance;
@@ -18,25 +17,37 @@ pub enum Week {
     OfCurriculum(u32),
 }
 
-/// The teacher of this name.
-fn teacher_named(instance: &Instance<'_>, name: &[u8]) -> Option<u32>
-    ensures { IfSome result (λ k. k < length (teachers instance.now)) }
+/// How many rooms, teachers or curricula there are.
+fn count_by(instance: &Instance<'_>, by: By) -> u32
+    ensures { result ≡ length (names_by instance.now by) }
 {
-    for teacher in 0..instance.teachers() {
-        if instance.teacher_name(teacher) == name {
-            return Some(teacher);
-        }
+    match by {
+        By::Room => instance.rooms(),
+        By::Teacher => instance.teachers(),
+        By::Curriculum => instance.curricula(),
     }
-    None
 }
 
-/// The curriculum of this name.
-fn curriculum_named(instance: &Instance<'_>, name: &[u8]) -> Option<u32>
-    ensures { IfSome result (λ q. q < length instance.now.curricula) }
+/// The name of a room, a teacher or a curriculum.
+fn name_by<'a>(instance: &Instance<'a>, by: By, number: u32) -> &'a [u8]
+    requires { number < length (names_by instance.now by) }
+    ensures { slice_get (names_by instance.now by) number ≡ Some result.now }
 {
-    for curriculum in 0..instance.curricula() {
-        if instance.curriculum_id(curriculum) == name {
-            return Some(curriculum);
+    match by {
+        By::Room => instance.room_id(number),
+        By::Teacher => instance.teacher_name(number),
+        By::Curriculum => instance.curriculum_id(number),
+    }
+}
+
+/// The number of the first room, teacher or curriculum of this name.
+fn number_named(instance: &Instance<'_>, by: By, name: &[u8]) -> Option<u32>
+    ensures some { IfSome result (λ n. slice_get (names_by instance.now by) n ≡ Some name.now) }
+    ensures none { IsNone result → (n : ℕ) → ¬ (slice_get (names_by instance.now by) n ≡ Some name.now) }
+{
+    for number in 0..count_by(instance, by) {
+        if name_by(instance, by, number) == name {
+            return Some(number);
         }
     }
     None
@@ -45,12 +56,15 @@ fn curriculum_named(instance: &Instance<'_>, name: &[u8]) -> Option<u32>
 impl Week {
     /// The week of the room, teacher or curriculum of this name, if there is one.
     pub fn named(instance: &Instance<'_>, by: By, name: &[u8]) -> Option<Week>
-        ensures { IfSome result (IsWeek instance.now) }
+        ensures some { IfSome result (IsWeekOf instance.now by name.now) }
+        ensures within { IfSome result (IsWeek instance.now) }
+        ensures none { IsNone result → (n : ℕ) → ¬ (slice_get (names_by instance.now by) n ≡ Some name.now) }
     {
+        let number = number_named(instance, by, name)?;
         Some(match by {
-            By::Room => Week::OfRoom(instance.room_named(name)?),
-            By::Teacher => Week::OfTeacher(teacher_named(instance, name)?),
-            By::Curriculum => Week::OfCurriculum(curriculum_named(instance, name)?),
+            By::Room => Week::OfRoom(number),
+            By::Teacher => Week::OfTeacher(number),
+            By::Curriculum => Week::OfCurriculum(number),
         })
     }
 
