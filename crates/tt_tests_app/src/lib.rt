@@ -4,6 +4,8 @@
 #[cfg(test)]
 mod best;
 #[cfg(test)]
+mod exports;
+#[cfg(test)]
 mod files;
 #[cfg(test)]
 mod improving;
