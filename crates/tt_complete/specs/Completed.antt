@@ -1,0 +1,15 @@
+-- What a completed timetable is.
+use Rattle.std.specs.Prelude.{◌≡◌, ℕ, ◌<◌, ◌++◌, max, List, length}
+use Rattle.tt_instance.specs.Problem.{Problem}
+use Rattle.tt_instance.specs.Courses.{lectures}
+use Rattle.tt_instance.specs.declared.cell.Cell.{Cell}
+use Rattle.tt_table.specs.Table.{IsTimetable}
+use Rattle.tt_rules.specs.Hard.{entries_of}
+
+-- The completed timetable begins with the entries that were there, and each course has as many entries as it has lectures, or as many as it had if they
+-- were more.
+pub record IsCompleted (p : Problem) (t completed : List Cell) : Type 0 where
+  pub in_range : IsTimetable p completed
+  pub added : List Cell
+  pub begins : completed ≡ t ++ added
+  pub lectures_placed : (c : ℕ) → c < length p.courses → entries_of completed c ≡ max (entries_of t c) (lectures p c)

@@ -1,0 +1,11 @@
+//! Timetables that lack lectures are completed.
+#![tactic(auto)]
+
+mod adding;
+mod board;
+mod completing;
+mod fault;
+mod missing;
+
+pub use completing::complete;
+pub use fault::CompleteFault;
