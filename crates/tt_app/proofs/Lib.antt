@@ -8,3 +8,4 @@ pub mod Files
 pub mod Rewriting
 pub mod Searching
 pub mod ToldMemory
+pub mod Completions

@@ -11,6 +11,8 @@ use Rattle.tt_proof_check.specs.declared.fault.CertifyFault.{CertifyFault}
 use Rattle.tt_proof_check.specs.declared.fault.CertifyFault.TheVariants as certify
 use Rattle.tt_upgrade.specs.declared.fault.UpgradeFault.{UpgradeFault}
 use Rattle.tt_upgrade.specs.declared.fault.UpgradeFault.TheVariants as upgrade
+use Rattle.tt_complete.specs.declared.fault.CompleteFault.{CompleteFault}
+use Rattle.tt_complete.specs.declared.fault.CompleteFault.TheVariants as completion
 use Rattle.tt_report.specs.declared.fault.ReportFault.{ReportFault}
 use Rattle.tt_sum.specs.Faults.{OutOfMemoryIsOneFault as OneFaultOfSum}
 use Rattle.tt_sum.specs.declared.fault.SumFault.TheVariants as sum
@@ -44,6 +46,10 @@ abbrev pub fault_from_upgrade : UpgradeFault → AppFault
 fault_from_upgrade (upgrade.Proof f) = fault_from_check f
 fault_from_upgrade upgrade.TooLarge = fault.ProofTooLarge
 fault_from_upgrade upgrade.OutOfMemory = fault.OutOfMemory
+
+abbrev pub fault_from_completion : CompleteFault → AppFault
+fault_from_completion completion.OutOfMemory = fault.OutOfMemory
+fault_from_completion f = fault.Complete f
 
 -- Being out of memory is told as itself, wherever it comes from.
 abbrev pub OutOfMemoryIsOneFault : AppFault → Type 0

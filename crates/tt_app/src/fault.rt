@@ -3,6 +3,7 @@
 use std::alloc::AllocError;
 use thiserror::Error;
 use tt_app_files::OutputFault;
+use tt_complete::CompleteFault;
 use tt_export::TermFault;
 use tt_instance::InstanceFault;
 use tt_proof_check::{CertifyFault, CheckFault};
@@ -48,6 +49,8 @@ pub enum AppFault {
     UnknownName,
     #[error("{0}")]
     Term(TermFault),
+    #[error("{0}")]
+    Complete(CompleteFault),
 }
 
 impl From<AllocError> for AppFault {
@@ -58,6 +61,20 @@ impl From<AllocError> for AppFault {
 
     fn from(_e: AllocError) -> AppFault {
         AppFault::OutOfMemory
+    }
+}
+
+impl From<CompleteFault> for AppFault {
+    ghost use Rattle.std.specs.Prelude.{◌≡◌};
+    ghost use Rattle.tt_app.specs.Told.{fault_from_completion};
+
+    ghost from_gives = { λ f e. e ≡ fault_from_completion f };
+
+    fn from(fault: CompleteFault) -> AppFault {
+        match fault {
+            CompleteFault::OutOfMemory => AppFault::OutOfMemory,
+            fault => AppFault::Complete(fault),
+        }
     }
 }
 

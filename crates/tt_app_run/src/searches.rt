@@ -5,7 +5,7 @@ use crate::showing::ticker_of;
 use std::alloc::Global;
 use std::io::Write;
 use std::rt::{Clock, Files};
-use tt_app::{Answer, AppFault, Input, improve_in_runs, solve_watched};
+use tt_app::{Answer, AppFault, Input, complete_and_improve, improve_in_runs, solve_watched};
 use tt_app_files::{Batch, Output, Ready};
 use tt_app_watch::{Keeper, Ticker};
 use tt_arguments::{MAX_NODES, Search, Showing, TreeSearch};
@@ -42,13 +42,30 @@ fn improve_shown<R: Files + Clock + AllocGlobal, E: Write>(
 ) -> Result<Answer, AppFault> {
     let saved = saved_instance(rt.alloc(), instance, search.keeps);
     let mut keeper = Keeper::new(rt, ticker, out, saved, false);
+    let Search {
+        seed,
+        steps,
+        runs,
+        ..
+    } = search;
+    if search.completes {
+        return complete_and_improve(
+            rt.alloc(),
+            instance,
+            solution,
+            seed,
+            steps,
+            runs,
+            &mut keeper,
+        );
+    }
     improve_in_runs(
         rt.alloc(),
         instance,
         solution,
-        search.seed,
-        search.steps,
-        search.runs,
+        seed,
+        steps,
+        runs,
         &mut keeper,
     )
 }

@@ -16,13 +16,15 @@ const MAX_STEPS: u64 = 1_000_000;
 /// The most runs of a search.
 const MAX_RUNS: u64 = 1_000;
 
-/// A seed, how many steps each run of a search makes, how many runs there are, and whether the best timetable is saved on the way.
+/// A seed, how many steps each run of a search makes, how many runs there are, whether the best timetable is saved on the way, and whether the lectures
+/// that the solution lacks are added first.
 #[derive(Clone, Copy, Debug)]
 pub struct Search {
     pub seed: u64,
     pub steps: u64,
     pub runs: u64,
     pub keeps: bool,
+    pub completes: bool,
 }
 
 /// The most nodes of a tree that a search opens.
@@ -233,6 +235,14 @@ fn keep<'a>(alloc: Global) -> Arg<'a> {
         )
 }
 
+/// The option that completes a solution before a search.
+fn complete_option<'a>(alloc: Global) -> Arg<'a> {
+    Arg::new(alloc, "complete")
+        .long("complete")
+        .action(ArgAction::SetTrue)
+        .help("Adds the lectures that the solution lacks first; it may be empty")
+}
+
 fn nodes<'a>(alloc: Global) -> Arg<'a> {
     number(alloc, "nodes", (1, u64::from(MAX_NODES)), "1000").help(
         "How many nodes of the tree to open at most, 1 to 65536",
@@ -249,7 +259,8 @@ fn improve_command<'a>(alloc: Global) -> Result<Command<'a>, AllocError> {
         .arg(seed(alloc))?
         .arg(steps(alloc))?
         .arg(runs(alloc))?
-        .arg(keep(alloc))?;
+        .arg(keep(alloc))?
+        .arg(complete_option(alloc))?;
     with_showing(alloc, command)
 }
 
@@ -345,6 +356,7 @@ fn improve_request<'a>(found: &ArgMatches<'a>) -> Option<Request<'a>> {
             steps: found.get_one("steps")?,
             runs: found.get_one("runs")?,
             keeps: found.get_flag("keep"),
+            completes: found.get_flag("complete"),
         },
         showing: showing_of(found),
     })

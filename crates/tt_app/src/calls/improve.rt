@@ -5,7 +5,7 @@ ghost use Rattle.tt_instance.specs.Problem.{Problem};
 ghost use Rattle.tt_instance.specs.declared.cell.Cell.{Cell};
 ghost use Rattle.tt_table.specs.Table.{IsTimetable};
 ghost use Rattle.tt_proof_check.specs.Headline.{SpellsBoth};
-ghost use Rattle.tt_app.specs.Improved.{IsImproved, IsImprovedInRuns, IsTableAnswer};
+ghost use Rattle.tt_app.specs.Improved.{IsImproved, IsImprovedInRuns, IsCompletedAndImproved, IsCompletionRefusal, IsTableAnswer};
 ghost use Rattle.tt_app.specs.Validated.{IsFileRefusal};
 ghost use Rattle.tt_app.specs.declared.fault.AppFault.TheVariants as fault;
 
@@ -13,6 +13,7 @@ use crate::answer::Answer;
 use crate::fault::AppFault;
 use crate::lines::pair_line;
 use std::alloc::{AllocError, Global};
+use tt_complete::complete;
 use tt_instance::{Instance, read_instance};
 use tt_rules::score;
 use tt_search::{Unwatched, Watch};
@@ -76,4 +77,25 @@ pub fn improve(
         MatchResult result (λ _. ⊤) (λ f. f ≡ fault.OutOfMemory) }
 {
     improve_in_runs(alloc, instance, solution, seed, steps, 1, &mut Unwatched)
+}
+
+/// Adds the lectures that a solution lacks, and searches from there as `improve_in_runs` does; the status is 1 if the timetable breaks a hard rule.
+pub fn complete_and_improve<W: Watch>(
+    alloc: Global,
+    instance: &[u8],
+    solution: &[u8],
+    seed: u64,
+    steps: u64,
+    runs: u64,
+    watch: &mut W,
+) -> Result<Answer, AppFault>
+    ensures found { IfOk result (IsCompletedAndImproved instance.now solution.now steps runs) }
+    // A refusal is the first fault: a file's, then that the timetable can't be completed.
+    ensures fault { IfErr result (IsCompletionRefusal instance.now solution.now) }
+{
+    let instance = read_instance(alloc, instance)?;
+    let table = read_solution(alloc, &instance, solution)?;
+    let table = complete(alloc, &instance, table)?;
+    let better = tt_search::improve_in_runs(alloc, &instance, table, seed, steps, runs, watch)?;
+    Ok(table_answer(alloc, &instance, &better)?)
 }
