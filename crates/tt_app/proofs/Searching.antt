@@ -54,6 +54,9 @@ text_refusal b nodes fault.OutOfMemory h = inl refl
 text_refusal b nodes (fault.CannotRead f) h = absurd h
 text_refusal b nodes (fault.TooLong f) h = absurd h
 text_refusal b nodes fault.CannotWrite h = absurd h
+text_refusal b nodes fault.UnknownName h = absurd h
+text_refusal b nodes (fault.Term f) h = absurd h
+text_refusal b nodes (fault.Complete f) h = absurd h
 
 -- where an instance is spelled, reading it is refused for memory alone
 pub read_memory : (i : List ℕ) (p : Problem) (f : InstanceFault) → Spells i p → Fails f (instance_of i) → fault_from_instance f ≡ fault.OutOfMemory
@@ -87,3 +90,6 @@ text_refused i limit p best b proof nodes finished (fault.Sum f) spells found is
 text_refused i limit p best b proof nodes finished (fault.CannotRead f) spells found is h = absurd h
 text_refused i limit p best b proof nodes finished (fault.TooLong f) spells found is h = absurd h
 text_refused i limit p best b proof nodes finished fault.CannotWrite spells found is h = absurd h
+text_refused i limit p best b proof nodes finished fault.UnknownName spells found is h = absurd h
+text_refused i limit p best b proof nodes finished (fault.Term f) spells found is h = absurd h
+text_refused i limit p best b proof nodes finished (fault.Complete f) spells found is h = absurd h

@@ -95,7 +95,7 @@ pub fn complete_and_improve<W: Watch>(
 {
     let instance = read_instance(alloc, instance)?;
     let table = read_solution(alloc, &instance, solution)?;
-    let table = complete(alloc, &instance, table)?;
-    let better = tt_search::improve_in_runs(alloc, &instance, table, seed, steps, runs, watch)?;
+    let completed = complete(alloc, &instance, table)?;
+    let better = tt_search::improve_in_runs(alloc, &instance, completed, seed, steps, runs, watch)?;
     Ok(table_answer(alloc, &instance, &better)?)
 }
