@@ -41,10 +41,7 @@ fn at(counts: &[u64], course: u32) -> u64 {
 }
 
 /// The courses of each teacher.
-fn courses_by_teacher(
-    alloc: Global,
-    instance: &Instance<'_>,
-) -> Result<Vec<Vec<u32>>, AllocError> {
+fn courses_by_teacher(alloc: Global, instance: &Instance<'_>) -> Result<Vec<Vec<u32>>, AllocError> {
     let mut taught: Vec<Vec<u32>> = Vec::new(alloc);
     for _ in 0..instance.teachers() {
         taught.push(Vec::new(alloc))?;

@@ -6,6 +6,7 @@ use std::alloc::AllocError;
 
 /// The most bytes of a line that are shown, and the most of them before the mark.
 const MAX_SHOWN: usize = 120;
+
 const MAX_BEFORE: usize = 60;
 
 /// A part of a line, and how many of its bytes come before the place that is marked.

@@ -4,13 +4,19 @@
 mod advice;
 mod counts;
 mod excerpt;
+mod inspected;
+mod instance_faults;
 mod lists;
 mod place;
+mod rows;
+mod scored;
 mod shown;
+mod solution_faults;
 mod summary;
+mod survey;
+mod told;
 
+pub use inspected::{Inspected, inspect_instance, inspect_solution};
+pub use instance_faults::explain_instance;
 pub use place::{Place, place_of};
-pub use advice::put_advice;
-pub use summary::put_summary;
-pub use counts::Counts;
-pub use excerpt::put_excerpt;
+pub use solution_faults::explain_solution;
