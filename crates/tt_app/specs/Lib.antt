@@ -2,6 +2,7 @@ pub mod Best
 pub mod Bounded
 pub mod Checked
 pub mod Improved
+pub mod Inspected
 pub mod Lines
 pub mod Paged
 pub mod Parted

@@ -4,6 +4,7 @@ pub mod best;
 pub mod bound;
 pub mod check;
 pub mod improve;
+pub mod inspect;
 pub mod page;
 pub mod parts;
 pub mod report;

@@ -5,6 +5,7 @@ mod best_files;
 mod built_in;
 mod disk;
 mod folder_files;
+mod inspecting;
 mod page_file;
 mod parts_files;
 mod program;

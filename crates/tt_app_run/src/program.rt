@@ -1,6 +1,7 @@
 //! The program: arguments in, texts and an exit status out.
 
 use crate::best_files::answer_best;
+use crate::inspecting::answer_inspect;
 use crate::page_file::page_to;
 use crate::parts_files::{PartsPaths, answer_parts};
 use crate::requests::{
@@ -61,6 +62,7 @@ fn run_request<R: Files + Clock + AllocGlobal, O: Write, E: Write>(
             solution,
             by,
         } => return print_status(report_to(rt, instance, solution, *by, out), err),
+        Request::Inspect { instance, solution } => answer_inspect(rt, instance, *solution),
         Request::Validate { instance, solution } => answer_validate(rt, instance, solution),
         Request::Check {
             instance,
