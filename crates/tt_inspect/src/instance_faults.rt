@@ -2,6 +2,7 @@
 
 use crate::place::place_of;
 use crate::rows::line_named;
+use crate::shown::Counted;
 use crate::survey::{Survey, look_at, missing_word};
 use crate::told::{encoding_fault, put_place, word_at};
 use std::alloc::{AllocError, Global};
@@ -48,7 +49,9 @@ fn usual_reason(fault: InstanceFault) -> &'static str {
         InstanceFault::UnknownCourse(_) => {
             "the name is spelled otherwise under COURSES:, where capital letters count"
         }
-        InstanceFault::OutOfRange(_) => "days and periods count from 0",
+        InstanceFault::OutOfRange(_) => {
+            "days and periods count from 0, so the last is one less than the header says"
+        }
         InstanceFault::OutOfMemory => "",
     }
 }
@@ -66,19 +69,20 @@ fn put_seen(text: &mut String, bytes: &[u8], seen: &Survey) -> Result<bool, Allo
     if let Some((section, said, lines)) = seen.miscounted()
         && let Some((count, part)) = section.words()
     {
+        let lines = Counted::new(lines, "line follows", "lines follow");
         writeln!(
             text,
-            "likely: the header says {count} {said}, the lines after {part} are {lines}"
+            "likely: the header says {count} {said}, and {lines} {part}"
         )?;
         return Ok(true);
     }
     if let Some(odd) = seen.odd {
         let number = odd.number;
-        let words = odd.words;
+        let words = Counted::new(odd.words as u64, "word", "words");
         let right = odd.section.line_words();
         writeln!(
             text,
-            "likely: the words of line {number} are {words}; {right}; no name has a space"
+            "likely: line {number} has {words}; {right}; no name has a space"
         )?;
         return Ok(true);
     }

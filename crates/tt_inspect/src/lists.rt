@@ -90,6 +90,6 @@ pub fn put_small_rooms(text: &mut String, instance: &Instance<'_>) -> Result<(),
         return Ok(());
     }
     let found = Counted::new(names.len() as u64, "room is", "rooms are");
-    write!(text, "look at: {found} too small for each course:")?;
+    write!(text, "look at: {found} too small for every course:")?;
     put_names(text, &names)
 }

@@ -2,6 +2,7 @@
 
 use crate::place::place_of;
 use crate::rows::Row;
+use crate::shown::Counted;
 use crate::told::{encoding_fault, put_place};
 use std::alloc::{AllocError, Global};
 use tt_instance::Word;
@@ -41,7 +42,9 @@ fn usual_reason(fault: SolutionFault) -> &'static str {
             "the name is spelled otherwise in the instance, where capital letters count"
         }
         SolutionFault::NotANumber(_) => "a number has digits alone",
-        SolutionFault::OutOfRange(_) => "days and periods count from 0",
+        SolutionFault::OutOfRange(_) => {
+            "days and periods count from 0, so the last is one less than the instance says"
+        }
         SolutionFault::TooMany(_) => "at most 16384 lectures",
         SolutionFault::OutOfMemory => "",
     }
@@ -80,9 +83,10 @@ fn put_reason(
         );
     }
     if let Some((number, words)) = odd_line(bytes, place_of(bytes, offset).line) {
+        let words = Counted::new(words as u64, "word", "words");
         return writeln!(
             text,
-            "likely: the words of line {number} are {words}; a lecture has 4: course, room, day, period; no name has a space"
+            "likely: line {number} has {words}; a lecture has 4: course, room, day, period; no name has a space"
         );
     }
     let usual = usual_reason(fault);

@@ -117,12 +117,19 @@ fn put_seats(text: &mut String, instance: &Instance<'_>) -> Result<(), AllocErro
     let Some(seats) = most_seats(instance) else {
         return writeln!(text, "there is no room");
     };
-    let above = Counted::new(lectures_above(instance, seats), "lecture", "lectures");
+    let above = lectures_above(instance, seats);
     let students = Counted::new(u64::from(most_students(instance)), "student", "students");
     let seats = Counted::new(u64::from(seats), "seat", "seats");
+    if above == 0 {
+        return writeln!(
+            text,
+            "the largest room has {seats}, the largest course {students}"
+        );
+    }
+    let above = Counted::new(above, "lecture has", "lectures have");
     writeln!(
         text,
-        "the largest room has {seats}, the largest course {students}; {above} without a room that is large enough"
+        "the largest room has {seats}, the largest course {students}; {above} no room that is large enough"
     )
 }
 
