@@ -5,7 +5,6 @@ pub mod Best
 pub mod DerivedBounds
 pub mod FailedReads
 pub mod Files
-pub mod Inspecting
 pub mod Rewriting
 pub mod Searching
 pub mod ToldMemory

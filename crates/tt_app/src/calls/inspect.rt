@@ -42,35 +42,27 @@ fn findings(inspected: Inspected) -> Answer
 }
 
 /// Why bytes are no instance.
-fn refused_instance(
-    alloc: Global,
-    bytes: &[u8],
-    fault: InstanceFault,
-) -> Result<Answer, AppFault>
+fn refused_instance(alloc: Global, bytes: &[u8], why: InstanceFault) -> Result<Answer, AppFault>
     ensures text { IfOk result IsRefusalText }
-    ensures told { IfOk result (λ _. instance.is_silent fault ≡ false) }
+    ensures told { IfOk result (λ _. instance.is_silent why ≡ false) }
     ensures memory { IfErr result (λ f. f ≡ fault.OutOfMemory) }
 {
-    if matches!(fault, InstanceFault::OutOfMemory) {
+    if matches!(why, InstanceFault::OutOfMemory) {
         return Err(AppFault::OutOfMemory);
     }
-    Ok(refusal(explain_instance(alloc, bytes, fault)?))
+    Ok(refusal(explain_instance(alloc, bytes, why)?))
 }
 
 /// Why bytes are no solution of an instance.
-fn refused_solution(
-    alloc: Global,
-    bytes: &[u8],
-    fault: SolutionFault,
-) -> Result<Answer, AppFault>
+fn refused_solution(alloc: Global, bytes: &[u8], why: SolutionFault) -> Result<Answer, AppFault>
     ensures text { IfOk result IsRefusalText }
-    ensures told { IfOk result (λ _. solution.is_silent fault ≡ false) }
+    ensures told { IfOk result (λ _. solution.is_silent why ≡ false) }
     ensures memory { IfErr result (λ f. f ≡ fault.OutOfMemory) }
 {
-    if matches!(fault, SolutionFault::OutOfMemory) {
+    if matches!(why, SolutionFault::OutOfMemory) {
         return Err(AppFault::OutOfMemory);
     }
-    Ok(refusal(explain_solution(alloc, bytes, fault)?))
+    Ok(refusal(explain_solution(alloc, bytes, why)?))
 }
 
 /// What there is in an instance.
@@ -104,11 +96,7 @@ fn inspect_both(alloc: Global, instance: &[u8], solution: &[u8]) -> Result<Answe
 
 /// What there is in an instance, and in a solution of it where one is given, in words; status 2 where a file isn't one,
 /// and 1 where something can't be or the solution breaks a hard rule. What the words say has no contract.
-pub fn inspect(
-    alloc: Global,
-    instance: &[u8],
-    solution: Option<&[u8]>,
-) -> Result<Answer, AppFault>
+pub fn inspect(alloc: Global, instance: &[u8], solution: Option<&[u8]>) -> Result<Answer, AppFault>
     // The status is 2 exactly where a file isn't one.
     ensures told { IfOk result (λ a. MatchOption solution.entry
         (IsInspected instance.now None a) (λ s. IsInspected instance.now (Some s.now) a)) }
