@@ -3,6 +3,7 @@ pub mod Bounded
 pub mod Checked
 pub mod Exported
 pub mod Improved
+pub mod Inspected
 pub mod Lines
 pub mod Paged
 pub mod Parted

@@ -5,6 +5,7 @@ pub mod bound;
 pub mod calendar;
 pub mod check;
 pub mod improve;
+pub mod inspect;
 pub mod page;
 pub mod parts;
 pub mod report;

@@ -13,6 +13,7 @@ pub use calls::bound::bound;
 pub use calls::calendar::{CalendarRequest, calendar};
 pub use calls::check::check;
 pub use calls::improve::{complete_and_improve, improve, improve_in_runs};
+pub use calls::inspect::inspect;
 pub use calls::page::page;
 pub use calls::parts::{PartsAnswer, guided_parts_watched, parts, parts_watched};
 pub use calls::report::report;

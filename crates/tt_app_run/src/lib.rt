@@ -6,6 +6,7 @@ mod built_in;
 mod disk;
 mod exports;
 mod folder_files;
+mod inspecting;
 mod page_file;
 mod parts_files;
 mod program;

@@ -2,6 +2,7 @@
 
 use crate::best_files::answer_best;
 use crate::exports::{answer_calendar, answer_table};
+use crate::inspecting::answer_inspect;
 use crate::page_file::page_to;
 use crate::parts_files::{PartsPaths, answer_parts};
 use crate::requests::{
@@ -62,6 +63,7 @@ fn run_request<R: Files + Clock + AllocGlobal, O: Write, E: Write>(
             solution,
             by,
         } => return print_status(report_to(rt, instance, solution, *by, out), err),
+        Request::Inspect { instance, solution } => answer_inspect(rt, instance, *solution),
         Request::Validate { instance, solution } => answer_validate(rt, instance, solution),
         Request::Table { instance, solution } => answer_table(rt, instance, solution),
         Request::Calendar {

@@ -1,6 +1,7 @@
 //! What the arguments of the command line ask for.
 
 use crate::best::{BestSearch, best_command, best_request};
+use crate::inspect::{inspect_command, inspect_request};
 use crate::parts::{PartSearch, parts_command, parts_request};
 use crate::reports::{CalendarWish, report_command, report_request};
 use crate::showing::{Showing, showing_of, with_showing};
@@ -44,6 +45,10 @@ pub enum Request<'a> {
     Validate {
         instance: &'a str,
         solution: &'a str,
+    },
+    Inspect {
+        instance: &'a str,
+        solution: Option<&'a str>,
     },
     Page {
         instance: &'a str,
@@ -296,12 +301,13 @@ fn command<'a>(alloc: Global) -> Result<Command<'a>, AllocError> {
         .about("Course timetables with proved bounds")
         .version(VERSION)
         .after_help(
-            "Without a command: checks an instance, a solution and a proof that are built in.",
+            "Without a command: checks an instance, a solution and a proof that are built in. Why a file is refused, `tt inspect` explains.",
         )
         .bin_name("tt")?
         .no_binary_name(true)
         .subcommand_required(true)
         .subcommand(validate_command(alloc)?)?
+        .subcommand(inspect_command(alloc)?)?
         .subcommand(page_command(alloc)?)?
         .subcommand(check_command(alloc)?)?
         .subcommand(bound_command(alloc)?)?
@@ -401,6 +407,7 @@ pub fn parse_arguments<'a>(
     };
     Ok(match name {
         "validate" => validate_request(found),
+        "inspect" => inspect_request(found),
         "page" => page_request(found),
         "check" => check_request(found),
         "bound" => bound_request(found),

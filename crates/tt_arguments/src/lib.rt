@@ -3,6 +3,7 @@
 
 mod arguments;
 mod best;
+mod inspect;
 mod parts;
 mod reports;
 mod showing;

@@ -10,6 +10,8 @@ mod files;
 #[cfg(test)]
 mod improving;
 #[cfg(test)]
+mod inspecting;
+#[cfg(test)]
 mod library;
 #[cfg(test)]
 mod pages;

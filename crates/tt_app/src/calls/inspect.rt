@@ -1,0 +1,110 @@
+//! The call `inspect`.
+
+ghost use Rattle.std.specs.Prelude.{◌≡◌, List, IfOk, IfErr, MatchOption, None, Some, false};
+ghost use Rattle.tt_instance.specs.Reading as instance;
+ghost use Rattle.tt_table.specs.Reading as solution;
+ghost use Rattle.tt_app.specs.Inspected.{IsRefusalText, IsFindings, IsInspected};
+ghost use Rattle.tt_app.specs.declared.fault.AppFault.TheVariants as fault;
+
+use crate::answer::Answer;
+use crate::fault::AppFault;
+use std::alloc::Global;
+use tt_inspect::{
+    Inspected, explain_instance, explain_solution, inspect_instance, inspect_solution,
+};
+use tt_instance::{InstanceFault, read_instance};
+use tt_rules::score;
+use tt_table::{SolutionFault, read_solution};
+
+/// What is printed of a file that is refused.
+fn refusal(text: String) -> Answer
+    ensures { IsRefusalText result }
+{
+    Answer {
+        status: 2,
+        out: text.into_bytes(),
+        table: None,
+        proof: None,
+    }
+}
+
+/// What is printed of files that are read.
+fn findings(inspected: Inspected) -> Answer
+    ensures { IsFindings result }
+{
+    let Inspected { text, sound } = inspected;
+    Answer {
+        status: if sound { 0 } else { 1 },
+        out: text.into_bytes(),
+        table: None,
+        proof: None,
+    }
+}
+
+/// Why bytes are no instance.
+fn refused_instance(alloc: Global, bytes: &[u8], why: InstanceFault) -> Result<Answer, AppFault>
+    ensures text { IfOk result IsRefusalText }
+    ensures told { IfOk result (λ _. instance.is_silent why ≡ false) }
+    ensures memory { IfErr result (λ f. f ≡ fault.OutOfMemory) }
+{
+    if matches!(why, InstanceFault::OutOfMemory) {
+        return Err(AppFault::OutOfMemory);
+    }
+    Ok(refusal(explain_instance(alloc, bytes, why)?))
+}
+
+/// Why bytes are no solution of an instance.
+fn refused_solution(alloc: Global, bytes: &[u8], why: SolutionFault) -> Result<Answer, AppFault>
+    ensures text { IfOk result IsRefusalText }
+    ensures told { IfOk result (λ _. solution.is_silent why ≡ false) }
+    ensures memory { IfErr result (λ f. f ≡ fault.OutOfMemory) }
+{
+    if matches!(why, SolutionFault::OutOfMemory) {
+        return Err(AppFault::OutOfMemory);
+    }
+    Ok(refusal(explain_solution(alloc, bytes, why)?))
+}
+
+/// What there is in an instance.
+fn inspect_alone(alloc: Global, instance: &[u8]) -> Result<Answer, AppFault>
+    ensures told { IfOk result (IsInspected instance.now None) }
+    ensures memory { IfErr result (λ f. f ≡ fault.OutOfMemory) }
+{
+    let read = match read_instance(alloc, instance) {
+        Ok(read) => read,
+        Err(fault) => return refused_instance(alloc, instance, fault),
+    };
+    Ok(findings(inspect_instance(alloc, &read)?))
+}
+
+/// What there is in an instance and in a solution of it.
+fn inspect_both(alloc: Global, instance: &[u8], solution: &[u8]) -> Result<Answer, AppFault>
+    ensures told { IfOk result (IsInspected instance.now (Some solution.now)) }
+    ensures memory { IfErr result (λ f. f ≡ fault.OutOfMemory) }
+{
+    let read = match read_instance(alloc, instance) {
+        Ok(read) => read,
+        Err(fault) => return refused_instance(alloc, instance, fault),
+    };
+    let table = match read_solution(alloc, &read, solution) {
+        Ok(table) => table,
+        Err(fault) => return refused_solution(alloc, solution, fault),
+    };
+    let score = score(&read, &table);
+    Ok(findings(inspect_solution(alloc, &read, &table, &score)?))
+}
+
+/// What there is in an instance, and in a solution of it where one is given, in words; status 2 where a file isn't one,
+/// and 1 where something can't be or the solution breaks a hard rule. What the words say has no contract.
+pub fn inspect(alloc: Global, instance: &[u8], solution: Option<&[u8]>) -> Result<Answer, AppFault>
+    // The status is 2 exactly where a file isn't one.
+    ensures told { IfOk result (λ a. MatchOption solution.entry
+        (IsInspected instance.now None a) (λ s. IsInspected instance.now (Some s.now) a)) }
+    // Nothing else is refused.
+    ensures memory { IfErr result (λ f. f ≡ fault.OutOfMemory) }
+{
+    match solution {
+        None => inspect_alone(alloc, instance),
+        Some(solution) => inspect_both(alloc, instance, solution),
+    }
+}

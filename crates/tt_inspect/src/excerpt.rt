@@ -1,0 +1,51 @@
+//! The line of a text that is shown, and the mark below it.
+
+use crate::place::place_of;
+use crate::shown::Shown;
+use std::alloc::AllocError;
+
+/// The most bytes of a line that are shown, and the most of them before the mark.
+const MAX_SHOWN: usize = 120;
+
+const MAX_BEFORE: usize = 60;
+
+/// A part of a line, and how many of its bytes come before the place that is marked.
+#[derive(Clone, Copy)]
+struct Excerpt<'a> {
+    line: &'a [u8],
+    before: usize,
+}
+
+/// What is shown of the line of an offset.
+fn shown_part(bytes: &[u8], offset: usize) -> Excerpt<'_> {
+    let at = offset.min(bytes.len());
+    let column = place_of(bytes, at).column;
+    let before = column.saturating_sub(1).min(MAX_BEFORE);
+    let rest = &bytes[at.saturating_sub(before)..];
+    let end = match rest.iter().position(|byte| *byte == b'\n') {
+        Some(end) => end.min(rest.len()),
+        None => rest.len(),
+    };
+    let line = &rest[..end.min(MAX_SHOWN)];
+    Excerpt {
+        line: line.strip_suffix(b"\r").unwrap_or(line),
+        before,
+    }
+}
+
+/// Appends the line of an offset, with a mark below the offset; nothing where the line has no byte.
+pub fn put_excerpt(text: &mut String, bytes: &[u8], offset: usize) -> Result<(), AllocError> {
+    let excerpt = shown_part(bytes, offset);
+    if excerpt.line.is_empty() {
+        return Ok(());
+    }
+    let line = Shown {
+        bytes: excerpt.line,
+    };
+    writeln!(text, "  {line}")?;
+    text.push_str("  ")?;
+    for _ in 0..excerpt.before {
+        text.push(' ')?;
+    }
+    text.push_str("^\n")
+}

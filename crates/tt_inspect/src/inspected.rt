@@ -1,0 +1,44 @@
+//! What is said of an instance, and of a solution of it.
+
+use crate::advice::put_advice;
+use crate::counts::Counts;
+use crate::scored::put_score;
+use crate::summary::put_summary;
+use std::alloc::{AllocError, Global};
+use tt_instance::Instance;
+use tt_rules::Score;
+use tt_table::Timetable;
+
+/// What is said, and whether nothing was seen that can't be or is broken.
+#[derive(Debug, Drop)]
+pub struct Inspected {
+    pub text: String,
+    pub sound: bool,
+}
+
+/// What there is in an instance, and what should be looked at.
+pub fn inspect_instance(alloc: Global, instance: &Instance<'_>) -> Result<Inspected, AllocError> {
+    let counts = Counts::of(alloc, instance)?;
+    let mut text = String::new(alloc);
+    put_summary(&mut text, instance, &counts)?;
+    let cannot_be = put_advice(&mut text, instance, &counts)?;
+    Ok(Inspected {
+        text,
+        sound: !cannot_be,
+    })
+}
+
+/// The same, and what a solution with this score breaks and costs.
+pub fn inspect_solution(
+    alloc: Global,
+    instance: &Instance<'_>,
+    table: &Timetable,
+    score: &Score,
+) -> Result<Inspected, AllocError> {
+    let Inspected { mut text, sound } = inspect_instance(alloc, instance)?;
+    put_score(&mut text, instance, table, score)?;
+    Ok(Inspected {
+        text,
+        sound: sound && score.feasible(),
+    })
+}

@@ -1,0 +1,22 @@
+//! What an instance or a solution is, what should be looked at, and why a file is refused, in words for people.
+#![tactic(auto)]
+
+mod advice;
+mod counts;
+mod excerpt;
+mod inspected;
+mod instance_faults;
+mod lists;
+mod place;
+mod rows;
+mod scored;
+mod shown;
+mod solution_faults;
+mod summary;
+mod survey;
+mod told;
+
+pub use inspected::{Inspected, inspect_instance, inspect_solution};
+pub use instance_faults::explain_instance;
+pub use place::{Place, place_of};
+pub use solution_faults::explain_solution;

@@ -1,0 +1,149 @@
+//! The lines of an instance's file, as a person reads them: a course, a room, a curriculum or an unavailability a line.
+
+use tt_instance::Word;
+use tt_text::{NumberFault, Token, Tokens, number};
+
+/// A part of an instance's file.
+#[derive(Clone, Copy, Debug, PartialEq, Eq)]
+pub enum Section {
+    Head,
+    Courses,
+    Rooms,
+    Curricula,
+    Bars,
+    End,
+}
+
+/// How many parts there are.
+pub const SECTIONS: usize = 6;
+
+impl Section {
+    /// The place of the part in the file, from 0.
+    pub fn index(self) -> usize {
+        match self {
+            Section::Head => 0,
+            Section::Courses => 1,
+            Section::Rooms => 2,
+            Section::Curricula => 3,
+            Section::Bars => 4,
+            Section::End => 5,
+        }
+    }
+
+    /// The word of the header that says how many lines the part has, and the word that begins it.
+    pub fn words(self) -> Option<(Word, Word)> {
+        match self {
+            Section::Courses => Some((Word::Courses, Word::CoursesPart)),
+            Section::Rooms => Some((Word::Rooms, Word::RoomsPart)),
+            Section::Curricula => Some((Word::Curricula, Word::CurriculaPart)),
+            Section::Bars => Some((Word::Constraints, Word::UnavailabilityPart)),
+            Section::Head | Section::End => None,
+        }
+    }
+
+    /// What a line of the part has, in words.
+    pub fn line_words(self) -> &'static str {
+        match self {
+            Section::Courses => "a course has 5: name, teacher, lectures, days, students",
+            Section::Rooms => "a room has 2: name, seats",
+            Section::Curricula => {
+                "a curriculum has its name, how many courses it has, and their names"
+            }
+            Section::Bars => "an unavailability has 3: course, day, period",
+            Section::Head | Section::End => "",
+        }
+    }
+}
+
+/// A line of a file: its first two words, and how many words it has.
+#[derive(Clone, Copy)]
+pub struct Row<'a> {
+    pub first: Option<Token<'a>>,
+    pub second: Option<Token<'a>>,
+    pub words: usize,
+}
+
+impl<'a> Row<'a> {
+    /// The words of a line.
+    pub fn of(line: &'a [u8]) -> Row<'a> {
+        let mut tokens = Tokens::new(line);
+        let first = tokens.next();
+        let second = tokens.next();
+        let mut words: usize = usize::from(first.is_some());
+        if second.is_some() {
+            words = 2;
+        }
+        while tokens.next().is_some() {
+            words = words.saturating_add(1);
+        }
+        Row {
+            first,
+            second,
+            words,
+        }
+    }
+
+    /// Whether the first word is this one.
+    pub fn begins_with(&self, name: &[u8]) -> bool {
+        match self.first {
+            Some(token) => token.bytes == name,
+            None => false,
+        }
+    }
+
+    /// The number that the second word is.
+    pub fn number(&self) -> Option<u64> {
+        let token = self.second?;
+        match number(&token, u64::from(u32::MAX)) {
+            Ok(number) => Some(number),
+            Err(NumberFault::NotANumber) | Err(NumberFault::TooLarge) => None,
+        }
+    }
+
+    /// The part that the line begins.
+    pub fn begun(&self) -> Option<Section> {
+        if self.begins_with(Word::CoursesPart.text()) {
+            return Some(Section::Courses);
+        }
+        if self.begins_with(Word::RoomsPart.text()) {
+            return Some(Section::Rooms);
+        }
+        if self.begins_with(Word::CurriculaPart.text()) {
+            return Some(Section::Curricula);
+        }
+        if self.begins_with(Word::UnavailabilityPart.text()) {
+            return Some(Section::Bars);
+        }
+        if self.begins_with(Word::End.text()) {
+            return Some(Section::End);
+        }
+        None
+    }
+
+    /// How many words a line of a part has; none where any number is right.
+    pub fn wanted_words(&self, section: Section) -> Option<u64> {
+        match section {
+            Section::Courses => Some(5),
+            Section::Rooms => Some(2),
+            Section::Bars => Some(3),
+            Section::Curricula => Some(self.number()?.saturating_add(2)),
+            Section::Head | Section::End => None,
+        }
+    }
+}
+
+/// The number of the first line of a part whose first word is this one.
+pub fn line_named(bytes: &[u8], section: Section, name: &[u8]) -> Option<usize> {
+    let mut here = Section::Head;
+    let mut number: usize = 0;
+    for line in bytes.split(|byte| *byte == b'\n') {
+        number = number.saturating_add(1);
+        let row = Row::of(line);
+        if let Some(begun) = row.begun() {
+            here = begun;
+        } else if here == section && row.begins_with(name) {
+            return Some(number);
+        }
+    }
+    None
+}

@@ -1,0 +1,109 @@
+//! Why bytes are no solution, in words.
+
+use crate::place::place_of;
+use crate::rows::Row;
+use crate::shown::Counted;
+use crate::told::{encoding_fault, put_place};
+use std::alloc::{AllocError, Global};
+use tt_instance::Word;
+use tt_table::SolutionFault;
+
+/// The offset of a fault; none of being out of memory.
+fn offset_of(fault: SolutionFault) -> Option<usize> {
+    match fault {
+        SolutionFault::Ended(at)
+        | SolutionFault::UnknownCourse(at)
+        | SolutionFault::UnknownRoom(at)
+        | SolutionFault::NotANumber(at)
+        | SolutionFault::OutOfRange(at)
+        | SolutionFault::TooMany(at) => Some(at),
+        SolutionFault::OutOfMemory => None,
+    }
+}
+
+/// What was expected where a fault is.
+fn expected(fault: SolutionFault) -> &'static str {
+    match fault {
+        SolutionFault::Ended(_) => "more",
+        SolutionFault::UnknownCourse(_) => "the name of a course",
+        SolutionFault::UnknownRoom(_) => "the name of a room",
+        SolutionFault::NotANumber(_) => "a number",
+        SolutionFault::OutOfRange(_) => "a smaller number",
+        SolutionFault::TooMany(_) => "the end",
+        SolutionFault::OutOfMemory => "nothing",
+    }
+}
+
+/// What is usually wrong where nothing else is seen.
+fn usual_reason(fault: SolutionFault) -> &'static str {
+    match fault {
+        SolutionFault::Ended(_) => "the last line is cut",
+        SolutionFault::UnknownCourse(_) | SolutionFault::UnknownRoom(_) => {
+            "the name is spelled otherwise in the instance, where capital letters count"
+        }
+        SolutionFault::NotANumber(_) => "a number has digits alone",
+        SolutionFault::OutOfRange(_) => {
+            "days and periods count from 0, so the last is one less than the instance says"
+        }
+        SolutionFault::TooMany(_) => "at most 16384 lectures",
+        SolutionFault::OutOfMemory => "",
+    }
+}
+
+/// The first line up to this one that has some words and not four, and how many it has.
+fn odd_line(bytes: &[u8], asked: usize) -> Option<(usize, usize)> {
+    let mut number: usize = 0;
+    for line in bytes.split(|byte| *byte == b'\n') {
+        number = number.saturating_add(1);
+        if number > asked {
+            return None;
+        }
+        let words = Row::of(line).words;
+        if words != 0 && words != 4 {
+            return Some((number, words));
+        }
+    }
+    None
+}
+
+/// Appends the likely reason for a fault.
+fn put_reason(
+    text: &mut String,
+    bytes: &[u8],
+    fault: SolutionFault,
+    offset: usize,
+) -> Result<(), AllocError> {
+    if let Some(reason) = encoding_fault(bytes) {
+        return writeln!(text, "likely: {reason}");
+    }
+    if Row::of(bytes).begins_with(Word::Name.text()) {
+        return writeln!(
+            text,
+            "likely: this is an instance; the solution comes after it"
+        );
+    }
+    if let Some((number, words)) = odd_line(bytes, place_of(bytes, offset).line) {
+        let words = Counted::new(words as u64, "word", "words");
+        return writeln!(
+            text,
+            "likely: line {number} has {words}; a lecture has 4: course, room, day, period; no name has a space"
+        );
+    }
+    let usual = usual_reason(fault);
+    writeln!(text, "likely: {usual}")
+}
+
+/// Why bytes are no solution of an instance, as `explain_instance` says it of one.
+pub fn explain_solution(
+    alloc: Global,
+    bytes: &[u8],
+    fault: SolutionFault,
+) -> Result<String, AllocError> {
+    let mut text = String::new(alloc);
+    writeln!(text, "solution: {fault}")?;
+    if let Some(offset) = offset_of(fault) {
+        put_place(&mut text, bytes, offset, expected(fault))?;
+        put_reason(&mut text, bytes, fault, offset)?;
+    }
+    Ok(text)
+}

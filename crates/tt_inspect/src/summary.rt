@@ -1,0 +1,147 @@
+//! What there is in an instance.
+
+use crate::counts::Counts;
+use crate::shown::Counted;
+use std::alloc::AllocError;
+use tt_instance::Instance;
+
+/// A part of a whole in percent, rounded down.
+fn percent(part: u64, whole: u64) -> u64 {
+    if whole == 0 {
+        return 0;
+    }
+    part.saturating_mul(100) / whole
+}
+
+/// The periods of the week.
+pub fn periods_of_week(instance: &Instance<'_>) -> u64 {
+    u64::from(instance.days()).saturating_mul(u64::from(instance.periods()))
+}
+
+/// The places for lectures: rooms in periods of the week.
+pub fn places(instance: &Instance<'_>) -> u64 {
+    periods_of_week(instance).saturating_mul(u64::from(instance.rooms()))
+}
+
+/// The line of what there is to plan.
+fn put_content(
+    text: &mut String,
+    instance: &Instance<'_>,
+    lectures: u64,
+) -> Result<(), AllocError> {
+    let courses = Counted::new(u64::from(instance.courses()), "course", "courses");
+    let lectures = Counted::new(lectures, "lecture", "lectures");
+    let teachers = Counted::new(u64::from(instance.teachers()), "teacher", "teachers");
+    let rooms = Counted::new(u64::from(instance.rooms()), "room", "rooms");
+    let curricula = Counted::new(u64::from(instance.curricula()), "curriculum", "curricula");
+    writeln!(
+        text,
+        "{courses} with {lectures}, {teachers}, {rooms}, {curricula}"
+    )
+}
+
+/// The line of how full the week is.
+fn put_week(text: &mut String, instance: &Instance<'_>, lectures: u64) -> Result<(), AllocError> {
+    let places = places(instance);
+    let full = percent(lectures, places);
+    let days = Counted::new(u64::from(instance.days()), "day", "days");
+    let periods = Counted::new(u64::from(instance.periods()), "period", "periods");
+    let places = Counted::new(places, "place", "places");
+    writeln!(
+        text,
+        "{days} of {periods}, {places} in all rooms, {full} percent full"
+    )
+}
+
+/// How many pairs of courses conflict.
+fn conflicting_pairs(instance: &Instance<'_>) -> u64 {
+    let mut pairs: u64 = 0;
+    for second in 0..instance.courses() {
+        for first in 0..second {
+            if instance.conflict(first, second) {
+                pairs = pairs.saturating_add(1);
+            }
+        }
+    }
+    pairs
+}
+
+/// The line of conflicts.
+fn put_conflicts(text: &mut String, instance: &Instance<'_>) -> Result<(), AllocError> {
+    let courses = u64::from(instance.courses());
+    let all = courses.saturating_mul(courses.saturating_sub(1)) / 2;
+    let found = conflicting_pairs(instance);
+    let share = percent(found, all);
+    let pairs = Counted::new(all, "pair", "pairs");
+    writeln!(
+        text,
+        "{found} of {pairs} of courses can't meet at the same time, {share} percent"
+    )
+}
+
+/// The seats of the largest room; none where there is no room.
+pub fn most_seats(instance: &Instance<'_>) -> Option<u32> {
+    let mut most: Option<u32> = None;
+    for room in 0..instance.rooms() {
+        let seats = instance.capacity(room);
+        most = Some(match most {
+            Some(most) => most.max(seats),
+            None => seats,
+        });
+    }
+    most
+}
+
+/// The lectures that have more students than any room has seats.
+fn lectures_above(instance: &Instance<'_>, seats: u32) -> u64 {
+    let mut lectures: u64 = 0;
+    for course in 0..instance.courses() {
+        if instance.students(course) > seats {
+            lectures = lectures.saturating_add(u64::from(instance.lectures(course)));
+        }
+    }
+    lectures
+}
+
+/// The students of the largest course; 0 where there is no course.
+fn most_students(instance: &Instance<'_>) -> u32 {
+    let mut most: u32 = 0;
+    for course in 0..instance.courses() {
+        most = most.max(instance.students(course));
+    }
+    most
+}
+
+/// The line of seats and students.
+fn put_seats(text: &mut String, instance: &Instance<'_>) -> Result<(), AllocError> {
+    let Some(seats) = most_seats(instance) else {
+        return writeln!(text, "there is no room");
+    };
+    let above = lectures_above(instance, seats);
+    let students = Counted::new(u64::from(most_students(instance)), "student", "students");
+    let seats = Counted::new(u64::from(seats), "seat", "seats");
+    if above == 0 {
+        return writeln!(
+            text,
+            "the largest room has {seats}, the largest course {students}"
+        );
+    }
+    let above = Counted::new(above, "lecture has", "lectures have");
+    writeln!(
+        text,
+        "the largest room has {seats}, the largest course {students}; {above} no room that is large enough"
+    )
+}
+
+/// Appends what there is in an instance: its parts, how full its week is, its conflicts and its seats.
+pub fn put_summary(
+    text: &mut String,
+    instance: &Instance<'_>,
+    counts: &Counts,
+) -> Result<(), AllocError> {
+    let lectures = counts.lectures();
+    put_content(text, instance, lectures)?;
+    put_week(text, instance, lectures)?;
+    put_conflicts(text, instance)?;
+    put_seats(text, instance)
+}

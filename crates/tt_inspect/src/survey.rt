@@ -1,0 +1,157 @@
+//! What can be seen in an instance's file without reading it as one: the words of its header, and the lines of its parts.
+
+use crate::rows::{Row, SECTIONS, Section};
+use tt_instance::Word;
+use tt_text::Tokens;
+
+/// How many lines a part should have, and how many it has.
+#[derive(Clone, Copy)]
+pub struct Tally {
+    pub said: Option<u64>,
+    pub lines: u64,
+}
+
+/// A line with too few words or too many.
+#[derive(Clone, Copy)]
+pub struct OddLine {
+    pub number: usize,
+    pub words: usize,
+    pub section: Section,
+}
+
+/// What was seen in a file.
+#[derive(Clone, Copy)]
+pub struct Survey {
+    tallies: [Tally; SECTIONS],
+    /// The part in which the line is that is asked for.
+    pub section: Section,
+    /// The first line up to that one with too few words or too many.
+    pub odd: Option<OddLine>,
+}
+
+impl Survey {
+    /// Takes what a line of the header says.
+    fn take_head(&mut self, row: &Row<'_>) {
+        for section in [
+            Section::Courses,
+            Section::Rooms,
+            Section::Curricula,
+            Section::Bars,
+        ] {
+            if let Some((word, _)) = section.words()
+                && row.begins_with(word.text())
+                && let Some(tally) = self.tallies.get_mut(section.index())
+            {
+                tally.said = row.number();
+            }
+        }
+    }
+
+    /// Takes a line of a part; `early` says whether it is no later than the line that is asked for.
+    fn take_row(&mut self, row: &Row<'_>, section: Section, number: usize, early: bool) {
+        if row.words == 0 {
+            return;
+        }
+        if let Some(tally) = self.tallies.get_mut(section.index()) {
+            tally.lines = tally.lines.saturating_add(1);
+        }
+        let Some(wanted) = row.wanted_words(section) else {
+            return;
+        };
+        if early && self.odd.is_none() && row.words as u64 != wanted {
+            self.odd = Some(OddLine {
+                number,
+                words: row.words,
+                section,
+            });
+        }
+    }
+
+    /// The first part, up to the one of the line that is asked for, that has other than as many lines as the header says.
+    pub fn miscounted(&self) -> Option<(Section, u64, u64)> {
+        for section in [
+            Section::Courses,
+            Section::Rooms,
+            Section::Curricula,
+            Section::Bars,
+        ] {
+            if section.index() > self.section.index() {
+                return None;
+            }
+            if let Some(tally) = self.tallies.get(section.index())
+                && let Some(said) = tally.said
+                && said != tally.lines
+            {
+                return Some((section, said, tally.lines));
+            }
+        }
+        None
+    }
+}
+
+/// Looks at a file, up to a line and at what follows.
+pub fn look_at(bytes: &[u8], asked: usize) -> Survey {
+    let none = Tally {
+        said: None,
+        lines: 0,
+    };
+    let mut seen = Survey {
+        tallies: [none; SECTIONS],
+        section: Section::Head,
+        odd: None,
+    };
+    let mut here = Section::Head;
+    let mut number: usize = 0;
+    for line in bytes.split(|byte| *byte == b'\n') {
+        number = number.saturating_add(1);
+        let row = Row::of(line);
+        if let Some(begun) = row.begun() {
+            here = begun;
+        } else if here == Section::Head {
+            seen.take_head(&row);
+        } else {
+            seen.take_row(&row, here, number, number <= asked);
+        }
+        if number <= asked {
+            seen.section = here;
+        }
+    }
+    seen
+}
+
+/// The words that each instance has, in their order.
+const WORDS: [Word; 12] = [
+    Word::Name,
+    Word::Courses,
+    Word::Rooms,
+    Word::Days,
+    Word::PeriodsPerDay,
+    Word::Curricula,
+    Word::Constraints,
+    Word::CoursesPart,
+    Word::RoomsPart,
+    Word::CurriculaPart,
+    Word::UnavailabilityPart,
+    Word::End,
+];
+
+/// Whether a word is in a file.
+fn has_word(bytes: &[u8], word: &[u8]) -> bool {
+    let mut tokens = Tokens::new(bytes);
+    while let Some(token) = tokens.next() {
+        if token.bytes == word {
+            return true;
+        }
+    }
+    false
+}
+
+/// The first word of those that each instance has which is nowhere in a file.
+pub fn missing_word(bytes: &[u8]) -> Option<Word> {
+    for word in WORDS {
+        if !has_word(bytes, word.text()) {
+            return Some(word);
+        }
+    }
+    None
+}
