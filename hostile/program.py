@@ -39,6 +39,7 @@ FILES = {
     "gap.groups": GAP_GROUPS,
     "nothing.proof": b"CTTP 1 bound 0 B ; end",
     "bad": b"bad",
+    "empty": b"",
 }
 SOLVE_GAP = {"out": None, "out.proof": None}
 PARTS_OF_GAP = {"groups.proof": None, "rooms.proof": None}
@@ -51,6 +52,7 @@ COMMANDS = [
     Command("bound gap gap.proof", out=b"bound 5\n"),
     Command("improve mini gap.sol out --seed 1 --steps 100", out=b"hard 0 cost 1\n", written={"out": None}),
     Command("improve mini gap.sol out --steps 100 --runs 3", out=b"hard 0 cost 1\n", written={"out": None}),
+    Command("improve gap empty out --complete --steps 100", out=b"hard 0 cost 5\n", written={"out": None}),
     Command("improve mini gap.sol mini", 2, b"", b"refused: cannot write\n"),
     Command("solve gap out out", 2, b"", b"refused: cannot write\n"),
     Command("upgrade gap gap.proof out.proof", out=b"bound 5\n", written={"out.proof": GAP_UPGRADED}),
@@ -60,6 +62,13 @@ COMMANDS = [
     Command("report mini mini.sol --by room", out=b"room R\n0 0 a\n0 1 b\n0 2\n"),
     Command("report mini mini.sol --by teacher", out=b"teacher t1\n0 0 a R\n0 1\n0 2\nteacher t2\n0 0\n0 1 b R\n0 2\n"),
     Command("report mini mini.sol --by curriculum", out=b"curriculum q\n0 0 a R\n0 1 b R\n0 2\n"),
+    Command("report mini mini.sol --csv", out=b'course,teacher,room,day,period\r\n"a","t1","R",0,0\r\n"b","t2","R",0,1\r\n'),
+    Command("report mini mini.sol --by room --ics R --first-day 2027-02-01 --times 8:00,9:00,10:00"),
+    Command("report mini mini.sol --by room --ics S --first-day 2027-02-01 --times 8:00,9:00,10:00", 2, b"", b"refused: unknown name\n"),
+    Command("inspect mini"),
+    Command("inspect mini gap.sol"),
+    Command("inspect same", 1),
+    Command("inspect bad", 2),
     Command("page mini gap.sol out", out=b"", written={"out": None}),
     Command("sum gap", out=b"bound 0\n"),
     Command("sum gap nothing.proof gap.proof", out=b"bound 5\n"),
@@ -78,6 +87,8 @@ COMMANDS = [
     Command("grade", 2, b"", None),
     Command("validate mini", 2, b"", None),
     Command("report mini mini.sol --by day", 2, b"", None),
+    Command("report mini mini.sol --csv --by room", 2, b"", None),
+    Command("report mini mini.sol --by room --ics R", 2, b"", None),
     Command("solve gap out out.proof --nodes 65537", 2, b"", None),
     Command("improve mini gap.sol out --steps x", 2, b"", None),
 ]

@@ -4,6 +4,8 @@
 #[cfg(test)]
 mod best;
 #[cfg(test)]
+mod completing;
+#[cfg(test)]
 mod exports;
 #[cfg(test)]
 mod files;

@@ -1,0 +1,56 @@
+//! What `improve --complete` makes of timetables that lack lectures.
+
+use std::alloc::Global;
+use std::test::Fail;
+use tt_samples::{GAP, MINI, edited};
+use tt_test_files::{MemoryFiles, Refusal};
+use tt_test_runs::{Outcome, run_on};
+
+/// What `improve` makes of a solution, and the file that it writes.
+fn completed(
+    alloc: Global,
+    instance: &str,
+    solution: &str,
+) -> Result<(Outcome, Option<String>), Fail> {
+    let memory = MemoryFiles::new(alloc, Refusal::Nothing);
+    memory.put("a.ctt", instance)?;
+    memory.put("a.sol", solution)?;
+    let words = [
+        "improve",
+        "a.ctt",
+        "a.sol",
+        "a.out",
+        "--complete",
+        "--steps",
+        "100",
+    ];
+    let outcome = run_on(alloc, &words, &memory)?;
+    let written = memory.text("a.out")?;
+    Ok((outcome, written))
+}
+
+#[test]
+fn lectures_that_are_missing(rt: HostRuntime) -> Result<(), Fail> {
+    for (instance, solution, line) in [
+        (MINI, "", "hard 0 cost 1\n"),
+        (MINI, "b R 0 1\n", "hard 0 cost 1\n"),
+        (GAP, "", "hard 0 cost 5\n"),
+        (GAP, "a R 0 0\nb R 0 2\n", "hard 0 cost 5\n"),
+    ] {
+        let (outcome, written) = completed(rt.alloc(), instance, solution)?;
+        assert_eq!(rt; outcome.answer(), (0, line, ""), "{solution}");
+        let lines = written.map_or(0, |text| text.lines().count());
+        assert_eq!(rt; lines, 2);
+    }
+    Ok(())
+}
+
+#[test]
+fn no_room_to_complete_in(rt: HostRuntime) -> Result<(), Fail> {
+    let text = edited(rt.alloc(), MINI, "Rooms: 1", "Rooms: 0")?;
+    let instance = edited(rt.alloc(), &text, "R 11\n", "")?;
+    let (outcome, written) = completed(rt.alloc(), &instance, "")?;
+    assert_eq!(rt; outcome.answer(), (2, "", "refused: no room\n"));
+    assert!(rt; written.is_none());
+    Ok(())
+}
