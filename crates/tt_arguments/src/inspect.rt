@@ -7,7 +7,7 @@ use std::alloc::{AllocError, Global};
 fn solution<'a>(alloc: Global) -> Arg<'a> {
     Arg::new(alloc, "SOLUTION")
         .action(ArgAction::Set)
-        .help("A timetable of it: what it breaks and costs is told too")
+        .help("A timetable of it: what it breaks and costs is printed too")
 }
 
 /// The command `inspect`.

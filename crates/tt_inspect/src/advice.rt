@@ -1,4 +1,4 @@
-//! What can't be in an instance, what costs whatever is done, and what should be looked at.
+//! What can't be in an instance, what costs something in every timetable, and what should be looked at.
 
 ghost use Rattle.std.specs.Prelude.{◌<◌, length};
 

@@ -1,10 +1,10 @@
 //! Why bytes are no instance, in words.
 
+use crate::faulty_place::{encoding_fault, put_place, word_at};
 use crate::place::place_of;
 use crate::rows::line_named;
 use crate::shown::Counted;
 use crate::survey::{Survey, look_at, missing_word};
-use crate::told::{encoding_fault, put_place, word_at};
 use std::alloc::{AllocError, Global};
 use tt_instance::InstanceFault;
 

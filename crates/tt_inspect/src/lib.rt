@@ -4,6 +4,7 @@
 mod advice;
 mod counts;
 mod excerpt;
+mod faulty_place;
 mod inspected;
 mod instance_faults;
 mod lists;
@@ -14,7 +15,6 @@ mod shown;
 mod solution_faults;
 mod summary;
 mod survey;
-mod told;
 
 pub use inspected::{Inspected, inspect_instance, inspect_solution};
 pub use instance_faults::explain_instance;

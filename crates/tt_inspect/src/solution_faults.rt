@@ -1,9 +1,9 @@
 //! Why bytes are no solution, in words.
 
+use crate::faulty_place::{encoding_fault, put_place};
 use crate::place::place_of;
 use crate::rows::Row;
 use crate::shown::Counted;
-use crate::told::{encoding_fault, put_place};
 use std::alloc::{AllocError, Global};
 use tt_instance::Word;
 use tt_table::SolutionFault;

@@ -66,7 +66,7 @@ fn nothing_to_look_at(rt: HostRuntime) -> Result<(), Fail> {
 }
 
 #[test]
-fn faults_in_words(rt: HostRuntime) -> Result<(), Fail> {
+fn faults_of_counts_and_headers_in_words(rt: HostRuntime) -> Result<(), Fail> {
     for (old, new, lines) in [
         (
             "Courses: 2",
@@ -77,21 +77,6 @@ fn faults_in_words(rt: HostRuntime) -> Result<(), Fail> {
             "Courses: 2",
             "Courses: 1",
             "instance: Expected ROOMS: at byte 108\nline 11, column 1: b is there, ROOMS: was expected\n  b t2 1 1 12\n  ^\nlikely: the header says Courses: 1, and 2 lines follow COURSES:\n",
-        ),
-        (
-            "a t1 1 1 10",
-            "a t1 one 1 10",
-            "instance: NotANumber at byte 101\nline 10, column 6: one is there, a number was expected\n  a t1 one 1 10\n       ^\nlikely: a number has digits alone\n",
-        ),
-        (
-            "b t2 1 1 12",
-            "a t2 1 1 12",
-            "instance: Repeated at byte 108\nline 11, column 1: a is there, a name that is new was expected\n  a t2 1 1 12\n  ^\nlikely: the name is used twice, first in line 10\n",
-        ),
-        (
-            "q 2 a b",
-            "q 2 a c",
-            "instance: UnknownCourse at byte 151\nline 17, column 7: c is there, the name of a course was expected\n  q 2 a c\n        ^\nlikely: the name is spelled otherwise under COURSES:, where capital letters count\n",
         ),
         (
             "END.\n",
@@ -109,14 +94,40 @@ fn faults_in_words(rt: HostRuntime) -> Result<(), Fail> {
             "instance: UnknownCourse at byte 183\nline 21, column 1: END. is there, the name of a course was expected\n  END.\n  ^\nlikely: the header says Constraints: 1, and 0 lines follow UNAVAILABILITY_CONSTRAINTS:\n",
         ),
         (
-            "a t1 1 1 10",
-            "art history t1 1 1 10",
-            "instance: NotANumber at byte 108\nline 10, column 13: t1 is there, a number was expected\n  art history t1 1 1 10\n              ^\nlikely: line 10 has 6 words; a course has 5: name, teacher, lectures, days, students; no name has a space\n",
-        ),
-        (
             "Name: Mini",
             "\u{FEFF}Name: Mini",
             "instance: Expected Name: at byte 0\nline 1, column 1: ???Name: is there, Name: was expected\n  ???Name: Mini\n  ^\nlikely: the file begins with a byte order mark; save it as UTF-8 without one\n",
+        ),
+    ] {
+        let instance = edited(rt.alloc(), MINI, old, new)?;
+        let outcome = inspected(rt.alloc(), &instance)?;
+        assert_eq!(rt; outcome.answer(), (2, lines, ""));
+    }
+    Ok(())
+}
+
+#[test]
+fn faults_of_names_and_numbers_in_words(rt: HostRuntime) -> Result<(), Fail> {
+    for (old, new, lines) in [
+        (
+            "a t1 1 1 10",
+            "a t1 one 1 10",
+            "instance: NotANumber at byte 101\nline 10, column 6: one is there, a number was expected\n  a t1 one 1 10\n       ^\nlikely: a number has digits alone\n",
+        ),
+        (
+            "b t2 1 1 12",
+            "a t2 1 1 12",
+            "instance: Repeated at byte 108\nline 11, column 1: a is there, a name that is new was expected\n  a t2 1 1 12\n  ^\nlikely: the name is used twice, first in line 10\n",
+        ),
+        (
+            "q 2 a b",
+            "q 2 a c",
+            "instance: UnknownCourse at byte 151\nline 17, column 7: c is there, the name of a course was expected\n  q 2 a c\n        ^\nlikely: the name is spelled otherwise under COURSES:, where capital letters count\n",
+        ),
+        (
+            "a t1 1 1 10",
+            "art history t1 1 1 10",
+            "instance: NotANumber at byte 108\nline 10, column 13: t1 is there, a number was expected\n  art history t1 1 1 10\n              ^\nlikely: line 10 has 6 words; a course has 5: name, teacher, lectures, days, students; no name has a space\n",
         ),
     ] {
         let instance = edited(rt.alloc(), MINI, old, new)?;

@@ -44,7 +44,7 @@ fn findings(inspected: Inspected) -> Answer
 /// Why bytes are no instance.
 fn refused_instance(alloc: Global, bytes: &[u8], why: InstanceFault) -> Result<Answer, AppFault>
     ensures text { IfOk result IsRefusalText }
-    ensures told { IfOk result (λ _. instance.is_silent why ≡ false) }
+    ensures first { IfOk result (λ _. instance.is_silent why ≡ false) }
     ensures memory { IfErr result (λ f. f ≡ fault.OutOfMemory) }
 {
     if matches!(why, InstanceFault::OutOfMemory) {
@@ -56,7 +56,7 @@ fn refused_instance(alloc: Global, bytes: &[u8], why: InstanceFault) -> Result<A
 /// Why bytes are no solution of an instance.
 fn refused_solution(alloc: Global, bytes: &[u8], why: SolutionFault) -> Result<Answer, AppFault>
     ensures text { IfOk result IsRefusalText }
-    ensures told { IfOk result (λ _. solution.is_silent why ≡ false) }
+    ensures first { IfOk result (λ _. solution.is_silent why ≡ false) }
     ensures memory { IfErr result (λ f. f ≡ fault.OutOfMemory) }
 {
     if matches!(why, SolutionFault::OutOfMemory) {
@@ -67,7 +67,7 @@ fn refused_solution(alloc: Global, bytes: &[u8], why: SolutionFault) -> Result<A
 
 /// What there is in an instance.
 fn inspect_alone(alloc: Global, instance: &[u8]) -> Result<Answer, AppFault>
-    ensures told { IfOk result (IsInspected instance.now None) }
+    ensures status { IfOk result (IsInspected instance.now None) }
     ensures memory { IfErr result (λ f. f ≡ fault.OutOfMemory) }
 {
     let read = match read_instance(alloc, instance) {
@@ -79,7 +79,7 @@ fn inspect_alone(alloc: Global, instance: &[u8]) -> Result<Answer, AppFault>
 
 /// What there is in an instance and in a solution of it.
 fn inspect_both(alloc: Global, instance: &[u8], solution: &[u8]) -> Result<Answer, AppFault>
-    ensures told { IfOk result (IsInspected instance.now (Some solution.now)) }
+    ensures status { IfOk result (IsInspected instance.now (Some solution.now)) }
     ensures memory { IfErr result (λ f. f ≡ fault.OutOfMemory) }
 {
     let read = match read_instance(alloc, instance) {
@@ -98,7 +98,7 @@ fn inspect_both(alloc: Global, instance: &[u8], solution: &[u8]) -> Result<Answe
 /// and 1 where something can't be or the solution breaks a hard rule. What the words say has no contract.
 pub fn inspect(alloc: Global, instance: &[u8], solution: Option<&[u8]>) -> Result<Answer, AppFault>
     // The status is 2 exactly where a file isn't one.
-    ensures told { IfOk result (λ a. MatchOption solution.entry
+    ensures status { IfOk result (λ a. MatchOption solution.entry
         (IsInspected instance.now None a) (λ s. IsInspected instance.now (Some s.now) a)) }
     // Nothing else is refused.
     ensures memory { IfErr result (λ f. f ≡ fault.OutOfMemory) }
