@@ -5,9 +5,9 @@ use clap::{Arg, ArgAction, ArgMatches, Command};
 use std::alloc::{AllocError, Global};
 
 fn solution<'a>(alloc: Global) -> Arg<'a> {
-    Arg::new(alloc, "SOLUTION")
-        .action(ArgAction::Set)
-        .help("A timetable of it: what it breaks and costs is printed too")
+    Arg::new(alloc, "SOLUTION").action(ArgAction::Set).help(
+        "A timetable of it: what it breaks and costs is printed too",
+    )
 }
 
 /// The command `inspect`.
