@@ -16,7 +16,7 @@ import sys
 import uuid
 
 FOLD = 75
-SPACES = ("Courses:", "Rooms:", "Days:", "Periods_per_day:", "Curricula:", "Constraints:")
+HEADER = ("Courses:", "Rooms:", "Days:", "Periods_per_day:", "Curricula:", "Constraints:")
 
 
 class Wrong(Exception):
@@ -43,8 +43,8 @@ def read_instance(path):
     try:
         head = words.index("Courses:")
         name = " ".join(words[1:head])
-        size = {words[head + 2 * k]: int(words[head + 2 * k + 1]) for k in range(len(SPACES))}
-        at = head + 2 * len(SPACES) + 1
+        size = {words[head + 2 * k]: int(words[head + 2 * k + 1]) for k in range(len(HEADER))}
+        at = head + 2 * len(HEADER) + 1
         courses = {words[at + 5 * k]: (words[at + 5 * k + 1], k) for k in range(size["Courses:"])}
         at += 5 * size["Courses:"] + 1
         rooms = {words[at + 2 * k] for k in range(size["Rooms:"])}
