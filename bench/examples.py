@@ -1,5 +1,6 @@
 #!/usr/bin/env python3
-"""Runs examples/spreadsheet from its tables to the calendar, and examples/many, with the built program, and looks at what they write.
+"""Runs examples/spreadsheet from its tables to the calendar, and examples/many, with the built program, and looks at what they write; and
+looks whether docs/CALLING.md quotes the sources as they are.
 
     python3 bench/examples.py [WORD..]     # with words, only the checks whose names contain one of them
 
@@ -216,7 +217,38 @@ def many_checks(folder):
           len(done.stdout.splitlines()) == 12 and done.stdout.endswith("\nyes cost 28 bound 28 optimal\n"), done.stdout + done.stderr)
 
 
-GROUPS = [instance_checks, mistake_checks, solution_mistake_checks, hard_name_checks, week_checks, many_checks]
+def bare(text):
+    """A text of Rust without its comments, spaces and last commas."""
+    lines = (line for line in text.splitlines() if not line.lstrip().startswith("//"))
+    return re.sub(r",(?=[)}])", "", re.sub(r"\s", "", "\n".join(lines)))
+
+
+def names_in(lines):
+    return set(re.findall(r"[^\s{},;:.]+", " ".join(lines))) - {"use", "ghost", "tt_app", "crate"}
+
+
+def calling_checks(_folder):
+    """Looks whether what docs/CALLING.md quotes is in the sources that it names."""
+    with open(TOP + "/docs/CALLING.md", encoding="utf-8") as file:
+        page = file.read()
+    for line, block in re.findall(r"^([^\n]*From \[[^\n]*:)\n\n```\w+\n(.*?)^```", page, re.M | re.S):
+        sources = []
+        for path in re.findall(r"\]\(\.\./(crates/[^)]*\.rt)\)", line):
+            with open(f"{TOP}/{path}", encoding="utf-8") as file:
+                sources.append(file.read())
+        quoted = block.splitlines()
+        imports = [row for row in quoted if row.startswith(("use ", "ghost use "))]
+        known = names_in(row for text in sources for row in text.splitlines() if row.startswith(("use ", "ghost use ")))
+        missing = names_in(imports) - known
+        code = "\n".join(row for row in quoted if row not in imports)
+        for function in re.split(r"^(?=(?:pub )?fn )", code, flags=re.M)[1:]:
+            name = re.match(r"(?:pub )?fn ([\w:]+)", function)[1]
+            text = bare(re.sub(r"^((?:pub )?fn )\w+::", r"\1", function))
+            check(f"CALLING quotes {name}", any(text in bare(source) for source in sources), text[:60])
+        check(f"CALLING's imports are those of {re.search(r'crates/[^]]*', line)[0]}", not missing, missing)
+
+
+GROUPS = [instance_checks, mistake_checks, solution_mistake_checks, hard_name_checks, calling_checks, week_checks, many_checks]
 
 
 def main():
