@@ -6,14 +6,14 @@
 #
 # The seeds are 1 to N, where N is 16 if it isn't given. An instance like02.ctt needs a solution like02.sol next to it, from which improve
 # begins. OUTDIR/like02.sol is the timetable with the least cost by tt validate, OUTDIR/like02.proofs the proofs with the greatest bound
-# by tt sum, and a line for each instance says which seed made it. With --hosts the runs are made there over ssh (: is this machine);
-# each host needs rsync and this repository, built, at the same path.
+# by tt sum, and a line for each instance says which seed made it. With --hosts the runs are made on these hosts over ssh, and on no
+# others; each needs rsync and this repository, built, at the same path. Their inputs and results are copied, and removed there.
 #
 #   many.sh prepare improve|parts OUTDIR INSTANCE..    only copies the inputs to OUTDIR, for slurm.sh
 #   many.sh keep improve|parts OUTDIR INSTANCE..       only compares what runs have left in OUTDIR
 set -eu
 here=$(cd "$(dirname "${BASH_SOURCE[0]}")" && pwd)
-TT=${TT:-$(cd "$here/../.." && pwd)/tt}
+TT=$(realpath "${TT:-$here/../../tt}")
 export TT
 
 stage=all
@@ -62,7 +62,7 @@ seeds_of() {
 keep_timetable() {
   local hard cost seed
   seeds_of "$1" | parallel --jobs "$jobs" "$here/one.sh" cost "$1" '{}' | sort -n -k1,1 -k2,2 -k3,3 >"$1/costs"
-  read -r hard cost seed <"$1/costs"
+  if ! read -r hard cost seed <"$1/costs"; then echo "$1: no run left a timetable" >&2; return 1; fi
   cp "$1/$seed.sol" "$1.sol"
   echo "$1: hard $hard cost $cost, made by seed $seed, the best of $(wc -l <"$1/costs")"
 }
@@ -71,7 +71,7 @@ keep_timetable() {
 keep_proofs() {
   local bound seed
   seeds_of "$1" | parallel --jobs "$jobs" "$here/one.sh" bound "$1" '{}' | sort -k1,1nr -k2,2n >"$1/bounds"
-  read -r bound seed <"$1/bounds"
+  if ! read -r bound seed <"$1/bounds"; then echo "$1: no run left proofs" >&2; return 1; fi
   rm -rf "$1.proofs"
   cp -r "$1/$seed.proofs" "$1.proofs"
   echo "$1: bound $bound, made by seed $seed, the best of $(wc -l <"$1/bounds")"

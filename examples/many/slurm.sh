@@ -1,10 +1,12 @@
 #!/usr/bin/env bash
-# Makes the runs of many.sh as an array of SLURM tasks, one for each seed. In the folder of all runs, which the nodes share:
+# Makes the runs of many.sh as an array of SLURM tasks, one for each seed. Prepare a folder that all nodes share, and begin in it:
 #
-#   sbatch --array=1-16 slurm.sh improve 10000 NAME..
+#   many.sh prepare improve runs like02.ctt like05.ctt
+#   cd runs
+#   HERE=/path/to/examples/many sbatch --array=1-16 --export=ALL /path/to/examples/many/slurm.sh improve 10000 like02 like05
 #
-# and when all tasks have ended: many.sh keep improve OUTDIR INSTANCE..
-# NAME/instance.ctt and NAME/start.sol have to be there; HERE is this folder, with one.sh.
+# and when all tasks have ended, in the folder above: many.sh keep improve runs like02.ctt like05.ctt
+# HERE is the folder of one.sh, which SLURM doesn't know, since it runs a copy of this script.
 #SBATCH --job-name=tt
 #SBATCH --ntasks=1
 #SBATCH --cpus-per-task=1
