@@ -1,10 +1,11 @@
 -- What is true of a leaf that was found.
 use Rattle.tt_instance.specs.Problem.{Problem}
-use Rattle.std.specs.Prelude.{List, All}
+use Rattle.std.specs.Prelude.{◌≡◌, ◌==◌, ℕ, true, not, List, All}
+use Rattle.tt_lists.specs.Words.{each_two}
 use Rattle.tt_paths.specs.Facts.{IsPattern}
 use Rattle.tt_paths.specs.declared.facts.Fact.{Fact}
 use Rattle.tt_leaf_rules.specs.Leaves.{IsRight}
-use Rattle.tt_leaf_rules.specs.Ranges.{IsClaimOf, IsLeafOf}
+use Rattle.tt_leaf_rules.specs.Ranges.{AreBelow, IsClaimOf, IsLeafOf}
 use Rattle.tt_leaf_rules.specs.declared.leaf.Claim.{Claim}
 use Rattle.tt_leaf_rules.specs.declared.leaf.Bound.{Bound}
 use Rattle.tt_leaf_rules.specs.declared.leaf.Leaf.{Leaf}
@@ -28,3 +29,8 @@ ArePatterns p path = All (λ f. IsPattern p f.pattern) path
 pub record IsFitClaim (p : Problem) (claim : Claim) : Type 0 where
   pub numbers : IsClaimOf p claim
   pub short : IsShortClaim claim
+
+-- different numbers below a bound
+pub record AreNumbers (count : ℕ) (ns : List ℕ) : Type 0 where
+  pub within : AreBelow count ns
+  pub once : each_two (λ a b. not (a == b)) ns ≡ true

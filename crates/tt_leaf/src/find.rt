@@ -13,6 +13,7 @@ ghost use Rattle.tt_leaf.specs.Found.{IsAnswer, Closes, ArePatterns};
 ghost use Rattle.tt_leaf.specs.Pinned.{IsPinnedDown, IsOpen};
 
 use crate::best::{best_claims, stacked_claims};
+use crate::overfull::overfull_leaf;
 use crate::priced::priced_claims;
 use std::alloc::{AllocError, Global};
 use tt_leaf_rules::{Bound, CourseList, Leaf, holds};
@@ -98,6 +99,31 @@ fn if_right<'i, P: Path<'i>>(path: &P, leaf: Leaf, bound: Bound) -> Option<Leaf>
     }
 }
 
+/// The leaf that was found, if there is one and it is right.
+fn right_one<'i, P: Path<'i>>(path: &P, found: Option<Leaf>, bound: Bound) -> Option<Leaf>
+    requires { IfSome found (IsAnswer (P.problem path.now)) }
+    ensures { IfSome result (Closes (P.problem path.now) (P.facts path.now) bound) }
+{
+    match found {
+        Some(leaf) => if_right(path, leaf, bound),
+        None => None,
+    }
+}
+
+/// A leaf of courses that have more lectures than the week has room for, if it is right. It is looked for on the empty path alone.
+fn find_overfull<'i, P: Path<'i>>(
+    alloc: Global,
+    path: &P,
+    bound: Bound,
+) -> Result<Option<Leaf>, AllocError>
+    ensures { IfOk result (λ found. IfSome found (Closes (P.problem path.now) (P.facts path.now) bound)) }
+{
+    if path.depth() > 0 {
+        return Ok(None);
+    }
+    Ok(right_one(path, overfull_leaf(alloc, path.instance())?, bound))
+}
+
 /// A leaf with prices over groups of courses, if it is right.
 fn find_priced<'i, P: Path<'i>>(
     alloc: Global,
@@ -109,15 +135,13 @@ fn find_priced<'i, P: Path<'i>>(
     if bound == Bound::Nothing {
         return Ok(None);
     }
-    match priced_claims(alloc, path)? {
-        Some(leaf) => Ok(if_right(path, leaf, bound)),
-        None => Ok(None),
-    }
+    Ok(right_one(path, priced_claims(alloc, path)?, bound))
 }
 
 /// A leaf that is right on a path, if one of those that are tried is: that the cells of some yes-fact are all
-/// dead, that a course has too many pinned periods or too few live ones, the best claims, and the best claims
-/// with stacked days. Leaves with prices over groups of courses are tried too.
+/// dead, that a course has too many pinned periods or too few live ones, that the courses of a curriculum or a teacher
+/// or all courses have too many lectures on the empty path, the best claims, and the best claims with stacked days.
+/// Leaves with prices over groups of courses are tried too.
 /// Where each live cell's own pattern stands on the path as yes, one is right for each bound that all
 /// feasible timetables on the path respect.
 pub fn find_leaf<'i, P: Path<'i>>(
@@ -141,6 +165,9 @@ pub fn find_leaf<'i, P: Path<'i>>(
         return Ok(Some(leaf));
     }
     if let Some(leaf) = find_clique(alloc, path, bound)? {
+        return Ok(Some(leaf));
+    }
+    if let Some(leaf) = find_overfull(alloc, path, bound)? {
         return Ok(Some(leaf));
     }
     if let Some(leaf) = if_right(path, best_claims(alloc, path)?, bound) {

@@ -7,6 +7,7 @@ mod find;
 mod grid;
 mod group_prices;
 mod laws;
+mod overfull;
 mod priced;
 mod prices;
 mod rivals;

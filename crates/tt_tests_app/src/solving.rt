@@ -2,7 +2,7 @@
 
 use std::alloc::Global;
 use std::test::Fail;
-use tt_samples::{GAP, MINI, SAME, WIDE, edited};
+use tt_samples::{APART, GAP, MINI, SAME, TRIO, WIDE, edited};
 use tt_test_files::{MemoryFiles, Refusal};
 use tt_test_runs::{Outcome, run_on};
 
@@ -34,9 +34,24 @@ fn searches_that_end(rt: HostRuntime) -> Result<(), Fail> {
         (MINI, "1", 0, "cost 1 bound 1 finished\n", "bound 1\n"),
         (WIDE, "1", 0, "cost 5 bound 5 finished\n", "bound 5\n"),
         (GAP, "100", 0, "cost 5 bound 5 finished\n", "bound 5\n"),
+        // A teacher, a curriculum and the rooms with more lectures than periods.
         (
             SAME,
-            "100",
+            "1",
+            1,
+            "cost none bound none finished\n",
+            "bound none\n",
+        ),
+        (
+            TRIO,
+            "1",
+            1,
+            "cost none bound none finished\n",
+            "bound none\n",
+        ),
+        (
+            APART,
+            "1",
             1,
             "cost none bound none finished\n",
             "bound none\n",

@@ -1,0 +1,58 @@
+//! Claims about drawn groups, beside brute force.
+
+use crate::brute_force::least_cost;
+use crate::drawn::{Drawn, draw};
+use std::alloc::Global;
+use std::test::Fail;
+use tt_groups_check::GroupFault;
+use tt_instance::read_instance;
+use tt_leaf_rules::Bound;
+use tt_peek::Peeked;
+use tt_sum::{GroupsFault, SumFault, sum_proofs};
+use tt_text::Pieces;
+
+/// How many groups are drawn.
+const GROUPS: u64 = 500;
+
+/// A claim about a group that has no relaxed timetable, so that any value holds.
+const ANY_VALUE: u64 = 100;
+
+/// The sum of one file that has one claim about the group.
+fn sum_of(alloc: Global, drawn: &Drawn, value: u64) -> Result<Result<Bound, SumFault>, Fail> {
+    let text = drawn.instance_text(alloc)?;
+    let instance = read_instance(alloc, text.as_bytes())?;
+    let claim = drawn.claim_text(alloc, value)?;
+    let mut sources = Vec::new(alloc);
+    sources.push(Peeked::new(alloc, Pieces::new(claim.as_bytes(), 16, 0)))?;
+    Ok(sum_proofs(alloc, &instance, sources.as_mut_slice()))
+}
+
+#[test]
+fn the_least_cost_is_the_highest_bound(rt: HostRuntime) -> Result<(), Fail> {
+    let alloc = rt.alloc();
+    let too_cheap = SumFault::Groups(1, GroupsFault::Group(0, GroupFault::TooCheap));
+    let mut impossible: u64 = 0;
+    let mut positive: u64 = 0;
+    for seed in 0..GROUPS {
+        let drawn = draw(seed);
+        let least = least_cost(&drawn).map(u64::from);
+        let value = least.unwrap_or(ANY_VALUE);
+        assert_eq!(rt;
+            sum_of(alloc, &drawn, value)?,
+            Ok(Bound::AtLeast(value)),
+            "{seed}"
+        );
+        if let Some(least) = least {
+            let more = least.saturating_add(1);
+            assert_eq!(rt; sum_of(alloc, &drawn, more)?, Err(too_cheap), "{seed}");
+        }
+        impossible = impossible.saturating_add(u64::from(least.is_none()));
+        positive = positive.saturating_add(u64::from(least.unwrap_or(0) > 0));
+    }
+    // Some of each kind are drawn.
+    assert!(rt;
+        impossible > 10 && positive > 100,
+        "{impossible} {positive}"
+    );
+    Ok(())
+}
