@@ -1,0 +1,264 @@
+#!/usr/bin/env python3
+"""Runs examples/spreadsheet from its tables to the calendar, and examples/many, with the built program, and looks at what they write; and
+looks whether docs/CALLING.md quotes the sources as they are.
+
+    python3 bench/examples.py [WORD..]     # with words, only the checks whose names contain one of them
+
+Each check prints a line; the last line says how many passed and failed. TT names the program; if it isn't set, it is ./tt. What a search
+finds isn't fixed, so a timetable is compared with tt validate; all that the scripts make of it is fixed. examples/many needs GNU parallel;
+without it, its checks are left out, and a line says so.
+"""
+import csv
+import datetime
+import io
+import os
+import re
+import shutil
+import subprocess
+import sys
+import tempfile
+
+TOP = os.path.dirname(os.path.dirname(os.path.abspath(__file__)))
+SHEETS = TOP + "/examples/spreadsheet"
+MANY = TOP + "/examples/many"
+TT = os.environ.get("TT", TOP + "/tt")
+FIRST_DAY, TIMES = "2027-02-01", "8:00,10:00,12:00,14:00"
+CALENDAR = ["--ics", "--first-day", FIRST_DAY, "--times", TIMES]
+MADE = {"SOURCE_DATE_EPOCH": "1800000000"}
+
+# An edit of a table, and the line that to_instance.py has to say of it.
+MISTAKES = [
+    ("courses.csv", "Kowalevski,3", "Kowalevski,three", "courses.csv, line 3, column lectures: 'three' is not a whole number, such as 3"),
+    ("courses.csv", "Logic,Hilbert", "Logic,", "courses.csv, line 5, column teacher: is empty"),
+    ("courses.csv", "Optics", "Mechanics", "courses.csv, line 7, column course: 'Mechanics' is in line 6 already"),
+    ("courses.csv", "students", "pupils",
+     "courses.csv, line 1: the first line has to name the columns course, teacher, lectures, days, students; students is missing"),
+    ("rooms.csv", "25", "1000001", "rooms.csv, line 4, column seats: 1000001 is too large; at most 1000000 is allowed"),
+    ("curricula.csv", "2,Optics", "2,Optik", "curricula.csv, line 12, column course: there is no course 'Optik' in courses.csv"),
+    ("unavailability.csv", "Logic,Monday", "Logic,Saturday",
+     "unavailability.csv, line 3, column day: 'Saturday' is day 5, but the week has only the days 0 to 4"),
+    ("unavailability.csv", "Friday,2", "Fridya,2",
+     "unavailability.csv, line 4, column day: 'Fridya' is neither a day of the week nor a number from 0 to 4"),
+    ("unavailability.csv", "Friday,3", "Friday,4", "unavailability.csv, line 5, column period: 4 is too large; at most 3 is allowed"),
+]
+# The text of a solution, and what from_solution.py has to say of it.
+WRONG_SOLUTIONS = [
+    ("Optics Hall 0 0 Optics", "lecture 2: a lecture has four words: course, room, day, period"),
+    ("Optik Hall 0 0", "lecture 1: there is no course 'Optik' in the instance"),
+    ("Optics Hal 0 0", "lecture 1: there is no room 'Hal' in the instance"),
+    ("Optics Hall 5 0", "lecture 1: '5' is no day from 0 to 4"),
+    ("Optics Hall 0 x", "lecture 1: 'x' is no period from 0 to 3"),
+]
+# Names that a calendar has to escape, to fold and to clean.
+HARD_NAMES = """Name: hard
+Courses: 1 Rooms: 1 Days: 5 Periods_per_day: 4 Curricula: 1 Constraints: 0
+COURSES: a,b;c\\d_é{long} t\x01 1 1 1 ROOMS: r 1
+CURRICULA: q 1 a,b;c\\d_é{long} UNAVAILABILITY_CONSTRAINTS: END.
+""".replace("{long}", "ü" * 90)
+
+results = []
+
+
+def run(command, folder, **more):
+    return subprocess.run(command, cwd=folder, capture_output=True, text=True, env={**os.environ, "TT": TT, **more}, errors="surrogateescape")
+
+
+def check(name, holds, text=""):
+    """Counts a check, and prints it; what was seen is shown if it fails."""
+    results.append(holds)
+    print(("passed: " if holds else "FAILED: ") + name + ("" if holds else f": {text!r}"))
+
+
+def script(name, *words, folder, **more):
+    return run([sys.executable, f"{SHEETS}/{name}", *words], folder, **more)
+
+
+def instance_checks(folder):
+    with open(SHEETS + "/department.ctt", encoding="utf-8") as file:
+        wanted = file.read()
+    done = script("to_instance.py", SHEETS, "--name", "department", folder=folder)
+    check("the tables make department.ctt", (done.stdout, done.stderr, done.returncode) == (wanted, "", 0), done.stderr)
+    sheets = folder + "/semicolons"
+    shutil.copytree(SHEETS, sheets)
+    for name in ("courses", "rooms", "curricula", "unavailability"):
+        with open(f"{SHEETS}/{name}.csv", encoding="utf-8", newline="") as file:
+            rows = list(csv.reader(file))
+        with open(f"{sheets}/{name}.csv", "w", encoding="utf-8-sig", newline="") as file:
+            csv.writer(file, delimiter=";").writerows([row + [""] for row in rows] + [[]])
+    done = script("to_instance.py", sheets, "--name", "department", folder=folder)
+    check("so do tables with semicolons, a mark in front, and another column", done.stdout == wanted, done.stderr)
+
+
+def mistake_checks(folder):
+    for at, (file, old, new, line) in enumerate(MISTAKES):
+        sheets = f"{folder}/mistake{at}"
+        shutil.copytree(SHEETS, sheets)
+        with open(f"{sheets}/{file}", encoding="utf-8") as opened:
+            text = opened.read()
+        with open(f"{sheets}/{file}", "w", encoding="utf-8") as opened:
+            opened.write(text.replace(old, new, 1))
+        done = script("to_instance.py", sheets, folder=folder)
+        said = line in done.stderr.splitlines()
+        check(f"a mistake in {file}: {line.split(': ', 1)[1]}", said and (done.stdout, done.returncode) == ("", 2), done.stderr)
+
+
+def solution_mistake_checks(folder):
+    for text, line in WRONG_SOLUTIONS:
+        with open(folder + "/wrong.sol", "w", encoding="utf-8") as file:
+            file.write(text)
+        done = script("from_solution.py", SHEETS + "/department.ctt", "wrong.sol", "--csv", folder=folder)
+        check(f"a mistake in a solution: {line}", (done.stderr, done.stdout, done.returncode) == (f"wrong.sol, {line}\n", "", 2), done.stderr)
+
+
+def lectures_of(solution):
+    """The lectures of a solution file, in the order of the week: day, period, course, room."""
+    with open(solution, encoding="utf-8") as file:
+        words = file.read().split()
+    return sorted((int(d), int(p), c.replace("_", " "), r.replace("_", " ")) for c, r, d, p in zip(*[iter(words)] * 4))
+
+
+def begin_of(day, period):
+    hour, minute = map(int, TIMES.split(",")[period].split(":"))
+    return datetime.datetime.fromisoformat(FIRST_DAY) + datetime.timedelta(days=day, hours=hour, minutes=minute)
+
+
+def events_of(text):
+    """The events of a calendar, each a dictionary of its properties, unfolded and as text."""
+    events = []
+    for line in text.replace("\r\n ", "").split("\r\n"):
+        name, _, value = line.partition(":")
+        if line == "BEGIN:VEVENT":
+            events.append({})
+        elif events:
+            events[-1].setdefault(name, re.sub(r"\\(.)", lambda found: {"n": "\n"}.get(found[1], found[1]), value))
+    return events
+
+
+def folding_holds(text):
+    lines = text.split("\r\n")
+    return lines[-1] == "" and "\n" not in text.replace("\r\n", "") and all(len(line.encode("utf-8")) <= 75 for line in lines)
+
+
+def calendar(instance, solution, folder):
+    """The bytes of a calendar as text; a line keeps its own end."""
+    done = subprocess.run([sys.executable, f"{SHEETS}/from_solution.py", instance, solution, *CALENDAR], cwd=folder, capture_output=True,
+                          env={**os.environ, **MADE})
+    return done.stdout.decode("utf-8")
+
+
+def week_checks(folder):
+    with open(SHEETS + "/README.md", encoding="utf-8") as file:
+        block = re.search(r"^```\n(python3 .*?)^```", file.read(), re.M | re.S).group(1)
+    os.symlink(TOP + "/examples", folder + "/examples")
+    with open(folder + "/tt", "w", encoding="utf-8") as file:
+        file.write(f'#!/bin/sh\nexec "{TT}" "$@"\n')
+    os.chmod(folder + "/tt", 0o755)
+    done = run(["bash", "-euc", block], folder, **MADE)
+    found = re.fullmatch(r"cost (\d+) bound (\d+)( optimal)?\n", done.stdout)
+    check("the commands of the spreadsheet's README", done.returncode == 0 and found is not None, done.stdout + done.stderr)
+    if found is None:
+        return
+    done = run([TT, "validate", "department.ctt", "department/best.sol"], folder)
+    check("the timetable breaks no hard rule, at its cost", done.stdout.endswith(f"\nhard 0\ncost {found[1]}\n"), done.stdout)
+    week = lectures_of(folder + "/department/best.sol")
+    with open(folder + "/department.csv", encoding="utf-8", newline="") as file:
+        rows = list(csv.DictReader(file))
+    check("the table has a line for each lecture",
+          [(int(row["day"]), int(row["period"]), row["course"], row["room"]) for row in rows] == week and len(week) == 20, rows[:2])
+    with open(folder + "/department.ics", encoding="utf-8", newline="") as file:
+        text = file.read()
+    events = events_of(text)
+    seen = [(event["SUMMARY"], event["LOCATION"], event["DTSTART"], event["DTEND"], event["DTSTAMP"]) for event in events]
+    form = "%Y%m%dT%H%M%S"
+    wanted = [(course, room, begin_of(day, period).strftime(form), (begin_of(day, period) + datetime.timedelta(minutes=90)).strftime(form),
+               "20270115T080000Z") for day, period, course, room in week]
+    check("the calendar has an event for each lecture", sorted(seen) == sorted(wanted), seen[:2])
+    check("the events have names of their own", len({event["UID"] for event in events}) == len(events))
+    check("the calendar's lines end in CRLF and have at most 75 octets", folding_holds(text))
+    check("the calendar is the same each time", calendar("department.ctt", "department/best.sol", folder) == text)
+
+
+def hard_name_checks(folder):
+    with open(folder + "/hard.ctt", "w", encoding="utf-8") as file:
+        file.write(HARD_NAMES)
+    name = HARD_NAMES.split()[15]
+    with open(folder + "/hard.sol", "w", encoding="utf-8") as file:
+        file.write(f"{name} r 0 0\n")
+    text = calendar("hard.ctt", "hard.sol", folder)
+    events = events_of(text)
+    check("hard names are escaped and folded", folding_holds(text) and events and events[0]["SUMMARY"] == name.replace("_", " "), text)
+    check("a control in a name becomes U+FFFD", events and events[0]["DESCRIPTION"] == "t\ufffd\nq", text)
+
+
+def many_checks(folder):
+    if shutil.which("parallel") is None:
+        print("left out: examples/many, since GNU parallel isn't here")
+        return
+    instances = [TOP + "/examples/mini.ctt", TOP + "/examples/tiny01.ctt"]
+    done = run([MANY + "/many.sh", "improve", "--seeds", "3", "--steps", "200", "runs", *instances], folder)
+    lines = re.findall(r"^(\w+): hard 0 cost (\d+), made by seed [123], the best of 3$", done.stdout, re.M)
+    check("many.sh keeps a timetable of each instance", [name for name, _ in lines] == ["mini", "tiny01"], done.stdout + done.stderr)
+    for name, cost in lines:
+        done = run([TT, "validate", f"{TOP}/examples/{name}.ctt", f"runs/{name}.sol"], folder)
+        check(f"the timetable kept of {name} has its cost", f"\ncost {cost}\n" in done.stdout, done.stdout)
+    again = run([MANY + "/many.sh", "keep", "improve", "runs", *instances], folder)
+    check("many.sh keep says the same", re.findall(r"^(\w+): hard 0 cost (\d+)", again.stdout, re.M) == lines, again.stdout)
+    instance = TOP + "/examples/like04.ctt"
+    done = run([MANY + "/many.sh", "parts", "--seeds", "2", "--nodes", "1000", "runs", instance], folder)
+    found = re.fullmatch(r"like04: bound (\d+), made by seed [12], the best of 2\n", done.stdout)
+    check("many.sh keeps proofs", found is not None, done.stdout + done.stderr)
+    if found is not None:
+        proofs = sorted(f"runs/like04.proofs/{name}" for name in os.listdir(folder + "/runs/like04.proofs"))
+        done = run([MANY + "/check.sh", instance, *proofs], folder)
+        check("check.sh adds up the proofs kept", done.stdout.endswith(f"\nbound {found[1]}\n"), done.stdout + done.stderr)
+    proofs = sorted(f"{TOP}/examples/like04/{name}" for name in os.listdir(TOP + "/examples/like04"))
+    done = run([MANY + "/check.sh", instance, "--solution", TOP + "/examples/like04.best.sol", *proofs], folder)
+    check("check.sh checks eleven proofs and their sum",
+          len(done.stdout.splitlines()) == 12 and done.stdout.endswith("\nyes cost 28 bound 28 optimal\n"), done.stdout + done.stderr)
+
+
+def bare(text):
+    """A text of Rust without its comments, spaces and last commas."""
+    lines = (line for line in text.splitlines() if not line.lstrip().startswith("//"))
+    return re.sub(r",(?=[)}])", "", re.sub(r"\s", "", "\n".join(lines)))
+
+
+def names_in(lines):
+    return set(re.findall(r"[^\s{},;:.]+", " ".join(lines))) - {"use", "ghost", "tt_app", "crate"}
+
+
+def calling_checks(_folder):
+    """Looks whether what docs/CALLING.md quotes is in the sources that it names."""
+    with open(TOP + "/docs/CALLING.md", encoding="utf-8") as file:
+        page = file.read()
+    for line, block in re.findall(r"^([^\n]*From \[[^\n]*:)\n\n```\w+\n(.*?)^```", page, re.M | re.S):
+        sources = []
+        for path in re.findall(r"\]\(\.\./(crates/[^)]*\.rt)\)", line):
+            with open(f"{TOP}/{path}", encoding="utf-8") as file:
+                sources.append(file.read())
+        quoted = block.splitlines()
+        imports = [row for row in quoted if row.startswith(("use ", "ghost use "))]
+        known = names_in(row for text in sources for row in text.splitlines() if row.startswith(("use ", "ghost use ")))
+        missing = names_in(imports) - known
+        code = "\n".join(row for row in quoted if row not in imports)
+        for function in re.split(r"^(?=(?:pub )?fn )", code, flags=re.M)[1:]:
+            name = re.match(r"(?:pub )?fn ([\w:]+)", function)[1]
+            text = bare(re.sub(r"^((?:pub )?fn )\w+::", r"\1", function))
+            check(f"CALLING quotes {name}", any(text in bare(source) for source in sources), text[:60])
+        check(f"CALLING's imports are those of {re.search(r'crates/[^]]*', line)[0]}", not missing, missing)
+
+
+GROUPS = [instance_checks, mistake_checks, solution_mistake_checks, hard_name_checks, calling_checks, week_checks, many_checks]
+
+
+def main():
+    for group in GROUPS:
+        if len(sys.argv) == 1 or any(word in group.__name__ for word in sys.argv[1:]):
+            with tempfile.TemporaryDirectory() as folder:
+                group(folder)
+    print(f"{sum(results)} passed, {len(results) - sum(results)} failed")
+    return 0 if all(results) else 1
+
+
+if __name__ == "__main__":
+    sys.exit(main())

@@ -1,0 +1,186 @@
+#!/usr/bin/env python3
+"""Writes an instance file from the four tables of a spreadsheet.
+
+    python3 to_instance.py FOLDER [--name NAME] [--days 5] [--periods 4] > INSTANCE
+
+FOLDER has courses.csv, rooms.csv, curricula.csv and unavailability.csv, as a spreadsheet program saves them. The first line of
+each names the columns. If something is wrong, nothing is written: each problem is one line on standard error, with its file, line and
+column, and the exit status is 2.
+"""
+import argparse
+import csv
+import io
+import os
+import sys
+
+COLUMNS = {
+    "courses.csv": ("course", "teacher", "lectures", "days", "students"),
+    "rooms.csv": ("room", "seats"),
+    "curricula.csv": ("curriculum", "course"),
+    "unavailability.csv": ("course", "day", "period"),
+}
+WEEKDAYS = ("monday", "tuesday", "wednesday", "thursday", "friday", "saturday", "sunday")
+MOST = {"lectures": 4_096, "days": 512, "students": 1_000_000, "seats": 1_000_000}
+MOST_ROWS = {"courses": 2_048, "rooms": 512, "curricula": 8_192, "unavailable periods": 65_536, "lectures together": 4_096}
+
+problems = []
+
+
+def report(file, line, column, text):
+    place = file + (f", line {line}" if line else "") + (f", column {column}" if column else "")
+    problems.append(f"{place}: {text}")
+
+
+def word(text):
+    """A name as one word, since an instance file separates words by spaces."""
+    return "_".join(text.split())
+
+
+def read_rows(folder, file):
+    """Yields the rows of a table: the number of the line, and the text of each column."""
+    try:
+        with open(os.path.join(folder, file), encoding="utf-8-sig", newline="") as opened:
+            text = opened.read()
+    except OSError as error:
+        report(file, None, None, f"cannot be read: {error.strerror}")
+        return
+    except UnicodeDecodeError:
+        report(file, None, None, "is not in UTF-8; save it as 'CSV UTF-8'")
+        return
+    first = text.split("\n", 1)[0]
+    rows = csv.reader(io.StringIO(text, newline=""), delimiter=";" if first.count(";") > first.count(",") else ",")
+    header = [cell.strip().lower() for cell in next(rows, [])]
+    missing = [column for column in COLUMNS[file] if column not in header]
+    if missing:
+        report(file, 1, None, f"the first line has to name the columns {', '.join(COLUMNS[file])}; {', '.join(missing)} is missing")
+        return
+    line = rows.line_num + 1
+    for row in rows:
+        cells = {column: word(row[at]) if at < len(row) else "" for at, column in enumerate(header)}
+        if any(cells.values()):
+            for column in COLUMNS[file]:
+                if not cells[column]:
+                    report(file, line, column, "is empty")
+            yield line, cells
+        line = rows.line_num + 1
+
+
+def number(file, line, column, text, most):
+    """The number of a cell, or None if it is none from 0 to most; an empty cell is reported already."""
+    if not text:
+        return None
+    if not (text.isascii() and text.isdigit()):
+        report(file, line, column, f"'{text}' is not a whole number, such as 3")
+    elif len(text.lstrip("0")) > len(str(most)) or int(text) > most:
+        report(file, line, column, f"{text} is too large; at most {most} is allowed")
+    else:
+        return int(text)
+    return None
+
+
+def add_once(file, line, column, name, lines):
+    """Whether the name is new; if not, says where it was first."""
+    if name and name in lines:
+        report(file, line, column, f"'{name}' is in line {lines[name]} already")
+        return False
+    lines[name] = line
+    return True
+
+
+def read_records(folder, file):
+    """The records of courses or rooms: their names, and the words that follow them in the instance."""
+    name, *others = COLUMNS[file]
+    records, lines = [], {}
+    for line, cells in read_rows(folder, file):
+        words = [cells[name]]
+        for column in others:
+            value = cells[column]
+            words.append(value if column == "teacher" else number(file, line, column, value, MOST[column]))
+        if add_once(file, line, name, cells[name], lines):
+            records.append(words)
+    return records
+
+
+def check_course(file, line, name, courses):
+    """Reports a course that isn't in courses.csv, if any course could be read there."""
+    if name and courses and name not in courses:
+        report(file, line, "course", f"there is no course '{name}' in courses.csv")
+
+
+def read_curricula(folder, courses):
+    file, curricula = "curricula.csv", {}
+    for line, cells in read_rows(folder, file):
+        check_course(file, line, cells["course"], courses)
+        members = curricula.setdefault(cells["curriculum"], [])
+        if cells["course"] not in members:
+            members.append(cells["course"])
+    return curricula
+
+
+def day_of(file, line, text, days):
+    """The number of a day: the name of a weekday, where Monday is 0, or its number."""
+    if not text:
+        return None
+    names = [at for at, name in enumerate(WEEKDAYS) if len(text) >= 2 and name.startswith(text.lower())]
+    if names and names[0] >= days:
+        report(file, line, "day", f"'{text}' is day {names[0]}, but the week has only the days 0 to {days - 1}")
+        return None
+    if names:
+        return names[0]
+    if text.isascii() and text.isdigit():
+        return number(file, line, "day", text, days - 1)
+    report(file, line, "day", f"'{text}' is neither a day of the week nor a number from 0 to {days - 1}")
+    return None
+
+
+def read_unavailability(folder, courses, days, periods):
+    file, found = "unavailability.csv", {}
+    for line, cells in read_rows(folder, file):
+        check_course(file, line, cells["course"], courses)
+        day = day_of(file, line, cells["day"], days)
+        period = number(file, line, "period", cells["period"], periods - 1)
+        found[cells["course"], day, period] = None
+    return list(found)
+
+
+def check_sizes(courses, rooms, curricula, bars):
+    lectures = sum(words[2] or 0 for words in courses)
+    for what, count in zip(MOST_ROWS, (len(courses), len(rooms), len(curricula), len(bars), lectures)):
+        if count > MOST_ROWS[what]:
+            report("all files", None, None, f"{count} {what} are too many; at most {MOST_ROWS[what]} are allowed")
+
+
+def instance_text(name, days, periods, courses, rooms, curricula, bars):
+    lines = [f"Name: {name}", f"Courses: {len(courses)}", f"Rooms: {len(rooms)}", f"Days: {days}", f"Periods_per_day: {periods}",
+             f"Curricula: {len(curricula)}", f"Constraints: {len(bars)}", "", "COURSES:"]
+    lines += [" ".join(map(str, words)) for words in courses]
+    lines += ["", "ROOMS:"] + [" ".join(map(str, words)) for words in rooms]
+    lines += ["", "CURRICULA:"] + [" ".join([group, str(len(members)), *members]) for group, members in curricula.items()]
+    lines += ["", "UNAVAILABILITY_CONSTRAINTS:"] + [" ".join(map(str, bar)) for bar in bars]
+    return "\n".join(lines + ["", "END.", ""])
+
+
+def main():
+    parser = argparse.ArgumentParser(description="Writes an instance file from the four tables of a spreadsheet.")
+    parser.add_argument("folder")
+    parser.add_argument("--name", help="the name of the instance; that of the folder if none is given")
+    parser.add_argument("--days", type=int, choices=range(1, 8), default=5, help="how many days the week has (default: 5)")
+    parser.add_argument("--periods", type=int, choices=range(1, 65), metavar="1..64", default=4, help="how many periods a day has (default: 4)")
+    options = parser.parse_args()
+    name = word(options.name or os.path.basename(os.path.abspath(options.folder)))
+    courses = read_records(options.folder, "courses.csv")
+    rooms = read_records(options.folder, "rooms.csv")
+    names = {words[0] for words in courses}
+    curricula = read_curricula(options.folder, names)
+    bars = read_unavailability(options.folder, names, options.days, options.periods)
+    check_sizes(courses, rooms, curricula, bars)
+    if problems:
+        print("\n".join(problems), file=sys.stderr)
+        return 2
+    text = instance_text(name, options.days, options.periods, courses, rooms, curricula, bars)
+    sys.stdout.buffer.write(text.encode("utf-8"))
+    return 0
+
+
+if __name__ == "__main__":
+    sys.exit(main())
