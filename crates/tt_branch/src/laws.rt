@@ -8,8 +8,8 @@ ghost use Rattle.tt_leaf.specs.Pinned.{IsPinnedDown};
 ghost use Rattle.tt_branch.specs.Alone.{LeavesOne};
 ghost use Rattle.tt_branch.specs.Proofs.{IsUnclosed};
 
-/// If each live cell's own pattern stands on the path as yes, and no Empty leaf of a yes-fact, no Many leaf and no Clique of one course is
-/// right there, then the live cells are, up to order, the one feasible timetable that fits the path, and the best claims are worth its cost.
+/// If the path has each live cell's own pattern as a yes-fact, and no Empty leaf of a yes-fact, no Many leaf and no Clique of one course is right on it,
+/// then it leaves a single feasible timetable. Its entries are the live cells, in some order, and its cost is the worth of the best claims.
 pub fn pinned_paths_leave_one_timetable()
     ensures { (p : Problem) (path : List Fact) → IsInstance p → IsPinnedDown p path → IsUnclosed p path → LeavesOne p path }
 {}
