@@ -2,7 +2,7 @@
 """Checks the documents: README.md, CHANGELOG.md, docs/*.md and each README.md below examples/.
 
     python3 bench/docs.py               # links, contents lists, and names (bench/names.py)
-    python3 bench/docs.py --commands    # and README's commands (bench/readme.py), which need the built program
+    python3 bench/docs.py --commands    # and commands (bench/readme.py, bench/examples.py), which need the built program
 
 A link has to lead to a file of the repository, and its anchor to a heading of that file, as a page of HTML names it; addresses of the web are not
 looked up. A page of more than 1,500 words needs a contents list: links to its own headings, at least one for each heading of the second level.
@@ -98,6 +98,7 @@ def main():
     failed = run("names.py")
     if "--commands" in sys.argv:
         failed = run("readme.py") or failed
+        failed = run("examples.py") or failed
     return 1 if faults or failed else 0
 
 
