@@ -48,7 +48,9 @@ fn ics_option<'a>(alloc: Global) -> Result<Arg<'a>, AllocError> {
         .action(ArgAction::Set)
         .value_name("NAME")
         .help("Prints the week of the room, teacher or curriculum of this name as a calendar")
-        .requires_all(&["by", "first-day", "times"])
+        .requires_arg("by")?
+        .requires_arg("first-day")?
+        .requires_arg("times")
 }
 
 /// An option of a calendar.
