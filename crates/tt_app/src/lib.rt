@@ -10,7 +10,7 @@ mod sum_checking;
 pub use answer::Answer;
 pub use calls::best::{BestAnswer, best_watched};
 pub use calls::bound::bound;
-pub use calls::calendar::{CalendarRequest, calendar};
+pub use calls::calendar::{WeekTimes, calendar};
 pub use calls::check::check;
 pub use calls::improve::{complete_and_improve, improve, improve_in_runs};
 pub use calls::inspect::inspect;

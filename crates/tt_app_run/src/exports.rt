@@ -2,7 +2,7 @@
 
 use crate::disk::read_file;
 use std::rt::Files;
-use tt_app::{Answer, AppFault, CalendarRequest, Input, calendar, table};
+use tt_app::{Answer, AppFault, Input, WeekTimes, calendar, table};
 use tt_arguments::CalendarWish;
 
 /// Returns the table of a solution.
@@ -32,12 +32,10 @@ pub fn answer_calendar<R: Files + AllocGlobal>(
         times,
         minutes,
     } = wish;
-    let request = CalendarRequest {
-        by,
-        name: name.as_bytes(),
+    let times = WeekTimes {
         first_day,
         times,
         minutes,
     };
-    calendar(rt.alloc(), &instance, &solution, request)
+    calendar(rt.alloc(), &instance, &solution, by, name.as_bytes(), times)
 }

@@ -11,12 +11,9 @@ use tt_instance::{Instance, read_instance};
 use tt_report::By;
 use tt_table::read_solution;
 
-/// Whose week a calendar shows, and when it takes place.
+/// When the week of a calendar takes place.
 #[derive(Clone, Copy, Debug)]
-pub struct CalendarRequest<'a> {
-    pub by: By,
-    /// The name of the room, the teacher or the curriculum.
-    pub name: &'a [u8],
+pub struct WeekTimes<'a> {
     /// The date of day 0, as 2027-02-01.
     pub first_day: &'a str,
     /// When the periods of a day begin, as 8:00,9:00.
@@ -25,41 +22,38 @@ pub struct CalendarRequest<'a> {
     pub minutes: u32,
 }
 
-/// When the week of a request takes place.
-fn term_of(
-    alloc: Global,
-    instance: &Instance<'_>,
-    request: CalendarRequest<'_>,
-) -> Result<Term, AppFault>
+/// When the days and periods of an instance take place.
+fn term_of(alloc: Global, instance: &Instance<'_>, times: WeekTimes<'_>) -> Result<Term, AppFault>
     ensures { IfErr result IsNoTerm }
 {
     let sizes = (instance.days(), instance.periods());
-    let CalendarRequest {
+    let WeekTimes {
         first_day,
         times,
         minutes,
-        ..
-    } = request;
+    } = times;
     Ok(Term::new(alloc, sizes, first_day, times, minutes)?)
 }
 
-/// The week of a room, a teacher or a curriculum under a solution of an instance as an iCalendar file; the status is 0.
+/// The week of the room, the teacher or the curriculum of this name under a solution of an instance as an iCalendar file; the status is 0.
 pub fn calendar(
     alloc: Global,
     instance: &[u8],
     solution: &[u8],
-    request: CalendarRequest<'_>,
+    by: By,
+    name: &[u8],
+    times: WeekTimes<'_>,
 ) -> Result<Answer, AppFault>
-    ensures found { IfOk result (IsCalendar instance.now solution.now request.by request.name.now) }
+    ensures found { IfOk result (IsCalendar instance.now solution.now by name.now) }
     // A refusal is the first fault: a file's, then an unknown name, then the dates and times.
-    ensures fault { IfErr result (IsCalendarRefusal instance.now solution.now request.by request.name.now) }
+    ensures fault { IfErr result (IsCalendarRefusal instance.now solution.now by name.now) }
 {
     let instance = read_instance(alloc, instance)?;
     let table = read_solution(alloc, &instance, solution)?;
-    let Some(week) = Week::named(&instance, request.by, request.name) else {
+    let Some(week) = Week::named(&instance, by, name) else {
         return Err(AppFault::UnknownName);
     };
-    let term = term_of(alloc, &instance, request)?;
+    let term = term_of(alloc, &instance, times)?;
     Ok(Answer {
         status: 0,
         out: write_calendar(alloc, &instance, &table, week, &term)?,

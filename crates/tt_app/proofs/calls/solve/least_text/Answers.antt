@@ -9,5 +9,5 @@ pub returns-in-Err-NotInVersion-clause-file : goal.returns-in-Err-NotInVersion-c
 returns-in-Err-NotInVersion-clause-file c =
     let b = c.args.bound in
     let nodes = c.args.nodes.now in
-    IfOk-weaker c.second_text-in-Err-NotInVersion.result (λ v. Writes 2 b nodes v.items) (λ v. IsProofFile b nodes v.items)
-    (λ v. second_file b nodes v.items (subst (λ f. Refuses 1 b nodes f) c.in-Err-NotInVersion.field-0-is c.in-Err-NotInVersion.ensures.refuses).2) c.second_text-in-Err-NotInVersion.ensures.text
+    IfOk-weaker c.second_text.result (λ v. Writes 2 b nodes v.items) (λ v. IsProofFile b nodes v.items)
+    (λ v. second_file b nodes v.items (subst (λ f. Refuses 1 b nodes f) c.in-Err-NotInVersion.field-0-is c.in-Err-NotInVersion.ensures.refuses).2) c.second_text.ensures.text
