@@ -31,10 +31,11 @@ fn suits(course: &Course, is_concerned: bool, slots: u32) -> bool {
 }
 
 /// Whether two courses may not meet in one period: a common teacher, or a curriculum that has both.
-fn conflict(drawn: &Drawn, one: usize, other: usize) -> bool {
-    let both = (1 << (one as u32 % 3)) | (1 << (other as u32 % 3));
-    let same_teacher = drawn.courses[one % 3].teacher == drawn.courses[other % 3].teacher;
-    same_teacher
+fn conflict(drawn: &Drawn, one: u32, other: u32) -> bool {
+    let both = (1 << (one % 3)) | (1 << (other % 3));
+    let first = &drawn.courses[(one % 3) as usize];
+    let second = &drawn.courses[(other % 3) as usize];
+    first.teacher == second.teacher
         || drawn
             .curricula
             .iter()
@@ -95,7 +96,7 @@ fn cost(drawn: &Drawn, plan: [u32; 3], first: u32) -> u32 {
 pub fn least_cost(drawn: &Drawn) -> Option<u32> {
     let courses = concerned(drawn);
     let first = first_slots(drawn);
-    let apart = |one, other, a: u32, b: u32| a & b == 0 || !conflict(drawn, one, other);
+    let apart = |one: u32, other: u32, a: u32, b: u32| a & b == 0 || !conflict(drawn, one, other);
     let mut least: Option<u32> = None;
     for a in 0..SETS {
         if !suits(&drawn.courses[0], has_bit(courses, 0), a) {

@@ -42,20 +42,20 @@ fn draw_course(rng: &mut Pcg32) -> Course {
     Course {
         teacher: below(rng, 4),
         lectures: below(rng, 4),
-        wanted_days: 1 + below(rng, 4),
+        wanted_days: below(rng, 4).saturating_add(1),
         available: rng.next_u32() | rng.next_u32() | rng.next_u32(),
     }
 }
 
 /// Draws a curriculum of at least one course.
 fn draw_curriculum(rng: &mut Pcg32) -> u32 {
-    1 + below(rng, 7)
+    below(rng, 7).saturating_add(1)
 }
 
 /// Draws the instance and the group of a seed.
 pub fn draw(seed: u64) -> Drawn {
     let mut rng = Pcg32::seed_from_u64(seed);
-    let days = 1 + below(&mut rng, 3);
+    let days = below(&mut rng, 3).saturating_add(1);
     Drawn {
         days,
         periods: SLOTS / days.max(1),
