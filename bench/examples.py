@@ -164,7 +164,9 @@ def week_checks(folder):
     with open(folder + "/department.csv", encoding="utf-8", newline="") as file:
         rows = list(csv.DictReader(file))
     check("the table has a line for each lecture",
-          [(int(row["day"]), int(row["period"]), row["course"], row["room"]) for row in rows] == week and len(week) == 20, rows[:2])
+          sorted((int(row["day"]), int(row["period"]), row["course"], row["room"]) for row in rows) == week and len(week) == 20, rows[:2])
+    times = [(int(row["day"]), int(row["period"])) for row in rows]
+    check("the table is in the order of the week", times == sorted(times), times)
     with open(folder + "/department.ics", encoding="utf-8", newline="") as file:
         text = file.read()
     events = events_of(text)
