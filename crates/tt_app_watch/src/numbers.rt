@@ -9,11 +9,15 @@ pub struct Grouped(pub u64);
 impl fmt::Display for Grouped {
     fn fmt<W: fmt::Write>(&self, f: &mut fmt::Formatter<W>) -> fmt::Result {
         let number = self.0;
-        let (millions, thousands, rest) = (
-            number / 1_000_000,
+        let (billions, millions, thousands, rest) = (
+            number / 1_000_000_000,
+            number / 1_000_000 % 1_000,
             number / 1_000 % 1_000,
             number % 1_000,
         );
+        if billions > 0 {
+            return write!(f, "{billions},{millions:03},{thousands:03},{rest:03}");
+        }
         if millions > 0 {
             return write!(f, "{millions},{thousands:03},{rest:03}");
         }
