@@ -2,7 +2,7 @@
 
 use std::fmt;
 
-/// A number with a comma before each three digits.
+/// A number with a comma before each three of its last nine digits.
 #[derive(Clone, Copy, Debug)]
 pub struct Grouped(pub u64);
 
