@@ -100,6 +100,7 @@ fn sort_between(vectors: &mut Vec<Vector>, begin: usize, end: usize) {
 }
 
 impl Folder {
+    /// Makes room for the vectors of a week with this many days. Fails if memory runs out.
     pub fn new(alloc: Global, days: usize) -> Result<Folder, AllocError> {
         let ends = days.saturating_add(1);
         Ok(Folder {

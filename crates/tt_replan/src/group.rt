@@ -95,6 +95,7 @@ impl Group {
         1u8.wrapping_shl(self.len)
     }
 
+    /// Whether no course is in the group.
     pub fn is_empty(&self) -> bool {
         self.len == 0
     }

@@ -37,6 +37,7 @@ pub struct Links {
 }
 
 impl Links {
+    /// Makes the links of this many courses, none of them linked yet. Fails if memory runs out.
     pub fn new(alloc: Global, courses: u32, curricula: u32) -> Result<Links, AllocError> {
         Ok(Links {
             links: vec![in alloc; Link::NONE; courses as usize]?,

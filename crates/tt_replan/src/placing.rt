@@ -30,6 +30,7 @@ pub struct Plan {
 }
 
 impl Plan {
+    /// Makes room for a plan of this many slots. Fails if memory runs out.
     pub fn new(alloc: Global, slots: usize) -> Result<Plan, AllocError> {
         Ok(Plan {
             members: vec![in alloc; 0u8; slots]?,

@@ -34,6 +34,7 @@ fn index(slot: usize, member: usize) -> usize {
 }
 
 impl Prices {
+    /// Makes room for the prices of each member in this many slots. Fails if memory runs out.
     pub fn new(alloc: Global, slots: usize) -> Result<Prices, AllocError> {
         Ok(Prices {
             prices: vec![in alloc; Price::NONE; slots.saturating_mul(MOST_MEMBERS)]?,

@@ -132,10 +132,12 @@ impl Rooms {
         u32::try_from(self.rooms.len()).unwrap_or(u32::MAX)
     }
 
+    /// The rank of a room by its seats.
     pub fn rank(&self, room: u32) -> u32 {
         at(&self.ranks, room)
     }
 
+    /// The room of a rank.
     pub fn room(&self, rank: u32) -> u32 {
         at(&self.rooms, rank)
     }

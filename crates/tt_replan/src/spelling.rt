@@ -121,6 +121,7 @@ pub struct Speller {
 }
 
 impl Speller {
+    /// Makes room for the letters of a day with this many periods. Fails if memory runs out.
     pub fn new(alloc: Global, periods: usize) -> Result<Speller, AllocError> {
         Ok(Speller {
             letters: vec![in alloc; Letter::NONE; periods.saturating_mul(MOST_LETTERS)]?,

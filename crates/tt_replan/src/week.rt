@@ -80,6 +80,7 @@ fn open_to(instance: &Instance<'_>, group: &Group, day: u32, period: u32) -> u8 
 }
 
 impl Week {
+    /// Reads the slots, rooms and courses of a timetable. Fails if memory runs out.
     pub fn new(alloc: Global, occupied: &Occupied<'_, '_>) -> Result<Week, AllocError> {
         let instance = occupied.instance();
         let (days, periods) = (instance.days() as usize, instance.periods() as usize);
@@ -100,6 +101,7 @@ impl Week {
         self.slots.len()
     }
 
+    /// The day and period of a slot by its number.
     pub fn slot(&self, slot: usize) -> Slot {
         self.slots.get(slot).copied().unwrap_or(Slot::NONE)
     }
@@ -109,6 +111,7 @@ impl Week {
         self.own.get(..self.own_count).unwrap_or(&[])
     }
 
+    /// The number of a slot: day times periods of a day, plus period.
     pub fn number_of(&self, day: u32, period: u32) -> usize {
         (day as usize)
             .wrapping_mul(self.periods)

@@ -27,47 +27,26 @@ fn roomless(alloc: Global) -> Result<String, Fail> {
     edited(alloc, &text, "R 11\n", "")
 }
 
+/// The status, the line and the bound of an instance that has no timetable.
+const NO_TIMETABLE: (u8, &str, &str) = (1, "cost none bound none finished\n", "bound none\n");
+
 #[test]
 fn searches_that_end(rt: HostRuntime) -> Result<(), Fail> {
     let roomless = roomless(rt.alloc())?;
-    for (instance, nodes, status, line, bound) in [
-        (MINI, "1", 0, "cost 1 bound 1 finished\n", "bound 1\n"),
-        (WIDE, "1", 0, "cost 5 bound 5 finished\n", "bound 5\n"),
-        (GAP, "100", 0, "cost 5 bound 5 finished\n", "bound 5\n"),
-        // A teacher, a curriculum and the rooms with more lectures than periods.
-        (
-            SAME,
-            "1",
-            1,
-            "cost none bound none finished\n",
-            "bound none\n",
-        ),
-        (
-            TRIO,
-            "1",
-            1,
-            "cost none bound none finished\n",
-            "bound none\n",
-        ),
-        (
-            APART,
-            "1",
-            1,
-            "cost none bound none finished\n",
-            "bound none\n",
-        ),
-        (
-            roomless.as_str(),
-            "1",
-            1,
-            "cost none bound none finished\n",
-            "bound none\n",
-        ),
+    for (instance, nodes, (status, line, bound)) in [
+        (MINI, "1", (0, "cost 1 bound 1 finished\n", "bound 1\n")),
+        (WIDE, "1", (0, "cost 5 bound 5 finished\n", "bound 5\n")),
+        (GAP, "100", (0, "cost 5 bound 5 finished\n", "bound 5\n")),
+        // A teacher, a curriculum and the rooms with more lectures than periods, and an instance without rooms.
+        (SAME, "1", NO_TIMETABLE),
+        (TRIO, "1", NO_TIMETABLE),
+        (APART, "1", NO_TIMETABLE),
+        (roomless.as_str(), "1", NO_TIMETABLE),
     ] {
         let memory = filled(rt.alloc(), instance, Refusal::Nothing)?;
         let outcome = solved(rt.alloc(), &memory, nodes)?;
         assert_eq!(rt; outcome.answer(), (status, line, ""));
-        // A file of the best timetable stands there only with one.
+        // The file of the best timetable exists only if there is one.
         assert_eq!(rt; memory.text("a.out")?.is_some(), status == 0);
         assert_eq!(rt; bounded(rt.alloc(), &memory)?.answer(), (0, bound, ""));
     }

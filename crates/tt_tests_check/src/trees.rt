@@ -126,7 +126,17 @@ fn bounds_that_hold(rt: HostRuntime) -> Result<(), Fail> {
             "CTTP 1 bound 4096000000 B C c0 1000000 ; end",
             "bound 4096000000\n",
         ),
-        // A leaf that is empty, one of too many periods, rooms of a course, and a curriculum's pattern.
+    ] {
+        let outcome = bounded(rt.alloc(), instance, proof)?;
+        assert_eq!(rt; outcome.answer(), (0, out, ""), "of {proof}");
+    }
+    Ok(())
+}
+
+// A leaf that is empty, one of too many periods, rooms of a course, and a curriculum's pattern.
+#[test]
+fn leaves_and_patterns_that_are_rare(rt: HostRuntime) -> Result<(), Fail> {
+    for (instance, proof, out) in [
         (
             GAP,
             "CTTP 1 bound 0 S c0 * d0 p1 E c0 * d0 p1 B ; end",
