@@ -212,6 +212,9 @@ def missing_files(desk):
         ("best none out", b"instance"),
     ]:
         same(desk.told(words), refused(what + b": cannot read"))
+    for words, what in [("inspect none", b"instance"), ("inspect instance none", b"solution")]:
+        status, out, err = refused(what + b": cannot read")
+        same(desk.told(words), (status, out, b"none: No such file or directory (os error 2)\n" + err))
     assert not (desk.folder / "out").exists()
 
 

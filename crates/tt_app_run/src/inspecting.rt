@@ -1,19 +1,48 @@
 //! The files of `inspect`.
 
 use crate::disk::read_file;
+use std::fs;
+use std::io::Write;
 use std::rt::Files;
 use tt_app::{Answer, AppFault, Input, inspect};
 
-/// Returns what `inspect` answers.
-pub fn answer_inspect<R: Files + AllocGlobal>(
+/// Writes the name of a file that can't be read, and the system's reason if it can't be opened.
+fn explain<R: Files, E: Write>(rt: &R, path: &str, err: &mut E) {
+    // If this line can't be written either, the refusal that follows says enough.
+    let _ = match fs::open(rt, path) {
+        Ok(_) => writeln!(
+            err,
+            "{path}: it can be opened but not read; is it a folder?"
+        ),
+        Err(reason) => writeln!(err, "{path}: {reason}"),
+    };
+}
+
+/// Reads all bytes of a file. If it can't be read, its name and the reason are written to `err` first.
+fn read_or_explain<R: Files + AllocGlobal, E: Write>(
     rt: &R,
+    err: &mut E,
+    path: &str,
+    input: Input,
+) -> Result<Vec<u8>, AppFault> {
+    let bytes = read_file(rt, path, input);
+    if let Err(AppFault::CannotRead(_)) = &bytes {
+        explain(rt, path, err);
+    }
+    bytes
+}
+
+/// Returns the answer of `inspect`. The name of a file that can't be read, and the reason, are written to `err`.
+pub fn answer_inspect<R: Files + AllocGlobal, E: Write>(
+    rt: &R,
+    err: &mut E,
     instance: &str,
     solution: Option<&str>,
 ) -> Result<Answer, AppFault> {
-    let instance = read_file(rt, instance, Input::Instance)?;
+    let instance = read_or_explain(rt, err, instance, Input::Instance)?;
     let Some(solution) = solution else {
         return inspect(rt.alloc(), &instance, None);
     };
-    let solution = read_file(rt, solution, Input::Solution)?;
+    let solution = read_or_explain(rt, err, solution, Input::Solution)?;
     inspect(rt.alloc(), &instance, Some(&solution))
 }

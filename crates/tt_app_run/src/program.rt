@@ -63,7 +63,7 @@ fn run_request<R: Files + Clock + AllocGlobal, O: Write, E: Write>(
             solution,
             by,
         } => return print_status(report_to(rt, instance, solution, *by, out), err),
-        Request::Inspect { instance, solution } => answer_inspect(rt, instance, *solution),
+        Request::Inspect { instance, solution } => answer_inspect(rt, err, instance, *solution),
         Request::Validate { instance, solution } => answer_validate(rt, instance, solution),
         Request::Table { instance, solution } => answer_table(rt, instance, solution),
         Request::Calendar {

@@ -179,18 +179,23 @@ fn faults_of_solutions_in_words(rt: HostRuntime) -> Result<(), Fail> {
 #[test]
 fn files_that_cannot_be_read(rt: HostRuntime) -> Result<(), Fail> {
     let files = [StoredFile::new("a.ctt", MINI.as_bytes())];
-    for (words, refused) in [
+    for (words, name, refused) in [
         (
             ["inspect", "b.ctt", "a.sol"],
-            "refused: instance: cannot read\n",
+            "b.ctt: ",
+            "\nrefused: instance: cannot read\n",
         ),
         (
             ["inspect", "a.ctt", "a.sol"],
-            "refused: solution: cannot read\n",
+            "a.sol: ",
+            "\nrefused: solution: cannot read\n",
         ),
     ] {
         let outcome = run_with(rt.alloc(), &words, &files)?;
-        assert_eq!(rt; outcome.answer(), (2, "", refused));
+        let (status, out, err) = outcome.answer();
+        assert_eq!(rt; (status, out), (2, ""));
+        assert!(rt; err.starts_with(name));
+        assert!(rt; err.ends_with(refused));
     }
     Ok(())
 }
