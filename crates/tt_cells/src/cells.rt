@@ -56,6 +56,7 @@ impl<'p, 'i> Cells<'p, 'i> {
     ghost use Rattle.tt_cells.specs.Order.{IsRoomiest};
     ghost use Rattle.tt_paths.specs.Facts.{has_fact};
     ghost use Rattle.tt_paths.specs.Live.{is_dead, is_live, live_period, live_day, least_excess};
+    ghost use Rattle.tt_instance.specs.declared.limit.TheConstants.{MAX_SEATS};
 
     /// A path with no facts. The tables take their memory at once.
     pub fn new(alloc: Global, instance: &'p Instance<'i>) -> Result<Cells<'p, 'i>, AllocError>
@@ -239,7 +240,7 @@ impl<'p, 'i> Cells<'p, 'i> {
         requires day { day < self.now.problem.days }
         requires period { period < self.now.problem.periods }
         ensures value { result ≡ least_excess self.now.problem self.now.facts course (slot day period) }
-        ensures within { IfSome result (λ n. n ≤ 1000000) }
+        ensures within { IfSome result (λ n. n ≤ MAX_SEATS) }
     {
         let students = self.instance.students(course);
         match self.roomiest(course, day, period) {

@@ -6,6 +6,7 @@ ghost use Rattle.tt_instance.specs.Courses.{lectures};
 ghost use Rattle.tt_table.specs.declared.table.TheConstants.{MAX_ENTRIES};
 ghost use Rattle.tt_construct.specs.Constructed.{IsConstructed};
 ghost use Rattle.tt_construct.specs.Filled.{HasMore};
+ghost use Rattle.tt_instance.specs.declared.limit.TheConstants.{MAX_LECTURES};
 
 use crate::place::Place;
 use std::alloc::{AllocError, Global};
@@ -60,7 +61,7 @@ fn add_course(
 ) -> Result<(), AllocError>
     requires course { course < length instance.now.courses }
     requires rooms { 0 < length instance.now.rooms }
-    requires few { length table.old + lectures instance.now course ≤ 4096 }
+    requires few { length table.old + lectures instance.now course ≤ MAX_LECTURES }
     ensures { OnOk result (HasMore instance.now course (lectures instance.now course) table.old table.new) }
 {
     for _ in 0..instance.lectures(course) {

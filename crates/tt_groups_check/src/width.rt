@@ -8,6 +8,7 @@ ghost use Rattle.tt_groups.specs.Plans.{base_cost};
 ghost use Rattle.tt_groups_check.specs.Limits.{IsGroupOf, has_long_course, is_too_wide};
 ghost use Rattle.tt_instance.specs.Cells.{all_courses};
 ghost use Rattle.tt_instance.specs.Courses.{in_curriculum};
+ghost use Rattle.tt_instance.specs.declared.limit.TheConstants.{MAX_MIN_DAYS};
 
 use tt_groups::Group;
 use tt_instance::Instance;
@@ -78,10 +79,10 @@ fn has_long_course(instance: &Instance<'_>, group: &Group) -> bool
 
 /// What each relaxed timetable costs a group, since a course has no more days than lectures.
 pub fn base_cost(instance: &Instance<'_>, group: &Group) -> u64
-    requires few { length group.now.courses ≤ 16 }
+    requires few { length group.now.courses ≤ GROUP_COURSES }
     requires in_range { IsGroupOf instance.now group.now }
     ensures value { result ≡ base_cost instance.now group.now }
-    ensures small { result ≤ 40960 }
+    ensures small { result ≤ DAY_PRICE * MAX_MIN_DAYS * GROUP_COURSES }
 {
     let mut base = 0;
     for course in group.courses() {

@@ -1,13 +1,20 @@
 //! The digits of the places of a table.
 
-ghost use Rattle.std.specs.Prelude.{◌≡◌, ℕ, ◌<◌, ◌≤◌, ◌*◌, ◌^◌, length, slice_index, IfOk, IfSome, IsNone, ◌↔◌};
+ghost use Rattle.std.specs.Prelude.{◌≡◌, ℕ, ◌<◌, ◌≤◌, ◌+◌, ◌*◌, length, slice_index, IfOk, IfSome, IsNone, ◌↔◌};
 ghost use Rattle.tt_groups.specs.Places.{places as place_count};
 ghost use Rattle.tt_groups_week.specs.Digits.{AreDigits, digit};
+ghost use Rattle.tt_groups.specs.declared.entry.TheConstants.{DIGITS};
 
 use std::alloc::{AllocError, Global};
 
 /// The most places of a table.
 pub const MAX_PLACES: u32 = 1_048_576;
+
+/// The most courses that a group concerns.
+pub const COURSES: usize = 16;
+
+/// The most that a day may have of a digit: amounts are bytes. A digit has at most `MAX_AMOUNT + 1` values.
+pub const MAX_AMOUNT: u32 = 255;
 
 /// How places are made up: digits of lectures for so many courses, then digits of further lectures.
 #[derive(Debug, Drop)]
@@ -22,11 +29,11 @@ pub struct Digits {
 impl Digits {
     /// Digits of these sizes; none where they have more than `MAX_PLACES` places.
     pub fn new(alloc: Global, sizes: Vec<u32>, courses: usize) -> Result<Option<Digits>, AllocError>
-        requires few { length sizes.items ≤ 32 }
+        requires few { length sizes.items ≤ DIGITS }
         requires own { courses ≤ length sizes.items }
-        requires narrow { courses ≤ 16 }
+        requires narrow { courses ≤ COURSES }
         requires some { (j : ℕ) → j < length sizes.items → 0 < slice_index sizes.items j }
-        requires small { (j : ℕ) → j < length sizes.items → slice_index sizes.items j ≤ 256 }
+        requires small { (j : ℕ) → j < length sizes.items → slice_index sizes.items j ≤ MAX_AMOUNT + 1 }
         ensures made { IfOk result (λ found. IfSome found (λ d. (d.sizes.items ≡ sizes.items) × (d.courses ≡ courses))) }
         ensures exact { IfOk result (λ found. IsNone found ↔ (MAX_PLACES < place_count sizes.items)) }
     {
@@ -52,7 +59,7 @@ impl Digits {
         requires { j < length self.now.sizes.items }
         ensures value { result ≡ slice_index self.now.sizes.items j }
         ensures some { 0 < result }
-        ensures small { result ≤ 256 }
+        ensures small { result ≤ MAX_AMOUNT + 1 }
     {
         self.sizes[j]
     }

@@ -3,6 +3,7 @@
 ghost use Rattle.std.specs.Prelude.{◌≡◌, ◌⊎◌, ℕ, ◌+◌, ◌<◌, ◌≤◌, length, slice_index, All, OnOk, OnErr};
 ghost use Rattle.tt_groups_week.specs.Fold.{AreReady, IsState};
 ghost use Rattle.tt_groups_week.specs.Steps.{Falls, IsRelaxed, IsMade, IsMadeFrom};
+ghost use Rattle.tt_groups_week.specs.declared.digits.TheConstants.{MAX_PLACES};
 
 use crate::digits::Digits;
 use crate::fault::WeekFault;
@@ -80,7 +81,7 @@ pub fn extend(
     relaxations: &mut u64,
 ) -> Result<(), WeekFault>
     requires ready { AreReady digits.now.sizes.items digits.now.weights.items digits.now.courses moves.now }
-    requires few { length table.now ≤ 1048576 }
+    requires few { length table.now ≤ MAX_PLACES }
     ensures falls { Falls next.old next.new }
     ensures extended { OnOk result ((place : ℕ) → place < length table.now → slice_index table.now place < bound →
         All (λ m. IsRelaxed digits.now.sizes.items digits.now.weights.items digits.now.courses

@@ -3,6 +3,8 @@
 ghost use Rattle.std.specs.Prelude.{◌≡◌, ◌≤◌, ◌*◌, length, IfOk};
 ghost use Rattle.tt_groups_week.specs.Digits.{AreDigits};
 ghost use Rattle.tt_groups_week.specs.Fold.{index_of, floor_of, AreMovesOf};
+ghost use Rattle.tt_groups.specs.declared.entry.TheConstants.{DIGITS};
+ghost use Rattle.tt_groups_week.specs.declared.digits.TheConstants.{MAX_AMOUNT};
 
 use crate::digits::Digits;
 use std::alloc::{AllocError, Global};
@@ -33,7 +35,7 @@ fn index_of(digits: &Digits, entry: &DayEntry) -> u32
 /// What the further lectures of a day cost at least, at any place.
 fn floor_of(digits: &Digits, entry: &DayEntry) -> u32
     ensures value { result ≡ floor_of digits.now.sizes.items entry.now.amounts }
-    ensures small { result ≤ 40800 }
+    ensures small { result ≤ LECTURE_PRICE * MAX_AMOUNT * DIGITS }
 {
     let mut floor = 0;
     for j in 0..digits.sizes.len() {

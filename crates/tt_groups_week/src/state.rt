@@ -6,6 +6,7 @@ ghost use Rattle.tt_lists.specs.Words.{range_below};
 ghost use Rattle.tt_groups_week.specs.Fold.{index_of, floor_of, is_under, IsState};
 ghost use Rattle.tt_groups_week.specs.Digits.{digit};
 ghost use Rattle.tt_groups_week.specs.Steps.{step_of};
+ghost use Rattle.tt_groups_week.specs.declared.digits.TheConstants.{MAX_AMOUNT};
 
 use crate::digits::Digits;
 use crate::moves::{LECTURE_PRICE, Move};
@@ -31,7 +32,7 @@ pub struct Step {
 fn left_at(digits: &Digits, place: u32) -> [u8; DIGITS]
     ensures left { (j : ℕ) → j < digits.now.courses →
         slice_index result j + digit digits.now.sizes.items digits.now.weights.items place j + 1 ≡ slice_index digits.now.sizes.items j }
-    ensures free { (j : ℕ) → digits.now.courses ≤ j → j < 32 → slice_index result j ≡ 255 }
+    ensures free { (j : ℕ) → digits.now.courses ≤ j → j < DIGITS → slice_index result j ≡ MAX_AMOUNT }
 {
     let mut left = [u8::MAX; DIGITS];
     for j in 0..digits.courses {
@@ -65,7 +66,7 @@ pub fn state_at(digits: &Digits, place: u32) -> State
 fn fits(amounts: &[u8; DIGITS], left: &[u8; DIGITS]) -> bool
     ensures value { result ≡ list_all (is_under amounts.now left.now) (range_below DIGITS) }
     // What is true of all bytes.
-    ensures bytes { (j : ℕ) → slice_index amounts.now j ≤ 255 }
+    ensures bytes { (j : ℕ) → slice_index amounts.now j ≤ MAX_AMOUNT }
 {
     let mut all = true;
     for j in 0..DIGITS {
@@ -80,7 +81,7 @@ pub fn advance(digits: &Digits, state: &State, by: &Move) -> Option<Step>
     requires index { by.now.index ≡ index_of digits.now.weights.items digits.now.courses by.now.entry.amounts }
     requires floor { by.now.floor ≡ floor_of digits.now.sizes.items by.now.entry.amounts }
     ensures value { result ≡ step_of digits.now.sizes.items digits.now.weights.items digits.now.courses by.now.entry.amounts state.now.place }
-    ensures small { IfSome result (λ r. r.pay ≤ 81600) }
+    ensures small { IfSome result (λ r. r.pay ≤ 2 * (LECTURE_PRICE * MAX_AMOUNT * DIGITS)) }
 {
     if !fits(&by.entry.amounts, &state.left) {
         return None;

@@ -8,6 +8,7 @@ ghost use Rattle.tt_groups_week.specs.Fold.{AreReady};
 ghost use Rattle.tt_groups_week.specs.declared.fault.WeekFault.TheVariants as fault;
 ghost use Rattle.tt_groups_week.specs.WeekLists.{is_full, IsHighList, Suits, AreReached};
 ghost use Rattle.tt_instance.specs.Problem.{Problem};
+ghost use Rattle.tt_groups_week.specs.declared.digits.TheConstants.{MAX_PLACES};
 
 use crate::digits::Digits;
 use crate::fault::WeekFault;
@@ -29,7 +30,7 @@ fn is_full(digits: &Digits, place: u32) -> bool
 
 /// Whether the bound is paid wherever each course has all its lectures.
 fn is_high(digits: &Digits, bound: u8, table: &[u8]) -> bool
-    requires { length table.now ≤ 1048576 }
+    requires { length table.now ≤ MAX_PLACES }
     ensures high { IsTrue result → IsHighList digits.now.sizes.items digits.now.weights.items digits.now.courses bound table.now }
     ensures low { result ≡ false → (s : ℕ) × (is_full digits.now.sizes.items digits.now.weights.items digits.now.courses s ≡ true) × (s < length table.now) × (slice_index table.now s < bound) }
 {

@@ -29,9 +29,9 @@ fn add<'i, P: Path<'i>>(path: &P, claims: &mut Vec<Claim>, claim: Claim) -> Resu
 /// Adds the price of the next number, if it has one.
 fn push_price(list: &mut Vec<(u32, u32)>, number: u32, price: u32) -> Result<(), AllocError>
     requires prices { ArePrices number list.old.items }
-    requires short { All (λ k. k.1 ≤ 1000000) list.old.items }
+    requires short { All (λ k. k.1 ≤ MOST_PRICE) list.old.items }
     ensures prices { OnOk result (ArePrices (number + 1) list.new.items) }
-    ensures short { OnOk result (All (λ k. k.1 ≤ 1000000) list.new.items) }
+    ensures short { OnOk result (All (λ k. k.1 ≤ MOST_PRICE) list.new.items) }
 {
     if price == 0 {
         return Ok(());
@@ -43,7 +43,7 @@ fn push_price(list: &mut Vec<(u32, u32)>, number: u32, price: u32) -> Result<(),
 /// The prices of the numbers below a bound that have one.
 fn list_prices(alloc: Global, count: u32, prices: &[u32]) -> Result<PriceList, AllocError>
     ensures prices { IfOk result (λ list. ArePrices count list) }
-    ensures short { IfOk result (λ list. All (λ k. k.1 ≤ 1000000) list) }
+    ensures short { IfOk result (λ list. All (λ k. k.1 ≤ MOST_PRICE) list) }
 {
     let mut list = Vec::new(alloc);
     for number in 0..count {

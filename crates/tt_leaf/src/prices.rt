@@ -9,6 +9,7 @@ ghost use Rattle.tt_instance.specs.Cells.{slot};
 ghost use Rattle.tt_instance.specs.Courses.{lectures};
 ghost use Rattle.tt_leaf.specs.Best.{kth_smallest, least_excesses, price_of};
 ghost use Rattle.tt_leaf.specs.Seated.{is_seated, seated_periods};
+ghost use Rattle.tt_instance.specs.declared.limit.TheConstants.{MAX_SEATS};
 
 use itertools::Itertools;
 use std::alloc::{AllocError, Global};
@@ -34,7 +35,7 @@ fn kth_smallest(alloc: Global, numbers: &[u32], k: usize) -> Result<Option<u32>,
 
 /// Adds the excess, if there is one.
 fn push_some(excesses: &mut Vec<u32>, found: Option<u64>) -> Result<(), AllocError>
-    requires { IfSome found (λ n. n ≤ 1000000) }
+    requires { IfSome found (λ n. n ≤ MAX_SEATS) }
     ensures { OnOk result (excesses.new.items ≡ excesses.old.items ++ cons_option found []) }
 {
     if let Some(excess) = found {
@@ -51,7 +52,7 @@ fn least_excesses<'i, P: Path<'i>>(
 ) -> Result<Vec<u32>, AllocError>
     requires { course < length (P.problem path.now).courses }
     ensures value { IfOk result (λ found. found.items ≡ least_excesses (P.problem path.now) (P.facts path.now) course) }
-    ensures within { IfOk result (λ found. All (λ n. n ≤ 1000000) found.items) }
+    ensures within { IfOk result (λ found. All (λ n. n ≤ MAX_SEATS) found.items) }
 {
     let instance = path.instance();
     let mut excesses = Vec::new(alloc);
@@ -73,7 +74,7 @@ pub fn price_of<'i, P: Path<'i>>(
 ) -> Result<Option<u32>, AllocError>
     requires { course < length (P.problem path.now).courses }
     ensures value { IfOk result (λ price. price ≡ price_of (P.problem path.now) (P.facts path.now) course) }
-    ensures within { IfOk result (λ price. IfSome price (λ n. n ≤ 1000000)) }
+    ensures within { IfOk result (λ price. IfSome price (λ n. n ≤ MAX_SEATS)) }
 {
     let excesses = least_excesses(alloc, path, course)?;
     kth_smallest(
