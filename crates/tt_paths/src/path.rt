@@ -7,6 +7,7 @@ ghost use Rattle.tt_instance.specs.Cells.{InRange, slot, cell};
 ghost use Rattle.tt_paths.specs.Facts.{IsWho, has_fact};
 ghost use Rattle.tt_paths.specs.Live.{is_dead, is_live, live_period, live_day, least_excess, pinned, pinned_room};
 ghost use Rattle.tt_paths.specs.declared.facts.Fact.{Fact};
+ghost use Rattle.tt_instance.specs.declared.limit.TheConstants.{MAX_SEATS};
 
 use crate::facts::{Fact, Pattern, Who};
 use thiserror::Error;
@@ -107,7 +108,7 @@ pub trait Path<'i> {
         requires day { day < (problem self.now).days }
         requires period { period < (problem self.now).periods }
         ensures value { result ≡ least_excess (problem self.now) (facts self.now) course (slot day period) }
-        ensures within { IfSome result (λ n. n ≤ 1000000) };
+        ensures within { IfSome result (λ n. n ≤ MAX_SEATS) };
 
     /// Whether a yes-fact of it (for a curriculum, also of a member) gives this day and period.
     fn pinned(&self, who: Who, day: u32, period: u32) -> bool

@@ -4,6 +4,7 @@ ghost use Rattle.std.specs.Prelude.{◌≡◌, ◌<◌, ◌≤◌, ◌-◌, leng
 ghost use Rattle.std.specs.List.{range_with_len, list_all};
 ghost use Rattle.tt_instance.specs.Cells.{slot, cell};
 ghost use Rattle.tt_instance.specs.Courses.{members, excess};
+ghost use Rattle.tt_instance.specs.declared.limit.TheConstants.{MAX_SEATS};
 ghost use Rattle.tt_paths.specs.Live.{clash, is_barred, excludes, is_dead, is_live, live_period};
 ghost use Rattle.tt_paths.specs.Nested.{is_denied, is_excluded, numbers_given, is_lost, day_lost, room_lost, rooms_lost, course_lost};
 
@@ -160,7 +161,7 @@ impl<'p, 'i> PlainPath<'p, 'i> {
         requires course { course < length self.now.problem.courses }
         requires room { room < length self.now.problem.rooms }
         ensures value { result ≡ excess self.now.problem course room }
-        ensures within { result ≤ 1000000 }
+        ensures within { result ≤ MAX_SEATS }
     {
         let students = self.instance.students(course);
         u64::from(students.saturating_sub(self.instance.capacity(room)))
