@@ -1,6 +1,6 @@
 //! Curriculum compactness: 2 for each isolated entry of a curriculum.
 
-ghost use Rattle.std.specs.Prelude.{◌≡◌, ℕ, ◌+◌, ◌-◌, ◌*◌, ◌<◌, ◌≤◌, ◌^◌, ◌==◌, ◌&&◌, ◌||◌, not, false, length, slice_index_or, sum_by, count_by, All};
+ghost use Rattle.std.specs.Prelude.{◌≡◌, ℕ, ◌+◌, ◌-◌, ◌*◌, ◌<◌, ◌≤◌, ◌==◌, ◌&&◌, ◌||◌, not, false, length, slice_index_or, sum_by, count_by, All};
 ghost use Rattle.std.specs.List.{list_any};
 ghost use Rattle.tt_instance.specs.Cells.{InRange, is_of};
 ghost use Rattle.tt_instance.specs.Courses.{in_curriculum};
@@ -10,7 +10,9 @@ ghost use Rattle.tt_table.specs.declared.groups.GroupBy.TheVariants as by;
 ghost use Rattle.tt_table.specs.declared.table.TheConstants.{MAX_ENTRIES};
 ghost use Rattle.tt_instance.specs.declared.limit.TheConstants.{MAX_COURSES, MAX_MEMBERS};
 ghost use Rattle.tt_rules.specs.declared.marks.TheConstants.{PLACES};
+ghost use Rattle.tt_rules.specs.declared.limit.TheConstants.{MAX_COUNT, MAX_PLACE};
 
+use crate::limit::ISOLATED_PRICE;
 use crate::marks::Marks;
 use tt_instance::Instance;
 use tt_table::{Entry, Group, Groups};
@@ -20,7 +22,7 @@ use tt_table::{Entry, Group, Groups};
 #[tactic(auto, using(crate::proofs::Neighbours::place_below))]
 fn place(instance: &Instance<'_>, entry: &Entry) -> usize
     ensures value { result ≡ place_of instance.now entry.now }
-    ensures within { result < 2 ^ 40 }
+    ensures within { result < MAX_PLACE }
     ensures few { InRange instance.now entry.now → result < PLACES }
 {
     entry.day as usize * (instance.periods() as usize + 1) + entry.period as usize + 1
@@ -106,11 +108,11 @@ pub fn cost(instance: &Instance<'_>, by_course: &Groups<'_>) -> u64
     requires in_range { All (InRange instance.now) by_course.now.entries }
     requires few { length by_course.now.entries ≤ MAX_ENTRIES }
     ensures cost { result ≡ compactness_count instance.now by_course.now.entries }
-    ensures within { result ≤ 2 ^ 40 }
+    ensures within { result ≤ MAX_COUNT }
 {
     let mut total: u64 = 0;
     for curriculum in 0..instance.curricula() {
-        total += 2 * isolated(instance, by_course, curriculum);
+        total += ISOLATED_PRICE * isolated(instance, by_course, curriculum);
     }
     total
 }

@@ -1,11 +1,12 @@
 //! Conflicts: no two entries of one period have courses that exclude each other.
 
-ghost use Rattle.std.specs.Prelude.{◌≡◌, ◌≤◌, ◌^◌, ◌+◌, length, count_by, drop, All, Some, slice_get};
+ghost use Rattle.std.specs.Prelude.{◌≡◌, ◌≤◌, ◌+◌, length, count_by, drop, All, Some, slice_get};
 ghost use Rattle.tt_instance.specs.Cells.{InRange};
 ghost use Rattle.tt_instance.specs.Courses.{conflict};
 ghost use Rattle.tt_rules.specs.Hard.{collide, conflicts_count};
 ghost use Rattle.tt_table.specs.declared.groups.GroupBy.TheVariants as by;
 ghost use Rattle.tt_table.specs.declared.table.TheConstants.{MAX_ENTRIES};
+ghost use Rattle.tt_rules.specs.declared.limit.TheConstants.{MAX_COUNT};
 
 use tt_instance::Instance;
 use tt_table::{Entry, Group, Groups};
@@ -41,7 +42,7 @@ pub fn count(instance: &Instance<'_>, entries: &[Entry], by_period: &Groups<'_>)
     requires in_range { All (InRange instance.now) entries.now }
     requires few { length entries.now ≤ MAX_ENTRIES }
     ensures count { result ≡ conflicts_count instance.now entries.now }
-    ensures within { result ≤ 2 ^ 40 }
+    ensures within { result ≤ MAX_COUNT }
 {
     let mut total: u64 = 0;
     for (index, entry) in entries.iter().enumerate() {

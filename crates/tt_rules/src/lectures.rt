@@ -1,10 +1,11 @@
 //! Lectures: all lectures of a course are placed, in distinct periods.
 
-ghost use Rattle.std.specs.Prelude.{◌≡◌, ◌<◌, ◌≤◌, ◌*◌, ◌^◌, length, All};
+ghost use Rattle.std.specs.Prelude.{◌≡◌, ◌<◌, ◌≤◌, ◌*◌, length, All};
 ghost use Rattle.tt_instance.specs.Cells.{InRange};
 ghost use Rattle.tt_rules.specs.Hard.{entries_of, periods_of, lectures_off, lectures_count};
 ghost use Rattle.tt_table.specs.declared.groups.GroupBy.TheVariants as by;
 ghost use Rattle.tt_table.specs.declared.table.TheConstants.{MAX_ENTRIES};
+ghost use Rattle.tt_rules.specs.declared.limit.TheConstants.{MAX_COUNT};
 
 use crate::distinct;
 use tt_instance::{Instance, MAX_COURSES};
@@ -55,7 +56,7 @@ pub fn count(instance: &Instance<'_>, by_course: &Groups<'_>) -> u64
     requires in_range { All (InRange instance.now) by_course.now.entries }
     requires few { length by_course.now.entries ≤ MAX_ENTRIES }
     ensures count { result ≡ lectures_count instance.now by_course.now.entries }
-    ensures within { result ≤ 2 ^ 40 }
+    ensures within { result ≤ MAX_COUNT }
 {
     let mut total: u64 = 0;
     for course in 0..instance.courses() {

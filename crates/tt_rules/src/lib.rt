@@ -8,6 +8,7 @@ mod conflicts;
 mod counts;
 mod distinct;
 mod lectures;
+mod limit;
 mod marks;
 mod occupancy;
 mod scoring;

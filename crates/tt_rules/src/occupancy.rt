@@ -1,12 +1,13 @@
 //! Room occupancy: one for each entry of a room and a period but the first.
 
-ghost use Rattle.std.specs.Prelude.{◌≡◌, ◌<◌, ◌≤◌, ◌-◌, ◌^◌, ◌&&◌, length, sum_by, count_by, All};
+ghost use Rattle.std.specs.Prelude.{◌≡◌, ◌<◌, ◌≤◌, ◌-◌, ◌&&◌, length, sum_by, count_by, All};
 ghost use Rattle.std.specs.List.{list_any};
 ghost use Rattle.tt_instance.specs.Cells.{InRange, all_slots, is_in, is_at};
 ghost use Rattle.tt_rules.specs.Hard.{entries_in, occupancy_count};
 ghost use Rattle.tt_table.specs.declared.groups.GroupBy.TheVariants as by;
 ghost use Rattle.tt_table.specs.declared.table.TheConstants.{MAX_ENTRIES};
 ghost use Rattle.tt_table.specs.declared.groups.TheConstants.{GROUPS};
+ghost use Rattle.tt_rules.specs.declared.limit.TheConstants.{MAX_COUNT};
 
 use crate::distinct;
 use tt_instance::Instance;
@@ -55,7 +56,7 @@ pub fn count(instance: &Instance<'_>, by_room: &Groups<'_>) -> u64
     requires in_range { All (InRange instance.now) by_room.now.entries }
     requires few { length by_room.now.entries ≤ MAX_ENTRIES }
     ensures count { result ≡ occupancy_count instance.now by_room.now.entries }
-    ensures within { result ≤ 2 ^ 40 }
+    ensures within { result ≤ MAX_COUNT }
 {
     let mut total: u64 = 0;
     for room in 0..instance.rooms() {

@@ -1,12 +1,13 @@
 //! Room stability: one for each room of a course but the first.
 
-ghost use Rattle.std.specs.Prelude.{◌≡◌, ◌<◌, ◌≤◌, ◌^◌, ◌&&◌, count_by, All};
+ghost use Rattle.std.specs.Prelude.{◌≡◌, ◌<◌, ◌≤◌, ◌&&◌, count_by, All};
 ghost use Rattle.std.specs.List.{list_any};
 ghost use Rattle.tt_instance.specs.Cells.{InRange, all_rooms, is_of, is_in};
 ghost use Rattle.tt_rules.specs.Soft.{stability_cost, stability_count};
 ghost use Rattle.tt_table.specs.declared.groups.GroupBy.TheVariants as by;
 ghost use Rattle.tt_instance.specs.declared.limit.TheConstants.{MAX_ROOMS};
 ghost use Rattle.tt_table.specs.declared.groups.TheConstants.{GROUPS};
+ghost use Rattle.tt_rules.specs.declared.limit.TheConstants.{MAX_COUNT};
 
 use crate::distinct;
 use tt_instance::Instance;
@@ -42,7 +43,7 @@ pub fn cost(instance: &Instance<'_>, by_course: &Groups<'_>) -> u64
     requires by { by_course.now.by ≡ by.Course }
     requires in_range { All (InRange instance.now) by_course.now.entries }
     ensures cost { result ≡ stability_count instance.now by_course.now.entries }
-    ensures within { result ≤ 2 ^ 40 }
+    ensures within { result ≤ MAX_COUNT }
 {
     let mut total: u64 = 0;
     for course in 0..instance.courses() {

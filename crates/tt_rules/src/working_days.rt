@@ -1,12 +1,14 @@
 //! Minimum working days: 5 for each day that a course is below its minimum.
 
-ghost use Rattle.std.specs.Prelude.{◌≡◌, ◌<◌, ◌≤◌, ◌*◌, ◌^◌, length, All};
+ghost use Rattle.std.specs.Prelude.{◌≡◌, ◌<◌, ◌≤◌, ◌*◌, length, All};
 ghost use Rattle.tt_instance.specs.Cells.{InRange};
 ghost use Rattle.tt_rules.specs.Soft.{days_of, days_cost, days_count};
 ghost use Rattle.tt_table.specs.declared.groups.GroupBy.TheVariants as by;
 ghost use Rattle.tt_instance.specs.declared.limit.TheConstants.{MAX_MIN_DAYS};
+ghost use Rattle.tt_rules.specs.declared.limit.TheConstants.{MAX_COUNT};
 
 use crate::distinct;
+use crate::limit::DAY_PRICE;
 use tt_instance::{Instance, MAX_COURSES};
 use tt_table::Groups;
 
@@ -26,12 +28,12 @@ fn cost_of(instance: &Instance<'_>, by_course: &Groups<'_>, course: u32) -> u64
     requires course { course < length instance.now.courses }
     requires in_range { All (InRange instance.now) by_course.now.entries }
     ensures cost { result ≡ days_cost instance.now by_course.now.entries course }
-    ensures few { result ≤ 5 * MAX_MIN_DAYS }
+    ensures few { result ≤ DAY_PRICE * MAX_MIN_DAYS }
 {
     // What is true of every instance: each course is a group.
     prove!(instance.courses() <= MAX_COURSES);
     let days = days_of(instance, by_course, course);
-    5 * u64::from(instance.min_days(course)).saturating_sub(days)
+    DAY_PRICE * u64::from(instance.min_days(course)).saturating_sub(days)
 }
 
 /// The cost of all courses.
@@ -40,7 +42,7 @@ pub fn cost(instance: &Instance<'_>, by_course: &Groups<'_>) -> u64
     requires by { by_course.now.by ≡ by.Course }
     requires in_range { All (InRange instance.now) by_course.now.entries }
     ensures cost { result ≡ days_count instance.now by_course.now.entries }
-    ensures within { result ≤ 2 ^ 40 }
+    ensures within { result ≤ MAX_COUNT }
 {
     let mut total: u64 = 0;
     for course in 0..instance.courses() {
