@@ -1,8 +1,9 @@
 //! Where the words of the table stand.
 
-ghost use Rattle.std.specs.Prelude.{◌≡◌, ◌<◌, ◌≤◌, ◌*◌, length};
+ghost use Rattle.std.specs.Prelude.{◌≡◌, ◌<◌, ◌≤◌, ◌+◌, ◌*◌, length};
 ghost use Rattle.tt_paths.specs.Facts.{IsWho};
 ghost use Rattle.tt_pins.specs.Tables.{row_of, rows, day_place, days_size, width, block_place, room_place, size};
+ghost use Rattle.tt_instance.specs.declared.limit.TheConstants.{MAX_COURSES, MAX_CURRICULA};
 
 use tt_instance::Instance;
 use tt_paths::Who;
@@ -12,7 +13,7 @@ pub fn row_of(instance: &Instance<'_>, who: Who) -> usize
     requires { IsWho instance.now who }
     ensures value { result ≡ row_of instance.now who }
     ensures within { result < rows instance.now }
-    ensures few { rows instance.now ≤ 10240 }
+    ensures few { rows instance.now ≤ MAX_COURSES + MAX_CURRICULA }
 {
     let courses = instance.courses() as usize;
     let curricula = instance.curricula() as usize;

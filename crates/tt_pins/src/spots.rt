@@ -1,7 +1,8 @@
 //! Where facts stand in their table.
 
-ghost use Rattle.std.specs.Prelude.{◌≡◌, ◌<◌, ◌≤◌, ℕ, not, length, IfSome, Bool};
+ghost use Rattle.std.specs.Prelude.{◌≡◌, ◌<◌, ◌≤◌, ◌*◌, ℕ, not, length, IfSome, Bool};
 ghost use Rattle.tt_pins.specs.Standing.{fact_row, fact_rows, open_place, open_size, closed_place, standing_size, spot_in, spot_at, is_nowhere};
+ghost use Rattle.tt_instance.specs.declared.limit.TheConstants.{MAX_COURSES, MAX_DAYS};
 
 use tt_instance::Instance;
 use tt_paths::{Fact, Pattern, Who};
@@ -18,7 +19,7 @@ fn fact_row(instance: &Instance<'_>, holds: bool, course: u32) -> usize
     requires { course < length instance.now.courses }
     ensures value { result ≡ fact_row instance.now holds course }
     ensures within { result < fact_rows instance.now }
-    ensures few { fact_rows instance.now ≤ 4096 }
+    ensures few { fact_rows instance.now ≤ 2 * MAX_COURSES }
 {
     let courses = instance.courses();
     prove!(course < courses);
@@ -35,7 +36,7 @@ fn open_place(instance: &Instance<'_>, holds: bool, course: u32, day: u32) -> us
     requires day { day < instance.now.days }
     ensures value { result ≡ open_place instance.now holds course day }
     ensures within { result < open_size instance.now }
-    ensures few { open_size instance.now ≤ 262144 }
+    ensures few { open_size instance.now ≤ 2 * MAX_COURSES * MAX_DAYS }
 {
     let days = instance.days() as usize;
     fact_row(instance, holds, course) * days + day as usize
@@ -67,7 +68,7 @@ fn closed_place(
 /// How many words stand for facts without a room.
 fn open_size(instance: &Instance<'_>) -> usize
     ensures value { result ≡ open_size instance.now }
-    ensures few { result ≤ 262144 }
+    ensures few { result ≤ 2 * MAX_COURSES * MAX_DAYS }
 {
     let courses = instance.courses() as usize;
     (courses + courses) * instance.days() as usize
