@@ -1,9 +1,10 @@
 //! The seats that a course lacks, at a price for each of its lectures.
 
-ghost use Rattle.std.specs.Prelude.{◌≡◌, ◌<◌, ◌≤◌, ◌*◌, ◌^◌, length};
+ghost use Rattle.std.specs.Prelude.{◌≡◌, ◌<◌, ◌≤◌, ◌*◌, length};
 ghost use Rattle.tt_leaf_rules.specs.Claims.{value_of};
 ghost use Rattle.tt_leaf_rules.specs.Nested.{above_least, discounts};
 ghost use Rattle.tt_leaf_rules.specs.declared.leaf.Claim.TheVariants.{Capacity};
+ghost use Rattle.tt_leaf_rules.specs.declared.limit.TheConstants.{MAX_TARGET_VALUE};
 
 use crate::slots::{slot_at, slot_count};
 use tt_paths::Path;
@@ -38,7 +39,7 @@ fn all_discounts<'i, P: Path<'i>>(path: &P, course: u32, price: u32) -> u64
 pub fn capacity_value<'i, P: Path<'i>>(path: &P, course: u32, price: u32) -> u64
     requires { course < length (P.problem path.now).courses }
     ensures value { result ≡ value_of (P.problem path.now) (P.facts path.now) (Capacity course price) }
-    ensures within { result ≤ 2 ^ 44 }
+    ensures within { result ≤ MAX_TARGET_VALUE }
 {
     let full = u64::from(path.instance().lectures(course)) * u64::from(price);
     full.saturating_sub(all_discounts(path, course, price))

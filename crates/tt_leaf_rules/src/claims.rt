@@ -4,6 +4,7 @@ ghost use Rattle.std.specs.Prelude.{◌≡◌, ◌≤◌, ◌*◌, ◌-◌, ◌^
 ghost use Rattle.std.specs.List.{list_all};
 ghost use Rattle.tt_leaf_rules.specs.Claims.{targets_of, is_fair, value_of, claimed, total_of};
 ghost use Rattle.tt_leaf_rules.specs.Ranges.{IsClaimOf};
+ghost use Rattle.tt_leaf_rules.specs.declared.limit.TheConstants.{MAX_TARGET_VALUE};
 
 use crate::capacity::capacity_value;
 use crate::days::{days_value, stacked_value};
@@ -19,7 +20,7 @@ use tt_paths::Path;
 pub fn claim_value<'i, P: Path<'i>>(path: &P, claim: &Claim) -> u64
     requires { IsClaimOf (P.problem path.now) claim.now }
     ensures value { result ≡ value_of (P.problem path.now) (P.facts path.now) claim.now }
-    ensures within { result ≤ length (targets_of claim.now) * 2 ^ 44 }
+    ensures within { result ≤ length (targets_of claim.now) * MAX_TARGET_VALUE }
 {
     match claim {
         Claim::Capacity { course, price } => capacity_value(path, *course, *price),
@@ -63,7 +64,7 @@ pub fn are_fair<'i, P: Path<'i>>(path: &P, claims: &[Claim]) -> bool
 pub fn total<'i, P: Path<'i>>(path: &P, claims: &[Claim]) -> u64
     requires { All (IsClaimOf (P.problem path.now)) claims.now }
     ensures value { result ≡ min (total_of (P.problem path.now) (P.facts path.now) claims.now) (2 ^ 64 - 1) }
-    ensures within { total_of (P.problem path.now) (P.facts path.now) claims.now ≤ length (claimed claims.now) * 2 ^ 44 }
+    ensures within { total_of (P.problem path.now) (P.facts path.now) claims.now ≤ length (claimed claims.now) * MAX_TARGET_VALUE }
 {
     let mut total: u64 = 0;
     for claim in claims {

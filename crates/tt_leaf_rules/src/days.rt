@@ -1,9 +1,10 @@
 //! The working days that a course lacks.
 
-ghost use Rattle.std.specs.Prelude.{◌≡◌, ◌<◌, ◌≤◌, length};
+ghost use Rattle.std.specs.Prelude.{◌≡◌, ◌<◌, ◌≤◌, ◌*◌, length};
 ghost use Rattle.tt_leaf_rules.specs.Claims.{pinned_day, value_of};
 ghost use Rattle.tt_leaf_rules.specs.Nested.{live_days, pinned_days};
 ghost use Rattle.tt_leaf_rules.specs.declared.leaf.Claim.TheVariants.{Days, Stacked};
+ghost use Rattle.tt_instance.specs.declared.limit.TheConstants.{MAX_DAYS, MAX_MIN_DAYS};
 
 use crate::pinned::pinned_periods;
 use tt_bits::is_empty;
@@ -17,7 +18,7 @@ const DAY_PRICE: u64 = 5;
 fn live_days<'i, P: Path<'i>>(path: &P, course: u32) -> u32
     requires { course < length (P.problem path.now).courses }
     ensures value { result ≡ live_days (P.problem path.now) (P.facts path.now) course }
-    ensures within { result ≤ 64 }
+    ensures within { result ≤ MAX_DAYS }
 {
     let mut total = 0;
     for day in 0..path.instance().days() {
@@ -32,7 +33,7 @@ fn live_days<'i, P: Path<'i>>(path: &P, course: u32) -> u32
 pub fn days_value<'i, P: Path<'i>>(path: &P, course: u32) -> u64
     requires { course < length (P.problem path.now).courses }
     ensures value { result ≡ value_of (P.problem path.now) (P.facts path.now) (Days course) }
-    ensures within { result ≤ 2560 }
+    ensures within { result ≤ DAY_PRICE * MAX_MIN_DAYS }
 {
     let instance = path.instance();
     let most = instance.lectures(course).min(live_days(path, course));
@@ -53,7 +54,7 @@ fn is_pinned_day<'i, P: Path<'i>>(path: &P, course: u32, day: u32) -> bool
 fn pinned_days<'i, P: Path<'i>>(path: &P, course: u32) -> u32
     requires { course < length (P.problem path.now).courses }
     ensures value { result ≡ pinned_days (P.problem path.now) (P.facts path.now) course }
-    ensures within { result ≤ 64 }
+    ensures within { result ≤ MAX_DAYS }
 {
     let mut total = 0;
     for day in 0..path.instance().days() {
@@ -68,7 +69,7 @@ fn pinned_days<'i, P: Path<'i>>(path: &P, course: u32) -> u32
 pub fn stacked_value<'i, P: Path<'i>>(path: &P, course: u32) -> u64
     requires { course < length (P.problem path.now).courses }
     ensures value { result ≡ value_of (P.problem path.now) (P.facts path.now) (Stacked course) }
-    ensures within { result ≤ 2560 }
+    ensures within { result ≤ DAY_PRICE * MAX_MIN_DAYS }
 {
     let instance = path.instance();
     let free = instance

@@ -182,7 +182,7 @@ fn open_in_period<'i, P: Path<'i>>(path: &P, courses: &[u32], day: u32, period: 
 pub fn open_rooms<'i, P: Path<'i>>(path: &P, courses: &[u32]) -> u32
     requires { AreBelow (length (P.problem path.now).courses) courses.now }
     ensures value { result ≡ open_rooms (P.problem path.now) (P.facts path.now) courses.now }
-    ensures within { result ≤ 262144 }
+    ensures within { result ≤ MAX_SLOTS * MAX_ROOMS }
 {
     let instance = path.instance();
     let mut total = 0;

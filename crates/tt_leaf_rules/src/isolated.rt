@@ -1,6 +1,6 @@
 //! The isolated entries of a curriculum.
 
-ghost use Rattle.std.specs.Prelude.{◌≡◌, ◌<◌, ◌≤◌, ◌&&◌, ℕ, nat_lt, length};
+ghost use Rattle.std.specs.Prelude.{◌≡◌, ◌<◌, ◌≤◌, ◌*◌, ◌&&◌, ℕ, nat_lt, length};
 ghost use Rattle.tt_bits.specs.Bits.{has_bit};
 ghost use Rattle.tt_instance.specs.Cells.{slot};
 ghost use Rattle.tt_paths.specs.Live.{pinned};
@@ -57,7 +57,7 @@ fn isolated_periods<'i, P: Path<'i>>(path: &P, curriculum: u32) -> u32
 pub fn compact_value<'i, P: Path<'i>>(path: &P, curriculum: u32) -> u64
     requires { curriculum < length (P.problem path.now).curricula }
     ensures value { result ≡ value_of (P.problem path.now) (P.facts path.now) (Compact curriculum) }
-    ensures within { result ≤ 1024 }
+    ensures within { result ≤ ISOLATED_PRICE * MAX_SLOTS }
 {
     ISOLATED_PRICE * u64::from(isolated_periods(path, curriculum))
 }

@@ -10,6 +10,7 @@ mod isolated;
 mod judging;
 mod laws;
 mod leaf;
+mod limit;
 mod lists;
 mod met;
 mod pinned;

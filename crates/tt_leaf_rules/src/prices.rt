@@ -1,6 +1,6 @@
 //! The seats that several courses lack, with prices of courses and of rooms.
 
-ghost use Rattle.std.specs.Prelude.{◌≡◌, ◌<◌, ◌≤◌, ◌*◌, ◌^◌, length};
+ghost use Rattle.std.specs.Prelude.{◌≡◌, ◌<◌, ◌≤◌, ◌*◌, length};
 ghost use Rattle.tt_instance.specs.Cells.{slot};
 ghost use Rattle.tt_instance.specs.Courses.{lectures};
 ghost use Rattle.tt_leaf_rules.specs.Claims.{price_in, are_covered, open_in, value_of};
@@ -8,6 +8,7 @@ ghost use Rattle.tt_leaf_rules.specs.Nested.{PricesBelow, dead_in, priced_live_i
 ghost use Rattle.tt_leaf_rules.specs.Ranges.{ArePrices};
 ghost use Rattle.tt_leaf_rules.specs.declared.leaf.Claim.TheVariants.{Prices};
 ghost use Rattle.tt_instance.specs.declared.limit.TheConstants.{MAX_COURSES, MAX_ROOMS, MAX_SLOTS};
+ghost use Rattle.tt_leaf_rules.specs.declared.limit.TheConstants.{MAX_TARGET_VALUE};
 
 use crate::slots::{slot_at, slot_count};
 use tt_instance::{Cell, Instance};
@@ -143,7 +144,7 @@ fn open_in<'i, P: Path<'i>>(path: &P, courses: &[(u32, u32)], room: u32) -> u32
 fn course_price(instance: &Instance<'_>, course: u32, price: u32) -> u64
     requires { course < length instance.now.courses }
     ensures value { result ≡ lectures instance.now course * price }
-    ensures within { result ≤ 2 ^ 44 }
+    ensures within { result ≤ MAX_TARGET_VALUE }
 {
     u64::from(instance.lectures(course)) * u64::from(price)
 }
@@ -152,7 +153,7 @@ fn course_prices(instance: &Instance<'_>, courses: &[(u32, u32)]) -> u64
     requires below { PricesBelow (length instance.now.courses) courses.now }
     requires few { length courses.now ≤ MAX_COURSES }
     ensures value { result ≡ course_prices instance.now courses.now }
-    ensures within { result ≤ length courses.now * 2 ^ 44 }
+    ensures within { result ≤ length courses.now * MAX_TARGET_VALUE }
 {
     let mut total: u64 = 0;
     for (course, price) in courses {
@@ -165,7 +166,7 @@ fn room_price<'i, P: Path<'i>>(path: &P, courses: &[(u32, u32)], room: u32, pric
     requires courses { PricesBelow (length (P.problem path.now).courses) courses.now }
     requires room { room < length (P.problem path.now).rooms }
     ensures value { result ≡ price * open_in (P.problem path.now) (P.facts path.now) courses.now room }
-    ensures within { result ≤ 2 ^ 44 }
+    ensures within { result ≤ MAX_TARGET_VALUE }
 {
     u64::from(price) * u64::from(open_in(path, courses, room))
 }
@@ -189,7 +190,7 @@ pub fn prices_value<'i, P: Path<'i>>(path: &P, courses: &[(u32, u32)], rooms: &[
     requires courses { ArePrices (length (P.problem path.now).courses) courses.now }
     requires rooms { ArePrices (length (P.problem path.now).rooms) rooms.now }
     ensures value { result ≡ value_of (P.problem path.now) (P.facts path.now) (Prices courses.now rooms.now) }
-    ensures within { result ≤ length courses.now * 2 ^ 44 }
+    ensures within { result ≤ length courses.now * MAX_TARGET_VALUE }
 {
     let instance = path.instance();
     // Each course and each room has one price at most.

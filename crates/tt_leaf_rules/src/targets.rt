@@ -6,6 +6,7 @@ ghost use Rattle.tt_leaf_rules.specs.Claims.{RoomCapacity, WorkingDays, Compactn
 ghost use Rattle.tt_leaf_rules.specs.Met.{are_new, places_of, IsPlaced};
 ghost use Rattle.tt_leaf_rules.specs.Nested.{claims_target, are_apart, IsOnce};
 ghost use Rattle.tt_leaf_rules.specs.Tests.{claims_once};
+ghost use Rattle.tt_leaf_rules.specs.declared.met.TheConstants.{PLACES};
 
 use crate::leaf::Claim;
 use crate::met::{FEW, Met};
@@ -98,7 +99,7 @@ fn each_two_apart(claims: &[Claim]) -> bool
 
 /// Meets the room capacity of each course, until one has been met; whether none had been.
 fn meet_capacities(met: &mut Met, courses: &[(u32, u32)]) -> bool
-    requires { All (λ n. n < 32768) (map (λ k. 4 * k.0) courses.now) }
+    requires { All (λ n. n < PLACES) (map (λ k. 4 * k.0) courses.now) }
     ensures { (behind : List ℕ) → are_new met.old (map (λ k. 4 * k.0) courses.now ++ behind) ≡ (result && are_new met.new behind) }
 {
     let mut rest = courses;
