@@ -1,3 +1,4 @@
+pub mod BeginningLaws
 pub mod ClaimLaws
 pub mod ClaimTurns
 pub mod Depth
@@ -6,6 +7,7 @@ pub mod Examples
 pub mod LeafParts
 pub mod ListLaws
 pub mod ListTurns
+pub mod LongTokens
 pub mod Loops
 pub mod NodeLaws
 pub mod PriceLaws
@@ -14,6 +16,9 @@ pub mod Progress
 pub mod ProofLaws
 pub mod Readings
 pub mod SeriesLaws
+pub mod SharedNodes
+pub mod SharedTokens
+pub mod Sharing
 pub mod Small
 pub mod Taking
 pub mod TokenLaws

@@ -1,4 +1,5 @@
 pub mod Answers
+pub mod Beginnings
 pub mod Contract
 pub mod Faults
 pub mod Limits

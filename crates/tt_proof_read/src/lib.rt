@@ -3,6 +3,7 @@
 
 mod claims;
 mod fault;
+mod faulty;
 mod fields;
 mod format;
 mod header;
@@ -19,6 +20,7 @@ mod tables;
 mod tree;
 
 pub use fault::{TextFault, Word};
+pub use faulty::faulty_beginnings_spell_none;
 pub use format::{
     COURSE_LETTER, CURRICULUM_LETTER, DAY_LETTER, MAX_NODES, MAX_POINTS, MAX_PRICE, PERIOD_LETTER,
     ROOM_LETTER,
