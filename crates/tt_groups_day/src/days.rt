@@ -9,6 +9,8 @@ ghost use Rattle.tt_groups_day.specs.Entries.{AreLectureDigits};
 ghost use Rattle.tt_groups_day.specs.Sets.{IsComplete, IsCourseSet};
 ghost use Rattle.tt_groups_day.specs.declared.fault.DaysFault.TheVariants as fault;
 ghost use Rattle.tt_instance.specs.Courses.{lectures};
+ghost use Rattle.tt_groups_day.specs.declared.morning.TheConstants.{LECTURES, MAX_INDEX, PLACES};
+ghost use Rattle.tt_groups_day.specs.declared.sets.TheConstants.{CURRICULA};
 
 use crate::entries::list_entries;
 use crate::fault::DaysFault;
@@ -35,14 +37,14 @@ pub fn list_days(
 ) -> Result<Vec<DayEntry>, DaysFault>
     requires group { AreCourses instance.now group.now courses.now }
     requires few { length courses.now ≤ COURSES }
-    requires own { length group.now.courses ≤ 16 }
-    requires curricula { length group.now.curricula ≤ 64 }
+    requires own { length group.now.courses ≤ COURSES }
+    requires curricula { length group.now.curricula ≤ CURRICULA }
     requires in_range { All (λ c. c < length instance.now.courses) courses.now }
-    requires lectures { All (λ c. lectures instance.now c ≤ 255) courses.now }
+    requires lectures { All (λ c. lectures instance.now c ≤ LECTURES) courses.now }
     requires digits { AreLectureDigits instance.now courses.now sizes.now weights.now places }
-    requires room { places ≤ 1048576 }
+    requires room { places ≤ PLACES }
     requires sets { All (IsCourseSet instance.now group.now courses.now weights.now) sets.now }
-    requires small { All (λ x. x.index ≤ 16777216) sets.now }
+    requires small { All (λ x. x.index ≤ MAX_INDEX) sets.now }
     requires complete { IsComplete instance.now group.now courses.now sets.now }
     ensures list { IfOk result (λ entries. IsDayList instance.now group.now courses.now bound day entries.items) }
     // Each entry is that of a day that there can be.

@@ -8,6 +8,7 @@ ghost use Rattle.tt_groups_day.specs.Found.{IsDayAt};
 ghost use Rattle.tt_groups.specs.Tables.{Vector};
 ghost use Rattle.tt_groups_day.specs.Entries.{AreLectureDigits, IsEntryAt};
 ghost use Rattle.tt_groups_day.specs.Sets.{Covers};
+ghost use Rattle.tt_groups_day.specs.declared.morning.TheConstants.{LECTURES, PLACES};
 
 use std::alloc::{AllocError, Global};
 use tt_groups::{DIGITS, DayEntry, Group};
@@ -19,7 +20,7 @@ fn lectures_at(count: usize, sizes: &[u32], weights: &[u32], place: u32) -> [u8;
     requires weighed { count ≤ length weights.now }
     requires some { (i : ℕ) → i < count → 0 < slice_index sizes.now i }
     requires placed { (i : ℕ) → i < count → 0 < slice_index weights.now i }
-    requires small { (i : ℕ) → i < count → slice_index sizes.now i ≤ 256 }
+    requires small { (i : ℕ) → i < count → slice_index sizes.now i ≤ LECTURES + 1 }
     ensures { (i : ℕ) → i < count → slice_index result i ≡ place / slice_index weights.now i % slice_index sizes.now i }
 {
     let mut amounts = [0; DIGITS];
@@ -57,7 +58,7 @@ fn entry_at(
     requires weighed { length courses.now ≤ length weights.now }
     requires some { (i : ℕ) → i < length courses.now → 0 < slice_index sizes.now i }
     requires placed { (i : ℕ) → i < length courses.now → 0 < slice_index weights.now i }
-    requires small { (i : ℕ) → i < length courses.now → slice_index sizes.now i ≤ 256 }
+    requires small { (i : ℕ) → i < length courses.now → slice_index sizes.now i ≤ LECTURES + 1 }
     ensures amounts { IsEntryAt group.now courses.now sizes.now weights.now place result }
     ensures cost { result.cost ≡ cost }
 {
@@ -85,8 +86,8 @@ pub fn list_entries(
     requires weighed { length courses.now ≤ length weights.now }
     requires some { (i : ℕ) → i < length courses.now → 0 < slice_index sizes.now i }
     requires placed { (i : ℕ) → i < length courses.now → 0 < slice_index weights.now i }
-    requires small { (i : ℕ) → i < length courses.now → slice_index sizes.now i ≤ 256 }
-    requires places { length table.now ≤ 1048576 }
+    requires small { (i : ℕ) → i < length courses.now → slice_index sizes.now i ≤ LECTURES + 1 }
+    requires places { length table.now ≤ PLACES }
     ensures list { IfOk result (λ entries. (p : Problem) (d : ℕ) → AreCourses p group.now courses.now → AreLectureDigits p courses.now sizes.now weights.now (length table.now) →
         Covers p group.now courses.now bound d weights.now table.now [] → IsDayList p group.now courses.now bound d entries.items) }
     ensures found { IfOk result (λ entries. (p : Problem) (d : ℕ) → AreCourses p group.now courses.now → AreLectureDigits p courses.now sizes.now weights.now (length table.now) →

@@ -5,12 +5,25 @@ ghost use Rattle.tt_instance.specs.Problem.{Problem};
 ghost use Rattle.tt_groups.specs.Group as spec;
 ghost use Rattle.tt_groups.specs.Listed.{AreCourses};
 ghost use Rattle.tt_groups_day.specs.Sets.{IsCourseSet, IsMorningOf, IsDayOf, Covers};
+ghost use Rattle.tt_groups_day.specs.declared.sets.TheConstants.{CURRICULA};
 
 /// What a single period costs, in cost points.
-const SINGLE_PRICE: u32 = 2;
+pub const SINGLE_PRICE: u32 = 2;
 
 /// The most courses that a group concerns.
 pub const COURSES: usize = 16;
+
+/// The most lectures of a course that a group concerns.
+pub const LECTURES: u32 = 255;
+
+/// The most places of a day's table.
+pub const PLACES: u32 = 1_048_576;
+
+/// The most that the lectures of a set add to a place: `COURSES * PLACES`.
+pub const MAX_INDEX: u32 = 16_777_216;
+
+/// What the first periods of a day cost is below this, since it is below a bound of one byte.
+pub const COST_LIMIT: u32 = 256;
 
 /// Courses of which no two conflict, 1 for each that is in the set; what one lecture of each adds to a place; and the curricula that they meet,
 /// a bit for each.
@@ -47,8 +60,8 @@ fn sums(counts: &[u8; COURSES], more: &[u8; COURSES]) -> [u8; COURSES]
 
 /// Whether no number is above that of the other list.
 fn fits(numbers: &[u8; COURSES], most: &[u8; COURSES]) -> bool
-    ensures yes { result ≡ true → (i : ℕ) → i < 16 → slice_index numbers.now i ≤ slice_index most.now i }
-    ensures no { result ≡ false → (i : ℕ) × (i < 16) × (slice_index most.now i < slice_index numbers.now i) }
+    ensures yes { result ≡ true → (i : ℕ) → i < COURSES → slice_index numbers.now i ≤ slice_index most.now i }
+    ensures no { result ≡ false → (i : ℕ) × (i < COURSES) × (slice_index most.now i < slice_index numbers.now i) }
 {
     let mut all = true;
     for i in 0..COURSES {
@@ -68,9 +81,9 @@ pub fn more(
     requires small { (i : ℕ) → slice_index morning.now.counts i ≤ 64 }
     requires digits { (i : ℕ) → slice_index set.now.courses i ≤ 1 }
     requires place { morning.now.place + set.now.index < 2 ^ 32 }
-    requires cost { morning.now.cost < 256 }
+    requires cost { morning.now.cost < COST_LIMIT }
     ensures leads { IfSome result (λ next. (p : Problem) (g : spec.Group) (cs weights : List ℕ) (before : List CourseSet) →
-        AreCourses p g cs → length g.curricula ≤ 64 → length before < p.periods → IsCourseSet p g cs weights set.now → IsMorningOf p g cs weights before morning.now →
+        AreCourses p g cs → length g.curricula ≤ CURRICULA → length before < p.periods → IsCourseSet p g cs weights set.now → IsMorningOf p g cs weights before morning.now →
         IsMorningOf p g cs weights (before ++ set.now ∷ []) next) }
     ensures barred { IfNone result ((p : Problem) (g : spec.Group) (cs weights table : List ℕ) (d : ℕ) (before : List CourseSet) →
         IsDayOf p g cs d most.now (length before) available.now → IsCourseSet p g cs weights set.now → IsMorningOf p g cs weights before morning.now →
@@ -78,8 +91,8 @@ pub fn more(
     ensures cheap { IfSome result (λ next. next.cost < bound) }
     ensures counted { IfSome result (λ next. (i : ℕ) → slice_index next.counts i ≤ slice_index morning.now.counts i + 1) }
     ensures placed { IfSome result (λ next. next.place ≡ morning.now.place + set.now.index) }
-    ensures open { IfSome result (λ _. (i : ℕ) → i < 16 → slice_index set.now.courses i ≤ slice_index available.now i) }
-    ensures fitting { IfSome result (λ next. (i : ℕ) → i < 16 → slice_index next.counts i ≤ slice_index most.now i) }
+    ensures open { IfSome result (λ _. (i : ℕ) → i < COURSES → slice_index set.now.courses i ≤ slice_index available.now i) }
+    ensures fitting { IfSome result (λ next. (i : ℕ) → i < COURSES → slice_index next.counts i ≤ slice_index most.now i) }
 {
     let settled = morning.pending & !set.curricula;
     let cost = morning.cost + SINGLE_PRICE * settled.count_ones();

@@ -3,9 +3,11 @@
 ghost use Rattle.std.specs.Prelude.{◌≡◌, ◌⊎◌, ℕ, ◌+◌, ◌*◌, ◌<◌, ◌≤◌, length, slice_index, All, OnOk, OnErr, count_ones};
 ghost use Rattle.tt_groups_day.specs.Found.{IsFound};
 ghost use Rattle.tt_groups_day.specs.Sets.{Falls, IsTried};
+ghost use Rattle.tt_groups_day.specs.declared.morning.TheConstants.{COST_LIMIT, MAX_INDEX};
+ghost use Rattle.tt_instance.specs.declared.limit.TheConstants.{MAX_PERIODS};
 
 use crate::fault::DaysFault;
-use crate::morning::{COURSES, CourseSet, Morning, more};
+use crate::morning::{COURSES, CourseSet, Morning, SINGLE_PRICE, more};
 
 /// The courses that are available in a period, 1 for each.
 #[derive(Clone, Copy, Debug, PartialEq, Eq)]
@@ -26,13 +28,13 @@ fn lower(table: &mut [u8], place: usize, value: u8)
 
 /// Lowers the entry of a whole day.
 fn end(bound: u8, morning: &Morning, table: &mut [u8])
-    requires { morning.now.cost < 256 }
+    requires { morning.now.cost < COST_LIMIT }
     ensures falls { Falls table.old table.new }
-    ensures there { morning.now.cost + 2 * count_ones morning.now.pending < bound → slice_index table.new morning.now.place ≤ morning.now.cost + 2 * count_ones morning.now.pending }
+    ensures there { morning.now.cost + SINGLE_PRICE * count_ones morning.now.pending < bound → slice_index table.new morning.now.place ≤ morning.now.cost + SINGLE_PRICE * count_ones morning.now.pending }
     ensures only { (k : ℕ) → (slice_index table.new k ≡ slice_index table.old k) ⊎
-        ((k ≡ morning.now.place) × (slice_index table.new k ≡ morning.now.cost + 2 * count_ones morning.now.pending)) }
+        ((k ≡ morning.now.place) × (slice_index table.new k ≡ morning.now.cost + SINGLE_PRICE * count_ones morning.now.pending)) }
 {
-    let cost = morning.cost + 2 * morning.pending.count_ones();
+    let cost = morning.cost + SINGLE_PRICE * morning.pending.count_ones();
     if cost < u32::from(bound) {
         lower(table, morning.place as usize, cost as u8);
     }
@@ -49,12 +51,12 @@ pub fn try_days(
     table: &mut [u8],
     sequences: &mut u64,
 ) -> Result<(), DaysFault>
-    requires few { length periods.now ≤ 64 }
+    requires few { length periods.now ≤ MAX_PERIODS }
     requires inside { period ≤ length periods.now }
-    requires sets { All (λ x. (x.index ≤ 16777216) × ((i : ℕ) → slice_index x.courses i ≤ 1)) sets.now }
+    requires sets { All (λ x. (x.index ≤ MAX_INDEX) × ((i : ℕ) → slice_index x.courses i ≤ 1)) sets.now }
     requires small { (i : ℕ) → slice_index morning.now.counts i ≤ period }
-    requires place { morning.now.place ≤ 16777216 * period }
-    requires cost { morning.now.cost < 256 }
+    requires place { morning.now.place ≤ MAX_INDEX * period }
+    requires cost { morning.now.cost < COST_LIMIT }
     ensures falls { Falls table.old table.new }
     ensures tried { OnOk result (IsTried most.now periods.now sets.now bound period morning.now table.new) }
     ensures found { OnOk result ((k : ℕ) → (slice_index table.new k ≡ slice_index table.old k) ⊎

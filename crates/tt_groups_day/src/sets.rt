@@ -7,6 +7,7 @@ ghost use Rattle.tt_groups_day.specs.Choosing.{clashes, with_course, with_next, 
 ghost use Rattle.tt_groups_day.specs.Counting.{sets_count};
 ghost use Rattle.tt_groups_day.specs.Sets.{IsWordOf, IsCourseSet, IsComplete};
 ghost use Rattle.tt_groups_day.specs.declared.sets.SetsFault.TheVariants as fault;
+ghost use Rattle.tt_groups_day.specs.declared.morning.TheConstants.{MAX_INDEX, PLACES};
 
 use crate::morning::{COURSES, CourseSet};
 use std::alloc::{AllocError, Global};
@@ -18,7 +19,7 @@ use tt_instance::Instance;
 pub const MAX_SETS: usize = 4096;
 
 /// The most curricula of a group.
-const CURRICULA: usize = 64;
+pub const CURRICULA: usize = 64;
 
 /// Why the sets are not listed.
 #[derive(Clone, Copy, Debug, PartialEq, Eq)]
@@ -130,11 +131,11 @@ pub fn list_sets(
     requires few { length courses.now ≤ COURSES }
     requires curricula { length group.now.curricula ≤ CURRICULA }
     requires weighed { length courses.now ≤ length weights.now }
-    requires small { (i : ℕ) → slice_index weights.now i ≤ 2 ^ 20 }
+    requires small { (i : ℕ) → slice_index weights.now i ≤ PLACES }
     ensures complete { IfOk result (λ sets. IsComplete instance.now group.now courses.now sets.items) }
     ensures sets { IfOk result (λ sets. All (IsCourseSet instance.now group.now courses.now weights.now) sets.items) }
     ensures apart { IfOk result (λ sets. All (IsApart instance.now courses.now) sets.items) }
-    ensures small { IfOk result (λ sets. All (λ x. x.index ≤ 16777216) sets.items) }
+    ensures small { IfOk result (λ sets. All (λ x. x.index ≤ MAX_INDEX) sets.items) }
     // The list is refused exactly where there are too many sets, unless memory runs out.
     ensures too_many { result ≡ Err fault.TooManySets → MAX_SETS < sets_count instance.now courses.now }
     ensures few_sets { OnOk result (sets_count instance.now courses.now ≤ MAX_SETS) }

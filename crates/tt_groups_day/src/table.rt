@@ -8,6 +8,9 @@ ghost use Rattle.tt_groups.specs.Listed.{AreCourses};
 ghost use Rattle.tt_groups_day.specs.Sets.{Covers, IsComplete, IsCourseSet, AreAvailable};
 ghost use Rattle.tt_groups_day.specs.declared.fault.DaysFault.TheVariants as fault;
 ghost use Rattle.tt_instance.specs.Courses.{lectures, unavailable};
+ghost use Rattle.tt_groups_day.specs.declared.morning.TheConstants.{LECTURES, MAX_INDEX};
+ghost use Rattle.tt_groups_day.specs.declared.sets.TheConstants.{CURRICULA};
+ghost use Rattle.tt_instance.specs.declared.limit.TheConstants.{MAX_PERIODS};
 
 use crate::fault::DaysFault;
 use crate::morning::{COURSES, CourseSet, Morning};
@@ -17,7 +20,7 @@ use tt_instance::Instance;
 
 /// The courses that are available in a period.
 fn period_of(instance: &Instance<'_>, courses: &[u32], day: u32, period: u32) -> Period
-    requires { length courses.now ≤ 16 }
+    requires { length courses.now ≤ COURSES }
     ensures closed { (i : ℕ) → i < length courses.now → slice_index result.available i ≡ 0 → unavailable instance.now (slice_index courses.now i) day period ≡ true }
     ensures opened { (i : ℕ) → i < length courses.now → 0 < slice_index result.available i → unavailable instance.now (slice_index courses.now i) day period ≡ false }
 {
@@ -37,9 +40,9 @@ fn periods_of(
     courses: &[u32],
     day: u32,
 ) -> Result<Vec<Period>, AllocError>
-    requires { length courses.now ≤ 16 }
+    requires { length courses.now ≤ COURSES }
     ensures whole { IfOk result (λ v. length v.items ≡ instance.now.periods) }
-    ensures few { IfOk result (λ v. length v.items ≤ 64) }
+    ensures few { IfOk result (λ v. length v.items ≤ MAX_PERIODS) }
     ensures closed { IfOk result (λ v. AreAvailable instance.now courses.now day v.items) }
     ensures opened { IfOk result (λ v. AreOpened instance.now courses.now day v.items) }
 {
@@ -52,9 +55,9 @@ fn periods_of(
 
 /// The lectures of the courses.
 fn lectures_of(instance: &Instance<'_>, courses: &[u32]) -> [u8; COURSES]
-    requires few { length courses.now ≤ 16 }
+    requires few { length courses.now ≤ COURSES }
     requires in_range { All (λ c. c < length instance.now.courses) courses.now }
-    requires small { All (λ c. lectures instance.now c ≤ 255) courses.now }
+    requires small { All (λ c. lectures instance.now c ≤ LECTURES) courses.now }
     ensures { (i : ℕ) → i < length courses.now → slice_index result i ≡ lectures instance.now (slice_index courses.now i) }
 {
     let mut most = [0; COURSES];
@@ -76,15 +79,15 @@ pub fn day_table(
     places: usize,
     sequences: &mut u64,
 ) -> Result<Vec<u8>, DaysFault>
-    requires few { length courses.now ≤ 16 }
+    requires few { length courses.now ≤ COURSES }
     requires in_range { All (λ c. c < length instance.now.courses) courses.now }
-    requires lectures { All (λ c. lectures instance.now c ≤ 255) courses.now }
-    requires sets { All (λ x. (x.index ≤ 16777216) × ((i : ℕ) → slice_index x.courses i ≤ 1)) sets.now }
+    requires lectures { All (λ c. lectures instance.now c ≤ LECTURES) courses.now }
+    requires sets { All (λ x. (x.index ≤ MAX_INDEX) × ((i : ℕ) → slice_index x.courses i ≤ 1)) sets.now }
     ensures whole { IfOk result (λ v. length v.items ≡ places) }
-    ensures low { IfOk result (λ v. (g : spec.Group) (weights : List ℕ) → AreCourses instance.now g courses.now → length g.curricula ≤ 64 →
+    ensures low { IfOk result (λ v. (g : spec.Group) (weights : List ℕ) → AreCourses instance.now g courses.now → length g.curricula ≤ CURRICULA →
         All (IsCourseSet instance.now g courses.now weights) sets.now → IsComplete instance.now g courses.now sets.now →
         Covers instance.now g courses.now bound day weights v.items []) }
-    ensures found { IfOk result (λ v. (g : spec.Group) (weights : List ℕ) → AreCourses instance.now g courses.now → length g.curricula ≤ 64 → AreDistinct courses.now →
+    ensures found { IfOk result (λ v. (g : spec.Group) (weights : List ℕ) → AreCourses instance.now g courses.now → length g.curricula ≤ CURRICULA → AreDistinct courses.now →
         All (IsCourseSet instance.now g courses.now weights) sets.now → All (IsApart instance.now courses.now) sets.now →
         (k : ℕ) → k < places → slice_index v.items k < bound → IsDayAt instance.now g courses.now day weights k (slice_index v.items k)) }
     ensures used_up { result ≡ Err fault.TooMuchWork → sequences.new ≡ 0 }
