@@ -1,4 +1,4 @@
-//! The program `tt`: the words of its command line go to `tt_app_run::run`.
+//! The program `tt`: passes the words of its command line to `tt_app_run::run`.
 #![tactic(auto)]
 
 use std::io::{ErrorKind, Write};
@@ -7,7 +7,7 @@ use std::rt::Env;
 use std::{env, io};
 use tt_app::AppFault;
 
-/// The words of the command line, without the program's own name.
+/// Returns the words of the command line, without the program's own name.
 fn words<R: Env + AllocGlobal>(rt: &R) -> io::Result<Vec<String>> {
     let mut words = Vec::new(rt.alloc());
     for word in env::args(rt)?.skip(1) {
@@ -16,7 +16,7 @@ fn words<R: Env + AllocGlobal>(rt: &R) -> io::Result<Vec<String>> {
     Ok(words)
 }
 
-/// Tells why there are no words, and gives the status.
+/// Prints why there are no words, and returns the status.
 fn refused<E: Write>(fault: io::Error, err: &mut E) -> u8 {
     let _ = match fault.kind() {
         ErrorKind::OutOfMemory => writeln!(err, "refused: {}", AppFault::OutOfMemory),

@@ -1,4 +1,4 @@
--- What `check_sum` answers, from what its steps answered.
+-- The answer of `check_sum`, from the results of its steps.
 use Rattle.std.proofs.Common.{◌≡◌, ℕ, ◌+◌, ◌<◌, ◌≤◌, ◌^◌, List, Err, refl, sym, ap, subst, ◌∙◌, inl, inr}
 use Rattle.tt_instance.specs.Problem.{Problem}
 use Rattle.tt_instance.specs.Spelling.{Spells}
@@ -17,7 +17,7 @@ use Rattle.tt_sum.specs.declared.fault.SumFault.{SumFault}
 use Rattle.tt_sum.specs.declared.fault.SumFault.TheVariants as sum
 use Rattle.tt_app.specs.Summed.{CertifiesSum, IsSumYes, IsSumCheckFault, AnswersSumYes, fault_from_sum}
 
--- a silent fault says nothing of the bytes
+-- a silent error says nothing about the bytes
 pub silent_yes : (f : SumFault) (c b : ℕ) → IsSilentSum f → AnswersSumYes (Err (fault_from_sum f)) c b
 silent_yes (sum.Proof n f) c b h = inr (inl (n, ap (λ x. fault_from_sum (sum.Proof n x)) h))
 silent_yes (sum.Groups n f) c b h = inr (inr (record { file = n; found = f; is = refl; open_claim = h }))
@@ -31,7 +31,7 @@ broken_by s = s.lectures + s.conflicts + s.availability + s.room_occupancy
 abbrev costs_of : Score → ℕ
 costs_of s = s.room_capacity + s.min_working_days + s.compactness + s.room_stability
 
--- what certifies a sum, of the instance and the timetable that were read
+-- the conditions of a certified sum, for the instance and the timetable that were read
 pub record Certified (p : Problem) (t : List Cell) (files : List (List ℕ)) (c b : ℕ) : Type 0 where
   pub feasible : IsFeasible p t
   pub costs : cost p t ≡ c
@@ -63,7 +63,7 @@ module _ (i s : List ℕ) (p : Problem) (t : List Cell) (spelled : Spells i p) (
     abbrev solves_here : broken_by score ≡ 0 → Solves i s (costs_of score)
     solves_here e = record { problem = p; table = t; both = both; feasible = feasible_here e; costs = sym (cost_is p t score is) }
 
-    -- a refusal of the proofs
+    -- an error of the proofs is reported
     pub sum_fails : (gives : List (List ℕ) → Type 0) (f : SumFault) → broken_by score ≡ 0 → ((files : List (List ℕ)) → gives files → IsSumFault p files f) → IsSumCheckFault i s gives (fault_from_sum f)
     sum_fails gives (sum.Proof n f) e h = record { problem = p; table = t; both = both; feasible = feasible_here e; fails = h }
     sum_fails gives (sum.Groups n f) e h = record { problem = p; table = t; both = both; feasible = feasible_here e; fails = h }

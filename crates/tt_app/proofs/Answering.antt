@@ -1,4 +1,4 @@
--- What `check` and `bound` answer, from what the checker answered.
+-- The answers of `check` and `bound`, from the results of the checker.
 use Rattle.std.proofs.Common.{◌≡◌, ℕ, List, Option, Err, refl, sym, subst, inl, inr}
 use Rattle.tt_instance.specs.declared.fault.InstanceFault.TheVariants as instance
 use Rattle.tt_table.specs.declared.fault.SolutionFault.TheVariants as solution
@@ -10,7 +10,7 @@ use Rattle.tt_app.specs.Checked.{IsCheckRefusal, AnswersYes, IsYesAnswer}
 use Rattle.tt_app.specs.Told.{fault_from_certify}
 use Rattle.tt_app.specs.declared.answer.Answer.{Answer}
 
--- a fault of the checker is told
+-- an error of the checker is reported
 pub tells : (i s : List ℕ) (proof : Option (List ℕ)) (f : CertifyFault) → IsFirstFault i s proof f → IsCheckRefusal i s proof (fault_from_certify f)
 tells i s proof (certify.Instance instance.OutOfMemory) h = tt
 tells i s proof (certify.Instance f) h = h
@@ -20,7 +20,7 @@ tells i s proof (certify.Proof check.OutOfMemory) h = tt
 tells i s proof (certify.Proof f) h = h
 tells i s proof certify.OutOfMemory h = tt
 
--- so is what must be answered with yes
+-- an error that the checker may return instead of `Yes` may be reported instead of it
 pub yes_told : (f : CertifyFault) (c b : ℕ) → AnswersYesBelow (Err f) c b → AnswersYes (Err (fault_from_certify f)) c b
 yes_told f c b (inl e) = subst (λ g. AnswersYes (Err (fault_from_certify g)) c b) (sym e) (inl refl)
 yes_told f c b (inr e) = subst (λ g. AnswersYes (Err (fault_from_certify g)) c b) (sym e) (inr refl)

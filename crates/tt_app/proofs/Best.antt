@@ -1,4 +1,4 @@
--- What `best` answers, from what its steps answered.
+-- The answer of `best`, from the results of its steps.
 use Rattle.std.proofs.Common.{◌≡◌, ◌≤◌, ℕ, List, sym, subst}
 use Rattle.tt_instance.specs.Problem.{Problem}
 use Rattle.tt_instance.specs.Spelling.{Spells}
@@ -13,13 +13,13 @@ use Rattle.tt_proof_check.proofs.Files.{one_instance}
 use Rattle.tt_sum.specs.Sums.{IsSum}
 use Rattle.tt_app.specs.Summed.{CertifiesSum}
 
--- the solution and the proofs certify a cost and a bound, which holds of every feasible timetable
+-- the solution and the proofs certify a cost and a bound, which holds for every feasible timetable
 pub record IsWhole (instance solution : List ℕ) (files : List (List ℕ)) (c b : ℕ) : Type 0 where
   pub certified : CertifiesSum instance solution files c b
   pub bounds : BoundsAll instance b
   pub within : b ≤ c
 
--- so it is where the solution spells a feasible timetable of this cost, and the bound is the sum
+-- they certify them if the solution spells a feasible timetable of this cost, and the bound is the sum
 pub whole : (i s : List ℕ) (p : Problem) (t : List Cell) (files : List (List ℕ)) (sum : Bound) (c b : ℕ) → Spells i p → SpellsTable p s t → IsFeasible p t → c ≡ cost p t → IsSum p files sum → HoldsOfAll p sum
     → sum ≡ AtLeast b → IsWhole i s files c b
 whole i s p t files sum c b spells solved feasible costs is holds e =

@@ -1,4 +1,4 @@
--- What `bound` answers, from what its steps answered.
+-- The answer of `bound`, from the results of its steps.
 use Rattle.std.proofs.Common.{◌≡◌, ℕ, List, Option, Some, None, Err, refl, sym, subst, inl, inr}
 use Rattle.std.specs.Prelude.{IfSome}
 use Rattle.tt_instance.specs.Problem.{Problem}
@@ -17,7 +17,7 @@ use Rattle.tt_app.specs.Bounded.{IsBoundAnswer, IsBounded, IsBoundRefusal, Answe
 use Rattle.tt_app.specs.Told.{fault_from_instance, fault_from_check}
 use Rattle.tt_app.specs.declared.answer.Answer.{Answer}
 
--- what is spelled is refused for being out of memory alone
+-- if the bytes spell an instance, reading it is refused only for being out of memory
 pub spelled_memory : (i : List ℕ) (p : Problem) (f : InstanceFault) (b : Bound) → Spells i p → Fails f (instance_of i) → AnswersBound (Err (fault_from_instance f)) b
 spelled_memory i p instance.OutOfMemory b spells h = inl refl
 spelled_memory i p (instance.Ended n) b spells h = let e = is_read i p spells in absurd cc
@@ -28,24 +28,24 @@ spelled_memory i p (instance.Repeated n) b spells h = let e = is_read i p spells
 spelled_memory i p (instance.UnknownCourse n) b spells h = let e = is_read i p spells in absurd cc
 spelled_memory i p (instance.OutOfRange n) b spells h = let e = is_read i p spells in absurd cc
 
--- what is said of known bytes
+-- a property of the bytes, if they are known
 pub told : (q : Option (List ℕ)) (P : List ℕ → Type 0) → ((bytes : List ℕ) → q ≡ Some bytes → P bytes) → IfSome q P
 told None P h = tt
 told (Some bytes) P h = h bytes refl
 
--- a fault of the proof is told
+-- an error of the proof is reported
 pub proof_tells : (i : List ℕ) (p : Problem) (q : Option (List ℕ)) (f : CheckFault) → Spells i p → ((bytes : List ℕ) → q ≡ Some bytes → IsProofFault p (stream_of bytes) f) → IsBoundRefusal i q (fault_from_check f)
 proof_tells i p q check.OutOfMemory spells h = tt
 proof_tells i p q (check.Text f) spells h = record { problem = p; spelled = spells; fails = told q (λ bytes. IsProofFault p (stream_of bytes) (check.Text f)) h }
 proof_tells i p q (check.Rule n f) spells h = record { problem = p; spelled = spells; fails = told q (λ bytes. IsProofFault p (stream_of bytes) (check.Rule n f)) h }
 proof_tells i p q (check.TooDeep n) spells h = record { problem = p; spelled = spells; fails = told q (λ bytes. IsProofFault p (stream_of bytes) (check.TooDeep n)) h }
 
--- a silent fault says nothing of the bytes
+-- a silent error says nothing about the bytes
 pub silent_bound : (f : CheckFault) (b : Bound) → IsSilent f → AnswersBound (Err (fault_from_check f)) b
 silent_bound f b (inl e) = subst (λ g. AnswersBound (Err (fault_from_check g)) b) (sym e) (inl refl)
 silent_bound f b (inr e) = subst (λ g. AnswersBound (Err (fault_from_check g)) b) (sym e) (inr refl)
 
--- what is derived on the instance that the bytes spell is derived on the one that was read
+-- a bound that is derived on the instance that the bytes spell is derived on the instance that was read
 pub proved_here : (i bytes : List ℕ) (p read : Problem) (b : Bound) → Spells i p → Spells i read → IsProved p bytes b → IsProved read bytes b
 proved_here i bytes p read b spells found h = subst (λ (q : Problem). IsProved q bytes b) (one_instance i p read spells found) h
 

@@ -1,4 +1,4 @@
--- Only a failed read is told as one.
+-- Only a failed read is reported as one.
 use Rattle.std.proofs.Common.{◌≡◌, ap}
 use Rattle.tt_text.specs.declared.feed.FeedFault.TheVariants as feed
 use Rattle.tt_instance.specs.declared.fault.InstanceFault.TheVariants as instance
@@ -30,7 +30,7 @@ read_certified (certify.Solution f) e = cc
 read_certified (certify.Proof f) e = let is = read_checked f e in cc
 read_certified certify.OutOfMemory e = cc
 
--- a failed read of certify is told as one
+-- a failed read of `certify` is reported as one
 pub certified_read : (f : CertifyFault) → f ≡ certify.Proof failed_text → fault_from_certify f ≡ read_failed
 certified_read f e = ap fault_from_certify e
 

@@ -1,4 +1,4 @@
--- The bytes of an instance and of a solution: what the readers answer of them.
+-- The bytes of an instance and of a solution, and the results of reading them.
 use Rattle.std.proofs.Common.{◌≡◌, ℕ, List, Err, refl, subst, ◌∙◌}
 use Rattle.tt_instance.specs.Problem.{Problem}
 use Rattle.tt_instance.specs.Reading.{instance_of, Fails}
@@ -24,17 +24,17 @@ use Rattle.tt_app.specs.declared.answer.Answer.{Answer}
 use Rattle.tt_app.specs.declared.fault.AppFault.{AppFault}
 use Rattle.tt_app.specs.declared.fault.AppFault.TheVariants as fault
 
--- a fault of the instance is told
+-- an error of the instance is reported
 pub tells_instance : (i s : List ℕ) (f : InstanceFault) → Fails f (instance_of i) → IsFileRefusal i s (fault_from_instance f)
 tells_instance i s instance.OutOfMemory h = tt
 tells_instance i s f h = h
 
--- a fault of the solution is told
+-- an error of the solution is reported
 pub tells_solution : (i s : List ℕ) (p : Problem) (f : SolutionFault) → Spells i p → FailsTable f (solution_of p s) → IsFileRefusal i s (fault_from_solution f)
 tells_solution i s p solution.OutOfMemory spelled h = tt
 tells_solution i s p f spelled h = record { problem = p; spelled = spelled; fails = h }
 
--- where both are spelled, the only refusal is being out of memory
+-- if both are spelled, the only error is being out of memory
 pub only_memory : (i s : List ℕ) (p : Problem) (t : List Cell) (f : AppFault) → SpellsBoth i s p t → IsFileRefusal i s f → f ≡ fault.OutOfMemory
 only_memory i s p t (fault.Instance f) both h = let e = is_read i p both.spelled in absurd cc
 only_memory i s p t (fault.Solution f) both h =

@@ -1,4 +1,4 @@
--- What `upgrade` answers, from what its steps answered.
+-- The answer of `upgrade`, from the results of its steps.
 use Rattle.std.proofs.Common.{◌≡◌, ℕ, List, Option, Some, Err, refl, sym, subst, inl, inr}
 use Rattle.tt_instance.specs.Problem.{Problem}
 use Rattle.tt_instance.specs.Spelling.{Spells}
@@ -16,7 +16,7 @@ use Rattle.tt_app.specs.declared.answer.Answer.{Answer}
 use Rattle.tt_app.specs.declared.fault.AppFault.{AppFault}
 use Rattle.tt_app.proofs.DerivedBounds.{told}
 
--- what may be answered in place of a bound may be answered here
+-- an error that `bound` may return instead of a bound may be returned by `upgrade`
 pub as_bound : (f : AppFault) (b : Bound) → AnswersBound (Err f) b → AnswersUpgrade (Err f) b
 as_bound f b (inl e) = inl e
 as_bound f b (inr e) = inr (inl e)
@@ -25,7 +25,7 @@ module _ (i : List ℕ) (p : Problem) (q : Option (List ℕ)) (spells : Spells i
   whole : (f : UpgradeFault) → ((bytes : List ℕ) → q ≡ Some bytes → IsUpgradeFault p (stream_of bytes) f) → FailsWhole i q f
   whole f h = record { problem = p; spelled = spells; fails = told q (λ bytes. IsUpgradeFault p (stream_of bytes) f) h }
 
-  -- a fault of the proof is told
+  -- an error of the proof is reported
   pub upgrade_tells : (f : UpgradeFault) → ((bytes : List ℕ) → q ≡ Some bytes → IsUpgradeFault p (stream_of bytes) f) → IsUpgradeRefusal i q (fault_from_upgrade f)
   upgrade_tells (upgrade.Proof check.OutOfMemory) h = tt
   upgrade_tells (upgrade.Proof (check.Text f)) h = whole (upgrade.Proof (check.Text f)) h
@@ -37,7 +37,7 @@ module _ (i : List ℕ) (p : Problem) (q : Option (List ℕ)) (spells : Spells i
   pub rewritten : (a : Answer) (b : Bound) (out : List ℕ) → ((bytes : List ℕ) → q ≡ Some bytes → IsUpgraded p bytes b out) → HoldsOfAll p b → IsUpgradeAnswer a b out → IsRewritten i q a
   rewritten a b out h holds answer = record { problem = p; spelled = spells; bound = b; out = out; upgraded = told q (λ bytes. IsUpgraded p bytes b out) h; holds = holds; answer = answer }
 
--- a silent fault says nothing against the proof
+-- a silent error says nothing against the proof
 pub silent_upgrade : (f : UpgradeFault) (b : Bound) → IsSilent f → AnswersUpgrade (Err (fault_from_upgrade f)) b
 silent_upgrade f b (inl e) = subst (λ g. AnswersUpgrade (Err (fault_from_upgrade g)) b) (sym e) (inl refl)
 silent_upgrade f b (inr (inl e)) = subst (λ g. AnswersUpgrade (Err (fault_from_upgrade g)) b) (sym e) (inr (inl refl))

@@ -1,4 +1,4 @@
--- What `solve` answers, from what its steps answered.
+-- The answer of `solve`, from the results of its steps.
 use Rattle.std.proofs.Common.{◌≡◌, ℕ, Bool, List, Option, Some, All, refl, subst, inl, inr}
 use Rattle.std.specs.Prelude.{IfSome, ◌⊎◌}
 use Rattle.tt_instance.specs.Problem.{Problem}
@@ -22,28 +22,28 @@ use Rattle.tt_app.specs.Told.{fault_from_instance}
 use Rattle.tt_app.specs.declared.fault.AppFault.{AppFault}
 use Rattle.tt_app.specs.declared.fault.AppFault.TheVariants as fault
 
--- the best timetable is one of the instance
+-- the best timetable is a timetable of the instance
 pub best_fits : (p : Problem) (best : Option (List Cell)) → IfSome best (IsFeasible p) → IfSome best (IsTimetable p)
 best_fits p (Some t) h = h.timetable
 best_fits p _ h = h
 
--- a text in version 2, where a node has a claim of that version
+-- a text in version 2 is the proof's file if a node has a claim of this version
 pub second_file : (b : Bound) (nodes : List Node) (bytes : List ℕ) → ¬ All (IsNodeIn 1) nodes → Writes 2 b nodes bytes → IsProofFile b nodes bytes
 second_file b nodes bytes newer h = record { version = 2; least = inr (refl, newer); text = h.text }
 
--- no tree is refused for being none
+-- nodes of a tree are not refused for being no tree
 pub is_tree : (v : ℕ) (b : Bound) (nodes : List Node) → IsPreorder nodes → Refuses v b nodes write.NotATree → ⊥
 is_tree v b nodes tree h = h tree
 
--- no nodes are refused for being of another version than the second
+-- no nodes are refused for a version in version 2
 pub in_second : (b : Bound) (nodes : List Node) → Refuses 2 b nodes write.NotInVersion → ⊥
 in_second b nodes h = h.2 (λ k x e. node_in_two _)
 
--- the text is too long in a version
+-- the text is too long in some version
 pub over_long : (v : ℕ) (b : Bound) (nodes : List Node) → Refuses v b nodes write.OverLimit → IsOverLong b nodes
 over_long v b nodes h = record { version = v; large = h.1 }
 
--- the text is refused for two reasons alone
+-- the text is refused only for these two reasons
 pub text_refusal : (b : Bound) (nodes : List Node) (f : AppFault) → IsTextRefusal b nodes f → (f ≡ fault.OutOfMemory) ⊎ (f ≡ fault.ProofTooLarge)
 text_refusal b nodes (fault.Instance f) h = absurd h
 text_refusal b nodes (fault.Solution f) h = absurd h
@@ -58,7 +58,7 @@ text_refusal b nodes fault.UnknownName h = absurd h
 text_refusal b nodes (fault.Term f) h = absurd h
 text_refusal b nodes (fault.Complete f) h = absurd h
 
--- where an instance is spelled, reading it is refused for memory alone
+-- if the bytes spell an instance, reading it is refused only for being out of memory
 pub read_memory : (i : List ℕ) (p : Problem) (f : InstanceFault) → Spells i p → Fails f (instance_of i) → fault_from_instance f ≡ fault.OutOfMemory
 read_memory i p instance.OutOfMemory spells h = refl
 read_memory i p (instance.Ended n) spells h = let e = is_read i p spells in absurd cc
@@ -69,7 +69,7 @@ read_memory i p (instance.Repeated n) spells h = let e = is_read i p spells in a
 read_memory i p (instance.UnknownCourse n) spells h = let e = is_read i p spells in absurd cc
 read_memory i p (instance.OutOfRange n) spells h = let e = is_read i p spells in absurd cc
 
--- the refusal of the proof's text is one of the search
+-- the refusal of the proof's text is a refusal of the search
 pub text_refused : (i : List ℕ) (limit : ℕ) (p : Problem) (best : Option (List Cell)) (b : Bound) (proof : Option (List Node)) (nodes : List Node) (finished : Bool) (f : AppFault) → Spells i p
     → IsOutcome p limit best b proof finished → proof ≡ Some nodes → IsTextRefusal b nodes f → IsSolveRefusal i limit f
 text_refused i limit p best b proof nodes finished fault.OutOfMemory spells found is h = tt

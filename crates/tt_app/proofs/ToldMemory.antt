@@ -1,4 +1,4 @@
--- Being out of memory is told as itself.
+-- Being out of memory is reported as itself.
 use Rattle.tt_instance.specs.declared.fault.InstanceFault.{InstanceFault}
 use Rattle.tt_instance.specs.declared.fault.InstanceFault.TheVariants as instance
 use Rattle.tt_table.specs.declared.fault.SolutionFault.{SolutionFault}

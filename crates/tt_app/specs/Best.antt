@@ -1,4 +1,4 @@
--- What `best` answers of the bytes of an instance.
+-- The answer of `best` for the bytes of an instance.
 use Rattle.std.specs.Prelude.{◌≡◌, ◌≤◌, ◌⊎◌, ℕ, List, None, IsSomeAnd}
 use Rattle.tt_instance.specs.Problem.{Problem}
 use Rattle.tt_instance.specs.Spelling.{Spells}
@@ -11,8 +11,8 @@ use Rattle.tt_app.specs.Lines.{best_line, none_line}
 use Rattle.tt_app.specs.Summed.{CertifiesSum}
 use Rattle.tt_app.specs.declared.calls.best.BestAnswer.{BestAnswer}
 
--- The solution breaks no hard rule of the instance and costs what the line says, and the proofs add up to the bound that it says, as a sum with
--- this solution would. Every timetable of the instance that breaks no hard rule costs at least the bound.
+-- The solution breaks no hard rule of the instance, its cost is the one in the line, and the proofs add up to the bound in the line, as a sum
+-- with this solution would. Every timetable of the instance that breaks no hard rule costs at least the bound.
 pub record IsBestFound (instance : List ℕ) (a : BestAnswer) : Type 0 where
   pub solution : List ℕ
   pub cost : ℕ
@@ -24,7 +24,7 @@ pub record IsBestFound (instance : List ℕ) (a : BestAnswer) : Type 0 where
   pub text : a.out.items ≡ best_line cost bound
   pub status : a.status ≡ 0
 
--- No timetable is answered. The proofs add up to the bound that the line says, which holds of every timetable that breaks no hard rule.
+-- The answer has no timetable. The proofs add up to the bound in the line, which holds for every timetable that breaks no hard rule.
 pub record IsNoneFound (instance : List ℕ) (a : BestAnswer) : Type 0 where
   pub problem : Problem
   pub spelled : Spells instance problem

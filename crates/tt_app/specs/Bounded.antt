@@ -1,4 +1,4 @@
--- What `bound` answers of the bytes of an instance and of a proof.
+-- The answer of `bound` for the bytes of an instance and of a proof.
 use Rattle.std.specs.Prelude.{◌≡◌, ℕ, ◌⊎◌, List, Option, Result, Ok, Err, IfSome, ⊤}
 use Rattle.tt_instance.specs.Problem.{Problem}
 use Rattle.tt_instance.specs.Reading.{instance_of}
@@ -18,7 +18,7 @@ pub record IsBoundAnswer (a : Answer) (b : Bound) : Type 0 where
   pub status : a.status ≡ 0
   pub no_files : NoFiles a
 
--- the proof derives the bound, where its reader tells its bytes, and the bound holds
+-- the proof derives the bound, if its reader reports its bytes, and the bound holds
 pub record IsBounded (instance : List ℕ) (proof : Option (List ℕ)) (a : Answer) : Type 0 where
   pub problem : Problem
   pub spelled : Spells instance problem
@@ -27,25 +27,25 @@ pub record IsBounded (instance : List ℕ) (proof : Option (List ℕ)) (a : Answ
   pub holds : HoldsOfAll problem bound
   pub answer : IsBoundAnswer a bound
 
--- the bytes spell an instance, and those of the proof have this fault
+-- the bytes spell an instance, and those of the proof have this error
 pub record FailsAlone (instance : List ℕ) (proof : Option (List ℕ)) (f : CheckFault) : Type 0 where
   pub problem : Problem
   pub spelled : Spells instance problem
   pub fails : IfSome proof (λ bytes. IsProofFault problem (stream_of bytes) f)
 
--- a refusal tells the first fault: the instance's, then the proof's
+-- a refusal reports the first error: the instance's, then the proof's
 abbrev pub IsBoundRefusal : List ℕ → Option (List ℕ) → AppFault → Type 0
 IsBoundRefusal i proof (fault.Instance f) = instance_of i ≡ Err f
 IsBoundRefusal i proof (fault.Proof f) = FailsAlone i proof f
 IsBoundRefusal i proof fault.OutOfMemory = ⊤
 IsBoundRefusal i proof _ = ⊥
 
--- the instance is refused
+-- whether the instance is refused
 abbrev pub IsOfInstance : AppFault → Type 0
 IsOfInstance (fault.Instance f) = ⊤
 IsOfInstance _ = ⊥
 
--- this bound, unless memory runs out or a read of the proof fails
+-- the answer is this bound, unless memory runs out or a read of the proof fails
 abbrev pub AnswersBound : Result Answer AppFault → Bound → Type 0
 AnswersBound (Ok a) b = IsBoundAnswer a b
 AnswersBound (Err f) b = (f ≡ fault.OutOfMemory) ⊎ (f ≡ read_failed)

@@ -1,4 +1,4 @@
--- What `check` answers of the bytes of an instance, of a solution and of a proof.
+-- The answer of `check` for the bytes of an instance, of a solution and of a proof.
 use Rattle.std.specs.Prelude.{◌≡◌, ℕ, ◌+◌, ◌⊎◌, List, Option, None, Result, Ok, Err, ⊤}
 use Rattle.tt_text.specs.declared.feed.FeedFault.TheVariants as feed
 use Rattle.tt_proof_read.specs.declared.fault.TextFault.TheVariants as text
@@ -32,7 +32,7 @@ IsAnswerOf (Yes c b) a = IsYesAnswer a c b
 IsAnswerOf (Breaks s) a =
     IsBrokenAnswer a (s.lectures + s.conflicts + s.availability + s.room_occupancy) (s.room_capacity + s.min_working_days + s.compactness + s.room_stability)
 
--- the answer is that of a verdict which is so
+-- the answer is that of a right verdict
 pub record IsChecked (instance solution : List ℕ) (proof : Option (List ℕ)) (a : Answer) : Type 0 where
   pub verdict : Verdict
   pub is : IsVerdict instance solution proof verdict
@@ -40,7 +40,7 @@ pub record IsChecked (instance solution : List ℕ) (proof : Option (List ℕ)) 
 
 -- ---- refusals
 
--- a refusal tells the first fault: the instance's, then the solution's, then the proof's
+-- a refusal reports the first error: the instance's, then the solution's, then the proof's
 abbrev pub IsCheckRefusal : List ℕ → List ℕ → Option (List ℕ) → AppFault → Type 0
 IsCheckRefusal i s proof (fault.Instance f) = IsFirstFault i s proof (certify.Instance f)
 IsCheckRefusal i s proof (fault.Solution f) = IsFirstFault i s proof (certify.Solution f)
@@ -48,24 +48,24 @@ IsCheckRefusal i s proof (fault.Proof f) = IsFirstFault i s proof (certify.Proof
 IsCheckRefusal i s proof fault.OutOfMemory = ⊤
 IsCheckRefusal i s proof _ = ⊥
 
--- the instance or the solution is refused
+-- whether the instance or the solution is refused
 abbrev pub IsOfFiles : AppFault → Type 0
 IsOfFiles (fault.Instance f) = ⊤
 IsOfFiles (fault.Solution f) = ⊤
 IsOfFiles _ = ⊥
 
--- a read of the proof failed
+-- the error that a read of the proof failed
 abbrev pub read_failed : AppFault
 read_failed = fault.Proof (check.Text (text.Feed feed.Read))
 
--- ---- what has to be answered
+-- -- required answers
 
--- yes with c and b, unless memory runs out or a read of the proof fails
+-- the answer is `yes` with c and b, unless memory runs out or a read of the proof fails
 abbrev pub AnswersYes : Result Answer AppFault → ℕ → ℕ → Type 0
 AnswersYes (Ok a) c b = IsYesAnswer a c b
 AnswersYes (Err f) c b = (f ≡ fault.OutOfMemory) ⊎ (f ≡ read_failed)
 
--- that a hard rule is broken, unless memory runs out
+-- the answer is that a hard rule is broken, unless memory runs out
 abbrev pub AnswersBroken : Result Answer AppFault → Type 0
 AnswersBroken (Ok a) = a.status ≡ 1
 AnswersBroken (Err f) = f ≡ fault.OutOfMemory

@@ -1,4 +1,4 @@
--- What `table` and `calendar` answer of the bytes of an instance and of a solution.
+-- The answers of `table` and `calendar` for the bytes of an instance and of a solution.
 use Rattle.std.specs.Prelude.{◌≡◌, ℕ, List, None, Some, Err, ⊤, slice_get}
 use Rattle.tt_instance.specs.Problem.{Problem}
 use Rattle.tt_instance.specs.Reading.{instance_of}
@@ -37,20 +37,20 @@ pub record IsCalendar (instance solution : List ℕ) (by : By) (name : List ℕ)
   pub no_table : a.table ≡ None
   pub no_proof : a.proof ≡ None
 
--- the files are spelled, and no room, teacher or curriculum has the name
+-- the files are spelled, but no room, teacher or curriculum has the name
 pub record HasNoName (instance solution : List ℕ) (by : By) (name : List ℕ) : Type 0 where
   pub problem : Problem
   pub table : List Cell
   pub both : SpellsBoth instance solution problem table
   pub unknown : (n : ℕ) → ¬ (slice_get (names_by problem by) n ≡ Some name)
 
--- a refusal of dates and times
+-- whether the error is a refusal of dates and times
 abbrev pub IsNoTerm : AppFault → Type 0
 IsNoTerm (fault.Term f) = ⊤
 IsNoTerm fault.OutOfMemory = ⊤
 IsNoTerm _ = ⊥
 
--- a refusal is the first fault: the instance's, the solution's, that of the name, that of the dates and times
+-- a refusal reports the first error: the instance's, then the solution's, then that of the name, then that of the dates and times
 abbrev pub IsCalendarRefusal : List ℕ → List ℕ → By → List ℕ → AppFault → Type 0
 IsCalendarRefusal instance solution by name (fault.Instance f) = instance_of instance ≡ Err f
 IsCalendarRefusal instance solution by name (fault.Solution f) = FailsSolution instance solution f

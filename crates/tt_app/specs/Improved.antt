@@ -1,4 +1,4 @@
--- What `improve` answers of the bytes of an instance and of a solution.
+-- The answer of `improve` for the bytes of an instance and of a solution.
 use Rattle.std.specs.Prelude.{◌≡◌, ℕ, ◌-◌, ◌/◌, ◌<◌, ◌==◌, if◌then◌else◌, List, [], length, None, Err, IsSomeAnd, ⊤}
 use Rattle.tt_instance.specs.Problem.{Problem}
 use Rattle.tt_instance.specs.Reading.{instance_of}
@@ -25,7 +25,8 @@ pub record IsTableAnswer (p : Problem) (t : List Cell) (a : Answer) : Type 0 whe
   pub file : IsSomeAnd a.table (λ v. v.items ≡ solution_text p t)
   pub no_proof : a.proof ≡ None
 
--- the answer is that of a timetable which is no worse than the one that is spelled: half of this many steps at most were drawn from there, and the others descend
+-- the answer is that of a timetable that is no worse than the spelled one: at most half of this many steps were drawn from it, and the others
+-- descend
 pub record IsImproved (instance solution : List ℕ) (steps : ℕ) (a : Answer) : Type 0 where
   pub problem : Problem
   pub table : List Cell
@@ -35,7 +36,8 @@ pub record IsImproved (instance solution : List ℕ) (steps : ℕ) (a : Answer) 
   pub descended : IsDescended problem table (steps / 2) (steps - steps / 2) better
   pub answer : IsTableAnswer problem better a
 
--- the same in this many runs, each from the timetable that the run before it found
+-- the answer is that of a timetable that is no worse than the spelled one, after this many runs, each from the timetable that the run before it
+-- found
 pub record IsImprovedInRuns (instance solution : List ℕ) (steps runs : ℕ) (a : Answer) : Type 0 where
   pub problem : Problem
   pub table : List Cell
@@ -45,7 +47,7 @@ pub record IsImprovedInRuns (instance solution : List ℕ) (steps runs : ℕ) (a
   pub in_runs : Runs problem table (steps / 2) (steps - steps / 2) runs better
   pub answer : IsTableAnswer problem better a
 
--- the answer is that of a timetable which is no worse than the completed one
+-- the answer is that of a timetable that is no worse than the completed one
 pub record IsCompletedAndImproved (instance solution : List ℕ) (steps runs : ℕ) (a : Answer) : Type 0 where
   pub problem : Problem
   pub table : List Cell
@@ -57,20 +59,20 @@ pub record IsCompletedAndImproved (instance solution : List ℕ) (steps runs : �
   pub in_runs : Runs problem completed (steps / 2) (steps - steps / 2) runs better
   pub answer : IsTableAnswer problem better a
 
--- why a timetable of an instance can't be completed
+-- the reason why a timetable of an instance can't be completed
 abbrev pub CannotComplete : Problem → List Cell → CompleteFault → Type 0
 CannotComplete p t completion.TooManyEntries = MOST_ENTRIES < length t
 CannotComplete p t completion.NoRoom = p.rooms ≡ []
 CannotComplete p t completion.OutOfMemory = ⊥
 
--- both files are spelled, and the timetable can't be completed
+-- both files are spelled, but the timetable can't be completed
 pub record IsIncompletable (instance solution : List ℕ) (f : CompleteFault) : Type 0 where
   pub problem : Problem
   pub table : List Cell
   pub both : SpellsBoth instance solution problem table
   pub cannot : CannotComplete problem table f
 
--- a refusal is the first fault: the instance's, the solution's, that the timetable can't be completed
+-- a refusal reports the first error: the instance's, then the solution's, then that the timetable can't be completed
 abbrev pub IsCompletionRefusal : List ℕ → List ℕ → AppFault → Type 0
 IsCompletionRefusal instance solution (fault.Instance f) = instance_of instance ≡ Err f
 IsCompletionRefusal instance solution (fault.Solution f) = FailsSolution instance solution f

@@ -31,13 +31,13 @@ abbrev pub bound_points : Bound → List ℕ
 bound_points (AtLeast b) = decimal b
 bound_points Nothing = codes "none"
 
--- what a search found, and whether it is finished
+-- the result of a search, and whether it is finished
 abbrev pub solve_line : Problem → Option (List Cell) → Bound → Bool → List ℕ
 solve_line p best b finished =
     codes "cost " ++ best_cost p best ++ codes " bound " ++ bound_points b
     ++ (if finished then codes " finished" else codes " unfinished") ++ 10 ∷ []
 
--- what proofs come to together, and how many there are
+-- the sum of proofs, and their number
 abbrev pub parts_line : Bound → ℕ → List ℕ
 parts_line b n = codes "bound " ++ bound_points b ++ codes " parts " ++ decimal n ++ 10 ∷ []
 
@@ -45,11 +45,11 @@ parts_line b n = codes "bound " ++ bound_points b ++ codes " parts " ++ decimal 
 abbrev pub best_line : ℕ → ℕ → List ℕ
 best_line c b = codes "cost " ++ decimal c ++ codes " bound " ++ decimal b ++ (if c == b then codes " optimal" else []) ++ 10 ∷ []
 
--- a bound where no timetable was found
+-- a bound if no timetable was found
 abbrev pub none_line : Bound → List ℕ
 none_line b = codes "cost none bound " ++ bound_points b ++ 10 ∷ []
 
--- how many hard rules a timetable breaks, and its cost
+-- the number of hard rules that a timetable breaks, and its cost
 abbrev pub pair_line : ℕ → ℕ → List ℕ
 pair_line h c = codes "hard " ++ decimal h ++ codes " cost " ++ decimal c ++ 10 ∷ []
 

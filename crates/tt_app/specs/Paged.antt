@@ -1,4 +1,4 @@
--- What `page` writes of the bytes of an instance and of a solution.
+-- The bytes that `page` writes for the bytes of an instance and of a solution.
 use Rattle.std.specs.Prelude.{◌≡◌, ℕ, List, Option, Err, ⊤}
 use Rattle.std.specs.Io.KnownBytes.{Appends}
 use Rattle.tt_instance.specs.Problem.{Problem}
@@ -11,7 +11,7 @@ use Rattle.tt_proof_check.specs.Verdicts.{FailsSolution}
 use Rattle.tt_app.specs.declared.fault.AppFault.{AppFault}
 use Rattle.tt_app.specs.declared.fault.AppFault.TheVariants as fault
 
--- the page of the timetable was written, and the status says that it was
+-- the page of the timetable was written, and the status reports it
 pub record IsPaged (instance solution style : List ℕ) (before after : Option (List ℕ)) (status : ℕ) : Type 0 where
   pub problem : Problem
   pub table : List Cell
@@ -26,7 +26,7 @@ pub record IsPagedPartly (instance solution style : List ℕ) (before after : Op
   pub both : SpellsBoth instance solution problem table
   pub part : TakesPart before after (page_text problem table style)
 
--- a refusal tells the first fault: the instance's, then the solution's, then that of a write
+-- a refusal reports the first error: the instance's, then the solution's, then that of a write
 abbrev pub IsPageRefusal : List ℕ → List ℕ → List ℕ → Option (List ℕ) → Option (List ℕ) → AppFault → Type 0
 IsPageRefusal instance solution style before after (fault.Instance f) = instance_of instance ≡ Err f
 IsPageRefusal instance solution style before after (fault.Solution f) = FailsSolution instance solution f

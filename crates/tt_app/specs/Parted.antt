@@ -1,4 +1,4 @@
--- What `parts` answers of the bytes of an instance.
+-- The answer of `parts` for the bytes of an instance.
 use Rattle.std.specs.Prelude.{◌≡◌, ℕ, List, Err, length, ⊤}
 use Rattle.tt_instance.specs.Problem.{Problem}
 use Rattle.tt_instance.specs.Reading.{instance_of}
@@ -12,7 +12,7 @@ use Rattle.tt_app.specs.declared.calls.parts.PartsAnswer.{PartsAnswer}
 use Rattle.tt_app.specs.declared.fault.AppFault.{AppFault}
 use Rattle.tt_app.specs.declared.fault.AppFault.TheVariants as fault
 
--- Each proof spells what is right, no target is claimed by two of them, and the line names the sum, which holds of every feasible timetable.
+-- Each proof spells a right proof, no two of them claim the same target, and the line has the sum, which holds for every feasible timetable.
 pub record IsParted (instance : List ℕ) (a : PartsAnswer) : Type 0 where
   pub problem : Problem
   pub spelled : Spells instance problem
@@ -21,7 +21,7 @@ pub record IsParted (instance : List ℕ) (a : PartsAnswer) : Type 0 where
   pub holds : HoldsOfAll problem bound
   pub text : a.out.items ≡ parts_line bound (length a.proofs.items)
 
--- a refusal names the instance's fault
+-- a refusal reports the instance's error
 abbrev pub IsPartsRefusal : List ℕ → AppFault → Type 0
 IsPartsRefusal i (fault.Instance f) = instance_of i ≡ Err f
 IsPartsRefusal i fault.OutOfMemory = ⊤

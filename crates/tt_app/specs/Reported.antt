@@ -1,4 +1,4 @@
--- What `report` writes of the bytes of an instance and of a solution.
+-- The bytes that `report` writes for the bytes of an instance and of a solution.
 use Rattle.std.specs.Prelude.{◌≡◌, ℕ, List, Option, Err, ⊤}
 use Rattle.std.specs.Io.KnownBytes.{Appends}
 use Rattle.tt_instance.specs.Problem.{Problem}
@@ -12,7 +12,7 @@ use Rattle.tt_proof_check.specs.Verdicts.{FailsSolution}
 use Rattle.tt_app.specs.declared.fault.AppFault.{AppFault}
 use Rattle.tt_app.specs.declared.fault.AppFault.TheVariants as fault
 
--- the report of the timetable was written, and the status says that it was
+-- the report of the timetable was written, and the status reports it
 pub record IsReported (instance solution : List ℕ) (by : By) (before after : Option (List ℕ)) (status : ℕ) : Type 0 where
   pub problem : Problem
   pub table : List Cell
@@ -27,7 +27,7 @@ pub record IsReportedPartly (instance solution : List ℕ) (by : By) (before aft
   pub both : SpellsBoth instance solution problem table
   pub part : TakesPart before after (report_text problem table by)
 
--- a refusal tells the first fault: the instance's, then the solution's, then that of a write
+-- a refusal reports the first error: the instance's, then the solution's, then that of a write
 abbrev pub IsReportRefusal : List ℕ → List ℕ → By → Option (List ℕ) → Option (List ℕ) → AppFault → Type 0
 IsReportRefusal instance solution by before after (fault.Instance f) = instance_of instance ≡ Err f
 IsReportRefusal instance solution by before after (fault.Solution f) = FailsSolution instance solution f
@@ -35,7 +35,7 @@ IsReportRefusal instance solution by before after fault.OutOfMemory = ⊤
 IsReportRefusal instance solution by before after fault.CannotWrite = IsReportedPartly instance solution by before after
 IsReportRefusal instance solution by before after _ = ⊥
 
--- no write was tried, or memory ran out before the first
+-- whether no write was tried, or memory ran out before the first write
 abbrev pub IsUnwritten : AppFault → Type 0
 IsUnwritten fault.CannotWrite = ⊥
 IsUnwritten _ = ⊤

@@ -1,4 +1,4 @@
--- What `upgrade` answers of the bytes of an instance and of a proof.
+-- The answer of `upgrade` for the bytes of an instance and of a proof.
 use Rattle.std.specs.Prelude.{◌≡◌, ℕ, ◌⊎◌, List, Option, None, Result, Ok, Err, IfSome, IsSomeAnd, ⊤}
 use Rattle.tt_instance.specs.Problem.{Problem}
 use Rattle.tt_instance.specs.Reading.{instance_of}
@@ -23,7 +23,7 @@ pub record IsUpgradeAnswer (a : Answer) (b : Bound) (bytes : List ℕ) : Type 0 
   pub no_table : a.table ≡ None
   pub file : IsSomeAnd a.proof (λ v. v.items ≡ bytes)
 
--- the proof derives the bound, where its reader tells its bytes, and its tree was written in version 2; the bound holds
+-- the proof derives the bound, if its reader reports its bytes, and its tree was written in version 2; the bound holds
 pub record IsRewritten (instance : List ℕ) (proof : Option (List ℕ)) (a : Answer) : Type 0 where
   pub problem : Problem
   pub spelled : Spells instance problem
@@ -33,13 +33,13 @@ pub record IsRewritten (instance : List ℕ) (proof : Option (List ℕ)) (a : An
   pub holds : HoldsOfAll problem bound
   pub answer : IsUpgradeAnswer a bound out
 
--- the bytes spell an instance, and those of the proof, read whole, have this fault
+-- the bytes spell an instance, and those of the proof, read whole, have this error
 pub record FailsWhole (instance : List ℕ) (proof : Option (List ℕ)) (f : UpgradeFault) : Type 0 where
   pub problem : Problem
   pub spelled : Spells instance problem
   pub fails : IfSome proof (λ bytes. IsUpgradeFault problem (stream_of bytes) f)
 
--- a refusal tells the first fault: the instance's, then the proof's
+-- a refusal reports the first error: the instance's, then the proof's
 abbrev pub IsUpgradeRefusal : List ℕ → Option (List ℕ) → AppFault → Type 0
 IsUpgradeRefusal i proof (fault.Instance f) = instance_of i ≡ Err f
 IsUpgradeRefusal i proof (fault.Proof f) = FailsWhole i proof (upgrade.Proof f)
@@ -47,12 +47,13 @@ IsUpgradeRefusal i proof fault.ProofTooLarge = FailsWhole i proof upgrade.TooLar
 IsUpgradeRefusal i proof fault.OutOfMemory = ⊤
 IsUpgradeRefusal i proof _ = ⊥
 
--- this bound, unless memory runs out, a read of the proof fails or its text grows too large
+-- the answer is this bound, unless memory runs out, a read of the proof fails or its text grows too large
 abbrev pub AnswersUpgrade : Result Answer AppFault → Bound → Type 0
 AnswersUpgrade (Ok a) b = a.out.items ≡ bound_line b
 AnswersUpgrade (Err f) b = (f ≡ fault.OutOfMemory) ⊎ (f ≡ read_failed) ⊎ (f ≡ fault.ProofTooLarge)
 
--- A read of the proof failed: the bytes of the instance spell one, and all that the source gave of the proof before has been read for it.
+-- A read of the proof failed: the bytes spell an instance, and all the bytes of the proof that the source gave before it have been read for the
+-- instance.
 pub record IsSpelledAndReadUpToFailedRead (instance proof : List ℕ) (left : Option (List ℕ)) : Type 0 where
   pub problem : Problem
   pub spelled : Spells instance problem

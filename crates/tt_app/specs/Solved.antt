@@ -1,4 +1,4 @@
--- What `solve` answers of the bytes of an instance.
+-- The answer of `solve` for the bytes of an instance.
 use Rattle.std.specs.Prelude.{◌≡◌, ℕ, ◌⊎◌, Bool, List, Option, Some, Err, All, option_map, if◌then◌else◌, is_some, IsSomeAnd, ⊤}
 use Rattle.tt_instance.specs.Problem.{Problem}
 use Rattle.tt_instance.specs.Reading.{instance_of}
@@ -15,7 +15,7 @@ use Rattle.tt_app.specs.declared.answer.Answer.{Answer}
 use Rattle.tt_app.specs.declared.fault.AppFault.{AppFault}
 use Rattle.tt_app.specs.declared.fault.AppFault.TheVariants as fault
 
--- the first version, unless some claim is of the second
+-- version 1, unless some claim is of version 2
 abbrev pub IsLeastVersion : List Node → ℕ → Type 0
 IsLeastVersion nodes v = ((v ≡ 1) × All (IsNodeIn 1) nodes) ⊎ ((v ≡ 2) × ¬ All (IsNodeIn 1) nodes)
 
@@ -25,25 +25,25 @@ pub record IsProofFile (b : Bound) (nodes : List Node) (bytes : List ℕ) : Type
   pub least : IsLeastVersion nodes version
   pub text : bytes ≡ proof_text version b nodes
 
--- the text of the proof is longer than a file may be
+-- the text of the proof is longer than a file may be, in some version
 pub record IsOverLong (b : Bound) (nodes : List Node) : Type 0 where
   pub version : ℕ
   pub large : ¬ FitsFile version b nodes
 
--- The text of the proof is not written where it is too long, or where memory runs out.
+-- The text of the proof is not written if it is too long or memory runs out.
 abbrev pub IsTextRefusal : Bound → List Node → AppFault → Type 0
 IsTextRefusal b nodes fault.ProofTooLarge = IsOverLong b nodes
 IsTextRefusal b nodes fault.OutOfMemory = ⊤
 IsTextRefusal b nodes _ = ⊥
 
--- the line of a search, its status, and its files: that of the best timetable, if there is one, and that of the proof
+-- the line of a search, its status, and its files: the file of the best timetable, if there is one, and the file of the proof
 pub record IsSearchAnswer (p : Problem) (best : Option (List Cell)) (b : Bound) (nodes : List Node) (finished : Bool) (a : Answer) : Type 0 where
   pub text : a.out.items ≡ solve_line p best b finished
   pub status : a.status ≡ (if is_some best then 0 else 1)
   pub table : option_map (λ v. v.items) a.table ≡ option_map (solution_text p) best
   pub proof : IsSomeAnd a.proof (λ v. IsProofFile b nodes v.items)
 
--- the answer is that of a search of the instance that is spelled
+-- the answer is that of a search on the spelled instance
 pub record IsSolved (instance : List ℕ) (limit : ℕ) (a : Answer) : Type 0 where
   pub problem : Problem
   pub spelled : Spells instance problem
@@ -65,7 +65,7 @@ pub record IsTooLarge (instance : List ℕ) (limit : ℕ) : Type 0 where
   pub outcome : IsOutcome problem limit best bound (Some nodes) finished
   pub large : IsOverLong bound nodes
 
--- a refusal tells the instance's fault, or that the proof is too large
+-- a refusal reports the instance's error, or that the proof is too large
 abbrev pub IsSolveRefusal : List ℕ → ℕ → AppFault → Type 0
 IsSolveRefusal i limit (fault.Instance f) = instance_of i ≡ Err f
 IsSolveRefusal i limit fault.ProofTooLarge = IsTooLarge i limit

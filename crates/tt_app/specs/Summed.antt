@@ -1,4 +1,4 @@
--- What `sum` answers of the bytes of an instance, of proofs, and of a solution where one is given.
+-- The answer of `sum` for the bytes of an instance, of proofs, and of a solution if one is given.
 use Rattle.std.specs.Prelude.{◌≡◌, ℕ, ◌+◌, ◌≤◌, ◌⊎◌, List, Option, Result, Ok, Err, ⊤}
 use Rattle.tt_instance.specs.Problem.{Problem}
 use Rattle.tt_instance.specs.Reading.{instance_of}
@@ -27,7 +27,7 @@ use Rattle.tt_app.specs.declared.fault.AppFault.TheVariants as fault
 
 -- ---- the bound alone
 
--- the proofs derive the bound together, where their readers give these bytes, and it holds
+-- the proofs derive the bound together, if their readers give these bytes, and it holds
 pub record IsSummed (instance : List ℕ) (gives : List (List ℕ) → Type 0) (a : Answer) : Type 0 where
   pub problem : Problem
   pub spelled : Spells instance problem
@@ -36,13 +36,13 @@ pub record IsSummed (instance : List ℕ) (gives : List (List ℕ) → Type 0) (
   pub holds : HoldsOfAll problem bound
   pub answer : IsBoundAnswer a bound
 
--- the bytes spell an instance, and those of the proofs have this fault
+-- the bytes spell an instance, and those of the proofs have this error
 pub record FailsSum (instance : List ℕ) (gives : List (List ℕ) → Type 0) (f : SumFault) : Type 0 where
   pub problem : Problem
   pub spelled : Spells instance problem
   pub fails : (proofs : List (List ℕ)) → gives proofs → IsSumFault problem proofs f
 
--- a refusal tells the first fault: the instance's, then that of the first proof that is refused
+-- a refusal reports the first error: the instance's, then that of the first proof that is refused
 abbrev pub IsSumRefusal : List ℕ → (List (List ℕ) → Type 0) → AppFault → Type 0
 IsSumRefusal i gives (fault.Instance f) = instance_of i ≡ Err f
 IsSumRefusal i gives (fault.Sum f) = FailsSum i gives f
@@ -53,40 +53,40 @@ abbrev pub fault_from_sum : SumFault → AppFault
 fault_from_sum sum.OutOfMemory = fault.OutOfMemory
 fault_from_sum f = fault.Sum f
 
--- a read of this proof failed
+-- the error that a read of this proof failed
 abbrev pub read_failed_at : ℕ → AppFault
 read_failed_at n = fault.Sum (below.read_failed_at n)
 
--- The check of a group's claim was given up, in this file of groups.
+-- The check of a group's claim, in this file of groups, was not finished.
 pub record IsGivenUp (f : AppFault) : Type 0 where
   pub file : ℕ
   pub found : GroupsFault
   pub is : f ≡ fault.Sum (sum.Groups file found)
   pub open_claim : IsLeftOpen found
 
--- memory ran out, a read of a file failed, or the check of a group's claim was given up
+-- whether memory ran out, a read of a file failed, or the check of a group's claim was not finished
 abbrev pub IsSilentRefusal : AppFault → Type 0
 IsSilentRefusal f = (f ≡ fault.OutOfMemory) ⊎ (((n : ℕ) × (f ≡ read_failed_at n)) ⊎ IsGivenUp f)
 
--- this bound, unless the refusal says nothing of the bytes
+-- the answer is this bound, unless the refusal says nothing about the bytes
 abbrev pub AnswersSum : Result Answer AppFault → Bound → Type 0
 AnswersSum (Ok a) b = IsBoundAnswer a b
 AnswersSum (Err f) b = IsSilentRefusal f
 
--- The file of an instance that is spelled has been judged as far as its bytes went.
+-- The bytes spell an instance, and the bytes that the file's source gave before the failed read have been checked for it.
 pub record IsSpelledAndFileJudgedUpToFailedRead (instance proof : List ℕ) (left : Option (List ℕ)) : Type 0 where
   pub problem : Problem
   pub spelled : Spells instance problem
   pub tells : IsFileJudgedUpToFailedRead problem proof left
 
--- ---- a solution too
+-- -- with a solution
 
 -- The solution breaks no hard rule of the instance and costs c, and b is the sum of the bounds that the proofs derive.
 pub record CertifiesSum (instance solution : List ℕ) (proofs : List (List ℕ)) (c b : ℕ) : Type 0 where
   pub solves : Solves instance solution c
   pub sum : IsSum solves.problem proofs (AtLeast b)
 
--- yes with c and b: what it says of the bytes, and what it means
+-- `yes` with c and b: what it states about the bytes, and what it means
 pub record IsSumYes (instance solution : List ℕ) (gives : List (List ℕ) → Type 0) (c b : ℕ) : Type 0 where
   pub solves : Solves instance solution c
   pub certified : (proofs : List (List ℕ)) → gives proofs → CertifiesSum instance solution proofs c b
@@ -104,11 +104,11 @@ pub record IsBrokenOfSum (instance solution : List ℕ) (a : Answer) : Type 0 wh
   pub is : IsBroken instance solution score
   pub answer : IsBrokenAnswer a (score.lectures + score.conflicts + score.availability + score.room_occupancy) (score.room_capacity + score.min_working_days + score.compactness + score.room_stability)
 
--- the answer is yes, or that a hard rule is broken, and it is so
+-- the answer is `yes`, or that a hard rule is broken, and it is right
 abbrev pub IsSumChecked : List ℕ → List ℕ → (List (List ℕ) → Type 0) → Answer → Type 0
 IsSumChecked i s gives a = IsYesOfSum i s gives a ⊎ IsBrokenOfSum i s a
 
--- the solution breaks no hard rule, and the proofs have this fault
+-- the solution breaks no hard rule, and the proofs have this error
 pub record FailsSumOfBoth (instance solution : List ℕ) (gives : List (List ℕ) → Type 0) (f : SumFault) : Type 0 where
   pub problem : Problem
   pub table : List Cell
@@ -116,7 +116,7 @@ pub record FailsSumOfBoth (instance solution : List ℕ) (gives : List (List ℕ
   pub feasible : IsFeasible problem table
   pub fails : (proofs : List (List ℕ)) → gives proofs → IsSumFault problem proofs f
 
--- a refusal tells the first fault: the instance's, then the solution's, then that of the first proof that is refused
+-- a refusal reports the first error: the instance's, then the solution's, then that of the first proof that is refused
 abbrev pub IsSumCheckFault : List ℕ → List ℕ → (List (List ℕ) → Type 0) → AppFault → Type 0
 IsSumCheckFault i s gives (fault.Instance f) = instance_of i ≡ Err f
 IsSumCheckFault i s gives (fault.Solution f) = FailsSolution i s f
@@ -124,7 +124,7 @@ IsSumCheckFault i s gives (fault.Sum f) = FailsSumOfBoth i s gives f
 IsSumCheckFault i s gives fault.OutOfMemory = ⊤
 IsSumCheckFault i s gives _ = ⊥
 
--- yes with c and b, unless the refusal says nothing of the bytes
+-- the answer is `yes` with c and b, unless the refusal says nothing about the bytes
 abbrev pub AnswersSumYes : Result Answer AppFault → ℕ → ℕ → Type 0
 AnswersSumYes (Ok a) c b = IsYesAnswer a c b
 AnswersSumYes (Err f) c b = IsSilentRefusal f

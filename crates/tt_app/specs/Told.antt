@@ -1,4 +1,4 @@
--- How a fault of a layer is told by a call: being out of memory is always one and the same.
+-- The report of a layer's error by a call: being out of memory is always the same error.
 use Rattle.std.specs.Prelude.{◌≡◌, ⊤}
 use Rattle.tt_instance.specs.declared.fault.InstanceFault.{InstanceFault}
 use Rattle.tt_instance.specs.declared.fault.InstanceFault.TheVariants as instance
@@ -51,7 +51,7 @@ abbrev pub fault_from_completion : CompleteFault → AppFault
 fault_from_completion completion.OutOfMemory = fault.OutOfMemory
 fault_from_completion f = fault.Complete f
 
--- Being out of memory is told as itself, wherever it comes from.
+-- Being out of memory is reported as itself, regardless of its source.
 abbrev pub OutOfMemoryIsOneFault : AppFault → Type 0
 OutOfMemoryIsOneFault (fault.Instance f) = ¬ (f ≡ instance.OutOfMemory)
 OutOfMemoryIsOneFault (fault.Solution f) = ¬ (f ≡ solution.OutOfMemory)

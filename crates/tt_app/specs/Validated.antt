@@ -1,4 +1,4 @@
--- What `validate` answers of the bytes of an instance and of a solution.
+-- The answer of `validate` for the bytes of an instance and of a solution.
 use Rattle.std.specs.Prelude.{◌≡◌, ℕ, ◌+◌, ◌==◌, ◌++◌, if◌then◌else◌, List, None, Err, ⊤, codes}
 use Rattle.tt_instance.specs.Problem.{Problem}
 use Rattle.tt_instance.specs.Reading.{instance_of}
@@ -33,7 +33,7 @@ pub record IsScoreAnswer (s : Score) (a : Answer) : Type 0 where
   pub no_table : a.table ≡ None
   pub no_proof : a.proof ≡ None
 
--- the answer has the timetable's score, and status 1 where a hard rule is broken
+-- the answer has the timetable's score, and status 1 if a hard rule is broken
 pub record IsValidated (instance solution : List ℕ) (a : Answer) : Type 0 where
   pub problem : Problem
   pub table : List Cell
@@ -43,7 +43,7 @@ pub record IsValidated (instance solution : List ℕ) (a : Answer) : Type 0 wher
   pub no_table : a.table ≡ None
   pub no_proof : a.proof ≡ None
 
--- a refusal tells the first fault: the instance's, then the solution's
+-- a refusal reports the first error: the instance's, then the solution's
 abbrev pub IsFileRefusal : List ℕ → List ℕ → AppFault → Type 0
 IsFileRefusal instance solution (fault.Instance f) = instance_of instance ≡ Err f
 IsFileRefusal instance solution (fault.Solution f) = FailsSolution instance solution f

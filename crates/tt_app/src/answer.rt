@@ -1,9 +1,9 @@
-//! What a call answers.
+//! The answer of a call.
 
-/// What a command prints, its status, and the files that it writes.
+/// The output of a command, its status, and the files that it writes.
 #[derive(Debug, Drop)]
 pub struct Answer {
-    /// 0 says yes, or that the work is done; 1 that a hard rule is broken, or that there is no timetable.
+    /// 0 means yes, or that the work is done; 1 means that a hard rule is broken, or that there is no timetable.
     pub status: u8,
     /// The text for standard output.
     pub out: Vec<u8>,

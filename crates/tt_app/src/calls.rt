@@ -1,4 +1,4 @@
-//! The calls, a file each.
+//! The calls, one file each.
 
 pub mod best;
 pub mod bound;

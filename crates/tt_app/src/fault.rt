@@ -1,4 +1,4 @@
-//! Why a call was refused.
+//! The reasons why a call was refused.
 
 use std::alloc::AllocError;
 use thiserror::Error;
@@ -23,7 +23,7 @@ pub enum Input {
     Proof,
 }
 
-/// Why a call was refused.
+/// The reason why a call was refused.
 #[derive(Clone, Copy, Debug, PartialEq, Eq, Error)]
 pub enum AppFault {
     #[error("instance: {0}")]

@@ -8,7 +8,7 @@ use std::alloc::{AllocError, Global};
 use tt_leaf_rules::Bound;
 use tt_text::{put_line_end, put_next_number, put_number, put_token};
 
-/// The line of a solution that breaks no hard rule, with its cost and the bound that is proved.
+/// Returns the line of a solution that breaks no hard rule, with its cost and the bound that is proved.
 pub fn yes(alloc: Global, cost: u64, bound: u64) -> Result<Vec<u8>, AllocError>
     ensures { IfOk result (λ out. out.items ≡ yes_line cost bound) }
 {
@@ -24,7 +24,7 @@ pub fn yes(alloc: Global, cost: u64, bound: u64) -> Result<Vec<u8>, AllocError>
     Ok(out)
 }
 
-/// The line of a solution that breaks a hard rule.
+/// Returns the line of a solution that breaks a hard rule.
 pub fn broken(alloc: Global, hard: u64, cost: u64) -> Result<Vec<u8>, AllocError>
     ensures { IfOk result (λ out. out.items ≡ broken_line hard cost) }
 {
@@ -37,7 +37,7 @@ pub fn broken(alloc: Global, hard: u64, cost: u64) -> Result<Vec<u8>, AllocError
     Ok(out)
 }
 
-/// The line of a bound.
+/// Returns the line of a bound.
 pub fn bound_line(alloc: Global, bound: Bound) -> Result<Vec<u8>, AllocError>
     ensures { IfOk result (λ out. out.items ≡ bound_line bound) }
 {
@@ -51,7 +51,7 @@ pub fn bound_line(alloc: Global, bound: Bound) -> Result<Vec<u8>, AllocError>
     Ok(out)
 }
 
-/// The line of a timetable's hard count and cost.
+/// Returns the line of a timetable's hard count and cost.
 pub fn pair_line(alloc: Global, hard: u64, cost: u64) -> Result<Vec<u8>, AllocError>
     ensures { IfOk result (λ out. out.items ≡ pair_line hard cost) }
 {
@@ -64,7 +64,7 @@ pub fn pair_line(alloc: Global, hard: u64, cost: u64) -> Result<Vec<u8>, AllocEr
     Ok(out)
 }
 
-/// A line of a name and its number.
+/// Writes a line of a name and its number.
 pub fn put_count(out: &mut Vec<u8>, name: &[u8], count: u64) -> Result<(), AllocError>
     ensures { OnOk result (out.new.items ≡ out.old.items ++ count_line name.now count) }
 {

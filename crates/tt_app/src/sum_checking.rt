@@ -25,7 +25,7 @@ use tt_rules::score;
 use tt_sum::{SumFault, sum_proofs};
 use tt_table::{Timetable, read_solution};
 
-/// The bound of proofs, where some timetable breaks no hard rule: so it is a number.
+/// Returns the bound of proofs, if some timetable breaks no hard rule: so the bound is a number.
 fn summed_bound<R: Peek>(
     alloc: Global,
     instance: &Instance<'_>,
@@ -51,33 +51,33 @@ fn summed_bound<R: Peek>(
     }
 }
 
-/// Whether a solution of an instance breaks no hard rule, with its cost and the sum of the lower bounds that proofs derive. The proofs
-/// are read only where no hard rule is broken.
+/// Checks whether a solution of an instance breaks no hard rule, and returns its cost and the sum of the lower bounds that proofs derive. The
+/// proofs are read only if no hard rule is broken.
 pub fn check_sum<R: Peek>(
     alloc: Global,
     instance: &[u8],
     solution: &[u8],
     proofs: &mut [R],
 ) -> Result<Answer, AppFault>
-    // What is answered is so.
+    // If there is an answer, it is right.
     ensures found { IfOk result (IsSumChecked instance.now solution.now (Give R.remaining proofs.old)) }
-    // A refusal tells the first fault.
+    // A refusal reports the first error.
     ensures fault { IfErr result (IsSumCheckFault instance.now solution.now (Give R.remaining proofs.old)) }
-    // What is certified is answered with yes, if the sum is below 2^64.
+    // If the bytes certify c and b, and the sum is below 2^64, the answer is `yes` with c and b, unless the refusal says nothing about the bytes.
     ensures yes { (c b : ℕ) (files : List (List ℕ)) → Give R.remaining proofs.old files → (h : CertifiesSum instance.now solution.now files c b) →
         all_points h.sum.parts < 2 ^ 64 → AnswersSumYes result c b }
-    // What breaks a hard rule is answered, and no proof is read.
+    // If the timetable breaks a hard rule, the answer says so, unless memory runs out, and no proof is read.
     ensures broken { BreaksARule instance.now solution.now → AnswersBroken result × (proofs.new ≡ proofs.old) }
-    // Nor is one read where the instance or the solution is refused.
+    // If the instance or the solution is refused, no proof is read.
     ensures unread { IfErr result (λ f. IsOfFiles f → proofs.new ≡ proofs.old) }
-    // A read is said to have failed exactly where one did.
+    // A failed read is reported exactly if a read failed.
     ensures failed { (i : ℕ) (r : R) → result ≡ Err (read_failed_at (i + 1)) → slice_get proofs.new i ≡ Some r → R.has_failed r ≡ true }
     ensures unfailed { (i : ℕ) (r q : R) → ¬ (result ≡ Err (read_failed_at (i + 1))) → slice_get proofs.old i ≡ Some r → slice_get proofs.new i ≡ Some q →
         R.has_failed q ≡ R.has_failed r }
-    // Where one failed, all that the bytes of its proof before it say has been judged.
+    // If a failed read is reported, all the bytes of its proof before it have been checked.
     ensures up_to_failed_read { (i : ℕ) (r q : R) (bytes : List ℕ) → result ≡ Err (read_failed_at (i + 1)) → slice_get proofs.old i ≡ Some r →
         slice_get proofs.new i ≡ Some q → R.remaining r ≡ Some bytes → IsSpelledAndFileJudgedUpToFailedRead instance.now bytes (R.remaining q) }
-    // Being out of memory is one answer, wherever it comes from.
+    // Being out of memory is always the same error, regardless of its source.
     ensures memory { IfErr result OutOfMemoryIsOneFault }
 {
     let instance = read_instance(alloc, instance)?;

@@ -1,4 +1,4 @@
-//! Files that take their places together.
+//! Files that are moved to their places together.
 
 use crate::draft::{Draft, finish, sync_folder, write_whole};
 use crate::fault::OutputFault;
@@ -15,7 +15,7 @@ struct Step {
     older: Option<String>,
 }
 
-/// New files, each whole, that aren't in their places yet.
+/// New files, each whole, that aren't at their places yet.
 pub struct Batch {
     drafts: Vec<Draft>,
 }
@@ -36,8 +36,8 @@ fn forget_older<R: Files>(rt: &R, steps: &[Step]) {
     }
 }
 
-/// Restores the older file at a place, or removes the new one where there was none. Where the older file had no second name, the
-/// new one stays.
+/// Restores the older file at a place, or removes the new one if there was none. If the older file had no second name, the
+/// new one remains.
 fn restore<R: Files>(rt: &R, step: &Step) {
     let place = step.draft.place();
     let _ = match &step.older {
@@ -47,14 +47,14 @@ fn restore<R: Files>(rt: &R, step: &Step) {
     };
 }
 
-/// Restores what was at each place.
+/// Restores the older state of each place.
 fn restore_all<R: Files>(rt: &R, steps: &[Step]) {
     for step in steps {
         restore(rt, step);
     }
 }
 
-/// Has the system store the names in the folders of the places; a folder that several files in a row have, once.
+/// Has the system store the names in the folders of the places; a folder that consecutive files share, only once.
 fn sync_folders<R: Files>(rt: &R, steps: &[Step]) -> Result<(), OutputFault> {
     let mut last: Option<&str> = None;
     for step in steps {
@@ -106,7 +106,7 @@ impl Batch {
         }
     }
 
-    /// Writes a new file next to its place, or the bytes to a device or a pipe. After a fault none of the batch's files are left.
+    /// Writes a new file next to its place, or the bytes to a device or a pipe. After an error none of the batch's files are left.
     pub fn write<R: Files + Clock + AllocGlobal>(
         self,
         rt: &R,
@@ -142,13 +142,13 @@ impl Batch {
         remove_drafts(rt, &drafts);
     }
 
-    /// Removes the new files, and returns the fault.
+    /// Removes the new files, and returns the error.
     fn stopped_by<R: Files>(self, rt: &R, fault: OutputFault) -> Result<Batch, OutputFault> {
         self.abandon(rt);
         Err(fault)
     }
 
-    /// Renames each file to its place. Where one can't be renamed, what was at the others' places is restored, as far as the system
+    /// Renames each file to its place. If one can't be renamed, the older state of the others' places is restored, as far as the system
     /// allows.
     pub fn put<R: Files + Clock + AllocGlobal>(self, rt: &R) -> Result<(), OutputFault> {
         let Batch { drafts } = self;

@@ -1,4 +1,4 @@
-//! A new file that isn't in its place yet.
+//! A new file that isn't at its place yet.
 
 use crate::fault::OutputFault;
 use crate::place::Place;
@@ -13,7 +13,7 @@ use std::time::Duration;
 /// The permissions of a file that had none before; the system takes away those that its mask forbids.
 const NEW_MODE: u32 = 0o666;
 
-/// How many names are tried for a new file.
+/// The maximum number of names that are tried for a new file.
 const MAX_NAMES: u64 = 1 << 20;
 
 /// A new file next to its place, to be renamed to it once it is whole.
@@ -32,12 +32,12 @@ fn draw_number<R: Clock>(rt: &R) -> u64 {
         .wrapping_add(u64::from(since.subsec_nanos()))
 }
 
-/// Returns whether a fault says only that a file system can't do what it was asked.
+/// Checks whether an error means only that a file system doesn't support an operation.
 fn is_unsupported(kind: ErrorKind) -> bool {
     kind == ErrorKind::Unsupported || kind == ErrorKind::InvalidInput
 }
 
-/// Gives a new file the permissions of the older one.
+/// Sets the permissions of a new file to those of the older one.
 fn set_mode<F: OpenFile>(file: &F, mode: u32) -> Result<(), OutputFault> {
     match file.set_permissions(Permissions::from_mode(mode)) {
         Ok(()) => Ok(()),
@@ -46,7 +46,7 @@ fn set_mode<F: OpenFile>(file: &F, mode: u32) -> Result<(), OutputFault> {
     }
 }
 
-/// Makes the system store what was written to a folder or a file.
+/// Makes the system store the data that was written to a folder or a file.
 fn sync<F: OpenFile>(file: &F) -> Result<(), OutputFault> {
     match file.sync_all() {
         Ok(()) => Ok(()),
@@ -55,7 +55,7 @@ fn sync<F: OpenFile>(file: &F) -> Result<(), OutputFault> {
     }
 }
 
-/// Makes the system store the names in a folder, where it can be opened.
+/// Makes the system store the names in a folder, if the folder can be opened.
 pub fn sync_folder<R: Files>(rt: &R, folder: &str) -> Result<(), OutputFault> {
     match fs::open(rt, folder) {
         Ok(folder) => sync(&folder),
@@ -72,7 +72,7 @@ pub fn write_whole<F: Write + OpenFile + Drop>(
     finish(file)
 }
 
-/// Has the system store what was written to a new file, and closes it.
+/// Has the system store the data that was written to a new file, and closes it.
 pub fn finish<F: Write + OpenFile + Drop>(mut file: F) -> Result<(), OutputFault> {
     file.flush()?;
     sync(&file)
@@ -123,7 +123,7 @@ impl Draft {
         Ok(fs::remove_file(rt, draft.path.as_str())?)
     }
 
-    /// Writes a whole file next to its place; after a fault there is none.
+    /// Writes a whole file next to its place; after an error there is no such file.
     pub fn write<R: Files + Clock + AllocGlobal>(
         rt: &R,
         place: &Place,
@@ -154,7 +154,7 @@ impl Draft {
         let _ = fs::remove_file(rt, self.path.as_str());
     }
 
-    /// Gives the older file at the place a second name, if there is one; `None` where there is none, or where it can't have one.
+    /// Gives the older file at the place a second name and returns it; `None` if there is no older file, or it can't have a second name.
     pub fn link_older<R: Files + Clock + AllocGlobal>(
         &self,
         rt: &R,

@@ -1,10 +1,10 @@
-//! Why a file isn't written.
+//! The reasons why a file isn't written.
 
 use std::alloc::{AllocError, AllocFailed};
 use std::io;
 use std::io::ErrorKind;
 
-/// Why a file isn't written.
+/// The reason why a file isn't written.
 #[derive(Clone, Copy, Debug, PartialEq, Eq)]
 pub enum OutputFault {
     CannotWrite,

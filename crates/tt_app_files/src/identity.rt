@@ -1,4 +1,4 @@
-//! Which file a path leads to.
+//! The identity of the file that a path leads to.
 
 use crate::fault::OutputFault;
 use std::fs;
@@ -13,7 +13,7 @@ pub struct FileId {
     number: u64,
 }
 
-/// Whether a fault says that no file can be reached by a path, or that the file system has no answer; any other one leaves it open.
+/// Checks whether an error means that no file can be reached by a path, or that the file system has no answer; any other error leaves it open.
 pub fn is_absent(kind: ErrorKind) -> bool {
     matches!(
         kind,

@@ -1,4 +1,4 @@
-//! Where a command writes a file: chosen before it reads anything, and tried before it searches.
+//! The output file of a command: chosen before the command reads anything, and tried before it searches.
 
 use crate::draft::Draft;
 use crate::fault::OutputFault;
@@ -9,10 +9,10 @@ use std::fs::{Metadata, OpenOptions};
 use std::os::unix::fs::MetadataExt;
 use std::rt::{Clock, Files};
 
-/// The bits of a file's mode that say who may read, write and run it.
+/// The bits of a file's mode that determine who may read, write and run it.
 const PERMISSIONS: u32 = 0o777;
 
-/// Where a command writes one file.
+/// The place to which a command writes one file.
 #[derive(Debug, Drop)]
 pub enum Output {
     /// A regular file, or no file yet: replaced by a new file.
@@ -40,7 +40,7 @@ fn replaced<R: Files + AllocGlobal>(
 }
 
 impl Output {
-    /// Finds what a path leads to.
+    /// Finds the output that a path leads to.
     pub fn find<R: Files + AllocGlobal>(rt: &R, path: &str) -> Result<Output, OutputFault> {
         match fs::metadata(rt, path) {
             Ok(found) if found.is_file() => replaced(rt, path, &found),
@@ -57,7 +57,7 @@ impl Output {
         }
     }
 
-    /// Finds what a path leads to, and refuses a file that is read too.
+    /// Finds the output that a path leads to, and refuses a file that is read too.
     pub fn apart_from<R: Files + AllocGlobal>(
         rt: &R,
         path: &str,
@@ -72,7 +72,7 @@ impl Output {
         Ok(output)
     }
 
-    /// Whether writing replaces the file that a path leads to.
+    /// Checks whether writing replaces the file that a path leads to.
     fn replaces<R: Files>(&self, rt: &R, input: &str) -> Result<bool, OutputFault> {
         match self {
             Output::Replaced { place, older } => match (older, find_id(rt, input)?) {
@@ -83,7 +83,7 @@ impl Output {
         }
     }
 
-    /// Whether two outputs are one file, or one name in one folder.
+    /// Checks whether two outputs are the same file, or the same name in the same folder.
     pub fn is_same<R: Files>(&self, rt: &R, other: &Output) -> Result<bool, OutputFault> {
         match (self.file(), other.file()) {
             (Some(file), Some(other_file)) => Ok(file == other_file),

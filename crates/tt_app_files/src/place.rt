@@ -7,7 +7,7 @@ use std::fs;
 use std::path::Path;
 use std::rt::Files;
 
-/// How many links in a row are followed.
+/// The maximum number of consecutive links that are followed.
 const MAX_LINKS: u32 = 40;
 
 /// A name in a folder, links followed, and the permissions of the file that has the name.
@@ -50,7 +50,7 @@ fn follow_links<R: Files + AllocGlobal>(rt: &R, path: &str) -> Result<String, Ou
 }
 
 impl Place {
-    /// Finds the place that a path leads to; `mode` is what its file has now, `None` if there is no file.
+    /// Finds the place that a path leads to; `mode` is the current mode of its file, `None` if there is no file.
     pub fn find<R: Files + AllocGlobal>(
         rt: &R,
         path: &str,
@@ -63,7 +63,7 @@ impl Place {
         Ok(Place { path, mode })
     }
 
-    /// Returns the same place.
+    /// Returns a copy of the place.
     pub fn copy(&self) -> Result<Place, AllocError> {
         Ok(Place {
             path: self.path.clone()?,
@@ -76,7 +76,7 @@ impl Place {
         self.path.as_str()
     }
 
-    /// Returns the permissions of the file that is there, `None` if there is none.
+    /// Returns the permissions of the file at the place, or `None` if there is none.
     pub fn mode(&self) -> Option<u32> {
         self.mode
     }
@@ -92,7 +92,7 @@ impl Place {
         format!(in alloc; "{folder}/{name}")
     }
 
-    /// Whether two places are one name in one folder.
+    /// Checks whether two places are the same name in the same folder.
     pub fn is_same<R: Files>(&self, rt: &R, other: &Place) -> Result<bool, OutputFault> {
         if self.path() == other.path() {
             return Ok(true);

@@ -89,7 +89,7 @@ fn write_files<R: Files + Clock + AllocGlobal>(
     Ok(batch.put(rt)?)
 }
 
-/// Searches, shown on standard error, and saves the best timetable on the way if that is asked for.
+/// Searches, shows the progress on standard error, and saves the best timetable on the way if the options ask for it.
 fn search_shown<R: Files + Clock + AllocGlobal, E: Write>(
     rt: &R,
     ticker: &mut Ticker<'_, R, E>,
@@ -106,7 +106,7 @@ fn search_shown<R: Files + Clock + AllocGlobal, E: Write>(
     best_watched(rt.alloc(), instance, rounds, &mut keeper)
 }
 
-/// Searches, and writes what is found.
+/// Searches, and writes the results.
 fn find_best<R: Files + Clock + AllocGlobal, E: Write>(
     rt: &R,
     err: &mut E,

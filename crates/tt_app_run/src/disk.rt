@@ -5,7 +5,7 @@ use std::rt::Files;
 use tt_app::{AppFault, Input};
 use tt_text::{Reading, WholeFault, read_whole};
 
-/// The most bytes of an instance file and of a solution file.
+/// The maximum number of bytes of an instance file and of a solution file.
 pub const MAX_BYTES: usize = 67_108_864;
 
 /// Reads all bytes of a file.

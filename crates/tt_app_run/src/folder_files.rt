@@ -6,7 +6,7 @@ use std::rt::{Clock, Files};
 use tt_app::AppFault;
 use tt_app_files::{Output, Ready, make_folder};
 
-/// A folder that is written to, and the files that are read before.
+/// A folder that is written to, and the files that are read before writing.
 #[derive(Clone, Copy)]
 pub struct Folder<'a> {
     pub path: &'a str,
@@ -14,14 +14,14 @@ pub struct Folder<'a> {
 }
 
 impl<'a> Folder<'a> {
-    /// Finds where a file goes; refuses a file that is read.
+    /// Finds the output for a file; refuses a file that is read.
     pub fn find<R: Files + AllocGlobal>(self, rt: &R, name: &str) -> Result<Output, AppFault> {
         let folder = self.path;
         let path = format!(in rt.alloc(); "{folder}/{name}")?;
         Ok(Output::apart_from(rt, path.as_str(), self.inputs)?)
     }
 
-    /// Finds where a file goes, and tries it.
+    /// Finds the output for a file, and tries it.
     pub fn prepare<R: Files + Clock + AllocGlobal>(
         self,
         rt: &R,
@@ -30,7 +30,7 @@ impl<'a> Folder<'a> {
         Ok(self.find(rt, name)?.prepare(rt)?)
     }
 
-    /// Refuses files that are read, and two that are one.
+    /// Refuses files that are read, and two names of the same file.
     pub fn check<R: Files + AllocGlobal>(self, rt: &R, names: &[&str]) -> Result<(), AppFault> {
         let mut outputs: Vec<Output> = Vec::new(rt.alloc());
         for name in names {
@@ -45,7 +45,7 @@ impl<'a> Folder<'a> {
         Ok(())
     }
 
-    /// Makes the folder if it isn't there, and returns whether it was made.
+    /// Makes the folder if it doesn't exist, and returns whether it was made.
     pub fn make<R: Files>(self, rt: &R) -> Result<bool, AppFault> {
         Ok(make_folder(rt, self.path)?)
     }

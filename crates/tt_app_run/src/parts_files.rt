@@ -18,7 +18,7 @@ const GROUPS: &str = "groups.proof";
 /// The name of the tree proof about rooms.
 const ROOMS: &str = "rooms.proof";
 
-/// What `parts` reads.
+/// The input of `parts`.
 #[derive(Clone, Copy)]
 pub struct PartsPaths<'a> {
     pub instance: &'a str,
@@ -35,7 +35,7 @@ fn name_of(proof: &[u8]) -> &'static str {
     }
 }
 
-/// Finds and tries where each proof goes.
+/// Finds and tries the output of each proof.
 fn prepare_outputs<R: Files + Clock + AllocGlobal>(
     rt: &R,
     folder: Folder<'_>,
@@ -62,7 +62,7 @@ fn write_proofs<R: Files + Clock + AllocGlobal>(
     Ok(batch.put(rt)?)
 }
 
-/// Finds the proofs, shown on standard error.
+/// Searches for the proofs, and shows the progress on standard error.
 fn find_shown<R: Files + Clock + AllocGlobal, E: Write>(
     rt: &R,
     ticker: &mut Ticker<'_, R, E>,
@@ -83,7 +83,7 @@ fn find_shown<R: Files + Clock + AllocGlobal, E: Write>(
     }
 }
 
-/// Finds the proofs, and writes them.
+/// Searches for the proofs, and writes them.
 fn write_found<R: Files + Clock + AllocGlobal, E: Write>(
     rt: &R,
     err: &mut E,

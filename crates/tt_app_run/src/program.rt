@@ -16,13 +16,13 @@ use std::rt::{Clock, Files};
 use tt_app::{Answer, AppFault};
 use tt_arguments::{Request, parse_arguments};
 
-/// Tells of a refusal, and gives its status.
+/// Prints a refusal, and returns its status.
 fn print_refusal<E: Write>(fault: AppFault, err: &mut E) -> u8 {
     let _ = writeln!(err, "refused: {fault}");
     2
 }
 
-/// The status of what was written, or that of a refusal, which is told.
+/// Returns the status of what was written, or prints a refusal and returns its status.
 fn print_status<E: Write>(written: Result<u8, AppFault>, err: &mut E) -> u8 {
     match written {
         Ok(status) => status,
@@ -30,7 +30,7 @@ fn print_status<E: Write>(written: Result<u8, AppFault>, err: &mut E) -> u8 {
     }
 }
 
-/// Prints an answer or a refusal, and gives the status.
+/// Prints an answer or a refusal, and returns the status.
 fn print_answer<O: Write, E: Write>(
     answered: Result<Answer, AppFault>,
     out: &mut O,
@@ -132,7 +132,7 @@ fn run_request<R: Files + Clock + AllocGlobal, O: Write, E: Write>(
     print_answer(answered, out, err)
 }
 
-/// Prints what clap says of arguments that it refuses, or of a wish for help.
+/// Prints clap's message about arguments that it refuses, or its help.
 fn print_clap_message<O: Write, E: Write>(fault: &clap::Error, out: &mut O, err: &mut E) -> u8 {
     if fault.kind() == ErrorKind::OutOfMemory {
         return print_refusal(AppFault::OutOfMemory, err);
@@ -147,8 +147,9 @@ fn print_clap_message<O: Write, E: Write>(fault: &clap::Error, out: &mut O, err:
     }
 }
 
-/// Runs the program on its arguments, without its own name, and gives its exit status: 0 says yes, or that the work is
-/// done; 1 that a hard rule is broken, or that there is no timetable; 2 that it refused (why is on `err`). Without arguments it checks a stored proof.
+/// Runs the program on its arguments, without its own name, and returns its exit status: 0 means yes, or that the work is
+/// done; 1 means that a hard rule is broken, or that there is no timetable; 2 means that it refused (the reason is on `err`). Without
+/// arguments it checks a stored proof.
 pub fn run<R: Files + Clock + AllocGlobal, O: Write, E: Write>(
     rt: &R,
     arguments: &[String],

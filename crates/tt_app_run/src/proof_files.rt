@@ -1,4 +1,4 @@
-//! Files of proofs, of which one is open at a time.
+//! Files of proofs; at most one is open at a time.
 
 use crate::showing::{Shown, open_counted};
 use std::io::{Read, Write};
@@ -32,7 +32,7 @@ impl<'r, 't, R: Files + Clock, E: Write> Drop for ProofFile<'r, 't, R, E> {
 }
 
 impl<'r, 't, R: Files + Clock, E: Write> ProofFile<'r, 't, R, E> {
-    /// The file of this path, not opened yet, and its number, from 1 on.
+    /// Returns the file of this path, not opened yet, and its number, from 1 on.
     pub fn new(rt: &'r R, path: &'r str, number: u64, shown: &'r Shown<'t, R, E>) -> Self {
         ProofFile {
             rt,

@@ -1,4 +1,4 @@
-//! What each command that checks does with its files.
+//! The file handling of each command that checks.
 
 use crate::built_in;
 use crate::disk::read_file;
@@ -13,7 +13,7 @@ use tt_arguments::Showing;
 use tt_report::{By, Writing};
 use tt_text::{Pieces, Reading};
 
-/// Returns what `check` answers.
+/// Returns the answer of `check`.
 pub fn answer_check<R: Files + Clock + AllocGlobal, E: Write>(
     rt: &R,
     err: &mut E,
@@ -32,7 +32,7 @@ pub fn answer_check<R: Files + Clock + AllocGlobal, E: Write>(
     answer
 }
 
-/// Returns what `bound` answers.
+/// Returns the answer of `bound`.
 pub fn answer_bound<R: Files + Clock + AllocGlobal, E: Write>(
     rt: &R,
     err: &mut E,
@@ -50,7 +50,7 @@ pub fn answer_bound<R: Files + Clock + AllocGlobal, E: Write>(
     answer
 }
 
-/// Returns what `validate` answers.
+/// Returns the answer of `validate`.
 pub fn answer_validate<R: Files + AllocGlobal>(
     rt: &R,
     instance: &str,
@@ -72,7 +72,7 @@ pub fn answer_stored<R: Files + AllocGlobal>(rt: &R) -> Result<Answer, AppFault>
     )
 }
 
-/// Returns the answer, once the proof is in its file.
+/// Returns the answer of `upgrade`, once the proof is in its file.
 pub fn answer_upgrade<R: Files + Clock + AllocGlobal, E: Write>(
     rt: &R,
     err: &mut E,

@@ -1,4 +1,4 @@
-//! What the commands that search do with their files.
+//! The file handling of the commands that search.
 
 use crate::disk::read_file;
 use crate::showing::ticker_of;
@@ -23,7 +23,7 @@ pub fn write_given<R: Files + Clock + AllocGlobal>(
     Ok(())
 }
 
-/// Returns the instance by which timetables are saved on the way, if they are to be saved and it is one.
+/// Returns the instance that is needed to save timetables on the way, if they are to be saved and the bytes spell an instance.
 pub fn saved_instance(alloc: Global, bytes: &[u8], keeps: bool) -> Option<Instance<'_>> {
     if !keeps {
         return None;
@@ -31,7 +31,7 @@ pub fn saved_instance(alloc: Global, bytes: &[u8], keeps: bool) -> Option<Instan
     read_instance(alloc, bytes).ok()
 }
 
-/// Improves a timetable, shown on standard error, and saved on the way if that is asked for.
+/// Improves a timetable, shows the progress on standard error, and saves timetables on the way if the options ask for it.
 fn improve_shown<R: Files + Clock + AllocGlobal, E: Write>(
     rt: &R,
     ticker: &mut Ticker<'_, R, E>,
@@ -70,7 +70,7 @@ fn improve_shown<R: Files + Clock + AllocGlobal, E: Write>(
     )
 }
 
-/// Returns the answer, once the timetable is in its file.
+/// Returns the answer of `improve`, once the timetable is in its file.
 pub fn answer_improve<R: Files + Clock + AllocGlobal, E: Write>(
     rt: &R,
     err: &mut E,
@@ -91,7 +91,7 @@ pub fn answer_improve<R: Files + Clock + AllocGlobal, E: Write>(
     Ok(answer)
 }
 
-/// Searches for a best timetable, shown on standard error, and saved on the way if that is asked for.
+/// Searches for a best timetable, shows the progress on standard error, and saves timetables on the way if the options ask for it.
 fn solve_shown<R: Files + Clock + AllocGlobal, E: Write>(
     rt: &R,
     ticker: &mut Ticker<'_, R, E>,
@@ -124,7 +124,7 @@ fn write_both<R: Files + Clock + AllocGlobal>(
     Ok(batch.put(rt)?)
 }
 
-/// Returns the answer, once the best timetable and the proof are in their files.
+/// Returns the answer of `solve`, once the best timetable and the proof are in their files.
 pub fn answer_solve<R: Files + Clock + AllocGlobal, E: Write>(
     rt: &R,
     err: &mut E,

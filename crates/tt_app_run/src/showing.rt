@@ -1,4 +1,4 @@
-//! Showing how far a command is.
+//! Shows the progress of a command.
 
 use std::cell::RefCell;
 use std::fs;
@@ -11,7 +11,7 @@ use tt_arguments::Showing;
 /// The line that shows how much of proofs has been read.
 pub type Shown<'s, R, E> = RefCell<Ticker<'s, R, E>>;
 
-/// Returns the line that shows how far a command is, on if it is to be shown.
+/// Returns the line that shows the progress of a command, switched on if it is to be shown.
 pub fn ticker_of<'s, R: Files + Clock + AllocGlobal, E: Write>(
     rt: &'s R,
     err: &'s mut E,
@@ -26,7 +26,7 @@ pub fn ticker_of<'s, R: Files + Clock + AllocGlobal, E: Write>(
     Ticker::new(rt, err, command, is_on)
 }
 
-/// Opens a proof whose reading is shown; `None` if it can't be opened.
+/// Opens a proof and shows the progress of its reading; returns `None` if it can't be opened.
 pub fn open_counted<'c, 't, R: Files + Clock, E: Write>(
     rt: &R,
     path: &str,

@@ -1,4 +1,4 @@
-//! What `sum` does with its files.
+//! The file handling of `sum`.
 
 use crate::disk::read_file;
 use crate::proof_files::ProofFile;
@@ -26,7 +26,7 @@ fn proof_files<'r, 't, R: Files + Clock + AllocGlobal, E: Write>(
     Ok(files)
 }
 
-/// Sums what proofs derive, whose reading is shown.
+/// Sums the bounds that proofs derive, and shows the progress of reading them.
 fn sum_files<R: Files + Clock + AllocGlobal, E: Write>(
     rt: &R,
     instance: &[u8],
@@ -44,7 +44,7 @@ fn sum_files<R: Files + Clock + AllocGlobal, E: Write>(
     }
 }
 
-/// Returns what `sum` answers.
+/// Returns the answer of `sum`.
 pub fn answer_sum<R: Files + Clock + AllocGlobal, E: Write>(
     rt: &R,
     err: &mut E,

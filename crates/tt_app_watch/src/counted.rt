@@ -1,4 +1,4 @@
-//! A proof whose reading is shown.
+//! A proof that shows the progress of its reading.
 
 use crate::ticker::Ticker;
 use std::cell::RefCell;
@@ -6,7 +6,7 @@ use std::io;
 use std::io::{Read, Write};
 use std::rt::Clock;
 
-/// A proof that shows how many of its bytes are read.
+/// A proof that shows how many of its bytes have been read.
 pub struct Counted<'c, 't, F: Read, R: Clock, E: Write> {
     file: F,
     number: Option<u64>,
@@ -28,7 +28,7 @@ impl<'c, 't, F: Read + Drop, R: Clock, E: Write> Drop for Counted<'c, 't, F, R, 
 }
 
 impl<'c, 't, F: Read, R: Clock, E: Write> Counted<'c, 't, F, R, E> {
-    /// A file of this many bytes, and its number, if it is one of several.
+    /// Returns a file of this many bytes, and its number if it is one of several.
     pub fn new(
         file: F,
         number: Option<u64>,

@@ -1,4 +1,4 @@
-//! Watching a search: showing it, and saving its best timetable.
+//! Watches a search: shows its progress, and saves its best timetable.
 
 use crate::ticker::Ticker;
 use std::alloc::Global;
@@ -10,10 +10,10 @@ use tt_instance::Instance;
 use tt_search::{Pair, Progress, Watch};
 use tt_table::{Entry, Timetable, write_solution};
 
-/// How many seconds a search goes on before its best timetable is saved again.
+/// The minimum number of seconds before the best timetable of a search is saved again.
 const SECONDS_BETWEEN: u64 = 1;
 
-/// Shows a search, and writes its best timetable to a file at most once a second, if there is an instance to write it by.
+/// Shows a search, and writes its best timetable to a file at most once a second, if there is an instance to write it with.
 pub struct Keeper<'k, 't, R: Files + Clock + AllocGlobal, E: Write> {
     rt: &'k R,
     ticker: &'k mut Ticker<'t, R, E>,
@@ -72,7 +72,7 @@ impl<'k, 't, R: Files + Clock + AllocGlobal, E: Write> Keeper<'k, 't, R, E> {
         }
     }
 
-    /// Whether a second has passed since the last file.
+    /// Checks whether a second has passed since the last file.
     fn is_due(&mut self) -> bool {
         let Ok(now) = self.rt.monotonic() else {
             return false;
@@ -106,7 +106,7 @@ impl<'k, 't, R: Files + Clock + AllocGlobal, E: Write> Keeper<'k, 't, R, E> {
 }
 
 impl<'k, 't, R: Files + Clock + AllocGlobal, E: Write> Watch for Keeper<'k, 't, R, E> {
-    /// A failure to save changes nothing: the last timetable is written at the end.
+    /// A failure to save has no effect: the last timetable is written at the end.
     fn see(&mut self, progress: Progress, best: &[Entry]) {
         self.ticker.show(progress);
         let Some(pair) = progress.best else {

@@ -1,4 +1,4 @@
-//! Showing how far a command is, and saving what a search has found so far.
+//! Shows the progress of a command, and saves what a search has found so far.
 #![tactic(auto)]
 
 mod counted;

@@ -1,8 +1,8 @@
-//! Numbers as people read them.
+//! Numbers in a readable form.
 
 use std::fmt;
 
-/// A number with a comma before each three of its last nine digits.
+/// A number with a comma before each group of three of its last nine digits.
 #[derive(Clone, Copy, Debug)]
 pub struct Grouped(pub u64);
 

@@ -1,12 +1,12 @@
-//! Whether somebody looks at standard error.
+//! The test whether standard error is a terminal.
 
 use std::fs;
 use std::rt::Files;
 
-/// The link to what standard error is.
+/// The link that leads to standard error.
 const STANDARD_ERROR: &str = "/proc/self/fd/2";
 
-/// Whether standard error leads to a terminal.
+/// Checks whether standard error leads to a terminal.
 pub fn is_terminal<R: Files + AllocGlobal>(rt: &R) -> bool {
     match fs::read_link(rt, STANDARD_ERROR) {
         Ok(target) => {

@@ -1,4 +1,4 @@
-//! A line that shows how far a command is.
+//! A line that shows the progress of a command.
 
 use crate::numbers::Grouped;
 use std::fmt;
@@ -8,16 +8,16 @@ use std::time::Duration;
 use tt_search::{Progress, Unit, Watch};
 use tt_table::Entry;
 
-/// How many milliseconds a line stays before it is written again.
+/// The number of milliseconds between two updates of the line.
 const MILLISECONDS_BETWEEN: u128 = 250;
 
-/// Writes over the line from its first column.
+/// Moves to the first column, so that the line is overwritten.
 const LINE_START: &str = "\r";
 
 /// Clears the rest of the line.
 const LINE_END: &str = "\x1b[K";
 
-/// A line on standard error that is written over, at most four times a second.
+/// A line on standard error that is overwritten, at most four times a second.
 pub struct Ticker<'r, R: Clock, E: Write> {
     rt: &'r R,
     err: &'r mut E,
@@ -42,7 +42,7 @@ impl<'r, R: Clock, E: Write> Drop for Ticker<'r, R, E> {
     }
 }
 
-/// How far a search is, in words.
+/// The progress of a search, in words.
 #[derive(Clone, Copy, Debug)]
 struct Words(Progress);
 
@@ -68,7 +68,7 @@ impl fmt::Display for Words {
     }
 }
 
-/// Writes what the best timetable breaks and costs.
+/// Writes the violations and the cost of the best timetable.
 fn write_best<W: fmt::Write>(f: &mut fmt::Formatter<W>, hard: u64, cost: u64) -> fmt::Result {
     if hard > 0 {
         return write!(f, ", hard {hard} cost {cost}");
@@ -77,7 +77,7 @@ fn write_best<W: fmt::Write>(f: &mut fmt::Formatter<W>, hard: u64, cost: u64) ->
 }
 
 impl<'r, R: Clock, E: Write> Ticker<'r, R, E> {
-    /// A line for a command that begins now, which is shown if it is on and there is a clock.
+    /// Returns a line for a command that begins now, which is shown if it is on and there is a clock.
     pub fn new(rt: &'r R, err: &'r mut E, command: &'r str, is_on: bool) -> Ticker<'r, R, E> {
         let begun = rt.monotonic();
         let (start, is_on) = match begun {
@@ -109,7 +109,7 @@ impl<'r, R: Clock, E: Write> Ticker<'r, R, E> {
         Some(now.checked_sub(self.start)?.as_secs())
     }
 
-    /// Shows a search.
+    /// Shows the progress of a search.
     pub fn show(&mut self, progress: Progress) {
         let Some(seconds) = self.due() else {
             return;
@@ -122,7 +122,7 @@ impl<'r, R: Clock, E: Write> Ticker<'r, R, E> {
         );
     }
 
-    /// Shows how many bytes of a proof are read, of how many; a number says which proof.
+    /// Shows how many bytes of a proof have been read, and its size; a number identifies the proof.
     pub fn show_bytes(&mut self, number: Option<u64>, bytes: u64, size: u64) {
         let Some(seconds) = self.due() else {
             return;

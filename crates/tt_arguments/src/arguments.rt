@@ -1,4 +1,4 @@
-//! What the arguments of the command line ask for.
+//! Parses the arguments of the command line.
 
 use crate::best::{BestSearch, best_command, best_request};
 use crate::inspect::{inspect_command, inspect_request};
@@ -11,14 +11,14 @@ use clap::{Arg, ArgAction, ArgMatches, Command, Error};
 use std::alloc::{AllocError, Global};
 use tt_report::By;
 
-/// The most steps of a search.
+/// The maximum number of steps of a search.
 const MAX_STEPS: u64 = 1_000_000;
 
-/// The most runs of a search.
+/// The maximum number of runs of a search.
 const MAX_RUNS: u64 = 1_000;
 
-/// A seed, how many steps each run of a search makes, how many runs there are, whether the best timetable is saved on the way, and whether the lectures
-/// that the solution lacks are added first.
+/// A seed, the number of steps of each run of a search, the number of runs, whether the best timetable is saved on the way, and whether the
+/// lectures that the solution lacks are added first.
 #[derive(Clone, Copy, Debug)]
 pub struct Search {
     pub seed: u64,
@@ -28,10 +28,10 @@ pub struct Search {
     pub completes: bool,
 }
 
-/// The most nodes of a tree that a search opens.
+/// The maximum number of nodes of a tree that a search opens.
 pub const MAX_NODES: u32 = 65_536;
 
-/// A seed, how many nodes of its tree a search opens at most, 1 to MAX_NODES, and whether the best timetable is saved on the way.
+/// A seed, the maximum number of nodes of its tree that a search opens, 1 to MAX_NODES, and whether the best timetable is saved on the way.
 #[derive(Clone, Copy, Debug)]
 pub struct TreeSearch {
     pub seed: u64,
@@ -39,7 +39,7 @@ pub struct TreeSearch {
     pub keeps: bool,
 }
 
-/// What a command line asks for; files are paths.
+/// The command and options of a command line; files are paths.
 #[derive(Debug, Drop)]
 pub enum Request<'a> {
     Validate {
@@ -124,7 +124,7 @@ pub enum Request<'a> {
 /// The toolchain that proves and builds the program, as `rt version` names it.
 const VERSION: &str = "0.1 (rattle-kit-13f logic dac8208d650f15bf)";
 
-/// A file that has to be named.
+/// Returns the argument of a file that has to be given.
 fn file<'a>(alloc: Global, id: &'a str, help: &'a str) -> Arg<'a> {
     Arg::new(alloc, id)
         .required(true)
@@ -132,7 +132,7 @@ fn file<'a>(alloc: Global, id: &'a str, help: &'a str) -> Arg<'a> {
         .help(help)
 }
 
-/// The file of the instance.
+/// Returns the argument of the instance's file.
 pub fn instance<'a>(alloc: Global) -> Arg<'a> {
     file(
         alloc,
@@ -141,7 +141,7 @@ pub fn instance<'a>(alloc: Global) -> Arg<'a> {
     )
 }
 
-/// The file of the solution.
+/// Returns the argument of the solution's file.
 pub fn solution<'a>(alloc: Global) -> Arg<'a> {
     file(
         alloc,
@@ -202,7 +202,7 @@ fn bound_command<'a>(alloc: Global) -> Result<Command<'a>, AllocError> {
     with_showing(alloc, command)
 }
 
-/// An option with a number in a range, and the one that is taken where it isn't given.
+/// Returns an option with a number in a range, and its default.
 pub fn number<'a>(alloc: Global, id: &'a str, range: (u64, u64), default: &'a str) -> Arg<'a> {
     let (least, most) = range;
     Arg::new(alloc, id)
@@ -213,7 +213,7 @@ pub fn number<'a>(alloc: Global, id: &'a str, range: (u64, u64), default: &'a st
         .default_value(default)
 }
 
-/// The option with the number that the drawn steps begin with.
+/// Returns the option of the seed for the drawn steps.
 pub fn seed<'a>(alloc: Global) -> Arg<'a> {
     number(alloc, "seed", (0, u64::MAX), "1").help(
         "Begins the drawn steps: the same number gives the same answer, 0 to 2^64 - 1",
@@ -230,7 +230,7 @@ fn runs<'a>(alloc: Global) -> Arg<'a> {
     )
 }
 
-/// The option that saves the best timetable while a search goes on.
+/// Returns the option that saves the best timetable while a search runs.
 fn keep<'a>(alloc: Global) -> Arg<'a> {
     Arg::new(alloc, "keep")
         .long("keep")
@@ -240,7 +240,7 @@ fn keep<'a>(alloc: Global) -> Arg<'a> {
         )
 }
 
-/// The option that completes a solution before a search.
+/// Returns the option that completes a solution before a search.
 fn complete_option<'a>(alloc: Global) -> Arg<'a> {
     Arg::new(alloc, "complete")
         .long("complete")
@@ -377,7 +377,7 @@ fn upgrade_request<'a>(found: &ArgMatches<'a>) -> Option<Request<'a>> {
     })
 }
 
-/// A number of nodes; none where it has no place in 32 bits.
+/// Returns a number of nodes, or `None` if it does not fit in 32 bits.
 pub fn nodes_of(number: u64) -> Option<u32> {
     u32::try_from(number).ok()
 }
@@ -396,7 +396,7 @@ fn solve_request<'a>(found: &ArgMatches<'a>) -> Option<Request<'a>> {
     })
 }
 
-/// What the arguments ask for; `None` never comes for arguments that the command takes.
+/// Returns the command and options that the arguments give; never `None` for arguments that the command accepts.
 pub fn parse_arguments<'a>(
     alloc: Global,
     words: &'a [String],

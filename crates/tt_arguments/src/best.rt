@@ -5,10 +5,10 @@ use crate::showing::{showing_of, with_showing};
 use clap::{Arg, ArgAction, ArgMatches, Command};
 use std::alloc::{AllocError, Global};
 
-/// The most rounds of a search.
+/// The maximum number of rounds of a search.
 const MAX_ROUNDS: u64 = 1_000;
 
-/// A seed, how many rounds there are at most, and whether the best timetable is saved on the way.
+/// A seed, the maximum number of rounds, and whether the best timetable is saved on the way.
 #[derive(Clone, Copy, Debug)]
 pub struct BestSearch {
     pub seed: u64,
@@ -40,7 +40,7 @@ fn keep<'a>(alloc: Global) -> Arg<'a> {
         )
 }
 
-/// The command `best`.
+/// Returns the command `best`.
 pub fn best_command<'a>(alloc: Global) -> Result<Command<'a>, AllocError> {
     let command = Command::new(alloc, "best")
         .about(
@@ -55,7 +55,7 @@ pub fn best_command<'a>(alloc: Global) -> Result<Command<'a>, AllocError> {
     with_showing(alloc, command)
 }
 
-/// What is asked of `best`.
+/// Returns the options given for `best`.
 pub fn best_request<'a>(found: &ArgMatches<'a>) -> Option<Request<'a>> {
     Some(Request::Best {
         instance: found.get_str("INSTANCE")?,

@@ -10,7 +10,7 @@ fn solution<'a>(alloc: Global) -> Arg<'a> {
     )
 }
 
-/// The command `inspect`.
+/// Returns the command `inspect`.
 pub fn inspect_command<'a>(alloc: Global) -> Result<Command<'a>, AllocError> {
     Command::new(alloc, "inspect")
         .about("Says what is in an instance, what can't be, and why a file is refused")
@@ -19,7 +19,7 @@ pub fn inspect_command<'a>(alloc: Global) -> Result<Command<'a>, AllocError> {
         .arg(solution(alloc))
 }
 
-/// What is asked of `inspect`.
+/// Returns the options given for `inspect`.
 pub fn inspect_request<'a>(found: &ArgMatches<'a>) -> Option<Request<'a>> {
     Some(Request::Inspect {
         instance: found.get_str("INSTANCE")?,

@@ -5,10 +5,10 @@ use crate::showing::{showing_of, with_showing};
 use clap::{Arg, ArgAction, ArgMatches, Command};
 use std::alloc::{AllocError, Global};
 
-/// The most nodes that a search for parts may use up.
+/// The maximum number of nodes that a search for parts may use.
 const MAX_NODES: u64 = 1_000_000;
 
-/// A seed, and how many nodes a search for parts may use up; each stands for 50,000 relaxations.
+/// A seed, and the number of nodes that a search for parts may use; each counts for 50,000 relaxations.
 #[derive(Clone, Copy, Debug)]
 pub struct PartSearch {
     pub seed: u64,
@@ -38,7 +38,7 @@ fn guide<'a>(alloc: Global) -> Arg<'a> {
         .help("A timetable that guides the search: no group is worth more than it costs there")
 }
 
-/// The command `parts`.
+/// Returns the command `parts`.
 pub fn parts_command<'a>(alloc: Global) -> Result<Command<'a>, AllocError> {
     let command = Command::new(alloc, "parts")
         .about("Searches for proofs of lower bounds that add up, and writes them")
@@ -51,7 +51,7 @@ pub fn parts_command<'a>(alloc: Global) -> Result<Command<'a>, AllocError> {
     with_showing(alloc, command)
 }
 
-/// What is asked of `parts`.
+/// Returns the options given for `parts`.
 pub fn parts_request<'a>(found: &ArgMatches<'a>) -> Option<Request<'a>> {
     Some(Request::Parts {
         instance: found.get_str("INSTANCE")?,

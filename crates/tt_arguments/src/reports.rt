@@ -6,13 +6,13 @@ use clap::{Arg, ArgAction, ArgMatches, Command};
 use std::alloc::{AllocError, Global};
 use tt_report::By;
 
-/// By what a report may have its blocks.
+/// The kinds of blocks of a report.
 const KINDS: [&str; 3] = ["room", "teacher", "curriculum"];
 
-/// The most minutes of a period.
+/// The maximum number of minutes of a period.
 const MAX_MINUTES: u64 = 1_440;
 
-/// Whose week a calendar shows, by name, and when it takes place.
+/// The name of the room, teacher or curriculum whose week a calendar shows, and the dates and times of the week.
 #[derive(Clone, Copy, Debug)]
 pub struct CalendarWish<'a> {
     pub by: By,
@@ -32,7 +32,7 @@ fn by_option<'a>(alloc: Global) -> Result<Arg<'a>, AllocError> {
         .required_unless_present("csv")
 }
 
-/// The option that prints a table in place of weeks.
+/// Returns the option that prints a table instead of weeks.
 fn csv_option<'a>(alloc: Global) -> Result<Arg<'a>, AllocError> {
     Arg::new(alloc, "csv")
         .long("csv")
@@ -41,7 +41,7 @@ fn csv_option<'a>(alloc: Global) -> Result<Arg<'a>, AllocError> {
         .conflicts_with("by")
 }
 
-/// The option that prints a calendar in place of weeks.
+/// Returns the option that prints a calendar instead of weeks.
 fn ics_option<'a>(alloc: Global) -> Result<Arg<'a>, AllocError> {
     Arg::new(alloc, "ics")
         .long("ics")
@@ -53,7 +53,7 @@ fn ics_option<'a>(alloc: Global) -> Result<Arg<'a>, AllocError> {
         .requires_arg("times")
 }
 
-/// An option of a calendar.
+/// Returns an option of a calendar.
 fn calendar_option<'a>(
     alloc: Global,
     id: &'a str,
@@ -89,7 +89,7 @@ fn with_calendar<'a>(alloc: Global, command: Command<'a>) -> Result<Command<'a>,
         ))
 }
 
-/// The command `report` and its options.
+/// Returns the command `report` with its options.
 pub fn report_command<'a>(alloc: Global) -> Result<Command<'a>, AllocError> {
     let command = Command::new(alloc, "report")
         .about("Prints the week of each room, teacher or curriculum")
@@ -110,7 +110,7 @@ fn by_of(word: &str) -> Option<By> {
     }
 }
 
-/// What a calendar is asked for, if one is.
+/// Returns the options of a calendar, if one is wanted.
 fn calendar_wish<'a>(found: &ArgMatches<'a>, name: &'a str) -> Option<CalendarWish<'a>> {
     let minutes: u64 = found.get_one("minutes")?;
     Some(CalendarWish {
@@ -122,7 +122,7 @@ fn calendar_wish<'a>(found: &ArgMatches<'a>, name: &'a str) -> Option<CalendarWi
     })
 }
 
-/// The request of the command `report`.
+/// Returns the options given for the command `report`.
 pub fn report_request<'a>(found: &ArgMatches<'a>) -> Option<Request<'a>> {
     let instance = found.get_str("INSTANCE")?;
     let solution = found.get_str("SOLUTION")?;

@@ -1,9 +1,9 @@
-//! Whether a command shows how far it is.
+//! The options that control whether a command shows its progress.
 
 use clap::{Arg, ArgAction, ArgMatches, Command};
 use std::alloc::{AllocError, Global};
 
-/// When a command shows how far it is, on standard error.
+/// The condition under which a command shows its progress on standard error.
 #[derive(Clone, Copy, Debug, PartialEq, Eq)]
 pub enum Showing {
     IfTerminal,
@@ -11,7 +11,7 @@ pub enum Showing {
     Never,
 }
 
-/// Adds the options that say when a command shows how far it is.
+/// Adds the options that control when a command shows its progress.
 pub fn with_showing<'a>(alloc: Global, command: Command<'a>) -> Result<Command<'a>, AllocError> {
     command
         .arg(
@@ -28,7 +28,7 @@ pub fn with_showing<'a>(alloc: Global, command: Command<'a>) -> Result<Command<'
         )
 }
 
-/// Returns what the options ask for; `--quiet` wins.
+/// Returns the choice that the options make; `--quiet` takes precedence.
 pub fn showing_of(found: &ArgMatches<'_>) -> Showing {
     if found.get_flag("quiet") {
         Showing::Never

@@ -24,7 +24,7 @@ fn proofs<'a>(alloc: Global) -> Arg<'a> {
         )
 }
 
-/// The command `sum`.
+/// Returns the command `sum`.
 pub fn sum_command<'a>(alloc: Global) -> Result<Command<'a>, AllocError> {
     let command = Command::new(alloc, "sum")
         .about("Checks proofs of lower bounds that add up, and prints their sum")
@@ -35,7 +35,7 @@ pub fn sum_command<'a>(alloc: Global) -> Result<Command<'a>, AllocError> {
     with_showing(alloc, command)
 }
 
-/// What is asked of `sum`.
+/// Returns the options given for `sum`.
 pub fn sum_request<'a>(
     alloc: Global,
     found: &ArgMatches<'a>,

@@ -1,4 +1,4 @@
-//! A search for the best timetable that proofs of a lower bound come with.
+//! A search for the best timetable, together with proofs of a lower bound.
 #![tactic(auto)]
 
 mod searching;

@@ -16,25 +16,25 @@ use tt_rules::score;
 use tt_search::{Watch, construct, improve_watched};
 use tt_table::{Entry, Timetable};
 
-/// How many steps each round makes for a better timetable.
+/// The number of steps that each round makes for a better timetable.
 const STEPS: u64 = 200_000;
 
-/// How many nodes of a tree are opened at first.
+/// The number of nodes of a tree that are opened at first.
 const TREE_NODES: u32 = 1_000;
 
 /// The version of the proof of a tree.
 const VERSION: u8 = 2;
 
-/// How many nodes the first search for bounds may use up.
+/// The number of nodes that the first search for bounds may use up.
 const FIRST_NODES: u32 = 20_000;
 
-/// How many nodes a search for bounds may use up at most.
+/// The maximum number of nodes that a search for bounds may use up.
 const MOST_NODES: u32 = 1_000_000;
 
-/// How long to search, and the seed of what is drawn.
+/// The maximum length of the search, and the seed of its random choices.
 #[derive(Clone, Copy, Debug, PartialEq, Eq)]
 pub struct Rounds {
-    /// How many rounds there are at most; the first one is always made.
+    /// The maximum number of rounds; the first one is always made.
     pub count: u64,
     pub seed: u64,
 }
@@ -54,7 +54,7 @@ fn points_of(bound: Bound) -> u64 {
     }
 }
 
-/// Whether nothing is left to search for: the timetable costs the bound, or there is none that breaks no hard rule.
+/// Returns whether nothing is left to search for: the cost of the timetable is the bound, or no timetable exists that breaks no hard rule.
 fn is_settled(instance: &Instance<'_>, table: &Timetable, bound: Bound) -> bool
     requires { IsTimetable instance.now table.now }
 {
@@ -65,7 +65,7 @@ fn is_settled(instance: &Instance<'_>, table: &Timetable, bound: Bound) -> bool
     }
 }
 
-/// Returns how much a later round's search for bounds may do; nothing in most rounds, and twice as much each time.
+/// Returns how much work a later round's search for bounds may do: none in most rounds, and twice as much each time.
 fn effort_of(rounds: Rounds, round: u64) -> Option<Effort> {
     if round.count_ones() != 1 {
         return None;
@@ -109,7 +109,7 @@ fn better_of(older: Parts, newer: Parts) -> Parts
     }
 }
 
-/// Returns the proof of a tree as one that is added up alone; `None` if its text would be too long.
+/// Returns the proof of a tree as the only proof of a sum; `None` if its text would be too long.
 fn parts_of_tree(
     alloc: Global,
     instance: &Instance<'_>,
@@ -128,7 +128,7 @@ fn parts_of_tree(
     add_up(alloc, instance, texts)
 }
 
-/// What a search of a tree found.
+/// The result of the search of a tree.
 #[derive(Drop)]
 struct Start {
     table: Timetable,
@@ -162,7 +162,7 @@ fn search_tree<W: Watch>(
     Ok(Start { table, parts })
 }
 
-/// Whether nothing is left to search for after a tree.
+/// Returns whether nothing is left to search for after a tree.
 fn is_closed(instance: &Instance<'_>, start: &Start) -> bool
     requires { IsTimetable instance.now start.now.table }
 {
@@ -203,7 +203,7 @@ fn begin<W: Watch>(
     Ok(Week { table, parts })
 }
 
-/// Makes one more round, from what the one before it found.
+/// Makes another round, from the result of the one before it.
 fn go_on<W: Watch>(
     alloc: Global,
     instance: &Instance<'_>,
@@ -233,15 +233,15 @@ fn go_on<W: Watch>(
     })
 }
 
-/// Searches for a best timetable and for proofs of a lower bound, in rounds, until they meet. The same seed finds the same ones. The watch sees
-/// each search. How good they are is not promised.
+/// Searches for a best timetable and for proofs of a lower bound, in rounds, until they meet. The same seed gives the same results. The watch sees
+/// each search. It makes no promise about how good they are.
 pub fn find_best_watched<W: Watch>(
     alloc: Global,
     instance: &Instance<'_>,
     rounds: Rounds,
     watch: &mut W,
 ) -> Result<Week, AllocError>
-    // What is found is a timetable, and the proofs add up to the bound, which holds of every feasible one.
+    // The result is a timetable, and the proofs add up to the bound, which holds for every feasible timetable.
     ensures { IfOk result (IsWeek instance.now) }
 {
     let mut week = begin(alloc, instance, rounds, watch)?;

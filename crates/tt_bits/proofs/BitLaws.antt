@@ -50,7 +50,7 @@ has_bit-none r = ap (λ n. n == 1) (bit_at-zero r)
 
 -- ---- tests of all bits
 
--- a word is 0 if it has no bit
+-- the word 0 has no bit
 pub empty-none : (w : ℕ) → w ≡ 0 → list_any (has_bit w) bits ≡ false
 unfolding bits
 empty-none w e = none_below (has_bit w) 64 (λ k h. ap (λ n. has_bit n k) e ∙ has_bit-none k)
@@ -86,7 +86,7 @@ shifted k h =
     let e : 1 * 2 ^ k ≡ 2 ^ k = omega arith in
     ap (λ n. n % 2 ^ 64) e ∙ mod-eq_of_lt l
 
--- a set without one of its numbers, and what is left
+-- a set with one of its numbers removed, and the numbers left
 module _ (w rest j : ℕ) (h : j < 64) (e : has_bit w j ≡ true) (l : (r : ℕ) → r < 64 → has_bit rest r ≡ (has_bit w r && not (r == j))) where
   pub each_bit-one : (t : ℕ → Bool) → list_any (has_bit rest) bits ≡ false → each_bit w t ≡ t j
   each_bit-one t none = same_truth (each_bit w t) (t j) (λ a. each_bit_at w t j h a e) (λ a. each_bit_from w t (λ k hk b. elim (cases_eq k j) [
@@ -113,7 +113,7 @@ pub all_bits : (f g : ℕ → Bool) → ((r : ℕ) → r < 64 → f r ≡ g r) �
 unfolding bits
 all_bits f g h = all_same_below f g 64 h
 
--- a test of all bits and one of the numbers below a bound
+-- a test of some bit passes if it passes one of the numbers below 64
 pub any_bits_at : (p : ℕ → Bool) (r : ℕ) → r < 64 → p r ≡ true → list_any p bits ≡ true
 unfolding bits
 any_bits_at p r h e = any_below p 64 r h e

@@ -1,4 +1,4 @@
--- How many numbers a set has.
+-- The number of elements of a set.
 use Rattle.std.proofs.Common.{◌≡◌, ℕ, zero, suc, ◌+◌, ◌-◌, ◌*◌, ◌/◌, ◌%◌, ◌^◌, ◌<◌, ◌≤◌, Bool, ◌&&◌, cond, refl, sym, ap, ◌∙◌, arith, add-one, pow-suc}
 use Rattle.std.specs.Prelude.{◌==◌, nat_lt, count_by, count_ones}
 use Rattle.std.specs.List.{range_with_len, list_any}

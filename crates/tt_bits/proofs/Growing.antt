@@ -1,4 +1,4 @@
--- Sets that grow number by number.
+-- Sets built number by number.
 use Rattle.std.proofs.Common.{◌≡◌, ℕ, ◌+◌, ◌*◌, ◌%◌, ◌^◌, ◌<◌, zero, suc, max, Bool, true, false, ◌&&◌, ◌||◌, refl, sym, ap, ◌∙◌, arith, inl, inr, w64, eq-eqb, ne_eqb}
 use Rattle.std.specs.Prelude.{◌==◌, nat_lt}
 use Rattle.std.specs.Int.{bit_at}
@@ -23,7 +23,7 @@ has_bit-either a b r = ap (λ n. n == 1) (bit_at_or a b r) ∙ test_or (bit_at a
     test_or (suc zero) b h k = ap (λ n. n == 1) (let e : max 1 b ≡ 1 = omega arith in e)
     test_or (suc (suc a)) b h k = absurd (omega arith)
 
--- no number passes before the first
+-- the start: no number below 0 passes
 pub set_none : (t : ℕ → Bool) (s : ℕ) → has_bit 0 s ≡ (nat_lt s 0 && t s)
 set_none t s = has_bit-none s ∙ sym (ap (λ b. b && t s) (le-ltb s 0 (omega arith)))
 
@@ -44,6 +44,6 @@ next_test t n s b e = elim (cases_eq s n) [
     and_no true = refl
     and_no false = refl
 
--- the set of the numbers below n that pass, and then of those below n + 1
+-- the set of the numbers below n that pass becomes the set of those below n + 1
 pub set_next : (t : ℕ → Bool) (old new n : ℕ) (b : Bool) → b ≡ t n → ((s : ℕ) → s < 64 → has_bit old s ≡ (nat_lt s n && t s)) → ((s : ℕ) → s < 64 → has_bit new s ≡ (has_bit old s || (b && (s == n)))) → (s : ℕ) → s < 64 → has_bit new s ≡ (nat_lt s (n + 1) && t s)
 set_next t old new n b e before added s h = added s h ∙ ap (λ x. x || (b && (s == n))) (before s h) ∙ next_test t n s b e

@@ -1,4 +1,4 @@
--- Only proofs rest on this file: nobody has to believe it.
+-- Not part of the trusted statement: only proofs use this file.
 -- Numbers of 64 bits as sets of the numbers below 64.
 use Rattle.std.specs.Prelude.{◌≡◌, ℕ, ◌<◌, ◌==◌, Bool, not, ◌&&◌, ◌||◌, List, length, slice_index_or}
 use Rattle.std.specs.List.{list_all}
@@ -11,11 +11,11 @@ has_bit w r = bit_at w r == 1
 unfoldable pub bits : List ℕ
 bits = range_below 64
 
--- each number of the set passes the test
+-- Each number of the set passes the test.
 abbrev pub each_bit : ℕ → (ℕ → Bool) → Bool
 each_bit w t = list_all (λ k. not (has_bit w k) || t k) bits
 
--- one word of the table has lost the bits of the mask
+-- The bits of the mask are cleared in one word of the table; all other words are as before.
 pub record Clears (old : List ℕ) (place mask : ℕ) (new : List ℕ) : Type 0 where
   pub len : length new ≡ length old
   pub here : (r : ℕ) → r < 64 → has_bit (slice_index_or new place 0) r ≡ (has_bit (slice_index_or old place 0) r && not (has_bit mask r))

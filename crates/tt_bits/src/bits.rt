@@ -7,7 +7,7 @@ ghost use Rattle.tt_bits.specs.Bits.{has_bit, bits, Clears};
 use std::alloc::AllocError;
 use tt_trail::Trail;
 
-/// Whether a number is in the set.
+/// Returns whether a number is in the set.
 pub fn has_bit(word: u64, number: u32) -> bool
     requires { number < 64 }
     ensures { result ≡ has_bit word number }
@@ -15,7 +15,7 @@ pub fn has_bit(word: u64, number: u32) -> bool
     word >> number & 1 == 1
 }
 
-/// The set of one number.
+/// Returns the set of one number.
 pub fn one(number: u32) -> u64
     requires { number < 64 }
     ensures { (r : ℕ) → r < 64 → has_bit result r ≡ (r == number) }
@@ -23,7 +23,7 @@ pub fn one(number: u32) -> u64
     1 << number
 }
 
-/// The set with one number more, if it is to have it.
+/// Adds a number to the set if `is_in` is true, and returns the set.
 pub fn with_if(word: u64, number: u32, is_in: bool) -> u64
     requires { number < 64 }
     ensures { (r : ℕ) → r < 64 → has_bit result r ≡ (has_bit word r || (is_in && (r == number))) }
@@ -31,14 +31,14 @@ pub fn with_if(word: u64, number: u32, is_in: bool) -> u64
     if is_in { word | 1 << number } else { word }
 }
 
-/// The numbers that are in some of both sets.
+/// Returns the numbers that are in at least one of the two sets.
 pub fn either(word: u64, other: u64) -> u64
     ensures { (r : ℕ) → r < 64 → has_bit result r ≡ (has_bit word r || has_bit other r) }
 {
     word | other
 }
 
-/// How many numbers the set has.
+/// Returns how many numbers the set has.
 pub fn count(word: u64) -> u32
     ensures value { result ≡ count_by (has_bit word) bits }
     ensures within { result ≤ 64 }
@@ -46,49 +46,49 @@ pub fn count(word: u64) -> u32
     word.count_ones()
 }
 
-/// The numbers that are in the first set and not in the second.
+/// Returns the numbers that are in the first set but not in the second.
 pub fn without(word: u64, mask: u64) -> u64
     ensures { (r : ℕ) → r < 64 → has_bit result r ≡ (has_bit word r && not (has_bit mask r)) }
 {
     word & !mask
 }
 
-/// The numbers below 64 that are not in the set.
+/// Returns the numbers below 64 that are not in the set.
 pub fn others(word: u64) -> u64
     ensures { (r : ℕ) → r < 64 → has_bit result r ≡ not (has_bit word r) }
 {
     !word
 }
 
-/// The numbers that are in both sets.
+/// Returns the numbers that are in both sets.
 pub fn both(word: u64, other: u64) -> u64
     ensures { (r : ℕ) → r < 64 → has_bit result r ≡ (has_bit word r && has_bit other r) }
 {
     word & other
 }
 
-/// The numbers that follow those of the set.
+/// Returns the successors of the numbers of the set.
 pub fn next(word: u64) -> u64
     ensures { (r : ℕ) → r < 64 → has_bit result r ≡ (nat_lt 0 r && has_bit word (r - 1)) }
 {
     word << 1
 }
 
-/// The numbers that those of the set follow.
+/// Returns the predecessors of the numbers of the set.
 pub fn previous(word: u64) -> u64
     ensures { (r : ℕ) → r < 64 → has_bit result r ≡ (nat_lt (r + 1) 64 && has_bit word (r + 1)) }
 {
     word >> 1
 }
 
-/// Whether no number is in the set.
+/// Returns whether no number is in the set.
 pub fn is_empty(word: u64) -> bool
     ensures { result ≡ not (list_any (has_bit word) bits) }
 {
     word == 0
 }
 
-/// The least number of the set.
+/// Returns the least number of the set.
 pub fn lowest(word: u64) -> u32
     requires { 0 < word }
     ensures within { result < 64 }
@@ -98,7 +98,7 @@ pub fn lowest(word: u64) -> u32
     word.trailing_zeros()
 }
 
-/// The set of the numbers below a bound.
+/// Returns the set of the numbers below a bound.
 pub fn below(bound: u32) -> u64
     ensures { (r : ℕ) → r < 64 → has_bit result r ≡ nat_lt r bound }
 {
@@ -109,7 +109,7 @@ pub fn below(bound: u32) -> u64
     }
 }
 
-/// Takes the numbers of a mask out of the set at a place of a table.
+/// Removes the numbers of a mask from the set at a place of a table.
 #[inline(always)]
 pub fn clear(table: &mut Trail, place: usize, mask: u64) -> Result<(), AllocError>
     requires { place < length table.old.words }

@@ -59,7 +59,7 @@ advance_to p old new better feasible costs = record {
 
 -- ---- nodes that are reached
 
--- the facts of a node fit on a path, and their numbers are the instance's
+-- the facts of a node fit on a path, and their numbers are in the range of the instance
 pub record IsThere (p : Problem) (links : List Link) (e : Entry) : Type 0 where
   pub reached : IsReached links e.link
   pub patterns : ArePatterns p (path_at links e.link)
@@ -80,7 +80,7 @@ count_cut before e after = omega (arith, sum_by-append (λ (k : Entry). one_if (
 one_opened : (m : Mark) → was_opened m ≡ true → one_if (was_opened m) ≡ 1
 one_opened m e = ap one_if e
 
--- the mark of a node that waits is put in its place
+-- a new mark replaces the mark of a node that waits
 pub record IsOpening (p : Problem) (old new : Option Best) (links : List Link) (entries more : List Entry) : Type 0 where
   pub grown : IsGrown p (table_of new) links more
   pub opened : opened_in more ≡ opened_in entries + 1
@@ -148,7 +148,7 @@ waits_split place g old new s =
       best = s.best;
     }
 
--- the second child waits too
+-- the second child waits, too
 pub waits_second : (place : ℕ) (g : Pattern) (old new : Search) → IsSplitAt place g old new → MakesWait place old (place + 2) new
 waits_second place g old new s =
     let first = waits_split place g old new s in
@@ -172,7 +172,7 @@ opened_unless (Closed leaf) e = refl
 opened_unless (Opened g) e = refl
 opened_unless Waiting e = cc
 
--- where no node is open, each was opened
+-- if no node is open, each was opened
 all_opened : (entries : List Entry) → list_any (λ e. is_open e.mark) entries ≡ false → opened_in entries ≡ length entries
 all_opened [] h = refl
 all_opened (e ∷ es) h =
@@ -185,7 +185,7 @@ ends_closed limit opened entries e h none = (none, omega (arith, all_opened entr
 pub ends_open : (limit : ℕ) (entries : List Entry) → list_any (λ e. is_open e.mark) entries ≡ true → opened_in entries ≡ limit → length entries + 1 ≤ 2 * limit → EndsAt limit entries false
 ends_open limit entries some e h = (some, omega (arith, count_by-le-length (λ (k : Entry). was_opened k.mark) entries), h)
 
--- the same, as the code reads the entry and moves the path
+-- an opening in the form in which the code reads the entry and moves the path
 pub opening_there : (p q : Problem) (facts : List Fact) (old new : Option Best) (links : List Link) (entries more : List Entry) (place : ℕ) (read put : Entry) → q ≡ p → facts ≡ path_at links read.link → read ≡ get_or entries place read → HasMark entries place Waiting → IsGrown p (table_of old) links entries
     → Advances q old new → IsKnown q (table_of new) facts put.mark → was_opened put.mark ≡ true → IsSingle put.mark → put.link ≡ read.link → more ≡ slice_set entries place put → IsOpening p old new links entries more
 opening_there p q facts old new links entries more place read put same there is waits grown better known opened single link made =
@@ -200,7 +200,7 @@ open_any q [] k e at o = cc
 open_any q (x ∷ xs) zero e at o = let same : x ≡ e = cc in or_left (q x) (list_any q xs) (ap q same ∙ o)
 open_any q (x ∷ xs) (suc k) e at o = or_right (q x) (list_any q xs) (open_any q xs k e at o)
 
--- the end, by the next open node
+-- the end of the rounds, by the next open node
 pub ends_by : (limit : ℕ) (entries : List Entry) (o : Option ℕ) (r : Bool) → is_some o ≡ not r → IfSome o (IsOpenAt entries) → (IsNone o → list_any (λ e. is_open e.mark) entries ≡ false) → opened_in entries ≡ limit → length entries + 1 ≤ 2 * limit → EndsAt limit entries r
 ends_by limit entries None true d some none e h = ends_closed limit limit entries e (omega arith) (none refl)
 ends_by limit entries None false d some none e h = cc

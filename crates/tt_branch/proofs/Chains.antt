@@ -8,7 +8,7 @@ use Rattle.tt_paths.specs.declared.facts.Fact.{Fact}
 use Rattle.tt_branch.specs.declared.links.Link.{Link}
 use Rattle.tt_branch.specs.Links.{chain, path_at, AreLinks}
 
--- it does not matter how far back one may go, if it is far enough
+-- two limits on the number of links followed give the same facts if both are large enough
 pub chain-same : (links : List Link) → AreLinks links → (n m at : ℕ) → at ≤ n → at ≤ m → chain n links at ≡ chain m links at
 chain-same links ok zero zero at h k = refl
 chain-same links ok zero (suc m) zero h k = refl
@@ -22,7 +22,7 @@ chain-same links ok (suc n) (suc m) (suc i) h k = by_link (slice_get links i) (o
     by_link None p f = refl
     by_link (Some l) p f = let q = p l refl in ap (λ z. z ++ l.fact ∷ []) (f l.parent (omega arith) (omega arith))
 
--- the facts of a node are those of its parent and its own
+-- the facts of a node are those of its parent followed by its own
 pub path_at-next : (links : List Link) → AreLinks links → (i : ℕ) (l : Link) → slice_get links i ≡ Some l → path_at links (suc i) ≡ path_at links l.parent ++ l.fact ∷ []
 path_at-next links ok i l e =
     let q = ok i l e in
@@ -37,7 +37,7 @@ step_back links ok place (suc i) l found h e k =
     k ∙ ap (λ z. z ++ reverse found) (path_at-next links ok i l (subst (λ j. slice_get links j ≡ Some l) same e))
     ∙ append_assoc (path_at links l.parent) (l.fact ∷ []) (reverse found) ∙ ap (λ z. path_at links l.parent ++ z) (sym (reverse-append found (l.fact ∷ [])))
 
--- the same, as the code reads the link
+-- one step to the parent, in the form in which the code reads the link
 pub step_at : (links : List Link) → AreLinks links → (place at : ℕ) (found new : List Fact) (d : Link) → 0 < at → at ≤ length links → new ≡ found ++ (get_or links (at - 1) d).fact ∷ [] → path_at links place ≡ path_at links at ++ reverse found → path_at links place ≡ path_at links (get_or links (at - 1) d).parent ++ reverse new
 step_at links ok place at found new d h l e k =
     step_back links ok place at (get_or links (at - 1) d) found h (slice_get-get_or links (at - 1) d (omega arith)) k
@@ -48,7 +48,7 @@ within_at links ok at d h l =
     let k = ok (at - 1) (get_or links (at - 1) d) (slice_get-get_or links (at - 1) d (omega arith)) in
     omega arith
 
--- ---- more links
+-- -- further links
 
 pub links_more : (links : List Link) (l : Link) → AreLinks links → l.parent ≤ length links → AreLinks (links ++ l ∷ [])
 links_more links l ok h i k e = elim (at_cases links (l ∷ []) i k e) [
@@ -72,7 +72,7 @@ chain-more links more ok (suc n) (suc i) h =
     by_link None q f = refl
     by_link (Some l) q f = let k = q l refl in ap (λ z. z ++ l.fact ∷ []) (f l.parent (omega arith))
 
--- more links change no path
+-- further links change no path
 pub path_at-more : (links more : List Link) → AreLinks links → (at : ℕ) → at ≤ length links → path_at (links ++ more) at ≡ path_at links at
 path_at-more links more ok at h = chain-more links more ok at at h
 

@@ -1,4 +1,4 @@
--- What a search answers when it has ended.
+-- The result of a search that has ended.
 use Rattle.std.proofs.Common.{◌≡◌, ℕ, ◌≤◌, Bool, true, false, List, [], ◌∷◌, map, length, Option, Some, None, refl, sym, ap, ◌∙◌, subst, arith, ◌||◌}
 use Rattle.std.specs.Prelude.{All, IfSome}
 use Rattle.std.specs.List.{AllZip, AllByRecursion, list_any, cons_option}
@@ -54,7 +54,7 @@ use Rattle.tt_branch.proofs.Ending.{preorder-on_paths, shallow, well_split, fini
 use Rattle.tt_branch.proofs.Advancing.{IsThere, each_there}
 use Rattle.tt_branch.proofs.Limits.{cost_limit, total_limit}
 
--- ---- what is written
+-- -- the nodes written
 
 once_closed : (p : Problem) (path : List Fact) (b : Bound) (leaf : Leaf) → IsRight p path b leaf → IsClaimedOnce leaf
 once_closed p path b (Empty g) e = tt
@@ -64,7 +64,7 @@ once_closed p path b (Slots cs) e = tt
 once_closed p path Nothing (Cost claims) e = absurd e
 once_closed p path (AtLeast m) (Cost claims) e = targets_once claims e.0
 
--- what is true of the node of a mark
+-- the properties of a mark's node
 pub record IsFit (p : Problem) (n : Node) : Type 0 where
   pub numbers : IsNodeOf p n
   pub once : IsOnceNode n
@@ -92,7 +92,7 @@ module _ (p : Problem) (ok : IsInstance p) where
         (each_weaker (λ e. IsThere p links e × IsFit p (node_at p links e)) (IsWritable p links) (λ e h. record { reached = h.0.reached; numbers = h.1.numbers; once = h.1.once }) entries
         (each_both (IsThere p links) (λ e. IsFit p (node_at p links e)) entries (each_there p best links entries grown few) each_fit))
 
-    -- the nodes that are written are the tree's
+    -- the nodes written are those of the tree
     same_nodes : (ys : List OnPath) (es : List Entry) → AllZip (Stands p best links) ys es → nodes_of p links es ≡ map (λ x. x.node) ys
     same_nodes [] [] h = refl
     same_nodes [] (e ∷ es) h = absurd h
@@ -119,9 +119,9 @@ module _ (p : Problem) (ok : IsInstance p) where
     pub fit_nodes : AllByRecursion (IsFit p) (nodes_of p links entries)
     fit_nodes = each_map (IsFit p) (node_at p links) entries each_fit
 
-  -- ---- the least worth
+  -- -- the least value
 
-  -- an open node is worth something, and no more than a bound may be
+  -- an open node has a value, and it is at most the maximum bound
   worth_open : (links : List Link) (e : Entry) → is_open e.mark ≡ true → (n : ℕ) × (worth_at p links e ≡ Some n) × (n ≤ 1000000000000)
   worth_open links e o = by_mark e.mark o
     where
@@ -138,7 +138,7 @@ module _ (p : Problem) (ok : IsInstance p) where
   least_of None ns v e h = (v, e, h)
   least_of (Some n) ns v e h = let k = ap (least_with n) e in (least_with n (least ns), refl, omega arith)
 
-  -- where a node is open, some leaf is worth least
+  -- if a node is open, some leaf has the least value
   pub least_worth : (links : List Link) (entries : List Entry) → list_any (λ e. is_open e.mark) entries ≡ true → (v : ℕ) × (least (worths_of p links entries) ≡ Some v) × (v ≤ 1000000000000)
   least_worth links [] e = cc
   least_worth links (x ∷ es) e = by_mark (is_open x.mark) refl e (least_worth links es)
@@ -209,7 +209,7 @@ module _ (p : Problem) (ok : IsInstance p) where
       };
     }
 
-    -- the nodes prove the bound that is shown
+    -- the nodes prove the bound reported
     pub proves : (finished : Bool) (lowest : Option ℕ) → EndsAt limit entries finished → (finished ≡ false → lowest ≡ least (worths_of p links entries)) → Proves p (shown_bound (final_bound p best) lowest finished) nodes
     proves true lowest ends same = let d = finished_proves p best links entries u.grown (omega (arith, ends.1)) ends.0 in (u.grown.tree, spelled, d.0, d.1)
     proves false lowest ends same =
@@ -257,12 +257,12 @@ module _ (p : Problem) (ok : IsInstance p) where
           holds = holds;
         }
 
--- a search that has ended has few nodes
+-- a search that has ended has at most 131,073 nodes
 pub few_ended : (limit : ℕ) (entries : List Entry) (finished : Bool) → limit ≤ 65536 → EndsAt limit entries finished → length entries ≤ 131073
 few_ended limit entries true small ends = omega (arith, ends.1)
 few_ended limit entries false small ends = omega (arith, ends.2)
 
--- what was begun well goes on well
+-- if a search began well, a better timetable preserves this
 pub begun_still : (p : Problem) (old new : Option Best) → BeginsWell p (table_of old) → Advances p old new → BeginsWell p (table_of new)
 begun_still p old new b a = record {
   start = b.start;

@@ -1,4 +1,4 @@
--- The entries and links of a node that is split, as the code puts them in.
+-- The entries and links of a node that is split, in the order in which the code inserts them.
 use Rattle.std.proofs.Common.{◌≡◌, ℕ, suc, ◌+◌, List, [], ◌∷◌, ◌++◌, length, length-append, Some, sym, ap, ◌∙◌, arith, get_or}
 use Rattle.std.specs.Prelude.{slice_get, slice_set, true, false}
 use Rattle.std.specs.List.{insert}
@@ -21,7 +21,7 @@ split_items items one two three k e d a b cut h i j =
     let second : two ≡ cut.before ++ e ∷ a ∷ b ∷ cut.after = i ∙ ap (λ l. insert l (k + 1) a) first ∙ ap (λ n. insert (cut.before ++ e ∷ b ∷ cut.after) n a) at ∙ insert_cut cut.before e (b ∷ cut.after) a in
     j ∙ ap (λ l. slice_set l k d) second ∙ ap (λ n. slice_set (cut.before ++ e ∷ a ∷ b ∷ cut.after) n d) (sym cut.place) ∙ set_cut cut.before e (a ∷ b ∷ cut.after) d
 
--- what the code does, in its steps
+-- the steps of the code
 pub record AreSteps (place : ℕ) (g : Pattern) (old new : Search) : Type 0 where
   pub read : Entry
   pub read_is : read ≡ get_or old.entries.items place read

@@ -76,7 +76,7 @@ module _ (p : Problem) (best : Option (List Cell)) (links : List Link) (entries 
   pub as_many : length xs ≡ length entries
   as_many = zip_length (Stands p best links) xs entries grown.together
 
-  -- no node is too deep, where there are no more nodes than a search makes
+  -- no node is too deep, if the tree has at most as many nodes as a search can make
   pub shallow : length entries ≤ 131073 → AllByRecursion (λ x. length x.path ≤ 65536) xs
   shallow h = each_weaker (λ x. length x.path ≤ 0 + splits grown.tree) (λ x. length x.path ≤ 65536) (λ x k. omega (arith, as_many, length-on_paths [] grown.tree)) xs (depth-le [] grown.tree)
 
@@ -103,7 +103,7 @@ module _ (p : Problem) (best : Option (List Cell)) (links : List Link) (entries 
       let a = or_parts (is_open m.mark) (list_any (λ k. is_open k.mark) es) e in
       (closed_right y m.mark h.0.node h.0.known a.0, all_closed ys es h.1 a.1)
 
-  -- where no node is open, the tree derives the cost of the best, or that there is none
+  -- if no node is open, the tree derives the cost of the best timetable, or that no timetable exists
   pub finished_proves : length entries ≤ 131073 → list_any (λ e. is_open e.mark) entries ≡ false → IsShallow grown.tree × Derives p (final_bound p best) [] grown.tree
   finished_proves h e = proved_by (final_bound p best) h (all_closed xs entries grown.together e)
 
@@ -131,11 +131,11 @@ module _ (p : Problem) (best : Option (List Cell)) (links : List Link) (entries 
         let w = at_member (λ y. (e : Entry) × Stands p best links y e) xs x (zip_each (Stands p best links) (λ y. (e : Entry) × Stands p best links y e) (λ y e s. (e, s)) xs entries grown.together) i in
         known_right x w.0.mark w.1.node w.1.known i)
 
-    -- the tree derives the least that a Cost leaf is worth
+    -- the tree derives the least value of a Cost leaf
     pub unfinished_proves : length entries ≤ 131073 → IsShallow grown.tree × Derives p (AtLeast v) [] grown.tree
     unfinished_proves h = proved_by (AtLeast v) h all_known
 
-  -- ---- cheap leaves are those of the best claims
+  -- -- leaves of a value below the best cost are those of the best claims
 
   greedy_at : (x : OnPath) (e : Entry) → Stands p best links x e → IsGreedy p best x
   greedy_at x e s n k c = by_mark e.mark s.node s.known

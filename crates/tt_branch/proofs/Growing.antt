@@ -1,4 +1,4 @@
--- A tree grows at a leaf, and what is known of its other nodes stays.
+-- A tree grows at a leaf, and the properties of its other nodes are preserved.
 use Rattle.std.proofs.Common.{◌≡◌, ℕ, zero, suc, true, false, List, [], ◌∷◌, ◌++◌, length, Some, refl, sym, ap, ◌∙◌, arith, inl, inr, append_assoc}
 use Rattle.std.proofs.lemmas.List.{append-nil}
 use Rattle.std.specs.Prelude.{◌⊎◌, slice_get, slice_set}
@@ -13,7 +13,7 @@ use Rattle.tt_proof_read.specs.declared.node.Node.TheVariants as node
 abbrev pub on_path : List Fact → Node → OnPath
 on_path path n = record { path = path; node = n }
 
--- ---- a tree in the place of a leaf
+-- -- a tree that replaces a leaf
 
 abbrev path_of : List Fact → List OnPath → List Fact
 path_of d [] = d
@@ -27,7 +27,7 @@ no_more : (xs : List OnPath) (y : OnPath) (zs : List OnPath) → [] ≡ xs ++ y 
 no_more [] y zs k = cc
 no_more (x ∷ xs) y zs k = cc
 
--- the tree with another one in the place of a leaf
+-- the tree with another tree replacing a leaf
 pub graft : (root : List Fact) (tree : Tree) (before : List OnPath) (path : List Fact) (leaf : Leaf) (after : List OnPath) → on_paths root tree ≡ before ++ on_path path (node.Leaf leaf) ∷ after → (sub : Tree) → (grown : Tree) × (on_paths root grown ≡ before ++ (on_paths path sub ++ after))
 graft root (Close l) [] path leaf after e sub =
     let p : root ≡ path = ap (path_of root) e in

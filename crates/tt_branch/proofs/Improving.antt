@@ -1,4 +1,4 @@
--- A timetable that is no worse, as the search keeps it.
+-- A timetable that is at least as good, as the search stores it.
 use Rattle.std.proofs.Common.{◌≡◌, ℕ, ◌<◌, ◌≤◌, List, ◌∙◌, inl, inr, arith}
 use Rattle.std.specs.Prelude.{◌⊎◌}
 use Rattle.tt_instance.specs.Problem.{Problem}
@@ -6,7 +6,7 @@ use Rattle.tt_instance.specs.declared.cell.Cell.{Cell}
 use Rattle.tt_rules.specs.Score.{IsFeasible, hard, cost}
 use Rattle.tt_search.specs.Improved.{IsNoWorse}
 
--- of two pairs the first is lower
+-- the first of two pairs is lower
 abbrev Lower : ℕ → ℕ → ℕ → ℕ → Type 0
 Lower a b c d = (a < c) ⊎ ((a ≡ c) × (b < d))
 
@@ -28,7 +28,7 @@ no_worse_twice p t u v a b = record {
   no_higher = not_lower (hard p t) (cost p t) (hard p u) (cost p u) (hard p v) (cost p v) a.no_higher b.no_higher;
 }
 
--- what is no worse than a feasible timetable is feasible and costs no more
+-- a timetable at least as good as a feasible one is feasible and costs at most as much
 pub record IsAsGood (p : Problem) (t u : List Cell) : Type 0 where
   pub feasible : IsFeasible p u
   pub cost : cost p u ≤ cost p t

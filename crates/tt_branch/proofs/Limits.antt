@@ -1,4 +1,4 @@
--- What a timetable can cost, and what claims can be worth.
+-- The maximum cost of a timetable, and the maximum value of claims.
 use Rattle.std.proofs.Common.{◌≡◌, ℕ, ◌*◌, ◌≤◌, ◌<◌, List, [], length, Option, Some, None, refl, ap, arith}
 use Rattle.std.proofs.Common.{◌&&◌, zero-le}
 use Rattle.std.specs.Prelude.{sum_by}
@@ -31,7 +31,7 @@ use Rattle.tt_leaf.proofs.Answering.{price_short}
 use Rattle.tt_leaf.proofs.Claims.{total-claims}
 use Rattle.tt_branch.proofs.LiveTables.{entries_up}
 
--- terms that are no more than a number
+-- terms that are at most a number
 most : {X : Type 0} (f : X → ℕ) (k : ℕ) (xs : List X) → AllByRecursion (λ x. f x ≤ 1 * k) xs → sum_by f xs ≤ length xs * k
 most f k xs a =
     let b = sum_by-le f (λ x. 1 * k) xs a in
@@ -57,7 +57,7 @@ module _ (p : Problem) (ok : IsInstance p) where
 
   -- ---- a feasible timetable
 
-  -- a timetable that breaks no hard rule costs no more than a bound may be
+  -- the cost of a timetable that breaks no hard rule is at most the maximum bound
   pub cost_limit : (t : List Cell) → IsFeasible p t → cost p t ≤ 1000000000000
   cost_limit t whole =
       let few : length t ≤ 4096 = omega (
@@ -84,7 +84,7 @@ module _ (p : Problem) (ok : IsInstance p) where
         let s = sum_by-cons (value_of p path) (Capacity c u) [] in
         omega arith
 
-    -- the best claims are worth no more than a bound may be
+    -- the value of the best claims is at most the maximum bound
     pub total_limit : total_of p path (best_claims p path) ≤ 1000000000000
     total_limit =
         let seats : sum_by (λ c. sum_by (value_of p path) (at_price c (price_of p path c))) (all_courses p) ≤ sum_by (λ c. lectures p c * 1000000) (all_courses p) =

@@ -1,4 +1,4 @@
--- The live cells of a path, one number at a time, and how many there are.
+-- The live cells of a path, one number at a time, and their number.
 use Rattle.std.proofs.Common.{◌≡◌, ℕ, zero, suc, ◌+◌, ◌≤◌, Bool, List, [], ◌∷◌, ◌++◌, map, length, refl, sym, ap, ◌∙◌, subst, arith, get_or}
 use Rattle.std.specs.Prelude.{sum_by, flat_map, filter, Contains}
 use Rattle.std.proofs.Common.{true, eq-eqb, take}
@@ -39,9 +39,9 @@ in_room p c r =
 pub cells_nested : (p : Problem) → flat_map (cells_of p) (all_courses p) ≡ all_cells p
 cells_nested p = λ i. flat_map (λ c. flat_map (λ r. sym (in_room p c r) i) (all_rooms p)) (all_courses p)
 
--- ---- how many there are
+-- -- the number of live cells
 
--- a timetable has no more entries than its courses
+-- a timetable has at most as many entries as its courses have together
 pub entries_up : (p : Problem) (t : List Cell) → ((x : Cell) → Contains t x → InRange p x) → length t ≤ sum_by (entries_of t) (all_courses p)
 entries_up p t inside =
     omega (
@@ -51,7 +51,7 @@ entries_up p t inside =
           once_at_least true (λ c. is_of c e) 1 (all_courses p) (any_below (λ c. is_of c e) (length p.courses) e.course (inside e m).course (eq-eqb e.course e.course refl)))),
     )
 
--- where no cell is free and no leaf is right, there are as many live cells as lectures
+-- if no cell is free and no leaf is right, there are at most 4,096 live cells, as many as lectures
 pub few_live : (p : Problem) (path : List Fact) (b : Bound) → IsInstance p → IsPinnedDown p path → IsOpen p path b → length (live_cells p path) ≤ 4096
 few_live p path b ok pins none =
     let t = live_cells p path in

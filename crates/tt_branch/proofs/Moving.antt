@@ -11,7 +11,7 @@ use Rattle.tt_paths.specs.declared.facts.Who.{Who}
 use Rattle.tt_paths.specs.declared.facts.Who.TheVariants.{Course, Curriculum}
 use Rattle.tt_paths.specs.declared.facts.Fact.{Fact}
 
--- one fewer
+-- with one fact fewer
 pub one_fewer : {X : Type 0} (all xs ys : List X) (x : X) → xs ≡ take (length xs) all → xs ≡ ys ++ x ∷ [] → ys ≡ take (length ys) all
 one_fewer all xs ys x whole last =
     let rest = drop (length xs) all in
@@ -21,13 +21,13 @@ one_fewer all xs ys x whole last =
 pub shorter : {X : Type 0} (xs ys : List X) (x : X) → xs ≡ ys ++ x ∷ [] → length xs ≡ length ys + 1
 shorter xs ys x last = ap length last ∙ length-append ys (x ∷ [])
 
--- what both begin with, and the others
+-- the facts that both paths begin with, and the others
 pub joined : {X : Type 0} (old facts : List X) (kept : ℕ) → take kept old ≡ reverse (drop (length facts - kept) facts) → take kept old ++ reverse (take (length facts - kept) facts) ≡ reverse facts
 joined old facts kept same =
     let n = length facts - kept in
     ap (λ l. l ++ reverse (take n facts)) same ∙ sym (reverse-append (take n facts) (drop n facts)) ∙ ap reverse (take-append-drop n facts)
 
--- one more fact is the same
+-- another fact is the same
 pub one_more : {X : Type 0} (old facts : List X) (index left : ℕ) (x d : X) → index < length old → 0 < left → left ≤ length facts → slice_get old index ≡ Some x → x ≡ get_or facts (left - 1) d → take index old ≡ reverse (drop left facts) → take (index + 1) old ≡ reverse (drop (left - 1) facts)
 one_more old facts index left x d inside some within at is same =
     let m = left - 1 in

@@ -1,4 +1,4 @@
--- The limits and the letters as numbers: contracts, definitions and code share their names, so that only these examples would tell of another number.
+-- The limits and the letters as numbers: contracts, definitions and code share their names, so only these examples would reveal a changed number.
 use Rattle.std.proofs.Common.{◌≡◌, ◌-◌, ◌*◌, refl}
 use Rattle.tt_text.specs.declared.feed.TheConstants.{MAX_BYTES, MAX_TOKEN_BYTES}
 use Rattle.tt_instance.specs.declared.limit.TheConstants.{MAX_COURSES, MAX_ROOMS, MAX_DAYS, MAX_PERIODS, MAX_SLOTS, MAX_CELLS, MAX_CURRICULA, MAX_MEMBERS, MAX_BARS, MAX_LECTURES, MAX_MIN_DAYS, MAX_SEATS}

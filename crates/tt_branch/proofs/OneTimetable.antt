@@ -1,4 +1,4 @@
--- Where each live cell's own pattern stands on the path as yes and no leaf without claims is right, the live cells are the one timetable that fits.
+-- If the path has each live cell's own pattern as a yes-fact and no leaf without claims is right, the live cells are the one timetable that fits.
 use Rattle.std.proofs.Common.{◌≡◌, ℕ, ◌+◌, ◌≤◌, Bool, true, ◌&&◌, List, [], ◌∷◌, length, get_or, refl, sym, ap, ◌∙◌, subst, arith, inl, inr, eqb-true, eq-eqb}
 use Rattle.std.specs.Prelude.{Contains, ◌==◌, count_by}
 use Rattle.std.specs.List.{list_any, remove}
@@ -34,13 +34,13 @@ use Rattle.tt_branch.specs.Alone.{LeavesOne}
 use Rattle.tt_branch.specs.Proofs.{IsUnclosed}
 use Rattle.tt_branch.proofs.Searching.{best_right}
 
--- ---- lists that have each element as often
+-- -- lists in which each element occurs the same number of times
 
 module _ {X : Type 0} (same : X → X → Bool) (is_same : (x y : X) → same x y ≡ true → x ≡ y) (itself : (x : X) → same x x ≡ true) where
   abbrev times : X → List X → ℕ
   times x xs = count_by (same x) xs
 
-  -- a list that has an element has it and others
+  -- a list that has an element is a permutation of the element and others
   with_others : (ys : List X) (x : X) → 1 ≤ times x ys → (others : List X) × IsPermutation ys (x ∷ others)
   with_others ys x h =
       let w = member_from_any (same x) ys (any_if_count (same x) ys h) in
@@ -77,7 +77,7 @@ cell_same x y e =
     ap (λ i. cell_of i x.room x.day x.period) (eqb-true x.course y.course b.0) ∙ ap (λ i. cell_of y.course i x.day x.period) (eqb-true x.room y.room b.1)
     ∙ ap (λ i. cell_of y.course y.room i x.period) (eqb-true x.day y.day c.0) ∙ ap (λ i. cell_of y.course y.room y.day i) (eqb-true x.period y.period c.1)
 
--- a cell that its own pattern matches is the cell
+-- only the cell itself matches its own pattern
 own_is : (p : Problem) (x y : Cell) → matches p (own_pattern x) y ≡ true → is_cell x y ≡ true
 own_is p x y e =
     let m = Matches-from p (own_pattern x) y e in
@@ -93,7 +93,7 @@ module _ (p : Problem) (path : List Fact) (pins : IsPinnedDown p path) where
   t = live_cells p path
 
   module _ (u : List Cell) (ok : IsFeasible p u) (fit : Fits p u path) where
-    -- no entry is there twice
+    -- no entry occurs twice
     once : (x : Cell) → count_by (is_cell x) u ≤ 1
     once x = elim (cases_lt 0 (count_by (is_cell x) u)) [
       | inl h ↦
@@ -108,13 +108,13 @@ module _ (p : Problem) (path : List Fact) (pins : IsPinnedDown p path) where
       | inr h ↦ omega arith
     ]
 
-    -- an entry is a live cell
+    -- each entry is a live cell
     there : (x : Cell) → 1 ≤ count_by (is_cell x) u → 1 ≤ count_by (is_cell x) t
     there x h =
         let w = member_from_any (is_cell x) u (any_if_count (is_cell x) u h) in
         count_if_any (is_cell x) t (any_live p path (is_cell x) w.0 (in_range p u ok w.0 w.1) (live_entry p u ok path fit w.0 w.1) w.2)
 
-    -- and a live cell is an entry, since its own pattern stands on the path
+    -- each live cell is an entry, since the path has its own pattern as a yes-fact
     back : (x : Cell) → 1 ≤ count_by (is_cell x) t → 1 ≤ count_by (is_cell x) u
     back x h =
         let w = member_from_any (is_cell x) t (any_if_count (is_cell x) t h) in
@@ -138,7 +138,7 @@ module _ (p : Problem) (path : List Fact) (pins : IsPinnedDown p path) where
     is_permuted = as_often is_cell cell_same cell_itself u t same_times
 
   module _ (ok : IsInstance p) (none : IsUnclosed p path) where
-    -- no leaf with claims is right for the bound that there is no timetable
+    -- no leaf with claims is right for the bound that no timetable exists
     open_for_nothing : IsOpen p path Nothing
     open_for_nothing = record { empty = none.empty; many = none.many; clique = none.clique; best = λ e. e; stacked = λ e. e }
 

@@ -1,4 +1,4 @@
--- What an opened node comes to.
+-- The result of opening a node.
 use Rattle.std.proofs.Common.{◌≡◌, true, false, not, ◌&&◌, List, Option, Some, None, refl, sym, subst, arith}
 use Rattle.std.specs.List.{list_any}
 use Rattle.std.proofs.Common.{Bool, inl, inr}
@@ -37,7 +37,7 @@ not_denied p path g x matched l e =
     (or_right (unavailable p x.course x.day x.period) (list_any (λ f. not f.holds && matches p f.pattern x) path)
     (any_member (λ f. not f.holds && matches p f.pattern x) path w.0 w.1 (and_from (not w.0.holds) (matches p w.0.pattern x) (not_from_false w.0.holds w.2) m)))
 
--- a new pattern that aims at a free cell splits a node that is not closed
+-- a new pattern that aims at a free cell splits a node that isn't closed
 pub splits_on : (p : Problem) (path : List Fact) (g : Pattern) (b : Bound) → IsNewSplit p path g → IsOpen p path b → IsSplitOn p path g
 splits_on p path g b s none = record {
   numbers = s.numbers;
@@ -47,7 +47,8 @@ splits_on p path g b s none = record {
   aims = s.aims;
 }
 
--- where no cell is free, the live cells are a timetable without a broken hard rule, better than the best, and the best claims close the node for its cost
+-- if no cell is free, the live cells are a timetable that breaks no hard rule and is better than the best, and the best claims close the node
+-- for its cost
 pub record IsSolved (p : Problem) (path : List Fact) (best : Option (List Cell)) (t : List Cell) : Type 0 where
   pub feasible : IsFeasible p t
   pub better : IsBetter p best t

@@ -1,4 +1,4 @@
--- The steps of a search keep what is known of its tree, and its end proves its bound.
+-- The steps of a search preserve the properties of its tree, and its end proves its bound.
 use Rattle.std.proofs.Common.{◌≡◌, ℕ, suc, ◌≤◌, Bool, true, false, List, [], ◌∷◌, ◌++◌, length, length-append, Option, Some, None, refl, sym, ap, ◌∙◌, subst, arith, leb-true, le-leb}
 use Rattle.std.specs.Prelude.{nat_le, slice_get, ⊤}
 use Rattle.std.proofs.lemmas.List.Elements.{All-nil, All-push}
@@ -36,7 +36,7 @@ use Rattle.tt_branch.proofs.Growing.{on_path, graft}
 
 -- ---- bounds
 
--- a leaf that is right for a bound is right for each bound that no Cost leaf is worth less than
+-- a leaf that is right for a bound is right for each bound that is at most the value of the leaf, if it is a Cost leaf
 pub right_for : (p : Problem) (path : List Fact) (b : Bound) (leaf : Leaf) (n : ℕ) → IsRight p path b leaf → ((v : ℕ) → leaf_worth p path leaf ≡ Some v → n ≤ v) → IsRight p path (AtLeast n) leaf
 right_for p path b (Empty g) n e f = e
 right_for p path b (Many c) n e f = e
@@ -45,11 +45,11 @@ right_for p path b (Slots cs) n e f = e
 right_for p path Nothing (Cost claims) n e f = absurd e
 right_for p path (AtLeast m) (Cost claims) n e f = (e.0, e.1, f (total_of p path claims) refl)
 
--- the leaf of the best claims is right for what it is worth
+-- the leaf of the best claims is right for its value
 pub best_right : (p : Problem) (path : List Fact) (n : ℕ) → n ≤ total_of p path (best_claims p path) → IsRight p path (AtLeast n) (best_leaf p path)
 best_right p path n h = (all_different Days (λ c. refl) p path, all_fair Days (λ c. refl) p path (λ c. refl), h)
 
--- what a right Cost leaf is worth reaches the bound
+-- the value of a right Cost leaf reaches the bound
 pub worth_reaches : (p : Problem) (path : List Fact) (m : ℕ) (leaf : Leaf) (v : ℕ) → IsRight p path (AtLeast m) leaf → leaf_worth p path leaf ≡ Some v → m ≤ v
 worth_reaches p path m (Empty g) v e k = cc
 worth_reaches p path m (Many c) v e k = cc
@@ -67,7 +67,7 @@ no_worth p path (Clique cs) v e k = cc
 no_worth p path (Slots cs) v e k = cc
 no_worth p path (Cost claims) v e k = absurd e
 
--- the second is no dearer than the best, or there is no best
+-- the second timetable is at most as expensive as the best, or there is no best
 abbrev pub IsBetter : Problem → Option (List Cell) → List Cell → Type 0
 IsBetter p None t = ⊤
 IsBetter p (Some u) t = cost p t ≤ cost p u
@@ -100,7 +100,7 @@ module _ (p : Problem) where
       by_mark path Waiting k = tt
 
   module _ (best : Option (List Cell)) where
-    -- more links change nothing
+    -- further links change nothing
     pub grow_links : (links : List Link) (l : Link) (entries : List Entry) → AreLinks links → IsGrown p best links entries → IsGrown p best (links ++ l ∷ []) entries
     grow_links links l entries ok grown = record {
       tree = grown.tree;
@@ -113,7 +113,7 @@ module _ (p : Problem) where
       }) (on_paths [] grown.tree) entries grown.together;
     }
 
-    -- something more is known of an open node, on its path
+    -- more is known about an open node, on its path
     pub grow_mark : (links : List Link) (before : List Entry) (e new : Entry) (after : List Entry) → IsGrown p best links (before ++ e ∷ after) → is_open e.mark ≡ true → new.link ≡ e.link → IsKnown p best (path_at links e.link) new.mark → (leaf : Leaf) → node_of p (path_at links e.link) new.mark ≡ node.Leaf leaf → IsGrown p best links (before ++ new ∷ after)
     grow_mark links before e new after grown o same known leaf shown =
         let R = Stands p best links in
@@ -191,7 +191,7 @@ module _ (p : Problem) where
               (top, (one, (two, w.6))));
         }
 
-  -- the root alone
+  -- the tree that consists of the root
   pub grow_root : (best : Option (List Cell)) (e : Entry) → e.mark ≡ Waiting → e.link ≡ 0 → IsGrown p best [] (e ∷ [])
   grow_root best e m l = record {
     tree = Close (best_leaf p []);
@@ -209,7 +209,7 @@ module _ (p : Problem) where
 
   -- ---- the end
 
-  -- each split is as it should be
+  -- each split satisfies its condition
   pub splits_well : (best : Option (List Cell)) (links : List Link) (x : OnPath) (e : Entry) → Stands p best links x e → SplitsWell p x
   splits_well best links x e s k is = by_mark e.mark s.node s.known
     where

@@ -1,4 +1,4 @@
--- Entries that are taken off the end of a list.
+-- Entries that are removed from the end of a list.
 use Rattle.std.proofs.Common.{◌≡◌, List, [], ◌∷◌, ◌++◌, sym, subst}
 use Rattle.std.specs.Prelude.{All, Contains}
 use Rattle.std.proofs.lemmas.List.Elements.{All-contains, Contains-append_left, Contains-push}
@@ -7,7 +7,7 @@ use Rattle.tt_branch.specs.declared.entry.Entry.{Entry}
 use Rattle.tt_branch.specs.declared.links.Link.{Link}
 use Rattle.tt_branch.specs.Written.{IsWritable}
 
--- the last of the entries that are left is one of all
+-- the last of the entries left is one of all entries
 pub writable_last : (p : Problem) (links : List Link) (all left rest done : List Entry) (e : Entry) → All (IsWritable p links) all → all ≡ left ++ done → left ≡ rest ++ e ∷ [] → IsWritable p links e
 writable_last p links all left rest done e each split is =
     let inside : Contains left e = subst (λ l. Contains l e) (sym is) (Contains-push rest e) in

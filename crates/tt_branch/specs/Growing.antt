@@ -1,4 +1,4 @@
--- Only proofs rest on this file: nobody has to believe it.
+-- Not part of the trusted statement: only proofs use this file.
 -- A tree that grows: its nodes in preorder, each with a mark and its place among the links.
 use Rattle.std.specs.Prelude.{◌≡◌, ℕ, ◌≤◌, Bool, true, false, List, [], length, map, Option, Some, count_by, slice_get, ⊤}
 use Rattle.std.specs.List.{AllZip, filter_map}
@@ -18,21 +18,21 @@ use Rattle.tt_branch.specs.Links.{path_at}
 use Rattle.tt_branch.specs.Outcomes.{final_bound}
 use Rattle.tt_branch.specs.Proofs.{IsSplitOn, node_worth}
 
--- the node of the tree; one that is open has the leaf of the best claims
+-- The node of the tree for a mark; an open node has the leaf of the best claims.
 abbrev pub node_of : Problem → List Fact → Mark → Node
 node_of p path (Divided g) = node.Split g
 node_of p path (Closed leaf) = node.Leaf leaf
 node_of p path (Opened g) = node.Leaf (best_leaf p path)
 node_of p path Waiting = node.Leaf (best_leaf p path)
 
--- what is known of it
+-- What is known about a node by its mark.
 abbrev pub IsKnown : Problem → Option (List Cell) → List Fact → Mark → Type 0
 IsKnown p best path (Divided g) = IsSplitOn p path g
 IsKnown p best path (Closed leaf) = Closes p path (final_bound p best) leaf
 IsKnown p best path (Opened g) = IsSplitOn p path g
 IsKnown p best path Waiting = ⊤
 
--- a node of the tree and its entry
+-- A node of the tree and its entry.
 pub record Stands (p : Problem) (best : Option (List Cell)) (links : List Link) (x : OnPath) (e : Entry) : Type 0 where
   pub node : x.node ≡ node_of p x.path e.mark
   pub known : IsKnown p best x.path e.mark
@@ -40,7 +40,7 @@ pub record Stands (p : Problem) (best : Option (List Cell)) (links : List Link) 
   pub path : path_at links e.link ≡ x.path
   pub patterns : ArePatterns p x.path
 
--- the entries are those of a tree
+-- The entries are those of a tree.
 pub record IsGrown (p : Problem) (best : Option (List Cell)) (links : List Link) (entries : List Entry) : Type 0 where
   pub tree : Tree
   pub together : AllZip (Stands p best links) (on_paths [] tree) entries
@@ -56,30 +56,30 @@ is_open (Opened g) = true
 is_open Waiting = true
 is_open _ = false
 
--- it is no split
+-- The mark is not that of a split.
 abbrev pub IsSingle : Mark → Type 0
 IsSingle (Divided g) = ⊥
 IsSingle _ = ⊤
 
--- how many of the nodes were opened
+-- How many of the nodes were opened.
 abbrev pub opened_in : List Entry → ℕ
 opened_in entries = count_by (λ e. was_opened e.mark) entries
 
--- the entry at the place is open
+-- The entry at the place is open.
 abbrev pub IsOpenAt : List Entry → ℕ → Type 0
 IsOpenAt entries k = (e : Entry) × (slice_get entries k ≡ Some e) × (is_open e.mark ≡ true)
 
--- the entry at the place has the mark
+-- The entry at the place has the mark.
 abbrev pub HasMark : List Entry → ℕ → Mark → Type 0
 HasMark entries k m = (e : Entry) × (slice_get entries k ≡ Some e) × (e.mark ≡ m)
 
--- ---- the proof that the tree is
+-- -- the proof made of the tree
 
--- the node of an entry, on its path
+-- The node of an entry, on its path.
 abbrev pub node_at : Problem → List Link → Entry → Node
 node_at p links e = node_of p (path_at links e.link) e.mark
 
--- what it is worth, where it is a Cost leaf
+-- The value of an entry's node, if it is a Cost leaf.
 abbrev pub worth_at : Problem → List Link → Entry → Option ℕ
 worth_at p links e = node_worth p (path_at links e.link) (node_at p links e)
 

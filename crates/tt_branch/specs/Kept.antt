@@ -1,5 +1,5 @@
--- Only proofs rest on this file: nobody has to believe it.
--- The best timetable of a search, and what a better one leaves true.
+-- Not part of the trusted statement: only proofs use this file.
+-- The best timetable of a search, and what a better one preserves.
 use Rattle.std.specs.Prelude.{◌≡◌, List, Option, IfSome, option_map}
 use Rattle.tt_instance.specs.Problem.{Problem}
 use Rattle.tt_instance.specs.declared.cell.Cell.{Cell}
@@ -10,7 +10,7 @@ use Rattle.tt_branch.specs.declared.links.Link.{Link}
 use Rattle.tt_branch.specs.Growing.{IsGrown}
 use Rattle.tt_branch.specs.Outcomes.{IsNoDearer}
 
--- it breaks no hard rule, and its cost is the one that is told
+-- The timetable breaks no hard rule, and the cost stored is its cost.
 pub record IsCosted (p : Problem) (b : Best) : Type 0 where
   pub feasible : IsFeasible p b.table
   pub cost : b.cost ≡ cost p b.table
@@ -21,7 +21,7 @@ IsKept p best = IfSome best (IsCosted p)
 abbrev pub table_of : Option Best → Option (List Cell)
 table_of best = option_map (λ b. b.table) best
 
--- What was true of the nodes by the old best is true of them by the new one, and it is no dearer.
+-- Everything that was known about the nodes for the old best timetable is true for the new one, and the new one is at most as expensive.
 pub record Advances (p : Problem) (old new : Option Best) : Type 0 where
   pub kept : IsKept p new
   pub grown : (links : List Link) (entries : List Entry) → IsGrown p (table_of old) links entries → IsGrown p (table_of new) links entries

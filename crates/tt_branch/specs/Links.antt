@@ -1,11 +1,12 @@
--- Only proofs rest on this file: nobody has to believe it.
--- Paths by links to the parent: each fact stands after the facts of its parent.
+-- Not part of the trusted statement: only proofs use this file.
+-- Paths by links to the parent: each fact comes after the facts of its parent.
 use Rattle.std.specs.Prelude.{◌≡◌, ℕ, zero, suc, ◌≤◌, Bool, true, false, List, [], ◌∷◌, ◌++◌, Some, None, slice_get}
 use Rattle.tt_paths.specs.declared.facts.Fact.{Fact}
 use Rattle.tt_paths.specs.declared.facts.Pattern.{Pattern}
 use Rattle.tt_branch.specs.declared.links.Link.{Link}
 
--- the facts at a place, which is 0 for the root and one more than the number of its link for another node; the first number is how far back
+-- The facts of the node at a place. The place is 0 for the root, and the number of its link plus 1 for another node. The first number limits how
+-- many links are followed.
 abbrev pub chain : ℕ → List Link → ℕ → List Fact
 chain zero links at = []
 chain (suc n) links zero = []
@@ -14,13 +15,13 @@ chain (suc n) links (suc i) = elim (slice_get links i) [ None ↦ [] | Some l �
 abbrev pub path_at : List Link → ℕ → List Fact
 path_at links at = chain at links at
 
--- a parent stands before its children
+-- A parent comes before its children.
 abbrev pub AreLinks : List Link → Type 0
 AreLinks links = (i : ℕ) (l : Link) → slice_get links i ≡ Some l → l.parent ≤ i
 
 abbrev pub link_of : ℕ → Pattern → Bool → Link
 link_of at g holds = record { parent = at; fact = record { pattern = g; holds = holds } }
 
--- two nodes more, below the node at a place: under the yes-fact of a pattern and under its no-fact
+-- The links with two more nodes, below the node at a place: under the yes-fact of a pattern and under its no-fact.
 abbrev pub divided_links : List Link → ℕ → Pattern → List Link
 divided_links links at g = (links ++ link_of at g true ∷ []) ++ link_of at g false ∷ []

@@ -1,4 +1,4 @@
--- What is true of the proof that a search answers.
+-- The properties of the proof that a search returns.
 use Rattle.std.specs.Prelude.{◌≡◌, ℕ, ◌<◌, Bool, true, false, List, [], ◌∷◌, Option, Some, None, length, All, Contains, ⊤}
 use Rattle.std.specs.List.{filter_map}
 use Rattle.tt_instance.specs.Problem.{Problem}
@@ -25,7 +25,7 @@ use Rattle.tt_choice.specs.Choice.{Aims}
 
 -- ---- splits
 
--- No Empty leaf of a yes-fact is right there, no Many leaf and no Clique of one course; the bound says nothing for these.
+-- No Empty leaf of a yes-fact, no Many leaf and no Clique leaf of one course is right on the path; for these leaves the bound doesn't matter.
 pub record IsUnclosed (p : Problem) (path : List Fact) : Type 0 where
   pub empty : (f : Fact) → Contains path f → f.holds ≡ true → ¬ IsRight p path Nothing (Empty f.pattern)
   pub many : (c : ℕ) → c < length p.courses → ¬ IsRight p path Nothing (Many c)
@@ -46,7 +46,7 @@ abbrev pub IsShortNode : Node → Type 0
 IsShortNode (node.Split g) = ⊤
 IsShortNode (node.Leaf leaf) = IsShortLeaf leaf
 
--- A proof of the bound: its numbers are the instance's, and only its bytes can be too many for a file.
+-- A proof of the bound: its numbers are in the range of the instance, and the only limit of a file that it can exceed is that of its bytes.
 pub record IsSearched (p : Problem) (b : Bound) (tree : Tree) (nodes : List Node) : Type 0 where
   pub spelled : preorder tree ≡ nodes
   pub derives : Derives p b [] tree
@@ -57,7 +57,7 @@ pub record IsSearched (p : Problem) (b : Bound) (tree : Tree) (nodes : List Node
 
 -- ---- cost leaves
 
--- what a Cost leaf is worth on its path
+-- The value of a Cost leaf on its path.
 abbrev pub leaf_worth : Problem → List Fact → Leaf → Option ℕ
 leaf_worth p path (Empty g) = None
 leaf_worth p path (Many c) = None
@@ -69,20 +69,20 @@ abbrev pub node_worth : Problem → List Fact → Node → Option ℕ
 node_worth p path (node.Split g) = None
 node_worth p path (node.Leaf leaf) = leaf_worth p path leaf
 
--- what the Cost leaves are worth, in preorder
+-- The values of the Cost leaves, in preorder.
 abbrev pub worths : Problem → List OnPath → List ℕ
 worths p xs = filter_map (λ x. node_worth p x.path x.node) xs
 
--- less than the best timetable costs; any number is where there is none
+-- The number is below the cost of the best timetable; if none was found, this holds for any number.
 abbrev pub IsCheaper : Problem → Option (List Cell) → ℕ → Type 0
 IsCheaper p None n = ⊤
 IsCheaper p (Some t) n = n < cost p t
 
--- a Cost leaf that is worth less than the best costs is that of the best claims
+-- A Cost leaf with a value below the cost of the best timetable is the leaf of the best claims.
 abbrev pub IsGreedy : Problem → Option (List Cell) → OnPath → Type 0
 IsGreedy p best x = (n : ℕ) → node_worth p x.path x.node ≡ Some n → IsCheaper p best n → x.node ≡ node.Leaf (best_leaf p x.path)
 
--- what is proved in the end: of a finished search its own bound, else the least worth
+-- The bound proved in the end: the final bound if the search is finished, otherwise the least value.
 abbrev pub shown_bound : Bound → Option ℕ → Bool → Bound
 shown_bound b least true = b
 shown_bound b None false = AtLeast 0

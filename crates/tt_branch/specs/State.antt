@@ -1,4 +1,4 @@
--- Only proofs rest on this file: nobody has to believe it.
+-- Not part of the trusted statement: only proofs use this file.
 -- The state of a search.
 use Rattle.std.specs.Prelude.{◌≡◌, ℕ, ◌+◌, ◌*◌, ◌≤◌, Bool, true, false, List, ◌∷◌, ◌++◌, length}
 use Rattle.std.specs.List.{list_any}
@@ -12,13 +12,13 @@ use Rattle.tt_branch.specs.Kept.{IsKept, table_of}
 use Rattle.tt_branch.specs.Links.{AreLinks, divided_links}
 use Rattle.tt_branch.specs.Steps.{IsDivision}
 
--- the best is one, the links lead back, and the entries are a tree's
+-- The best timetable breaks no hard rule and has the cost stored, the links lead to parents, and the entries are those of a tree.
 pub record IsUnderWay (p : Problem) (s : Search) : Type 0 where
   pub kept : IsKept p s.best
   pub links : AreLinks s.links.items
   pub grown : IsGrown p (table_of s.best) s.links.items s.entries.items
 
--- the opened node at the place is split: its two children stand after it
+-- The opened node at the place is split: its two children follow it.
 pub record IsSplitAt (place : ℕ) (g : Pattern) (old new : Search) : Type 0 where
   pub before : List Entry
   pub after : List Entry
@@ -34,7 +34,7 @@ pub record IsSplitAt (place : ℕ) (g : Pattern) (old new : Search) : Type 0 whe
   pub links : new.links.items ≡ divided_links old.links.items was.link g
   pub best : new.best ≡ old.best
 
--- the open node at the place waits, or it was split and the child at the next place waits; nothing else is new
+-- The open node at the place waits, or it was split and the child at the place `next` waits; nothing else has changed.
 pub record MakesWait (place : ℕ) (old : Search) (next : ℕ) (new : Search) : Type 0 where
   pub under_way : (p : Problem) → IsUnderWay p old → IsUnderWay p new
   pub waiting : HasMark new.entries.items next Waiting
@@ -42,7 +42,7 @@ pub record MakesWait (place : ℕ) (old : Search) (next : ℕ) (new : Search) : 
   pub many : length new.entries.items ≤ length old.entries.items + 2
   pub best : new.best ≡ old.best
 
--- No node is open, and no more were made than may be opened; or some node is open, this many were opened, and the others are few.
+-- No node is open, and at most `limit` nodes were made; or some node is open, at least `limit` nodes were made, and fewer than `2 * limit`.
 abbrev pub EndsAt : ℕ → List Entry → Bool → Type 0
 EndsAt limit entries true = (list_any (λ e. is_open e.mark) entries ≡ false) × (length entries ≤ limit)
 EndsAt limit entries false = (list_any (λ e. is_open e.mark) entries ≡ true) × (limit ≤ length entries) × (length entries + 1 ≤ 2 * limit)

@@ -1,5 +1,5 @@
--- Only proofs rest on this file: nobody has to believe it.
--- The steps of a search, as the code makes them. Nobody has to believe them.
+-- Not part of the trusted statement: only proofs use this file.
+-- The steps of a search, in the order in which the code makes them.
 use Rattle.std.specs.Prelude.{◌≡◌, ℕ, ◌+◌, List, length, map, flat_map, Option, Some, None}
 use Rattle.tt_lists.specs.Words.{range_below}
 use Rattle.tt_instance.specs.Problem.{Problem}
@@ -11,7 +11,7 @@ use Rattle.tt_branch.specs.declared.entry.Mark.TheVariants.{Divided, Waiting}
 use Rattle.tt_branch.specs.declared.entry.Entry.{Entry}
 use Rattle.tt_branch.specs.declared.links.Link.{Link}
 
--- the entries of a node that is split and of its children, which wait
+-- The entries of a node that is split and of its children, which wait.
 pub record IsDivision (links : List Link) (e : Entry) (g : Pattern) (d a b : Entry) : Type 0 where
   pub divided : d.mark ≡ Divided g
   pub same_link : d.link ≡ e.link
@@ -20,7 +20,7 @@ pub record IsDivision (links : List Link) (e : Entry) (g : Pattern) (d a b : Ent
   pub second : b.mark ≡ Waiting
   pub second_link : b.link ≡ length links + 2
 
--- the lesser of what is worth and the least so far
+-- The lesser of a value and the least value so far.
 abbrev pub lower : Option ℕ → Option ℕ → Option ℕ
 lower None least = least
 lower (Some n) least = Some (least_with n least)

@@ -1,4 +1,4 @@
--- Only proofs rest on this file: nobody has to believe it.
+-- Not part of the trusted statement: only proofs use this file.
 -- Entries that can be written as nodes of a proof.
 use Rattle.std.specs.Prelude.{◌≡◌, ℕ, ◌≤◌, Bool, true, List, ◌++◌, length, reverse, Option, ⊤}
 use Rattle.tt_paths.specs.Live.{least}
@@ -13,12 +13,12 @@ use Rattle.tt_branch.specs.Growing.{node_at, nodes_of, worths_of}
 use Rattle.tt_branch.specs.Links.{path_at}
 use Rattle.tt_paths.specs.declared.path.TheConstants.{MAX_FACTS}
 
--- there is such a node, and its facts fit on a path
+-- The node exists, and its facts fit on a path.
 pub record IsReached (links : List Link) (place : ℕ) : Type 0 where
   pub within : place ≤ length links
   pub depth : length (path_at links place) ≤ MAX_FACTS
 
--- a leaf claims no target twice
+-- A leaf claims no target twice.
 abbrev pub IsOnceNode : Node → Type 0
 IsOnceNode (node.Split g) = ⊤
 IsOnceNode (node.Leaf leaf) = IsClaimedOnce leaf
@@ -28,7 +28,7 @@ pub record IsWritable (p : Problem) (links : List Link) (e : Entry) : Type 0 whe
   pub numbers : IsNodeOf p (node_at p links e)
   pub once : IsOnceNode (node_at p links e)
 
--- the entries after those that are left are written, the last one first
+-- The entries after those left have been written, the last one first.
 pub record IsTaken (p : Problem) (links : List Link) (valued : Bool) (all left : List Entry) (nodes : List Node) (lowest : Option ℕ) : Type 0 where
   pub done : List Entry
   pub split : all ≡ left ++ done

@@ -17,20 +17,20 @@ use tt_rules::score;
 use tt_search::{Watch, construct, descend, improve_watched};
 use tt_table::Timetable;
 
-/// The steps of a turn of the improvement after it, at least and at most, and for each entry in each cell of a room: one
-/// or two seconds on an instance of real size.
+/// The steps of a turn of the improvement after the descent: the minimum, the maximum, and the steps for each entry in each cell of a room. A turn
+/// takes one or two seconds on an instance of real size.
 const LEAST_STEPS: u64 = 2_000;
 
 const MOST_STEPS: u64 = 100_000;
 
 const STEPS_OF_A_CELL: u64 = 4;
 
-/// The same of every second turn: whether a short or a long walk does better differs between instances.
+/// The steps of every second turn: whether a short or a long walk does better differs between instances.
 const MOST_LONG_STEPS: u64 = 400_000;
 
 const LONG_STEPS_OF_A_CELL: u64 = 12;
 
-/// How many turns there are at least, and how many nodes of the limit bring one more, which is as long as a walk may be.
+/// The minimum number of turns, and the number of nodes of the limit for which there is another turn, which is as long as a walk may be.
 const FIRST_TURNS: u32 = 3;
 
 const NODES_OF_A_TURN: u32 = 65_536;
@@ -41,11 +41,11 @@ const MOST_LAST_STEPS: u64 = 1_000_000;
 #[derive(Drop)]
 pub struct Best {
     pub table: Timetable,
-    /// Its cost, in cost points.
+    /// The cost of the timetable, in cost points.
     pub cost: u64,
 }
 
-/// The timetable with its cost, if it breaks no hard rule.
+/// Returns the timetable with its cost, if it breaks no hard rule.
 fn if_feasible(instance: &Instance<'_>, table: Timetable) -> Option<Best>
     requires { IsTimetable instance.now table }
     ensures some { IfSome result (λ b. IsCosted instance.now b) }
@@ -63,19 +63,19 @@ fn if_feasible(instance: &Instance<'_>, table: Timetable) -> Option<Best>
     })
 }
 
-/// How many turns the improvement has at most, by the limit of nodes.
+/// Returns the maximum number of turns of the improvement, for a limit of nodes.
 pub fn turns_for(nodes: u32) -> u32 {
     (nodes / NODES_OF_A_TURN).saturating_add(FIRST_TURNS)
 }
 
-/// How many entries in how many cells of a room a timetable has.
+/// Returns the number of a timetable's entries times the number of cells of a room and a period.
 fn size_of(instance: &Instance<'_>, table: &Timetable) -> u64 {
     let periods = u64::from(instance.days()).saturating_mul(u64::from(instance.periods()));
     let cells = periods.saturating_mul(u64::from(instance.rooms()));
     (table.len() as u64).saturating_mul(cells)
 }
 
-/// Whether a timetable breaks no hard rule and costs no more than a goal.
+/// Returns whether a timetable breaks no hard rule and costs at most a goal.
 fn reaches(instance: &Instance<'_>, table: &Timetable, goal: u64) -> bool
     requires { IsTimetable instance.now table.now }
 {
@@ -83,7 +83,7 @@ fn reaches(instance: &Instance<'_>, table: &Timetable, goal: u64) -> bool
     counts.feasible() && counts.cost() <= goal
 }
 
-/// The steps of a turn.
+/// Returns the steps of a turn.
 fn steps_of(turn: u32, size: u64) -> u64 {
     if turn >= FIRST_TURNS {
         size.saturating_mul(LONG_STEPS_OF_A_CELL)
@@ -97,7 +97,7 @@ fn steps_of(turn: u32, size: u64) -> u64 {
     }
 }
 
-/// Whether a timetable breaks fewer hard rules than another one, or as many at a lower cost.
+/// Returns whether a timetable breaks fewer hard rules than another one, or as many at a lower cost.
 fn is_cheaper(instance: &Instance<'_>, one: &Timetable, other: &Timetable) -> bool
     requires one { IsTimetable instance.now one.now }
     requires other { IsTimetable instance.now other.now }
@@ -107,7 +107,7 @@ fn is_cheaper(instance: &Instance<'_>, one: &Timetable, other: &Timetable) -> bo
     first.hard() < second.hard() || (first.hard() == second.hard() && first.cost() < second.cost())
 }
 
-/// Improves a timetable in turns, each from the start, until one reaches the goal; the best of all.
+/// Improves a timetable in turns, each from the start, until one reaches the goal; returns the best of all.
 fn improve_to<W: Watch>(
     alloc: Global,
     instance: &Instance<'_>,
@@ -143,8 +143,8 @@ fn improve_to<W: Watch>(
     Ok(best)
 }
 
-/// The timetable that a search begins with: where a descent from a constructed one leads, improved in this many turns
-/// or until it costs no more than a goal, if it breaks no hard rule. The same seed gives the same one.
+/// Returns the timetable that a search begins with: the result of a descent from a constructed one, improved in this many turns
+/// or until it costs at most a goal, if it breaks no hard rule. The same seed gives the same timetable.
 pub fn first_best<W: Watch>(
     alloc: Global,
     instance: &Instance<'_>,
@@ -162,7 +162,7 @@ pub fn first_best<W: Watch>(
     Ok(if_feasible(instance, improved))
 }
 
-/// The bound that closes a node: no timetable is cheaper than the best, or there is none at all.
+/// Returns the bound that closes a node: no timetable costs less than the best, or no timetable exists.
 pub fn bound_of(best: &Option<Best>) -> Bound
     ensures { (p : Problem) → IsKept p best.now → result ≡ final_bound p (table_of best.now) }
 {

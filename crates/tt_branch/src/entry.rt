@@ -9,18 +9,18 @@ use tt_paths::Pattern;
 /// How far a node has been searched.
 #[derive(Drop)]
 pub enum Mark {
-    /// It is split, and its children stand after it.
+    /// The node is split, and its children follow it.
     Divided(Pattern),
-    /// A leaf closes it.
+    /// A leaf closes the node.
     Closed(Leaf),
-    /// It was opened and not closed; it will be split by this pattern.
+    /// The node was opened but not closed; it will be split by this pattern.
     Opened(Pattern),
-    /// It was not opened yet.
+    /// The node was not opened yet.
     Waiting,
 }
 
 impl Mark {
-    /// The pattern by which an opened node will be split.
+    /// Returns the pattern by which an opened node will be split.
     pub fn pattern(&self) -> Option<Pattern>
         ensures some { IfSome result (λ g. self.now ≡ Mark.Opened g) }
         ensures none { IsNone result → is_open self.now ≡ true → self.now ≡ Mark.Waiting }
@@ -32,7 +32,7 @@ impl Mark {
     }
 }
 
-/// How much more the children of a node are worth by the best claims, in cost points.
+/// By how much the best claims of the two children exceed those of a node, in cost points.
 #[derive(Clone, Copy)]
 pub struct Rises {
     pub yes: u64,
@@ -42,7 +42,7 @@ pub struct Rises {
 impl Rises {
     pub const NONE: Rises = Rises { yes: 0, no: 0 };
 
-    /// Whether the second child is worth less than the first.
+    /// Returns whether the second child has a lower value than the first.
     pub fn are_falling(self) -> bool {
         self.no < self.yes
     }
@@ -52,15 +52,15 @@ impl Rises {
 #[derive(Drop)]
 pub struct Entry {
     pub mark: Mark,
-    /// Where its facts are, by the links.
+    /// The place of its facts, by the links.
     pub link: usize,
-    /// What it is worth by the best claims: the open node with the least key is next.
+    /// The value of the best claims: the open node with the least key is next.
     pub key: u64,
     pub rises: Rises,
 }
 
 impl Entry {
-    /// A node that waits.
+    /// Creates a node that waits.
     pub fn waiting(link: usize, key: u64) -> Entry
         ensures mark { result.mark ≡ Mark.Waiting }
         ensures link { result.link ≡ link }
@@ -73,7 +73,7 @@ impl Entry {
         }
     }
 
-    /// Whether no leaf closes it and it is not split.
+    /// Returns whether no leaf closes the node and it is not split.
     pub fn is_open(&self) -> bool
         ensures { result ≡ is_open self.now.mark }
     {

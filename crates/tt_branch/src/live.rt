@@ -10,7 +10,7 @@ use std::alloc::{AllocError, Global};
 use tt_paths::{Cell, Path};
 use tt_table::{PushFault, Timetable};
 
-/// Adds a cell, if it is live.
+/// Adds a cell if it is live.
 fn push_if_live<'i, P: Path<'i>>(
     path: &P,
     cells: &mut Vec<Cell>,
@@ -79,7 +79,7 @@ fn push_live_of<'i, P: Path<'i>>(
     Ok(())
 }
 
-/// The live cells of a path, in order.
+/// Returns the live cells of a path, in order.
 fn live_cells<'i, P: Path<'i>>(alloc: Global, path: &P) -> Result<Vec<Cell>, AllocError>
     ensures { IfOk result (λ cells. cells.items ≡ filter (is_live (P.problem path.now) (P.facts path.now)) (flat_map (cells_of (P.problem path.now)) (all_courses (P.problem path.now)))) }
 {
@@ -90,7 +90,7 @@ fn live_cells<'i, P: Path<'i>>(alloc: Global, path: &P) -> Result<Vec<Cell>, All
     Ok(cells)
 }
 
-/// Adds an entry to a timetable that is not full.
+/// Adds an entry to a timetable that isn't full.
 fn push_entry(table: &mut Timetable, entry: Cell) -> Result<(), AllocError>
     requires { length table.old < MAX_ENTRIES }
     ensures { OnOk result (table.new ≡ table.old ++ entry ∷ []) }
@@ -102,7 +102,7 @@ fn push_entry(table: &mut Timetable, entry: Cell) -> Result<(), AllocError>
     }
 }
 
-/// A timetable of entries.
+/// Creates a timetable of entries.
 fn table_with(alloc: Global, entries: &[Cell]) -> Result<Timetable, AllocError>
     requires { length entries.now ≤ MAX_ENTRIES }
     ensures { IfOk result (λ table. table ≡ entries.now) }
@@ -114,7 +114,7 @@ fn table_with(alloc: Global, entries: &[Cell]) -> Result<Timetable, AllocError>
     Ok(table)
 }
 
-/// The timetable of the live cells of a path.
+/// Returns the timetable of the live cells of a path.
 pub fn live_table<'i, P: Path<'i>>(alloc: Global, path: &P) -> Result<Timetable, AllocError>
     requires { length (filter (is_live (P.problem path.now) (P.facts path.now)) (all_cells (P.problem path.now))) ≤ MAX_ENTRIES }
     ensures { IfOk result (λ table. table ≡ filter (is_live (P.problem path.now) (P.facts path.now)) (all_cells (P.problem path.now))) }

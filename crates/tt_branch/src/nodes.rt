@@ -1,4 +1,4 @@
-//! The proof that a tree is.
+//! The proof made of a tree.
 
 ghost use Rattle.std.specs.Prelude.{◌≡◌, ◌≤◌, length, true, IfOk, All, IsTrue};
 ghost use Rattle.tt_paths.specs.Live.{least};
@@ -18,14 +18,14 @@ use tt_leaf_rules::{Leaf, leaf_value};
 use tt_paths::Path;
 use tt_proof_read::Node;
 
-/// The nodes of a proof in preorder, and the least that a Cost leaf is worth, where that was asked.
+/// The nodes of a proof in preorder, and the least value of a Cost leaf, if it was asked for.
 #[derive(Drop)]
 pub struct Written {
     pub nodes: Vec<Node>,
     pub least: Option<u64>,
 }
 
-/// The node of an entry; an open one is closed by the best claims.
+/// Returns the node of an entry; an open one is closed by the best claims.
 fn node_for<'i, P: Path<'i>>(
     alloc: Global,
     path: &mut P,
@@ -48,7 +48,7 @@ fn node_for<'i, P: Path<'i>>(
     }
 }
 
-/// What a node is worth on its path, where it is a Cost leaf.
+/// Returns the value of a node on its path, if it is a Cost leaf.
 fn worth_of<'i, P: Path<'i>>(
     alloc: Global,
     path: &mut P,
@@ -85,7 +85,7 @@ fn lower(worth: Option<u64>, least: Option<u64>) -> Option<u64>
     }
 }
 
-/// The proof that entries are, and what its cheapest Cost leaf is worth, if that is asked.
+/// Returns the proof made of the entries, and the least value of its Cost leaves, if that is asked for.
 pub fn write_nodes<'i, P: Path<'i>>(
     alloc: Global,
     path: &mut P,

@@ -14,8 +14,7 @@ use std::alloc::{AllocError, Global};
 use tt_paths::{Path, Pattern};
 use tt_search::Watch;
 
-/// Splits a node that was opened; where the node is that is opened next, of two children the one that is thought to
-/// be worth less.
+/// Splits a node if it was opened; returns the place of the node to open next: of two children, the one expected to have the lower value.
 fn make_wait(search: &mut Search, place: usize) -> Result<usize, AllocError>
     requires { IsOpenAt search.old.entries.items place }
     ensures made { IfOk result (λ next. MakesWait place search.old next search.new) }
@@ -30,7 +29,7 @@ fn make_wait(search: &mut Search, place: usize) -> Result<usize, AllocError>
     }
 }
 
-/// Opens a node: an open one that waits, or a child of one that is split for it.
+/// Opens a node: an open one that waits, or a child of an open one that is split for this.
 fn open_next<'i, P: Path<'i>>(
     alloc: Global,
     path: &mut P,
@@ -50,7 +49,7 @@ fn open_next<'i, P: Path<'i>>(
     open_at(alloc, path, search, next)
 }
 
-/// Opens nodes until none is open, or this many were opened, the root among them; whether none is open.
+/// Opens nodes until none is open, or this many were opened, including the root; returns whether none is open.
 pub fn grow<'i, P: Path<'i>, W: Watch>(
     alloc: Global,
     path: &mut P,

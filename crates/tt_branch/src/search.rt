@@ -23,7 +23,7 @@ pub struct Search {
 }
 
 impl Search {
-    /// The root alone, which waits.
+    /// Creates a search with only the root, which waits.
     pub fn new(alloc: Global, best: Option<Best>) -> Result<Search, AllocError>
         ensures under_way { IfOk result (λ s. (p : Problem) → IsKept p best → IsUnderWay p s) }
         ensures best { IfOk result (λ s. s.best ≡ best) }
@@ -46,7 +46,7 @@ impl Search {
     }
 }
 
-/// Whether an entry is open, and no open one was met or its key is less than the least.
+/// Returns whether an entry is open and either no open one was met before or its key is below the least.
 fn is_next(entry: &Entry, first: bool, least: u64) -> bool
     ensures open { result ≡ true → is_open entry.now.mark ≡ true }
     ensures first { first ≡ true → result ≡ false → is_open entry.now.mark ≡ false }
@@ -54,7 +54,7 @@ fn is_next(entry: &Entry, first: bool, least: u64) -> bool
     entry.is_open() && (first || entry.key < least)
 }
 
-/// The open node with the least key, the first of several.
+/// Returns the open node with the least key, the first of several.
 pub fn next_open(entries: &[Entry]) -> Option<usize>
     ensures some { IfSome result (λ place. IsOpenAt entries.now place) }
     ensures none { IsNone result → list_any (λ e. is_open e.mark) entries.now ≡ false }
@@ -70,7 +70,7 @@ pub fn next_open(entries: &[Entry]) -> Option<usize>
     found
 }
 
-/// Adds the link of a child; where it is among the links.
+/// Adds the link of a child; returns its place.
 fn push_link(
     links: &mut Vec<Link>,
     parent: usize,
@@ -87,7 +87,7 @@ fn push_link(
     Ok(links.len())
 }
 
-/// Puts an entry at a place, for the one that is there.
+/// Replaces the entry at a place.
 pub fn put(entries: &mut Vec<Entry>, place: usize, entry: Entry)
     requires { place < vec_len entries.old }
     ensures { entries.new.items ≡ slice_set entries.old.items place entry }
@@ -95,7 +95,7 @@ pub fn put(entries: &mut Vec<Entry>, place: usize, entry: Entry)
     entries[place] = entry;
 }
 
-/// Splits an opened node by its pattern: its children stand after it, and wait.
+/// Splits an opened node by its pattern: its children follow it, and wait.
 pub fn split(search: &mut Search, place: usize, pattern: Pattern) -> Result<(), AllocError>
     requires { HasMark search.old.entries.items place (Mark.Opened pattern) }
     ensures { OnOk result (IsSplitAt place pattern search.old search.new) }

@@ -25,21 +25,21 @@ use tt_proof_read::Node;
 use tt_search::{Unwatched, Watch};
 use tt_table::Timetable;
 
-/// What a search found.
+/// The result of a search.
 #[derive(Drop)]
 pub struct Outcome {
-    /// The best timetable without a broken hard rule.
+    /// The best timetable that breaks no hard rule.
     pub best: Option<Timetable>,
-    /// What the proof shows of every timetable without a broken hard rule.
+    /// The bound that the proof shows for every timetable that breaks no hard rule.
     pub bound: Bound,
     /// The nodes of the proof, in preorder.
     pub proof: Option<Vec<Node>>,
-    /// Whether each node is closed, so that the best is best among all.
+    /// Whether each node is closed, so that the best timetable is optimal.
     pub finished: bool,
 }
 
-/// What the proof of a search shows: of a finished one that nothing is better than the best, else what
-/// the cheapest Cost leaf is worth.
+/// Returns the bound that the proof of a search shows: if it is finished, that no timetable is better than the best; otherwise the least
+/// value of a Cost leaf.
 fn shown(best: &Option<Best>, least: Option<u64>, finished: bool) -> Bound
     ensures { (p : Problem) → IsKept p best.now → result ≡ shown_bound (final_bound p (table_of best.now)) least finished }
 {
@@ -67,7 +67,7 @@ fn prove_bound<'i, P: Path<'i>>(
     }
 }
 
-/// The outcome of a search that has ended.
+/// Returns the outcome of a search that has ended.
 fn conclude<'i, P: Path<'i>>(
     alloc: Global,
     path: &mut P,
@@ -81,7 +81,7 @@ fn conclude<'i, P: Path<'i>>(
     requires few { limit ≤ MAX_OPENED }
     ensures { IfOk result (λ o. IsOutcome (P.problem path.old) limit o.best o.bound (option_map (λ v. v.items) o.proof) o.finished) }
 {
-    // What is true of every instance: its numbers are within the limits.
+    // In every instance, the numbers are within the limits.
     prove!(path.instance().days() <= 64);
     let Search {
         entries,
@@ -128,7 +128,7 @@ fn solve_over<'i, P: Path<'i>, W: Watch>(
     conclude(alloc, path, search, limit, finished)
 }
 
-/// Searches for a best timetable as `solve` does, and shows the search to a watch.
+/// Searches for a best timetable like `solve`, and reports the search to a watch.
 pub fn solve_watched<W: Watch>(
     alloc: Global,
     instance: &Instance<'_>,
@@ -147,8 +147,8 @@ pub fn solve_watched<W: Watch>(
 }
 
 /// Searches for a best timetable by a tree. Returns the best timetable that it found and a proof of a lower bound, of at most `nodes` nodes
-/// if each is closed, and of fewer than twice as many if not; where each is closed the cost and the bound meet, or there is no timetable
-/// without a broken hard rule. Which nodes are opened is not promised.
+/// if each is closed, and of fewer than twice as many otherwise; if each is closed, the cost and the bound are equal, or no timetable exists
+/// that breaks no hard rule. It makes no promise about which nodes are opened.
 pub fn solve(
     alloc: Global,
     instance: &Instance<'_>,

@@ -1,4 +1,4 @@
-//! Nodes that are opened.
+//! Opening nodes.
 
 ghost use Rattle.std.specs.Prelude.{◌≡◌, ◌<◌, ◌≤◌, ◌+◌, length, true, IfOk, OnOk};
 ghost use Rattle.tt_instance.specs.Problem.{Problem};
@@ -25,7 +25,7 @@ use tt_leaf_rules::{Leaf, leaf_value};
 use tt_paths::{Fact, Path, PathFault, Pattern};
 use tt_rules::score;
 
-/// Makes the facts of a path those of a node.
+/// Replaces the facts of a path by those of a node.
 pub fn go_to<'i, P: Path<'i>>(
     alloc: Global,
     path: &mut P,
@@ -46,13 +46,13 @@ pub fn go_to<'i, P: Path<'i>>(
     }
 }
 
-/// What the best claims are worth on a path, in cost points.
+/// Returns the value of the best claims on a path, in cost points.
 pub fn best_worth<'i, P: Path<'i>>(alloc: Global, path: &P) -> Result<u64, AllocError> {
     let leaf = best_claims(alloc, path)?;
     Ok(leaf_value(path, &leaf))
 }
 
-/// Makes the live cells of a path the best timetable; the leaf of the best claims, which closes the node then.
+/// Stores the live cells of a path as the best timetable; returns the leaf of the best claims, which then closes the node.
 fn take_live<'i, P: Path<'i>>(
     alloc: Global,
     path: &P,
@@ -64,7 +64,7 @@ fn take_live<'i, P: Path<'i>>(
     ensures known { IfOk result (λ leaf. IsKnown (P.problem path.now) (table_of best.new) (P.facts path.now) (Mark.Closed leaf)) }
     ensures better { OnOk result (Advances (P.problem path.now) best.old best.new) }
 {
-    // What is true of every instance: there are few lectures.
+    // In every instance, the number of lectures is limited.
     prove!(path.instance().days() <= 64);
     let table = live_table(alloc, path)?;
     let leaf = best_claims(alloc, path)?;
@@ -73,14 +73,14 @@ fn take_live<'i, P: Path<'i>>(
     Ok(leaf)
 }
 
-/// What opening a node came to.
+/// The result of opening a node.
 #[derive(Drop)]
 struct Opening {
     mark: Mark,
     key: u64,
 }
 
-/// A node that a leaf closes.
+/// Creates the result of a node that a leaf closes.
 fn closed(leaf: Leaf) -> Opening
     ensures { result.mark ≡ Mark.Closed leaf }
 {
@@ -90,7 +90,7 @@ fn closed(leaf: Leaf) -> Opening
     }
 }
 
-/// Opens the node of a path: a leaf that closes it, or the pattern by which it will be split.
+/// Opens the node of a path: returns a leaf that closes it, or the pattern by which it will be split.
 fn open<'i, P: Path<'i>>(
     alloc: Global,
     path: &P,
@@ -118,7 +118,7 @@ fn open<'i, P: Path<'i>>(
     Ok(closed(leaf))
 }
 
-/// How much more than this many points the best claims are worth after one more fact.
+/// Returns by how much the value of the best claims after another fact exceeds this many points.
 fn rise<'i, P: Path<'i>>(
     alloc: Global,
     path: &mut P,
@@ -137,7 +137,7 @@ fn rise<'i, P: Path<'i>>(
     Ok(worth.saturating_sub(points))
 }
 
-/// How much more the children of a node will be worth, if it will be split.
+/// Returns by how much the values of a node's children will exceed its own, if it will be split.
 fn rises_of<'i, P: Path<'i>>(
     alloc: Global,
     path: &mut P,

@@ -1,11 +1,11 @@
-//! Showing a search to a watch.
+//! Reporting a search to a watch.
 
 use crate::search::Search;
 use tt_search::{Pair, Progress, Unit, Watch};
 use tt_table::Entry;
 
-/// Shows a search that has opened this many nodes, and whose cheapest open node is at a place: what that node is worth bounds every
-/// timetable that is cheaper than the best.
+/// Reports a search that has opened this many nodes, with the place of the open node of the least value: that value is a lower bound for every
+/// timetable that costs less than the best.
 pub fn show<W: Watch>(watch: &mut W, search: &Search, place: usize, opened: u32, limit: u32) {
     let bound = search.entries.get(place).map(|entry| entry.key);
     let best = search.best.as_ref();

@@ -1,4 +1,4 @@
--- Bits that are taken away word by word.
+-- Bits that are removed word by word.
 use Rattle.std.proofs.Common.{◌≡◌, ℕ, ◌+◌, ◌*◌, ◌/◌, ◌%◌, ◌<◌, Bool, true, false, not, ◌&&◌, ◌||◌, List, length, Option, refl, sym, ap, ◌∙◌, arith, inl, inr, eq-eqb, ne_eqb}
 use Rattle.std.specs.Prelude.{◌==◌, nat_lt, slice_set, slice_index_or}
 use Rattle.std.proofs.lemmas.Bool.{cases_eq, and_parts, and_from, eqb-true, lt-ltb, ltb-true, false_from_ne_true, le-ltb}
@@ -79,7 +79,7 @@ module _ (p : Problem) (old : List ℕ) where
     bits = λ b q. z.bits b q ∙ ap (λ t. t && not (h b)) (a.bits b q) ∙ taken_twice (is_set p old b) (g b) (h b) ∙ ap (λ t. is_set p old b && not t) (e b q);
   }
 
-  -- one block more of a course in a period
+  -- another block of a course in a period
   pub block_dropped : (c d s n mask : ℕ) (lost : ℕ → ℕ → Bool) (mid new : List ℕ) → c < length p.courses → d < p.days → s < p.periods → n < width p
       → Drops p old mid (λ b. is_here c d s b && nat_lt b.block n && lost b.block b.number) → Drops p mid new (λ b. is_here c d s b && (b.block == n) && has_bit mask b.number) → ((k : ℕ) → k < 64 → has_bit mask k ≡ lost n k)
       → Drops p old new (λ b. is_here c d s b && nat_lt b.block (n + 1) && lost b.block b.number)
@@ -98,7 +98,7 @@ module _ (p : Problem) (old : List ℕ) where
             (λ t. let l = ltb-true b.block (n + 1) t in lt-ltb b.block n (omega (arith, e))))
       ]
 
-  -- what is dropped of a table, as cells
+  -- the bits removed from a table, as cells
   pub loses_from : (new : List ℕ) (g : Bit → Bool) (h : Cell → Bool) → IsTable p old → Drops p old new g → ((x : Cell) → InRange p x → g (bit_of x) ≡ h x) → Loses p old h new
   unfolding has_cell
   loses_from new g h t a e = record {

@@ -1,4 +1,4 @@
--- The first table: all cells, and then each unavailability taken out.
+-- The first table: all cells, with the cells of each unavailability removed.
 use Rattle.std.proofs.Common.{◌≡◌, ℕ, ◌+◌, ◌-◌, ◌*◌, ◌%◌, ◌<◌, Bool, true, false, not, ◌&&◌, ◌||◌, List, [], ◌∷◌, ◌++◌, length, take, refl, sym, ap, ◌∙◌, arith, inl, inr, subst, length-append}
 use Rattle.std.specs.Prelude.{◌==◌, nat_lt, slice_get, slice_index_or, Some}
 use Rattle.std.specs.List.{list_any}
@@ -21,7 +21,7 @@ use Rattle.tt_cell_set.specs.Tables.{has_cell, Shows, Loses, is_placed}
 use Rattle.tt_cell_set.specs.First.{AreFull}
 use Rattle.tt_cell_set.proofs.Grid.{word_within, bit_within, room_back}
 
--- no unavailability of these is the cell's
+-- the unavailability is for the cell's course and period
 abbrev pub bars_at : Cell → Bar → Bool
 bars_at x b = (b.course == x.course) && (b.day == x.day) && (b.period == x.period)
 
@@ -70,7 +70,7 @@ module _ (p : Problem) (full : List ℕ) (a : AreFull p full (size p)) where
         ∙ set_if_room (bit_of x) (bit_within p x h) ∙ ap (λ r. nat_lt r (length p.rooms)) (room_back x.room) ∙ lt-ltb x.room (length p.rooms) h.room;
   }
 
--- ---- one unavailability more
+-- -- another unavailability
 
 one_bar : (bars : List Bar) (b : Bar) (x : Cell) → is_open_by (bars ++ b ∷ []) x ≡ (is_open_by bars x && not (bars_at x b))
 one_bar bars b x = ap not (list_any-append (bars_at x) bars (b ∷ []) ∙ ap (λ v. list_any (bars_at x) bars || v) (or-false (bars_at x b))) ∙ neither (list_any (bars_at x) bars) (bars_at x b)
@@ -90,7 +90,7 @@ module _ (p : Problem) (bars : List Bar) (b : Bar) (words : List ℕ) (a : Shows
           ∙ ap (λ v. (b.course == x.course) && v && (x.period == b.period)) (same_test x.day b.day b.day x.day sym sym)
           ∙ ap (λ v. (b.course == x.course) && (b.day == x.day) && v) (same_test x.period b.period b.period x.period sym sym)
 
-  -- one of a course or period that is not there
+  -- an unavailability whose course, day or period is out of range
   pub bar_out : ((b.course < length p.courses) × (b.day < p.days) × (b.period < p.periods) → ⊥) → Shows p (is_open_by (bars ++ b ∷ [])) words
   bar_out out = record {
     table = a.table;

@@ -1,4 +1,4 @@
--- Where words stand: each bit of a table has one.
+-- The place of words: each bit of a table has a word.
 use Rattle.std.proofs.Common.{◌≡◌, ℕ, zero, suc, ◌+◌, ◌*◌, ◌/◌, ◌%◌, ◌<◌, ◌≤◌, length, arith, subst, sym, ap, ◌∙◌}
 use Rattle.std.proofs.Math.Nat.{mul_comm}
 use Rattle.std.proofs.lemmas.Nat.{mul-add-lt, mod-mul-add, div-mul-add}
@@ -24,7 +24,7 @@ module _ (p : Problem) where
   pub word_within : (b : Bit) → IsBit p b → place p b.course b.day b.period + b.block < size p
   word_within b h = within_row ((b.course * p.days + b.day) * p.periods + b.period) (width p) b.block (length p.courses * p.days * p.periods) (within_slots b.course b.day b.period (length p.courses) p.days p.periods h.course h.day h.period) h.block
 
-  -- one word is of one course, period and block
+  -- a word belongs to only one course, period and block
   pub same_word : (b e : Bit) → IsBit p b → IsBit p e → place p b.course b.day b.period + b.block ≡ place p e.course e.day e.period + e.block → (b.course ≡ e.course) × (b.day ≡ e.day) × (b.period ≡ e.period) × (b.block ≡ e.block)
   same_word b e hb he q =
       let w = width p in

@@ -1,4 +1,4 @@
--- What words say of the cells of a course in a period.
+-- What words say about the cells of a course in a period.
 use Rattle.std.proofs.Common.{◌≡◌, ℕ, ◌+◌, ◌*◌, ◌/◌, ◌%◌, ◌<◌, ◌≤◌, Bool, true, false, ◌&&◌, List, [], ◌∷◌, length, refl, sym, ap, ◌∙◌, arith, inl, inr}
 use Rattle.std.specs.List.{list_any, list_all}
 use Rattle.std.proofs.lemmas.Bool.{cases_lt, both_ways}
@@ -18,7 +18,7 @@ use Rattle.tt_cell_set.specs.Words.{width, is_set, in_force}
 use Rattle.tt_cell_set.specs.Tables.{has_cell, IsTable}
 use Rattle.tt_cell_set.proofs.Grid.{block_back, number_back, room_back, block_within}
 
--- a test of the numbers below a bound, with one number more
+-- a test of the numbers below a bound, with another number
 pub all_next : (t : ℕ → Bool) (n : ℕ) → list_all t (range_below (n + 1)) ≡ (list_all t (range_below n) && t n)
 all_next t n = ap (list_all t) (range_below_more n) ∙ list_all-append t (range_below n) (n ∷ []) ∙ ap (λ b. list_all t (range_below n) && b) (and-true (t n))
 
@@ -30,7 +30,7 @@ module _ (p : Problem) where
       ap (λ i. in_force p words && is_set p words (record { course = c; day = d; period = s; block = i; number = (w * 64 + k) % 64 })) (block_back w k h)
       ∙ ap (λ i. in_force p words && is_set p words (record { course = c; day = d; period = s; block = w; number = i })) (number_back w k h)
 
-  -- no table has a room that is not there
+  -- no table has a room that is out of range
   pub spare-cell : (words : List ℕ) (c d s w k : ℕ) → IsTable p words → c < length p.courses → d < p.days → s < p.periods → w < width p → k < 64 → length p.rooms ≤ w * 64 + k → has_cell p words (cell c (w * 64 + k) (slot d s)) ≡ false
   spare-cell words c d s w k t hc hd hs hw hk past =
       cell-bit words c d s w k hk

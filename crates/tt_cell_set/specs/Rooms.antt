@@ -1,5 +1,5 @@
--- Only proofs rest on this file: nobody has to believe it.
--- Sets of rooms that are none, one or all.
+-- Not part of the trusted statement: only proofs use this file.
+-- Sets of rooms: no room, one room or all rooms.
 use Rattle.std.specs.Prelude.{ℕ, ◌==◌, Bool, true, false}
 use Rattle.tt_cell_set.specs.declared.rooms.Rooms.{Rooms}
 use Rattle.tt_cell_set.specs.declared.rooms.Rooms.TheVariants.{All, One, Nothing}

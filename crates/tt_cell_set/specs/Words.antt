@@ -1,15 +1,15 @@
--- Only proofs rest on this file: nobody has to believe it.
--- How a table of cells lies in words of 64 bits. Nobody has to believe this: what a table has is said by has_cell alone.
+-- Not part of the trusted statement: only proofs use this file.
+-- The layout of a table of cells in words of 64 bits. Only `has_cell` says what a table has.
 use Rattle.std.specs.Prelude.{◌≡◌, ℕ, ◌+◌, ◌*◌, ◌/◌, ◌%◌, ◌<◌, ◌==◌, Bool, not, ◌&&◌, List, length, slice_index_or}
 use Rattle.tt_instance.specs.Problem.{Problem}
 use Rattle.tt_instance.specs.declared.cell.Cell.{Cell}
 use Rattle.tt_bits.specs.Bits.{has_bit}
 
--- how many words the rooms take
+-- The number of words for the rooms.
 abbrev pub width : Problem → ℕ
 width p = (length p.rooms + 63) / 64
 
--- one bit: a course, a day and a period, and a bit of one of the words of rooms there
+-- One bit: a course, a day and a period, and a bit of one of the words of rooms there.
 pub record Bit : Type 0 where
   pub course : ℕ
   pub day : ℕ
@@ -24,11 +24,11 @@ pub record IsBit (p : Problem) (b : Bit) : Type 0 where
   pub block : b.block < width p
   pub number : b.number < 64
 
--- where the words of a course in a period begin
+-- The place at which the words of a course in a period begin.
 abbrev pub place : Problem → ℕ → ℕ → ℕ → ℕ
 place p c d s = ((c * p.days + d) * p.periods + s) * width p
 
--- how many words of rooms there are; after them stands one word more
+-- The number of words of rooms; another word follows them.
 abbrev pub size : Problem → ℕ
 size p = length p.courses * p.days * p.periods * width p
 
@@ -44,14 +44,14 @@ word_at p words c d s w = slice_index_or words (place p c d s + w) 0
 abbrev pub is_set : Problem → List ℕ → Bit → Bool
 is_set p words b = has_bit (word_at p words b.course b.day b.period b.block) b.number
 
--- the last word is 0 as long as the bits are in force
+-- The last word is 0 as long as the bits are in force.
 abbrev pub in_force : Problem → List ℕ → Bool
 in_force p words = slice_index_or words (size p) 0 == 0
 
 abbrev pub is_here : ℕ → ℕ → ℕ → Bit → Bool
 is_here c d s b = (b.course == c) && (b.day == d) && (b.period == s)
 
--- the bits that are gone have been taken away, and nothing else
+-- Exactly the bits that are gone have been removed.
 pub record Drops (p : Problem) (old new : List ℕ) (gone : Bit → Bool) : Type 0 where
   pub len : length new ≡ length old
   pub last : slice_index_or new (size p) 0 ≡ slice_index_or old (size p) 0

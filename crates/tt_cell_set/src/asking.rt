@@ -1,4 +1,4 @@
-//! What a table has.
+//! Queries of a table.
 
 ghost use Rattle.std.specs.Prelude.{◌≡◌, ◌<◌, ◌+◌, ◌*◌, ◌==◌, ◌||◌, ◌&&◌, ℕ, not, nat_lt, length, None};
 ghost use Rattle.std.specs.List.{list_any, list_all};
@@ -15,7 +15,7 @@ use tt_bits::{has_bit, is_empty, with_if};
 use tt_instance::{Cell, Instance};
 use tt_trail::Trail;
 
-/// Whether the table has a cell.
+/// Returns whether the table has a cell.
 pub fn has_cell(instance: &Instance<'_>, table: &Trail, cell: Cell) -> bool
     requires cell { InRange instance.now cell }
     requires table { IsTable instance.now table.now.words }
@@ -32,7 +32,7 @@ pub fn has_cell(instance: &Instance<'_>, table: &Trail, cell: Cell) -> bool
     has_bit(word, cell.room % 64)
 }
 
-/// Whether one of the words of rooms has some of these cells.
+/// Returns whether one of the words of rooms has some of these cells.
 fn has_block(
     instance: &Instance<'_>,
     table: &Trail,
@@ -72,7 +72,7 @@ fn has_blocks(
     (0..width(instance)).any(|block| has_block(instance, table, room, course, day, period, block))
 }
 
-/// Whether the table has some cell of the course in the period, in the given room if one is given.
+/// Returns whether the table has some cell of the course in the period, in the given room if one is given.
 #[inline(always)]
 pub fn has_period(
     instance: &Instance<'_>,
@@ -92,7 +92,7 @@ pub fn has_period(
     has_blocks(instance, table, room, course, day, period)
 }
 
-/// The periods of a day in which the table has some cell of the course, as a set.
+/// Returns the periods of a day in which the table has some cell of the course, as a set.
 pub fn periods_of(instance: &Instance<'_>, table: &Trail, course: u32, day: u32) -> u64
     requires course { course < length instance.now.courses }
     requires day { day < instance.now.days }
@@ -108,7 +108,7 @@ pub fn periods_of(instance: &Instance<'_>, table: &Trail, course: u32, day: u32)
     periods
 }
 
-/// The rooms that are each room of the course's cells in the period, in the given room if one is given.
+/// Returns the rooms that equal each room of the course's cells in the period, in the given room if one is given.
 #[inline(always)]
 pub fn common_rooms(
     instance: &Instance<'_>,

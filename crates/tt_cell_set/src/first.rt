@@ -13,7 +13,7 @@ use tt_bits::below;
 use tt_instance::Instance;
 use tt_trail::Trail;
 
-/// The words of a table that has all cells.
+/// Creates the words of a table that has all cells.
 fn full_words(alloc: Global, instance: &Instance<'_>) -> Result<Vec<u64>, AllocError>
     ensures { IfOk result (λ v. AreFull instance.now v.items (size instance.now)) }
 {
@@ -30,7 +30,7 @@ fn full_words(alloc: Global, instance: &Instance<'_>) -> Result<Vec<u64>, AllocE
     Ok(words)
 }
 
-/// A table of the cells whose period is available to their course.
+/// Creates a table of the cells whose period is available to their course.
 pub fn first_table(alloc: Global, instance: &Instance<'_>) -> Result<Trail, AllocError>
     ensures shows { IfOk result (λ t. Shows instance.now
         (λ x. not (unavailable instance.now x.course x.day x.period)) t.words) }

@@ -1,4 +1,4 @@
-//! Tables of cells: a bit for each course, period and room, in words that a trail keeps.
+//! Tables of cells: a bit for each course, period and room, in words that a trail stores.
 #![tactic(auto)]
 
 mod asking;

@@ -1,4 +1,4 @@
-//! Where the words of rooms stand.
+//! The places of the words of rooms.
 
 ghost use Rattle.std.specs.Prelude.{◌≡◌, ◌<◌, ◌≤◌, ◌+◌, ◌*◌, ℕ, length};
 ghost use Rattle.tt_instance.specs.Cells.{slot, cell};
@@ -11,7 +11,7 @@ use tt_bits::{both, one};
 use tt_instance::Instance;
 use tt_trail::Trail;
 
-/// How many words the rooms take.
+/// Returns how many words the rooms take.
 pub fn width(instance: &Instance<'_>) -> u32
     ensures value { result ≡ width instance.now }
     ensures within { result ≤ 8 }
@@ -19,7 +19,7 @@ pub fn width(instance: &Instance<'_>) -> u32
     (instance.rooms() + 63) / 64
 }
 
-/// Where a word of rooms of a course in a period stands.
+/// Returns the place of a word of rooms of a course in a period.
 pub fn place(instance: &Instance<'_>, course: u32, day: u32, period: u32, block: u32) -> usize
     requires course { course < length instance.now.courses }
     requires day { day < instance.now.days }
@@ -39,7 +39,7 @@ pub fn place(instance: &Instance<'_>, course: u32, day: u32, period: u32, block:
     slot * width as usize + block as usize
 }
 
-/// The bits of a block that are the given room's, and all where none is given.
+/// Returns the bits of a block that are the given room's, or all bits if no room is given.
 pub fn allowed(room: Option<u32>, block: u32) -> u64
     ensures { (k : ℕ) → k < 64 → has_bit result k ≡ agrees room (block * 64 + k) }
 {
@@ -50,7 +50,7 @@ pub fn allowed(room: Option<u32>, block: u32) -> u64
     }
 }
 
-/// A word of rooms of a course in a period, as far as it is in force.
+/// Returns a word of rooms of a course in a period, or 0 if the bits aren't in force.
 pub fn cells_word(
     instance: &Instance<'_>,
     table: &Trail,
@@ -74,7 +74,7 @@ pub fn cells_word(
     }
 }
 
-/// The same, of the given room alone if one is given.
+/// Returns a word of rooms of a course in a period, only with the given room if one is given, or 0 if the bits aren't in force.
 pub fn open_word(
     instance: &Instance<'_>,
     table: &Trail,

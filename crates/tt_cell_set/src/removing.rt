@@ -1,4 +1,4 @@
-//! Cells taken out of a table.
+//! Removing cells from a table.
 
 ghost use Rattle.std.specs.Prelude.{◌≡◌, ◌<◌, ◌&&◌, true, not, length, OnOk, OnErr};
 ghost use Rattle.tt_paths.specs.Facts.{agrees};
@@ -10,7 +10,7 @@ use tt_bits::{clear, others};
 use tt_instance::Instance;
 use tt_trail::Trail;
 
-/// Takes away the course's cells in a period, in the given room if one is given.
+/// Removes the course's cells in a period, in the given room if one is given.
 #[inline(always)]
 pub fn remove_rooms(
     instance: &Instance<'_>,
@@ -38,7 +38,7 @@ pub fn remove_rooms(
     Ok(())
 }
 
-/// Takes away the course's cells in a period but those that another table has, in the given room if one is given.
+/// Removes the course's cells in a period except those that another table has, in the given room if one is given.
 #[inline(always)]
 pub fn keep_rooms(
     instance: &Instance<'_>,
@@ -70,7 +70,7 @@ pub fn keep_rooms(
     Ok(())
 }
 
-/// Takes all cells away, at one write.
+/// Removes all cells, with a single write.
 pub fn remove_all(instance: &Instance<'_>, table: &mut Trail) -> Result<(), AllocError>
     requires table { IsTable instance.now table.old.words }
     ensures ok { OnOk result (Loses instance.now table.old.words (λ x. true) table.new.words) }

@@ -1,4 +1,4 @@
-//! Sets of rooms that are none, one or all.
+//! Sets of rooms: no room, one room or all rooms.
 
 ghost use Rattle.std.specs.Prelude.{◌≡◌, ◌+◌, ◌*◌, ◌<◌, ◌==◌, ◌&&◌, ℕ};
 ghost use Rattle.tt_bits.specs.Bits.{each_bit};
@@ -15,7 +15,7 @@ pub enum Rooms {
 }
 
 impl Rooms {
-    /// The rooms that are in both sets.
+    /// Returns the rooms that are in both sets.
     pub fn both(self, other: Rooms) -> Rooms
         ensures { (r : ℕ) → has_room result r ≡ (has_room self r && has_room other r) }
     {
@@ -28,7 +28,7 @@ impl Rooms {
     }
 }
 
-/// The rooms that are each room of a word: all where it has none, and none where it has two.
+/// Returns the rooms that equal each room of a word: all if it has none, and none if it has two.
 pub fn common_of(word: u64, block: u32) -> Rooms
     requires { block < 64 }
     ensures { (r : ℕ) → has_room result r ≡ each_bit word (λ k. block * 64 + k == r) }

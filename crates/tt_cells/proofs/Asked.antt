@@ -1,4 +1,4 @@
--- What the table of live cells answers.
+-- The answers of the table of live cells.
 use Rattle.std.proofs.Common.{◌≡◌, ℕ, ◌+◌, ◌*◌, inl, inr, ◌<◌, not, ◌&&◌, List, [], length, None, refl, sym, ap, ◌∙◌, arith}
 use Rattle.std.specs.Prelude.{nat_lt}
 use Rattle.std.proofs.lemmas.Bool.{cases_lt, lt-ltb, le-ltb}

@@ -1,4 +1,4 @@
--- Cells of a pattern that are taken away period by period and course by course.
+-- Cells of a pattern that are removed period by period and course by course.
 use Rattle.std.proofs.Common.{◌≡◌, ℕ, ◌+◌, ◌*◌, ◌/◌, ◌%◌, ◌<◌, ◌≤◌, Bool, true, false, ◌&&◌, ◌||◌, List, [], ◌∷◌, ◌++◌, length, take, refl, sym, ap, ◌∙◌, arith, inl, inr, eq-eqb}
 use Rattle.std.specs.Prelude.{◌==◌, nat_lt, slice_index_or}
 use Rattle.std.proofs.lemmas.Bool.{and_parts, and_from, eqb-true, cases_lt, or_cases, or_left, or_right, lt-ltb, ltb-true, both_ways, false_from_ne_true}
@@ -38,7 +38,7 @@ module _ (p : Problem) (g : Pattern) (c n : ℕ) (x : Cell) (h : InRange p x) wh
       let q = at_slot e in
       and_from (agrees g.day (n / p.periods)) (agrees g.period (n % p.periods)) (ap (agrees g.day) (sym q.0) ∙ v.1) (ap (agrees g.period) (sym q.1) ∙ u.1)
 
-  -- a period that the pattern does not allow
+  -- a period that the pattern doesn't allow
   pub slot_skipped : allows p g n ≡ false → is_gone p g c n x ≡ is_gone p g c (n + 1) x
   slot_skipped barred = same_truth (is_gone p g c n x) (is_gone p g c (n + 1) x)
       (λ e.
@@ -54,7 +54,7 @@ module _ (p : Problem) (g : Pattern) (c n : ℕ) (x : Cell) (h : InRange p x) wh
         | inr k ↦ absurd (both_ways (allows p g n) barred (allowed (omega arith) b.1))
       ])
 
-  -- a period that it allows
+  -- a period that the pattern allows
   pub slot_gone : allows p g n ≡ true → (is_gone p g c n x || (is_placed c (n / p.periods) (n % p.periods) x && agrees g.room x.room)) ≡ is_gone p g c (n + 1) x
   slot_gone open_there = same_truth (is_gone p g c n x || (is_placed c d s x && agrees g.room x.room)) (is_gone p g c (n + 1) x) there back
     where
@@ -107,7 +107,7 @@ none_gone p g c from to x h covers = false_from_ne_true (is_gone p g c from x) (
     let l = ltb-true (slot_number p x) from a.1 in
     omega arith)
 
--- after the last
+-- after the last period that the pattern allows
 pub all_gone : (p : Problem) (g : Pattern) (c from to n : ℕ) (x : Cell) → InRange p x → Covers p g from to → to ≤ n → is_gone p g c n x ≡ ((x.course == c) && agrees_at g x)
 all_gone p g c from to n x h covers past = same_truth (is_gone p g c n x) ((x.course == c) && agrees_at g x)
     (λ e. (and_parts ((x.course == c) && agrees_at g x) (nat_lt (slot_number p x) n) e).0)
@@ -137,7 +137,7 @@ course_gone ks k c z =
     turned : (a b : ℕ) → (a == b) ≡ (b == a)
     turned a b = same_truth (a == b) (b == a) (λ e. eq-eqb b a (sym (eqb-true a b e))) (λ e. eq-eqb a b (sym (eqb-true b a e)))
 
--- a course that is not there has no cell
+-- a course that is out of range has no cell
 pub course_absent : (p : Problem) (ks : List ℕ) (k : ℕ) (x : Cell) (z : Bool) → InRange p x → length p.courses ≤ k → (has_number ks x.course && z) ≡ (has_number (ks ++ k ∷ []) x.course && z)
 course_absent p ks k x z h past =
     sym (none (has_number ks x.course && z) ((x.course == k) && z) (false_from_ne_true ((x.course == k) && z) (λ e. let q = eqb-true x.course k (and_parts (x.course == k) z e).0 in let l = h.course in omega arith)))
@@ -161,7 +161,7 @@ module _ (p : Problem) (g : Pattern) (ks : List ℕ) (i : ℕ) (hi : i < length 
   pub course_past : InRange p x → length p.courses ≤ slice_index_or ks i 0 → (has_number (take i ks) x.course && agrees_at g x) ≡ (has_number (take (i + 1) ks) x.course && agrees_at g x)
   course_past h past = course_absent p (take i ks) (slice_index_or ks i 0) x (agrees_at g x) h past ∙ ap (λ l. has_number l x.course && agrees_at g x) (sym (take_more ks i 0 hi))
 
--- the same, of a course in one period
+-- the cells of a course in one period: the test regrouped
 placed_split : (c a b : Bool) → (c && a && b && true) ≡ (c && (a && b))
 placed_split true true true = refl
 placed_split true true false = refl

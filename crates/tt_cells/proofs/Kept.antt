@@ -1,4 +1,4 @@
--- Tables that were kept before each fact.
+-- Tables that were stored before each fact.
 use Rattle.std.proofs.Common.{◌≡◌, ℕ, ◌+◌, ◌<◌, ◌≤◌, List, [], ◌∷◌, ◌++◌, length, take, refl, sym, ap, ◌∙◌, arith, inl, inr, subst, length-append}
 use Rattle.std.specs.Prelude.{slice_index_or}
 use Rattle.std.proofs.lemmas.List.{take-append-le, get_or_push, get_or_append_left}
@@ -8,7 +8,7 @@ use Rattle.tt_instance.specs.Problem.{Problem}
 use Rattle.tt_paths.specs.declared.facts.Fact.{Fact}
 use Rattle.tt_cells.specs.Shown.{AreTables, AreEarlier}
 
--- the tables of one place, with the lists that they are taken from replaced by equal ones
+-- the tables at one place, with the lists that they come from replaced by equal ones
 moved : (p : Problem) (a b : List Fact) (f g l m : List ℕ) → a ≡ b → f ≡ g → l ≡ m → AreTables p a f l → AreTables p b g m
 moved p a b f g l m q r s t = subst (λ x. AreTables p b g x) s (subst (λ x. AreTables p b x l) r (subst (λ x. AreTables p x f l) q t))
 

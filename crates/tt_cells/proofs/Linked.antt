@@ -1,4 +1,4 @@
--- One course that has two free rooms in the period: only the courses lose that conflict with it.
+-- If one course has two free rooms in the period, only the courses that conflict with it lose cells.
 use Rattle.std.proofs.Common.{◌≡◌, ℕ, ◌<◌, Bool, true, false, not, ◌&&◌, ◌||◌, List, [], ◌∷◌, length, refl, sym, ap, ◌∙◌, arith, inl, inr, eq-eqb, ne_eqb}
 use Rattle.std.specs.Prelude.{◌==◌, slice_index_or}
 use Rattle.std.specs.List.{list_all}
@@ -23,18 +23,18 @@ list_of_one [] e = absurd (omega arith)
 list_of_one (x ∷ []) e = refl
 list_of_one (x ∷ y ∷ ys) e = absurd (omega arith)
 
--- What course k takes where it has to have one of its free rooms, which are each of the lost ones: its own cells in other rooms, the
--- period from those that conflict with it, and the lost rooms from all others.
+-- The cells that course k takes if it must have one of its free rooms, each of which equals each of the lost rooms: its own cells in other
+-- rooms, the period from the courses that conflict with it, and the lost rooms from all other courses.
 module _ (p : Problem) (free : List ℕ) (g : Pattern) (d s k : ℕ) (hk : k < length p.courses) (lost : ℕ → Bool) (common : (r : ℕ) → lost r ≡ list_all (λ i. not (is_open p free g.room k d s i) || (i == r)) (all_rooms p)) (x : Cell) (h : InRange p x) where
-  -- a course that conflicts with it
+  -- the cell is in the period and its course conflicts with k
   abbrev beaten : Bool
   beaten = has_number (conflicts_of p k) x.course && ((x.day == d) && (x.period == s))
 
-  -- a lost room of another
+  -- the cell is in a lost room, and of another course
   abbrev taken : Bool
   taken = (x.day == d) && (x.period == s) && (not (x.course == k) && lost x.room)
 
-  -- its own cells
+  -- the cell is one of k's own that isn't free
   abbrev left : Bool
   left = is_placed k d s x && not (has_cell p free x && agrees g.room x.room)
 
@@ -93,7 +93,7 @@ module _ (p : Problem) (free : List ℕ) (g : Pattern) (d s k : ℕ) (hk : k < l
   pub struck_beside : ((beaten || taken) || left) ≡ is_struck p free g d s (k ∷ []) x
   struck_beside = elim (cases_eq x.course k) [ inl e ↦ own e | inr e ↦ other e ]
 
--- where it has two free rooms, none is lost
+-- if the course has two free rooms, no room is lost
 pub struck_by_links : (p : Problem) (free : List ℕ) (g : Pattern) (d s k : ℕ) → k < length p.courses → ((r : ℕ) → false ≡ list_all (λ i. not (is_open p free g.room k d s i) || (i == r)) (all_rooms p)) → (x : Cell) → InRange p x
     → ((has_number (conflicts_of p k) x.course && ((x.day == d) && (x.period == s))) || (is_placed k d s x && not (has_cell p free x && agrees g.room x.room))) ≡ is_struck p free g d s (k ∷ []) x
 struck_by_links p free g d s k hk several x h =

@@ -1,4 +1,4 @@
--- Tables that lose cells one after another.
+-- Tables that lose cells in turn.
 use Rattle.std.proofs.Common.{◌≡◌, ℕ, zero, suc, ◌+◌, ◌<◌, length, Bool, true, false, not, ◌&&◌, ◌||◌, List, [], ◌∷◌, take, refl, sym, ap, ◌∙◌, arith, inl, inr, eq-eqb, ne_eqb}
 use Rattle.std.specs.Prelude.{◌==◌, nat_lt, slice_index_or}
 use Rattle.std.specs.List.{list_all}
@@ -10,7 +10,7 @@ use Rattle.tt_instance.specs.Cells.{InRange}
 use Rattle.tt_instance.specs.declared.cell.Cell.{Cell}
 use Rattle.tt_cell_set.specs.Tables.{has_cell, IsTable, Shows, Loses, is_placed}
 
--- one number more below a bound
+-- another number below a bound
 pub below_next : (k n : ℕ) → nat_lt k (n + 1) ≡ (nat_lt k n || (k == n))
 below_next k n = elim (cases_eq k n) [
   | inl e ↦ lt-ltb k (n + 1) (omega arith) ∙ sym (ap (λ b. b || (k == n)) (le-ltb k n (omega arith)) ∙ eq-eqb k n e)
@@ -24,7 +24,7 @@ placed_at c d s x e =
     let v = and_parts (x.course == c) (x.day == d) u.0 in
     (eqb-true x.course c v.0, eqb-true x.day d v.1, eqb-true x.period s u.1)
 
--- a test that one of the first numbers fails
+-- if one of the first numbers fails a test, the test of all fails
 pub failed_within : (t : ℕ → Bool) (i : ℕ) (xs : List ℕ) → i < length xs → (list_all t (take i xs) && t (slice_index_or xs i 0)) ≡ false → list_all t xs ≡ false
 failed_within t i [] l e = absurd (omega arith)
 failed_within t zero (x ∷ xs) l e = ap (λ b. b && list_all t xs) e
@@ -34,7 +34,7 @@ failed_within t (suc i) (x ∷ xs) l e = by_test (t x) (failed_within t i xs (om
     by_test true f e = f e
     by_test false f e = refl
 
--- where a test holds two others are the same
+-- two values that agree if a test passes, together with that test
 pub both_where : (a b c : Bool) → (a ≡ true → b ≡ c) → (a && b) ≡ (a && c)
 both_where true b c h = h refl
 both_where false b c h = refl
@@ -58,7 +58,7 @@ module _ (p : Problem) (old : List ℕ) where
   pub shows-same : (t u : Cell → Bool) → Shows p t old → ((x : Cell) → InRange p x → t x ≡ u x) → Shows p u old
   shows-same t u a e = record { table = a.table; cells = λ x h. a.cells x h ∙ e x h }
 
--- ---- one course more
+-- -- another course
 
 or_same : (q : Bool) → (q || q) ≡ q
 or_same true = refl

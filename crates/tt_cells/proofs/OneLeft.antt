@@ -1,4 +1,4 @@
--- Whether one course has a free room in a period, by what is common to its free rooms.
+-- Whether one course has a free room in a period, from the rooms that equal each of its free rooms.
 use Rattle.std.proofs.Common.{◌≡◌, ℕ, ◌+◌, ◌<◌, Bool, true, false, not, ◌&&◌, ◌||◌, List, [], ◌∷◌, length, refl, sym, ap, ◌∙◌, arith, ne_eqb, lt-ltb}
 use Rattle.std.specs.Prelude.{◌==◌, nat_lt}
 use Rattle.std.specs.List.{list_all, list_any}
@@ -27,7 +27,7 @@ module _ (p : Problem) (free : List ℕ) (g : Pattern) (d s k : ℕ) where
   left_by : k < length p.courses → is_left p free g d s (k ∷ []) ≡ list_any open_room (all_rooms p)
   left_by hk = or-false (nat_lt k (length p.courses) && list_any open_room (all_rooms p)) ∙ ap (λ b. b && list_any open_room (all_rooms p)) (lt-ltb k (length p.courses) hk)
 
-  -- each room is the only one: there is none
+  -- if each room equals each of its free rooms, the course has no free room
   pub none_left : k < length p.courses → ((r : ℕ) → true ≡ only r) → is_left p free g d s (k ∷ []) ≡ false
   none_left hk each = left_by hk ∙ none_below open_room n (λ i h. false_from_ne_true (open_room i) (λ t. absurd (true_is_false (each n ∙ sym (all_stops (λ j. not (open_room j) || (j == n)) n i h (stops i h t))))))
     where
@@ -40,7 +40,7 @@ module _ (p : Problem) (free : List ℕ) (g : Pattern) (d s k : ℕ) where
       stops : (i : ℕ) → i < n → open_room i ≡ true → false ≡ (not (open_room i) || (i == n))
       stops i h t = sym (ap (λ b. not b || (i == n)) t ∙ ne_eqb i n (λ e. omega arith))
 
-  -- some room is not the only one: there is one
+  -- if some room doesn't, the course has a free room
   some_left : (r : ℕ) → k < length p.courses → false ≡ only r → is_left p free g d s (k ∷ []) ≡ true
   some_left r hk e = left_by hk ∙ by_answer (list_any open_room (all_rooms p)) refl
     where

@@ -18,12 +18,12 @@ use Rattle.tt_paths.proofs.Least.{least_more}
 
 -- ---- the least value of the numbers that pass
 
--- where there is a number, it is at least m
+-- if the number exists, it is at least m
 abbrev IsLow : Option ℕ → ℕ → Type 0
 IsLow None m = Unit {0}
 IsLow (Some k) m = m ≤ k
 
--- there is a number, at most m
+-- the number exists and is at most m
 abbrev IsHigh : Option ℕ → ℕ → Type 0
 IsHigh None m = ⊥
 IsHigh (Some k) m = k ≤ m
@@ -98,13 +98,13 @@ module _ (p : Problem) (path : List Fact) (c : ℕ) (s : Slot) where
   least_excess-none h = least_none (excess p c) live_in (length p.rooms) h
 
   module _ (rooms : List Ranked) (order : IsRoomOrder p rooms) where
-    -- a room stands somewhere in the order
+    -- each room is at some place in the order
     place_of : (r : ℕ) (d : Ranked) → r < length p.rooms → (i : ℕ) × (i < length rooms) × (get_or rooms i d ≡ ranked p r)
     place_of r d h =
         let m : Contains rooms (ranked p r) = Contains-permutation (map (ranked p) (all_rooms p)) rooms (ranked p r) order.same (r, omega (arith, length-map-range_with_len (ranked p) 0 (length p.rooms)), get_or-map-range_with_len (ranked p) 0 (length p.rooms) r r (ranked p r) h (omega arith)) in
         (m.0, m.1, get_or_default rooms m.0 d (ranked p r) m.1 ∙ m.2)
 
-    -- what stands in the order is a room with its seats
+    -- an element of the order is a room with its seats
     abbrev IsRanked : Ranked → Type 0
     IsRanked x = (x.room < length p.rooms) × (x.seats ≡ capacity p x.room)
 

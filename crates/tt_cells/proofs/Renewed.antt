@@ -1,4 +1,4 @@
--- The live cells after one fact more.
+-- The live cells after another fact.
 use Rattle.std.proofs.Common.{◌≡◌, ℕ, ◌+◌, ◌<◌, Bool, true, false, not, ◌&&◌, ◌||◌, List, [], ◌∷◌, ◌++◌, length, take, map, cond, Option, Some, None, refl, sym, ap, ◌∙◌, subst, eq-eqb}
 use Rattle.std.specs.Prelude.{Contains, filter, slice_index_or}
 use Rattle.std.specs.List.{list_any}
@@ -71,7 +71,7 @@ as_yes g = record { pattern = g; holds = true }
 
 -- ---- after a no-fact
 
--- what some of the facts exclude on a path
+-- whether some of the facts exclude the cell on a path
 abbrev pub is_shut : Problem → List Fact → List Fact → Cell → Bool
 is_shut p path some x = list_any (λ h. h.holds && excludes p path h.pattern x) some
 
@@ -84,7 +84,7 @@ already true true false h = refl
 already true false false h = refl
 already false b e h = refl
 
--- so far the live cells are those of the path but for what the no-fact matches and some of the facts exclude
+-- so far the live cells are those of the path except those that the no-fact matches or some of the facts exclude
 abbrev pub so_far : Problem → List Fact → Fact → List Fact → Cell → Bool
 so_far p path f some x = (is_live p path x && not (matches p f.pattern x)) && not (is_shut p (path ++ f ∷ []) some x)
 
@@ -99,13 +99,13 @@ module _ (p : Problem) (path : List Fact) (f : Fact) (live : List ℕ) (some : L
       ∙ ap (λ b. (is_live p path x && not (matches p f.pattern x)) && not (is_shut p (path ++ f ∷ []) some x || (b && t x))) (sym it_holds)
       ∙ ap (λ b. (is_live p path x && not (matches p f.pattern x)) && not b) (sym (shut_next p (path ++ f ∷ []) some h x)))
 
-  -- one that need not be
+  -- one fact that need not be settled again
   skip : ((x : Cell) → InRange p x → (h.holds && excludes p (path ++ f ∷ []) h.pattern x) ≡ true → is_live p path x ≡ false) → Shows p (so_far p path f (some ++ h ∷ [])) live
   skip gone = shows-same p live (so_far p path f some) (so_far p path f (some ++ h ∷ [])) shows (λ x k.
       already (is_live p path x && not (matches p f.pattern x)) (is_shut p (path ++ f ∷ []) some x) (h.holds && excludes p (path ++ f ∷ []) h.pattern x) (λ e. ap (λ b. b && not (matches p f.pattern x)) (gone x k e))
       ∙ ap (λ b. (is_live p path x && not (matches p f.pattern x)) && not b) (sym (shut_next p (path ++ f ∷ []) some h x)))
 
-  -- a yes-fact of the path that does not touch the no-fact: what it excludes is dead already
+  -- a yes-fact of the path that doesn't touch the no-fact: the cells that it excludes are dead already
   pub skipped_apart : (wanted : List Pattern) → wanted ≡ yes_facts (path ++ f ∷ []) → Contains wanted h.pattern → f.holds ≡ false → may_touch p h.pattern f.pattern ≡ false → Shows p (so_far p path f (some ++ h ∷ [])) live
   skipped_apart wanted listed member it_denies apart = skip (λ x k e.
       let a = and_parts h.holds (excludes p (path ++ f ∷ []) h.pattern x) e in
@@ -118,7 +118,7 @@ module _ (p : Problem) (path : List Fact) (f : Fact) (live : List ℕ) (some : L
       let here : list_any t path ≡ true = sym (list_any-append t path (f ∷ []) ∙ ap (λ b. list_any t path || b) (or-false (t f) ∙ ap (λ b. b && excludes p path f.pattern x) it_denies) ∙ or-false (list_any t path)) ∙ all in
       ap not (or_right (is_barred p path x) (is_excluded p path x) here))
 
--- at the end
+-- at the end, after all facts
 pub renewed_all : (p : Problem) (path : List Fact) (f : Fact) (live : List ℕ) → f.holds ≡ false → Shows p (so_far p path f (path ++ f ∷ [])) live → Shows p (is_live p (path ++ f ∷ [])) live
 renewed_all p path f live it_denies shows = shows-same p live (so_far p path f (path ++ f ∷ [])) (is_live p (path ++ f ∷ [])) shows (λ x k.
     let longer = path ++ f ∷ [] in
@@ -131,7 +131,7 @@ renewed_all p path f live it_denies shows = shows-same p live (so_far p path f (
     three false true b = refl
     three false false b = refl
 
--- ---- one fact more
+-- -- another fact
 
 pub adds_yes : (p : Problem) (wanted : List Pattern) (f : Fact) (free live new : List ℕ) → f.holds ≡ true → Settles p free live f.pattern new → Adds p wanted free live f free new
 adds_yes p wanted f free live new it_holds s = record {
@@ -165,7 +165,7 @@ module _ (p : Problem) (wanted : List Pattern) (path : List Fact) (f : Fact) (i 
   pub next_apart : wanted ≡ yes_facts (path ++ f ∷ []) → f.holds ≡ false → may_touch p (slice_index_or wanted i d) f.pattern ≡ false → Shows p (so_far p path f (map as_yes (take (i + 1) wanted))) live
   next_apart e denies apart = one_more live (skipped_apart p path f live (map as_yes (take i wanted)) (as_yes (slice_index_or wanted i d)) shows wanted e (Contains-get_or wanted i d hi) denies apart)
 
--- after the last
+-- after the last fact
 pub all_settled : (p : Problem) (wanted : List Pattern) (path : List Fact) (f : Fact) (live : List ℕ) → wanted ≡ yes_facts (path ++ f ∷ []) → f.holds ≡ false → Shows p (so_far p path f (map as_yes wanted)) live → Shows p (is_live p (path ++ f ∷ [])) live
 all_settled p wanted path f live e denies shows = renewed_all p path f live denies (shows-same p live (so_far p path f (map as_yes wanted)) (so_far p path f (path ++ f ∷ [])) shows (λ x k.
     ap (λ b. (is_live p path x && not (matches p f.pattern x)) && not b)
@@ -173,7 +173,7 @@ all_settled p wanted path f live e denies shows = renewed_all p path f live deni
     ∙ ap (list_any (λ g. excludes p (path ++ f ∷ []) g x)) e
     ∙ sym (list_any_yes (λ g. excludes p (path ++ f ∷ []) g x) (path ++ f ∷ [])))))
 
--- before the first
+-- before the first fact
 pub so_far_none : (p : Problem) (path : List Fact) (f : Fact) (g : Pattern) (live : List ℕ) → f.pattern ≡ g → Shows p (λ x. is_live p path x && not (matches p g x)) live → Shows p (so_far p path f []) live
 so_far_none p path f g live e shows = shows-same p live (λ x. is_live p path x && not (matches p g x)) (so_far p path f []) shows (λ x k.
     ap (λ h. is_live p path x && not (matches p h x)) (sym e) ∙ still (is_live p path x && not (matches p f.pattern x)))

@@ -1,4 +1,4 @@
--- The live cells after a yes-fact has taken what it excludes.
+-- The live cells after those that a yes-fact excludes are removed.
 use Rattle.std.proofs.Common.{◌≡◌, Some, refl, ℕ, ◌+◌, ◌*◌, ◌/◌, ◌%◌, ◌<◌, ◌≤◌, true, false, ◌&&◌, List, sym, ap, ◌∙◌, subst, arith, inl, inr, eq-eqb}
 use Rattle.std.specs.Prelude.{◌==◌}
 use Rattle.std.proofs.lemmas.Bool.{and_parts, and_from, eqb-true, cases_eq, cases_lt, both_ways, false_from_ne_true}

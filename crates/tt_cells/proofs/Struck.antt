@@ -1,4 +1,4 @@
--- What the table of free cells says of a yes-fact in a period is what the definition says.
+-- What the table of free cells says about a yes-fact in a period agrees with the definition.
 use Rattle.std.proofs.Common.{◌≡◌, ℕ, zero, suc, ◌<◌, Bool, true, false, not, ◌&&◌, ◌||◌, List, [], ◌∷◌, length, refl, sym, ap, ◌∙◌, inl, inr, eq-eqb, ne_eqb, subst}
 use Rattle.std.specs.Prelude.{◌==◌, nat_lt, Contains, slice_index_or}
 use Rattle.std.specs.List.{list_any, list_all, AllByRecursion}
@@ -44,7 +44,7 @@ any_at t [] i d none e = absurd (both_ways (t d) none e)
 any_at t (x ∷ xs) zero d none e = or_left (t x) (list_any t xs) e
 any_at t (x ∷ xs) (suc i) d none e = or_right (t x) (list_any t xs) (any_at t xs i d none e)
 
--- two courses of one pattern exclude each other
+-- two courses of one pattern conflict
 who_conflict : (p : Problem) (who : Who) (k c : ℕ) → is_who p who k ≡ true → is_who p who c ≡ true → (k ≡ c → ⊥) → conflict p k c ≡ true
 who_conflict p (Whose.Course a) k c hk hc apart = absurd (apart (eqb-true k a hk ∙ sym (eqb-true c a hc)))
 who_conflict p (Whose.Curriculum q) k c hk hc apart =
@@ -92,7 +92,7 @@ module _ (p : Problem) (path : List Fact) (free : List ℕ) (shows : Shows p (is
   in_range : (k i : ℕ) → k < length p.courses → i < length p.rooms → InRange p (cell k i (slot d s))
   in_range k i hk hi = record { course = hk; room = hi; day = hd; period = hs }
 
-  -- an open room is that of a free cell
+  -- the cell of an open room is free
   pub open-free : (k i : ℕ) → k < length p.courses → i < length p.rooms → is_who p g.who k ≡ true → is_open p free g.room k d s i ≡ true → is_free p path g (cell k i (slot d s)) ≡ true
   open-free k i hk hi w e =
       let a = and_parts (has_cell p free (cell k i (slot d s))) (agrees g.room i) e in
@@ -126,7 +126,7 @@ module _ (p : Problem) (path : List Fact) (free : List ℕ) (shows : Shows p (is
       any_member (is_left_to p free g d s) (courses_of p g.who) k (has-member (courses_of p g.who) k (who-has p g.who k ∙ o.0))
       (and_from (nat_lt k (length p.courses)) (list_any (is_open p free g.room k d s) (all_rooms p)) (lt-ltb k (length p.courses) hk) (any_below (is_open p free g.room k d s) (length p.rooms) i hi o.1))
 
-  -- what the tables take is what the definition kills
+  -- the cells that the tables lose are those that the definition kills
   pub kills-loses : (c r : ℕ) → c < length p.courses → r < length p.rooms → kills_at p path g d s (cell c r (slot d s)) ≡ loses_room p free g d s (courses_of p g.who) c r
   kills-loses c r hc hr = same_truth (kills_at p path g d s x) (loses_room p free g d s ks c r) there back
     where

@@ -1,4 +1,4 @@
--- Only proofs rest on this file: nobody has to believe it.
+-- Not part of the trusted statement: only proofs use this file.
 -- The rooms of an instance by their seats.
 use Rattle.std.specs.Prelude.{◌≡◌, ℕ, ◌-◌, ◌^◌, ◌<◌, ◌≤◌, true, List, length, map, IsPermutation}
 use Rattle.std.specs.List.Sorted.{IsNonDecreasingBy}
@@ -13,17 +13,17 @@ use Rattle.tt_cells.specs.declared.order.Ranked.{Ranked}
 abbrev pub ranked : Problem → ℕ → Ranked
 ranked p r = record { room = r; seats = capacity p r }
 
--- the order is falling by seats, so rising by what is left of the greatest number
+-- The rank of a room: its seats subtracted from the greatest number, so that falling seats are rising ranks.
 abbrev pub rank : Ranked → ℕ
 rank x = 2 ^ 32 - 1 - x.seats
 
--- each room once, those with the most seats first
+-- Each room once, those with the most seats first.
 pub record IsRoomOrder (p : Problem) (rooms : List Ranked) : Type 0 where
   pub same : IsPermutation (map (ranked p) (all_rooms p)) rooms
   pub falling : IsNonDecreasingBy rank rooms
   pub few : (r : ℕ) → r < length p.rooms → capacity p r < 2 ^ 32
 
--- the room has a live cell of the course in the period, and no room that has one has more seats
+-- The room has a live cell of the course in the period, and no room with a live cell has more seats.
 pub record IsRoomiest (p : Problem) (path : List Fact) (c : ℕ) (s : Slot) (x : Ranked) : Type 0 where
   pub room : x.room < length p.rooms
   pub seats : x.seats ≡ capacity p x.room

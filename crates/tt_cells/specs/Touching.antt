@@ -1,5 +1,5 @@
--- Only proofs rest on this file: nobody has to believe it.
--- Which patterns may match a cell in common. These are steps of the code, and nobody has to believe them.
+-- Not part of the trusted statement: only proofs use this file.
+-- Which patterns may match a cell in common. These are steps of the code.
 use Rattle.std.specs.Prelude.{ℕ, ◌==◌, Bool, true, ◌&&◌, Option, Some, None}
 use Rattle.tt_instance.specs.Problem.{Problem}
 use Rattle.tt_instance.specs.Courses.{in_curriculum}
@@ -7,13 +7,13 @@ use Rattle.tt_paths.specs.declared.facts.Who.{Who}
 use Rattle.tt_paths.specs.declared.facts.Who.TheVariants.{Course, Curriculum}
 use Rattle.tt_paths.specs.declared.facts.Pattern.{Pattern}
 
--- some number agrees with both, as far as is given
+-- Some number agrees with both, as far as they are given.
 abbrev pub may_agree : Option ℕ → Option ℕ → Bool
 may_agree None b = true
 may_agree (Some m) None = true
 may_agree (Some m) (Some n) = m == n
 
--- some course may be meant by both; of two curricula this is not looked at
+-- Some course may be meant by both; for two curricula this isn't checked.
 abbrev pub may_share : Problem → Who → Who → Bool
 may_share p (Course a) (Course b) = a == b
 may_share p (Course a) (Curriculum q) = in_curriculum p q a

@@ -1,4 +1,4 @@
-//! One fact more.
+//! Adding a fact.
 
 ghost use Rattle.std.specs.Prelude.{◌≡◌, false, [], ◌∷◌, ◌++◌, OnOk, OnErr};
 ghost use Rattle.tt_links.specs.Linked.{AreConflicts};
@@ -14,7 +14,7 @@ use tt_links::Conflicts;
 use tt_paths::{Fact, Pattern};
 use tt_trail::Trail;
 
-/// Changes both tables for a no-fact, the last of the facts, whose yes-facts have these patterns.
+/// Changes both tables for a no-fact, the last of the facts. `yes` has the patterns of the yes-facts.
 fn deny(
     instance: &Instance<'_>,
     links: &Conflicts,
@@ -64,7 +64,7 @@ fn change(
     }
 }
 
-/// Marks both tables, and changes them for the last of the facts.
+/// Marks both tables and changes them for the last of the facts.
 pub fn add(
     instance: &Instance<'_>,
     links: &Conflicts,

@@ -13,7 +13,7 @@ use tt_links::Conflicts;
 use tt_paths::{Pattern, Who};
 use tt_trail::Trail;
 
-/// Whether some number agrees with both, as far as is given.
+/// Returns whether some number agrees with both, as far as they are given.
 fn may_agree(first: Option<u32>, second: Option<u32>) -> bool
     ensures { result ≡ may_agree first second }
 {
@@ -23,7 +23,7 @@ fn may_agree(first: Option<u32>, second: Option<u32>) -> bool
     }
 }
 
-/// Whether some course is meant by both; of two curricula this is not looked at.
+/// Returns whether some course may be meant by both; for two curricula this isn't checked.
 fn may_share(instance: &Instance<'_>, first: Who, second: Who) -> bool
     ensures { result ≡ may_share instance.now first second }
 {
@@ -37,7 +37,7 @@ fn may_share(instance: &Instance<'_>, first: Who, second: Who) -> bool
     }
 }
 
-/// Whether some cell may be matched by both patterns.
+/// Returns whether some cell may be matched by both patterns.
 fn may_touch(instance: &Instance<'_>, first: &Pattern, second: &Pattern) -> bool
     ensures { result ≡ may_touch instance.now first.now second.now }
 {
@@ -47,7 +47,7 @@ fn may_touch(instance: &Instance<'_>, first: &Pattern, second: &Pattern) -> bool
         && may_share(instance, first.who, second.who)
 }
 
-/// Takes away the live cells that the yes-facts of these patterns exclude now, after a no-fact of this pattern.
+/// Removes the live cells that the yes-facts of these patterns exclude now, after a no-fact of this pattern.
 pub fn settle_again(
     instance: &Instance<'_>,
     links: &Conflicts,

@@ -1,4 +1,4 @@
-//! What a no-fact takes from the tables.
+//! The cells that a no-fact removes from the tables.
 
 ghost use Rattle.std.specs.Prelude.{◌≡◌, ◌<◌, ◌==◌, ◌&&◌, Some, length, OnOk};
 ghost use Rattle.tt_paths.specs.Facts.{matches};
@@ -13,7 +13,7 @@ use tt_instance::Instance;
 use tt_paths::Pattern;
 use tt_trail::Trail;
 
-/// Takes a course's cells away that agree with a pattern which gives this day and this period.
+/// Removes a course's cells that agree with a pattern which gives this day and this period.
 fn remove_at(
     instance: &Instance<'_>,
     table: &mut Trail,
@@ -37,8 +37,8 @@ fn remove_at(
     Ok(())
 }
 
-/// Takes a course's cells away that agree with the pattern, period by period. Kept apart, so that what a pattern of one period
-/// runs through stays short.
+/// Removes a course's cells that agree with the pattern, period by period. Not inlined, so that the code for a pattern of one period
+/// stays short.
 #[inline(never)]
 fn remove_within(
     instance: &Instance<'_>,
@@ -70,7 +70,7 @@ fn remove_within(
     Ok(())
 }
 
-/// Takes a course's cells away that agree with the pattern.
+/// Removes a course's cells that agree with the pattern.
 fn remove_of(
     instance: &Instance<'_>,
     table: &mut Trail,
@@ -91,7 +91,7 @@ fn remove_of(
     Ok(())
 }
 
-/// Takes the cells away that the pattern matches.
+/// Removes the cells that the pattern matches.
 pub fn remove_matched(
     instance: &Instance<'_>,
     table: &mut Trail,

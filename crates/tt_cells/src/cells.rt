@@ -1,4 +1,4 @@
-//! The facts of a path, and tables of what they leave possible.
+//! The facts of a path, and tables of the cells that they leave possible.
 
 ghost use Rattle.std.specs.Prelude.{◌≡◌, ◌<◌, ◌≤◌, length};
 ghost use Rattle.tt_paths.specs.declared.path.TheConstants.{MAX_FACTS};
@@ -15,7 +15,7 @@ use tt_links::Conflicts;
 use tt_paths::{Cell, Fact, Pattern};
 use tt_trail::Trail;
 
-/// The facts, the patterns of the yes-facts, the cells that nothing bars, and the live ones.
+/// The facts, the patterns of the yes-facts, the cells that are not barred, and the live ones.
 #[derive(Drop)]
 pub struct Cells<'p, 'i> {
     instance: &'p Instance<'i>,
@@ -58,7 +58,7 @@ impl<'p, 'i> Cells<'p, 'i> {
     ghost use Rattle.tt_paths.specs.Live.{is_dead, is_live, live_period, live_day, least_excess};
     ghost use Rattle.tt_instance.specs.declared.limit.TheConstants.{MAX_SEATS};
 
-    /// A path with no facts. The tables take their memory at once.
+    /// Creates a path with no facts. The tables allocate their memory immediately.
     pub fn new(alloc: Global, instance: &'p Instance<'i>) -> Result<Cells<'p, 'i>, AllocError>
         ensures problem { IfOk result (λ t. t.problem ≡ instance.now) }
         ensures facts { IfOk result (λ t. t.facts ≡ []) }
@@ -80,14 +80,14 @@ impl<'p, 'i> Cells<'p, 'i> {
         })
     }
 
-    /// The instance that the facts speak of.
+    /// Returns the instance that the facts are about.
     pub fn instance(&self) -> &Instance<'i>
         ensures { result.now ≡ self.now.problem }
     {
         self.instance
     }
 
-    /// How many facts there are.
+    /// Returns the number of facts.
     pub fn depth(&self) -> u32
         ensures value { result ≡ length self.now.facts }
         ensures within { result ≤ MAX_FACTS }
@@ -95,7 +95,7 @@ impl<'p, 'i> Cells<'p, 'i> {
         self.facts.len() as u32
     }
 
-    /// The fact at a place, counted from the oldest.
+    /// Returns the fact at a place, counted from the oldest.
     pub fn fact(&self, index: u32) -> Fact
         requires { index < length self.now.facts }
         ensures { slice_get self.now.facts index ≡ Some result }
@@ -103,7 +103,7 @@ impl<'p, 'i> Cells<'p, 'i> {
         self.facts[index as usize]
     }
 
-    /// Adds a fact after the others. Kept apart, as the call that lists the fact is.
+    /// Adds a fact after the others. Not inlined, like the call that lists the fact.
     #[inline(never)]
     pub fn push(&mut self, fact: Fact) -> Result<(), AllocError>
         requires { length self.old.facts < MAX_FACTS }
@@ -126,7 +126,7 @@ impl<'p, 'i> Cells<'p, 'i> {
         Ok(())
     }
 
-    /// Takes the newest fact away.
+    /// Removes the newest fact and returns it.
     #[inline(always)]
     pub fn pop(&mut self) -> Fact
         requires { 0 < length self.old.facts }
@@ -138,7 +138,7 @@ impl<'p, 'i> Cells<'p, 'i> {
         unlist_fact(&mut self.facts, &mut self.yes)
     }
 
-    /// Whether that very fact is one of them; each is looked at.
+    /// Returns whether exactly this fact is one of them; it goes through all facts.
     pub fn has(&self, pattern: &Pattern, holds: bool) -> bool
         ensures { result ≡ has_fact self.now.facts pattern.now holds }
     {
@@ -147,7 +147,7 @@ impl<'p, 'i> Cells<'p, 'i> {
             .any(|fact| fact.holds == holds && fact.pattern == *pattern)
     }
 
-    /// Whether a cell is barred, or left no place beside it by some yes-fact.
+    /// Returns whether a cell is barred, or excluded by some yes-fact.
     pub fn dead(&self, cell: Cell) -> bool
         requires { InRange self.now.problem cell }
         ensures { result ≡ is_dead self.now.problem self.now.facts cell }
@@ -155,7 +155,7 @@ impl<'p, 'i> Cells<'p, 'i> {
         !has_cell(self.instance, &self.live, cell)
     }
 
-    /// Whether some room gives a live cell of the course in the period.
+    /// Returns whether some room gives a live cell of the course in the period.
     pub fn live_period(&self, course: u32, day: u32, period: u32) -> bool
         requires course { course < length self.now.problem.courses }
         requires day { day < self.now.problem.days }
@@ -165,7 +165,7 @@ impl<'p, 'i> Cells<'p, 'i> {
         has_period(self.instance, &self.live, None, course, day, period)
     }
 
-    /// The live periods of a course on a day, as a set of bits.
+    /// Returns the live periods of a course on a day, as a set of bits.
     pub fn live_periods(&self, course: u32, day: u32) -> u64
         requires course { course < length self.now.problem.courses }
         requires day { day < self.now.problem.days }
@@ -175,8 +175,8 @@ impl<'p, 'i> Cells<'p, 'i> {
         periods_of(self.instance, &self.live, course, day)
     }
 
-    /// The rooms of a block whose cells of the course in the period are live, as a set: the block's number times 64 and the
-    /// 63 that follow.
+    /// Returns the rooms of a block whose cells of the course in the period are live, as a set. The block consists of the room with number
+    /// `block * 64` and the 63 that follow.
     pub fn live_rooms(&self, course: u32, day: u32, period: u32, block: u32) -> u64
         requires course { course < length self.now.problem.courses }
         requires day { day < self.now.problem.days }
@@ -189,18 +189,18 @@ impl<'p, 'i> Cells<'p, 'i> {
         cells_word(self.instance, &self.live, course, day, period, block)
     }
 
-    /// Whether the course has a live period on the day.
+    /// Returns whether the course has a live period on the day.
     pub fn live_day(&self, course: u32, day: u32) -> bool
         requires course { course < length self.now.problem.courses }
         requires day { day < self.now.problem.days }
         ensures { result ≡ live_day self.now.problem self.now.facts course day }
     {
-        // What is true of every instance: the periods of a day are the numbers of a word.
+        // In every instance, the periods of a day are numbers below 64, so a word can have them.
         prove!(self.instance.periods() <= 64);
         !is_empty(self.live_periods(course, day))
     }
 
-    /// Whether the cell of these numbers is live.
+    /// Returns whether the cell with these numbers is live.
     fn is_live(&self, course: u32, room: u32, day: u32, period: u32) -> bool
         requires { InRange self.now.problem (cell course room (slot day period)) }
         ensures { result ≡ is_live self.now.problem self.now.facts (cell course room (slot day period)) }
@@ -214,7 +214,7 @@ impl<'p, 'i> Cells<'p, 'i> {
         !self.dead(cell)
     }
 
-    /// The room with the most seats of those that have a live cell of the course in the period.
+    /// Returns the room with the most seats of those that have a live cell of the course in the period.
     fn roomiest(&self, course: u32, day: u32, period: u32) -> Option<Ranked>
         requires course { course < length self.now.problem.courses }
         requires day { day < self.now.problem.days }
@@ -234,7 +234,7 @@ impl<'p, 'i> Cells<'p, 'i> {
         None
     }
 
-    /// The least excess, in students, of the course's live cells in the period; none where no cell is live.
+    /// Returns the least excess, in students, of the course's live cells in the period; `None` if no cell is live.
     pub fn least_excess(&self, course: u32, day: u32, period: u32) -> Option<u64>
         requires course { course < length self.now.problem.courses }
         requires day { day < self.now.problem.days }

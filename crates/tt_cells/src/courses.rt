@@ -1,4 +1,4 @@
-//! Whose cells a pattern matches.
+//! The courses whose cells a pattern matches.
 
 ghost use Rattle.std.specs.Prelude.{◌≡◌};
 ghost use Rattle.tt_lists.specs.Words.{has_number};
@@ -8,7 +8,7 @@ use std::slice;
 use tt_instance::Instance;
 use tt_paths::Who;
 
-/// The course that is meant, or the members of the curriculum that is meant.
+/// Returns the course that is meant, or the members of the curriculum that is meant.
 pub fn courses_of<'a>(instance: &'a Instance<'_>, who: &'a Who) -> &'a [u32]
     ensures { result.now ≡ courses_of instance.now who.now }
 {
@@ -24,7 +24,7 @@ pub fn courses_of<'a>(instance: &'a Instance<'_>, who: &'a Who) -> &'a [u32]
     }
 }
 
-/// Whether a course is one of these.
+/// Returns whether a course is one of these.
 pub fn is_one(courses: &[u32], course: u32) -> bool
     ensures { result ≡ has_number courses.now course }
 {

@@ -1,4 +1,4 @@
-//! What a yes-fact takes from the courses in one period, where it has to have one of its free cells there.
+//! The cells that a yes-fact takes from the courses in one period, if it must have one of its free cells there.
 
 ghost use Rattle.std.specs.Prelude.{◌≡◌, ◌<◌, ◌==◌, ◌&&◌, ℕ, [], ◌∷◌, length, OnOk, not, ◌||◌};
 ghost use Rattle.std.specs.List.{list_all};
@@ -18,7 +18,7 @@ use tt_links::Conflicts;
 use tt_paths::Pattern;
 use tt_trail::Trail;
 
-/// The rooms that a course loses in the period where another has to have one of its free rooms.
+/// Returns the rooms that a course loses in the period if another course must have one of its free rooms.
 fn rooms_beside(
     instance: &Instance<'_>,
     free: &Trail,
@@ -40,7 +40,7 @@ fn rooms_beside(
     common_rooms(instance, free, pattern.room, other, day, period)
 }
 
-/// The rooms that a course loses in the period where one of the courses, none of them this one, has to have one of its
+/// Returns the rooms that a course loses in the period if one of the courses, none of them this one, must have one of its
 /// free rooms.
 fn lost_rooms(
     instance: &Instance<'_>,
@@ -67,7 +67,7 @@ fn lost_rooms(
     lost
 }
 
-/// Takes a course's cells in these rooms away.
+/// Removes a course's cells in these rooms.
 fn remove_lost(
     instance: &Instance<'_>,
     live: &mut Trail,
@@ -97,7 +97,7 @@ fn remove_lost(
     }
 }
 
-/// Takes from a course what it loses in the period where one of the courses has to have one of its free rooms.
+/// Removes the cells that a course loses in the period if one of the courses must have one of its free rooms.
 fn strike(
     instance: &Instance<'_>,
     free: &Trail,
@@ -128,7 +128,7 @@ fn strike(
     Ok(())
 }
 
-/// Takes from each course what it loses in the period where one of the courses has to have one of its free rooms.
+/// Removes the cells that each course loses in the period if one of the courses must have one of its free rooms.
 fn kill(
     instance: &Instance<'_>,
     free: &Trail,
@@ -152,7 +152,7 @@ fn kill(
     Ok(())
 }
 
-/// Takes a period away from the courses that are given.
+/// Removes a period from the given courses.
 #[inline(always)]
 fn strike_period(
     instance: &Instance<'_>,
@@ -177,7 +177,7 @@ fn strike_period(
     Ok(())
 }
 
-/// Takes a room in a period away from a course, unless it is the one that has to have it.
+/// Removes a room in a period from a course, unless it is the one that must have it.
 fn strike_room_of(
     instance: &Instance<'_>,
     live: &mut Trail,
@@ -202,7 +202,7 @@ fn strike_room_of(
     Ok(())
 }
 
-/// Takes a room in a period away from each course but the one that has to have it. Kept apart, since mostly more rooms are left.
+/// Removes a room in a period from each course except the one that must have it. Not inlined, since mostly more rooms are left.
 #[inline(never)]
 fn strike_room(
     instance: &Instance<'_>,
@@ -225,8 +225,8 @@ fn strike_room(
     Ok(())
 }
 
-/// The same as `kill` for one course, by what is common to its free rooms: those lose the period that conflict with it, and
-/// where it has one free room, the others lose that.
+/// Does what `kill` does for one course, from the rooms that equal each of its free rooms: the courses that conflict with it lose the period,
+/// and if it has only one free room, all other courses lose that room.
 #[inline(always)]
 pub fn kill_one(
     instance: &Instance<'_>,
@@ -270,7 +270,7 @@ pub fn kill_one(
     }
 }
 
-/// The same as `kill`, by the lists of conflicts where that is quicker.
+/// Does what `kill` does, by the lists of conflicts if that is faster.
 pub fn kill_by_links(
     instance: &Instance<'_>,
     links: &Conflicts,

@@ -1,4 +1,4 @@
-//! The live cells of a path of facts, in tables that take each fact back.
+//! The live cells of a path of facts, in tables that undo each fact.
 #![tactic(auto)]
 
 mod adding;

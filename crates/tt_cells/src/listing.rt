@@ -1,4 +1,4 @@
-//! The facts as a list, and beside it the list of the yes-facts' patterns.
+//! The facts as a list, and the list of the yes-facts' patterns.
 
 ghost use Rattle.std.specs.Prelude.{◌≡◌, ◌<◌, [], ◌∷◌, ◌++◌, length, OnOk, OnErr};
 ghost use Rattle.tt_cells.specs.Shown.{yes_facts};
@@ -6,7 +6,7 @@ ghost use Rattle.tt_cells.specs.Shown.{yes_facts};
 use std::alloc::AllocError;
 use tt_paths::{Fact, Pattern};
 
-/// Adds a fact to the lists where it belongs. Kept apart, since the fact is copied field by field where it is inlined.
+/// Adds a fact to the lists it belongs in. Not inlined, since inlining copies the fact field by field.
 #[inline(never)]
 pub fn list_fact(
     facts: &mut Vec<Fact>,
@@ -29,7 +29,7 @@ pub fn list_fact(
     Ok(())
 }
 
-/// Takes the newest fact from the lists.
+/// Removes the newest fact from the lists and returns it.
 #[inline(always)]
 pub fn unlist_fact(facts: &mut Vec<Fact>, yes: &mut Vec<Pattern>) -> Fact
     requires some { 0 < length facts.old.items }

@@ -31,7 +31,7 @@ impl Model for RoomOrder {
     ghost view = { λ s. s.rooms.items };
 }
 
-/// The rooms with their seats, in their order.
+/// Returns the rooms with their seats, in the order of the instance.
 fn ranked_rooms(alloc: Global, instance: &Instance<'_>) -> Result<Vec<Ranked>, AllocError>
     ensures rooms { IfOk result (λ v. v.items ≡ map (ranked instance.now) (all_rooms instance.now)) }
     ensures few { IfOk result (λ v. (r : ℕ) → r < length instance.now.rooms → capacity instance.now r < 2 ^ 32) }
@@ -47,7 +47,7 @@ fn ranked_rooms(alloc: Global, instance: &Instance<'_>) -> Result<Vec<Ranked>, A
 impl RoomOrder {
     ghost use Rattle.tt_cells.specs.Order.{IsRoomOrder};
 
-    /// The rooms of an instance in order. They don't hold on to it.
+    /// Sorts the rooms of an instance. The result doesn't borrow the instance.
     pub fn new(alloc: Global, instance: &Instance<'_>) -> Result<RoomOrder, AllocError>
         ensures { IfOk result (IsRoomOrder instance.now) }
     {
@@ -56,7 +56,7 @@ impl RoomOrder {
         Ok(RoomOrder { rooms })
     }
 
-    /// The rooms in order.
+    /// Returns the rooms in order.
     pub fn as_slice(&self) -> &[Ranked]
         ensures { result.now ≡ self.now }
     {

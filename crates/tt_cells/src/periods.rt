@@ -11,14 +11,14 @@ use tt_instance::Instance;
 use tt_paths::Pattern;
 use tt_trail::Trail;
 
-/// Whether a number is the one that is given; each number is where none is given.
+/// Returns whether a number agrees with the one given; if none is given, each number agrees.
 fn agrees(given: Option<u32>, number: u32) -> bool
     ensures { result ≡ agrees given number }
 {
     given.is_none_or(|wanted| wanted == number)
 }
 
-/// Bounds of the numbers of the periods that a pattern allows.
+/// Returns bounds of the numbers of the periods that a pattern allows.
 pub fn slots_of(instance: &Instance<'_>, pattern: &Pattern) -> (u32, u32)
     ensures { Covers instance.now pattern.now result.0 result.1 }
 {
@@ -34,7 +34,7 @@ pub fn slots_of(instance: &Instance<'_>, pattern: &Pattern) -> (u32, u32)
     }
 }
 
-/// Whether a pattern allows the period of this number.
+/// Returns whether a pattern allows the period with this number.
 pub fn allows(instance: &Instance<'_>, pattern: &Pattern, slot: u32) -> bool
     ensures { result ≡ allows instance.now pattern.now slot }
 {
@@ -42,7 +42,7 @@ pub fn allows(instance: &Instance<'_>, pattern: &Pattern, slot: u32) -> bool
     agrees(pattern.day, slot / periods) && agrees(pattern.period, slot % periods)
 }
 
-/// Whether a course has a free room in the period, of those that the pattern allows.
+/// Returns whether a course has a free room in the period that the pattern allows.
 fn is_left_to(
     instance: &Instance<'_>,
     free: &Trail,
@@ -59,7 +59,7 @@ fn is_left_to(
     course < instance.courses() && has_period(instance, free, pattern.room, course, day, period)
 }
 
-/// Whether one of the courses has.
+/// Returns whether one of the courses has a free room in the period that the pattern allows.
 #[inline(always)]
 pub fn is_left(
     instance: &Instance<'_>,
@@ -77,7 +77,7 @@ pub fn is_left(
     courses.iter().any(|course| is_left_to(instance, free, pattern, day, period, *course))
 }
 
-/// The same, of the period of this number if the pattern allows it.
+/// Returns whether the pattern allows the period with this number and one of the courses has a free room there.
 fn is_left_in(
     instance: &Instance<'_>,
     free: &Trail,
@@ -95,7 +95,7 @@ fn is_left_in(
     allows(instance, pattern, slot) && is_left(instance, free, pattern, day, period, courses)
 }
 
-/// The first period of these in which one of the courses has a free room that the pattern allows.
+/// Returns the first of these periods in which one of the courses has a free room that the pattern allows.
 pub fn first_left(
     instance: &Instance<'_>,
     free: &Trail,

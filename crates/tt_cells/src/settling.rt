@@ -1,4 +1,4 @@
-//! What a yes-fact takes from the live cells.
+//! The live cells that a yes-fact removes.
 
 ghost use Rattle.std.specs.Prelude.{◌≡◌, ◌<◌, ◌≤◌, ◌*◌, [], ◌∷◌, length, Some, OnOk};
 ghost use Rattle.tt_paths.specs.Nested.{courses_of};
@@ -17,7 +17,7 @@ use tt_links::Conflicts;
 use tt_paths::Pattern;
 use tt_trail::Trail;
 
-/// Takes away the live cells that a pattern excludes whose first free period is this one.
+/// Removes the live cells that a pattern excludes, if its first free period is this one.
 fn settle_from(
     instance: &Instance<'_>,
     links: &Conflicts,
@@ -57,7 +57,7 @@ fn settle_from(
     }
 }
 
-/// Takes away the live cells that a pattern of one course excludes which gives this day and this period.
+/// Removes the live cells that a pattern of one course excludes, if the pattern gives this day and this period.
 #[inline(always)]
 fn settle_one(
     instance: &Instance<'_>,
@@ -96,7 +96,7 @@ fn settle_one(
     }
 }
 
-/// Takes away the live cells that a pattern excludes which gives this day and this period.
+/// Removes the live cells that a pattern excludes, if the pattern gives this day and this period.
 #[inline(always)]
 fn settle_at(
     instance: &Instance<'_>,
@@ -133,7 +133,7 @@ fn settle_at(
     Ok(())
 }
 
-/// Takes away the live cells that a pattern excludes, whichever periods it allows.
+/// Removes the live cells that a pattern excludes, whichever periods it allows.
 fn settle_within(
     instance: &Instance<'_>,
     links: &Conflicts,
@@ -164,7 +164,7 @@ fn settle_within(
     }
 }
 
-/// Takes away the live cells that a pattern excludes.
+/// Removes the live cells that a pattern excludes.
 pub fn settle(
     instance: &Instance<'_>,
     links: &Conflicts,

@@ -13,14 +13,14 @@ together = at 0 0 0 0 ∷ at 1 0 0 1 ∷ []
 
 -- ---- chains between the first and the second period
 
--- one room links them, and so does the curriculum
+-- one room links the two entries, and so does the curriculum
 both_move : linked mini (slot 0 0) (slot 0 1) (at 0 0 0 0) (at 1 0 0 1) ≡ true
 both_move = refl
 
 swapped_both : swapped (slot 0 0) (slot 0 1) (has_number (0 ∷ 1 ∷ [])) together ≡ at 0 0 0 1 ∷ at 1 0 0 0 ∷ []
 swapped_both = refl
 
--- where b has no lecture in the first period, it can't move there
+-- if b is unavailable in the first period, it can't move there
 b_is_barred : unavailable (record mini { bars = bar 1 0 0 ∷ [] }) 1 0 0 ≡ true
 b_is_barred = refl
 

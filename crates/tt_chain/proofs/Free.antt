@@ -1,4 +1,4 @@
--- Timetables of which no two entries in one period exclude each other.
+-- Timetables in which no two entries in one period conflict.
 use Rattle.std.proofs.Common.{◌≡◌, ℕ, zero, suc, ◌-◌, ◌≤◌, ◌<◌, Bool, true, ◌&&◌, ◌||◌, List, [], ◌∷◌, length, get_or, refl, sym, ap, ◌∙◌, arith, inl, inr, eq-eqb, eqb-true, le_of_suc-le-suc, zero-le}
 use Rattle.std.specs.Prelude.{◌==◌, sum_by, count_by}
 use Rattle.std.specs.List.{list_any}
@@ -24,13 +24,13 @@ use Rattle.tt_chain.specs.Chains.{exclude}
 abbrev pub same_period : Cell → Cell → Bool
 same_period x y = (x.day == y.day) && (x.period == y.period)
 
--- no two places of one period have entries that exclude each other
+-- whether no two entries in one period conflict
 abbrev pub IsFree : Problem → List Cell → Type 0
 IsFree p t =
     (i j : ℕ) (d : Cell) → i < length t → j < length t → (i ≡ j → ⊥) → same_period (get_or t i d) (get_or t j d) ≡ true → exclude p (get_or t i d) (get_or t j d) ≡ true → ⊥
 
 module _ {X : Type 0} where
-  -- two places that pass
+  -- if two places pass, the count is at least 2
   pub two_pass : (q : X → Bool) (xs : List X) (i j : ℕ) (d : X) → i < length xs → j < length xs → (i ≡ j → ⊥) → q (get_or xs i d) ≡ true → q (get_or xs j d) ≡ true → 2 ≤ count_by q xs
   two_pass q [] i j d h k ne a b = absurd (omega arith)
   two_pass q (x ∷ xs) zero zero d h k ne a b = absurd (ne refl)
@@ -43,7 +43,7 @@ module _ {X : Type 0} where
   two_pass q (x ∷ xs) (suc i) (suc j) d h k ne a b =
       omega (arith, count_by-cons q x xs, two_pass q xs i j d (le_of_suc-le-suc h) (le_of_suc-le-suc k) (λ e. ne (ap suc e)) a b)
 
-  -- where no two places pass, one does at most
+  -- if no two places pass, at most one does
   pub one_passes : (q : X → Bool) (xs : List X) → ((i j : ℕ) (d : X) → i < length xs → j < length xs → (i ≡ j → ⊥) → q (get_or xs i d) ≡ true → q (get_or xs j d) ≡ true → ⊥) → count_by q xs ≤ 1
   one_passes q [] none = zero-le
   one_passes q (x ∷ xs) none = elim (cases_Bool (q x)) [
@@ -76,7 +76,7 @@ at_own x = and_from (x.day == x.day) (x.period == x.period) (eq-eqb x.day x.day 
 at_other : (x y : Cell) → same_period x y ≡ true → is_at (slot_of x) y ≡ true
 at_other x y e = let h = and_parts (x.day == y.day) (x.period == y.period) e in and_from (y.day == x.day) (y.period == x.period) (eqb-turn x.day y.day h.0) (eqb-turn x.period y.period h.1)
 
--- a feasible timetable is free
+-- a feasible timetable has no conflicting entries in one period
 pub free_from_feasible : (p : Problem) (t : List Cell) → IsFeasible p t → IsFree p t
 free_from_feasible p t ok i j d h k ne same e =
     let x = get_or t i d in
@@ -143,7 +143,7 @@ module _ (p : Problem) (t : List Cell) (ok : IsTimetable p t) (free : IsFree p t
       let few = sum_by-le many (λ s. one_if (list_any (λ e. is_of c e && is_at s e) t)) (all_slots p) (each (λ s. many s ≤ one_if (list_any (λ e. is_of c e && is_at s e) t)) (λ s. count_if (λ e. is_of c e && is_at s e) (once c s)) (all_slots p)) in
       omega arith
 
-  -- a free timetable with each course's lectures, in available periods, is feasible
+  -- a timetable without conflicting entries, with each course's lectures in available periods, is feasible
   pub feasible_from_free : ((c : ℕ) → entries_of t c ≡ lectures p c) → availability_count p t ≡ 0 → IsFeasible p t
   feasible_from_free met open_periods = record {
     timetable = ok;

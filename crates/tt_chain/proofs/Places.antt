@@ -1,4 +1,4 @@
--- Places that are marked, as a list of numbers.
+-- Marked places, as a list of numbers.
 use Rattle.std.proofs.Common.{◌≡◌, ℕ, zero, suc, ◌+◌, ◌<◌, ◌≤◌, Bool, true, false, cond, ◌&&◌, ◌||◌, List, [], ◌∷◌, ◌++◌, length, get_or, refl, sym, ap, ◌∙◌, subst, arith, inl, inr, eq-eqb, eqb-true, add-zero, append-nil}
 use Rattle.std.specs.Prelude.{◌==◌, nat_lt, filter, All, Contains}
 use Rattle.std.specs.List.{list_any, range_with_len}
@@ -23,7 +23,7 @@ use Rattle.tt_chain.specs.Answers.{is_shut, IsFirstShut}
 use Rattle.tt_chain.specs.Chains.{exclude, linked, other, IsClosed, IsChain, IsOpen}
 use Rattle.tt_chain.specs.Marks.{marked, IsSpread}
 
--- ---- one number more
+-- -- another number
 
 range_next : (a n : ℕ) → range_with_len a (suc n) ≡ range_with_len a n ++ (a + n) ∷ []
 range_next a zero = ap (λ k. k ∷ []) (sym (add-zero a))
@@ -47,7 +47,7 @@ module _ (q : ℕ → Bool) (i : ℕ) where
       ap (filter q) (numbers_next i) ∙ filter-append q (range_below i) (i ∷ [])
       ∙ ap (λ b. filter q (range_below i) ++ cond b (i ∷ []) []) e ∙ append-nil (filter q (range_below i))
 
--- ---- the places that are marked
+-- -- the marked places
 
 module _ (fs : List Bool) where
   abbrev pub places : List ℕ

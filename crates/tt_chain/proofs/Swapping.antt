@@ -1,4 +1,4 @@
--- Members turned one after the other.
+-- Members are moved in turn.
 use Rattle.std.proofs.Common.{◌≡◌, ℕ, ◌+◌, ◌<◌, Bool, true, false, cond, ◌||◌, List, [], ◌∷◌, length, get_or, set, take, refl, sym, ap, ◌∙◌, subst, arith, inl, inr, eq-eqb, ne_eqb}
 use Rattle.std.specs.Prelude.{◌==◌}
 use Rattle.std.specs.List.Sorted.{IsStrictlyIncreasing}
@@ -31,7 +31,7 @@ module _ (a b : Slot) where
       let z : 0 + i ≡ i = omega arith in
       get_or-swapped a b m 0 t i no_entry h ∙ ap (λ n. moved a b (m n) (entry_at t i)) z
 
-  -- one member more
+  -- another member
   swapped_with : (m n : ℕ → Bool) (t : List Cell) (i : ℕ) → i < length t → ((j : ℕ) → n j ≡ (m j || (i == j))) → set (swapped a b m t) i (turned a b (entry_at t i)) ≡ swapped a b n t
   swapped_with m n t i h more =
       let s = swapped a b m t in

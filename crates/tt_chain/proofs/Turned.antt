@@ -1,4 +1,4 @@
--- Entries of two periods turned: no two come together that exclude each other.
+-- After entries of two periods change periods, no two that conflict share a period.
 use Rattle.std.proofs.Common.{◌≡◌, ℕ, zero, suc, ◌+◌, ◌<◌, Bool, true, false, cond, ◌&&◌, ◌||◌, List, [], ◌∷◌, length, get_or, refl, sym, ap, ◌∙◌, subst, arith, inl, inr, le_of_suc-le-suc}
 use Rattle.std.specs.Prelude.{◌==◌}
 use Rattle.std.proofs.lemmas.Bool.{cases_Bool, and_parts, and_from, or_cases, or_left, or_right, both_ways}
@@ -27,12 +27,12 @@ exclude-turn p x y e = elim (or_cases ((x.room == y.room) || (x.course == y.cour
   | inr g ↦ or_right ((y.room == x.room) || (y.course == x.course)) (conflict p y.course x.course) (conflict-turn p x.course y.course g)
 ]
 
--- an entry whose period is a slot's
+-- an entry with the day and period of a slot is at this slot
 at_slot : (s : Slot) (y : Cell) → ((s.day == y.day) && (s.period == y.period)) ≡ true → is_at s y ≡ true
 at_slot s y e = let h = and_parts (s.day == y.day) (s.period == y.period) e in and_from (y.day == s.day) (y.period == s.period) (eqb-turn s.day y.day h.0) (eqb-turn s.period y.period h.1)
 
 module _ (p : Problem) (a b : Slot) (apart : ((a.day == b.day) && (a.period == b.period)) ≡ false) where
-  -- a turned member beside one that stays
+  -- a moved member and an entry that is not moved
   one_turned : (x y : Cell) → (is_at a x || is_at b x) ≡ true → (linked p a b x y ≡ true → ⊥) → same_period (turned a b x) y ≡ true → exclude p x y ≡ true → ⊥
   one_turned x y within no_link same e = elim (cases_Bool (is_at a x)) [
     | inl at_a ↦
@@ -44,7 +44,7 @@ module _ (p : Problem) (a b : Slot) (apart : ((a.day == b.day) && (a.period == b
         no_link (and_from ((is_at a x && is_at b y) || (is_at b x && is_at a y)) (exclude p x y) (or_right (is_at a x && is_at b y) (is_at b x && is_at a y) (and_from (is_at b x) (is_at a y) at_b there)) e)
   ]
 
-  -- two turned members were together before
+  -- two moved members that share a period shared one before
   both_turned : (x y : Cell) → (is_at a x || is_at b x) ≡ true → (is_at a y || is_at b y) ≡ true → same_period (turned a b x) (turned a b y) ≡ true → same_period x y ≡ true
   both_turned x y wx wy same = elim (cases_Bool (is_at a x)) [
     | inl ax ↦ elim (cases_Bool (is_at a y)) [

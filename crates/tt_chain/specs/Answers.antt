@@ -1,4 +1,4 @@
--- What the search for a chain answers, and when a chain is one of a timetable.
+-- The results of the search for a chain, and the conditions for a chain of a timetable.
 use Rattle.std.specs.Prelude.{◌≡◌, ℕ, ◌≤◌, ◌<◌, ◌==◌, Bool, true, false, ◌&&◌, ◌||◌, List, length, All, Result, Ok, Err}
 use Rattle.std.specs.List.Sorted.{IsStrictlyIncreasing}
 use Rattle.tt_lists.specs.Words.{has_number}
@@ -15,12 +15,12 @@ use Rattle.tt_chain.specs.declared.kempe.ChainFault.TheVariants.{SamePeriod, Una
 abbrev pub same_slot : Slot → Slot → Bool
 same_slot a b = (a.day == b.day) && (a.period == b.period)
 
--- the members of a chain in rising order, between two periods
+-- the members of a chain between two different periods are in increasing order
 pub record IsTurnable (a b : Slot) (members : List ℕ) : Type 0 where
   pub apart : same_slot a b ≡ false
   pub rising : IsStrictlyIncreasing members
 
--- the other period of the entry at a place is unavailable
+-- whether the other period of the entry at a place is unavailable
 abbrev pub is_shut : Problem → List Cell → Slot → Slot → ℕ → Bool
 is_shut p t a b i = unavailable p (entry_at t i).course (other a b (entry_at t i)).day (other a b (entry_at t i)).period
 
@@ -34,15 +34,15 @@ pub record IsPeriod (p : Problem) (a : Slot) : Type 0 where
   pub day : a.day < p.days
   pub period : a.period < p.periods
 
--- A member may change its place: it stands in one of the two periods, the other one is available for it, and each entry that
--- is linked to it is a member.
+-- A member may be moved: it is in one of the two periods, the other one is available for it, and each entry that is linked to it is
+-- a member.
 pub record MayTurn (p : Problem) (t : List Cell) (a b : Slot) (members : List ℕ) (i : ℕ) : Type 0 where
   pub inside : i < length t
   pub within : (is_at a (entry_at t i) || is_at b (entry_at t i)) ≡ true
   pub free : is_shut p t a b i ≡ false
   pub links : (j : ℕ) → j < length t → linked p a b (entry_at t i) (entry_at t j) ≡ true → has_number members j ≡ true
 
--- its members can change places in the timetable: they hold each entry that is linked to one, and their other periods are available
+-- whether the members can change periods in the timetable: each entry linked to a member is a member, and their other periods are available
 pub record IsOf (p : Problem) (t : List Cell) (c : Kempe) : Type 0 where
   pub from : IsPeriod p c.from
   pub to : IsPeriod p c.to
@@ -58,7 +58,7 @@ pub record IsFound (p : Problem) (t : List Cell) (a b : Slot) (entry : ℕ) (c :
   pub chain : IsChain p t a b entry c.members
   pub of : IsOf p t c
 
--- the chain, or why there is none
+-- the chain, or the reason why there is none
 abbrev pub IsAnswer : Problem → List Cell → Slot → Slot → ℕ → Result Kempe ChainFault → Type 0
 IsAnswer p t a b entry (Ok c) = IsFound p t a b entry c
 IsAnswer p t a b entry (Err SamePeriod) = same_slot a b ≡ true

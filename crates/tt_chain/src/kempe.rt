@@ -1,4 +1,4 @@
-//! Chains, and why there is none.
+//! Chains, and the reasons why there is none.
 
 ghost use Rattle.std.specs.Prelude.{◌≡◌};
 ghost use Rattle.std.specs.List.Sorted.{IsStrictlyIncreasing};
@@ -7,7 +7,7 @@ use std::marker::Model;
 use thiserror::Error;
 use tt_instance::Slot;
 
-/// Why there is no chain.
+/// The reason why there is no chain.
 #[derive(Clone, Copy, Debug, PartialEq, Eq, Error)]
 pub enum ChainFault {
     /// The target is the entry's own period.
@@ -20,7 +20,7 @@ pub enum ChainFault {
     OutOfMemory,
 }
 
-/// Entries of two periods that change places together.
+/// Entries of two periods that change periods together.
 #[derive(Drop)]
 pub struct Chain {
     pub(crate) from: Slot,
@@ -40,7 +40,7 @@ impl Model for Chain {
 }
 
 impl Chain {
-    /// The entries, in rising order.
+    /// Returns the entries, in increasing order.
     pub fn members(&self) -> &[u32]
         ensures value { result.now ≡ self.now.members }
         ensures rising { IsStrictlyIncreasing result.now }

@@ -1,4 +1,4 @@
-//! Kempe chains: entries of two periods that change places together.
+//! Kempe chains: entries of two periods that change periods together.
 #![tactic(auto)]
 
 mod kempe;

@@ -18,7 +18,7 @@ use tt_instance::Slot;
 use tt_occupancy::Occupied;
 use tt_table::Entry;
 
-/// The numbers of the places that are marked, in rising order.
+/// Returns the numbers of the marked places, in increasing order.
 fn places_of(alloc: Global, flags: &[bool]) -> Result<Vec<u32>, AllocError>
     requires { length flags.now ≤ MAX_ENTRIES }
     ensures { IfOk result (λ v. v.items ≡ filter (marked flags.now) (range_below (length flags.now))) }
@@ -32,7 +32,7 @@ fn places_of(alloc: Global, flags: &[bool]) -> Result<Vec<u32>, AllocError>
     Ok(places)
 }
 
-/// The one of two periods in which an entry does not stand.
+/// Returns the one of two periods in which an entry is not.
 pub fn other_period(from: Slot, to: Slot, entry: Entry) -> Slot
     ensures { result ≡ other from to entry }
 {
@@ -43,14 +43,14 @@ pub fn other_period(from: Slot, to: Slot, entry: Entry) -> Slot
     }
 }
 
-/// Whether two periods are one.
+/// Checks whether two periods are equal.
 fn is_same_slot(a: Slot, b: Slot) -> bool
     ensures { result ≡ same_slot a b }
 {
     a.day == b.day && a.period == b.period
 }
 
-/// Whether the other period of an entry is unavailable.
+/// Checks whether the other period of an entry is unavailable.
 pub fn is_barred(occupied: &Occupied<'_, '_>, from: Slot, to: Slot, index: u32) -> bool
     requires { index < length occupied.now.entries }
     ensures { result ≡ is_shut occupied.now.problem occupied.now.entries from to index }
@@ -62,7 +62,7 @@ pub fn is_barred(occupied: &Occupied<'_, '_>, from: Slot, to: Slot, index: u32) 
         .unavailable(entry.course, place.day, place.period)
 }
 
-/// The first of some entries whose other period is unavailable.
+/// Returns the first of some entries whose other period is unavailable.
 fn first_barred(occupied: &Occupied<'_, '_>, from: Slot, to: Slot, members: &[u32]) -> Option<u32>
     requires { All (λ i. i < length occupied.now.entries) members.now }
     ensures { MatchOption result
@@ -81,7 +81,7 @@ fn first_barred(occupied: &Occupied<'_, '_>, from: Slot, to: Slot, members: &[u3
     None
 }
 
-/// The members of the chain of an entry of the first period.
+/// Returns the members of the chain of an entry of the first period.
 fn members_of(
     alloc: Global,
     occupied: &Occupied<'_, '_>,
@@ -102,7 +102,7 @@ fn members_of(
     Ok(places)
 }
 
-/// The chain of an entry of the first of two periods.
+/// Returns the chain of an entry of the first of two periods.
 fn chain_between(
     alloc: Global,
     occupied: &Occupied<'_, '_>,
@@ -128,8 +128,8 @@ fn chain_between(
     Ok(Chain { from, to, members })
 }
 
-/// The least set of entries that holds an entry and each one that is linked to one of it, between
-/// the entry's period and another one. `OutOfMemory` speaks of a refused growth alone.
+/// Returns the least set of entries that contains an entry and each entry linked to one of the set, between
+/// the entry's period and another one. `OutOfMemory` is returned only for a refused allocation.
 pub fn chain(
     alloc: Global,
     occupied: &Occupied<'_, '_>,

@@ -10,7 +10,7 @@ use std::alloc::{AllocError, Global};
 use tt_instance::{Instance, Slot};
 use tt_table::Entry;
 
-/// Whether an entry stands in a period.
+/// Checks whether an entry is in a period.
 pub fn stands_at(s: Slot, e: &Entry) -> bool
     ensures { result ≡ is_at s e.now }
 {
@@ -23,7 +23,7 @@ fn excludes(instance: &Instance<'_>, x: &Entry, y: &Entry) -> bool
     x.room == y.room || x.course == y.course || instance.conflict(x.course, y.course)
 }
 
-/// Whether two entries are linked between two periods: one stands in each, and they exclude each other.
+/// Checks whether two entries are linked between two periods: there is one in each, and they conflict.
 pub fn is_linked(instance: &Instance<'_>, a: Slot, b: Slot, x: &Entry, y: &Entry) -> bool
     ensures { result ≡ linked instance.now a b x.now y.now }
 {
@@ -31,7 +31,7 @@ pub fn is_linked(instance: &Instance<'_>, a: Slot, b: Slot, x: &Entry, y: &Entry
     apart && excludes(instance, x, y)
 }
 
-/// Marks the place where the test holds, and says whether it was not marked before.
+/// Marks the place if the test holds, and returns whether the place is newly marked.
 fn mark(flags: &mut Vec<bool>, at: usize, test: bool) -> bool
     requires { at < length flags.old.items }
     ensures size { length flags.new.items ≡ length flags.old.items }
@@ -46,7 +46,7 @@ fn mark(flags: &mut Vec<bool>, at: usize, test: bool) -> bool
     fresh
 }
 
-/// Marks each entry that is linked to the one at the place, and says whether one was not marked before.
+/// Marks each entry that is linked to the one at the place, and returns whether any is newly marked.
 pub fn reach(
     instance: &Instance<'_>,
     entries: &[Entry],
@@ -74,7 +74,7 @@ pub fn reach(
     changed
 }
 
-/// The same for a place that need not be marked: nothing is done where it is not.
+/// Marks each entry that is linked to the one at the place, if this one is marked, and returns whether any is newly marked.
 fn reach_marked(
     instance: &Instance<'_>,
     entries: &[Entry],
@@ -99,7 +99,7 @@ fn reach_marked(
     }
 }
 
-/// Marks each entry that is linked to a marked one, and says whether one was not marked before.
+/// Marks each entry that is linked to a marked one, and returns whether any is newly marked.
 pub fn pass(
     instance: &Instance<'_>,
     entries: &[Entry],

@@ -1,4 +1,4 @@
-//! Chains that change places.
+//! Chains whose entries change periods.
 
 ghost use Rattle.std.specs.Prelude.{◌≡◌, ℕ, ◌<◌, ◌↔◌, true, false, length, All, EachIndex, slice_index, IsTrue};
 ghost use Rattle.tt_lists.specs.Words.{has_number};
@@ -14,7 +14,7 @@ use crate::spreading::{is_linked, stands_at};
 use tt_instance::{Instance, Slot};
 use tt_occupancy::Occupied;
 
-/// Whether a period is one of the week.
+/// Checks whether a period is one of the week.
 fn is_period(instance: &Instance<'_>, slot: Slot) -> bool
     ensures { IsTrue result ↔ IsPeriod instance.now slot }
 {
@@ -22,14 +22,14 @@ fn is_period(instance: &Instance<'_>, slot: Slot) -> bool
 }
 
 impl Chain {
-    /// Whether an entry is a member.
+    /// Checks whether an entry is a member.
     fn has(&self, index: u32) -> bool
         ensures { result ≡ has_number self.now.members index }
     {
         self.members.contains(&index)
     }
 
-    /// Whether another entry is a member where it is linked to one.
+    /// Checks that another entry is a member if it is linked to a given one.
     fn holds_link(&self, occupied: &Occupied<'_, '_>, index: u32, other: u32) -> bool
         requires index { index < length occupied.now.entries }
         requires other { other < length occupied.now.entries }
@@ -42,7 +42,7 @@ impl Chain {
         !is_linked(occupied.instance(), self.from, self.to, &one, &two) || self.has(other)
     }
 
-    /// Whether each entry that is linked to one is a member too.
+    /// Checks that each entry that is linked to a given one is a member.
     fn holds_links_of(&self, occupied: &Occupied<'_, '_>, index: u32) -> bool
         requires { index < length occupied.now.entries }
         ensures { IsTrue result ↔ ((j : ℕ) → j < length occupied.now.entries
@@ -58,7 +58,7 @@ impl Chain {
         true
     }
 
-    /// Whether a member may change its place.
+    /// Checks whether a member may change its period.
     fn may_turn(&self, occupied: &Occupied<'_, '_>, index: u32) -> bool
         ensures { IsTrue result ↔ MayTurn occupied.now.problem occupied.now.entries self.now.from self.now.to
             self.now.members index }
@@ -73,8 +73,8 @@ impl Chain {
             && self.holds_links_of(occupied, index)
     }
 
-    /// Whether the members can change places in a timetable: they hold each entry that is linked to
-    /// one of them, and their other periods are available.
+    /// Checks whether the members can change periods in a timetable: each entry that is linked to
+    /// one of them is a member, and their other periods are available.
     pub fn is_of(&self, occupied: &Occupied<'_, '_>) -> bool
         ensures { IsTrue result ↔ IsOf occupied.now.problem occupied.now.entries self.now }
     {
@@ -91,7 +91,7 @@ impl Chain {
     }
 }
 
-/// Moves each member to the other period, in its room.
+/// Moves each member to the other period, and leaves it in its room.
 pub fn swap_chain(occupied: &mut Occupied<'_, '_>, chain: &Chain)
     requires { IsOf occupied.old.problem occupied.old.entries chain.now }
     ensures swapped { occupied.new ≡ record {

@@ -1,4 +1,4 @@
--- What one entry x, put before a list u, adds to each count. Each lemma has x on one side and only u and x's course on the other.
+-- The change of each count when an entry x is put before a list u. Each lemma has x on one side and only u and x's course on the other.
 use Rattle.std.proofs.Common.{◌≡◌, ℕ, ◌+◌, ◌-◌, ◌*◌, ◌≤◌, Bool, true, false, not, ◌&&◌, ◌||◌, List, ◌∷◌, length, refl, sym, ap, ◌∙◌, arith, inl, inr, eq-eqb, eqb-true}
 use Rattle.std.specs.Prelude.{sum_by, count_by, ◌==◌, min, max}
 use Rattle.std.specs.List.{list_any}
@@ -16,9 +16,9 @@ use Rattle.tt_instance.proofs.Places.{count_slots}
 use Rattle.tt_change.specs.Weight.{repeats, shares, barred, against}
 use Rattle.tt_change.proofs.Differ.{sum_by-differ, differ_below, once_below, once_slot}
 
--- ---- counts of places at which some entry stands
+-- -- counts of places that have an entry
 
--- the places of a kind that has one for each entry: one more where none of the course stood at x's
+-- if each entry has exactly one place of a kind: one place more if no entry of the course was at x's place
 pub places_added : {Y : Type 0} (at : Y → Cell → Bool) (c : ℕ) (u : List Cell) (x : Cell) (places : List Y) (here : Bool) → is_of c x ≡ true → count_by (λ s. at s x) places ≡ 1 → ((s : Y) → at s x ≡ true → list_any (λ e. is_of c e && at s e) u ≡ here) → count_by (λ s. list_any (λ e. is_of c e && at s e) (x ∷ u)) places ≡ count_by (λ s. list_any (λ e. is_of c e && at s e) u) places + one_if (not here)
 places_added {Y} at c u x places here own once same =
     let before : Y → Bool = λ s. list_any (λ e. is_of c e && at s e) u in
@@ -50,7 +50,7 @@ periods-le-entries p t c =
     (each (λ e. sum_by (λ s. one_if (is_of c e && is_at s e)) (all_slots p) ≤ one_if (is_of c e)) (λ e. once_at_most (is_of c e) (λ s. is_at s e) 1 (all_slots p) (count_slots p e)) t) in
     omega (arith, a, spread)
 
--- ---- one entry more
+-- -- another entry
 
 module _ (p : Problem) (u : List Cell) (x : Cell) (ok : InRange p x) where
   own : is_of x.course x ≡ true

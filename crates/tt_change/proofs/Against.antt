@@ -1,4 +1,4 @@
--- The entries that collide with one.
+-- The entries that collide with an entry.
 use Rattle.std.proofs.Common.{◌≡◌, ℕ, Bool, true, false, ◌&&◌, List, refl, sym, ap, ◌∙◌}
 use Rattle.std.specs.Prelude.{◌==◌, count_by}
 use Rattle.tt_lists.proofs.Sums.{one_if, sum_by-same}
@@ -10,7 +10,7 @@ use Rattle.tt_instance.specs.declared.cell.Cell.{Cell}
 use Rattle.tt_rules.specs.Hard.{collide}
 use Rattle.tt_change.specs.Weight.{against}
 
--- the entries that collide with x are those of its period whose courses exclude its own
+-- the entries that collide with x are those of its period whose courses conflict with its own
 pub against_is : (p : Problem) (u : List Cell) (x : Cell) → count_by (λ e. conflict p x.course e.course && is_at (slot x.day x.period) e) u ≡ against p u x
 against_is p u x =
     sum_by-same (λ e. one_if (conflict p x.course e.course && is_at (slot x.day x.period) e)) (λ e. one_if (collide p x e)) u

@@ -1,4 +1,4 @@
--- Lists with the same elements, each as often: every sum over them is the same, and so is each count of a timetable.
+-- Lists with the same elements, each equally often: every sum over them is the same, and so is each count of a timetable.
 use Rattle.std.proofs.Common.{◌≡◌, ℕ, ◌+◌, ◌<◌, Bool, cond, List, [], ◌∷◌, length, get_or, set, refl, sym, ap, ◌∙◌, arith, inl, inr}
 use Rattle.std.specs.Prelude.{sum_by, count_by, remove}
 use Rattle.std.specs.List.{list_any}
@@ -9,7 +9,7 @@ use Rattle.tt_change.specs.Bag.{SameBag}
 use Rattle.tt_lists.proofs.Sums.{one_if, count_by-cons, sum_by-plus, sum_by-same, count_if_any, any_if_count}
 
 module _ {X : Type 0} where
-  -- an element taken to the front
+  -- an element moved to the front
   pub bag_front : (xs : List X) (i : ℕ) (d : X) → i < length xs → SameBag xs (get_or xs i d ∷ remove xs i)
   bag_front xs i d h f =
       omega (arith, sum_by-cons f (get_or xs i d) (remove xs i), sum_by-remove f xs i d h)

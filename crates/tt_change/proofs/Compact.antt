@@ -1,4 +1,4 @@
--- What one entry x, put before a list u, changes in the isolated entries of the curricula.
+-- The change in the isolated entries of the curricula when an entry x is put before a list u.
 use Rattle.std.proofs.Common.{◌≡◌, ℕ, ◌+◌, ◌*◌, Bool, true, false, cond, not, ◌&&◌, ◌||◌, List, ◌∷◌, refl, ap, ◌∙◌, arith, inl, inr, ne_eqb}
 use Rattle.std.specs.Prelude.{count_by, ◌==◌}
 use Rattle.std.specs.List.{list_any}
@@ -29,7 +29,7 @@ module _ (p : Problem) (u : List Cell) (x : Cell) (q : ℕ) where
   abbrev counted_after : ℕ
   counted_after = count_by (λ e. in_curriculum p q e.course && is_isolated p (x ∷ u) q e) (x ∷ u)
 
-  -- no member: nothing changes
+  -- if x's course is no member, nothing changes
   other_kept : in_curriculum p q x.course ≡ false → counted_after ≡ counted
   other_kept no_member =
       let test = λ (e : Cell). in_curriculum p q e.course && is_isolated p (x ∷ u) q e in

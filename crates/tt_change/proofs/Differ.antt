@@ -1,4 +1,4 @@
--- Two sums whose terms differ at one place only.
+-- Two sums whose terms differ only at one place.
 use Rattle.std.proofs.Common.{◌≡◌, ℕ, ◌+◌, ◌*◌, ◌<◌, Bool, true, false, cond, List, refl, sym, ap, arith, inl, inr, eq-eqb, eqb-true}
 use Rattle.std.specs.Prelude.{sum_by, count_by, ◌==◌, ◌⊎◌}
 use Rattle.std.proofs.lemmas.Bool.{cases_Bool}
@@ -10,7 +10,7 @@ use Rattle.tt_lists.proofs.Sums.{sum_by-plus, sum_by-same, sum_by-at_places, cou
 use Rattle.tt_lists.proofs.Numbers.{any_below, count_below}
 use Rattle.tt_instance.proofs.Places.{any_slot, count_slots}
 
--- the terms at the one place that passes are a and b, and elsewhere they are equal
+-- the terms at the only place that passes are a and b, and elsewhere they are equal
 pub sum_by-differ : {X : Type 0} (f g : X → ℕ) (q : X → Bool) (a b : ℕ) (xs : List X) → count_by q xs ≡ 1 → ((x : X) → q x ≡ false → f x ≡ g x) → ((x : X) → q x ≡ true → (f x ≡ a) × (g x ≡ b)) → sum_by f xs + b ≡ sum_by g xs + a
 sum_by-differ {X} f g q a b xs once same here =
     let each = sum_by-same (λ x. f x + cond (q x) b 0) (λ x. g x + cond (q x) a 0) xs (λ x. at x (cases_Bool (q x))) in
@@ -24,13 +24,13 @@ sum_by-differ {X} f g q a b xs once same here =
     at x (inl e) = let h = here x e in rw e (omega (arith, h.0, h.1))
     at x (inr e) = let h = same x e in rw e (omega arith)
 
--- each number below a bound is there once
+-- each number below a bound occurs once
 pub once_below : (c n : ℕ) → c < n → count_by (λ i. c == i) (range_below n) ≡ 1
 once_below c n h =
     let a = count_if_any (λ i. c == i) (range_below n) (any_below (λ i. c == i) n c h (eq-eqb c c refl)) in
     omega (arith, count_below c n)
 
--- each slot is there once
+-- each slot occurs once
 pub once_slot : (p : Problem) (e : Cell) → e.day < p.days → e.period < p.periods → count_by (λ s. is_at s e) (all_slots p) ≡ 1
 once_slot p e h k =
     let a = count_if_any (λ s. is_at s e) (all_slots p) (any_slot p (λ s. is_at s e) e.day e.period h k (rw (eq-eqb e.day e.day refl) (eq-eqb e.period e.period refl))) in

@@ -1,4 +1,4 @@
--- Weights of an entry beside one other, as the definitions compute them.
+-- Weights of an entry next to one other entry, as computed by the definitions.
 use Rattle.std.proofs.Common.{◌≡◌, List, [], ◌∷◌, refl}
 use Rattle.tt_instance.specs.declared.cell.Cell.{Cell}
 use Rattle.tt_instance.proofs.Examples.{at, mini, gap}
@@ -15,7 +15,7 @@ on_top = refl
 unavailable_there : hard_weight gap other (at 0 0 0 1) ≡ 1
 unavailable_there = refl
 
--- the other one is isolated no more
+-- the other entry is no longer isolated
 next_to_it : cost_fall mini other (at 0 0 0 1) ≡ 2
 next_to_it = refl
 

@@ -1,4 +1,4 @@
--- One entry in the place of another of its course: the counts differ by the weights of the two.
+-- An entry replaced by another of its course: the counts differ by the weights of the two.
 use Rattle.std.proofs.Common.{◌≡◌, ℕ, ◌+◌, ◌-◌, ◌<◌, List, ◌∷◌, length, get_or, set, ap, arith}
 use Rattle.std.specs.Prelude.{min, max, remove, All}
 use Rattle.std.proofs.lemmas.List.Elements.{All-set}
@@ -48,7 +48,7 @@ module _ (p : Problem) (t : List Cell) (i : ℕ) (y d : Cell) (h : i < length t)
   cost_moved =
       omega (arith, cost_exchanged p (remove t i) (get_or t i d) y okx oky e, cost_same p t (get_or t i d ∷ remove t i) (bag_front t i d h), cost_same p (set t i y) (y ∷ remove t i) (bag_set t i y d h))
 
--- two entries, one after the other
+-- two entries replaced in turn
 module _ (p : Problem) (t : List Cell) (i j : ℕ) (x y d : Cell) (h : i < length t) (k : j < length (set t i x)) (ok : All (InRange p) t) (okx : InRange p x) (oky : InRange p y) (e : (get_or t i d).course ≡ x.course) (f : (get_or (set t i x) j d).course ≡ y.course) where
   in_range_still : InRange p (get_or (set t i x) j d)
   in_range_still = All-set (InRange p) t i x okx ok j d k

@@ -1,4 +1,4 @@
--- The isolated entries round a period, by the counts of the periods next to it.
+-- The isolated entries around a period, by the counts of the periods next to it.
 use Rattle.std.proofs.Common.{◌≡◌, ℕ, ◌+◌, ◌-◌, Bool, true, false, cond, not, ◌&&◌, ◌||◌, List, [], ◌∷◌, refl, sym, ap, ◌∙◌, arith, inl, inr, eq-eqb, ne_eqb}
 use Rattle.std.specs.Prelude.{sum_by, ◌==◌, nat_lt}
 use Rattle.std.specs.List.{list_any}
@@ -13,7 +13,7 @@ use Rattle.tt_lists.proofs.Tests.{list_any-same_at, list_any-or}
 use Rattle.tt_change.specs.Weight.{joined}
 use Rattle.tt_change.specs.Standing.{stands, stands_beside, joined_before, joined_after}
 
--- a test that does not speak of the element
+-- a test that does not depend on the element
 list_any-also : {X : Type 0} (k : Bool) (p : X → Bool) (xs : List X) → list_any (λ x. k && p x) xs ≡ (k && list_any p xs)
 list_any-also true p [] = refl
 list_any-also false p [] = refl
@@ -30,7 +30,7 @@ one_before a s = elim (cases_lt 0 s) [
   | inr h ↦ ne_eqb (a + 1) s (λ e. omega arith) ∙ sym (ap (λ b. b && (a == s - 1)) (le-ltb 0 s h))
 ]
 
--- an entry of the curriculum stands next to a period where it stands in the period before or after
+-- an entry of the curriculum is next to a period if and only if one is in the period before or after it
 beside : (p : Problem) (u : List Cell) (q d s : ℕ) → list_any (λ e. in_curriculum p q e.course && next_to (slot_of e) (slot d s)) u ≡ stands_beside p u q d s
 beside p u q d s =
     let after = λ (e : Cell). in_curriculum p q e.course && is_at (slot d (s + 1)) e in
@@ -149,12 +149,12 @@ term a b d s i k = elim (cases_eq i d) [
     none false w false true o m l = refl
     none false w false false o m l = refl
 
--- terms that a test turns on together
+-- terms that depend on one common test
 sum_by-if : {X : Type 0} (k : Bool) (f : X → ℕ) (xs : List X) → sum_by (λ x. cond k (f x) 0) xs ≡ cond k (sum_by f xs) 0
 sum_by-if true f xs = refl
 sum_by-if false f xs = sum_by-nothing xs
 
--- the isolated entries that one would join, by the periods next to it
+-- the isolated entries that an entry would join, by the periods next to it
 pub joined_by_periods : (p : Problem) (u : List Cell) (x : Cell) (q : ℕ) → joined p u x q ≡ joined_before p u q x.day x.period + joined_after p u q x.day x.period
 joined_by_periods p u x q =
     let d = x.day in

@@ -25,7 +25,7 @@ pub collide-sym : (p : Problem) (x y : Cell) → collide p x y ≡ collide p y x
 collide-sym p x y = same_if (collide p x y) (collide p y x) (collide-turn p x y) (collide-turn p y x)
 
 module _ (p : Problem) (s t : List Cell) (same : SameBag s t) where
-  -- the places of a kind at which the course has an entry
+  -- the places of a kind that have an entry of the course
   places_same : {Y : Type 0} (at : Y → Cell → Bool) (c : ℕ) (places : List Y) → count_by (λ k. list_any (λ e. is_of c e && at k e) s) places ≡ count_by (λ k. list_any (λ e. is_of c e && at k e) t) places
   places_same at c places =
       sum_by-same (λ k. one_if (list_any (λ e. is_of c e && at k e) s)) (λ k. one_if (list_any (λ e. is_of c e && at k e) t)) places

@@ -1,5 +1,5 @@
--- Only proofs rest on this file: nobody has to believe it.
--- The entries of a curriculum's courses round a period of a day.
+-- Not part of the trusted statement: only proofs use this file.
+-- The entries of a curriculum's courses around a period of a day.
 use Rattle.std.specs.Prelude.{ℕ, ◌+◌, ◌-◌, Bool, cond, not, ◌&&◌, ◌||◌, List, count_by, nat_lt}
 use Rattle.std.specs.List.{list_any}
 use Rattle.tt_instance.specs.Problem.{Problem}
@@ -7,15 +7,15 @@ use Rattle.tt_instance.specs.Cells.{slot, is_at}
 use Rattle.tt_instance.specs.Courses.{in_curriculum}
 use Rattle.tt_instance.specs.declared.cell.Cell.{Cell}
 
--- how many entries of the curriculum stand in the period
+-- the number of entries of the curriculum in the period
 abbrev pub standing : Problem → List Cell → ℕ → ℕ → ℕ → ℕ
 standing p u q d s = count_by (λ e. in_curriculum p q e.course && is_at (slot d s) e) u
 
--- some entry of the curriculum stands in the period
+-- whether some entry of the curriculum is in the period
 abbrev pub stands : Problem → List Cell → ℕ → ℕ → ℕ → Bool
 stands p u q d s = list_any (λ e. in_curriculum p q e.course && is_at (slot d s) e) u
 
--- and in a period next to it
+-- whether some entry of the curriculum is in a period next to this one
 abbrev pub stands_beside : Problem → List Cell → ℕ → ℕ → ℕ → Bool
 stands_beside p u q d s = stands p u q d (s + 1) || (nat_lt 0 s && stands p u q d (s - 1))
 
@@ -23,6 +23,6 @@ stands_beside p u q d s = stands p u q d (s + 1) || (nat_lt 0 s && stands p u q 
 abbrev pub joined_before : Problem → List Cell → ℕ → ℕ → ℕ → ℕ
 joined_before p u q d s = cond (nat_lt 0 s && not (stands_beside p u q d (s - 1))) (standing p u q d (s - 1)) 0
 
--- and those in the period after
+-- the isolated entries in the period after, which an entry of the curriculum in this period would join
 abbrev pub joined_after : Problem → List Cell → ℕ → ℕ → ℕ → ℕ
 joined_after p u q d s = cond (not (stands_beside p u q d (s + 1))) (standing p u q d (s + 1)) 0

@@ -1,4 +1,4 @@
-//! What one entry adds to each count of a timetable.
+//! The contribution of one entry to each count of a timetable.
 #![tactic(auto)]
 
 ghost use Rattle.std.specs.Prelude.{◌≡◌, ◌+◌, List, ◌∷◌};
@@ -15,8 +15,8 @@ pub fn order_does_not_count()
     ensures cost { (p : Problem) (s t : List Cell) → SameBag s t → cost p s ≡ cost p t }
 {}
 
-/// Beside the same entries, one entry in the place of another of its course changes the hard count
-/// and the cost by the difference of their weights.
+/// If one entry replaces another of its course and all other entries remain the same, the hard count
+/// and the cost change by the difference of the two entries' weights.
 pub fn exchanged_entries_change_by_weights()
     ensures hard { (p : Problem) (u : List Cell) (x y : Cell) → InRange p x → InRange p y
         → x.course ≡ y.course

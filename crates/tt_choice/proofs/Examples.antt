@@ -1,11 +1,11 @@
--- A split on a small instance, as the definitions judge it.
+-- A split on a small instance, checked by the definitions.
 use Rattle.std.proofs.Common.{[], refl, lit≤}
 use Rattle.tt_instance.proofs.Examples.{at, gap}
 use Rattle.tt_paths.specs.declared.facts.Who.TheVariants.{Course}
 use Rattle.tt_paths.proofs.Examples.{first_day}
 use Rattle.tt_choice.specs.Choice.{Aims}
 
--- a in the first period aims at its cell there
+-- a in the first period aims at its cell in this period
 aims_at_first : Aims gap [] (first_day (Course 0) 0)
 aims_at_first = record {
   cell = at 0 0 0 0;

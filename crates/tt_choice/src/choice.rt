@@ -1,4 +1,4 @@
-//! The choice of a pattern to split a node by. Of the choice nothing is proved but that it aims at a free cell.
+//! The choice of a pattern to split a node by. Nothing is proved about the choice except that it aims at a free cell.
 
 ghost use Rattle.std.specs.Prelude.{◌≡◌, ◌<◌, length, IfOk, IfSome, IsNone};
 ghost use Rattle.tt_instance.specs.Cells.{InRange};
@@ -13,16 +13,16 @@ use std::alloc::{AllocError, Global};
 use tt_instance::Instance;
 use tt_paths::{Cell, Path, Pattern, Who};
 
-/// The most ways to choose the periods of all courses, as a logarithm in sixteenths, where one curriculum is fixed
-/// after the other: a search below is likely to end.
+/// The maximum number of ways to choose the periods of all courses, as a logarithm in sixteenths, for fixing one curriculum
+/// after another: then a search below is likely to end.
 const FEW_WAYS: u64 = 1_850;
 
-/// The most pairs of courses, period by period, that are looked at for one choice.
+/// The maximum number of pairs of courses, counted for each period, that are visited for one choice.
 const MOST_PAIRS: u64 = 4_194_304;
 
-// ---- which course
+// -- the choice of a course
 
-/// The curriculum whose courses are the least free in the mean.
+/// Returns the curriculum whose courses are the least free on average.
 fn choose_curriculum<'i, P: Path<'i>>(path: &P, freedom: &Freedom) -> Option<u32>
     ensures { IfSome result (λ q. q < length (P.problem path.now).curricula) }
 {
@@ -40,8 +40,8 @@ fn choose_curriculum<'i, P: Path<'i>>(path: &P, freedom: &Freedom) -> Option<u32
     found
 }
 
-/// The course whose periods are chosen next: a forced one, else the least free one of the least free
-/// curriculum, so that one curriculum is fixed after the other.
+/// Returns the course whose periods are chosen next: a forced one, else the least free one of the least free
+/// curriculum, so that one curriculum is fixed after another.
 fn choose_course<'i, P: Path<'i>>(path: &P, freedom: &Freedom) -> Option<u32> {
     let least = freedom.least()?;
     if freedom.is_forced(least) {
@@ -53,9 +53,9 @@ fn choose_course<'i, P: Path<'i>>(path: &P, freedom: &Freedom) -> Option<u32> {
     }
 }
 
-// ---- which period
+// -- the choice of a period
 
-/// A period and what a lecture in it is thought to cost.
+/// A period and the estimated cost of a lecture in it.
 #[derive(Clone, Copy)]
 struct Estimate {
     day: u32,
@@ -63,7 +63,7 @@ struct Estimate {
     cost: u64,
 }
 
-/// The period of a day where a lecture of the course takes the fewest seats too many, if it is cheaper.
+/// Returns the period of a day in which a lecture of the course lacks the fewest seats, if it is cheaper than the one found.
 fn cheapest_on<'i, P: Path<'i>>(
     path: &P,
     course: u32,
@@ -103,7 +103,7 @@ fn cheapest_period<'i, P: Path<'i>>(path: &P, course: u32) -> Option<Estimate>
     found
 }
 
-/// The pattern of a course in a period, if it is new and one of its cells is free.
+/// Returns the pattern of a course in a period, if it is new and one of its cells is free.
 fn aim_at<'i, P: Path<'i>>(path: &P, course: u32, day: u32, period: u32) -> Option<Pattern>
     requires course { course < length (P.problem path.now).courses }
     requires day { day < (P.problem path.now).days }
@@ -133,7 +133,7 @@ fn aim_at<'i, P: Path<'i>>(path: &P, course: u32, day: u32, period: u32) -> Opti
     None
 }
 
-/// The same, where the numbers may be none of the instance's.
+/// Returns the pattern of a course in a period, if the numbers are the instance's, the pattern is new and one of its cells is free.
 fn aim_within<'i, P: Path<'i>>(path: &P, course: u32, day: u32, period: u32) -> Option<Pattern>
     ensures { IfSome result (IsNewSplit (P.problem path.now) (P.facts path.now)) }
 {
@@ -155,16 +155,16 @@ fn split_by_period<'i, P: Path<'i>>(path: &P, freedom: &Freedom) -> Option<Patte
     aim_at(path, course, estimate.day, estimate.period)
 }
 
-// ---- by what both children come to
+// -- the choice by the gains of both children
 
-/// Whether each course can be tried in each period.
+/// Checks that the number of courses and periods is small enough to try each course in each period.
 fn is_small(instance: &Instance<'_>) -> bool {
     let courses = u64::from(instance.courses());
     let periods = u64::from(instance.days()).saturating_mul(u64::from(instance.periods()));
     courses.saturating_mul(courses).saturating_mul(periods) <= MOST_PAIRS
 }
 
-/// Where a search is not likely to end: the course and the period whose children gain most.
+/// Returns the course and the period whose children gain most, if a search is not likely to end.
 fn split_strongly<'i, P: Path<'i>>(
     alloc: Global,
     path: &P,
@@ -183,9 +183,9 @@ fn split_strongly<'i, P: Path<'i>>(
     }
 }
 
-// ---- which room
+// -- the choice of a room
 
-/// What a lecture in a cell is thought to cost: the seats that it lacks, and a room more.
+/// Returns the estimated cost of a lecture in a cell: the seats that it lacks, and another room.
 fn room_cost<'i, P: Path<'i>>(path: &P, cell: Cell) -> u32
     requires { InRange (P.problem path.now) cell }
 {
@@ -196,7 +196,7 @@ fn room_cost<'i, P: Path<'i>>(path: &P, cell: Cell) -> u32
     excess.saturating_add(u32::from(!path.pinned_room(cell.course, cell.room)))
 }
 
-/// The free cell that is thought to cost least, in the period of a free one.
+/// Returns the free cell with the lowest estimated cost, in the period of a given free cell.
 fn cheapest_room<'i, P: Path<'i>>(path: &P, cell: Cell) -> Cell
     requires range { InRange (P.problem path.now) cell }
     requires free { IsFree (P.problem path.now) (P.facts path.now) cell }
@@ -213,7 +213,7 @@ fn cheapest_room<'i, P: Path<'i>>(path: &P, cell: Cell) -> Cell
     found
 }
 
-/// The own pattern of a free cell.
+/// Returns the own pattern of a free cell.
 fn split_by_cell<'i, P: Path<'i>>(path: &P) -> Option<Pattern>
     ensures some { IfSome result (IsNewSplit (P.problem path.now) (P.facts path.now)) }
     ensures none { IsNone result → IsPinnedDown (P.problem path.now) (P.facts path.now) }
@@ -224,7 +224,7 @@ fn split_by_cell<'i, P: Path<'i>>(path: &P) -> Option<Pattern>
     }
 }
 
-/// A pattern that splits a node which no leaf closes: of a course and a period, or of one cell once no
+/// Returns a pattern that splits a node which no leaf closes: of a course and a period, or of one cell once no
 /// course has an open period.
 pub fn choose_split<'i, P: Path<'i>>(alloc: Global, path: &P) -> Result<Option<Pattern>, AllocError>
     ensures some { IfOk result (λ found. IfSome found (IsNewSplit (P.problem path.now) (P.facts path.now))) }

@@ -1,18 +1,18 @@
-//! Sets of courses as bits, and the courses that conflict with each. Of the tables nothing is proved.
+//! Sets of courses as bits, and the courses that conflict with each course. Nothing is proved about the tables.
 
 use std::alloc::{AllocError, Global};
 use tt_instance::Instance;
 
-/// The courses of one word.
+/// The number of courses in one word.
 const WORD: u32 = 64;
 
-/// The course of the lowest bit of a word.
+/// Returns the course of the lowest bit of a word.
 pub fn first_course(word: u32, set: u64) -> u32 {
     word.saturating_mul(WORD)
         .saturating_add(set.trailing_zeros())
 }
 
-/// The bit of a course in a word, none where the course stands in another.
+/// Returns the bit of a course in a word, or no bit if the course is in another word.
 pub fn bit_in(word: u32, course: u32) -> u64 {
     if course / WORD == word {
         1u64.checked_shl(course % WORD).unwrap_or(0)
@@ -28,7 +28,7 @@ pub struct CourseSet {
 }
 
 impl CourseSet {
-    /// The set of some courses of an instance.
+    /// Returns the set of some courses of an instance.
     pub fn new(
         alloc: Global,
         instance: &Instance<'_>,
@@ -41,7 +41,7 @@ impl CourseSet {
         Ok(CourseSet { words })
     }
 
-    /// A word of it.
+    /// Returns a word of the set.
     pub fn word(&self, word: u32) -> u64 {
         self.words.get(word as usize).copied().unwrap_or(0)
     }
@@ -51,7 +51,7 @@ fn words_for(instance: &Instance<'_>) -> u32 {
     instance.courses().div_ceil(WORD)
 }
 
-/// Puts a course into the set that begins at a place.
+/// Adds a course to the set that begins at an index.
 fn put_in(words: &mut [u64], first: usize, course: u32) {
     let word = course / WORD;
     if let Some(bits) = words.get_mut(first.saturating_add(word as usize)) {
@@ -67,7 +67,7 @@ pub struct Conflicts {
 }
 
 impl Conflicts {
-    /// The conflicts of an instance.
+    /// Returns the conflicts of an instance.
     pub fn new(alloc: Global, instance: &Instance<'_>) -> Result<Conflicts, AllocError> {
         let words = words_for(instance);
         let size = (words as usize).saturating_mul(instance.courses() as usize);
@@ -94,12 +94,12 @@ impl Conflicts {
         }
     }
 
-    /// How many words a set takes.
+    /// Returns the number of words of a set.
     pub fn words(&self) -> u32 {
         self.words
     }
 
-    /// A word of the courses that conflict with a course.
+    /// Returns a word of the courses that conflict with a course.
     pub fn word(&self, course: u32, word: u32) -> u64 {
         let place = self.row(course).saturating_add(word as usize);
         self.rows.get(place).copied().unwrap_or(0)

@@ -7,7 +7,7 @@ ghost use Rattle.tt_choice.specs.Choice.{IsFree};
 
 use tt_paths::{Cell, Path, Pattern, Who};
 
-/// The pattern that matches a cell alone.
+/// Returns the pattern that matches only a cell.
 pub fn own_pattern(cell: Cell) -> Pattern
     ensures { result ≡ own_pattern cell }
 {
@@ -19,7 +19,7 @@ pub fn own_pattern(cell: Cell) -> Pattern
     }
 }
 
-/// Whether a cell is free.
+/// Checks whether a cell is free.
 pub fn is_free<'i, P: Path<'i>>(path: &P, cell: Cell) -> bool
     requires { InRange (P.problem path.now) cell }
     ensures { IsTrue result ↔ IsFree (P.problem path.now) (P.facts path.now) cell }
@@ -75,7 +75,7 @@ fn free_of<'i, P: Path<'i>>(path: &P, course: u32) -> Option<Cell>
     None
 }
 
-/// A cell that is free on a path; without one, each live cell's own pattern stands there as yes.
+/// Returns a cell that is free on a path; if there is none, each live cell's own pattern is on the path as yes.
 pub fn find_free<'i, P: Path<'i>>(path: &P) -> Option<Cell>
     ensures some { IfSome result (λ x. InRange (P.problem path.now) x × IsFree (P.problem path.now) (P.facts path.now) x) }
     ensures none { IsNone result → IsPinnedDown (P.problem path.now) (P.facts path.now) }

@@ -1,19 +1,19 @@
-//! How free the courses of a path still are.
+//! The freedom that the courses of a path still have.
 
 use crate::prospects::Prospects;
 use std::alloc::{AllocError, Global};
 
-/// The periods of a course that are live and not pinned, and its lectures that are not pinned.
+/// The number of periods of a course that are live and not pinned, and the number of its lectures that are not pinned.
 #[derive(Clone, Copy)]
 pub struct Leeway {
     pub open: u32,
     pub left: u32,
 }
 
-/// How free a course without an open period counts.
+/// The freedom of a course without an open period.
 const DONE: u32 = u32::MAX;
 
-/// A number's logarithm to the base of 2, in sixteenths.
+/// Returns a number's logarithm to the base 2, in sixteenths.
 fn logarithm(number: u32) -> u32 {
     let whole = number.checked_ilog2().unwrap_or(0);
     let scaled = number.saturating_mul(16).checked_shr(whole).unwrap_or(16);
@@ -23,7 +23,7 @@ fn logarithm(number: u32) -> u32 {
 }
 
 impl Leeway {
-    /// The logarithm of the ways to choose the periods that a course still wants, in sixteenths; 0 where they are forced.
+    /// Returns the logarithm of the number of ways to choose the periods that a course still needs, in sixteenths; 0 if they are forced.
     pub fn ways(self) -> u32 {
         let mut total: u32 = 0;
         for chosen in 0..self.left.min(self.open.saturating_sub(self.left)) {
@@ -34,7 +34,7 @@ impl Leeway {
         total
     }
 
-    /// One open period less.
+    /// Returns the leeway with one open period less.
     pub fn barred(self) -> Leeway {
         Leeway {
             open: self.open.saturating_sub(1),
@@ -42,7 +42,7 @@ impl Leeway {
         }
     }
 
-    /// One open period less, with a lecture in it.
+    /// Returns the leeway with one open period less and a lecture in it.
     pub fn pinned(self) -> Leeway {
         Leeway {
             open: self.open.saturating_sub(1),
@@ -51,14 +51,14 @@ impl Leeway {
     }
 }
 
-/// How free each course is, by number.
+/// The freedom of each course, by number.
 #[derive(Drop)]
 pub struct Freedom {
     ways: Vec<u32>,
 }
 
 impl Freedom {
-    /// How free the courses of a path are.
+    /// Returns the freedom of the courses of a path.
     pub fn new(alloc: Global, prospects: &Prospects) -> Result<Freedom, AllocError> {
         let mut all = Vec::new(alloc);
         for prospect in prospects.courses() {
@@ -75,7 +75,7 @@ impl Freedom {
         self.ways.get(course as usize).copied().unwrap_or(DONE)
     }
 
-    /// The logarithm of the ways to choose all periods that are wanted, in sixteenths.
+    /// Returns the logarithm of the number of ways to choose all periods that are needed, in sixteenths.
     pub fn total(&self) -> u64 {
         let mut total: u64 = 0;
         for ways in &self.ways {
@@ -86,7 +86,7 @@ impl Freedom {
         total
     }
 
-    /// The least free of some courses that has an open period.
+    /// Returns the least free of some courses that has an open period.
     pub fn least_of(&self, courses: &[u32]) -> Option<u32> {
         let mut found = None;
         let mut least = DONE;
@@ -100,7 +100,7 @@ impl Freedom {
         found
     }
 
-    /// The least free course that has an open period.
+    /// Returns the least free course that has an open period.
     pub fn least(&self) -> Option<u32> {
         let mut found = None;
         let mut least = DONE;
@@ -115,13 +115,13 @@ impl Freedom {
         found
     }
 
-    /// Whether the periods of a course are forced.
+    /// Checks whether the periods of a course are forced.
     pub fn is_forced(&self, course: u32) -> bool {
         self.of(course) == 0
     }
 
-    /// How free courses are in the mean, in 256ths, where one without an open period is not free at all; nothing
-    /// where none has one.
+    /// Returns the average freedom of courses, in 256ths, where a course without an open period counts as 0; `None`
+    /// if no course has one.
     pub fn mean(&self, courses: &[u32]) -> Option<u64> {
         let mut total: u64 = 0;
         let mut any = false;

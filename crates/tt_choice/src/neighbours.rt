@@ -1,4 +1,4 @@
-//! How many members of each curriculum have a live cell in each period. Of the tables nothing is proved.
+//! The number of members of each curriculum with a live cell in each period. Nothing is proved about the tables.
 
 ghost use Rattle.std.specs.Prelude.{◌<◌, length};
 
@@ -13,7 +13,7 @@ pub struct Neighbours {
     periods: u32,
     /// The pinned periods as bits, by curriculum and day.
     pinned: Vec<u64>,
-    /// How many members are live, by curriculum, day and period.
+    /// The number of live members, by curriculum, day and period.
     live: Vec<u32>,
 }
 
@@ -72,7 +72,7 @@ impl Neighbours {
         }
     }
 
-    /// The members that have live cells.
+    /// Counts the members that have live cells.
     pub fn new(
         alloc: Global,
         instance: &Instance<'_>,
@@ -85,7 +85,7 @@ impl Neighbours {
         Ok(found)
     }
 
-    /// How many members have a live cell in a period.
+    /// Returns the number of members with a live cell in a period.
     pub fn live(&self, curriculum: u32, day: u32, period: u32) -> u32 {
         if period >= self.periods {
             return 0;
@@ -97,7 +97,7 @@ impl Neighbours {
         self.live.get(place).copied().unwrap_or(0)
     }
 
-    /// How many members have a live cell beside a period.
+    /// Returns the number of members with a live cell in the periods before and after a period.
     pub fn beside(&self, curriculum: u32, day: u32, period: u32) -> u32 {
         let before = match period.checked_sub(1) {
             Some(earlier) => self.live(curriculum, day, earlier),
@@ -106,7 +106,7 @@ impl Neighbours {
         before.saturating_add(self.live(curriculum, day, period.saturating_add(1)))
     }
 
-    /// The pinned periods of a curriculum on a day, as bits.
+    /// Returns the pinned periods of a curriculum on a day, as bits.
     pub fn pinned(&self, curriculum: u32, day: u32) -> u64 {
         self.pinned
             .get(self.row(curriculum, day))

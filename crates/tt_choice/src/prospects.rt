@@ -1,4 +1,4 @@
-//! What a path leaves to each course, in tables. Of them nothing is proved.
+//! The possibilities that a path leaves to each course, in tables. Nothing is proved about them.
 
 ghost use Rattle.std.specs.Prelude.{◌<◌, length};
 
@@ -20,32 +20,32 @@ pub struct DayPeriods {
 }
 
 impl DayPeriods {
-    /// The live ones.
+    /// Returns the live periods.
     pub fn live(self) -> u64 {
         self.open | self.pinned
     }
 }
 
-/// The bit of a period.
+/// Returns the bit of a period.
 pub fn bit_of(period: u32) -> u64 {
     1u64.checked_shl(period).unwrap_or(0)
 }
 
-/// What a course has left.
+/// The possibilities that a course has left.
 #[derive(Clone, Copy)]
 pub struct Prospect {
     pub leeway: Leeway,
-    /// The ways to choose the periods that it still wants, and by how much they fall once an open period is barred or pinned.
+    /// The ways to choose the periods that it still needs, and the amount by which they fall if an open period is barred or pinned.
     pub ways: u32,
     pub fall_barred: u32,
     pub fall_pinned: u32,
-    /// What the working days cost that it must lack.
+    /// The cost of the working days that it must lack.
     pub days: u64,
-    /// The same once one more day is lost.
+    /// The cost of the working days that it must lack after another day is lost.
     pub days_less: u64,
 }
 
-/// What each course has left.
+/// The possibilities that each course has left.
 #[derive(Drop)]
 pub struct Prospects {
     days: usize,
@@ -54,7 +54,7 @@ pub struct Prospects {
     courses: Vec<Prospect>,
 }
 
-/// The periods of a course on a day.
+/// Returns the periods of a course on a day.
 fn periods_of<'i, P: Path<'i>>(path: &P, course: u32, day: u32) -> DayPeriods
     requires course { course < length (P.problem path.now).courses }
     requires day { day < (P.problem path.now).days }
@@ -66,7 +66,7 @@ fn periods_of<'i, P: Path<'i>>(path: &P, course: u32, day: u32) -> DayPeriods
     }
 }
 
-/// What the working days cost that a course must lack where this many are live.
+/// Returns the cost of the working days that a course must lack if `live` days are live.
 fn days_cost(instance: &Instance<'_>, course: u32, live: u32) -> u64
     requires { course < length instance.now.courses }
 {
@@ -107,7 +107,7 @@ fn push_week<'i, P: Path<'i>>(
 }
 
 impl Prospects {
-    /// What a path leaves to each course.
+    /// Returns the possibilities that a path leaves to each course.
     pub fn new<'i, P: Path<'i>>(alloc: Global, path: &P) -> Result<Prospects, AllocError> {
         let mut weeks = Vec::new(alloc);
         let mut courses = Vec::new(alloc);
@@ -121,12 +121,12 @@ impl Prospects {
         })
     }
 
-    /// What each course has left, by number.
+    /// Returns the possibilities of each course, by number.
     pub fn courses(&self) -> &[Prospect] {
         self.courses.as_slice()
     }
 
-    /// The periods of a course on a day.
+    /// Returns the periods of a course on a day.
     pub fn on(&self, course: u32, day: u32) -> DayPeriods {
         let place = (course as usize)
             .saturating_mul(self.days)
@@ -137,12 +137,12 @@ impl Prospects {
             .unwrap_or(DayPeriods { open: 0, pinned: 0 })
     }
 
-    /// What a course has left; none where it is not there.
+    /// Returns the possibilities that a course has left, or `None` if the course doesn't exist.
     pub fn of(&self, course: u32) -> Option<Prospect> {
         self.courses.get(course as usize).copied()
     }
 
-    /// Whether a period of a course is live and not pinned.
+    /// Checks whether a period of a course is live and not pinned.
     pub fn is_open(&self, course: u32, day: u32, period: u32) -> bool {
         self.on(course, day).open & bit_of(period) != 0
     }

@@ -1,4 +1,4 @@
-//! The choice of a course and a period by what both children would come to. Of the choice nothing is proved.
+//! The choice of a course and a period by the gains of both children. Nothing is proved about the choice.
 
 ghost use Rattle.std.specs.Prelude.{◌<◌, length};
 
@@ -8,7 +8,7 @@ use crate::prospects::{Prospects, bit_of};
 use std::alloc::{AllocError, Global};
 use tt_instance::{Instance, Slot};
 
-/// The parts of a cost point in which a gain is counted: a sixteenth of a bit of the ways to choose is worth 16 of them.
+/// The number of parts of a cost point in which a gain is counted: a sixteenth of a bit of the ways to choose counts 16 parts.
 const POINT: u64 = 12_288;
 
 /// The gain of a child that a leaf closes, in parts.
@@ -17,16 +17,16 @@ const CLOSED: u64 = 64 * POINT;
 /// The cost of an isolated lecture.
 const ISOLATED: u64 = 2;
 
-/// What a pinned period is worth that may still be left alone, by how many live members are beside it, in
+/// The value of a pinned period that may still become isolated, by the number of live members next to it, in
 /// parts: a hundredth of a point, and 0.8 as much for each of them.
 const NEARLY_ALONE: [u64; 9] = [123, 98, 79, 63, 50, 40, 32, 26, 21];
 
-/// What a child gains on its parent.
+/// The gain of a child compared with its parent.
 #[derive(Clone, Copy)]
 struct Gain {
-    /// How much more its claims are worth, in cost points.
+    /// The increase of the value of its claims, in cost points.
     cost: u64,
-    /// What makes it likely to be worth more below, in parts.
+    /// The value of what makes further gains below likely, in parts.
     hope: u64,
 }
 
@@ -38,7 +38,7 @@ impl Gain {
         self.hope = self.hope.saturating_add(more.hope);
     }
 
-    /// In parts, and never nothing.
+    /// Returns the gain in parts, and at least 1.
     fn parts(self) -> u64 {
         self.cost
             .saturating_mul(POINT)
@@ -47,7 +47,7 @@ impl Gain {
     }
 }
 
-/// What the two children of a split would gain.
+/// The gains of the two children of a split.
 #[derive(Clone, Copy)]
 struct Gains {
     yes: Gain,
@@ -63,7 +63,7 @@ pub struct Candidate {
     score: u64,
 }
 
-/// The tables that a choice is made from.
+/// The tables on which a choice is based.
 #[derive(Clone, Copy)]
 struct Scene<'s, 'i> {
     instance: &'s Instance<'i>,
@@ -76,12 +76,12 @@ fn weight(beside: u32) -> u64 {
     NEARLY_ALONE.get(beside as usize).copied().unwrap_or(0)
 }
 
-/// What a fall of the ways to choose is worth, in parts.
+/// Returns the value of a fall of the ways to choose, in parts.
 fn worth_of_fall(fall: u32) -> u64 {
     u64::from(fall).saturating_mul(16)
 }
 
-/// What it is worth that a course loses an open period.
+/// Returns the gain if a course loses an open period.
 fn loss(prospects: &Prospects, course: u32, slot: Slot) -> Gain {
     let Some(prospect) = prospects.of(course) else {
         return Gain::NONE;
@@ -102,7 +102,7 @@ fn loss(prospects: &Prospects, course: u32, slot: Slot) -> Gain {
     }
 }
 
-/// What it is worth for the course itself that it is in an open period.
+/// Returns the gain for the course itself if it is in an open period.
 fn hold(prospects: &Prospects, course: u32) -> Gain {
     let Some(prospect) = prospects.of(course) else {
         return Gain::NONE;
@@ -117,7 +117,7 @@ fn hold(prospects: &Prospects, course: u32) -> Gain {
     }
 }
 
-/// What a pinned period of a curriculum gains when this many members beside it lose a period.
+/// Returns the gain for a pinned period of a curriculum if `lost` of the members next to it lose a period.
 fn isolation(beside: u32, lost: u32) -> Gain {
     let left = beside.saturating_sub(lost);
     if left == beside {
@@ -135,7 +135,7 @@ fn isolation(beside: u32, lost: u32) -> Gain {
     }
 }
 
-/// What the pinned periods beside a period gain when this many members lose it.
+/// Returns the gain for the pinned periods next to a period if `lost` members lose it.
 fn thin_out(neighbours: &Neighbours, curriculum: u32, slot: Slot, lost: u32) -> Gain {
     let mut gain = Gain::NONE;
     let pinned = neighbours.pinned(curriculum, slot.day);
@@ -153,7 +153,7 @@ fn thin_out(neighbours: &Neighbours, curriculum: u32, slot: Slot, lost: u32) -> 
     gain
 }
 
-/// What it is worth that a period of a curriculum is pinned.
+/// Returns the gain if a period of a curriculum is pinned.
 fn pin(neighbours: &Neighbours, curriculum: u32, slot: Slot) -> Gain {
     if neighbours.pinned(curriculum, slot.day) & bit_of(slot.period) != 0 {
         return Gain::NONE;
@@ -194,7 +194,7 @@ fn add_no(gains: &mut [Gains], course: u32, gain: Gain) {
     }
 }
 
-/// What the courses of a word gain without a period, in all.
+/// Returns the total gain if the courses of a word lose a period.
 fn sum_of_no(gains: &[Gains], word: u32, set: u64) -> Gain {
     let mut gain = Gain::NONE;
     let mut left = set;
@@ -205,21 +205,21 @@ fn sum_of_no(gains: &[Gains], word: u32, set: u64) -> Gain {
     gain
 }
 
-/// The periods beside a period, as bits.
+/// Returns the periods before and after a period, as bits.
 fn beside(period: u32) -> u64 {
     let before = period.checked_sub(1).map_or(0, bit_of);
     before | bit_of(period.saturating_add(1))
 }
 
 impl Scene<'_, '_> {
-    /// The courses with an open period there.
+    /// Returns the courses for which the period is open.
     fn open_at(&self, alloc: Global, slot: Slot) -> Result<Vec<u32>, AllocError> {
         (0..self.instance.courses())
             .filter(|course| self.prospects.is_open(*course, slot.day, slot.period))
             .collect(alloc)
     }
 
-    /// Starts with what each course itself gains.
+    /// Starts with the gains of each course itself.
     fn start(&self, slot: Slot, open: &[u32], gains: &mut [Gains]) {
         for course in open {
             if let Some(both) = gains.get_mut(*course as usize) {
@@ -231,7 +231,7 @@ impl Scene<'_, '_> {
         }
     }
 
-    /// What the courses that conflict with one gain when it is in the period.
+    /// Returns the gain of the courses that conflict with a course when it is in the period.
     fn rivals(&self, course: u32, set: &CourseSet, gains: &[Gains]) -> Gain {
         let mut gain = Gain::NONE;
         for word in 0..self.conflicts.words() {
@@ -248,7 +248,7 @@ impl Scene<'_, '_> {
         }
     }
 
-    /// How many members of a curriculum lose a period to a course of another.
+    /// Returns the number of members of a curriculum that lose a period to a course of another curriculum.
     fn lost(&self, curriculum: u32, course: u32, slot: Slot) -> u32
         requires { curriculum < length self.now.instance.now.curricula }
     {
@@ -263,7 +263,7 @@ impl Scene<'_, '_> {
         lost
     }
 
-    /// The courses of a word that conflict with a member whose period is open, and are no members.
+    /// Returns the courses of a word that conflict with a member whose period is open, and are no members.
     fn others_in(&self, curriculum: u32, slot: Slot, word: u32) -> u64
         requires { curriculum < length self.now.instance.now.curricula }
     {
@@ -278,7 +278,7 @@ impl Scene<'_, '_> {
         rivals & !members
     }
 
-    /// Adds what the pinned periods of a curriculum gain from some courses of a word.
+    /// Adds the gains of a curriculum's pinned periods by some courses of a word.
     fn add_word(&self, curriculum: u32, slot: Slot, word: u32, others: u64, gains: &mut [Gains])
         requires { curriculum < length self.now.instance.now.curricula }
     {
@@ -295,7 +295,7 @@ impl Scene<'_, '_> {
         }
     }
 
-    /// Adds what the pinned periods of a curriculum gain from courses of others.
+    /// Adds the gains of a curriculum's pinned periods by courses of other curricula.
     fn add_others(&self, curriculum: u32, slot: Slot, set: &CourseSet, gains: &mut [Gains])
         requires { curriculum < length self.now.instance.now.curricula }
     {
@@ -305,7 +305,7 @@ impl Scene<'_, '_> {
         }
     }
 
-    /// Adds what a curriculum gains.
+    /// Adds the gains of a curriculum.
     fn add_curriculum(&self, curriculum: u32, slot: Slot, set: &CourseSet, gains: &mut [Gains])
         requires { curriculum < length self.now.instance.now.curricula }
     {
@@ -331,7 +331,7 @@ impl Scene<'_, '_> {
         }
     }
 
-    /// The best candidate of a period, if it is better.
+    /// Returns the best candidate of a period, if it is better than the one found before.
     fn best_at(
         &self,
         alloc: Global,
@@ -362,7 +362,7 @@ impl Scene<'_, '_> {
     }
 }
 
-/// The best of the open courses of a period, or the one that was found before.
+/// Returns the best of the open courses of a period, or the candidate that was found before.
 fn best_of(
     slot: Slot,
     open: &[u32],
@@ -385,7 +385,7 @@ fn best_of(
     found
 }
 
-/// The course and the period whose children gain most, one with the other.
+/// Returns the course and the period whose children gain most, considering both.
 pub fn best_candidate(
     alloc: Global,
     instance: &Instance<'_>,

@@ -1,4 +1,4 @@
--- What a completed timetable is.
+-- The properties of a completed timetable.
 use Rattle.std.specs.Prelude.{◌≡◌, ℕ, ◌<◌, ◌++◌, max, List, length}
 use Rattle.tt_instance.specs.Problem.{Problem}
 use Rattle.tt_instance.specs.Courses.{lectures}
@@ -6,8 +6,8 @@ use Rattle.tt_instance.specs.declared.cell.Cell.{Cell}
 use Rattle.tt_table.specs.Table.{IsTimetable}
 use Rattle.tt_rules.specs.Hard.{entries_of}
 
--- The completed timetable begins with the entries that were there, and each course has as many entries as it has lectures, or as many as it had if they
--- were more.
+-- The completed timetable begins with the entries that were already placed, and each course has as many entries as lectures, or as many entries
+-- as before if there were more.
 pub record IsCompleted (p : Problem) (t completed : List Cell) : Type 0 where
   pub in_range : IsTimetable p completed
   pub added : List Cell

@@ -1,4 +1,4 @@
--- Only proofs rest on this file: it is no part of the statement.
+-- Not part of the trusted statement: only proofs use this file.
 -- Timetables that are completed course by course.
 use Rattle.std.specs.Prelude.{◌≡◌, ℕ, ◌+◌, ◌-◌, ◌<◌, ◌≤◌, ◌++◌, max, List, length, take, slice_index_or}
 use Rattle.tt_instance.specs.Problem.{Problem}
@@ -8,16 +8,16 @@ use Rattle.tt_instance.specs.declared.cell.Cell.{Cell}
 use Rattle.tt_table.specs.Table.{IsTimetable}
 use Rattle.tt_rules.specs.Hard.{entries_of}
 
--- how many lectures of the first n courses a timetable lacks
+-- the number of lectures of each of the first n courses that a timetable lacks
 pub record AreMissing (p : Problem) (t : List Cell) (n : ℕ) (missing : List ℕ) : Type 0 where
   pub size : length missing ≡ n
   pub each : (c : ℕ) → c < n → slice_index_or missing c 0 ≡ lectures p c - entries_of t c
 
--- the second timetable begins with the first
+-- whether the second timetable begins with the first
 abbrev pub Begins : List Cell → List Cell → Type 0
 Begins t u = (added : List Cell) × (u ≡ t ++ added)
 
--- the first n courses are completed, and the others are as they were
+-- the first n courses are completed, and the others are unchanged
 pub record IsCompletedTo (p : Problem) (n : ℕ) (t u : List Cell) : Type 0 where
   pub in_range : IsTimetable p u
   pub begins : Begins t u

@@ -1,4 +1,4 @@
-//! The lectures of a course are added.
+//! Adds the lectures of a course.
 
 ghost use Rattle.std.specs.Prelude.{◌≡◌, ◌+◌, ◌<◌, ◌≤◌, ◌++◌, ◌∷◌, [], length, OnOk};
 ghost use Rattle.tt_table.specs.declared.table.TheConstants.{MAX_ENTRIES};
@@ -10,7 +10,7 @@ use std::alloc::AllocError;
 use tt_instance::Instance;
 use tt_table::{Entry, PushFault, Timetable};
 
-/// Adds an entry to a timetable that has a place for it.
+/// Adds an entry to a timetable that has room for it.
 fn push(table: &mut Timetable, entry: Entry) -> Result<(), AllocError>
     requires { length table.old < MAX_ENTRIES }
     ensures { OnOk result (table.new ≡ table.old ++ entry ∷ []) }
@@ -22,7 +22,7 @@ fn push(table: &mut Timetable, entry: Entry) -> Result<(), AllocError>
     }
 }
 
-/// Adds lectures of a course at the places that suit it best, one after another.
+/// Adds lectures of a course at the places that suit it best, in turn.
 pub fn add_lectures(
     instance: &Instance<'_>,
     table: &mut Timetable,

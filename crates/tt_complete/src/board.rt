@@ -1,4 +1,4 @@
-//! Which places suit a course. Of the choice nothing is proved.
+//! The places that suit a course. Nothing is proved about the choice.
 
 ghost use Rattle.std.specs.Prelude.{◌≡◌, ◌<◌, length};
 ghost use Rattle.tt_instance.specs.Cells.{InRange};
@@ -7,7 +7,7 @@ use std::alloc::{AllocError, Global};
 use tt_instance::Instance;
 use tt_table::Entry;
 
-/// How many conflicts a period is worth in which a course is unavailable.
+/// The number of conflicts for which a period counts if the course is unavailable in it.
 const UNAVAILABLE: u32 = 1_000;
 
 /// A room in a period.
@@ -18,7 +18,7 @@ struct Place {
     period: u32,
 }
 
-/// The entry of a course at a place; in the first place of the week if the instance has no such place.
+/// Returns the entry of a course at a place, or in the first place of the week if the instance has no such place.
 fn entry_at(instance: &Instance<'_>, course: u32, place: Option<Place>) -> Entry
     requires course { course < length instance.now.courses }
     requires rooms { 0 < length instance.now.rooms }
@@ -46,19 +46,19 @@ fn entry_at(instance: &Instance<'_>, course: u32, place: Option<Place>) -> Entry
     }
 }
 
-/// The places of the week that are taken, and what speaks against each period for one course.
+/// The places of the week that are taken, and the conflicts in each period for one course.
 #[derive(Drop)]
 pub struct Board {
     rooms: usize,
     periods: usize,
     /// Whether a room is taken in a period, period by period.
     taken: Vec<bool>,
-    /// The entries with which a lecture of the course would conflict, for each period.
+    /// The number of entries with which a lecture of the course would conflict, for each period.
     conflicts: Vec<u32>,
 }
 
 impl Board {
-    /// The places of an instance, none of which is taken.
+    /// Returns the places of an instance, none of which is taken.
     pub fn new(alloc: Global, instance: &Instance<'_>) -> Result<Board, AllocError> {
         let rooms = instance.rooms() as usize;
         let periods = instance.periods() as usize;
@@ -71,14 +71,14 @@ impl Board {
         })
     }
 
-    /// The number of an entry's period in the week.
+    /// Returns the number of an entry's period in the week.
     fn slot_of(&self, entry: Entry) -> usize {
         (entry.day as usize)
             .saturating_mul(self.periods)
             .saturating_add(entry.period as usize)
     }
 
-    /// Takes the place of an entry.
+    /// Marks the place of an entry as taken.
     pub fn take(&mut self, entry: Entry) {
         let place = self
             .slot_of(entry)
@@ -89,7 +89,7 @@ impl Board {
         }
     }
 
-    /// Counts one conflict more in the period of an entry.
+    /// Adds 1 to the conflicts in the period of an entry.
     pub fn add_conflict(&mut self, entry: Entry) {
         let slot = self.slot_of(entry);
         if let Some(conflicts) = self.conflicts.get_mut(slot) {
@@ -97,7 +97,7 @@ impl Board {
         }
     }
 
-    /// Turns to a course: counts its conflicts with the entries, and the periods in which it is unavailable.
+    /// Switches to a course: counts its conflicts with the entries, and the periods in which it is unavailable.
     pub fn turn_to(&mut self, instance: &Instance<'_>, entries: &[Entry], course: u32) {
         for day in 0..instance.days() {
             for period in 0..instance.periods() {
@@ -120,7 +120,7 @@ impl Board {
         }
     }
 
-    /// The free room in a period that has the fewest seats of those with enough for a course, or the largest free one.
+    /// Returns the free room in a period with the fewest seats among those with enough for a course, or the largest free room.
     fn room_in(&self, instance: &Instance<'_>, slot: usize, students: u32) -> Option<u32> {
         let mut found: Option<u32> = None;
         let mut least = u32::MAX;
@@ -143,7 +143,7 @@ impl Board {
         found
     }
 
-    /// The place in the period with the fewest conflicts that has a free room for a course.
+    /// Returns the place in the period with the fewest conflicts that has a free room for a course.
     fn best_place(&self, instance: &Instance<'_>, students: u32) -> Option<Place> {
         let mut best = None;
         let mut least = u32::MAX;
@@ -164,7 +164,8 @@ impl Board {
         best
     }
 
-    /// The entry of a course in the period with the fewest conflicts that has a free room; in the first place of the week if none has one.
+    /// Returns the entry of a course in the period with the fewest conflicts that has a free room, or in the first place of the week if no period
+    /// has one.
     pub fn best_entry(&self, instance: &Instance<'_>, course: u32) -> Entry
         requires course { course < length instance.now.courses }
         requires rooms { 0 < length instance.now.rooms }

@@ -1,4 +1,4 @@
-//! A timetable that lacks lectures is completed.
+//! Completes a timetable that lacks lectures.
 
 ghost use Rattle.std.specs.Prelude.{◌≡◌, ◌+◌, ◌<◌, ◌≤◌, ◌↔◌, [], length, Err, IfOk, OnOk};
 ghost use Rattle.tt_table.specs.Table.{IsTimetable};
@@ -16,10 +16,10 @@ use std::alloc::{AllocError, Global};
 use tt_instance::{Instance, MAX_LECTURES};
 use tt_table::{MAX_ENTRIES, Timetable};
 
-/// The most entries of a timetable that is completed: all lectures of an instance may be missing.
+/// The maximum number of entries of a timetable that is completed: all lectures of an instance may be missing.
 pub const MOST_ENTRIES: usize = MAX_ENTRIES - MAX_LECTURES as usize;
 
-/// Takes the places of the entries.
+/// Marks the places of the entries as taken.
 fn fill_board(
     alloc: Global,
     instance: &Instance<'_>,
@@ -45,7 +45,7 @@ fn add_all(
     requires missing { AreMissing instance.now table.old (length instance.now.courses) missing.now }
     ensures { OnOk result (IsCompletedTo instance.now (length instance.now.courses) table.old table.new) }
 {
-    // What is true of every instance: it has few lectures.
+    // This holds for every instance: the number of its lectures is limited.
     prove!(instance.days() > 0);
     for course in 0..instance.courses() {
         let count = missing_at(missing, course);
@@ -54,8 +54,8 @@ fn add_all(
     Ok(())
 }
 
-/// Adds entries until each course has its lectures: at free places where they conflict with the fewest entries. The entries that are there stay as
-/// they are, at the front. How well the added ones suit is not promised.
+/// Adds entries until each course has its lectures: at free places where they conflict with the fewest entries. The existing entries remain
+/// unchanged, at the front. Nothing is promised about how well the added entries suit.
 pub fn complete(
     alloc: Global,
     instance: &Instance<'_>,

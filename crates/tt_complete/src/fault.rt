@@ -1,12 +1,12 @@
-//! Refusals to complete a timetable.
+//! The reasons not to complete a timetable.
 
 use std::alloc::AllocError;
 use thiserror::Error;
 
-/// Why a timetable was not completed.
+/// The reason why a timetable was not completed.
 #[derive(Clone, Copy, Debug, PartialEq, Eq, Error)]
 pub enum CompleteFault {
-    /// The timetable has so many entries that those which may be missing have no place.
+    /// The timetable has so many entries that there may be no room for the missing ones.
     #[error("too many entries")]
     TooManyEntries,
     /// The instance has no room.

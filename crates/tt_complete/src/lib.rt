@@ -1,4 +1,4 @@
-//! Timetables that lack lectures are completed.
+//! Completes timetables that lack lectures.
 #![tactic(auto)]
 
 mod adding;

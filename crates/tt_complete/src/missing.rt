@@ -13,7 +13,7 @@ use std::alloc::{AllocError, Global};
 use tt_instance::{Instance, MAX_COURSES};
 use tt_table::{GroupBy, Groups, Timetable};
 
-/// The entries of a course.
+/// Returns the number of entries of a course.
 fn count_entries(by_course: &Groups<'_>, course: u32) -> u64
     requires by { by_course.now.by ≡ by.Course }
     requires course { course < MAX_COURSES }
@@ -23,20 +23,20 @@ fn count_entries(by_course: &Groups<'_>, course: u32) -> u64
     by_course.of_course(course).len()
 }
 
-/// The lectures that a course lacks.
+/// Returns the number of lectures that a course lacks.
 fn missing_of(instance: &Instance<'_>, by_course: &Groups<'_>, course: u32) -> u32
     requires by { by_course.now.by ≡ by.Course }
     requires course { course < length instance.now.courses }
     requires few { length by_course.now.entries ≤ MAX_ENTRIES }
     ensures { result ≡ lectures instance.now course - entries_of by_course.now.entries course }
 {
-    // What is true of every instance: each course is a group.
+    // This holds for every instance: each course is a group.
     prove!(instance.courses() <= MAX_COURSES);
     let placed = count_entries(by_course, course);
     u64::from(instance.lectures(course)).saturating_sub(placed) as u32
 }
 
-/// Adds the lectures that the next course lacks.
+/// Adds the number of lectures that the next course lacks.
 fn push_missing(
     missing: &mut Vec<u32>,
     instance: &Instance<'_>,
@@ -53,7 +53,7 @@ fn push_missing(
     Ok(())
 }
 
-/// The lectures that each course lacks.
+/// Returns the number of lectures that each course lacks.
 pub fn count_missing(
     alloc: Global,
     instance: &Instance<'_>,
@@ -62,7 +62,7 @@ pub fn count_missing(
     requires { IsTimetable instance.now table.now }
     ensures { IfOk result (λ missing. AreMissing instance.now table.now (length instance.now.courses) missing.items) }
 {
-    // What is true of every instance: each course is a group.
+    // This holds for every instance: each course is a group.
     prove!(instance.courses() <= MAX_COURSES);
     let by_course = Groups::new(table.entries(), GroupBy::Course);
     let mut missing = Vec::new(alloc);
@@ -72,7 +72,7 @@ pub fn count_missing(
     Ok(missing)
 }
 
-/// The lectures that one course lacks, in a list of all courses.
+/// Returns the number of lectures that one course lacks, from a list of all courses.
 pub fn missing_at(missing: &[u32], course: u32) -> u32
     ensures { result ≡ slice_index_or missing.now course 0 }
 {

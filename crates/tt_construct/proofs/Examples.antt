@@ -1,4 +1,4 @@
--- Which timetables of a small instance are constructed ones: two courses of one lecture each, and one room.
+-- The timetables of a small instance that are constructed ones: two courses of one lecture each, and one room.
 use Rattle.std.proofs.Common.{◌≡◌, ℕ, zero, suc, ◌<◌, List, [], ◌∷◌, refl, sym, arith, lit<}
 use Rattle.std.proofs.lemmas.List.Elements.{All-cons, All-nil}
 use Rattle.tt_instance.specs.Cells.{InRange}

@@ -18,7 +18,7 @@ use Rattle.tt_construct.specs.Filled.{HasMore}
 
 -- ---- one course
 
--- no entry more
+-- the case of no new entry
 pub none_more : (p : Problem) (c : ℕ) (t : List Cell) → HasMore p c 0 t t
 none_more p c t = record { in_range = λ h. h; size = omega arith; counts = λ k. by_test (c == k) (entries_of t k) }
   where
@@ -26,7 +26,7 @@ none_more p c t = record { in_range = λ h. h; size = omega arith; counts = λ k
     by_test true n = omega arith
     by_test false n = omega arith
 
--- one entry more
+-- the case of another entry
 pub one_more : (p : Problem) (c n : ℕ) (old t u : List Cell) (e : Cell) → HasMore p c n old t → InRange p e → e.course ≡ c → u ≡ t ++ e ∷ [] → HasMore p c (n + 1) old u
 one_more p c n old t u e more inside of_course is = subst (HasMore p c (n + 1) old) (sym is) (record {
   in_range = λ h. All-append (InRange p) t (e ∷ []) (more.in_range h) (All-cons (InRange p) e [] inside (All-nil (InRange p)));
@@ -56,7 +56,7 @@ pub record IsFilledTo (p : Problem) (n : ℕ) (t : List Cell) : Type 0 where
 pub filled_none : (p : Problem) → IsFilledTo p 0 []
 filled_none p = record { in_range = All-nil (InRange p); size = refl; placed = λ c h. absurd (omega arith); others = λ c h. refl }
 
--- the lectures of one course more are few enough
+-- there is room for the lectures of the next course
 pub few_more : (p : Problem) (n : ℕ) (t : List Cell) → IsInstance p → IsFilledTo p n t → n < length p.courses → length t + lectures p n ≤ 4096
 few_more p n t ok filled h = omega (arith, filled.size, sum_by_more_le (λ (c : Course). c.lectures) p.courses n no_course h, ok.within.lectures)
 

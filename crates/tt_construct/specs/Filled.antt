@@ -1,4 +1,4 @@
--- Only proofs rest on this file: nobody has to believe it.
+-- Not part of the trusted statement: only proofs use this file.
 -- Timetables that are filled course by course.
 use Rattle.std.specs.Prelude.{◌≡◌, ℕ, ◌+◌, ◌==◌, List, length, cond}
 use Rattle.tt_instance.specs.Problem.{Problem}
@@ -6,7 +6,7 @@ use Rattle.tt_instance.specs.declared.cell.Cell.{Cell}
 use Rattle.tt_table.specs.Table.{IsTimetable}
 use Rattle.tt_rules.specs.Hard.{entries_of}
 
--- the second list has n entries of a course more, and all are in range if those of the first are
+-- whether the second list has n more entries of a course, and all are in range if those of the first are
 pub record HasMore (p : Problem) (c n : ℕ) (old new : List Cell) : Type 0 where
   pub in_range : IsTimetable p old → IsTimetable p new
   pub size : length new ≡ length old + n

@@ -6,14 +6,14 @@ use crate::setting::{Course, Setting};
 use std::alloc::{AllocError, Global};
 use tt_instance::Instance;
 
-/// A course on its way to its lectures.
+/// The state of a course whose lectures are being placed.
 #[derive(Clone, Copy)]
 pub struct Waiting {
-    /// The lectures still to place.
+    /// The number of lectures still to place.
     pub left: u32,
-    /// The periods in which one more would break nothing but for its room.
+    /// The number of periods in which another lecture would break no rule, not counting its room.
     pub open: u32,
-    /// The days with a lecture.
+    /// The number of days with a lecture.
     pub days: u32,
 }
 
@@ -25,23 +25,23 @@ impl Waiting {
     };
 }
 
-/// What stands where.
+/// The counts of the placed lectures.
 #[derive(Drop)]
 pub struct Board {
     waiting: Vec<Waiting>,
-    /// What a lecture of each course would break in each period, but for its room.
+    /// The number of rules that a lecture of each course would break in each period, not counting its room.
     broken: Counts,
     /// The lectures in each room and period.
     pub rooms: Counts,
-    /// Those of each curriculum in each period.
+    /// The lectures of each curriculum in each period.
     pub curricula: Counts,
-    /// Those of each course on each day.
+    /// The lectures of each course on each day.
     pub days: Counts,
-    /// Those of each course in each room.
+    /// The lectures of each course in each room.
     pub course_rooms: Counts,
 }
 
-/// The courses, none of their lectures placed.
+/// Returns the courses, with none of their lectures placed.
 fn all_waiting(alloc: Global, setting: &Setting) -> Result<Vec<Waiting>, AllocError> {
     let mut waiting = Vec::new(alloc);
     for course in &setting.courses {
@@ -55,7 +55,7 @@ fn all_waiting(alloc: Global, setting: &Setting) -> Result<Vec<Waiting>, AllocEr
 }
 
 impl Board {
-    /// No lecture is placed, and no period barred.
+    /// Returns a board on which no lecture is placed, and no period is barred.
     fn empty(alloc: Global, setting: &Setting) -> Result<Board, AllocError> {
         let (courses, rooms) = (setting.course_count, setting.room_count);
         Ok(Board {
@@ -68,7 +68,7 @@ impl Board {
         })
     }
 
-    /// No lecture is placed.
+    /// Returns a board on which no lecture is placed.
     pub fn new(
         alloc: Global,
         instance: &Instance<'_>,
@@ -83,7 +83,7 @@ impl Board {
         Ok(board)
     }
 
-    /// A course on its way; one that is not there has no lecture left.
+    /// Returns the state of a course; a course that doesn't exist has no lecture left.
     pub fn waiting_of(&self, course: u32) -> Waiting {
         self.waiting
             .get(course as usize)
@@ -91,12 +91,12 @@ impl Board {
             .unwrap_or(Waiting::NONE)
     }
 
-    /// What a lecture of a course would break in a period, but for its room.
+    /// Returns the number of rules that a lecture of a course would break in a period, not counting its room.
     pub fn broken(&self, course: u32, slot: u32) -> u32 {
         u32::from(self.broken.get(course, slot))
     }
 
-    /// How much a course wants a period: its lectures left for each open period, in 256ths.
+    /// Returns the demand of a course for a period: its lectures left for each open period, in 256ths.
     fn wanted_by(&self, course: u32, slot: u32) -> u32 {
         if self.broken(course, slot) > 0 {
             return 0;
@@ -109,7 +109,7 @@ impl Board {
             .unwrap_or(0)
     }
 
-    /// How much a period is wanted by the courses to which a lecture of the course would close it.
+    /// Returns the demand for a period by the courses to which a lecture of the course would close it.
     pub fn wanted(&self, course: &Course, slot: u32) -> u32 {
         let mut wanted: u32 = 0;
         for opponent in &course.opponents {
@@ -118,7 +118,7 @@ impl Board {
         wanted
     }
 
-    /// A lecture of the course would break one rule more in the period.
+    /// Notes that a lecture of the course would break another rule in the period.
     fn close(&mut self, course: u32, slot: u32) {
         if self.broken.add(course, slot)
             && let Some(waiting) = self.waiting.get_mut(course as usize)
@@ -135,7 +135,7 @@ impl Board {
         }
     }
 
-    /// One lecture less waits, since it is placed on a day.
+    /// Notes that a lecture of the course is placed on a day.
     fn take(&mut self, course: u32, day: u32) {
         let is_new = self.days.add(course, day);
         if let Some(waiting) = self.waiting.get_mut(course as usize) {

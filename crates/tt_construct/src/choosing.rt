@@ -15,14 +15,14 @@ pub struct Choice {
 }
 
 impl Choice {
-    /// Worse than any place.
+    /// A choice that is worse than any place.
     const WORST: Choice = Choice {
         place: Place { room: 0, slot: 0 },
         rank: Rank::HIGHEST,
     };
 }
 
-/// The best room in a period.
+/// Returns the best room in a period.
 fn best_room(
     setting: &Setting,
     board: &Board,
@@ -42,7 +42,7 @@ fn best_room(
     best
 }
 
-/// The best place for a lecture.
+/// Returns the best place for a lecture.
 pub fn best_place(
     setting: &Setting,
     board: &Board,

@@ -13,16 +13,16 @@ use tt_instance::Instance;
 use tt_rules::score;
 use tt_table::Timetable;
 
-/// How often all lectures are placed anew, at most.
+/// The maximum number of rounds; each places all lectures again.
 const MOST_ROUNDS: usize = 24;
 
-/// And at most in a very large instance.
+/// The maximum number of rounds in a very large instance.
 const LEAST_ROUNDS: usize = 3;
 
-/// The lectures times the periods of the week to which all rounds together may come.
+/// The limit on the work of all rounds together: the number of lectures times the periods of the week, for each round.
 const WORK: usize = 6_000_000;
 
-/// How often all lectures are placed anew at most in this instance.
+/// Returns the maximum number of rounds for this instance.
 fn rounds(setting: &Setting) -> usize {
     let round = setting.lectures.saturating_mul(setting.slots as usize);
     match WORK.checked_div(round) {
@@ -31,7 +31,7 @@ fn rounds(setting: &Setting) -> usize {
     }
 }
 
-/// Places all lectures anew until no hard rule is broken, and keeps the best timetable.
+/// Places all lectures again until no hard rule is broken, and returns the best timetable.
 fn best_of_rounds(
     alloc: Global,
     instance: &Instance<'_>,
@@ -60,8 +60,8 @@ fn best_of_rounds(
     Ok(best)
 }
 
-/// A timetable with the lectures of each course, from a seed. It breaks few hard rules, mostly none, and
-/// costs little; nothing is proved of that. Without rooms it has no entry.
+/// Returns a timetable with the lectures of each course, from a seed. It breaks few hard rules, mostly none, and
+/// has a low cost; none of this is proved. Without rooms it has no entries.
 pub fn construct(alloc: Global, instance: &Instance<'_>, seed: u64) -> Result<Timetable, AllocError>
     ensures { IfOk result (IsConstructed instance.now) }
 {

@@ -1,8 +1,8 @@
-//! Tables of counts that choices are made by. Nothing is proved of what they hold.
+//! Tables of counts on which choices are based. Nothing is proved about their contents.
 
 use std::alloc::{AllocError, Global};
 
-/// Counts by row and column. One that is not there is 0, and stays so.
+/// Counts by row and column. A count outside the table is 0, and remains 0.
 #[derive(Drop)]
 pub struct Counts {
     columns: usize,
@@ -10,7 +10,7 @@ pub struct Counts {
 }
 
 impl Counts {
-    /// All counts are 0.
+    /// Returns a table in which all counts are 0.
     pub fn new(alloc: Global, rows: u32, columns: u32) -> Result<Counts, AllocError> {
         let (rows, columns) = (rows as usize, columns as usize);
         Ok(Counts {
@@ -25,13 +25,13 @@ impl Counts {
             .wrapping_add(column as usize)
     }
 
-    /// The count at a row and a column.
+    /// Returns the count at a row and a column.
     pub fn get(&self, row: u32, column: u32) -> u16 {
         let index = self.index(row, column);
         self.counts.get(index).copied().unwrap_or(0)
     }
 
-    /// One more at a row and a column. Whether there was none.
+    /// Adds 1 at a row and a column. Returns whether the count was 0.
     pub fn add(&mut self, row: u32, column: u32) -> bool {
         let index = self.index(row, column);
         let Some(count) = self.counts.get_mut(index) else {

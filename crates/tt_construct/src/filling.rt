@@ -13,7 +13,7 @@ use std::alloc::{AllocError, Global};
 use tt_instance::Instance;
 use tt_table::{Entry, PushFault, Timetable};
 
-/// The entry of a course at a place; in the first room and period where the instance has no such place.
+/// Returns the entry of a course at a place, or in the first room and period if the instance has no such place.
 fn entry_at(instance: &Instance<'_>, course: u32, place: Option<&Place>) -> Entry
     requires course { course < length instance.now.courses }
     requires rooms { 0 < length instance.now.rooms }
@@ -40,7 +40,7 @@ fn entry_at(instance: &Instance<'_>, course: u32, place: Option<&Place>) -> Entr
     }
 }
 
-/// Adds an entry where there is room for it.
+/// Adds an entry if there is room for it.
 fn push(table: &mut Timetable, entry: Entry) -> Result<(), AllocError>
     requires { length table.old < MAX_ENTRIES }
     ensures { OnOk result (table.new ≡ table.old ++ entry ∷ []) }
@@ -71,7 +71,7 @@ fn add_course(
     Ok(())
 }
 
-/// The timetable of a plan: the places of the lectures, course by course.
+/// Returns the timetable of a plan: the places of the lectures, course by course.
 pub fn fill(
     alloc: Global,
     instance: &Instance<'_>,
@@ -80,7 +80,7 @@ pub fn fill(
     requires { 0 < length instance.now.rooms }
     ensures { IfOk result (IsConstructed instance.now) }
 {
-    // What is true of every instance: its lectures are few.
+    // This holds for every instance: the number of its lectures is limited.
     prove!(instance.days() > 0);
     let mut table = Timetable::new(alloc);
     for course in 0..instance.courses() {

@@ -1,26 +1,26 @@
-//! Which course comes next.
+//! The choice of the next course.
 
 use crate::board::{Board, Waiting};
 use crate::setting::Setting;
 use rand_core::Rng;
 use rand_pcg::Pcg32;
 
-/// How soon a course comes: the first part that differs decides, and less is sooner.
+/// The turn of a course: the first part that differs decides, and less is sooner.
 #[derive(Clone, Copy, PartialEq, Eq, PartialOrd, Ord)]
 struct Turn {
     /// The open periods for each lecture that is left and each failure, in 1024ths.
     open: u64,
-    /// Drawn by lot.
+    /// A random number.
     lot: u32,
 }
 
-/// Later than any course.
+/// A turn that is later than that of any course.
 const LAST: Turn = Turn {
     open: u64::MAX,
     lot: u32::MAX,
 };
 
-/// The turn of a course that failed so often.
+/// Returns the turn of a course with this number of failures.
 fn turn_of(waiting: Waiting, failures: u32, lot: u32) -> Turn {
     let wanted = u64::from(waiting.left) * (u64::from(failures) + 1);
     let open = u64::from(waiting.open) * 1024;
@@ -30,8 +30,8 @@ fn turn_of(waiting: Waiting, failures: u32, lot: u32) -> Turn {
     }
 }
 
-/// The course that comes next: the one with the fewest open periods for each lecture that is left, sooner
-/// if it failed in earlier rounds. None where all lectures are placed.
+/// Returns the next course: the one with the fewest open periods for each lecture that is left, sooner
+/// if it failed in earlier rounds. Returns `None` if all lectures are placed.
 pub fn next_course(
     setting: &Setting,
     board: &Board,

@@ -1,4 +1,4 @@
-//! Where a plan puts a lecture.
+//! The places of a plan's lectures.
 
 /// A room, and a period by its number in the week, day by day.
 #[derive(Clone, Copy)]

@@ -10,21 +10,21 @@ use rand_pcg::Pcg32;
 use std::alloc::{AllocError, Global};
 use tt_instance::Instance;
 
-/// In the rounds from this one on, what other courses want counts before the cost.
+/// From this round on, the demand of other courses counts before the cost.
 const AHEAD: u32 = 3;
 
 /// A place for each lecture, course by course. It may break rules.
 #[derive(Drop)]
 pub struct Plan {
     pub places: Vec<Place>,
-    /// How often each course broke a rule in the rounds so far.
+    /// The number of times that each course broke a rule in the rounds so far.
     failures: Vec<u32>,
-    /// The rounds so far.
+    /// The number of rounds so far.
     rounds: u32,
 }
 
 impl Plan {
-    /// All lectures at one place.
+    /// Returns a plan with all lectures at one place.
     pub fn new(alloc: Global, setting: &Setting) -> Result<Plan, AllocError> {
         let nowhere = Place { room: 0, slot: 0 };
         Ok(Plan {
@@ -34,7 +34,7 @@ impl Plan {
         })
     }
 
-    /// Notes a lecture's place, the lectures of its course after it being placed.
+    /// Notes a lecture's place, while the lectures of its course after it are already placed.
     fn note(&mut self, course: &Course, left: u32, place: Place) {
         let index = course.first.saturating_add(left.saturating_sub(1) as usize);
         if let Some(there) = self.places.get_mut(index) {
@@ -60,7 +60,7 @@ impl Plan {
         board.put(setting, number, course, choice.place);
     }
 
-    /// Places all lectures anew, those of the courses sooner that broke rules before.
+    /// Places all lectures again; courses that broke rules before are placed sooner.
     pub fn renew(
         &mut self,
         alloc: Global,

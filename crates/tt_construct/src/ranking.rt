@@ -1,4 +1,4 @@
-//! What a lecture costs at a place.
+//! The cost of a lecture at a place.
 
 use crate::board::Board;
 use crate::counts::Counts;
@@ -11,14 +11,14 @@ pub struct Lecture<'s> {
     /// The number of its course.
     pub number: u32,
     pub course: &'s Course,
-    /// Its course has its least number of working days.
+    /// Whether its course has reached its minimum number of working days.
     is_spread: bool,
-    /// What other courses want counts before the cost.
+    /// Whether the demand of other courses counts before the cost.
     looks_ahead: bool,
 }
 
 impl<'s> Lecture<'s> {
-    /// A lecture of a course that is taught on this many days.
+    /// Returns a lecture of a course that is taught on this many days.
     pub fn new(number: u32, course: &'s Course, days: u32, looks_ahead: bool) -> Lecture<'s> {
         Lecture {
             number,
@@ -29,18 +29,18 @@ impl<'s> Lecture<'s> {
     }
 }
 
-/// How good a place is: the first part that differs decides, and less is better.
+/// The rank of a place: the first part that differs decides, and less is better.
 #[derive(Clone, Copy, PartialEq, Eq, PartialOrd, Ord)]
 pub struct Rank {
-    /// The hard rules that are broken.
+    /// The number of hard rules that are broken.
     pub broken: u32,
-    /// How much other courses want the period.
+    /// The demand of other courses for the period.
     wanted: u32,
-    /// The cost points, above a least number.
+    /// The cost points, plus a constant.
     cost: u32,
-    /// The seats that stay empty.
+    /// The number of seats that remain empty.
     spare: u32,
-    /// Drawn by lot.
+    /// A random number.
     lot: u32,
 }
 
@@ -54,7 +54,7 @@ impl Rank {
     };
 }
 
-/// The lectures of a curriculum in the period before, if the day has one.
+/// Returns the number of a curriculum's lectures in the period before, or 0 if the day has no such period.
 fn before(curricula: &Counts, curriculum: u32, slot: u32, periods: u32) -> u16 {
     match slot.checked_rem(periods) {
         None | Some(0) => 0,
@@ -62,7 +62,7 @@ fn before(curricula: &Counts, curriculum: u32, slot: u32, periods: u32) -> u16 {
     }
 }
 
-/// And in the period after.
+/// Returns the number of a curriculum's lectures in the period after, or 0 if the day has no such period.
 fn after(curricula: &Counts, curriculum: u32, slot: u32, periods: u32) -> u16 {
     let next = slot.saturating_add(1);
     match next.checked_rem(periods) {
@@ -71,7 +71,7 @@ fn after(curricula: &Counts, curriculum: u32, slot: u32, periods: u32) -> u16 {
     }
 }
 
-/// What one more lecture of a curriculum in the period adds to the cost by isolated lectures, and 4.
+/// Returns the cost that another lecture of a curriculum in the period adds by isolated lectures, plus 4.
 fn isolation(curricula: &Counts, curriculum: u32, slot: u32, periods: u32) -> u32 {
     let has_before = before(curricula, curriculum, slot, periods) > 0;
     let has_after = after(curricula, curriculum, slot, periods) > 0;
@@ -89,7 +89,7 @@ fn isolation(curricula: &Counts, curriculum: u32, slot: u32, periods: u32) -> u3
     }
 }
 
-/// What a lecture costs in a period, whatever its room: by its curricula's isolated lectures and by its days.
+/// Returns the cost of a lecture in a period in any room: isolated lectures of its curricula, and its course's working days.
 fn period_cost(setting: &Setting, board: &Board, lecture: Lecture<'_>, slot: u32) -> u32 {
     let day = slot.checked_div(setting.periods).unwrap_or(0);
     let is_new = board.days.get(lecture.number, day) == 0;
@@ -101,7 +101,7 @@ fn period_cost(setting: &Setting, board: &Board, lecture: Lecture<'_>, slot: u32
     cost
 }
 
-/// What a lecture costs in a period, whatever its room.
+/// Returns the rank of a lecture in a period, in any room.
 pub fn period_rank(setting: &Setting, board: &Board, lecture: Lecture<'_>, slot: u32) -> Rank {
     Rank {
         broken: board.broken(lecture.number, slot),
@@ -116,7 +116,7 @@ pub fn period_rank(setting: &Setting, board: &Board, lecture: Lecture<'_>, slot:
     }
 }
 
-/// What a lecture costs at a place in a period of this rank, with this lot.
+/// Returns the rank of a lecture at a place in a period of this rank, with this random number.
 pub fn place_rank(
     setting: &Setting,
     board: &Board,

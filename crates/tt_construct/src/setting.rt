@@ -1,22 +1,22 @@
-//! What the choices read of an instance.
+//! The data of an instance that the choices use.
 
 use std::alloc::{AllocError, Global};
 use tt_instance::Instance;
 
-/// A course, as the choices see it.
+/// The data of a course that the choices use.
 #[derive(Drop)]
 pub struct Course {
     pub lectures: u32,
     pub students: u32,
     pub min_days: u32,
-    /// Where its lectures begin among those of all courses.
+    /// The number of its first lecture among those of all courses.
     pub first: usize,
     pub curricula: Vec<u32>,
-    /// The courses that exclude it.
+    /// The courses that conflict with it.
     pub opponents: Vec<u32>,
 }
 
-/// An instance, as the choices see it.
+/// The data of an instance that the choices use.
 #[derive(Drop)]
 pub struct Setting {
     pub courses: Vec<Course>,
@@ -26,15 +26,15 @@ pub struct Setting {
     pub room_count: u32,
     pub curriculum_count: u32,
     pub days: u32,
-    /// The periods of a day.
+    /// The number of periods of a day.
     pub periods: u32,
-    /// The periods of the week.
+    /// The number of periods of the week.
     pub slots: u32,
-    /// The lectures of all courses.
+    /// The number of lectures of all courses.
     pub lectures: usize,
 }
 
-/// The curricula of a course.
+/// Returns the curricula of a course.
 fn curricula_of(
     alloc: Global,
     instance: &Instance<'_>,
@@ -45,7 +45,7 @@ fn curricula_of(
         .collect(alloc)
 }
 
-/// The courses that exclude a course.
+/// Returns the courses that conflict with a course.
 fn opponents_of(
     alloc: Global,
     instance: &Instance<'_>,
@@ -56,7 +56,7 @@ fn opponents_of(
         .collect(alloc)
 }
 
-/// The seats of each room.
+/// Returns the seats of each room.
 fn seats_of(alloc: Global, instance: &Instance<'_>) -> Result<Vec<u32>, AllocError> {
     let mut seats = Vec::new(alloc);
     for room in 0..instance.rooms() {
@@ -66,7 +66,7 @@ fn seats_of(alloc: Global, instance: &Instance<'_>) -> Result<Vec<u32>, AllocErr
 }
 
 impl Setting {
-    /// An instance, with no course of it yet.
+    /// Returns the data of an instance, without its courses.
     fn empty(alloc: Global, instance: &Instance<'_>) -> Result<Setting, AllocError> {
         let days = instance.days();
         let periods = instance.periods();
@@ -83,7 +83,7 @@ impl Setting {
         })
     }
 
-    /// What the choices read of the instance.
+    /// Returns the data of the instance that the choices use.
     pub fn new(alloc: Global, instance: &Instance<'_>) -> Result<Setting, AllocError> {
         let mut setting = Setting::empty(alloc, instance)?;
         for course in 0..instance.courses() {

@@ -1,4 +1,4 @@
--- Laws of descents: what they keep, and that they end no higher than they start.
+-- Laws of descents: what they preserve, and that they end no higher than they start.
 use Rattle.std.proofs.Common.{◌≡◌, ℕ, ◌+◌, ◌<◌, ◌⊎◌, List, length, set, map, refl, sym, ap, ◌∙◌, subst, arith, inl, inr, zero-add}
 use Rattle.std.proofs.lemmas.List.{length-set, map-set, set-get_or}
 use Rattle.std.proofs.lemmas.List.Elements.{All-set}
@@ -24,7 +24,7 @@ length-stepped t (Swap i j) =
 abbrev pub course_of : Cell → ℕ
 course_of e = e.course
 
--- an entry of the same course in the place of one
+-- an entry replaced by another of the same course
 course_kept : (t : List Cell) (i : ℕ) (x : Cell) → x.course ≡ (entry_at t i).course → map course_of (set t i x) ≡ map course_of t
 course_kept t i x is =
     map-set course_of t i x ∙ ap (set (map course_of t) i) is
@@ -82,7 +82,7 @@ IsBelow-irrefl p t below = IsBelow-asym p t t below below
 pub Descends-once : (p : Problem) (t : List Cell) (s : Step) → CanStep p t s → IsBelow p (stepped t s) t → Descends p t 1 (stepped t s)
 Descends-once p t s can low = step p t (stepped t s) 0 s can low (here p (stepped t s))
 
--- one behind another
+-- a descent after another
 pub Descends-append : {p : Problem} {t u v : List Cell} {m n : ℕ} → Descends p t m u → Descends p u n v → Descends p t (m + n) v
 Descends-append {v = v} {n = n} (here p t) d = subst (λ k. Descends p t k v) (sym (zero-add n)) d
 Descends-append {v = v} {n = n} (step p t u k s can low rest) d =
@@ -97,7 +97,7 @@ pub length-descends : {p : Problem} {t u : List Cell} {n : ℕ} → Descends p t
 length-descends (here p t) = refl
 length-descends (step p t u k s can low rest) = length-descends rest ∙ length-stepped t s
 
--- the course at each place stays
+-- a descent preserves the course at each place
 pub courses-descends : {p : Problem} {t u : List Cell} {n : ℕ} → Descends p t n u → map course_of u ≡ map course_of t
 courses-descends (here p t) = refl
 courses-descends (step p t u k s can low rest) = courses-descends rest ∙ courses-stepped t s
@@ -110,7 +110,7 @@ descends_lower (step p t u k s can low rest) = inr (elim (descends_lower rest) [
   | inr below ↦ IsBelow-trans p u (stepped t s) t below low
 ])
 
--- and never higher
+-- the end is never higher than the start
 pub descends_no_higher : {p : Problem} {t u : List Cell} {n : ℕ} → Descends p t n u → IsBelow p t u → ⊥
 descends_no_higher {p} {t} {u} d above = elim (descends_lower d) [
   | inl is ↦ IsBelow-irrefl p t (subst (IsBelow p t) is above)

@@ -29,7 +29,7 @@ one_step = Descends-once mini apart (Move 1 0 0 1) can lower
 not_settled : IsSettled mini apart → ⊥
 not_settled settled = settled (Move 1 0 0 1) can lower
 
--- with no steps nothing changes, and it is said that one would lower the cost
+-- with no steps nothing changes, and the descent reports that a step would lower the cost
 no_steps : IsDescent mini apart 0 apart false
 no_steps = record {
   made = 0;

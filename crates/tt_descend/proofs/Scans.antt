@@ -1,4 +1,4 @@
--- Scans one behind another, and the descents that they make.
+-- Scans in turn, and the descents that they make.
 use Rattle.std.proofs.Common.{◌≡◌, ℕ, ◌+◌, ◌<◌, true, false, refl, sym, ◌∙◌, subst, below_more, arith, Result, Ok, Err, OnOk, OnErr, is_err}
 use Rattle.tt_occupancy.specs.Filled.{Filled}
 use Rattle.tt_moves.specs.Steps.{CanStep, stepped}
@@ -8,7 +8,7 @@ use Rattle.tt_descend.specs.Scan.{Lowers, NoMove, NoSwap, IsScan, IsSpent}
 use Rattle.tt_descend.proofs.Descents.{length-stepped, Descends-once, Descends-append}
 use Rattle.tt_descend.proofs.Settling.{settled_where_none}
 
--- ---- answers
+-- -- results
 
 pub on_err : {T E P : Type 0} (r : Result T E) → P → OnErr r P
 on_err (Ok x) h = tt
@@ -24,7 +24,7 @@ from_err (Err x) e h = h
 
 -- ---- one step
 
--- nothing is made
+-- the case that no step is made
 pub scan_none : (seen : Filled → Type 0) (o : Filled) (left : ℕ) → seen o → IsScan seen o o left left
 scan_none seen o left sees = record {
   problem = refl;
@@ -35,7 +35,7 @@ scan_none seen o left sees = record {
   still = λ _. (refl, sees);
 }
 
--- a step that lowers the pair is made
+-- the case that a step that lowers the pair is made
 pub scan_step : (seen : Filled → Type 0) (o next : Filled) (s : Step) (before after : ℕ) → CanStep o.problem o.entries s → Lowers o s → next ≡ record { problem = o.problem; entries = stepped o.entries s } → after + 1 ≡ before → IsScan seen o next before after
 scan_step seen o next s before after can low is one_less =
     subst (λ z. IsScan seen o z before after) (sym is) (record {
@@ -47,7 +47,7 @@ scan_step seen o next s before after can low is one_less =
       still = λ same. absurd (omega arith);
     })
 
--- or there is none left for it
+-- the case that a step lowers the pair, but no steps are left for it
 pub spent_here : (o : Filled) (s : Step) (left : ℕ) → CanStep o.problem o.entries s → Lowers o s → left ≡ 0 → IsSpent o o left
 spent_here o s left can low none = record {
   problem = refl;
@@ -57,7 +57,7 @@ spent_here o s left can low none = record {
   lowers = low;
 }
 
--- ---- one scan behind another
+-- -- one scan after another
 
 module _ (A : Filled → Type 0) (x y : Filled) (k l : ℕ) (first : IsScan A x y k l) where
   pub scan_then : (B C : Filled → Type 0) (z : Filled) (m : ℕ) → IsScan B y z l m → (A x → B x → C x) → IsScan C x z k m
@@ -98,7 +98,7 @@ module _ (A : Filled → Type 0) (x y : Filled) (k l : ℕ) (first : IsScan A x 
         lowers = subst (λ q. Lowers (record { problem = q; entries = z.entries }) end.step) p end.lowers;
       }
 
--- ---- scans in a loop: what is seen of each number below the next one
+-- -- scans in a loop: the facts found for each number below the next one
 
 module _ (B : ℕ → Filled → Type 0) where
   pub scan_begin : (o : Filled) (left : ℕ) → IsScan (λ z. (n : ℕ) → n < 0 → B n z) o o left left
@@ -111,7 +111,7 @@ module _ (B : ℕ → Filled → Type 0) where
 
 -- ---- the end of a descent
 
--- no step lowers the pair
+-- the case that no step lowers the pair
 pub descent_settled : (A : Filled → Type 0) (x y z : Filled) (k l m : ℕ) → IsScan A x y k l → IsScan (λ o. NoMove o × NoSwap o) y z l m → m ≡ l → IsDescent x.problem x.entries k z.entries true
 descent_settled A x y z k l m first last same =
     let none = last.still same in
@@ -125,7 +125,7 @@ descent_settled A x y z k l m first last same =
       used_up = λ e. absurd (cc);
     })
 
--- one lowers it, but all were made
+-- the case that a step lowers the pair, but all steps were made
 pub descent_spent : (x z : Filled) (k : ℕ) → IsSpent x z k → IsDescent x.problem x.entries k z.entries false
 descent_spent x z k end = record {
   made = k;

@@ -1,4 +1,4 @@
--- Where no Move and no Swap of an entry with one after it lowers the pair, no step does.
+-- If no Move and no Swap of an entry with one after it lowers the pair, no step does.
 use Rattle.std.proofs.Common.{◌≡◌, ℕ, ◌<◌, ◌≢◌, List, ◌∙◌, subst, arith, inl, inr}
 use Rattle.std.proofs.lemmas.Bool.{cases_lt, cases_eq}
 use Rattle.std.proofs.lemmas.List.{set_comm, set-set, set-get_or}

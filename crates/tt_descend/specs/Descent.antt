@@ -1,4 +1,4 @@
--- Descents: steps each of which lowers the pair of hard count and cost.
+-- Descents: sequences of steps that each lower the pair of hard count and cost.
 use Rattle.std.specs.Prelude.{◌≡◌, ℕ, ◌+◌, ◌≤◌, ◌↔◌, Bool, false, List, IsTrue}
 use Rattle.tt_instance.specs.Problem.{Problem}
 use Rattle.tt_instance.specs.declared.cell.Cell.{Cell}
@@ -15,7 +15,7 @@ pub data Descends : Problem → List Cell → ℕ → List Cell → Type 0 where
 abbrev pub IsSettled : Problem → List Cell → Type 0
 IsSettled p t = (s : Step) → CanStep p t s → IsBelow p (stepped t s) t → ⊥
 
--- the end of a descent of at most this many steps, and whether no step lowers it: if one does, all steps were made
+-- the end of a descent of at most this many steps, and whether no step lowers the pair there: if one does, all steps were made
 pub record IsDescent (p : Problem) (t : List Cell) (steps : ℕ) (u : List Cell) (settled : Bool) : Type 0 where
   pub made : ℕ
   pub path : Descends p t made u

@@ -17,11 +17,11 @@ use tt_table::Timetable;
 #[derive(Drop)]
 pub struct Descent {
     pub table: Timetable,
-    /// Whether no Move and no Swap lowers the pair of hard count and cost any more.
+    /// Whether no Move and no Swap lowers the pair of hard count and cost.
     pub settled: bool,
 }
 
-/// Each step once: those that lower the pair are made.
+/// Tries each step once, and makes those that lower the pair.
 fn try_each(occupied: &mut Occupied<'_, '_>, left: &mut u64) -> Result<(), Spent>
     ensures ok { OnOk result (IsScan (λ o. NoMove o × NoSwap o)
         occupied.old occupied.new left.old left.new) }
@@ -31,8 +31,8 @@ fn try_each(occupied: &mut Occupied<'_, '_>, left: &mut u64) -> Result<(), Spent
     try_swaps(occupied, left)
 }
 
-/// Makes steps that lower the pair, at most this many, and says whether none is left. The search for
-/// the next one goes on where the last one was found. No memory is taken.
+/// Makes steps that lower the pair, at most `steps` of them, and returns whether none is left. The search for
+/// the next one continues from where the last one was found. No memory is allocated.
 pub fn descend_in(occupied: &mut Occupied<'_, '_>, steps: u64) -> bool
     ensures problem { occupied.new.problem ≡ occupied.old.problem }
     ensures descent { IsDescent occupied.old.problem occupied.old.entries steps
@@ -50,8 +50,8 @@ pub fn descend_in(occupied: &mut Occupied<'_, '_>, steps: u64) -> bool
     }
 }
 
-/// Makes steps that lower the pair of hard count and cost, at most this many. The table is used up
-/// also where memory runs out.
+/// Makes steps that lower the pair of hard count and cost, at most `steps` of them. The table is consumed
+/// even if memory runs out.
 pub fn descend(
     alloc: Global,
     instance: &Instance<'_>,

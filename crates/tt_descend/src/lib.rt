@@ -1,4 +1,4 @@
-//! Descents: steps each of which lowers the pair of hard count and cost, until none is left.
+//! Descents: sequences of steps that each lower the pair of hard count and cost, until no such step is left.
 #![tactic(auto)]
 
 mod descending;

@@ -7,7 +7,7 @@ use crate::trying::{Spent, try_step};
 use tt_moves::Step;
 use tt_occupancy::Occupied;
 
-/// The Moves of an entry to a room on a day.
+/// Tries the Moves of an entry to a room on a day, and makes each that lowers the pair.
 fn move_on(
     occupied: &mut Occupied<'_, '_>,
     entry: u32,
@@ -34,7 +34,7 @@ fn move_on(
     Ok(())
 }
 
-/// The Moves of an entry to a room.
+/// Tries the Moves of an entry to a room, and makes each that lowers the pair.
 fn move_to(
     occupied: &mut Occupied<'_, '_>,
     entry: u32,
@@ -53,7 +53,7 @@ fn move_to(
     Ok(())
 }
 
-/// The Moves of an entry.
+/// Tries the Moves of an entry, and makes each that lowers the pair.
 fn move_of(occupied: &mut Occupied<'_, '_>, entry: u32, left: &mut u64) -> Result<(), Spent>
     requires { entry < length occupied.old.entries }
     ensures ok { OnOk result (IsScan (NoMoveOf entry) occupied.old occupied.new left.old left.new) }
@@ -65,7 +65,7 @@ fn move_of(occupied: &mut Occupied<'_, '_>, entry: u32, left: &mut u64) -> Resul
     Ok(())
 }
 
-/// Each Move that lowers the pair, in turn.
+/// Makes each Move that lowers the pair, in turn.
 pub fn try_moves(occupied: &mut Occupied<'_, '_>, left: &mut u64) -> Result<(), Spent>
     ensures ok { OnOk result (IsScan NoMove occupied.old occupied.new left.old left.new) }
     ensures err { OnErr result (IsSpent occupied.old occupied.new left.old) }

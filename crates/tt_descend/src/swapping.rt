@@ -7,7 +7,7 @@ use crate::trying::{Spent, try_step};
 use tt_moves::Step;
 use tt_occupancy::Occupied;
 
-/// The Swaps of an entry with those after it.
+/// Tries the Swaps of an entry with each after it, and makes each that lowers the pair.
 fn swap_of(occupied: &mut Occupied<'_, '_>, first: u32, left: &mut u64) -> Result<(), Spent>
     requires { first < length occupied.old.entries }
     ensures ok { OnOk result (IsScan (NoSwapOf first) occupied.old occupied.new left.old left.new) }
@@ -20,7 +20,7 @@ fn swap_of(occupied: &mut Occupied<'_, '_>, first: u32, left: &mut u64) -> Resul
     Ok(())
 }
 
-/// Each Swap that lowers the pair, in turn.
+/// Makes each Swap that lowers the pair, in turn.
 pub fn try_swaps(occupied: &mut Occupied<'_, '_>, left: &mut u64) -> Result<(), Spent>
     ensures ok { OnOk result (IsScan NoSwap occupied.old occupied.new left.old left.new) }
     ensures err { OnErr result (IsSpent occupied.old occupied.new left.old) }

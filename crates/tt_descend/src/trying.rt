@@ -11,7 +11,7 @@ use tt_occupancy::Occupied;
 #[derive(Clone, Copy)]
 pub struct Spent;
 
-/// Makes a step where it lowers the pair, and counts it.
+/// Makes a step if it lowers the pair, and counts it.
 pub fn try_step(occupied: &mut Occupied<'_, '_>, step: Step, left: &mut u64) -> Result<(), Spent>
     requires { CanStep occupied.old.problem occupied.old.entries step }
     ensures ok { OnOk result (IsScan (λ o. ¬ Lowers o step)

@@ -1,4 +1,4 @@
--- Names as they are written.
+-- Names in their written form.
 use Rattle.std.proofs.Common.{◌≡◌, [], ◌∷◌, ◌++◌, refl}
 use Rattle.std.specs.Prelude.{codes}
 use Rattle.tt_export.specs.Tables.{field}

@@ -1,4 +1,4 @@
--- The names of an entry, as the instance's file has them.
+-- The names of an entry as they are in the instance's file.
 use Rattle.std.specs.Prelude.{ℕ, List, slice_index_or}
 use Rattle.tt_instance.specs.Problem.{Problem}
 use Rattle.tt_instance.specs.Courses.{no_course, no_room}

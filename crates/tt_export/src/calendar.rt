@@ -42,7 +42,7 @@ fn put_moment(out: &mut Vec<u8>, date: u32, minute: u64) -> Result<(), AllocErro
     put_clock(out, minute)
 }
 
-/// Appends what tells an event from all others.
+/// Appends the text that distinguishes an event from all others.
 fn put_identity(out: &mut Vec<u8>, term: &Term, entry: Entry) -> Result<(), AllocError>
     ensures { OnOk result (out.new.items ≡ out.old.items ++ identity term.now entry) }
 {
@@ -58,7 +58,7 @@ fn put_identity(out: &mut Vec<u8>, term: &Term, entry: Entry) -> Result<(), Allo
     put_token(out, b"@tt")
 }
 
-/// Appends the line of what tells an event from all others.
+/// Appends the line with the text that distinguishes an event from all others.
 fn put_identity_line(out: &mut Vec<u8>, term: &Term, entry: Entry) -> Result<(), AllocError>
     ensures { OnOk result (out.new.items ≡ out.old.items ++ line (codes "UID:") (identity term.now entry)) }
 {
@@ -90,7 +90,7 @@ fn put_moment_line(
     put_token(out, b"\r\n")
 }
 
-/// Appends the lines that say when an event is.
+/// Appends the lines for the time of an event.
 fn put_times(out: &mut Vec<u8>, term: &Term, entry: Entry) -> Result<(), AllocError>
     ensures { OnOk result (out.new.items ≡ out.old.items ++ times term.now entry) }
 {
@@ -110,7 +110,7 @@ fn put_name_line(out: &mut Vec<u8>, label: &[u8], name: &[u8]) -> Result<(), All
     put_token(out, b"\r\n")
 }
 
-/// Appends the lines that say what an event is.
+/// Appends the lines for the contents of an event.
 fn put_names(out: &mut Vec<u8>, instance: &Instance<'_>, entry: Entry) -> Result<(), AllocError>
     requires { InRange instance.now entry }
     ensures { OnOk result (out.new.items ≡ out.old.items ++ names instance.now entry) }
@@ -174,7 +174,7 @@ fn put_events(
     Ok(())
 }
 
-/// The week of a room, a teacher or a curriculum as an iCalendar file: an event for each lecture, in local time, on the dates of the term.
+/// Returns the week of a room, a teacher or a curriculum as an iCalendar file: an event for each lecture, in local time, on the dates of the term.
 pub fn write_calendar(
     alloc: Global,
     instance: &Instance<'_>,

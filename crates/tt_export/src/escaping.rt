@@ -6,10 +6,10 @@ ghost use Rattle.tt_export.specs.Calendars.{escaped};
 use std::alloc::AllocError;
 use tt_text::put_token;
 
-/// The first byte that is no control.
+/// The first byte that is not a control character.
 const SPACE: u8 = b' ';
 
-/// Appends a byte, after a backslash where the calendar needs one; a control becomes a question mark.
+/// Appends a byte, after a backslash if the calendar needs one; a control character becomes a question mark.
 fn put_escaped_byte(out: &mut Vec<u8>, byte: u8) -> Result<(), AllocError>
     ensures { OnOk result (out.new.items ≡ out.old.items ++ escaped byte) }
 {
@@ -20,7 +20,7 @@ fn put_escaped_byte(out: &mut Vec<u8>, byte: u8) -> Result<(), AllocError>
     }
 }
 
-/// Appends a name as a calendar has it.
+/// Appends a name in the form for a calendar.
 pub fn put_escaped(out: &mut Vec<u8>, name: &[u8]) -> Result<(), AllocError>
     ensures { OnOk result (out.new.items ≡ out.old.items ++ flat_map escaped name.now) }
 {

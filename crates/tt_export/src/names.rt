@@ -6,7 +6,7 @@ ghost use Rattle.tt_export.specs.Names.{teacher_of};
 
 use tt_instance::Instance;
 
-/// The name of a course.
+/// Returns the name of a course.
 pub fn course_name<'a>(instance: &Instance<'a>, course: u32) -> &'a [u8]
     requires { course < length instance.now.courses }
     ensures { result.now ≡ (slice_index_or instance.now.courses course no_course).id }
@@ -14,7 +14,7 @@ pub fn course_name<'a>(instance: &Instance<'a>, course: u32) -> &'a [u8]
     instance.course_id(course)
 }
 
-/// The name of a room.
+/// Returns the name of a room.
 pub fn room_name<'a>(instance: &Instance<'a>, room: u32) -> &'a [u8]
     requires { room < length instance.now.rooms }
     ensures { result.now ≡ (slice_index_or instance.now.rooms room no_room).id }
@@ -22,7 +22,7 @@ pub fn room_name<'a>(instance: &Instance<'a>, room: u32) -> &'a [u8]
     instance.room_id(room)
 }
 
-/// The name of a teacher.
+/// Returns the name of a teacher.
 pub fn name_of_teacher<'a>(instance: &Instance<'a>, teacher: u32) -> &'a [u8]
     requires { teacher < length (teachers instance.now) }
     ensures { result.now ≡ slice_index_or (teachers instance.now) teacher [] }
@@ -30,7 +30,7 @@ pub fn name_of_teacher<'a>(instance: &Instance<'a>, teacher: u32) -> &'a [u8]
     instance.teacher_name(teacher)
 }
 
-/// The name of a course's teacher.
+/// Returns the name of a course's teacher.
 pub fn teacher_of<'a>(instance: &Instance<'a>, course: u32) -> &'a [u8]
     requires { course < length instance.now.courses }
     ensures { result.now ≡ teacher_of instance.now course }

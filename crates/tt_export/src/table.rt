@@ -53,7 +53,7 @@ fn put_rows(out: &mut Vec<u8>, instance: &Instance<'_>, entries: &[Entry]) -> Re
     Ok(())
 }
 
-/// The timetable as comma-separated values with a head, one row for each entry: names in quotes, days and periods as numbers from 0.
+/// Returns the timetable as comma-separated values with a head, one row for each entry: names in quotes, days and periods as numbers from 0.
 pub fn write_table(
     alloc: Global,
     instance: &Instance<'_>,

@@ -8,12 +8,12 @@ use std::marker::Model;
 use std::str::FromStr;
 use thiserror::Error;
 
-/// The most minutes of an hour, and the most hours of a day.
+/// The number of minutes of an hour, and the number of hours of a day.
 const MINUTES: u32 = 60;
 
 const HOURS: u32 = 24;
 
-/// When a week takes place: the date of each day, when each period begins, and how long it is.
+/// When a week takes place: the date of each day, when each period begins, and its length.
 #[derive(Debug, Drop)]
 pub struct Term {
     /// The dates as numbers YYYYMMDD.
@@ -23,7 +23,7 @@ pub struct Term {
     minutes: u32,
 }
 
-/// Why there is no term.
+/// Why a term can't be created.
 #[derive(Clone, Copy, Debug, PartialEq, Eq, Error)]
 pub enum TermFault {
     #[error("the first day is no date of the form 2027-02-01")]
@@ -56,7 +56,7 @@ impl Model for Term {
     ghost view = { λ s. record { dates = s.dates.items; begins = s.begins.items; minutes = s.minutes } };
 }
 
-/// A date as the number YYYYMMDD.
+/// Returns a date as the number YYYYMMDD.
 fn number_of(date: Date) -> u32 {
     let year = u32::from(date.year().unsigned_abs());
     let month = u32::from(date.month().unsigned_abs());
@@ -66,7 +66,7 @@ fn number_of(date: Date) -> u32 {
         .saturating_add(day)
 }
 
-/// The dates of this many days from the first.
+/// Returns the dates of this many days from the first.
 fn dates_from(alloc: Global, first: Date, days: u32) -> Result<Vec<u32>, TermFault> {
     let mut dates = Vec::new(alloc);
     let mut date = first;
@@ -77,7 +77,7 @@ fn dates_from(alloc: Global, first: Date, days: u32) -> Result<Vec<u32>, TermFau
     Ok(dates)
 }
 
-/// The minute of the day of a time such as `8:00`.
+/// Returns the minute of the day of a time such as `8:00`.
 fn minute_of(time: &str) -> Option<u32> {
     let (hour, minute) = time.split_once(':')?;
     let hour = u32::from_str(hour).ok()?;
@@ -89,8 +89,8 @@ fn minute_of(time: &str) -> Option<u32> {
 }
 
 impl Term {
-    /// The term whose first day has the date `first`, as `2027-02-01`, for this many days; its periods begin at `times`, as `8:00,9:00`, one for each
-    /// of this many periods, and last for this many minutes.
+    /// Creates the term whose first day has the date `first`, such as `2027-02-01`, for this many days; its periods begin at `times`, such as
+    /// `8:00,9:00`, one for each of this many periods, and last for this many minutes.
     pub fn new(
         alloc: Global,
         (days, periods): (u32, u32),
@@ -114,21 +114,21 @@ impl Term {
         })
     }
 
-    /// The date of a day as the number YYYYMMDD, 0 if the term has no such day.
+    /// Returns the date of a day as the number YYYYMMDD, 0 if the term has no such day.
     pub fn date(&self, day: u32) -> u32
         ensures { result ≡ slice_index_or self.now.dates day 0 }
     {
         self.dates.get(day as usize).copied().unwrap_or(0)
     }
 
-    /// The minute of the day at which a period begins, 0 if the term has no such period.
+    /// Returns the minute of the day at which a period begins, 0 if the term has no such period.
     pub fn begin(&self, period: u32) -> u32
         ensures { result ≡ slice_index_or self.now.begins period 0 }
     {
         self.begins.get(period as usize).copied().unwrap_or(0)
     }
 
-    /// How many minutes a period lasts.
+    /// Returns how many minutes a period lasts.
     pub fn minutes(&self) -> u32
         ensures { result ≡ self.now.minutes }
     {

@@ -1,4 +1,4 @@
-//! Whose week is shown.
+//! The room, teacher or curriculum whose week is shown.
 
 ghost use Rattle.std.specs.Prelude.{◌≡◌, ◌<◌, ℕ, length, Some, slice_get, IfSome, IsNone};
 ghost use Rattle.tt_instance.specs.Cells.{InRange};
@@ -9,7 +9,7 @@ use tt_instance::Instance;
 use tt_report::By;
 use tt_table::Entry;
 
-/// Whose week a calendar shows, by number.
+/// The room, teacher or curriculum whose week a calendar shows, by number.
 #[derive(Clone, Copy, Debug)]
 pub enum Week {
     OfRoom(u32),
@@ -17,7 +17,7 @@ pub enum Week {
     OfCurriculum(u32),
 }
 
-/// How many rooms, teachers or curricula there are.
+/// Returns the number of rooms, teachers or curricula.
 fn count_by(instance: &Instance<'_>, by: By) -> u32
     ensures { result ≡ length (names_by instance.now by) }
 {
@@ -28,7 +28,7 @@ fn count_by(instance: &Instance<'_>, by: By) -> u32
     }
 }
 
-/// The name of a room, a teacher or a curriculum.
+/// Returns the name of a room, a teacher or a curriculum.
 fn name_by<'a>(instance: &Instance<'a>, by: By, number: u32) -> &'a [u8]
     requires { number < length (names_by instance.now by) }
     ensures { slice_get (names_by instance.now by) number ≡ Some result.now }
@@ -40,7 +40,7 @@ fn name_by<'a>(instance: &Instance<'a>, by: By, number: u32) -> &'a [u8]
     }
 }
 
-/// The number of the first room, teacher or curriculum of this name.
+/// Returns the number of the first room, teacher or curriculum with this name.
 fn number_named(instance: &Instance<'_>, by: By, name: &[u8]) -> Option<u32>
     ensures some { IfSome result (λ n. slice_get (names_by instance.now by) n ≡ Some name.now) }
     ensures none { IsNone result → (n : ℕ) → ¬ (slice_get (names_by instance.now by) n ≡ Some name.now) }
@@ -54,7 +54,7 @@ fn number_named(instance: &Instance<'_>, by: By, name: &[u8]) -> Option<u32>
 }
 
 impl Week {
-    /// The week of the room, teacher or curriculum of this name, if there is one.
+    /// Returns the week of the room, teacher or curriculum with this name, if one exists.
     pub fn named(instance: &Instance<'_>, by: By, name: &[u8]) -> Option<Week>
         ensures some { IfSome result (IsWeekOf instance.now by name.now) }
         ensures within { IfSome result (IsWeek instance.now) }
@@ -68,7 +68,7 @@ impl Week {
         })
     }
 
-    /// Whether an entry belongs to the week.
+    /// Returns whether an entry belongs to the week.
     pub fn has(self, instance: &Instance<'_>, entry: Entry) -> bool
         requires week { IsWeek instance.now self }
         requires entry { InRange instance.now entry }

@@ -1,4 +1,4 @@
--- What only yes-facts answer.
+-- Answers that depend only on yes-facts.
 use Rattle.std.proofs.Common.{◌≡◌, ℕ, ◌≤◌, Bool, true, false, ◌&&◌, List, [], ◌∷◌, ◌++◌, length, cond, refl, ap, ◌∙◌, arith}
 use Rattle.std.proofs.lemmas.Bool.{and_parts}
 use Rattle.std.proofs.lemmas.List.{append-nil}
@@ -15,7 +15,7 @@ use Rattle.tt_paths.specs.declared.facts.Fact.{Fact}
 use Rattle.tt_paths.specs.Paths.{Facts}
 use Rattle.tt_facts.specs.Halves.{yes_of, AreHalves}
 
--- ---- one fact more
+-- -- another fact
 
 pub yes_of_added : (fs : List Fact) (f : Fact) → f.holds ≡ true → yes_of (fs ++ f ∷ []) ≡ yes_of fs ++ f ∷ []
 yes_of_added fs f e = filter-append (λ h. h.holds) fs (f ∷ []) ∙ ap (λ b. yes_of fs ++ cond b (f ∷ []) []) e
@@ -32,7 +32,7 @@ yes_of_few (f ∷ fs) = by_answer f.holds (yes_of_few fs)
     by_answer true h = omega arith
     by_answer false h = omega arith
 
--- ---- what is asked of yes-facts alone
+-- -- the answers from yes-facts only
 
 pub pinned_by_yes : (p : Problem) (fs : List Fact) (who : Who) (s : Slot) → pinned p (yes_of fs) who s ≡ pinned p fs who s
 pinned_by_yes p fs who s =

@@ -1,14 +1,14 @@
--- Only proofs rest on this file: nobody has to believe it.
--- What the two parts of a path that answers from tables have to do with each other.
+-- Not part of the trusted statement: only proofs use this file.
+-- The relation between the two parts of a path that answers from tables.
 use Rattle.std.specs.Prelude.{◌≡◌, List, filter}
 use Rattle.tt_paths.specs.Paths.{Facts}
 use Rattle.tt_paths.specs.declared.facts.Fact.{Fact}
 
--- the yes-facts, the oldest first
+-- The yes-facts, the oldest first.
 abbrev pub yes_of : List Fact → List Fact
 yes_of facts = filter (λ f. f.holds) facts
 
--- one part has all facts, the other the yes-facts, of one instance
+-- One part has all facts, the other the yes-facts, of the same instance.
 pub record AreHalves (all yes : Facts) : Type 0 where
   pub problem : yes.problem ≡ all.problem
   pub facts : yes.facts ≡ yes_of all.facts

@@ -1,4 +1,4 @@
-//! One more fact in the parts of a path.
+//! Adding a fact to the parts of a path.
 
 ghost use Rattle.std.specs.Prelude.{◌≡◌, ◌<◌, [], ◌∷◌, ◌++◌, length, OnOk, OnErr};
 ghost use Rattle.tt_paths.specs.declared.path.TheConstants.{MAX_FACTS};
@@ -34,7 +34,7 @@ pub fn push_both(
     Ok(())
 }
 
-/// Takes the newest fact away.
+/// Removes the newest fact and returns it.
 #[inline(always)]
 pub fn pop_both(cells: &mut Cells<'_, '_>, pins: &mut Pins<'_, '_>) -> Fact
     requires some { 0 < length cells.old.facts }

@@ -1,4 +1,4 @@
-//! Paths that answer from tables and take changes back by trails.
+//! Paths that answer from tables and undo changes by trails.
 #![tactic(auto)]
 
 mod both;

@@ -10,9 +10,9 @@ use tt_instance::Instance;
 use tt_paths::{Cell, Fact, MAX_FACTS, Path, PathFault, Pattern, Who};
 use tt_pins::Pins;
 
-/// The facts with tables of the live cells and of what is pinned, which only yes-facts change. Of the answers only `has` may
-/// look through facts: for a no-fact, or where the pattern leaves out its day or its period or speaks of a curriculum. A pop
-/// writes back what the push wrote.
+/// The facts with tables of the live cells and of the pinned periods and rooms, which only yes-facts change. Only `has` may
+/// go through facts for its answer: for a no-fact, or if the pattern gives no day or no period or is about a curriculum. A pop
+/// restores the words that the push changed.
 pub struct TrailPath<'p, 'i> {
     cells: Cells<'p, 'i>,
     pins: Pins<'p, 'i>,
@@ -38,7 +38,7 @@ impl<'p, 'i> Drop for TrailPath<'p, 'i> {
 impl<'p, 'i> TrailPath<'p, 'i> {
     ghost use Rattle.std.specs.Prelude.{[], IfOk};
 
-    /// A path with no facts.
+    /// Creates a path with no facts.
     pub fn new(alloc: Global, instance: &'p Instance<'i>) -> Result<TrailPath<'p, 'i>, AllocError>
         ensures problem { IfOk result (λ s. s.problem ≡ instance.now) }
         ensures facts { IfOk result (λ s. s.facts ≡ []) }

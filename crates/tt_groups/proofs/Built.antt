@@ -1,5 +1,5 @@
--- A plan as a timetable: each period has an entry for each course that the group concerns and that the plan has there, all in room 0.
--- It is a relaxed timetable and costs what the plan costs, so a bound of the group is one of all plans.
+-- A plan as a timetable: each period has an entry for each course that the group concerns and that the plan has in this period, all in
+-- room 0. It is a relaxed timetable and costs as much as the plan, so a bound of the group is a bound of all plans.
 use Rattle.std.proofs.Common.{◌≡◌, ℕ, ◌+◌, ◌-◌, ◌*◌, ◌<◌, ◌≤◌, Bool, true, false, not, cond, ◌&&◌, List, [], ◌∷◌, length, refl, sym, ap, ◌∙◌, subst, arith, eqb-true, eq-eqb}
 use Rattle.std.specs.Prelude.{Contains, ◌==◌, nat_lt, sum_by, count_by, flat_map}
 use Rattle.std.specs.List.{list_any, AllByRecursion}
@@ -29,7 +29,7 @@ use Rattle.tt_groups.proofs.Projection.{course_own, member_own, standing}
 
 -- ---- lists
 
--- no pairs are counted where no two elements are related
+-- no pairs are counted if no two elements are related
 no_pairs : {X : Type 0} (related : X → X → Bool) (xs : List X) → ((x y : X) → Contains xs x → Contains xs y → related x y ≡ true → ⊥) → count_pairs related xs ≡ 0
 no_pairs related [] h = refl
 no_pairs {X} related (x ∷ xs) h =
@@ -37,7 +37,7 @@ no_pairs {X} related (x ∷ xs) h =
     let first = none_counted (related x) xs (λ y m. h x y (0, omega arith, refl) (later y m)) in
     omega (arith, first, no_pairs related xs (λ y z m n. h y z (later y m) (later z n)))
 
--- what passes in a list of one element, or of none
+-- the count of passing elements in a list of one element, or of none
 counted_if : {X : Type 0} (q : X → Bool) (b : Bool) (x : X) → count_by q (cond b (x ∷ []) []) ≡ one_if (b && q x)
 counted_if q true x = omega arith
 counted_if q false x = refl
@@ -83,7 +83,7 @@ module _ (p : Problem) (g : Group) (a b : Week) (same : (d s c : ℕ) → d < p.
       sum_by-same_below (λ i. lectures_on p (a i) c - 1) (λ i. lectures_on p (b i) c - 1) p.days
       (λ i k. ap (λ n. n - 1) (sum_by-same_below (λ s. one_if (a i s c)) (λ s. one_if (b i s c)) p.periods (λ s l. ap one_if (same i s c k l own))))
 
-  -- such weeks cost the same
+  -- weeks that have the same courses of the group cost the same
   pub spent_same : spent p g a p.days ≡ spent p g b p.days
   spent_same =
       let days = sum_by-same_below (λ i. day_cost p g (a i)) (λ i. day_cost p g (b i)) p.days (λ i k. day_same p g (a i) (b i) (λ s c l own. same i s c k l own)) in
@@ -149,7 +149,7 @@ module _ (p : Problem) (g : Group) (week : Week) (plan : IsPlan p g week) (there
     planned : sum_by (λ s. one_if (week s.day s.period c)) (all_slots p) ≡ lectures p c
     planned = slots_summed p (λ s. one_if (week s.day s.period c)) ∙ plan.lectures c own
 
-    -- a period has one entry of the course at most, and that where the plan has it
+    -- a period has at most one entry of the course, and only if the plan has the course in it
     once_at : (s : Slot) → count_by (is_of c) (entries_at s) ≤ one_if (week s.day s.period c)
     once_at s =
         let test : Cell → ℕ = λ x. one_if (is_of c x) in

@@ -1,5 +1,5 @@
--- A curriculum pays 2 for each single period: its members conflict, so a period has one of its entries at most.
--- So a relaxed timetable costs exactly what its plan costs, and the best bound of plans is the best of the group.
+-- A curriculum pays 2 for each single period: its members conflict, so a period has at most one of its entries.
+-- So a relaxed timetable costs exactly as much as its plan, and the best bound of plans is the best bound of the group.
 use Rattle.std.proofs.Common.{◌≡◌, ℕ, ◌+◌, ◌-◌, ◌*◌, ◌≤◌, Bool, true, not, ◌&&◌, ◌||◌, List, refl, sym, ap, ◌∙◌, subst, arith, inl, inr, eq-eqb}
 use Rattle.std.specs.Prelude.{Contains, ◌==◌, nat_lt, sum_by, count_by}
 use Rattle.std.specs.List.{list_any, AllByRecursion}
@@ -25,7 +25,7 @@ use Rattle.tt_groups.proofs.Projection.{member_own, taught_by, taught_entry, sin
 use Rattle.tt_groups.proofs.Lists.{sum_by-same_member}
 
 module _ (p : Problem) (g : Group) (t : List Cell) (relaxed : IsRelaxedTimetable p g t) where
-  -- a course of the group has one entry in a period at most
+  -- a course of the group has at most one entry in a period
   once_a_period : (c : ℕ) → concerns p g c ≡ true → AllByRecursion (λ s. count_by (λ e. is_of c e && is_at s e) t ≤ 1) (all_slots p)
   once_a_period c own =
       let one : Slot → ℕ = λ s. one_if (list_any (λ e. is_of c e && is_at s e) t) in
@@ -45,7 +45,7 @@ module _ (p : Problem) (g : Group) (t : List Cell) (relaxed : IsRelaxedTimetable
         let there = any_member beside t y.0 y.1 (and_from (in_curriculum p q y.0.course) (next_to (slot_of y.0) (slot_of x)) y.2 (subst (λ z. next_to z (slot_of x) ≡ true) (sym y.3) near)) in
         both_ways (list_any beside t) (not-true (list_any beside t) alone) there
 
-    -- the period of an isolated entry of it is single
+    -- the period of an isolated entry of the curriculum is single
     isolated_single : (x : Cell) → Contains t x → good x ≡ true → is_single p (week_of t x.day) q x.period ≡ true
     isolated_single x m e =
         let s = x.period in
@@ -62,7 +62,7 @@ module _ (p : Problem) (g : Group) (t : List Cell) (relaxed : IsRelaxedTimetable
         and_from (taught s && not before) (not (taught (s + 1)))
         (and_from (taught s) (not before) (taught_by p g t relaxed q own x m k.0) (not_from_false before none_before)) (not_from_false (taught (s + 1)) none_after)
 
-    -- a period has one isolated entry of it at most
+    -- a period has at most one isolated entry of the curriculum
     one_good : (s : Slot) → ((c : ℕ) → concerns p g c ≡ true → count_by (λ e. is_of c e && is_at s e) t ≤ 1) → count_by (λ e. good e && is_at s e) t ≤ 1
     one_good s once = elim (cases_lt 0 (count_by (λ e. good e && is_at s e) t)) [
       | inr h ↦ omega arith
@@ -86,7 +86,7 @@ module _ (p : Problem) (g : Group) (t : List Cell) (relaxed : IsRelaxedTimetable
           omega (arith, up, once c (own c mine))
     ]
 
-    -- the isolated entries are no more than the single periods
+    -- there are no more isolated entries than single periods
     singles-ge : count_by good t ≤ sum_by (λ d. count_by (is_single p (week_of t d) q) (range_below p.periods)) (all_days p)
     singles-ge =
         let single : Slot → Bool = λ s. is_single p (week_of t s.day) q s.period in
@@ -117,7 +117,7 @@ module _ (p : Problem) (g : Group) (t : List Cell) (relaxed : IsRelaxedTimetable
         let f = sum_by-same (λ d. 2 * singles d) (λ d. singles d * 2) (all_days p) (λ d. omega arith) in
         omega (arith, e, f, singles-ge, singles-le p g t relaxed q own)
 
-  -- a relaxed timetable costs exactly what its plan costs
+  -- a relaxed timetable costs exactly as much as its plan
   pub plan-is_cost : base_cost p g + spent p g (week_of t) p.days ≡ group_cost p g t
   plan-is_cost =
       let of_day : ℕ → ℕ → ℕ = λ d q. 2 * count_by (is_single p (week_of t d) q) (range_below p.periods) in

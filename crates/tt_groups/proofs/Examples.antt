@@ -1,4 +1,4 @@
--- Groups of a small instance, as the definitions compute them.
+-- Groups of a small instance, with values computed by the definitions.
 use Rattle.std.proofs.Common.{◌≡◌, ℕ, ◌+◌, true, false, List, [], ◌∷◌, codes, refl}
 use Rattle.tt_instance.specs.Problem.{Course, Problem}
 use Rattle.tt_instance.specs.declared.cell.Cell.{Cell}
@@ -13,7 +13,7 @@ course id teacher l w = record { id = id; teacher = teacher; lectures = l; min_d
 abbrev at : ℕ → ℕ → ℕ → Cell
 at c d s = record { course = c; room = 0; day = d; period = s }
 
--- two days of three periods; a and b are of one curriculum, b and c have one teacher; a wants three days, which its two lectures can't have
+-- two days of three periods; a and b are of one curriculum, b and c have one teacher; a needs three days, but has only two lectures
 abbrev three : Problem
 three = record {
   name = [];
@@ -29,7 +29,7 @@ three = record {
 abbrev group : Group
 group = record { curricula = 0 ∷ []; courses = 0 ∷ [] }
 
--- a on both days, b behind its first lecture, and c where it must not be: with b, and where it is unavailable
+-- a on both days, b immediately after its first lecture, and c where it must not be: at the time of b, and where it is unavailable
 abbrev spread : List Cell
 spread = at 0 0 0 ∷ at 1 0 1 ∷ at 0 1 0 ∷ at 2 0 1 ∷ []
 
@@ -43,18 +43,18 @@ a_member_is_concerned = refl
 another_course_is_not_concerned : concerns three group 2 ≡ false
 another_course_is_not_concerned = refl
 
--- what is wrong with c is not looked at
+-- violations by c are not counted
 one_conflict_in_all : conflicts_count three spread ≡ 1
 one_conflict_in_all = refl
 
 no_conflict_in_the_group : conflicts_count three (entries_for three group spread) + availability_count three (entries_for three group spread) + lectures_off three spread 0 + lectures_off three spread 1 ≡ 0
 no_conflict_in_the_group = refl
 
--- 2 for the second lecture of a, and 5 for its third day
+-- 2 for the second lecture of a, and 5 for its missing third day
 spread_costs : group_cost three group spread ≡ 7
 spread_costs = refl
 
--- 10 for two days
+-- 10 for two missing days
 packed_costs : group_cost three group packed ≡ 10
 packed_costs = refl
 
@@ -64,7 +64,7 @@ base_is_for_the_third_day = refl
 a_is_single : is_single three (week_of spread 1) 0 0 ≡ true
 a_is_single = refl
 
--- the plan costs as much, on its first day and on both
+-- the plan costs the same, on its first day and on both days
 first_day_spread : spent three group (week_of spread) 1 ≡ 0
 first_day_spread = refl
 

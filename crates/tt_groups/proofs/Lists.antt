@@ -1,4 +1,4 @@
--- Sums over numbers and over the elements of a list, and what passes a filter.
+-- Sums over numbers and over the elements of a list, and the elements that pass a filter.
 use Rattle.std.proofs.Common.{◌≡◌, ℕ, suc, ◌+◌, ◌-◌, ◌≤◌, Bool, true, false, List, [], ◌∷◌, cond, length, refl, sym, ap, ◌∙◌, subst, arith, inl, inr}
 use Rattle.std.specs.Prelude.{◌⊎◌, Contains, filter, sum_by, slice_index}
 use Rattle.std.proofs.lemmas.Bool.{both_ways}
@@ -11,14 +11,14 @@ use Rattle.tt_lists.proofs.Tests.{sum_further}
 
 -- ---- sums
 
--- a sum over the first numbers is no more than one over more of them
+-- a sum over the first numbers is no more than a sum over more of them
 pub sum_first : (f : ℕ → ℕ) (a n : ℕ) → a ≤ n → sum_by f (range_below a) ≤ sum_by f (range_below n)
 sum_first f a n h =
     let e : a + (n - a) ≡ n = omega arith in
     let k : sum_by f (range_below (a + (n - a))) ≡ sum_by f (range_below n) = ap (λ i. sum_by f (range_below i)) e in
     omega (arith, k, sum_further f a (n - a))
 
--- the first term, and all later ones
+-- the first term plus the sum of all later terms
 pub sum_head : (f : ℕ → ℕ) (n : ℕ) → sum_by f (range_below (suc n)) ≡ f 0 + sum_by (λ s. f (suc s)) (range_below n)
 sum_head f n =
     let e : suc n ≡ 1 + n = omega arith in
@@ -26,12 +26,12 @@ sum_head f n =
     let rest = sum_by-same (λ s. f (1 + s)) (λ s. f (suc s)) (range_below n) (λ s. let i : 1 + s ≡ suc s = omega arith in ap f i) in
     omega (arith, ap (λ i. sum_by f (range_below i)) e, sum_further f 1 n, first, rest)
 
--- a sum over the indices of a list is one over its elements
+-- a sum over the indices of a list is the sum over its elements
 pub sum_indices : (f : ℕ → ℕ) (xs : List ℕ) → sum_by (λ i. f (slice_index xs i)) (range_below (length xs)) ≡ sum_by f xs
 sum_indices f [] = refl
 sum_indices f (x ∷ xs) = omega (arith, sum_head (λ i. f (slice_index (x ∷ xs) i)) (length xs), sum_by-cons f x xs, sum_indices f xs)
 
--- terms that agree at each element
+-- sums of terms that agree at each element are equal
 pub sum_by-same_member : {X : Type 0} (f h : X → ℕ) (xs : List X) → ((x : X) → Contains xs x → f x ≡ h x) → sum_by f xs ≡ sum_by h xs
 sum_by-same_member f h xs same =
     let a = sum_by-le f h xs (each_member (λ x. f x ≤ h x) xs (λ x m. omega (arith, same x m))) in
@@ -40,7 +40,7 @@ sum_by-same_member f h xs same =
 
 -- ---- filters
 
--- an element that passes is one of those that do
+-- an element that passes the test is in the filtered list
 pub passing_member : {X : Type 0} (p : X → Bool) (xs : List X) (x : X) → Contains xs x → p x ≡ true → Contains (filter p xs) x
 passing_member p [] x h e = absurd (omega (arith, h.1))
 passing_member {X} p (y ∷ ys) x h e = by_test (p y) refl (λ m. passing_member p ys x m e)
@@ -55,7 +55,7 @@ passing_member {X} p (y ∷ ys) x h e = by_test (p y) refl (λ m. passing_member
       | inr m ↦ later m
     ]
 
--- what passes a filter was there before
+-- an element of the filtered list is in the original list
 pub member_before : {X : Type 0} (p : X → Bool) (xs : List X) (x : X) → Contains (filter p xs) x → Contains xs x
 member_before p [] x h = h
 member_before {X} p (y ∷ ys) x h = by_test (p y) (λ m. member_before p ys x m) h
@@ -70,9 +70,9 @@ member_before {X} p (y ∷ ys) x h = by_test (p y) (λ m. member_before p ys x m
     ]
     by_test false later m = behind (later m)
 
--- ---- tables that are written
+-- -- writes to tables
 
--- an entry that is made, or is an old one, after two writes
+-- after two writes, an entry is new or unchanged
 pub made-more : (Made : ℕ → ℕ → Type 0) (old mid new : List ℕ) → ((k : ℕ) → (slice_index mid k ≡ slice_index old k) ⊎ Made k (slice_index mid k))
     → ((k : ℕ) → (slice_index new k ≡ slice_index mid k) ⊎ Made k (slice_index new k)) → (k : ℕ) → (slice_index new k ≡ slice_index old k) ⊎ Made k (slice_index new k)
 made-more Made old mid new before now k = elim (now k) [

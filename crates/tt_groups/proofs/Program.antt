@@ -1,4 +1,4 @@
--- The program over the days of the week: tables that are never above the truth bound what the group costs.
+-- The dynamic program over the days of the week: tables that are never above the truth bound the cost of the group.
 use Rattle.std.proofs.Common.{◌≡◌, ℕ, zero, suc, ◌+◌, ◌-◌, ◌*◌, ◌≤◌, ◌<◌, refl, subst, arith, inl, inr}
 use Rattle.std.specs.Prelude.{min}
 use Rattle.std.proofs.lemmas.Bool.{cases_lt}
@@ -12,7 +12,7 @@ use Rattle.tt_groups.proofs.Projection.{plan_of, plan-le_cost}
 use Rattle.tt_groups.proofs.Lists.{sum_first}
 
 module _ (p : Problem) (g : Group) where
-  -- ---- one day more
+  -- -- another day
 
   module _ (week : Week) (d : ℕ) where
     abbrev today : Vector
@@ -36,7 +36,7 @@ module _ (p : Problem) (g : Group) where
         let both = sum_by-plus before more g.courses in
         omega (arith, days, each_course, both)
 
-    -- the lectures so far are no more than a course has
+    -- a course has used no more than its lectures so far
     pub used-fits : IsPlan p g week → d ≤ p.days → Fits p g (used p week d)
     used-fits plan h c own = let e = plan.lectures c own in omega (arith, e, sum_first (λ i. lectures_on p (week i) c) d p.days h)
 
@@ -68,7 +68,7 @@ module _ (p : Problem) (g : Group) where
       | inr h ↦ omega (arith, plan-le_cost p g t week)
     ]
 
-    -- day by day
+    -- by induction over the days
     weeks : (f : ℕ → Vector → ℕ) (v : ℕ → Vector → Vector → ℕ) → Starts (v 0) → ((d : ℕ) → d < p.days → IsDayTable p g b d (f d)) → ((d : ℕ) → d < p.days → Extends p g b (f d) (v d) (v (d + 1))) → (d : ℕ) → d ≤ p.days → IsWeekTable p g b d (v d)
     weeks f v starts days steps zero h = week_start (v 0) starts
     weeks f v starts days steps (suc d) h =

@@ -30,7 +30,7 @@ course_own p g c m = or_left (has_number g.courses c) (list_any (λ q. in_curric
 pub member_own : (p : Problem) (g : Group) (q : ℕ) → Contains g.curricula q → (c : ℕ) → in_curriculum p q c ≡ true → concerns p g c ≡ true
 member_own p g q m c e = or_right (has_number g.courses c) (list_any (λ k. in_curriculum p k c) g.curricula) (any_member (λ k. in_curriculum p k c) g.curricula q m e)
 
--- the entry of a course that a period has
+-- a period that has a course has an entry of it
 pub standing : (t : List Cell) (d s c : ℕ) → week_of t d s c ≡ true → (x : Cell) × Contains t x × (x.course ≡ c) × (slot_of x ≡ slot d s)
 standing t d s c e =
     let w = member_from_any (λ x. is_of c x && is_at (slot d s) x) t e in
@@ -46,7 +46,7 @@ stands t x m =
 module _ (p : Problem) (g : Group) (t : List Cell) (relaxed : IsRelaxedTimetable p g t) where
   -- ---- working days
 
-  -- a course is taught on a day where it is taught in one of its periods
+  -- a course is taught on a day if and only if it is taught in one of the day's periods
   pub day_taught : (c : ℕ) → concerns p g c ≡ true → (d : ℕ) → list_any (λ e. is_of c e && is_on d e) t ≡ list_any (λ s. week_of t d s c) (range_below p.periods)
   day_taught c own d = same_truth (list_any (λ e. is_of c e && is_on d e) t) (list_any (λ s. week_of t d s c) (range_below p.periods)) there back
     where
@@ -63,11 +63,11 @@ module _ (p : Problem) (g : Group) (t : List Cell) (relaxed : IsRelaxedTimetable
           let x = standing t d w.0 c w.2 in
           any_member (λ e. is_of c e && is_on d e) t x.0 x.1 (and_from (is_of c x.0) (is_on d x.0) (eq-eqb x.0.course c x.2) (eq-eqb x.0.day d (ap (λ z. z.day) x.3)))
 
-  -- on all days together a course has its lectures
+  -- over all days, a course has all its lectures
   pub lectures_stand : (c : ℕ) → concerns p g c ≡ true → sum_by (λ d. lectures_on p (week_of t d) c) (all_days p) ≡ lectures p c
   lectures_stand c own = sym (slots_summed p (λ s. one_if (list_any (λ e. is_of c e && is_at s e) t))) ∙ periods_met p g t relaxed c own
 
-  -- The excess: the first lecture of each day makes a day, and each further one makes none.
+  -- The excess: the first lecture on each day adds a working day, and each further lecture adds none.
   pub days_and_further : (c : ℕ) → concerns p g c ≡ true → days_of p t c + further p (week_of t) p.days c ≡ lectures p c
   days_and_further c own =
       let more : ℕ → ℕ = λ d. lectures_on p (week_of t d) c - 1 in
@@ -77,7 +77,7 @@ module _ (p : Problem) (g : Group) (t : List Cell) (relaxed : IsRelaxedTimetable
       ap (λ b. more d + one_if b) (day_taught c own d) ∙ first_and_others (λ s. week_of t d s c) (range_below p.periods)) in
       omega (arith, both, all, lectures_stand c own)
 
-  -- so a course pays for days that it can't have, and for further lectures beyond those that are free
+  -- so a course pays for the days that it can't have, and for further lectures beyond those that are free
   pub days_cost-excess : (c : ℕ) → concerns p g c ≡ true → days_cost p t c ≡ 5 * (min_days p c - lectures p c) + 5 * (further p (week_of t) p.days c - slack p c)
   days_cost-excess c own = let e = days_and_further c own in omega arith
 
@@ -92,14 +92,14 @@ module _ (p : Problem) (g : Group) (t : List Cell) (relaxed : IsRelaxedTimetable
         and_from (nat_lt x.period p.periods) (list_any (week_of t x.day x.period) (members p q)) (lt-ltb x.period p.periods slot_there.period)
         (any_member (week_of t x.day x.period) (members p q) w.0 w.1 (subst (λ c. week_of t x.day x.period c ≡ true) (sym (eqb-true w.0 x.course w.2)) (stands t x m)))
 
-    -- and a period in which it is taught has an entry of it
+    -- a period in which the curriculum is taught has an entry of it
     pub taught_entry : (d s : ℕ) → is_taught p (week_of t d) q s ≡ true → (x : Cell) × Contains t x × (in_curriculum p q x.course ≡ true) × (slot_of x ≡ slot d s)
     taught_entry d s e =
         let w = member_from_any (week_of t d s) (members p q) (and_parts (nat_lt s p.periods) (list_any (week_of t d s) (members p q)) e).1 in
         let x = standing t d s w.0 w.2 in
         (x.0, x.1, any_member (λ c. c == x.0.course) (members p q) w.0 w.1 (eq-eqb w.0 x.0.course (sym x.2)), x.3)
 
-    -- a single period has no entry of the curriculum before it or after it
+    -- if a period is single, no entry of the curriculum is in the period before or after it
     never_beside : (d s : ℕ) → is_single p (week_of t d) q s ≡ true → (x : Cell) → Contains t x → in_curriculum p q x.course ≡ true → next_to (slot_of x) (slot d s) ≡ true → ⊥
     never_beside d s e x m i n =
         let taught = is_taught p (week_of t d) q in
@@ -133,7 +133,7 @@ module _ (p : Problem) (g : Group) (t : List Cell) (relaxed : IsRelaxedTimetable
         (and_from (in_curriculum p q x.0.course && is_isolated p t q x.0) (is_at (slot d s) x.0) (and_from (in_curriculum p q x.0.course) (is_isolated p t q x.0) x.2 alone)
         (subst (λ z. is_at z x.0 ≡ true) x.3 (at_itself x.0)))
 
-    -- the single periods are no more than the isolated entries
+    -- there are no more single periods than isolated entries
     pub singles-le : sum_by (λ d. count_by (is_single p (week_of t d) q) (range_below p.periods)) (all_days p) ≤ count_by (λ e. in_curriculum p q e.course && is_isolated p t q e) t
     singles-le =
         let good : Cell → Bool = λ e. in_curriculum p q e.course && is_isolated p t q e in
@@ -147,7 +147,7 @@ module _ (p : Problem) (g : Group) (t : List Cell) (relaxed : IsRelaxedTimetable
         (each (λ e. sum_by (λ s. one_if (good e && is_at s e)) (all_slots p) ≤ one_if (good e)) (λ e. once_at_most (good e) (λ s. is_at s e) 1 (all_slots p) (count_slots p e)) t) in
         omega (arith, days, a, b)
 
-  -- ---- the whole
+  -- -- all together
 
   -- the week of the timetable is a plan
   pub plan_of : IsPlan p g (week_of t)
@@ -172,7 +172,7 @@ module _ (p : Problem) (g : Group) (t : List Cell) (relaxed : IsRelaxedTimetable
     lectures = lectures_stand;
   }
 
-  -- what the days cost is no more than the curricula's part
+  -- the days cost no more than the curricula do
   days-le_curricula : sum_by (λ d. day_cost p g (week_of t d)) (all_days p) ≤ sum_by (compactness_cost p t) g.curricula
   days-le_curricula =
       let singles : ℕ → ℕ → ℕ = λ q d. count_by (is_single p (week_of t d) q) (range_below p.periods) in
@@ -184,13 +184,13 @@ module _ (p : Problem) (g : Group) (t : List Cell) (relaxed : IsRelaxedTimetable
       omega (arith, e, f, singles-le q (member_own p g q m)))) in
       omega (arith, turned, each_q)
 
-  -- what each course pays beyond its base
+  -- the cost of each course beyond its base cost
   pub courses_excess : sum_by (days_cost p t) g.courses ≡ base_cost p g + sum_by (λ c. 5 * (further p (week_of t) p.days c - slack p c)) g.courses
   courses_excess =
       let low : ℕ → ℕ = λ c. 5 * (min_days p c - lectures p c) in
       let high : ℕ → ℕ = λ c. 5 * (further p (week_of t) p.days c - slack p c) in
       sum_by-same_member (days_cost p t) (λ c. low c + high c) g.courses (λ c m. days_cost-excess c (course_own p g c m)) ∙ sum_by-plus low high g.courses
 
-  -- a relaxed timetable costs at least what its plan costs
+  -- a relaxed timetable costs at least as much as its plan
   pub plan-le_cost : base_cost p g + spent p g (week_of t) p.days ≤ group_cost p g t
   plan-le_cost = omega (arith, days-le_curricula, courses_excess)

@@ -1,4 +1,4 @@
--- Places: the digits of a place can be read off it, and a place of small digits is one of the table.
+-- Places: the digits of a place can be read off it, and digits below their sizes have a place within the table.
 use Rattle.std.proofs.Common.{◌≡◌, ℕ, zero, suc, ◌+◌, ◌*◌, ◌/◌, ◌%◌, ◌<◌, ◌≤◌, List, [], ◌∷◌, ◌++◌, map, length, length-append, refl, ap, ◌∙◌, arith, mul-le-mul_right}
 use Rattle.std.specs.Prelude.{slice_index, sum_by}
 use Rattle.std.specs.List.{AllZip}
@@ -12,13 +12,13 @@ use Rattle.tt_groups.proofs.Lists.{sum_head}
 abbrev pub AreBelow : List ℕ → List ℕ → Type 0
 AreBelow ns ds = AllZip (λ n d. d < n) ns ds
 
--- a place is so many times what the first digit counts
+-- a place is a multiple of the first digit's weight
 whole : (m : ℕ) (ns ds : List ℕ) → (q : ℕ) × (place_of (weights_from m ns) ds ≡ q * m)
 whole m [] ds = (0, omega arith)
 whole m (n ∷ ns) [] = (0, omega arith)
 whole m (n ∷ ns) (d ∷ ds) = let f = whole (m * n) ns ds in (d + f.0 * n, omega (arith, f.1))
 
--- what lies below the next digit is less than what that counts
+-- the part below the next digit is less than that digit's weight
 carried : (m n d r : ℕ) → r < m → d < n → r + d * m < m * n
 carried m n d r h k = let le : d + 1 ≤ n = omega arith in omega (arith, mul-le-mul_right m le)
 
@@ -35,13 +35,13 @@ digit_of m (n ∷ ns) (d ∷ ds) below r h (suc j) k =
     ap (λ z. z / slice_index (weights_from (m * n) ns) j % slice_index ns j) e
     ∙ digit_of (m * n) ns ds below.1 (r + d * m) (carried m n d r h below.0) j (omega (arith, k))
 
--- the place is one of the table
+-- the place is within the table
 pub place_below : (m : ℕ) (ns ds : List ℕ) → AreBelow ns ds → (r : ℕ) → r < m → r + place_of (weights_from m ns) ds < m * places ns
 place_below m [] ds below r h = omega arith
 place_below m (n ∷ ns) [] below r h = absurd below
 place_below m (n ∷ ns) (d ∷ ds) below r h = omega (arith, place_below (m * n) ns ds below.1 (r + d * m) (carried m n d r h below.0))
 
--- a place is a sum over the indices
+-- a place as a sum over the indices
 pub place-by_index : (ws ds : List ℕ) → length ds ≡ length ws → sum_by (λ j. slice_index ds j * slice_index ws j) (range_below (length ws)) ≡ place_of ws ds
 place-by_index [] ds e = refl
 place-by_index (w ∷ ws) [] e = absurd (omega arith)
@@ -49,7 +49,7 @@ place-by_index (w ∷ ws) (d ∷ ds) e =
     let l : length ds ≡ length ws = omega arith in
     omega (arith, sum_head (λ j. slice_index (d ∷ ds) j * slice_index (w ∷ ws) j) (length ws), place-by_index ws ds l)
 
--- ---- two lists of digits, in turn
+-- -- two concatenated lists of digits
 
 pub at_left : (f h : ℕ → ℕ) (cs ws : List ℕ) (j : ℕ) → j < length cs → slice_index (map f cs ++ map h ws) j ≡ f (slice_index cs j)
 at_left f h [] ws j l = absurd (omega arith)

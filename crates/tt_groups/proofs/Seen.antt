@@ -23,6 +23,6 @@ module _ (p : Problem) (t : List Cell) (ok : IsFeasible p t) where
         availability = none_counted (λ e. unavailable p e.course e.day e.period) (entries_for p g t) (λ x m e. both_ways (unavailable p x.course x.day x.period) (available p t ok x (kept x m)) e);
       }
 
-  -- so it pays at least a group's bound
+  -- so it costs at least a group's bound
   pub group_bound_holds : (g : Group) (b : ℕ) → IsGroupBound p g b → b ≤ group_cost p g t
   group_bound_holds g b bound = bound t (feasible_relaxed g)

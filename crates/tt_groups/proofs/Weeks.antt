@@ -1,4 +1,4 @@
--- What holds of a relaxed timetable: the courses that the group concerns have their lectures in distinct periods of the week.
+-- Properties of a relaxed timetable: the courses that the group concerns have their lectures in distinct periods of the week.
 use Rattle.std.proofs.Common.{◌≡◌, ℕ, ◌≤◌, true, false, ◌&&◌, List, sym, subst, arith}
 use Rattle.std.specs.Prelude.{Contains, sum_by, count_by}
 use Rattle.std.specs.List.{list_any}
@@ -19,14 +19,14 @@ use Rattle.tt_groups.proofs.Lists.{passing_member}
 
 module _ (p : Problem) (g : Group) (t : List Cell) (relaxed : IsRelaxedTimetable p g t) where
   module _ (c : ℕ) (own : concerns p g c ≡ true) where
-    -- the course has its lectures, and each in a period of its own
+    -- the course has all its lectures, each in a period of its own
     pub periods_met : periods_of p t c ≡ lectures p c
     periods_met = let e = relaxed.lectures c own in let k = periods-le_entries p t c in omega arith
 
     pub entries_met : entries_of t c ≤ periods_of p t c
     entries_met = let e = relaxed.lectures c own in omega arith
 
-    -- each of its entries has a period of the week
+    -- each entry of the course has a period of the week
     pub in_week : (x : Cell) → Contains t x → is_of c x ≡ true → IsSlot p (slot_of x)
     in_week x m e =
         let w : Slot → Cell → ℕ = λ s y. one_if (is_of c y && is_at s y) in

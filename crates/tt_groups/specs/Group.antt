@@ -1,4 +1,4 @@
--- What some curricula and courses cost in a timetable, and bounds of that cost. Rules and costs are those of the Second International
+-- The cost of some curricula and courses in a timetable, and bounds of that cost. Rules and costs are those of the Second International
 -- Timetabling Competition (ITC-2007), track 3, as the technical report of Di Gaspero, McCollum and Schaerf defines them.
 use Rattle.std.specs.Prelude.{◌≡◌, ℕ, ◌+◌, ◌≤◌, Bool, true, ◌||◌, List, filter, sum_by}
 use Rattle.std.specs.List.{list_any}
@@ -35,6 +35,6 @@ pub record IsRelaxedTimetable (p : Problem) (g : Group) (t : List Cell) : Type 0
   pub conflicts : conflicts_count p (entries_for p g t) ≡ 0
   pub availability : availability_count p (entries_for p g t) ≡ 0
 
--- A bound of a group is a number that the group costs at least in each relaxed timetable.
+-- A bound of a group is a number that is at most the group's cost in each relaxed timetable.
 abbrev pub IsGroupBound : Problem → Group → ℕ → Type 0
 IsGroupBound p g b = (t : List Cell) → IsRelaxedTimetable p g t → b ≤ group_cost p g t

@@ -12,16 +12,16 @@ pub record AreCourses (p : Problem) (g : Group) (cs : List ℕ) : Type 0 where
   pub own : (c : ℕ) → Contains cs c → concerns p g c ≡ true
   pub all : (c : ℕ) → concerns p g c ≡ true → Contains cs c
 
--- The entry has the amounts of a day with the lectures k.
+-- Whether the entry has the amounts of a day with the lectures k.
 pub record IsEntryOf (g : Group) (cs : List ℕ) (k : Vector) (x : DayEntry) : Type 0 where
   pub amounts : (j : ℕ) → j < length cs + length g.courses → slice_index x.amounts j ≡ slice_index (group_amounts g cs k) j
 
--- Each day that costs less than b has an entry that costs no more.
+-- Whether each day that costs less than b has an entry that costs no more than the day.
 pub record IsDayList (p : Problem) (g : Group) (cs : List ℕ) (b d : ℕ) (days : List DayEntry) : Type 0 where
   pub low : (day : Day) → IsDay p g d day → Fits p g (lectures_on p day) → day_cost p g day < b
       → (x : DayEntry) × Contains days x × IsEntryOf g cs (lectures_on p day) x × (x.cost ≤ day_cost p g day)
 
--- The entry has the lectures of a day that costs no more.
+-- Whether some day has the lectures of the entry and costs no more than the entry.
 pub record IsReachedDay (p : Problem) (g : Group) (cs : List ℕ) (d : ℕ) (x : DayEntry) : Type 0 where
   pub day : Day
   pub is : IsDay p g d day

@@ -1,9 +1,9 @@
 //! Entries of a day's table.
 
-/// The most digits of a place: one of lectures for each course, and one of further lectures for each course of the group.
+/// The maximum number of digits of a place: one of lectures for each course, and one of further lectures for each course of the group.
 pub const DIGITS: usize = 32;
 
-/// What a day may have: an amount for each digit, and what such a day costs at least.
+/// A possible day: an amount for each digit, and a lower bound of the day's cost.
 #[derive(Clone, Copy, Debug, PartialEq, Eq)]
 pub struct DayEntry {
     pub amounts: [u8; DIGITS],

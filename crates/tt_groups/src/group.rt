@@ -20,21 +20,21 @@ impl Model for Group {
 }
 
 impl Group {
-    /// The group of these curricula, whose compactness counts, and these courses, whose working days count.
+    /// Returns the group of these curricula, whose compactness counts, and these courses, whose working days count.
     pub fn new(curricula: Vec<u32>, courses: Vec<u32>) -> Group
         ensures { result ≡ record { curricula = curricula.items; courses = courses.items } }
     {
         Group { curricula, courses }
     }
 
-    /// The curricula in order.
+    /// Returns the curricula in order.
     pub fn curricula(&self) -> &[u32]
         ensures { result.now ≡ self.now.curricula }
     {
         self.curricula.as_slice()
     }
 
-    /// The courses in order.
+    /// Returns the courses in order.
     pub fn courses(&self) -> &[u32]
         ensures { result.now ≡ self.now.courses }
     {

@@ -1,4 +1,4 @@
-//! What bounds of groups mean.
+//! The meaning of bounds of groups.
 
 ghost use Rattle.std.specs.Prelude.{◌≡◌, ℕ, ◌+◌, ◌<◌, ◌≤◌, List, length, true};
 ghost use Rattle.tt_instance.specs.Courses.{lectures, min_days};
@@ -9,26 +9,26 @@ ghost use Rattle.tt_groups.specs.Group.{Group, group_cost, concerns, IsRelaxedTi
 ghost use Rattle.tt_groups.specs.Plans.{Week, week_of, IsPlan, base_cost, spent};
 ghost use Rattle.tt_groups.specs.Tables.{Vector, IsDayTable, Extends, Starts, Reaches};
 
-/// A feasible timetable is a relaxed timetable of each group, so the group costs at least its bound there.
+/// A feasible timetable is a relaxed timetable of each group, so the group costs at least its bound in it.
 pub fn feasible_timetables_are_relaxed()
     ensures relaxed { (p : Problem) (g : Group) (t : List Cell) → IsFeasible p t → IsRelaxedTimetable p g t }
     ensures bound { (p : Problem) (g : Group) (b : ℕ) → IsGroupBound p g b → (t : List Cell) → IsFeasible p t → b ≤ group_cost p g t }
 {}
 
-/// The week of a relaxed timetable is a plan, and the group costs there exactly what the plan costs.
+/// The week of a relaxed timetable is a plan, and the group's cost in the timetable is exactly the cost of the plan.
 pub fn relaxed_timetables_are_plans()
     ensures plan { (p : Problem) (g : Group) (t : List Cell) → IsRelaxedTimetable p g t → IsPlan p g (week_of t) }
     ensures paid { (p : Problem) (g : Group) (t : List Cell) → IsRelaxedTimetable p g t → base_cost p g + spent p g (week_of t) p.days ≡ group_cost p g t }
 {}
 
-/// A plan is the week of some relaxed timetable, and the group costs there exactly what the plan costs. The courses that the group concerns
-/// are the instance's.
+/// A plan is the week of some relaxed timetable, and the group's cost in that timetable is exactly the cost of the plan. The courses that
+/// the group concerns are the instance's.
 pub fn plans_are_relaxed_timetables()
     ensures { (p : Problem) (g : Group) (week : Week) → IsPlan p g week → ((c : ℕ) → concerns p g c ≡ true → c < length p.courses) →
         (t : List Cell) × IsRelaxedTimetable p g t × (group_cost p g t ≡ base_cost p g + spent p g week p.days) }
 {}
 
-/// Tables of all days that are never above the truth bound what the group costs in each relaxed timetable.
+/// Tables of all days that are never above the truth bound the group's cost in each relaxed timetable.
 pub fn tables_bound()
     ensures { (p : Problem) (g : Group) (b : ℕ) (days : ℕ → Vector → ℕ) (weeks : ℕ → Vector → Vector → ℕ) →
         Starts (weeks 0) →

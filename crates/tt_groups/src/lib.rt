@@ -1,4 +1,4 @@
-//! Groups: what some curricula and courses cost together, and what bounds of that cost mean.
+//! Groups: the common cost of some curricula and courses, and the meaning of bounds of that cost.
 #![tactic(auto)]
 
 mod entry;

@@ -1,4 +1,4 @@
--- One day more in the lists of a week.
+-- Another day in the lists of a week.
 use Rattle.std.proofs.Common.{◌≡◌, ℕ, ◌<◌, List, [], ◌∷◌, ◌++◌, length, length-append, get_or, sym, ap, ◌∙◌, subst, arith, inl, inr, Vec}
 use Rattle.std.specs.Global.{Global}
 use Rattle.std.specs.Prelude.{All, Contains, slice_index}
@@ -73,7 +73,7 @@ module _ (p : Problem) (g : Group) (cs : List ℕ) (lists : List (Vec Move Globa
         subst (λ n. IsReachedDay p g cs n m.entry) (sym last) (same_days p g cs earlier (length of_day) m.entry are same old)
   ]
 
--- the lists stay ready, and each day has one of them
+-- the lists remain ready, and each day has one of them
 pub listed_more : (ns ws : List ℕ) (courses : ℕ) (lists : List (Vec Move Global)) (of_day : List ℕ) → AreListed ns ws courses lists of_day → (v : Vec Move Global) → AreReady ns ws courses v.items
     → AreListed ns ws courses (lists ++ v ∷ []) (of_day ++ length lists ∷ [])
 listed_more ns ws courses lists of_day listed v ready = record {

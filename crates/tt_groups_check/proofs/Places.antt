@@ -13,7 +13,7 @@ use Rattle.tt_groups_week.specs.Digits.{AreDigits}
 use Rattle.tt_groups_week.proofs.Weights.{AreSome, places-take}
 use Rattle.tt_groups_check.specs.Setting.{IsSetting}
 
--- the weights of the first digits don't depend on those behind them
+-- the weights of the first digits don't depend on the digits after them
 weights-first : (m : ℕ) (xs ys : List ℕ) (j : ℕ) → j < length xs → slice_index (weights_from m (xs ++ ys)) j ≡ slice_index (weights_from m xs) j
 weights-first m [] ys j h = absurd (omega arith)
 weights-first m (x ∷ xs) ys zero h = refl

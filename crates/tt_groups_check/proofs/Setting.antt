@@ -1,4 +1,4 @@
--- The set-up of a group: its courses, and the sizes of its digits.
+-- The setup of a group: its courses, and the sizes of its digits.
 use Rattle.std.proofs.Common.{◌≡◌, ℕ, zero, suc, ◌+◌, ◌-◌, ◌<◌, ◌≤◌, Bool, true, false, ◌&&◌, ◌||◌, cond, List, [], ◌∷◌, ◌++◌, length, length-append, get_or, refl, sym, ap, ◌∙◌, subst, arith, eqb-true, inl, inr}
 use Rattle.std.specs.Prelude.{◌==◌, All, Contains, nat_lt, filter, count_by, slice_index}
 use Rattle.std.specs.List.{list_any}
@@ -62,7 +62,7 @@ module _ (p : Problem) (g : Group) (instance : IsInstance p) (group : IsGroupOf 
     all = λ c own. passing_member (concerns p g) (all_courses p) c (number_below (length p.courses) c (concerned_below c own)) own;
   }
 
--- one number more, above all others
+-- a list remains distinct with another number above all its numbers
 distinct_more : (xs : List ℕ) (n : ℕ) → AreDistinct xs → ((c : ℕ) → Contains xs c → c < n) → AreDistinct (xs ++ n ∷ [])
 distinct_more xs n distinct below i j hi hj e =
     let more = length-append xs (n ∷ []) in
@@ -82,7 +82,7 @@ distinct_more xs n distinct below i j hi hj e =
       ]
     ]
 
--- what passes among the first numbers is there once
+-- a number among the first ones that passes is in the filtered list once
 pub distinct_passing : (q : ℕ → Bool) (n : ℕ) → AreDistinct (filter q (range_below n))
 distinct_passing q zero = λ i j hi hj e. absurd (omega arith)
 distinct_passing q (suc n) =
@@ -94,7 +94,7 @@ distinct_passing q (suc n) =
       | inr h ↦ subst AreDistinct (sym (filter_more-failing q n h)) before
     ])
 
--- each of them is one of the instance's
+-- each course of the group is one of the instance's
 pub courses_below : (p : Problem) (g : Group) → All (λ c. c < length p.courses) (courses_of p g)
 courses_below p g k d h = below_member (length p.courses) (get_or (courses_of p g) k d) (member_before (concerns p g) (all_courses p) (get_or (courses_of p g) k d) (Contains-get_or (courses_of p g) k d h))
 
@@ -146,7 +146,7 @@ narrow_from p g value e =
       near = not_above (base_cost p g + 127) value (right_fails t4 t5 e4);
     }
 
--- ---- the sizes of its digits
+-- -- the sizes of a group's digits
 
 module _ (p : Problem) (g : Group) (cs : List ℕ) (few : (c : ℕ) → Contains cs c → lectures p c ≤ 255) (own : (c : ℕ) → Contains g.courses c → Contains cs c) where
   -- each size is between 1 and 256
@@ -182,14 +182,14 @@ same_days p g cs d e x are same reached = record {
   paid = reached.paid;
 }
 
--- ---- the base alone
+-- -- the base cost alone
 
 pub base_bound : (p : Problem) (g : Group) (value : ℕ) → value ≤ base_cost p g → IsGroupBound p g value
 base_bound p g value h t relaxed = omega (arith, h, plan-le_cost p g t relaxed)
 
--- ---- its digits
+-- -- the digits of a group
 
--- the sizes that its courses give are those that digits take
+-- the sizes of a group's digits are between 1 and 256, as the digits require
 pub digits_between : (p : Problem) (g : Group) (value : ℕ) (cs sizes : List ℕ) → cs ≡ courses_of p g → AreCourses p g cs → IsNarrow p g value → sizes ≡ group_sizes p g cs
     → (j : ℕ) → j < length sizes → (0 < slice_index sizes j) × (slice_index sizes j ≤ 256)
 digits_between p g value cs sizes is are narrow sized j h =

@@ -1,4 +1,4 @@
--- What a group has to be for its check: numbers of the instance, and no more than its tables hold.
+-- Conditions on a group for its check: its numbers are those of the instance, and its tables have enough room for it.
 use Rattle.std.specs.Prelude.{◌≡◌, ℕ, ◌+◌, ◌<◌, ◌≤◌, nat_lt, Bool, false, ◌&&◌, ◌||◌, List, length, filter, count_by, All}
 use Rattle.std.specs.List.{list_any}
 use Rattle.tt_instance.specs.Problem.{Problem}
@@ -11,7 +11,7 @@ use Rattle.tt_groups_day.specs.Counting.{sets_count}
 use Rattle.tt_groups_week.specs.declared.digits.TheConstants.{MAX_PLACES}
 use Rattle.tt_groups_check.specs.declared.width.TheConstants.{GROUP_CURRICULA, GROUP_COURSES, GROUP_LECTURES, GROUP_VALUE}
 
--- The group's curricula and courses are those of the instance.
+-- Whether the group's curricula and courses are those of the instance.
 pub record IsGroupOf (p : Problem) (g : Group) : Type 0 where
   pub curricula : All (λ q. q < length p.curricula) g.curricula
   pub courses : All (λ c. c < length p.courses) g.courses
@@ -20,12 +20,12 @@ pub record IsGroupOf (p : Problem) (g : Group) : Type 0 where
 abbrev pub courses_of : Problem → Group → List ℕ
 courses_of p g = filter (concerns p g) (all_courses p)
 
--- The group concerns a course with more lectures than a table holds.
+-- Whether the group concerns a course with more lectures than a table has room for.
 abbrev pub has_long_course : Problem → Group → Bool
 has_long_course p g = list_any (λ c. concerns p g c && nat_lt GROUP_LECTURES (lectures p c)) (all_courses p)
 
--- A claim is too wide where the group has too many curricula or courses, or a course with too many lectures, or where the value is too far
--- above the base.
+-- A claim is too wide if the group has too many curricula or courses, or a course with too many lectures, or if the value is too far above
+-- the base cost.
 abbrev pub is_too_wide : Problem → Group → ℕ → Bool
 is_too_wide p g value =
     nat_lt GROUP_CURRICULA (length g.curricula) || (nat_lt GROUP_COURSES (length g.courses) || (nat_lt GROUP_COURSES (count_by (concerns p g) (all_courses p))
@@ -35,11 +35,11 @@ is_too_wide p g value =
 abbrev pub states_of : Problem → Group → ℕ
 states_of p g = places (group_sizes p g (courses_of p g))
 
--- The sets of a group are those of its courses of which no two conflict.
+-- The sets of a group are the sets of its courses in which no two conflict.
 abbrev pub sets_of : Problem → Group → ℕ
 sets_of p g = sets_count p (courses_of p g)
 
--- The check makes tables for a claim above its base that is not too wide, of a group that has not too many states.
+-- Whether the check makes tables: the claim is above the base cost and not too wide, and the group does not have too many states.
 pub record MakesTables (p : Problem) (g : Group) (value : ℕ) : Type 0 where
   pub narrow : is_too_wide p g value ≡ false
   pub states : states_of p g ≤ MAX_PLACES

@@ -7,12 +7,12 @@ use Rattle.tt_groups_week.specs.Fold.{AreReady}
 use Rattle.tt_groups_week.specs.WeekLists.{AreMovesOn}
 use Rattle.tt_groups_week.specs.declared.moves.Move.{Move}
 
--- Each list is ready, and each day has one of them.
+-- Whether each list is ready, and each day has one of them.
 pub record AreListed (sizes weights : List ℕ) (courses : ℕ) (lists : List (Vec Move Global)) (of_day : List ℕ) : Type 0 where
   pub ready : All (λ v. AreReady sizes weights courses v.items) lists
   pub inside : All (λ i. i < length lists) of_day
 
--- The list of each day has the day's moves for the group.
+-- Whether the list of each day has the day's moves for the group.
 abbrev pub AreOfDays : Problem → Group → List ℕ → List ℕ → List ℕ → ℕ → ℕ → List (Vec Move Global) → List ℕ → Type 0
 AreOfDays p g cs sizes weights courses b lists of_day =
     (d : ℕ) (v : Vec Move Global) → d < length of_day → AreMovesOn p g cs sizes weights courses b d (slice_index_or lists (slice_index of_day d) v).items

@@ -1,4 +1,4 @@
--- What the check of a group has set up.
+-- The values that the check of a group has set up.
 use Rattle.std.specs.Prelude.{◌≡◌, ℕ, ◌<◌, ◌≤◌, List, length, All}
 use Rattle.tt_instance.specs.Problem.{Problem}
 use Rattle.tt_instance.specs.Courses.{lectures}
@@ -7,7 +7,7 @@ use Rattle.tt_groups.specs.Listed.{AreCourses}
 use Rattle.tt_groups.specs.Places.{group_sizes}
 use Rattle.tt_groups_day.specs.Found.{AreDistinct}
 
--- The courses and the sizes of the digits are those of a group that is not too wide.
+-- Whether the courses and the sizes of the digits are those of a group that is not too wide.
 pub record IsSetting (p : Problem) (g : Group) (cs sizes : List ℕ) (courses : ℕ) : Type 0 where
   pub group : AreCourses p g cs
   pub distinct : AreDistinct cs

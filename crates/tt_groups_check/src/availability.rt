@@ -6,7 +6,7 @@ ghost use Rattle.tt_groups_check.specs.Availability.{IsSameAvailability};
 
 use tt_instance::Instance;
 
-/// Whether a course is unavailable in the same periods of both days. False may be said of any two.
+/// Checks that a course is unavailable in the same periods of both days. The contract doesn't say what `false` means.
 fn is_same_for(instance: &Instance<'_>, course: u32, day: u32, other: u32) -> bool
     ensures { IsTrue result → (s : ℕ) → s < instance.now.periods → unavailable instance.now course day s ≡ unavailable instance.now course other s }
 {
@@ -20,7 +20,7 @@ fn is_same_for(instance: &Instance<'_>, course: u32, day: u32, other: u32) -> bo
     true
 }
 
-/// Whether all of the courses are.
+/// Checks that each of the courses is unavailable in the same periods of both days.
 fn is_same(instance: &Instance<'_>, courses: &[u32], day: u32, other: u32) -> bool
     ensures { IsTrue result → IsSameAvailability instance.now courses.now day other }
 {
@@ -32,7 +32,7 @@ fn is_same(instance: &Instance<'_>, courses: &[u32], day: u32, other: u32) -> bo
     true
 }
 
-/// An earlier day with the same availability, if one is found.
+/// Returns an earlier day with the same availability, if one is found.
 pub fn same_day(instance: &Instance<'_>, courses: &[u32], day: u32) -> Option<u32>
     ensures earlier { IfSome result (λ d. d < day) }
     ensures same { IfSome result (λ d. IsSameAvailability instance.now courses.now d day) }

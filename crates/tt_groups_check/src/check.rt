@@ -16,10 +16,10 @@ use tt_groups_day::MAX_SETS;
 use tt_groups_week::{Digits, MAX_PLACES, week_holds};
 use tt_instance::Instance;
 
-/// The most sequences of sets that the days of one group may try.
+/// The maximum number of sequences of sets that the days of one group may try.
 pub const MAX_SEQUENCES: u64 = 16_777_216;
 
-/// The most relaxations that all groups of a file may take.
+/// The maximum number of relaxations that all groups of a file may use.
 pub const MAX_RELAXATIONS: u64 = 4_294_967_296;
 
 /// The work that checks may still do: sequences for one group, relaxations for all groups of a file.
@@ -30,7 +30,7 @@ pub struct Work {
 }
 
 impl Work {
-    /// The work of a whole file.
+    /// Returns the work allowed for a whole file.
     pub fn new() -> Work
         ensures sequences { result.sequences ≡ MAX_SEQUENCES }
         ensures relaxations { result.relaxations ≡ MAX_RELAXATIONS }
@@ -43,7 +43,7 @@ impl Work {
 }
 
 /// Checks that each relaxed timetable costs the group at least `value`, with tables for the days and the week. `TooManySets` and `TooMuchWork`
-/// say nothing of the claim.
+/// mean neither that the claim holds nor that it fails.
 pub fn check_group(
     alloc: Global,
     instance: &Instance<'_>,
@@ -53,7 +53,7 @@ pub fn check_group(
 ) -> Result<(), GroupFault>
     requires in_range { IsGroupOf instance.now group.now }
     ensures holds { OnOk result (IsGroupBound instance.now group.now value) }
-    // What is too cheap is no bound: some relaxed timetable costs less.
+    // A value that is `TooCheap` is no bound: some relaxed timetable costs less.
     ensures too_cheap { result ≡ Err fault.TooCheap → (t : List Cell) × IsRelaxedTimetable instance.now group.now t × (group_cost instance.now group.now t < value) }
     ensures too_wide { (result ≡ Err fault.TooWide) ↔ (is_too_wide instance.now group.now value ≡ true) }
     ensures states_only { result ≡ Err fault.TooManyStates →
@@ -63,7 +63,7 @@ pub fn check_group(
     ensures sets_only { result ≡ Err fault.TooManySets → MakesTables instance.now group.now value × (MAX_SETS < sets_of instance.now group.now) }
     ensures sets { MakesTables instance.now group.now value → MAX_SETS < sets_of instance.now group.now →
         IsErrAnd result (λ e. (e ≡ fault.TooManySets) ⊎ (e ≡ fault.OutOfMemory)) }
-    // It is too much work only where all sequences of the group or all relaxations of the file are used up.
+    // It is too much work only if all sequences of the group or all relaxations of the file are used up.
     ensures work_only { result ≡ Err fault.TooMuchWork → MakesTables instance.now group.now value × (sets_of instance.now group.now ≤ MAX_SETS) ×
         ((work.new.sequences ≡ 0) ⊎ (work.new.relaxations ≡ 0)) }
 {

@@ -12,7 +12,7 @@ use std::alloc::{AllocError, Global};
 use tt_groups::Group;
 use tt_instance::Instance;
 
-/// The courses that a group concerns, in order.
+/// Returns the courses that a group concerns, in order.
 pub fn courses_of(
     alloc: Global,
     instance: &Instance<'_>,
@@ -24,7 +24,7 @@ pub fn courses_of(
     ensures distinct { IfOk result (λ v. AreDistinct v.items) }
     ensures in_range { IfOk result (λ _. (c : ℕ) → concerns instance.now group.now c ≡ true → c < length instance.now.courses) }
 {
-    // What is true of every instance: the members of its curricula are its courses.
+    // This holds for every instance: the members of its curricula are its courses.
     prove!(0 < instance.days());
     let mut courses = Vec::new(alloc);
     for course in 0..instance.courses() {
@@ -35,7 +35,7 @@ pub fn courses_of(
     Ok(courses)
 }
 
-/// The sizes of a group's digits: of the lectures of all courses, then of the further lectures of its own.
+/// Returns the sizes of a group's digits: those of the lectures of all courses, then those of the further lectures of its own courses.
 pub fn sizes_of(
     alloc: Global,
     instance: &Instance<'_>,

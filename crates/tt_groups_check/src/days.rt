@@ -17,7 +17,7 @@ use tt_groups_day::{MAX_SETS, list_days, list_sets};
 use tt_groups_week::Digits;
 use tt_instance::Instance;
 
-/// The moves of all days. The sequences that are left go down with each that is tried.
+/// Returns the moves of all days. The sequences that are left go down by 1 with each set that is tried.
 pub fn lists_of(
     alloc: Global,
     instance: &Instance<'_>,

@@ -1,4 +1,4 @@
-//! Refusals of a group's claim.
+//! Errors of a group's claim.
 
 ghost use Rattle.std.specs.Prelude.{◌≡◌};
 ghost use Rattle.tt_groups_check.specs.Faults.{fault_from_sets, fault_from_days, fault_from_week};
@@ -11,11 +11,11 @@ use tt_groups_week::WeekFault;
 /// Why a group's claim was not confirmed.
 #[derive(Clone, Copy, Debug, PartialEq, Eq)]
 pub enum GroupFault {
-    /// The group has too many curricula, courses or lectures of a course, or the value is too far above the base.
+    /// The group has too many curricula, courses or lectures of a course, or the value is too far above the base cost.
     TooWide,
     /// The table of the week has more than `MAX_PLACES` places.
     TooManyStates,
-    /// The courses have too many sets of which no two conflict.
+    /// The courses have too many sets in which no two conflict.
     TooManySets,
     /// The limits on work were reached.
     TooMuchWork,

@@ -21,7 +21,7 @@ pub struct Lists {
 }
 
 impl Lists {
-    /// No days yet.
+    /// Returns lists without days.
     pub fn new(alloc: Global) -> Lists
         ensures lists { result.moves.items ≡ [] }
         ensures days { result.of_day.items ≡ [] }
@@ -56,7 +56,7 @@ impl Lists {
         Ok(())
     }
 
-    /// Adds a day with the list of an earlier one.
+    /// Adds a day with the list of an earlier day.
     pub fn share(&mut self, digits: &Digits, earlier: usize) -> Result<(), AllocError>
         requires listed { AreListed digits.now.sizes.items digits.now.weights.items digits.now.courses self.old.moves.items self.old.of_day.items }
         requires earlier { earlier < length self.old.of_day.items }

@@ -1,4 +1,4 @@
-//! How wide a claim is.
+//! The width of a claim, compared with the limits.
 
 ghost use Rattle.std.specs.Prelude.{◌≡◌, ◌<◌, ◌≤◌, ◌*◌, length, count_by, All};
 ghost use Rattle.std.specs.List.{list_any};
@@ -13,29 +13,29 @@ ghost use Rattle.tt_instance.specs.declared.limit.TheConstants.{MAX_MIN_DAYS};
 use tt_groups::Group;
 use tt_instance::Instance;
 
-/// The most curricula of a group.
+/// The maximum number of curricula of a group.
 pub const GROUP_CURRICULA: usize = 64;
 
-/// The most courses that a group concerns.
+/// The maximum number of courses that a group concerns.
 pub const GROUP_COURSES: usize = 16;
 
-/// The most lectures of a course that a group concerns.
+/// The maximum number of lectures of a course that a group concerns.
 pub const GROUP_LECTURES: u32 = 255;
 
-/// How far a group's value may be above its base.
+/// The maximum distance of a group's value above its base cost.
 pub const GROUP_VALUE: u64 = 127;
 
-/// What a day below a course's minimum costs, in cost points.
+/// The cost of a day below a course's minimum, in cost points.
 const DAY_PRICE: u64 = 5;
 
-/// Whether a course is one of the group's own.
+/// Checks whether a course is one of the group's own.
 fn is_own(group: &Group, course: u32) -> bool
     ensures { result ≡ has_number group.now.courses course }
 {
     group.courses().iter().any(|own| *own == course)
 }
 
-/// Whether a course is a member of one of the group's curricula.
+/// Checks whether a course is a member of one of the group's curricula.
 fn is_member(instance: &Instance<'_>, group: &Group, course: u32) -> bool
     ensures { result ≡ list_any (λ q. in_curriculum instance.now q course) group.now.curricula }
 {
@@ -45,14 +45,14 @@ fn is_member(instance: &Instance<'_>, group: &Group, course: u32) -> bool
         .any(|curriculum| instance.in_curriculum(*curriculum, course))
 }
 
-/// Whether a group concerns a course.
+/// Checks whether a group concerns a course.
 pub fn concerns(instance: &Instance<'_>, group: &Group, course: u32) -> bool
     ensures { result ≡ concerns instance.now group.now course }
 {
     is_own(group, course) || is_member(instance, group, course)
 }
 
-/// How many courses a group concerns.
+/// Returns the number of courses that a group concerns.
 fn courses_count(instance: &Instance<'_>, group: &Group) -> usize
     ensures { result ≡ count_by (concerns instance.now group.now) (all_courses instance.now) }
 {
@@ -65,7 +65,7 @@ fn courses_count(instance: &Instance<'_>, group: &Group) -> usize
     count
 }
 
-/// Whether a group concerns a course with too many lectures.
+/// Checks whether a group concerns a course with too many lectures.
 fn has_long_course(instance: &Instance<'_>, group: &Group) -> bool
     ensures { result ≡ has_long_course instance.now group.now }
 {
@@ -77,7 +77,7 @@ fn has_long_course(instance: &Instance<'_>, group: &Group) -> bool
     false
 }
 
-/// What each relaxed timetable costs a group, since a course has no more days than lectures.
+/// Returns the base cost: the group costs at least this in each relaxed timetable, since a course has no more days than lectures.
 pub fn base_cost(instance: &Instance<'_>, group: &Group) -> u64
     requires few { length group.now.courses ≤ GROUP_COURSES }
     requires in_range { IsGroupOf instance.now group.now }
@@ -92,7 +92,7 @@ pub fn base_cost(instance: &Instance<'_>, group: &Group) -> u64
     base
 }
 
-/// Whether the tables are too narrow for a group and a value.
+/// Checks whether the tables are too narrow for a group and a value.
 pub fn is_too_wide(instance: &Instance<'_>, group: &Group, value: u64) -> bool
     requires { IsGroupOf instance.now group.now }
     ensures { result ≡ is_too_wide instance.now group.now value }

@@ -1,4 +1,4 @@
--- The beginning of a day, and one set more.
+-- The beginning of a day, and another set.
 use Rattle.std.proofs.Common.{◌^◌, ◌≡◌, ℕ, zero, suc, ◌+◌, ◌-◌, ◌*◌, ◌<◌, ◌≤◌, Bool, true, false, not, ◌&&◌, List, [], ◌∷◌, ◌++◌, length, length-append, Some, refl, sym, ap, ◌∙◌, subst, arith, inl, inr, eqb-true, eq-eqb}
 use Rattle.std.specs.Prelude.{◌==◌, Contains, nat_lt, count_by, count_ones, bit_and, slice_get, slice_index}
 use Rattle.std.specs.Int.{bit_not, w64}
@@ -32,7 +32,7 @@ use Rattle.tt_groups_day.proofs.Running.{settled-le}
 
 -- ---- words
 
--- the bits of a word that another has not
+-- a word of the bits that one word has and another does not
 pub word-without : (a b : ℕ) (qs : List ℕ) (f h : ℕ → Bool) → b < 2 ^ 64 → IsWordOf a qs f → IsWordOf b qs h → IsWordOf (bit_and a (bit_not w64 b)) qs (λ q. f q && not (h q))
 word-without a b qs f h small wa wb k l = has_bit-without a b k small l ∙ ap (λ z. z && not (has_bit b k)) (wa k l) ∙ ap (λ z. (nat_lt k (length qs) && f (slice_index qs k)) && not z) (wb k l) ∙ together (nat_lt k (length qs)) (f (slice_index qs k)) (h (slice_index qs k))
   where
@@ -40,7 +40,7 @@ word-without a b qs f h small wa wb k l = has_bit-without a b k small l ∙ ap (
     together true x y = refl
     together false x y = refl
 
--- a word has as many bits as curricula pass
+-- a word has as many bits as there are curricula that pass the test
 pub ones-of_word : (w : ℕ) (qs : List ℕ) (f : ℕ → Bool) → w < 2 ^ 64 → length qs ≤ 64 → IsWordOf w qs f → count_ones w ≡ count_by f qs
 ones-of_word w qs f small few word =
     let n = length qs in
@@ -49,7 +49,7 @@ ones-of_word w qs f small few word =
     let e : n + (64 - n) ≡ 64 = omega arith in
     all ∙ ap (λ m. count_by (λ k. nat_lt k n && t k) (range_below m)) (sym e) ∙ count-past t n (64 - n) ∙ sum_indices (λ q. one_if (f q)) qs
 
--- a word is one of any test that agrees on the curricula
+-- a word of one test is a word of any test that agrees on the curricula
 pub word-same : (w : ℕ) (qs : List ℕ) (f h : ℕ → Bool) → ((k : ℕ) → k < length qs → f (slice_index qs k) ≡ h (slice_index qs k)) → IsWordOf w qs f → IsWordOf w qs h
 word-same w qs f h same word k l = word k l ∙ agree (nat_lt k (length qs)) refl
   where
@@ -96,14 +96,14 @@ module _ (p : Problem) (g : Group) (cs weights : List ℕ) (before : List Course
   pub begins-now : (day : Day) → Begins p g cs day (before ++ x ∷ []) → IsSetOf p g cs day now x
   begins-now day begins = begins now x (at_next before x [])
 
-  -- a curriculum is pending where it is taught in the period before, and not in the one before that
+  -- a curriculum is pending if it is taught in the period before, and not in the period before that
   pub pending-next : (day : Day) (q n : ℕ) → is_pending p day q (n + 1) ≡ (is_taught p day q n && not (nat_lt 0 n && is_taught p day q (n - 1)))
   pending-next day q n =
       let back : n + 1 - 1 ≡ n = omega arith in
       ap (λ k. (nat_lt 0 (n + 1) && is_taught p day q k) && not (nat_lt 0 k && is_taught p day q (k - 1))) back
       ∙ ap (λ b. (b && is_taught p day q n) && not (nat_lt 0 n && is_taught p day q (n - 1))) (lt-ltb 0 (n + 1) (omega arith))
 
-  -- a curriculum of the group is taught where the set meets it
+  -- a curriculum of the group is taught if and only if the set meets it
   pub met-taught : AreCourses p g cs → now < p.periods → (day : Day) → IsSetOf p g cs day now x → (q : ℕ) → Contains g.curricula q
       → list_any (λ i. has_course x i && in_curriculum p q (slice_index cs i)) (range_below (length cs)) ≡ is_taught p day q now
   met-taught are inside day set q own = same_truth (list_any meets (range_below (length cs))) (is_taught p day q now) there back
@@ -130,7 +130,7 @@ module _ (p : Problem) (g : Group) (cs weights : List ℕ) (before : List Course
           any_below meets (length cs) i at.1 (and_from (has_course x i) (in_curriculum p q (slice_index cs i)) (set i at.1 ∙ ap (day now) is ∙ w.2) (ap (in_curriculum p q) is ∙ member))
 
   module _ (m : Morning) (set : IsCourseSet p g cs weights x) (morning : IsMorningOf p g cs weights before m) where
-    -- what the set settles
+    -- the cost that the set settles
     pub settled-now : AreCourses p g cs → length g.curricula ≤ 64 → now < p.periods → m.pending < 2 ^ 64 → x.curricula < 2 ^ 64 → (day : Day) → Begins p g cs day (before ++ x ∷ [])
         → m.cost + 2 * count_ones (bit_and m.pending (bit_not w64 x.curricula)) ≡ settled_cost p g day (now + 1)
     settled-now are few inside small_a small_b day begins =
@@ -173,16 +173,16 @@ module _ (p : Problem) (g : Group) (cs weights : List ℕ) (before : List Course
           (λ k l. sym (pending-next day (slice_index g.curricula k) now) ∙ ap (is_pending p day (slice_index g.curricula k)) z) word;
     }
 
-    -- ---- sets that need not be tried
+    -- -- sets that need not be tried, since no day begins with them
 
     module _ (b d : ℕ) (table most open_at : List ℕ) (day_of : IsDayOf p g cs d most now open_at) where
-      -- the bound is reached
+      -- the cost has reached the bound
       pub barred-costly : m.pending < 2 ^ 64 → x.curricula < 2 ^ 64 → b ≤ m.cost + 2 * count_ones (bit_and m.pending (bit_not w64 x.curricula)) → Covers p g cs b d weights table (before ++ x ∷ [])
       barred-costly small_p small_x full = record {
         low = λ day is fits begins less. absurd (omega (arith, full, less, settled-now day_of.group day_of.few day_of.inside small_p small_x day begins, settled-le p g day (now + 1) (omega (arith, day_of.inside))));
       }
 
-      -- a course is closed
+      -- a course of the set is closed
       pub barred-closed : (i : ℕ) → slice_index open_at i < slice_index x.courses i → Covers p g cs b d weights table (before ++ x ∷ [])
       barred-closed i less = elim (cases_lt i (length cs)) [
         | inl l ↦

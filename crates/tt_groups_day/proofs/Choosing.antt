@@ -1,4 +1,4 @@
--- Sets chosen course by course: what one course more makes of a set, and of a list that has each choice of the courses before it.
+-- Sets chosen course by course: the effect of another course on a set, and on a list that has each choice of the courses before it.
 use Rattle.std.proofs.Common.{◌≡◌, ℕ, zero, suc, ◌+◌, ◌*◌, ◌<◌, ◌≤◌, ◌≢◌, Bool, true, false, not, ◌&&◌, ◌||◌, List, [], ◌∷◌, map, length, max, replicate, bit_or, refl, sym, ap, ◌∙◌, arith, mul-le-mul_right, inl, inr, eq-eqb, get_or}
 use Rattle.std.specs.Prelude.{◌⊎◌, All, Contains, filter, nat_lt, ◌==◌, slice_index}
 use Rattle.std.specs.List.{list_any}
@@ -26,7 +26,7 @@ use Rattle.tt_groups_day.specs.Choosing.{clashes, with_course, with_next, IsApar
 use Rattle.tt_groups_day.specs.Sets.{has_course, IsWordOf, index_by, IsCourseSet, IsComplete}
 use Rattle.tt_groups_day.specs.declared.morning.CourseSet.{CourseSet}
 
--- an element of a mapped list
+-- a mapped element is in the mapped list
 member_map : {X Y : Type 0} (h : X → Y) (ys : List X) (x : X) → Contains ys x → Contains (map h ys) (h x)
 member_map h [] x m = absurd (omega (arith, m.1))
 member_map h (y ∷ ys) x m = elim (member_cases y ys x m) [
@@ -34,7 +34,7 @@ member_map h (y ∷ ys) x m = elim (member_cases y ys x m) [
   | inr k ↦ Contains-append_right (h y ∷ []) (map h ys) (h x) (member_map h ys x k)
 ]
 
--- what holds of an element holds of each in its list
+-- a property of an element holds for each element of its one-element list
 pub All-one : {X : Type 0} (P : X → Type 0) (x : X) → P x → All P (x ∷ [])
 All-one P x h = All-from_recursion P (x ∷ []) (h, tt)
 
@@ -45,11 +45,11 @@ max_test zero b h k = ap (λ n. n == 1) (let e : max 0 b ≡ b = omega arith in 
 max_test (suc zero) b h k = ap (λ n. n == 1) (let e : max 1 b ≡ 1 = omega arith in e)
 max_test (suc (suc a)) b h k = absurd (omega arith)
 
--- a number is in one of two sets
+-- a number is in a union if it is in one of the two sets
 has_bit-either : (a b r : ℕ) → has_bit (bit_or a b) r ≡ (has_bit a r || has_bit b r)
 has_bit-either a b r = ap (λ n. n == 1) (bit_at_or a b r) ∙ max_test (bit_at a r) (bit_at b r) (bit_at-lt a r) (bit_at-lt b r)
 
--- ---- one number more
+-- -- another number
 
 any_last : (t : ℕ → Bool) (n : ℕ) → list_any t (range_below (n + 1)) ≡ (list_any t (range_below n) || t n)
 any_last t n = ap (list_any t) (range_below_more n) ∙ list_any-append t (range_below n) (n ∷ []) ∙ ap (λ b. list_any t (range_below n) || b) (stays (t n))
@@ -72,7 +72,7 @@ pub cut_right : (a b : Bool) → b ≡ false → (a && b) ≡ false
 cut_right true b e = e
 cut_right false b e = refl
 
--- the index of courses, each of a weight up to m
+-- an upper bound of the index of courses, each of a weight up to m
 pub index-le : (weights amounts : List ℕ) (m n : ℕ) → ((i : ℕ) → slice_index weights i ≤ m) → ((i : ℕ) → slice_index amounts i ≤ 1) → index_by weights amounts n ≤ n * m
 index-le weights amounts m zero few digits = omega arith
 index-le weights amounts m (suc n) few digits =
@@ -93,7 +93,7 @@ module _ (p : Problem) (g : Group) (cs weights : List ℕ) (n met : ℕ) (below 
   abbrev wider : CourseSet → CourseSet
   wider x = with_course n (slice_index weights n) met x
 
-  -- the courses of a wider set
+  -- the wider set has the course
   pub here : (x : CourseSet) → IsChoice p g cs weights n x → slice_index (wider x).courses n ≡ 1
   here x is = get_or-set_same x.courses n 1 0 (omega (arith, is.long))
 
@@ -103,7 +103,7 @@ module _ (p : Problem) (g : Group) (cs weights : List ℕ) (n met : ℕ) (below 
   pub has_same : (x : CourseSet) (i : ℕ) → i ≢ n → has_course (wider x) i ≡ has_course x i
   has_same x i e = ap (λ k. k == 1) (there x i e)
 
-  -- a course of a set that has no clash conflicts with none of the others
+  -- a course that does not clash with a set conflicts with no course of the set
   apart_last : (x : CourseSet) → IsChoice p g cs weights n x → clashes p cs n x ≡ false → (j : ℕ) → has_course x j ≡ true → conflict p (slice_index cs n) (slice_index cs j) ≡ false
   apart_last x is none j e = elim (cases_eq j n) [
     | inl same ↦ absurd (both_ways (has_course x j) (none_at (slice_index x.courses j) (is.own j (omega arith))) e)
@@ -139,7 +139,7 @@ module _ (p : Problem) (g : Group) (cs weights : List ℕ) (n met : ℕ) (below 
       dropped true b c e = refl
       dropped false b c e = ap (λ z. z && c) e
 
-  -- a set with it
+  -- a set with the course
   with_last : (x : CourseSet) → IsChoice p g cs weights n x → clashes p cs n x ≡ false → IsChoice p g cs weights (n + 1) (wider x)
   with_last x is none = record {
     long = length-set x.courses n 1 ∙ is.long;
@@ -175,7 +175,7 @@ module _ (p : Problem) (g : Group) (cs weights : List ℕ) (n met : ℕ) (below 
           ∙ false_from_ne_true (conflict p (slice_index cs i) (slice_index cs n)) (λ t. both_ways (conflict p (slice_index cs n) (slice_index cs i)) (apart_last x is none i (sym (has_same x i ei) ∙ hi)) (conflict-turn p (slice_index cs i) (slice_index cs n) t))
       by_places i j hi hj (inr ei) (inr ej) = is.apart.apart i j (sym (has_same x i ei) ∙ hi) (sym (has_same x j ej) ∙ hj)
 
-  -- ---- the list with one course more
+  -- -- the list with another course
 
   abbrev goes : CourseSet → Bool
   goes x = not (clashes p cs n x)
@@ -235,7 +235,7 @@ none_in zero i = refl
 none_in (suc n) zero = refl
 none_in (suc n) (suc i) = none_in n i
 
--- the set of no course
+-- the set of no courses
 abbrev pub no_course_set : CourseSet
 no_course_set = record { courses = replicate 16 0; index = 0; curricula = 0 }
 
@@ -259,7 +259,7 @@ module _ (p : Problem) (g : Group) (cs weights : List ℕ) where
   }
 
 module _ (p : Problem) (g : Group) (cs weights : List ℕ) (xs : List CourseSet) where
-  -- there is room for the weight of one course more
+  -- an upper bound of the index after another course
   pub room_left : (m n : ℕ) (x : CourseSet) → IsChoice p g cs weights n x → ((i : ℕ) → slice_index weights i ≤ m) → x.index + slice_index weights n ≤ n * m + m
   room_left m n x is few = omega (arith, is.placed, index-le weights x.courses m n few is.digits, few n)
 
@@ -274,7 +274,7 @@ module _ (p : Problem) (g : Group) (cs weights : List ℕ) (xs : List CourseSet)
   pub course_sets : All (IsChoice p g cs weights (length cs)) xs → All (IsCourseSet p g cs weights) xs
   course_sets each = λ k d h. let is = each k d h in record { digits = is.digits; own = is.own; met = is.met; placed = is.placed }
 
-  -- the index of a set is small, where all weights are
+  -- the index of a set is small if all weights are small
   pub small_sets : (m : ℕ) → length cs ≤ 16 → ((i : ℕ) → slice_index weights i ≤ m) → All (IsChoice p g cs weights (length cs)) xs → All (λ x. x.index ≤ 16 * m) xs
   small_sets m few small each = λ k d h.
       let is = each k d h in

@@ -1,4 +1,4 @@
--- The sets that are listed course by course are as many as the sublists in which no two courses conflict.
+-- There are as many sets listed course by course as sublists in which no two courses conflict.
 use Rattle.std.proofs.Common.{◌≡◌, ℕ, zero, suc, ◌+◌, ◌<◌, ◌≤◌, ◌≢◌, Bool, true, false, cond, not, ◌&&◌, ◌||◌, List, [], ◌∷◌, ◌++◌, map, take, length, length-append, refl, sym, ap, ◌∙◌, arith, get_or}
 use Rattle.std.specs.Prelude.{All, filter, count_by, slice_index}
 use Rattle.std.specs.List.{list_any}
@@ -40,7 +40,7 @@ count_every {X} (x ∷ xs) = let every : X → Bool = λ y. true in omega (arith
 
 -- ---- sublists
 
--- the sublists of a list with one element more at its end
+-- the sublists of a list with another element at its end
 count_last : (f : List ℕ → Bool) (cs : List ℕ) (c : ℕ) → count_by f (sublists (cs ++ c ∷ [])) ≡ count_by f (sublists cs) + count_by (λ s. f (s ++ c ∷ [])) (sublists cs)
 count_last f [] c = count_append f ([] ∷ []) ((c ∷ []) ∷ [])
 count_last f (a ∷ cs) c =
@@ -60,7 +60,7 @@ count_last f (a ∷ cs) c =
       count_map last first old,
     )
 
--- the first elements have no more of them
+-- a prefix has no more of the sublists than the whole list
 count_fewer : (f : List ℕ → Bool) (cs : List ℕ) (n : ℕ) → count_by f (sublists (take n cs)) ≤ count_by f (sublists cs)
 count_fewer f [] zero = omega arith
 count_fewer f [] (suc n) = omega arith
@@ -80,7 +80,7 @@ count_fewer f (c ∷ cs) (suc n) =
       count_fewer (λ s. f (c ∷ s)) cs n,
     )
 
--- no two conflict where none of the others do, and the last conflicts with none
+-- no two courses conflict if no two of the earlier ones do and the last conflicts with none of them
 apart_last : (p : Problem) (s : List ℕ) (c : ℕ) → is_apart p (s ++ c ∷ []) ≡ (is_apart p s && not (list_any (conflict p c) s))
 apart_last p [] c = refl
 apart_last p (a ∷ s) c =
@@ -99,7 +99,7 @@ apart_last p (a ∷ s) c =
 
 -- ---- the courses of a set
 
--- the courses of a set, of the first n, in order
+-- the courses of a set, among the first n, in order
 abbrev pub courses_in : List ℕ → ℕ → CourseSet → List ℕ
 courses_in cs n x = map (slice_index cs) (filter (has_course x) (range_below n))
 
@@ -121,7 +121,7 @@ courses_last cs n x =
     ap (map (slice_index cs)) (filter_last (has_course x) n)
     ∙ map-append (slice_index cs) (filter (has_course x) (range_below n)) (cond (has_course x n) (n ∷ []) [])
 
--- a test of the chosen elements
+-- some chosen element passes a test if and only if some element is chosen and passes it
 any_chosen : (t q : ℕ → Bool) (h : ℕ → ℕ) (is : List ℕ) → list_any q (map h (filter t is)) ≡ list_any (λ i. t i && q (h i)) is
 any_chosen t q h [] = refl
 any_chosen t q h (i ∷ is) = by_test (t i) (any_chosen t q h is)
@@ -133,7 +133,7 @@ any_chosen t q h (i ∷ is) = by_test (t i) (any_chosen t q h is)
 
 -- ---- the list of sets
 
--- Of the sets as many pass any test of their courses as of the sublists in which no two conflict.
+-- For any test of courses, as many sets pass it as sublists in which no two conflict.
 pub record HasCount (p : Problem) (cs : List ℕ) (n : ℕ) (xs : List CourseSet) : Type 0 where
   pub counted : (f : List ℕ → Bool) → count_by (λ x. f (courses_in cs n x)) xs ≡ count_by (λ s. is_apart p s && f s) (sublists (take n cs))
 
@@ -200,7 +200,7 @@ module _ (p : Problem) (g : Group) (cs weights : List ℕ) (n met : ℕ) (below 
             last,
           )
 
--- as many sets as sublists
+-- there are as many sets as sublists
 length_counted : (p : Problem) (cs : List ℕ) (n : ℕ) (xs : List CourseSet) → HasCount p cs n xs → length xs ≡ sets_count p (take n cs)
 length_counted p cs n xs count =
     sym (count_every xs) ∙ count.counted (λ s. true) ∙ count_same (λ s. is_apart p s && true) (is_apart p) (sublists (take n cs)) (λ s. stays (is_apart p s))
@@ -215,7 +215,7 @@ length_all p cs xs count = length_counted p cs (length cs) xs count ∙ ap (sets
 pub length_first : (p : Problem) (cs : List ℕ) (n : ℕ) (xs : List CourseSet) → HasCount p cs n xs → length xs ≤ sets_count p cs
 length_first p cs n xs count = omega (arith, length_counted p cs n xs count, count_fewer (is_apart p) cs n)
 
--- one set more than those that were added, where the next one is added too
+-- the full list has at least one set more than the sets added so far, if the next set passes too
 pub more_added : {X : Type 0} (p : X → Bool) (h : X → X) (xs : List X) (k : ℕ) (x : X) → k < length xs → x ≡ get_or (xs ++ map h (filter p (take k xs))) k x → p x ≡ true
     → length (xs ++ map h (filter p (take k xs))) < length (xs ++ map h (filter p xs))
 more_added {X} p h xs k x inside is passes =

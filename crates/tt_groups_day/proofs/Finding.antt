@@ -1,4 +1,4 @@
--- The entries of a day's table are those of days that there can be.
+-- The entries of a day's table are entries of possible days.
 use Rattle.std.proofs.Common.{◌^◌, ◌≡◌, ℕ, zero, suc, ◌+◌, ◌*◌, ◌<◌, ◌≤◌, true, false, ◌&&◌, List, [], ◌∷◌, ◌++◌, length, length-append, get_or, Some, refl, sym, ap, ◌∙◌, subst, arith, inl, inr, eqb-true, eq-eqb}
 use Rattle.std.specs.Prelude.{Contains, ◌==◌, count_by, count_ones, slice_get, slice_index}
 use Rattle.std.specs.List.{list_any}
@@ -102,7 +102,7 @@ found-end most periods sets s m end small p g cs weights d before few distinct d
 pub open_first : (p : Problem) (cs : List ℕ) (d : ℕ) → AreOpenSets p cs d []
 open_first p cs d = record { apart = λ s x e. absurd (nothing_there s x e); available = λ s x i e l h. absurd (nothing_there s x e) }
 
--- one set more
+-- another set
 open_more : (p : Problem) (g : Group) (cs : List ℕ) (d : ℕ) (before : List CourseSet) (x : CourseSet) → AreOpenSets p cs d before → IsApart p cs x
     → ((i : ℕ) → i < length cs → has_course x i ≡ true → unavailable p (slice_index cs i) d (length before) ≡ false) → AreOpenSets p cs d (before ++ x ∷ [])
 open_more p g cs d before x are_open apart here = record {

@@ -24,7 +24,7 @@ use Rattle.tt_groups_day.specs.declared.morning.CourseSet.{CourseSet}
 
 -- ---- amounts
 
--- amounts of two kinds, in turn
+-- lecture amounts followed by amounts of further lectures are the amounts of the group
 pub two_amounts : (g : Group) (cs amounts : List ℕ) (k : Vector) → ((i : ℕ) → i < length cs → slice_index amounts i ≡ k (slice_index cs i))
     → ((i : ℕ) → i < length g.courses → slice_index amounts (length cs + i) ≡ k (slice_index g.courses i) - 1)
     → (j : ℕ) → j < length cs + length g.courses → slice_index amounts j ≡ slice_index (group_amounts g cs k) j
@@ -37,7 +37,7 @@ two_amounts g cs amounts k first more j h = elim (cases_lt j (length cs)) [
       ap (slice_index amounts) (sym e) ∙ more i m ∙ sym (at_right k (λ c. k c - 1) cs g.courses i m) ∙ ap (slice_index (group_amounts g cs k)) e
 ]
 
--- ---- one place more
+-- -- another place
 
 module _ (g : Group) (cs sizes weights : List ℕ) (b : ℕ) (table : List ℕ) (n : ℕ) (xs : List DayEntry) (before : HasEntries g cs sizes weights b table n xs) where
   pub entries_skip : b ≤ slice_index table n → HasEntries g cs sizes weights b table (n + 1) xs
@@ -108,7 +108,7 @@ weights-positive m (n ∷ ns) h some (suc j) l =
     above (suc a) zero x y = absurd (omega arith)
     above (suc a) (suc b) x y = omega arith
 
--- a course of the group is one of its courses
+-- the group concerns its own courses
 own_concerned : (p : Problem) (g : Group) (c : ℕ) → Contains g.courses c → concerns p g c ≡ true
 own_concerned p g c m =
     ap (λ b. b || list_any (λ q. in_curriculum p q c) g.curricula) (any_member (λ n. n == c) g.courses c m (eq-eqb c c refl))
@@ -145,7 +145,7 @@ module _ (p : Problem) (cs sizes weights : List ℕ) (count : ℕ) (are : AreLec
       let l = length-map cs (λ c. lectures p c + 1) in
       omega (arith, are.weights_are i h, weights-positive 1 (lecture_sizes p cs) (omega arith) (λ j m. let k : j < length cs = omega (arith, m, l) in omega (arith, at_map (λ c. lectures p c + 1) cs j k)) i (omega (arith, h, l)))
 
--- ---- entries of days that there can be
+-- -- entries of possible days
 
 module _ (g : Group) (cs sizes weights : List ℕ) (b : ℕ) (table : List ℕ) (n : ℕ) (xs : List DayEntry) (before : AreEntriesOf g cs sizes weights b table n xs) where
   pub own_skip : AreEntriesOf g cs sizes weights b table (n + 1) xs

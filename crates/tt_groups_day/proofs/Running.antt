@@ -1,4 +1,4 @@
--- What a day costs is what is settled by its periods, and what is pending after the last one; no prefix of the day costs more.
+-- The cost of a day is the cost that its periods settle plus the cost pending after the last one; no prefix of the day costs more.
 use Rattle.std.proofs.Common.{◌≡◌, ℕ, suc, ◌+◌, ◌-◌, ◌*◌, ◌≤◌, Bool, true, false, not, ◌&&◌, refl, ap, ◌∙◌, arith, lt-ltb}
 use Rattle.std.specs.Prelude.{nat_lt, sum_by, count_by}
 use Rattle.std.specs.List.{list_any}
@@ -14,7 +14,7 @@ use Rattle.tt_groups_day.specs.Running.{is_pending, is_settled, settled_cost}
 use Rattle.tt_groups.proofs.Lists.{sum_head, sum_first}
 
 module _ (p : Problem) (g : Group) (day : Day) where
-  -- a period is single where the next one settles it
+  -- a period is single if the next one settles it as single
   settled-single : (q s : ℕ) → is_settled p day q (suc s) ≡ is_single p day q s
   settled-single q s =
       let taught = is_taught p day q in
@@ -24,7 +24,7 @@ module _ (p : Problem) (g : Group) (day : Day) where
       ∙ ap (λ b. ((b && taught s) && not (nat_lt 0 s && taught (s - 1))) && not (taught (suc s))) (lt-ltb 0 (suc s) (omega arith))
       ∙ ap (λ k. (taught s && not (nat_lt 0 s && taught (s - 1))) && not (taught k)) z
 
-  -- what all periods settle, and the end of the day after them, is what the day costs
+  -- the cost that all periods and the end of the day settle is the day's cost
   pub day_cost-settled : settled_cost p g day (p.periods + 1) ≡ day_cost p g day
   day_cost-settled =
       let f : ℕ → ℕ = λ i. 2 * count_by (λ q. is_settled p day q i) g.curricula in
@@ -40,11 +40,11 @@ module _ (p : Problem) (g : Group) (day : Day) where
       let order = sum_by-same (λ q. count_by (is_single p day q) (range_below p.periods) * 2) (λ q. 2 * count_by (is_single p day q) (range_below p.periods)) g.curricula (λ q. omega arith) in
       omega (arith, ap (λ i. sum_by f (range_below i)) z, sum_head f p.periods, none, later, turned, twice, each_q, order)
 
-  -- so a day that begins like this costs no less
+  -- so the settled cost of a beginning is no more than the day's cost
   pub settled-le : (j : ℕ) → j ≤ p.periods + 1 → settled_cost p g day j ≤ day_cost p g day
   settled-le j h = omega (arith, day_cost-settled, sum_first (λ i. 2 * count_by (λ q. is_settled p day q i) g.curricula) j (p.periods + 1) h)
 
-  -- at the end of the day what is pending is paid
+  -- at the end of the day, each pending curriculum is paid for
   pub day_cost-pending : settled_cost p g day p.periods + 2 * count_by (λ q. is_pending p day q p.periods) g.curricula ≡ day_cost p g day
   day_cost-pending =
       let none = sum_by-same (λ q. one_if (is_settled p day q p.periods)) (λ q. one_if (is_pending p day q p.periods)) g.curricula (λ q.

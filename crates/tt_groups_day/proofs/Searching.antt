@@ -18,7 +18,7 @@ use Rattle.tt_groups_day.specs.declared.search.Period.{Period}
 use Rattle.tt_groups_day.proofs.Beginning.{ones-of_word, count_prefix}
 use Rattle.tt_groups_day.proofs.Running.{day_cost-pending}
 
--- the set and the period where a list has none
+-- the default set and period, for indices outside a list
 abbrev pub no_set : CourseSet
 no_set = record { courses = []; index = 0; curricula = 0 }
 
@@ -74,7 +74,7 @@ tried-all most periods sets b s i m table inside long tried p g cs weights d bef
       (one p g cs weights d before days len (omega (arith, len, here)) sets_are complete morning set).low day is fits (begins-more p g cs day before x.0 begins x.2) less;
 }
 
--- ---- one set more
+-- -- another set
 
 pub with-falls : (most : List ℕ) (periods : List Period) (sets : List CourseSet) (b s : ℕ) (m : Morning) (old new : List ℕ) (x : CourseSet) → Falls old new → IsTriedWith most periods sets b s m old x → IsTriedWith most periods sets b s m new x
 with-falls most periods sets b s m old new x falls tried p g cs weights d before days len inside sets_are complete morning set = record {
@@ -98,7 +98,7 @@ day_at p g cs d s most periods x before days len inside = record {
   closed = λ i l z. ap (unavailable p (slice_index cs i) d) len ∙ days.closed s x i (omega (arith, inside, days.whole)) l z;
 }
 
--- the next morning was tried
+-- the next morning has been tried
 pub with-next : (most : List ℕ) (periods : List Period) (sets : List CourseSet) (b s : ℕ) (m next : Morning) (x : CourseSet) (table : List ℕ)
     → ((p : Problem) (g : Group) (cs weights : List ℕ) (before : List CourseSet) → AreCourses p g cs → length g.curricula ≤ 64 → length before < p.periods → IsCourseSet p g cs weights x → IsMorningOf p g cs weights before m
     → IsMorningOf p g cs weights (before ++ x ∷ []) next) → IsTried most periods sets b (s + 1) next table → IsTriedWith most periods sets b s m table x

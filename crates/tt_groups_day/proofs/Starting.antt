@@ -1,4 +1,4 @@
--- Before the first period of a day nothing has been taught or paid.
+-- Before the first period of a day, nothing has been taught or paid.
 use Rattle.std.proofs.Common.{◌≡◌, ℕ, ◌*◌, ◌≤◌, Bool, true, false, ◌&&◌, List, [], ◌++◌, length, take, take_all, refl, sym, ap, ◌∙◌, arith, inl, inr}
 use Rattle.std.specs.Prelude.{nat_lt, replicate, slice_index}
 use Rattle.std.proofs.Math.ListN.{get_or-eq_default}
@@ -13,7 +13,7 @@ use Rattle.tt_groups.specs.Group.{Group}
 use Rattle.tt_groups_day.specs.Sets.{IsWordOf, IsMorningOf}
 use Rattle.tt_groups_day.specs.declared.morning.Morning.{Morning}
 
--- zeros and what lies behind them
+-- a list of zeros has 0 at each index, also beyond its end
 pub zeros : (n i : ℕ) → slice_index (replicate n 0) i ≡ 0
 zeros n i = elim (cases_lt i n) [
   | inl h ↦ get_or-replicate n i 0 0 h
@@ -40,7 +40,7 @@ morning-start p g cs weights m counts place cost occupied pending = record {
   pending = λ day begins. no_word m.pending g.curricula pending;
 }
 
--- what was written over the whole list is what it has
+-- the first elements are those written over the whole list
 pub take_written : (xs rest : List ℕ) (n : ℕ) → n ≡ length xs → take n (xs ++ rest) ≡ xs
 take_written xs rest n e =
     let short : n ≤ length xs = omega arith in

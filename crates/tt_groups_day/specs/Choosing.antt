@@ -12,19 +12,19 @@ use Rattle.tt_groups_day.specs.declared.morning.CourseSet.{CourseSet}
 abbrev pub clashes : Problem → List ℕ → ℕ → CourseSet → Bool
 clashes p cs n x = list_any (λ j. has_course x j && conflict p (slice_index cs n) (slice_index cs j)) (range_below n)
 
--- The set has one course more, with its weight and its curricula.
+-- The set with another course, including its weight and its curricula.
 abbrev pub with_course : ℕ → ℕ → ℕ → CourseSet → CourseSet
 with_course n weight met x = record { courses = slice_set x.courses n 1; index = x.index + weight; curricula = bit_or x.curricula met }
 
--- The sets that do not clash with a course are there with it too.
+-- The sets, followed by each set that does not clash with a course, with this course added.
 abbrev pub with_next : Problem → List ℕ → ℕ → ℕ → ℕ → List CourseSet → List CourseSet
 with_next p cs n weight met xs = xs ++ map (with_course n weight met) (filter (λ x. not (clashes p cs n x)) xs)
 
--- No two courses of the set conflict.
+-- Whether no two courses of the set conflict.
 pub record IsApart (p : Problem) (cs : List ℕ) (x : CourseSet) : Type 0 where
   pub apart : (i j : ℕ) → has_course x i ≡ true → has_course x j ≡ true → conflict p (slice_index cs i) (slice_index cs j) ≡ false
 
--- The set has some of the first n courses, no two of which conflict, with their curricula and their index.
+-- Whether the set has some of the first n courses, no two of which conflict, with their curricula and their index.
 pub record IsChoice (p : Problem) (g : Group) (cs weights : List ℕ) (n : ℕ) (x : CourseSet) : Type 0 where
   pub long : length x.courses ≡ 16
   pub digits : (i : ℕ) → slice_index x.courses i ≤ 1
@@ -33,7 +33,7 @@ pub record IsChoice (p : Problem) (g : Group) (cs weights : List ℕ) (n : ℕ) 
   pub placed : x.index ≡ index_by weights x.courses n
   pub apart : IsApart p cs x
 
--- Each choice of the first n courses of which no two conflict is a set of the list.
+-- Whether each choice of the first n courses without a conflict is a set of the list.
 pub record HasChoices (p : Problem) (cs : List ℕ) (n : ℕ) (xs : List CourseSet) : Type 0 where
   pub found : (f : ℕ → Bool) → ((i j : ℕ) → i < n → j < n → f i ≡ true → f j ≡ true → conflict p (slice_index cs i) (slice_index cs j) ≡ false)
       → (x : CourseSet) × Contains xs x × ((i : ℕ) → has_course x i ≡ (nat_lt i n && f i))

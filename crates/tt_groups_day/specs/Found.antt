@@ -1,4 +1,4 @@
--- Days that there can be, by the sets of their periods; cs are the courses that a group concerns.
+-- Possible days, by the sets of their periods; cs are the courses that a group concerns.
 use Rattle.std.specs.Prelude.{◌≡◌, ℕ, ◌*◌, ◌<◌, ◌≤◌, true, false, List, length, All, Some, sum_by, slice_get, slice_index, slice_index_or}
 use Rattle.tt_lists.specs.Words.{range_below}
 use Rattle.tt_instance.specs.Problem.{Problem}
@@ -12,11 +12,11 @@ use Rattle.tt_groups_day.specs.declared.morning.CourseSet.{CourseSet}
 use Rattle.tt_groups_day.specs.declared.morning.Morning.{Morning}
 use Rattle.tt_groups_day.specs.declared.search.Period.{Period}
 
--- No course is in the list at two places.
+-- Whether no course is in the list twice.
 abbrev pub AreDistinct : List ℕ → Type 0
 AreDistinct cs = (i j : ℕ) → i < length cs → j < length cs → slice_index cs i ≡ slice_index cs j → i ≡ j
 
--- A day of the group has the place by its lectures, and costs n.
+-- A day of the group whose lectures have the place, and that costs n.
 pub record IsDayAt (p : Problem) (g : Group) (cs : List ℕ) (d : ℕ) (weights : List ℕ) (place n : ℕ) : Type 0 where
   pub day : Day
   pub is : IsDay p g d day
@@ -24,17 +24,17 @@ pub record IsDayAt (p : Problem) (g : Group) (cs : List ℕ) (d : ℕ) (weights 
   pub placed : sum_by (λ i. lectures_on p day (slice_index cs i) * slice_index weights i) (range_below (length cs)) ≡ place
   pub paid : day_cost p g day ≡ n
 
--- A course that is marked in a period of the day d is available there.
+-- Whether each course that is marked in a period of the day d is available in it.
 abbrev pub AreOpened : Problem → List ℕ → ℕ → List Period → Type 0
 AreOpened p cs d periods =
     (s : ℕ) (x : Period) (i : ℕ) → s < length periods → i < length cs → 0 < slice_index (slice_index_or periods s x).available i → unavailable p (slice_index cs i) d s ≡ false
 
--- No two courses of a set conflict, and each course is available in the period that has the set.
+-- Whether no two courses of a set conflict, and each course is available in the period that has the set.
 pub record AreOpenSets (p : Problem) (cs : List ℕ) (d : ℕ) (before : List CourseSet) : Type 0 where
   pub apart : (s : ℕ) (x : CourseSet) → slice_get before s ≡ Some x → IsApart p cs x
   pub available : (s : ℕ) (x : CourseSet) (i : ℕ) → slice_get before s ≡ Some x → i < length cs → has_course x i ≡ true → unavailable p (slice_index cs i) d s ≡ false
 
--- Some day that begins like the morning has the place and costs v.
+-- Whether some day that begins like the morning has the place k and costs v.
 abbrev pub IsFound : List ℕ → List Period → List CourseSet → ℕ → Morning → ℕ → ℕ → Type 0
 IsFound most periods sets s m k v = (p : Problem) (g : Group) (cs weights : List ℕ) (d : ℕ) (before : List CourseSet) → length cs ≤ 16 → AreDistinct cs → ArePeriodsOf p g cs d most periods
     → AreOpened p cs d periods → length before ≡ s → All (IsCourseSet p g cs weights) sets → All (IsApart p cs) sets → IsMorningOf p g cs weights before m → AreOpenSets p cs d before

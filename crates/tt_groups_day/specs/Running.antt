@@ -1,15 +1,15 @@
--- What a day costs, period by period: the next period settles whether one is single.
+-- The cost of a day, period by period: the next period settles whether a period is single.
 use Rattle.std.specs.Prelude.{ℕ, ◌-◌, ◌*◌, nat_lt, Bool, not, ◌&&◌, sum_by, count_by}
 use Rattle.tt_lists.specs.Words.{range_below}
 use Rattle.tt_instance.specs.Problem.{Problem}
 use Rattle.tt_groups.specs.Group.{Group}
 use Rattle.tt_groups.specs.Plans.{Day, is_taught}
 
--- A curriculum is pending in a period if it is taught in the one before it, and not in the one before that.
+-- A curriculum is pending in a period if it is taught in the period before, and not in the period before that.
 abbrev pub is_pending : Problem → Day → ℕ → ℕ → Bool
 is_pending p day q j = nat_lt 0 j && is_taught p day q (j - 1) && not (nat_lt 0 (j - 1) && is_taught p day q (j - 1 - 1))
 
--- It is settled as single if it is not taught in this one either.
+-- A pending curriculum is settled as single if it is not taught in this period either.
 abbrev pub is_settled : Problem → Day → ℕ → ℕ → Bool
 is_settled p day q j = is_pending p day q j && not (is_taught p day q j)
 

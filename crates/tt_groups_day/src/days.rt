@@ -20,8 +20,8 @@ use std::alloc::Global;
 use tt_groups::{DayEntry, Group};
 use tt_instance::Instance;
 
-/// For each numbers of lectures that the courses can have on a day at a cost below the bound: these numbers, and a cost that no such day is
-/// below. The sets are those of `list_sets`; the sequences that are left go down with each that is tried.
+/// Lists the possible numbers of lectures of the courses on a day at a cost below the bound, each with a lower bound of the cost of such a
+/// day. The sets are those of `list_sets`; the sequences that are left go down by 1 with each set that is tried.
 pub fn list_days(
     alloc: Global,
     instance: &Instance<'_>,
@@ -47,7 +47,7 @@ pub fn list_days(
     requires small { All (λ x. x.index ≤ MAX_INDEX) sets.now }
     requires complete { IsComplete instance.now group.now courses.now sets.now }
     ensures list { IfOk result (λ entries. IsDayList instance.now group.now courses.now bound day entries.items) }
-    // Each entry is that of a day that there can be.
+    // Each entry is that of a possible day.
     ensures found { IfOk result (λ entries. AreDistinct courses.now → All (IsApart instance.now courses.now) sets.now →
         (x : DayEntry) → Contains entries.items x → IsReachedDay instance.now group.now courses.now day x) }
     ensures used_up { result ≡ Err fault.TooMuchWork → sequences.new ≡ 0 }

@@ -13,7 +13,7 @@ ghost use Rattle.tt_groups_day.specs.declared.morning.TheConstants.{LECTURES, PL
 use std::alloc::{AllocError, Global};
 use tt_groups::{DIGITS, DayEntry, Group};
 
-/// The digits of a place.
+/// Returns the digits of a place.
 fn lectures_at(count: usize, sizes: &[u32], weights: &[u32], place: u32) -> [u8; DIGITS]
     requires count { count ≤ DIGITS }
     requires sized { count ≤ length sizes.now }
@@ -30,7 +30,7 @@ fn lectures_at(count: usize, sizes: &[u32], weights: &[u32], place: u32) -> [u8;
     amounts
 }
 
-/// The lectures of a course that are not its first on the day; 0 if it is none of the courses.
+/// Returns the number of a course's lectures that are not its first on the day; 0 if it is none of the courses.
 fn further(courses: &[u32], amounts: &[u8; DIGITS], course: u32) -> u8
     requires { length courses.now ≤ DIGITS }
     ensures { (k : Vector) → ((i : ℕ) → i < length courses.now → slice_index amounts.now i ≡ k (slice_index courses.now i)) →
@@ -44,7 +44,7 @@ fn further(courses: &[u32], amounts: &[u8; DIGITS], course: u32) -> u8
     0
 }
 
-/// The entry of a place.
+/// Returns the entry of a place.
 fn entry_at(
     group: &Group,
     courses: &[u32],
@@ -71,7 +71,8 @@ fn entry_at(
     DayEntry { amounts, cost }
 }
 
-/// The entries of the places whose values are below the bound. The sizes and weights are those of the lectures of each course; others may follow.
+/// Returns the entries of the places whose values are below the bound. The sizes and weights are those of the lectures of each course;
+/// others may follow.
 pub fn list_entries(
     alloc: Global,
     group: &Group,

@@ -1,4 +1,4 @@
-//! Refusals of a day.
+//! Errors of a day's table.
 
 ghost use Rattle.std.specs.Prelude.{◌≡◌};
 ghost use Rattle.tt_groups_day.specs.declared.fault.DaysFault.TheVariants as fault;

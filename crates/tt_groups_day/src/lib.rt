@@ -1,4 +1,4 @@
-//! Bounds of groups, part 1: the day lists. What a day of a group costs at least, by the lectures of each course on it.
+//! Bounds of groups, part 1: the day lists. They give a lower bound of the cost of a group's day, by the lectures of each course on it.
 #![tactic(auto)]
 
 mod days;

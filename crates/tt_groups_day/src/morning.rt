@@ -7,10 +7,10 @@ ghost use Rattle.tt_groups.specs.Listed.{AreCourses};
 ghost use Rattle.tt_groups_day.specs.Sets.{IsCourseSet, IsMorningOf, IsDayOf, Covers};
 ghost use Rattle.tt_groups_day.specs.declared.sets.TheConstants.{CURRICULA};
 
-/// What a single period costs, in cost points.
+/// The cost of a single period, in cost points.
 pub const SINGLE_PRICE: u32 = 2;
 
-/// The most courses that a group concerns.
+/// The maximum number of courses that a group concerns.
 pub const COURSES: usize = 16;
 
 /// The most lectures of a course that a group concerns.
@@ -25,8 +25,8 @@ pub const MAX_INDEX: u32 = 16_777_216;
 /// What the first periods of a day cost is below this, since it is below a bound of one byte.
 pub const COST_LIMIT: u32 = 256;
 
-/// Courses of which no two conflict, 1 for each that is in the set; what one lecture of each adds to a place; and the curricula that they meet,
-/// a bit for each.
+/// Courses of which no two conflict, 1 for each that is in the set; the amount that one lecture of each adds to a place; and the curricula
+/// that they meet, a bit for each.
 #[derive(Clone, Copy, Debug, PartialEq, Eq)]
 pub struct CourseSet {
     pub courses: [u8; COURSES],
@@ -34,8 +34,8 @@ pub struct CourseSet {
     pub curricula: u64,
 }
 
-/// The lectures of the first periods of a day, their place, what they cost so far, and the curricula of the last period: all, and those that
-/// were not in the period before it.
+/// The lectures of the first periods of a day, their place, their cost so far, and the curricula of the last period: all of them, and those
+/// that were not in the period before it.
 #[derive(Clone, Copy, Debug, PartialEq, Eq)]
 pub struct Morning {
     pub counts: [u8; COURSES],
@@ -45,7 +45,7 @@ pub struct Morning {
     pub pending: u64,
 }
 
-/// The numbers of lectures with those of a set.
+/// Returns the numbers of lectures with the lectures of a set added.
 fn sums(counts: &[u8; COURSES], more: &[u8; COURSES]) -> [u8; COURSES]
     requires small { (i : ℕ) → slice_index counts.now i ≤ 64 }
     requires digits { (i : ℕ) → slice_index more.now i ≤ 1 }
@@ -58,7 +58,7 @@ fn sums(counts: &[u8; COURSES], more: &[u8; COURSES]) -> [u8; COURSES]
     all
 }
 
-/// Whether no number is above that of the other list.
+/// Checks that no number is above that of the other list.
 fn fits(numbers: &[u8; COURSES], most: &[u8; COURSES]) -> bool
     ensures yes { result ≡ true → (i : ℕ) → i < COURSES → slice_index numbers.now i ≤ slice_index most.now i }
     ensures no { result ≡ false → (i : ℕ) × (i < COURSES) × (slice_index most.now i < slice_index numbers.now i) }
@@ -70,7 +70,8 @@ fn fits(numbers: &[u8; COURSES], most: &[u8; COURSES]) -> bool
     all
 }
 
-/// The morning with one set more: none if the bound is reached, a course of the set is not available, or one has too many lectures.
+/// Returns the morning with another set, or `None` if the bound is reached, a course of the set is not available, or a course has too many
+/// lectures.
 pub fn more(
     bound: u8,
     most: &[u8; COURSES],

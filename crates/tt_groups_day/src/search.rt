@@ -15,7 +15,7 @@ pub struct Period {
     pub available: [u8; COURSES],
 }
 
-/// Writes the value where the table has a higher one.
+/// Writes the value if the table has a higher one at the place.
 fn lower(table: &mut [u8], place: usize, value: u8)
     ensures there { slice_index table.new place ≤ value }
     ensures falls { Falls table.old table.new }
@@ -40,7 +40,7 @@ fn end(bound: u8, morning: &Morning, table: &mut [u8])
     }
 }
 
-/// Lowers the entries of all days that begin like a morning. The sequences that are left go down with each set that is tried.
+/// Lowers the entries of all days that begin like a morning. The sequences that are left go down by 1 with each set that is tried.
 pub fn try_days(
     most: &[u8; COURSES],
     periods: &[Period],

@@ -1,4 +1,4 @@
-//! The sets of a group's courses of which no two conflict.
+//! The sets of a group's courses in which no two conflict.
 
 ghost use Rattle.std.specs.Prelude.{◌≡◌, ℕ, ◌+◌, ◌*◌, ◌<◌, ◌≤◌, ◌^◌, ◌++◌, ◌∷◌, [], length, slice_index, All, IfOk, OnOk, OnErr, Err};
 ghost use Rattle.tt_instance.specs.Courses.{in_curriculum};
@@ -15,16 +15,16 @@ use tt_bits::with_if;
 use tt_groups::Group;
 use tt_instance::Instance;
 
-/// The most sets of a group's courses.
+/// The maximum number of sets of a group's courses.
 pub const MAX_SETS: usize = 4096;
 
-/// The most curricula of a group.
+/// The maximum number of curricula of a group.
 pub const CURRICULA: usize = 64;
 
 /// Why the sets are not listed.
 #[derive(Clone, Copy, Debug, PartialEq, Eq)]
 pub enum SetsFault {
-    /// There are more than `MAX_SETS`.
+    /// There are more than `MAX_SETS` sets.
     TooManySets,
     OutOfMemory,
 }
@@ -37,7 +37,7 @@ impl From<AllocError> for SetsFault {
     }
 }
 
-/// The curricula of a group that have a course.
+/// Returns the curricula of a group that have a course, a bit for each.
 fn curricula_with(instance: &Instance<'_>, group: &Group, course: u32) -> u64
     requires { length group.now.curricula ≤ CURRICULA }
     ensures { IsWordOf result group.now.curricula (λ q. in_curriculum instance.now q course) }
@@ -49,7 +49,7 @@ fn curricula_with(instance: &Instance<'_>, group: &Group, course: u32) -> u64
     word
 }
 
-/// Whether a course conflicts with one of a set's courses before it.
+/// Checks whether a course conflicts with one of a set's courses before it.
 fn clashes(instance: &Instance<'_>, courses: &[u32], number: usize, set: &CourseSet) -> bool
     requires there { number < length courses.now }
     requires few { length courses.now ≤ COURSES }
@@ -63,7 +63,7 @@ fn clashes(instance: &Instance<'_>, courses: &[u32], number: usize, set: &Course
     false
 }
 
-/// A set with one course more.
+/// Returns a set with another course.
 fn with_course(set: &CourseSet, number: usize, weight: u32, met: u64) -> CourseSet
     requires there { number < COURSES }
     requires room { set.now.index + weight < 2 ^ 32 }
@@ -78,7 +78,7 @@ fn with_course(set: &CourseSet, number: usize, weight: u32, met: u64) -> CourseS
     }
 }
 
-/// Adds a set at the end, if there is room for one more.
+/// Adds a set at the end, if there is room for another.
 fn append(sets: &mut Vec<CourseSet>, set: CourseSet) -> Result<(), SetsFault>
     requires { length sets.old.items ≤ MAX_SETS }
     ensures added { OnOk result (sets.new.items ≡ sets.old.items ++ set ∷ []) }
@@ -92,7 +92,7 @@ fn append(sets: &mut Vec<CourseSet>, set: CourseSet) -> Result<(), SetsFault>
     Ok(())
 }
 
-/// Adds each set that has no clash with a course once more, with this course.
+/// Adds a copy of each set that does not clash with a course, extended by this course.
 fn add_course(
     instance: &Instance<'_>,
     courses: &[u32],
@@ -119,7 +119,8 @@ fn add_course(
     Ok(())
 }
 
-/// Every set of the courses that a group concerns of which no two conflict. The weights are what a lecture of each course adds to a place.
+/// Returns every set of the courses that a group concerns in which no two conflict. The weights are the amounts that a lecture of each course
+/// adds to a place.
 pub fn list_sets(
     alloc: Global,
     instance: &Instance<'_>,
@@ -136,7 +137,7 @@ pub fn list_sets(
     ensures sets { IfOk result (λ sets. All (IsCourseSet instance.now group.now courses.now weights.now) sets.items) }
     ensures apart { IfOk result (λ sets. All (IsApart instance.now courses.now) sets.items) }
     ensures small { IfOk result (λ sets. All (λ x. x.index ≤ MAX_INDEX) sets.items) }
-    // The list is refused exactly where there are too many sets, unless memory runs out.
+    // The list is refused exactly if there are too many sets, unless memory runs out.
     ensures too_many { result ≡ Err fault.TooManySets → MAX_SETS < sets_count instance.now courses.now }
     ensures few_sets { OnOk result (sets_count instance.now courses.now ≤ MAX_SETS) }
 {

@@ -18,7 +18,7 @@ use crate::search::{Period, try_days};
 use std::alloc::{AllocError, Global};
 use tt_instance::Instance;
 
-/// The courses that are available in a period.
+/// Returns the courses that are available in a period.
 fn period_of(instance: &Instance<'_>, courses: &[u32], day: u32, period: u32) -> Period
     requires { length courses.now ≤ COURSES }
     ensures closed { (i : ℕ) → i < length courses.now → slice_index result.available i ≡ 0 → unavailable instance.now (slice_index courses.now i) day period ≡ true }
@@ -33,7 +33,7 @@ fn period_of(instance: &Instance<'_>, courses: &[u32], day: u32, period: u32) ->
     Period { available }
 }
 
-/// The courses that are available in each period of a day.
+/// Returns the courses that are available in each period of a day.
 fn periods_of(
     alloc: Global,
     instance: &Instance<'_>,
@@ -53,7 +53,7 @@ fn periods_of(
     Ok(periods)
 }
 
-/// The lectures of the courses.
+/// Returns the lectures of the courses.
 fn lectures_of(instance: &Instance<'_>, courses: &[u32]) -> [u8; COURSES]
     requires few { length courses.now ≤ COURSES }
     requires in_range { All (λ c. c < length instance.now.courses) courses.now }
@@ -67,8 +67,8 @@ fn lectures_of(instance: &Instance<'_>, courses: &[u32]) -> [u8; COURSES]
     most
 }
 
-/// What a day of the group costs at least, by the place of its lectures; 255 where it is the bound or more. The sequences that are left go
-/// down with each set that is tried.
+/// Returns a lower bound of the cost of a day of the group, by the place of its lectures; 255 if it is the bound or more. The sequences that
+/// are left go down by 1 with each set that is tried.
 pub fn day_table(
     alloc: Global,
     instance: &Instance<'_>,

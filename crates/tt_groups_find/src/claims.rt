@@ -9,14 +9,14 @@ use tt_groups_check::{GroupFault, Work, check_group};
 use tt_groups_read::GroupClaim;
 use tt_instance::Instance;
 
-/// Whether all numbers are below a count.
+/// Checks that all numbers are below a count.
 fn are_below(numbers: &[u32], count: u32) -> bool
     ensures { IsTrue result → All (λ n. n < count) numbers.now }
 {
     numbers.iter().all(|number| *number < count)
 }
 
-/// The claim of a draft, if a check accepts it.
+/// Returns the claim of a draft, if a check accepts it.
 fn claim_of(
     alloc: Global,
     instance: &Instance<'_>,
@@ -38,7 +38,7 @@ fn claim_of(
     }
 }
 
-/// The claims of drafts that are worth something, each checked, within the work that the checks of one file may do.
+/// Returns the claims of drafts with a value above 0, each checked, within the work that the checks of one file may do.
 pub fn claims_of(
     alloc: Global,
     instance: &Instance<'_>,

@@ -1,4 +1,4 @@
-//! Targets that groups can do without.
+//! Removes targets that groups don't need.
 
 use crate::draft::{Draft, without};
 use crate::free::Free;
@@ -8,7 +8,7 @@ use rand_pcg::Pcg32;
 use std::alloc::AllocError;
 use tt_groups_least::courses_of;
 
-/// Leaves out the courses that a draft is worth as much without.
+/// Removes the courses without which a draft has the same value.
 fn leave_courses(
     judge: &mut Judge<'_, '_>,
     draft: &mut Draft,
@@ -25,7 +25,7 @@ fn leave_courses(
     Ok(())
 }
 
-/// Leaves out the curricula that a draft is worth as much without.
+/// Removes the curricula without which a draft has the same value.
 fn leave_curricula(
     judge: &mut Judge<'_, '_>,
     draft: &mut Draft,
@@ -42,7 +42,7 @@ fn leave_curricula(
     Ok(())
 }
 
-/// What a draft has after it has lost targets.
+/// Updates the data of a draft after some of its targets were removed.
 fn recount(judge: &Judge<'_, '_>, draft: &mut Draft) -> Result<(), AllocError> {
     let (alloc, instance) = (judge.alloc, judge.instance);
     draft.concerned = courses_of(alloc, instance, &draft.curricula, &draft.courses)?;
@@ -52,7 +52,7 @@ fn recount(judge: &Judge<'_, '_>, draft: &mut Draft) -> Result<(), AllocError> {
     Ok(())
 }
 
-/// Leaves out the courses that a draft is worth as much without, and takes its other targets.
+/// Removes the courses without which a draft has the same value, and takes its other targets.
 pub fn reduce_courses(
     judge: &mut Judge<'_, '_>,
     free: &mut Free,
@@ -66,7 +66,7 @@ pub fn reduce_courses(
     Ok(())
 }
 
-/// Leaves out all targets that a draft is worth as much without, and takes the others.
+/// Removes all targets without which a draft has the same value, and takes the others.
 pub fn reduce(
     judge: &mut Judge<'_, '_>,
     free: &mut Free,

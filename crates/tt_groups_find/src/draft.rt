@@ -1,8 +1,8 @@
-//! Groups on their way to claims.
+//! Groups that may become claims.
 
 use std::alloc::{AllocError, Global};
 
-/// Curricula and courses in order, what they cost at least together, and how many states their table has.
+/// Curricula and courses in order, a lower bound of their common cost, and the number of states of their table.
 #[derive(Drop)]
 pub struct Draft {
     pub curricula: Vec<u32>,
@@ -11,16 +11,16 @@ pub struct Draft {
     pub concerned: Vec<u32>,
     pub value: u64,
     pub states: u32,
-    /// Whether no target of it can be left out.
+    /// Whether none of its targets can be removed.
     pub is_core: bool,
 }
 
-/// Whether two lists have a number in common.
+/// Checks whether two lists have a number in common.
 pub fn have_common(first: &[u32], second: &[u32]) -> bool {
     first.iter().any(|number| second.contains(number))
 }
 
-/// The numbers of both lists, each once, in order.
+/// Returns the numbers of both lists, each once, in order.
 pub fn union_of(alloc: Global, first: &[u32], second: &[u32]) -> Result<Vec<u32>, AllocError> {
     let mut all = Vec::from_slice(alloc, first)?;
     for number in second {
@@ -32,7 +32,7 @@ pub fn union_of(alloc: Global, first: &[u32], second: &[u32]) -> Result<Vec<u32>
     Ok(all)
 }
 
-/// The numbers of a list but one.
+/// Returns the numbers of a list without one of them.
 pub fn without(alloc: Global, numbers: &[u32], gone: u32) -> Result<Vec<u32>, AllocError> {
     let mut others = Vec::from_slice(alloc, numbers)?;
     others.retain(|number| *number != gone);
@@ -40,7 +40,7 @@ pub fn without(alloc: Global, numbers: &[u32], gone: u32) -> Result<Vec<u32>, Al
 }
 
 impl Draft {
-    /// No targets.
+    /// Returns a draft without targets.
     pub fn empty(alloc: Global) -> Draft {
         Draft {
             curricula: Vec::new(alloc),
@@ -52,12 +52,12 @@ impl Draft {
         }
     }
 
-    /// Whether it has no targets.
+    /// Checks whether it has no targets.
     pub fn is_empty(&self) -> bool {
         self.curricula.is_empty() && self.courses.is_empty()
     }
 
-    /// Whether two drafts have a target in common.
+    /// Checks whether two drafts have a target in common.
     pub fn meets(&self, other: &Draft) -> bool {
         have_common(&self.curricula, &other.curricula) || have_common(&self.courses, &other.courses)
     }

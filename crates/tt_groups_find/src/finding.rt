@@ -16,16 +16,16 @@ use tt_instance::Instance;
 use tt_search::{Progress, Unit, Watch};
 use tt_table::Entry;
 
-/// The most states of a group, stage by stage.
+/// The maximum number of states of a group, stage by stage.
 const STATES: [u32; 3] = [16_384, 65_536, 262_144];
 
-/// The most rounds of a stage.
+/// The maximum number of rounds of a stage.
 const ROUNDS: u32 = 1_000;
 
-/// The most mergers of a round.
+/// The maximum number of mergers of a round.
 const MERGERS: u32 = 100_000;
 
-/// How many rounds in a row may gain nothing.
+/// The number of consecutive rounds without a gain after which a stage ends.
 const QUIET_ROUNDS: u32 = 2;
 
 /// The search: the groups so far, and the targets that none of them has.
@@ -39,7 +39,7 @@ struct Finder<'s, 'i> {
 }
 
 impl<'s, 'i> Finder<'s, 'i> {
-    /// What all groups are worth together.
+    /// Returns the total value of all groups.
     fn value(&self) -> u64 {
         let mut value: u64 = 0;
         for draft in &self.drafts {
@@ -48,12 +48,12 @@ impl<'s, 'i> Finder<'s, 'i> {
         value
     }
 
-    /// Whether nothing is left to do.
+    /// Checks whether the search is over.
     fn is_over(&self) -> bool {
         self.judge.work == 0 || self.judge.guide.is_met(self.value())
     }
 
-    /// Adds a group of a target, if it is worth at least so much.
+    /// Adds a group of a target, if its value is at least `least`.
     fn add(&mut self, curricula: &[u32], courses: &[u32], least: u64) -> Result<(), AllocError> {
         let courses = Vec::from_slice(self.judge.alloc, courses)?;
         if let Some(draft) = self.judge.draft(curricula, courses, 0)? {
@@ -65,7 +65,7 @@ impl<'s, 'i> Finder<'s, 'i> {
         Ok(())
     }
 
-    /// Adds a group of each course that is worth something alone.
+    /// Adds a group of each course that has a value above 0 alone.
     fn add_courses(&mut self) -> Result<(), AllocError> {
         for course in 0..self.judge.instance.courses() {
             self.add(&[], &[course], 1)?;
@@ -82,7 +82,7 @@ impl<'s, 'i> Finder<'s, 'i> {
         Ok(())
     }
 
-    /// Leaves out of all groups what they are worth as much without.
+    /// Removes from all groups the targets without which they have the same value.
     fn reduce_all(&mut self) -> Result<(), AllocError> {
         for draft in self.drafts.iter_mut() {
             reduce(&mut self.judge, &mut self.free, draft, &mut self.rng)?;
@@ -91,7 +91,7 @@ impl<'s, 'i> Finder<'s, 'i> {
         Ok(())
     }
 
-    /// Shows the search.
+    /// Reports the progress to the watch.
     fn show<W: Watch>(&self, watch: &mut W) {
         watch.see(
             Progress {
@@ -106,7 +106,7 @@ impl<'s, 'i> Finder<'s, 'i> {
         );
     }
 
-    /// Packs groups as long as one is worth something.
+    /// Packs groups as long as one has a value above 0.
     fn pack<W: Watch>(&mut self, watch: &mut W) -> Result<(), AllocError> {
         let mut seeds = seeds_of(self.judge.alloc, &self.free)?;
         for _ in 0..seeds.len() {
@@ -120,7 +120,7 @@ impl<'s, 'i> Finder<'s, 'i> {
         Ok(())
     }
 
-    /// Merges groups as long as that gains something.
+    /// Merges groups as long as that gains value.
     fn merge<W: Watch>(&mut self, watch: &mut W) -> Result<(), AllocError> {
         let mut pairs = pairs_of(self.judge.alloc, &self.drafts)?;
         for _ in 0..MERGERS {
@@ -140,7 +140,7 @@ impl<'s, 'i> Finder<'s, 'i> {
         Ok(())
     }
 
-    /// Merges and reduces until a few rounds gain nothing.
+    /// Merges and reduces until some consecutive rounds gain nothing.
     fn improve<W: Watch>(&mut self, watch: &mut W) -> Result<(), AllocError> {
         let mut best = self.value();
         let mut quiet: u32 = 0;
@@ -162,7 +162,7 @@ impl<'s, 'i> Finder<'s, 'i> {
         Ok(())
     }
 
-    /// All stages.
+    /// Runs all stages.
     fn go<W: Watch>(&mut self, watch: &mut W) -> Result<(), AllocError> {
         self.judge.states = STATES[0];
         self.add_courses()?;
@@ -178,9 +178,9 @@ impl<'s, 'i> Finder<'s, 'i> {
     }
 }
 
-/// Looks for groups, no two of which have a curriculum or a course in common, with so much work at most: sets that are tried in a period of a day,
-/// and days that are tried from a state of the week. The entries are those of a known timetable, which no group can cost more than, or none. The
-/// same seed gives the same groups.
+/// Searches for groups, no two of which have a curriculum or a course in common, within an amount of work: sets that are tried in a period of
+/// a day, and days that are tried from a state of the week. The entries are those of a known timetable, which bounds the cost of each group,
+/// or none. The same seed gives the same groups.
 pub fn find_groups<W: Watch>(
     alloc: Global,
     instance: &Instance<'_>,

@@ -24,7 +24,7 @@ fn is_marked(marks: &[bool], number: u32) -> bool {
 }
 
 impl Free {
-    /// All targets.
+    /// Returns marks with all targets free.
     pub fn all(alloc: Global, instance: &Instance<'_>) -> Result<Free, AllocError> {
         Ok(Free {
             curricula: vec![in alloc; true; instance.curricula() as usize]?,
@@ -32,13 +32,13 @@ impl Free {
         })
     }
 
-    /// Takes the targets of a draft.
+    /// Marks the targets of a draft as taken.
     pub fn take(&mut self, draft: &Draft) {
         mark(&mut self.curricula, &draft.curricula, false);
         mark(&mut self.courses, &draft.courses, false);
     }
 
-    /// Gives the targets of a draft back.
+    /// Marks the targets of a draft as free again.
     pub fn give_back(&mut self, draft: &Draft) {
         mark(&mut self.curricula, &draft.curricula, true);
         mark(&mut self.courses, &draft.courses, true);
@@ -54,7 +54,7 @@ impl Free {
         is_marked(&self.courses, course)
     }
 
-    /// The free curricula.
+    /// Returns the free curricula.
     pub fn curricula(&self, alloc: Global) -> Result<Vec<u32>, AllocError> {
         let mut numbers = Vec::new(alloc);
         for (number, is_free) in self.curricula.iter().enumerate() {

@@ -7,19 +7,20 @@ use std::alloc::{AllocError, Global};
 use tt_groups_least::{courses_of, lectures_of, members_of};
 use tt_instance::Instance;
 
-/// The most curricula of a group.
+/// The maximum number of curricula of a group.
 const CURRICULA: usize = 64;
 
-/// The least days that a course is to be spread over before its days are a target.
+/// The smallest minimum number of days of a course whose days are a target.
 const DAYS: u32 = 2;
 
 /// The distance of a curriculum that adds nothing and shares nothing.
 const MIDDLE: u32 = 1_000_000;
 
-/// How often a course is left out where a group is too much work.
+/// The maximum number of times that a course is left out if a group is too much work.
 const CUTS: usize = 4;
 
-/// How far a curriculum is from some courses: 2 for each lecture that it adds, less 1 for each that it shares. None if it shares none.
+/// Returns the distance of a curriculum from some courses: 2 for each lecture that it adds, less 1 for each that it shares. Returns `None` if it
+/// shares none.
 fn distance(instance: &Instance<'_>, courses: &[u32], curriculum: u32) -> Option<u32> {
     let mut distance = MIDDLE;
     let mut has_shared = false;
@@ -35,7 +36,7 @@ fn distance(instance: &Instance<'_>, courses: &[u32], curriculum: u32) -> Option
     if has_shared { Some(distance) } else { None }
 }
 
-/// The nearest curriculum to a group that isn't in it.
+/// Returns the nearest curriculum to a group that isn't in the group.
 fn nearest(
     instance: &Instance<'_>,
     curricula: &[u32],
@@ -77,7 +78,7 @@ fn take_inner(
     Ok(())
 }
 
-/// How many lectures a course has beyond its least days.
+/// Returns the number of lectures that a course has beyond its minimum days.
 fn slack_of(instance: &Instance<'_>, course: u32) -> u32 {
     if course < instance.courses() {
         instance
@@ -88,12 +89,12 @@ fn slack_of(instance: &Instance<'_>, course: u32) -> u32 {
     }
 }
 
-/// Whether the days of a course can cost anything.
+/// Checks whether the days of a course can cost anything.
 fn has_days(instance: &Instance<'_>, course: u32) -> bool {
     course < instance.courses() && instance.min_days(course) > 1 && instance.lectures(course) > 0
 }
 
-/// The free courses among some whose days can cost anything, those with the least slack first.
+/// Returns the free courses among some whose days can cost anything, those with the least slack first.
 fn free_days(judge: &Judge<'_, '_>, free: &Free, courses: &[u32]) -> Result<Vec<u32>, AllocError> {
     let instance = judge.instance;
     let mut days = Vec::new(judge.alloc);
@@ -106,7 +107,7 @@ fn free_days(judge: &Judge<'_, '_>, free: &Free, courses: &[u32]) -> Result<Vec<
     Ok(days)
 }
 
-/// The curricula of a group around a seed, as many as the states allow.
+/// Returns the curricula of a group around a seed, as many as the states allow.
 fn grown_curricula(
     judge: &Judge<'_, '_>,
     free: &Free,
@@ -136,7 +137,7 @@ fn grown_curricula(
     Ok(good)
 }
 
-/// A draft of these curricula with the days of its own courses and as many free ones as the states allow.
+/// Returns a draft of these curricula with the days of its own courses and as many free ones as the states allow.
 pub fn with_days(
     judge: &mut Judge<'_, '_>,
     free: &Free,
@@ -159,7 +160,7 @@ pub fn with_days(
     Ok(None)
 }
 
-/// The course that the fewest of the curricula have.
+/// Returns the course that is in the fewest of the curricula.
 fn rarest(instance: &Instance<'_>, courses: &[u32], curricula: &[u32]) -> Option<u32> {
     courses.iter().copied().min_by_key(|course| {
         curricula
@@ -169,7 +170,7 @@ fn rarest(instance: &Instance<'_>, courses: &[u32], curricula: &[u32]) -> Option
     })
 }
 
-/// A draft grown from a seed. Where it is too much work, the rarest courses are left out.
+/// Returns a draft grown from a seed. If it is too much work, the rarest courses are left out.
 pub fn grow(
     judge: &mut Judge<'_, '_>,
     free: &Free,

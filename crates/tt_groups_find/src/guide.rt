@@ -1,16 +1,16 @@
-//! What a known timetable pays for each target.
+//! The cost of each target in a known timetable.
 
 use std::alloc::{AllocError, Global};
 use tt_instance::Instance;
 use tt_table::Entry;
 
-/// What a single period of a curriculum costs, in cost points.
+/// The cost of a single period of a curriculum, in cost points.
 const SINGLE_PRICE: u64 = 2;
 
-/// What a day below a course's minimum costs, in cost points.
+/// The cost of a day below a course's minimum, in cost points.
 const DAY_PRICE: u64 = 5;
 
-/// What the timetable pays for each curriculum and each course; without a timetable nothing is known.
+/// The cost of each curriculum and each course in the timetable; without a timetable nothing is known.
 #[derive(Drop)]
 pub struct Guide {
     curricula: Vec<u64>,
@@ -18,7 +18,7 @@ pub struct Guide {
     is_there: bool,
 }
 
-/// What a timetable pays for a curriculum on a day.
+/// Returns the cost of a curriculum on a day in a timetable.
 fn day_cost(instance: &Instance<'_>, entries: &[Entry], curriculum: u32, day: u32) -> u64 {
     let mut taught: u64 = 0;
     for entry in entries {
@@ -30,7 +30,7 @@ fn day_cost(instance: &Instance<'_>, entries: &[Entry], curriculum: u32, day: u3
     SINGLE_PRICE * u64::from(singles.count_ones())
 }
 
-/// What a timetable pays for a curriculum.
+/// Returns the cost of a curriculum in a timetable.
 fn curriculum_cost(instance: &Instance<'_>, entries: &[Entry], curriculum: u32) -> u64 {
     let mut cost: u64 = 0;
     for day in 0..instance.days() {
@@ -39,7 +39,7 @@ fn curriculum_cost(instance: &Instance<'_>, entries: &[Entry], curriculum: u32) 
     cost
 }
 
-/// What a timetable pays for a course.
+/// Returns the cost of a course in a timetable.
 fn course_cost(instance: &Instance<'_>, entries: &[Entry], course: u32) -> u64 {
     if instance.courses() <= course {
         return 0;
@@ -54,7 +54,7 @@ fn course_cost(instance: &Instance<'_>, entries: &[Entry], course: u32) -> u64 {
     DAY_PRICE.saturating_mul(u64::from(instance.min_days(course)).saturating_sub(days))
 }
 
-/// The sum of what is paid for some numbers.
+/// Returns the sum of the costs of some numbers.
 fn sum_of(costs: &[u64], numbers: &[u32]) -> u64 {
     let mut sum: u64 = 0;
     for number in numbers {
@@ -64,7 +64,7 @@ fn sum_of(costs: &[u64], numbers: &[u32]) -> u64 {
 }
 
 impl Guide {
-    /// What the entries of a timetable pay; no entries are no timetable.
+    /// Returns the costs in a timetable with these entries; no entries mean no timetable.
     pub fn new(
         alloc: Global,
         instance: &Instance<'_>,
@@ -85,7 +85,7 @@ impl Guide {
         })
     }
 
-    /// The most that a group can cost at least.
+    /// Returns an upper bound of a group's lowest cost.
     pub fn most(&self, curricula: &[u32], courses: &[u32]) -> u64 {
         if !self.is_there {
             return u64::MAX;
@@ -93,7 +93,7 @@ impl Guide {
         sum_of(&self.curricula, curricula).saturating_add(sum_of(&self.courses, courses))
     }
 
-    /// Whether so much is all that the timetable pays.
+    /// Checks whether a value is all that the timetable costs.
     pub fn is_met(&self, value: u64) -> bool {
         let mut all: u64 = 0;
         for cost in self.curricula.iter().chain(&self.courses) {

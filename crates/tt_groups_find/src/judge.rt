@@ -1,4 +1,4 @@
-//! What groups are worth, remembered.
+//! The values of groups, with a memory.
 
 use crate::draft::Draft;
 use crate::guide::Guide;
@@ -7,22 +7,22 @@ use std::collections::HashMap;
 use tt_groups_least::{Aim, Layout, Least, courses_of, least_cost};
 use tt_instance::Instance;
 
-/// The most work for a group at once.
+/// The maximum amount of work for one group at once.
 const GROUP_WORK: u64 = 2_147_483_648;
 
-/// Judges groups, with the work that is left.
+/// Computes the values of groups, within the work that is left.
 #[derive(Drop)]
 pub struct Judge<'s, 'i> {
     pub alloc: Global,
     pub instance: &'s Instance<'i>,
     pub guide: Guide,
-    /// The most states of a group.
+    /// The maximum number of states of a group.
     pub states: u32,
     pub work: u64,
     known: HashMap<u64, Option<Least>>,
 }
 
-/// A word for a number, spread over all its bits.
+/// Returns a word for a number, spread over all its bits.
 fn spread(number: u64) -> u64 {
     let word = number.wrapping_mul(0x9E37_79B9_7F4A_7C15);
     let word = (word ^ (word >> 30)).wrapping_mul(0xBF58_476D_1CE4_E5B9);
@@ -30,7 +30,7 @@ fn spread(number: u64) -> u64 {
     word ^ (word >> 31)
 }
 
-/// A word for a group, which other groups hardly share.
+/// Returns a word for a group that is hardly shared by other groups.
 fn word_of(curricula: &[u32], courses: &[u32]) -> u64 {
     let mut word: u64 = 0;
     for curriculum in curricula {
@@ -43,7 +43,7 @@ fn word_of(curricula: &[u32], courses: &[u32]) -> u64 {
 }
 
 impl<'s, 'i> Judge<'s, 'i> {
-    /// Nothing is known yet.
+    /// Returns a `Judge` that knows no values.
     pub fn new(
         alloc: Global,
         instance: &'s Instance<'i>,
@@ -60,7 +60,7 @@ impl<'s, 'i> Judge<'s, 'i> {
         }
     }
 
-    /// How many states the table of a group has; none where it has too many.
+    /// Returns the number of states of a group's table, or `None` if it has too many.
     pub fn states_of(&self, curricula: &[u32], courses: &[u32]) -> Result<Option<u32>, AllocError> {
         let layout = Layout::new(self.alloc, self.instance, curricula, courses)?;
         Ok(
@@ -70,8 +70,8 @@ impl<'s, 'i> Judge<'s, 'i> {
         )
     }
 
-    /// What a group is worth, which is known to be `most` at most. One that is worth no more than `enough` may be worth less than is answered. None
-    /// where that isn't found out.
+    /// Returns the value of a group, which is known to be at most `most`. If the value is at most `enough`, the result may be higher than the
+    /// value. Returns `None` if the value isn't found.
     pub fn worth(
         &mut self,
         curricula: &[u32],
@@ -109,7 +109,7 @@ impl<'s, 'i> Judge<'s, 'i> {
         Ok(least.map(|least| least.cost))
     }
 
-    /// Whether a group that is worth no more than a value is worth so much.
+    /// Checks whether a group, whose value is known to be at most `value`, has this value.
     pub fn is_worth(
         &mut self,
         curricula: &[u32],
@@ -120,7 +120,8 @@ impl<'s, 'i> Judge<'s, 'i> {
         Ok(worth.is_some_and(|worth| value <= worth))
     }
 
-    /// A draft of a group; none where it has too many states, or is too much work. One that is worth no more than `enough` may be worth less.
+    /// Returns a draft of a group, or `None` if it has too many states, or is too much work. If the draft's value is at most `enough`, the group's
+    /// value may be lower.
     pub fn draft(
         &mut self,
         curricula: &[u32],

@@ -1,4 +1,4 @@
-//! Groups whose bounds add up, found.
+//! Searches for groups whose bounds add up.
 #![tactic(auto)]
 
 mod claims;

@@ -1,4 +1,4 @@
-//! Groups that are worth more together.
+//! Groups that have a higher value together.
 
 ghost use Rattle.std.specs.Prelude.{◌<◌, length, IfSome};
 
@@ -10,7 +10,7 @@ use crate::judge::Judge;
 use rand_pcg::Pcg32;
 use std::alloc::{AllocError, Global};
 
-/// Two drafts by their places, and what they make together, if that is worth more. A draft with itself takes free days.
+/// Two drafts by their indices, and their merger, if it has a higher value. The pair of a draft with itself takes free days.
 #[derive(Drop)]
 pub struct Pair {
     first: usize,
@@ -35,7 +35,7 @@ impl Pair {
         self.first == place || self.second == place
     }
 
-    /// How good the merger is: what is gained for each doubling of the states.
+    /// Returns the rank of the merger: the gain for each doubling of the states.
     fn rank(&self) -> u64 {
         match &self.merged {
             Some(draft) => {
@@ -47,7 +47,7 @@ impl Pair {
     }
 }
 
-/// All pairs of drafts that have a course in common.
+/// Returns all pairs of drafts that have a course in common.
 pub fn pairs_of(alloc: Global, drafts: &[Draft]) -> Result<Vec<Pair>, AllocError> {
     let mut pairs = Vec::new(alloc);
     for (second, other) in drafts.iter().enumerate() {
@@ -60,7 +60,7 @@ pub fn pairs_of(alloc: Global, drafts: &[Draft]) -> Result<Vec<Pair>, AllocError
     Ok(pairs)
 }
 
-/// Finds out what two drafts make together.
+/// Computes the merger of two drafts.
 fn try_pair(
     judge: &mut Judge<'_, '_>,
     free: &Free,
@@ -86,7 +86,7 @@ fn try_pair(
     Ok(())
 }
 
-/// The best of all pairs; none where no merger gains anything.
+/// Returns the best of all pairs, or `None` if no merger gains anything.
 fn best_of(pairs: &[Pair]) -> Option<usize>
     ensures { IfSome result (λ k. k < length pairs.now) }
 {
@@ -101,7 +101,7 @@ fn best_of(pairs: &[Pair]) -> Option<usize>
     found
 }
 
-/// Brings the pairs up to date with a draft that has changed, and one that is gone.
+/// Updates the pairs after a draft has changed and another has been removed.
 fn renew(
     pairs: &mut Vec<Pair>,
     drafts: &[Draft],
@@ -130,7 +130,7 @@ fn renew(
     Ok(())
 }
 
-/// Merges the best pair of drafts. Answers false where none gains anything.
+/// Merges the best pair of drafts. Returns `false` if no pair gains anything.
 pub fn merge_best(
     judge: &mut Judge<'_, '_>,
     free: &mut Free,

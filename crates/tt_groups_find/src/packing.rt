@@ -1,4 +1,4 @@
-//! Groups packed one by one: each time the one that is worth most.
+//! Groups packed in turn: each time the one with the highest value.
 
 ghost use Rattle.std.specs.Prelude.{◌<◌, length, IfSome};
 
@@ -18,7 +18,7 @@ pub struct Seed {
     is_grown: bool,
 }
 
-/// The seed whose group is worth most, if any is worth something.
+/// Returns the seed whose group has the highest value, or `None` if no value is above 0.
 fn best_of(seeds: &[Seed]) -> Option<usize>
     ensures { IfSome result (λ k. k < length seeds.now) }
 {
@@ -47,7 +47,7 @@ fn grow_all(judge: &mut Judge<'_, '_>, free: &Free, seeds: &mut [Seed]) -> Resul
     Ok(())
 }
 
-/// Forgets the groups that a draft has a target in common with, and the seeds that it has taken.
+/// Drops the groups that have a target in common with a draft, and the seeds that the draft has taken.
 fn forget(free: &Free, seeds: &mut Vec<Seed>, draft: &Draft) {
     seeds.retain(|seed| free.has_curriculum(seed.curriculum));
     for seed in seeds.iter_mut() {
@@ -58,7 +58,7 @@ fn forget(free: &Free, seeds: &mut Vec<Seed>, draft: &Draft) {
     }
 }
 
-/// A seed for each free curriculum.
+/// Returns a seed for each free curriculum.
 pub fn seeds_of(alloc: Global, free: &Free) -> Result<Vec<Seed>, AllocError> {
     let mut seeds = Vec::new(alloc);
     for curriculum in free.curricula(alloc)? {
@@ -71,7 +71,8 @@ pub fn seeds_of(alloc: Global, free: &Free) -> Result<Vec<Seed>, AllocError> {
     Ok(seeds)
 }
 
-/// The group of free targets that is worth most of those that have grown, without what it can do without. None where none is worth anything.
+/// Returns the group of free targets with the highest value among those that have grown, without the targets that it doesn't need. Returns
+/// `None` if no value is above 0.
 pub fn pack_best(
     judge: &mut Judge<'_, '_>,
     free: &mut Free,

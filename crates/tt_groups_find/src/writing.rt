@@ -4,7 +4,7 @@ use std::alloc::{AllocError, Global};
 use tt_groups_read::GroupClaim;
 use tt_text::{put_line_end, put_next_number, put_next_token, put_number, put_token};
 
-/// The sum of the values.
+/// Returns the sum of the values.
 fn bound_of(claims: &[GroupClaim]) -> u64 {
     let mut bound: u64 = 0;
     for claim in claims {
@@ -33,7 +33,7 @@ fn put_claim(out: &mut Vec<u8>, claim: &GroupClaim) -> Result<(), AllocError> {
     put_line_end(out)
 }
 
-/// The text of a CTTG file with these claims, whose bound is the sum of their values.
+/// Returns the text of a CTTG file with these claims, whose bound is the sum of their values.
 pub fn write_groups(alloc: Global, claims: &[GroupClaim]) -> Result<Vec<u8>, AllocError> {
     let mut out = Vec::new(alloc);
     put_token(&mut out, b"CTTG")?;

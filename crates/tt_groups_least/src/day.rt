@@ -1,16 +1,16 @@
-//! What a day costs at least, by its lectures.
+//! A lower bound of a day's cost, by its lectures.
 
 use crate::layout::{LECTURE_PRICE, Layout};
 use crate::sets::Set;
 use std::alloc::{AllocError, Global};
 
-/// What a single period costs, in cost points.
+/// The cost of a single period, in cost points.
 const SINGLE_PRICE: u32 = 2;
 
 /// The value of a place without an entry.
 pub const NONE: u8 = u8::MAX;
 
-/// The lectures of a day, packed and as a place, how many they are, and what they cost at least.
+/// The lectures of a day, packed and as a place, their number, and a lower bound of their cost.
 #[derive(Clone, Copy)]
 pub struct Vector {
     pub packed: u64,
@@ -26,8 +26,8 @@ pub struct Table {
     pub costs: Vec<u8>,
 }
 
-/// The first periods of a day: their lectures, their courses, what they cost so far, and the curricula of the last period: all, and those that
-/// were not in the period before it.
+/// The first periods of a day: their lectures, their courses, their cost so far, and the curricula of the last period: all of them, and those
+/// that were not in the period before it.
 #[derive(Clone, Copy)]
 struct Morning {
     packed: u64,
@@ -40,7 +40,7 @@ struct Morning {
 }
 
 impl Morning {
-    /// Before the first period.
+    /// The state before the first period.
     const EMPTY: Morning = Morning {
         packed: 0,
         place: 0,
@@ -51,7 +51,7 @@ impl Morning {
         pending: 0,
     };
 
-    /// The morning with a set in the next period; none where it costs the limit, or a course has too many lectures.
+    /// Returns the morning with a set in the next period, or `None` if it costs the limit or more, or a course has too many lectures.
     fn with(&self, layout: &Layout, limit: u32, set: &Set) -> Option<Morning> {
         let packed = self.packed.wrapping_add(set.packed);
         let left = (layout.full | layout.guard).wrapping_sub(packed);
@@ -103,7 +103,7 @@ impl Table {
         Ok(())
     }
 
-    /// Enters all days that begin like a morning. The work that is left goes down with each set that is tried; answers false where none is left.
+    /// Enters all days that begin like a morning. The work that is left goes down with each set that is tried; returns `false` if none is left.
     fn enter_days(
         &mut self,
         layout: &Layout,
@@ -130,7 +130,7 @@ impl Table {
         Ok(true)
     }
 
-    /// The table of a day whose periods can have these sets; none where the work is used up.
+    /// Returns the table of a day whose periods can have these sets, or `None` if the work is used up.
     pub fn new(
         alloc: Global,
         layout: &Layout,

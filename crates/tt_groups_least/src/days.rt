@@ -6,14 +6,14 @@ use crate::sets::Set;
 use std::alloc::{AllocError, Global};
 use tt_instance::Instance;
 
-/// Tables, and the number of the one that each day has.
+/// Tables, and the number of the table that each day has.
 #[derive(Drop)]
 pub struct Days {
     pub tables: Vec<Table>,
     pub of_day: Vec<usize>,
 }
 
-/// The courses that are available in each period of a day, a bit for each.
+/// Returns the courses that are available in each period of a day, a bit for each.
 fn open_in(
     alloc: Global,
     instance: &Instance<'_>,
@@ -33,7 +33,7 @@ fn open_in(
     Ok(periods)
 }
 
-/// The sets that each period can have.
+/// Returns the sets that each period can have.
 fn sets_in(alloc: Global, open: &[u32], sets: &[Set]) -> Result<Vec<Vec<Set>>, AllocError> {
     let mut periods = Vec::new(alloc);
     for word in open {
@@ -48,7 +48,8 @@ fn sets_in(alloc: Global, open: &[u32], sets: &[Set]) -> Result<Vec<Vec<Set>>, A
     Ok(periods)
 }
 
-/// The tables of all days, of what costs less than a limit; days with the same availability share one. None where the work is used up.
+/// Returns the tables of all days, with the days that cost less than a limit; days with the same availability share a table. Returns `None`
+/// if the work is used up.
 pub fn days_of(
     alloc: Global,
     instance: &Instance<'_>,

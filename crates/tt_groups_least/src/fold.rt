@@ -5,10 +5,10 @@ use crate::days::Days;
 use crate::layout::{LECTURE_PRICE, Layout};
 use std::alloc::{AllocError, Global};
 
-/// The most digits of further lectures.
+/// The maximum number of digits of further lectures.
 const DIGITS: usize = 16;
 
-/// How much of a fold is done: all states of a day and all moves from each, or so many at most.
+/// The width of a fold: all states of a day and all moves from each, or a maximum number of them.
 #[derive(Clone, Copy)]
 pub struct Width {
     pub states: usize,
@@ -16,14 +16,14 @@ pub struct Width {
 }
 
 impl Width {
-    /// All.
+    /// The width without a maximum.
     pub const FULL: Width = Width {
         states: usize::MAX,
         moves: usize::MAX,
     };
 }
 
-/// The first days: the place of their lectures and further lectures, how many lectures are left, and these packed.
+/// A state after the first days: the place of their lectures and further lectures, the number of lectures left, and these packed.
 #[derive(Clone, Copy)]
 struct State {
     place: u32,
@@ -31,7 +31,7 @@ struct State {
     left: u64,
 }
 
-/// The states that the first days can reach, and what has been paid by place.
+/// The states that the first days can reach, and the cost paid so far, by place.
 #[derive(Drop)]
 struct Front {
     states: Vec<State>,
@@ -39,7 +39,7 @@ struct Front {
 }
 
 impl Front {
-    /// Nothing is reached.
+    /// Returns a front without states.
     fn empty(alloc: Global, layout: &Layout) -> Result<Front, AllocError> {
         Ok(Front {
             states: Vec::new(alloc),
@@ -47,14 +47,14 @@ impl Front {
         })
     }
 
-    /// What has been paid in a state.
+    /// Returns the cost paid so far in a state.
     fn paid_at(&self, state: &State) -> u32 {
         self.paid
             .get(state.place as usize)
             .map_or(u32::from(NONE), |paid| u32::from(*paid))
     }
 
-    /// Reaches a state, for so much.
+    /// Reaches a state at a cost.
     fn reach(&mut self, state: State, paid: u32) -> Result<(), AllocError> {
         let Some(entry) = self.paid.get_mut(state.place as usize) else {
             return Ok(());
@@ -86,8 +86,8 @@ impl Front {
         self.states.clear();
     }
 
-    /// Keeps so many states at most: half of them the cheapest (of two that cost the same the one with fewer lectures left), the others from all
-    /// over the rest.
+    /// Limits the number of states to `width`: half of them are the cheapest (of two that cost the same, the one with fewer lectures left), the
+    /// others are spread over the rest.
     fn narrow(&mut self, width: usize) {
         let count = self.states.len();
         if count <= width {
@@ -116,12 +116,12 @@ impl Front {
     }
 }
 
-/// A number that places in a row don't share the order of.
+/// Returns a number that orders consecutive places differently from the places themselves.
 fn scattered(place: u32) -> u32 {
     place.wrapping_mul(0x9E37_79B9)
 }
 
-/// The further lectures of all courses at a place.
+/// Returns the further lectures of all courses at a place.
 fn digits_at(layout: &Layout, place: u32) -> [u32; DIGITS] {
     let mut digits = [0; DIGITS];
     for (digit, slack) in digits.iter_mut().zip(&layout.slacks) {
@@ -130,7 +130,7 @@ fn digits_at(layout: &Layout, place: u32) -> [u32; DIGITS] {
     digits
 }
 
-/// What a day's further lectures add to a place, and what they cost.
+/// Returns the amount that a day's further lectures add to a place, and their cost.
 fn further(layout: &Layout, digits: &[u32; DIGITS], packed: u64) -> (u32, u32) {
     let mut place = 0u32;
     let mut cost = 0u32;
@@ -145,7 +145,7 @@ fn further(layout: &Layout, digits: &[u32; DIGITS], packed: u64) -> (u32, u32) {
     (place, cost)
 }
 
-/// The fold of the days of a group, of what costs less than a limit.
+/// The fold of the days of a group, for costs below a limit.
 #[derive(Drop)]
 pub struct Fold<'s> {
     pub layout: &'s Layout,
@@ -155,12 +155,12 @@ pub struct Fold<'s> {
 }
 
 impl Fold<'_> {
-    /// The table of a day.
+    /// Returns the table of a day.
     fn table(&self, day: usize) -> Option<&Table> {
         self.days.tables.get(*self.days.of_day.get(day)?)
     }
 
-    /// Reaches the states that a day leads to from one. Answers how many of its vectors were tried.
+    /// Reaches the states that a day leads to from one state. Returns the number of the day's vectors that were tried.
     fn extend(
         &self,
         vectors: &[Vector],
@@ -196,7 +196,7 @@ impl Fold<'_> {
         Ok(vectors.len())
     }
 
-    /// Reaches the states that a day leads to. Answers false where the work is used up.
+    /// Reaches the states that a day leads to. Returns `false` if the work is used up.
     fn pass(
         &self,
         vectors: &[Vector],
@@ -214,7 +214,7 @@ impl Fold<'_> {
         Ok(true)
     }
 
-    /// What the last day costs from a state, all that is left being taught on it; the limit where that can't be.
+    /// Returns the cost of the last day from a state, if all lectures that are left are taught on it; the limit if that is impossible.
     fn rest(&self, table: &Table, state: &State) -> u32 {
         let used = state.place.checked_rem(self.layout.places).unwrap_or(0);
         let place = self.layout.places.wrapping_sub(1).wrapping_sub(used);
@@ -227,7 +227,7 @@ impl Fold<'_> {
         cost.wrapping_add(pay)
     }
 
-    /// The least that a week costs whose last day is still to come, below the limit; else the limit.
+    /// Returns the lowest cost of a week whose last day is still open, if it is below the limit; else the limit.
     fn least(&self, table: &Table, front: &Front) -> u32 {
         let mut least = self.limit;
         for state in &front.states {
@@ -236,8 +236,8 @@ impl Fold<'_> {
         least
     }
 
-    /// The least that a week costs beyond the base, among those that the fold sees and below the limit; else the limit. None where the work is
-    /// used up.
+    /// Returns the lowest cost of a week beyond the base cost, among the weeks that the fold visits, if it is below the limit; else the limit.
+    /// Returns `None` if the work is used up.
     pub fn run(&self, alloc: Global, work: &mut u64) -> Result<Option<u32>, AllocError> {
         let mut front = Front::empty(alloc, self.layout)?;
         let mut next = Front::empty(alloc, self.layout)?;

@@ -1,24 +1,24 @@
-//! How the lectures of a group are counted.
+//! The encoding of the lectures of a group.
 
 use std::alloc::{AllocError, Global};
 use tt_instance::Instance;
 
-/// The most courses that a group concerns.
+/// The maximum number of courses that a group concerns.
 const COURSES: usize = 16;
 
-/// The most curricula of a group.
+/// The maximum number of curricula of a group.
 const CURRICULA: usize = 64;
 
-/// The most states of a table.
+/// The maximum number of states of a table.
 const STATES: u64 = 1_048_576;
 
 /// The bits of a packed word.
 const WORD: u32 = 64;
 
-/// What a further lecture costs, in cost points.
+/// The cost of a further lecture, in cost points.
 pub const LECTURE_PRICE: u32 = 5;
 
-/// A course that a group concerns: its lectures, where they are in a packed word, and what one of them adds to a place.
+/// A course that a group concerns: its lectures, their position in a packed word, and the amount that one of them adds to a place.
 #[derive(Clone, Copy)]
 pub struct Course {
     pub number: u32,
@@ -27,24 +27,24 @@ pub struct Course {
     pub weight: u32,
 }
 
-/// A course of the group that has more lectures than days at least: so many further lectures cost nothing.
+/// A course of the group that has more lectures than minimum days: so many further lectures cost nothing.
 #[derive(Clone, Copy)]
 pub struct Slack {
     pub shift: u32,
     pub mask: u64,
     pub further: u32,
-    /// What one further lecture adds to a place.
+    /// The amount that one further lecture adds to a place.
     pub weight: u32,
 }
 
 impl Slack {
-    /// The further lectures of the course on a day with these lectures.
+    /// Returns the further lectures of the course on a day with these lectures.
     pub fn further_of(&self, packed: u64) -> u32 {
         let lectures = (packed >> (self.shift % WORD)) & self.mask;
         (lectures % 256) as u32 - u32::from(lectures % 256 != 0)
     }
 
-    /// The further lectures so far, at a place.
+    /// Returns the further lectures so far, at a place.
     pub fn further_at(&self, place: u32) -> u32 {
         let digits = place.checked_div(self.weight).unwrap_or(0);
         digits
@@ -54,7 +54,7 @@ impl Slack {
 }
 
 /// Numbers of lectures of all courses are packed into one word: a field for each course, with one bit more than its lectures need. They are
-/// also a place in a table, in digits of as many values as each course can have; the digits of further lectures follow.
+/// also a place in a table: each digit has as many values as its course can have, and the digits of further lectures follow.
 #[derive(Drop)]
 pub struct Layout {
     pub courses: Vec<Course>,
@@ -65,16 +65,16 @@ pub struct Layout {
     pub full: u64,
     /// The highest bit of each field.
     pub guard: u64,
-    /// How many places there are for lectures alone, and with further lectures.
+    /// The number of places for lectures alone, and the number with further lectures.
     pub places: u32,
     pub states: u32,
-    /// How many lectures there are.
+    /// The total number of lectures.
     pub lectures: u32,
-    /// What every timetable pays, since a course has no more days than lectures.
+    /// The cost that every timetable pays, since a course has no more days than lectures.
     pub base: u64,
 }
 
-/// The lectures of a course; 0 where it is not there.
+/// Returns the lectures of a course; 0 if the course doesn't exist.
 pub fn lectures_of(instance: &Instance<'_>, course: u32) -> u32 {
     if course < instance.courses() {
         instance.lectures(course)
@@ -83,7 +83,7 @@ pub fn lectures_of(instance: &Instance<'_>, course: u32) -> u32 {
     }
 }
 
-/// The least days of a course; 0 where it is not there.
+/// Returns the minimum days of a course; 0 if the course doesn't exist.
 fn min_days_of(instance: &Instance<'_>, course: u32) -> u32 {
     if course < instance.courses() {
         instance.min_days(course)
@@ -92,7 +92,7 @@ fn min_days_of(instance: &Instance<'_>, course: u32) -> u32 {
     }
 }
 
-/// The members of a curriculum; none where it is not there.
+/// Returns the members of a curriculum; none if the curriculum doesn't exist.
 pub fn members_of<'a>(instance: &'a Instance<'_>, curriculum: u32) -> &'a [u32] {
     if curriculum < instance.curricula() {
         instance.members(curriculum)
@@ -101,7 +101,7 @@ pub fn members_of<'a>(instance: &'a Instance<'_>, curriculum: u32) -> &'a [u32] 
     }
 }
 
-/// The courses that a group concerns, in order.
+/// Returns the courses that a group concerns, in order.
 pub fn courses_of(
     alloc: Global,
     instance: &Instance<'_>,
@@ -121,7 +121,7 @@ pub fn courses_of(
 }
 
 impl Layout {
-    /// No courses yet.
+    /// Returns a layout without courses.
     fn empty(alloc: Global) -> Layout {
         Layout {
             courses: Vec::new(alloc),
@@ -136,7 +136,7 @@ impl Layout {
         }
     }
 
-    /// Counts the lectures of a course. Answers the bits that are taken then; none where there are too many, or too many places.
+    /// Counts the lectures of a course. Returns the number of bits that are used then, or `None` if there are too many bits or places.
     fn add_course(
         &mut self,
         number: u32,
@@ -162,7 +162,7 @@ impl Layout {
         Ok(Some(next))
     }
 
-    /// Counts the further lectures of a course of the group. Answers false where there are too many states.
+    /// Counts the further lectures of a course of the group. Returns `false` if there are too many states.
     fn add_own(&mut self, place: usize, min_days: u32) -> Result<bool, AllocError> {
         let Some(course) = self.courses.get(place).copied() else {
             return Ok(true);
@@ -208,7 +208,7 @@ impl Layout {
         Ok(Some(layout))
     }
 
-    /// How the lectures of a group are counted; none where it is too large for that.
+    /// Returns the layout of a group, or `None` if the group is too large for it.
     pub fn new(
         alloc: Global,
         instance: &Instance<'_>,

@@ -1,4 +1,4 @@
-//! The least that a group costs.
+//! The lowest cost of a group.
 
 use crate::days::{Days, days_of};
 use crate::fold::{Fold, Width};
@@ -7,10 +7,10 @@ use crate::sets::{Set, sets_of};
 use std::alloc::{AllocError, Global};
 use tt_instance::Instance;
 
-/// How far a group's value may be above its base.
+/// The maximum distance of a group's value above its base cost.
 const VALUE: u32 = 127;
 
-/// How much more than what is enough is looked for at first.
+/// The first limit of the search: so much more than what is enough.
 const FIRST: u64 = 24;
 
 /// The widths of the narrow folds.
@@ -19,14 +19,14 @@ const WIDTHS: [usize; 3] = [200, 800, 3_200];
 /// The moves from each state in a narrow fold.
 const MOVES: usize = 200;
 
-/// What is asked of a group: a cost at most `enough` need not be known exactly, and it is known to cost at most `most`.
+/// The aim for a group: a cost of at most `enough` need not be known exactly, and the group is known to cost at most `most`.
 #[derive(Clone, Copy)]
 pub struct Aim {
     pub enough: u64,
     pub most: u64,
 }
 
-/// What a group costs at least; where that isn't exact it is not less, and no more than what was enough.
+/// The lowest cost of a group; if it isn't exact, it is not below the lowest cost, and no more than what was enough.
 #[derive(Clone, Copy)]
 pub struct Least {
     pub cost: u64,
@@ -44,7 +44,7 @@ struct Ready<'s, 'i> {
 }
 
 impl Ready<'_, '_> {
-    /// The least that a narrow fold finds below the limit; else the limit.
+    /// Returns the lowest cost that a narrow fold finds below the limit; else the limit.
     fn narrow(&self, days: &Days, limit: u32, work: &mut u64) -> Result<Option<u32>, AllocError> {
         for states in WIDTHS {
             let fold = Fold {
@@ -64,7 +64,7 @@ impl Ready<'_, '_> {
         Ok(Some(limit))
     }
 
-    /// The least beyond the base, if it is below the limit; else the limit. One that is enough may be too high.
+    /// Returns the lowest cost beyond the base cost, if it is below the limit; else the limit. A cost that is enough may be too high.
     fn least(&self, limit: u32, work: &mut u64) -> Result<Option<u32>, AllocError> {
         let days = days_of(
             self.alloc,
@@ -91,14 +91,14 @@ impl Ready<'_, '_> {
     }
 }
 
-/// A number of cost points beyond a base, no more than a table holds.
+/// Returns the number of cost points beyond a base cost, capped by what a table can have.
 fn beyond(points: u64, base: u64) -> u32 {
     let beyond = points.saturating_sub(base).min(u64::from(VALUE));
     (beyond % 256) as u32
 }
 
-/// What a group costs at least. The work that is left goes down with each step: a set that is tried in a period of a day, or a day that is tried
-/// from a state of the week. None where the group is too large, or the work is used up.
+/// Returns the lowest cost of a group. The work that is left goes down with each step: a set that is tried in a period of a day, or a day that
+/// is tried from a state of the week. Returns `None` if the group is too large, or the work is used up.
 pub fn least_cost(
     alloc: Global,
     instance: &Instance<'_>,

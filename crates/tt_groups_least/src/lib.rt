@@ -1,4 +1,4 @@
-//! What a group of curricula and courses costs at least, for a search: nothing is promised of it.
+//! The lowest cost of a group of curricula and courses, for a search: nothing is promised about it.
 #![tactic(auto)]
 
 mod day;

@@ -1,10 +1,10 @@
-//! The sets of a group's courses of which no two conflict.
+//! The sets of a group's courses in which no two conflict.
 
 use crate::layout::{Course, Layout};
 use std::alloc::{AllocError, Global};
 use tt_instance::Instance;
 
-/// The most sets.
+/// The maximum number of sets.
 const SETS: usize = 4_096;
 
 /// Courses of which no two conflict, a bit for each; their lectures, packed and as a place; and the curricula that they meet, a bit for each.
@@ -16,7 +16,7 @@ pub struct Set {
     pub curricula: u64,
 }
 
-/// The courses that conflict with one of them, a bit for each.
+/// Returns the courses that conflict with a course, a bit for each.
 fn conflicting(instance: &Instance<'_>, layout: &Layout, course: Course) -> u32 {
     let mut word = 0;
     for (place, other) in layout.courses.iter().enumerate() {
@@ -27,7 +27,7 @@ fn conflicting(instance: &Instance<'_>, layout: &Layout, course: Course) -> u32 
     word
 }
 
-/// The curricula that have a course, a bit for each.
+/// Returns the curricula that have a course, a bit for each.
 fn curricula_with(instance: &Instance<'_>, curricula: &[u32], course: Course) -> u64 {
     let mut word = 0;
     for (place, curriculum) in curricula.iter().enumerate() {
@@ -38,7 +38,7 @@ fn curricula_with(instance: &Instance<'_>, curricula: &[u32], course: Course) ->
     word
 }
 
-/// Adds each set that has no conflict with a course once more, with this course.
+/// Adds a copy of each set without a conflict with a course, extended by this course.
 fn add_course(
     sets: &mut Vec<Set>,
     course: Course,
@@ -62,7 +62,7 @@ fn add_course(
     Ok(())
 }
 
-/// Every set of the courses; none where there are too many.
+/// Returns every set of the courses in which no two conflict, or `None` if there are too many.
 pub fn sets_of(
     alloc: Global,
     instance: &Instance<'_>,

@@ -1,4 +1,4 @@
--- Whole files: what is read group by group is spelled, and what is spelled is read.
+-- Whole files: a file that is read group by group is spelled, and a file that is spelled can be read.
 use Rattle.std.proofs.Common.{ℕ, ◌+◌, ◌≤◌, List, [], ◌∷◌, ◌++◌, length, Some, None, Ok, refl, sym, ap, subst, ◌∙◌, arith}
 use Rattle.std.specs.Prelude.{All, flat_map}
 use Rattle.std.proofs.lemmas.List.Elements.{All-nil, All-cons, All-head, All-tail, All-from_recursion, recursion_from_All}
@@ -29,7 +29,7 @@ module _ (p : Problem) (sizes : Sizes) (are : AreSizes p sizes) where
       let more = claims_took reads.0 ks after reads.2 in
       (took_then s reads.0 after (claim_pieces k) (flat_map claim_pieces ks) a.0 more.0, All-cons (IsClaim p) k ks a.1 more.1)
 
-  -- claims that are spelled are read
+  -- claims that are spelled can be read
   claims_read : AreSmall sizes → (ks : List GroupClaim) (s after : Stream) → All (IsClaim p) ks → Took s (flat_map claim_pieces ks) after → ReadsClaims sizes s ks after
   claims_read small [] s after each took = took_same s after took
   claims_read small (k ∷ ks) s after each took =
@@ -58,7 +58,7 @@ module _ (p : Problem) (sizes : Sizes) (are : AreSizes p sizes) where
         short = All-from_recursion (λ t. length t.text ≤ 32) (tokens_of bytes) within.1;
       }
 
-  -- a file that is spelled is read
+  -- a file that is spelled can be read
   pub spelled_reads : AreSmall sizes → (bytes : List ℕ) (bound : ℕ) (claims : List GroupClaim) → SpellsGroups p bytes bound claims → ReadsFile sizes (stream_of_bytes bytes) bound claims
   spelled_reads small bytes bound claims spelled =
       let s = stream_of_bytes bytes in

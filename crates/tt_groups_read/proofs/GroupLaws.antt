@@ -1,4 +1,4 @@
--- Headers and groups: what is read is spelled, and what is spelled is read.
+-- Headers and groups: a value that was read is spelled, and a value that is spelled can be read.
 use Rattle.std.proofs.Common.{◌≡◌, ℕ, ◌≤◌, true, false, Bool, cond, List, [], ◌∷◌, ◌++◌, Option, Some, None, Result, Ok, Err, refl, sym, ap, subst, ◌∙◌, append_assoc, codes}
 use Rattle.std.specs.Prelude.{map}
 use Rattle.tt_text.specs.Tokens.{Placed}
@@ -36,7 +36,7 @@ use Rattle.tt_groups_read.proofs.ListLaws.{list_pieces, list_took, list_reads}
 
 -- ---- points
 
--- what was read as points is a number
+-- points that were read are a number
 priced_ok : (at : ℕ) (r : Result ℕ NumberFault) (n : ℕ) → priced_as at r ≡ Ok n → r ≡ Ok n
 priced_ok at (Ok m) n e = cc
 priced_ok at (Err f) n e = absurd cc
@@ -46,14 +46,14 @@ pub points_took : (s : Stream) (x : ℕ × Stream) → points_at s ≡ Ok x → 
 unfolding points_at
 points_took s x e = one_took (λ t. priced_as t.at (number_of MAX_POINTS t.text)) Number (λ n. n ≤ MAX_POINTS) s x (λ t n h. number_spelled MAX_POINTS t.text n (priced_ok t.at _ n h)) e
 
--- points that are spelled are read
+-- points that are spelled can be read
 pub points_reads : (n : ℕ) (s after : Stream) → n ≤ MAX_POINTS → Took s (Number n ∷ []) after → points_at s ≡ Ok (n, after)
 unfolding points_at
 points_reads n s after within took = one_reads (λ t. priced_as t.at (number_of MAX_POINTS t.text)) (Number n) n s after (λ t piece. ap (priced_as t.at) (number_read MAX_POINTS t.text n piece within)) took
 
 -- ---- the header
 
--- the version, `bound` and the bound that were read are spelled
+-- the version, `bound` and the bound that was read are spelled
 bound_took : (s : Stream) (x : ℕ × Stream) → bound_at s ≡ Ok x → Took s (fixed word.One ∷ fixed word.Bound ∷ Number x.0 ∷ []) x.1 × (x.0 ≤ MAX_POINTS)
 unfolding bound_at
 bound_took s x e =
@@ -62,7 +62,7 @@ bound_took s x e =
     let last = points_took named.0 x named.2 in
     (took_then _ _ _ _ _ (word_took word.One s one.0 one.1) (took_then _ _ _ _ _ (word_took word.Bound one.0 named.0 named.1) last.0), last.1)
 
--- and what is spelled of them is read
+-- the version, `bound` and the bound can be read if they are spelled
 bound_reads : (n : ℕ) (s after : Stream) → n ≤ MAX_POINTS → Took s (fixed word.One ∷ fixed word.Bound ∷ Number n ∷ []) after → bound_at s ≡ Ok (n, after)
 unfolding bound_at
 bound_reads n s after within took =
@@ -70,13 +70,13 @@ bound_reads n s after within took =
     let b = took_split (fixed word.Bound ∷ []) (Number n ∷ []) a.0 after a.2 in
     rw (word_reads word.One s a.0 a.1, word_reads word.Bound a.0 b.0 b.1) (points_reads n b.0 after within b.2)
 
--- what was opened are groups
+-- an opening without an error is that of a file of groups
 opened_ok : (r : Result (Opening × Stream) TextFault) (x : ℕ × Stream) → opened r ≡ Ok x → r ≡ Ok (opening.Groups x.0, x.1)
 opened_ok (Ok (opening.Groups b, s)) x e = ap (λ (y : ℕ × Stream). let r : Result (Opening × Stream) TextFault = Ok (opening.Groups y.0, y.1) in r) (ok_is {F = GroupTextFault} (b, s) x e)
 opened_ok (Ok (opening.Other at, s)) x e = absurd cc
 opened_ok (Err f) x e = absurd cc
 
--- headers that are alike have the same bound
+-- equal headers have the same bound
 same_bound : (a b : ℕ) → opening.Groups a ≡ opening.Groups b → a ≡ b
 same_bound a b e = cc
 
@@ -84,7 +84,7 @@ same_bound a b e = cc
 other_opens_none : (at b : ℕ) → opening.Other at ≡ opening.Groups b → ⊥
 other_opens_none at b e = cc
 
--- what a token opens, by whether it is the first word
+-- the opening that a token gives, depending on whether it is the first word
 abbrev opened_by : Bool → Placed → Stream → Result (Opening × Stream) TextFault
 opened_by first t s = cond first (bound_at s >>= λ n. Ok (opening.Groups n.0, n.1)) (Ok (opening.Other t.at, s))
 
@@ -113,14 +113,14 @@ header_took s x e =
     let rest = bound_took t.0.1 x parts.1 in
     (took_then s t.0.1 x.1 _ _ first rest.0, rest.1)
 
--- a header that is spelled is read
+-- a header that is spelled can be read
 pub header_reads : (n : ℕ) (s after : Stream) → n ≤ MAX_POINTS → Took s (header_pieces n) after → header_at s ≡ Ok (n, after)
 unfolding opening_at
 header_reads n s after within took =
     let f = first_of_pieces (Text (codes "CTTG")) (fixed word.One ∷ fixed word.Bound ∷ Number n ∷ []) s after took in
     rw (f.is, is_text_of f.token.text (codes "CTTG") f.piece, bound_reads n f.mid after within f.rest) refl
 
--- where no token is refused there is none
+-- if no token is refused, there is none
 no_more_took : (ts : List Placed) (stop : Result ℕ FeedFault) (x : Stream) → no_more ts stop ≡ Ok x → (ts ≡ []) × ((m : ℕ) × (stop ≡ Ok m))
 no_more_took [] (Ok m) x e = (refl, (m, refl))
 no_more_took [] (Err f) x e = absurd cc
@@ -128,7 +128,7 @@ no_more_took (t ∷ ts) stop x e = absurd cc
 
 -- ---- a claim
 
--- a group is not the end
+-- the word of a group is not the word of the end
 group_is_no_end : group_word.Group ≡ group_word.End → ⊥
 group_is_no_end e = cc
 
@@ -162,7 +162,7 @@ module _ (p : Problem) (sizes : Sizes) (are : AreSizes p sizes) where
       } in
       subst (λ y. ClaimTook s y.0 y.1) (ok_is {F = TextFault} (made, c.0.1) x c.2) took
 
-  -- a claim that is spelled is read
+  -- a claim that is spelled can be read
   claim_reads : AreSmall sizes → (k : GroupClaim) (s after : Stream) → IsClaim p k → Took s (claimed_pieces k) after → claim_at sizes s ≡ Ok (k, after)
   unfolding claim_at
   claim_reads small k s after is took =
@@ -176,7 +176,7 @@ module _ (p : Problem) (sizes : Sizes) (are : AreSizes p sizes) where
 
   -- ---- a group, or the end
 
-  -- the pieces of a claim are its word's and what follows it
+  -- the pieces of a claim are its word and the pieces after it
   pieces_are : (k : GroupClaim) → Text (codes "G") ∷ claimed_pieces k ≡ claim_pieces k
   pieces_are k = ap (λ ps. Text (codes "G") ∷ Number k.value ∷ ps) (append_assoc (map (λ n. Index 113 n) k.group.curricula) (Text (codes "/") ∷ []) (list_pieces (courses_form sizes) k.group.courses))
 
@@ -187,12 +187,12 @@ module _ (p : Problem) (sizes : Sizes) (are : AreSizes p sizes) where
     pub bytes : ℕ
     pub stop : rest.stop ≡ Ok bytes
 
-  -- what was read is a claim that is spelled, or the end
+  -- the value read is a claim that is spelled, or the end
   abbrev pub GroupTook : Stream → Option GroupClaim → Stream → Type 0
   GroupTook s None after = EndTook s after
   GroupTook s (Some k) after = Took s (claim_pieces k) after × IsClaim p k
 
-  -- a token between groups is their word or the end
+  -- a token between groups is the word of a group or the end
   word_is : (t : Placed) (w : GroupWord) → group_word_of t ≡ Ok w → ((w ≡ group_word.Group) → is_text (codes "G") t.text ≡ true) × ((w ≡ group_word.End) → is_text (codes "end") t.text ≡ true)
   word_is t w e = by_tests (is_text (codes "G") t.text) (is_text (codes "end") t.text) e
     where
@@ -201,7 +201,7 @@ module _ (p : Problem) (sizes : Sizes) (are : AreSizes p sizes) where
       by_tests false true h = (λ is. absurd (group_is_no_end (sym is ∙ sym (ok_is {F = TextFault} group_word.End w h))), λ is. refl)
       by_tests false false h = absurd cc
 
-  -- what follows the word was read
+  -- the tokens after the word were read
   then_took : (s : Stream) (t : Placed × Stream) (w : GroupWord) (x : Option GroupClaim × Stream) → token_at s ≡ Ok t → group_word_of t.0 ≡ Ok w → group_then sizes w t.1 ≡ Ok x → GroupTook s x.0 x.1
   unfolding nothing_at
   then_took s t group_word.Group x token is_word e =
@@ -225,14 +225,14 @@ module _ (p : Problem) (sizes : Sizes) (are : AreSizes p sizes) where
       let w = bind_ok (group_word_of t.0.0) (λ w. group_then sizes w t.0.1) x t.2 in
       then_took s t.0 w.0 x t.1 w.1 w.2
 
-  -- a group that is spelled is read
+  -- a group that is spelled can be read
   pub group_reads : AreSmall sizes → (k : GroupClaim) (s after : Stream) → IsClaim p k → Took s (claim_pieces k) after → group_at sizes s ≡ Ok (Some k, after)
   unfolding group_at
   group_reads small k s after is took =
       let f = first_of_pieces (Text (codes "G")) (claimed_pieces k) s after (subst (λ ps. Took s ps after) (sym (pieces_are k)) took) in
       rw (f.is, is_text_of f.token.text (codes "G") f.piece, claim_reads small k f.mid after is f.rest) refl
 
-  -- the end that is spelled is read
+  -- the end can be read if it is spelled
   pub end_reads : (s : Stream) (m : ℕ) → Took s (fixed word.End ∷ []) (stopped (Ok m)) → group_at sizes s ≡ Ok (None, stopped (Ok m))
   unfolding group_at nothing_at
   end_reads s m took =

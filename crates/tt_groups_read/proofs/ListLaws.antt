@@ -1,4 +1,4 @@
--- Lists of different numbers: what is read is spelled, and what is spelled is read.
+-- Lists of different numbers: a list that was read is spelled, and a list that is spelled can be read.
 use Rattle.std.proofs.Common.{◌≡◌, ℕ, ◌<◌, ◌≤◌, ◌==◌, suc, true, false, not, List, [], ◌∷◌, ◌++◌, length, Option, Some, None, Result, Ok, refl, sym, ap, subst, ◌∙◌, append_assoc, arith}
 use Rattle.std.specs.Prelude.{map}
 use Rattle.std.specs.List.{push}
@@ -25,7 +25,7 @@ use Rattle.tt_groups_read.specs.Reading.{listed_of, listed_at, list_at}
 use Rattle.tt_groups_read.specs.declared.lists.ListForm.{ListForm}
 use Rattle.tt_groups_read.proofs.Progress.{listed_takes}
 
--- no two numbers are one
+-- no number is in the list twice
 abbrev AreOnce : List ℕ → Type 0
 AreOnce ns = each_two (λ a b. not (a == b)) ns ≡ true
 
@@ -43,16 +43,16 @@ module _ (form : ListForm) where
   listed_piece None = last
   listed_piece (Some n) = numbered n
 
-  -- a number below the count that is none of those before it
+  -- a number below the count that is not among those before it
   abbrev IsNext : List ℕ → ℕ → Type 0
   IsNext before n = (n < form.count) × (has_number before n ≡ false)
 
-  -- a number that may come next, if it is one
+  -- a number that may come next, or no number
   abbrev IsNextIf : List ℕ → Option ℕ → Type 0
   IsNextIf before None = Unit {0}
   IsNextIf before (Some n) = IsNext before n
 
-  -- a number is one piece
+  -- a number is spelled as one piece
   abbrev Spell : ℕ → List Piece → Type 0
   Spell n ps = ps ≡ numbered n ∷ []
 
@@ -60,7 +60,7 @@ module _ (form : ListForm) where
   abbrev pub list_pieces : List ℕ → List Piece
   list_pieces ns = map (λ n. Index form.letter n) ns ++ Text (form.end ∷ []) ∷ []
 
-  -- a token that was read as a number, or as the end, is its piece
+  -- a token that was read as a number, or as the end, has the text of this piece
   listed_took_of : (before : List ℕ) (t : Placed) (o : Option ℕ) → listed_of form before t ≡ Ok o → IsPiece (listed_piece o) t.text × IsNextIf before o
   listed_took_of before t o e =
       let P : Option ℕ → Type 0 = λ v. IsPiece (listed_piece v) t.text × IsNextIf before v in
@@ -71,7 +71,7 @@ module _ (form : ListForm) where
       let s = index_took form.letter form.count t i.0 i.1 in
       subst P (ap (λ (k : ℕ). Some k) n.1 ∙ ok_is (Some c.0) o c.2) (s.0, (s.1, n.0))) e
 
-  -- a number that was read, or the end, is spelled
+  -- a number or an end that was read is spelled
   listed_took : (before : List ℕ) (s : Stream) (x : Option ℕ × Stream) → listed_at form before s ≡ Ok x → PartTook push (listed_at form) Spell IsNext last before s x.0 x.1
   unfolding listed_at
   listed_took before s x e = by_option x.0 (one_took (listed_of form before) listed_piece (IsNextIf before) s x (listed_took_of before) e)
@@ -80,26 +80,26 @@ module _ (form : ListForm) where
       by_option None h = h.0
       by_option (Some n) h = (numbered n ∷ [], refl, h.0, h.1)
 
-  -- a number that is spelled is read
+  -- a number that is spelled can be read
   number_reads_next : form.count ≤ 4294967295 → (before : List ℕ) (n : ℕ) (ps : List Piece) (s after : Stream) → Spell n ps → IsNext before n → Took s ps after → listed_at form before s ≡ Ok (Some n, after)
   unfolding listed_at
   number_reads_next few before n ps s after spell next took =
       one_reads (listed_of form before) (numbered n) (Some n) s after (λ t piece. let new = next.1 in rw (not_single form.end form.letter n t.text piece, index_reads form.letter form.count n t few next.0 piece, new) refl)
       (subst (λ qs. Took s qs after) spell took)
 
-  -- the end that is spelled is read
+  -- the end can be read if it is spelled
   last_reads : (before : List ℕ) (s after : Stream) → Took s (last ∷ []) after → listed_at form before s ≡ Ok (None, after)
   unfolding listed_at
   last_reads before s after took = one_reads (listed_of form before) last None s after (λ t piece. rw (is_text_of t.text (form.end ∷ []) piece) refl) took
 
-  -- ---- what the numbers are
+  -- -- properties of the numbers
 
-  -- numbers that may each come next are below the count
+  -- numbers that may each come next are all below the count
   each_below : (before ns : List ℕ) → EachNext push (listed_at form) Spell IsNext last before ns → AreBelow form.count ns
   each_below before [] each = All-nil (λ n. n < form.count)
   each_below before (n ∷ ns) each = All-cons (λ k. k < form.count) n ns each.0.0 (each_below (before ++ n ∷ []) ns each.1)
 
-  -- and none of them is there twice
+  -- no number is there twice if each may come next
   each_once : (before ns : List ℕ) → AreOnce before → EachNext push (listed_at form) Spell IsNext last before ns → AreOnce (before ++ ns)
   each_once before [] once each = subst AreOnce (sym (append-nil before)) once
   each_once before (n ∷ ns) once each =
@@ -113,12 +113,12 @@ module _ (form : ListForm) where
     next_each (before ++ n ∷ []) ns (All-tail (λ k. k < form.count) n ns below) (subst AreOnce (sym (append_assoc before (n ∷ []) ns)) once),
   )
 
-  -- the numbers are spelled by their pieces alone
+  -- the spelling of the numbers is their pieces in order
   body_is : (ns : List ℕ) (body : List Piece) → SpellsEach Spell ns body → body ≡ map numbered ns
   body_is [] body h = h
   body_is (n ∷ ns) body h = h.4 ∙ ap (λ ps. ps ++ h.1) h.2 ∙ ap (λ ps. numbered n ∷ ps) (body_is ns h.1 h.3)
 
-  -- and by these they are
+  -- the pieces of the numbers in order are a spelling of them
   body_spells : (ns : List ℕ) → SpellsEach Spell ns (map numbered ns)
   body_spells [] = refl
   body_spells (n ∷ ns) = (numbered n ∷ [], map numbered ns, refl, body_spells ns, refl)
@@ -142,7 +142,7 @@ module _ (form : ListForm) where
         once = subst AreOnce items (each_once [] h.items refl h.each);
       }
 
-  -- a list that is spelled is read
+  -- a list that is spelled can be read
   pub list_reads : (ns : List ℕ) (s after : Stream) → form.count ≤ 4294967295 → AreBelow form.count ns → each_two (λ a b. not (a == b)) ns ≡ true → Took s (list_pieces ns) after
       → list_at form s ≡ Ok (ns, after)
   unfolding list_at

@@ -1,4 +1,4 @@
--- What is read takes tokens.
+-- Each read consumes tokens.
 use Rattle.std.specs.List.{push}
 use Rattle.tt_proof_read.proofs.Loops.{TakesTokens}
 use Rattle.tt_proof_read.proofs.Progress.{one_less}

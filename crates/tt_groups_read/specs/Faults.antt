@@ -1,20 +1,20 @@
--- What a fault of a header says of the text.
+-- The information that an error of a header gives about the text.
 use Rattle.std.specs.Prelude.{◌≡◌, Bool, false, Result, Ok, Err, ⊤}
 use Rattle.tt_proof_read.specs.Faults as proof
 use Rattle.tt_groups_read.specs.declared.fault.GroupTextFault.{GroupTextFault}
 use Rattle.tt_groups_read.specs.declared.fault.GroupTextFault.TheVariants.{ExpectedGroups, Text}
 
--- A failed read says nothing of the bytes, nor does being out of memory.
+-- Whether an error says nothing about the bytes: a failed read, or being out of memory.
 abbrev pub is_silent : GroupTextFault → Bool
 is_silent (ExpectedGroups at) = false
 is_silent (Text f) = proof.is_silent f
 
--- A fault is a failed read.
+-- Whether an error is a failed read.
 abbrev pub is_failed_read : GroupTextFault → Bool
 is_failed_read (ExpectedGroups at) = false
 is_failed_read (Text f) = proof.is_failed_read f
 
--- An answer reports no failed read.
+-- Whether a result reports no failed read.
 abbrev pub HeaderIsUnfailed : {X : Type 0} → Result X GroupTextFault → Type 0
 HeaderIsUnfailed (Ok x) = ⊤
 HeaderIsUnfailed (Err f) = is_failed_read f ≡ false

@@ -1,4 +1,4 @@
--- What a reader of groups has read, and what it says.
+-- The state of a reader of groups, and the results that it returns.
 use Rattle.std.specs.Prelude.{◌≡◌, ℕ, Bool, true, false, is_some, List, Option, Some, None, Result, Ok, Err}
 use Rattle.tt_instance.specs.Problem.{Problem}
 use Rattle.tt_text.specs.Feeds.{Fed, Stream, fresh, stream_at}
@@ -15,11 +15,11 @@ use Rattle.tt_groups_read.specs.Spelling.{IsClaim}
 use Rattle.tt_groups_read.specs.declared.claim.GroupClaim.{GroupClaim}
 use Rattle.tt_groups_read.specs.declared.fault.GroupTextFault.{GroupTextFault}
 
--- A claim is one on any problem of these sizes.
+-- Whether a claim is valid for any problem of these sizes.
 abbrev pub IsClaimAt : Sizes → GroupClaim → Type 0
 IsClaimAt sizes claim = (p : Problem) → AreSizes p sizes → IsClaim p claim
 
--- A reader has its feed, the bound of the header, whether the file has ended, and its fault.
+-- A reader has its feed, the bound of the header, whether the file has ended, and its error.
 pub record Reader : Type 0 where
   pub fed : Fed
   pub sizes : Sizes
@@ -27,23 +27,23 @@ pub record Reader : Type 0 where
   pub over : Bool
   pub fault : Option TextFault
 
--- The reader has none once the file has ended, and else a group, the end, or a fault, which stays.
+-- The reader returns `None` once the file has ended, and otherwise a group, the end, or an error, which is permanent.
 abbrev pub Goes : Reader → Result (Option GroupClaim) TextFault → Reader → Type 0
 Goes old (Ok None) new = new ≡ record old { fed = new.fed; over = true }
 Goes old (Ok (Some claim)) new = (old.over ≡ false) × (new ≡ record old { fed = new.fed })
 Goes old (Err f) new = (old.over ≡ false) × (new ≡ record old { fed = new.fed; fault = Some f })
 
--- The answer is what the stream gives, unless the file has ended before.
+-- The result is what the stream gives, unless the file has ended before.
 abbrev pub Says : Reader → Stream → Result (Option GroupClaim) TextFault → Stream → Type 0
 Says old s (Ok o) after = old.over ≡ false → group_at old.sizes s ≡ Ok (o, after)
 Says old s (Err f) after = FailsUnless proof.is_silent f (group_at old.sizes s)
 
--- The answer to a header is what the stream gives.
+-- The result for a header is what the stream gives.
 abbrev pub HeaderSays : Stream → Result Reader GroupTextFault → Option (List ℕ) → Type 0
 HeaderSays s (Ok r) after = header_at s ≡ Ok (r.bound, stream_at r.fed after)
 HeaderSays s (Err f) after = FailsUnless is_silent f (header_at s)
 
--- What a reader that has read its header, or has not, says of the failure of a read.
+-- The result of a reader for its header agrees with the stream when a read fails, whether or not the header was read.
 abbrev pub HeaderAgreesWhenCut : Option (List ℕ) → Result Reader GroupTextFault → Option (List ℕ) → Type 0
 HeaderAgreesWhenCut before (Ok r) after =
     is_some before ≡ true → (rest : List ℕ) → MayFail rest r.fed after
@@ -51,7 +51,7 @@ HeaderAgreesWhenCut before (Ok r) after =
 HeaderAgreesWhenCut before (Err f) after =
     is_some before ≡ true → is_failed_read f ≡ true → MayFail (rest_of after) fresh before × (header_at (cut_at (rest_of after) fresh before) ≡ Err f)
 
--- What a reader that has read a group, or has not, says of the failure of a read.
+-- The result of a reader for a group agrees with the stream when a read fails, whether or not the group was read.
 abbrev pub GroupAgreesWhenCut : Reader → Option (List ℕ) → Result (Option GroupClaim) TextFault → Fed → Option (List ℕ) → Type 0
 GroupAgreesWhenCut old before result new after =
     old.over ≡ false → AgreesWhenCutAs {X = Option GroupClaim} old.fed before new after (λ o. o) result (group_at old.sizes)

@@ -1,5 +1,5 @@
--- What reading a file of groups gives: a value and what follows it, or the first fault from the left. All checks of one token precede
--- the next token.
+-- The result of reading a file of groups: a value and the rest of the stream, or the first error from the left. All checks of one token
+-- precede the next token.
 use Rattle.std.specs.Prelude.{ℕ, suc, if◌then◌else◌, List, [], ◌∷◌, length, Option, Some, None, Result, Ok, Err, codes}
 use Rattle.std.specs.List.{push}
 use Rattle.tt_text.specs.Tokens.{Placed}
@@ -45,7 +45,7 @@ opening_at s = do
   t ← token_at s
   opening_of t.0 t.1
 
--- another first token is a fault
+-- any other first token is an error
 abbrev pub opened : Result (Opening × Stream) TextFault → Result (ℕ × Stream) GroupTextFault
 opened (Ok (opening.Groups b, s)) = Ok (b, s)
 opened (Ok (opening.Other at, s)) = Err (ExpectedGroups at)
@@ -61,7 +61,7 @@ abbrev pub listed_of : ListForm → List ℕ → Placed → Result (Option ℕ) 
 listed_of form before t =
     if is_text (form.end ∷ []) t.text then Ok None else (index_of form.letter form.count t >>= new_number t.at before >>= λ n. Ok (Some n))
 
--- a number that is none of those before it, or none at the end
+-- a number that is not among those before it, or none at the end
 unfoldable pub listed_at : ListForm → List ℕ → Stream → Result (Option ℕ × Stream) TextFault
 listed_at form before s = one_at (listed_of form before) s
 
@@ -92,7 +92,7 @@ group_word_of t =
     if is_text (codes "G") t.text then Ok group_word.Group
     else (if is_text (codes "end") t.text then Ok group_word.End else Err (fault.UnknownWord t.at))
 
--- no token after the last
+-- no token after the last one
 unfoldable pub nothing_at : Stream → Result Stream TextFault
 nothing_at s = no_more s.tokens s.stop
 

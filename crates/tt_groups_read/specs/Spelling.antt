@@ -1,4 +1,4 @@
--- Which claims about groups the bytes of a CTTG file spell.
+-- The claims about groups that the bytes of a CTTG file spell.
 use Rattle.std.specs.Prelude.{◌≡◌, ℕ, ◌≤◌, ◌==◌, true, not, List, [], ◌∷◌, ◌++◌, length, map, flat_map, codes, All}
 use Rattle.tt_lists.specs.Words.{each_two}
 use Rattle.tt_text.specs.Tokens.{tokens_of}
@@ -27,17 +27,17 @@ claim_pieces k = Text (codes "G") ∷ Number k.value ∷ group_pieces k.group
 abbrev pub header_pieces : ℕ → List Piece
 header_pieces bound = Text (codes "CTTG") ∷ Text (codes "1") ∷ Text (codes "bound") ∷ Number bound ∷ []
 
--- The curricula are the instance's, none of them twice.
+-- Whether the curricula are the instance's, none of them twice.
 abbrev pub AreCurricula : Problem → List ℕ → Type 0
 AreCurricula p qs = AreBelow (length p.curricula) qs × (each_two (λ a b. not (a == b)) qs ≡ true)
 
--- A claim has a value within the limit, and curricula and courses of the instance, none of them twice.
+-- Whether a claim has a value within the limit, and curricula and courses of the instance, none of them twice.
 pub record IsClaim (p : Problem) (k : GroupClaim) : Type 0 where
   pub value : k.value ≤ MAX_POINTS
   pub curricula : AreCurricula p k.group.curricula
   pub courses : AreCourses p k.group.courses
 
--- The tokens of the bytes are the header, the claims and `end`, and no more; all within the limits.
+-- Whether the tokens of the bytes are the header, the claims and `end`, and no more, all within the limits.
 pub record SpellsGroups (p : Problem) (bytes : List ℕ) (b : ℕ) (claims : List GroupClaim) : Type 0 where
   pub bound : b ≤ MAX_POINTS
   pub tokens : Begins (header_pieces b ++ (flat_map claim_pieces claims ++ Text (codes "end") ∷ [])) (tokens_of bytes) []

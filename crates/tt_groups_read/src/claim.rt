@@ -2,7 +2,7 @@
 
 use tt_groups::Group;
 
-/// A group, and the cost points that it costs at least, as a file claims.
+/// A group, and a lower bound of its cost in cost points, as a file claims.
 #[derive(Debug, Drop)]
 pub struct GroupClaim {
     pub value: u64,

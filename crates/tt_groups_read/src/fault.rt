@@ -1,4 +1,4 @@
-//! Why a text has no claims about groups.
+//! The reasons why a text has no claims about groups.
 
 ghost use Rattle.std.specs.Prelude.{◌≡◌};
 ghost use Rattle.tt_groups_read.specs.declared.fault.GroupTextFault.TheVariants.{Text};
@@ -8,13 +8,13 @@ use std::alloc::AllocError;
 use thiserror::Error;
 use tt_proof_read::TextFault;
 
-/// The first fault from the left.
+/// The first error from the left.
 #[derive(Clone, Copy, Debug, PartialEq, Eq, Error)]
 pub enum GroupTextFault {
     /// The first token, at this offset, is not `CTTG`.
     #[error("Expected CTTG at byte {0}")]
     ExpectedGroups(usize),
-    /// A fault that a proof's text can have too.
+    /// An error that a proof's text can have too.
     #[error("{0}")]
     Text(TextFault),
 }

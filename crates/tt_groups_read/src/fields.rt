@@ -12,7 +12,7 @@ ghost use Rattle.tt_groups_read.specs.Reading.{points_at};
 use tt_proof_read::{MAX_POINTS, TextFault, Word};
 use tt_text::{Feed, NumberFault, Source, Token, number};
 
-/// The next token.
+/// Reads the next token.
 #[tactic(auto, unfolding(tt_proof_read::specs::Reading::token_at))]
 pub fn token<R: Source>(feed: &mut Feed, source: &mut R) -> Result<usize, TextFault>
     ensures read { ReadsAs R.Source feed.old source.old feed.new source.new (λ at. record { text = feed.new.token; at = at }) result token_at }
@@ -28,7 +28,7 @@ pub fn token<R: Source>(feed: &mut Feed, source: &mut R) -> Result<usize, TextFa
     }
 }
 
-/// A fixed word.
+/// Reads a fixed word.
 #[tactic(auto, unfolding(tt_proof_read::specs::Reading::word_at))]
 pub fn read_word<R: Source>(feed: &mut Feed, source: &mut R, word: Word) -> Result<(), TextFault>
     ensures read { ReadsPast R.Source feed.old source.old feed.new source.new result (word_at word) }
@@ -41,7 +41,7 @@ pub fn read_word<R: Source>(feed: &mut Feed, source: &mut R, word: Word) -> Resu
     }
 }
 
-/// The number after a letter, below a count.
+/// Reads the number after a letter, below a count.
 #[tactic(auto, unfolding(tt_proof_read::specs::Reading::numbered_below))]
 fn number_below(digits: &[u8], at: usize, count: u32) -> Result<u32, TextFault>
     ensures read { Gives (λ n. n) result (numbered_below at count digits.now) }
@@ -61,7 +61,7 @@ fn number_below(digits: &[u8], at: usize, count: u32) -> Result<u32, TextFault>
     }
 }
 
-/// A letter and a number below a count, in one token.
+/// Reads a letter and a number below a count, in one token.
 #[tactic(auto, unfolding(tt_proof_read::specs::Reading::index_of))]
 pub fn index(text: &[u8], at: usize, letter: u8, count: u32) -> Result<u32, TextFault>
     ensures read { Gives (λ n. n) result (index_of letter count (record { text = text.now; at = at })) }
@@ -80,7 +80,7 @@ pub fn index(text: &[u8], at: usize, letter: u8, count: u32) -> Result<u32, Text
     }
 }
 
-/// A number of cost points, in one token.
+/// Reads a number of cost points, in one token.
 fn points(text: &[u8], at: usize) -> Result<u64, TextFault>
     ensures read { Gives (λ n. n) result (priced_as at (number_of MAX_POINTS text.now)) }
     ensures within { IfOk result (λ n. n ≤ MAX_POINTS) }
@@ -92,7 +92,7 @@ fn points(text: &[u8], at: usize) -> Result<u64, TextFault>
     }
 }
 
-/// A number of cost points.
+/// Reads a number of cost points.
 #[tactic(auto, unfolding(crate::specs::Reading::points_at))]
 pub fn read_points<R: Source>(feed: &mut Feed, source: &mut R) -> Result<u64, TextFault>
     ensures read { ReadsAs R.Source feed.old source.old feed.new source.new (λ n. n) result points_at }

@@ -23,7 +23,7 @@ pub enum GroupWord {
     End,
 }
 
-/// The word of a group, or the end, in one token.
+/// Reads the word of a group, or the end, in one token.
 fn group_word(text: &[u8], at: usize) -> Result<GroupWord, TextFault>
     ensures read { Gives (λ w. w) result (group_word_of (record { text = text.now; at = at })) }
     ensures unread { TellsNoFailedRead result }
@@ -35,7 +35,7 @@ fn group_word(text: &[u8], at: usize) -> Result<GroupWord, TextFault>
     }
 }
 
-/// What follows the word of a group.
+/// Reads the part of a group after its word.
 #[tactic(auto, unfolding(crate::specs::Reading::claim_at))]
 fn read_claim<R: Source>(
     alloc: Global,
@@ -66,7 +66,7 @@ fn read_claim<R: Source>(
     })
 }
 
-/// No token after the last.
+/// Checks that there is no token after the last one.
 #[tactic(auto, unfolding(crate::specs::Reading::nothing_at))]
 fn read_nothing<R: Source>(feed: &mut Feed, source: &mut R) -> Result<(), TextFault>
     ensures read { ReadsPast R.Source feed.old source.old feed.new source.new result nothing_at }
@@ -78,7 +78,7 @@ fn read_nothing<R: Source>(feed: &mut Feed, source: &mut R) -> Result<(), TextFa
     }
 }
 
-/// A group, or none at the end of the file.
+/// Reads a group; `None` at the end of the file.
 #[tactic(auto, unfolding(crate::specs::Reading::group_at))]
 pub fn read_group<R: Source>(
     alloc: Global,

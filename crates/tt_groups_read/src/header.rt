@@ -9,7 +9,7 @@ use crate::fields::{read_points, read_word, token};
 use tt_proof_read::{TextFault, Word};
 use tt_text::{Feed, Source};
 
-/// What a file begins with.
+/// The beginning of a file.
 #[derive(Clone, Copy, Debug)]
 pub enum Opening {
     /// The header of a file of groups, with this bound.
@@ -18,7 +18,7 @@ pub enum Opening {
     Other(usize),
 }
 
-/// The version and the bound.
+/// Reads the version and the bound.
 #[tactic(auto, unfolding(crate::specs::Reading::bound_at))]
 fn read_bound<R: Source>(feed: &mut Feed, source: &mut R) -> Result<u64, TextFault>
     ensures read { ReadsAs R.Source feed.old source.old feed.new source.new (λ b. b) result bound_at }
@@ -28,7 +28,7 @@ fn read_bound<R: Source>(feed: &mut Feed, source: &mut R) -> Result<u64, TextFau
     read_points(feed, source)
 }
 
-/// The header, or the first token where it is another.
+/// Reads the header, or the first token if it is another one.
 #[tactic(auto, unfolding(crate::specs::Reading::opening_at))]
 pub fn read_opening<R: Source>(feed: &mut Feed, source: &mut R) -> Result<Opening, TextFault>
     ensures read { ReadsAs R.Source feed.old source.old feed.new source.new (λ o. o) result opening_at }

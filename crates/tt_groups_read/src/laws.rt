@@ -1,4 +1,4 @@
-//! What it means that a file was read group by group.
+//! The meaning of reading a file group by group.
 
 ghost use Rattle.std.specs.Prelude.{ℕ, List};
 ghost use Rattle.tt_instance.specs.Limits.{IsInstance};
@@ -10,7 +10,7 @@ ghost use Rattle.tt_groups_read.specs.Reads.{ReadsFile};
 ghost use Rattle.tt_groups_read.specs.Spelling.{SpellsGroups};
 ghost use Rattle.tt_groups_read.specs.declared.claim.GroupClaim.{GroupClaim};
 
-/// What a feed gives of bytes, group by group, are the claims that these bytes spell; and all claims that they spell are so read.
+/// The claims that a feed gives for bytes, group by group, are the claims that these bytes spell; and all claims that they spell are read so.
 pub fn read_groups_are_spelled()
     ensures read { (p : Problem) (sizes : Sizes) → AreSizes p sizes → (bytes : List ℕ) (bound : ℕ) (claims : List GroupClaim) →
         ReadsFile sizes (stream_of_bytes bytes) bound claims → SpellsGroups p bytes bound claims }

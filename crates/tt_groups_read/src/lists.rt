@@ -13,18 +13,18 @@ use std::alloc::Global;
 use tt_proof_read::TextFault;
 use tt_text::{Feed, Source};
 
-/// How the numbers of a list are written.
+/// The notation of the numbers of a list.
 #[derive(Clone, Copy, Debug)]
 pub struct ListForm {
     /// Precedes each number.
     pub letter: u8,
-    /// Each number is below it.
+    /// The limit that each number is below.
     pub count: u32,
     /// The token after the last number, one byte.
     pub end: u8,
 }
 
-/// A number that is none of those before it, or none at the end of the list, in one token.
+/// Reads a number that is not among those before it, or none at the end of the list, in one token.
 fn listed(text: &[u8], at: usize, form: ListForm, before: &[u32]) -> Result<Option<u32>, TextFault>
     ensures read { Gives (λ n. n) result (listed_of form before.now (record { text = text.now; at = at })) }
     ensures within { IfOk result (λ o. IfSome o (λ n. n < form.count)) }
@@ -57,7 +57,8 @@ fn read_listed<R: Source>(
     listed(feed.token(), at, form, before)
 }
 
-/// Different numbers up to the end of the list. The time grows as the square of their count, which the checker of groups keeps small.
+/// Reads different numbers up to the end of the list. The time grows as the square of their count, which the checker of groups limits to a
+/// small number.
 pub fn read_list<R: Source>(
     alloc: Global,
     feed: &mut Feed,

@@ -19,7 +19,7 @@ use tt_instance::Instance;
 use tt_proof_read::{Sizes, TextFault};
 use tt_text::{Feed, Source};
 
-/// Reads claims about groups from one source, and keeps none of them.
+/// Reads claims about groups from one source, without storing them.
 #[derive(Drop)]
 pub struct GroupReader {
     alloc: Global,
@@ -53,7 +53,7 @@ impl GroupReader {
         ensures unfailed { HeaderIsUnfailed result → R.has_failed source.new ≡ R.has_failed source.old }
         ensures read { is_some (R.remaining source.old) ≡ true →
             HeaderSays (stream_at fresh (R.remaining source.old)) result (R.remaining source.new) }
-        // A failed read is reported where the bytes before it give a part of the header and no fault.
+        // A failed read is reported if the bytes before it give a part of the header and no error.
         ensures cut_short { HeaderAgreesWhenCut (R.remaining source.old) result (R.remaining source.new) }
         ensures start { IfOk result (λ r. (r.over ≡ false) × (r.fault ≡ None)) }
         ensures sizes { IfOk result (λ r. AreSizes instance.now r.sizes) }
@@ -75,14 +75,14 @@ impl GroupReader {
         }
     }
 
-    /// The bound that the header names, in cost points.
+    /// Returns the bound that the header names, in cost points.
     pub fn bound(&self) -> u64
         ensures { result ≡ self.now.bound }
     {
         self.bound
     }
 
-    /// The next group, `None` once the file has ended. After a fault the same fault again.
+    /// Returns the next group, or `None` once the file has ended. After an error, it returns the same error again.
     pub fn next_group<R: Source>(&mut self, source: &mut R) -> Result<Option<GroupClaim>, TextFault>
         ensures known { StaysKnown (R.remaining source.old) (R.remaining source.new) }
         ensures failed { self.old.fault ≡ None → result ≡ Err read_failed → R.has_failed source.new ≡ true }
@@ -93,9 +93,9 @@ impl GroupReader {
         ensures forward { IfOk result (λ o. IfSome o (λ _. room_of self.new.fed < room_of self.old.fed)) }
         ensures says { self.old.fault ≡ None → is_some (R.remaining source.old) ≡ true →
             Says self.old (stream_at self.old.fed (R.remaining source.old)) result (stream_at self.new.fed (R.remaining source.new)) }
-        // A failed read is reported where the bytes before it give a part of the group and no fault.
+        // A failed read is reported if the bytes before it give a part of the group and no error.
         ensures cut_short { self.old.fault ≡ None → GroupAgreesWhenCut self.old (R.remaining source.old) result self.new.fed (R.remaining source.new) }
-        // Its curricula and courses are the instance's, none of them twice.
+        // The claim's curricula and courses are the instance's, none of them twice.
         ensures claim { IfOk result (λ o. IfSome o (IsClaimAt self.old.sizes)) }
     {
         if let Some(fault) = self.fault {

@@ -1,4 +1,4 @@
--- Where the amounts of a day fit, its lectures add their index to the place, and the courses' digits pay nothing.
+-- If the amounts of a day fit, its lectures add their index to the place, and the courses' digits pay nothing.
 use Rattle.std.proofs.Common.{◌≡◌, ℕ, ◌+◌, ◌*◌, ◌<◌, ◌≤◌, Bool, true, false, ◌&&◌, List, [], ◌∷◌, set, below_more, refl, sym, subst, length, ◌∙◌, ap, arith, inl, inr, min, ◌-◌}
 use Rattle.std.specs.Prelude.{sum_by, slice_index}
 use Rattle.std.specs.List.{list_all}
@@ -21,11 +21,11 @@ and_true : (b : Bool) → (b && true) ≡ b
 and_true true = refl
 and_true false = refl
 
--- one number more
+-- another number
 pub list_all-more : (p : ℕ → Bool) (i : ℕ) → list_all p (range_below (i + 1)) ≡ (list_all p (range_below i) && p i)
 list_all-more p i = ap (list_all p) (range_below_more i) ∙ list_all-append p (range_below i) (i ∷ []) ∙ ap (λ b. list_all p (range_below i) && b) (and_true (p i))
 
--- what holds of each element before j, and of a new one there
+-- a property of each element before j and of a new element at j holds for each element up to j
 pub set-more : (P : ℕ → ℕ → Type 0) (xs : List ℕ) (j v : ℕ) → j < length xs → ((k : ℕ) → k < j → P k (slice_index xs k)) → P j v → (k : ℕ) → k < j + 1 → P k (slice_index (set xs j v) k)
 set-more P xs j v h before here =
     below_more (λ k. P k (slice_index (set xs j v) k)) j
@@ -59,7 +59,7 @@ module _ (sizes weights : List ℕ) (courses : ℕ) (amounts : List ℕ) (s : St
       let k : slice_index amounts j ≤ slice_index s.left j = leb-true (slice_index amounts j) (slice_index s.left j) (at_below under 32 j e (omega arith)) in
       omega (arith, k, state.left j h)
 
-  -- the amounts are under what is left exactly where there is room for all
+  -- the amounts are within what is left exactly if there is room for all of them
   pub under-room : courses ≤ length sizes → courses ≤ 32 → ((j : ℕ) → slice_index amounts j ≤ 255) → list_all under (range_below 32) ≡ list_all (has_room sizes weights courses amounts s.place) (range_below (length sizes))
   under-room own few bytes = same_truth (list_all under (range_below 32)) (list_all (has_room sizes weights courses amounts s.place) (range_below (length sizes))) there back
     where

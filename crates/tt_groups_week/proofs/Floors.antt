@@ -1,4 +1,4 @@
--- What the digits of a step pay at least, and how place and pay grow digit by digit.
+-- A lower bound of what the digits of a step pay, and the growth of place and pay digit by digit.
 use Rattle.std.proofs.Common.{◌≡◌, ℕ, zero, suc, ◌+◌, ◌-◌, ◌*◌, ◌<◌, ◌≤◌, List, length, Some, None, refl, sym, ap, ◌∙◌, arith, inl, inr}
 use Rattle.std.specs.Prelude.{◌⊎◌, min, sum_by, slice_index}
 use Rattle.std.specs.List.{list_all}
@@ -20,7 +20,7 @@ floor-below sizes amounts bytes (suc n) =
     omega (arith, ap (λ k. sum_by (floor_at sizes amounts) (range_below k)) e, sum_more (floor_at sizes amounts) n, bytes n, floor-below sizes amounts bytes n)
 
 module _ (sizes weights : List ℕ) (courses : ℕ) (amounts : List ℕ) (state : ℕ) where
-  -- a step pays the floor at least
+  -- a step pays at least the floor
   pub floor-le_pay : (r : Step) → step_of sizes weights courses amounts state ≡ Some r → floor_of sizes amounts ≤ r.pay
   floor-le_pay r e =
       let n = length sizes in
@@ -43,7 +43,7 @@ module _ (sizes weights : List ℕ) (courses : ℕ) (amounts : List ℕ) (state 
       nothing : (s : Step) → None ≡ Some s → ⊥
       nothing s f = cc
 
-  -- ---- one digit more
+  -- -- another digit
 
   abbrev before : ℕ → ℕ
   before j = digit sizes weights state j * slice_index weights j
@@ -62,7 +62,7 @@ module _ (sizes weights : List ℕ) (courses : ℕ) (amounts : List ℕ) (state 
           ≡ sum_by (paid_at sizes weights courses amounts state) (range_below (j + 1)) + floor
       paid-more = omega (arith, paid, is, below, sum_more (floor_at sizes amounts) j, sum_more (paid_at sizes weights courses amounts state) j)
 
-    -- a digit that is not raised, or has no slack, pays its floor and stays
+    -- a digit that is not raised, or has no slack, pays its floor and keeps its value
     module _ (below : digit sizes weights state j < slice_index sizes j) (none : (slice_index amounts j ≡ 0) ⊎ (slice_index sizes j ≤ 1)) where
       pub placed-same : place + sum_by before (range_below (j + 1)) ≡ sum_by (moved sizes weights courses amounts state) (range_below (j + 1)) + whole
       placed-same =

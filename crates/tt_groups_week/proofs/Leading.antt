@@ -1,4 +1,4 @@
--- The step from the place of some lectures and further lectures leads to the place of more, and pays their overrun.
+-- The step from the place of some lectures and further lectures leads to the place of the raised ones, and pays their overrun.
 use Rattle.std.proofs.Common.{◌≡◌, ℕ, ◌+◌, ◌-◌, ◌*◌, ◌/◌, ◌%◌, ◌<◌, ◌≤◌, true, cond, List, length, Some, None, sym, ap, ◌∙◌, subst, arith, inl, inr}
 use Rattle.std.specs.Prelude.{◌⊎◌, min, sum_by, slice_index}
 use Rattle.std.specs.List.{list_all}

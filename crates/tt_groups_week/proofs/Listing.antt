@@ -1,4 +1,4 @@
--- Lists that the fold makes are tables of the group, and a high last one shows its bound.
+-- Lists that the fold makes are tables of the group, and a high last list shows its bound.
 use Rattle.std.proofs.Common.{◌≡◌, ℕ, zero, suc, ◌+◌, ◌-◌, ◌*◌, ◌/◌, ◌%◌, ◌<◌, ◌≤◌, not, ◌&&◌, cond, List, [], ◌∷◌, ◌++◌, map, length, Some, None, refl, ap, ◌∙◌, subst, arith, eq-eqb}
 use Rattle.std.specs.Prelude.{Contains, All, ◌==◌, min, nat_lt, nat_le, sum_by, slice_index}
 use Rattle.std.specs.List.{list_all}
@@ -76,7 +76,7 @@ module _ (p : Problem) (g : Group) (cs : List ℕ) (are : AreCourses p g cs) (b 
       (zip_maps (λ c. lectures p c + 1) u cs (λ c m. omega (arith, fits c (are.own c m))))
       (zip_maps (λ c. slack p c + 1) e g.courses (λ c m. omega (arith, few c)))
 
-  -- a list that begins with 0 is one before the first day
+  -- a list that begins with 0 is a list before the first day
   pub list_start : (table : List ℕ) → slice_index table 0 ≡ 0 → IsWeekList p g cs b 0 table
   list_start table first = record {
     low = λ week plan h.
@@ -84,7 +84,7 @@ module _ (p : Problem) (g : Group) (cs : List ℕ) (are : AreCourses p g cs) (b 
         omega (arith, ap (slice_index table) at, first);
   }
 
-  -- what the fold ensures of the next list makes it one of a day more
+  -- the fold's postconditions on the next list make it a list of another day
   pub list_next : (d : ℕ) (days : List DayEntry) (moves : List Move) (table next : List ℕ) → d < p.days → places sizes ≤ length table → IsDayList p g cs b d days → AreMovesOf sizes weights (length cs) days moves → IsWeekList p g cs b d table
       → ((s : ℕ) → s < length table → slice_index table s < b → All (Relaxed sizes weights (length cs) b s (slice_index table s) next) moves) → IsWeekList p g cs b (d + 1) next
   list_next d days moves table next h long day are_moves before relaxed = record {
@@ -109,7 +109,7 @@ module _ (p : Problem) (g : Group) (cs : List ℕ) (are : AreCourses p g cs) (b 
         omega (arith, low, today.3);
   }
 
-  -- where the list of the whole week is high, the group pays b beyond its base
+  -- if the list of the whole week is high, the group pays at least b beyond its base cost
   pub list_end : (table : List ℕ) → places sizes ≤ length table → IsWeekList p g cs b p.days table → IsHighList sizes weights (length cs) b table → IsGroupBound p g (base_cost p g + b)
   list_end table long last high = week_end p g b (entry p g cs table) last (record {
     high = λ u e full few.

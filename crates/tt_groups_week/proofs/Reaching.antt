@@ -1,4 +1,4 @@
--- The entries of the fold's tables are those of weeks that there can be.
+-- The entries of the fold's tables are entries of possible weeks.
 use Rattle.std.proofs.Common.{◌≡◌, ℕ, ◌+◌, ◌-◌, ◌*◌, ◌/◌, ◌%◌, ◌<◌, ◌≤◌, Bool, true, false, cond, List, length, Some, None, refl, sym, ap, ◌∙◌, subst, arith, inl, inr, eqb-true, eq-eqb, ne_eqb}
 use Rattle.std.specs.Prelude.{◌==◌, min, slice_index}
 use Rattle.std.specs.List.{list_all}
@@ -26,12 +26,12 @@ use Rattle.tt_groups_week.proofs.Leading.{step_leads}
 use Rattle.tt_groups_week.proofs.Listing.{step_same, digits_below, zero_place, all_zero}
 use Rattle.tt_groups_week.proofs.Moving.{fitting_of_room}
 
--- a step is made where all digits have room
+-- a step is made only if all digits have room
 room_of_step : (b : Bool) (s r : Step) → cond b (Some s) None ≡ Some r → b ≡ true
 room_of_step true s r e = refl
 room_of_step false s r e = cc
 
--- a week whose first d days there can be, with the lectures of a place, has spent no more than n
+-- a week whose first d days are possible and have the lectures of a place, and that has spent no more than n on them
 pub record IsReachedPlace (p : Problem) (g : Group) (cs : List ℕ) (d place n : ℕ) : Type 0 where
   pub week : Week
   pub days : (i : ℕ) → i < d → IsDay p g i (week i)
@@ -62,13 +62,13 @@ module _ (p : Problem) (g : Group) (cs : List ℕ) (are : AreCourses p g cs) whe
   size_of : length sizes ≡ length cs + length g.courses
   size_of = length-two (λ c. lectures p c + 1) (λ c. slack p c + 1) cs g.courses
 
-  -- what holds of each course of the list holds of each that the group concerns
+  -- a property of each course of the list holds for each course that the group concerns
   each_own : (P : ℕ → Type 0) → ((j : ℕ) → j < length cs → P (slice_index cs j)) → (c : ℕ) → concerns p g c ≡ true → P c
   each_own P h c own =
       let m = are.all c own in
       subst P (get_or_default cs m.0 0 c m.1 ∙ m.2) (h m.0 m.1)
 
-  -- the lectures at a place that is reached
+  -- the digits of a place that is reached are the lectures used so far
   digit_read : (d place n : ℕ) (at : IsReachedPlace p g cs d place n) (j : ℕ) → j < length cs → digit sizes weights place j ≡ used p at.week d (slice_index cs j)
   digit_read d place n at j h =
       let u = used p at.week d in
@@ -148,7 +148,7 @@ module _ (p : Problem) (g : Group) (cs : List ℕ) (are : AreCourses p g cs) whe
         let over = sum_by-same (λ c. 5 * ((capped p week d c + (lectures_on p (week d) c - 1)) - slack p c)) (λ c. 5 * ((e c + (k c - 1)) - slack p c)) g.courses (λ c. omega (arith, further_same c, lectures_now c)) in
         omega (arith, spent-more p g week d, days, courses, over, ap (day_cost p g) now)
 
-    -- a day more
+    -- another day
     pub reached_next : IsReachedPlace p g cs (d + 1) r.place (n + x.cost + r.pay)
     reached_next = record {
       week = week;
@@ -163,7 +163,7 @@ module _ (p : Problem) (g : Group) (cs : List ℕ) (are : AreCourses p g cs) whe
       paid = omega (arith, spent_next, at.paid, today.paid, ap (λ (z : Step). z.pay) step_is);
     }
 
-  -- at the end a full place is that of a plan
+  -- at the end, a full place is that of a plan
   pub reached_plan : (place n : ℕ) (at : IsReachedPlace p g cs p.days place n) → is_full sizes weights (length cs) place ≡ true → IsPlan p g at.week
   reached_plan place n at full = record {
     days = at.days;

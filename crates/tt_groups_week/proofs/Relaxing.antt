@@ -1,4 +1,4 @@
--- What a table has where days lead from a place, when some of its entries fall.
+-- The table entries that a day leads to from a place, when some entries of the table fall.
 use Rattle.std.proofs.Common.{◌≡◌, ℕ, ◌+◌, ◌<◌, ◌≤◌, inl, inr, List, [], ◌∷◌, map, refl, take_all, Some, None, take, length, get_or, below_more, sym, subst, ap, ◌∙◌, arith}
 use Rattle.std.specs.Prelude.{All, Contains, IsPermutation, slice_index}
 use Rattle.std.specs.List.Sorted.{IsNonDecreasingBy}
@@ -14,16 +14,16 @@ use Rattle.tt_groups.specs.declared.entry.DayEntry.{DayEntry}
 use Rattle.tt_groups_week.specs.declared.moves.Move.{Move}
 use Rattle.tt_groups_week.specs.declared.state.Step.{Step}
 
--- the move where a list has none
+-- the default move, for indices outside a list
 abbrev pub no_move : Move
 no_move = record { entry = record { amounts = []; cost = 0 }; index = 0; floor = 0 }
 
 module _ (sizes weights : List ℕ) (courses bound place paid : ℕ) where
-  -- what is relaxed stays so where entries fall
+  -- a relaxed entry remains relaxed when entries fall
   pub relaxed-falls : (old new : List ℕ) → Falls old new → (day : DayEntry) → IsRelaxed sizes weights courses bound place paid old day → IsRelaxed sizes weights courses bound place paid new day
   relaxed-falls old new falls day h = record { low = λ r e less. omega (arith, falls r.place, h.low r e less) }
 
-  -- the day leads nowhere
+  -- the case of a day that leads nowhere
   pub relaxed-nowhere : (table : List ℕ) (day : DayEntry) → step_of sizes weights courses day.amounts place ≡ None → IsRelaxed sizes weights courses bound place paid table day
   relaxed-nowhere table day e = record { low = λ r f less. absurd (none r (sym e ∙ f)) }
     where
@@ -34,25 +34,25 @@ module _ (sizes weights : List ℕ) (courses bound place paid : ℕ) where
     same : (s : Step) → step_of sizes weights courses day.amounts place ≡ Some s → r ≡ s
     same s f = let e : Some r ≡ Some s = sym leads ∙ f in cc
 
-    -- it costs too much
+    -- the case of a day that costs too much
     pub relaxed-costly : bound ≤ paid + day.cost + r.pay → IsRelaxed sizes weights courses bound place paid table day
     relaxed-costly h = record { low = λ s f less. let e = ap (λ z. z.pay) (same s f) in absurd (omega arith) }
 
-    -- the entry is no higher
+    -- the case of an entry that is no higher
     pub relaxed-there : slice_index table r.place ≤ paid + day.cost + r.pay → IsRelaxed sizes weights courses bound place paid table day
     relaxed-there h = record { low = λ s f less. subst (λ z. slice_index table z.place ≤ paid + day.cost + z.pay) (same s f) h }
 
-  -- the move is relaxed
+  -- whether the move is relaxed
   abbrev pub Relaxed : List ℕ → Move → Type 0
   Relaxed table m = IsRelaxed sizes weights courses bound place paid table m.entry
 
-  -- one move more
+  -- another move
   pub relaxed-more : (moves : List Move) (i : ℕ) (d : Move) (old new : List ℕ) → i < length moves → Falls old new → All (Relaxed old) (take i moves) → Relaxed new (get_or moves i d) → All (Relaxed new) (take (i + 1) moves)
   relaxed-more moves i d old new h falls before here =
       All-more (Relaxed new) moves i d h
       (λ k z l. relaxed-falls old new falls (get_or (take i moves) k z).entry (before k z l)) here
 
-  -- where a move costs too much, so does each later one
+  -- if a move costs too much, so does each later move
   pub relaxed-rest : (moves : List Move) (i : ℕ) (table : List ℕ) → i ≤ length moves → IsNonDecreasingBy (λ m. m.entry.cost + m.floor) moves
       → All (λ m. m.floor ≡ floor_of sizes m.entry.amounts) moves → bound ≤ paid + (get_or moves i no_move).entry.cost + (get_or moves i no_move).floor → All (Relaxed table) (take i moves) → All (Relaxed table) moves
   relaxed-rest moves i table h sorted floored full before k d l = elim (cases_lt k i) [
@@ -67,7 +67,7 @@ module _ (sizes weights : List ℕ) (courses bound place paid : ℕ) where
         record { low = λ r f less. absurd (omega (arith, costs, floored k d l, floor-le_pay sizes weights courses m.entry.amounts place r f)) }
   ]
 
--- one place more
+-- another place
 pub extended-more : (sizes weights : List ℕ) (courses bound : ℕ) (moves : List Move) (table old new : List ℕ) (i : ℕ) → Falls old new
     → ((s : ℕ) → s < i → slice_index table s < bound → All (Relaxed sizes weights courses bound s (slice_index table s) old) moves)
     → (slice_index table i < bound → All (Relaxed sizes weights courses bound i (slice_index table i) new) moves)
@@ -76,7 +76,7 @@ extended-more sizes weights courses bound moves table old new i falls before her
     below_more (λ s. slice_index table s < bound → All (Relaxed sizes weights courses bound s (slice_index table s) new) moves) i
     (λ s h less k d l. relaxed-falls sizes weights courses bound s (slice_index table s) old new falls (get_or moves k d).entry (before s h less k d l)) here
 
--- each entry of a day is that of a move, in any order
+-- each entry of a day is the entry of a move, in any order
 pub move_of : (days : List DayEntry) (i : ℕ) (moves sorted : List Move) → length days ≤ i → map (λ m. m.entry) moves ≡ take i days → IsPermutation moves sorted
     → (x : DayEntry) → Contains days x → (m : Move) × Contains sorted m × (m.entry ≡ x)
 move_of days i moves sorted long entries order x here =
@@ -91,7 +91,7 @@ move_of days i moves sorted long entries order x here =
       | inr later ↦ let k = mapped ms y later in (k.0, Contains-append_right (m ∷ []) ms k.0 k.1, k.2)
     ]
 
--- each move's entry is one of the day
+-- each move's entry is one of the day's entries
 pub entry_of : (days : List DayEntry) (i : ℕ) (moves sorted : List Move) → length days ≤ i → map (λ m. m.entry) moves ≡ take i days → IsPermutation moves sorted
     → (m : Move) → Contains sorted m → Contains days m.entry
 entry_of days i moves sorted long entries order m here =

@@ -15,14 +15,14 @@ use Rattle.tt_groups_week.specs.Steps.{step_of, IsMadeFrom}
 use Rattle.tt_groups_week.proofs.Listing.{list_start, list_next, list_end}
 use Rattle.tt_groups_week.proofs.Reaching.{IsReachedPlace, reached_next, reached_plan}
 
--- what was written over the whole list is what it has
+-- the first elements are those written over the whole list
 pub take_written : (xs rest : List ℕ) (n : ℕ) → n ≡ length xs → take n (xs ++ rest) ≡ xs
 take_written xs rest n e =
     let short : n ≤ length xs = omega arith in
     take-append-le n xs rest short ∙ take_all n xs (omega arith)
 
 module _ (p : Problem) (g : Group) (cs sizes weights : List ℕ) (courses b : ℕ) (lists : List (Vec Move Global)) (of_day : List ℕ) (s : Suits p g cs sizes weights courses b lists of_day) where
-  -- as many places as the sizes give
+  -- the table has at least as many places as the sizes give
   long_enough : (table : List ℕ) → places sizes ≤ length table → places (group_sizes p g cs) ≤ length table
   long_enough table h = subst (λ n. places n ≤ length table) s.sizes_are h
 
@@ -57,9 +57,9 @@ module _ (p : Problem) (g : Group) (cs sizes weights : List ℕ) (courses b : �
       let k = subst (λ (n : ℕ). IsHighList (group_sizes p g cs) (weights_from 1 (group_sizes p g cs)) n b table) s.courses_are h in
       list_end p g cs s.group b table (long_enough table long) (subst (λ (n : ℕ). IsWeekList p g cs b n table) (e ∙ s.all_days) last) k
 
-  -- ---- weeks that there can be
+  -- -- possible weeks
 
-  -- what a day's moves make of places that are reached is reached
+  -- a day's moves lead from reached places to reached places
   pub suits_reached : (d : ℕ) (v : Vec Move Global) (table : List ℕ) → d < length of_day → v ≡ get_or lists (slice_index of_day d) v → AreReached p g cs lists of_day
       → ((k : ℕ) → k < length table → slice_index table k < b → IsReachedPlace p g cs d k (slice_index table k))
       → (k n : ℕ) → IsMadeFrom sizes weights courses v.items b table k n → IsReachedPlace p g cs (d + 1) k n
@@ -74,7 +74,7 @@ module _ (p : Problem) (g : Group) (cs sizes weights : List ℕ) (courses b : �
       let next = reached_next p g cs s.group d from.place paid (before from.place from.inside from.cheap) by.entry today from.made.step leads in
       subst (λ (m : ℕ). IsReachedPlace p g cs (d + 1) m n) (sym from.made.reached) (subst (IsReachedPlace p g cs (d + 1) from.made.step.place) (sym from.made.value) next)
 
-  -- a full place that costs less than b is that of a plan
+  -- a full place that costs less than b is the place of a plan that costs less than b
   pub suits_fails : (d : ℕ) (table : List ℕ) → d ≡ length of_day → ((k : ℕ) → k < length table → slice_index table k < b → IsReachedPlace p g cs d k (slice_index table k))
       → (k : ℕ) → is_full sizes weights courses k ≡ true → k < length table → slice_index table k < b → (week : Week) × IsPlan p g week × (spent p g week p.days < b)
   suits_fails d table e reached k full inside cheap =
@@ -84,7 +84,7 @@ module _ (p : Problem) (g : Group) (cs sizes weights : List ℕ) (courses b : �
       let all = subst (λ (m : ℕ). is_full (group_sizes p g cs) (weights_from 1 (group_sizes p g cs)) m k ≡ true) s.courses_are h in
       (at.week, reached_plan p g cs s.group k (slice_index table k) at all, omega (arith, at.paid, cheap))
 
--- the first table is low at its first place alone
+-- the first table has a low value only at its first place
 pub low_at_first : (n b k : ℕ) → b ≤ 255 → k < n → slice_index (set (replicate n 255) 0 0) k < b → k ≡ 0
 low_at_first n b k h inside low = elim (cases_lt 0 k) [
   | inl l ↦

@@ -1,4 +1,4 @@
--- Sizes and weights: products of sizes, and what one of a digit counts.
+-- Sizes and weights: products of sizes, and the weight of each digit.
 use Rattle.std.proofs.Common.{◌≡◌, ℕ, zero, suc, ◌+◌, ◌*◌, ◌<◌, ◌≤◌, List, [], ◌∷◌, ◌++◌, length, take, sym, ap, ◌∙◌, arith, mul-le-mul_right}
 use Rattle.std.specs.Prelude.{slice_index}
 use Rattle.std.proofs.lemmas.List.{take_more}
@@ -6,7 +6,7 @@ use Rattle.tt_groups.specs.Places.{weights_from, places}
 use Rattle.tt_groups.proofs.Radix.{length-weights_from}
 use Rattle.tt_groups_week.specs.Digits.{AreDigits}
 
--- each size is 1 at least
+-- each size is at least 1
 abbrev pub AreSome : List ℕ → Type 0
 AreSome ns = (j : ℕ) → j < length ns → 0 < slice_index ns j
 
@@ -26,7 +26,7 @@ weight_positive m (n ∷ ns) some h (suc j) k =
     let first : 1 ≤ n = some 0 (omega arith) in
     weight_positive (m * n) ns (some_later n ns some) (omega (arith, mul-le-mul_right m first)) j (omega (arith, k))
 
--- a digit of any value counts no more than all places
+-- a digit's size times its weight is no more than the number of places
 pub weight_within : (m : ℕ) (ns : List ℕ) → AreSome ns → (j : ℕ) → j < length ns → slice_index ns j * slice_index (weights_from m ns) j ≤ m * places ns
 weight_within m [] some j k = absurd (omega arith)
 weight_within m (n ∷ ns) some zero k =
@@ -34,7 +34,7 @@ weight_within m (n ∷ ns) some zero k =
     omega (arith, mul-le-mul_right (n * m) one)
 weight_within m (n ∷ ns) some (suc j) k = omega (arith, weight_within (m * n) ns (some_later n ns some) j (omega (arith, k)))
 
--- ---- one size more
+-- -- another size
 
 pub weights_from-snoc : (m : ℕ) (ns : List ℕ) (n : ℕ) → weights_from m (ns ++ n ∷ []) ≡ weights_from m ns ++ (m * places ns) ∷ []
 weights_from-snoc m [] n = let e : m ≡ m * 1 = omega arith in ap (λ k. k ∷ []) e
@@ -46,7 +46,7 @@ pub places-snoc : (ns : List ℕ) (n : ℕ) → places (ns ++ n ∷ []) ≡ plac
 places-snoc [] n = omega arith
 places-snoc (k ∷ ns) n = ap (λ z. k * z) (places-snoc ns n) ∙ omega arith
 
--- the first sizes have no more places than all
+-- the first sizes have no more places than all sizes
 pub places-take : (i : ℕ) (ns : List ℕ) → AreSome ns → places (take i ns) ≤ places ns
 places-take zero ns some = places_positive ns some
 places-take (suc i) [] some = omega arith
@@ -70,7 +70,7 @@ are_digits sizes weights courses count few own narrow some small weighed counted
   limited = limited;
 }
 
--- one weight more
+-- another weight
 pub weights-more : (ns : List ℕ) (i : ℕ) → i < length ns → weights_from 1 (take i ns) ++ places (take i ns) ∷ [] ≡ weights_from 1 (take (i + 1) ns)
 weights-more ns i h =
     let e : places (take i ns) ≡ 1 * places (take i ns) = omega arith in

@@ -2,7 +2,7 @@
 use Rattle.std.specs.Prelude.{◌≡◌, ℕ, ◌*◌, ◌/◌, ◌%◌, ◌<◌, ◌≤◌, List, length, slice_index}
 use Rattle.tt_groups.specs.Places.{weights_from, places}
 
--- The sizes of the digits, those of lectures first, what one of each counts, and how many places there are.
+-- The sizes of the digits, those of lectures first, the weight of each digit, and the number of places.
 pub record AreDigits (sizes weights : List ℕ) (courses count : ℕ) : Type 0 where
   pub few : length sizes ≤ 32
   pub own : courses ≤ length sizes

@@ -1,5 +1,5 @@
 -- A step from a place of one table to a place of the next: the lectures of a day raise the digits of lectures, and its further lectures
--- raise the others, no higher than to their slack.
+-- raise the other digits, but not above the slack.
 use Rattle.std.specs.Prelude.{◌≡◌, ℕ, ◌+◌, ◌-◌, ◌*◌, ◌<◌, ◌≤◌, min, nat_lt, nat_le, Bool, not, ◌&&◌, List, length, Contains, sum_by, slice_index, Option, Some, None, if◌then◌else◌}
 use Rattle.std.specs.List.{list_all}
 use Rattle.tt_lists.specs.Words.{range_below}
@@ -9,15 +9,15 @@ use Rattle.tt_groups_week.specs.declared.moves.Move.{Move}
 use Rattle.tt_groups_week.specs.declared.state.Step.{Step}
 
 module _ (sizes weights : List ℕ) (courses : ℕ) (amounts : List ℕ) (place : ℕ) where
-  -- The raised digit is the digit of the place and the amount more.
+  -- The raised digit is the sum of the digit of the place and the amount.
   abbrev pub raised : ℕ → ℕ
   raised j = digit sizes weights place j + slice_index amounts j
 
-  -- A digit of lectures has room where the raised digit is below its size; one of further lectures always has.
+  -- A digit of lectures has room if the raised digit is below its size; a digit of further lectures always has room.
   abbrev pub has_room : ℕ → Bool
   has_room j = not (nat_lt j courses && nat_le (slice_index sizes j) (raised j))
 
-  -- What a digit counts in the place that is reached.
+  -- The part of the reached place that comes from a digit.
   abbrev pub moved : ℕ → ℕ
   moved j = min (raised j) (slice_index sizes j - 1) * slice_index weights j
 
@@ -31,15 +31,15 @@ module _ (sizes weights : List ℕ) (courses : ℕ) (amounts : List ℕ) (place 
       if list_all has_room (range_below (length sizes)) then Some (record { place = sum_by moved (range_below (length sizes)); pay = sum_by paid_at (range_below (length sizes)) })
       else None
 
--- No entry of the new table is higher.
+-- Whether no entry of the new table is higher than the old one.
 abbrev pub Falls : List ℕ → List ℕ → Type 0
 Falls old new = (k : ℕ) → slice_index new k ≤ slice_index old k
 
--- Where the day leads from the place to one that costs less than the bound, the table has no more there than what is paid.
+-- Whether the table's entry is no more than the new cost, if the day leads from the place to one at a cost below the bound.
 pub record IsRelaxed (sizes weights : List ℕ) (courses bound place paid : ℕ) (table : List ℕ) (day : DayEntry) : Type 0 where
   pub low : (r : Step) → step_of sizes weights courses day.amounts place ≡ Some r → paid + day.cost + r.pay < bound → slice_index table r.place ≤ paid + day.cost + r.pay
 
--- A move leads from the place, where so much is paid, to the place k at the cost v.
+-- A move leads from the place, where `paid` is already paid, to the place k at the cost v.
 pub record IsMade (sizes weights : List ℕ) (courses : ℕ) (moves : List Move) (place paid k v : ℕ) : Type 0 where
   pub by : Move
   pub there : Contains moves by
@@ -48,7 +48,7 @@ pub record IsMade (sizes weights : List ℕ) (courses : ℕ) (moves : List Move)
   pub reached : k ≡ step.place
   pub value : v ≡ paid + by.entry.cost + step.pay
 
--- A move leads there from some place of the table where less than the bound is paid.
+-- A move leads to the place k at the cost v from some place of the table where less than the bound is paid.
 pub record IsMadeFrom (sizes weights : List ℕ) (courses : ℕ) (moves : List Move) (bound : ℕ) (table : List ℕ) (k v : ℕ) : Type 0 where
   pub place : ℕ
   pub inside : place < length table

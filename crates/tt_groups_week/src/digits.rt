@@ -7,7 +7,7 @@ ghost use Rattle.tt_groups.specs.declared.entry.TheConstants.{DIGITS};
 
 use std::alloc::{AllocError, Global};
 
-/// The most places of a table.
+/// The maximum number of places of a table.
 pub const MAX_PLACES: u32 = 1_048_576;
 
 /// The most courses that a group concerns.
@@ -16,7 +16,7 @@ pub const COURSES: usize = 16;
 /// The most that a day may have of a digit: amounts are bytes. A digit has at most `MAX_AMOUNT + 1` values.
 pub const MAX_AMOUNT: u32 = 255;
 
-/// How places are made up: digits of lectures for so many courses, then digits of further lectures.
+/// The structure of places: digits of lectures for a number of courses, then digits of further lectures.
 #[derive(Debug, Drop)]
 pub struct Digits {
     pub sizes: Vec<u32>,
@@ -27,7 +27,7 @@ pub struct Digits {
 }
 
 impl Digits {
-    /// Digits of these sizes; none where they have more than `MAX_PLACES` places.
+    /// Returns digits of these sizes, or `None` if they have more than `MAX_PLACES` places.
     pub fn new(alloc: Global, sizes: Vec<u32>, courses: usize) -> Result<Option<Digits>, AllocError>
         requires few { length sizes.items ≤ DIGITS }
         requires own { courses ≤ length sizes.items }
@@ -54,7 +54,7 @@ impl Digits {
         }))
     }
 
-    /// How many values a digit has.
+    /// Returns the number of values that a digit has.
     pub fn size(&self, j: usize) -> u32
         requires { j < length self.now.sizes.items }
         ensures value { result ≡ slice_index self.now.sizes.items j }
@@ -64,7 +64,7 @@ impl Digits {
         self.sizes[j]
     }
 
-    /// What one of a digit counts in a place.
+    /// Returns the weight of a digit: the amount that a unit of it adds to a place.
     pub fn weight(&self, j: usize) -> u32
         requires { j < length self.now.sizes.items }
         ensures value { result ≡ slice_index self.now.weights.items j }
@@ -74,7 +74,7 @@ impl Digits {
         self.weights[j]
     }
 
-    /// A digit of a place.
+    /// Returns a digit of a place.
     pub fn digit(&self, place: u32, j: usize) -> u32
         requires { j < length self.now.sizes.items }
         ensures value { result ≡ digit self.now.sizes.items self.now.weights.items place j }

@@ -1,4 +1,4 @@
-//! Refusals of a fold.
+//! Errors of a fold.
 
 ghost use Rattle.std.specs.Prelude.{◌≡◌};
 ghost use Rattle.tt_groups_week.specs.declared.fault.WeekFault.TheVariants as fault;

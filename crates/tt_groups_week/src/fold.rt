@@ -10,7 +10,7 @@ use crate::fault::WeekFault;
 use crate::moves::Move;
 use crate::state::{State, advance, state_at};
 
-/// Writes the value where the table has a higher one.
+/// Writes the value if the table has a higher one at the place.
 fn lower(table: &mut [u8], place: usize, value: u8)
     ensures there { slice_index table.new place ≤ value }
     ensures falls { Falls table.old table.new }
@@ -21,7 +21,7 @@ fn lower(table: &mut [u8], place: usize, value: u8)
     }
 }
 
-/// Lowers the entries to which the moves lead from a state, where so much is paid. Answers how many moves were tried.
+/// Lowers the entries to which the moves lead from a state at which `paid` is already paid. Returns the number of moves that were tried.
 pub fn relax(
     digits: &Digits,
     moves: &[Move],
@@ -53,7 +53,7 @@ pub fn relax(
     moves.len()
 }
 
-/// Takes what was tried from the relaxations that are left. Where fewer are left, all are used up.
+/// Subtracts the number of tried moves from the relaxations that are left. If fewer are left, all are used up.
 fn use_up(relaxations: &mut u64, tried: usize) -> Result<(), WeekFault>
     ensures taken { OnOk result (relaxations.new + tried ≡ relaxations.old) }
     ensures used_up { OnErr result ((relaxations.old < tried) × (relaxations.new ≡ 0)) }
@@ -70,8 +70,8 @@ fn use_up(relaxations: &mut u64, tried: usize) -> Result<(), WeekFault>
     }
 }
 
-/// Lowers the entries of the next table to which the moves lead from a place of this one where less than the bound is paid. The relaxations
-/// that are left go down with each that is tried.
+/// Lowers the entries of the next table to which the moves lead from a place of this one at which less than the bound is paid. The
+/// relaxations that are left go down by 1 with each move that is tried.
 pub fn extend(
     digits: &Digits,
     moves: &[Move],

@@ -1,4 +1,4 @@
-//! Bounds of groups, part 2: the tables of all days, folded into one of the whole week.
+//! Bounds of groups, part 2: the tables of all days, folded into one table of the whole week.
 #![tactic(auto)]
 
 mod digits;

@@ -10,10 +10,10 @@ use crate::digits::Digits;
 use std::alloc::{AllocError, Global};
 use tt_groups::DayEntry;
 
-/// What a further lecture beyond the slack costs, in cost points.
+/// The cost of a further lecture beyond the slack, in cost points.
 pub const LECTURE_PRICE: u32 = 5;
 
-/// An entry of a day, what its lectures add to a place, and what its further lectures cost at least.
+/// An entry of a day, the amount that its lectures add to a place, and a lower bound of the cost of its further lectures.
 #[derive(Clone, Copy, Debug, PartialEq, Eq)]
 pub struct Move {
     pub entry: DayEntry,
@@ -21,7 +21,7 @@ pub struct Move {
     pub floor: u32,
 }
 
-/// What the lectures of a day add to a place.
+/// Returns the amount that the lectures of a day add to a place.
 fn index_of(digits: &Digits, entry: &DayEntry) -> u32
     ensures { result ≡ index_of digits.now.weights.items digits.now.courses entry.now.amounts }
 {
@@ -32,7 +32,7 @@ fn index_of(digits: &Digits, entry: &DayEntry) -> u32
     index
 }
 
-/// What the further lectures of a day cost at least, at any place.
+/// Returns a lower bound of the cost of a day's further lectures, at any place.
 fn floor_of(digits: &Digits, entry: &DayEntry) -> u32
     ensures value { result ≡ floor_of digits.now.sizes.items entry.now.amounts }
     ensures small { result ≤ LECTURE_PRICE * MAX_AMOUNT * DIGITS }
@@ -44,7 +44,7 @@ fn floor_of(digits: &Digits, entry: &DayEntry) -> u32
     floor
 }
 
-/// The moves of a day, the cheapest first.
+/// Returns the moves of a day, the cheapest first.
 pub fn moves_of(alloc: Global, digits: &Digits, days: &[DayEntry]) -> Result<Vec<Move>, AllocError>
     ensures { IfOk result (λ v. AreMovesOf digits.now.sizes.items digits.now.weights.items digits.now.courses days.now v.items) }
 {

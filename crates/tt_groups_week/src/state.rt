@@ -12,7 +12,7 @@ use crate::digits::Digits;
 use crate::moves::{LECTURE_PRICE, Move};
 use tt_groups::DIGITS;
 
-/// A place, the lectures that each course has left there (no other digit has a limit), its digits, and their sum by weights.
+/// A place, the lectures that each course has left at it (no other digit has a limit), its digits, and their weighted sum.
 #[derive(Clone, Copy, Debug, PartialEq, Eq)]
 pub struct State {
     pub place: u32,
@@ -21,14 +21,14 @@ pub struct State {
     pub base: u32,
 }
 
-/// The place that a move leads to, and what its further lectures cost there.
+/// The place that a move leads to, and the cost of its further lectures at that place.
 #[derive(Clone, Copy, Debug, PartialEq, Eq)]
 pub struct Step {
     pub place: usize,
     pub pay: u32,
 }
 
-/// The lectures that each course has left at a place.
+/// Returns the lectures that each course has left at a place.
 fn left_at(digits: &Digits, place: u32) -> [u8; DIGITS]
     ensures left { (j : ℕ) → j < digits.now.courses →
         slice_index result j + digit digits.now.sizes.items digits.now.weights.items place j + 1 ≡ slice_index digits.now.sizes.items j }
@@ -41,7 +41,7 @@ fn left_at(digits: &Digits, place: u32) -> [u8; DIGITS]
     left
 }
 
-/// What a place says.
+/// Returns the state of a place.
 pub fn state_at(digits: &Digits, place: u32) -> State
     ensures state { IsState digits.now.sizes.items digits.now.weights.items digits.now.courses result }
     ensures place { result.place ≡ place }
@@ -62,10 +62,10 @@ pub fn state_at(digits: &Digits, place: u32) -> State
     }
 }
 
-/// Whether no amount is above what is left.
+/// Checks that no amount is above what is left.
 fn fits(amounts: &[u8; DIGITS], left: &[u8; DIGITS]) -> bool
     ensures value { result ≡ list_all (is_under amounts.now left.now) (range_below DIGITS) }
-    // What is true of all bytes.
+    // This holds for all bytes.
     ensures bytes { (j : ℕ) → slice_index amounts.now j ≤ MAX_AMOUNT }
 {
     let mut all = true;
@@ -75,7 +75,7 @@ fn fits(amounts: &[u8; DIGITS], left: &[u8; DIGITS]) -> bool
     all
 }
 
-/// Where a move leads from a state; nowhere if a course would have too many lectures.
+/// Returns the step of a move from a state, or `None` if a course would have too many lectures.
 pub fn advance(digits: &Digits, state: &State, by: &Move) -> Option<Step>
     requires state { IsState digits.now.sizes.items digits.now.weights.items digits.now.courses state.now }
     requires index { by.now.index ≡ index_of digits.now.weights.items digits.now.courses by.now.entry.amounts }

@@ -16,7 +16,7 @@ use crate::fold::extend;
 use crate::moves::Move;
 use std::alloc::Global;
 
-/// Whether each course has all its lectures at a place.
+/// Checks whether each course has all its lectures at a place.
 fn is_full(digits: &Digits, place: u32) -> bool
     ensures { result ≡ is_full digits.now.sizes.items digits.now.weights.items digits.now.courses place }
 {
@@ -28,7 +28,7 @@ fn is_full(digits: &Digits, place: u32) -> bool
     true
 }
 
-/// Whether the bound is paid wherever each course has all its lectures.
+/// Checks whether at least the bound is paid at each place at which each course has all its lectures.
 fn is_high(digits: &Digits, bound: u8, table: &[u8]) -> bool
     requires { length table.now ≤ MAX_PLACES }
     ensures high { IsTrue result → IsHighList digits.now.sizes.items digits.now.weights.items digits.now.courses bound table.now }
@@ -42,7 +42,8 @@ fn is_high(digits: &Digits, bound: u8, table: &[u8]) -> bool
     true
 }
 
-/// Whether each plan of a group costs the bound, by the moves of its days. The relaxations that are left go down with each that is done.
+/// Checks whether each plan of a group costs at least the bound, by the moves of its days. The relaxations that are left go down by 1 with
+/// each move that is tried.
 pub fn week_holds(
     alloc: Global,
     digits: &Digits,
@@ -56,7 +57,7 @@ pub fn week_holds(
     ensures holds { IfOk result (λ holds. IsTrue holds → (p : Problem) (g : spec.Group) (cs : List ℕ) →
         Suits p g cs digits.now.sizes.items digits.now.weights.items digits.now.courses bound lists.now of_day.now →
         IsGroupBound p g (base_cost p g + bound)) }
-    // Where it does not hold, and the moves are those of days that there can be, some plan costs less.
+    // If it returns `false`, and the moves are those of possible days, some plan costs less.
     ensures fails { IfOk result (λ holds. holds ≡ false → (p : Problem) (g : spec.Group) (cs : List ℕ) →
         Suits p g cs digits.now.sizes.items digits.now.weights.items digits.now.courses bound lists.now of_day.now → AreReached p g cs lists.now of_day.now →
         (week : Week) × IsPlan p g week × (spent p g week p.days < bound)) }

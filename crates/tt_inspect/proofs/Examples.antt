@@ -2,7 +2,7 @@
 use Rattle.std.proofs.Common.{◌≡◌, [], ◌∷◌, refl}
 use Rattle.tt_inspect.specs.Places.{line_of, column_of}
 
--- a text of no byte has one place
+-- a text without bytes has one place
 pub empty : (line_of [] 0 ≡ 1) × (column_of [] 0 ≡ 1)
 empty = (refl, refl)
 
@@ -13,6 +13,6 @@ at_feed = (refl, refl)
 pub after_feed : (line_of (97 ∷ 98 ∷ 10 ∷ 99 ∷ []) 3 ≡ 2) × (column_of (97 ∷ 98 ∷ 10 ∷ 99 ∷ []) 3 ≡ 1)
 after_feed = (refl, refl)
 
--- an offset past the end is where the text ends
+-- an offset past the end counts as the end of the text
 pub past_end : (line_of (97 ∷ 98 ∷ 10 ∷ 99 ∷ []) 9 ≡ 2) × (column_of (97 ∷ 98 ∷ 10 ∷ 99 ∷ []) 9 ≡ 2)
 past_end = (refl, refl)

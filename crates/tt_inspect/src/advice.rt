@@ -1,4 +1,4 @@
-//! What can't be in an instance, what costs something in every timetable, and what should be looked at.
+//! Properties of an instance that are impossible, that cost something in every timetable, or that should be checked.
 
 ghost use Rattle.std.specs.Prelude.{◌<◌, length};
 
@@ -9,7 +9,7 @@ use crate::summary::{most_seats, periods_of_week, places};
 use std::alloc::AllocError;
 use tt_instance::Instance;
 
-/// Courses no two of which can meet at the same time, and why.
+/// Courses no two of which can have lectures at the same time, and why.
 #[derive(Clone, Copy)]
 struct Group<'a> {
     kind: &'a str,
@@ -17,7 +17,7 @@ struct Group<'a> {
     courses: &'a [u32],
 }
 
-/// Appends the line of a group with more lectures than periods; returns whether there is one.
+/// Appends the line of a group with more lectures than periods; returns whether it has more.
 fn put_group(
     text: &mut String,
     instance: &Instance<'_>,
@@ -55,7 +55,7 @@ fn put_group(
     Ok(true)
 }
 
-/// Appends a line for each curriculum with more lectures than periods; returns whether there is one.
+/// Appends a line for each curriculum with more lectures than periods; returns whether one has more.
 fn put_curricula(
     text: &mut String,
     instance: &Instance<'_>,
@@ -75,7 +75,7 @@ fn put_curricula(
     Ok(some)
 }
 
-/// Appends a line for each teacher with more lectures than periods; returns whether there is one.
+/// Appends a line for each teacher with more lectures than periods; returns whether one has more.
 fn put_teachers(
     text: &mut String,
     instance: &Instance<'_>,
@@ -95,7 +95,7 @@ fn put_teachers(
     Ok(some)
 }
 
-/// Appends the line of more lectures than places; returns whether there are more.
+/// Appends a line if the instance has more lectures than places; returns whether it has more.
 fn put_places(
     text: &mut String,
     instance: &Instance<'_>,
@@ -115,7 +115,7 @@ fn put_places(
     Ok(true)
 }
 
-/// Appends the line of a course with more lectures than periods in which it can meet; returns whether it has more.
+/// Appends a line if a course has more lectures than periods in which it can have one; returns whether it has more.
 fn put_open(
     text: &mut String,
     instance: &Instance<'_>,
@@ -141,7 +141,7 @@ fn put_open(
     Ok(true)
 }
 
-/// Appends the line of a course that wants more days than it can have.
+/// Appends a line if a course asks for more days than it can have.
 fn put_days(text: &mut String, instance: &Instance<'_>, course: u32) -> Result<(), AllocError>
     requires { course < length instance.now.courses }
 {
@@ -170,7 +170,7 @@ fn put_days(text: &mut String, instance: &Instance<'_>, course: u32) -> Result<(
     )
 }
 
-/// Appends the line of a course that has more students than any room has seats.
+/// Appends a line if a course has more students than any room has seats.
 fn put_students(
     text: &mut String,
     instance: &Instance<'_>,
@@ -199,7 +199,7 @@ fn put_students(
     )
 }
 
-/// Appends the lines about each course; returns whether one of them can't be.
+/// Appends the lines about each course; returns whether one of the courses is impossible.
 fn put_courses(
     text: &mut String,
     instance: &Instance<'_>,
@@ -215,7 +215,7 @@ fn put_courses(
     Ok(some)
 }
 
-/// Appends a line for each thing that should be looked at, or one that there is none; returns whether something can't be.
+/// Appends a line for each thing that should be checked, or a line that there is none; returns whether something is impossible.
 pub fn put_advice(
     text: &mut String,
     instance: &Instance<'_>,

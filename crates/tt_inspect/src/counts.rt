@@ -1,4 +1,4 @@
-//! What is counted once of an instance, for all that is said of it.
+//! Numbers that are counted once for an instance and used by all texts about it.
 
 use std::alloc::{AllocError, Global};
 use tt_instance::Instance;
@@ -8,15 +8,15 @@ use tt_instance::Instance;
 pub struct Counts {
     /// The lectures of each course.
     lectures: Vec<u64>,
-    /// In how many periods of the week each course can meet.
+    /// The number of periods of the week in which each course can have a lecture.
     open: Vec<u64>,
-    /// In how many curricula each course is.
+    /// The number of curricula of each course.
     curricula: Vec<u64>,
     /// The courses of each teacher.
     taught: Vec<Vec<u32>>,
 }
 
-/// In how many periods of the week one of the courses can meet.
+/// Counts the periods of the week in which one of the courses can have a lecture.
 pub fn open_periods(instance: &Instance<'_>, courses: &[u32]) -> u64 {
     let mut open: u64 = 0;
     for day in 0..instance.days() {
@@ -32,7 +32,7 @@ pub fn open_periods(instance: &Instance<'_>, courses: &[u32]) -> u64 {
     open
 }
 
-/// The number at a place; 0 where there is none.
+/// Returns the number at a place; 0 if the place is out of range.
 fn at(counts: &[u64], course: u32) -> u64 {
     match counts.get(course as usize) {
         Some(count) => *count,
@@ -40,7 +40,7 @@ fn at(counts: &[u64], course: u32) -> u64 {
     }
 }
 
-/// The courses of each teacher.
+/// Returns the courses of each teacher.
 fn courses_by_teacher(alloc: Global, instance: &Instance<'_>) -> Result<Vec<Vec<u32>>, AllocError> {
     let mut taught: Vec<Vec<u32>> = Vec::new(alloc);
     for _ in 0..instance.teachers() {
@@ -54,7 +54,7 @@ fn courses_by_teacher(alloc: Global, instance: &Instance<'_>) -> Result<Vec<Vec<
     Ok(taught)
 }
 
-/// In how many curricula each course is.
+/// Counts the curricula of each course.
 fn curricula_by_course(alloc: Global, instance: &Instance<'_>) -> Result<Vec<u64>, AllocError> {
     let mut curricula = vec![in alloc; 0u64; instance.courses() as usize]?;
     for curriculum in 0..instance.curricula() {
@@ -68,7 +68,7 @@ fn curricula_by_course(alloc: Global, instance: &Instance<'_>) -> Result<Vec<u64
 }
 
 impl Counts {
-    /// Counts in an instance.
+    /// Computes the counts of an instance.
     pub fn of(alloc: Global, instance: &Instance<'_>) -> Result<Counts, AllocError> {
         let mut lectures = Vec::new(alloc);
         let mut open = Vec::new(alloc);
@@ -84,7 +84,7 @@ impl Counts {
         })
     }
 
-    /// The lectures of courses.
+    /// Counts the lectures of courses.
     pub fn lectures_of(&self, courses: &[u32]) -> u64 {
         let mut lectures: u64 = 0;
         for course in courses {
@@ -93,7 +93,7 @@ impl Counts {
         lectures
     }
 
-    /// The lectures of all courses.
+    /// Counts the lectures of all courses.
     pub fn lectures(&self) -> u64 {
         let mut lectures: u64 = 0;
         for count in &self.lectures {
@@ -102,12 +102,12 @@ impl Counts {
         lectures
     }
 
-    /// In how many periods of the week a course can meet.
+    /// Returns the number of periods of the week in which a course can have a lecture.
     pub fn open(&self, course: u32) -> u64 {
         at(&self.open, course)
     }
 
-    /// In how many periods that course of some can meet which can in the most.
+    /// Returns the maximum, over some courses, of the number of periods in which a course can have a lecture.
     pub fn most_open(&self, courses: &[u32]) -> u64 {
         let mut most: u64 = 0;
         for course in courses {
@@ -116,12 +116,12 @@ impl Counts {
         most
     }
 
-    /// Whether a course is in a curriculum.
+    /// Returns whether a course is in a curriculum.
     pub fn is_in_a_curriculum(&self, course: u32) -> bool {
         at(&self.curricula, course) > 0
     }
 
-    /// The courses of a teacher.
+    /// Returns the courses of a teacher.
     pub fn taught_by(&self, teacher: u32) -> &[u32] {
         match self.taught.get(teacher as usize) {
             Some(courses) => courses.as_slice(),

@@ -1,22 +1,22 @@
-//! The line of a text that is shown, and the mark below it.
+//! A line of a text, and a mark below it.
 
 use crate::place::place_of;
 use crate::shown::Shown;
 use std::alloc::AllocError;
 
-/// The most bytes of a line that are shown, and the most of them before the mark.
+/// The maximum number of bytes of a line that are shown, and the maximum of these before the mark.
 const MAX_SHOWN: usize = 120;
 
 const MAX_BEFORE: usize = 60;
 
-/// A part of a line, and how many of its bytes come before the place that is marked.
+/// A part of a line, and how many of its bytes come before the marked place.
 #[derive(Clone, Copy)]
 struct Excerpt<'a> {
     line: &'a [u8],
     before: usize,
 }
 
-/// What is shown of the line of an offset.
+/// Returns the part that is shown of the line of an offset.
 fn shown_part(bytes: &[u8], offset: usize) -> Excerpt<'_> {
     let at = offset.min(bytes.len());
     let column = place_of(bytes, at).column;
@@ -33,7 +33,7 @@ fn shown_part(bytes: &[u8], offset: usize) -> Excerpt<'_> {
     }
 }
 
-/// Appends the line of an offset, with a mark below the offset; nothing where the line has no byte.
+/// Appends the line of an offset, with a mark below the offset; nothing if the line is empty.
 pub fn put_excerpt(text: &mut String, bytes: &[u8], offset: usize) -> Result<(), AllocError> {
     let excerpt = shown_part(bytes, offset);
     if excerpt.line.is_empty() {

@@ -1,4 +1,4 @@
-//! Where a fault is, what is there and what was expected.
+//! The place of a fault, the word found there and what was expected.
 
 use crate::excerpt::put_excerpt;
 use crate::place::place_of;
@@ -6,7 +6,7 @@ use crate::shown::Name;
 use std::alloc::AllocError;
 use tt_text::Tokens;
 
-/// Appends the line and the column of a fault, the word that is there, what was expected, and the line.
+/// Appends the line and the column of a fault, the word found there, what was expected, and the line.
 pub fn put_place(
     text: &mut String,
     bytes: &[u8],
@@ -32,14 +32,14 @@ pub fn put_place(
     put_excerpt(text, bytes, offset)
 }
 
-/// The word at an offset; none at the end.
+/// Returns the word at an offset; `None` at the end.
 pub fn word_at(bytes: &[u8], offset: usize) -> Option<&[u8]> {
     let at = offset.min(bytes.len());
     let token = Tokens::new(&bytes[at..]).next()?;
     Some(token.bytes)
 }
 
-/// What a file begins with that no text of this format does, in words.
+/// Returns, in words, which beginning of the file no text of this format can have.
 pub fn encoding_fault(bytes: &[u8]) -> Option<&'static str> {
     match bytes {
         [0xEF, 0xBB, 0xBF, ..] => {

@@ -1,4 +1,4 @@
-//! What is said of an instance, and of a solution of it.
+//! Texts about an instance, and about a solution of it.
 
 use crate::advice::put_advice;
 use crate::counts::Counts;
@@ -9,14 +9,14 @@ use tt_instance::Instance;
 use tt_rules::Score;
 use tt_table::Timetable;
 
-/// What is said, and whether nothing was seen that can't be or is broken.
+/// The text, and whether it reports nothing that is impossible or broken.
 #[derive(Debug, Drop)]
 pub struct Inspected {
     pub text: String,
     pub sound: bool,
 }
 
-/// What there is in an instance, and what should be looked at.
+/// Describes the contents of an instance, and what should be checked.
 pub fn inspect_instance(alloc: Global, instance: &Instance<'_>) -> Result<Inspected, AllocError> {
     let counts = Counts::of(alloc, instance)?;
     let mut text = String::new(alloc);
@@ -28,7 +28,7 @@ pub fn inspect_instance(alloc: Global, instance: &Instance<'_>) -> Result<Inspec
     })
 }
 
-/// The same, and what a solution with this score breaks and costs.
+/// Describes the contents of an instance, what should be checked, and what a solution with this score breaks and costs.
 pub fn inspect_solution(
     alloc: Global,
     instance: &Instance<'_>,

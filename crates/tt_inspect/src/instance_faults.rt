@@ -1,4 +1,4 @@
-//! Why bytes are no instance, in words.
+//! Why bytes are not an instance, in words.
 
 use crate::faulty_place::{encoding_fault, put_place, word_at};
 use crate::place::place_of;
@@ -8,7 +8,7 @@ use crate::survey::{Survey, look_at, missing_word};
 use std::alloc::{AllocError, Global};
 use tt_instance::InstanceFault;
 
-/// The offset of a fault; none of being out of memory.
+/// Returns the offset of a fault; `None` for being out of memory.
 fn offset_of(fault: InstanceFault) -> Option<usize> {
     match fault {
         InstanceFault::Ended(at)
@@ -22,7 +22,7 @@ fn offset_of(fault: InstanceFault) -> Option<usize> {
     }
 }
 
-/// What was expected where a fault is.
+/// Returns what was expected at a fault.
 fn expected(fault: InstanceFault) -> &'static str {
     match fault {
         InstanceFault::Ended(_) => "more",
@@ -36,7 +36,7 @@ fn expected(fault: InstanceFault) -> &'static str {
     }
 }
 
-/// What is usually wrong where nothing else is seen.
+/// Returns what is usually wrong if no other reason is found.
 fn usual_reason(fault: InstanceFault) -> &'static str {
     match fault {
         InstanceFault::Ended(_) => "the end of the file is missing",
@@ -124,7 +124,7 @@ fn put_reason(
     writeln!(text, "likely: {usual}")
 }
 
-/// Why bytes are no instance: the fault as each command prints it, its line and column, what is there, what was expected,
+/// Explains why bytes are not an instance: the fault as each command prints it, its line and column, the word found there, what was expected,
 /// the line, and the likely reason.
 pub fn explain_instance(
     alloc: Global,

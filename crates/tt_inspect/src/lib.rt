@@ -1,4 +1,4 @@
-//! What an instance or a solution is, what should be looked at, and why a file is refused, in words for people.
+//! Descriptions of an instance or a solution, what should be checked, and why a file is refused, in words for people.
 #![tactic(auto)]
 
 mod advice;

@@ -1,14 +1,14 @@
-//! Names that are worth a look, a line for each kind.
+//! Names that should be checked, a line for each kind.
 
 use crate::counts::Counts;
 use crate::shown::{Counted, Name};
 use std::alloc::AllocError;
 use tt_instance::Instance;
 
-/// The most names of a line.
+/// The maximum number of names of a line.
 const MAX_NAMES: usize = 8;
 
-/// Appends names after a space each, not all of them where they are many.
+/// Appends names, each after a space, and not all of them if there are many.
 fn put_names(text: &mut String, names: &[Name<'_>]) -> Result<(), AllocError> {
     for (index, name) in names.iter().enumerate() {
         if index == MAX_NAMES {
@@ -20,7 +20,7 @@ fn put_names(text: &mut String, names: &[Name<'_>]) -> Result<(), AllocError> {
     text.push_str("\n")
 }
 
-/// Appends the line of those courses that are in no curriculum, where there are some.
+/// Appends a line of the courses that are in no curriculum, if there are any.
 pub fn put_courses_without_curriculum(
     text: &mut String,
     instance: &Instance<'_>,
@@ -42,7 +42,7 @@ pub fn put_courses_without_curriculum(
     put_names(text, &names)
 }
 
-/// Appends the line of those curricula that have fewer than two courses, where there are some.
+/// Appends a line of the curricula that have fewer than two courses, if there are any.
 pub fn put_small_curricula(text: &mut String, instance: &Instance<'_>) -> Result<(), AllocError> {
     let mut names = Vec::new(*text.allocator());
     for curriculum in 0..instance.curricula() {
@@ -60,7 +60,7 @@ pub fn put_small_curricula(text: &mut String, instance: &Instance<'_>) -> Result
     put_names(text, &names)
 }
 
-/// The students of the smallest course; none where there is no course.
+/// Returns the number of students of the smallest course; `None` if there is no course.
 fn fewest_students(instance: &Instance<'_>) -> Option<u32> {
     let mut fewest: Option<u32> = None;
     for course in 0..instance.courses() {
@@ -73,7 +73,7 @@ fn fewest_students(instance: &Instance<'_>) -> Option<u32> {
     fewest
 }
 
-/// Appends the line of those rooms that seat no course, where there are some.
+/// Appends a line of the rooms that seat no course, if there are any.
 pub fn put_small_rooms(text: &mut String, instance: &Instance<'_>) -> Result<(), AllocError> {
     let Some(students) = fewest_students(instance) else {
         return Ok(());

@@ -1,4 +1,4 @@
-//! Where an offset is in a text.
+//! The line and the column of an offset in a text.
 
 ghost use Rattle.std.specs.Prelude.{◌≡◌, length, reverse};
 ghost use Rattle.std.specs.List.{take_while};
@@ -11,7 +11,7 @@ pub struct Place {
     pub column: usize,
 }
 
-/// How many bytes follow the last line feed.
+/// Returns how many bytes follow the last line feed.
 fn last_line_len(bytes: &[u8]) -> usize
     ensures { result ≡ length (take_while is_in_line (reverse bytes.now)) }
 {
@@ -22,7 +22,7 @@ fn last_line_len(bytes: &[u8]) -> usize
     len
 }
 
-/// Where an offset is in a text; the end of the text where the offset is past it.
+/// Returns the place of an offset in a text; the end of the text if the offset is past it.
 pub fn place_of(bytes: &[u8], offset: usize) -> Place
     ensures line { result.line ≡ line_of bytes.now offset }
     ensures column { result.column ≡ column_of bytes.now offset }

@@ -1,4 +1,4 @@
-//! The lines of an instance's file, as a person reads them: a course, a room, a curriculum or an unavailability a line.
+//! The lines of an instance's file as a person reads them: a course, a room, a curriculum or an unavailability a line.
 
 use tt_instance::Word;
 use tt_text::{NumberFault, Token, Tokens, number};
@@ -14,11 +14,11 @@ pub enum Section {
     End,
 }
 
-/// How many parts there are.
+/// The number of parts.
 pub const SECTIONS: usize = 6;
 
 impl Section {
-    /// The place of the part in the file, from 0.
+    /// Returns the place of the part in the file, from 0.
     pub fn index(self) -> usize {
         match self {
             Section::Head => 0,
@@ -30,7 +30,7 @@ impl Section {
         }
     }
 
-    /// The word of the header that says how many lines the part has, and the word that begins it.
+    /// Returns the word of the header that gives the number of lines of the part, and the word that begins it.
     pub fn words(self) -> Option<(Word, Word)> {
         match self {
             Section::Courses => Some((Word::Courses, Word::CoursesPart)),
@@ -41,7 +41,7 @@ impl Section {
         }
     }
 
-    /// What a line of the part has, in words.
+    /// Returns the contents of a line of the part, in words.
     pub fn line_words(self) -> &'static str {
         match self {
             Section::Courses => "a course has 5: name, teacher, lectures, days, students",
@@ -64,7 +64,7 @@ pub struct Row<'a> {
 }
 
 impl<'a> Row<'a> {
-    /// The words of a line.
+    /// Returns the words of a line.
     pub fn of(line: &'a [u8]) -> Row<'a> {
         let mut tokens = Tokens::new(line);
         let first = tokens.next();
@@ -83,7 +83,7 @@ impl<'a> Row<'a> {
         }
     }
 
-    /// Whether the first word is this one.
+    /// Returns whether the first word is this one.
     pub fn begins_with(&self, name: &[u8]) -> bool {
         match self.first {
             Some(token) => token.bytes == name,
@@ -91,7 +91,7 @@ impl<'a> Row<'a> {
         }
     }
 
-    /// The number that the second word is.
+    /// Returns the second word as a number.
     pub fn number(&self) -> Option<u64> {
         let token = self.second?;
         match number(&token, u64::from(u32::MAX)) {
@@ -100,7 +100,7 @@ impl<'a> Row<'a> {
         }
     }
 
-    /// The part that the line begins.
+    /// Returns the part that the line begins.
     pub fn begun(&self) -> Option<Section> {
         if self.begins_with(Word::CoursesPart.text()) {
             return Some(Section::Courses);
@@ -120,7 +120,7 @@ impl<'a> Row<'a> {
         None
     }
 
-    /// How many words a line of a part has; none where any number is right.
+    /// Returns how many words a line of a part must have; `None` if any number is right.
     pub fn wanted_words(&self, section: Section) -> Option<u64> {
         match section {
             Section::Courses => Some(5),
@@ -132,7 +132,7 @@ impl<'a> Row<'a> {
     }
 }
 
-/// The number of the first line of a part whose first word is this one.
+/// Returns the number of the first line of a part whose first word is this one.
 pub fn line_named(bytes: &[u8], section: Section, name: &[u8]) -> Option<usize> {
     let mut here = Section::Head;
     let mut number: usize = 0;

@@ -1,4 +1,4 @@
-//! What a solution breaks and costs, in words.
+//! The rules that a solution breaks and its costs, in words.
 
 use crate::shown::{Counted, Name};
 use std::alloc::AllocError;
@@ -6,7 +6,7 @@ use tt_instance::Instance;
 use tt_rules::Score;
 use tt_table::Timetable;
 
-/// Appends a line of how often a hard rule is broken, where it is.
+/// Appends a line that says how often a hard rule is broken, if it is.
 fn put_broken(text: &mut String, count: u64, rule: &str) -> Result<(), AllocError> {
     if count == 0 {
         return Ok(());
@@ -15,7 +15,7 @@ fn put_broken(text: &mut String, count: u64, rule: &str) -> Result<(), AllocErro
     writeln!(text, "broken {times}: {rule}")
 }
 
-/// Appends the lines of the hard rules that are broken, or one that none is.
+/// Appends the lines of the hard rules that are broken, or a line that none is.
 fn put_hard(text: &mut String, score: &Score) -> Result<(), AllocError> {
     if score.feasible() {
         return writeln!(text, "no hard rule is broken");
@@ -55,7 +55,7 @@ fn put_cost(text: &mut String, score: &Score) -> Result<(), AllocError> {
     )
 }
 
-/// Appends a line for each course that has other than its lectures.
+/// Appends a line for each course whose number of entries differs from its number of lectures.
 fn put_missing(
     text: &mut String,
     instance: &Instance<'_>,
@@ -81,7 +81,7 @@ fn put_missing(
     Ok(())
 }
 
-/// Appends what a solution breaks and costs, and the courses that have other than their lectures.
+/// Appends the rules that a solution breaks, its costs, and the courses whose number of entries differs from their number of lectures.
 pub fn put_score(
     text: &mut String,
     instance: &Instance<'_>,

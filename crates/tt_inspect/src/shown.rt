@@ -1,11 +1,11 @@
-//! Bytes of a file as they are shown: printable, and not too many.
+//! Bytes of a file in the form in which they are shown: printable, and not too many.
 
 use std::fmt;
 
-/// The most bytes that are shown of a name.
+/// The maximum number of bytes of a name that are shown.
 const MAX_NAME: usize = 60;
 
-/// Bytes of a file, each that is no printable letter of ASCII shown as `?`, so that none can steer a terminal.
+/// Bytes of a file; each that is not a printable letter of ASCII is shown as `?`, so that none can control a terminal.
 #[derive(Clone, Copy)]
 pub struct Shown<'a> {
     pub bytes: &'a [u8],
@@ -24,7 +24,7 @@ impl<'a> fmt::Display for Shown<'a> {
     }
 }
 
-/// A name of a file, cut where it is long.
+/// A name of a file, cut if it is long.
 #[derive(Clone, Copy)]
 pub struct Name<'a> {
     pub bytes: &'a [u8],
@@ -51,7 +51,7 @@ pub struct Counted<'a> {
 }
 
 impl<'a> Counted<'a> {
-    /// A number, with the word for one thing and the word for more.
+    /// Creates a number with the word for one thing and the word for several.
     pub fn new(count: u64, one: &'a str, many: &'a str) -> Self {
         Counted { count, one, many }
     }

@@ -1,4 +1,4 @@
-//! Why bytes are no solution, in words.
+//! Why bytes are not a solution, in words.
 
 use crate::faulty_place::{encoding_fault, put_place};
 use crate::place::place_of;
@@ -8,7 +8,7 @@ use std::alloc::{AllocError, Global};
 use tt_instance::Word;
 use tt_table::SolutionFault;
 
-/// The offset of a fault; none of being out of memory.
+/// Returns the offset of a fault; `None` for being out of memory.
 fn offset_of(fault: SolutionFault) -> Option<usize> {
     match fault {
         SolutionFault::Ended(at)
@@ -21,7 +21,7 @@ fn offset_of(fault: SolutionFault) -> Option<usize> {
     }
 }
 
-/// What was expected where a fault is.
+/// Returns what was expected at a fault.
 fn expected(fault: SolutionFault) -> &'static str {
     match fault {
         SolutionFault::Ended(_) => "more",
@@ -34,7 +34,7 @@ fn expected(fault: SolutionFault) -> &'static str {
     }
 }
 
-/// What is usually wrong where nothing else is seen.
+/// Returns what is usually wrong if no other reason is found.
 fn usual_reason(fault: SolutionFault) -> &'static str {
     match fault {
         SolutionFault::Ended(_) => "the last line is cut",
@@ -50,7 +50,7 @@ fn usual_reason(fault: SolutionFault) -> &'static str {
     }
 }
 
-/// The first line up to this one that has some words and not four, and how many it has.
+/// Returns the first line up to this one that has words, but not four, and how many it has.
 fn odd_line(bytes: &[u8], asked: usize) -> Option<(usize, usize)> {
     let mut number: usize = 0;
     for line in bytes.split(|byte| *byte == b'\n') {
@@ -93,7 +93,7 @@ fn put_reason(
     writeln!(text, "likely: {usual}")
 }
 
-/// Why bytes are no solution of an instance, as `explain_instance` says it of one.
+/// Explains why bytes are not a solution of an instance, in the form of `explain_instance`.
 pub fn explain_solution(
     alloc: Global,
     bytes: &[u8],

@@ -1,11 +1,11 @@
-//! What there is in an instance.
+//! The contents of an instance.
 
 use crate::counts::Counts;
 use crate::shown::Counted;
 use std::alloc::AllocError;
 use tt_instance::Instance;
 
-/// A part of a whole in percent, rounded down.
+/// Returns a part of a whole in percent, rounded down.
 fn percent(part: u64, whole: u64) -> u64 {
     if whole == 0 {
         return 0;
@@ -13,17 +13,17 @@ fn percent(part: u64, whole: u64) -> u64 {
     part.saturating_mul(100) / whole
 }
 
-/// The periods of the week.
+/// Returns the number of periods of the week.
 pub fn periods_of_week(instance: &Instance<'_>) -> u64 {
     u64::from(instance.days()).saturating_mul(u64::from(instance.periods()))
 }
 
-/// The places for lectures: rooms in periods of the week.
+/// Returns the number of places for lectures: rooms in periods of the week.
 pub fn places(instance: &Instance<'_>) -> u64 {
     periods_of_week(instance).saturating_mul(u64::from(instance.rooms()))
 }
 
-/// The line of what there is to plan.
+/// Appends the line of the things to plan.
 fn put_content(
     text: &mut String,
     instance: &Instance<'_>,
@@ -40,7 +40,7 @@ fn put_content(
     )
 }
 
-/// The line of how full the week is.
+/// Appends the line that says how full the week is.
 fn put_week(text: &mut String, instance: &Instance<'_>, lectures: u64) -> Result<(), AllocError> {
     let places = places(instance);
     let full = percent(lectures, places);
@@ -53,7 +53,7 @@ fn put_week(text: &mut String, instance: &Instance<'_>, lectures: u64) -> Result
     )
 }
 
-/// How many pairs of courses conflict.
+/// Counts the pairs of courses that conflict.
 fn conflicting_pairs(instance: &Instance<'_>) -> u64 {
     let mut pairs: u64 = 0;
     for second in 0..instance.courses() {
@@ -66,7 +66,7 @@ fn conflicting_pairs(instance: &Instance<'_>) -> u64 {
     pairs
 }
 
-/// The line of conflicts.
+/// Appends the line of conflicts.
 fn put_conflicts(text: &mut String, instance: &Instance<'_>) -> Result<(), AllocError> {
     let courses = u64::from(instance.courses());
     let all = courses.saturating_mul(courses.saturating_sub(1)) / 2;
@@ -79,7 +79,7 @@ fn put_conflicts(text: &mut String, instance: &Instance<'_>) -> Result<(), Alloc
     )
 }
 
-/// The seats of the largest room; none where there is no room.
+/// Returns the number of seats of the largest room; `None` if there is no room.
 pub fn most_seats(instance: &Instance<'_>) -> Option<u32> {
     let mut most: Option<u32> = None;
     for room in 0..instance.rooms() {
@@ -92,7 +92,7 @@ pub fn most_seats(instance: &Instance<'_>) -> Option<u32> {
     most
 }
 
-/// The lectures that have more students than any room has seats.
+/// Counts the lectures that have more students than any room has seats.
 fn lectures_above(instance: &Instance<'_>, seats: u32) -> u64 {
     let mut lectures: u64 = 0;
     for course in 0..instance.courses() {
@@ -103,7 +103,7 @@ fn lectures_above(instance: &Instance<'_>, seats: u32) -> u64 {
     lectures
 }
 
-/// The students of the largest course; 0 where there is no course.
+/// Returns the number of students of the largest course; 0 if there is no course.
 fn most_students(instance: &Instance<'_>) -> u32 {
     let mut most: u32 = 0;
     for course in 0..instance.courses() {
@@ -112,7 +112,7 @@ fn most_students(instance: &Instance<'_>) -> u32 {
     most
 }
 
-/// The line of seats and students.
+/// Appends the line of seats and students.
 fn put_seats(text: &mut String, instance: &Instance<'_>) -> Result<(), AllocError> {
     let Some(seats) = most_seats(instance) else {
         return writeln!(text, "there is no room");
@@ -133,7 +133,7 @@ fn put_seats(text: &mut String, instance: &Instance<'_>) -> Result<(), AllocErro
     )
 }
 
-/// Appends what there is in an instance: its parts, how full its week is, its conflicts and its seats.
+/// Appends the contents of an instance: its parts, how full its week is, its conflicts and its seats.
 pub fn put_summary(
     text: &mut String,
     instance: &Instance<'_>,

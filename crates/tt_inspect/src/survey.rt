@@ -1,4 +1,4 @@
-//! What can be seen in an instance's file without reading it as one: the words of its header, and the lines of its parts.
+//! What can be found in an instance's file without reading it as an instance: the words of its header, and the lines of its parts.
 
 use crate::rows::{Row, SECTIONS, Section};
 use tt_instance::Word;
@@ -19,18 +19,18 @@ pub struct OddLine {
     pub section: Section,
 }
 
-/// What was seen in a file.
+/// The observations about a file.
 #[derive(Clone, Copy)]
 pub struct Survey {
     tallies: [Tally; SECTIONS],
-    /// The part in which the line is that is asked for.
+    /// The part that contains the line asked for.
     pub section: Section,
-    /// The first line up to that one with too few words or too many.
+    /// The first line with too few or too many words, up to the line asked for.
     pub odd: Option<OddLine>,
 }
 
 impl Survey {
-    /// Takes what a line of the header says.
+    /// Records the number that a line of the header gives.
     fn take_head(&mut self, row: &Row<'_>) {
         for section in [
             Section::Courses,
@@ -47,7 +47,7 @@ impl Survey {
         }
     }
 
-    /// Takes a line of a part; `early` says whether it is no later than the line that is asked for.
+    /// Records a line of a part; `early` says whether it is at or before the line asked for.
     fn take_row(&mut self, row: &Row<'_>, section: Section, number: usize, early: bool) {
         if row.words == 0 {
             return;
@@ -67,7 +67,7 @@ impl Survey {
         }
     }
 
-    /// The first part, up to the one of the line that is asked for, that has other than as many lines as the header says.
+    /// Returns the first part, up to the one with the line asked for, whose number of lines differs from the number that the header gives.
     pub fn miscounted(&self) -> Option<(Section, u64, u64)> {
         for section in [
             Section::Courses,
@@ -89,7 +89,7 @@ impl Survey {
     }
 }
 
-/// Looks at a file, up to a line and at what follows.
+/// Surveys a file, both up to a line and after it.
 pub fn look_at(bytes: &[u8], asked: usize) -> Survey {
     let none = Tally {
         said: None,
@@ -119,7 +119,7 @@ pub fn look_at(bytes: &[u8], asked: usize) -> Survey {
     seen
 }
 
-/// The words that each instance has, in their order.
+/// The words that each instance has, in order.
 const WORDS: [Word; 12] = [
     Word::Name,
     Word::Courses,
@@ -135,7 +135,7 @@ const WORDS: [Word; 12] = [
     Word::End,
 ];
 
-/// Whether a word is in a file.
+/// Returns whether a word is in a file.
 fn has_word(bytes: &[u8], word: &[u8]) -> bool {
     let mut tokens = Tokens::new(bytes);
     while let Some(token) = tokens.next() {
@@ -146,7 +146,7 @@ fn has_word(bytes: &[u8], word: &[u8]) -> bool {
     false
 }
 
-/// The first word of those that each instance has which is nowhere in a file.
+/// Returns the first word, of those that each instance has, that is missing from a file.
 pub fn missing_word(bytes: &[u8]) -> Option<Word> {
     for word in WORDS {
         if !has_word(bytes, word.text()) {

@@ -1,4 +1,4 @@
--- Unavailabilities: what is read is spelled, and what is spelled is read. Each is kept once.
+-- Unavailabilities: those that are read are spelled, and those that are spelled are read. Each is stored once.
 use Rattle.std.proofs.Common.{◌≡◌, ℕ, ◌<◌, List, [], ◌∷◌, ◌++◌, length, Result, Ok, sym, ap, subst}
 use Rattle.std.specs.Prelude.{All}
 use Rattle.std.specs.List.{flat_map}
@@ -20,16 +20,16 @@ use Rattle.tt_instance.proofs.NameLaws.{AreNamed, named_takes, named_reads}
 use Rattle.tt_instance.proofs.Repeating.{bars_repeat}
 use Rattle.tt_instance.proofs.SeriesLaws.{OneTaken, ManyTaken, series_takes, series_reads}
 
--- the unavailabilities that are kept of those that are listed
+-- the listed unavailabilities, each once
 abbrev pub bars_once : List Bar → List Bar
 bars_once bs = distinct same_bar bs
 
 module _ (cs : List Course) (days periods : ℕ) where
-  -- an unavailability is one of these courses and periods, whatever stands before it
+  -- an unavailability has one of these courses and periods, regardless of the unavailabilities before it
   abbrev pub IsNextBar : List Bar → Bar → Type 0
   IsNextBar _ b = IsBar (length cs) days periods b
 
-  -- what reading this many unavailabilities gave
+  -- the result of reading this many unavailabilities
   abbrev pub BarsTaken : ℕ → List Placed → List Bar × List Placed → Type 0
   BarsTaken n ts x = ManyTaken bars_once (bar_pieces cs) IsNextBar n [] ts x
 

@@ -1,4 +1,4 @@
--- Each part of the reader of an instance, beside itself over other tokens.
+-- Each part of the reader of an instance, compared with itself over other tokens.
 use Rattle.std.proofs.Common.{◌≡◌, ◌≢◌, ℕ, zero, suc, ◌-◌, ◌*◌, Bool, true, false, cond, List, [], ◌∷◌, ◌++◌, length, Option, Some, None, Result, Ok, Err, refl, sym, ◌∙◌}
 use Rattle.std.specs.Prelude.{◌==◌, nat_lt, Any}
 use Rattle.tt_text.specs.Tokens.{Placed, tokens_of}
@@ -26,11 +26,11 @@ abbrev new_test : ℕ → Bool → Result (Unit {0}) InstanceFault
 new_test at old = cond old (Err (fault.Repeated at)) (Ok tt)
 
 module _ (at end other : ℕ) where
-  -- a reader of a text that ends there, and of another
+  -- a reader of a text that ends at `end`, and of another that ends at `other`
   abbrev Reads : {X : Type 0} → (ℕ → List Placed → Result (X × List Placed) InstanceFault) → Type 0
   Reads f = ReadsAlike token_offset at (Unit {0}) (f end) (f other)
 
-  -- one that gives only the tokens that are left
+  -- a reader that returns only the tokens that are left
   abbrev Skips : (ℕ → List Placed → Result (List Placed) InstanceFault) → Type 0
   Skips f = SkipsAlike token_offset at (Unit {0}) (f end) (f other)
 
@@ -75,7 +75,7 @@ module _ (at end other : ℕ) where
 
   -- ---- courses and rooms
 
-  -- one more course
+  -- another course
   course_alike : (before : List Course) → Reads (λ e. course_at e before)
   unfolding course_at
   course_alike before =
@@ -88,7 +88,7 @@ module _ (at end other : ℕ) where
   courses_alike zero before = ok_reads before
   courses_alike (suc n) before = then_reads _ _ (course_alike before) (λ more. courses_alike n more)
 
-  -- one more room
+  -- another room
   room_alike : (before : List Room) → Reads (λ e. room_at e before)
   unfolding room_at
   room_alike before = then_token _ _ _ _ refl (λ id n. then_verdict _ _ _ _ (new_test_same id n _) (λ new. then_reads _ _ (on_condition (limited_alike _)) (λ capacity. ok_reads _)))
@@ -106,7 +106,7 @@ module _ (at end other : ℕ) where
   unfolding named_at
   named_alike ids = then_token _ _ _ _ refl (λ t n. then_verdict _ _ _ _ (known_same t n _) (λ i. ok_reads i))
 
-  -- one more member
+  -- another member
   member_alike : (ids : List (List ℕ)) (before : List ℕ) → Reads (λ e. member_at e ids before)
   unfolding member_at
   member_alike ids before = then_reads _ _ (named_alike ids) (λ c. ok_reads _)
@@ -117,7 +117,7 @@ module _ (at end other : ℕ) where
   members_alike ids zero before = ok_reads before
   members_alike ids (suc n) before = then_reads _ _ (member_alike ids before) (λ more. members_alike ids n more)
 
-  -- one more curriculum
+  -- another curriculum
   curriculum_alike : (ids : List (List ℕ)) (before : List Curriculum) → Reads (λ e. curriculum_at e ids before)
   unfolding curriculum_at
   curriculum_alike ids before =
@@ -130,7 +130,7 @@ module _ (at end other : ℕ) where
   curricula_alike ids zero before = ok_reads before
   curricula_alike ids (suc n) before = then_reads _ _ (curriculum_alike ids before) (λ more. curricula_alike ids n more)
 
-  -- one more unavailability
+  -- another unavailability
   bar_alike : (ids : List (List ℕ)) (days periods : ℕ) (before : List Bar) → Reads (λ e. bar_at e ids days periods before)
   unfolding bar_at
   bar_alike ids days periods before = then_reads _ _ (named_alike ids) (λ course. then_reads _ _ (below_alike days) (λ day. then_reads _ _ (below_alike periods) (λ period. ok_reads _)))
@@ -149,7 +149,7 @@ module _ (at end other : ℕ) where
   name_test_stays before ts true more none stays = none
   name_test_stays before ts false more none stays = stays
 
-  -- the tokens before the word that ends the name
+  -- reading a name whose tokens are not at the offset of the fault
   name_stays : (before : List (List ℕ)) (ts : List Placed) → NoneAt at ts → Stays token_offset at (NoneLeft token_offset at) (name_at end before ts)
   unfolding name_at
   name_stays before [] none = λ e. cc
@@ -162,7 +162,7 @@ module _ (at end other : ℕ) where
   name_test_joins before ts us true more also shared joins = ok_joins token_offset at before ts us shared
   name_test_joins before ts us false more also shared joins = joins
 
-  -- these tokens, in both
+  -- the name, from tokens that both texts share
   name_joins : (before : List (List ℕ)) (ts us : List Placed) → Shared at ts us
       → Joins token_offset at (NoneLeft token_offset at) (SharedLeft token_offset at) (name_at end before ts) (name_at other before us)
   unfolding name_at
@@ -201,9 +201,9 @@ module _ (at end other : ℕ) where
       then_reads _ _ (limited_alike _) (λ courses. then_reads _ _ (counted_alike word.Rooms _) (λ rooms. then_reads _ _ days_alike (λ days. then_reads _ _ (periods_alike _ days) (λ periods.
       then_reads _ _ (counted_alike word.Curricula _) (λ curricula. then_reads _ _ (counted_alike word.Constraints _) (λ bars. ok_reads _))))))
 
-  -- ---- the sections, and the whole
+  -- -- the sections, and the whole instance
 
-  -- the courses and rooms
+  -- the courses and the rooms
   places_alike : (counts : Counts) → Reads (λ e. places_at e counts)
   unfolding places_at
   places_alike counts =
@@ -218,12 +218,12 @@ module _ (at end other : ℕ) where
       then_skips _ _ (word_alike word.UnavailabilityPart) (then_reads _ _ (bars_alike ids counts.days counts.periods counts.bars []) (λ bars.
       then_skips _ _ (word_alike word.End) (ok_reads _)))))
 
-  -- all that comes after the header
+  -- all sections after the header
   sections_alike : (counts : Counts) → Reads (λ e. sections_at e counts)
   unfolding sections_at
   sections_alike counts = then_reads _ _ (places_alike counts) (λ places. then_reads _ _ (groups_alike counts (ids_of places.0)) (λ groups. ok_reads _))
 
--- an instance from these tokens of a text that ends there
+-- the instance of these tokens, for a text that ends at this offset
 abbrev pub instance_from : ℕ → List Placed → Result Problem InstanceFault
 instance_from end ts =
     word_at end word.Name ts >>= λ ts1.
@@ -251,15 +251,15 @@ pub read_from : (bytes : List ℕ) → instance_of bytes ≡ instance_from (leng
 unfolding instance_of
 read_from bytes = refl
 
--- ---- what a fault that is told of a token says
+-- -- the meaning of a fault at a token
 
--- that token stands in the bytes
+-- a token of the bytes begins at the offset of the fault
 pub fault_stands : (bytes : List ℕ) (e : InstanceFault) (at : ℕ) → instance_of bytes ≡ Err e → token_offset e ≡ Some at → Any (λ t. t.at ≡ at) (tokens_of bytes)
 fault_stands bytes e at failed told =
     let end : ℕ = length bytes in
     told_stands token_offset at (instance_from end) (instance_from end) (instance_alike at end end) (tokens_of bytes) e (sym (read_from bytes) ∙ failed) told
 
--- bytes that begin so spell no instance
+-- bytes that begin the same way spell no instance
 pub fault_stays : (bytes other : List ℕ) (e : InstanceFault) (at : ℕ) → instance_of bytes ≡ Err e → token_offset e ≡ Some at → BeginsAs at bytes other → (p : Problem) → ¬ Spells other p
 fault_stays bytes other e at failed told begins p spelled =
     let end : ℕ = length bytes in

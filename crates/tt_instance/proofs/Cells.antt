@@ -1,4 +1,4 @@
--- The periods and the cells of an instance: each is in range, and there once.
+-- The periods and the cells of an instance: each is in range and occurs once.
 use Rattle.std.proofs.Common.{◌≡◌, ℕ, ◌≤◌, ◌<◌, Bool, true, cond, ◌&&◌, map, length, refl, ap, ◌∙◌, arith, eqb-true, eq-eqb}
 use Rattle.std.specs.Prelude.{◌==◌, sum_by, count_by, flat_map}
 use Rattle.std.specs.List.{list_all, AllByRecursion}
@@ -48,7 +48,7 @@ each_cell p =
     each_map (InRange p) (cell c r) (all_slots p)
     (each_weaker (IsSlot p) (λ s. InRange p (cell c r s)) (λ s i. record { course = h; room = k; day = i.day; period = i.period }) (all_slots p) (each_slot p))))))
 
--- a test that each cell in range passes
+-- a test of all cells passes if each cell in range passes it
 pub all_cells_pass : (q : Problem) (t : Cell → Bool) → ((y : Cell) → InRange q y → t y ≡ true) → list_all t (all_cells q) ≡ true
 all_cells_pass q t h =
     cells_nested q t
@@ -57,9 +57,9 @@ all_cells_pass q t h =
     all_below (λ d. list_all (λ s. t (cell c r (slot d s))) (range_below q.periods)) q.days (λ d hd.
     all_below (λ s. t (cell c r (slot d s))) q.periods (λ s hs. h (cell c r (slot d s)) (record { course = hc; room = hr; day = hd; period = hs })))))
 
--- ---- there once
+-- -- each once
 
--- one course, one room and one period
+-- both cells have the same course, room and period
 abbrev pub is_cell : Cell → Cell → Bool
 is_cell x y = ((x.course == y.course) && (x.room == y.room)) && is_at (slot_of y) x
 

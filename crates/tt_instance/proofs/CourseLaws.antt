@@ -1,4 +1,4 @@
--- Courses: what is read is spelled, and what is spelled is read.
+-- Courses: those that are read are spelled, and those that are spelled are read.
 use Rattle.std.proofs.Common.{◌≡◌, ℕ, ◌-◌, ◌≤◌, false, List, [], ◌∷◌, ◌++◌, length, Ok, refl, ap, subst, ◌∙◌, arith}
 use Rattle.std.specs.List.{flat_map}
 use Rattle.std.proofs.lemmas.List.Sums.{sum_by_push}
@@ -17,7 +17,7 @@ use Rattle.tt_instance.proofs.FieldLaws.{guard_passed, text_takes, limited_takes
 use Rattle.tt_instance.proofs.Repeating.{courses_repeat}
 use Rattle.tt_instance.proofs.SeriesLaws.{OneTaken, ManyTaken, series_takes, series_reads}
 
--- what reading this many courses gave
+-- the result of reading this many courses
 abbrev pub CoursesTaken : ℕ → List Placed → List Course × List Placed → Type 0
 CoursesTaken n ts x = ManyTaken (λ cs. cs) course_pieces IsNextCourse n [] ts x
 

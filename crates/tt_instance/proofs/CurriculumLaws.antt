@@ -1,4 +1,4 @@
--- Curricula: what is read is spelled, and what is spelled is read. Each member is kept once.
+-- Curricula: those that are read are spelled, and those that are spelled are read. Each member is stored once.
 use Rattle.std.proofs.Common.{◌≡◌, ℕ, false, List, [], ◌∷◌, ◌++◌, length, map, Ok, refl, sym, ap, subst, ◌∙◌, arith}
 use Rattle.std.specs.List.{flat_map}
 use Rattle.std.proofs.lemmas.List.{map_push}
@@ -19,17 +19,17 @@ use Rattle.tt_instance.proofs.MemberLaws.{once, members_take, members_read}
 use Rattle.tt_instance.proofs.Repeating.{curricula_repeat}
 use Rattle.tt_instance.proofs.SeriesLaws.{OneTaken, ManyTaken, series_takes, series_reads}
 
--- the curricula that are kept of those that are listed
+-- the listed curricula, with each member once
 abbrev pub all_kept : List Curriculum → List Curriculum
 all_kept qs = map members_kept qs
 
--- each keeps its name
+-- each curriculum preserves its name
 pub ids_kept : (qs : List Curriculum) → curriculum_ids_of (all_kept qs) ≡ curriculum_ids_of qs
 ids_kept [] = refl
 ids_kept (q ∷ qs) = ap (λ l. q.id ∷ l) (ids_kept qs)
 
 module _ (end : ℕ) (cs : List Course) where
-  -- what reading this many curricula gave
+  -- the result of reading this many curricula
   abbrev pub CurriculaTaken : ℕ → List Placed → List Curriculum × List Placed → Type 0
   CurriculaTaken n ts x = ManyTaken all_kept (curriculum_pieces cs) (IsNextCurriculum (length cs)) n [] ts x
 

@@ -1,4 +1,4 @@
--- What the limits say of one course, of one curriculum and of one unavailability.
+-- The limits on one course, on one curriculum and on one unavailability.
 use Rattle.std.specs.Prelude.{ℕ, ◌≤◌, ◌<◌, length, All}
 use Rattle.tt_instance.specs.declared.limit.TheConstants.{MAX_MEMBERS, MAX_MIN_DAYS, MAX_SEATS}
 use Rattle.tt_instance.specs.Problem.{Course, Curriculum, Bar}
@@ -6,7 +6,7 @@ use Rattle.tt_instance.specs.Problem.{Course, Curriculum, Bar}
 abbrev pub IsCourse : Course → Type 0
 IsCourse c = (c.min_days ≤ MAX_MIN_DAYS) × (c.students ≤ MAX_SEATS)
 
--- the members of a curriculum are courses, of which there are this many
+-- the members of a curriculum are numbers below this number of courses
 abbrev pub IsCurriculum : ℕ → Curriculum → Type 0
 IsCurriculum courses q = (length q.members ≤ MAX_MEMBERS) × All (λ c. c < courses) q.members
 

@@ -34,7 +34,7 @@ week days periods courses rooms curricula = record {
   bars = [];
 }
 
--- a of t1 and b of t2, each with one lecture
+-- course a of teacher t1 and course b of teacher t2, each with one lecture
 abbrev pub two_courses : List Course
 two_courses = course (codes "a") (codes "t1") 1 1 10 ∷ course (codes "b") (codes "t2") 1 1 12 ∷ []
 
@@ -44,7 +44,7 @@ both = record { id = codes "q"; members = 0 ∷ 1 ∷ [] } ∷ []
 abbrev pub mini : Problem
 mini = week 1 3 two_courses (room (codes "R") 11 ∷ []) both
 
--- neither course has its lecture in the second period
+-- the second period is unavailable to both courses
 abbrev pub gap : Problem
 gap = record mini { bars = bar 0 0 1 ∷ bar 1 0 1 ∷ [] }
 
@@ -61,7 +61,7 @@ two_rooms = room (codes "A") 10 ∷ room (codes "B") 10 ∷ []
 abbrev pub same : Problem
 same = week 1 1 (course (codes "x") (codes "t") 1 1 1 ∷ course (codes "y") (codes "t") 1 1 1 ∷ []) two_rooms []
 
--- two courses of two teachers, one room and one period
+-- two courses of two teachers, with only one room and one period
 abbrev pub apart : Problem
 apart = week 1 1 (course (codes "x") (codes "t1") 1 1 1 ∷ course (codes "y") (codes "t2") 1 1 1 ∷ []) (room (codes "A") 10 ∷ []) []
 
@@ -75,7 +75,7 @@ tour = week 3 1 (course (codes "x") (codes "t1") 3 3 1 ∷ []) two_rooms []
 
 -- ---- a file that is wrong at a token
 
--- the number of courses is none
+-- the text for the number of courses isn't a number
 abbrev wrong : List ℕ
 wrong = codes "Name: A Courses: x Rooms: 1"
 
@@ -87,7 +87,7 @@ texts_so_far : texts_of (tokens_up_to 17 wrong) ≡ codes "Name:" ∷ codes "A" 
 unfolding tokens_from
 texts_so_far = refl
 
--- where a token stands and what comes after says nothing
+-- the offsets of tokens, and the tokens that come after the fault, make no difference
 wrong_too : BeginsAs 17 wrong (codes " Name:  A  Courses:  x y")
 unfolding tokens_from
 wrong_too = record { more = codes "y" ∷ []; same = refl }

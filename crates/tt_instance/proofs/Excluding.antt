@@ -1,4 +1,4 @@
--- The rows of conflicts say what the definition of a conflict says.
+-- The rows of conflicts agree with the definition of a conflict.
 use Rattle.std.proofs.Common.{◌≡◌, ℕ, ◌≤◌, ◌<◌, Bool, true, false, not, ◌&&◌, ◌||◌, eqb, List, [], length, get_or, map, Some, None, slice_get, refl, sym, ap, subst, ◌∙◌, inl, inr, arith}
 use Rattle.std.specs.Prelude.{◌==◌, All}
 use Rattle.std.specs.List.{list_any}
@@ -24,7 +24,7 @@ use Rattle.tt_instance.specs.Seen.{course_seen, courses_seen, curriculum_seen, p
 use Rattle.tt_instance.specs.Indexed.{IsTeacher, IsMarked, IsIndexedParts, IsSquare, mark_at}
 use Rattle.tt_instance.proofs.Getting.{field_at}
 
--- two teachers are one where their numbers are
+-- two teachers are the same if their numbers are
 same_number : (names : List (List ℕ)) (s t : List ℕ) (i j : ℕ) (v : Bool) → is_text s t ≡ v → index_of_name names s ≡ Some i → index_of_name names t ≡ Some j → eqb j i ≡ v
 same_number names s t i j true e at_s at_t =
     let same : s ≡ t = same_text s t (sym e) in
@@ -40,15 +40,15 @@ same_number names s t i j false e at_s at_t = ne_eqb j i (λ one.
 abbrev teacher_of : Course → List ℕ
 teacher_of c = c.teacher
 
--- for each course whether it has this teacher
+-- for each course, whether it has this teacher
 abbrev flags_of : List CourseRow → ℕ → List Bool
 flags_of rows teacher = map (λ r. eqb r.teacher teacher) rows
 
--- both courses have one teacher, by name
+-- whether both courses have the same teacher, by name
 abbrev one_name : List CourseRow → ℕ → ℕ → Bool
 one_name rows a b = is_same_text (slice_get (map teacher_of (courses_seen rows)) a) (slice_get (map teacher_of (courses_seen rows)) b)
 
--- the flag of a teacher's course
+-- the flag of a course in the row of a teacher
 teacher_told : (names : List (List ℕ)) (rows : List CourseRow) (a b : ℕ) (x : CourseRow) → All (IsTeacher names) rows → a < length rows → x ≡ get_or rows a x
     → get_or (flags_of rows x.teacher) b false ≡ one_name rows a b
 teacher_told names rows a b x all in_a x_is = elim (cases_lt b (length rows)) [ inl lt ↦ here lt | inr le ↦ past le ]
@@ -82,7 +82,7 @@ module _ (count : ℕ) where
         absurd (false≢true (sym none ∙ marked.told c ∙ there))
   ]
 
-  -- and so are those of all
+  -- the members of each curriculum are courses
   pub all_within : (rows : List CurriculumRow) → All (λ r. IsMarked count r.members) rows → All (λ q. All (λ c. c < count) q.members.courses.items) rows
   all_within rows all k d h = members_within (get_or rows k d).members (all k d h)
 
@@ -90,11 +90,11 @@ module _ (count : ℕ) where
 ids_count : (a : Parts) → IsIndexedParts a → length a.courses.ids ≡ length a.courses.rows.items
 ids_count a is = ap length is.courses.ids_are ∙ simp length-map
 
--- for each course the courses that have its teacher
+-- for each course, the courses that have its teacher
 abbrev teacher_rows_of : List CourseRow → List (List Bool)
 teacher_rows_of rows = map (λ x. flags_of rows x.teacher) rows
 
--- each row is as long as there are rows
+-- the length of each row is the number of rows
 pub teacher_rows_square : (rows : List CourseRow) → IsSquare (teacher_rows_of rows)
 teacher_rows_square rows = All-map (λ (row : List Bool). length row ≡ length (teacher_rows_of rows)) (λ x. flags_of rows x.teacher) rows (λ k d h.
     length-map rows (λ r. eqb r.teacher (get_or rows k d).teacher) ∙ sym (length-map rows (λ x. flags_of rows x.teacher)))
@@ -110,7 +110,7 @@ members_have_rows p courses curricula first is courses_are curricula_are first_i
     (subst (λ n. All (λ (q : CurriculumRow). All (λ c. c < n) q.members.courses.items) p.curricula.rows.items) size
     (all_within (length p.courses.ids) p.curricula.rows.items is.curricula.marked))
 
--- their marks are the courses with one teacher
+-- the marks of these rows are the courses with the same teacher
 teacher_at : (p : Parts) (a b : ℕ) → IsIndexedParts p → mark_at (teacher_rows_of p.courses.rows.items) a b ≡ one_teacher (problem_seen p) a b
 teacher_at p a b is = elim (slice_get_cases p.courses.rows.items a).1 [
   | inl here ↦
@@ -125,7 +125,7 @@ teacher_at p a b is = elim (slice_get_cases p.courses.rows.items a).1 [
       ap (λ (row : List Bool). get_or row b false) (get_or_past (teacher_rows_of rows) a [] (simp length-map past.0)) ∙ rw none refl
 ]
 
--- the rows of conflicts, from those of teachers, with the members of curricula, and without each course's own mark
+-- the rows of conflicts: those of teachers, with the members of curricula added, and each course's own mark cleared
 pub rows_told : (p : Parts) (courses : List CourseRow) (curricula : List CurriculumRow) (first added cleared : List (List Bool)) → IsIndexedParts p
     → courses ≡ p.courses.rows.items → curricula ≡ p.curricula.rows.items
     → first ≡ teacher_rows_of courses

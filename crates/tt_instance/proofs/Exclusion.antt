@@ -1,4 +1,4 @@
--- Courses that exclude each other do so in both orders, and no course excludes itself.
+-- Conflicts of courses hold in both orders, and no course conflicts with itself.
 use Rattle.std.proofs.Common.{◌≡◌, ℕ, true, false, not, ◌&&◌, ◌||◌, List, Option, Some, None, slice_get, refl, sym, ◌∙◌, inl, inr, eqb-true, eq-eqb}
 use Rattle.std.specs.Prelude.{◌==◌}
 use Rattle.std.proofs.lemmas.Cmp.{nat_list_eq_equiv}

@@ -8,7 +8,7 @@ use Rattle.tt_lists.specs.Words.{has_number}
 use Rattle.tt_instance.specs.Problem.{Problem}
 use Rattle.tt_instance.specs.Courses.{in_curriculum, one_teacher, one_curriculum, conflict, no_curriculum}
 
--- two courses of one curriculum are one course or exclude each other
+-- two courses of one curriculum are the same course or conflict
 pub fellows : (p : Problem) (q a b : ℕ) → in_curriculum p q a ≡ true → in_curriculum p q b ≡ true → ((a == b) || conflict p a b) ≡ true
 fellows p q a b ha hb = elim (cases_Bool (a == b)) [
   | inl e ↦ or_left (a == b) (conflict p a b) e

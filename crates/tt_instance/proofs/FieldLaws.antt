@@ -1,4 +1,4 @@
--- Single fields: what is read is a piece of the file, and a piece of the file is read.
+-- Single fields: the token read is a piece of the file, and a piece of the file is read.
 use Rattle.std.proofs.Common.{◌≡◌, ℕ, ◌-◌, ◌<◌, ◌≤◌, Bool, true, false, cond, List, [], ◌∷◌, Result, Ok, Err, refl, subst, arith}
 use Rattle.tt_text.specs.Tokens.{Placed}
 use Rattle.tt_text.specs.Texts.{is_text}
@@ -15,7 +15,7 @@ use Rattle.tt_instance.specs.declared.fault.InstanceFault.TheVariants as fault
 use Rattle.tt_instance.specs.Words.{word_text, fixed}
 use Rattle.tt_instance.specs.Reading.{token_at, word_at, numbered, ranged, limited_at, below_at}
 
--- a guard that let pass
+-- a guard that passed
 pub guard_passed : {A : Type 0} (b : Bool) (d : InstanceFault) (f : Unit {0} → Result A InstanceFault) (y : A) → (cond b (Err d) (Ok tt) >>= f) ≡ Ok y → (b ≡ false) × (f tt ≡ Ok y)
 guard_passed true d f y e = absurd cc
 guard_passed false d f y e = (refl, e)
@@ -36,7 +36,7 @@ word_takes end w ts mid e =
     let g = test_ok (is_text (word_text w) a.0.0.text) (fault.Expected w a.0.0.at) (Ok a.0.1) mid a.2 in
     subst (Takes ts (fixed w ∷ [])) (ok_is a.0.1 mid g.1) (takes_piece (fault.Ended end) ts a.0 (fixed w) a.1 (text_is a.0.0.text (word_text w) g.0))
 
--- the next token is this word, and what follows begins with these pieces
+-- the next token is this word, and the tokens after it begin with these pieces
 pub record HasWord (end : ℕ) (w : Word) (ts : List Placed) (qs : List Piece) (rest : List Placed) : Type 0 where
   pub mid : List Placed
   pub is : word_at end w ts ≡ Ok mid
@@ -64,7 +64,7 @@ ranged_ok at (Ok m) n e = cc
 ranged_ok at (Err number.NotANumber) n e = absurd cc
 ranged_ok at (Err number.TooLarge) n e = absurd cc
 
--- a number that was read up to a limit is spelled, and within it
+-- a number that was read up to a limit is spelled, and it is within the limit
 pub limited_takes : (end limit : ℕ) (ts : List Placed) (x : ℕ × List Placed) → limited_at end limit ts ≡ Ok x → Takes ts (Number x.0 ∷ []) x.1 × (x.0 ≤ limit)
 unfolding limited_at
 limited_takes end limit ts x e =
@@ -80,7 +80,7 @@ limited_reads end limit ts n qs rest within h =
     let a = has_piece (fault.Ended end) ts (Number n) qs rest h in
     record { mid = a.token.1; is = rw (a.is, number_read limit a.token.0.text n a.piece within) refl; left = a.left }
 
--- a number that was read below a bound is spelled, and below it
+-- a number that was read below a bound is spelled, and it is below the bound
 pub below_takes : (end bound : ℕ) (ts : List Placed) (x : ℕ × List Placed) → 0 < bound → below_at end bound ts ≡ Ok x → Takes ts (Number x.0 ∷ []) x.1 × (x.0 < bound)
 unfolding below_at
 below_takes end bound ts x some e =

@@ -1,4 +1,4 @@
--- A field of a row is that field of what a contract sees.
+-- A field of a row is that field of the value that a contract sees.
 use Rattle.std.proofs.Common.{◌≡◌, ℕ, ◌≤◌, ◌<◌, List, length, get_or, map, Some, slice_get, refl, sym, ap, subst, ◌∙◌, arith}
 use Rattle.std.specs.Prelude.{All}
 use Rattle.std.specs.Option.{option_map}
@@ -20,25 +20,25 @@ use Rattle.tt_instance.proofs.Each.{IsCurriculum}
 use Rattle.tt_instance.proofs.CourseLimits.{IsFewCourse, each_few}
 
 module _ {X Y : Type 0} (f : X → Y) (xs : List X) (i : ℕ) (x : X) where
-  -- a field of what is seen of a row
+  -- a field of the value seen of a row
   pub field_at : {Z : Type 0} (g : Y → Z) → i < length xs → x ≡ get_or xs i x → slice_get (map g (map f xs)) i ≡ Some (g (f x))
   field_at g lt is = slice_get-map g (map f xs) i ∙ ap (option_map g) (slice_get-map f xs i ∙ ap (option_map f) (slice_get_read xs (length xs) i x refl lt is))
 
-  -- what is seen of a row
+  -- the value seen of a row
   row_at : (d : Y) → i < length xs → x ≡ get_or xs i x → get_or (map f xs) i d ≡ f x
   row_at d lt is = get_or-map f xs i x d lt ∙ ap f (sym is)
 
-  -- what holds of each that is seen
+  -- a property of each value seen holds of the one at a place
   holds_at : (Q : Y → Type 0) → All Q (map f xs) → i < length xs → x ≡ get_or xs i x → Q (f x)
   holds_at Q all lt is =
       let within : i < length (map f xs) = omega (arith, length-map xs f) in
       subst Q (row_at (f x) lt is) (All-get_or Q (map f xs) i (f x) within all)
 
-  -- a place of the list that is seen has a row
+  -- a place of the list seen has a row
   within_rows : (ys : List Y) → map f xs ≡ ys → i < length ys → i < length xs
   within_rows ys are lt = omega (arith, length-map xs f, ap length are)
 
-  -- the field, where the list that is seen has another name
+  -- the field, if the list seen has another name
   pub field_seen : {Z : Type 0} (g : Y → Z) (ys : List Y) → map f xs ≡ ys → i < length ys → x ≡ get_or xs i x → slice_get (map g ys) i ≡ Some (g (f x))
   field_seen g ys are lt is = subst (λ (zs : List Y). slice_get (map g zs) i ≡ Some (g (f x))) are (field_at g (within_rows ys are lt) is)
 

@@ -1,4 +1,4 @@
--- The name and the header: what is read is spelled, and what is spelled is read.
+-- The name and the header: those that are read are spelled, and those that are spelled are read.
 use Rattle.std.proofs.Common.{◌≡◌, ◌≢◌, ℕ, ◌*◌, ◌<◌, ◌≤◌, Bool, true, false, cond, ltb, eqb, List, [], ◌∷◌, ◌++◌, map, Ok, refl, sym, ap, subst, ◌∙◌, append_assoc, arith, codes}
 use Rattle.std.specs.Prelude.{All}
 use Rattle.std.proofs.lemmas.List.{append-nil}
@@ -20,18 +20,18 @@ use Rattle.tt_instance.proofs.FieldLaws.{word_takes, has_word, numbered_ok, limi
 
 -- ---- the name
 
--- a token that does not end the name
+-- a token that doesn't end the name
 abbrev pub IsNamePart : List ℕ → Type 0
 IsNamePart text = text ≢ codes "Courses:"
 
--- what reading the tokens before the word that ends the name gave
+-- the result of reading the tokens before the word that ends the name
 pub record NameTaken (before : List (List ℕ)) (ts : List Placed) (x : List (List ℕ) × List Placed) : Type 0 where
   pub name : List (List ℕ)
   pub list : x.0 ≡ before ++ name
   pub other : All IsNamePart name
   pub takes : Takes ts (map Text name ++ fixed word.Courses ∷ []) x.1
 
--- one token more in front
+-- another token in front
 name_step : (end : ℕ) (before : List (List ℕ)) (t : Placed) (ts : List Placed) (x : List (List ℕ) × List Placed) (v : Bool) → is_text (word_text word.Courses) t.text ≡ v
     → cond v (Ok (before, ts)) (name_at end (before ++ t.text ∷ []) ts) ≡ Ok x
     → (name_at end (before ++ t.text ∷ []) ts ≡ Ok x → NameTaken (before ++ t.text ∷ []) ts x) → NameTaken before (t ∷ ts) x
@@ -75,7 +75,7 @@ name_reads end before (n ∷ ns) (t ∷ ts) qs rest other h =
 
 -- ---- the counts
 
--- a word and a number that were read are spelled
+-- a word and a number that were read are spelled, and the number is within the limit
 counted_takes : (end : ℕ) (w : Word) (limit : ℕ) (ts : List Placed) (x : ℕ × List Placed) → counted_at end w limit ts ≡ Ok x → Takes ts (fixed w ∷ Number x.0 ∷ []) x.1 × (x.0 ≤ limit)
 unfolding counted_at
 counted_takes end w limit ts x e =
@@ -92,7 +92,7 @@ counted_reads end w limit ts n qs rest within h =
     let b = limited_reads end limit a.mid n qs rest within a.left in
     record { mid = b.mid; is = rw a.is b.is; left = b.left }
 
--- a number that is not 0 is above it
+-- a number that isn't 0 is above 0
 nonzero : (n : ℕ) → eqb n 0 ≡ false → 0 < n
 nonzero n e = grind (arith, nat_tests)
 
@@ -100,7 +100,7 @@ nonzero n e = grind (arith, nat_tests)
 not_zero : (n : ℕ) → 0 < n → eqb n 0 ≡ false
 not_zero n h = grind (arith, nat_tests)
 
--- days that were read are spelled, and within the limits
+-- days that were read are spelled and within the limits
 days_takes : (end : ℕ) (ts : List Placed) (x : ℕ × List Placed) → days_at end ts ≡ Ok x → Takes ts (fixed word.Days ∷ Number x.0 ∷ []) x.1 × (0 < x.0) × (x.0 ≤ 64)
 unfolding days_at
 days_takes end ts x e =
@@ -120,14 +120,14 @@ days_reads end ts n qs rest some within h =
     let t = has_piece (fault.Ended end) a.mid (Number n) qs rest a.left in
     record { mid = t.token.1; is = rw (a.is, t.is, number_read 64 t.token.0.text n t.piece within, not_zero n some) refl; left = t.left }
 
--- what a day's periods keep to
+-- the limits on the periods of a day
 pub record IsPeriods (pairs days n : ℕ) : Type 0 where
   pub some : 0 < n
   pub within : n ≤ 64
   pub slots : days * n ≤ 512
   pub cells : pairs * (days * n) ≤ 67108864
 
--- periods that were read are spelled, and within the limits
+-- periods that were read are spelled and within the limits
 periods_takes : (end pairs days : ℕ) (ts : List Placed) (x : ℕ × List Placed) → periods_at end pairs days ts ≡ Ok x → Takes ts (fixed word.PeriodsPerDay ∷ Number x.0 ∷ []) x.1 × IsPeriods pairs days x.0
 unfolding periods_at
 periods_takes end pairs days ts x e =
@@ -169,7 +169,7 @@ count_pieces c =
     Number c.courses ∷ fixed word.Rooms ∷ Number c.rooms ∷ fixed word.Days ∷ Number c.days ∷ fixed word.PeriodsPerDay ∷ Number c.periods
     ∷ fixed word.Curricula ∷ Number c.curricula ∷ fixed word.Constraints ∷ Number c.bars ∷ []
 
--- a header that was read is spelled, and within the limits
+-- a header that was read is spelled and within the limits
 pub header_takes : (end : ℕ) (ts : List Placed) (x : Counts × List Placed) → header_at end ts ≡ Ok x → Takes ts (count_pieces x.0) x.1 × IsHeader x.0
 unfolding header_at
 header_takes end ts x e =

@@ -1,4 +1,4 @@
--- The tables beside the rows keep up with one row more.
+-- The tables that go with the rows stay right if a row is added.
 use Rattle.std.proofs.Common.{◌≡◌, ℕ, ◌+◌, ◌≤◌, List, [], ◌∷◌, ◌++◌, length, map, Some, refl, sym, ap, ◌∙◌, not, true, false, Bool, arith}
 use Rattle.std.specs.Prelude.{fold}
 use Rattle.std.proofs.lemmas.List.{map_push, length-append}
@@ -15,12 +15,12 @@ use Rattle.tt_instance.specs.Seen.{course_seen, courses_seen, room_seen, rooms_s
 use Rattle.tt_instance.specs.Indexed.{IsIndexed, IsRoomsIndexed, IsTeacher, teachers_of}
 use Rattle.tt_instance.proofs.Naming.{length-with_name, index_of_name-with_name}
 
--- a name that is not there comes last
+-- a name that isn't in the list is added at the end
 pub fresh : (names : List (List ℕ)) (name : List ℕ) (v : Bool) → has_name names name ≡ v → not v ≡ true → with_name names name ≡ names ++ name ∷ []
 fresh names name true e h = absurd cc
 fresh names name false e h = rw e refl
 
--- the tables with one course more
+-- the tables with another course
 pub one_more : (old new : CourseList) (row : CourseRow) → IsIndexed old → new.rows.items ≡ old.rows.items ++ row ∷ [] → not (has_name old.ids row.id.now) ≡ true
     → new.ids ≡ with_name old.ids row.id.now → new.teachers ≡ with_name old.teachers row.teacher_name.now
     → index_of_name new.teachers row.teacher_name.now ≡ Some row.teacher → new.lectures ≡ old.lectures + row.lectures → new.lectures ≤ 4096 → IsIndexed new
@@ -40,7 +40,7 @@ one_more old new row was rows_are is_new ids_are teachers_are number_is total wi
           number_is);
     }
 
--- the names with one room more
+-- the names with another room
 pub one_room_more : (old new : RoomList) (row : RoomRow) → IsRoomsIndexed old → new.rows.items ≡ old.rows.items ++ row ∷ [] → not (has_name old.ids row.id.now) ≡ true
     → new.ids ≡ with_name old.ids row.id.now → IsRoomsIndexed new
 one_room_more old new row was rows_are is_new ids_are = record {

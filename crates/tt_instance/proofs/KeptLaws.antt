@@ -1,4 +1,4 @@
--- What is kept of the lines of a file: within the limits, each member and each unavailability once, and no more where each stands once.
+-- An instance without repeats: within the limits, each member and each unavailability once, and unchanged if each occurs once already.
 use Rattle.std.proofs.Common.{◌≡◌, ◌≢◌, ℕ, ◌<◌, true, not, List, length, get_or, refl, sym, ap, ◌∙◌, arith}
 use Rattle.std.specs.Prelude.{◌==◌, All, AllPairs}
 use Rattle.std.proofs.lemmas.List.{length-map, get_or-map}
@@ -12,11 +12,11 @@ use Rattle.tt_instance.specs.Spelling.{members_kept, without_repeats}
 use Rattle.tt_instance.proofs.Each.{IsCurriculum, IsBar}
 use Rattle.tt_instance.proofs.CurriculumLaws.{all_kept}
 
--- what is kept of a curriculum is within the limits, too
+-- a curriculum without repeated members is within the limits, too
 curriculum_within : (courses : ℕ) (q : Curriculum) → IsCurriculum courses q → IsCurriculum courses (members_kept q)
 curriculum_within courses q is = (omega (arith, length-distinct (λ a b. a == b) q.members, is.0), All-distinct (λ a b. a == b) (λ c. c < courses) q.members is.1)
 
--- what is kept of curricula has their names
+-- curricula without repeated members preserve their names
 names_apart : (qs : List Curriculum) → AllPairs (λ q r. q.id ≢ r.id) qs → AllPairs (λ q r. q.id ≢ r.id) (all_kept qs)
 names_apart qs apart = λ i j d below l same.
     let in_list : j < length qs = omega (arith, l, length-map qs members_kept) in
@@ -25,7 +25,7 @@ names_apart qs apart = λ i j d below l same.
     let name : Curriculum → List ℕ = λ q. q.id in
     apart i j d below in_list (sym (ap name one) ∙ same ∙ ap name other)
 
--- what is kept of an instance within the limits is within them
+-- an instance within the limits is within them without its repeats, too
 pub kept_within : (w : Problem) → IsWithinLimits w → IsWithinLimits (without_repeats w)
 kept_within w within = let Is : Curriculum → Type 0 = IsCurriculum (length w.courses) in record {
   name = within.name;
@@ -49,15 +49,15 @@ kept_within w within = let Is : Curriculum → Type 0 = IsCurriculum (length w.c
   each_bar = All-distinct same_bar (IsBar (length w.courses) w.days w.periods) w.bars within.each_bar;
 }
 
--- each member of a curriculum stands once
+-- each member of a curriculum occurs once
 abbrev pub HasOnce : Curriculum → Type 0
 HasOnce q = each_two (λ a b. not (a == b)) q.members ≡ true
 
--- what is kept of each curriculum has each member once
+-- curricula without repeated members have each member once
 pub members_once : (qs : List Curriculum) → All HasOnce (all_kept qs)
 members_once qs = All-map HasOnce members_kept qs (λ k d _. each_two-distinct (λ a b. a == b) (get_or qs k d).members)
 
--- a curriculum that has each member once is kept as it is
+-- a curriculum that has each member once stays as it is
 curriculum_stays : (q : Curriculum) → HasOnce q → members_kept q ≡ q
 curriculum_stays q once = ap (λ (ms : List ℕ). let r : Curriculum = record { id = q.id; members = ms } in r) (distinct_stays (λ a b. a == b) q.members once)
 
@@ -65,7 +65,7 @@ curriculum_stays q once = ap (λ (ms : List ℕ). let r : Curriculum = record { 
 kept_is : (p : Problem) (qs : List Curriculum) (bs : List Bar) → qs ≡ p.curricula → bs ≡ p.bars → p ≡ record p { curricula = qs; bars = bs }
 kept_is p qs bs qs_is bs_is = rw (qs_is, bs_is) refl
 
--- an instance that has each member and each unavailability once is kept as it is
+-- an instance that has each member and each unavailability once stays as it is
 pub kept_stays : (p : Problem) → All HasOnce p.curricula → each_two (λ a b. not (same_bar a b)) p.bars ≡ true → p ≡ without_repeats p
 kept_stays p members bars =
     kept_is p (all_kept p.curricula) (distinct same_bar p.bars) (map_fixed members_kept p.curricula (All-weaker HasOnce (λ q. members_kept q ≡ q) curriculum_stays p.curricula members)) (distinct_stays same_bar p.bars bars)

@@ -10,7 +10,7 @@ pub use Rattle.tt_instance.proofs.TokenLaws.{spelled_instance, is_instance}
 pub use Rattle.tt_instance.proofs.WholeLaws.{is_spelled, is_read}
 pub use Rattle.tt_instance.proofs.WrittenLaws.{written_again}
 
--- what a reader found is spelled
+-- the instance that a reader returns is spelled by the bytes
 pub found_in : (bytes : List ℕ) (r : Result Problem InstanceFault) → Gives (λ i. i) r (instance_of bytes) → IfOk r (λ p. Spells bytes p)
 found_in bytes (Ok p) given = is_spelled bytes p given
 found_in bytes (Err e) given = tt

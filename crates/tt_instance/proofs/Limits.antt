@@ -1,4 +1,4 @@
--- What an instance within the limits has at each place.
+-- Properties of an instance within the limits at each place.
 use Rattle.std.proofs.Common.{ℕ, ◌<◌, length}
 use Rattle.std.specs.Prelude.{All}
 use Rattle.tt_instance.specs.Problem.{Problem}

@@ -1,4 +1,4 @@
--- The members of a curriculum: what is read is spelled, and what is spelled is read. Each is kept once.
+-- The members of a curriculum: those that are read are spelled, and those that are spelled are read. Each is stored once.
 use Rattle.std.proofs.Common.{◌≡◌, ℕ, ◌<◌, List, [], ◌∷◌, ◌++◌, length, map, Ok, sym, ap, subst}
 use Rattle.std.specs.Prelude.{◌==◌, All}
 use Rattle.std.proofs.lemmas.List.Concat.{flat_map_single}
@@ -16,7 +16,7 @@ use Rattle.tt_instance.proofs.NameLaws.{AreNamed, named_takes, named_reads}
 use Rattle.tt_instance.proofs.Repeating.{members_repeat}
 use Rattle.tt_instance.proofs.SeriesLaws.{OneTaken, series_takes, series_reads}
 
--- the members that are kept of those that are listed
+-- the listed members, each once
 abbrev pub once : List ℕ → List ℕ
 once ms = distinct (λ a b. a == b) ms
 
@@ -25,7 +25,7 @@ module _ (end : ℕ) (cs : List Course) where
   abbrev member_pieces : ℕ → List Piece
   member_pieces m = named cs m ∷ []
 
-  -- a member is a course, whatever stands before it
+  -- a member is a course, regardless of the members before it
   abbrev IsNextMember : List ℕ → ℕ → Type 0
   IsNextMember _ m = m < length cs
 
@@ -38,7 +38,7 @@ module _ (end : ℕ) (cs : List Course) where
       subst (OneTaken once member_pieces IsNextMember before ts) (ok_is (with_new (λ a b. a == b) (once before) c.0.0, c.0.1) x c.2)
       (record { item = c.0.0; list = sym (distinct_push (λ a b. a == b) before c.0.0); next = n.1; takes = n.0 })
 
-  -- what reading this many members gave
+  -- the result of reading this many members
   pub record MembersTaken (n : ℕ) (ts : List Placed) (x : List ℕ × List Placed) : Type 0 where
     pub listed : List ℕ
     pub list : x.0 ≡ once listed

@@ -1,4 +1,4 @@
--- A course by its name: a name leads to its number, and the number back to its name.
+-- A course by its name: the name determines its number, and the number determines its name.
 use Rattle.std.proofs.Common.{◌≡◌, ◌≢◌, ℕ, ◌<◌, List, [], ◌∷◌, length, Option, Some, None, Ok, refl, ap, subst, ◌∙◌}
 use Rattle.std.specs.Prelude.{AllPairs}
 use Rattle.tt_text.specs.Tokens.{Placed}
@@ -13,7 +13,7 @@ use Rattle.tt_instance.specs.Reading.{ids_of, token_at, known, named_at}
 use Rattle.tt_instance.specs.Spelling.{named}
 use Rattle.tt_instance.proofs.FreshLaws.{found_is, index_is}
 
--- no two courses have one name
+-- no two courses have the same name
 abbrev pub AreNamed : List Course → Type 0
 AreNamed cs = AllPairs (λ c d. c.id ≢ d.id) cs
 

@@ -1,4 +1,4 @@
--- The tokens of a name, one after the other.
+-- The tokens of a name, in turn.
 use Rattle.std.proofs.Common.{◌≡◌, ℕ, true, false, List, [], ◌∷◌, ◌++◌, Result, Ok, Err, refl, sym, ◌∙◌}
 use Rattle.tt_text.specs.Tokens.{Placed}
 use Rattle.tt_instance.specs.declared.fault.InstanceFault.{InstanceFault}
@@ -16,7 +16,7 @@ name_done end before ts rest t total first is so_far =
     let step : name_at end before ts ≡ Ok (before, rest) = rw (first, is) refl in
     sym so_far ∙ step
 
--- one token more
+-- another token of the name
 pub name_on : (end : ℕ) (before : List (List ℕ)) (ts rest : List Placed) (t : Placed) (total : Result (List (List ℕ) × List Placed) InstanceFault) → ts ≡ t ∷ rest
     → is_text (word_text word.Courses) t.text ≡ false → name_at end before ts ≡ total → name_at end (before ++ t.text ∷ []) rest ≡ total
 unfolding name_at

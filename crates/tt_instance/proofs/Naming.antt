@@ -1,4 +1,4 @@
--- Names after references are the names that a contract sees.
+-- Names behind references are the names that a contract sees.
 use Rattle.std.proofs.Common.{◌≡◌, ℕ, ◌+◌, ◌≤◌, ◌<◌, eqb, ltb, arith, Bool, true, false, cond, nat_eq, List, [], ◌∷◌, ◌++◌, map, length, Some, Bor, refl, sym, ap, subst, ◌∙◌}
 use Rattle.std.specs.Prelude.{position}
 use Rattle.std.specs.List.{list_any, position_or_len}
@@ -12,16 +12,16 @@ use Rattle.std.proofs.lemmas.Option.{cond_some}
 use Rattle.indexmap.specs.IndexSet.{insert_key}
 use Rattle.tt_text.specs.Texts.{is_text, has_name, index_of_name, with_name}
 
--- whether the text after a reference is this one
+-- whether the text behind a reference is this one
 abbrev pub is_behind : List ℕ → Bor (List ℕ) → Bool
 is_behind name k = pointwise nat_eq name k.now
 
--- whether one of the references has a name after it
+-- whether one of the references has this name behind it
 pub any_behind : (name : List ℕ) (ks : List (Bor (List ℕ))) → list_any (is_behind name) ks ≡ has_name (map (λ k. k.now) ks) name
 any_behind name [] = refl
 any_behind name (k ∷ ks) = rw (any_behind name ks) refl
 
--- the first reference that has a name after it
+-- the first reference that has this name behind it
 first_behind : (name : List ℕ) (ks : List (Bor (List ℕ))) → position_or_len (is_behind name) ks ≡ position_or_len (is_text name) (map (λ k. k.now) ks)
 first_behind name [] = refl
 first_behind name (k ∷ ks) = rw (first_behind name ks) refl
@@ -30,45 +30,45 @@ first_behind name (k ∷ ks) = rw (first_behind name ks) refl
 pub position_behind : (name : List ℕ) (ks : List (Bor (List ℕ))) → position (is_behind name) ks ≡ index_of_name (map (λ k. k.now) ks) name
 position_behind name ks = let same : length (map (λ (k : Bor (List ℕ)). k.now) ks) ≡ length ks = simp length-map in rw (first_behind name ks, same) refl
 
--- the names, once a reference is put, by whether its name was there
+-- the names after a reference is inserted, for both cases: its name was present or not
 names_put : (name : Bor (List ℕ)) (ks : List (Bor (List ℕ))) (v : Bool) → list_any (is_behind name.now) ks ≡ v
     → map (λ k. k.now) (cond v ks (ks ++ name ∷ [])) ≡ cond v (map (λ k. k.now) ks) (map (λ k. k.now) ks ++ name.now ∷ [])
 names_put name ks true e = refl
 names_put name ks false e = map_push (λ (k : Bor (List ℕ)). k.now) ks name
 
--- the names, once a reference is put
+-- the names after a reference is inserted
 pub names_with : (name : Bor (List ℕ)) (ks : List (Bor (List ℕ))) → map (λ k. k.now) (insert_key (λ x y. pointwise nat_eq x.now y.now) ks name) ≡ with_name (map (λ k. k.now) ks) name.now
 names_with name ks = names_put name ks (list_any (is_behind name.now) ks) refl ∙ ap (λ (v : Bool). cond v (map (λ k. k.now) ks) (map (λ k. k.now) ks ++ name.now ∷ [])) (any_behind name.now ks)
 
--- the length, by whether the name was there
+-- the length in both cases: the name was present or not
 longer : (v : Bool) (names : List (List ℕ)) (name : List ℕ) → length (cond v names (names ++ name ∷ [])) ≤ length names + 1
 longer true names name = omega arith
 longer false names name = omega (arith, length-append names (name ∷ []))
 
--- a name more is at most one more
+-- adding a name makes the list longer by at most one
 pub length-with_name : (names : List (List ℕ)) (name : List ℕ) → length (with_name names name) ≤ length names + 1
 length-with_name names name = longer (has_name names name) names name
 
--- the first place, where the last of the list passes
+-- the first place that passes, if the last element of the list passes
 same_place : (k l : ℕ) → cond (eqb k l) (l + 0) k ≡ k
 same_place k l = grind (arith, nat_tests)
 
--- the first place of a name is the same with the name put after the others
+-- the first place of a name stays the same if the name is added at the end
 first_push : (name : List ℕ) (names : List (List ℕ)) → position_or_len (is_text name) (names ++ name ∷ []) ≡ position_or_len (is_text name) names
 first_push name names =
     let own : is_text name name ≡ true = nat_list_eq_equiv.refl name in
     position_or_len_push (is_text name) names name ∙ rw own (same_place (position_or_len (is_text name) names) (length names))
 
--- the first place of a name that was put, by whether it was there
+-- the first place of an inserted name, for both cases: it was present or not
 first_with : (v : Bool) (name : List ℕ) (names : List (List ℕ)) → position_or_len (is_text name) (cond v names (names ++ name ∷ [])) ≡ position_or_len (is_text name) names
 first_with true name names = refl
 first_with false name names = first_push name names
 
--- a first place within the list is the number
+-- a first place within the list is the number of the name
 pub index_is : (names : List (List ℕ)) (name : List ℕ) (i : ℕ) → i < length names → position_or_len (is_text name) names ≡ i → index_of_name names name ≡ Some i
 index_is names name i lt is = rw (is, lt-ltb i (length names) lt) refl
 
--- the number that a set of names gives to a name which it takes in
+-- the number that a set of names gives to a name that it inserts
 pub number_behind : (name : Bor (List ℕ)) (ks new : List (Bor (List ℕ))) (i : ℕ) → map (λ k. k.now) new ≡ with_name (map (λ k. k.now) ks) name.now → i < length new
     → i ≡ position_or_len (is_behind name.now) ks → index_of_name (map (λ k. k.now) new) name.now ≡ Some i
 number_behind name ks new i are lt is =
@@ -76,7 +76,7 @@ number_behind name ks new i are lt is =
     index_is (map (λ k. k.now) new) name.now i (omega (arith, length-map new (λ (k : Bor (List ℕ)). k.now)))
     (ap (position_or_len (is_text name.now)) are ∙ first_with (has_name old name.now) name.now old ∙ sym (first_behind name.now ks) ∙ sym is)
 
--- the first place with one name more, by whether that was there
+-- the first place after another name is inserted, for both cases: that name was present or not
 first_stays : (v : Bool) (names : List (List ℕ)) (name other : List ℕ) (i : ℕ) → i < length names → position_or_len (is_text name) names ≡ i
     → (i < length (cond v names (names ++ other ∷ []))) × (position_or_len (is_text name) (cond v names (names ++ other ∷ [])) ≡ i)
 first_stays true names name other i lt is = (lt, is)
@@ -84,13 +84,13 @@ first_stays false names name other i lt is =
     let no : eqb (position_or_len (is_text name) names) (length names) ≡ false = ne_eqb _ _ (λ e. omega arith) in
     (omega (arith, length-append names (other ∷ [])), position_or_len_push (is_text name) names other ∙ rw no is)
 
--- where a number is that of a name
+-- the number of a name is below the length, and it is the first place of the name
 index_parts : (names : List (List ℕ)) (name : List ℕ) (i : ℕ) → index_of_name names name ≡ Some i → (i < length names) × (position_or_len (is_text name) names ≡ i)
 index_parts names name i is =
     let h = cond_some (ltb (position_or_len (is_text name) names) (length names)) (position_or_len (is_text name) names) i is in
     (subst (λ (k : ℕ). k < length names) h.1 (ltb-true _ _ h.0), h.1)
 
--- names keep their numbers
+-- names preserve their numbers if another name is inserted
 pub index_of_name-with_name : (names : List (List ℕ)) (name other : List ℕ) (i : ℕ) → index_of_name names name ≡ Some i → index_of_name (with_name names other) name ≡ Some i
 index_of_name-with_name names name other i is =
     let h = index_parts names name i is in

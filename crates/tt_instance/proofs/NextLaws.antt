@@ -1,4 +1,5 @@
--- Courses, rooms and curricula as a reader takes them, one after the other: each is right after those before it just where all are within the limits.
+-- Courses, rooms and curricula as a reader takes them, in turn: each satisfies its condition, given those before it, exactly if all are
+-- within the limits.
 use Rattle.std.proofs.Common.{◌≡◌, ◌≢◌, ℕ, ◌+◌, ◌≤◌, false, List, [], ◌∷◌, ◌++◌, arith}
 use Rattle.std.specs.Prelude.{All, AllPairs}
 use Rattle.std.proofs.lemmas.List.Sums.{sum_by-append, sum_by-cons, sum_by_more_le}
@@ -12,13 +13,13 @@ use Rattle.tt_instance.proofs.FreshLaws.{is_new, apart_from_new}
 
 -- ---- courses
 
--- a course has a new name, and with those before it no more lectures than the limit
+-- a course has a new name, and together with the courses before it at most 4,096 lectures
 pub record IsNextCourse (before : List Course) (c : Course) : Type 0 where
   pub fresh : has_name (ids_of before) c.id ≡ false
   pub lectures : lectures_of before + c.lectures ≤ MAX_LECTURES
   pub is : IsCourse c
 
--- what the limits say of courses
+-- the limits on courses
 pub record AreCourses (cs : List Course) : Type 0 where
   pub names : AllPairs (λ c d. c.id ≢ d.id) cs
   pub lectures : lectures_of cs ≤ MAX_LECTURES
@@ -31,7 +32,7 @@ courses_next cs are = EachAfter-from_at IsNextCourse [] cs (λ i d l. record {
   is = are.each i d l;
 })
 
--- the lectures of all, where those before are few enough
+-- the lectures of all courses, if those before have at most 4,096 lectures
 lectures_after : (before cs : List Course) → EachAfter IsNextCourse before cs → lectures_of before ≤ 4096 → lectures_of before + lectures_of cs ≤ 4096
 lectures_after before [] next few = omega (arith, few)
 lectures_after before (c ∷ cs) next few =
@@ -55,7 +56,7 @@ pub record IsNextRoom (before : List Room) (r : Room) : Type 0 where
   pub fresh : has_name (room_ids_of before) r.id ≡ false
   pub capacity : r.capacity ≤ MAX_SEATS
 
--- what the limits say of rooms
+-- the limits on rooms
 pub record AreRooms (rs : List Room) : Type 0 where
   pub names : AllPairs (λ r s. r.id ≢ s.id) rs
   pub each : All (λ r. r.capacity ≤ MAX_SEATS) rs
@@ -71,12 +72,12 @@ rooms_are rs next = record {
 
 -- ---- curricula
 
--- a curriculum of this many courses in all has a new name
+-- a curriculum has a new name; `courses` is the number of all courses
 pub record IsNextCurriculum (courses : ℕ) (before : List Curriculum) (q : Curriculum) : Type 0 where
   pub fresh : has_name (curriculum_ids_of before) q.id ≡ false
   pub is : IsCurriculum courses q
 
--- what the limits say of curricula
+-- the limits on curricula
 pub record AreCurricula (courses : ℕ) (qs : List Curriculum) : Type 0 where
   pub names : AllPairs (λ q r. q.id ≢ r.id) qs
   pub each : All (IsCurriculum courses) qs

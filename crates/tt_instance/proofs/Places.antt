@@ -1,4 +1,4 @@
--- The periods and the cells of an instance: each is there, and no more than once; tests and sums of all of them.
+-- The periods and the cells of an instance: each occurs exactly once; tests and sums of all of them.
 use Rattle.std.proofs.Common.{◌≡◌, ℕ, ◌≤◌, ◌<◌, Bool, true, cond, map, length, arith, not, sym, ap, ◌∙◌}
 use Rattle.std.specs.Prelude.{sum_by, count_by, flat_map, ◌==◌}
 use Rattle.std.specs.List.{list_any, list_all, AllByRecursion}
@@ -75,7 +75,7 @@ slots_summed q f =
     sum_by-of_flat_map f (λ d. map (slot d) (range_below q.periods)) (all_days q)
     ∙ sum_by-same (λ d. sum_by f (map (slot d) (range_below q.periods))) (λ d. sum_by (λ s. f (slot d s)) (range_below q.periods)) (all_days q) (λ d. sum_by-of_map f (slot d) (range_below q.periods))
 
--- the same of a sum that was made over numbers equal to the problem's
+-- a sum over all periods, built over numbers equal to the problem's
 pub slots_summed_at : (q : Problem) (f : Slot → ℕ) (days periods total : ℕ) → days ≡ q.days → periods ≡ q.periods → total ≡ sum_by (λ d. sum_by (λ s. f (slot d s)) (range_below periods)) (range_below days) → total ≡ sum_by f (all_slots q)
 slots_summed_at q f days periods total d s e =
     e ∙ ap (λ n. sum_by (λ i. sum_by (λ k. f (slot i k)) (range_below n)) (range_below days)) s

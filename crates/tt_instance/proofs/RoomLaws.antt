@@ -1,4 +1,4 @@
--- Rooms: what is read is spelled, and what is spelled is read.
+-- Rooms: those that are read are spelled, and those that are spelled are read.
 use Rattle.std.proofs.Common.{◌≡◌, ℕ, false, List, [], ◌∷◌, ◌++◌, length, Ok, refl, ap, subst, ◌∙◌}
 use Rattle.std.specs.List.{flat_map}
 use Rattle.tt_text.specs.Tokens.{Placed}
@@ -16,7 +16,7 @@ use Rattle.tt_instance.proofs.FieldLaws.{guard_passed, text_takes, limited_takes
 use Rattle.tt_instance.proofs.Repeating.{rooms_repeat}
 use Rattle.tt_instance.proofs.SeriesLaws.{OneTaken, ManyTaken, series_takes, series_reads}
 
--- what reading this many rooms gave
+-- the result of reading this many rooms
 abbrev pub RoomsTaken : ℕ → List Placed → List Room × List Placed → Type 0
 RoomsTaken n ts x = ManyTaken (λ rs. rs) room_pieces IsNextRoom n [] ts x
 

@@ -1,4 +1,4 @@
--- The sections after the header: what is read is spelled, and what is spelled is read.
+-- The sections after the header: those that are read are spelled, and those that are spelled are read.
 use Rattle.std.proofs.Common.{◌≡◌, ℕ, ◌<◌, List, [], ◌∷◌, ◌++◌, length, Ok, refl, sym, subst, append_assoc}
 use Rattle.std.specs.Prelude.{All}
 use Rattle.std.specs.List.{flat_map}
@@ -27,7 +27,7 @@ use Rattle.tt_instance.proofs.BarLaws.{bars_once, IsNextBar, bars_take, bars_rea
 abbrev pub place_pieces : List Course → List Room → List Piece
 place_pieces cs rs = (fixed word.CoursesPart ∷ flat_map course_pieces cs) ++ (fixed word.RoomsPart ∷ flat_map room_pieces rs)
 
--- courses and rooms as their counts say, within the limits
+-- courses and rooms that match their counts, within the limits
 pub record ArePlaces (counts : Counts) (cs : List Course) (rs : List Room) : Type 0 where
   pub courses : length cs ≡ counts.courses
   pub rooms : length rs ≡ counts.rooms
@@ -81,14 +81,14 @@ abbrev pub group_pieces : List Course → List Curriculum → List Bar → List 
 group_pieces cs qs bs =
     (fixed word.CurriculaPart ∷ flat_map (curriculum_pieces cs) qs) ++ ((fixed word.UnavailabilityPart ∷ flat_map (bar_pieces cs) bs) ++ (fixed word.End ∷ []))
 
--- curricula and unavailabilities as their counts say, within the limits
+-- curricula and unavailabilities that match their counts, within the limits
 pub record AreGroups (counts : Counts) (cs : List Course) (qs : List Curriculum) (bs : List Bar) : Type 0 where
   pub curricula : length qs ≡ counts.curricula
   pub bars : length bs ≡ counts.bars
   pub all_curricula : AreCurricula (length cs) qs
   pub each_bar : All (IsBar (length cs) counts.days counts.periods) bs
 
--- what reading curricula and unavailabilities gave
+-- the result of reading curricula and unavailabilities
 record GroupsTaken (counts : Counts) (cs : List Course) (ts : List Placed) (x : (List Curriculum × List Bar) × List Placed) : Type 0 where
   curricula : List Curriculum
   bars : List Bar
@@ -148,11 +148,11 @@ groups_read end counts cs ts qs bs ps rest apart ok h =
 
 -- ---- all sections
 
--- all that stands after the header
+-- all sections after the header
 abbrev pub section_pieces : List Course → List Room → List Curriculum → List Bar → List Piece
 section_pieces cs rs qs bs = place_pieces cs rs ++ group_pieces cs qs bs
 
--- what reading the sections gave
+-- the result of reading the sections
 pub record SectionsTaken (counts : Counts) (ts : List Placed) (x : Sections × List Placed) : Type 0 where
   pub curricula : List Curriculum
   pub bars : List Bar

@@ -1,4 +1,4 @@
--- This many items one after the other: what is read is spelled, and what is spelled is read.
+-- This many items in turn: those that are read are spelled, and those that are spelled are read.
 use Rattle.std.proofs.Common.{◌≡◌, ℕ, zero, suc, List, [], ◌∷◌, ◌++◌, length, Result, Ok, refl, sym, ap, subst, ◌∙◌, append_assoc}
 use Rattle.std.specs.List.{flat_map}
 use Rattle.std.proofs.lemmas.List.{append-nil}
@@ -11,21 +11,21 @@ use Rattle.tt_text.proofs.Fields.{ReadsOn}
 use Rattle.tt_instance.specs.declared.fault.InstanceFault.{InstanceFault}
 use Rattle.tt_instance.proofs.AfterLaws.{EachAfter}
 
--- a reading of one item more, and that of this many more
+-- reading another item, and reading this many more items
 pub record IsSeries {B : Type 0} (one : B → List Placed → Result (B × List Placed) InstanceFault) (many : ℕ → B → List Placed → Result (B × List Placed) InstanceFault) : Type 0 where
   pub none : (b : B) (ts : List Placed) → many zero b ts ≡ Ok (b, ts)
   pub more : (n : ℕ) (b : B) (ts : List Placed) → many (suc n) b ts ≡ (one b ts >>= λ x. many n x.0 x.1)
 
--- Items are read after others, of which the reading keeps a view; each is right after those before it.
+-- Items are read after others, of which the reading stores a view; each satisfies its condition, given those before it.
 module _ {X B : Type 0} (view : List X → B) (pieces : X → List Piece) (Next : List X → X → Type 0) where
-  -- what reading one item after those before gave
+  -- the result of reading one item after those before
   pub record OneTaken (before : List X) (ts : List Placed) (x : B × List Placed) : Type 0 where
     pub item : X
     pub list : x.0 ≡ view (before ++ item ∷ [])
     pub next : Next before item
     pub takes : Takes ts (pieces item) x.1
 
-  -- what reading this many items after those before gave
+  -- the result of reading this many items after those before
   pub record ManyTaken (n : ℕ) (before : List X) (ts : List Placed) (x : B × List Placed) : Type 0 where
     pub items : List X
     pub list : x.0 ≡ view (before ++ items)
@@ -33,7 +33,7 @@ module _ {X B : Type 0} (view : List X → B) (pieces : X → List Piece) (Next 
     pub each : EachAfter Next before items
     pub takes : Takes ts (flat_map pieces items) x.1
 
-  -- an item that is read where those before fit is spelled
+  -- an item that is read is spelled, if those before it fit
   abbrev pub OneTakes : (List X → Type 0) → (B → List Placed → Result (B × List Placed) InstanceFault) → Type 0
   OneTakes Fits one = (before : List X) (ts : List Placed) (x : B × List Placed) → Fits before → one (view before) ts ≡ Ok x → OneTaken before ts x
 
@@ -41,7 +41,7 @@ module _ {X B : Type 0} (view : List X → B) (pieces : X → List Piece) (Next 
   none_taken : (before : List X) (ts : List Placed) → ManyTaken zero before ts (view before, ts)
   none_taken before ts = record { items = []; list = ap view (sym (append-nil before)); len = refl; each = tt; takes = record { take = λ qs rest h. h } }
 
-  -- one item, and those after it
+  -- one item and the items after it
   one_more : (n : ℕ) (before : List X) (ts : List Placed) (a x : B × List Placed) (one : OneTaken before ts a) → ManyTaken n (before ++ one.item ∷ []) a.1 x → ManyTaken (suc n) before ts x
   one_more n before ts a x one more = record {
     items = one.item ∷ more.items;

@@ -1,4 +1,4 @@
--- A reader that takes tokens from left to right, beside itself over other tokens: where it fails at a token that both share, it fails over both.
+-- A reader that takes tokens from left to right, compared with itself over other tokens: if it fails at a token that both share, it fails over both.
 use Rattle.std.proofs.Common.{◌≡◌, ◌≢◌, ◌⊎◌, inl, inr, ℕ, Bool, true, false, cond, List, [], ◌∷◌, Option, Some, None, Result, Ok, Err, refl, sym, subst}
 use Rattle.tt_text.specs.Tokens.{Placed}
 use Rattle.tt_text.specs.Reading.{◌>>=◌, token_or}
@@ -6,43 +6,43 @@ use Rattle.tt_text.proofs.Steps.{bind_ok}
 
 -- ---- tokens
 
--- no token stands at this offset
+-- no token begins at this offset
 abbrev pub NoneAt : ℕ → List Placed → Type 0
 NoneAt at [] = Unit {0}
 NoneAt at (t ∷ ts) = (t.at ≢ at) × NoneAt at ts
 
--- the other tokens have the texts of these, until none of these is left that stands at this offset
+-- the other tokens have the same texts as these, as long as one of these is left that begins at this offset
 pub data Shared (at : ℕ) : List Placed → List Placed → Type 0 where
   Apart : {ts us : List Placed} → NoneAt at ts → Shared at ts us
   Next : {t : Placed} {ts us : List Placed} (n : ℕ) → Shared at ts us → Shared at (t ∷ ts) (record { text = t.text; at = n } ∷ us)
 
--- a fault that is told of another token
+-- a fault reported at another token
 pub other_offset : (at a : ℕ) → a ≢ at → (let o : Option ℕ = Some a in o) ≢ Some at
 other_offset at a not e = not cc
 
--- ---- what both readings give
+-- -- the results of both readings
 
 module _ {F : Type 0} (told : F → Option ℕ) (at : ℕ) where
-  -- where no token stands there: no fault that is told of it
+  -- if no token begins at the offset, no fault is reported there
   abbrev pub Stays : {A : Type 0} → (A → Type 0) → Result A F → Type 0
   Stays P (Ok x) = P x
   Stays P (Err e) = told e ≢ Some at
 
-  -- over shared tokens: the same, or neither gives a value, or the first is past that token
+  -- over shared tokens: both give the same, or neither gives a value, or the first is past the token at the offset
   abbrev pub Joins : {A : Type 0} → (A → Type 0) → (A → A → Type 0) → Result A F → Result A F → Type 0
   Joins {A} P Q (Ok x) s = P x ⊎ ((y : A) × (s ≡ Ok y) × Q x y)
   Joins {A} P Q (Err e) s = (told e ≢ Some at) ⊎ ((y : A) → s ≢ Ok y)
 
-  -- A reader over these tokens and over others. The condition says that the token which was taken before doesn't stand there.
+  -- A reader over these tokens and over others. The condition says that the token taken before doesn't begin at the offset.
   pub record Alike {A : Type 0} (P : A → Type 0) (Q : A → A → Type 0) (condition : Type 0) (f g : List Placed → Result A F) : Type 0 where
     pub stays : condition → (ts : List Placed) → NoneAt at ts → Stays P (f ts)
     pub joins : (ts us : List Placed) → Shared at ts us → Joins P Q (f ts) (g us)
 
-  -- of the tokens that are left none stands there
+  -- none of the tokens left begins at the offset
   abbrev pub NoneLeft : {X : Type 0} → X × List Placed → Type 0
   NoneLeft x = NoneAt at x.1
 
-  -- one value was read, and the tokens that are left are shared
+  -- both read the same value, and the tokens left are shared
   abbrev pub SharedLeft : {X : Type 0} → X × List Placed → X × List Placed → Type 0
   SharedLeft x y = (x.0 ≡ y.0) × Shared at x.1 y.1
 
@@ -50,20 +50,20 @@ module _ {F : Type 0} (told : F → Option ℕ) (at : ℕ) where
   abbrev pub ReadsAlike : {X : Type 0} → Type 0 → (f g : List Placed → Result (X × List Placed) F) → Type 0
   ReadsAlike condition f g = Alike NoneLeft SharedLeft condition f g
 
-  -- one that gives these alone
+  -- a reader that gives only the tokens that are left
   abbrev pub SkipsAlike : Type 0 → (f g : List Placed → Result (List Placed) F) → Type 0
   SkipsAlike condition f g = Alike (NoneAt at) (Shared at) condition f g
 
-  -- one after which nothing is read
+  -- a reader after which nothing is read
   abbrev pub EndsAlike : {X : Type 0} → Type 0 → (f g : List Placed → Result X F) → Type 0
   EndsAlike condition f g = Alike (λ _. Unit {0}) (λ _ _. Unit {0}) condition f g
 
-  -- two verdicts on a token: one value, or neither has any
+  -- two verdicts on a token: the same value, or neither has a value
   abbrev pub SameVerdict : {J : Type 0} → Type 0 → Result J F → Result J F → Type 0
   SameVerdict condition (Ok v) s = s ≡ Ok v
   SameVerdict {J} condition (Err e) s = (condition → told e ≢ Some at) × ((v : J) → s ≢ Ok v)
 
-  -- ---- one step and then the next
+  -- -- one step and then the next
 
   bind_stays : {A B : Type 0} (P : A → Type 0) (R : B → Type 0) (r : Result A F) (h : A → Result B F) → Stays P r → ((x : A) → P x → Stays R (h x)) → Stays R (r >>= h)
   bind_stays P R (Ok x) h s more = more x s
@@ -105,11 +105,11 @@ module _ {F : Type 0} {told : F → Option ℕ} {at : ℕ} {condition : Type 0} 
   ok_ends x y = record { stays = λ c ts none. tt; joins = λ ts us shared. inl tt }
 
 module _ {F : Type 0} {told : F → Option ℕ} {at : ℕ} {condition : Type 0} {B : Type 0} {R : B → Type 0} {S : B → B → Type 0} where
-  -- what holds on no condition
+  -- readers that are alike on no condition are alike on this one
   pub on_condition : {f g : List Placed → Result B F} → Alike told at R S (Unit {0}) f g → Alike told at R S condition f g
   on_condition a = record { stays = λ c ts none. a.stays tt ts none; joins = a.joins }
 
-  -- a value, and then the rest
+  -- reading a value, and then the rest
   pub then_reads : {X : Type 0} {f g : List Placed → Result (X × List Placed) F} (h k : X × List Placed → Result B F) → ReadsAlike told at condition f g
       → ((x : X) → Alike told at R S (Unit {0}) (λ ts. h (x, ts)) (λ us. k (x, us))) → Alike told at R S condition (λ ts. f ts >>= h) (λ us. g us >>= k)
   then_reads {X} {f} {g} h k first more =
@@ -120,7 +120,7 @@ module _ {F : Type 0} {told : F → Option ℕ} {at : ℕ} {condition : Type 0} 
         joins = λ ts us shared. bind_joins told at (NoneLeft told at) (SharedLeft told at) R S h k (f ts) (g us) (first.joins ts us shared) stays joins;
       }
 
-  -- tokens that are passed over, and then the rest
+  -- passing over tokens, and then the rest
   pub then_skips : {f g : List Placed → Result (List Placed) F} (h k : List Placed → Result B F) → SkipsAlike told at condition f g → Alike told at R S (Unit {0}) h k
       → Alike told at R S condition (λ ts. f ts >>= h) (λ us. g us >>= k)
   then_skips {f} {g} h k first more =
@@ -129,23 +129,23 @@ module _ {F : Type 0} {told : F → Option ℕ} {at : ℕ} {condition : Type 0} 
         joins = λ ts us shared. bind_joins told at (NoneAt at) (Shared at) R S h k (f ts) (g us) (first.joins ts us shared) (λ x p. more.stays tt x p) (λ x y q. more.joins x y q);
       }
 
-  -- a fault that is told of the token which was taken before, or of none
+  -- a fault reported at the token taken before, or at no token
   pub err_reads : (e d : F) → (condition → told e ≢ Some at) → Alike told at R S condition (λ ts. Err e) (λ us. Err d)
   err_reads e d elsewhere = record { stays = λ c ts none. elsewhere c; joins = λ ts us shared. inr (λ y is. cc) }
 
-  -- a test of what was taken before
+  -- a test of the token taken before
   pub if_reads : (b : Bool) {f g h k : List Placed → Result B F} → Alike told at R S condition f g → Alike told at R S condition h k
       → Alike told at R S condition (λ ts. cond b (f ts) (h ts)) (λ us. cond b (g us) (k us))
   if_reads true first second = first
   if_reads false first second = second
 
-  -- a verdict on what was taken before, and then the rest
+  -- a verdict on the token taken before, and then the rest
   pub then_verdict : {J : Type 0} (r s : Result J F) (h k : J → List Placed → Result B F) → SameVerdict told at condition r s → ((v : J) → Alike told at R S condition (h v) (k v))
       → Alike told at R S condition (λ ts. r >>= λ v. h v ts) (λ us. s >>= λ v. k v us)
   then_verdict (Ok v) s h k same more = record { stays = λ c ts none. (more v).stays c ts none; joins = λ ts us shared. rw same ((more v).joins ts us shared) }
   then_verdict (Err e) s h k same more = record { stays = λ c ts none. same.0 c; joins = λ ts us shared. inr (fails_on told at s (λ v. k v us) same.1) }
 
--- a token, and then the rest
+-- reading a token, and then the rest
 module _ {F : Type 0} (told : F → Option ℕ) (at : ℕ) {B : Type 0} (R : B → Type 0) (S : B → B → Type 0) (none other : F) (h k : Placed × List Placed → Result B F) (ended : told none ≡ None)
     (more : (t : Placed) (n : ℕ) → Alike told at R S (t.at ≢ at) (λ ts. h (t, ts)) (λ us. k (record { text = t.text; at = n }, us))) where
   token_stays : (ts : List Placed) → NoneAt at ts → Stays told at R (token_or none ts >>= h)

@@ -1,4 +1,4 @@
--- The periods of the week by their places in the list.
+-- The periods of the week by their place in the list.
 use Rattle.std.proofs.Common.{◌≡◌, ℕ, zero, suc, ◌+◌, ◌-◌, ◌*◌, ◌/◌, ◌%◌, ◌≤◌, ◌<◌, Bool, true, false, cond, List, [], ◌∷◌, ◌++◌, map, length, get_or, take, sym, ap, ◌∙◌, subst, arith, inl, inr, add-one, length-append, mul-le-mul_right}
 use Rattle.std.specs.Prelude.{flat_map, sum_by, count_by}
 use Rattle.std.specs.List.{list_all}
@@ -57,7 +57,7 @@ get_or-first_days periods (suc days) d s x h k =
 pub length-all_slots : (q : Problem) → length (all_slots q) ≡ q.days * q.periods
 length-all_slots q = length-first_days q.periods q.days
 
--- the day of a place is there
+-- the day of a place is below the number of days
 day_below : (q : Problem) (i : ℕ) → 0 < q.periods → i < q.days * q.periods → i / q.periods < q.days
 day_below q i some h = (div-lt_iff_lt-mul some).1 h
 
@@ -68,7 +68,7 @@ get_or-all_slots q i x some h =
     ap (λ k. get_or (all_slots q) k x) (sym (div-add-mod' i q.periods))
     ∙ get_or-first_days q.periods q.days (i / q.periods) (i % q.periods) x (day_below q i some h) period
 
--- the same with a number that is the problem's
+-- the period of a place, with a number equal to the problem's periods per day
 pub slot_of_place : (q : Problem) (periods i : ℕ) (x : Slot) → periods ≡ q.periods → 0 < periods → i < length (all_slots q) → slot (i / periods) (i % periods) ≡ get_or (all_slots q) i x
 slot_of_place q periods i x e some h =
     ap (λ n. slot (i / n) (i % n)) e ∙ sym (get_or-all_slots q i x (rw (← e) some) (omega (arith, length-all_slots q)))
@@ -88,7 +88,7 @@ cells_in_rooms q t =
     list_all-of_flat_map t (λ c. flat_map (λ r. map (cell c r) (all_slots q)) (all_rooms q)) (all_courses q)
     ∙ list_all-same (λ c. list_all t (flat_map (λ r. map (cell c r) (all_slots q)) (all_rooms q))) (λ c. list_all (λ r. list_all (λ s. t (cell c r s)) (all_slots q)) (all_rooms q)) (all_courses q) of_course
 
--- ---- one period more
+-- -- another period
 
 -- a sum with the term of the next period
 pub slots_sum_more : (p q : Problem) (f : Slot → ℕ) (i total next : ℕ) (s : Slot) → q ≡ p → i < length (all_slots q) → s ≡ get_or (all_slots q) i s → total ≡ sum_by f (take i (all_slots p)) → next ≡ total + f s → next ≡ sum_by f (take (i + 1) (all_slots p))
@@ -102,7 +102,7 @@ pub slots_count_yes : (p q : Problem) (t : Slot → Bool) (i total next : ℕ) (
 slots_count_yes p q t i total next s same h is e pass more =
     slots_sum_more p q (λ z. cond (t z) 1 0) i total next s same h is e (more ∙ ap (λ b. total + cond b 1 0) pass)
 
--- and with one that does not
+-- a count with a next period that fails
 pub slots_count_no : (p q : Problem) (t : Slot → Bool) (i total next : ℕ) (s : Slot) → q ≡ p → i < length (all_slots q) → s ≡ get_or (all_slots q) i s → total ≡ count_by t (take i (all_slots p)) → false ≡ t s → next ≡ total → next ≡ count_by t (take (i + 1) (all_slots p))
 slots_count_no p q t i total next s same h is e fail stays =
     slots_sum_more p q (λ z. cond (t z) 1 0) i total next s same h is e (omega (arith, stays, ap (λ b. total + cond b 1 0) fail))

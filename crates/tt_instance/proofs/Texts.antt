@@ -53,7 +53,7 @@ module _ {X Y : Type 0} (v : X → Y) where
       let grouped : ((old ++ text_of p) ++ fields) ++ 10 ∷ [] ≡ old ++ (text_of p ++ (fields ++ 10 ∷ [])) = simp append_assoc in
       ap (λ (t : List ℕ). t ++ 10 ∷ []) (so_far ∙ rw (begun, all) refl) ∙ grouped ∙ ap (λ (t : List ℕ). old ++ t) (sym (fields_text f p xs))
 
-  -- what holds of each that is seen
+  -- a property of each value seen holds of each row's value
   all_seen : (Q : Y → Type 0) (xs : List X) → All Q (map v xs) → All (λ x. Q (v x)) xs
   all_seen Q xs all = λ k d lt. subst Q (get_or-map v xs k d (v d) lt) (all k (v d) (omega (arith, lt, length-map xs v)))
 
@@ -69,7 +69,7 @@ curriculum_done cs id members count i old first mid new begun counted so_far cou
     let same : line_text (Number count ∷ map (named cs) (map (λ (c : ℕ). c) members)) ≡ rest = rw (map-id members, count_is) refl in
     line ∙ rw (same, begun) (append_assoc (old ++ id) (32 ∷ []) rest ∙ append_assoc old id (32 ∷ rest))
 
--- seven lines, one after the other
+-- seven lines in turn
 seven_lines : (o : List ℕ) (l1 l2 l3 l4 l5 l6 l7 : List Piece)
     → ((((((o ++ line_text l1) ++ line_text l2) ++ line_text l3) ++ line_text l4) ++ line_text l5) ++ line_text l6) ++ line_text l7 ≡ o ++ lines_text (l1 ∷ l2 ∷ l3 ∷ l4 ∷ l5 ∷ l6 ∷ l7 ∷ [])
 seven_lines o l1 l2 l3 l4 l5 l6 l7 = simp (append_assoc, append-nil)
@@ -87,12 +87,12 @@ header_done p courses rooms curricula bars o o1 o2 o3 o4 o5 o6 courses_is rooms_
     (counted_line word.PeriodsPerDay p.periods) (counted_line word.Curricula curricula) (counted_line word.Constraints bars)
     ∙ rw (courses_is, rooms_is, curricula_is, bars_is) refl
 
--- six groups of lines, one after the other
+-- six groups of lines in turn
 six_texts : (a b c d e f : List (List Piece)) (o1 o2 o3 o4 o5 o6 : List ℕ) → o1 ≡ [] ++ lines_text a → o2 ≡ o1 ++ lines_text b → o3 ≡ o2 ++ lines_text c → o4 ≡ o3 ++ lines_text d
     → o5 ≡ o4 ++ lines_text e → o6 ≡ o5 ++ lines_text f → o6 ≡ lines_text (a ++ b ++ c ++ d ++ e ++ f)
 six_texts a b c d e f o1 o2 o3 o4 o5 o6 e1 e2 e3 e4 e5 e6 = rw (e6, e5, e4, e3, e2, e1) (sym (simp lines_text-append))
 
--- all sections, one after the other
+-- all sections in turn
 pub sections_done : (p : Problem) (courses : List Course) (rooms : List Room) (curricula : List Curriculum) (bars : List Bar) (cs1 cs2 : List Course) (o o1 o2 o3 o4 o5 o6 : List ℕ)
     → courses ≡ p.courses → rooms ≡ p.rooms → cs1 ≡ p.courses → curricula ≡ p.curricula → cs2 ≡ p.courses → bars ≡ p.bars
     → o ≡ [] → o1 ≡ o ++ lines_text (header_lines p) → o2 ≡ o1 ++ lines_text (section word.CoursesPart ++ map course_pieces courses) → o3 ≡ o2 ++ lines_text (section word.RoomsPart ++ map room_pieces rooms)
@@ -109,7 +109,7 @@ sections_done p courses rooms curricula bars cs1 cs2 o o1 o2 o3 o4 o5 o6 courses
     e6
 
 module _ (p : Parts) (courses : List CourseRow) (courses_are : courses ≡ p.courses.rows.items) (instance : IsInstance (problem_seen p)) where
-  -- as many rows as courses
+  -- the number of rows is the number of courses
   count_is : length (courses_seen p.courses.rows.items) ≡ length courses
   count_is = length-map p.courses.rows.items course_seen ∙ ap length (sym courses_are)
 

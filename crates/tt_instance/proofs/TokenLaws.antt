@@ -1,4 +1,4 @@
--- Each name of an instance that bytes spell is a token of theirs.
+-- Each name of an instance that bytes spell is a token of these bytes.
 use Rattle.std.proofs.Common.{◌≡◌, ℕ, List, [], ◌∷◌, ◌++◌, map, Ok, sym, subst}
 use Rattle.std.specs.Prelude.{All}
 use Rattle.std.specs.List.{flat_map, AllByRecursion}
@@ -24,12 +24,12 @@ record HasTokens (w : Problem) : Type 0 where
   rooms : All (λ r. IsToken r.id) w.rooms
   curricula : All (λ q. IsToken q.id) w.curricula
 
--- what holds of each text among the pieces of items holds of each item
+-- if each text among the pieces of an item is a token, the property holds of the item, for each of the items
 each_item : {X : Type 0} (item_pieces : X → List Piece) (P : X → Type 0) → ((x : X) → AllByRecursion IsTokenPiece (item_pieces x) → P x) → (xs : List X) → AllByRecursion IsTokenPiece (flat_map item_pieces xs) → All P xs
 each_item item_pieces P weaker xs h =
     All-weaker (λ x. AllByRecursion IsTokenPiece (item_pieces x)) P weaker xs (All-from_recursion (λ x. AllByRecursion IsTokenPiece (item_pieces x)) xs (each_of_flat_map IsTokenPiece item_pieces xs h))
 
--- the parts of a file, of which each is a list of pieces
+-- the parts of a file, each of them a list of pieces
 each_part : (name header courses rooms curricula bars last : List Piece) → AllByRecursion IsTokenPiece (name ++ header ++ courses ++ rooms ++ curricula ++ bars ++ last)
     → AllByRecursion IsTokenPiece name × AllByRecursion IsTokenPiece courses × AllByRecursion IsTokenPiece rooms × AllByRecursion IsTokenPiece curricula
 each_part name header courses rooms curricula bars last h =

@@ -1,4 +1,4 @@
--- A whole file: what is read is spelled, and what is spelled is read.
+-- A whole file: an instance that is read is spelled, and one that is spelled is read.
 use Rattle.std.proofs.Common.{◌≡◌, ℕ, List, [], ◌∷◌, ◌++◌, length, map, Result, Ok, refl, sym, ap, subst, ◌∙◌, append_assoc}
 use Rattle.std.specs.Prelude.{All}
 use Rattle.std.proofs.lemmas.List.{append-nil}
@@ -20,19 +20,19 @@ use Rattle.tt_instance.proofs.SectionLaws.{ArePlaces, AreGroups, section_pieces,
 
 -- ---- an instance and its counts
 
--- the numbers of its header
+-- the numbers of an instance's header
 abbrev counts_of : Problem → Counts
 counts_of w = record { courses = length w.courses; rooms = length w.rooms; days = w.days; periods = w.periods; curricula = length w.curricula; bars = length w.bars }
 
--- its sections
+-- the sections of an instance
 abbrev sections_of : Problem → List Piece
 sections_of w = section_pieces w.courses w.rooms w.curricula w.bars
 
--- a header whose counts are these
+-- a header with these counts
 counts_are : (c : Counts) (n m q b : ℕ) → n ≡ c.courses → m ≡ c.rooms → q ≡ c.curricula → b ≡ c.bars → c ≡ record { courses = n; rooms = m; days = c.days; periods = c.periods; curricula = q; bars = b }
 counts_are c n m q b n_is m_is q_is b_is = rw (n_is, m_is, q_is, b_is) refl
 
--- the limits of the parts are those of the whole
+-- the limits of the parts imply those of the whole
 within_limits : (w : Problem) → All IsNamePart w.name → IsHeader (counts_of w) → ArePlaces (counts_of w) w.courses w.rooms → AreGroups (counts_of w) w.courses w.curricula w.bars → IsWithinLimits w
 within_limits w name header places groups = record {
   name = name;
@@ -56,7 +56,7 @@ within_limits w name header places groups = record {
   each_bar = groups.each_bar;
 }
 
--- the limits of the whole are those of its header
+-- the limits of the whole imply those of its header
 header_within : (w : Problem) → IsWithinLimits w → IsHeader (counts_of w)
 header_within w within = record {
   courses = within.courses;
@@ -68,7 +68,7 @@ header_within w within = record {
   bars = within.bars;
 }
 
--- the limits of the whole are those of its courses and rooms
+-- the limits of the whole imply those of its courses and rooms
 places_within : (w : Problem) → IsWithinLimits w → ArePlaces (counts_of w) w.courses w.rooms
 places_within w within = record {
   courses = refl;
@@ -77,7 +77,7 @@ places_within w within = record {
   all_rooms = record { names = within.room_names; each = within.each_room };
 }
 
--- the limits of the whole are those of its curricula and unavailabilities
+-- the limits of the whole imply those of its curricula and unavailabilities
 groups_within : (w : Problem) → IsWithinLimits w → AreGroups (counts_of w) w.courses w.curricula w.bars
 groups_within w within = record {
   curricula = refl;
@@ -86,7 +86,7 @@ groups_within w within = record {
   each_bar = within.each_bar;
 }
 
--- ---- what is read is spelled
+-- -- an instance that is read is spelled
 
 -- all pieces after the first word, part by part
 abbrev part_pieces : Problem → List Piece
@@ -96,14 +96,14 @@ part_pieces w = (map Text w.name ++ fixed word.Courses ∷ []) ++ (count_pieces 
 regrouped : (w : Problem) → pieces w ≡ (fixed word.Name ∷ []) ++ part_pieces w
 regrouped w = simp append_assoc
 
--- tokens that begin with each part begin with the whole
+-- tokens that begin with each part in turn begin with the whole
 parts_begin : (w : Problem) (ts t1 t2 t3 t4 : List Placed) → Takes ts (fixed word.Name ∷ []) t1 → Takes t1 (map Text w.name ++ fixed word.Courses ∷ []) t2
     → Takes t2 (count_pieces (counts_of w)) t3 → Takes t3 (sections_of w) t4 → Begins (pieces w) ts t4
 parts_begin w ts t1 t2 t3 t4 first name header sections =
     let whole : Takes ts ((fixed word.Name ∷ []) ++ part_pieces w) t4 = takes_then _ _ _ _ _ first (takes_then _ _ _ _ _ name (takes_then _ _ _ _ _ header sections)) in
     subst (λ (ps : List Piece). Begins ps ts t4) (append-nil ((fixed word.Name ∷ []) ++ part_pieces w) ∙ sym (regrouped w)) (whole.take [] t4 refl)
 
--- an instance of what was read
+-- the instance made of the parts read
 abbrev problem_of : List (List ℕ) → Counts → Sections → Problem
 problem_of name c s = record { name = name; days = c.days; periods = c.periods; courses = s.courses; rooms = s.rooms; curricula = s.curricula; bars = s.bars }
 
@@ -111,12 +111,12 @@ problem_of name c s = record { name = name; days = c.days; periods = c.periods; 
 abbrev written_of : List (List ℕ) → Counts → Sections → List Curriculum → List Bar → Problem
 written_of name c s qs bs = record { name = name; days = c.days; periods = c.periods; courses = s.courses; rooms = s.rooms; curricula = qs; bars = bs }
 
--- what was read is what is kept of what is written
+-- the instance read is the written one without its repeats
 kept_is : (read name : List (List ℕ)) (c : Counts) (s : Sections) (qs : List Curriculum) (bs : List Bar) → read ≡ name → s.curricula ≡ all_kept qs → s.bars ≡ bars_once bs
     → problem_of read c s ≡ without_repeats (written_of name c s qs bs)
 kept_is read name c s qs bs name_is qs_is bs_is = rw (name_is, qs_is, bs_is) refl
 
--- one answer is one instance
+-- two equal results are the same instance
 problem_done : (p q : Problem) → (let r : Result Problem InstanceFault = Ok p in r) ≡ Ok q → p ≡ q
 problem_done p q e = cc
 
@@ -146,7 +146,7 @@ is_spelled bytes p e =
       is_kept = sym (problem_done _ p sections.2) ∙ kept_is name.0.0 n.name header.0.0 sections.0.0 s.curricula s.bars n.list s.curricula_kept s.bars_kept;
     }
 
--- ---- what is spelled is read
+-- -- an instance that is spelled is read
 
 -- an instance that is spelled is read
 pub is_read : (bytes : List ℕ) (p : Problem) → Spells bytes p → instance_of bytes ≡ Ok p

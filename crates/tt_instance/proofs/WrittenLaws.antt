@@ -1,4 +1,4 @@
--- An instance that is written out spells itself.
+-- The text written for an instance spells it.
 use Rattle.std.proofs.Common.{◌≡◌, ℕ, ◌<◌, ◌≤◌, ◌^◌, List, [], ◌∷◌, ◌++◌, length, map, get_or, refl, ap, subst, ◌∙◌, arith, lit≤}
 use Rattle.std.specs.List.{flat_map}
 use Rattle.std.proofs.lemmas.List.Elements.{All-weaker}
@@ -34,7 +34,7 @@ word_token word.CurriculaPart = record { some = lit≤ tt; within = refl }
 word_token word.UnavailabilityPart = record { some = lit≤ tt; within = refl }
 word_token word.End = record { some = lit≤ tt; within = refl }
 
--- each number of an instance has a width
+-- each number of an instance is below 2^64
 small : (n : ℕ) → n ≤ 1000000 → n < 2 ^ 64
 small n h = omega arith
 
@@ -61,7 +61,7 @@ all_parts : (header courses rooms curricula bars last : List (List Piece)) → a
     ≡ all_pieces header ++ all_pieces courses ++ all_pieces rooms ++ all_pieces curricula ++ all_pieces bars ++ all_pieces last
 all_parts header courses rooms curricula bars last = simp all_pieces-append
 
--- parts that are the same
+-- files whose parts are equal are equal
 same_parts : (header a1 a2 b1 b2 c1 c2 d1 d2 last : List Piece) → a1 ≡ a2 → b1 ≡ b2 → c1 ≡ c2 → d1 ≡ d2 → header ++ a1 ++ b1 ++ c1 ++ d1 ++ last ≡ header ++ a2 ++ b2 ++ c2 ++ d2 ++ last
 same_parts header a1 a2 b1 b2 c1 c2 d1 d2 last a b c d = rw (a, b, c, d) refl
 
@@ -75,7 +75,7 @@ parts_writable header courses rooms curricula bars last h c r q b e =
     let to_bars = LinesWritable-append (header ++ courses ++ rooms ++ curricula) bars to_curricula b in
     LinesWritable-append (header ++ courses ++ rooms ++ curricula ++ bars) last to_bars e
 
--- ---- what is written can be
+-- -- an instance can be written
 
 module _ (p : Problem) (ok : IsInstance p) where
   -- the name and the header can be written
@@ -144,7 +144,7 @@ lines_are p =
     (section_is word.CoursesPart course_pieces p.courses) (section_is word.RoomsPart room_pieces p.rooms)
     (section_is word.CurriculaPart (curriculum_pieces p.courses) p.curricula) (section_is word.UnavailabilityPart (bar_pieces p.courses) p.bars)
 
--- what is written of an instance spells it
+-- the text written for an instance spells it
 pub written_again : (p : Problem) → IsInstance p → Spells (instance_text p) p
 written_again p ok = record {
   written = p;

@@ -22,11 +22,11 @@ all_days p = range_below p.days
 abbrev pub slot : ℕ → ℕ → Slot
 slot d s = record { day = d; period = s }
 
--- each period of each day, in order
+-- Each period of each day, in order.
 abbrev pub all_slots : Problem → List Slot
 all_slots p = flat_map (λ d. map (slot d) (range_below p.periods)) (all_days p)
 
--- one day, and periods that follow each other
+-- Whether both are on the same day, in adjacent periods.
 abbrev pub next_to : Slot → Slot → Bool
 next_to a b = (a.day == b.day) && ((a.period == b.period + 1) || (a.period + 1 == b.period))
 
@@ -38,7 +38,7 @@ cell c r s = record { course = c; room = r; day = s.day; period = s.period }
 abbrev pub all_cells : Problem → List Cell
 all_cells p = flat_map (λ c. flat_map (λ r. map (cell c r) (all_slots p)) (all_rooms p)) (all_courses p)
 
--- the numbers of a cell are an instance's
+-- The numbers of a cell are in the range of the instance.
 pub record InRange (p : Problem) (e : Cell) : Type 0 where
   pub course : e.course < length p.courses
   pub room : e.room < length p.rooms

@@ -1,4 +1,4 @@
--- What an instance says of a course, a room or a curriculum; one that is not there has nothing.
+-- The data of a course, a room or a curriculum of an instance; if the number is out of range, it is empty or zero.
 use Rattle.std.specs.Prelude.{ℕ, ◌-◌, ◌==◌, Bool, not, ◌&&◌, ◌||◌, List, [], slice_get, slice_index_or, map}
 use Rattle.std.specs.List.{list_any}
 use Rattle.tt_lists.specs.Words.{has_number}
@@ -29,7 +29,7 @@ capacity p r = (slice_index_or p.rooms r no_room).capacity
 abbrev pub members : Problem → ℕ → List ℕ
 members p q = (slice_index_or p.curricula q no_curriculum).members
 
--- the students for whom the room has no seat
+-- The number of students for whom the room has no seat.
 abbrev pub excess : Problem → ℕ → ℕ → ℕ
 excess p c r = students p c - capacity p r
 
@@ -44,31 +44,31 @@ room_ids p = map (λ r. r.id) p.rooms
 abbrev pub curriculum_ids : Problem → List (List ℕ)
 curriculum_ids p = map (λ q. q.id) p.curricula
 
--- the teacher of each course
+-- The teacher of each course.
 abbrev pub course_teachers : Problem → List (List ℕ)
 course_teachers p = map (λ c. c.teacher) p.courses
 
--- each teacher once, in the order of first mention
+-- Each teacher once, in the order of first mention.
 abbrev pub teachers : Problem → List (List ℕ)
 teachers p = distinct_names (course_teachers p)
 
--- ---- which courses exclude each other, and from which periods a course is barred
+-- -- which courses conflict, and which periods are unavailable to a course
 
 abbrev pub in_curriculum : Problem → ℕ → ℕ → Bool
 in_curriculum p q c = has_number (members p q) c
 
--- both courses are there and have one teacher
+-- Both courses exist and have the same teacher.
 abbrev pub one_teacher : Problem → ℕ → ℕ → Bool
 one_teacher p a b = is_same_text (slice_get (course_teachers p) a) (slice_get (course_teachers p) b)
 
--- some curriculum has both courses
+-- Some curriculum has both courses.
 abbrev pub one_curriculum : Problem → ℕ → ℕ → Bool
 one_curriculum p a b = list_any (λ q. has_number q.members a && has_number q.members b) p.curricula
 
--- Two different courses with one teacher or a common curriculum (the competition's hard rule "Conflicts").
+-- Two different courses with the same teacher or a common curriculum (the competition's hard rule "Conflicts").
 abbrev pub conflict : Problem → ℕ → ℕ → Bool
 conflict p a b = not (a == b) && (one_teacher p a b || one_curriculum p a b)
 
--- the course has no lecture in this period (the hard rule "Availability")
+-- The course must not have a lecture in this period (the hard rule "Availability").
 abbrev pub unavailable : Problem → ℕ → ℕ → ℕ → Bool
 unavailable p c d s = list_any (λ b. (b.course == c) && (b.day == d) && (b.period == s)) p.bars

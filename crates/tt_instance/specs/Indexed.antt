@@ -1,5 +1,5 @@
--- Only proofs rest on this file: nobody has to believe it.
--- What the tables beside the rows of an instance say.
+-- Not part of the trusted statement: only proofs use this file.
+-- What the tables that go with the rows of an instance contain.
 use Rattle.std.specs.Prelude.{◌≡◌, ℕ, ◌+◌, ◌*◌, ◌≤◌, ◌==◌, nat_lt, Bool, false, ◌&&◌, List, [], length, map, Some, slice_index_or, All}
 use Rattle.std.specs.List.{list_any}
 use Rattle.tt_lists.specs.Words.{has_number}
@@ -17,11 +17,11 @@ use Rattle.tt_instance.specs.Courses.{conflict}
 use Rattle.tt_instance.specs.Reading.{ids_of, room_ids_of, curriculum_ids_of, lectures_of}
 use Rattle.tt_instance.specs.Seen.{courses_seen, rooms_seen, curricula_seen, bars_seen}
 
--- the teachers of courses, each once, in the order of their first mention
+-- The teachers of courses, each once, in the order of their first mention.
 abbrev pub teachers_of : List Course → List (List ℕ)
 teachers_of cs = distinct_names (map (λ c. c.teacher) cs)
 
--- the number of a course's teacher
+-- The row has the number of its course's teacher.
 abbrev pub IsTeacher : List (List ℕ) → CourseRow → Type 0
 IsTeacher names r = index_of_name names r.teacher_name.now ≡ Some r.teacher
 
@@ -36,7 +36,7 @@ pub record IsIndexed (l : CourseList) : Type 0 where
 pub record IsRoomsIndexed (l : RoomList) : Type 0 where
   pub ids_are : l.ids ≡ room_ids_of (rooms_seen l.rows.items)
 
--- there is a mark for each course, and the marks say which are members
+-- The list has a mark for each course, and the marks say which courses are members.
 pub record IsMarked (count : ℕ) (l : MemberList) : Type 0 where
   pub len : length l.marks ≡ count
   pub told : (c : ℕ) → slice_index_or l.marks c false ≡ has_number l.courses.items c
@@ -45,35 +45,35 @@ pub record IsCurriculaIndexed (count : ℕ) (l : CurriculumList) : Type 0 where
   pub ids_are : l.ids ≡ curriculum_ids_of (curricula_seen l.rows.items)
   pub marked : All (λ r. IsMarked count r.members) l.rows.items
 
--- a list of unavailabilities has this one
+-- A list of unavailabilities has this one.
 abbrev pub has_bar : List Bar → ℕ → ℕ → ℕ → Bool
 has_bar bars c d s = list_any (λ b. (b.course == c) && (b.day == d) && (b.period == s)) bars
 
--- the mark of a period, where each day has 64 places
+-- The mark of a period, in marks that have 64 places for each day.
 abbrev pub is_marked_at : List (List Bool) → ℕ → ℕ → ℕ → Bool
 is_marked_at rows c d s = nat_lt s 64 && slice_index_or (slice_index_or rows c []) (d * 64 + s) false
 
--- there are marks for each course and each day, and they say which periods are barred
+-- The list has marks for each course and each day, and they say which periods are unavailable.
 pub record IsBarred (count days : ℕ) (l : BarList) : Type 0 where
   pub len : length l.marks.items ≡ count
   pub lens : All (λ m. length m ≡ days * 64) l.marks.items
   pub told : (c d s : ℕ) → is_marked_at l.marks.items c d s ≡ has_bar (bars_seen l.rows.items) c d s
 
--- the tables of all parts
+-- The tables of all parts are right.
 pub record IsIndexedParts (a : Parts) : Type 0 where
   pub courses : IsIndexed a.courses
   pub rooms : IsRoomsIndexed a.rooms
   pub curricula : IsCurriculaIndexed (length a.courses.ids) a.curricula
   pub bars : IsBarred (length a.courses.ids) a.days a.bars
 
--- the mark of a number in a row of a table; none where it is not there
+-- The mark of a number in a row of a table; false if the row or the number is out of range.
 abbrev pub mark_at : List (List Bool) → ℕ → ℕ → Bool
 mark_at rows a b = slice_index_or (slice_index_or rows a []) b false
 
--- each row has as many marks as there are rows
+-- The length of each row is the number of rows.
 abbrev pub IsSquare : List (List Bool) → Type 0
 IsSquare rows = All (λ row. length row ≡ length rows) rows
 
--- a row of marks for each course says which courses it excludes
+-- The table has a row of marks for each course, which says with which courses it conflicts.
 pub record IsExcluding (p : Problem) (rows : List (List Bool)) : Type 0 where
   pub told : (a b : ℕ) → mark_at rows a b ≡ conflict p a b

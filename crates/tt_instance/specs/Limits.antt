@@ -1,11 +1,12 @@
--- The limits of an instance, and what is true of every instance that was read.
+-- The limits of an instance, and the properties of every instance that was read.
 use Rattle.std.specs.Prelude.{◌≡◌, ◌≢◌, ℕ, ◌*◌, ◌≤◌, ◌<◌, ◌==◌, Bool, true, not, ◌&&◌, length, sum_by, All, AllPairs, codes}
 use Rattle.tt_lists.specs.Words.{each_two}
 use Rattle.tt_text.specs.Tokens.{IsToken}
 use Rattle.tt_instance.specs.declared.limit.TheConstants.{MAX_COURSES, MAX_ROOMS, MAX_DAYS, MAX_PERIODS, MAX_SLOTS, MAX_CELLS, MAX_CURRICULA, MAX_MEMBERS, MAX_BARS, MAX_LECTURES, MAX_MIN_DAYS, MAX_SEATS}
 use Rattle.tt_instance.specs.Problem.{Bar, Problem}
 
--- the limits of the format; no two courses, rooms or curricula have one name; members and unavailabilities speak of what is there
+-- The limits of the format; no two courses, no two rooms and no two curricula have the same name; members and unavailabilities refer to
+-- courses, days and periods that exist.
 pub record IsWithinLimits (p : Problem) : Type 0 where
   pub name : All (λ text. text ≢ codes "Courses:") p.name
   pub courses : length p.courses ≤ MAX_COURSES
@@ -30,7 +31,7 @@ pub record IsWithinLimits (p : Problem) : Type 0 where
 abbrev pub same_bar : Bar → Bar → Bool
 same_bar a b = (a.course == b.course) && (a.day == b.day) && (a.period == b.period)
 
--- what every instance that was read is: within the limits, each member and each unavailability once, and each name a token
+-- The properties of every instance that was read: it is within the limits, has each member and each unavailability once, and each name is a token.
 pub record IsInstance (p : Problem) : Type 0 where
   pub within : IsWithinLimits p
   pub members_once : All (λ q. each_two (λ a b. not (a == b)) q.members ≡ true) p.curricula

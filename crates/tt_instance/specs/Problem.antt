@@ -1,5 +1,5 @@
--- An instance of curriculum-based course timetabling: what a `.ctt` file of the Second International Timetabling
--- Competition says (track 3, technical report of Di Gaspero, McCollum and Schaerf, section 3).
+-- An instance of curriculum-based course timetabling: the contents of a `.ctt` file of the Second International Timetabling
+-- Competition (track 3, technical report of Di Gaspero, McCollum and Schaerf, section 3).
 use Rattle.std.specs.Prelude.{ℕ, List}
 
 pub record Course : Type 0 where
@@ -13,18 +13,18 @@ pub record Room : Type 0 where
   pub id : List ℕ
   pub capacity : ℕ
 
--- the members are numbers of courses, each once, in the order of their first mention
+-- A curriculum. Its members are numbers of courses, each once, in the order of their first mention.
 pub record Curriculum : Type 0 where
   pub id : List ℕ
   pub members : List ℕ
 
--- a course that has no lecture in a period of a day
+-- An unavailability: a course that must not have a lecture in a period of a day.
 pub record Bar : Type 0 where
   pub course : ℕ
   pub day : ℕ
   pub period : ℕ
 
--- an instance; courses, rooms, curricula, days and periods of a day are numbered from 0
+-- An instance; courses, rooms, curricula, days and periods of a day are numbered from 0.
 pub record Problem : Type 0 where
   pub name : List (List ℕ)
   pub days : ℕ

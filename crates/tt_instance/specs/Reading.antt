@@ -1,4 +1,4 @@
--- What reading an instance gives: its parts, or the first fault from the left. All checks of one token come before the next token.
+-- The result of reading an instance: its parts, or the first fault from the left. All checks of one token come before the next token.
 use Rattle.std.specs.Prelude.{ℕ, zero, suc, ◌*◌, ◌-◌, ◌==◌, nat_lt, Bool, true, false, if◌then◌else◌, List, [], ◌∷◌, ◌++◌, length, map, sum_by, Option, Some, None, Result, Ok, Err}
 use Rattle.tt_lists.specs.Words.{with_new}
 use Rattle.tt_text.specs.Tokens.{Placed, tokens_of}
@@ -16,7 +16,7 @@ use Rattle.tt_instance.specs.Words.{word_text}
 use Rattle.tt_instance.specs.Problem.{Course, Room, Curriculum, Bar, Problem}
 use Rattle.tt_instance.specs.Limits.{same_bar}
 
--- being out of memory says nothing of the bytes
+-- Being out of memory says nothing about the bytes.
 abbrev pub is_silent : InstanceFault → Bool
 is_silent fault.OutOfMemory = true
 is_silent _ = false
@@ -27,43 +27,43 @@ Fails e read = FailsUnless is_silent e read
 abbrev pub Gives : {X Y : Type 0} → (X → Y) → Result X InstanceFault → Result Y InstanceFault → Type 0
 Gives view result read = AgreesUnless is_silent view result read
 
--- the next token of a text of end bytes
+-- The next token of a text of `end` bytes.
 abbrev pub token_at : ℕ → List Placed → Result (Placed × List Placed) InstanceFault
 token_at end ts = token_or (fault.Ended end) ts
 
--- a fixed word
+-- A fixed word.
 unfoldable pub word_at : ℕ → Word → List Placed → Result (List Placed) InstanceFault
 word_at end w ts = do
   t ← token_at end ts
   if is_text (word_text w) t.0.text then Ok t.1 else Err (fault.Expected w t.0.at)
 
--- the fault of a token that is to be a number up to a limit
+-- The number of a token up to a limit, or its fault.
 abbrev pub numbered : ℕ → Result ℕ NumberFault → Result ℕ InstanceFault
 numbered at (Ok n) = Ok n
 numbered at (Err number.NotANumber) = Err (fault.NotANumber at)
 numbered at (Err number.TooLarge) = Err (fault.OverLimit at)
 
--- the fault of a token that is to be a number below a bound
+-- The number of a token below a bound, or its fault.
 abbrev pub ranged : ℕ → Result ℕ NumberFault → Result ℕ InstanceFault
 ranged at (Ok n) = Ok n
 ranged at (Err number.NotANumber) = Err (fault.NotANumber at)
 ranged at (Err number.TooLarge) = Err (fault.OutOfRange at)
 
--- a number up to a limit
+-- A number up to a limit.
 unfoldable pub limited_at : ℕ → ℕ → List Placed → Result (ℕ × List Placed) InstanceFault
 limited_at end limit ts = do
   t ← token_at end ts
   n ← numbered t.0.at (number_of limit t.0.text)
   Ok (n, t.1)
 
--- a number below a bound
+-- A number below a bound.
 unfoldable pub below_at : ℕ → ℕ → List Placed → Result (ℕ × List Placed) InstanceFault
 below_at end bound ts = do
   t ← token_at end ts
   n ← ranged t.0.at (number_of (bound - 1) t.0.text)
   Ok (n, t.1)
 
--- the test of a name that must be new
+-- The test of a name that must be new.
 abbrev pub new_name : List (List ℕ) → Placed → Result (Unit {0}) InstanceFault
 new_name names t = if has_name names t.text then Err (fault.Repeated t.at) else Ok tt
 
@@ -75,11 +75,11 @@ ids_of cs = map (λ c. c.id) cs
 abbrev pub room_ids_of : List Room → List (List ℕ)
 room_ids_of rs = map (λ r. r.id) rs
 
--- the lectures of courses in all
+-- The number of all lectures of the courses.
 abbrev pub lectures_of : List Course → ℕ
 lectures_of cs = sum_by (λ c. c.lectures) cs
 
--- one more course after those before
+-- Another course after those before.
 unfoldable pub course_at : ℕ → List Course → List Placed → Result (List Course × List Placed) InstanceFault
 course_at end before ts = do
   id ← token_at end ts
@@ -90,14 +90,14 @@ course_at end before ts = do
     students ← limited_at end MAX_SEATS min_days.1
     Ok (before ++ record { id = id.0.text; teacher = teacher.0.text; lectures = lectures.0; min_days = min_days.0; students = students.0 } ∷ [], students.1)
 
--- this many more courses
+-- This many more courses.
 unfoldable pub courses_at : ℕ → ℕ → List Course → List Placed → Result (List Course × List Placed) InstanceFault
 courses_at end zero before ts = Ok (before, ts)
 courses_at end (suc n) before ts = do
   c ← course_at end before ts
   courses_at end n c.0 c.1
 
--- one more room after those before
+-- Another room after those before.
 unfoldable pub room_at : ℕ → List Room → List Placed → Result (List Room × List Placed) InstanceFault
 room_at end before ts = do
   id ← token_at end ts
@@ -105,7 +105,7 @@ room_at end before ts = do
     capacity ← limited_at end MAX_SEATS id.1
     Ok (before ++ record { id = id.0.text; capacity = capacity.0 } ∷ [], capacity.1)
 
--- this many more rooms
+-- This many more rooms.
 unfoldable pub rooms_at : ℕ → ℕ → List Room → List Placed → Result (List Room × List Placed) InstanceFault
 rooms_at end zero before ts = Ok (before, ts)
 rooms_at end (suc n) before ts = do
@@ -121,27 +121,27 @@ abbrev pub known : ℕ → Option ℕ → Result ℕ InstanceFault
 known at None = Err (fault.UnknownCourse at)
 known at (Some i) = Ok i
 
--- a course by its name
+-- A course by its name.
 unfoldable pub named_at : ℕ → List (List ℕ) → List Placed → Result (ℕ × List Placed) InstanceFault
 named_at end ids ts = do
   t ← token_at end ts
   i ← known t.0.at (index_of_name ids t.0.text)
   Ok (i, t.1)
 
--- one more member, if it is new
+-- Another member, if it is new.
 unfoldable pub member_at : ℕ → List (List ℕ) → List ℕ → List Placed → Result (List ℕ × List Placed) InstanceFault
 member_at end ids before ts = do
   c ← named_at end ids ts
   Ok (with_new (λ a b. a == b) before c.0, c.1)
 
--- this many more members
+-- This many more members.
 unfoldable pub members_at : ℕ → List (List ℕ) → ℕ → List ℕ → List Placed → Result (List ℕ × List Placed) InstanceFault
 members_at end ids zero before ts = Ok (before, ts)
 members_at end ids (suc n) before ts = do
   m ← member_at end ids before ts
   members_at end ids n m.0 m.1
 
--- one more curriculum after those before
+-- Another curriculum after those before.
 unfoldable pub curriculum_at : ℕ → List (List ℕ) → List Curriculum → List Placed → Result (List Curriculum × List Placed) InstanceFault
 curriculum_at end ids before ts = do
   id ← token_at end ts
@@ -150,14 +150,14 @@ curriculum_at end ids before ts = do
     members ← members_at end ids count.0 [] count.1
     Ok (before ++ record { id = id.0.text; members = members.0 } ∷ [], members.1)
 
--- this many more curricula
+-- This many more curricula.
 unfoldable pub curricula_at : ℕ → List (List ℕ) → ℕ → List Curriculum → List Placed → Result (List Curriculum × List Placed) InstanceFault
 curricula_at end ids zero before ts = Ok (before, ts)
 curricula_at end ids (suc n) before ts = do
   q ← curriculum_at end ids before ts
   curricula_at end ids n q.0 q.1
 
--- one more unavailability, if it is new
+-- Another unavailability, if it is new.
 unfoldable pub bar_at : ℕ → List (List ℕ) → ℕ → ℕ → List Bar → List Placed → Result (List Bar × List Placed) InstanceFault
 bar_at end ids days periods before ts = do
   course ← named_at end ids ts
@@ -165,7 +165,7 @@ bar_at end ids days periods before ts = do
   period ← below_at end periods day.1
   Ok (with_new same_bar before (record { course = course.0; day = day.0; period = period.0 }), period.1)
 
--- this many more unavailability lines
+-- This many more unavailability lines.
 unfoldable pub bars_at : ℕ → List (List ℕ) → ℕ → ℕ → ℕ → List Bar → List Placed → Result (List Bar × List Placed) InstanceFault
 bars_at end ids days periods zero before ts = Ok (before, ts)
 bars_at end ids days periods (suc n) before ts = do
@@ -174,13 +174,13 @@ bars_at end ids days periods (suc n) before ts = do
 
 -- ---- the name and the header
 
--- the tokens before the word that ends the name
+-- The tokens before the word that ends the name.
 unfoldable pub name_at : ℕ → List (List ℕ) → List Placed → Result (List (List ℕ) × List Placed) InstanceFault
 name_at end before [] = Err (fault.Ended end)
 name_at end before (t ∷ ts) =
     if is_text (word_text word.Courses) t.text then Ok (before, ts) else name_at end (before ++ t.text ∷ []) ts
 
--- the numbers of a header
+-- The numbers of a header.
 pub record Counts : Type 0 where
   pub courses : ℕ
   pub rooms : ℕ
@@ -189,13 +189,13 @@ pub record Counts : Type 0 where
   pub curricula : ℕ
   pub bars : ℕ
 
--- a fixed word, and a number up to a limit
+-- A fixed word, and a number up to a limit.
 unfoldable pub counted_at : ℕ → Word → ℕ → List Placed → Result (ℕ × List Placed) InstanceFault
 counted_at end w limit ts = do
   rest ← word_at end w ts
   limited_at end limit rest
 
--- the days
+-- The number of days.
 unfoldable pub days_at : ℕ → List Placed → Result (ℕ × List Placed) InstanceFault
 days_at end ts = do
   rest ← word_at end word.Days ts
@@ -203,7 +203,7 @@ days_at end ts = do
   n ← numbered t.0.at (number_of MAX_DAYS t.0.text)
   if n == 0 then Err (fault.OutOfRange t.0.at) else Ok (n, t.1)
 
--- the periods of a day, where this many pairs of a course and a room have cells
+-- The number of periods of a day. `pairs` is the number of pairs of a course and a room.
 unfoldable pub periods_at : ℕ → ℕ → ℕ → List Placed → Result (ℕ × List Placed) InstanceFault
 periods_at end pairs days ts = do
   rest ← word_at end word.PeriodsPerDay ts
@@ -213,7 +213,7 @@ periods_at end pairs days ts = do
       else (if nat_lt MAX_CELLS (pairs * (days * n)) then Err (fault.OverLimit t.0.at)
       else (if n == 0 then Err (fault.OutOfRange t.0.at) else Ok (n, t.1)))
 
--- the header after the word that ends the name
+-- The header after the word that ends the name.
 unfoldable pub header_at : ℕ → List Placed → Result (Counts × List Placed) InstanceFault
 header_at end ts = do
   courses ← limited_at end MAX_COURSES ts
@@ -224,16 +224,16 @@ header_at end ts = do
   bars ← counted_at end word.Constraints MAX_BARS curricula.1
   Ok (record { courses = courses.0; rooms = rooms.0; days = days.0; periods = periods.0; curricula = curricula.0; bars = bars.0 }, bars.1)
 
--- ---- the whole
+-- -- the whole instance
 
--- the lists after the header
+-- The lists after the header.
 pub record Sections : Type 0 where
   pub courses : List Course
   pub rooms : List Room
   pub curricula : List Curriculum
   pub bars : List Bar
 
--- the courses and rooms after the header
+-- The courses and rooms after the header.
 unfoldable pub places_at : ℕ → Counts → List Placed → Result ((List Course × List Room) × List Placed) InstanceFault
 places_at end counts ts = do
   ts1 ← word_at end word.CoursesPart ts
@@ -242,7 +242,7 @@ places_at end counts ts = do
   rooms ← rooms_at end counts.rooms [] ts2
   Ok ((courses.0, rooms.0), rooms.1)
 
--- the curricula and unavailabilities after them, up to the end
+-- The curricula and unavailabilities after the rooms, up to the end.
 unfoldable pub groups_at : ℕ → Counts → List (List ℕ) → List Placed → Result ((List Curriculum × List Bar) × List Placed) InstanceFault
 groups_at end counts ids ts = do
   ts1 ← word_at end word.CurriculaPart ts
@@ -258,7 +258,7 @@ sections_at end counts ts = do
   groups ← groups_at end counts (ids_of places.0.0) places.1
   Ok (record { courses = places.0.0; rooms = places.0.1; curricula = groups.0.0; bars = groups.0.1 }, groups.1)
 
--- the instance that bytes spell, or their first fault
+-- The instance that bytes spell, or their first fault.
 unfoldable pub instance_of : List ℕ → Result Problem InstanceFault
 instance_of bytes = do
   ts1 ← word_at (length bytes) word.Name (tokens_of bytes)

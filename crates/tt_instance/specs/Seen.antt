@@ -1,4 +1,4 @@
--- What a contract sees of the rows of a table.
+-- The values that a contract sees of the rows of a table.
 use Rattle.std.specs.Prelude.{ℕ, List, map}
 use Rattle.std.specs.Borrow.{Bor}
 use Rattle.tt_instance.specs.declared.header.Header.{Header}

@@ -1,4 +1,4 @@
--- Which instance the bytes of a `.ctt` file spell: their tokens are those of the instance written out, up to the leading zeros
+-- Which instance the bytes of a `.ctt` file spell: their tokens are those of the instance as it is written, except for leading zeros
 -- of its numbers (the competition's input format; the limits are this project's own).
 use Rattle.std.specs.Prelude.{◌≡◌, ℕ, ◌==◌, List, [], ◌∷◌, ◌++◌, length, map, flat_map, slice_index_or, codes}
 use Rattle.tt_lists.specs.Words.{distinct}
@@ -8,7 +8,7 @@ use Rattle.tt_instance.specs.Problem.{Course, Room, Curriculum, Bar, Problem}
 use Rattle.tt_instance.specs.Courses.{no_course}
 use Rattle.tt_instance.specs.Limits.{same_bar, IsWithinLimits}
 
--- a course by its name
+-- A course by its name.
 abbrev pub named : List Course → ℕ → Piece
 named cs c = Text (slice_index_or cs c no_course).id
 
@@ -30,7 +30,7 @@ header_pieces p =
     ∷ Text (codes "Days:") ∷ Number p.days ∷ Text (codes "Periods_per_day:") ∷ Number p.periods
     ∷ Text (codes "Curricula:") ∷ Number (length p.curricula) ∷ Text (codes "Constraints:") ∷ Number (length p.bars) ∷ []
 
--- a whole file
+-- The pieces of a whole file.
 abbrev pub pieces : Problem → List Piece
 pieces p =
     (Text (codes "Name:") ∷ map Text p.name)
@@ -44,11 +44,11 @@ pieces p =
 abbrev pub members_kept : Curriculum → Curriculum
 members_kept q = record q { members = distinct (λ a b. a == b) q.members }
 
--- the instance that is kept of a file's lines: each member of a curriculum and each unavailability once, in the order of first mention
+-- The instance of a file's lines without repeats: each member of a curriculum and each unavailability once, in the order of first mention.
 abbrev pub without_repeats : Problem → Problem
 without_repeats w = record w { curricula = map members_kept w.curricula; bars = distinct same_bar w.bars }
 
--- The bytes spell the instance: they begin with the pieces of lines of which it is kept. What stands after `END.` is not read.
+-- The bytes spell the instance: they begin with the pieces of an instance that is this one if repeats are removed. Bytes after `END.` are not read.
 pub record Spells (bytes : List ℕ) (p : Problem) : Type 0 where
   pub written : Problem
   pub rest : List Placed

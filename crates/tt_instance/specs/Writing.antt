@@ -11,7 +11,7 @@ use Rattle.tt_instance.specs.Spelling.{course_pieces, room_pieces, curriculum_pi
 abbrev pub counted_line : Word → ℕ → List Piece
 counted_line w n = fixed w ∷ Number n ∷ []
 
--- an empty line and the word of a section
+-- An empty line and the word of a section.
 abbrev pub section : Word → List (List Piece)
 section w = [] ∷ (fixed w ∷ []) ∷ []
 
@@ -21,7 +21,7 @@ header_lines p =
     ∷ counted_line word.Days p.days ∷ counted_line word.PeriodsPerDay p.periods
     ∷ counted_line word.Curricula (length p.curricula) ∷ counted_line word.Constraints (length p.bars) ∷ []
 
--- the lines of a file
+-- The lines of a file.
 abbrev pub instance_lines : Problem → List (List Piece)
 instance_lines p =
     header_lines p

@@ -18,21 +18,21 @@ use tt_text::Tokens;
 /// The places of a day in the marks of a course.
 const DAY: u32 = MAX_PERIODS;
 
-/// The place of a period in the marks of a course.
+/// Returns the place of a period in the marks of a course.
 fn place(day: u32, period: u32) -> usize
     ensures { result ≡ day * 64 + period }
 {
     day as usize * DAY as usize + period as usize
 }
 
-/// Whether a course is barred from a period; false where one of them is not there.
+/// Returns whether a period is unavailable to a course; false if the course, the day or the period is out of range.
 pub fn is_barred(marks: &[Marks], course: u32, day: u32, period: u32) -> bool
     ensures { result ≡ is_marked_at marks.now course day period }
 {
     period < DAY && has_at(marks, course as usize, place(day, period))
 }
 
-/// No marks for each course and day.
+/// Creates empty marks for each course and day.
 fn no_marks(alloc: Global, courses: usize, days: u32) -> Result<Vec<Marks>, AllocError>
     ensures { IfOk result (λ v. v.items ≡ replicate courses (replicate (days * 64) false)) }
 {
@@ -43,7 +43,7 @@ fn no_marks(alloc: Global, courses: usize, days: u32) -> Result<Vec<Marks>, Allo
     Ok(marks)
 }
 
-/// One more unavailability, if it is new.
+/// Reads another unavailability and adds it if it is new.
 #[tactic(auto, unfolding(crate::specs::Reading::bar_at))]
 fn read_bar(
     tokens: &mut Tokens<'_>,
@@ -76,7 +76,7 @@ fn read_bar(
     Ok(())
 }
 
-/// The unavailabilities that a header announces, of the courses of these names.
+/// Reads as many unavailabilities as the header says, of the courses with these names.
 pub fn read_bars(
     alloc: Global,
     tokens: &mut Tokens<'_>,

@@ -1,6 +1,6 @@
 //! The entries of a timetable, and periods.
 
-/// A course in a room, in a period of a day: an entry of a timetable, or a place where one may stand.
+/// A course in a room, in a period of a day: an entry of a timetable, or a place for one.
 #[derive(Clone, Copy, Debug, PartialEq, Eq)]
 pub struct Cell {
     pub course: u32,

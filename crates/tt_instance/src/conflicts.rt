@@ -1,4 +1,4 @@
-//! Which courses exclude each other.
+//! Which courses conflict.
 
 ghost use Rattle.std.specs.Prelude.{◌≡◌, ◌<◌, ◌==◌, ℕ, not, ◌||◌, ◌&&◌, length, map, All, IfOk, slice_index_or};
 ghost use Rattle.std.specs.List.{list_any};
@@ -11,7 +11,7 @@ use crate::parts::Parts;
 use crate::rows::{CourseRow, CurriculumRow};
 use std::alloc::{AllocError, Global};
 
-/// For each course whether it has this teacher.
+/// Returns for each course whether it has this teacher.
 fn flags_of_teacher(
     alloc: Global,
     courses: &[CourseRow<'_>],
@@ -25,7 +25,7 @@ fn flags_of_teacher(
         .collect(alloc)
 }
 
-/// For each course the courses that have its teacher.
+/// Returns for each course the courses that have its teacher.
 fn teacher_rows(alloc: Global, courses: &[CourseRow<'_>]) -> Result<Vec<Marks>, AllocError>
     ensures { IfOk result (λ v. v.items ≡ map (λ x. map (λ r. r.teacher == x.teacher) courses.now) courses.now) }
 {
@@ -37,7 +37,7 @@ fn teacher_rows(alloc: Global, courses: &[CourseRow<'_>]) -> Result<Vec<Marks>, 
     Ok(rows)
 }
 
-/// Marks the members of a curriculum in the row of each.
+/// Marks the members of a curriculum in the row of each member.
 fn add_members(rows: &mut Vec<Marks>, members: &[u32])
     requires square { IsSquare rows.old.items }
     requires within { All (λ c. c < length rows.old.items) members.now }
@@ -51,7 +51,7 @@ fn add_members(rows: &mut Vec<Marks>, members: &[u32])
     }
 }
 
-/// Marks the members of each curriculum in the row of each.
+/// Marks the members of each curriculum in the row of each member.
 fn add_curricula(rows: &mut Vec<Marks>, curricula: &[CurriculumRow<'_>])
     requires square { IsSquare rows.old.items }
     requires within { All (λ q. All (λ c. c < length rows.old.items) q.members.courses.items) curricula.now }
@@ -66,7 +66,7 @@ fn add_curricula(rows: &mut Vec<Marks>, curricula: &[CurriculumRow<'_>])
     }
 }
 
-/// Takes away the mark of each course in its own row.
+/// Removes the mark of each course in its own row.
 fn clear_own(rows: &mut Vec<Marks>)
     requires { IsSquare rows.old.items }
     ensures { (a b : ℕ) → mark_at rows.new.items a b ≡ (not (a == b) && mark_at rows.old.items a b) }
@@ -76,7 +76,7 @@ fn clear_own(rows: &mut Vec<Marks>)
     }
 }
 
-/// For each course the courses that it excludes: teacher by teacher and curriculum by curriculum.
+/// Returns for each course the courses with which it conflicts: teacher by teacher and curriculum by curriculum.
 pub fn conflict_rows(alloc: Global, parts: &Parts<'_>) -> Result<Vec<Marks>, AllocError>
     requires { IsIndexedParts parts.now }
     ensures { IfOk result (λ v. IsExcluding (problem_seen parts.now) v.items) }

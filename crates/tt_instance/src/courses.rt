@@ -13,7 +13,7 @@ use crate::rows::{CourseList, CourseRow};
 use std::alloc::Global;
 use tt_text::Tokens;
 
-/// One more course after those of the list.
+/// Reads another course after those of the list.
 #[tactic(auto, unfolding(crate::specs::Reading::course_at))]
 fn read_course<'a>(
     tokens: &mut Tokens<'a>,
@@ -48,7 +48,7 @@ fn read_course<'a>(
     Ok(())
 }
 
-/// This many courses.
+/// Reads this many courses.
 pub fn read_courses<'a>(
     alloc: Global,
     tokens: &mut Tokens<'a>,

@@ -14,7 +14,7 @@ use crate::rows::{CurriculumList, CurriculumRow, MemberList};
 use std::alloc::Global;
 use tt_text::Tokens;
 
-/// One more member, if it is new.
+/// Reads another member and adds it if it is new.
 #[tactic(auto, unfolding(crate::specs::Reading::member_at))]
 fn read_member(
     tokens: &mut Tokens<'_>,
@@ -36,7 +36,7 @@ fn read_member(
     Ok(())
 }
 
-/// This many members.
+/// Reads this many members.
 fn read_members(
     alloc: Global,
     tokens: &mut Tokens<'_>,
@@ -59,7 +59,7 @@ fn read_members(
     Ok(list)
 }
 
-/// One more curriculum after those of the list.
+/// Reads another curriculum after those of the list.
 #[tactic(auto, unfolding(crate::specs::Reading::curriculum_at))]
 fn read_curriculum<'a>(
     alloc: Global,
@@ -87,7 +87,7 @@ fn read_curriculum<'a>(
     Ok(())
 }
 
-/// This many curricula over the courses of these names.
+/// Reads this many curricula over the courses with these names.
 pub fn read_curricula<'a>(
     alloc: Global,
     tokens: &mut Tokens<'a>,

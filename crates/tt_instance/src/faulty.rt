@@ -1,4 +1,4 @@
-//! What the first fault of a file says of others.
+//! What the first fault of a file says about other files.
 
 ghost use Rattle.std.specs.Prelude.{◌≡◌, ℕ, List, Any, Some, Err};
 ghost use Rattle.tt_text.specs.Tokens.{tokens_of};
@@ -8,8 +8,8 @@ ghost use Rattle.tt_instance.specs.Reading.{instance_of};
 ghost use Rattle.tt_instance.specs.Spelling.{Spells};
 ghost use Rattle.tt_instance.specs.declared.fault.InstanceFault.{InstanceFault};
 
-/// Where reading an instance fails at a token, that token stands in the bytes, and no bytes whose tokens have the same texts up to it, and that one
-/// too, spell an instance, whatever else they hold.
+/// If reading an instance fails at a token, the bytes have a token at that offset, and no bytes whose tokens have the same texts up to and
+/// including that one spell an instance, whichever tokens follow.
 pub fn faulty_beginnings_spell_none()
     ensures token { (bytes : List ℕ) (e : InstanceFault) (at : ℕ) → instance_of bytes ≡ Err e → token_offset e ≡ Some at →
         Any (λ t. t.at ≡ at) (tokens_of bytes) }

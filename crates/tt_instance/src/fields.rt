@@ -9,7 +9,7 @@ use crate::fault::{InstanceFault, Word};
 use crate::names::Names;
 use tt_text::{NumberFault, Token, Tokens, number};
 
-/// The next token of a text of end bytes.
+/// Reads the next token of a text of `end` bytes.
 #[tactic(auto, unfolding(tt_text::specs::Reading::token_or))]
 pub fn read_token<'a>(tokens: &mut Tokens<'a>, end: usize) -> Result<Token<'a>, InstanceFault>
     ensures { Gives (λ t. (place t, tokens.new)) result (token_at end tokens.old) }
@@ -20,7 +20,7 @@ pub fn read_token<'a>(tokens: &mut Tokens<'a>, end: usize) -> Result<Token<'a>, 
     }
 }
 
-/// A fixed word.
+/// Reads a fixed word.
 #[tactic(auto, unfolding(crate::specs::Reading::word_at))]
 pub fn read_word(tokens: &mut Tokens<'_>, end: usize, word: Word) -> Result<(), InstanceFault>
     ensures { Gives (λ _. tokens.new) result (word_at end word tokens.old) }
@@ -33,7 +33,7 @@ pub fn read_word(tokens: &mut Tokens<'_>, end: usize, word: Word) -> Result<(), 
     }
 }
 
-/// The value of a token, up to a limit.
+/// Returns the value of a token, up to a limit.
 pub fn read_value(token: Token<'_>, limit: u32) -> Result<u32, InstanceFault>
     ensures read { Gives (λ n. n) result
         (numbered token.entry.at (number_of limit token.entry.bytes.now)) }
@@ -46,7 +46,7 @@ pub fn read_value(token: Token<'_>, limit: u32) -> Result<u32, InstanceFault>
     }
 }
 
-/// A number up to a limit.
+/// Reads a number up to a limit.
 #[tactic(auto, unfolding(crate::specs::Reading::limited_at))]
 pub fn read_limited(tokens: &mut Tokens<'_>, end: usize, limit: u32) -> Result<u32, InstanceFault>
     ensures read { Gives (λ n. (n, tokens.new)) result (limited_at end limit tokens.old) }
@@ -56,7 +56,7 @@ pub fn read_limited(tokens: &mut Tokens<'_>, end: usize, limit: u32) -> Result<u
     read_value(token, limit)
 }
 
-/// A fixed word, and a number up to a limit.
+/// Reads a fixed word, and a number up to a limit.
 #[tactic(auto, unfolding(crate::specs::Reading::counted_at))]
 pub fn read_counted(
     tokens: &mut Tokens<'_>,
@@ -71,7 +71,7 @@ pub fn read_counted(
     read_limited(tokens, end, limit)
 }
 
-/// A number below a bound.
+/// Reads a number below a bound.
 #[tactic(auto, unfolding(crate::specs::Reading::below_at))]
 pub fn read_below(tokens: &mut Tokens<'_>, end: usize, bound: u32) -> Result<u32, InstanceFault>
     requires { 0 < bound }
@@ -86,7 +86,7 @@ pub fn read_below(tokens: &mut Tokens<'_>, end: usize, bound: u32) -> Result<u32
     }
 }
 
-/// A course by its name.
+/// Reads a course by its name.
 #[tactic(auto, unfolding(crate::specs::Reading::named_at))]
 pub fn read_course_name(
     tokens: &mut Tokens<'_>,

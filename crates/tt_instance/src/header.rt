@@ -23,7 +23,7 @@ pub struct Header {
     pub bars: u32,
 }
 
-/// The tokens before the word that ends the name.
+/// Reads the tokens before the word that ends the name.
 pub fn read_name<'a>(
     alloc: Global,
     tokens: &mut Tokens<'a>,
@@ -82,7 +82,7 @@ fn read_periods(
     Ok(periods)
 }
 
-/// The header after the word that ends the name.
+/// Reads the header after the word that ends the name.
 #[tactic(auto, unfolding(crate::specs::Reading::header_at))]
 pub fn read_header(tokens: &mut Tokens<'_>, end: usize) -> Result<Header, InstanceFault>
     ensures read { Gives (λ h. (counts_seen h, tokens.new)) result (header_at end tokens.old) }

@@ -46,7 +46,7 @@ impl<'a> Model for Instance<'a> {
     } };
 }
 
-// One call in place of many at each place where an instance is let go.
+// Dropping an instance is one call instead of many at each place.
 impl<'a> Drop for Instance<'a> {
     fn drop(self) {
         let Instance {
@@ -56,7 +56,7 @@ impl<'a> Drop for Instance<'a> {
     }
 }
 
-/// The instance with its tables.
+/// Reads the instance and its tables.
 fn read_all<'a>(alloc: Global, bytes: &'a [u8]) -> Result<Instance<'a>, InstanceFault>
     ensures { Gives (λ i. i) result (instance_of bytes.now) }
 {
@@ -65,15 +65,15 @@ fn read_all<'a>(alloc: Global, bytes: &'a [u8]) -> Result<Instance<'a>, Instance
     Ok(Instance { parts, conflicts })
 }
 
-/// The instance that the bytes of a `.ctt` file spell. What stands after `END.` is not read.
+/// Returns the instance that the bytes of a `.ctt` file spell. Bytes after `END.` are not read.
 pub fn read_instance<'a>(alloc: Global, bytes: &'a [u8]) -> Result<Instance<'a>, InstanceFault>
-    // What is read is spelled.
+    // The result is an instance that the bytes spell.
     ensures found { IfOk result (λ p. Spells bytes.now p) }
-    // What is spelled is read, unless memory runs out.
+    // If the bytes spell an instance, the result is that instance, unless memory runs out.
     ensures only { (p : Problem) → Spells bytes.now p → Gives (λ i. i) result (Ok p) }
-    // Which fault it is.
+    // The exact result: the instance or the fault that `instance_of` gives.
     ensures exact { Gives (λ i. i) result (instance_of bytes.now) }
-    // So `instance_of` gives an instance exactly where the bytes spell it, and they spell at most one.
+    // Therefore `instance_of` gives an instance exactly if the bytes spell it, and they spell at most one.
     ensures spelled { (p : Problem) → Spells bytes.now p → instance_of bytes.now ≡ Ok p }
     ensures spells { (p : Problem) → instance_of bytes.now ≡ Ok p → Spells bytes.now p }
     ensures one { (p q : Problem) → Spells bytes.now p → Spells bytes.now q → p ≡ q }
@@ -82,14 +82,14 @@ pub fn read_instance<'a>(alloc: Global, bytes: &'a [u8]) -> Result<Instance<'a>,
 }
 
 impl<'a> Instance<'a> {
-    /// How many tokens the name has.
+    /// Returns how many tokens the name has.
     pub fn name_len(&self) -> usize
         ensures { result ≡ length self.now.name }
     {
         self.parts.name.len()
     }
 
-    /// A token of the name.
+    /// Returns a token of the name.
     pub fn name_token(&self, index: usize) -> &'a [u8]
         requires { index < length self.now.name }
         ensures { slice_get self.now.name index ≡ Some result.now }
@@ -97,18 +97,18 @@ impl<'a> Instance<'a> {
         self.parts.name[index]
     }
 
-    /// Days of the week, 1 to 64.
+    /// Returns the days of the week, 1 to 64.
     pub fn days(&self) -> u32
         ensures value { result ≡ self.now.days }
         ensures some { 0 < result }
         ensures within { result ≤ MAX_DAYS }
-        // What is true of every instance.
+        // The properties of every instance.
         ensures instance { IsInstance self.now }
     {
         self.parts.days
     }
 
-    /// Periods of a day, 1 to 64; 512 at most in the week.
+    /// Returns the periods of a day, 1 to 64; the week has at most 512.
     pub fn periods(&self) -> u32
         ensures value { result ≡ self.now.periods }
         ensures some { 0 < result }
@@ -118,7 +118,7 @@ impl<'a> Instance<'a> {
         self.parts.periods
     }
 
-    /// How many courses there are.
+    /// Returns the number of courses.
     pub fn courses(&self) -> u32
         ensures value { result ≡ length self.now.courses }
         ensures within { result ≤ MAX_COURSES }
@@ -126,7 +126,7 @@ impl<'a> Instance<'a> {
         self.parts.courses.rows.len() as u32
     }
 
-    /// How many rooms there are.
+    /// Returns the number of rooms.
     pub fn rooms(&self) -> u32
         ensures value { result ≡ length self.now.rooms }
         ensures within { result ≤ MAX_ROOMS }
@@ -134,7 +134,7 @@ impl<'a> Instance<'a> {
         self.parts.rooms.rows.len() as u32
     }
 
-    /// How many curricula there are.
+    /// Returns the number of curricula.
     pub fn curricula(&self) -> u32
         ensures value { result ≡ length self.now.curricula }
         ensures within { result ≤ MAX_CURRICULA }
@@ -142,7 +142,7 @@ impl<'a> Instance<'a> {
         self.parts.curricula.rows.len() as u32
     }
 
-    /// How many teachers there are.
+    /// Returns the number of teachers.
     pub fn teachers(&self) -> u32
         ensures value { result ≡ length (teachers self.now) }
         ensures within { result ≤ MAX_COURSES }
@@ -150,7 +150,7 @@ impl<'a> Instance<'a> {
         self.parts.courses.teachers.len() as u32
     }
 
-    /// How many unavailabilities there are.
+    /// Returns the number of unavailabilities.
     pub fn bars(&self) -> u32
         ensures value { result ≡ length self.now.bars }
         ensures within { result ≤ MAX_BARS }
@@ -158,7 +158,7 @@ impl<'a> Instance<'a> {
         self.parts.bars.rows.len() as u32
     }
 
-    /// The lectures that a course wants.
+    /// Returns how many lectures a course needs.
     pub fn lectures(&self, course: u32) -> u32
         requires { course < length self.now.courses }
         ensures value { result ≡ lectures self.now course }
@@ -167,7 +167,7 @@ impl<'a> Instance<'a> {
         self.parts.courses.rows[course as usize].lectures
     }
 
-    /// The days over which a course is to be spread, at least.
+    /// Returns the minimum number of days over which a course should be spread.
     pub fn min_days(&self, course: u32) -> u32
         requires { course < length self.now.courses }
         ensures value { result ≡ min_days self.now course }
@@ -176,7 +176,7 @@ impl<'a> Instance<'a> {
         self.parts.courses.rows[course as usize].min_days
     }
 
-    /// The students of a course.
+    /// Returns the number of students of a course.
     pub fn students(&self, course: u32) -> u32
         requires { course < length self.now.courses }
         ensures value { result ≡ students self.now course }
@@ -185,7 +185,7 @@ impl<'a> Instance<'a> {
         self.parts.courses.rows[course as usize].students
     }
 
-    /// The seats of a room.
+    /// Returns the number of seats of a room.
     pub fn capacity(&self, room: u32) -> u32
         requires { room < length self.now.rooms }
         ensures value { result ≡ capacity self.now room }
@@ -194,7 +194,7 @@ impl<'a> Instance<'a> {
         self.parts.rooms.rows[room as usize].capacity
     }
 
-    /// The members of a curriculum, each once, in the order of their first mention.
+    /// Returns the members of a curriculum, each once, in the order of their first mention.
     pub fn members(&self, curriculum: u32) -> &[u32]
         requires { curriculum < length self.now.curricula }
         ensures value { result.now ≡ members self.now curriculum }
@@ -206,7 +206,7 @@ impl<'a> Instance<'a> {
             .as_slice()
     }
 
-    /// An unavailability: the course, the day and the period.
+    /// Returns an unavailability: the course, the day and the period.
     pub fn bar(&self, index: u32) -> (u32, u32, u32)
         requires { index < length self.now.bars }
         ensures { slice_get self.now.bars index
@@ -216,7 +216,7 @@ impl<'a> Instance<'a> {
         (row.course, row.day, row.period)
     }
 
-    /// The number of a course's teacher.
+    /// Returns the number of a course's teacher.
     pub fn teacher_of(&self, course: u32) -> u32
         requires { course < length self.now.courses }
         ensures value { index_of_name (teachers self.now)
@@ -226,7 +226,7 @@ impl<'a> Instance<'a> {
         self.parts.courses.rows[course as usize].teacher
     }
 
-    /// The name of a teacher, as the file has it.
+    /// Returns the name of a teacher as it is in the file.
     pub fn teacher_name(&self, teacher: u32) -> &'a [u8]
         requires { teacher < length (teachers self.now) }
         ensures { slice_get (teachers self.now) teacher ≡ Some result.now }
@@ -234,7 +234,7 @@ impl<'a> Instance<'a> {
         self.parts.courses.teachers.name(teacher as usize)
     }
 
-    /// The name of a course, as the file has it.
+    /// Returns the name of a course as it is in the file.
     pub fn course_id(&self, course: u32) -> &'a [u8]
         requires { course < length self.now.courses }
         ensures { slice_get (course_ids self.now) course ≡ Some result.now }
@@ -242,7 +242,7 @@ impl<'a> Instance<'a> {
         self.parts.courses.rows[course as usize].id
     }
 
-    /// The name of a room, as the file has it.
+    /// Returns the name of a room as it is in the file.
     pub fn room_id(&self, room: u32) -> &'a [u8]
         requires { room < length self.now.rooms }
         ensures { slice_get (room_ids self.now) room ≡ Some result.now }
@@ -250,7 +250,7 @@ impl<'a> Instance<'a> {
         self.parts.rooms.rows[room as usize].id
     }
 
-    /// The name of a curriculum, as the file has it.
+    /// Returns the name of a curriculum as it is in the file.
     pub fn curriculum_id(&self, curriculum: u32) -> &'a [u8]
         requires { curriculum < length self.now.curricula }
         ensures { slice_get (curriculum_ids self.now) curriculum ≡ Some result.now }
@@ -258,7 +258,7 @@ impl<'a> Instance<'a> {
         self.parts.curricula.rows[curriculum as usize].id
     }
 
-    /// The course of this name.
+    /// Returns the course with this name.
     pub fn course_named(&self, name: &[u8]) -> Option<u32>
         ensures value { result ≡ index_of_name (course_ids self.now) name.now }
         ensures within { IfSome result (λ c. c < length self.now.courses) }
@@ -267,7 +267,7 @@ impl<'a> Instance<'a> {
         Some(course as u32)
     }
 
-    /// The room of this name.
+    /// Returns the room with this name.
     pub fn room_named(&self, name: &[u8]) -> Option<u32>
         ensures value { result ≡ index_of_name (room_ids self.now) name.now }
         ensures within { IfSome result (λ r. r < length self.now.rooms) }
@@ -276,7 +276,7 @@ impl<'a> Instance<'a> {
         Some(room as u32)
     }
 
-    /// Whether a course is a member of a curriculum; false where either is not there.
+    /// Returns whether a course is a member of a curriculum; false if either is out of range.
     pub fn in_curriculum(&self, curriculum: u32, course: u32) -> bool
         ensures { result ≡ in_curriculum self.now curriculum course }
     {
@@ -287,14 +287,14 @@ impl<'a> Instance<'a> {
             .is_some_and(|row| row.members.marks.has(course as usize))
     }
 
-    /// Whether two different courses exclude each other; false where either is not there.
+    /// Returns whether two different courses conflict; false if either is out of range.
     pub fn conflict(&self, first: u32, second: u32) -> bool
         ensures { result ≡ conflict self.now first second }
     {
         has_at(&self.conflicts, first as usize, second as usize)
     }
 
-    /// Whether a course has no lecture in a period; false where one of them is not there.
+    /// Returns whether a period is unavailable to a course; false if the course, the day or the period is out of range.
     pub fn unavailable(&self, course: u32, day: u32, period: u32) -> bool
         ensures { result ≡ unavailable self.now course day period }
     {
@@ -302,7 +302,7 @@ impl<'a> Instance<'a> {
     }
 }
 
-/// The canonical text of an instance: `read_instance` gives this instance again.
+/// Returns the canonical text of an instance: `read_instance` of it gives this instance again.
 pub fn write_instance(alloc: Global, instance: &Instance<'_>) -> Result<Vec<u8>, AllocError>
     ensures text { IfOk result (λ t. t.items ≡ instance_text instance.now) }
     ensures again { IfOk result (λ t. Spells t.items instance.now) }

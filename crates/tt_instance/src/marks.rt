@@ -6,7 +6,7 @@ ghost use Rattle.tt_lists.specs.Words.{has_number};
 use std::alloc::{AllocError, Global};
 use std::marker::Model;
 
-/// For each number below a length whether it is marked.
+/// For each number below a length, whether it is marked.
 #[derive(Drop)]
 pub struct Marks {
     marks: Vec<bool>,
@@ -21,7 +21,7 @@ impl Model for Marks {
 }
 
 impl Marks {
-    /// No number below the length is marked.
+    /// Creates marks for the numbers below the length, none of them set.
     pub fn new(alloc: Global, len: usize) -> Result<Marks, AllocError>
         ensures { IfOk result (λ m. m ≡ replicate len false) }
     {
@@ -29,14 +29,14 @@ impl Marks {
         Ok(Marks { marks })
     }
 
-    /// A number is marked where the flag of its place is set.
+    /// Creates marks from flags: a number is marked if the flag at its place is set.
     pub fn from_flags(flags: Vec<bool>) -> Marks
         ensures { result ≡ flags.items }
     {
         Marks { marks: flags }
     }
 
-    /// Whether a number is marked; false from the length on.
+    /// Returns whether a number is marked; false from the length on.
     pub fn has(&self, number: usize) -> bool
         ensures { result ≡ slice_index_or self.now number false }
     {
@@ -51,7 +51,7 @@ impl Marks {
         self.marks[number] = true;
     }
 
-    /// Takes a mark away.
+    /// Removes a mark.
     pub fn clear(&mut self, number: usize)
         requires { number < length self.old }
         ensures { self.new ≡ slice_set self.old number false }
@@ -72,7 +72,7 @@ impl Marks {
     }
 }
 
-/// Whether a number is marked in a row of a table; false where there is no such row.
+/// Returns whether a number is marked in a row of a table; false if the row is out of range.
 pub fn has_at(rows: &[Marks], row: usize, number: usize) -> bool
     ensures { result ≡ slice_index_or (slice_index_or rows.now row []) number false }
 {

@@ -1,4 +1,4 @@
-//! Names, numbered in the order in which they first come.
+//! Names, numbered in the order in which they first appear.
 
 ghost use Rattle.std.specs.Prelude.{◌≡◌, ◌+◌, ◌<◌, ◌≤◌, not, length, slice_get, Some, [], IfOk, IfSome, OnErr, OnOk};
 ghost use Rattle.tt_text.specs.Texts.{has_name, index_of_name, with_name};
@@ -7,7 +7,7 @@ use indexmap::IndexSet;
 use std::alloc::{AllocError, Global};
 use std::marker::Model;
 
-/// Different names, in the order in which they came.
+/// Different names, in the order in which they first appeared.
 #[derive(Drop)]
 pub struct Names<'a> {
     set: IndexSet<&'a [u8]>,
@@ -22,7 +22,7 @@ impl<'a> Model for Names<'a> {
 }
 
 impl<'a> Names<'a> {
-    /// No names.
+    /// Creates an empty list of names.
     pub fn new(alloc: Global) -> Self
         ensures { result ≡ [] }
     {
@@ -31,14 +31,14 @@ impl<'a> Names<'a> {
         }
     }
 
-    /// How many names there are.
+    /// Returns how many names are stored.
     pub fn len(&self) -> usize
         ensures { result ≡ length self.now }
     {
         self.set.len()
     }
 
-    /// The number of a name.
+    /// Returns the number of a name.
     pub fn find(&self, name: &[u8]) -> Option<usize>
         ensures index { result ≡ index_of_name self.now name.now }
         ensures within { IfSome result (λ i. i < length self.now) }
@@ -46,7 +46,7 @@ impl<'a> Names<'a> {
         self.set.get_index_of(name)
     }
 
-    /// The name of a number.
+    /// Returns the name with this number.
     pub fn name(&self, number: usize) -> &'a [u8]
         requires { number < length self.now }
         ensures { slice_get self.now number ≡ Some result.now }
@@ -57,7 +57,7 @@ impl<'a> Names<'a> {
         }
     }
 
-    /// Adds a name if it is new, and tells whether it was.
+    /// Adds a name if it is new, and returns whether it was.
     pub fn put(&mut self, name: &'a [u8]) -> Result<bool, AllocError>
         ensures added { IfOk result (λ added. added ≡ not (has_name self.old name.now)) }
         ensures names { OnOk result (self.new ≡ with_name self.old name.now) }
@@ -66,7 +66,7 @@ impl<'a> Names<'a> {
         Ok(self.set.insert(name)?)
     }
 
-    /// The number of a name, which is added if it is new.
+    /// Returns the number of a name, and adds the name if it is new.
     pub fn number(&mut self, name: &'a [u8]) -> Result<usize, AllocError>
         ensures names { OnOk result (self.new ≡ with_name self.old name.now) }
         ensures index { IfOk result (λ i. index_of_name self.new name.now ≡ Some i) }

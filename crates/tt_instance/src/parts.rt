@@ -18,7 +18,7 @@ use crate::rows::{BarList, CourseList, CurriculumList, RoomList};
 use std::alloc::Global;
 use tt_text::Tokens;
 
-/// What the bytes of an instance say.
+/// The contents of the bytes of an instance.
 #[derive(Drop)]
 pub struct Parts<'a> {
     pub name: Vec<&'a [u8]>,
@@ -30,7 +30,7 @@ pub struct Parts<'a> {
     pub bars: BarList,
 }
 
-/// The courses and rooms after a header.
+/// Reads the courses and rooms after a header.
 #[tactic(auto, unfolding(crate::specs::Reading::places_at))]
 fn read_places<'a>(
     alloc: Global,
@@ -53,7 +53,7 @@ fn read_places<'a>(
     Ok((courses, rooms))
 }
 
-/// The curricula and unavailabilities after them, up to the end.
+/// Reads the curricula and unavailabilities after the rooms, up to the end.
 #[tactic(auto, unfolding(crate::specs::Reading::groups_at))]
 fn read_groups<'a>(
     alloc: Global,
@@ -80,7 +80,7 @@ fn read_groups<'a>(
     Ok((curricula, bars))
 }
 
-/// The parts of the instance that bytes spell.
+/// Reads the parts of the instance that bytes spell.
 #[tactic(auto, unfolding(crate::specs::Reading::instance_of, crate::specs::Reading::sections_at))]
 pub fn read_parts<'a>(alloc: Global, bytes: &'a [u8]) -> Result<Parts<'a>, InstanceFault>
     ensures read { Gives problem_seen result (instance_of bytes.now) }

@@ -13,7 +13,7 @@ use crate::rows::{RoomList, RoomRow};
 use std::alloc::Global;
 use tt_text::Tokens;
 
-/// One more room after those of the list.
+/// Reads another room after those of the list.
 #[tactic(auto, unfolding(crate::specs::Reading::room_at))]
 fn read_room<'a>(
     tokens: &mut Tokens<'a>,
@@ -37,7 +37,7 @@ fn read_room<'a>(
     Ok(())
 }
 
-/// This many rooms.
+/// Reads this many rooms.
 pub fn read_rooms<'a>(
     alloc: Global,
     tokens: &mut Tokens<'a>,

@@ -14,7 +14,7 @@ pub struct CourseRow<'a> {
     pub students: u32,
 }
 
-/// Courses, and how their names are numbered.
+/// Courses, and the numbers of their names.
 #[derive(Drop)]
 pub struct CourseList<'a> {
     pub rows: Vec<CourseRow<'a>>,
@@ -30,14 +30,14 @@ pub struct RoomRow<'a> {
     pub capacity: u32,
 }
 
-/// Rooms, and how their names are numbered.
+/// Rooms, and the numbers of their names.
 #[derive(Drop)]
 pub struct RoomList<'a> {
     pub rows: Vec<RoomRow<'a>>,
     pub ids: Names<'a>,
 }
 
-/// Courses, each once, and for each course whether it is among them.
+/// Courses, each once, and for each course of the instance whether it is one of them.
 #[derive(Drop)]
 pub struct MemberList {
     pub courses: Vec<u32>,
@@ -51,14 +51,14 @@ pub struct CurriculumRow<'a> {
     pub members: MemberList,
 }
 
-/// Curricula, and how their names are numbered.
+/// Curricula, and the numbers of their names.
 #[derive(Drop)]
 pub struct CurriculumList<'a> {
     pub rows: Vec<CurriculumRow<'a>>,
     pub ids: Names<'a>,
 }
 
-/// A course that has no lecture in a period of a day.
+/// A course that must not have a lecture in a period of a day.
 #[derive(Clone, Copy, Debug)]
 pub struct BarRow {
     pub course: u32,

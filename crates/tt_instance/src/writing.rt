@@ -17,7 +17,7 @@ use crate::rows::{BarRow, CourseRow, CurriculumRow, RoomRow};
 use std::alloc::{AllocError, Global};
 use tt_text::{put_number, put_token};
 
-/// A space and a token.
+/// Appends a space and a token.
 fn put_text(out: &mut Vec<u8>, token: &[u8]) -> Result<(), AllocError>
     ensures { OnOk result (out.new.items ≡ out.old.items ++ 32 ∷ token.now) }
 {
@@ -25,7 +25,7 @@ fn put_text(out: &mut Vec<u8>, token: &[u8]) -> Result<(), AllocError>
     put_token(out, token)
 }
 
-/// A space and a number.
+/// Appends a space and a number.
 fn put_value(out: &mut Vec<u8>, number: u64) -> Result<(), AllocError>
     ensures { OnOk result (out.new.items ≡ out.old.items ++ 32 ∷ decimal number) }
 {
@@ -33,14 +33,14 @@ fn put_value(out: &mut Vec<u8>, number: u64) -> Result<(), AllocError>
     put_number(out, number)
 }
 
-/// The end of a line.
+/// Appends the end of a line.
 fn put_end(out: &mut Vec<u8>) -> Result<(), AllocError>
     ensures { OnOk result (out.new.items ≡ out.old.items ++ 10 ∷ []) }
 {
     put_token(out, b"\n")
 }
 
-/// A line of a word and a number.
+/// Appends a line of a word and a number.
 fn put_count(out: &mut Vec<u8>, word: Word, count: usize) -> Result<(), AllocError>
     ensures { OnOk result (out.new.items ≡ out.old.items ++ line_text (counted_line word count)) }
 {
@@ -49,7 +49,7 @@ fn put_count(out: &mut Vec<u8>, word: Word, count: usize) -> Result<(), AllocErr
     put_end(out)
 }
 
-/// An empty line and the word of a section.
+/// Appends an empty line and the word of a section.
 fn put_section(out: &mut Vec<u8>, word: Word) -> Result<(), AllocError>
     ensures { OnOk result (out.new.items ≡ out.old.items ++ lines_text (section word)) }
 {
@@ -58,7 +58,7 @@ fn put_section(out: &mut Vec<u8>, word: Word) -> Result<(), AllocError>
     put_end(out)
 }
 
-/// The line of the name.
+/// Appends the line of the name.
 fn put_name(out: &mut Vec<u8>, name: &[&[u8]]) -> Result<(), AllocError>
     ensures { OnOk result (out.new.items ≡ out.old.items
         ++ line_text (fixed word.Name ∷ map Text (name_seen name.now))) }
@@ -70,7 +70,7 @@ fn put_name(out: &mut Vec<u8>, name: &[&[u8]]) -> Result<(), AllocError>
     put_end(out)
 }
 
-/// The lines before the first section.
+/// Appends the lines before the first section.
 fn put_header(out: &mut Vec<u8>, parts: &Parts<'_>) -> Result<(), AllocError>
     ensures { OnOk result (out.new.items ≡ out.old.items
         ++ lines_text (header_lines (problem_seen parts.now))) }
@@ -84,7 +84,7 @@ fn put_header(out: &mut Vec<u8>, parts: &Parts<'_>) -> Result<(), AllocError>
     put_count(out, Word::Constraints, parts.bars.rows.len())
 }
 
-/// The line of a course.
+/// Appends the line of a course.
 fn put_course(out: &mut Vec<u8>, row: &CourseRow<'_>) -> Result<(), AllocError>
     ensures { OnOk result (out.new.items ≡ out.old.items
         ++ line_text (course_pieces (course_seen row.now))) }
@@ -97,7 +97,7 @@ fn put_course(out: &mut Vec<u8>, row: &CourseRow<'_>) -> Result<(), AllocError>
     put_end(out)
 }
 
-/// The section of the courses.
+/// Appends the section of the courses.
 fn put_courses(out: &mut Vec<u8>, rows: &[CourseRow<'_>]) -> Result<(), AllocError>
     ensures { OnOk result (out.new.items ≡ out.old.items
         ++ lines_text (section word.CoursesPart ++ map course_pieces (courses_seen rows.now))) }
@@ -109,7 +109,7 @@ fn put_courses(out: &mut Vec<u8>, rows: &[CourseRow<'_>]) -> Result<(), AllocErr
     Ok(())
 }
 
-/// The line of a room.
+/// Appends the line of a room.
 fn put_room(out: &mut Vec<u8>, row: &RoomRow<'_>) -> Result<(), AllocError>
     ensures { OnOk result (out.new.items ≡ out.old.items
         ++ line_text (room_pieces (room_seen row.now))) }
@@ -119,7 +119,7 @@ fn put_room(out: &mut Vec<u8>, row: &RoomRow<'_>) -> Result<(), AllocError>
     put_end(out)
 }
 
-/// The section of the rooms.
+/// Appends the section of the rooms.
 fn put_rooms(out: &mut Vec<u8>, rows: &[RoomRow<'_>]) -> Result<(), AllocError>
     ensures { OnOk result (out.new.items ≡ out.old.items
         ++ lines_text (section word.RoomsPart ++ map room_pieces (rooms_seen rows.now))) }
@@ -131,7 +131,7 @@ fn put_rooms(out: &mut Vec<u8>, rows: &[RoomRow<'_>]) -> Result<(), AllocError>
     Ok(())
 }
 
-/// The line of a curriculum.
+/// Appends the line of a curriculum.
 fn put_curriculum(
     out: &mut Vec<u8>,
     courses: &[CourseRow<'_>],
@@ -149,7 +149,7 @@ fn put_curriculum(
     put_end(out)
 }
 
-/// The section of the curricula.
+/// Appends the section of the curricula.
 fn put_curricula(
     out: &mut Vec<u8>,
     courses: &[CourseRow<'_>],
@@ -167,7 +167,7 @@ fn put_curricula(
     Ok(())
 }
 
-/// The line of an unavailability.
+/// Appends the line of an unavailability.
 fn put_bar(out: &mut Vec<u8>, courses: &[CourseRow<'_>], row: BarRow) -> Result<(), AllocError>
     requires { row.course < length courses.now }
     ensures { OnOk result (out.new.items ≡ out.old.items
@@ -179,7 +179,7 @@ fn put_bar(out: &mut Vec<u8>, courses: &[CourseRow<'_>], row: BarRow) -> Result<
     put_end(out)
 }
 
-/// The section of the unavailabilities.
+/// Appends the section of the unavailabilities.
 fn put_bars(out: &mut Vec<u8>, courses: &[CourseRow<'_>], rows: &[BarRow]) -> Result<(), AllocError>
     requires { All (λ b. b.course < length courses.now) rows.now }
     ensures { OnOk result (out.new.items ≡ out.old.items
@@ -193,7 +193,7 @@ fn put_bars(out: &mut Vec<u8>, courses: &[CourseRow<'_>], rows: &[BarRow]) -> Re
     Ok(())
 }
 
-/// The text of the parts of an instance.
+/// Returns the text of the parts of an instance.
 pub fn write_parts(alloc: Global, parts: &Parts<'_>) -> Result<Vec<u8>, AllocError>
     requires { IsInstance (problem_seen parts.now) }
     ensures { IfOk result (λ t. t.items ≡ instance_text (problem_seen parts.now)) }

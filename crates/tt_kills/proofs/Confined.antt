@@ -1,4 +1,4 @@
--- A yes-fact kills only where its free cells lie in one period.
+-- A yes-fact kills cells only if its free cells are all in one period.
 use Rattle.std.proofs.Common.{◌≡◌, ℕ, ◌<◌, Bool, true, false, not, ◌&&◌, ◌||◌, List, length, refl, sym, ap, ◌∙◌}
 use Rattle.std.specs.Prelude.{◌==◌}
 use Rattle.std.proofs.lemmas.Bool.{and_parts, false_from_ne_true, both_ways, eqb-true}
@@ -30,7 +30,7 @@ clash-period p y x e =
     (eqb-true y.day x.day c.1, eqb-true y.period x.period b.1)
 
 module _ (p : Problem) (path : List Fact) (g : Pattern) where
-  -- a free cell clashes with each that is excluded
+  -- a free cell clashes with each cell that is excluded
   pub excluded-clash : (x y : Cell) → excludes p path g x ≡ true → InRange p y → is_free p path g y ≡ true → clash p y x ≡ true
   excluded-clash x y e h f =
       wanted (is_free p path g y) (clash p y x)
@@ -41,22 +41,22 @@ module _ (p : Problem) (path : List Fact) (g : Pattern) where
       all_cells_pass p (λ z. not (matches p g z) || is_barred p path z || clash p z x) (λ y h.
       taken (matches p g y) (is_barred p path y) (clash p y x) ∙ not_wanted (is_free p path g y) (clash p y x) (f y h))
 
-  -- free cells in two periods: nothing is killed
+  -- if there are free cells in two periods, no cell is killed
   pub spares_all : (y z x : Cell) → InRange p y → InRange p z → is_free p path g y ≡ true → is_free p path g z ≡ true → (IsSamePeriod y z → ⊥) → excludes p path g x ≡ false
   spares_all y z x hy hz fy fz apart = false_from_ne_true (excludes p path g x) (λ e.
       let a = clash-period p y x (excluded-clash x y e hy fy) in
       let b = clash-period p z x (excluded-clash x z e hz fz) in
       apart (a.0 ∙ sym b.0, a.1 ∙ sym b.1))
 
-  -- nor is anything in another period than that of a free cell
+  -- no cell in another period than that of a free cell is killed
   pub spares_elsewhere : (y x : Cell) → InRange p y → is_free p path g y ≡ true → (IsSamePeriod y x → ⊥) → excludes p path g x ≡ false
   spares_elsewhere y x h f apart = false_from_ne_true (excludes p path g x) (λ e. apart (clash-period p y x (excluded-clash x y e h f)))
 
-  -- with no free cell each cell is killed
+  -- without a free cell each cell is killed
   pub kills_all : (x : Cell) → ((y : Cell) → InRange p y → is_free p path g y ≡ false) → excludes p path g x ≡ true
   kills_all x none = excluded_from x (λ y h f. absurd (both_ways (is_free p path g y) (none y h) f))
 
-  -- free cells in one period alone: what clashes there with each of them is killed
+  -- if all free cells are in one period, the cells that clash with each of them are killed
   pub kills_there : (d s : ℕ) (x : Cell) → IsConfined p path g d s → d < p.days → s < p.periods → excludes p path g x ≡ kills_at p path g d s x
   kills_there d s x confined hd hs = same_truth (excludes p path g x) (kills_at p path g d s x) there back
     where

@@ -1,4 +1,4 @@
--- What one more fact changes: which cells are barred, and which are dead.
+-- The changes by another fact: which cells are barred, and which are dead.
 use Rattle.std.proofs.Common.{◌≡◌, Bool, true, false, not, ◌&&◌, ◌||◌, List, [], ◌∷◌, ◌++◌, refl, sym, ap, ◌∙◌, subst, inl, inr}
 use Rattle.std.specs.Prelude.{Contains}
 use Rattle.std.specs.List.{list_any}
@@ -36,7 +36,7 @@ absorbed true b h = refl
 absorbed false true h = sym (h refl)
 absorbed false false h = refl
 
--- a test of a list with one more
+-- a test of a list with another element
 any-one_more : {X : Type 0} (t : X → Bool) (xs : List X) (x : X) → list_any t (xs ++ x ∷ []) ≡ (list_any t xs || t x)
 any-one_more t xs x = list_any-append t xs (x ∷ []) ∙ ap (λ b. list_any t xs || b) (or-false (t x))
 
@@ -81,7 +81,7 @@ module _ (p : Problem) (path : List Fact) where
 
   -- ---- dead cells
 
-  -- a yes-fact kills what it excludes, and nothing else changes
+  -- a yes-fact kills the cells that it excludes, and nothing else changes
   pub is_dead-yes : (f : Fact) (x : Cell) → f.holds ≡ true → is_dead p (path ++ f ∷ []) x ≡ (is_dead p path x || excludes p path f.pattern x)
   is_dead-yes f x e =
       ap (λ b. b || is_excluded p (path ++ f ∷ []) x) (is_barred-yes f x e)
@@ -94,7 +94,7 @@ module _ (p : Problem) (path : List Fact) where
       same : (g : Pattern) → excludes p (path ++ f ∷ []) g x ≡ excludes p path g x
       same g = excludes-same (path ++ f ∷ []) g x (λ y. is_barred-yes f y e)
 
-  -- a no-fact kills what it matches, and what the older yes-facts exclude now
+  -- a no-fact kills the cells that it matches, and those that the older yes-facts exclude now
   pub is_dead-no : (f : Fact) (x : Cell) → f.holds ≡ false → is_dead p (path ++ f ∷ []) x ≡ ((is_barred p path x || matches p f.pattern x) || list_any (λ h. h.holds && excludes p (path ++ f ∷ []) h.pattern x) path)
   is_dead-no f x e =
       ap (λ b. b || is_excluded p (path ++ f ∷ []) x) (is_barred-no f x e)
@@ -115,7 +115,7 @@ module _ (p : Problem) (path : List Fact) where
         and_from h.holds (excludes p (path ++ f ∷ []) h.pattern x) a.0 (excluded_stays f h.pattern x a.1)) b))
   ]
 
-  -- ---- a fact that stands on the path already
+  -- -- a fact that is already on the path
 
   pub is_barred-again : (f : Fact) (x : Cell) → Contains path f → is_barred p (path ++ f ∷ []) x ≡ is_barred p path x
   is_barred-again f x h =

@@ -1,4 +1,4 @@
--- A no-fact, over what was dead before it: which yes-facts have to be looked at again.
+-- A no-fact added to a path, from the cells that were dead before it: which yes-facts must be checked again.
 use Rattle.std.proofs.Common.{◌≡◌, Bool, true, false, not, ◌&&◌, ◌||◌, List, [], ◌∷◌, ◌++◌, sym, ap, ◌∙◌, inl, inr}
 use Rattle.std.specs.List.{list_any}
 use Rattle.std.proofs.lemmas.Bool.{and_parts, and_from, or_cases, or_left, or_right}
@@ -19,11 +19,11 @@ module _ (p : Problem) (path longer : List Fact) (g : Pattern) (x : Cell) where
       let m = and_parts (matches p g y) (not (is_barred p b y)) f in
       excluded-clash p a g x y e hy (and_from (matches p g y) (not (is_barred p a y)) m.0 (ap not (h y hy m.0) ∙ m.1)))
 
-  -- a pattern none of whose cells is barred anew excludes what it did
+  -- a pattern without newly barred cells excludes the same cells as before
   pub excludes-untouched : ((y : Cell) → InRange p y → matches p g y ≡ true → is_barred p longer y ≡ is_barred p path y) → excludes p longer g x ≡ excludes p path g x
   excludes-untouched h = same_truth (excludes p longer g x) (excludes p path g x) (half longer path h) (half path longer (λ y hy m. sym (h y hy m)))
 
--- dead is what was dead before, what the no-fact matches, and what the yes-facts exclude now
+-- the dead cells are those dead before, those that the no-fact matches, and those that the yes-facts exclude now
 pub is_dead-no-more : (p : Problem) (path : List Fact) (f : Fact) (x : Cell) → f.holds ≡ false → is_dead p (path ++ f ∷ []) x ≡ ((is_dead p path x || matches p f.pattern x) || list_any (λ h. h.holds && excludes p (path ++ f ∷ []) h.pattern x) path)
 is_dead-no-more p path f x e = same_truth (is_dead p (path ++ f ∷ []) x) ((is_dead p path x || matches p f.pattern x) || again) there back
   where

@@ -1,4 +1,4 @@
--- The leaves of the claims that are worth something may stand in a proof.
+-- The leaves of the claims of positive value may appear in a proof.
 use Rattle.std.proofs.Common.{◌≡◌, ℕ, ◌≤◌, ◌<◌, List, length, Some, refl, arith}
 use Rattle.std.proofs.lemmas.List.Elements.{All-contains, All-from_recursion}
 use Rattle.tt_lists.proofs.Finding.{find_member}

@@ -1,4 +1,4 @@
--- Where the live cells are the entries of a course, the claim at the greatest least excess is worth the seats that it lacks.
+-- If the live cells are the entries of a course, the claim at the greatest least excess has the value of the seats that the course lacks.
 use Rattle.std.proofs.Common.{◌≡◌, ℕ, ◌+◌, ◌*◌, ◌≤◌, ◌<◌, Bool, true, not, cond, ◌&&◌, ◌||◌, List, [], ◌∷◌, length, Option, Some, None, refl, ap, ◌∙◌, subst, arith, inl, inr, eqb-true, eq-eqb, min, zero-le, mul-le-mul_right}
 use Rattle.std.specs.Prelude.{Contains, ◌==◌, sum_by, count_by, nat_lt, nat_le, is_some}
 use Rattle.std.specs.List.{list_any}
@@ -31,7 +31,7 @@ use Rattle.tt_leaf.specs.Pinned.{IsPinnedDown, IsOpen}
 use Rattle.tt_leaf.proofs.LiveCells.{same_live, once_of}
 use Rattle.tt_leaf.proofs.Fitting.{live_of, lectures_placed}
 
--- where k is at least the number of numbers, the greatest is the k-th smallest
+-- if there are at most k numbers, the greatest of them is the k-th smallest
 pub greatest_is_kth : (k x : ℕ) (xs : List ℕ) → length (x ∷ xs) ≤ k → kth_smallest k (x ∷ xs) ≡ None → ⊥
 greatest_is_kth k x xs h e =
     let ns = x ∷ xs in
@@ -51,7 +51,7 @@ module _ (p : Problem) (path : List Fact) (pins : IsPinnedDown p path) where
   abbrev t : List Cell
   t = live_cells p path
 
-  -- an entry of the course costs no more than the least excess of its period
+  -- the excess of an entry of the course is at most the least excess of its period
   entry_costs : (c : ℕ) (s : Slot) (e : Cell) → Contains t e → (is_of c e && is_at s e) ≡ true → excess p e.course e.room ≤ or_zero (least_excess p path c s)
   entry_costs c s e m h =
       let a = and_parts (is_of c e) (is_at s e) h in
@@ -80,7 +80,7 @@ module _ (p : Problem) (path : List Fact) (pins : IsPinnedDown p path) where
           (least_over (excess p e.course e.room) (excess p e.course) (λ r. is_live p path (cell e.course r (slot_of e))) (all_rooms p)
           (each (λ r. is_live p path (cell e.course r (slot_of e)) ≡ true → excess p e.course e.room ≤ excess p e.course r) same_room (all_rooms p)))
 
-  -- the seats that a course lacks are no more than the least excesses of its periods
+  -- the seats that a course lacks are at most the sum of the least excesses of its periods
   part-le : (c : ℕ) → part p t (RoomCapacity c) ≤ sum_by (λ s. or_zero (least_excess p path c s)) (all_slots p)
   part-le c =
       let cost_of : Cell → ℕ = λ e. excess p e.course e.room in
@@ -99,7 +99,7 @@ module _ (p : Problem) (path : List Fact) (pins : IsPinnedDown p path) where
       omega arith
 
   module _ (b : Bound) (none : IsOpen p path b) (c : ℕ) (h : c < length p.courses) where
-    -- the live periods have a least excess
+    -- the number of periods that have a least excess is the number of the course's lectures
     counted : count_by (λ s. is_some (least_excess p path c s)) (all_slots p) ≡ lectures p c
     counted =
         sum_by-same (λ s. one_if (is_some (least_excess p path c s))) (λ s. one_if (live_period p path c s)) (all_slots p)

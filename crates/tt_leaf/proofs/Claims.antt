@@ -1,4 +1,4 @@
--- The claims that are worth something: each target once, none of them unfair, their numbers the instance's.
+-- The claims of positive value: each target once, none of them unfair, their numbers in the range of the instance.
 use Rattle.std.proofs.Common.{◌≡◌, ℕ, ◌+◌, ◌<◌, Bool, true, not, cond, ◌&&◌, List, [], ◌∷◌, ◌++◌, map, length, Option, Some, None, refl, sym, ap, ◌∙◌, append_assoc, arith, inl, inr, lt-ltb}
 use Rattle.std.specs.Prelude.{◌==◌, sum_by, filter, All, nat_lt, is_some}
 use Rattle.std.specs.List.{list_all, AllByRecursion}
@@ -68,7 +68,7 @@ joined k xs ys a e f g =
     cross [] b = refl
     cross (z ∷ zs) b = and_from (list_all (differ z) ys) (list_all (λ x. list_all (differ x) ys) zs) (one_apart z k ys b.0 e) (cross zs b.1)
 
--- ---- what is claimed
+-- -- the targets claimed
 
 claimed-append : (xs ys : List Claim) → claimed (xs ++ ys) ≡ claimed xs ++ claimed ys
 claimed-append [] ys = refl
@@ -87,7 +87,7 @@ claimed-capacity p path (c ∷ cs) =
     by_price None e = e
     by_price (Some u) e = ap (λ l. RoomCapacity c ∷ l) e
 
--- the claims before those of no worth are left out
+-- all claims, before those of value 0 are omitted
 abbrev all_claims : (ℕ → Claim) → Problem → List Fact → List Claim
 all_claims days p path =
     capacity_claims p path (all_courses p) ++ map days (all_courses p) ++ map Compact (all_curricula p) ++ map Stable (all_courses p)
@@ -179,7 +179,7 @@ module _ (days : ℕ → Claim) (time : (c : ℕ) → targets_of (days c) ≡ Wo
 
   -- ---- each claim
 
-  -- what holds of the claims of each kind holds of those that are worth something
+  -- a property of the claims of each kind holds of the claims of positive value
   pub each_claim : (P : Claim → Type 0) → ((c u : ℕ) → c < length p.courses → price_of p path c ≡ Some u → P (Capacity c u)) → ((c : ℕ) → c < length p.courses → P (days c)) → ((q : ℕ) → q < length p.curricula → P (Compact q)) → ((c : ℕ) → c < length p.courses → P (Stable c)) → All P (claims_with days p path)
   each_claim P of_capacity of_days of_compact of_stable =
       let kept = λ (claims : List Claim) (a : AllByRecursion P claims). recursion_from_All P (worth p path claims) (All-filter is_worth P claims (All-from_recursion P claims a)) in

@@ -1,4 +1,4 @@
--- Where each live cell's own pattern stands on the path as yes, one of the leaves that are tried is right.
+-- If the path has each live cell's own pattern as a yes-fact, one of the leaves that are tried is right.
 use Rattle.std.proofs.Common.{◌≡◌, ℕ, ◌≤◌, ◌<◌, Bool, true, cond, ◌&&◌, List, length, refl, subst, arith, eqb-true, eq-eqb}
 use Rattle.std.specs.Prelude.{◌==◌, sum_by, count_by, All}
 use Rattle.std.specs.List.{list_any}
@@ -79,7 +79,7 @@ module _ (p : Problem) (path : List Fact) (pins : IsPinnedDown p path) where
     abbrev good : Cell → Bool
     good e = in_curriculum p q e.course && is_isolated p t q e
 
-    -- next to an isolated entry no member has a live cell
+    -- no neighbour period of an isolated entry has a live cell of a member
     alone_at : (e : Cell) → is_isolated p t q e ≡ true → is_alone p path q (slot_of e) ≡ true
     alone_at e i =
         let near : Slot → Bool = λ n. next_to n (slot_of e) && list_any (λ c. live_period p path c n) (members p q) in
@@ -135,7 +135,7 @@ module _ (p : Problem) (path : List Fact) (pins : IsPinnedDown p path) where
       once_at_least true (λ i. is_of i e) (excess p e.course e.room) (all_courses p) (any_below (λ i. is_of i e) (length p.courses) e.course (range_of p path e m).course (eq-eqb e.course e.course refl))))
 
   module _ (ok : IsInstance p) (b : Bound) (none : IsOpen p path b) where
-    -- the best claims are worth what the live cells cost
+    -- the value of the best claims is at least the cost of the live cells
     pub cost-le_total : cost p t ≤ total_of p path (best_claims p path)
     cost-le_total =
         omega (
@@ -149,7 +149,7 @@ module _ (p : Problem) (path : List Fact) (pins : IsPinnedDown p path) where
           sum_by-le (stability_cost p t) (λ c. value_of p path (Stable c)) (all_courses p) (each (λ c. stability_cost p t c ≤ value_of p path (Stable c)) stable_worth (all_courses p)),
         )
 
-  -- a bound that each feasible timetable on the path respects is reached by a leaf
+  -- if each feasible timetable on the path respects a bound, a leaf reaches it
   pub pinned_closes : IsInstance p → (b : Bound) → ((u : List Cell) → IsFeasible p u → Fits p u path → Respects b (cost p u)) → IsOpen p path b → ⊥
   pinned_closes ok Nothing holds none = holds t (is_feasible p path pins Nothing none) (fits p path pins Nothing none)
   pinned_closes ok (AtLeast n) holds none =

@@ -1,4 +1,4 @@
--- Best claims and prices on small instances, as the definitions give them.
+-- Best claims and prices on small instances, evaluated by the definitions.
 use Rattle.std.proofs.Common.{◌≡◌, List, [], ◌∷◌, Some, None, refl, codes}
 use Rattle.tt_instance.proofs.Examples.{course, room, week, gap, wide}
 use Rattle.tt_instance.specs.Problem.{Problem}
@@ -42,7 +42,7 @@ not_two = refl
 not_none : fault_of gap [] Nothing (best_leaf gap []) ≡ Some NoBound
 not_none = refl
 
--- a in the first period, b in the third
+-- course a in the first period, course b in the third
 abbrev outside : List Fact
 outside = yes (when 0 0) ∷ yes (when 1 2) ∷ []
 
@@ -56,7 +56,7 @@ days = refl
 abbrev two_days : Problem
 two_days = week 2 2 (course (codes "a") (codes "t1") 2 2 10 ∷ []) (room (codes "R") 11 ∷ []) []
 
--- both lectures pinned to the first day: Days sees nothing
+-- both lectures pinned to the first day, for which a claim of Days has no value
 abbrev one_day : List Fact
 one_day = yes (when 0 0) ∷ yes (when 0 1) ∷ []
 

@@ -1,4 +1,4 @@
--- Where each live cell's own pattern stands on the path as yes, and none of the leaves without claims is right, the live cells are a
+-- If the path has each live cell's own pattern as a yes-fact, and none of the leaves without claims is right, the live cells are a
 -- timetable that breaks no hard rule and fits the path.
 use Rattle.std.proofs.Common.{◌≡◌, ℕ, ◌-◌, ◌≤◌, ◌<◌, Bool, true, false, not, ◌&&◌, ◌||◌, List, [], ◌∷◌, length, refl, sym, ap, ◌∙◌, subst, arith, inl, inr, eqb-true, eq-eqb}
 use Rattle.std.specs.Prelude.{Contains, ◌==◌, sum_by, count_by, nat_lt}
@@ -40,7 +40,7 @@ module _ (p : Problem) (path : List Fact) (pins : IsPinnedDown p path) where
   abbrev t : List Cell
   t = live_cells p path
 
-  -- ---- what a live cell pins
+  -- -- the periods and rooms that a live cell pins
 
   pub pinned_at : (who : Who) (x : Cell) → InRange p x → is_live p path x ≡ true → is_pinned_by p who (Course x.course) ≡ true → pinned p path who (slot_of x) ≡ true
   pinned_at who x r l e =
@@ -88,7 +88,7 @@ module _ (p : Problem) (path : List Fact) (pins : IsPinnedDown p path) where
       subst (λ i. live_period p path i s ≡ true) (eqb-true w.0.course c a.0)
       (subst (λ z. live_period p path w.0.course z ≡ true) (is_at-slot s w.0 a.1) (live_of w.0 w.1))
 
-  -- each live cell of a course has its period
+  -- each live cell of a course has a period of its own
   pub entries-le : (c : ℕ) → entries_of t c ≤ count_by (live_period p path c) (all_slots p)
   entries-le c =
       let up = spread_up (λ e. one_if (is_of c e)) (λ s e. one_if (is_of c e && is_at s e)) t (all_slots p)
@@ -134,7 +134,7 @@ module _ (p : Problem) (path : List Fact) (pins : IsPinnedDown p path) where
         same : open_periods p path (c ∷ []) ≡ count_by (live_period p path c) (all_slots p)
         same = sum_by-same (λ s. one_if (live_period p path c s || false)) (λ s. one_if (live_period p path c s)) (all_slots p) (λ s. ap one_if (or_nothing (live_period p path c s)))
 
-    -- each course has its lectures, and as many live periods
+    -- each course has all its lectures, and as many live periods
     pub lectures_placed : (c : ℕ) → c < length p.courses → (entries_of t c ≡ lectures p c) × (count_by (live_period p path c) (all_slots p) ≡ lectures p c)
     lectures_placed c h =
         let a = entries-le c in

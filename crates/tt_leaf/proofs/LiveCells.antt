@@ -1,4 +1,4 @@
--- Where each live cell's own pattern stands on the path as yes, no two live cells clash.
+-- If the path has each live cell's own pattern as a yes-fact, no two live cells clash.
 use Rattle.std.proofs.Common.{◌≡◌, ℕ, ◌≤◌, Bool, true, false, not, ◌&&◌, ◌||◌, List, refl, sym, ap, ◌∙◌, subst, inl, inr, eqb-true, eq-eqb}
 use Rattle.std.specs.Prelude.{Contains, ◌==◌, count_by}
 use Rattle.std.specs.List.{list_any}
@@ -22,14 +22,14 @@ use Rattle.tt_paths.proofs.Matching.{Matches-from}
 use Rattle.tt_paths.proofs.LiveCells.{live_cells, range_of, is_live_of, once_live, live_not_dead}
 use Rattle.tt_leaf.specs.Pinned.{own_pattern, IsPinnedDown}
 
--- the yes-fact of a cell
+-- the yes-fact of a cell, on the path
 pub own_fact : (path : List Fact) (x : Cell) → has_fact path (own_pattern x) true ≡ true → (f : Fact) × Contains path f × (f.holds ≡ true) × (f.pattern ≡ own_pattern x)
 own_fact path x e = fact_there path (own_pattern x) true e
 
 abbrev cell_of : ℕ → ℕ → ℕ → ℕ → Cell
 cell_of c r d s = record { course = c; room = r; day = d; period = s }
 
--- a cell that its pattern matches is the cell
+-- only the cell itself matches its own pattern
 own_matches : (p : Problem) (x y : Cell) → matches p (own_pattern x) y ≡ true → y ≡ x
 own_matches p x y e =
     let m = Matches-from p (own_pattern x) y e in
@@ -40,7 +40,7 @@ own_matches p x y e =
     ap (λ i. cell_of i y.room y.day y.period) c ∙ ap (λ i. cell_of x.course i y.day y.period) (sym r) ∙ ap (λ i. cell_of x.course x.room i y.period) (sym d) ∙ ap (λ i. cell_of x.course x.room x.day i) (sym s)
 
 module _ (p : Problem) (path : List Fact) (pinned : IsPinnedDown p path) where
-  -- no live cell clashes with one whose own pattern stands on the path
+  -- no live cell clashes with one whose own pattern is a yes-fact of the path
   pub no_clash_live : (x y : Cell) → InRange p y → is_live p path x ≡ true → is_live p path y ≡ true → clash p y x ≡ true → ⊥
   no_clash_live x y r lx ly k =
       let w = own_fact path y (pinned y r ly) in
@@ -57,7 +57,7 @@ module _ (p : Problem) (path : List Fact) (pinned : IsPinnedDown p path) where
       (or_right (is_barred p path x) (list_any (λ g. g.holds && excludes p path g.pattern x) path)
       (any_member (λ g. g.holds && excludes p path g.pattern x) path f w.1 (and_from f.holds (excludes p path f.pattern x) w.2 out)))
 
-  -- two live cells in one period with one room, one course or conflicting courses are the same
+  -- two live cells in one period with the same room, the same course or conflicting courses are the same
   pub same_live : (x y : Cell) → InRange p y → is_live p path x ≡ true → is_live p path y ≡ true → is_at (slot_of y) x ≡ true → ((y.room == x.room) || (y.course == x.course) || conflict p y.course x.course) ≡ true → is_cell x y ≡ true
   same_live x y r lx ly at near = elim (cases_Bool (same_cell y x)) [
     | inl e ↦

@@ -1,4 +1,4 @@
--- A course that has as many periods that seat its students as lectures has no claim on seats.
+-- A course with at least as many periods that seat its students as lectures has no claim on seats.
 use Rattle.std.proofs.Common.{◌≡◌, ℕ, ◌+◌, ◌≤◌, ◌<◌, Bool, true, take, get_or, List, [], ◌∷◌, ◌++◌, length, min, Option, Some, None, cond, refl, ap, ◌∙◌, arith, inl, inr, eqb-true, lt-ltb, ltb-true}
 use Rattle.std.specs.Prelude.{◌==◌, nat_lt, nat_le, count_by}
 use Rattle.std.proofs.lemmas.Bool.{and_parts, cases_lt}
@@ -18,7 +18,7 @@ use Rattle.tt_leaf_rules.specs.declared.leaf.Claim.TheVariants.{Capacity}
 use Rattle.tt_leaf.specs.Best.{is_kth, least_excesses, price_of, at_price, capacity_claims, worth}
 use Rattle.tt_leaf.specs.Seated.{is_nothing, is_seated, seated_periods}
 
--- a period that passes, and those before it that do, are among all that pass
+-- a period that passes and the earlier periods that pass are among all that pass
 pub passes_among : (p q : Problem) (t : Slot → Bool) (i total : ℕ) (s : Slot) → q ≡ p → i < length (all_slots q) → s ≡ get_or (all_slots q) i s → total ≡ count_by t (take i (all_slots p)) → true ≡ t s → total + 1 ≤ count_by t (all_slots p)
 passes_among p q t i total s same h is e pass =
     let k = slots_count_yes p q t i total (total + 1) s same h is e pass refl in

@@ -18,7 +18,7 @@ use Rattle.tt_leaf.specs.Best.{is_kth, kth_smallest}
 
 -- ---- a k-th smallest
 
--- no number is below one that is a k-th smallest and above another
+-- two k-th smallest numbers can't differ
 kth_only : (ns : List ℕ) (n u v : ℕ) → is_kth ns n u ≡ true → is_kth ns n v ≡ true → v < u → ⊥
 kth_only ns n u v eu ev h =
     let a = and_parts (nat_lt (count_by (λ m. nat_lt m u) ns) n) (nat_le n (count_by (λ m. nat_le m u) ns)) eu in
@@ -29,7 +29,7 @@ kth_only ns n u v eu ev h =
     (each (λ m. one_if (nat_le m v) ≤ one_if (nat_lt m u)) (λ m. cond-le (nat_le m v) (nat_lt m u) (λ e. let l = leb-true m v e in lt-ltb m u (omega arith))) ns) in
     omega arith
 
--- the numbers of a list that does not fall are at most its last
+-- the numbers of a sorted list are at most its last
 rising : (front : List ℕ) (u : ℕ) → IsSortedBy (by_cmp nat_cmp) (front ++ u ∷ []) → AllByRecursion (λ m. m ≤ u) (front ++ u ∷ [])
 rising [] u h = (omega arith, tt)
 rising (x ∷ xs) u h =
@@ -92,12 +92,12 @@ module _ (k : ℕ) (xs ys : List ℕ) (least : IsKLeast (by_cmp nat_cmp) k xs ys
       let l = ltb-true (count_by (λ m. nat_lt m v) xs) n a.0 in
       absurd (omega arith)))
 
-  -- what `next_back` gives
+  -- the number that `next_back` returns
   pub kth_is : (left : List ℕ) (o : Option ℕ) → MatchOption o (length ys ≡ 0) (λ u. ys ≡ left ++ u ∷ []) → o ≡ kth_smallest k xs
   kth_is left None h = none_is h
   kth_is left (Some u) h = last_is left u h
 
--- the same, by the numbers of elements before and after
+-- the number that `next_back` returns, from the numbers of elements before and after the call
 pub kth_from_back : (k : ℕ) (xs ys : List ℕ) → IsKLeast (by_cmp nat_cmp) k xs ys → (left : List ℕ) (o : Option ℕ) (before after : ℕ) → before ≡ length ys → MatchOption o ((before ≡ 0) × (after ≡ 0)) (λ u. ys ≡ left ++ u ∷ []) → o ≡ kth_smallest k xs
 kth_from_back k xs ys least left None before after e h = kth_is k xs ys least left None (sym e ∙ h.0)
 kth_from_back k xs ys least left (Some u) before after e h = kth_is k xs ys least left (Some u) h

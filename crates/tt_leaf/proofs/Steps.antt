@@ -1,4 +1,4 @@
--- The claims that loops make, those of one number more at a time.
+-- The claims that loops make, with those of one number added at a time.
 use Rattle.std.proofs.Common.{◌≡◌, ℕ, ◌+◌, List, [], ◌∷◌, ◌++◌, map, ap, ◌∙◌}
 use Rattle.std.specs.Prelude.{Bool, nat_lt, filter}
 use Rattle.std.proofs.lemmas.Grind.{flat_map-append}
@@ -16,11 +16,11 @@ module _ (p : Problem) (path : List Fact) where
   abbrev is_worth : Claim → Bool
   is_worth claim = nat_lt 0 (value_of p path claim)
 
-  -- one claim of a kind more
+  -- another claim of a kind
   pub worth_more : (claim : ℕ → Claim) (i : ℕ) → worth p path (map claim (range_below (i + 1))) ≡ worth p path (map claim (range_below i)) ++ worth p path (claim i ∷ [])
   worth_more claim i = kept_one_more is_worth claim i
 
-  -- the claims on one course more
+  -- the claims on another course
   pub capacity_more : (i : ℕ) → worth p path (capacity_claims p path (range_below (i + 1))) ≡ worth p path (capacity_claims p path (range_below i)) ++ worth p path (capacity_claims p path (i ∷ []))
   capacity_more i =
       ap (λ l. filter is_worth (capacity_claims p path l)) (range_below_more i)

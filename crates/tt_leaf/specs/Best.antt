@@ -1,4 +1,4 @@
--- The leaf of the claims that are worth something.
+-- The leaf of the claims of positive value.
 use Rattle.std.specs.Prelude.{ℕ, min, nat_lt, nat_le, ◌&&◌, Bool, List, [], ◌∷◌, ◌++◌, length, map, flat_map, filter, Option, Some, None, count_by}
 use Rattle.std.specs.List.{find, filter_map}
 use Rattle.tt_instance.specs.Problem.{Problem}
@@ -14,19 +14,19 @@ use Rattle.tt_leaf_rules.specs.declared.leaf.Leaf.TheVariants.{Cost}
 
 -- ---- prices
 
--- fewer than k of the numbers are smaller, and at least k are no larger
+-- Fewer than k of the numbers are smaller than n, and at least k are at most n.
 abbrev pub is_kth : List ℕ → ℕ → ℕ → Bool
 is_kth ns k n = nat_lt (count_by (λ m. nat_lt m n) ns) k && nat_le k (count_by (λ m. nat_le m n) ns)
 
--- the k-th smallest, counted from 1, or the greatest where there are fewer; none for k 0, and none of no numbers
+-- The k-th smallest, counted from 1, or the greatest if there are fewer than k numbers; none if k is 0 or there are no numbers.
 abbrev pub kth_smallest : ℕ → List ℕ → Option ℕ
 kth_smallest k ns = find (is_kth ns (min k (length ns))) ns
 
--- the least excesses of the course's live periods, in the order of the week
+-- The least excesses of the course's live periods, in the order of the week.
 abbrev pub least_excesses : Problem → List Fact → ℕ → List ℕ
 least_excesses p path c = filter_map (least_excess p path c) (all_slots p)
 
--- a course with l lectures has the l-th smallest of them as its price
+-- The price of a course with l lectures: the l-th smallest of its least excesses.
 abbrev pub price_of : Problem → List Fact → ℕ → Option ℕ
 price_of p path c = kth_smallest (lectures p c) (least_excesses p path c)
 
@@ -36,15 +36,15 @@ abbrev pub at_price : ℕ → Option ℕ → List Claim
 at_price c None = []
 at_price c (Some u) = Capacity c u ∷ []
 
--- a course without lectures or without a live period has no claim
+-- The claims of room capacity; a course without lectures or without a live period has none.
 abbrev pub capacity_claims : Problem → List Fact → List ℕ → List Claim
 capacity_claims p path courses = flat_map (λ c. at_price c (price_of p path c)) courses
 
--- the claims that are worth something
+-- The claims of positive value.
 abbrev pub worth : Problem → List Fact → List Claim → List Claim
 worth p path claims = filter (λ k. nat_lt 0 (value_of p path k)) claims
 
--- kind by kind, and by number within a kind; the claims of working days are given
+-- The claims, kind by kind, and by number within a kind; the claims of working days are given.
 abbrev pub claims_with : (ℕ → Claim) → Problem → List Fact → List Claim
 claims_with days p path =
     worth p path (capacity_claims p path (all_courses p)) ++ worth p path (map days (all_courses p))
@@ -53,7 +53,7 @@ claims_with days p path =
 abbrev pub best_claims : Problem → List Fact → List Claim
 best_claims p path = claims_with Days p path
 
--- the same with Stacked in place of Days
+-- The claims, with `Stacked` instead of `Days`.
 abbrev pub stacked_claims : Problem → List Fact → List Claim
 stacked_claims p path = claims_with Stacked p path
 

@@ -1,4 +1,4 @@
--- What is true of a leaf that was found.
+-- The properties of a leaf that was found.
 use Rattle.tt_instance.specs.Problem.{Problem}
 use Rattle.std.specs.Prelude.{◌≡◌, ◌==◌, ℕ, true, not, List, All}
 use Rattle.tt_lists.specs.Words.{each_two}
@@ -11,26 +11,26 @@ use Rattle.tt_leaf_rules.specs.declared.leaf.Bound.{Bound}
 use Rattle.tt_leaf_rules.specs.declared.leaf.Leaf.{Leaf}
 use Rattle.tt_proof_read.specs.Limits.{IsShortClaim, IsShortLeaf}
 
--- its numbers are the instance's, and it may stand in a proof
+-- The numbers of the leaf are in the range of the instance, and it may appear in a proof.
 pub record IsAnswer (p : Problem) (leaf : Leaf) : Type 0 where
   pub numbers : IsLeafOf p leaf
   pub short : IsShortLeaf leaf
 
--- it is right for the bound
+-- The leaf is right for the bound, and it may appear in a proof.
 pub record Closes (p : Problem) (path : List Fact) (b : Bound) (leaf : Leaf) : Type 0 where
   pub right : IsRight p path b leaf
   pub answer : IsAnswer p leaf
 
--- the numbers of each fact are the instance's
+-- The numbers of each fact are in the range of the instance.
 abbrev pub ArePatterns : Problem → List Fact → Type 0
 ArePatterns p path = All (λ f. IsPattern p f.pattern) path
 
--- the numbers of a claim are the instance's, and it may stand in a proof
+-- The numbers of a claim are in the range of the instance, and it may appear in a proof.
 pub record IsFitClaim (p : Problem) (claim : Claim) : Type 0 where
   pub numbers : IsClaimOf p claim
   pub short : IsShortClaim claim
 
--- different numbers below a bound
+-- Distinct numbers below a bound.
 pub record AreNumbers (count : ℕ) (ns : List ℕ) : Type 0 where
   pub within : AreBelow count ns
   pub once : each_two (λ a b. not (a == b)) ns ≡ true

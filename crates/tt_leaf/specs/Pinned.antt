@@ -1,4 +1,4 @@
--- Paths that leave one timetable at most, and the leaves that are tried on a path.
+-- Paths that leave at most one timetable possible, and the leaves that are tried on a path.
 use Rattle.std.specs.Prelude.{◌≡◌, ℕ, ◌<◌, true, List, [], ◌∷◌, length, Some, Contains}
 use Rattle.tt_instance.specs.Problem.{Problem}
 use Rattle.tt_instance.specs.Cells.{InRange}
@@ -13,16 +13,16 @@ use Rattle.tt_leaf_rules.specs.declared.leaf.Bound.{Bound}
 use Rattle.tt_leaf_rules.specs.declared.leaf.Leaf.TheVariants.{Empty, Many, Clique}
 use Rattle.tt_leaf.specs.Best.{best_leaf, stacked_leaf}
 
--- the pattern that matches the cell alone
+-- The pattern that matches only this cell.
 abbrev pub own_pattern : Cell → Pattern
 own_pattern x = record { who = Course x.course; room = Some x.room; day = Some x.day; period = Some x.period }
 
--- each live cell's own pattern stands on the path as yes
+-- The path has each live cell's own pattern as a yes-fact.
 abbrev pub IsPinnedDown : Problem → List Fact → Type 0
 IsPinnedDown p path =
     (x : Cell) → InRange p x → is_live p path x ≡ true → has_fact path (own_pattern x) true ≡ true
 
--- none of the leaves that are tried at least is right
+-- None of the leaves that are always tried is right.
 pub record IsOpen (p : Problem) (path : List Fact) (b : Bound) : Type 0 where
   pub empty : (f : Fact) → Contains path f → f.holds ≡ true → ¬ IsRight p path b (Empty f.pattern)
   pub many : (c : ℕ) → c < length p.courses → ¬ IsRight p path b (Many c)

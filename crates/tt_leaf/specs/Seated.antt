@@ -1,4 +1,4 @@
--- Periods that seat all students of a course, as the code counts them. Nobody has to believe it.
+-- Periods that seat all students of a course, as the code counts them. Not part of the trusted statement.
 use Rattle.std.specs.Prelude.{ℕ, ◌==◌, Bool, false, List, Option, Some, None, count_by}
 use Rattle.tt_instance.specs.Problem.{Problem}
 use Rattle.tt_instance.specs.Cells.{all_slots}
@@ -6,12 +6,12 @@ use Rattle.tt_instance.specs.declared.cell.Slot.{Slot}
 use Rattle.tt_paths.specs.Live.{least_excess}
 use Rattle.tt_paths.specs.declared.facts.Fact.{Fact}
 
--- there is an excess, and it is 0
+-- There is an excess, and it is 0.
 abbrev pub is_nothing : Option ℕ → Bool
 is_nothing None = false
 is_nothing (Some n) = n == 0
 
--- some live cell of the course in the period seats its students
+-- Some live cell of the course in the period seats all its students.
 abbrev pub is_seated : Problem → List Fact → ℕ → Slot → Bool
 is_seated p path c s = is_nothing (least_excess p path c s)
 

@@ -1,4 +1,4 @@
-//! The leaf of the claims that are worth something.
+//! The leaf of the claims of positive value.
 
 ghost use Rattle.std.specs.Prelude.{◌≡◌, ◌<◌, [], ◌∷◌, ◌++◌, length, map, IfOk, OnOk};
 ghost use Rattle.tt_instance.specs.Cells.{all_courses, all_curricula};
@@ -12,7 +12,7 @@ use std::alloc::{AllocError, Global};
 use tt_leaf_rules::{Claim, ClaimList, Leaf, claim_value};
 use tt_paths::Path;
 
-/// Adds a claim, if it is worth something.
+/// Adds a claim if its value is positive.
 fn push_if_worth<'i, P: Path<'i>>(
     path: &P,
     claims: &mut Vec<Claim>,
@@ -94,14 +94,14 @@ fn push_stable<'i, P: Path<'i>>(path: &P, claims: &mut Vec<Claim>) -> Result<(),
     Ok(())
 }
 
-/// The claims of seats, working days, isolated entries and rooms that are worth something on a path,
-/// kind by kind. A course's capacity has the l-th smallest of the least excesses of its live periods as
-/// its price, l being its lectures, or the greatest where there are fewer.
+/// Returns the claims of seats, working days, isolated entries and rooms that have a positive value on a path,
+/// kind by kind. The price of a course's capacity claim is the l-th smallest of the least excesses of its live periods,
+/// with l the number of its lectures, or the greatest if there are fewer than l.
 pub fn best_claims<'i, P: Path<'i>>(alloc: Global, path: &P) -> Result<Leaf, AllocError>
     ensures leaf { IfOk result (λ leaf. leaf ≡ best_leaf (P.problem path.now) (P.facts path.now)) }
     ensures answer { IfOk result (IsAnswer (P.problem path.now)) }
 {
-    // What is true of every instance: no excess is above the limit of students.
+    // In every instance, no excess is above the limit of students.
     prove!(path.instance().days() <= 64);
     let mut claims = Vec::new(alloc);
     push_capacity(alloc, path, &mut claims)?;
@@ -111,12 +111,12 @@ pub fn best_claims<'i, P: Path<'i>>(alloc: Global, path: &P) -> Result<Leaf, All
     Ok(Leaf::Cost(ClaimList::new(claims)))
 }
 
-/// The same with claims on the days that pinned periods share in place of those on live days.
+/// Returns the claims like `best_claims`, but with claims on the days that pinned periods share instead of those on live days.
 pub fn stacked_claims<'i, P: Path<'i>>(alloc: Global, path: &P) -> Result<Leaf, AllocError>
     ensures leaf { IfOk result (λ leaf. leaf ≡ stacked_leaf (P.problem path.now) (P.facts path.now)) }
     ensures answer { IfOk result (IsAnswer (P.problem path.now)) }
 {
-    // What is true of every instance: no excess is above the limit of students.
+    // In every instance, no excess is above the limit of students.
     prove!(path.instance().days() <= 64);
     let mut claims = Vec::new(alloc);
     push_capacity(alloc, path, &mut claims)?;

@@ -1,4 +1,4 @@
-//! Groups of courses that compete for rooms. Of the choice nothing is proved.
+//! Groups of courses that compete for rooms. Nothing is proved about the choice.
 
 ghost use Rattle.std.specs.Prelude.{◌<◌, length};
 
@@ -11,10 +11,10 @@ use tt_instance::Instance;
 use tt_leaf_rules::{Claim, claim_value};
 use tt_paths::Path;
 
-/// The most cells of an instance in which groups are looked for.
+/// The maximum number of cells of an instance in which groups are searched for.
 const MOST_CELLS: u64 = 8192;
 
-/// The most groups.
+/// The maximum number of groups.
 const MOST_GROUPS: usize = 8;
 
 /// The prices of groups without a course in common.
@@ -26,7 +26,7 @@ pub struct Crowd {
 }
 
 impl Crowd {
-    /// Whether a course is in no group.
+    /// Returns whether a course is in no group.
     pub fn is_alone(&self, course: u32) -> bool {
         self.left.get(course as usize).copied().unwrap_or(true)
     }
@@ -36,7 +36,7 @@ fn worth_at(worths: &[u64], course: usize) -> u64 {
     worths.get(course).copied().unwrap_or(0)
 }
 
-/// Leaves courses out of a group as long as the group and the course are worth more apart.
+/// Removes courses from a group as long as the group and the course have a higher value apart.
 fn shrink(
     alloc: Global,
     instance: &Instance<'_>,
@@ -60,7 +60,7 @@ fn shrink(
     Ok(best)
 }
 
-/// What the courses of a group are worth each by itself.
+/// Returns the total value of the courses of a group, each taken alone.
 fn worth_apart(alone: &[u64], members: &[bool]) -> u64 {
     let mut total: u64 = 0;
     for (course, member) in members.iter().enumerate() {
@@ -71,7 +71,7 @@ fn worth_apart(alone: &[u64], members: &[bool]) -> u64 {
     total
 }
 
-/// Takes the members of a group out of the courses that are left.
+/// Removes the members of a group from the courses that are left.
 fn take_out(left: &mut [bool], members: &[bool]) {
     for (course, is_left) in left.iter_mut().enumerate() {
         if members.get(course).copied().unwrap_or(false) {
@@ -80,7 +80,7 @@ fn take_out(left: &mut [bool], members: &[bool]) {
     }
 }
 
-/// A group, and how much more it is worth than its courses apart.
+/// A group, and by how much its value exceeds that of its courses apart.
 #[derive(Drop)]
 struct Group {
     members: Vec<bool>,
@@ -101,7 +101,7 @@ fn group_of(
     Ok(Group { members, gain })
 }
 
-/// The best group that grows from one of the courses that are left and needs more seats than this many, if it is better.
+/// Returns the best group that grows from one of the courses left, for courses that need more seats than this many, or `found` if none is better.
 fn better_group(
     alloc: Global,
     instance: &Instance<'_>,
@@ -126,7 +126,7 @@ fn better_group(
     Ok(best)
 }
 
-/// The best of the groups that grow from one of the courses that are left, and of all of these together.
+/// Returns the best of the groups that grow from one of the courses left, and of all these courses together.
 fn best_group(
     alloc: Global,
     instance: &Instance<'_>,
@@ -144,7 +144,7 @@ fn best_group(
     Ok(best)
 }
 
-/// Adds a group of the courses that are left; whether there was one that is worth more than its courses apart.
+/// Adds a group of the courses left; returns whether one was found whose value is higher than that of its courses apart.
 fn add_group(
     alloc: Global,
     instance: &Instance<'_>,
@@ -174,7 +174,7 @@ fn worth_alone<'i, P: Path<'i>>(alloc: Global, path: &P, course: u32) -> Result<
     }
 }
 
-/// What each course is worth by itself.
+/// Returns the value of each course alone.
 fn worths_alone<'i, P: Path<'i>>(alloc: Global, path: &P) -> Result<Vec<u64>, AllocError> {
     let mut alone = Vec::new(alloc);
     for course in 0..path.instance().courses() {
@@ -183,7 +183,7 @@ fn worths_alone<'i, P: Path<'i>>(alloc: Global, path: &P) -> Result<Vec<u64>, Al
     Ok(alone)
 }
 
-/// Whether an instance is small enough to look for groups.
+/// Returns whether an instance is small enough to search for groups.
 fn is_small(instance: &Instance<'_>) -> bool {
     u64::from(instance.courses())
         .saturating_mul(u64::from(instance.rooms()))
@@ -192,7 +192,7 @@ fn is_small(instance: &Instance<'_>) -> bool {
         <= MOST_CELLS
 }
 
-/// Groups of courses that are worth more together; none where there is no such group, or the instance is large.
+/// Returns groups of courses with a higher value together; `None` if there is no such group or the instance is large.
 pub fn find_crowds<'i, P: Path<'i>>(alloc: Global, path: &P) -> Result<Option<Crowd>, AllocError> {
     let instance = path.instance();
     if !is_small(instance) {

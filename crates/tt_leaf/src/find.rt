@@ -19,7 +19,7 @@ use std::alloc::{AllocError, Global};
 use tt_leaf_rules::{Bound, CourseList, Leaf, holds};
 use tt_paths::Path;
 
-/// Whether a leaf is right.
+/// Returns whether a leaf is right.
 fn is_right<'i, P: Path<'i>>(path: &P, leaf: &Leaf, bound: Bound) -> bool
     requires { IsLeafOf (P.problem path.now) leaf.now }
     ensures { IsTrue result ↔ IsRight (P.problem path.now) (P.facts path.now) bound leaf.now }
@@ -27,7 +27,7 @@ fn is_right<'i, P: Path<'i>>(path: &P, leaf: &Leaf, bound: Bound) -> bool
     holds(path, leaf, bound).is_ok()
 }
 
-/// An Empty leaf of a yes-fact that is right, if there is one.
+/// Returns an Empty leaf of a yes-fact that is right, if one exists.
 fn find_empty<'i, P: Path<'i>>(path: &P, bound: Bound) -> Option<Leaf>
     requires { ArePatterns (P.problem path.now) (P.facts path.now) }
     ensures some { IfSome result (Closes (P.problem path.now) (P.facts path.now) bound) }
@@ -45,7 +45,7 @@ fn find_empty<'i, P: Path<'i>>(path: &P, bound: Bound) -> Option<Leaf>
     None
 }
 
-/// A Many leaf that is right, if there is one.
+/// Returns a Many leaf that is right, if one exists.
 fn find_many<'i, P: Path<'i>>(path: &P, bound: Bound) -> Option<Leaf>
     ensures some { IfSome result (Closes (P.problem path.now) (P.facts path.now) bound) }
     ensures none { IsNone result → (c : ℕ) → c < length (P.problem path.now).courses → ¬ IsRight (P.problem path.now) (P.facts path.now) bound (Many c) }
@@ -59,7 +59,7 @@ fn find_many<'i, P: Path<'i>>(path: &P, bound: Bound) -> Option<Leaf>
     None
 }
 
-/// A Clique of one course.
+/// Creates a Clique leaf of one course.
 fn clique_of(alloc: Global, course: u32) -> Result<Leaf, AllocError>
     ensures { IfOk result (λ leaf. leaf ≡ Clique (course ∷ [])) }
 {
@@ -68,7 +68,7 @@ fn clique_of(alloc: Global, course: u32) -> Result<Leaf, AllocError>
     Ok(Leaf::Clique(CourseList::new(courses)))
 }
 
-/// A Clique of one course that is right, if there is one.
+/// Returns a Clique leaf of one course that is right, if one exists.
 fn find_clique<'i, P: Path<'i>>(
     alloc: Global,
     path: &P,
@@ -86,7 +86,7 @@ fn find_clique<'i, P: Path<'i>>(
     Ok(None)
 }
 
-/// The leaf, if it is right.
+/// Returns the leaf if it is right.
 fn if_right<'i, P: Path<'i>>(path: &P, leaf: Leaf, bound: Bound) -> Option<Leaf>
     requires { IsAnswer (P.problem path.now) leaf }
     ensures some { IfSome result (Closes (P.problem path.now) (P.facts path.now) bound) }
@@ -99,7 +99,7 @@ fn if_right<'i, P: Path<'i>>(path: &P, leaf: Leaf, bound: Bound) -> Option<Leaf>
     }
 }
 
-/// The leaf that was found, if there is one and it is right.
+/// Returns the leaf that was found, if any, if it is right.
 fn right_one<'i, P: Path<'i>>(path: &P, found: Option<Leaf>, bound: Bound) -> Option<Leaf>
     requires { IfSome found (IsAnswer (P.problem path.now)) }
     ensures { IfSome result (Closes (P.problem path.now) (P.facts path.now) bound) }
@@ -110,7 +110,7 @@ fn right_one<'i, P: Path<'i>>(path: &P, found: Option<Leaf>, bound: Bound) -> Op
     }
 }
 
-/// A leaf of courses that have more lectures than the week has room for, if it is right. It is looked for on the empty path alone.
+/// Returns a leaf of courses that have more lectures than the week has room for, if it is right. It is tried only on the empty path.
 fn find_overfull<'i, P: Path<'i>>(
     alloc: Global,
     path: &P,
@@ -124,7 +124,7 @@ fn find_overfull<'i, P: Path<'i>>(
     Ok(right_one(path, overfull_leaf(alloc, path.instance())?, bound))
 }
 
-/// A leaf with prices over groups of courses, if it is right.
+/// Returns a leaf with prices over groups of courses, if it is right.
 fn find_priced<'i, P: Path<'i>>(
     alloc: Global,
     path: &P,
@@ -138,11 +138,11 @@ fn find_priced<'i, P: Path<'i>>(
     Ok(right_one(path, priced_claims(alloc, path)?, bound))
 }
 
-/// A leaf that is right on a path, if one of those that are tried is: that the cells of some yes-fact are all
+/// Returns a leaf that is right on a path, if one of those that are tried is right. It tries: that the cells of some yes-fact are all
 /// dead, that a course has too many pinned periods or too few live ones, that the courses of a curriculum or a teacher
 /// or all courses have too many lectures on the empty path, the best claims, and the best claims with stacked days.
 /// Leaves with prices over groups of courses are tried too.
-/// Where each live cell's own pattern stands on the path as yes, one is right for each bound that all
+/// If the path has each live cell's own pattern as a yes-fact, one of them is right for each bound that all
 /// feasible timetables on the path respect.
 pub fn find_leaf<'i, P: Path<'i>>(
     alloc: Global,
@@ -156,7 +156,7 @@ pub fn find_leaf<'i, P: Path<'i>>(
         ((t : List Cell) → IsFeasible (P.problem path.now) t → Fits (P.problem path.now) t (P.facts path.now) → Respects bound (cost (P.problem path.now) t)) →
         IfOk result IsSome }
 {
-    // What is true of every instance: the members of a curriculum are courses.
+    // In every instance, the members of a curriculum are courses.
     prove!(path.instance().days() <= 64);
     if let Some(leaf) = find_empty(path, bound) {
         return Ok(Some(leaf));

@@ -6,7 +6,7 @@ use std::alloc::{AllocError, Global};
 use tt_leaf_rules::{slot_at, slot_count};
 use tt_paths::{Cell, Path};
 
-/// The periods of one word.
+/// The number of periods in one word.
 const WORD: u32 = 64;
 
 /// Rows of 64 periods to a word.
@@ -17,7 +17,7 @@ pub struct Grid {
     bits: Vec<u64>,
 }
 
-/// The live cells of a course in a room from a period on, a word of them.
+/// Returns the live cells of a course in a room from a period on, as one word.
 fn live_word<'i, P: Path<'i>>(path: &P, course: u32, room: u32, word: u32) -> u64
     requires course { course < length (P.problem path.now).courses }
     requires room { room < length (P.problem path.now).rooms }
@@ -69,7 +69,7 @@ fn push_rows<'i, P: Path<'i>>(
 }
 
 impl Grid {
-    /// The live cells of a path.
+    /// Creates the grid of the live cells of a path.
     pub fn new<'i, P: Path<'i>>(alloc: Global, path: &P) -> Result<Grid, AllocError> {
         let instance = path.instance();
         let words = slot_count(instance).div_ceil(WORD);
@@ -84,24 +84,24 @@ impl Grid {
         })
     }
 
-    /// How many rooms there are.
+    /// Returns how many rooms the grid has.
     pub fn rooms(&self) -> usize {
         self.rooms
     }
 
-    /// How many words a row has.
+    /// Returns how many words a row has.
     pub fn words(&self) -> usize {
         self.words
     }
 
-    /// A word of the periods in which a course has a live cell in a room.
+    /// Returns a word of the periods in which a course has a live cell in a room.
     pub fn word(&self, course: usize, room: usize, word: usize) -> u64 {
         let row = course.saturating_mul(self.rooms).saturating_add(room);
         let place = row.saturating_mul(self.words).saturating_add(word);
         self.bits.get(place).copied().unwrap_or(0)
     }
 
-    /// Whether a course has a live cell in a room.
+    /// Returns whether a course has a live cell in a room.
     pub fn is_open(&self, course: usize, room: usize) -> bool {
         (0..self.words).any(|word| self.word(course, room, word) != 0)
     }
@@ -116,7 +116,7 @@ impl Grid {
         bits
     }
 
-    /// In how many periods some of the courses has a live cell in a room.
+    /// Counts the periods in which some of the courses have a live cell in a room.
     pub fn open_periods(&self, members: &[bool], room: usize) -> u32 {
         let mut total: u32 = 0;
         for word in 0..self.words {

@@ -1,4 +1,4 @@
-//! Prices of one group of courses that compete for rooms. Of the choice nothing is proved.
+//! Prices of one group of courses that compete for rooms. Nothing is proved about the choice.
 
 ghost use Rattle.std.specs.Prelude.{◌<◌, length};
 
@@ -6,7 +6,7 @@ use crate::grid::Grid;
 use std::alloc::{AllocError, Global};
 use tt_instance::Instance;
 
-/// Prices of the courses of a group and of rooms, by number, 0 for none; and what they are worth.
+/// Prices of the courses of a group and of rooms, by number, 0 for none; and their value.
 #[derive(Drop)]
 pub struct Pricing {
     pub courses: Vec<u32>,
@@ -34,7 +34,7 @@ fn push_students(
     Ok(())
 }
 
-/// The levels of seats between which prices rise: what rooms have and what courses of the group need.
+/// Returns the levels of seats between which prices rise: the seats of rooms and the seats that courses of the group need.
 fn levels(
     alloc: Global,
     instance: &Instance<'_>,
@@ -51,7 +51,7 @@ fn has(members: &[bool], course: u32) -> bool {
     members.get(course as usize).copied().unwrap_or(false)
 }
 
-/// The lectures of the group with this many students at least.
+/// Counts the lectures of the group with at least this many students.
 fn demand(instance: &Instance<'_>, members: &[bool], level: u32) -> u64 {
     let mut total: u64 = 0;
     for course in 0..instance.courses() {
@@ -62,7 +62,7 @@ fn demand(instance: &Instance<'_>, members: &[bool], level: u32) -> u64 {
     total
 }
 
-/// The open periods of the rooms with this many seats at least.
+/// Counts the open periods of the rooms with at least this many seats.
 fn supply(instance: &Instance<'_>, open: &[u32], level: u32) -> u64 {
     let mut total: u64 = 0;
     for room in 0..instance.rooms() {
@@ -77,7 +77,7 @@ fn number_at(numbers: &[u32], place: usize) -> u32 {
     numbers.get(place).copied().unwrap_or(0)
 }
 
-/// Raises the prices of the rooms with this many seats at least.
+/// Raises the prices of the rooms with at least this many seats.
 fn raise(instance: &Instance<'_>, prices: &mut [u32], level: u32, by: u32) {
     for room in 0..instance.rooms() {
         if level <= instance.capacity(room)
@@ -88,7 +88,7 @@ fn raise(instance: &Instance<'_>, prices: &mut [u32], level: u32, by: u32) {
     }
 }
 
-/// Prices of rooms: they rise with the seats wherever the group has more lectures than the larger rooms have periods.
+/// Computes prices of rooms: they rise with the seats at each level where the group has more lectures than the larger rooms have periods.
 fn room_prices(
     alloc: Global,
     instance: &Instance<'_>,
@@ -111,7 +111,7 @@ fn room_prices(
     Ok(prices)
 }
 
-/// The greatest price of a course that its excess and the room's price cover in each open room.
+/// Returns the maximum price of a course that its excess and the room's price cover in each open room.
 fn course_price(instance: &Instance<'_>, grid: &Grid, rooms: &[u32], course: u32) -> u32
     requires { course < length instance.now.courses }
 {
@@ -154,7 +154,7 @@ fn open_periods(alloc: Global, grid: &Grid, members: &[bool]) -> Result<Vec<u32>
     Ok(open)
 }
 
-/// What the lectures of courses bring at their prices.
+/// Returns the sum of the prices of all lectures of the courses.
 fn income(instance: &Instance<'_>, courses: &[u32]) -> u64 {
     let mut total: u64 = 0;
     for course in 0..instance.courses() {
@@ -164,7 +164,7 @@ fn income(instance: &Instance<'_>, courses: &[u32]) -> u64 {
     total
 }
 
-/// What the open periods of rooms cost at their prices.
+/// Returns the sum of the prices of all open periods of the rooms.
 fn rent(rooms: &[u32], open: &[u32]) -> u64 {
     let mut total: u64 = 0;
     for (room, price) in rooms.iter().enumerate() {
@@ -174,7 +174,7 @@ fn rent(rooms: &[u32], open: &[u32]) -> u64 {
     total
 }
 
-/// Prices of a group, and what they are worth.
+/// Computes prices of a group, and their value.
 pub fn price_group(
     alloc: Global,
     instance: &Instance<'_>,

@@ -1,4 +1,4 @@
-//! What the leaves that are tried close.
+//! Which nodes the leaves that are tried close.
 
 ghost use Rattle.std.specs.Prelude.{List};
 ghost use Rattle.tt_instance.specs.Problem.{Problem};
@@ -11,9 +11,9 @@ ghost use Rattle.tt_leaf_rules.specs.Bounds.{Respects};
 ghost use Rattle.tt_leaf_rules.specs.declared.leaf.Bound.{Bound};
 ghost use Rattle.tt_leaf.specs.Pinned.{IsPinnedDown, IsOpen};
 
-/// Where each live cell's own pattern stands on the path as yes, one of the leaves that are tried is
+/// If the path has each live cell's own pattern as a yes-fact, one of the leaves that are tried is
 /// right for each bound that the feasible timetables on the path respect: for each bound up to their
-/// cost, and for every bound where there is none.
+/// cost, and for every bound if no such timetable exists.
 pub fn pinned_paths_close()
     ensures { (p : Problem) (path : List Fact) (b : Bound) → IsInstance p → IsPinnedDown p path →
         ((t : List Cell) → IsFeasible p t → Fits p t path → Respects b (cost p t)) → ¬ IsOpen p path b }

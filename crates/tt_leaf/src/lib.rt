@@ -1,4 +1,4 @@
-//! Leaves that close a node: the claims that are worth something, and the search for a right leaf.
+//! Leaves that close a node: the claims of positive value, and the search for a right leaf.
 #![tactic(auto)]
 
 mod best;

@@ -1,4 +1,4 @@
-//! Courses that have more lectures than the week has periods or rooms for them. Of the choice nothing is proved.
+//! Courses that have more lectures than the week has periods or rooms for them. Nothing is proved about the choice.
 
 ghost use Rattle.std.specs.Prelude.{◌+◌, ◌<◌, length, IfOk, IfSome, OnOk};
 ghost use Rattle.tt_leaf_rules.specs.Ranges.{AreBelow};
@@ -16,7 +16,7 @@ enum Courses {
     All,
 }
 
-/// Adds the next number to a list, where it belongs to it.
+/// Adds the next number to a list if it belongs to it.
 fn push_number(list: &mut Vec<u32>, number: u32, belongs: bool) -> Result<(), AllocError>
     requires { AreNumbers number list.old.items }
     ensures { OnOk result (AreNumbers (number + 1) list.new.items) }
@@ -29,7 +29,7 @@ fn push_number(list: &mut Vec<u32>, number: u32, belongs: bool) -> Result<(), Al
 }
 
 impl Courses {
-    /// Whether a course is one of them.
+    /// Returns whether a course is one of them.
     fn has(self, instance: &Instance<'_>, course: u32) -> bool
         requires { course < length instance.now.courses }
     {
@@ -40,7 +40,7 @@ impl Courses {
         }
     }
 
-    /// How many of them may meet in one period.
+    /// Returns how many of them can have a lecture in the same period.
     fn at_once(self, instance: &Instance<'_>) -> u64 {
         match self {
             Courses::All => u64::from(instance.rooms()),
@@ -48,7 +48,7 @@ impl Courses {
         }
     }
 
-    /// Their numbers in ascending order.
+    /// Returns their numbers in ascending order.
     fn numbers(self, alloc: Global, instance: &Instance<'_>) -> Result<Vec<u32>, AllocError>
         ensures { IfOk result (λ numbers. AreNumbers (length instance.now.courses) numbers.items) }
     {
@@ -59,7 +59,7 @@ impl Courses {
         Ok(numbers)
     }
 
-    /// The leaf that says that their lectures are too many for the week.
+    /// Creates the leaf that says that their lectures are too many for the week.
     fn leaf(self, instance: &Instance<'_>, numbers: Vec<u32>) -> Leaf
         requires { AreNumbers (length instance.now.courses) numbers.items }
         ensures { IsAnswer instance.now result }
@@ -73,7 +73,7 @@ impl Courses {
     }
 }
 
-/// The lectures of some courses together.
+/// Counts the lectures of some courses together.
 fn count_lectures(instance: &Instance<'_>, courses: &[u32]) -> u64
     requires { AreBelow (length instance.now.courses) courses.now }
 {
@@ -84,7 +84,7 @@ fn count_lectures(instance: &Instance<'_>, courses: &[u32]) -> u64
     lectures
 }
 
-/// How many periods are available to at least one of some courses.
+/// Counts the periods that are available to at least one of some courses.
 fn count_periods(instance: &Instance<'_>, courses: &[u32]) -> u64 {
     let mut open: u64 = 0;
     for day in 0..instance.days() {
@@ -100,7 +100,7 @@ fn count_periods(instance: &Instance<'_>, courses: &[u32]) -> u64 {
     open
 }
 
-/// The leaf of these courses, where they have more lectures than places.
+/// Returns the leaf of these courses, if they have more lectures than places.
 fn leaf_of(
     alloc: Global,
     instance: &Instance<'_>,
@@ -117,8 +117,8 @@ fn leaf_of(
     Ok(Some(courses.leaf(instance, numbers)))
 }
 
-/// A leaf that no timetable passes on the empty path: of a curriculum or a teacher with more lectures than periods, or of all courses where
-/// there are more lectures than rooms in all periods.
+/// Returns a leaf that no timetable passes on the empty path: of a curriculum or a teacher with more lectures than periods, or of all courses if
+/// they have more lectures than rooms in all periods.
 pub fn overfull_leaf(alloc: Global, instance: &Instance<'_>) -> Result<Option<Leaf>, AllocError>
     ensures { IfOk result (λ found. IfSome found (IsAnswer instance.now)) }
 {

@@ -11,10 +11,10 @@ use std::alloc::{AllocError, Global};
 use tt_leaf_rules::{Claim, ClaimList, Leaf, PriceList, claim_value};
 use tt_paths::Path;
 
-/// The greatest price that may stand in a proof.
+/// The maximum price that may appear in a proof.
 const MOST_PRICE: u32 = 1_000_000;
 
-/// Adds a claim, if it is worth something.
+/// Adds a claim if its value is positive.
 fn add<'i, P: Path<'i>>(path: &P, claims: &mut Vec<Claim>, claim: Claim) -> Result<(), AllocError>
     requires fit { IsFitClaim (P.problem path.now) claim }
     requires all { All (IsFitClaim (P.problem path.now)) claims.old.items }
@@ -40,7 +40,7 @@ fn push_price(list: &mut Vec<(u32, u32)>, number: u32, price: u32) -> Result<(),
     Ok(())
 }
 
-/// The prices of the numbers below a bound that have one.
+/// Lists the prices of the numbers below a bound that have one.
 fn list_prices(alloc: Global, count: u32, prices: &[u32]) -> Result<PriceList, AllocError>
     ensures prices { IfOk result (λ list. ArePrices count list) }
     ensures short { IfOk result (λ list. All (λ k. k.1 ≤ MOST_PRICE) list) }
@@ -102,7 +102,7 @@ fn add_capacity<'i, P: Path<'i>>(
     Ok(())
 }
 
-/// Claims the seats of the courses that are in no group.
+/// Adds claims of the seats of the courses that are in no group.
 fn add_capacities<'i, P: Path<'i>>(
     alloc: Global,
     path: &P,
@@ -120,7 +120,7 @@ fn add_capacities<'i, P: Path<'i>>(
     Ok(())
 }
 
-/// The claim on the working days of a course that is worth more.
+/// Returns the claim on the working days of a course that has the higher value.
 fn days_claim<'i, P: Path<'i>>(path: &P, course: u32) -> Claim
     requires { course < length (P.problem path.now).courses }
     ensures { IsFitClaim (P.problem path.now) result }
@@ -153,9 +153,9 @@ fn add_of_curricula<'i, P: Path<'i>>(path: &P, claims: &mut Vec<Claim>) -> Resul
     Ok(())
 }
 
-/// A leaf of claims in which courses that compete for rooms have prices together, and each course the
-/// better one of the two claims on its working days; none where no courses were found to compete, or the instance is
-/// too large to look.
+/// Returns a leaf of claims in which courses that compete for rooms have prices together, and each course has the
+/// better one of the two claims on its working days; `None` if no courses were found to compete, or the instance is
+/// too large to search.
 pub fn priced_claims<'i, P: Path<'i>>(alloc: Global, path: &P) -> Result<Option<Leaf>, AllocError>
     ensures { IfOk result (λ found. IfSome found (IsAnswer (P.problem path.now))) }
 {

@@ -18,14 +18,14 @@ use tt_instance::Slot;
 use tt_leaf_rules::{slot_at, slot_count};
 use tt_paths::Path;
 
-/// The `k` smallest numbers, in rising order.
+/// Returns the `k` smallest numbers, in ascending order.
 fn smallest(alloc: Global, numbers: &[u32], k: usize) -> Result<IntoIter<u32>, AllocError>
     ensures { IfOk result (λ it. IsKLeast (by_cmp nat_cmp) k numbers.now (into_iter_items it)) }
 {
     numbers.iter().copied().k_smallest(alloc, k)
 }
 
-/// The `k`-th smallest number, counted from 1, or the greatest where there are fewer.
+/// Returns the `k`-th smallest number, counted from 1, or the greatest if there are fewer.
 fn kth_smallest(alloc: Global, numbers: &[u32], k: usize) -> Result<Option<u32>, AllocError>
     ensures value { IfOk result (λ found. found ≡ kth_smallest k numbers.now) }
     ensures member { IfOk result (λ found. IfSome found (Contains numbers.now)) }
@@ -33,7 +33,7 @@ fn kth_smallest(alloc: Global, numbers: &[u32], k: usize) -> Result<Option<u32>,
     Ok(smallest(alloc, numbers, k)?.next_back())
 }
 
-/// Adds the excess, if there is one.
+/// Adds the excess, if one is given.
 fn push_some(excesses: &mut Vec<u32>, found: Option<u64>) -> Result<(), AllocError>
     requires { IfSome found (λ n. n ≤ MAX_SEATS) }
     ensures { OnOk result (excesses.new.items ≡ excesses.old.items ++ cons_option found []) }
@@ -44,7 +44,7 @@ fn push_some(excesses: &mut Vec<u32>, found: Option<u64>) -> Result<(), AllocErr
     Ok(())
 }
 
-/// The least excesses of a course's live periods, in students.
+/// Returns the least excesses of a course's live periods, in students.
 fn least_excesses<'i, P: Path<'i>>(
     alloc: Global,
     path: &P,
@@ -66,7 +66,7 @@ fn least_excesses<'i, P: Path<'i>>(
     Ok(excesses)
 }
 
-/// The price at which a course's capacity is claimed.
+/// Returns the price at which a course's capacity is claimed.
 pub fn price_of<'i, P: Path<'i>>(
     alloc: Global,
     path: &P,
@@ -84,7 +84,7 @@ pub fn price_of<'i, P: Path<'i>>(
     )
 }
 
-/// Whether some live cell of the course in the period seats its students.
+/// Returns whether some live cell of the course in the period seats its students.
 fn is_seated<'i, P: Path<'i>>(path: &P, course: u32, slot: Slot) -> bool
     requires course { course < length (P.problem path.now).courses }
     requires day { slot.day < (P.problem path.now).days }
@@ -94,7 +94,7 @@ fn is_seated<'i, P: Path<'i>>(path: &P, course: u32, slot: Slot) -> bool
     path.least_excess(course, slot.day, slot.period) == Some(0)
 }
 
-/// Whether a course has as many periods that seat its students as lectures. Its seats are worth nothing then.
+/// Returns whether a course has at least as many periods that seat its students as lectures. A claim on its seats has no value then.
 pub fn has_seats<'i, P: Path<'i>>(path: &P, course: u32) -> bool
     requires { course < length (P.problem path.now).courses }
     ensures { result ≡ true → lectures (P.problem path.now) course ≤ seated_periods (P.problem path.now) (P.facts path.now) course }

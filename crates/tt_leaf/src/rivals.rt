@@ -1,4 +1,4 @@
-//! Groups of courses that have more lectures than the larger rooms have live cells for them. Of the choice nothing is proved.
+//! Groups of courses that have more lectures than the larger rooms have live cells for them. Nothing is proved about the choice.
 
 ghost use Rattle.std.specs.Prelude.{◌<◌, length};
 
@@ -19,7 +19,7 @@ pub struct Rivals {
     cells: u64,
 }
 
-/// The rooms with more seats than this many.
+/// Returns the rooms with more seats than this many.
 fn larger_rooms(
     alloc: Global,
     instance: &Instance<'_>,
@@ -34,7 +34,7 @@ fn larger_rooms(
     Ok(rooms)
 }
 
-/// The lectures of a course, 0 where it is not there.
+/// Returns the number of lectures of a course, 0 if the course is out of range.
 fn lectures(instance: &Instance<'_>, course: usize) -> u64 {
     if course < instance.courses() as usize {
         u64::from(instance.lectures(course as u32))
@@ -43,14 +43,14 @@ fn lectures(instance: &Instance<'_>, course: usize) -> u64 {
     }
 }
 
-/// Whether some room that doesn't count lacks seats for a course.
+/// Returns whether some room that doesn't count has too few seats for a course.
 fn is_large(instance: &Instance<'_>, course: usize, seats: Option<u32>) -> bool {
     course < instance.courses() as usize
         && seats.is_none_or(|most| most < instance.students(course as u32))
 }
 
 impl Rivals {
-    /// No course yet, of the rooms with more seats than this many.
+    /// Creates a group without courses, of the rooms with more seats than this many.
     fn none(
         alloc: Global,
         instance: &Instance<'_>,
@@ -69,7 +69,7 @@ impl Rivals {
         })
     }
 
-    /// The live cells of a course in a row that no member has.
+    /// Returns the live cells of a course in a row that no member has.
     fn new_bits(&self, grid: &Grid, course: usize, place: usize, word: usize) -> u64 {
         let room = self.rooms.get(place).copied().unwrap_or(usize::MAX);
         let at = place.saturating_mul(self.words).saturating_add(word);
@@ -85,7 +85,7 @@ impl Rivals {
         total
     }
 
-    /// How many cells a course would add.
+    /// Counts the cells that a course would add.
     fn new_cells(&self, grid: &Grid, course: usize) -> u64 {
         let mut total: u64 = 0;
         for place in 0..self.rooms.len() {
@@ -116,7 +116,7 @@ impl Rivals {
         }
     }
 
-    /// The course that is left and brings the most lectures beyond its new cells, if it brings no fewer.
+    /// Returns the course, of those left, that adds the most lectures beyond its new cells, if it adds at least as many lectures as cells.
     fn next(
         &self,
         instance: &Instance<'_>,
@@ -144,13 +144,13 @@ impl Rivals {
         found
     }
 
-    /// Whether there are more lectures than cells.
+    /// Returns whether the group has more lectures than cells.
     fn are_crowded(&self) -> bool {
         self.cells < self.lectures
     }
 }
 
-/// The group that grows from a course, among those that are left and need more seats than this many; none where
+/// Returns the group that grows from a course, among those that are left and need more seats than this many; `None` if
 /// the rooms with more seats have enough cells for it.
 pub fn rivals_of(
     alloc: Global,

@@ -1,4 +1,4 @@
--- The pinned periods of a curriculum on a day beside which none is live, by words.
+-- The pinned periods of a curriculum on a day without a live neighbour period, by words.
 use Rattle.std.proofs.Common.{◌≡◌, ℕ, ◌+◌, ◌-◌, ◌<◌, ◌≤◌, Bool, true, false, not, ◌&&◌, List, refl, sym, ap, ◌∙◌, arith, inl, inr}
 use Rattle.std.specs.Prelude.{nat_lt}
 use Rattle.std.proofs.lemmas.Bool.{cases_lt, lt-ltb, le-ltb}
@@ -18,7 +18,7 @@ module _ (p : Problem) (path : List Fact) (q d : ℕ) (hd : d < p.days) (few : p
   abbrev isolated_at : ℕ → Bool
   isolated_at s = nat_lt s p.periods && (pinned p path (Curriculum q) (slot d s) && is_alone p path q (slot d s))
 
-  -- where nothing is pinned
+  -- if nothing is pinned, nothing is isolated
   pub none-isolated : pin ≡ 0 → (s : ℕ) → s < 64 → has_bit 0 s ≡ isolated_at s
   none-isolated e s h = has_bit-none s ∙ none (nat_lt s p.periods) (pinned p path (Curriculum q) (slot d s)) (is_alone p path q (slot d s)) (sym (pins s h) ∙ ap (λ w. has_bit w s) e ∙ has_bit-none s)
     where

@@ -42,11 +42,11 @@ no_stability (Stable k) c stable = absurd (stable k refl)
 no_stability (Prices courses rooms) c stable = none_priced (Stability c) (λ k. refl) courses
 no_stability (Stacked k) c stable = refl
 
--- a claim of prices has the capacity of each of its courses
+-- a claim of prices has the room capacity of each of its courses as a target
 pub priced_capacity : (courses rooms : List (ℕ × ℕ)) (c : ℕ) → list_any (λ k. c == k.0) courses ≡ claims_target (Prices courses rooms) (RoomCapacity c)
 priced_capacity courses rooms c = sym (list_any-of_map (same_target (RoomCapacity c)) (λ (k : ℕ × ℕ). RoomCapacity k.0) courses)
 
--- one claim more
+-- another claim
 pub claims_once-cons : (c : Claim) (cs : List Claim) → IsOnce c → claims_once (c ∷ cs) ≡ (list_all (are_apart c) cs && claims_once cs)
 claims_once-cons c cs once =
     each_two-of_flat_map (λ a b. not (same_target a b)) targets_of c cs once
@@ -54,7 +54,7 @@ claims_once-cons c cs once =
     (list_all-same (λ z. list_all (λ a. list_all (λ b. not (same_target a b)) (targets_of z)) (targets_of c)) (are_apart c) cs
     (λ z. list_all-same (λ a. list_all (λ b. not (same_target a b)) (targets_of z)) (λ a. not (claims_target z a)) (targets_of c) (λ a. list_all-not (same_target a) (targets_of z))))
 
--- a loop over the claims, at the first of those that are left
+-- a loop over the claims, at the first of those left
 module _ (claims rest others : List Claim) (first : Claim) (same : claims_once claims ≡ claims_once rest) (once : All IsOnce rest) (are : rest ≡ first ∷ others) where
   here : claims_once claims ≡ (list_all (are_apart first) others && claims_once others)
   here = same ∙ ap claims_once are ∙ claims_once-cons first others (All-head IsOnce first others (All-same IsOnce (first ∷ others) rest (sym are) once))

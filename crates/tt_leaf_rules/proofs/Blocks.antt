@@ -15,7 +15,7 @@ module _ (n : ℕ) (t : ℕ → Bool) where
   abbrev pub here : ℕ → Bool
   here r = nat_lt r n && t r
 
-  -- the blocks before one, and that one by the word of its numbers that pass
+  -- the count over the blocks before one, plus the count of that block by the word of its numbers that pass
   pub block_next : (b w total more : ℕ) → ((k : ℕ) → k < 64 → has_bit w k ≡ here (b * 64 + k)) → total ≡ count_by here (range_below (b * 64)) → more ≡ count_by (has_bit w) bits → total + more ≡ count_by here (range_below ((b + 1) * 64))
   block_next b w total more set e is =
       let q : (b + 1) * 64 ≡ b * 64 + 64 = omega arith in
@@ -25,12 +25,12 @@ module _ (n : ℕ) (t : ℕ → Bool) where
   pub blocks_whole : (m total : ℕ) → total ≡ count_by here (range_below m) → n ≤ m → total ≡ count_by t (range_below n)
   blocks_whole m total e h = let q : m ≡ n + (m - n) = omega arith in e ∙ ap (λ k. count_by here (range_below k)) q ∙ count-past t n (m - n)
 
--- what is among the first elements is among all
+-- if one of the first elements passes, one of all does
 any_of_first : {X : Type 0} (p : X → Bool) (xs : List X) (i : ℕ) → list_any p (take i xs) ≡ true → list_any p xs ≡ true
 any_of_first p xs i h =
     sym (ap (list_any p) (take-append-drop i xs)) ∙ list_any-append p (take i xs) (drop i xs) ∙ or_left (list_any p (take i xs)) (list_any p (drop i xs)) h
 
--- a block whose set is full is as full when more elements are asked
+-- a block whose set is full stays full if more elements are asked
 pub block_full : {X : Type 0} (n b w all : ℕ) (t : ℕ → X → Bool) (xs : List X) (i : ℕ) → w ≡ all → ((k : ℕ) → k < 64 → has_bit all k ≡ nat_lt k (n - b * 64)) → ((k : ℕ) → k < 64 → has_bit w k ≡ (nat_lt (b * 64 + k) n && list_any (t (b * 64 + k)) (take i xs))) → (k : ℕ) → k < 64 → has_bit w k ≡ (nat_lt (b * 64 + k) n && list_any (t (b * 64 + k)) xs)
 block_full n b w all t xs i e full set k h = elim (cases_lt (b * 64 + k) n) [
   | inl l ↦

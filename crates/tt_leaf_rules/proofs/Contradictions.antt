@@ -1,4 +1,4 @@
--- Where one of the first four leaves is right, no feasible timetable fits the path.
+-- If one of the first four leaves is right, no feasible timetable fits the path.
 use Rattle.std.proofs.Common.{◌≡◌, ℕ, ◌≤◌, ◌<◌, true, false, not, ◌&&◌, ◌||◌, List, length, refl, sym, ap, ◌∙◌, subst, arith, inl, inr, eqb-true, eq-eqb}
 use Rattle.std.specs.Prelude.{Contains, ◌==◌, sum_by, count_by}
 use Rattle.std.specs.List.{list_any, AllByRecursion}
@@ -147,7 +147,7 @@ module _ (p : Problem) (t : List Cell) (ok : IsFeasible p t) (path : List Fact) 
       only_one same_course (λ e. is_in r e && is_at s e) t x y (eq-eqb x.course x.course refl) one v.1 w.1 (here x v.3 v.4) (here y w.3 w.4)
       (subst (λ c. (c == y.course) ≡ false) (sym v.2) (subst (λ c. (a == c) ≡ false) (sym w.2) (not-true (a == b) d)))
 
-  -- different courses have no more entries in a room than there are periods with a live cell of one of them
+  -- distinct courses have at most as many entries in a room as there are periods with a live cell of one of them
   pub in_room_at_most : (cs : List ℕ) → are_distinct cs ≡ true → (r : ℕ) → AllByRecursion (λ s. entries_in t r s ≤ 1) (all_slots p) → sum_by (λ c. count_by (λ e. is_of c e && is_in r e) t) cs ≤ count_by (λ s. list_any (λ c. is_live p path (cell c r s)) cs) (all_slots p)
   in_room_at_most cs k r one =
       let n : Slot → ℕ → ℕ = λ s c. count_by (λ e. is_of c e && is_in r e && is_at s e) t in

@@ -1,4 +1,4 @@
--- Elements that differ by a test, where it finds out whether two are the same.
+-- Elements that differ by a test, if the test finds whether two are the same.
 use Rattle.std.proofs.Common.{◌≡◌, Bool, true, not, List, [], ◌∷◌, zero, suc, refl, subst, arith}
 use Rattle.std.specs.Prelude.{All, AllPairs}
 use Rattle.std.specs.List.{list_all}
@@ -18,7 +18,7 @@ module _ {X : Type 0} (same : X → X → Bool) (is : (x y : X) → same x y ≡
   found_different : (x y : X) → ¬ (x ≡ y) → not (same x y) ≡ true
   found_different x y d = not_from_false (same x y) (false_from_ne_true (same x y) (λ e. d (is x y e)))
 
-  -- where the test finds each two different, they are
+  -- if the test says of each two that they differ, they differ
   pub different : (xs : List X) → each_two (λ a b. not (same a b)) xs ≡ true → AreDifferent xs
   different [] e = λ i j d before within. absurd (omega (arith, within))
   different (x ∷ xs) e =
@@ -26,7 +26,7 @@ module _ {X : Type 0} (same : X → X → Bool) (is : (x y : X) → same x y ≡
       let first : All (λ y. ¬ (x ≡ y)) xs = λ k d within. differ x _ (AllPass-from_list_all (λ y. not (same x y)) xs h.0 k d within) in
       AllPairs-cons (λ a b. ¬ (a ≡ b)) x xs first (different xs h.1)
 
-  -- and it finds them so where they are
+  -- if each two differ, the test says so
   pub each_two_differ : (xs : List X) → AreDifferent xs → each_two (λ a b. not (same a b)) xs ≡ true
   each_two_differ [] h = refl
   each_two_differ (x ∷ xs) h =

@@ -1,4 +1,4 @@
--- Leaves on small instances, as the definitions judge them.
+-- Leaves on small instances, evaluated by the definitions.
 use Rattle.std.proofs.Common.{◌≡◌, ℕ, List, [], ◌∷◌, Some, None, refl, codes}
 use Rattle.tt_instance.specs.Problem.{Problem}
 use Rattle.tt_instance.proofs.Examples.{course, room, week, mini, gap, wide, same, apart}
@@ -17,7 +17,7 @@ use Rattle.tt_leaf_rules.specs.declared.leaf.RuleFault.TheVariants.{NotOnPath, S
 abbrev pub when : ℕ → ℕ → Pattern
 when c s = first_day (Course c) s
 
--- ---- from no fact
+-- -- leaves of an empty path
 
 one_price : fault_of mini [] (AtLeast 1) (Cost (Capacity 1 1 ∷ [])) ≡ None
 one_price = refl
@@ -67,7 +67,7 @@ still_alive = refl
 nothing_claimed : fault_of mini [] (AtLeast 0) (Cost []) ≡ None
 nothing_claimed = refl
 
--- ---- a in the first period, b in the third
+-- -- course a in the first period, course b in the third
 
 abbrev outside : List Fact
 outside = yes (when 0 0) ∷ yes (when 1 2) ∷ []
@@ -90,7 +90,7 @@ no_period_for_b = refl
 
 -- ---- claims of version 2
 
--- one period, two courses, a room with seats for each and one without
+-- one period, two courses, a room with enough seats for each course and a room without
 abbrev prices : Problem
 prices = week 1 1 (course (codes "x") (codes "t1") 1 1 10 ∷ course (codes "y") (codes "t2") 1 1 10 ∷ []) (room (codes "A") 10 ∷ room (codes "B") 5 ∷ []) []
 
@@ -100,7 +100,7 @@ covered = refl
 not_covered : fault_of prices [] (AtLeast 5) (Cost (Prices ((0, 5) ∷ (1, 5) ∷ []) ((0, 4) ∷ []) ∷ [])) ≡ Some BadPrice
 not_covered = refl
 
--- the second room is not listed, and its excess is 5
+-- the second room isn't listed, and its excess is 5
 not_listed : fault_of prices [] (AtLeast 6) (Cost (Prices ((0, 6) ∷ (1, 6) ∷ []) ((0, 6) ∷ []) ∷ [])) ≡ Some BadPrice
 not_listed = refl
 

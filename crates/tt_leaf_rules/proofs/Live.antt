@@ -1,4 +1,4 @@
--- Where a feasible timetable fits the path, each of its entries is a live cell.
+-- If a feasible timetable fits the path, each of its entries is a live cell.
 use Rattle.std.proofs.Common.{◌≡◌, ℕ, true, not, ◌&&◌, ◌||◌, List, length, sym, ◌∙◌, inl, inr, eq-eqb}
 use Rattle.std.specs.Prelude.{Contains, ◌==◌}
 use Rattle.std.specs.List.{list_any}
@@ -22,7 +22,7 @@ use Rattle.tt_rules.proofs.Feasible.{in_range, available}
 use Rattle.tt_paths.proofs.Matching.{gives-agrees, speaks-is_who, Matches-from}
 use Rattle.tt_leaf_rules.proofs.Clash.{no_clash}
 
--- ---- what a yes-fact says of the entry that matches it
+-- -- what a yes-fact says about the entry that matches it
 
 module _ (p : Problem) (t : List Cell) (ok : IsFeasible p t) (path : List Fact) (fits : Fits p t path) where
   -- some entry matches a yes-fact
@@ -71,7 +71,7 @@ module _ (p : Problem) (t : List Cell) (ok : IsFeasible p t) (path : List Fact) 
   pub live_day_of : (x : Cell) → Contains t x → live_day p path x.course x.day ≡ true
   live_day_of x h = any_below (λ s. live_period p path x.course (slot x.day s)) p.periods x.period (in_range p t ok x h).period (live_period_of x h)
 
-  -- an entry stands in each pinned period
+  -- each pinned period has an entry
   pub pinned_entry : (who : Who) (s : Slot) → pinned p path who s ≡ true → (x : Cell) × Contains t x × (is_who p who x.course ≡ true) × (is_at s x ≡ true)
   pinned_entry who s e =
       let test = λ (f : Fact). f.holds && is_pinned_by p who f.pattern.who && gives f.pattern.day s.day && gives f.pattern.period s.period in
@@ -91,7 +91,7 @@ module _ (p : Problem) (t : List Cell) (ok : IsFeasible p t) (path : List Fact) 
             (eq-eqb x.period s.period (gives-agrees f.pattern.period s.period x.period a.1 g.period)),
       )
 
-  -- and one in each pinned room
+  -- each pinned room has an entry
   pub pinned_room_entry : (c r : ℕ) → pinned_room p path c r ≡ true → (x : Cell) × Contains t x × (is_of c x ≡ true) × (is_in r x ≡ true)
   pinned_room_entry c r e =
       let test = λ (f : Fact). f.holds && is_pinned_by p (Course c) f.pattern.who && gives f.pattern.room r in

@@ -1,4 +1,4 @@
--- Numbers that are met in turn.
+-- Numbers that a loop meets in turn.
 use Rattle.std.proofs.Common.{◌≡◌, ℕ, subst, ◌+◌, ◌*◌, ◌<◌, ◌≤◌, Bool, true, false, not, ◌&&◌, ◌||◌, List, [], ◌∷◌, ◌++◌, map, length, refl, sym, ap, ◌∙◌, inl, inr, arith, eq-eqb}
 use Rattle.std.specs.Prelude.{◌==◌, All, flat_map}
 use Rattle.std.specs.List.{list_all, AllByRecursion}
@@ -18,12 +18,12 @@ use Rattle.tt_instance.specs.Problem.{Problem}
 use Rattle.tt_leaf_rules.specs.declared.leaf.Claim.{Claim}
 use Rattle.tt_leaf_rules.specs.declared.leaf.Claim.TheVariants.{Capacity, Days, Compact, Stable, Prices, Stacked}
 
--- where nothing is marked, numbers are new that differ
+-- if nothing is marked, numbers that differ are new
 pub new_at_first : (marks : List Bool) (ns : List ℕ) → ((k : ℕ) → marked marks k ≡ false) → each_two (λ a b. not (a == b)) ns ≡ are_new marks ns
 new_at_first marks ns none =
     ap (λ b. b && each_two (λ a b. not (a == b)) ns) (sym (all_pass (λ n. not (marked marks n)) ns (λ n. ap not (none n))))
 
--- a test of what is left once a number has been met
+-- a test of the numbers left after a number has been met
 unmarked_more : (marks more : List Bool) (n : ℕ) (ns : List ℕ) → ((k : ℕ) → marked more k ≡ (marked marks k || (n == k))) → list_all (λ k. not (marked more k)) ns ≡ (list_all (λ k. not (marked marks k)) ns && list_all (λ k. not (n == k)) ns)
 unmarked_more marks more n ns added =
     list_all-same (λ k. not (marked more k)) (λ k. not (marked marks k) && not (n == k)) ns (λ k. ap not (added k) ∙ neither (marked marks k) (n == k))
@@ -42,7 +42,7 @@ new_then marks more n behind added =
 
 -- ---- the numbers of targets
 
--- four times two numbers, with one rest
+-- four times a number plus a fixed rest is equal for two numbers exactly if they are equal
 four_same : (i a b : ℕ) → (4 * a + i == 4 * b + i) ≡ (a == b)
 four_same i a b = elim (cases_eq a b) [
   | inl e ↦ eq-eqb (4 * a + i) (4 * b + i) (ap (λ n. 4 * n + i) e) ∙ sym (eq-eqb a b e)
@@ -78,7 +78,7 @@ places_all : (claims : List Claim) → map place (claimed claims) ≡ flat_map p
 places_all [] = refl
 places_all (c ∷ cs) = map-append place (targets_of c) (claimed cs) ∙ ap (λ l. places_of c ++ l) (places_all cs)
 
--- where nothing is marked, the targets are new where none is claimed twice
+-- if nothing is marked, the targets are new exactly if no target is claimed twice
 pub claims_at_first : (marks : List Bool) (claims : List Claim) → ((k : ℕ) → marked marks k ≡ false) → claims_once claims ≡ are_new marks (flat_map places_of claims)
 claims_at_first marks claims none =
     each_two-same (λ a b. not (same_target a b)) (λ a b. not (place a == place b)) (claimed claims) (λ a b. ap not (sym (same_place a b)))
@@ -88,7 +88,7 @@ claims_at_first marks claims none =
 
 -- ---- a loop that meets the numbers of a list in turn
 
--- none of the numbers at the front had been met
+-- none of the numbers at the front had been met before
 pub met_goes_on : (all new : Bool) (marks more : List Bool) (rest front behind : List ℕ) → all ≡ are_new marks rest → rest ≡ front ++ behind → are_new marks (front ++ behind) ≡ (new && are_new more behind) → new ≡ true → all ≡ are_new more behind
 met_goes_on all new marks more rest front behind same are met e = same ∙ ap (are_new marks) are ∙ met ∙ ap (λ b. b && are_new more behind) e
 
@@ -116,10 +116,10 @@ module _ (p : Problem) (few_courses : length p.courses ≤ 2048) (few_curricula 
   placed_by_recursion (Prices courses rooms) h = priced_placed courses rooms (recursion_from_All (λ c. c < length p.courses) (map (λ k. k.0) courses) h.0.within)
   placed_by_recursion (Stacked c) h = (omega (arith, h, few_courses), tt)
 
-  -- the claims of an instance have marks
+  -- the targets of an instance's claims have marks
   pub each_placed : (claims : List Claim) → All (IsClaimOf p) claims → All IsPlaced claims
   each_placed claims h = All-weaker (IsClaimOf p) IsPlaced (λ claim is. All-from_recursion (λ n. n < 32768) (places_of claim) (placed_by_recursion claim is)) claims h
 
--- and so do its courses
+-- the courses of an instance have marks
 pub courses_placed : (n : ℕ) (courses : List ℕ) → n ≤ 2048 → AreBelow n courses → AreBelow 2048 courses
 courses_placed n courses few h = All-weaker (λ c. c < n) (λ c. c < 2048) (λ c is. omega (arith, is, few)) courses h

@@ -1,4 +1,4 @@
--- The values of the claims that name prices of rooms, or count pinned days.
+-- The values of the claims that give prices of rooms, or count pinned days.
 use Rattle.std.proofs.Common.{◌≡◌, ℕ, ◌+◌, ◌*◌, ◌≤◌, Bool, true, false, not, cond, ◌&&◌, ◌||◌, List, [], ◌∷◌, map, length, sym, ap, ◌∙◌, subst, arith, inl, inr, eqb-true, zero-le, mul-le-mul_right, leb-true, mul_comm}
 use Rattle.std.specs.Prelude.{Contains, ◌==◌, nat_le, sum_by, count_by}
 use Rattle.std.specs.List.{list_any, list_all}
@@ -69,7 +69,7 @@ module _ (p : Problem) (t : List Cell) (ok : IsFeasible p t) (path : List Fact) 
             (and_from (is_of c e && not here) (is_on d e) (and_from (is_of c e) (not here) a.0 (not_from_false here k)) a.1))
       ]
 
-  -- a day with an entry is pinned, or has an entry in no pinned period
+  -- a day with an entry is pinned, or has an entry in a period that isn't pinned
   days_split : (c : ℕ) → days_of p t c ≤ count_by (pinned_day p path c) (all_days p) + count_by (λ e. is_of c e && not (pinned p path (Course c) (slot_of e))) t
   days_split c =
       let free : Cell → Bool = λ e. is_of c e && not (pinned p path (Course c) (slot_of e)) in
@@ -96,7 +96,7 @@ module _ (p : Problem) (t : List Cell) (ok : IsFeasible p t) (path : List Fact) 
 
   -- ---- Prices
 
-  -- a price stands in a listed room
+  -- the price of a room is at most the sum of the list's prices for it
   price_in-le : (rooms : List (ℕ × ℕ)) (r : ℕ) → price_in rooms r ≤ sum_by (λ j. cond (r == j.0) j.1 0) rooms
   price_in-le [] r = zero-le
   price_in-le (x ∷ xs) r =
@@ -111,7 +111,7 @@ module _ (p : Problem) (t : List Cell) (ok : IsFeasible p t) (path : List Fact) 
   fee_spread true rooms r = price_in-le rooms r
   fee_spread false rooms r = zero-le
 
-  -- on an entry of a listed course, the excess and the price of its room cover the course's price
+  -- for an entry of a listed course, the excess and the price of its room cover the course's price
   covers : (courses rooms : List (ℕ × ℕ)) → are_covered p path courses rooms ≡ true → (k : ℕ × ℕ) → Contains courses k → (e : Cell) → Contains t e → is_of k.0 e ≡ true → k.1 ≤ excess p e.course e.room + price_in rooms e.room
   covers courses rooms a k m e h o =
       let i = in_range p t ok e h in
@@ -152,7 +152,7 @@ module _ (p : Problem) (t : List Cell) (ok : IsFeasible p t) (path : List Fact) 
       let counted = sum_by-same (λ (j : ℕ × ℕ). sum_by (λ e. cond (is_of k.0 e && is_in j.0 e) j.1 0) t) (λ (j : ℕ × ℕ). count_by (λ e. is_of k.0 e && is_in j.0 e) t * j.1) rooms
       (λ j. sum_by-at_places (λ e. is_of k.0 e && is_in j.0 e) j.1 t) in
       omega arith) courses) in
-      -- and a listed room is paid once a period at most
+      -- a listed room is paid at most once a period
       let paid = sum_by-le (λ j. sum_by (λ k. count_by (λ e. is_of k.0 e && is_in j.0 e) t * j.1) courses) (λ j. j.1 * open_in p path courses j.0) rooms
       (each (λ j. sum_by (λ k. count_by (λ e. is_of k.0 e && is_in j.0 e) t * j.1) courses ≤ j.1 * open_in p path courses j.0) (λ j.
       let there : ℕ → ℕ = λ c. count_by (λ e. is_of c e && is_in j.0 e) t in

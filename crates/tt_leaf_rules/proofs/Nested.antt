@@ -1,4 +1,4 @@
--- The leaf rules as the code goes through them are the rules.
+-- The leaf rules in the form in which the code goes through them agree with the rules.
 use Rattle.std.proofs.Common.{◌≡◌, ℕ, Bool, true, false, not, ◌&&◌, ◌||◌, ◌<◌, ◌≤◌, ◌+◌, ◌-◌, List, refl, sym, ap, ◌∙◌, subst, arith, inl, inr, eqb-true, eq-eqb, ltb-true, lt-ltb, le-leb}
 use Rattle.std.specs.Prelude.{nat_lt, nat_le, ◌==◌, length, None, Some}
 use Rattle.std.specs.List.{list_all, list_any}
@@ -77,7 +77,7 @@ module _ (p : Problem) (path : List Fact) (g : Pattern) where
       (λ c. dead_cells c (is_who p g.who c) ∙ ap (λ b. not b || course_dead p path g c) (is_who-has p g.who c))
       ∙ list_all-of_members (course_dead p path g) (length p.courses) (courses_of p g.who)
 
-  -- as the code goes through the courses that are meant
+  -- the form in which the code goes through the courses that the pattern means
   pub all_dead-by_one : (a : ℕ) → g.who ≡ Course a → all_dead p path g ≡ gone_or_dead p path g a
   all_dead-by_one a e = all_dead-by_course ∙ ap (λ w. list_all (gone_or_dead p path g) (courses_of p w)) e ∙ and-true (gone_or_dead p path g a)
 
@@ -90,7 +90,7 @@ module _ (p : Problem) (path : List Fact) (g : Pattern) where
 
 -- ---- the neighbours of a period
 
--- a period beside it on its day is before it or after it
+-- a neighbour of a period on its day is the period before it or the one after it
 beside : (p : Problem) (t : Slot → Bool) (s : Slot) → s.day < p.days → s.period < p.periods → list_any (λ n. next_to n s && t n) (all_slots p) ≡ ((nat_lt 0 s.period && t (slot s.day (s.period - 1))) || (nat_lt (s.period + 1) p.periods && t (slot s.day (s.period + 1))))
 beside p t s day period = same_truth (list_any (λ n. next_to n s && t n) (all_slots p)) (left || right) there back
   where

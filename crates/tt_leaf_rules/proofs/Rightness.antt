@@ -1,4 +1,4 @@
--- A leaf is right exactly where it has no fault.
+-- A leaf is right exactly if it has no fault.
 use Rattle.std.proofs.Common.{◌≡◌, ℕ, ◌<◌, Bool, true, false, List, [], ◌∷◌, length, Option, Some, None, refl, sym, ap, ◌∙◌, subst, arith, eqb-true, eq-eqb, ltb-true, lt-ltb, leb-true, le-leb}
 use Rattle.std.specs.Prelude.{nat_lt, nat_le, ◌==◌, ◌↔◌, IsTrue, is_ok, Contains}
 use Rattle.std.specs.List.{list_all}
@@ -27,12 +27,12 @@ use Rattle.tt_leaf_rules.specs.declared.leaf.RuleFault.TheVariants.{NotOnPath, S
 use Rattle.tt_leaf_rules.proofs.Different.{AreDifferent, different, each_two_differ}
 use Rattle.tt_leaf_rules.proofs.Totals.{same_target-true, same_target-itself}
 
--- ---- what the tests find
+-- -- the meaning of the tests
 
 abbrev yes_of : Pattern → Bool → Fact
 yes_of g holds = record { pattern = g; holds = holds }
 
--- the path has the fact where it is found there
+-- if the fact is found on the path, the path has it
 yes_there : (path : List Fact) (g : Pattern) → has_fact path g true ≡ true → Contains path (record { pattern = g; holds = true })
 yes_there path g e =
     let w = fact_there path g true e in
@@ -60,7 +60,7 @@ targets_once claims = each_two_differ same_target same_target-true same_target-i
 
 -- ---- faults
 
--- no fault is told where the test holds and the rest tells none
+-- if there is no fault, the test passes and the rest has no fault
 demand_none : (b : Bool) (f : RuleFault) (rest : Option RuleFault) → demand b f rest ≡ None → (b ≡ true) × (rest ≡ None)
 demand_none true f rest e = (refl, e)
 demand_none false f rest e = cc
@@ -113,7 +113,7 @@ module _ (p : Problem) (path : List Fact) where
       demand_from (claims_once claims) ClaimedTwice (demand fair BadPrice (demand dear TooCheap None)) (targets_once claims h.0)
       (demand_from fair BadPrice (demand dear TooCheap None) h.1 (demand_from dear TooCheap None (le-leb b (total_of p path claims) h.2) refl))
 
-  -- what is answered says whether the leaf is right
+  -- the result says whether the leaf is right
   pub answer_right : (b : Bound) (leaf : Leaf) (found : Option RuleFault) → found ≡ fault_of p path b leaf → IsTrue (is_ok (outcome found)) ↔ IsRight p path b leaf
   answer_right b leaf found e = (λ h. right_of b leaf (sym e ∙ none found h), λ right. rw (e ∙ faultless b leaf right) refl)
     where

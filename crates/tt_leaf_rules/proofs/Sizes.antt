@@ -1,4 +1,4 @@
--- How many different numbers there are below a bound, and how large sums are.
+-- The number of distinct numbers below a bound, and the size of sums.
 use Rattle.std.proofs.Common.{◌≡◌, ℕ, ◌+◌, ◌*◌, ◌≤◌, ◌<◌, Bool, true, not, cond, List, [], ◌∷◌, map, length, refl, sym, ◌∙◌, arith, inl, inr, eqb-true, eq-eqb, lt-ltb, le-leb}
 use Rattle.std.specs.Prelude.{◌==◌, ◌⊎◌, min, nat_lt, nat_le, All}
 use Rattle.std.specs.List.{AllByRecursion, list_any}
@@ -24,7 +24,7 @@ use Rattle.tt_leaf_rules.specs.declared.leaf.Claim.{Claim}
 use Rattle.tt_leaf_rules.specs.declared.leaf.Claim.TheVariants.{Capacity, Days, Compact, Stable, Prices, Stacked}
 use Rattle.tt_leaf_rules.proofs.Totals.{all_targets, same_target-true, same_target-itself, capacity_there, days_there, compactness_there, stability_there, length-all_targets}
 
--- different numbers below a bound are no more than the bound
+-- the count of distinct numbers below a bound is at most the bound
 pub distinct-le : (n : ℕ) (ns : List ℕ) → each_two (λ a b. not (a == b)) ns ≡ true → AreBelow n ns → length ns ≤ n
 distinct-le n ns apart below =
     let one : ℕ → ℕ = λ k. cond (nat_lt k n) 1 0 in
@@ -36,7 +36,7 @@ distinct-le n ns apart below =
     let spread = distinct_sum (λ a b. a == b) eqb-true (λ a. eq-eqb a a refl) one ns (range_below n) apart (λ y m. there y) in
     omega (arith, length-le_sum one ns each_one, spread, count_by-le-length (λ k. nat_lt k n) (range_below n), length-range_with_len 0 n)
 
--- no more prices than numbers
+-- the count of prices is at most the count of numbers
 pub few_prices : (n : ℕ) (prices : List (ℕ × ℕ)) → ArePrices n prices → length prices ≤ n
 few_prices n prices h =
     let apart = each_two-of_map (λ a b. not (a == b)) (λ (k : ℕ × ℕ). k.0) prices ∙ h.once in
@@ -96,7 +96,7 @@ module _ (p : Problem) where
   claimed_there [] a = tt
   claimed_there (c ∷ cs) a = each_append (IsThere p) (targets_of c) (claimed cs) (targets_there c a.0) (claimed_there cs a.1)
 
-  -- claims of different targets have no more than there are
+  -- claims of distinct targets together have at most as many targets as there are
   pub claimed-le : (claims : List Claim) → All (IsClaimOf p) claims → claims_once claims ≡ true → length (claimed claims) ≤ 3 * length p.courses + length p.curricula
   claimed-le claims h apart =
       let there : Target → Bool = λ t. list_any (same_target t) (all_targets p) in

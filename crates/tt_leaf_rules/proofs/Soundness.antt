@@ -1,4 +1,4 @@
--- What a right leaf says holds of every feasible timetable that fits its path.
+-- The conclusion of a right leaf holds for every feasible timetable that fits its path.
 use Rattle.std.proofs.Common.{List, arith}
 use Rattle.tt_instance.specs.Problem.{Problem}
 use Rattle.tt_rules.specs.Score.{IsFeasible, cost}

@@ -1,4 +1,4 @@
--- Claims of different targets together are worth no more than the cost.
+-- Claims of distinct targets together have at most the value of the cost.
 use Rattle.std.proofs.Common.{◌≡◌, ℕ, ◌+◌, ◌*◌, ◌≤◌, ◌<◌, Bool, true, not, cond, ◌&&◌, List, [], ◌∷◌, ◌++◌, map, length, length-append, refl, ap, arith, inl, inr, eqb-true, eq-eqb}
 use Rattle.std.specs.Prelude.{Contains, ◌⊎◌, sum_by}
 use Rattle.std.specs.List.{list_any, list_all, AllByRecursion}
@@ -121,7 +121,7 @@ module _ (p : Problem) where
       )
 
   module _ (t : List Cell) (ok : IsFeasible p t) where
-    -- the parts of all targets together are the cost
+    -- the parts of all targets add up to at most the cost
     pub parts_of_cost : sum_by (part p t) (all_targets p) ≤ cost p t
     parts_of_cost =
         let f = part p t in
@@ -136,7 +136,7 @@ module _ (p : Problem) where
     no_entry : (c : ℕ) → length p.courses ≤ c → (x : Cell) → Contains t x → is_of c x ≡ true → ⊥
     no_entry c h x m e = let r = in_range p t ok x m in let k = eqb-true x.course c e in absurd (omega (arith, r.course))
 
-    -- a target is there, or its part is 0
+    -- a target is in the list, or its part is 0
     pub target_there : (y : Target) → (part p t y ≡ 0) ⊎ (list_any (same_target y) (all_targets p) ≡ true)
     target_there (RoomCapacity c) = elim (cases_lt c (length p.courses)) [
       | inl h ↦ inr (capacity_there c h)
@@ -177,7 +177,7 @@ module _ (p : Problem) where
           let b = and_parts (is_fair p path c) (list_all (is_fair p path) cs) fair in
           (claim_sound c a.0 b.0, each_claim_sound cs a.1 b.1)
 
-      -- claims of different targets are together worth no more than the parts of a list that has each of these, but for those whose part is 0
+      -- the values of claims of distinct targets add up to at most the parts of a list that has each of these targets, except those with part 0
       pub claims_sound_over : (claims : List Claim) (targets : List Target) → claims_once claims ≡ true → list_all (is_fair p path) claims ≡ true → ((y : Target) → Contains (claimed claims) y → (part p t y ≡ 0) ⊎ (list_any (same_target y) targets ≡ true)) → total_of p path claims ≤ sum_by (part p t) targets
       claims_sound_over claims targets once fair there =
           let values = sum_by-le (value_of p path) (λ c. sum_by (part p t) (targets_of c)) claims (each_claim_sound claims once fair) in

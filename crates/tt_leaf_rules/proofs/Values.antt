@@ -1,4 +1,4 @@
--- What a claim is worth is no more than the part of the cost that it claims.
+-- The value of a claim is at most the part of the cost that it claims.
 use Rattle.std.proofs.Common.{◌≡◌, ℕ, ◌+◌, ◌-◌, ◌*◌, ◌≤◌, Bool, true, false, cond, ◌&&◌, List, [], ◌∷◌, map, length, Option, Some, None, refl, sym, ap, subst, arith, inl, inr, eqb-true, mul-le-mul_right}
 use Rattle.std.specs.Prelude.{Contains, ◌==◌, max, sum_by, count_by, filter}
 use Rattle.std.specs.List.{list_any}
@@ -31,7 +31,7 @@ use Rattle.tt_instance.proofs.Cells.{is_at-slot, at_itself}
 
 -- ---- discounts
 
--- a price is covered by any number of the list that passes and the greatest discount of those
+-- a price is covered by any number of the list that passes, plus the greatest discount of the numbers that pass
 price_covered : (u : ℕ) (f : ℕ → ℕ) (q : ℕ → Bool) (xs : List ℕ) (x : ℕ) → Contains xs x → q x ≡ true → u ≤ f x + greatest (map (λ y. u - f y) (filter q xs))
 price_covered u f q [] x h e = absurd (omega (arith, h.1))
 price_covered u f q (z ∷ xs) x h e = by_test (q z) refl (λ m. price_covered u f q xs x m e)
@@ -55,7 +55,7 @@ greatest_above u f (x ∷ xs) = by_rest (least (map f xs)) (greatest (map (λ y.
     by_rest None n e = omega arith
     by_rest (Some m) n e = omega arith
 
--- what a price is above the least excess of each period are its discounts
+-- the amounts by which a price is above the least excess of each period add up to its discounts
 pub discounts_are : (p : Problem) (path : List Fact) (c u : ℕ) → discounts p path c u ≡ sum_by (discount p path c u) (all_slots p)
 discounts_are p path c u =
     sum_by-same (λ s. above_least u (least_excess p path c s)) (discount p path c u) (all_slots p) (λ s.
@@ -105,7 +105,7 @@ module _ (p : Problem) (t : List Cell) (ok : IsFeasible p t) (path : List Fact) 
 
   -- ---- Compact
 
-  -- next to an entry of the curriculum stands a period with a live cell of a member
+  -- a neighbour period of an entry of the curriculum isn't alone: the entry's own period has a live cell of a member
   neighbour_live : (q : ℕ) (s : Slot) (x : Cell) → Contains t x → in_curriculum p q x.course ≡ true → next_to (slot_of x) s ≡ true → is_alone p path q s ≡ true → ⊥
   neighbour_live q s x h m n a =
       let live_member : Slot → Bool = λ z. list_any (λ c. live_period p path c z) (members p q) in

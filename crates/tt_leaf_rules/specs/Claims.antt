@@ -1,4 +1,4 @@
--- What the claims of a cost leaf are worth, and the parts of the cost that they claim.
+-- The values of the claims of a cost leaf, and the parts of the cost that they claim.
 use Rattle.std.specs.Prelude.{ℕ, ◌+◌, ◌-◌, ◌*◌, min, max, ◌==◌, nat_le, Bool, true, not, ◌&&◌, ◌||◌, List, [], ◌∷◌, map, filter, flat_map, sum_by, count_by, if◌then◌else◌}
 use Rattle.std.specs.List.{list_any, list_all}
 use Rattle.tt_lists.specs.Words.{range_below}
@@ -22,7 +22,7 @@ pub data Target : Type 0 where
   Compactness : ℕ → Target
   Stability : ℕ → Target
 
--- the part of the cost that is a target's
+-- The part of the cost that belongs to a target.
 abbrev pub part : Problem → List Cell → Target → ℕ
 part p t (RoomCapacity c) = sum_by (λ e. if is_of c e then excess p e.course e.room else 0) t
 part p t (WorkingDays c) = days_cost p t c
@@ -39,27 +39,27 @@ targets_of (Stacked c) = WorkingDays c ∷ []
 
 -- ---- values
 
--- the greatest number of a list, 0 of none
+-- The greatest number of a list, 0 for an empty list.
 abbrev pub greatest : List ℕ → ℕ
 greatest [] = 0
 greatest (n ∷ ns) = max n (greatest ns)
 
--- the most by which the price is above the excess of a live cell of the course in the period
+-- The maximum by which the price is above the excess of a live cell of the course in the period.
 abbrev pub discount : Problem → List Fact → ℕ → ℕ → Slot → ℕ
 discount p path c u s =
     greatest (map (λ r. u - excess p c r) (filter (λ r. is_live p path (cell c r s)) (all_rooms p)))
 
--- no neighbour of the period on its day has a live cell of a member
+-- No neighbour of the period on its day has a live cell of a member.
 abbrev pub is_alone : Problem → List Fact → ℕ → Slot → Bool
 is_alone p path q s =
     not (list_any (λ n. next_to n s && list_any (λ c. live_period p path c n) (members p q)) (all_slots p))
 
--- the price that the list gives, and 0 where it gives none
+-- The price that the list gives, or 0 if it gives none.
 abbrev pub price_in : List (ℕ × ℕ) → ℕ → ℕ
 price_in [] r = 0
 price_in (x ∷ xs) r = if r == x.0 then x.1 else price_in xs r
 
--- on each live cell of a listed course, the excess and the room's price cover the course's price
+-- For each live cell of a listed course, the excess and the room's price cover the course's price.
 abbrev pub are_covered : Problem → List Fact → List (ℕ × ℕ) → List (ℕ × ℕ) → Bool
 are_covered p path courses rooms =
     list_all (λ k. list_all (λ r. list_all (λ s. not (is_live p path (cell k.0 r s)) || nat_le k.1 (excess p k.0 r + price_in rooms r)) (all_slots p)) (all_rooms p)) courses
@@ -68,11 +68,11 @@ abbrev pub is_fair : Problem → List Fact → Claim → Bool
 is_fair p path (Prices courses rooms) = are_covered p path courses rooms
 is_fair p path _ = true
 
--- the periods in which a listed course has a live cell in the room
+-- The number of periods in which a listed course has a live cell in the room.
 abbrev pub open_in : Problem → List Fact → List (ℕ × ℕ) → ℕ → ℕ
 open_in p path courses r = count_by (λ s. list_any (λ k. is_live p path (cell k.0 r s)) courses) (all_slots p)
 
--- the day has a pinned period of the course
+-- The day has a pinned period of the course.
 abbrev pub pinned_day : Problem → List Fact → ℕ → ℕ → Bool
 pinned_day p path c d = list_any (λ s. pinned p path (Course c) (slot d s)) (range_below p.periods)
 

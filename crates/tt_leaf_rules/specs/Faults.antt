@@ -1,4 +1,4 @@
--- The first fault of a leaf, or none where it is right.
+-- The first fault of a leaf, or none if it is right.
 use Rattle.std.specs.Prelude.{nat_lt, nat_le, Bool, true, List, Option, Some, None, if◌then◌else◌}
 use Rattle.std.specs.List.{list_all}
 use Rattle.tt_instance.specs.Problem.{Problem}
@@ -18,7 +18,7 @@ use Rattle.tt_leaf_rules.specs.declared.leaf.Leaf.TheVariants.{Empty, Many, Cliq
 use Rattle.tt_leaf_rules.specs.declared.leaf.RuleFault.{RuleFault}
 use Rattle.tt_leaf_rules.specs.declared.leaf.RuleFault.TheVariants.{NotOnPath, StillAlive, NotTooMany, NotAClique, EnoughRoom, ClaimedTwice, TooCheap, NoBound, BadPrice}
 
--- the fault where the test fails, and else what the rest says
+-- The fault if the test fails, otherwise the result of the rest.
 abbrev pub demand : Bool → RuleFault → Option RuleFault → Option RuleFault
 demand holds f rest = if holds then rest else Some f
 

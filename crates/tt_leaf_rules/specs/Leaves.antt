@@ -17,27 +17,28 @@ use Rattle.tt_leaf_rules.specs.declared.leaf.Claim.{Claim}
 use Rattle.tt_leaf_rules.specs.declared.leaf.Leaf.{Leaf}
 use Rattle.tt_leaf_rules.specs.declared.leaf.Leaf.TheVariants.{Empty, Many, Clique, Slots, Cost}
 
--- each cell that matches is dead
+-- Each cell that the pattern matches is dead.
 abbrev pub all_dead : Problem → List Fact → Pattern → Bool
 all_dead p path g = list_all (λ x. not (matches p g x) || is_dead p path x) (all_cells p)
 
 abbrev pub all_lectures : Problem → List ℕ → ℕ
 all_lectures p cs = sum_by (lectures p) cs
 
--- how many periods have a live cell of one of these courses
+-- The number of periods that have a live cell of one of these courses.
 abbrev pub open_periods : Problem → List Fact → List ℕ → ℕ
 open_periods p path cs = count_by (λ s. list_any (λ c. live_period p path c s) cs) (all_slots p)
 
--- how many rooms in how many periods have a live cell of one of these courses
+-- The number of pairs of a room and a period that have a live cell of one of these courses.
 abbrev pub open_rooms : Problem → List Fact → List ℕ → ℕ
 open_rooms p path cs =
     sum_by (λ r. count_by (λ s. list_any (λ c. is_live p path (cell c r s)) cs) (all_slots p)) (all_rooms p)
 
 -- ---- when a leaf is right
 
--- Empty: the pattern stands on the path as yes, and each cell that it matches is dead. Many: the course has more pinned periods than lectures. Clique: there
--- are courses, which exclude each other and have more lectures than open periods. Slots: the courses differ, and have more lectures than rooms in open periods. Cost: no
--- target is claimed twice, the prices cover what they stand for, and what is claimed reaches the bound; that there is no timetable can't be claimed.
+-- Empty: the path has the pattern as a yes-fact, and each cell that it matches is dead. Many: the course has more pinned periods than
+-- lectures. Clique: at least one course is given, each two of the courses conflict, and they have more lectures than open periods. Slots: the
+-- courses are distinct, and have more lectures than rooms in open periods. Cost: no target is claimed twice, the prices of each claim are
+-- covered, and the values of the claims add up to at least the bound; a cost leaf can't claim that no timetable exists.
 abbrev pub IsRight : Problem → List Fact → Bound → Leaf → Type 0
 IsRight p path b (Empty g) = Contains path (record { pattern = g; holds = true }) × (all_dead p path g ≡ true)
 IsRight p path b (Many c) = lectures p c < pinned_periods p path (Course c)

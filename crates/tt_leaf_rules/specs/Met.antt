@@ -1,4 +1,4 @@
--- Only proofs rest on this file: nobody has to believe it.
+-- Not part of the trusted statement: only proofs use this file.
 -- Numbers that have been met.
 use Rattle.std.specs.Prelude.{ℕ, ◌+◌, ◌*◌, ◌<◌, ◌==◌, Bool, false, not, ◌&&◌, List, map, slice_index_or, All}
 use Rattle.std.specs.List.{list_all}
@@ -6,15 +6,15 @@ use Rattle.tt_lists.specs.Words.{each_two}
 use Rattle.tt_leaf_rules.specs.Claims.{Target, RoomCapacity, WorkingDays, Compactness, Stability, targets_of}
 use Rattle.tt_leaf_rules.specs.declared.leaf.Claim.{Claim}
 
--- the number is marked
+-- The number is marked.
 abbrev pub marked : List Bool → ℕ → Bool
 marked marks n = slice_index_or marks n false
 
--- none of the numbers is marked, and none stands twice
+-- None of the numbers is marked, and none occurs twice.
 abbrev pub are_new : List Bool → List ℕ → Bool
 are_new marks ns = list_all (λ n. not (marked marks n)) ns && each_two (λ a b. not (a == b)) ns
 
--- the number of a target: no two targets have one
+-- The number of a target: no two targets have the same number.
 abbrev pub place : Target → ℕ
 place (RoomCapacity c) = 4 * c
 place (WorkingDays c) = 4 * c + 1
@@ -24,6 +24,6 @@ place (Stability c) = 4 * c + 3
 abbrev pub places_of : Claim → List ℕ
 places_of claim = map place (targets_of claim)
 
--- the numbers of its targets have marks
+-- The numbers of the claim's targets have marks.
 abbrev pub IsPlaced : Claim → Type 0
 IsPlaced claim = All (λ n. n < 32768) (places_of claim)

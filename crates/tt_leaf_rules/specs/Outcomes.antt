@@ -1,4 +1,4 @@
--- What judging a leaf answers, and what a leaf claims.
+-- The result of checking a leaf, and the value of a leaf's claims.
 use Rattle.std.specs.Prelude.{◌≡◌, ℕ, true, List, Option, Some, None, Result, Ok, Err, ⊤}
 use Rattle.tt_instance.specs.Problem.{Problem}
 use Rattle.tt_paths.specs.declared.facts.Fact.{Fact}
@@ -8,12 +8,12 @@ use Rattle.tt_leaf_rules.specs.declared.leaf.Leaf.{Leaf}
 use Rattle.tt_leaf_rules.specs.declared.leaf.Leaf.TheVariants.{Empty, Many, Clique, Slots, Cost}
 use Rattle.tt_leaf_rules.specs.declared.leaf.RuleFault.{RuleFault}
 
--- the fault as an error
+-- The fault as an error.
 abbrev pub outcome : Option RuleFault → Result (Unit {0}) RuleFault
 outcome None = Ok tt
 outcome (Some f) = Err f
 
--- what the claims of the leaf are worth in all
+-- The total value of the claims of the leaf.
 abbrev pub leaf_total : Problem → List Fact → Leaf → ℕ
 leaf_total p path (Empty g) = 0
 leaf_total p path (Many c) = 0
@@ -21,7 +21,7 @@ leaf_total p path (Clique cs) = 0
 leaf_total p path (Slots cs) = 0
 leaf_total p path (Cost claims) = total_of p path claims
 
--- the leaf claims no target twice
+-- The leaf claims no target twice.
 abbrev pub IsClaimedOnce : Leaf → Type 0
 IsClaimedOnce (Empty g) = ⊤
 IsClaimedOnce (Many c) = ⊤

@@ -11,12 +11,12 @@ use Rattle.tt_leaf_rules.specs.declared.leaf.Leaf.TheVariants.{Empty, Many, Cliq
 abbrev pub AreBelow : ℕ → List ℕ → Type 0
 AreBelow count ns = All (λ n. n < count) ns
 
--- prices of numbers below a bound, none of them twice
+-- Prices of numbers below a bound, each number at most once.
 pub record ArePrices (count : ℕ) (prices : List (ℕ × ℕ)) : Type 0 where
   pub within : AreBelow count (map (λ k. k.0) prices)
   pub once : each_two (λ a b. not (a.0 == b.0)) prices ≡ true
 
--- the numbers of a claim are the instance's, and no price is given twice
+-- The numbers of a claim are in the range of the instance, and no number has two prices.
 abbrev pub IsClaimOf : Problem → Claim → Type 0
 IsClaimOf p (Capacity c u) = c < length p.courses
 IsClaimOf p (Days c) = c < length p.courses
@@ -25,7 +25,7 @@ IsClaimOf p (Stable c) = c < length p.courses
 IsClaimOf p (Prices courses rooms) = ArePrices (length p.courses) courses × ArePrices (length p.rooms) rooms
 IsClaimOf p (Stacked c) = c < length p.courses
 
--- the numbers of a leaf are the instance's
+-- The numbers of a leaf are in the range of the instance.
 abbrev pub IsLeafOf : Problem → Leaf → Type 0
 IsLeafOf p (Empty g) = IsPattern p g
 IsLeafOf p (Many c) = c < length p.courses

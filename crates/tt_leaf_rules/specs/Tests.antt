@@ -1,4 +1,4 @@
--- What the code tests of a leaf, and what its faults tell. Whether a leaf is right rests on none of these: Leaves says it in plain words.
+-- The code's tests of a leaf, from which its faults are computed. They don't define when a leaf is right: Leaves does, in plain words.
 use Rattle.std.specs.Prelude.{ℕ, ◌==◌, Bool, true, false, not, ◌&&◌, List, [], ◌∷◌}
 use Rattle.tt_lists.specs.Words.{each_two}
 use Rattle.tt_instance.specs.Problem.{Problem}
@@ -10,11 +10,11 @@ abbrev pub has_member : List ℕ → Bool
 has_member [] = false
 has_member (c ∷ cs) = true
 
--- there is a course, and each two exclude each other
+-- At least one course is given, and each two of the courses conflict.
 abbrev pub is_clique : Problem → List ℕ → Bool
 is_clique p cs = has_member cs && each_two (conflict p) cs
 
--- no course stands twice
+-- No course occurs twice.
 abbrev pub are_distinct : List ℕ → Bool
 are_distinct cs = each_two (λ a b. not (a == b)) cs
 
@@ -25,6 +25,6 @@ same_target (Compactness a) (Compactness b) = a == b
 same_target (Stability a) (Stability b) = a == b
 same_target _ _ = false
 
--- no target is claimed twice
+-- No target is claimed twice.
 abbrev pub claims_once : List Claim → Bool
 claims_once claims = each_two (λ a b. not (same_target a b)) (claimed claims)

@@ -35,7 +35,7 @@ fn all_discounts<'i, P: Path<'i>>(path: &P, course: u32, price: u32) -> u64
     total
 }
 
-/// What a claim of a price for each lecture of a course is worth, in cost points.
+/// Returns the value of a claim of a price for each lecture of a course, in cost points.
 pub fn capacity_value<'i, P: Path<'i>>(path: &P, course: u32, price: u32) -> u64
     requires { course < length (P.problem path.now).courses }
     ensures value { result ≡ value_of (P.problem path.now) (P.facts path.now) (Capacity course price) }

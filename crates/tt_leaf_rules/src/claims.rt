@@ -1,4 +1,4 @@
-//! What claims are worth.
+//! The values of claims.
 
 ghost use Rattle.std.specs.Prelude.{◌≡◌, ◌≤◌, ◌*◌, ◌-◌, ◌^◌, min, nat_le, length, All};
 ghost use Rattle.std.specs.List.{list_all};
@@ -14,7 +14,7 @@ use crate::prices::{are_covered, prices_value};
 use crate::stable::stable_value;
 use tt_paths::Path;
 
-/// What a claim is worth on a path, in cost points.
+/// Returns the value of a claim on a path, in cost points.
 #[tactic(auto, using(crate::proofs::Sizes::prices_below))]
 #[inline(always)]
 pub fn claim_value<'i, P: Path<'i>>(path: &P, claim: &Claim) -> u64
@@ -47,7 +47,7 @@ fn is_fair<'i, P: Path<'i>>(path: &P, claim: &Claim) -> bool
     }
 }
 
-/// Whether the prices of each claim are covered.
+/// Returns whether the prices of each claim are covered.
 pub fn are_fair<'i, P: Path<'i>>(path: &P, claims: &[Claim]) -> bool
     requires { All (IsClaimOf (P.problem path.now)) claims.now }
     ensures { result ≡ list_all (is_fair (P.problem path.now) (P.facts path.now)) claims.now }
@@ -60,7 +60,7 @@ pub fn are_fair<'i, P: Path<'i>>(path: &P, claims: &[Claim]) -> bool
     true
 }
 
-/// What claims are worth in all, at most what a u64 holds, in cost points.
+/// Returns the total value of claims, capped at the maximum of a u64, in cost points.
 pub fn total<'i, P: Path<'i>>(path: &P, claims: &[Claim]) -> u64
     requires { All (IsClaimOf (P.problem path.now)) claims.now }
     ensures value { result ≡ min (total_of (P.problem path.now) (P.facts path.now) claims.now) (2 ^ 64 - 1) }
@@ -73,7 +73,7 @@ pub fn total<'i, P: Path<'i>>(path: &P, claims: &[Claim]) -> u64
     total
 }
 
-/// Whether claims are worth this many cost points at least.
+/// Returns whether claims have a total value of at least this many cost points.
 #[tactic(auto, using(crate::proofs::Sizes::at_most_capped))]
 pub fn are_worth<'i, P: Path<'i>>(path: &P, claims: &[Claim], least: u64) -> bool
     requires { All (IsClaimOf (P.problem path.now)) claims.now }

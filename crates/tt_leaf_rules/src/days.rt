@@ -11,7 +11,7 @@ use tt_bits::is_empty;
 use tt_instance::MAX_PERIODS;
 use tt_paths::{Path, Who};
 
-/// What a missing day costs, in cost points.
+/// The cost of a missing day, in cost points.
 const DAY_PRICE: u64 = 5;
 
 #[tactic(auto, using(tt_lists::proofs::Numbers::count_more))]
@@ -29,7 +29,7 @@ fn live_days<'i, P: Path<'i>>(path: &P, course: u32) -> u32
     total
 }
 
-/// What a claim on the working days of a course is worth, in cost points.
+/// Returns the value of a claim on the working days of a course, in cost points.
 pub fn days_value<'i, P: Path<'i>>(path: &P, course: u32) -> u64
     requires { course < length (P.problem path.now).courses }
     ensures value { result ≡ value_of (P.problem path.now) (P.facts path.now) (Days course) }
@@ -45,7 +45,7 @@ fn is_pinned_day<'i, P: Path<'i>>(path: &P, course: u32, day: u32) -> bool
     requires day { day < (P.problem path.now).days }
     ensures { result ≡ pinned_day (P.problem path.now) (P.facts path.now) course day }
 {
-    // What is true of every instance: the periods of a day are the numbers of a word.
+    // In every instance, the periods of a day are numbers below 64, so a word can have them.
     prove!(path.instance().periods() <= MAX_PERIODS);
     !is_empty(path.pinned_periods(Who::Course(course), day))
 }
@@ -65,7 +65,7 @@ fn pinned_days<'i, P: Path<'i>>(path: &P, course: u32) -> u32
     total
 }
 
-/// What a claim on the days that the pinned periods of a course share is worth, in cost points.
+/// Returns the value of a claim on the days that the pinned periods of a course share, in cost points.
 pub fn stacked_value<'i, P: Path<'i>>(path: &P, course: u32) -> u64
     requires { course < length (P.problem path.now).courses }
     ensures value { result ≡ value_of (P.problem path.now) (P.facts path.now) (Stacked course) }

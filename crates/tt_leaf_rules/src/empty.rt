@@ -1,4 +1,4 @@
-//! Patterns each of whose cells is dead.
+//! Patterns whose cells are all dead.
 
 ghost use Rattle.std.specs.Prelude.{◌≡◌, ◌<◌, length};
 ghost use Rattle.std.specs.List.{list_all};
@@ -11,7 +11,7 @@ use crate::slots::{slot_at, slot_count};
 use tt_instance::Cell;
 use tt_paths::{Path, Pattern, Who, agrees};
 
-/// Whether the course's cells in the period are dead, in the given room if one is given.
+/// Returns whether the course's cells in the period are dead, in the given room if one is given.
 fn rooms_dead<'i, P: Path<'i>>(
     path: &P,
     room: Option<u32>,
@@ -94,7 +94,7 @@ fn members_dead<'i, P: Path<'i>>(path: &P, pattern: &Pattern, curriculum: u32) -
     each_dead(path, pattern, path.instance().members(curriculum))
 }
 
-/// Whether each cell that the pattern matches is dead. Only the courses are asked that it means.
+/// Returns whether each cell that the pattern matches is dead. It visits only the courses that the pattern means.
 pub fn all_dead<'i, P: Path<'i>>(path: &P, pattern: &Pattern) -> bool
     ensures { result ≡ all_dead (P.problem path.now) (P.facts path.now) pattern.now }
 {

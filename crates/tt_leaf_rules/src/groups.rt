@@ -1,4 +1,4 @@
-//! Courses that exclude each other, different courses, and the periods and rooms that are open to them.
+//! Courses that conflict, distinct courses, and the periods and rooms that are open to them.
 
 ghost use Rattle.std.specs.Prelude.{◌≡◌, ◌<◌, ◌≤◌, ◌+◌, ◌-◌, ◌*◌, ◌^◌, ◌==◌, ◌&&◌, ℕ, not, min, nat_lt, length};
 ghost use Rattle.std.specs.List.{list_all};
@@ -37,7 +37,7 @@ fn each_two_exclude(instance: &Instance<'_>, courses: &[u32]) -> bool
     true
 }
 
-/// Whether there is a course, and each two exclude each other.
+/// Returns whether at least one course is given, and each two of the courses conflict.
 pub fn is_clique(instance: &Instance<'_>, courses: &[u32]) -> bool
     ensures { result ≡ is_clique instance.now courses.now }
 {
@@ -63,7 +63,7 @@ fn each_two_differ(courses: &[u32]) -> bool
     true
 }
 
-/// The same by marks: no course is compared with each other one. Kept apart, since its marks stand on the stack.
+/// Returns whether no course occurs twice, by marks, without comparing each two courses. Not inlined, since its marks are on the stack.
 #[inline(never)]
 fn each_is_new(courses: &[u32]) -> bool
     requires { AreBelow MAX_COURSES courses.now }
@@ -80,7 +80,7 @@ fn each_is_new(courses: &[u32]) -> bool
     true
 }
 
-/// Whether no course stands twice.
+/// Returns whether no course occurs twice.
 pub fn are_distinct(courses: &[u32]) -> bool
     requires { AreBelow MAX_COURSES courses.now }
     ensures { result ≡ are_distinct courses.now }
@@ -92,7 +92,7 @@ pub fn are_distinct(courses: &[u32]) -> bool
     }
 }
 
-/// The lectures of courses in all, at most what a u64 holds.
+/// Returns the total number of lectures of courses, capped at the maximum of a u64.
 fn all_lectures(instance: &Instance<'_>, courses: &[u32]) -> u64
     requires { AreBelow (length instance.now.courses) courses.now }
     ensures { result ≡ min (all_lectures instance.now courses.now) (2 ^ 64 - 1) }
@@ -104,7 +104,7 @@ fn all_lectures(instance: &Instance<'_>, courses: &[u32]) -> u64
     total
 }
 
-/// Whether courses have more lectures than there are places.
+/// Returns whether courses have more lectures than `places`.
 #[tactic(auto, using(crate::proofs::Sizes::below_capped))]
 pub fn have_more_lectures(instance: &Instance<'_>, courses: &[u32], places: u32) -> bool
     requires { AreBelow (length instance.now.courses) courses.now }
@@ -113,7 +113,7 @@ pub fn have_more_lectures(instance: &Instance<'_>, courses: &[u32], places: u32)
     u64::from(places) < all_lectures(instance, courses)
 }
 
-/// The periods of a day in which one of the courses has a live cell, as a set.
+/// Returns the periods of a day in which one of the courses has a live cell, as a set.
 pub fn open_on<'i, P: Path<'i>>(path: &P, courses: &[u32], day: u32) -> u64
     requires courses { AreBelow (length (P.problem path.now).courses) courses.now }
     requires day { day < (P.problem path.now).days }
@@ -127,13 +127,13 @@ pub fn open_on<'i, P: Path<'i>>(path: &P, courses: &[u32], day: u32) -> u64
     open
 }
 
-/// How many periods have a live cell of one of the courses.
+/// Counts the periods that have a live cell of one of the courses.
 pub fn open_periods<'i, P: Path<'i>>(path: &P, courses: &[u32]) -> u32
     requires { AreBelow (length (P.problem path.now).courses) courses.now }
     ensures value { result ≡ open_periods (P.problem path.now) (P.facts path.now) courses.now }
     ensures within { result ≤ MAX_SLOTS }
 {
-    // What is true of every instance: the periods of a day are the numbers of a word.
+    // In every instance, the periods of a day are numbers below 64, so a word can have them.
     prove!(path.instance().periods() <= MAX_PERIODS);
     let mut total = 0;
     for day in 0..path.instance().days() {
@@ -142,8 +142,8 @@ pub fn open_periods<'i, P: Path<'i>>(path: &P, courses: &[u32]) -> u32
     total
 }
 
-/// The rooms of a block in which one of the courses has a live cell in the period, as a set. No course is asked once each room
-/// has one.
+/// Returns the rooms of a block in which one of the courses has a live cell in the period, as a set. Once each room has one, no further course is
+/// visited.
 fn open_block<'i, P: Path<'i>>(path: &P, courses: &[u32], day: u32, period: u32, block: u32) -> u64
     requires courses { AreBelow (length (P.problem path.now).courses) courses.now }
     requires day { day < (P.problem path.now).days }
@@ -163,7 +163,7 @@ fn open_block<'i, P: Path<'i>>(path: &P, courses: &[u32], day: u32, period: u32,
     open
 }
 
-/// How many rooms have a live cell of one of the courses in the period.
+/// Counts the rooms that have a live cell of one of the courses in the period.
 fn open_in_period<'i, P: Path<'i>>(path: &P, courses: &[u32], day: u32, period: u32) -> u32
     requires courses { AreBelow (length (P.problem path.now).courses) courses.now }
     requires day { day < (P.problem path.now).days }
@@ -178,7 +178,7 @@ fn open_in_period<'i, P: Path<'i>>(path: &P, courses: &[u32], day: u32, period: 
     total
 }
 
-/// How many rooms in how many periods have a live cell of one of the courses.
+/// Counts the pairs of a room and a period that have a live cell of one of the courses.
 pub fn open_rooms<'i, P: Path<'i>>(path: &P, courses: &[u32]) -> u32
     requires { AreBelow (length (P.problem path.now).courses) courses.now }
     ensures value { result ≡ open_rooms (P.problem path.now) (P.facts path.now) courses.now }

@@ -15,10 +15,10 @@ use tt_bits::{count, next, previous, without};
 use tt_instance::{MAX_DAYS, MAX_PERIODS};
 use tt_paths::{Path, Who};
 
-/// What an isolated entry costs, in cost points.
+/// The cost of an isolated entry, in cost points.
 const ISOLATED_PRICE: u64 = 2;
 
-/// The pinned periods of a curriculum on a day beside which none is live, as a set.
+/// Returns the pinned periods of a curriculum on a day that have no live neighbour period, as a set.
 fn isolated_on<'i, P: Path<'i>>(path: &P, curriculum: u32, day: u32) -> u64
     requires curriculum { curriculum < length (P.problem path.now).curricula }
     requires day { day < (P.problem path.now).days }
@@ -27,7 +27,7 @@ fn isolated_on<'i, P: Path<'i>>(path: &P, curriculum: u32, day: u32) -> u64
         && is_alone (P.problem path.now) (P.facts path.now) curriculum (slot day s))) }
 {
     let instance = path.instance();
-    // What is true of every instance: its members are courses, and the periods of a day are the numbers of a word.
+    // In every instance, the members of a curriculum are courses, and the periods of a day are numbers below 64, so a word can have them.
     prove!(instance.days() <= MAX_DAYS);
     prove!(instance.periods() <= MAX_PERIODS);
     let pinned = path.pinned_periods(Who::Curriculum(curriculum), day);
@@ -44,7 +44,7 @@ fn isolated_periods<'i, P: Path<'i>>(path: &P, curriculum: u32) -> u32
     ensures value { result ≡ isolated_periods (P.problem path.now) (P.facts path.now) curriculum }
     ensures within { result ≤ MAX_SLOTS }
 {
-    // What is true of every instance: the periods of a day are the numbers of a word.
+    // In every instance, the periods of a day are numbers below 64, so a word can have them.
     prove!(path.instance().periods() <= MAX_PERIODS);
     let mut total = 0;
     for day in 0..path.instance().days() {
@@ -53,7 +53,7 @@ fn isolated_periods<'i, P: Path<'i>>(path: &P, curriculum: u32) -> u32
     total
 }
 
-/// What a claim on the isolated entries of a curriculum is worth, in cost points.
+/// Returns the value of a claim on the isolated entries of a curriculum, in cost points.
 pub fn compact_value<'i, P: Path<'i>>(path: &P, curriculum: u32) -> u64
     requires { curriculum < length (P.problem path.now).curricula }
     ensures value { result ≡ value_of (P.problem path.now) (P.facts path.now) (Compact curriculum) }

@@ -59,7 +59,7 @@ fn fault_of_slots<'i, P: Path<'i>>(path: &P, courses: &[u32]) -> Option<RuleFaul
     requires { AreBelow (length (P.problem path.now).courses) courses.now }
     ensures { result ≡ fault_of (P.problem path.now) (P.facts path.now) Nothing (Slots courses.now) }
 {
-    // What is true of every instance: its courses have marks.
+    // In every instance, each course has a mark.
     prove!(path.instance().courses() <= MAX_COURSES);
     if !are_distinct(courses) {
         Some(RuleFault::ClaimedTwice)
@@ -75,7 +75,7 @@ fn fault_of_sum<'i, P: Path<'i>>(path: &P, claims: &[Claim], least: u64) -> Opti
     ensures { result ≡ fault_of (P.problem path.now) (P.facts path.now) (AtLeast least) (Cost claims.now) }
 {
     let instance = path.instance();
-    // What is true of every instance: its targets have marks.
+    // In every instance, each target has a mark.
     prove!(instance.courses() <= MAX_COURSES);
     prove!(instance.curricula() <= MAX_CURRICULA);
     if !claims_once(claims) {
@@ -112,7 +112,7 @@ fn fault_of<'i, P: Path<'i>>(path: &P, leaf: &Leaf, bound: Bound) -> Option<Rule
     }
 }
 
-/// Whether a leaf closes its node on a path, else the first fault that applies.
+/// Checks whether a leaf closes its node on a path; otherwise returns the first fault that applies.
 pub fn holds<'i, P: Path<'i>>(path: &P, leaf: &Leaf, bound: Bound) -> Result<(), RuleFault>
     requires { IsLeafOf (P.problem path.now) leaf.now }
     ensures right { IsTrue (is_ok result) ↔ IsRight (P.problem path.now) (P.facts path.now) bound leaf.now }
@@ -130,12 +130,12 @@ fn exact_total<'i, P: Path<'i>>(path: &P, claims: &[Claim]) -> u64
     ensures { result ≡ total_of (P.problem path.now) (P.facts path.now) claims.now }
 {
     let instance = path.instance();
-    // There are no more targets, and each is worth at most 2 ^ 44.
+    // This is the maximum number of targets, and the value of each is at most 2 ^ 44.
     prove!(3 * instance.courses() + instance.curricula() <= 3 * MAX_COURSES + MAX_CURRICULA);
     total(path, claims)
 }
 
-/// What the claims of a leaf are worth in all on a path, in cost points.
+/// Returns the total value of the claims of a leaf on a path, in cost points.
 pub fn leaf_value<'i, P: Path<'i>>(path: &P, leaf: &Leaf) -> u64
     requires leaf { IsLeafOf (P.problem path.now) leaf.now }
     requires once { IsClaimedOnce leaf.now }

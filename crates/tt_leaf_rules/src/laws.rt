@@ -1,4 +1,4 @@
-//! What the leaf rules mean.
+//! The meaning of the leaf rules.
 
 ghost use Rattle.std.specs.Prelude.{List};
 ghost use Rattle.tt_instance.specs.Problem.{Problem};
@@ -11,7 +11,7 @@ ghost use Rattle.tt_leaf_rules.specs.Leaves.{IsRight};
 ghost use Rattle.tt_leaf_rules.specs.declared.leaf.Bound.{Bound};
 ghost use Rattle.tt_leaf_rules.specs.declared.leaf.Leaf.{Leaf};
 
-/// A right leaf says of every feasible timetable that fits its path that it costs at least the bound, or that there is none.
+/// If a leaf is right, every feasible timetable that fits its path costs at least the bound, or no such timetable exists.
 pub fn right_leaves_hold()
     ensures { (p : Problem) (path : List Fact) (b : Bound) (leaf : Leaf) → IsRight p path b leaf →
         (t : List Cell) → IsFeasible p t → Fits p t path → Respects b (cost p t) }

@@ -24,7 +24,7 @@ pub enum Claim {
     Days(u32),
     /// The isolated entries of a curriculum.
     Compact(u32),
-    /// The rooms of a course but the first.
+    /// The rooms of a course except the first.
     Stable(u32),
     /// The seats that several courses lack, with prices of courses and of rooms.
     Prices {
@@ -53,21 +53,21 @@ impl Model for ClaimList {
 impl ClaimList {
     ghost use Rattle.std.specs.Prelude.{◌≡◌};
 
-    /// The claims of a vector, in its order.
+    /// Creates a list of the claims of a vector, in its order.
     pub fn new(items: Vec<Claim>) -> ClaimList
         ensures { result ≡ items.items }
     {
         ClaimList { items }
     }
 
-    /// The claims in order.
+    /// Returns the claims in order.
     pub fn as_slice(&self) -> &[Claim]
         ensures { result.now ≡ self.now }
     {
         self.items.as_slice()
     }
 
-    /// The vector that it was made of.
+    /// Returns the vector from which it was created.
     pub fn into_vec(self) -> Vec<Claim>
         ensures { result.items ≡ self }
     {
@@ -75,14 +75,14 @@ impl ClaimList {
     }
 }
 
-/// What closes a node of a proof.
+/// A leaf, which closes a node of a proof.
 #[derive(Debug, Drop)]
 pub enum Leaf {
     /// Each cell that a yes-fact of the path matches is dead.
     Empty(Pattern),
     /// A course has more pinned periods than lectures.
     Many(u32),
-    /// Courses that exclude each other have more lectures than periods.
+    /// Courses that conflict with each other have more lectures than periods.
     Clique(CourseList),
     /// Courses have more lectures than rooms in periods.
     Slots(CourseList),
@@ -90,7 +90,7 @@ pub enum Leaf {
     Cost(ClaimList),
 }
 
-/// Why a leaf does not close its node: the first fault that applies.
+/// Why a leaf doesn't close its node: the first fault that applies.
 #[derive(Clone, Copy, Debug, PartialEq, Eq, Error)]
 pub enum RuleFault {
     #[error("NotOnPath")]

@@ -1,4 +1,4 @@
-//! Short lists that a leaf holds: contracts see them as lists.
+//! Short lists in leaves: contracts see them as lists.
 
 ghost use Rattle.std.specs.Prelude.{◌≡◌};
 
@@ -19,21 +19,21 @@ impl Model for CourseList {
 }
 
 impl CourseList {
-    /// The courses of a vector, in its order.
+    /// Creates a list of the courses of a vector, in its order.
     pub fn new(items: Vec<u32>) -> CourseList
         ensures { result ≡ items.items }
     {
         CourseList { items }
     }
 
-    /// The courses in order.
+    /// Returns the courses in order.
     pub fn as_slice(&self) -> &[u32]
         ensures { result.now ≡ self.now }
     {
         self.items.as_slice()
     }
 
-    /// The vector that it was made of.
+    /// Returns the vector from which it was created.
     pub fn into_vec(self) -> Vec<u32>
         ensures { result.items ≡ self }
     {
@@ -56,21 +56,21 @@ impl Model for PriceList {
 }
 
 impl PriceList {
-    /// The pairs of a vector, in its order.
+    /// Creates a list of the pairs of a vector, in its order.
     pub fn new(items: Vec<(u32, u32)>) -> PriceList
         ensures { result ≡ items.items }
     {
         PriceList { items }
     }
 
-    /// The pairs in order.
+    /// Returns the pairs in order.
     pub fn as_slice(&self) -> &[(u32, u32)]
         ensures { result.now ≡ self.now }
     {
         self.items.as_slice()
     }
 
-    /// The vector that it was made of.
+    /// Returns the vector from which it was created.
     pub fn into_vec(self) -> Vec<(u32, u32)>
         ensures { result.items ≡ self }
     {

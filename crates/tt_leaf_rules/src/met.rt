@@ -5,13 +5,13 @@ ghost use Rattle.tt_leaf_rules.specs.Met.{marked, are_new};
 
 use std::marker::Model;
 
-/// Numbers are below this: four for each curriculum.
+/// All numbers are below this limit: four for each curriculum.
 const PLACES: usize = 32_768;
 
-/// Up to this many numbers, comparing each with each other one is sooner than clearing the marks.
+/// Up to this many numbers, comparing each two is faster than clearing the marks.
 pub const FEW: usize = 32;
 
-/// Whether each number has been met.
+/// For each number, whether it has been met.
 #[derive(Drop)]
 pub struct Met {
     marks: [bool; PLACES],
@@ -26,7 +26,7 @@ impl Model for Met {
 }
 
 impl Met {
-    /// No number has been met.
+    /// Creates marks that say that no number has been met.
     pub fn none() -> Self
         ensures { (k : ℕ) → marked result k ≡ false }
     {
@@ -49,7 +49,7 @@ impl Met {
         self.marks[number] = true;
     }
 
-    /// Meets a number; whether it had not been met.
+    /// Meets a number, and returns whether it had not been met before.
     pub fn meet(&mut self, number: usize) -> bool
         requires { number < PLACES }
         ensures { (behind : List ℕ) → are_new self.old (number ∷ behind) ≡ (result && are_new self.new behind) }

@@ -1,4 +1,4 @@
-//! What the yes-facts of a path pin.
+//! The periods that the yes-facts of a path pin.
 
 ghost use Rattle.std.specs.Prelude.{◌≡◌, ◌≤◌};
 ghost use Rattle.tt_paths.specs.Facts.{IsWho};
@@ -9,13 +9,13 @@ use tt_bits::count;
 use tt_instance::MAX_PERIODS;
 use tt_paths::{Path, Who};
 
-/// How many periods of the week are pinned for a course or a curriculum.
+/// Counts the periods of the week that are pinned for a course or a curriculum.
 pub fn pinned_periods<'i, P: Path<'i>>(path: &P, who: Who) -> u32
     requires { IsWho (P.problem path.now) who }
     ensures value { result ≡ pinned_periods (P.problem path.now) (P.facts path.now) who }
     ensures within { result ≤ MAX_SLOTS }
 {
-    // What is true of every instance: the periods of a day are the numbers of a word.
+    // In every instance, the periods of a day are numbers below 64, so a word can have them.
     prove!(path.instance().periods() <= MAX_PERIODS);
     let mut total = 0;
     for day in 0..path.instance().days() {

@@ -82,7 +82,7 @@ fn is_covered<'i, P: Path<'i>>(path: &P, rooms: &[(u32, u32)], priced: (u32, u32
     true
 }
 
-/// Whether on each live cell of a listed course the excess and the room's price cover the course's price.
+/// Returns whether for each live cell of a listed course the excess and the room's price cover the course's price.
 pub fn are_covered<'i, P: Path<'i>>(path: &P, courses: &[(u32, u32)], rooms: &[(u32, u32)]) -> bool
     requires { PricesBelow (length (P.problem path.now).courses) courses.now }
     ensures { result ≡ are_covered (P.problem path.now) (P.facts path.now) courses.now rooms.now }
@@ -95,7 +95,7 @@ pub fn are_covered<'i, P: Path<'i>>(path: &P, courses: &[(u32, u32)], rooms: &[(
     true
 }
 
-// ---- what the prices are worth
+// -- the value of the prices
 
 fn is_room_open<'i, P: Path<'i>>(
     path: &P,
@@ -184,7 +184,7 @@ fn room_prices<'i, P: Path<'i>>(path: &P, courses: &[(u32, u32)], rooms: &[(u32,
     total
 }
 
-/// What a claim of prices is worth, in cost points.
+/// Returns the value of a claim of prices, in cost points.
 #[tactic(auto, using(crate::proofs::Sizes::prices_below))]
 pub fn prices_value<'i, P: Path<'i>>(path: &P, courses: &[(u32, u32)], rooms: &[(u32, u32)]) -> u64
     requires courses { ArePrices (length (P.problem path.now).courses) courses.now }
@@ -193,7 +193,7 @@ pub fn prices_value<'i, P: Path<'i>>(path: &P, courses: &[(u32, u32)], rooms: &[
     ensures within { result ≤ length courses.now * MAX_TARGET_VALUE }
 {
     let instance = path.instance();
-    // Each course and each room has one price at most.
+    // Each course and each room has at most one price.
     prove!(courses.len() <= instance.courses() as usize);
     prove!(rooms.len() <= instance.rooms() as usize);
     course_prices(instance, courses).saturating_sub(room_prices(path, courses, rooms))

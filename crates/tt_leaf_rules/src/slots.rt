@@ -7,7 +7,7 @@ ghost use Rattle.tt_instance.specs.declared.limit.TheConstants.{MAX_SLOTS};
 
 use tt_instance::{Instance, Slot};
 
-/// How many periods the week has.
+/// Returns how many periods the week has.
 pub fn slot_count(instance: &Instance<'_>) -> u32
     ensures value { result ≡ length (all_slots instance.now) }
     ensures within { result ≤ MAX_SLOTS }
@@ -16,7 +16,7 @@ pub fn slot_count(instance: &Instance<'_>) -> u32
     instance.days() * instance.periods()
 }
 
-/// The period at a place.
+/// Returns the period at a place.
 pub fn slot_at(instance: &Instance<'_>, place: u32) -> Slot
     requires { place < length (all_slots instance.now) }
     ensures value { result ≡ slice_index_or (all_slots instance.now) place result }

@@ -1,4 +1,4 @@
-//! The rooms of a course but the first.
+//! The rooms of a course except the first.
 
 ghost use Rattle.std.specs.Prelude.{◌≡◌, ◌<◌, ◌≤◌, length};
 ghost use Rattle.tt_leaf_rules.specs.Claims.{value_of};
@@ -22,7 +22,7 @@ fn pinned_rooms<'i, P: Path<'i>>(path: &P, course: u32) -> u32
     total
 }
 
-/// What a claim on the rooms of a course is worth, in cost points.
+/// Returns the value of a claim on the rooms of a course, in cost points.
 #[inline(always)]
 pub fn stable_value<'i, P: Path<'i>>(path: &P, course: u32) -> u64
     requires { course < length (P.problem path.now).courses }

@@ -97,7 +97,7 @@ fn each_two_apart(claims: &[Claim]) -> bool
     true
 }
 
-/// Meets the room capacity of each course, until one has been met; whether none had been.
+/// Meets the room capacity of each course in turn, up to the first that had been met before; returns whether none had been.
 fn meet_capacities(met: &mut Met, courses: &[(u32, u32)]) -> bool
     requires { All (λ n. n < PLACES) (map (λ k. 4 * k.0) courses.now) }
     ensures { (behind : List ℕ) → are_new met.old (map (λ k. 4 * k.0) courses.now ++ behind) ≡ (result && are_new met.new behind) }
@@ -112,7 +112,7 @@ fn meet_capacities(met: &mut Met, courses: &[(u32, u32)]) -> bool
     true
 }
 
-/// Meets the targets of a claim, until one has been met; whether none had been.
+/// Meets the targets of a claim in turn, up to the first that had been met before; returns whether none had been.
 fn meet_targets(met: &mut Met, claim: &Claim) -> bool
     requires { IsPlaced claim.now }
     ensures { (behind : List ℕ) → are_new met.old (places_of claim.now ++ behind) ≡ (result && are_new met.new behind) }
@@ -126,7 +126,7 @@ fn meet_targets(met: &mut Met, claim: &Claim) -> bool
     }
 }
 
-/// The same by marks: no target is compared with each other one. Kept apart, since its marks stand on the stack.
+/// Returns whether no target is claimed twice, by marks, without comparing each two targets. Not inlined, since its marks are on the stack.
 #[inline(never)]
 fn each_is_new(claims: &[Claim]) -> bool
     requires { All IsPlaced claims.now }
@@ -143,7 +143,7 @@ fn each_is_new(claims: &[Claim]) -> bool
     true
 }
 
-/// Whether the claims have so few targets that to compare each two is quick.
+/// Returns whether the claims have so few targets that comparing each two is fast.
 fn are_few(claims: &[Claim]) -> bool {
     claims.len() <= 1
         || claims.len() <= FEW
@@ -152,7 +152,7 @@ fn are_few(claims: &[Claim]) -> bool {
                 .all(|claim| !matches!(claim, Claim::Prices { .. }))
 }
 
-/// Whether no target is claimed twice.
+/// Returns whether no target is claimed twice.
 pub fn claims_once(claims: &[Claim]) -> bool
     requires once { All IsOnce claims.now }
     requires placed { All IsPlaced claims.now }

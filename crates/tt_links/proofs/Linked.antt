@@ -1,4 +1,4 @@
--- Which curricula and courses stand in the lists of a course.
+-- Which curricula and courses the lists of a course have.
 use Rattle.std.proofs.Common.{◌≡◌, ℕ, ◌<◌, ◌&&◌, length, refl, sym, ap, ◌∙◌, eqb-true, eq-eqb}
 use Rattle.std.specs.Prelude.{◌==◌, All}
 use Rattle.std.specs.List.{list_any}
@@ -25,7 +25,7 @@ has-curricula_of p c q h =
     ∙ ap (λ b. in_curriculum p q c && b) (any_below (λ m. m == q) (length p.curricula) q h (eq-eqb q q refl))
     ∙ and-true (in_curriculum p q c)
 
--- each of them is there
+-- each of the curricula is in range
 pub curricula_below : (p : Problem) (c : ℕ) → All (λ q. q < length p.curricula) (curricula_of p c)
 curricula_below p c =
     All-filter (λ q. in_curriculum p q c) (λ q. q < length p.curricula) (range_below (length p.curricula))

@@ -7,7 +7,7 @@ use std::alloc::{AllocError, Global};
 use std::marker::Model;
 use tt_instance::Instance;
 
-/// Numbers, rising.
+/// Numbers in ascending order.
 #[derive(Drop)]
 struct Numbers {
     numbers: Vec<u32>,
@@ -29,7 +29,7 @@ impl Numbers {
     }
 }
 
-/// The curricula of a course.
+/// Returns the curricula of a course.
 fn curricula_of(alloc: Global, instance: &Instance<'_>, course: u32) -> Result<Numbers, AllocError>
     ensures { IfOk result (λ n. n ≡ curricula_of instance.now course) }
 {
@@ -39,7 +39,7 @@ fn curricula_of(alloc: Global, instance: &Instance<'_>, course: u32) -> Result<N
     Ok(Numbers { numbers })
 }
 
-/// The courses that conflict with a course.
+/// Returns the courses that conflict with a course.
 fn conflicts_of(alloc: Global, instance: &Instance<'_>, course: u32) -> Result<Numbers, AllocError>
     ensures { IfOk result (λ n. n ≡ conflicts_of instance.now course) }
 {
@@ -49,7 +49,7 @@ fn conflicts_of(alloc: Global, instance: &Instance<'_>, course: u32) -> Result<N
     Ok(Numbers { numbers })
 }
 
-/// For each course its curricula.
+/// For each course, its curricula.
 #[derive(Drop)]
 pub struct Curricula {
     lists: Vec<Numbers>,
@@ -66,7 +66,7 @@ impl Model for Curricula {
 impl Curricula {
     ghost use Rattle.tt_links.specs.Linked.{AreCurricula};
 
-    /// The curricula of an instance's courses. They don't hold on to it.
+    /// Computes the curricula of an instance's courses. The result doesn't borrow the instance.
     pub fn new(alloc: Global, instance: &Instance<'_>) -> Result<Curricula, AllocError>
         ensures { IfOk result (AreCurricula instance.now) }
     {
@@ -77,7 +77,7 @@ impl Curricula {
         Ok(Curricula { lists })
     }
 
-    /// The curricula of a course, rising.
+    /// Returns the curricula of a course, in ascending order.
     pub fn curricula_of(&self, course: u32) -> &[u32]
         requires { course < length self.now }
         ensures { result.now ≡ slice_index_or self.now course [] }
@@ -86,7 +86,7 @@ impl Curricula {
     }
 }
 
-/// For each course the courses that conflict with it.
+/// For each course, the courses that conflict with it.
 #[derive(Drop)]
 pub struct Conflicts {
     rows: Vec<Numbers>,
@@ -103,7 +103,7 @@ impl Model for Conflicts {
 impl Conflicts {
     ghost use Rattle.tt_links.specs.Linked.{AreConflicts};
 
-    /// The conflicts of an instance's courses. They don't hold on to it.
+    /// Computes the conflicts of an instance's courses. The result doesn't borrow the instance.
     pub fn new(alloc: Global, instance: &Instance<'_>) -> Result<Conflicts, AllocError>
         ensures { IfOk result (AreConflicts instance.now) }
     {
@@ -114,7 +114,7 @@ impl Conflicts {
         Ok(Conflicts { rows })
     }
 
-    /// The courses that conflict with a course, rising.
+    /// Returns the courses that conflict with a course, in ascending order.
     pub fn conflicts_of(&self, course: u32) -> &[u32]
         requires { course < length self.now }
         ensures { result.now ≡ slice_index_or self.now course [] }

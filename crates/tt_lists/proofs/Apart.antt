@@ -8,12 +8,12 @@ use Rattle.tt_lists.specs.Words.{each_two}
 use Rattle.tt_lists.proofs.Sums.{sum_by-nothing, one_if, one_if_true, one_if-le, cond-le, sum_by-le, each, each_weaker, spread_up, sum_by-at_places, each_from_list_all}
 use Rattle.tt_lists.proofs.Members.{each_member, member_from_any, member-le}
 
--- what counts passes
+-- a test that counts 1 or more passes
 pub one_if-positive : (b : Bool) → 1 ≤ one_if b → b ≡ true
 one_if-positive true h = refl
 one_if-positive false h = absurd (omega arith)
 
--- where no two related elements both count, the sum is 1 at most, and 0 unless some element passes
+-- if no two related elements both count, the sum is at most 1, and 0 unless some element passes
 pub one_at_most : {X : Type 0} (related : X → X → Bool) (n : X → ℕ) (passes : X → Bool) (xs : List X) → each_two related xs ≡ true → ((x y : X) → related x y ≡ true → 1 ≤ n x → 1 ≤ n y → ⊥) → ((x : X) → n x ≤ 1) → ((x : X) → 1 ≤ n x → passes x ≡ true) → sum_by n xs ≤ one_if (list_any passes xs)
 one_at_most related n passes [] e apart most pass = zero-le
 one_at_most related n passes (x ∷ xs) e apart most pass =
@@ -33,7 +33,7 @@ one_at_most related n passes (x ∷ xs) e apart most pass =
     by_cases : (y : _) → (1 ≤ n y → ⊥) → n y ≤ 0
     by_cases y f = elim (cases_lt 0 (n y)) [ inl m ↦ absurd (f m) | inr m ↦ m ]
 
--- a sum over different elements is at most the sum over a list that has each of them, but for those that add nothing
+-- a sum over distinct elements is at most the sum over a list that contains each of them, except those that add nothing
 pub distinct_sum : {X : Type 0} (same : X → X → Bool) → ((x y : X) → same x y ≡ true → x ≡ y) → ((x : X) → same x x ≡ true) → (f : X → ℕ) (ys xs : List X) → each_two (λ a b. not (same a b)) ys ≡ true → ((y : X) → Contains ys y → (f y ≡ 0) ⊎ (list_any (same y) xs ≡ true)) → sum_by f ys ≤ sum_by f xs
 distinct_sum {X} same is itself f ys xs apart there =
     let up = spread_up f (λ x y. cond (same y x) (f x) 0) ys xs (each_member (λ y. f y ≤ sum_by (λ x. cond (same y x) (f x) 0) xs) ys found) in

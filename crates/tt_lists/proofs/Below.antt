@@ -17,7 +17,7 @@ all_more p i e h =
     ap (list_all p) (range_below_more i) ∙ list_all-append p (range_below i) (i ∷ [])
     ∙ and_from (list_all p (range_below i)) (p i && true) e (and_from (p i) true h refl)
 
--- one number that fails settles the answer
+-- if one number fails, the test of all numbers fails
 pub all_stops : (p : ℕ → Bool) (n i : ℕ) → i < n → false ≡ p i → false ≡ list_all p (range_below n)
 all_stops p n i h e =
     sym (list_all_at p (range_below n) i 0 (rw (length-range_with_len 0 n) h)
@@ -31,7 +31,7 @@ any_more p i e h =
     ap (list_any p) (range_below_more i) ∙ list_any-append p (range_below i) (i ∷ [])
     ∙ or_from (list_any p (range_below i)) (p i || false) e (or_from (p i) false h refl)
 
--- a test that each passes
+-- a test that each element passes
 pub all_pass : {X : Type 0} (p : X → Bool) (xs : List X) → ((x : X) → p x ≡ true) → list_all p xs ≡ true
 all_pass p [] h = refl
 all_pass p (x ∷ xs) h = and_from (p x) (list_all p xs) (h x) (all_pass p xs h)

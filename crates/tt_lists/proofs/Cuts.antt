@@ -18,14 +18,14 @@ cut_cases {X} (a ∷ ls) rs (b ∷ before) y after e =
       | inr w ↦ inr (w.0, ap (λ l. b ∷ l) w.1 ∙ ap (λ z. z ∷ (ls ++ w.0)) (sym h), w.2)
     ]
 
--- the list before the element, and after it
+-- a list cut at place k, which has x: the elements before it and the elements after it
 pub record IsCut {X : Type 0} (xs : List X) (k : ℕ) (x : X) : Type 0 where
   pub before : List X
   pub after : List X
   pub whole : xs ≡ before ++ x ∷ after
   pub place : length before ≡ k
 
--- at each of its elements a list can be cut
+-- a list can be cut at each of its elements
 pub cut_at : {X : Type 0} (xs : List X) (k : ℕ) (x : X) → slice_get xs k ≡ Some x → IsCut xs k x
 cut_at [] k x e = cc
 cut_at (y ∷ ys) zero x e = let same : y ≡ x = cc in record { before = []; after = ys; whole = ap (λ z. z ∷ ys) same; place = refl }
@@ -33,17 +33,17 @@ cut_at (y ∷ ys) (suc k) x e =
     let w = cut_at ys k x e in
     record { before = y ∷ w.before; after = w.after; whole = ap (λ l. y ∷ l) w.whole; place = ap suc w.place }
 
--- another element there
+-- setting the element at the cut
 pub set_cut : {X : Type 0} (before : List X) (x : X) (after : List X) (y : X) → slice_set (before ++ x ∷ after) (length before) y ≡ before ++ y ∷ after
 set_cut [] x after y = refl
 set_cut (b ∷ before) x after y = ap (λ l. b ∷ l) (set_cut before x after y)
 
--- an element put in behind another one
+-- inserting an element after the one at the cut
 pub insert_cut : {X : Type 0} (before : List X) (x : X) (after : List X) (y : X) → insert (before ++ x ∷ after) (suc (length before)) y ≡ before ++ x ∷ y ∷ after
 insert_cut [] x after y = refl
 insert_cut (b ∷ before) x after y = ap (λ l. b ∷ l) (insert_cut before x after y)
 
--- the elements after it
+-- the element after the one at the cut
 pub get_next : {X : Type 0} (before : List X) (x y : X) (after : List X) → slice_get (before ++ x ∷ y ∷ after) (suc (length before)) ≡ Some y
 get_next [] x y after = refl
 get_next (b ∷ before) x y after = get_next before x y after
@@ -54,7 +54,7 @@ get_after (b ∷ before) x y z after = get_after before x y z after
 
 -- ---- elements of appended lists
 
--- an element of two lists, one after the other
+-- an element of two appended lists is in the first or in the second
 pub at_cases : {X : Type 0} (xs ys : List X) (i : ℕ) (x : X) → slice_get (xs ++ ys) i ≡ Some x → (slice_get xs i ≡ Some x) ⊎ ((j : ℕ) × (i ≡ length xs + j) × (slice_get ys j ≡ Some x))
 at_cases [] ys i x e = inr (i, omega arith, e)
 at_cases (y ∷ xs) ys zero x e = inl e
@@ -63,7 +63,7 @@ at_cases (y ∷ xs) ys (suc i) x e = elim (at_cases xs ys i x e) [
   | inr w ↦ inr (w.0, omega (arith, w.1), w.2)
 ]
 
--- a place of the first list is the same in both
+-- a place of the first list has the same element in the appended lists
 pub at_first : {X : Type 0} (xs ys : List X) (i : ℕ) → i < length xs → slice_get (xs ++ ys) i ≡ slice_get xs i
 at_first [] ys i h = absurd (omega arith)
 at_first (x ∷ xs) ys zero h = refl

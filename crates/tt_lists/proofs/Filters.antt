@@ -1,4 +1,4 @@
--- What a filter keeps: tests, counts and sums of the elements that pass, and what no two of them are.
+-- Filtered lists: tests, counts and sums of the elements that pass, and relations between two of them.
 use Rattle.std.proofs.Common.{◌≡◌, ℕ, ◌+◌, Bool, true, false, not, cond, ◌&&◌, ◌||◌, List, [], ◌∷◌, refl, sym, ap, ◌∙◌, arith}
 use Rattle.std.specs.Prelude.{Contains, sum_by, count_by, flat_map, filter}
 use Rattle.std.specs.List.{list_any, list_all}
@@ -12,7 +12,7 @@ use Rattle.tt_lists.proofs.Twos.{each_two-append}
 use Rattle.tt_lists.proofs.Tested.{all_weaker}
 
 module _ {X : Type 0} where
-  -- some element is kept and passes
+  -- some element of a filtered list passes another test
   pub list_any-of_filter : (q p : X → Bool) (xs : List X) → list_any q (filter p xs) ≡ list_any (λ x. p x && q x) xs
   list_any-of_filter q p [] = refl
   list_any-of_filter q p (x ∷ xs) = by_test (p x) (list_any-of_filter q p xs)
@@ -21,7 +21,7 @@ module _ {X : Type 0} where
       by_test true e = ap (λ r. q x || r) e
       by_test false e = e
 
-  -- each element that is kept passes
+  -- each element of a filtered list passes another test
   pub list_all-of_filter : (t p : X → Bool) (xs : List X) → list_all t (filter p xs) ≡ list_all (λ x. not (p x) || t x) xs
   list_all-of_filter t p [] = refl
   list_all-of_filter t p (x ∷ xs) = by_test (p x) (list_all-of_filter t p xs)
@@ -30,7 +30,7 @@ module _ {X : Type 0} where
       by_test true e = ap (λ b. t x && b) e
       by_test false e = e
 
-  -- how many elements are kept and pass
+  -- how many elements of a filtered list pass another test
   pub count_by-of_filter : (q p : X → Bool) (xs : List X) → count_by q (filter p xs) ≡ count_by (λ x. p x && q x) xs
   count_by-of_filter q p [] = refl
   count_by-of_filter q p (x ∷ xs) =
@@ -40,7 +40,7 @@ module _ {X : Type 0} where
       by_test true = count_by-cons q x (filter p xs)
       by_test false = let none : one_if false ≡ 0 = refl in omega (arith, none)
 
-  -- a sum over the elements that are kept
+  -- a sum over the elements of a filtered list
   pub sum_by-of_filter : (f : X → ℕ) (p : X → Bool) (xs : List X) → sum_by f (filter p xs) ≡ sum_by (λ x. cond (p x) (f x) 0) xs
   sum_by-of_filter f p [] = refl
   sum_by-of_filter f p (x ∷ xs) = by_test (p x) (sum_by-of_filter f p xs) ∙ sym (sum_by-cons (λ y. cond (p y) (f y) 0) x xs)
@@ -49,11 +49,11 @@ module _ {X : Type 0} where
       by_test true e = omega (arith, sum_by-cons f x (filter p xs), e)
       by_test false e = omega (arith, e)
 
-  -- an element that is kept passes
+  -- an element of a filtered list passes the filter's test
   pub member_passes : (p : X → Bool) (xs : List X) (x : X) → Contains (filter p xs) x → p x ≡ true
   member_passes p xs x h = All-contains (λ y. p y ≡ true) (filter p xs) x (filter_passes p xs) h
 
-  -- what each element passes, each that is kept passes
+  -- if each element passes a test, each element of the filtered list passes it
   pub filter_all_pass : (t p : X → Bool) (xs : List X) → list_all t xs ≡ true → list_all t (filter p xs) ≡ true
   filter_all_pass t p [] e = refl
   filter_all_pass t p (x ∷ xs) e =
@@ -64,7 +64,7 @@ module _ {X : Type 0} where
       by_test true h r = and_from (t x) (list_all t (filter p xs)) h r
       by_test false h r = r
 
-  -- what each two elements are, each two that are kept are
+  -- if each two elements are related, each two elements of the filtered list are related
   pub each_two-of_filter : (related : X → X → Bool) (p : X → Bool) (xs : List X) → each_two related xs ≡ true → each_two related (filter p xs) ≡ true
   each_two-of_filter related p [] e = refl
   each_two-of_filter related p (x ∷ xs) e =
@@ -75,12 +75,12 @@ module _ {X : Type 0} where
       by_test true h r = and_from (list_all (related x) (filter p xs)) (each_two related (filter p xs)) h r
       by_test false h r = r
 
--- how many places the elements that pass have, each once
+-- how many distinct places the elements that pass have
 pub distinct_filtered : {X Y : Type 0} (p : X → Bool) (at : Y → X → Bool) (xs : List X) (ys : List Y) → count_by (λ y. list_any (at y) (filter p xs)) ys ≡ count_by (λ y. list_any (λ x. p x && at y x) xs) ys
 distinct_filtered p at xs ys =
     sum_by-same (λ y. one_if (list_any (at y) (filter p xs))) (λ y. one_if (list_any (λ x. p x && at y x) xs)) ys (λ y. ap one_if (list_any-of_filter (at y) p xs))
 
--- ---- joined lists, some of them left out
+-- -- joined lists, some of them omitted
 
 all_kept : {X Y : Type 0} (t : Y → Bool) (h : X → List Y) (q : X → Bool) (xs : List X) → list_all t (flat_map h xs) ≡ true → list_all t (flat_map h (filter q xs)) ≡ true
 all_kept t h q [] e = refl
@@ -92,7 +92,7 @@ all_kept {X} t h q (x ∷ xs) e =
     by_test true f r = list_all-append t (h x) (flat_map h (filter q xs)) ∙ and_from (list_all t (h x)) (list_all t (flat_map h (filter q xs))) f r
     by_test false f r = r
 
--- what no two elements of some joined lists are, no two are where some of the lists are left out
+-- if each two elements of some joined lists are related, they still are if some of the lists are omitted
 pub each_two_kept : {X Y : Type 0} (related : Y → Y → Bool) (h : X → List Y) (q : X → Bool) (xs : List X) → each_two related (flat_map h xs) ≡ true → each_two related (flat_map h (filter q xs)) ≡ true
 each_two_kept related h q [] e = refl
 each_two_kept related h q (x ∷ xs) e =

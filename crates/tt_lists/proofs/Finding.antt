@@ -7,7 +7,7 @@ use Rattle.tt_lists.proofs.Sums.{each_weaker}
 use Rattle.tt_lists.proofs.Members.{any_member}
 
 module _ {X : Type 0} where
-  -- what is found passes
+  -- the element found passes the test
   pub find_passes : (q : X → Bool) (xs : List X) (x : X) → find q xs ≡ Some x → q x ≡ true
   find_passes q [] x e = cc
   find_passes q (y ∷ ys) x e = by_test (q y) refl e (find_passes q ys x)
@@ -16,7 +16,7 @@ module _ {X : Type 0} where
       by_test true h k rest = let same : y ≡ x = cc in subst (λ z. q z ≡ true) same h
       by_test false h k rest = rest k
 
-  -- where nothing is found, no element passes
+  -- if nothing is found, no element passes
   pub find_none : (q : X → Bool) (xs : List X) → find q xs ≡ None → list_any q xs ≡ false
   find_none q [] e = refl
   find_none q (y ∷ ys) e = by_test (q y) e (find_none q ys)
@@ -25,7 +25,7 @@ module _ {X : Type 0} where
       by_test true k rest = cc
       by_test false k rest = rest k
 
-  -- what is found is there
+  -- the element found is in the list
   pub find_member : (q : X → Bool) (xs : List X) (x : X) → find q xs ≡ Some x → Contains xs x
   find_member q [] x e = cc
   find_member q (y ∷ ys) x e = by_test (q y) e (find_member q ys x)
@@ -34,7 +34,7 @@ module _ {X : Type 0} where
       by_test true k rest = let same : y ≡ x = cc in (0, omega arith, same)
       by_test false k rest = let m = rest k in (suc m.0, omega (arith, m.1), m.2)
 
-  -- the only one that passes is found
+  -- if only one element passes, it is the one found
   pub find_only : (q : X → Bool) (xs : List X) (u : X) → Contains xs u → q u ≡ true → ((v : X) → q v ≡ true → v ≡ u) → find q xs ≡ Some u
   find_only q xs u m e only = by_found (find q xs) refl
     where
@@ -42,7 +42,7 @@ module _ {X : Type 0} where
       by_found None h = absurd (both_ways (list_any q xs) (find_none q xs h) (any_member q xs u m e))
       by_found (Some v) h = h ∙ ap Some (only v (find_passes q xs v h))
 
-  -- what nothing passes finds nothing
+  -- if no element passes, nothing is found
   pub find_never : (q : X → Bool) (xs : List X) → ((v : X) → q v ≡ true → ⊥) → find q xs ≡ None
   find_never q xs never = by_found (find q xs) refl
     where

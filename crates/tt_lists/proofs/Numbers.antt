@@ -1,4 +1,4 @@
--- The numbers below a bound: each is there, and no more than once; sums and counts over them.
+-- The numbers below a bound: each occurs once; sums and counts over them.
 use Rattle.std.proofs.Common.{◌≡◌, ℕ, ◌+◌, ◌≤◌, ◌<◌, Bool, true, cond, sym, ap, ◌∙◌, map-id, length, get_or, refl, arith, zero, suc, zero-le, inl, inr, eq-eqb, ne_eqb}
 use Rattle.std.specs.Prelude.{sum_by, count_by, ◌==◌}
 use Rattle.std.specs.List.{list_any, range_with_len}
@@ -35,7 +35,7 @@ count_from i a (suc n) = elim (cases_eq i a) [ inl e ↦ here e | inr e ↦ late
 pub count_below : (i n : ℕ) → count_by (λ k. i == k) (range_below n) ≤ 1
 count_below i n = count_from i 0 n
 
--- ---- one number more
+-- -- one number further
 
 pub sum_more : (f : ℕ → ℕ) (i : ℕ) → sum_by f (range_below (i + 1)) ≡ sum_by f (range_below i) + f i
 sum_more f i =

@@ -11,13 +11,13 @@ use Rattle.tt_lists.proofs.Members.{each_member, member_from_any, each_below_at}
 use Rattle.tt_lists.proofs.Sums.{each_from_list_all}
 use Rattle.tt_lists.proofs.Truth.{same_truth}
 
--- a number that is there is below the bound
+-- a number in the range is below the bound
 pub below_member : (n k : ℕ) → Contains (range_below n) k → k < n
 below_member n k h =
     let l : h.0 < n = omega (arith, h.1, length-range_with_len 0 n) in
     omega (arith, h.2, get_or-range_with_len 0 n h.0 k l)
 
--- what holds of each number below the bound holds of each that is there
+-- if a property holds of each number below the bound, it holds of each number in the range
 pub each_below : (P : ℕ → Type 0) (n : ℕ) → ((k : ℕ) → k < n → P k) → AllByRecursion P (range_below n)
 each_below P n f = each_member P (range_below n) (λ k m. f k (below_member n k m))
 
@@ -31,31 +31,31 @@ distinct_from a zero = refl
 distinct_from a (suc n) =
     and_from (list_all (λ k. not (a == k)) (range_with_len (a + 1) n)) (each_two (λ x y. not (x == y)) (range_with_len (a + 1) n)) (others_above a (a + 1) n (omega arith)) (distinct_from (a + 1) n)
 
--- no number is there twice
+-- no number occurs twice in the range
 pub distinct_below : (n : ℕ) → each_two (λ x y. not (x == y)) (range_below n) ≡ true
 distinct_below n = distinct_from 0 n
 
 -- ---- tests
 
--- each number passes
+-- if each number below the bound passes, the test of all of them passes
 pub all_below : (p : ℕ → Bool) (n : ℕ) → ((k : ℕ) → k < n → p k ≡ true) → list_all p (range_below n) ≡ true
 all_below p zero h = refl
 all_below p (suc n) h =
     let e : suc n ≡ n + 1 = omega arith in
     ap (λ m. list_all p (range_below m)) e ∙ all_more p n (all_below p n (λ k l. h k (omega arith))) (h n (omega arith))
 
--- no number passes
+-- if no number below the bound passes, the test of any of them fails
 pub none_below : (p : ℕ → Bool) (n : ℕ) → ((k : ℕ) → k < n → p k ≡ false) → list_any p (range_below n) ≡ false
 none_below p zero h = refl
 none_below p (suc n) h =
     let e : suc n ≡ n + 1 = omega arith in
     ap (λ m. list_any p (range_below m)) e ∙ any_more p n (none_below p n (λ k l. h k (omega arith))) (h n (omega arith))
 
--- where each number passes, one of them does
+-- if all numbers pass, each single one passes
 pub at_below : (p : ℕ → Bool) (n k : ℕ) → list_all p (range_below n) ≡ true → k < n → p k ≡ true
 at_below p n k e h = each_below_at (λ i. p i ≡ true) n k (each_from_list_all p (range_below n) e) h
 
--- two tests that agree below the bound
+-- two tests that agree below the bound give the same answer for all numbers
 pub all_same_below : (f g : ℕ → Bool) (n : ℕ) → ((r : ℕ) → r < n → f r ≡ g r) → list_all f (range_below n) ≡ list_all g (range_below n)
 all_same_below f g n h = same_truth (list_all f (range_below n)) (list_all g (range_below n))
     (λ e. all_below g n (λ k l. sym (h k l) ∙ at_below f n k e l))

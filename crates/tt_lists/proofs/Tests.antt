@@ -10,18 +10,18 @@ use Rattle.tt_lists.proofs.Sums.{one_if, count_if_any, any_if_count}
 
 -- ---- tests
 
--- two tests of equality that say the same
+-- two tests of equality that follow from each other are the same
 pub same_test : (a b c d : ℕ) → (a ≡ b → c ≡ d) → (c ≡ d → a ≡ b) → (a == b) ≡ (c == d)
 same_test a b c d there back = elim (cases_eq c d) [
   | inl e ↦ eq-eqb a b (back e) ∙ sym (eq-eqb c d e)
   | inr e ↦ ne_eqb a b (λ h. e (there h)) ∙ sym (ne_eqb c d e)
 ]
 
--- a test of equality, in the other order
+-- a test of equality is the same in the other order
 pub test_turned : (a b : ℕ) → (a == b) ≡ (b == a)
 test_turned a b = same_test a b b a sym sym
 
--- tests that agree at each element where P holds
+-- two tests that agree at each element with a property give the same answer for the list
 pub list_any-same_at : {X : Type 0} (P : X → Type 0) (p q : X → Bool) (xs : List X) → All P xs → ((x : X) → P x → p x ≡ q x) → list_any p xs ≡ list_any q xs
 list_any-same_at P p q [] a h = refl
 list_any-same_at P p q (x ∷ xs) a h = ap (λ b. b || list_any p xs) (h x (All-head P x xs a)) ∙ ap (λ b. q x || b) (list_any-same_at P p q xs (All-tail P x xs a) h)
@@ -37,7 +37,7 @@ list_any-or p q (x ∷ xs) = ap (λ b. (p x || q x) || b) (list_any-or p q xs) �
     by_tests false true false d = refl
     by_tests false false c d = refl
 
--- those that pass are the first and the others
+-- the elements that pass are the first one and the others
 pub first_and_others : {X : Type 0} (p : X → Bool) (xs : List X) → (count_by p xs - 1) + one_if (list_any p xs) ≡ count_by p xs
 first_and_others p xs = elim (cases_Bool (list_any p xs)) [
   | inl e ↦ rw e (omega (arith, count_if_any p xs e))
@@ -50,7 +50,7 @@ first_and_others p xs = elim (cases_Bool (list_any p xs)) [
 
 -- ---- sums over numbers
 
--- terms that agree below a bound
+-- sums of terms that agree below a bound
 pub sum_by-same_below : (f g : ℕ → ℕ) (n : ℕ) → ((k : ℕ) → k < n → f k ≡ g k) → sum_by f (range_below n) ≡ sum_by g (range_below n)
 sum_by-same_below f g zero h = refl
 sum_by-same_below f g (suc n) h =
@@ -59,7 +59,7 @@ sum_by-same_below f g (suc n) h =
     let b : sum_by g (range_below (suc n)) ≡ sum_by g (range_below n) + g n = ap (λ i. sum_by g (range_below i)) e ∙ sum_more g n in
     omega (arith, a, b, h n (omega arith), sum_by-same_below f g n (λ k l. h k (omega arith)))
 
--- a sum over more numbers is that over the first and that over the others
+-- a sum over a + n numbers is the sum over the first a and the sum over the other n
 pub sum_further : (f : ℕ → ℕ) (a n : ℕ) → sum_by f (range_below (a + n)) ≡ sum_by f (range_below a) + sum_by (λ s. f (a + s)) (range_below n)
 sum_further f a zero = let e : a + 0 ≡ a = omega arith in rw e (omega arith)
 sum_further f a (suc n) =

@@ -1,13 +1,13 @@
 -- Truth values that tests are made of.
 use Rattle.std.proofs.Common.{◌≡◌, Bool, true, false, not, ◌&&◌, ◌||◌, refl, sym, ap}
 
--- two tests are one truth value where each follows from the other
+-- two truth values that follow from each other are the same
 pub same_truth : (a b : Bool) → (a ≡ true → b ≡ true) → (b ≡ true → a ≡ true) → a ≡ b
 same_truth true b f g = sym (f refl)
 same_truth false true f g = g refl
 same_truth false false f g = refl
 
--- what follows from a test
+-- the conclusion of a tested implication whose condition passes
 pub wanted : (f k : Bool) → (not f || k) ≡ true → f ≡ true → k ≡ true
 wanted true k e h = e
 wanted false k e h = cc
@@ -16,12 +16,12 @@ pub not_wanted : (f k : Bool) → (f ≡ true → k ≡ true) → (not f || k) �
 not_wanted true k h = h refl
 not_wanted false k h = refl
 
--- what is not taken away stays
+-- a value stays the same if nothing is removed
 pub still_there : (b g : Bool) → g ≡ false → b ≡ (b && not g)
 still_there true g e = sym (ap not e)
 still_there false g e = refl
 
--- what is taken away in two steps is taken away in one
+-- removing in two steps is the same as removing in one
 pub taken_twice : (b g h : Bool) → ((b && not g) && not h) ≡ (b && not (g || h))
 taken_twice true true h = refl
 taken_twice true false h = refl

@@ -12,12 +12,12 @@ pub neither : (a b : Bool) → not (a || b) ≡ (not a && not b)
 neither true b = refl
 neither false b = refl
 
--- none passes
+-- no element passes
 pub list_all-not : {X : Type 0} (p : X → Bool) (xs : List X) → list_all (λ x. not (p x)) xs ≡ not (list_any p xs)
 list_all-not p [] = refl
 list_all-not p (x ∷ xs) = ap (λ b. not (p x) && b) (list_all-not p xs) ∙ sym (neither (p x) (list_any p xs))
 
--- each passes two tests
+-- each element passes two tests
 pub list_all-both : {X : Type 0} (p q : X → Bool) (xs : List X) → list_all (λ x. p x && q x) xs ≡ (list_all p xs && list_all q xs)
 list_all-both p q [] = refl
 list_all-both p q (x ∷ xs) = ap (λ b. p x && q x && b) (list_all-both p q xs) ∙ turned (p x) (q x) (list_all p xs) (list_all q xs)
@@ -28,7 +28,7 @@ list_all-both p q (x ∷ xs) = ap (λ b. p x && q x && b) (list_all-both p q xs)
     turned true false false d = refl
     turned false b c d = refl
 
--- a test of the elements of two lists, in the other order
+-- a test of each pair of elements of two lists is the same in the other order
 pub list_all-swap : {X Y : Type 0} (t : X → Y → Bool) (xs : List X) (ys : List Y) → list_all (λ x. list_all (t x) ys) xs ≡ list_all (λ y. list_all (λ x. t x y) xs) ys
 list_all-swap t [] ys = sym (all_pass (λ y. true) ys (λ y. refl))
 list_all-swap t (x ∷ xs) ys =
@@ -48,7 +48,8 @@ each_two-append related (x ∷ xs) ys =
     turned true false false d e = refl
     turned false b c d e = refl
 
--- the first of some lists has no two related elements: then they are apart if it is apart from each other list, and those are
+-- if each two elements of the first list are related: all joined lists' elements are, exactly if the first list's elements are related
+-- to those of each other list, and each two elements of the other lists are
 pub each_two-of_flat_map : {X Y : Type 0} (related : Y → Y → Bool) (h : X → List Y) (x : X) (xs : List X) → each_two related (h x) ≡ true → each_two related (flat_map h (x ∷ xs)) ≡ (list_all (λ z. list_all (λ a. list_all (related a) (h z)) (h x)) xs && each_two related (flat_map h xs))
 each_two-of_flat_map related h x xs once =
     each_two-append related (h x) (flat_map h xs)
@@ -57,14 +58,14 @@ each_two-of_flat_map related h x xs once =
     (list_all-same (λ a. list_all (related a) (flat_map h xs)) (λ a. list_all (λ z. list_all (related a) (h z)) xs) (h x) (λ a. list_all-of_flat_map (related a) h xs)
     ∙ list_all-swap (λ a z. list_all (related a) (h z)) (h x) xs)
 
--- two tests that agree
+-- two tests that agree on each two elements give the same answer for the list
 pub each_two-same : {X : Type 0} (p q : X → X → Bool) (xs : List X) → ((a b : X) → p a b ≡ q a b) → each_two p xs ≡ each_two q xs
 each_two-same p q [] h = refl
 each_two-same p q (x ∷ xs) h = ap (λ b. b && each_two p xs) (list_all-same (p x) (q x) xs (h x)) ∙ ap (λ b. list_all (q x) xs && b) (each_two-same p q xs h)
 
--- ---- one element more
+-- -- one element appended
 
--- what each two elements are and each is to a new last one, each two are with it
+-- if each two elements are related, and each is related to a new last one, each two are related with it
 pub each_two-push : {X : Type 0} (related : X → X → Bool) (xs : List X) (x : X) → each_two related xs ≡ true → list_all (λ z. related z x) xs ≡ true → each_two related (xs ++ x ∷ []) ≡ true
 each_two-push related [] x a b = refl
 each_two-push related (z ∷ zs) x a b =
@@ -74,7 +75,7 @@ each_two-push related (z ∷ zs) x a b =
     (list_all-append (related z) zs (x ∷ []) ∙ and_from (list_all (related z) zs) (related z x && true) h.0 (and_from (related z x) true k.0 refl))
     (each_two-push related zs x h.1 k.1)
 
--- what each two elements are, each is to the last
+-- if each two elements are related, each is related to the last
 pub each_two-last : {X : Type 0} (related : X → X → Bool) (xs : List X) (x : X) → each_two related (xs ++ x ∷ []) ≡ true → list_all (λ z. related z x) xs ≡ true
 each_two-last related [] x e = refl
 each_two-last related (z ∷ zs) x e =

@@ -1,4 +1,4 @@
--- Counts over a timetable less an entry, by the counts over all of it.
+-- Counts over a timetable without an entry, from the counts over all of it.
 use Rattle.std.proofs.Common.{◌≡◌, ℕ, ◌+◌, ◌-◌, ◌≤◌, ◌<◌, Bool, true, ◌&&◌, List, ◌∷◌, refl, sym, ap, ◌∙◌, arith, eq-eqb}
 use Rattle.std.specs.Prelude.{◌==◌, nat_lt, count_by}
 use Rattle.std.specs.List.{list_any}
@@ -21,7 +21,7 @@ module _ (r : Rest) (u : List Cell) (ok : IsRest r u) where
   own : is_of r.gone.course r.gone ≡ true
   own = eq-eqb r.gone.course r.gone.course refl
 
-  -- the entries of the course left out
+  -- the entries of the course of the entry left out
   own_count : (test : Cell → Bool) → count_by (λ e. is_of r.gone.course e && test e) u + one_if (test r.gone) ≡ count_by (λ e. is_of r.gone.course e && test e) entries
   own_count test =
       let moved = ap one_if (ok.own test) in
@@ -35,7 +35,7 @@ module _ (r : Rest) (u : List Cell) (ok : IsRest r u) where
       let same : count_by q (r.gone ∷ u) ≡ count_by q entries = omega (arith, count_by-cons q r.gone u, own_count test, gone) in
       sym (any_counted q (r.gone ∷ u)) ∙ ap (nat_lt 0) same ∙ any_counted q entries
 
-  -- another entry of the course shares the period
+  -- whether another entry of the course shares the period
   pub repeats_is : (x : Cell) (count one : ℕ) → x.course ≡ r.gone.course → count ≡ count_by (λ e. is_of x.course e && is_at (slot_of x) e) entries → one ≡ one_if (is_at (slot_of x) r.gone) → nat_lt one count ≡ repeats u x
   repeats_is x count one course h k =
       let at = λ (e : Cell). is_at (slot_of x) e in
@@ -48,14 +48,14 @@ module _ (r : Rest) (u : List Cell) (ok : IsRest r u) where
       less : (a b : ℕ) → nat_lt a (b + a) ≡ nat_lt 0 b
       less a b = grind (arith, nat_tests)
 
-  -- ---- places numbered from 0, n of them, of which each entry has one
+  -- -- n places numbered from 0; each entry has one of them
 
   module _ (n : ℕ) (place : Cell → ℕ) where
-    -- the entries of a course in a place
+    -- the number of entries of a course in a place
     abbrev pub standing_in : List Cell → ℕ → ℕ → ℕ
     standing_in t c k = count_by (λ e. is_of c e && (place e == k)) t
 
-    -- the places with an entry of a course
+    -- the number of places with an entry of a course
     abbrev pub used : List Cell → ℕ → ℕ
     used t c = count_by (λ k. list_any (λ e. is_of c e && (place e == k)) t) (range_below n)
 
@@ -64,7 +64,7 @@ module _ (r : Rest) (u : List Cell) (ok : IsRest r u) where
         sum_by-same (λ k. one_if (list_any (λ e. is_of r.gone.course e && (place e == k)) (r.gone ∷ u))) (λ k. one_if (list_any (λ e. is_of r.gone.course e && (place e == k)) entries)) (range_below n)
         (λ k. ap one_if (own_any (λ e. place e == k)))
 
-    -- the places with an entry e of the course
+    -- the number of places with another entry e of the course
     used_by : (e : Cell) → e.course ≡ r.gone.course → place e < n → used (e ∷ u) r.gone.course ≡ used u r.gone.course + one_if (standing_in u r.gone.course (place e) == 0)
     used_by e course h =
         used_more n place u e h r.gone.course

@@ -1,4 +1,4 @@
--- Entries of a curriculum round a period, by sets of periods.
+-- Entries of a curriculum around a period, by sets of periods.
 use Rattle.std.proofs.Common.{◌≡◌, ℕ, ◌+◌, ◌-◌, ◌≤◌, ◌<◌, Bool, true, false, cond, not, ◌&&◌, ◌||◌, List, refl, sym, ap, ◌∙◌, arith, inl, inr, eq-eqb, ne_eqb}
 use Rattle.std.specs.Prelude.{◌==◌, nat_lt}
 use Rattle.std.proofs.lemmas.Bool.{and_from, cases_eq, cases_lt, lt-ltb, le-ltb}
@@ -19,7 +19,7 @@ use Rattle.tt_moves.specs.declared.rest.Rest.{Rest}
 
 -- ---- tests
 
--- what is counted anew where one test passes, and is right where none does
+-- a value that is counted again if a test passes, and is right if it doesn't
 pub one_anew : (g w n : Bool) → (g ≡ false → w ≡ n) → cond g n w ≡ n
 one_anew true w n same = refl
 one_anew false w n same = same refl
@@ -29,7 +29,7 @@ three_anew true f g w n same = refl
 three_anew false true g w n same = refl
 three_anew false false g w n same = one_anew g w n (same refl refl)
 
--- the period of an entry on the day, counted anew
+-- the period of an entry on the day, counted again
 pub put_anew : (n : ℕ → ℕ) (w : Bool) (day d period s : ℕ) → day ≡ d → cond (s == period) (nat_lt 0 (n period)) w ≡ cond ((day == d) && (period == s)) (nat_lt 0 (n s)) w
 put_anew n w day d period s on = elim (cases_eq period s) [
   | inl e ↦
@@ -40,7 +40,7 @@ put_anew n w day d period s on = elim (cases_eq period s) [
       ∙ sym (ap (λ b. cond (b && (period == s)) (nat_lt 0 (n s)) w) (eq-eqb day d on) ∙ ap (λ b. cond b (nat_lt 0 (n s)) w) (ne_eqb period s e))
 ]
 
--- a number counts the same by a test that passes only where it is above 0
+-- a number counts the same under a test that passes only if the number is above 0
 some_only : (a c : Bool) (n : ℕ) → cond (a && (nat_lt 0 n && not c)) n 0 ≡ cond (a && not c) n 0
 some_only true true n = grind (arith, nat_tests)
 some_only true false n = grind (arith, nat_tests)
@@ -89,10 +89,10 @@ module _ (p : Problem) (u : List Cell) (q d : ℕ) (ok : IsTimetable p u) (short
       | inr h ↦ nothing (nat_lt (s + 1) 64 && b (s + 1)) (not (stands_beside p u q d (s + 1))) (standing p u q d (s + 1)) (sym (none_standing p u q d (s + 1) ok (omega arith)))
     ]
 
--- ---- the entry that stands elsewhere
+-- -- the moved entry
 
 module _ (r : Rest) (q d : ℕ) (gone : in_curriculum r.occupied.now.problem q r.gone.course ≡ true) where
-  -- it makes no difference, or is counted where its course belongs to the curriculum
+  -- the moved entry makes no difference, or is counted if its course belongs to the curriculum
   pub other_counts : (is_still other : Bool) → r.from.course ≡ r.to.course → (is_still ≡ true → IsStill r d) → other ≡ (not is_still && in_curriculum r.occupied.now.problem q r.from.course) → CountsOther r q d other
   other_counts true other course still e = λ s.
       let same = ap one_if (still refl q s gone) in
@@ -106,14 +106,14 @@ module _ (r : Rest) (q d : ℕ) (gone : in_curriculum r.occupied.now.problem q r
       omega arith
 
   module _ (other : Bool) (counts : CountsOther r q d other) (u : List Cell) (rest : IsRest r u) (s : ℕ) where
-    -- the count over the rest, by the one over the timetable
+    -- the count over the rest, from the count over the timetable
     pub standing_adjusted : standing r.occupied.now.problem u q d s + one_if (other && is_at (slot d s) r.from) + one_if (is_at (slot d s) r.gone) ≡ standing r.occupied.now.problem r.occupied.now.entries q d s + one_if (other && is_at (slot d s) r.to)
     standing_adjusted =
         let test = λ (e : Cell). in_curriculum r.occupied.now.problem q e.course && is_at (slot d s) e in
         let one = ap (λ b. one_if (b && is_at (slot d s) r.gone)) gone in
         omega (arith, rest.counts test, counts s, one)
 
-    -- where none of the three entries counts, they are the same
+    -- if none of the three entries counts, the two counts agree
     pub standing_same : (other && is_at (slot d s) r.to) ≡ false → (other && is_at (slot d s) r.from) ≡ false → is_at (slot d s) r.gone ≡ false → nat_lt 0 (standing r.occupied.now.problem r.occupied.now.entries q d s) ≡ nat_lt 0 (standing r.occupied.now.problem u q d s)
     standing_same to from away =
         let a = ap one_if to in

@@ -1,4 +1,4 @@
--- The exchanges that make a step, and the rests of the timetable beside them.
+-- The exchanges that make a step, and the entries of the timetable that they leave unchanged.
 use Rattle.std.proofs.Common.{◌≡◌, ℕ, ◌+◌, ◌<◌, ◌≢◌, Bool, false, ◌&&◌, List, ◌∷◌, length, get_or, set, refl, sym, ap, ◌∙◌, subst, arith, inl, inr, ne_eqb, Bor}
 use Rattle.std.specs.Prelude.{sum_by, count_by, remove, All}
 use Rattle.std.proofs.lemmas.Bool.{cases_lt, cases_eq}
@@ -29,7 +29,7 @@ All-remove P xs i h all k d l =
       | inr m ↦ subst P (sym (get_or-remove_above xs i d k m h)) (all (k + 1) d (omega arith))
     ]
 
--- counts over a list with to in the place of from and without gone
+-- counts over a list in which `from` is replaced by `to` and `gone` is removed
 rest_count : (q : Cell → Bool) (t : List Cell) (i j : ℕ) (from to gone : Cell) → i < length t → j < length t → from ≡ entry_at t i → gone ≡ entry_at (set t i to) j → count_by q (remove (set t i to) j) + one_if (q from) + one_if (q gone) ≡ count_by q t + one_if (q to)
 rest_count q t i j from to gone h k a b =
     let l = length-set t i to in
@@ -41,7 +41,7 @@ rest_count q t i j from to gone h k a b =
     let y = ap f b in
     omega arith
 
--- an entry of another course stays where it was
+-- an entry of another course is not changed
 still : (t : List Cell) (i j : ℕ) (z : Cell) → (entry_at t i).course ≢ (entry_at t j).course → entry_at t j ≡ entry_at (set t i z) j
 still t i j z apart = sym (get_or-set_other t i j z no_entry (λ e. apart (ap (λ n. (entry_at t n).course) (sym e))))
 
@@ -69,7 +69,7 @@ module _ (o : Bor Filled) where
   abbrev t : List Cell
   t = o.now.entries
 
-  -- an entry goes, and another one comes in its place
+  -- an entry is replaced by another one
   pub exchanged : (i : ℕ) (to : Cell) → i < length t → IsRest (rest_without o i) (remove t i) → InRange p to → to.course ≡ (entry_at t i).course → IsExchange p (record { rest = rest_without o i; to = to }) (remove t i) t (set t i to)
   exchanged i to h rest in_range course = record {
     problem = refl;
@@ -92,7 +92,7 @@ module _ (o : Bor Filled) where
       })
 
   module _ (ok : IsTimetable p t) where
-    -- the entries but one
+    -- all entries except one
     pub without_one : (i : ℕ) → i < length t → IsRest (rest_without o i) (remove t i)
     without_one i h = record {
       in_range = All-remove (InRange p) t i h ok;
@@ -102,7 +102,7 @@ module _ (o : Bor Filled) where
       own = λ test. refl;
     }
 
-    -- two entries of different courses, the first in the place of the second
+    -- two entries of different courses, with the first moved to the place of the second
     module _ (i j : ℕ) (h : i < length t) (k : j < length t) (apart : (entry_at t i).course ≢ (entry_at t j).course) where
       abbrev there : Cell
       there = in_place_of (entry_at t i) (entry_at t j)
@@ -110,7 +110,7 @@ module _ (o : Bor Filled) where
       abbrev here : Cell
       here = in_place_of (entry_at t j) (entry_at t i)
 
-      -- the entries but the second
+      -- the entries except the second
       abbrev rest_other : Rest
       rest_other = record { occupied = o; from = entry_at t i; to = there; gone = entry_at t j }
 
@@ -159,6 +159,6 @@ module _ (o : Bor Filled) where
         after = bag_set (set t i there) j here no_entry inside;
       }
 
-      -- the first goes to the second's place, then the second to its
+      -- the first entry moves to the second's place, then the second to the first's place
       pub swapped_by_two : Lead o.now (Swap i j) (Two (record { rest = rest_without o i; to = there }) (record { rest = rest_other; to = here }))
       swapped_by_two = (remove (set t i there) j, set t i there, there_first, then_here)

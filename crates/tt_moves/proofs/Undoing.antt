@@ -1,4 +1,4 @@
--- A step and the one that takes it back.
+-- A step and the step that undoes it.
 use Rattle.std.proofs.Common.{◌≡◌, ℕ, ◌<◌, ◌≢◌, List, length, set, sym, ap, ◌∙◌, subst, arith, inl, inr}
 use Rattle.std.proofs.lemmas.Bool.{cases_eq}
 use Rattle.std.proofs.lemmas.List.{length-set, get_or-set_same, get_or-set_other, set_comm, set-set, set-get_or}
@@ -16,7 +16,7 @@ moved_back t i r d s x h is =
     ∙ ap (λ z. set t i (in_place_of (entry_at t i) z)) is
     ∙ set-get_or t i no_entry
 
--- the entries at two places, set once more
+-- the entries at two places, set again to their old values
 set_again : (t : List Cell) (i j : ℕ) (y z : Cell) → i ≢ j → set (set (set (set t i y) j z) i (entry_at t i)) j (entry_at t j) ≡ t
 set_again t i j y z apart =
     ap (λ l. set l j (entry_at t j)) (set_comm (set t i y) j i z (entry_at t i) (λ e. apart (sym e)) ∙ ap (λ l. set l j z) (set-set t i y (entry_at t i) ∙ set-get_or t i no_entry))

@@ -1,5 +1,5 @@
--- Only proofs rest on this file: nobody has to believe it.
--- Exchanges of one entry for another one of its course, and those that make a step.
+-- Not part of the trusted statement: only proofs use this file.
+-- Exchanges of one entry for another of its course, and the exchanges that make a step.
 use Rattle.std.specs.Prelude.{◌≡◌, List, ◌∷◌, remove}
 use Rattle.tt_instance.specs.Problem.{Problem}
 use Rattle.tt_instance.specs.Cells.{InRange}
@@ -13,7 +13,7 @@ use Rattle.tt_moves.specs.declared.exchanges.Exchanges.TheVariants.{Same, One, T
 use Rattle.tt_moves.specs.declared.exchanging.Exchange.{Exchange}
 use Rattle.tt_moves.specs.declared.step.Step.{Step}
 
--- s has the entry that goes and the entries u, t the one that comes and the entries u
+-- s has the entries u and the removed entry, t has the entries u and the added entry
 pub record IsExchange (p : Problem) (x : Exchange) (u s t : List Cell) : Type 0 where
   pub problem : x.rest.occupied.now.problem ≡ p
   pub rest : IsRest x.rest u
@@ -22,21 +22,21 @@ pub record IsExchange (p : Problem) (x : Exchange) (u s t : List Cell) : Type 0 
   pub before : SameBag s (x.rest.gone ∷ u)
   pub after : SameBag t (x.to ∷ u)
 
--- there are lists that it leads from and to
+-- whether an exchange leads from some list to some list
 abbrev pub CanExchange : Exchange → Type 0
 CanExchange x = (p : Problem) × (u : List Cell) × (s : List Cell) × (t : List Cell) × IsExchange p x u s t
 
--- the step's first entry goes, and the list t is there then
+-- whether the exchange removes the step's first entry and leads to the list t
 pub record IsFirst (o : Filled) (step : Step) (x : Exchange) (t : List Cell) : Type 0 where
   pub gone : x.rest.gone ≡ entry_at o.entries (first_of step)
   pub exchange : IsExchange o.problem x (remove o.entries (first_of step)) o.entries t
 
--- the exchanges lead, one after the other, to the list after the step
+-- whether the exchanges, in turn, lead to the list after the step
 abbrev pub Lead : Filled → Step → Exchanges → Type 0
 Lead o step Same = SameBag (stepped o.entries step) o.entries
 Lead o step (One x) = IsFirst o step x (stepped o.entries step)
 Lead o step (Two x y) = (u : List Cell) × (t : List Cell) × IsFirst o step x t × IsExchange o.problem y u t (stepped o.entries step)
 
--- there is a timetable and a step of it whose exchanges they are
+-- whether the exchanges are those of some step of some timetable
 abbrev pub CanLead : Exchanges → Type 0
 CanLead x = (o : Filled) × (step : Step) × Lead o step x

@@ -16,16 +16,16 @@ abbrev pub stepped : List Cell → Step → List Cell
 stepped t (Move i r d s) = moved t i r d s
 stepped t (Swap i j) = swapped t i j
 
--- the step's numbers are an entry's, a room's and a period's
+-- whether the step's numbers are an entry's, a room's and a period's
 abbrev pub CanStep : Problem → List Cell → Step → Type 0
 CanStep p t (Move i r d s) = (i < length t) × (r < length p.rooms) × (d < p.days) × (s < p.periods)
 CanStep p t (Swap i j) = (i < length t) × (j < length t)
 
--- the list after steps, one after the other
+-- the list after steps in turn
 abbrev pub stepped_by : List Cell → List Step → List Cell
 stepped_by t steps = fold stepped t steps
 
--- each step's numbers are an entry's, a room's and a period's, where the steps before it lead
+-- whether each step's numbers are an entry's, a room's and a period's in the timetable to which the steps before it lead
 abbrev pub CanStepBy : Problem → List Cell → List Step → Type 0
 CanStepBy p t [] = ⊤
 CanStepBy p t (step ∷ steps) = CanStep p t step × CanStepBy p (stepped t step) steps

@@ -1,4 +1,4 @@
-//! Periods beside those of a set.
+//! Periods next to those of a set.
 
 ghost use Rattle.std.specs.Prelude.{◌≡◌, ℕ, ◌<◌};
 ghost use Rattle.tt_bits.specs.Bits.{has_bit};
@@ -6,7 +6,7 @@ ghost use Rattle.tt_moves.specs.Rounds.{is_beside};
 
 use tt_bits::{either, next, previous};
 
-/// The periods before and after those of a set.
+/// Returns the periods before and after those of a set.
 pub fn beside(set: u64) -> u64
     ensures { (r : ℕ) → r < 64 → has_bit result r ≡ is_beside (has_bit set) r }
 {

@@ -1,4 +1,4 @@
-//! What a step changes in the score.
+//! The changes of the score by a step.
 
 ghost use Rattle.std.specs.Prelude.{◌≡◌, ◌<◌, ◌↔◌, pos, ◌+ℤ◌, IsTrue};
 ghost use Rattle.tt_rules.specs.Score.{hard, cost};
@@ -11,7 +11,7 @@ use crate::step::Step;
 use crate::within::change_within;
 use tt_occupancy::Occupied;
 
-/// What a step would change. Nothing is written and no memory is taken.
+/// Returns the changes that a step would make. Nothing is written and no memory is allocated.
 pub fn change(occupied: &Occupied<'_, '_>, step: Step) -> Change
     requires { CanStep occupied.now.problem occupied.now.entries step }
     ensures hard { pos (hard occupied.now.problem occupied.now.entries) +ℤ result.hard
@@ -26,7 +26,7 @@ pub fn change(occupied: &Occupied<'_, '_>, step: Step) -> Change
     }
 }
 
-/// Whether a step would break fewer hard rules, or as many at a lower cost.
+/// Checks whether a step would break fewer hard rules, or equally many at a lower cost.
 pub fn lowers(occupied: &Occupied<'_, '_>, step: Step) -> bool
     requires { CanStep occupied.now.problem occupied.now.entries step }
     ensures { IsTrue result

@@ -1,8 +1,8 @@
-//! What one entry costs.
+//! The cost of one entry.
 
 ghost use Rattle.std.specs.Prelude.{◌<◌, ◌^◌};
 
-/// What an entry adds to the cost beside the other entries, and what it takes from it.
+/// The cost that an entry adds next to the other entries, and the cost that it removes.
 #[derive(Clone, Copy)]
 pub struct EntryCost {
     pub rise: u32,

@@ -13,17 +13,17 @@ use crate::step::Step;
 use tt_occupancy::Occupied;
 use tt_table::Entry;
 
-/// Exchanges, one after the other.
+/// Exchanges, in turn.
 #[derive(Clone, Copy)]
 pub enum Exchanges<'b, 'a, 'i> {
-    /// None, where the entries stay as they are but for their order.
+    /// No exchange: only the order of the entries changes.
     Same,
     One(Exchange<'b, 'a, 'i>),
     Two(Exchange<'b, 'a, 'i>, Exchange<'b, 'a, 'i>),
 }
 
 impl Exchanges<'_, '_, '_> {
-    /// What they change in the hard count.
+    /// Returns the change of the hard count by the exchanges.
     #[inline(always)]
     pub fn hard_change(&self) -> i64
         requires { CanLead self.now }
@@ -41,7 +41,7 @@ impl Exchanges<'_, '_, '_> {
         }
     }
 
-    /// What they change in the cost.
+    /// Returns the change of the cost by the exchanges.
     #[inline(always)]
     pub fn cost_change(&self) -> i64
         requires { CanLead self.now }
@@ -60,7 +60,7 @@ impl Exchanges<'_, '_, '_> {
     }
 }
 
-/// An entry with its own course, in the place of another one.
+/// Returns an entry with its own course and the place of another entry.
 fn in_place_of(entry: Entry, place: Entry) -> Entry
     ensures { result ≡ in_place_of entry place }
 {
@@ -70,7 +70,7 @@ fn in_place_of(entry: Entry, place: Entry) -> Entry
     }
 }
 
-/// The exchange that makes a move of one entry.
+/// Returns the exchange that makes a move of one entry.
 #[inline(always)]
 fn exchange_of_move<'b, 'a, 'i>(
     occupied: &'b Occupied<'a, 'i>,
@@ -98,7 +98,7 @@ fn exchange_of_move<'b, 'a, 'i>(
     }
 }
 
-/// The exchanges that make a swap of two entries: the first goes to the place of the second, then the second to its.
+/// Returns the exchanges that make a swap of two entries: the first moves to the place of the second, then the second to the place of the first.
 #[inline(always)]
 fn exchanges_of_swap<'b, 'a, 'i>(
     occupied: &'b Occupied<'a, 'i>,
@@ -133,7 +133,7 @@ fn exchanges_of_swap<'b, 'a, 'i>(
     )
 }
 
-/// The exchanges that make a step.
+/// Returns the exchanges that make a step.
 #[inline(always)]
 pub fn exchanges_of<'b, 'a, 'i>(occupied: &'b Occupied<'a, 'i>, step: Step) -> Exchanges<'b, 'a, 'i>
     requires { CanStep occupied.now.problem occupied.now.entries step }

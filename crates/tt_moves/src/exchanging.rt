@@ -1,4 +1,4 @@
-//! What another entry in the place of one changes in the score.
+//! The change of the score when one entry replaces another.
 
 ghost use Rattle.std.specs.Prelude.{◌≡◌, List, pos, neg_ℤ, ◌+ℤ◌, ◌≤ℤ◌, ◌^◌};
 ghost use Rattle.tt_instance.specs.Problem.{Problem};
@@ -11,14 +11,14 @@ use crate::cost::EntryCost;
 use crate::rest::Rest;
 use tt_table::Entry;
 
-/// The score after a step, less the score before it.
+/// The score after a step minus the score before it.
 #[derive(Clone, Copy, Debug, PartialEq, Eq)]
 pub struct Change {
     pub hard: i64,
     pub cost: i64,
 }
 
-/// The entry that a rest leaves out goes, and another one of its course comes.
+/// The entry that a rest leaves out is replaced by another of its course.
 #[derive(Clone, Copy)]
 pub struct Exchange<'b, 'a, 'i> {
     pub rest: Rest<'b, 'a, 'i>,
@@ -26,7 +26,7 @@ pub struct Exchange<'b, 'a, 'i> {
 }
 
 impl Exchange<'_, '_, '_> {
-    /// What it changes in the hard count.
+    /// Returns the change of the hard count by the exchange.
     pub fn hard_change(&self) -> i64
         requires { CanExchange self.now }
         ensures value { (p : Problem) (u s t : List Cell) → IsExchange p self.now u s t
@@ -39,7 +39,7 @@ impl Exchange<'_, '_, '_> {
         i64::from(after) - i64::from(before)
     }
 
-    /// What the entry costs that goes.
+    /// Returns the cost of the entry that is replaced.
     pub fn cost_before(&self) -> EntryCost
         requires { CanExchange self.now }
         ensures { (p : Problem) (u s t : List Cell) → IsExchange p self.now u s t
@@ -48,7 +48,7 @@ impl Exchange<'_, '_, '_> {
         self.rest.cost_weight(self.rest.gone)
     }
 
-    /// What it changes in the cost, where the entry that goes costs this.
+    /// Returns the change of the cost by the exchange, if the replaced entry has this cost.
     pub fn cost_change(&self, before: EntryCost) -> i64
         requires { CanExchange self.now }
         ensures value { (p : Problem) (u s t : List Cell) → IsExchange p self.now u s t

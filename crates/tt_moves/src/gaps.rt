@@ -1,4 +1,4 @@
-//! The isolated entries that an entry would make and join.
+//! The isolated entries that an entry would add and join.
 
 ghost use Rattle.std.specs.Prelude.{◌≡◌, ◌*◌, ◌<◌, ◌≤◌, true, List, length, filter, All};
 ghost use Rattle.tt_instance.specs.Cells.{InRange, all_curricula};
@@ -13,7 +13,7 @@ use tt_occupancy::Gaps;
 use tt_table::Entry;
 
 impl Rest<'_, '_, '_> {
-    /// The curricula of the course left out.
+    /// Returns the curricula of the course left out.
     fn curricula(&self) -> &[u32]
         requires { self.now.gone.course < length self.now.occupied.now.problem.courses }
         ensures value { result.now
@@ -24,12 +24,12 @@ impl Rest<'_, '_, '_> {
             result.now }
         ensures few { length result.now ≤ MAX_CURRICULA }
     {
-        // What is true of every instance: its curricula are few.
+        // This holds for every instance: the number of its curricula is limited.
         prove!(self.occupied.instance().curricula() <= MAX_CURRICULA);
         self.occupied.curricula_of(self.gone.course)
     }
 
-    /// What an entry of the course left out would change.
+    /// Returns the changes that an entry of the course left out would make.
     pub fn gaps(&self, entry: Entry) -> Gaps
         requires in_range { InRange self.now.occupied.now.problem entry }
         requires course { entry.course ≡ self.now.gone.course }

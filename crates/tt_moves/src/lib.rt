@@ -1,4 +1,4 @@
-//! Steps, what they change in the score, and Kempe chains.
+//! Steps, their changes of the score, and Kempe chains.
 #![tactic(auto)]
 
 mod beside;

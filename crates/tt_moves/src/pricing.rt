@@ -1,4 +1,4 @@
-//! What a step changes in the cost alone.
+//! The change of the cost alone by a step.
 
 ghost use Rattle.std.specs.Prelude.{◌≡◌, ◌<◌, length, pos, ◌+ℤ◌};
 ghost use Rattle.tt_rules.specs.Score.{cost};
@@ -11,7 +11,7 @@ use crate::rest::Rest;
 use crate::step::Step;
 use tt_occupancy::Occupied;
 
-/// What an entry costs where it stands. It is the same for all steps of the entry.
+/// Returns the cost of an entry at its place. It is the same for all steps of the entry.
 pub fn entry_cost(occupied: &Occupied<'_, '_>, entry: u32) -> EntryCost
     requires { entry < length occupied.now.entries }
     ensures { IsEntryCost occupied.now.problem occupied.now.entries entry result }
@@ -20,7 +20,7 @@ pub fn entry_cost(occupied: &Occupied<'_, '_>, entry: u32) -> EntryCost
     rest.cost_weight(rest.gone)
 }
 
-/// What a step would change in the cost, where its first entry costs this. Nothing is written and no memory is taken.
+/// Returns the change of the cost that a step would make, if its first entry has this cost. Nothing is written and no memory is allocated.
 pub fn cost_change(occupied: &Occupied<'_, '_>, step: Step, before: EntryCost) -> i64
     requires step { CanStep occupied.now.problem occupied.now.entries step }
     requires before { IsEntryCost occupied.now.problem occupied.now.entries (first_of step) before }

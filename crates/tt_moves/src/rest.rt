@@ -1,4 +1,4 @@
-//! A timetable less an entry, read without writing.
+//! A timetable without an entry, read without writing.
 
 ghost use Rattle.std.specs.Prelude.{◌≡◌, ◌+◌, ◌-◌, ◌<◌, ◌≤◌, ◌==◌, ◌&&◌, true, cond, List, ◌∷◌, length, remove};
 ghost use Rattle.tt_instance.specs.Cells.{InRange, slot, slot_of, is_at, is_in};
@@ -17,40 +17,40 @@ use tt_instance::Instance;
 use tt_occupancy::{Occupied, one_if};
 use tt_table::Entry;
 
-/// The entries of a timetable, but that one may stand elsewhere and one is left out.
+/// The entries of a timetable, except that one may be moved and one is left out.
 #[derive(Clone, Copy)]
 pub struct Rest<'b, 'a, 'i> {
     pub occupied: &'b Occupied<'a, 'i>,
-    /// The entry that stands elsewhere.
+    /// The moved entry in its old place.
     pub from: Entry,
-    /// That entry in its new place.
+    /// The moved entry in its new place.
     pub to: Entry,
     /// The entry left out.
     pub gone: Entry,
 }
 
-/// Whether an entry stands in a period.
+/// Checks whether an entry is in a period.
 pub fn stands_at(entry: Entry, day: u32, period: u32) -> bool
     ensures { result ≡ is_at (slot day period) entry }
 {
     entry.day == day && entry.period == period
 }
 
-/// Whether an entry stands in the room and the period of another one.
+/// Checks whether an entry is in the room and the period of another entry.
 fn stands_in(entry: Entry, place: Entry) -> bool
     ensures { result ≡ (is_in place.room entry && is_at (slot_of place) entry) }
 {
     entry.room == place.room && stands_at(entry, place.day, place.period)
 }
 
-/// Whether an entry stands in the period of another one, and their courses exclude each other.
+/// Checks whether an entry is in the period of another entry, and their courses conflict.
 fn collides(instance: &Instance<'_>, entry: Entry, place: Entry) -> bool
     ensures { result ≡ (conflict instance.now place.course entry.course && is_at (slot_of place) entry) }
 {
     instance.conflict(place.course, entry.course) && stands_at(entry, place.day, place.period)
 }
 
-/// A count over the timetable, as one over the rest.
+/// Returns a count over the rest, from the count over the timetable.
 fn adjusted(count: u32, to: bool, from: bool, gone: bool) -> u32
     requires few { count ≤ MAX_ENTRIES }
     requires enough { cond from 1 0 + cond gone 1 0 ≤ count + cond to 1 0 }
@@ -60,7 +60,7 @@ fn adjusted(count: u32, to: bool, from: bool, gone: bool) -> u32
     count + one_if(to) - one_if(from) - one_if(gone)
 }
 
-/// The places used, once an entry of one place stands in another.
+/// Returns the number of places used after an entry moves from one place to another.
 fn used_anew(used: u32, at_old: u32, at_new: u32, is_same: bool) -> u32
     requires few { used ≤ MAX_SLOTS }
     requires some { cond (at_old == 1) 1 0 ≤ used }
@@ -73,7 +73,7 @@ fn used_anew(used: u32, at_old: u32, at_new: u32, is_same: bool) -> u32
 }
 
 impl<'b, 'a, 'i> Rest<'b, 'a, 'i> {
-    /// All entries but one.
+    /// Returns all entries except one.
     #[inline(always)]
     pub fn without(occupied: &'b Occupied<'a, 'i>, entry: u32) -> Rest<'b, 'a, 'i>
         requires { entry < length occupied.now.entries }
@@ -91,7 +91,7 @@ impl<'b, 'a, 'i> Rest<'b, 'a, 'i> {
 }
 
 impl Rest<'_, '_, '_> {
-    /// The entries of a curriculum of the course left out, in a period; none past the day's end.
+    /// Returns the number of entries of a curriculum of the course left out, in a period; 0 past the day's end.
     pub fn standing(&self, curriculum: u32, other: bool, day: u32, period: u32) -> u32
         requires curriculum { curriculum < length self.now.occupied.now.problem.curricula }
         requires day { day < self.now.occupied.now.problem.days }
@@ -113,7 +113,7 @@ impl Rest<'_, '_, '_> {
         )
     }
 
-    /// Whether an entry of the course left out would share a period with another one of it.
+    /// Checks whether an entry of the course left out would share a period with another of the course.
     pub fn repeats(&self, entry: Entry) -> bool
         requires in_range { InRange self.now.occupied.now.problem entry }
         requires course { entry.course ≡ self.now.gone.course }
@@ -126,7 +126,7 @@ impl Rest<'_, '_, '_> {
         count > one_if(stands_at(self.gone, entry.day, entry.period))
     }
 
-    /// Whether an entry of the course left out would share a room with another one.
+    /// Checks whether an entry of the course left out would share a room with another entry.
     pub fn shares(&self, entry: Entry) -> bool
         requires in_range { InRange self.now.occupied.now.problem entry }
         requires rest { (u : List Cell) × IsRest self.now u }
@@ -141,7 +141,7 @@ impl Rest<'_, '_, '_> {
         ) > 0
     }
 
-    /// The entries with which an entry would collide.
+    /// Returns the number of entries with which an entry would collide.
     pub fn against(&self, entry: Entry) -> u32
         requires in_range { InRange self.now.occupied.now.problem entry }
         requires rest { (u : List Cell) × IsRest self.now u }
@@ -161,7 +161,7 @@ impl Rest<'_, '_, '_> {
         )
     }
 
-    /// The days of the course left out, with an entry of it.
+    /// Returns the number of days of the course left out, with an entry of it.
     pub fn days_with(&self, entry: Entry) -> u32
         requires in_range { InRange self.now.occupied.now.problem entry }
         requires course { entry.course ≡ self.now.gone.course }
@@ -178,7 +178,7 @@ impl Rest<'_, '_, '_> {
         )
     }
 
-    /// The rooms of the course left out, with an entry of it.
+    /// Returns the number of rooms of the course left out, with an entry of it.
     pub fn rooms_with(&self, entry: Entry) -> u32
         requires in_range { InRange self.now.occupied.now.problem entry }
         requires course { entry.course ≡ self.now.gone.course }

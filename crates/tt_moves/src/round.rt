@@ -1,4 +1,4 @@
-//! The periods of a day with an entry of a curriculum, and what one more entry would change.
+//! The periods of a day with an entry of a curriculum, and the changes that another entry would make.
 
 ghost use Rattle.std.specs.Prelude.{◌≡◌, ℕ, ◌+◌, ◌^◌, ◌<◌, ◌≤◌, ◌&&◌, nat_lt, cond, not, true, List, [], ◌∷◌, ◌++◌, length};
 ghost use Rattle.tt_bits.specs.Bits.{has_bit};
@@ -19,7 +19,7 @@ use tt_table::Entry;
 use tt_tallies::put;
 
 impl Rest<'_, '_, '_> {
-    /// Whether the entry that stands elsewhere is to be counted anew in a curriculum.
+    /// Checks whether the moved entry has to be counted again in a curriculum.
     fn is_other(&self, curriculum: u32, is_still: bool) -> bool
         ensures { result ≡ (not is_still
             && in_curriculum self.now.occupied.now.problem curriculum self.now.from.course) }
@@ -31,7 +31,7 @@ impl Rest<'_, '_, '_> {
                 .in_curriculum(curriculum, self.from.course)
     }
 
-    /// The set with the period of an entry on this day counted anew.
+    /// Returns the set after counting the period of an entry on this day again.
     fn recounted(&self, set: u64, curriculum: u32, other: bool, day: u32, entry: Entry) -> u64
         requires curriculum { curriculum < length self.now.occupied.now.problem.curricula }
         requires day { day < self.now.occupied.now.problem.days }
@@ -49,7 +49,7 @@ impl Rest<'_, '_, '_> {
         put(set, entry.period, count > 0)
     }
 
-    /// The periods of a day with an entry of a curriculum of the course left out, as a set.
+    /// Returns the periods of a day with an entry of a curriculum of the course left out, as a set.
     fn standing_on(&self, curriculum: u32, other: bool, day: u32) -> u64
         requires curriculum { curriculum < length self.now.occupied.now.problem.curricula }
         requires day { day < self.now.occupied.now.problem.days }
@@ -67,7 +67,7 @@ impl Rest<'_, '_, '_> {
         self.recounted(left, curriculum, other, day, self.to)
     }
 
-    /// The isolated entries in the period before, which an entry in this period would join.
+    /// Returns the number of isolated entries in the period before, which an entry in this period would join.
     fn joined_before(
         &self,
         isolated: u64,
@@ -87,7 +87,7 @@ impl Rest<'_, '_, '_> {
             → result ≡ joined_before self.now.occupied.now.problem u curriculum day period }
         ensures few { result ≤ 16385 }
     {
-        // What is true of every instance: its periods fit a word.
+        // This holds for every instance: its periods fit a word.
         prove!(self.occupied.instance().periods() <= MAX_PERIODS);
         if has_bit(next(isolated), period) {
             self.standing(curriculum, other, day, period - 1)
@@ -96,7 +96,7 @@ impl Rest<'_, '_, '_> {
         }
     }
 
-    /// Those in the period after.
+    /// Returns the number of isolated entries in the period after, which an entry in this period would join.
     fn joined_after(
         &self,
         isolated: u64,
@@ -116,7 +116,7 @@ impl Rest<'_, '_, '_> {
             → result ≡ joined_after self.now.occupied.now.problem u curriculum day period }
         ensures few { result ≤ 16385 }
     {
-        // What is true of every instance: its periods fit a word.
+        // This holds for every instance: its periods fit a word.
         prove!(self.occupied.instance().periods() <= MAX_PERIODS);
         if has_bit(previous(isolated), period) {
             self.standing(curriculum, other, day, period + 1)
@@ -125,7 +125,7 @@ impl Rest<'_, '_, '_> {
         }
     }
 
-    /// With what an entry of the course left out would change in one more curriculum.
+    /// Adds the changes that an entry of the course left out would make in another curriculum.
     pub fn with(&self, gaps: Gaps, curriculum: u32, is_still: bool, day: u32, period: u32) -> Gaps
         requires curriculum { curriculum < length self.now.occupied.now.problem.curricula }
         requires day { day < self.now.occupied.now.problem.days }
@@ -141,7 +141,7 @@ impl Rest<'_, '_, '_> {
         ensures few_alone { result.alone ≤ gaps.alone + 1 }
         ensures few_joined { result.joined ≤ gaps.joined + 32770 }
     {
-        // What is true of every instance: its periods fit a word.
+        // This holds for every instance: its periods fit a word.
         prove!(self.occupied.instance().periods() <= MAX_PERIODS);
         let other = self.is_other(curriculum, is_still);
         let set = self.standing_on(curriculum, other, day);

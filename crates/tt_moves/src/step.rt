@@ -10,7 +10,7 @@ use tt_table::Entry;
 /// A change of one entry, or of two. Entries are numbered from 0 in the order of the list.
 #[derive(Clone, Copy, Debug, PartialEq, Eq)]
 pub enum Step {
-    /// Gives an entry another room and period.
+    /// Changes the room and period of an entry.
     Move {
         entry: u32,
         room: u32,
@@ -24,7 +24,7 @@ pub enum Step {
     },
 }
 
-/// Whether a step can be made: its numbers are an entry's, a room's and a period's.
+/// Checks whether a step can be made: its numbers are an entry's, a room's and a period's.
 pub fn can_step(occupied: &Occupied<'_, '_>, step: Step) -> bool
     ensures { IsTrue result ↔ CanStep occupied.now.problem occupied.now.entries step }
 {
@@ -46,7 +46,7 @@ pub fn can_step(occupied: &Occupied<'_, '_>, step: Step) -> bool
     }
 }
 
-/// Makes a step, and answers the one that takes it back.
+/// Makes a step, and returns the step that undoes it.
 pub fn apply(occupied: &mut Occupied<'_, '_>, step: Step) -> Step
     requires { CanStep occupied.old.problem occupied.old.entries step }
     ensures stepped { occupied.new ≡ record {
@@ -79,7 +79,7 @@ pub fn apply(occupied: &mut Occupied<'_, '_>, step: Step) -> Step
     }
 }
 
-/// Makes the step that `apply` answered.
+/// Makes the step that `apply` returned.
 pub fn undo(occupied: &mut Occupied<'_, '_>, step: Step)
     requires { CanStep occupied.old.problem occupied.old.entries step }
     ensures { occupied.new ≡ record {
@@ -90,7 +90,7 @@ pub fn undo(occupied: &mut Occupied<'_, '_>, step: Step)
     apply(occupied, step);
 }
 
-/// Makes steps, one after the other. `Occupied::score` is then the score of the list to which they lead.
+/// Makes steps in turn. `Occupied::score` is then the score of the list to which they lead.
 pub fn apply_all(occupied: &mut Occupied<'_, '_>, steps: &[Step])
     requires { CanStepBy occupied.old.problem occupied.old.entries steps.now }
     ensures { occupied.new ≡ record {

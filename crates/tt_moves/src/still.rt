@@ -1,4 +1,4 @@
-//! Where the entry that stands elsewhere makes no difference.
+//! The conditions under which the moved entry makes no difference.
 
 ghost use Rattle.std.specs.Prelude.{◌≡◌, ℕ, true, false, List};
 ghost use Rattle.tt_instance.specs.Courses.{in_curriculum};
@@ -8,7 +8,7 @@ ghost use Rattle.tt_moves.specs.Rests.{IsRest, IsStill};
 use crate::rest::Rest;
 
 impl Rest<'_, '_, '_> {
-    /// Whether the entry that stands elsewhere is of a course that shares no curriculum with the one left out.
+    /// Checks whether the moved entry is of a course that shares no curriculum with the one left out.
     fn is_stranger(&self) -> bool
         ensures { result ≡ true → (q : ℕ)
             → in_curriculum self.now.occupied.now.problem q self.now.gone.course ≡ true
@@ -18,7 +18,7 @@ impl Rest<'_, '_, '_> {
         own != other && !self.occupied.instance().conflict(own, other)
     }
 
-    /// Whether the entry that stands elsewhere makes no difference on a day, in any curriculum of the course left out.
+    /// Checks whether the moved entry makes no difference on a day, in any curriculum of the course left out.
     pub fn is_still(&self, day: u32) -> bool
         requires { (u : List Cell) × IsRest self.now u }
         ensures { result ≡ true → IsStill self.now day }

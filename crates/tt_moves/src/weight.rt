@@ -1,4 +1,4 @@
-//! What an entry weighs beside the others.
+//! The weight of an entry next to the others.
 
 ghost use Rattle.std.specs.Prelude.{◌≡◌, ◌+◌, ◌-◌, ◌*◌, ◌<◌, ◌≤◌, ◌^◌, List, ◌∷◌};
 ghost use Rattle.tt_instance.specs.Cells.{InRange};
@@ -14,7 +14,7 @@ use tt_occupancy::one_if;
 use tt_table::Entry;
 
 impl Rest<'_, '_, '_> {
-    /// What the days and rooms of the course left out cost, with an entry of it.
+    /// Returns the cost of the days and rooms of the course left out, with an entry of it.
     fn spread_cost(&self, entry: Entry) -> u32
         requires in_range { InRange self.now.occupied.now.problem entry }
         requires course { entry.course ≡ self.now.gone.course }
@@ -29,7 +29,7 @@ impl Rest<'_, '_, '_> {
         5 * days + self.rooms_with(entry).saturating_sub(1)
     }
 
-    /// What an entry of the course left out adds to the cost, and what it takes from it.
+    /// Returns the cost that an entry of the course left out adds, and the cost that it removes.
     pub fn cost_weight(&self, entry: Entry) -> EntryCost
         requires in_range { InRange self.now.occupied.now.problem entry }
         requires course { entry.course ≡ self.now.gone.course }
@@ -47,7 +47,7 @@ impl Rest<'_, '_, '_> {
         }
     }
 
-    /// What an entry of the course left out adds to the hard count.
+    /// Returns the amount that an entry of the course left out adds to the hard count.
     pub fn hard_weight(&self, entry: Entry) -> u32
         requires in_range { InRange self.now.occupied.now.problem entry }
         requires course { entry.course ≡ self.now.gone.course }

@@ -1,4 +1,4 @@
-//! What a step changes where it breaks few hard rules: its hard change is looked at first.
+//! The changes by a step that breaks few hard rules: its change of the hard count is computed first.
 
 ghost use Rattle.std.specs.Prelude.{◌≡◌, pos, ◌+ℤ◌, ◌≤ℤ◌, ◌<ℤ◌, IfSome, IfNone};
 ghost use Rattle.tt_rules.specs.Score.{hard, cost};
@@ -9,7 +9,7 @@ use crate::exchanging::Change;
 use crate::step::Step;
 use tt_occupancy::Occupied;
 
-/// What a step would change in the hard count alone. Nothing is written and no memory is taken.
+/// Returns the change that a step would make in the hard count alone. Nothing is written and no memory is allocated.
 pub fn hard_change(occupied: &Occupied<'_, '_>, step: Step) -> i64
     requires { CanStep occupied.now.problem occupied.now.entries step }
     ensures { pos (hard occupied.now.problem occupied.now.entries) +ℤ result
@@ -18,8 +18,8 @@ pub fn hard_change(occupied: &Occupied<'_, '_>, step: Step) -> i64
     exchanges_of(occupied, step).hard_change()
 }
 
-/// What a step would change, where it breaks at most `limit` more hard rules than the timetable, and `None` where it breaks
-/// more: then its cost is not computed. Nothing is written and no memory is taken.
+/// Returns the changes that a step would make, if it breaks at most `limit` more hard rules than the timetable, and `None` if it breaks
+/// more: then its cost is not computed. Nothing is written and no memory is allocated.
 pub fn change_within(occupied: &Occupied<'_, '_>, step: Step, limit: i64) -> Option<Change>
     requires { CanStep occupied.now.problem occupied.now.entries step }
     ensures hard { IfSome result (λ c. pos (hard occupied.now.problem occupied.now.entries) +ℤ c.hard

@@ -1,4 +1,4 @@
--- The eight counts once an entry is replaced by another one of its course.
+-- The eight counts after an entry is replaced by another of its course.
 use Rattle.std.proofs.Common.{◌≡◌, ◌+◌, ◌*◌, ◌≤◌, List, ◌∷◌, length, arith}
 use Rattle.std.proofs.lemmas.List.Elements.{All-head}
 use Rattle.tt_lists.proofs.Sums.{one_if-le}

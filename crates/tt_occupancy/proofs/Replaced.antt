@@ -1,4 +1,4 @@
--- Tables and scores of a list of which one entry is replaced.
+-- Tables and scores of a list in which one entry is replaced.
 use Rattle.std.proofs.Common.{◌≡◌, ℕ, ◌+◌, ◌<◌, Bool, ◌&&◌, List, ◌∷◌, length, get_or, set, take, sym, ap, ◌∙◌, subst, arith, inl, inr}
 use Rattle.std.specs.Prelude.{sum_by, remove, ◌==◌, slice_get, Some}
 use Rattle.std.specs.List.{list_any}
@@ -75,22 +75,22 @@ module _ (p : Problem) (s t : List Cell) (same : SameBag s t) where
 -- ---- one entry of a list
 
 module _ {X : Type 0} (t : List X) (i : ℕ) (e d : X) (inside : i < length t) where
-  -- it may stand before the others
+  -- an entry may be moved before the others
   pub same_front : e ≡ get_or t i d → SameBag t (e ∷ remove t i)
   same_front is f = bag_front t i d inside f ∙ ap (λ z. sum_by f (z ∷ remove t i)) (sym is)
 
-  -- and another one in its place
+  -- a list with one entry replaced has the elements of the new entry and the others
   pub same_set : SameBag (e ∷ remove t i) (set t i e)
   same_set f = sym (bag_set t i e d inside f)
 
-  -- and the next one before those so far
+  -- the next entry may be moved before those so far
   pub same_more : e ≡ get_or t i d → SameBag (e ∷ take i t) (take (i + 1) t)
   same_more is f = let a = ap f is in omega (arith, sum_by-cons f e (take i t), sum_by_more f t i d inside)
 
 -- ---- one entry of a timetable of p
 
 module _ (p : Problem) (t : List Cell) (i : ℕ) (inside : i < length t) where
-  -- the others are in range
+  -- the other entries are in range
   others_in_range : IsTimetable p t → IsTimetable p (remove t i)
   others_in_range ok k d l =
       let n = length-remove t i inside in
@@ -99,7 +99,7 @@ module _ (p : Problem) (t : List Cell) (i : ℕ) (inside : i < length t) where
         | inr m ↦ subst (InRange p) (sym (get_or-remove_above t i d k m inside)) (ok (k + 1) d (omega arith))
       ]
 
-  -- what is kept of the list is kept of the entry before the others
+  -- tables and a score of the list are those of the entry followed by the others
   pub counted_front : (from : Cell) (x : Tables) (s : Score) → slice_get t i ≡ Some from → IsCounted p t x s → IsCounted p (from ∷ remove t i) x s
   counted_front from x s found ok =
       let is : from ≡ get_or t i from = sym (get_or_from_slice_get t i from from found) in
@@ -113,7 +113,7 @@ module _ (p : Problem) (t : List Cell) (i : ℕ) (inside : i < length t) where
         score = score_same p t (from ∷ remove t i) same s ok.score;
       }
 
-  -- and what is kept of another entry before them is kept of the list with it
+  -- tables and a score of another entry followed by the others are those of the list with this entry
   pub counted_set : (e : Cell) (x : Tables) (s : Score) (new : List Cell) → new ≡ set t i e → IsTimetable p t → IsCounted p (e ∷ remove t i) x s → IsCounted p new x s
   counted_set e x s new is in_range ok =
       let same = same_set t i e e inside in

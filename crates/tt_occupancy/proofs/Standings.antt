@@ -1,4 +1,4 @@
--- Entries of a curriculum round a period, by their counts.
+-- Entries of a curriculum around a period, by their counts.
 use Rattle.std.proofs.Common.{◌≡◌, ℕ, ◌+◌, ◌-◌, ◌≤◌, ◌<◌, Bool, cond, not, ◌&&◌, ◌||◌, List, length, sym, ap, ◌∙◌, subst, arith, inl, inr, eqb-true}
 use Rattle.std.specs.Prelude.{◌==◌, nat_lt, nat_le, sum_by, filter}
 use Rattle.std.proofs.lemmas.Bool.{cases_lt, lt-ltb, le-ltb, and_parts}
@@ -22,7 +22,7 @@ use Rattle.tt_occupancy.specs.Around.{IsAround, AreGaps}
 use Rattle.tt_occupancy.specs.declared.around.Around.{Around}
 use Rattle.tt_occupancy.specs.declared.gaps.Gaps.{Gaps}
 
--- no entry in range stands past the day's end
+-- no entry in range is past the day's end
 pub none_standing : (p : Problem) (u : List Cell) (q d s : ℕ) → IsTimetable p u → p.periods ≤ s → 0 ≡ standing p u q d s
 none_standing p u q d s ok h = sym (none_counted (λ e. in_curriculum p q e.course && is_at (slot d s) e) u (λ x member e.
     let r = subst (InRange p) member.2 (ok member.0 x member.1) in
@@ -32,7 +32,7 @@ none_standing p u q d s ok h = sym (none_counted (λ e. in_curriculum p q e.cour
     let k = r.period in
     omega arith))
 
--- where the table w counts the entries, by its periods
+-- whether the table w, which counts the entries, has some in a period
 pub some_standing : (p : Problem) (u : List Cell) (w : Week) → IsTimetable p u → IsTally p (length p.curricula) (of_curriculum p) u w → (q d s : ℕ) → q < length p.curricula → d < p.days → (nat_lt s w.periods && nat_lt 0 (in_period w q d s)) ≡ nat_lt 0 (standing p u q d s)
 some_standing p u w ok tally q d s row day = elim (cases_lt s w.periods) [
   | inl h ↦ ap (λ b. b && nat_lt 0 (in_period w q d s)) (lt-ltb s w.periods h) ∙ ap (nat_lt 0) (tally.counts q d s row day (omega (arith, tally.periods)))
@@ -63,7 +63,7 @@ module _ (f : ℕ → ℕ) (s two_before before here after two_after : ℕ) (a :
   after_by_counts : here ≤ 0 → cond (two_after == 0) after 0 ≡ after_of f s
   after_by_counts none = grind (arith, nat_tests)
 
--- ---- the entries u of curriculum q on day d, round period s
+-- -- the entries u of curriculum q on day d, around period s
 
 module _ (p : Problem) (u : List Cell) (q d s : ℕ) where
   beside_is : (k : ℕ) → beside (standing p u q d) k ≡ stands_beside p u q d k

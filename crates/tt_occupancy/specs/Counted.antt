@@ -1,5 +1,5 @@
--- Only proofs rest on this file: nobody has to believe it.
--- What is kept of a list of entries.
+-- Not part of the trusted statement: only proofs use this file.
+-- The tables and the score of a list of entries.
 use Rattle.std.specs.Prelude.{◌≤◌, List, length}
 use Rattle.tt_instance.specs.Problem.{Problem}
 use Rattle.tt_instance.specs.Limits.{IsInstance}

@@ -1,4 +1,4 @@
--- A timetable of an instance, and its next ones.
+-- A timetable of an instance, and its state after a move or an exchange.
 use Rattle.std.specs.Prelude.{ℕ, List, slice_index_or, slice_set}
 use Rattle.tt_instance.specs.Problem.{Problem}
 use Rattle.tt_instance.specs.declared.cell.Cell.{Cell}
@@ -14,7 +14,7 @@ no_entry = record { course = 0; room = 0; day = 0; period = 0 }
 abbrev pub entry_at : List Cell → ℕ → Cell
 entry_at t i = slice_index_or t i no_entry
 
--- the entry's course where the other entry stands
+-- the entry's course in the room, day and period of the other entry
 abbrev pub in_place_of : Cell → Cell → Cell
 in_place_of e place = record { course = e.course; room = place.room; day = place.day; period = place.period }
 

@@ -1,5 +1,5 @@
--- Only proofs rest on this file: nobody has to believe it.
--- What is true of the fields at all times.
+-- Not part of the trusted statement: only proofs use this file.
+-- The invariant of the fields.
 use Rattle.tt_occupancy.specs.Counted.{IsCounted}
 use Rattle.tt_occupancy.specs.declared.occupied.Occupied.TheInside.{Inside}
 

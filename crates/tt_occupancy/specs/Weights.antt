@@ -1,5 +1,5 @@
--- Only proofs rest on this file: nobody has to believe it.
--- What a weight says, and when a score is kept by weights.
+-- Not part of the trusted statement: only proofs use this file.
+-- The meaning of a weight, and the conditions for updating a score by weights.
 use Rattle.std.specs.Prelude.{◌≡◌, ℕ, ◌+◌, ◌^◌, ◌<◌, ◌≤◌, List, ◌∷◌, length, cond}
 use Rattle.tt_instance.specs.Problem.{Problem}
 use Rattle.tt_instance.specs.Cells.{InRange}
@@ -13,7 +13,7 @@ use Rattle.tt_change.specs.Weight.{repeats, against, barred, shares, alone, all_
 use Rattle.tt_occupancy.specs.declared.weight.Weight.{Weight}
 use Rattle.tt_table.specs.declared.table.TheConstants.{MAX_ENTRIES}
 
--- what entry x weighs beside the list u
+-- whether w is the weight of entry x next to the list u
 pub record IsWeight (p : Problem) (u : List Cell) (x : Cell) (w : Weight) : Type 0 where
   pub repeats : w.repeats ≡ cond (repeats u x) 1 0
   pub against : w.against ≡ against p u x
@@ -25,7 +25,7 @@ pub record IsWeight (p : Problem) (u : List Cell) (x : Cell) (w : Weight) : Type
   pub joined : w.joined ≡ all_joined p u x
   pub rooms : w.rooms ≡ stability_cost p (x ∷ u) x.course
 
--- the score and the weights of an entry x and of another entry y of its course, both beside u
+-- the score and the weights of an entry x and of another entry y of its course, both next to u
 pub record IsExchange (p : Problem) (u : List Cell) (x y : Cell) (s : Score) (from to : Weight) : Type 0 where
   pub instance : IsInstance p
   pub few : length u < MAX_ENTRIES
@@ -36,7 +36,7 @@ pub record IsExchange (p : Problem) (u : List Cell) (x y : Cell) (s : Score) (fr
   pub from_weight : IsWeight p u x from
   pub to_weight : IsWeight p u y to
 
--- n is the count once one weight is taken from it and another one added; none is large
+-- whether n is the count after one weight is subtracted and another one added, and none is large
 pub record IsExchanged (n total from to : ℕ) : Type 0 where
   pub sum : n + from ≡ total + to
   pub few : n ≤ 2 ^ 40

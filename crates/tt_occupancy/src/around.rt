@@ -1,4 +1,4 @@
-//! The entries of a curriculum round a period.
+//! The entries of a curriculum around a period.
 
 ghost use Rattle.std.specs.Prelude.{◌≡◌, ℕ, ◌+◌, ◌^◌, ◌<◌, ◌≤◌, not, List};
 ghost use Rattle.tt_instance.specs.Problem.{Problem};
@@ -6,7 +6,7 @@ ghost use Rattle.tt_instance.specs.declared.cell.Cell.{Cell};
 ghost use Rattle.tt_change.specs.Standing.{stands_beside, joined_before, joined_after};
 ghost use Rattle.tt_occupancy.specs.Around.{IsAround};
 
-/// How many entries stand in a period, in the two before it and in the two after it.
+/// The number of entries in a period, in each of the two periods before it and in each of the two after it.
 #[derive(Clone, Copy)]
 pub struct Around {
     pub two_before: u32,
@@ -17,7 +17,7 @@ pub struct Around {
 }
 
 impl Around {
-    /// Whether an entry in the period would be isolated.
+    /// Checks whether an entry in the period would be isolated.
     pub fn is_alone(self) -> bool
         ensures { (p : Problem) (u : List Cell) (q d s : ℕ) → IsAround p u q d s self
             → result ≡ not (stands_beside p u q d s) }
@@ -25,7 +25,7 @@ impl Around {
         self.before == 0 && self.after == 0
     }
 
-    /// The isolated entries that one in the period would join.
+    /// Returns the number of isolated entries that an entry in the period would join.
     pub fn joined(self) -> u32
         requires { self.before + self.after < 2 ^ 32 }
         ensures value { (p : Problem) (u : List Cell) (q d s : ℕ) → IsAround p u q d s self

@@ -11,7 +11,7 @@ use tt_instance::Instance;
 use tt_table::Entry;
 use tt_tallies::Tables;
 
-/// The tables of the entries.
+/// Returns the tables of the entries.
 pub fn tables_of(
     alloc: Global,
     instance: &Instance<'_>,
@@ -20,7 +20,7 @@ pub fn tables_of(
     requires in_range { IsTimetable instance.now entries.now }
     requires few { length entries.now ≤ MAX_ENTRIES }
     ensures tables { IfOk result (AreTables instance.now entries.now) }
-    // What is true of every instance.
+    // This holds for every instance.
     ensures instance { IsInstance instance.now }
 {
     let mut tables = Tables::new(alloc, instance)?;

@@ -1,4 +1,4 @@
-//! How many entries stand in a place.
+//! The numbers of entries, by their place.
 
 ghost use Rattle.std.specs.Prelude.{◌≡◌, ℕ, ◌<◌, ◌≤◌, ◌&&◌, nat_lt, length, filter, count_by};
 ghost use Rattle.tt_bits.specs.Bits.{has_bit};
@@ -13,14 +13,14 @@ use crate::occupied::Occupied;
 use tt_instance::Instance;
 
 impl<'a, 'i> Occupied<'a, 'i> {
-    /// The instance.
+    /// Returns the instance.
     pub fn instance(&self) -> &'a Instance<'i>
         ensures { result.now ≡ self.now.problem }
     {
         self.instance
     }
 
-    /// The curricula of a course, each once.
+    /// Returns the curricula of a course, each once.
     pub fn curricula_of(&self, course: u32) -> &[u32]
         requires { course < length self.now.problem.courses }
         ensures { result.now ≡ filter (λ q. in_curriculum self.now.problem q course)
@@ -29,7 +29,7 @@ impl<'a, 'i> Occupied<'a, 'i> {
         self.tables.links.curricula_of(course)
     }
 
-    /// The entries of a room in a period.
+    /// Returns the number of entries in a room in a period.
     pub fn in_room(&self, room: u32, day: u32, period: u32) -> u32
         requires room { room < length self.now.problem.rooms }
         requires day { day < self.now.problem.days }
@@ -42,7 +42,7 @@ impl<'a, 'i> Occupied<'a, 'i> {
         u32::from(self.tables.rooms.get(room, day, period))
     }
 
-    /// The entries of a teacher in a period.
+    /// Returns the number of entries of a teacher in a period.
     pub fn of_teacher(&self, teacher: u32, day: u32, period: u32) -> u32
         requires teacher { teacher < length (teachers self.now.problem) }
         requires day { day < self.now.problem.days }
@@ -55,7 +55,7 @@ impl<'a, 'i> Occupied<'a, 'i> {
         u32::from(self.tables.teachers.get(teacher, day, period))
     }
 
-    /// The entries of the courses of a curriculum in a period.
+    /// Returns the number of entries of the courses of a curriculum in a period.
     pub fn of_curriculum(&self, curriculum: u32, day: u32, period: u32) -> u32
         requires curriculum { curriculum < length self.now.problem.curricula }
         requires day { day < self.now.problem.days }
@@ -68,7 +68,7 @@ impl<'a, 'i> Occupied<'a, 'i> {
         u32::from(self.tables.curricula.week.get(curriculum, day, period))
     }
 
-    /// The periods of a day with an entry of a course of a curriculum, as a set.
+    /// Returns the periods of a day with an entry of a course of a curriculum, as a set.
     pub fn curriculum_on(&self, curriculum: u32, day: u32) -> u64
         requires curriculum { curriculum < length self.now.problem.curricula }
         requires day { day < self.now.problem.days }
@@ -79,7 +79,7 @@ impl<'a, 'i> Occupied<'a, 'i> {
         self.tables.curricula.word(curriculum, day)
     }
 
-    /// The entries of a course in a period.
+    /// Returns the number of entries of a course in a period.
     pub fn of_course(&self, course: u32, day: u32, period: u32) -> u32
         requires course { course < length self.now.problem.courses }
         requires day { day < self.now.problem.days }
@@ -92,7 +92,7 @@ impl<'a, 'i> Occupied<'a, 'i> {
         u32::from(self.tables.courses.get(course, day, period))
     }
 
-    /// The entries of a period whose courses exclude a course.
+    /// Returns the number of entries in a period whose courses conflict with a course.
     pub fn opposing(&self, course: u32, day: u32, period: u32) -> u32
         requires course { course < length self.now.problem.courses }
         requires day { day < self.now.problem.days }
@@ -105,7 +105,7 @@ impl<'a, 'i> Occupied<'a, 'i> {
         u32::from(self.tables.opponents.get(course, day, period))
     }
 
-    /// The entries of a course on a day.
+    /// Returns the number of entries of a course on a day.
     pub fn on_day(&self, course: u32, day: u32) -> u32
         requires course { course < length self.now.problem.courses }
         requires day { day < self.now.problem.days }
@@ -115,7 +115,7 @@ impl<'a, 'i> Occupied<'a, 'i> {
         u32::from(self.tables.days.get(course, day))
     }
 
-    /// The entries of a course in a room.
+    /// Returns the number of entries of a course in a room.
     pub fn course_in_room(&self, course: u32, room: u32) -> u32
         requires course { course < length self.now.problem.courses }
         requires room { room < length self.now.problem.rooms }
@@ -125,7 +125,7 @@ impl<'a, 'i> Occupied<'a, 'i> {
         u32::from(self.tables.course_rooms.get(course, room))
     }
 
-    /// The days on which a course is taught.
+    /// Returns the number of days on which a course is taught.
     pub fn days_used(&self, course: u32) -> u32
         requires { course < length self.now.problem.courses }
         ensures count { result ≡ days_of self.now.problem self.now.entries course }
@@ -134,7 +134,7 @@ impl<'a, 'i> Occupied<'a, 'i> {
         u32::from(self.tables.days.used(course))
     }
 
-    /// The rooms in which a course is taught.
+    /// Returns the number of rooms in which a course is taught.
     pub fn rooms_used(&self, course: u32) -> u32
         requires { course < length self.now.problem.courses }
         ensures count { result ≡ rooms_of self.now.problem self.now.entries course }

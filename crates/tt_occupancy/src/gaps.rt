@@ -1,4 +1,4 @@
-//! The isolated entries that an entry would make and join.
+//! The isolated entries that an entry would add and join.
 
 ghost use Rattle.std.specs.Prelude.{◌≡◌, ℕ, ◌+◌, ◌-◌, ◌*◌, ◌^◌, ◌<◌, ◌≤◌, nat_le, cond, List, [], ◌∷◌, ◌++◌, length, All};
 ghost use Rattle.tt_instance.specs.Problem.{Problem};
@@ -13,17 +13,17 @@ use crate::around::Around;
 use crate::weighing::one_if;
 use tt_tallies::Week;
 
-/// What an entry would change in the isolated entries of its curricula.
+/// The changes that an entry would make to the isolated entries of its curricula.
 #[derive(Clone, Copy)]
 pub struct Gaps {
-    /// The curricula in which it would be isolated.
+    /// The number of curricula in which it would be isolated.
     pub alone: u32,
-    /// The isolated entries that it would join.
+    /// The number of isolated entries that it would join.
     pub joined: u32,
 }
 
 impl Gaps {
-    /// With those of one more curriculum, whose entries stand so round the period.
+    /// Adds the changes in another curriculum, which has these entries around the period.
     pub fn with(self, around: Around) -> Gaps
         requires alone { self.alone + 1 < 2 ^ 32 }
         requires joined { self.joined + around.before + around.after < 2 ^ 32 }
@@ -40,7 +40,7 @@ impl Gaps {
     }
 }
 
-/// The entries of a curriculum in a period; none past the day's end.
+/// Returns the number of entries of a curriculum in a period; 0 past the day's end.
 fn standing(week: &Week, row: u32, day: u32, period: u32) -> u32
     requires row { row < week.now.grid.rows }
     requires day { day < week.now.days }
@@ -56,7 +56,7 @@ fn standing(week: &Week, row: u32, day: u32, period: u32) -> u32
     }
 }
 
-/// Those this many periods before a period; none before the first one of the day.
+/// Returns the number of entries `by` periods before a period; 0 before the first period of the day.
 fn standing_before(week: &Week, row: u32, day: u32, period: u32, by: u32) -> u32
     requires row { row < week.now.grid.rows }
     requires day { day < week.now.days }
@@ -72,7 +72,7 @@ fn standing_before(week: &Week, row: u32, day: u32, period: u32, by: u32) -> u32
     }
 }
 
-/// The entries of a curriculum round a period.
+/// Returns the entries of a curriculum around a period.
 fn around(week: &Week, row: u32, day: u32, period: u32) -> Around
     requires row { row < week.now.grid.rows }
     requires day { day < week.now.days }
@@ -91,7 +91,7 @@ fn around(week: &Week, row: u32, day: u32, period: u32) -> Around
     }
 }
 
-/// What an entry of these curricula would change, in a period.
+/// Returns the changes that an entry of these curricula would make in a period.
 pub fn gaps_round(week: &Week, rows: &[u32], day: u32, period: u32) -> Gaps
     requires rows { All (λ q. q < week.now.grid.rows) rows.now }
     requires day { day < week.now.days }

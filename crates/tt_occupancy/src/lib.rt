@@ -1,4 +1,4 @@
-//! A timetable with the counts of its entries and its score, all kept up to date.
+//! A timetable with the counts of its entries and its score, which are updated with each change.
 #![tactic(auto)]
 
 mod around;

@@ -16,7 +16,7 @@ use tt_rules::Score;
 use tt_table::{Entry, Timetable};
 use tt_tallies::Tables;
 
-/// A timetable whose tables no memory was left for.
+/// A timetable for whose tables memory ran out.
 #[derive(Drop)]
 pub struct Refused {
     pub table: Timetable,
@@ -44,7 +44,7 @@ impl<'a, 'i> Model for Occupied<'a, 'i> {
 }
 
 impl<'a, 'i> Occupied<'a, 'i> {
-    /// The timetable with its counts and its score. No later call takes memory.
+    /// Returns the timetable with its counts and its score. No later call allocates memory.
     pub fn new(
         alloc: Global,
         instance: &'a Instance<'i>,
@@ -52,7 +52,7 @@ impl<'a, 'i> Occupied<'a, 'i> {
     ) -> Result<Occupied<'a, 'i>, Refused>
         requires { IsTimetable instance.now table }
         ensures ok { IfOk result (λ o. o ≡ record { problem = instance.now; entries = table }) }
-        // The table comes back where memory ran out.
+        // The error returns the table if memory runs out.
         ensures err { IfErr result (λ r. r.table ≡ table) }
     {
         let Ok(tables) = tables_of(alloc, instance, table.entries()) else {
@@ -67,7 +67,7 @@ impl<'a, 'i> Occupied<'a, 'i> {
         })
     }
 
-    /// The timetable.
+    /// Returns the timetable.
     pub fn table(&self) -> &Timetable
         ensures value { result.now ≡ self.now.entries }
         ensures in_range { IsTimetable self.now.problem self.now.entries }
@@ -76,7 +76,7 @@ impl<'a, 'i> Occupied<'a, 'i> {
         &self.table
     }
 
-    /// The entry at a place, counted from 0.
+    /// Returns the entry at an index, counted from 0.
     pub fn entry(&self, index: u32) -> Entry
         requires { index < length self.now.entries }
         ensures value { result ≡ entry_at self.now.entries index }
@@ -86,14 +86,14 @@ impl<'a, 'i> Occupied<'a, 'i> {
         self.table().get(index)
     }
 
-    /// The score of the timetable as it stands.
+    /// Returns the current score of the timetable.
     pub fn score(&self) -> Score
         ensures { IsScore self.now.problem self.now.entries result }
     {
         self.score
     }
 
-    /// The timetable alone.
+    /// Returns the timetable alone.
     pub fn into_timetable(self) -> Timetable
         ensures { result ≡ self.entry.entries }
     {
@@ -101,7 +101,7 @@ impl<'a, 'i> Occupied<'a, 'i> {
         table
     }
 
-    /// Puts another entry of its course in the place of one.
+    /// Replaces an entry by another of its course.
     fn replace(&mut self, index: u32, entry: Entry)
         requires inside { index < length self.old.entries }
         requires in_range { InRange self.old.problem entry }
@@ -116,7 +116,7 @@ impl<'a, 'i> Occupied<'a, 'i> {
         self.table.set(index, entry);
     }
 
-    /// Gives an entry another room, day and period.
+    /// Changes the room, day and period of an entry.
     pub fn move_entry(&mut self, index: u32, room: u32, day: u32, period: u32)
         requires index { index < length self.old.entries }
         requires room { room < length self.old.problem.rooms }
@@ -137,7 +137,7 @@ impl<'a, 'i> Occupied<'a, 'i> {
         self.replace(index, moved);
     }
 
-    /// Exchanges room, day and period of two entries. One entry exchanged with itself stays.
+    /// Exchanges room, day and period of two entries. An entry exchanged with itself does not change.
     pub fn swap_entries(&mut self, first: u32, second: u32)
         requires first { first < length self.old.entries }
         requires second { second < length self.old.entries }

@@ -1,4 +1,4 @@
-//! The tables and the score of entries of which one is replaced.
+//! The tables and the score of entries when one of them is replaced.
 
 ghost use Rattle.std.specs.Prelude.{◌≡◌, List, ◌∷◌};
 ghost use Rattle.tt_instance.specs.Cells.{InRange};
@@ -12,7 +12,7 @@ use tt_rules::Score;
 use tt_table::Entry;
 use tt_tallies::Tables;
 
-/// Counts another entry of its course in the place of one, and gives the score with it.
+/// Updates the tables for an entry that is replaced by another of its course, and returns the new score.
 pub fn recount(
     instance: &Instance<'_>,
     tables: &mut Tables,

@@ -1,4 +1,4 @@
-//! A score kept by weights.
+//! A score that is updated by weights.
 
 ghost use Rattle.std.specs.Prelude.{◌≡◌, ℕ, List, ◌∷◌};
 ghost use Rattle.tt_instance.specs.Problem.{Problem};
@@ -9,7 +9,7 @@ ghost use Rattle.tt_occupancy.specs.Weights.{IsExchange, IsExchanged};
 use crate::weight::Weight;
 use tt_rules::Score;
 
-/// A count, one weight less and another one more.
+/// Returns a count minus one weight plus another.
 fn exchanged(total: u64, from: u32, to: u32) -> u64
     requires { (n : ℕ) × IsExchanged n total from to }
     ensures { (n : ℕ) → IsExchanged n total from to → result ≡ n }
@@ -17,8 +17,8 @@ fn exchanged(total: u64, from: u32, to: u32) -> u64
     total + u64::from(to) - u64::from(from)
 }
 
-/// The score once an entry is replaced by another one of its course, from the weights of both
-/// beside the other entries.
+/// Returns the score after an entry is replaced by another of its course, from the weights of both
+/// next to the other entries.
 pub fn rescored(score: Score, from: Weight, to: Weight) -> Score
     requires { (p : Problem) × (u : List Cell) × (x : Cell) × (y : Cell)
         × IsExchange p u x y score from to }

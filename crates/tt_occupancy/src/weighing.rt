@@ -1,4 +1,4 @@
-//! What an entry weighs beside a list of entries.
+//! The weight of an entry next to a list of entries.
 
 ghost use Rattle.std.specs.Prelude.{◌≡◌, List, ◌∷◌, cond};
 ghost use Rattle.tt_instance.specs.Cells.{InRange};
@@ -14,14 +14,14 @@ use tt_instance::Instance;
 use tt_table::Entry;
 use tt_tallies::Tables;
 
-/// 1 or 0.
+/// Returns 1 if the test passes, else 0.
 pub fn one_if(test: bool) -> u32
     ensures { result ≡ cond test 1 0 }
 {
     u32::from(test)
 }
 
-/// What the days of a course cost, with an entry of it more.
+/// Returns the cost of a course's days with another entry of it.
 fn days_with(instance: &Instance<'_>, tables: &Tables, entry: Entry) -> u32
     requires in_range { InRange instance.now entry }
     requires counted { (t : List Cell) × AreTables instance.now t tables.now }
@@ -33,7 +33,7 @@ fn days_with(instance: &Instance<'_>, tables: &Tables, entry: Entry) -> u32
     5 * instance.min_days(entry.course).saturating_sub(used)
 }
 
-/// What the rooms of a course cost, with an entry of it more.
+/// Returns the cost of a course's rooms with another entry of it.
 fn rooms_with(instance: &Instance<'_>, tables: &Tables, entry: Entry) -> u32
     requires in_range { InRange instance.now entry }
     requires counted { (t : List Cell) × AreTables instance.now t tables.now }
@@ -45,7 +45,7 @@ fn rooms_with(instance: &Instance<'_>, tables: &Tables, entry: Entry) -> u32
     used.saturating_sub(1)
 }
 
-/// The weight of an entry beside the entries counted.
+/// Returns the weight of an entry next to the counted entries.
 pub fn weigh(instance: &Instance<'_>, tables: &Tables, entry: Entry) -> Weight
     requires in_range { InRange instance.now entry }
     requires counted { (t : List Cell) × AreTables instance.now t tables.now }

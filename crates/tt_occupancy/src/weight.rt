@@ -1,28 +1,28 @@
-//! What an entry weighs.
+//! The weight of an entry.
 
 ghost use Rattle.std.specs.Prelude.{◌^◌, ◌≤◌};
 ghost use Rattle.tt_instance.specs.declared.limit.TheConstants.{MAX_CURRICULA};
 
-/// What an entry adds to each count of a list that its course has another entry for.
+/// The amounts that an entry adds to each count of a list, compared with another entry of its course.
 #[derive(Clone, Copy)]
 pub struct Weight {
-    /// 1 where its course is taught in the period already.
+    /// 1 if its course is already taught in the period.
     pub repeats: u32,
-    /// The entries with which it collides.
+    /// The number of entries with which it collides.
     pub against: u32,
-    /// 1 where the period is unavailable.
+    /// 1 if the period is unavailable.
     pub barred: u32,
-    /// 1 where the room is taken in the period.
+    /// 1 if the room is taken in the period.
     pub shares: u32,
-    /// The students without a seat.
+    /// The number of students without a seat.
     pub excess: u32,
-    /// What the days of its course cost with it.
+    /// The cost of its course's days with it.
     pub days: u32,
-    /// The curricula in which it is isolated.
+    /// The number of curricula in which it is isolated.
     pub alone: u32,
-    /// The isolated entries that it joins.
+    /// The number of isolated entries that it joins.
     pub joined: u32,
-    /// What the rooms of its course cost with it.
+    /// The cost of its course's rooms with it.
     pub rooms: u32,
     ghost alone_few: { alone ≤ MAX_CURRICULA },
     ghost joined_few: { joined ≤ 2 ^ 30 },

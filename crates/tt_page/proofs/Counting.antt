@@ -20,7 +20,7 @@ module _ {X : Type 0} where
   pub list_any-turned : (p q : X → Bool) (xs : List X) → list_any (λ x. p x && q x) xs ≡ list_any (λ x. q x && p x) xs
   list_any-turned p q xs = list_any-same (λ x. p x && q x) (λ x. q x && p x) xs (λ x. and_comm (p x) (q x))
 
-  -- what passes two tests
+  -- the elements that pass two tests
   pub filter-filter : (p q r : X → Bool) (xs : List X) → ((x : X) → (q x && p x) ≡ r x) → filter p (filter q xs) ≡ filter r xs
   filter-filter p q r [] same = refl
   filter-filter p q r (x ∷ xs) same =

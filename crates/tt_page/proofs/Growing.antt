@@ -21,7 +21,7 @@ one_more : {X : Type 0} (f : X → List ℕ) (xs : List X) (i : ℕ) (d : X) →
 one_more f xs i d h =
     ap (flat_map f) (take_more xs i d h) ∙ flat_map-append f (take i xs) (get_or xs i d ∷ []) ∙ ap (λ z. flat_map f (take i xs) ++ z) (append-nil (f (get_or xs i d)))
 
--- a text that grows by that of one element more
+-- a text is extended by that of another element
 pub taken_further : {X : Type 0} (f : X → List ℕ) (xs : List X) (i : ℕ) (d : X) (first old new : List ℕ) → i < length xs → old ≡ first ++ flat_map f (take i xs) → new ≡ old ++ f (get_or xs i d) → new ≡ first ++ flat_map f (take (i + 1) xs)
 taken_further f xs i d first old new h before more =
     more ∙ ap (λ z. z ++ f (get_or xs i d)) before
@@ -75,13 +75,13 @@ number_left_out p i old fail before =
     before ∙ sym (append-nil (filter p (range_below i))) ∙ ap (λ z. filter p (range_below i) ++ z) (sym (left_out p i [] fail))
     ∙ sym (filter-append p (range_below i) (i ∷ [])) ∙ ap (filter p) (sym (range_below_more i))
 
--- ---- texts put one after the other
+-- -- texts written in turn
 
--- what is put after what was put
+-- a text appended after another one
 pub then_more : (first a b x y : List ℕ) → a ≡ first ++ x → b ≡ a ++ y → b ≡ first ++ (x ++ y)
 then_more first a b x y h k = k ∙ ap (λ z. z ++ y) h ∙ append_assoc first x y
 
--- ---- the courses that a week shows as barred
+-- -- the courses whose unavailable periods a week shows
 
 pub own_courses_there : (p : Problem) (kind : Kind) (n : ℕ) → All (λ c. c < length p.courses) (own_courses p kind n)
 own_courses_there p Room n = All-nil (λ c. c < length p.courses)

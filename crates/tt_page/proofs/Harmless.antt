@@ -1,4 +1,4 @@
--- What a name becomes is harmless.
+-- The text shown for a name is harmless.
 use Rattle.std.proofs.Common.{◌≡◌, ℕ, zero, suc, lit<, Bool, true, false, cond, List, [], ◌∷◌, map, refl, sym, ap, ◌∙◌, inl, inr}
 use Rattle.std.specs.Prelude.{◌==◌, nat_lt, IsAscii, flat_map, chars, codes, encode_utf8, IsUtf8}
 use Rattle.std.specs.Char.{IsScalar, is_control}
@@ -10,7 +10,7 @@ use Rattle.std.proofs.lemmas.List.Folds.{flat_map-map}
 use Rattle.std.proofs.lemmas.Str.{chars-encodes, IsUtf8-append, IsUtf8-encode, IsUtf8-nil, IsUtf8-from_ascii}
 use Rattle.tt_page.specs.Shown.{is_markup, letter_text, shown, unshown, IsHarmlessPiece, AreHarmless, IsHarmless}
 
--- what holds of the references and of each plain letter holds of what stands for a letter
+-- a property of the references and of each plain letter holds of the text of each letter
 module _ (P : List ℕ → Type 0)
     (amp : P (codes "&amp;")) (lt : P (codes "&lt;")) (gt : P (codes "&gt;")) (quot : P (codes "&quot;")) (apos : P (codes "&#39;"))
     (plain : (d : ℕ) → IsScalar d → is_markup d ≡ false → is_control d ≡ false → P (encode_utf8 d)) where

@@ -20,7 +20,7 @@ use Rattle.tt_page.proofs.Counting.{filter-filter}
 by_slots : (p : Problem) (t : List Cell) → Grouped
 by_slots p t = record { by = by.Period p.periods; entries = t }
 
--- the entries after one, of its period
+-- the entries after an entry, in its period
 behind_at : (p : Problem) (t group : List Cell) (i : ℕ) → i < length t → All (InRange p) t
     → IfSome (slice_get t i) (λ e. group ≡ filter (in_group (by.Period p.periods) (group_of (by.Period p.periods) e)) (drop (i + 1) t))
     → group ≡ filter (is_at (slot_of (get_or t i nobody))) (drop (i + 1) t)
@@ -45,7 +45,7 @@ later_in_range p t groups i group within is ok behind =
 
 -- ---- pairs
 
--- those of an entry's period that are at odds with it
+-- the later entries of an entry's period that break the rule together with it
 pub odds_behind : (p : Problem) (r : Rule) (e : Cell) (later : List Cell) → filter (is_odd p r e) (filter (is_at (slot_of e)) later) ≡ filter (at_odds p r e) later
 odds_behind p rule.Conflicts e later =
     filter-filter (is_odd p rule.Conflicts e) (is_at (slot_of e)) (at_odds p rule.Conflicts e) later
@@ -58,7 +58,7 @@ odds_behind p rule.WorkingDays e later = filter-filter (is_odd p rule.WorkingDay
 odds_behind p rule.Compactness e later = filter-filter (is_odd p rule.Compactness e) (is_at (slot_of e)) (at_odds p rule.Compactness e) later (λ x. refl)
 odds_behind p rule.RoomStability e later = filter-filter (is_odd p rule.RoomStability e) (is_at (slot_of e)) (at_odds p rule.RoomStability e) later (λ x. refl)
 
--- one entry more has its item
+-- another entry has its item
 pub item_further : (p : Problem) (r : Rule) (t : List Cell) (i : ℕ) (d : Cell) (first old new : List ℕ) → i < length t → old ++ entry_items p r (drop i t) ≡ first → new ≡ old ++ entry_item p r (get_or t i d) (drop (i + 1) t) → new ++ entry_items p r (drop (i + 1) t) ≡ first
 unfolding entry_items
 item_further p r t i d first old new within before more =
@@ -67,7 +67,7 @@ item_further p r t i d first old new within before more =
     ∙ ap (λ es. old ++ entry_items p r es) (sym (drop_more t i d within))
     ∙ before
 
--- after the last entry there is nothing more
+-- after the last entry nothing follows
 pub items_done : (p : Problem) (r : Rule) (t : List Cell) (i : ℕ) (first old : List ℕ) → length t ≤ i → old ++ entry_items p r (drop i t) ≡ first ++ entry_items p r t → old ≡ first ++ entry_items p r t
 unfolding entry_items
 items_done p r t i first old past before = sym (append-nil old) ∙ ap (λ es. old ++ entry_items p r es) (sym (drop_all i t past)) ∙ before

@@ -1,4 +1,4 @@
--- The entries next to a period: those right before it, and those right after it.
+-- The entries next to a period: those immediately before it, and those immediately after it.
 use Rattle.std.proofs.Common.{◌≡◌, ◌+◌, ◌-◌, ◌<◌, Bool, true, false, not, ◌&&◌, ◌||◌, List, [], ◌∷◌, refl, ap, ◌∙◌, arith}
 use Rattle.std.specs.Prelude.{◌==◌, All}
 use Rattle.std.specs.List.{list_any}
@@ -20,7 +20,7 @@ neither true true = refl
 neither true false = refl
 neither false b = refl
 
--- or before, or after
+-- next to a period is before it or after it
 parted : (c d a b : Bool) → (c && (d && (a || b))) ≡ ((c && (d && b)) || (c && (d && a)))
 parted true true true true = refl
 parted true true true false = refl
@@ -34,7 +34,7 @@ both_fail true b = refl
 both_fail false b = refl
 
 module _ (p : Problem) (chosen : Cell → Bool) (t : List Cell) (e : Cell) where
-  -- nothing comes before the first period
+  -- no entry comes before the first period
   pub none_before : e.period ≡ 0 → list_any (λ x. chosen x && is_right_before e x) t ≡ false
   none_before first =
       list_any-same (λ x. chosen x && is_right_before e x) (λ x. false) t
@@ -46,14 +46,14 @@ module _ (p : Problem) (chosen : Cell → Bool) (t : List Cell) (e : Cell) where
       list_any-same (λ x. chosen x && is_at (slot e.day (e.period - 1)) x) (λ x. chosen x && is_right_before e x) t
       (λ x. ap (λ b. chosen x && ((x.day == e.day) && b)) (same_test x.period (e.period - 1) (x.period + 1) e.period (λ h. omega (arith, h, some)) (λ h. omega (arith, h, some))))
 
-  -- nothing comes after the last period
+  -- no entry comes after the last period
   pub none_after : All (InRange p) t → e.period + 1 ≡ p.periods → list_any (λ x. chosen x && is_right_after e x) t ≡ false
   none_after ok last =
       list_any-same_at (InRange p) (λ x. chosen x && is_right_after e x) (λ x. false) t ok
       (λ x within. ap (λ b. chosen x && ((x.day == e.day) && b)) (ne_eqb x.period (e.period + 1) (λ same. omega (arith, same, last, within.period))) ∙ neither (chosen x) (x.day == e.day))
       ∙ none_pass t
 
-  -- alone: none before, and none after
+  -- an entry is alone exactly if no entry is before it and none is after it
   pub alone : not (list_any (λ x. chosen x && next_to (slot_of x) (slot_of e)) t) ≡ (not (list_any (λ x. chosen x && is_right_before e x) t) && not (list_any (λ x. chosen x && is_right_after e x) t))
   alone =
       ap not

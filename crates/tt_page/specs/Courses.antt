@@ -1,4 +1,4 @@
--- The row of a course: what belongs to no one cell stands here.
+-- The row of a course: it shows all that belongs to no single cell.
 use Rattle.std.specs.Prelude.{ℕ, ◌-◌, Bool, ◌&&◌, List, [], ◌∷◌, ◌++◌, length, flat_map, codes, if◌then◌else◌}
 use Rattle.std.specs.List.{list_any}
 use Rattle.tt_text.specs.Pieces.{Text, Number}
@@ -14,26 +14,26 @@ use Rattle.tt_page.specs.Kinds.{course_name, teacher_of}
 use Rattle.tt_page.specs.Lectures.{week_link}
 use Rattle.tt_page.specs.declared.kind.Kind.TheVariants.{Room, Teacher}
 
--- whether a course is taught in a room
+-- Whether a course is taught in a room.
 abbrev pub is_taught_in : List Cell → ℕ → ℕ → Bool
 is_taught_in t c r = list_any (λ e. is_of c e && is_in r e) t
 
--- a room, where the course is taught in it
+-- A room, if the course is taught in it.
 unfoldable pub room_text : Problem → List Cell → ℕ → ℕ → List ℕ
 room_text p t c r = if is_taught_in t c r then codes " " ++ week_link p Room r else []
 
--- the rooms of a course, in the order of the instance
+-- The rooms of a course, in the order of the instance.
 unfoldable pub rooms_text : Problem → List Cell → ℕ → List ℕ
 rooms_text p t c = flat_map (room_text p t c) (all_rooms p)
 
--- what is wrong with all lectures of a course together
+-- What is wrong with all lectures of a course together.
 unfoldable pub course_marks : Problem → List Cell → ℕ → List ℕ
 course_marks p t c =
     counted (codes " <strong>lectures: ") (lectures_off p t c) (codes "</strong>")
     ++ counted (codes " <mark>missing days: ") (min_days p c - days_of p t c) (codes "</mark>")
     ++ counted (codes " <mark>other rooms: ") (stability_cost p t c) (codes "</mark>")
 
--- its numbers: students, lectures that it wants and has, days that it wants and has
+-- The numbers of a course: students, lectures needed and placed, days needed and reached.
 unfoldable pub course_numbers : Problem → List Cell → ℕ → List ℕ
 course_numbers p t c = markup (
     Text (codes "</td>\n<td>") ∷ Number (students p c) ∷ Text (codes "</td>\n<td>") ∷ Number (lectures p c)
@@ -49,7 +49,7 @@ course_row p t c =
     course_head p c ++ week_link p Teacher (teacher_of p c) ++ course_numbers p t c
     ++ rooms_text p t c ++ codes "</td>\n<td>" ++ course_marks p t c ++ codes "</td>\n</tr>\n"
 
--- the heads of the columns, as the rows have them
+-- The heads of the columns, in the order of the cells of a row.
 unfoldable pub courses_head : List ℕ
 courses_head = codes "</small></h2></summary>\n<div class=\"list\">\n<table>\n<caption>Courses</caption>\n<thead>\n<tr>\n<th scope=\"col\">Course</th>\n<th scope=\"col\">Teacher</th>\n<th scope=\"col\">Students</th>\n<th scope=\"col\">Wanted</th>\n<th scope=\"col\">Placed</th>\n<th scope=\"col\">Least days</th>\n<th scope=\"col\">Days</th>\n<th scope=\"col\">Rooms</th>\n<th scope=\"col\">Marks</th>\n</tr>\n</thead>\n<tbody>\n"
 

@@ -15,17 +15,17 @@ use Rattle.tt_page.specs.declared.kind.Kind.TheVariants.{Room, Teacher}
 
 -- ---- cells
 
--- the courses whose unavailable periods a week shows: those of a teacher
+-- The courses whose unavailable periods a week shows: those of a teacher.
 abbrev pub own_courses : Problem → Kind → ℕ → List ℕ
 own_courses p Teacher k = filter (λ c. teacher_of p c == k) (all_courses p)
 own_courses p _ n = []
 
--- a course that has no lecture in a period
+-- The text for a course to which a period is unavailable.
 unfoldable pub barred_text : Problem → ℕ → ℕ → ℕ → List ℕ
 barred_text p d s c =
     if unavailable p c d s then markup (Text (codes "<div class=\"barred\">not ") ∷ Text (shown (course_name p c)) ∷ Text (codes "</div>\n") ∷ []) else []
 
--- the entries of a period that stand in a week, in the order of the list
+-- The entries of a period that belong to a week, in the order of the list.
 abbrev pub entries_at : Problem → List Cell → Kind → ℕ → ℕ → ℕ → List Cell
 entries_at p t kind n d s = filter (belongs_to p kind n) (filter (is_at (slot d s)) t)
 
@@ -46,7 +46,7 @@ unfoldable pub row_text : Problem → List Cell → Kind → ℕ → List ℕ �
 row_text p t kind n own s =
     row_head s ++ flat_map (cell_text p t kind n own s) (all_days p) ++ codes "</tr>\n"
 
--- the caption of a room's week has its seats
+-- The seats of a room, in the caption of its week.
 unfoldable pub seats_text : Problem → Kind → ℕ → List ℕ
 seats_text p Room r = markup (Text (codes " ") ∷ Number (capacity p r) ∷ Text (codes " seats") ∷ [])
 seats_text p _ n = []
@@ -68,7 +68,7 @@ grid_text p t kind n =
 
 -- ---- a section
 
--- a line of the section's index
+-- A line of the section's index.
 unfoldable pub index_item : Problem → Kind → ℕ → List ℕ
 index_item p kind n = codes "<li>" ++ week_link p kind n ++ codes "</li>\n"
 

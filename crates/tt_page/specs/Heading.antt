@@ -8,22 +8,22 @@ use Rattle.tt_rules.specs.Score.{hard, cost}
 use Rattle.tt_page.specs.Shown.{shown}
 use Rattle.tt_page.specs.Markup.{markup}
 
--- a space and a token of the name
+-- A space and a token of the name.
 unfoldable pub next_shown : List ℕ → List ℕ
 next_shown token = 32 ∷ shown token
 
--- the name of the instance, each of its tokens after a space
+-- The name of the instance, each of its tokens after a space.
 unfoldable pub name_text : Problem → List ℕ
 name_text p = flat_map next_shown p.name
 
--- the head, with the page's style
+-- The head, with the page's style.
 unfoldable pub before_title : List ℕ
 before_title = codes "<!DOCTYPE html>\n<html lang=\"en\">\n<head>\n<meta charset=\"utf-8\">\n<meta name=\"viewport\" content=\"width=device-width, initial-scale=1\">\n<meta name=\"color-scheme\" content=\"light dark\">\n<title>Timetable"
 
 unfoldable pub head_text : Problem → List ℕ → List ℕ
 head_text p style = before_title ++ name_text p ++ codes "</title>\n<style>\n" ++ style ++ codes "</style>\n</head>\n<body>\n"
 
--- links to the parts of the page
+-- Links to the parts of the page.
 unfoldable pub contents_text : List ℕ
 contents_text = codes "<nav aria-label=\"Contents\">\n<ul>\n<li><a href=\"#summary\">Summary</a></li>\n<li><a href=\"#rooms\">Rooms</a></li>\n<li><a href=\"#teachers\">Teachers</a></li>\n<li><a href=\"#curricula\">Curricula</a></li>\n<li><a href=\"#courses\">Courses</a></li>\n</ul>\n</nav>\n<main>\n<header id=\"summary\">\n<h1>Timetable<b>"
 
@@ -43,6 +43,6 @@ sizes_text p t = markup (
 unfoldable pub header_text : Problem → List Cell → List ℕ
 header_text p t = contents_text ++ name_text p ++ verdict_text (hard p t) (cost p t) ++ sizes_text p t
 
--- what the marks of the grids look like
+-- The legend of the marks in the grids.
 unfoldable pub legend_text : List ℕ
 legend_text = codes "</div>\n<p class=\"legend\">In the grids: <strong>broken</strong> breaks a hard rule, <mark>costs</mark> costs, <span class=\"barred\">not c</span> a period that is unavailable for course c. Days and periods count from 0, as in the files.</p>\n"

@@ -1,4 +1,4 @@
--- The items of the eight lists. Each begins with what it adds to its count, and its first link leads to where that stands.
+-- The items of the eight lists. Each begins with the number that it adds to its count, and its first link leads to the place of that.
 use Rattle.std.specs.Prelude.{ℕ, ◌+◌, ◌==◌, Bool, ◌&&◌, List, [], ◌∷◌, ◌++◌, length, filter, flat_map, codes, if◌then◌else◌}
 use Rattle.tt_text.specs.Pieces.{Text, Number}
 use Rattle.tt_instance.specs.Problem.{Problem}
@@ -14,20 +14,20 @@ use Rattle.tt_page.specs.declared.kind.Kind.TheVariants.{Room, Teacher, Curricul
 use Rattle.tt_page.specs.declared.rule.Rule.{Rule}
 use Rattle.tt_page.specs.declared.rule.Rule.TheVariants as rule
 
--- what an item adds
+-- The number that an item adds.
 unfoldable pub item_head : ℕ → List ℕ
 item_head n = markup (Text (codes "<li><b>") ∷ Number n ∷ Text (codes "</b> ") ∷ [])
 
 unfoldable pub item_end : List ℕ
 item_end = codes "</li>\n"
 
--- an item, where it adds something
+-- An item, if it adds something.
 abbrev pub item : ℕ → List ℕ → List ℕ
 item n text = if n == 0 then [] else item_head n ++ text ++ item_end
 
 -- ---- items of a course
 
--- its lectures as they are wanted and placed, and the periods in which they are
+-- The lectures of a course, needed and placed, and the number of periods in which they are.
 unfoldable pub lectures_told : Problem → List Cell → ℕ → List ℕ
 lectures_told p t c = markup (
     Text (codes " wanted ") ∷ Number (lectures p c) ∷ Text (codes ", placed ") ∷ Number (entries_of t c)
@@ -40,14 +40,14 @@ days_told p t c = markup (
 unfoldable pub rooms_told : Problem → List Cell → ℕ → List ℕ
 rooms_told p t c = markup (Text (codes " in ") ∷ Number (stability_cost p t c + 1) ∷ Text (codes " rooms") ∷ [])
 
--- what is told of a course
+-- The text about a course.
 unfoldable pub course_told : Problem → List Cell → Rule → ℕ → List ℕ
 course_told p t rule.Lectures c = lectures_told p t c
 course_told p t rule.WorkingDays c = days_told p t c
 course_told p t rule.RoomStability c = rooms_told p t c
 course_told p t _ c = []
 
--- what a course adds to a count
+-- The number that a course adds to a count.
 abbrev pub course_adds : Problem → List Cell → Rule → ℕ → ℕ
 course_adds p t rule.Lectures c = lectures_off p t c
 course_adds p t rule.WorkingDays c = days_cost p t c
@@ -59,7 +59,7 @@ course_item p t r c = item (course_adds p t r c) (course_link p c ++ course_told
 
 -- ---- items of an entry
 
--- when an entry is
+-- The day and the period of an entry.
 unfoldable pub when_text : Cell → List ℕ
 when_text e = markup (Text (codes " day ") ∷ Number e.day ∷ Text (codes " period ") ∷ Number e.period ∷ [])
 
@@ -76,32 +76,33 @@ unfoldable pub seats_item : Problem → Cell → List ℕ
 seats_item p e = item (excess p e.course e.room) (
     cell_link p Room e.room e ++ when_text e ++ codes ", in " ++ week_link p Room e.room ++ seats_told p e)
 
--- whether two entries of a period are at odds by a rule: their courses exclude each other, or they have one room
+-- Whether two entries of a period break a rule together: their courses conflict, or they have the same room.
 abbrev pub is_odd : Problem → Rule → Cell → Cell → Bool
 is_odd p rule.Conflicts e x = conflict p e.course x.course
 is_odd p _ e x = x.room == e.room
 
--- whether an entry and a later one are at odds by a rule: a pair is told with its earlier entry
+-- Whether an entry and a later one break a rule together: a pair is reported with its earlier entry.
 abbrev pub at_odds : Problem → Rule → Cell → Cell → Bool
 at_odds p rule.Conflicts e x = collide p e x
 at_odds p r e x = is_at (slot_of e) x && is_odd p r e x
 
--- what an entry with this many later ones at odds with it adds: each pair of a conflict, and each entry of a room and period but the last
+-- The number that an entry adds if this many later ones break the rule together with it: each pair of a conflict, and each entry of a room and period
+-- except the last.
 abbrev pub odds_count : Rule → ℕ → ℕ
 odds_count rule.Conflicts n = n
 odds_count _ n = 1
 
--- how many there are beside the first
+-- How many there are besides the first.
 unfoldable pub more_text : ℕ → List ℕ
 more_text n = if n == 0 then [] else markup (Text (codes " and ") ∷ Number n ∷ Text (codes " more") ∷ [])
 
--- an entry that is at odds with another and with this many more
+-- An entry that breaks the rule together with another one and with this many more.
 unfoldable pub pair_text : Problem → Cell → Cell → ℕ → List ℕ
 pair_text p e x more =
     cell_link p Room e.room e ++ when_text e ++ codes ", in " ++ week_link p Room e.room
     ++ codes ", with " ++ cell_link p Room x.room x ++ more_text more ++ item_end
 
--- an entry, and those later ones that are at odds with it
+-- An entry, and the later ones that break the rule together with it.
 unfoldable pub odds_item : Problem → Rule → Cell → List Cell → List ℕ
 odds_item p r e [] = []
 odds_item p r e (x ∷ xs) = item_head (odds_count r (length xs + 1)) ++ pair_text p e x (length xs)
@@ -109,7 +110,7 @@ odds_item p r e (x ∷ xs) = item_head (odds_count r (length xs + 1)) ++ pair_te
 unfoldable pub pairs_item : Problem → Rule → Cell → List Cell → List ℕ
 pairs_item p r e later = odds_item p r e (filter (at_odds p r e) later)
 
--- an entry, by those after it
+-- The item of an entry, from the entries after it.
 unfoldable pub entry_item : Problem → Rule → Cell → List Cell → List ℕ
 entry_item p rule.Availability e later = unavailable_item p e
 entry_item p rule.RoomCapacity e later = seats_item p e

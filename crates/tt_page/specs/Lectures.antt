@@ -1,4 +1,4 @@
--- A lecture as it stands in a week: its course, where or with whom it is, and its marks.
+-- A lecture in a week: its course, its place or its teacher, and its marks.
 use Rattle.std.specs.Prelude.{ℕ, Bool, List, [], ◌∷◌, ◌++◌, codes, if◌then◌else◌}
 use Rattle.tt_text.specs.Pieces.{Text, Number}
 use Rattle.tt_instance.specs.Problem.{Problem}
@@ -14,15 +14,15 @@ use Rattle.tt_page.specs.declared.kind.Kind.TheVariants.{Room, Teacher, Curricul
 
 -- ---- links
 
--- to the row of a course
+-- The link to the row of a course.
 unfoldable pub course_link : Problem → ℕ → List ℕ
 course_link p c = markup (Text (codes "<a href=\"#course") ∷ Number c ∷ Text (codes "\">") ∷ Text (shown (course_name p c)) ∷ Text (codes "</a>") ∷ [])
 
--- to a week
+-- The link to a week.
 unfoldable pub week_link : Problem → Kind → ℕ → List ℕ
 week_link p kind n = markup (Text (codes "<a href=\"#") ∷ Text (word_of kind) ∷ Number n ∷ Text (codes "\">") ∷ Text (shown (name_of p kind n)) ∷ Text (codes "</a>") ∷ [])
 
--- from an entry to where it stands in a week
+-- The link from an entry to its cell in a week.
 unfoldable pub cell_link : Problem → Kind → ℕ → Cell → List ℕ
 cell_link p kind n e = markup (
     Text (codes "<a href=\"#") ∷ Text (word_of kind) ∷ Number n ∷ Text (codes "-") ∷ Number e.day ∷ Text (codes "-") ∷ Number e.period
@@ -30,17 +30,17 @@ cell_link p kind n e = markup (
 
 -- ---- a lecture
 
--- what a week doesn't say of its lectures by itself: a room's week shows teachers, a teacher's shows rooms, a curriculum's both
+-- The part of a lecture that its week doesn't determine: a room's week shows teachers, a teacher's shows rooms, a curriculum's both.
 unfoldable pub beside_text : Problem → Kind → Cell → List ℕ
 beside_text p Room e = week_link p Teacher (teacher_of p e.course)
 beside_text p Teacher e = week_link p Room e.room
 beside_text p Curriculum e = week_link p Room e.room ++ codes " " ++ week_link p Teacher (teacher_of p e.course)
 
--- a mark, where it holds
+-- A mark, if it applies.
 abbrev pub mark : Bool → List ℕ → List ℕ
 mark holds text = if holds then text else []
 
--- `isolated` is said of a curriculum, in its own week
+-- The mark `isolated`: it is about a curriculum and appears in its own week.
 unfoldable pub isolated_mark : Problem → List Cell → Kind → ℕ → Cell → List ℕ
 isolated_mark p t Curriculum q e = mark (is_isolated p t q e) (codes " <mark>isolated</mark>")
 isolated_mark p t _ n e = []

@@ -43,7 +43,7 @@ cost_table p t =
 
 -- ---- lists
 
--- what breaks a hard rule is `strong`, and what costs is `mark`
+-- The head of a list: a broken hard rule is `strong`, and a cost is `mark`.
 unfoldable pub broken_head : Rule → ℕ → List ℕ
 broken_head r n = markup (
     Text (codes "<details open class=\"broken\" id=\"") ∷ Text (rule_word r) ∷ Text (codes "\">\n<summary><h2>") ∷ Text (rule_title r)

@@ -1,4 +1,4 @@
--- Pieces of a page, one after the other.
+-- Pieces of a page, in turn.
 use Rattle.std.specs.Prelude.{ℕ, ◌==◌, List, [], ◌∷◌, flat_map, if◌then◌else◌}
 use Rattle.std.specs.Fmt.{decimal}
 use Rattle.tt_text.specs.Pieces.{Piece, Text, Number}
@@ -7,15 +7,15 @@ use Rattle.tt_page.specs.Shown.{shown}
 use Rattle.tt_page.specs.declared.part.Part.{Part}
 use Rattle.tt_page.specs.declared.part.Part.TheVariants as part
 
--- texts and numbers without anything between them
+-- Texts and numbers without anything between them.
 abbrev pub markup : List Piece → List ℕ
 markup pieces = flat_map text_of pieces
 
--- a number and what stands around it, where it is not 0
+-- A number and the text around it, if it isn't 0.
 abbrev pub counted : List ℕ → ℕ → List ℕ → List ℕ
 counted before n behind = if n == 0 then [] else markup (Text before ∷ Number n ∷ Text behind ∷ [])
 
--- the text of a part as the program has it
+-- The text of a part, in the form that the program uses.
 abbrev pub part_text : Part → List ℕ
 part_text (part.Text text) = text.now
 part_text (part.Number n) = decimal n

@@ -8,11 +8,11 @@ use Rattle.tt_page.specs.Grids.{section_text}
 use Rattle.tt_page.specs.Courses.{courses_text}
 use Rattle.tt_page.specs.declared.kind.Kind.TheVariants.{Room, Teacher, Curriculum}
 
--- what the timetable counts, and a list for each count above 0
+-- The counts of the timetable, and a list for each count above 0.
 unfoldable pub counts_text : Problem → List Cell → List ℕ
 counts_text p t = header_text p t ++ hard_table p t ++ cost_table p t ++ legend_text ++ lists_text p t
 
--- a grid for each room, teacher and curriculum, and a row for each course
+-- A grid for each room, teacher and curriculum, and a row for each course.
 unfoldable pub weeks_text : Problem → List Cell → List ℕ
 weeks_text p t = section_text p t Room ++ section_text p t Teacher ++ section_text p t Curriculum ++ courses_text p t
 

@@ -1,4 +1,4 @@
--- What is true of the fields of a plan.
+-- The properties of the fields of a plan.
 use Rattle.std.specs.Prelude.{◌≡◌, ◌≤◌, length, All}
 use Rattle.tt_instance.specs.Cells.{InRange}
 use Rattle.tt_table.specs.declared.groups.GroupBy.TheVariants as by

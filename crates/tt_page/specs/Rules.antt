@@ -1,4 +1,4 @@
--- The eight counts of the score, as a page names them.
+-- The eight counts of the score, with their names in a page.
 use Rattle.std.specs.Prelude.{ℕ, Bool, true, false, List, codes}
 use Rattle.tt_instance.specs.Problem.{Problem}
 use Rattle.tt_instance.specs.declared.cell.Cell.{Cell}
@@ -7,7 +7,7 @@ use Rattle.tt_rules.specs.Soft.{capacity_count, days_count, compactness_count, s
 use Rattle.tt_page.specs.declared.rule.Rule.{Rule}
 use Rattle.tt_page.specs.declared.rule.Rule.TheVariants as rule
 
--- what a timetable breaks of a hard rule, or what it costs by a soft one
+-- The number of violations of a hard rule by a timetable, or its cost by a soft rule.
 abbrev pub rule_count : Problem → List Cell → Rule → ℕ
 rule_count p t rule.Lectures = lectures_count p t
 rule_count p t rule.Conflicts = conflicts_count p t
@@ -18,7 +18,7 @@ rule_count p t rule.WorkingDays = days_count p t
 rule_count p t rule.Compactness = compactness_count p t
 rule_count p t rule.RoomStability = stability_count p t
 
--- whether a feasible timetable has none of it
+-- Whether this count is 0 for a feasible timetable.
 abbrev pub is_hard : Rule → Bool
 is_hard rule.Lectures = true
 is_hard rule.Conflicts = true
@@ -28,7 +28,7 @@ is_hard _ = false
 
 -- ---- words
 
--- in links
+-- The word of a rule in links.
 abbrev pub rule_word : Rule → List ℕ
 rule_word rule.Lectures = codes "lectures"
 rule_word rule.Conflicts = codes "conflicts"

@@ -19,7 +19,7 @@ use crate::plan::Plan;
 use std::alloc::AllocError;
 use tt_text::put_token;
 
-/// The entries of a course.
+/// Counts the entries of a course.
 pub fn entries_of(plan: &Plan<'_, '_>, course: u32) -> u64
     requires { course < length plan.now.problem.courses }
     ensures count { result ≡ entries_of plan.now.table course }
@@ -52,7 +52,7 @@ fn is_taught_in(plan: &Plan<'_, '_>, course: u32, room: u32) -> bool
     some_in(entries, room)
 }
 
-/// The days on which a course is taught.
+/// Counts the days on which a course is taught.
 #[tactic(auto, using(tt_lists::proofs::Numbers::count_more))]
 pub fn days_of(plan: &Plan<'_, '_>, course: u32) -> u64
     requires { course < length plan.now.problem.courses }
@@ -68,7 +68,7 @@ pub fn days_of(plan: &Plan<'_, '_>, course: u32) -> u64
     days
 }
 
-/// The periods of a day in which a course is taught.
+/// Counts the periods of a day in which a course is taught.
 #[tactic(auto, using(tt_lists::proofs::Numbers::count_more))]
 fn periods_on(plan: &Plan<'_, '_>, course: u32, day: u32) -> u64
     requires { course < length plan.now.problem.courses }
@@ -85,7 +85,7 @@ fn periods_on(plan: &Plan<'_, '_>, course: u32, day: u32) -> u64
     periods
 }
 
-/// The periods of the week in which a course is taught.
+/// Counts the periods of the week in which a course is taught.
 #[tactic(auto, using(tt_lists::proofs::Numbers::sum_more))]
 pub fn periods_of(plan: &Plan<'_, '_>, course: u32) -> u64
     requires { course < length plan.now.problem.courses }
@@ -99,7 +99,7 @@ pub fn periods_of(plan: &Plan<'_, '_>, course: u32) -> u64
     periods
 }
 
-/// How far a course is from its lectures, and its entries that share a period with an earlier one.
+/// Returns how far a course is from its number of lectures, plus its entries that share a period with an earlier one.
 pub fn lectures_off(plan: &Plan<'_, '_>, course: u32) -> u64
     requires { course < length plan.now.problem.courses }
     ensures { result ≡ lectures_off plan.now.problem plan.now.table course }
@@ -110,7 +110,7 @@ pub fn lectures_off(plan: &Plan<'_, '_>, course: u32) -> u64
     (wanted.max(placed) - wanted.min(placed)) + placed.saturating_sub(periods)
 }
 
-/// The days that a course lacks.
+/// Returns the number of days that a course lacks.
 pub fn missing_days(plan: &Plan<'_, '_>, course: u32) -> u64
     requires { course < length plan.now.problem.courses }
     ensures days { result ≡ min_days plan.now.problem course - days_of plan.now.problem plan.now.table course }
@@ -119,7 +119,7 @@ pub fn missing_days(plan: &Plan<'_, '_>, course: u32) -> u64
     u64::from(plan.instance().min_days(course)).saturating_sub(days_of(plan, course))
 }
 
-/// The rooms of a course.
+/// Counts the rooms of a course.
 #[tactic(auto, using(tt_lists::proofs::Numbers::count_more))]
 fn rooms_of(plan: &Plan<'_, '_>, course: u32) -> u64
     requires { course < length plan.now.problem.courses }
@@ -135,7 +135,7 @@ fn rooms_of(plan: &Plan<'_, '_>, course: u32) -> u64
     rooms
 }
 
-/// The rooms of a course beside its first.
+/// Counts the rooms of a course besides its first.
 pub fn other_rooms(plan: &Plan<'_, '_>, course: u32) -> u64
     requires { course < length plan.now.problem.courses }
     ensures rooms { result ≡ stability_cost plan.now.problem plan.now.table course }
@@ -164,7 +164,7 @@ fn put_room(
     put_week_link(out, plan.instance(), Kind::Room, room)
 }
 
-/// The rooms of a course, in the order of the instance.
+/// Appends the rooms of a course, in the order of the instance.
 #[tactic(auto, using(tt_report::proofs::Written::text_further), unfolding(crate::specs::Courses::rooms_text))]
 fn put_rooms(out: &mut Vec<u8>, plan: &Plan<'_, '_>, course: u32) -> Result<(), AllocError>
     requires { course < length plan.now.problem.courses }
@@ -176,7 +176,7 @@ fn put_rooms(out: &mut Vec<u8>, plan: &Plan<'_, '_>, course: u32) -> Result<(), 
     Ok(())
 }
 
-/// What is wrong with all lectures of a course together.
+/// Appends what is wrong with all lectures of a course together.
 #[tactic(auto, unfolding(crate::specs::Courses::course_marks))]
 fn put_course_marks(out: &mut Vec<u8>, plan: &Plan<'_, '_>, course: u32) -> Result<(), AllocError>
     requires { course < length plan.now.problem.courses }
@@ -190,7 +190,7 @@ fn put_course_marks(out: &mut Vec<u8>, plan: &Plan<'_, '_>, course: u32) -> Resu
     put_counted(out, " <mark>other rooms: ", rooms, "</mark>")
 }
 
-/// Students, lectures that are wanted and placed, days that are wanted and reached.
+/// Appends the students, the lectures needed and placed, and the days needed and reached.
 #[tactic(auto, unfolding(crate::specs::Courses::course_numbers))]
 fn put_course_numbers(out: &mut Vec<u8>, plan: &Plan<'_, '_>, course: u32) -> Result<(), AllocError>
     requires { course < length plan.now.problem.courses }
@@ -220,7 +220,7 @@ fn put_course_numbers(out: &mut Vec<u8>, plan: &Plan<'_, '_>, course: u32) -> Re
     )
 }
 
-/// The row of a course.
+/// Appends the row of a course.
 #[tactic(auto, unfolding(crate::specs::Courses::course_row))]
 fn put_course(out: &mut Vec<u8>, plan: &Plan<'_, '_>, course: u32) -> Result<(), AllocError>
     requires { course < length plan.now.problem.courses }
@@ -256,7 +256,7 @@ fn put_rows(out: &mut Vec<u8>, plan: &Plan<'_, '_>) -> Result<(), AllocError>
     Ok(())
 }
 
-/// What stands above the rows.
+/// The text above the rows.
 const HEAD: &str =
     "</small></h2></summary>\n<div class=\"list\">\n<table>\n<caption>Courses</caption>\n<thead>\n<tr>\n<th scope=\"col\">Course</th>\n<th scope=\"col\">Teacher</th>\n<th scope=\"col\">Students</th>\n<th scope=\"col\">Wanted</th>\n<th scope=\"col\">Placed</th>\n<th scope=\"col\">Least days</th>\n<th scope=\"col\">Days</th>\n<th scope=\"col\">Rooms</th>\n<th scope=\"col\">Marks</th>\n</tr>\n</thead>\n<tbody>\n";
 
@@ -274,7 +274,7 @@ fn put_courses_head(out: &mut Vec<u8>, courses: u32) -> Result<(), AllocError>
     )
 }
 
-/// The rows of all courses.
+/// Appends the rows of all courses.
 #[tactic(auto, unfolding(crate::specs::Courses::courses_text))]
 pub fn put_courses(out: &mut Vec<u8>, plan: &Plan<'_, '_>) -> Result<(), AllocError>
     ensures { OnOk result (out.new.items ≡ out.old.items ++ courses_text plan.now.problem plan.now.table) }

@@ -16,7 +16,7 @@ use tt_instance::Instance;
 use tt_table::Group;
 use tt_text::put_token;
 
-/// The courses of a teacher.
+/// Returns the courses of a teacher.
 fn courses_of(alloc: Global, instance: &Instance<'_>, teacher: u32) -> Result<Vec<u32>, AllocError>
     ensures { IfOk result (λ own. own.items ≡ filter (λ c. teacher_of instance.now c == teacher) (all_courses instance.now)) }
 {
@@ -30,7 +30,7 @@ fn courses_of(alloc: Global, instance: &Instance<'_>, teacher: u32) -> Result<Ve
     Ok(own)
 }
 
-/// The courses whose unavailable periods a week shows.
+/// Returns the courses whose unavailable periods a week shows.
 fn own_courses(
     alloc: Global,
     instance: &Instance<'_>,
@@ -45,7 +45,7 @@ fn own_courses(
     }
 }
 
-/// A course that has no lecture in a period.
+/// Appends the text for a course to which a period is unavailable.
 #[tactic(auto, unfolding(crate::specs::Grids::barred_text))]
 fn put_barred(
     out: &mut Vec<u8>,
@@ -71,7 +71,7 @@ fn put_barred(
     )
 }
 
-/// Those of some courses that have no lecture in a period.
+/// Appends the texts for those of some courses to which a period is unavailable.
 #[tactic(auto, using(crate::proofs::Growing::taken_further))]
 fn put_all_barred(
     out: &mut Vec<u8>,
@@ -89,7 +89,7 @@ fn put_all_barred(
     Ok(())
 }
 
-/// The lectures of some entries that stand in a week.
+/// Appends the lectures of those of some entries that belong to a week.
 fn put_lectures(
     out: &mut Vec<u8>,
     plan: &Plan<'_, '_>,
@@ -109,7 +109,7 @@ fn put_lectures(
     Ok(())
 }
 
-/// The beginning of a cell.
+/// Appends the beginning of a cell.
 #[tactic(auto, unfolding(crate::specs::Grids::cell_head))]
 fn put_cell_head(
     out: &mut Vec<u8>,
@@ -135,7 +135,7 @@ fn put_cell_head(
     )
 }
 
-/// A cell: a period of a day.
+/// Appends a cell: a period of a day.
 #[tactic(auto, unfolding(crate::specs::Grids::cell_text))]
 fn put_cell(
     out: &mut Vec<u8>,
@@ -157,7 +157,7 @@ fn put_cell(
     put_token(out, b"</td>\n")
 }
 
-/// The cells of a period.
+/// Appends the cells of a period.
 #[tactic(auto, using(tt_report::proofs::Written::text_further))]
 fn put_cells(
     out: &mut Vec<u8>,
@@ -178,7 +178,7 @@ fn put_cells(
     Ok(())
 }
 
-/// A row: a period of each day.
+/// Appends a row: a period of each day.
 #[tactic(auto, unfolding(crate::specs::Grids::row_text))]
 fn put_row(
     out: &mut Vec<u8>,
@@ -204,7 +204,7 @@ fn put_row(
     put_token(out, b"</tr>\n")
 }
 
-/// The rows of a grid.
+/// Appends the rows of a grid.
 #[tactic(auto, using(tt_report::proofs::Written::text_further))]
 fn put_rows(
     out: &mut Vec<u8>,
@@ -223,7 +223,7 @@ fn put_rows(
     Ok(())
 }
 
-/// The beginning of a grid: whose it is.
+/// Appends the beginning of a grid, with its room, teacher or curriculum.
 #[tactic(auto, unfolding(crate::specs::Grids::grid_head))]
 fn put_grid_head(
     out: &mut Vec<u8>,
@@ -250,7 +250,7 @@ fn put_grid_head(
     )
 }
 
-/// The seats of a room, in its caption.
+/// Appends the seats of a room, in its caption.
 #[tactic(auto, unfolding(crate::specs::Grids::seats_text))]
 fn put_seats(
     out: &mut Vec<u8>,
@@ -273,7 +273,7 @@ fn put_seats(
     }
 }
 
-/// The heads of the columns.
+/// Appends the heads of the columns.
 #[tactic(auto, using(tt_report::proofs::Written::text_further), unfolding(crate::specs::Grids::day_head))]
 fn put_day_heads(out: &mut Vec<u8>, instance: &Instance<'_>) -> Result<(), AllocError>
     ensures { OnOk result (out.new.items ≡ out.old.items ++ flat_map day_head (range_below instance.now.days)) }
@@ -298,7 +298,7 @@ fn put_day_head(out: &mut Vec<u8>, day: u32) -> Result<(), AllocError>
     )
 }
 
-/// The grid of a room, teacher or curriculum.
+/// Appends the grid of a room, teacher or curriculum.
 #[tactic(auto, unfolding(crate::specs::Grids::grid_text))]
 fn put_grid(
     out: &mut Vec<u8>,
@@ -323,7 +323,7 @@ fn put_grid(
     put_token(out, b"</tbody>\n</table>\n</div>\n")
 }
 
-/// The grids of a section.
+/// Appends the grids of a section.
 #[tactic(auto, using(tt_report::proofs::Written::text_further))]
 fn put_grids(out: &mut Vec<u8>, plan: &Plan<'_, '_>, kind: Kind) -> Result<(), AllocError>
     ensures { OnOk result (out.new.items ≡ out.old.items
@@ -350,7 +350,7 @@ fn put_index_item(
     put_token(out, b"</li>\n")
 }
 
-/// The links to the grids of a section.
+/// Appends the links to the grids of a section.
 #[tactic(auto, using(tt_report::proofs::Written::text_further))]
 fn put_index(out: &mut Vec<u8>, instance: &Instance<'_>, kind: Kind) -> Result<(), AllocError>
     ensures { OnOk result (out.new.items ≡ out.old.items
@@ -385,7 +385,7 @@ fn put_section_head(
     )
 }
 
-/// The section of all rooms, teachers or curricula.
+/// Appends the section of all rooms, teachers or curricula.
 #[tactic(auto, unfolding(crate::specs::Grids::section_text))]
 pub fn put_section(out: &mut Vec<u8>, plan: &Plan<'_, '_>, kind: Kind) -> Result<(), AllocError>
     ensures { OnOk result (out.new.items ≡ out.old.items ++ section_text plan.now.problem plan.now.table kind) }

@@ -9,42 +9,42 @@ ghost use Rattle.tt_table.specs.declared.table.TheConstants.{MAX_ENTRIES};
 use tt_instance::Instance;
 use tt_table::Group;
 
-/// Whether some entry's course excludes a course.
+/// Returns whether some entry's course conflicts with a course.
 pub fn some_excludes(instance: &Instance<'_>, mut group: Group<'_>, course: u32) -> bool
     ensures { result ≡ list_any (λ x. conflict instance.now x.course course) group.entry }
 {
     group.any(|entry| instance.conflict(entry.course, course))
 }
 
-/// Whether some entry is of a curriculum.
+/// Returns whether some entry's course is in a curriculum.
 pub fn some_attended(instance: &Instance<'_>, mut group: Group<'_>, curriculum: u32) -> bool
     ensures { result ≡ list_any (λ x. in_curriculum instance.now curriculum x.course) group.entry }
 {
     group.any(|entry| instance.in_curriculum(curriculum, entry.course))
 }
 
-/// Whether some entry is on a day.
+/// Returns whether some entry is on a day.
 pub fn some_on(mut group: Group<'_>, day: u32) -> bool
     ensures { result ≡ list_any (is_on day) group.entry }
 {
     group.any(|entry| entry.day == day)
 }
 
-/// Whether some entry is in a period.
+/// Returns whether some entry is in a period.
 pub fn some_at(mut group: Group<'_>, day: u32, period: u32) -> bool
     ensures { result ≡ list_any (is_at (slot day period)) group.entry }
 {
     group.any(|entry| entry.day == day && entry.period == period)
 }
 
-/// Whether some entry is in a room.
+/// Returns whether some entry is in a room.
 pub fn some_in(mut group: Group<'_>, room: u32) -> bool
     ensures { result ≡ list_any (is_in room) group.entry }
 {
     group.any(|entry| entry.room == room)
 }
 
-/// How many entries are in a room.
+/// Counts the entries in a room.
 pub fn count_in(group: Group<'_>, room: u32) -> usize
     requires { length group ≤ MAX_ENTRIES }
     ensures { result ≡ count_by (is_in room) group.entry }
@@ -52,7 +52,7 @@ pub fn count_in(group: Group<'_>, room: u32) -> usize
     group.filter(|entry| entry.room == room).count()
 }
 
-/// How many entries are of a course.
+/// Counts the entries of a course.
 pub fn count_of(group: Group<'_>, course: u32) -> usize
     requires { length group ≤ MAX_ENTRIES }
     ensures { result ≡ count_by (is_of course) group.entry }

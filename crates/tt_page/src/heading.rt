@@ -20,7 +20,7 @@ fn put_next_shown(out: &mut Vec<u8>, token: &[u8]) -> Result<(), AllocError>
     put_shown(out, token)
 }
 
-/// The name of the instance, each of its tokens after a space.
+/// Appends the name of the instance, each of its tokens after a space.
 #[tactic(auto, using(crate::proofs::Growing::taken_further), unfolding(crate::specs::Heading::name_text))]
 fn put_name(out: &mut Vec<u8>, instance: &Instance<'_>) -> Result<(), AllocError>
     ensures { OnOk result (out.new.items ≡ out.old.items ++ name_text instance.now) }
@@ -31,11 +31,11 @@ fn put_name(out: &mut Vec<u8>, instance: &Instance<'_>) -> Result<(), AllocError
     Ok(())
 }
 
-/// What stands before the title.
+/// The text before the title.
 const BEFORE_TITLE: &str =
     "<!DOCTYPE html>\n<html lang=\"en\">\n<head>\n<meta charset=\"utf-8\">\n<meta name=\"viewport\" content=\"width=device-width, initial-scale=1\">\n<meta name=\"color-scheme\" content=\"light dark\">\n<title>Timetable";
 
-/// The head, with the page's style.
+/// Appends the head, with the page's style.
 #[tactic(auto, unfolding(crate::specs::Heading::head_text))]
 pub fn put_head(out: &mut Vec<u8>, instance: &Instance<'_>, style: &str) -> Result<(), AllocError>
     ensures { OnOk result (out.new.items ≡ out.old.items ++ head_text instance.now style.now) }
@@ -58,7 +58,7 @@ fn put_contents(out: &mut Vec<u8>) -> Result<(), AllocError>
     put_token(out, CONTENTS.as_bytes())
 }
 
-/// Whether the timetable is feasible, and its cost.
+/// Appends whether the timetable is feasible, and its cost.
 #[tactic(auto, unfolding(crate::specs::Heading::verdict_text))]
 fn put_verdict(out: &mut Vec<u8>, hard: u64, cost: u64) -> Result<(), AllocError>
     ensures { OnOk result (out.new.items ≡ out.old.items ++ verdict_text hard cost) }
@@ -85,7 +85,7 @@ fn put_verdict(out: &mut Vec<u8>, hard: u64, cost: u64) -> Result<(), AllocError
     )
 }
 
-/// How many there are of everything.
+/// Appends the numbers of all things.
 #[tactic(auto, unfolding(crate::specs::Heading::sizes_text))]
 fn put_sizes(out: &mut Vec<u8>, plan: &Plan<'_, '_>) -> Result<(), AllocError>
     ensures { OnOk result (out.new.items ≡ out.old.items ++ sizes_text plan.now.problem plan.now.table) }
@@ -120,7 +120,7 @@ fn put_sizes(out: &mut Vec<u8>, plan: &Plan<'_, '_>) -> Result<(), AllocError>
     )
 }
 
-/// The header: name, verdict, cost and sizes.
+/// Appends the header: name, verdict, cost and sizes.
 #[tactic(auto, unfolding(crate::specs::Heading::header_text))]
 pub fn put_header(out: &mut Vec<u8>, plan: &Plan<'_, '_>, score: &Score) -> Result<(), AllocError>
     requires { IsScore plan.now.problem plan.now.table score.now }
@@ -132,7 +132,7 @@ pub fn put_header(out: &mut Vec<u8>, plan: &Plan<'_, '_>, score: &Score) -> Resu
     put_sizes(out, plan)
 }
 
-/// What the marks of the grids look like.
+/// The legend of the marks in the grids.
 const LEGEND: &str =
     "</div>\n<p class=\"legend\">In the grids: <strong>broken</strong> breaks a hard rule, <mark>costs</mark> costs, <span class=\"barred\">not c</span> a period that is unavailable for course c. Days and periods count from 0, as in the files.</p>\n";
 

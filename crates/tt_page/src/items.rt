@@ -1,4 +1,4 @@
-//! The items of the lists: what adds to each count, and where.
+//! The items of the lists: they show which entries, courses and curricula add to each count, and the place of each.
 
 ghost use Rattle.std.specs.Prelude.{◌≡◌, ◌+◌, ◌<◌, ◌≤◌, ◌++◌, length, filter, flat_map, drop, All, Some, slice_get, OnOk, IfOk};
 ghost use Rattle.tt_lists.specs.Words.{range_below};
@@ -18,7 +18,7 @@ use tt_instance::Instance;
 use tt_table::{Entry, Group};
 use tt_text::put_token;
 
-/// The beginning of an item: what it adds.
+/// Appends the beginning of an item: the number that it adds.
 #[tactic(auto, unfolding(crate::specs::Items::item_head))]
 fn put_item_head(out: &mut Vec<u8>, adds: u64) -> Result<(), AllocError>
     ensures { OnOk result (out.new.items ≡ out.old.items ++ item_head adds) }
@@ -42,7 +42,7 @@ fn put_item_end(out: &mut Vec<u8>) -> Result<(), AllocError>
 
 // ---- courses
 
-/// What a course adds to a count.
+/// Returns the number that a course adds to a count.
 fn course_adds(plan: &Plan<'_, '_>, rule: Rule, course: u32) -> u64
     requires { course < length plan.now.problem.courses }
     ensures { result ≡ course_adds plan.now.problem plan.now.table rule course }
@@ -107,7 +107,7 @@ fn put_rooms_told(out: &mut Vec<u8>, plan: &Plan<'_, '_>, course: u32) -> Result
     )
 }
 
-/// What is told of a course.
+/// Appends the text about a course.
 #[tactic(auto, unfolding(crate::specs::Items::course_told))]
 fn put_course_told(
     out: &mut Vec<u8>,
@@ -159,7 +159,7 @@ fn put_course_items(out: &mut Vec<u8>, plan: &Plan<'_, '_>, rule: Rule) -> Resul
 
 // ---- entries
 
-/// When an entry is.
+/// Appends the day and the period of an entry.
 #[tactic(auto, unfolding(crate::specs::Items::when_text))]
 fn put_when(out: &mut Vec<u8>, entry: &Entry) -> Result<(), AllocError>
     ensures { OnOk result (out.new.items ≡ out.old.items ++ when_text entry.now) }
@@ -235,7 +235,7 @@ fn put_seats(out: &mut Vec<u8>, instance: &Instance<'_>, entry: &Entry) -> Resul
     put_item_end(out)
 }
 
-/// Whether two entries of a period are at odds by a rule.
+/// Returns whether two entries of a period break a rule together.
 fn is_odd(instance: &Instance<'_>, rule: Rule, entry: &Entry, other: &Entry) -> bool
     ensures { result ≡ is_odd instance.now rule entry.now other.now }
 {
@@ -245,7 +245,7 @@ fn is_odd(instance: &Instance<'_>, rule: Rule, entry: &Entry, other: &Entry) -> 
     }
 }
 
-/// Those of the later entries of its period that are at odds with an entry.
+/// Returns the later entries of an entry's period that break the rule together with it.
 fn odd_ones(
     alloc: Global,
     instance: &Instance<'_>,
@@ -264,7 +264,7 @@ fn odd_ones(
     Ok(found)
 }
 
-/// How many there are beside the first.
+/// Appends how many there are besides the first.
 #[tactic(auto, unfolding(crate::specs::Items::more_text))]
 fn put_more(out: &mut Vec<u8>, more: u64) -> Result<(), AllocError>
     ensures { OnOk result (out.new.items ≡ out.old.items ++ more_text more) }
@@ -278,7 +278,7 @@ fn put_more(out: &mut Vec<u8>, more: u64) -> Result<(), AllocError>
     )
 }
 
-/// What an entry with this many later ones at odds with it adds.
+/// Returns the number that an entry adds if this many later ones break the rule together with it.
 fn odds_count(rule: Rule, odds: u64) -> u64
     ensures { result ≡ odds_count rule odds }
 {
@@ -288,7 +288,7 @@ fn odds_count(rule: Rule, odds: u64) -> u64
     }
 }
 
-/// An entry that is at odds with a later one, and with some more.
+/// Appends an entry that breaks the rule together with a later one, and with some more.
 #[tactic(auto, unfolding(crate::specs::Items::pair_text))]
 fn put_pair(
     out: &mut Vec<u8>,
@@ -311,7 +311,7 @@ fn put_pair(
     put_item_end(out)
 }
 
-/// An entry, and those later ones that are at odds with it.
+/// Appends an entry, and the later ones that break the rule together with it.
 #[tactic(auto, unfolding(crate::specs::Items::odds_item))]
 fn put_odds(
     out: &mut Vec<u8>,
@@ -333,7 +333,7 @@ fn put_odds(
     put_pair(out, instance, entry, first, beside)
 }
 
-/// An entry by those after it, for a rule of pairs.
+/// Appends the item of an entry, from the entries after it, for a rule of pairs.
 #[tactic(auto, unfolding(crate::specs::Items::pairs_item))]
 fn put_pairs(
     out: &mut Vec<u8>,
@@ -358,7 +358,7 @@ fn put_pairs(
     put_odds(out, plan.instance(), rule, entry, &odds)
 }
 
-/// An entry by those after it.
+/// Appends the item of an entry, from the entries after it.
 #[tactic(auto, unfolding(crate::specs::Items::entry_item))]
 fn put_entry_item(
     out: &mut Vec<u8>,
@@ -413,7 +413,7 @@ fn put_isolated_item(
     put_item_end(out)
 }
 
-/// The isolated entries of a curriculum.
+/// Appends the isolated entries of a curriculum.
 #[tactic(auto, using(crate::proofs::Growing::taken_further), unfolding(crate::specs::Items::curriculum_items))]
 fn put_curriculum_items(
     out: &mut Vec<u8>,
@@ -440,7 +440,7 @@ fn put_curricula_items(out: &mut Vec<u8>, plan: &Plan<'_, '_>) -> Result<(), All
     Ok(())
 }
 
-/// All items of a list.
+/// Appends all items of a list.
 #[tactic(auto, unfolding(crate::specs::Items::items_text))]
 pub fn put_items(out: &mut Vec<u8>, plan: &Plan<'_, '_>, rule: Rule) -> Result<(), AllocError>
     ensures { OnOk result (out.new.items ≡ out.old.items ++ items_text plan.now.problem plan.now.table rule) }

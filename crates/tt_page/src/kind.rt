@@ -1,4 +1,4 @@
-//! Whose weeks a page shows.
+//! The kinds of weeks that a page shows.
 
 ghost use Rattle.std.specs.Prelude.{◌≡◌, ◌<◌, [], length, slice_index_or};
 ghost use Rattle.tt_instance.specs.Cells.{InRange};
@@ -8,7 +8,7 @@ ghost use Rattle.tt_page.specs.Kinds.{count_of, name_of, course_name, teacher_of
 use tt_instance::Instance;
 use tt_table::Entry;
 
-/// By what a section of the page has its grids.
+/// The kind of weeks in a section of the page.
 #[derive(Clone, Copy, Debug, PartialEq, Eq)]
 pub enum Kind {
     Room,
@@ -16,7 +16,7 @@ pub enum Kind {
     Curriculum,
 }
 
-/// The name of a course, as bytes.
+/// Returns the name of a course, as bytes.
 pub fn course_name<'a>(instance: &Instance<'a>, course: u32) -> &'a [u8]
     requires { course < length instance.now.courses }
     ensures { result.now ≡ course_name instance.now course }
@@ -45,7 +45,7 @@ fn curriculum_name<'a>(instance: &Instance<'a>, curriculum: u32) -> &'a [u8]
     instance.curriculum_id(curriculum)
 }
 
-/// The number of a course's teacher.
+/// Returns the number of a course's teacher.
 pub fn teacher_of(instance: &Instance<'_>, course: u32) -> u32
     requires { course < length instance.now.courses }
     ensures value { result ≡ teacher_of instance.now course }
@@ -55,7 +55,7 @@ pub fn teacher_of(instance: &Instance<'_>, course: u32) -> u32
 }
 
 impl Kind {
-    /// How many weeks there are.
+    /// Returns the number of weeks.
     pub fn count(self, instance: &Instance<'_>) -> u32
         ensures { result ≡ count_of instance.now self }
     {
@@ -66,7 +66,7 @@ impl Kind {
         }
     }
 
-    /// Whose week it is.
+    /// Returns the name of the week's room, teacher or curriculum.
     pub fn name<'a>(self, instance: &Instance<'a>, number: u32) -> &'a [u8]
         requires { number < count_of instance.now self }
         ensures { result.now ≡ name_of instance.now self number }
@@ -78,7 +78,7 @@ impl Kind {
         }
     }
 
-    /// Whether an entry stands in a week.
+    /// Checks whether an entry is in a week.
     pub fn has(self, instance: &Instance<'_>, number: u32, entry: &Entry) -> bool
         requires { InRange instance.now entry.now }
         ensures { result ≡ belongs_to instance.now self number entry.now }
@@ -90,7 +90,7 @@ impl Kind {
         }
     }
 
-    /// The word in links.
+    /// Returns the word in links.
     pub fn word(self) -> &'static str
         ensures { result.now ≡ word_of self }
     {
@@ -101,7 +101,7 @@ impl Kind {
         }
     }
 
-    /// The word in captions.
+    /// Returns the word in captions.
     pub fn caption(self) -> &'static str
         ensures { result.now ≡ caption_of self }
     {
@@ -112,7 +112,7 @@ impl Kind {
         }
     }
 
-    /// The word of a section in links.
+    /// Returns the word of a section in links.
     pub fn section(self) -> &'static str
         ensures { result.now ≡ section_of self }
     {
@@ -123,7 +123,7 @@ impl Kind {
         }
     }
 
-    /// The title of a section.
+    /// Returns the title of a section.
     pub fn title(self) -> &'static str
         ensures { result.now ≡ title_of self }
     {

@@ -1,4 +1,4 @@
-//! A lecture as it stands in a week.
+//! A lecture as it appears in a week.
 
 ghost use Rattle.std.specs.Prelude.{◌≡◌, ◌<◌, ◌++◌, length, OnOk};
 ghost use Rattle.tt_instance.specs.Cells.{InRange};
@@ -18,7 +18,7 @@ use tt_instance::Instance;
 use tt_table::Entry;
 use tt_text::put_token;
 
-/// A link to the row of a course.
+/// Appends a link to the row of a course.
 #[tactic(auto, unfolding(crate::specs::Lectures::course_link))]
 pub fn put_course_link(
     out: &mut Vec<u8>,
@@ -41,7 +41,7 @@ pub fn put_course_link(
     )
 }
 
-/// A link to a week.
+/// Appends a link to a week.
 #[tactic(auto, unfolding(crate::specs::Lectures::week_link))]
 pub fn put_week_link(
     out: &mut Vec<u8>,
@@ -66,7 +66,7 @@ pub fn put_week_link(
     )
 }
 
-/// A link from an entry to where it stands in a week.
+/// Appends a link from an entry to its cell in a week.
 #[tactic(auto, unfolding(crate::specs::Lectures::cell_link))]
 pub fn put_cell_link(
     out: &mut Vec<u8>,
@@ -96,7 +96,7 @@ pub fn put_cell_link(
     )
 }
 
-/// The name of a course's teacher, as a link to the teacher's week.
+/// Appends the name of a course's teacher, as a link to the teacher's week.
 pub fn put_teacher_link(
     out: &mut Vec<u8>,
     instance: &Instance<'_>,
@@ -109,7 +109,7 @@ pub fn put_teacher_link(
     put_week_link(out, instance, Kind::Teacher, teacher)
 }
 
-/// What a week doesn't say of its lectures by itself.
+/// Appends the information about a lecture that its week doesn't already show.
 #[tactic(auto, unfolding(crate::specs::Lectures::beside_text))]
 fn put_beside(
     out: &mut Vec<u8>,
@@ -131,7 +131,7 @@ fn put_beside(
     }
 }
 
-/// A mark, where it holds.
+/// Appends a mark if it holds.
 fn put_mark(out: &mut Vec<u8>, holds: bool, text: &str) -> Result<(), AllocError>
     ensures { OnOk result (out.new.items ≡ out.old.items ++ mark holds text.now) }
 {
@@ -142,7 +142,7 @@ fn put_mark(out: &mut Vec<u8>, holds: bool, text: &str) -> Result<(), AllocError
     }
 }
 
-/// That a lecture is isolated is said in the week of the curriculum.
+/// Appends the mark of an isolated lecture, only in the week of the curriculum.
 #[tactic(auto, unfolding(crate::specs::Lectures::isolated_mark))]
 fn put_isolated(
     out: &mut Vec<u8>,
@@ -163,7 +163,7 @@ fn put_isolated(
     }
 }
 
-/// The marks of a lecture.
+/// Appends the marks of a lecture.
 #[tactic(auto, unfolding(crate::specs::Lectures::marks_text))]
 fn put_marks(
     out: &mut Vec<u8>,
@@ -206,7 +206,7 @@ fn put_marks(
     )
 }
 
-/// A lecture in a week.
+/// Appends a lecture in a week.
 #[tactic(auto, unfolding(crate::specs::Lectures::lecture_text))]
 pub fn put_lecture(
     out: &mut Vec<u8>,

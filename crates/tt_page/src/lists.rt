@@ -12,7 +12,7 @@ use std::alloc::AllocError;
 use tt_rules::Score;
 use tt_text::put_token;
 
-/// A row of a table of counts.
+/// Appends a row of a table of counts.
 #[tactic(auto, unfolding(crate::specs::Lists::count_row))]
 fn put_count_row<'x>(
     out: &mut Vec<u8>,
@@ -50,7 +50,7 @@ fn put_rule_row(
     put_count_row(out, rule.title(), count, rule.meaning())
 }
 
-/// The table of the hard rules.
+/// Appends the table of the hard rules.
 #[tactic(auto, unfolding(crate::specs::Lists::hard_table, crate::specs::Lists::table_foot, crate::specs::Lists::table_end))]
 pub fn put_hard_table(
     out: &mut Vec<u8>,
@@ -73,7 +73,7 @@ pub fn put_hard_table(
     put_token(out, b"</tfoot>\n</table>\n")
 }
 
-/// The table of the costs.
+/// Appends the table of the costs.
 #[tactic(auto, unfolding(crate::specs::Lists::cost_table, crate::specs::Lists::table_foot, crate::specs::Lists::table_end))]
 pub fn put_cost_table(
     out: &mut Vec<u8>,
@@ -96,7 +96,7 @@ pub fn put_cost_table(
     put_token(out, b"</tfoot>\n</table>\n")
 }
 
-/// The beginning of a list.
+/// Appends the beginning of a list.
 #[tactic(auto, unfolding(crate::specs::Lists::list_head))]
 fn put_list_head(out: &mut Vec<u8>, rule: Rule, count: u64) -> Result<(), AllocError>
     ensures { OnOk result (out.new.items ≡ out.old.items ++ list_head rule count) }
@@ -144,7 +144,7 @@ fn put_costs_head(out: &mut Vec<u8>, rule: Rule, count: u64) -> Result<(), Alloc
     )
 }
 
-/// A list, where its count is above 0.
+/// Appends a list if its count is above 0.
 #[tactic(auto, unfolding(crate::specs::Lists::list_text))]
 fn put_list(
     out: &mut Vec<u8>,
@@ -164,7 +164,7 @@ fn put_list(
     put_token(out, b"</ul>\n</details>\n")
 }
 
-/// The lists of all counts above 0.
+/// Appends the lists of all counts above 0.
 #[tactic(auto, unfolding(crate::specs::Lists::lists_text))]
 pub fn put_lists(out: &mut Vec<u8>, plan: &Plan<'_, '_>, score: &Score) -> Result<(), AllocError>
     requires { IsScore plan.now.problem plan.now.table score.now }

@@ -1,4 +1,4 @@
-//! Which marks a lecture has.
+//! The marks of a lecture.
 
 ghost use Rattle.std.specs.Prelude.{◌≡◌, ◌<◌, ◌≤◌, ◌&&◌};
 ghost use Rattle.std.specs.List.{list_any};
@@ -12,7 +12,7 @@ use crate::plan::Plan;
 use tt_instance::Instance;
 use tt_table::Entry;
 
-/// Whether an entry of its period has a course that excludes its own.
+/// Checks whether an entry of its period has a course that conflicts with its own.
 pub fn is_in_conflict(plan: &Plan<'_, '_>, entry: &Entry) -> bool
     requires { InRange plan.now.problem entry.now }
     ensures { result ≡ in_conflict plan.now.problem plan.now.table entry.now }
@@ -22,14 +22,14 @@ pub fn is_in_conflict(plan: &Plan<'_, '_>, entry: &Entry) -> bool
     some_excludes(instance, others, entry.course)
 }
 
-/// Whether its period is unavailable for its course.
+/// Checks whether its period is unavailable for its course.
 pub fn is_unavailable(instance: &Instance<'_>, entry: &Entry) -> bool
     ensures { result ≡ unavailable instance.now entry.now.course entry.now.day entry.now.period }
 {
     instance.unavailable(entry.course, entry.day, entry.period)
 }
 
-/// Whether its room has more than one entry in its period.
+/// Checks whether its room has more than one entry in its period.
 pub fn is_room_taken(plan: &Plan<'_, '_>, entry: &Entry) -> bool
     requires { InRange plan.now.problem entry.now }
     ensures { result ≡ room_taken plan.now.table entry.now }
@@ -39,7 +39,7 @@ pub fn is_room_taken(plan: &Plan<'_, '_>, entry: &Entry) -> bool
     count > 1
 }
 
-/// Whether its course has more than one entry in its period.
+/// Checks whether its course has more than one entry in its period.
 pub fn is_repeated(plan: &Plan<'_, '_>, entry: &Entry) -> bool
     requires { InRange plan.now.problem entry.now }
     ensures { result ≡ repeated plan.now.table entry.now }
@@ -49,7 +49,7 @@ pub fn is_repeated(plan: &Plan<'_, '_>, entry: &Entry) -> bool
     count > 1
 }
 
-/// Whether a course of a curriculum is taught in a period.
+/// Checks whether a course of a curriculum is taught in a period.
 fn is_taught(plan: &Plan<'_, '_>, curriculum: u32, day: u32, period: u32) -> bool
     requires day { day < plan.now.problem.days }
     requires period { period < plan.now.problem.periods }
@@ -60,7 +60,7 @@ fn is_taught(plan: &Plan<'_, '_>, curriculum: u32, day: u32, period: u32) -> boo
     some_attended(instance, others, curriculum)
 }
 
-/// Whether a course of the curriculum is taught right before it on its day.
+/// Checks whether a course of the curriculum is taught in the period immediately before it on its day.
 fn is_taught_before(plan: &Plan<'_, '_>, curriculum: u32, entry: &Entry) -> bool
     requires { InRange plan.now.problem entry.now }
     ensures { result ≡ list_any (λ x. in_curriculum plan.now.problem curriculum x.course && is_right_before entry.now x) plan.now.table }
@@ -71,7 +71,7 @@ fn is_taught_before(plan: &Plan<'_, '_>, curriculum: u32, entry: &Entry) -> bool
     is_taught(plan, curriculum, entry.day, entry.period - 1)
 }
 
-/// Whether a course of the curriculum is taught right after it on its day.
+/// Checks whether a course of the curriculum is taught in the period immediately after it on its day.
 fn is_taught_after(plan: &Plan<'_, '_>, curriculum: u32, entry: &Entry) -> bool
     requires { InRange plan.now.problem entry.now }
     ensures { result ≡ list_any (λ x. in_curriculum plan.now.problem curriculum x.course && is_right_after entry.now x) plan.now.table }
@@ -84,7 +84,7 @@ fn is_taught_after(plan: &Plan<'_, '_>, curriculum: u32, entry: &Entry) -> bool
     is_taught(plan, curriculum, entry.day, entry.period + 1)
 }
 
-/// Whether none of the curriculum's courses is taught right before it or right after it on its day.
+/// Checks that none of the curriculum's courses is taught in the period immediately before or after it on its day.
 pub fn is_isolated(plan: &Plan<'_, '_>, curriculum: u32, entry: &Entry) -> bool
     requires { InRange plan.now.problem entry.now }
     ensures { result ≡ is_isolated plan.now.problem plan.now.table curriculum entry.now }
@@ -94,7 +94,7 @@ pub fn is_isolated(plan: &Plan<'_, '_>, curriculum: u32, entry: &Entry) -> bool
     !before && !after
 }
 
-/// The students of its course for whom its room has no seat.
+/// Returns the number of students of its course for whom its room has no seat.
 pub fn without_seat(instance: &Instance<'_>, entry: &Entry) -> u64
     requires { InRange instance.now entry.now }
     ensures { result ≡ excess instance.now entry.now.course entry.now.room }
@@ -103,7 +103,7 @@ pub fn without_seat(instance: &Instance<'_>, entry: &Entry) -> u64
     u64::from(instance.students(entry.course).saturating_sub(seats))
 }
 
-/// Whether its room is not that of its course's first entry.
+/// Checks whether its room is not that of its course's first entry.
 pub fn is_in_other_room(plan: &Plan<'_, '_>, entry: &Entry) -> bool
     requires { InRange plan.now.problem entry.now }
     ensures { result ≡ in_other_room plan.now.table entry.now }

@@ -1,4 +1,4 @@
-//! The text of a page, and its way out.
+//! The text of a page, and its output.
 
 ghost use Rattle.std.specs.Prelude.{◌≡◌, ◌++◌, Err, true, OnOk, IfOk};
 ghost use Rattle.std.specs.Io.KnownBytes.{Appends};
@@ -21,7 +21,7 @@ use tt_rules::{Score, score};
 use tt_table::Timetable;
 use tt_text::put_token;
 
-/// What the timetable counts, and where.
+/// Appends the counts of the timetable, and the places where they arise.
 #[tactic(auto, unfolding(crate::specs::Pages::counts_text))]
 fn put_counts(out: &mut Vec<u8>, plan: &Plan<'_, '_>, score: &Score) -> Result<(), AllocError>
     requires { IsScore plan.now.problem plan.now.table score.now }
@@ -34,7 +34,7 @@ fn put_counts(out: &mut Vec<u8>, plan: &Plan<'_, '_>, score: &Score) -> Result<(
     put_lists(out, plan, score)
 }
 
-/// The weeks, and the courses.
+/// Appends the weeks, and the courses.
 #[tactic(auto, unfolding(crate::specs::Pages::weeks_text))]
 fn put_weeks(out: &mut Vec<u8>, plan: &Plan<'_, '_>) -> Result<(), AllocError>
     ensures { OnOk result (out.new.items ≡ out.old.items ++ weeks_text plan.now.problem plan.now.table) }
@@ -45,7 +45,7 @@ fn put_weeks(out: &mut Vec<u8>, plan: &Plan<'_, '_>) -> Result<(), AllocError>
     put_courses(out, plan)
 }
 
-/// The text of a page.
+/// Returns the text of a page.
 #[tactic(auto, unfolding(crate::specs::Pages::page_text))]
 fn text_of(
     alloc: Global,
@@ -76,11 +76,11 @@ pub fn page<W: Sink>(
 ) -> Result<(), ReportFault>
     requires { IsTimetable instance.now table.now }
     ensures written { OnOk result (Appends (W.contents sink.old) (W.contents sink.new) (page_text instance.now table.now style.now)) }
-    // After a failed write a part from its front was taken.
+    // After a failed write, a part from the front of the text was taken.
     ensures part { result ≡ Err fault.Write → TakesPart (W.contents sink.old) (W.contents sink.new) (page_text instance.now table.now style.now) }
     ensures failed { result ≡ Err fault.Write → W.has_failed sink.new ≡ true }
     ensures unfailed { ¬ (result ≡ Err fault.Write) → W.has_failed sink.new ≡ W.has_failed sink.old }
-    // Where memory ran out nothing was written.
+    // If memory ran out, nothing was written.
     ensures unwritten { result ≡ Err fault.OutOfMemory → sink.new ≡ sink.old }
 {
     let text = text_of(alloc, instance, table, style)?;

@@ -1,4 +1,4 @@
-//! Pieces of a page, one after the other.
+//! Pieces of a page, in turn.
 
 ghost use Rattle.std.specs.Prelude.{◌≡◌, ◌++◌, OnOk};
 ghost use Rattle.tt_page.specs.Markup.{part_text, parts_text, counted};
@@ -14,7 +14,7 @@ pub enum Part<'a> {
     Text(&'a str),
     Number(u32),
     Count(u64),
-    /// A name of the instance, which nothing takes for markup.
+    /// A name of the instance, which is never taken for markup.
     Name(&'a [u8]),
 }
 

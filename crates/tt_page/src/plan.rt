@@ -32,7 +32,7 @@ impl<'w, 'i> Model for Plan<'w, 'i> {
     ghost invariant = { IsPlan };
 }
 
-/// The entries by the period of the week.
+/// Groups the entries by the period of the week.
 fn by_period<'t>(instance: &Instance<'_>, entries: &'t [Entry]) -> Groups<'t>
     requires in_range { All (InRange instance.now) entries.now }
     requires few { length entries.now ≤ MAX_ENTRIES }
@@ -41,19 +41,19 @@ fn by_period<'t>(instance: &Instance<'_>, entries: &'t [Entry]) -> Groups<'t>
     Groups::new(entries, GroupBy::Period(instance.periods()))
 }
 
-/// The entries by course.
+/// Groups the entries by course.
 fn by_course<'t>(instance: &Instance<'_>, entries: &'t [Entry]) -> Groups<'t>
     requires in_range { All (InRange instance.now) entries.now }
     requires few { length entries.now ≤ MAX_ENTRIES }
     ensures { result ≡ record { by = by.Course; entries = entries.now } }
 {
-    // What is true of every instance: each course is a group.
+    // This holds for every instance: each course is a group.
     prove!(instance.courses() <= MAX_COURSES);
     Groups::new(entries, GroupBy::Course)
 }
 
 impl<'w, 'i> Plan<'w, 'i> {
-    /// The plan of a timetable, whose entries are all in the instance's range.
+    /// Returns the plan of a timetable, whose entries are all in the instance's range.
     pub fn new(instance: &'w Instance<'i>, table: &'w Timetable) -> Plan<'w, 'i>
         requires { IsTimetable instance.now table.now }
         ensures { result ≡ record { problem = instance.now; table = table.now } }
@@ -69,14 +69,14 @@ impl<'w, 'i> Plan<'w, 'i> {
         }
     }
 
-    /// The instance.
+    /// Returns the instance.
     pub fn instance(&self) -> &'w Instance<'i>
         ensures { result.now ≡ self.now.problem }
     {
         self.instance
     }
 
-    /// The entries in order.
+    /// Returns the entries in order.
     pub fn entries(&self) -> &'w [Entry]
         ensures value { result.now ≡ self.now.table }
         ensures in_range { All (InRange self.now.problem) result.now }
@@ -85,7 +85,7 @@ impl<'w, 'i> Plan<'w, 'i> {
         self.entries
     }
 
-    /// The entries of a period.
+    /// Returns the entries of a period.
     pub fn in_period(&self, day: u32, period: u32) -> Group<'_>
         requires day { day < self.now.problem.days }
         requires period { period < self.now.problem.periods }
@@ -96,7 +96,7 @@ impl<'w, 'i> Plan<'w, 'i> {
         self.by_period.in_period(self.instance, day, period)
     }
 
-    /// The entries of a course.
+    /// Returns the entries of a course.
     pub fn of_course(&self, course: u32) -> Group<'_>
         requires { course < length self.now.problem.courses }
         ensures group { result ≡ filter (is_of course) self.now.table }
@@ -107,7 +107,7 @@ impl<'w, 'i> Plan<'w, 'i> {
         self.by_course.of_course(course)
     }
 
-    /// The later entries of an entry's period.
+    /// Returns the later entries of an entry's period.
     pub fn later(&self, index: u32) -> Group<'_>
         requires { index < length self.now.table }
         ensures group { IfSome (slice_get self.now.table index)

@@ -7,7 +7,7 @@ ghost use Rattle.tt_page.specs.Rules.{rule_count, is_hard, rule_word, rule_title
 use crate::plan::Plan;
 use tt_rules::Score;
 
-/// What a score counts.
+/// A count of a score.
 #[derive(Clone, Copy, Debug, PartialEq, Eq)]
 pub enum Rule {
     Lectures,
@@ -21,7 +21,7 @@ pub enum Rule {
 }
 
 impl Rule {
-    /// The count of a timetable's score.
+    /// Returns the count of a timetable's score.
     pub fn count(self, plan: &Plan<'_, '_>, score: &Score) -> u64
         requires { IsScore plan.now.problem plan.now.table score.now }
         ensures { result ≡ rule_count plan.now.problem plan.now.table self }
@@ -38,7 +38,7 @@ impl Rule {
         }
     }
 
-    /// Whether a feasible timetable has none of it.
+    /// Checks whether the count is 0 for every feasible timetable.
     pub fn is_hard(self) -> bool
         ensures { result ≡ is_hard self }
     {
@@ -48,7 +48,7 @@ impl Rule {
         )
     }
 
-    /// The word in links.
+    /// Returns the word in links.
     pub fn word(self) -> &'static str
         ensures { result.now ≡ rule_word self }
     {
@@ -64,7 +64,7 @@ impl Rule {
         }
     }
 
-    /// The heading of the list of what breaks the rule.
+    /// Returns the heading of the list of the rule's violations.
     pub fn title(self) -> &'static str
         ensures { result.now ≡ rule_title self }
     {
@@ -80,7 +80,7 @@ impl Rule {
         }
     }
 
-    /// What is counted, in words.
+    /// Returns a description of the count, in words.
     pub fn meaning(self) -> &'static str
         ensures { result.now ≡ rule_meaning self }
     {

@@ -1,4 +1,4 @@
-//! Names as they stand in a page.
+//! Names as they appear in a page.
 
 ghost use Rattle.std.specs.Prelude.{◌≡◌, ◌++◌, flat_map, chars, encode_utf8, OnOk};
 ghost use Rattle.std.specs.Str.{IsUtf8};
@@ -7,7 +7,7 @@ ghost use Rattle.tt_page.specs.Shown.{letter_text, shown, IsHarmless};
 use std::alloc::AllocError;
 use tt_text::put_token;
 
-/// A letter in UTF-8.
+/// Appends a letter in UTF-8.
 fn put_plain(out: &mut Vec<u8>, letter: char) -> Result<(), AllocError>
     ensures { OnOk result (out.new.items ≡ out.old.items ++ encode_utf8 letter) }
 {
@@ -15,7 +15,7 @@ fn put_plain(out: &mut Vec<u8>, letter: char) -> Result<(), AllocError>
     put_token(out, letter.encode_utf8(&mut bytes).as_bytes())
 }
 
-/// What stands in a page for a letter.
+/// Appends the text that a page has for a letter.
 #[tactic(auto, unfolding(crate::specs::Shown::letter_text))]
 fn put_letter(out: &mut Vec<u8>, letter: char) -> Result<(), AllocError>
     ensures { OnOk result (out.new.items ≡ out.old.items ++ letter_text letter) }
@@ -31,7 +31,7 @@ fn put_letter(out: &mut Vec<u8>, letter: char) -> Result<(), AllocError>
     }
 }
 
-/// The letters of a text.
+/// Appends the letters of a text.
 fn put_letters(out: &mut Vec<u8>, text: &str) -> Result<(), AllocError>
     ensures { OnOk result (out.new.items ≡ out.old.items ++ flat_map letter_text (chars text.now)) }
 {
@@ -41,7 +41,7 @@ fn put_letters(out: &mut Vec<u8>, text: &str) -> Result<(), AllocError>
     Ok(())
 }
 
-/// Appends what a name becomes in a page.
+/// Appends the text that a page has for a name.
 #[tactic(auto, unfolding(crate::specs::Shown::shown))]
 pub fn put_shown(out: &mut Vec<u8>, name: &[u8]) -> Result<(), AllocError>
     ensures ok { OnOk result (out.new.items ≡ out.old.items ++ shown name.now) }

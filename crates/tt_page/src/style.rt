@@ -1,4 +1,4 @@
-//! How a page looks.
+//! The appearance of a page.
 
 /// The style of a page, light and dark, on a screen and on paper.
 pub const STYLE: &str = r#":root {

@@ -17,7 +17,7 @@ joined : {A : Type 0} (xs : List (Vec ℕ A)) (x : Vec ℕ A) → texts_of (xs +
 joined [] x = refl
 joined (y ∷ ys) x = ap (λ l. y.items ∷ l) (joined ys x)
 
--- one more
+-- another source
 pub sources_more : {A : Type 0} (proofs : List (Vec ℕ A)) (i : ℕ) (d : Vec ℕ A) (sources : List (Peeked Cut)) (s : Peeked Cut) → i < length proofs
     → AllZip Gives sources (texts_of (take i proofs)) → Gives s (get_or proofs i d).items → AllZip Gives (sources ++ s ∷ []) (texts_of (take (i + 1) proofs))
 sources_more proofs i d sources s lt before here =

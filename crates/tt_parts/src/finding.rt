@@ -1,4 +1,4 @@
-//! Proofs over disjoint targets, found.
+//! Searching for proofs over disjoint targets.
 
 ghost use Rattle.std.specs.Prelude.{IfOk, IfSome};
 ghost use Rattle.tt_parts.specs.Found.{AreFound};
@@ -12,25 +12,25 @@ use tt_leaf_rules::Bound;
 use tt_search::{Unwatched, Watch};
 use tt_table::Entry;
 
-/// How many relaxations the search for groups may do for each node that is allowed.
+/// The number of relaxations that the search for groups may do for each node allowed.
 const RELAXATIONS_OF_NODE: u64 = 50_000;
 
-/// How much a search may do, and the seed of what it draws.
+/// The amount of work that a search may do, and the seed of its random choices.
 #[derive(Clone, Copy, Debug, PartialEq, Eq)]
 pub struct Effort {
-    /// Each stands for 50,000 relaxations.
+    /// Each node allows 50,000 relaxations.
     pub nodes: u32,
     pub seed: u64,
 }
 
-/// Proofs that claim different targets, as texts, and the sum of their bounds. A file of groups comes first, if there is one.
+/// Proofs that claim distinct targets, as texts, and the sum of their bounds. A file of groups comes first, if one was found.
 #[derive(Drop)]
 pub struct Parts {
     pub proofs: Vec<Vec<u8>>,
     pub bound: Bound,
 }
 
-/// Returns proofs with the sum of their bounds, if each is right and no two claim one target.
+/// Returns proofs with the sum of their bounds, if each is right and no two claim the same target.
 pub fn add_up(
     alloc: Global,
     instance: &Instance<'_>,
@@ -44,7 +44,7 @@ pub fn add_up(
     Ok(Some(Parts { proofs, bound }))
 }
 
-/// The text of the groups that are found, if there are any.
+/// Returns the text of the groups that were found, if any were.
 fn groups_text<W: Watch>(
     alloc: Global,
     instance: &Instance<'_>,
@@ -60,7 +60,7 @@ fn groups_text<W: Watch>(
     Ok(Some(write_groups(alloc, claims.as_slice())?))
 }
 
-/// The texts of all proofs.
+/// Returns the texts of all proofs.
 fn find_texts<W: Watch>(
     alloc: Global,
     instance: &Instance<'_>,
@@ -78,8 +78,8 @@ fn find_texts<W: Watch>(
     Ok(texts)
 }
 
-/// Looks for proofs as `find_parts` does. The entries are those of a known timetable, or none: no group is tried that would have to be worth more
-/// than it costs there. The watch sees the search.
+/// Searches for proofs like `find_parts`. The entries are those of a known timetable, or none: a group is not tried if its value would have to
+/// be above its cost in that timetable. The watch sees the search.
 pub fn find_parts_watched<W: Watch>(
     alloc: Global,
     instance: &Instance<'_>,
@@ -99,14 +99,14 @@ pub fn find_parts_watched<W: Watch>(
     })
 }
 
-/// Looks for proofs that claim different targets: claims about groups, and one tree of a leaf about the seats of rooms. How much is found, and
-/// how long it takes, is not promised.
+/// Searches for proofs that claim distinct targets: claims about groups, and one tree of a leaf about the seats of rooms. It makes no promise
+/// about how much it finds and how long it takes.
 pub fn find_parts(
     alloc: Global,
     instance: &Instance<'_>,
     effort: Effort,
 ) -> Result<Parts, AllocError>
-    // Each is a right file of its kind, no target is claimed by two, and this is the sum, which holds of every feasible timetable.
+    // Each proof is a right file of its kind, no target is claimed by two, and the bound is the sum, which holds for every feasible timetable.
     ensures { IfOk result (AreFound instance.now) }
 {
     find_parts_watched(alloc, instance, effort, &[], &mut Unwatched)

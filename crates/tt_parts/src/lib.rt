@@ -1,4 +1,4 @@
-//! Proofs whose bounds add up, found: claims about groups, and the seats that rooms lack.
+//! Searching for proofs whose bounds add up: claims about groups, and the seats that rooms lack.
 #![tactic(auto)]
 
 mod finding;

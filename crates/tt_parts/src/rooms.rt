@@ -1,4 +1,4 @@
-//! A bound of the seats that rooms lack.
+//! A bound on the seats that rooms lack.
 
 ghost use Rattle.std.specs.Prelude.{All, IfOk};
 ghost use Rattle.tt_leaf_rules.specs.Ranges.{IsClaimOf};
@@ -15,14 +15,14 @@ use tt_proof_text::{WriteFault, write_proof};
 /// The version of the proof.
 const VERSION: u8 = 2;
 
-/// Claims, and the cost points that they are worth together.
+/// Claims, and their total value in cost points.
 #[derive(Drop)]
 struct Claims {
     list: Vec<Claim>,
     points: u64,
 }
 
-/// Takes the claims about seats out of others.
+/// Extracts the claims about seats from other claims.
 fn seats_of<'i, P: Path<'i>>(
     alloc: Global,
     path: &P,
@@ -43,7 +43,7 @@ fn seats_of<'i, P: Path<'i>>(
     Ok(seats)
 }
 
-/// The text of a proof of one leaf, which prices the seats that the rooms lack; none if it would be worth nothing.
+/// Returns the text of a proof of one leaf, which prices the seats that the rooms lack; `None` if its value would be 0.
 pub fn find_rooms(alloc: Global, instance: &Instance<'_>) -> Result<Option<Vec<u8>>, AllocError> {
     let path = TrailPath::new(alloc, instance)?;
     let Leaf::Cost(claims) = best_claims(alloc, &path)? else {

@@ -1,4 +1,4 @@
-//! Proofs that are checked together.
+//! Checking proofs together.
 
 ghost use Rattle.std.specs.Prelude.{IfOk, IfSome};
 ghost use Rattle.tt_proof_check.specs.Derives.{HoldsOfAll};
@@ -12,10 +12,10 @@ use tt_peek::Peeked;
 use tt_sum::{SumFault, sum_proofs};
 use tt_text::Pieces;
 
-/// How many bytes of a proof are read at once.
+/// The number of bytes of a proof that are read at once.
 const PIECE: usize = 4_096;
 
-/// The sum of the bounds of proofs, if each is right and no two claim one target.
+/// Returns the sum of the bounds of proofs, if each is right and no two claim the same target.
 pub fn sum_of(
     alloc: Global,
     instance: &Instance<'_>,

@@ -1,4 +1,4 @@
-//! Both paths through the same pushes and pops.
+//! Compares both paths after equal pushes and pops.
 
 use crate::answers::{all_told, some_told};
 use crate::dice::{Dice, Ranges, ranges_of};
@@ -11,17 +11,17 @@ use tt_instance::read_instance;
 use tt_paths::{Fact, Path, PlainPath};
 use tt_samples::GAP;
 
-/// How many pushes and pops.
+/// The number of pushes and pops.
 const STEPS: u32 = 500;
 
-/// Which answers are looked at after each step.
+/// The answers that are compared after each step.
 #[derive(Clone, Copy)]
 enum Look {
     All,
     Drawn,
 }
 
-/// Takes the newest fact away; nothing where there is none.
+/// Removes and returns the newest fact, or returns `None` if there is none.
 fn popped<'i, P: Path<'i>>(path: &mut P) -> Option<Fact> {
     if path.depth() == 0 {
         return None;
@@ -29,7 +29,7 @@ fn popped<'i, P: Path<'i>>(path: &mut P) -> Option<Fact> {
     Some(path.pop())
 }
 
-/// One push, or one pop where a fact is to go; whether both paths answered the same.
+/// Pushes a fact, or pops one if `fact` is `None`; returns whether both paths gave the same result.
 fn step<'i, P: Path<'i>, Q: Path<'i>>(plain: &mut P, trail: &mut Q, fact: Option<Fact>) -> bool {
     match fact {
         Some(fact) => plain.push(fact).is_ok() == trail.push(fact).is_ok(),
@@ -37,7 +37,7 @@ fn step<'i, P: Path<'i>, Q: Path<'i>>(plain: &mut P, trail: &mut Q, fact: Option
     }
 }
 
-/// The fact that is to come, or none where one is to go: about as many go as come, once there are some.
+/// Returns the next fact to push, or `None` if one is to be popped: about equally often, once there are some facts.
 fn next_fact(dice: &mut Dice, depth: u32, ranges: Ranges) -> Option<Fact> {
     let goes = dice.below(16);
     if goes < depth {
@@ -47,7 +47,7 @@ fn next_fact(dice: &mut Dice, depth: u32, ranges: Ranges) -> Option<Fact> {
     }
 }
 
-/// What a path answers.
+/// Returns a path's answers as one number.
 fn told<'i, P: Path<'i>>(path: &P, ranges: Ranges, seed: u64, look: Look) -> u64 {
     match look {
         Look::All => all_told(path, ranges, seed),
@@ -55,7 +55,7 @@ fn told<'i, P: Path<'i>>(path: &P, ranges: Ranges, seed: u64, look: Look) -> u64
     }
 }
 
-/// The first step after which the paths differ in an answer.
+/// Returns the first step after which the paths differ in an answer.
 fn first_difference<'i, P: Path<'i>, Q: Path<'i>>(
     plain: &mut P,
     trail: &mut Q,
@@ -75,7 +75,7 @@ fn first_difference<'i, P: Path<'i>, Q: Path<'i>>(
     None
 }
 
-/// The first step after which both paths of an instance differ.
+/// Returns the first step after which both paths of an instance differ.
 fn difference(alloc: Global, text: &str, seed: u64, look: Look) -> Result<Option<u32>, Fail> {
     let instance = read_instance(alloc, text.as_bytes())?;
     let mut plain = PlainPath::new(alloc, &instance);

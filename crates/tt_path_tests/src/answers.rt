@@ -1,16 +1,16 @@
-//! The answers of a path, put together to one number.
+//! The answers of a path, combined into one number.
 
 use crate::dice::{Dice, Ranges};
 use tt_paths::{Cell, Fact, Path, Who};
 
-/// A number that tells what came before and one answer more.
+/// Returns a number that depends on the answers so far and another answer.
 fn mixed(told: u64, answer: u64) -> u64 {
     (told ^ answer)
         .wrapping_mul(1_099_511_628_211)
         .wrapping_add(1)
 }
 
-/// Whether a cell is dead; false where it isn't one of the instance.
+/// Checks whether a cell is dead; `false` if it isn't a cell of the instance.
 fn is_dead<'i, P: Path<'i>>(path: &P, cell: Cell) -> bool {
     let instance = path.instance();
     cell.course < instance.courses()
@@ -20,7 +20,7 @@ fn is_dead<'i, P: Path<'i>>(path: &P, cell: Cell) -> bool {
         && path.dead(cell)
 }
 
-/// Whether a course has a live cell in a period, and its least excess there.
+/// Returns whether a course has a live cell in a period, and its least excess in it.
 fn live_of<'i, P: Path<'i>>(path: &P, course: u32, day: u32, period: u32) -> (bool, Option<u64>) {
     let instance = path.instance();
     if course >= instance.courses() || day >= instance.days() || period >= instance.periods() {
@@ -32,13 +32,13 @@ fn live_of<'i, P: Path<'i>>(path: &P, course: u32, day: u32, period: u32) -> (bo
     )
 }
 
-/// Whether a course has a live period on a day.
+/// Checks whether a course has a live period on a day.
 fn is_live_on<'i, P: Path<'i>>(path: &P, course: u32, day: u32) -> bool {
     let instance = path.instance();
     course < instance.courses() && day < instance.days() && path.live_day(course, day)
 }
 
-/// Whether a period is pinned for a course.
+/// Checks whether a period is pinned for a course.
 fn is_pinned<'i, P: Path<'i>>(path: &P, course: u32, day: u32, period: u32) -> bool {
     let instance = path.instance();
     course < instance.courses()
@@ -47,7 +47,7 @@ fn is_pinned<'i, P: Path<'i>>(path: &P, course: u32, day: u32, period: u32) -> b
         && path.pinned(Who::Course(course), day, period)
 }
 
-/// Whether a period is pinned for a curriculum.
+/// Checks whether a period is pinned for a curriculum.
 fn is_pinned_for<'i, P: Path<'i>>(path: &P, curriculum: u32, day: u32, period: u32) -> bool {
     let instance = path.instance();
     curriculum < instance.curricula()
@@ -56,7 +56,7 @@ fn is_pinned_for<'i, P: Path<'i>>(path: &P, curriculum: u32, day: u32, period: u
         && path.pinned(Who::Curriculum(curriculum), day, period)
 }
 
-/// The pinned periods of a curriculum on a day.
+/// Returns the pinned periods of a curriculum on a day.
 fn pinned_for<'i, P: Path<'i>>(path: &P, curriculum: u32, day: u32) -> u64 {
     let instance = path.instance();
     if curriculum >= instance.curricula() || day >= instance.days() {
@@ -65,13 +65,13 @@ fn pinned_for<'i, P: Path<'i>>(path: &P, curriculum: u32, day: u32) -> u64 {
     path.pinned_periods(Who::Curriculum(curriculum), day)
 }
 
-/// Whether a room is pinned for a course.
+/// Checks whether a room is pinned for a course.
 fn is_pinned_in<'i, P: Path<'i>>(path: &P, course: u32, room: u32) -> bool {
     let instance = path.instance();
     course < instance.courses() && room < instance.rooms() && path.pinned_room(course, room)
 }
 
-/// The sets that tell of a course on a day, in a period and in the block of a room.
+/// Returns the sets of a course on a day, in a period and in the block of a room, as one number.
 fn words_told<'i, P: Path<'i>>(path: &P, cell: Cell) -> u64 {
     let instance = path.instance();
     if cell.course >= instance.courses()
@@ -94,7 +94,7 @@ fn words_told<'i, P: Path<'i>>(path: &P, cell: Cell) -> u64 {
     mixed(told, path.pinned_rooms(cell.course, block))
 }
 
-/// The newest fact.
+/// Returns the newest fact.
 fn newest<'i, P: Path<'i>>(path: &P) -> Option<Fact> {
     let depth = path.depth();
     if depth == 0 {
@@ -103,7 +103,7 @@ fn newest<'i, P: Path<'i>>(path: &P) -> Option<Fact> {
     Some(path.fact(depth - 1))
 }
 
-/// The answers of one cell.
+/// Returns the answers about one cell.
 fn cell_told<'i, P: Path<'i>>(path: &P, cell: Cell) -> u64 {
     let (live, excess) = live_of(path, cell.course, cell.day, cell.period);
     let excess = match excess {
@@ -121,7 +121,7 @@ fn cell_told<'i, P: Path<'i>>(path: &P, cell: Cell) -> u64 {
     mixed(told, u64::from(is_pinned_in(path, cell.course, cell.room)))
 }
 
-/// Whether facts stand on the path that are drawn from a seed.
+/// Returns the answers whether facts that are drawn from a seed are on the path.
 fn standing_told<'i, P: Path<'i>>(path: &P, ranges: Ranges, seed: u64) -> u64 {
     let mut dice = Dice { state: seed };
     let mut told = 0;
@@ -132,7 +132,7 @@ fn standing_told<'i, P: Path<'i>>(path: &P, ranges: Ranges, seed: u64) -> u64 {
     told
 }
 
-/// How many facts there are, and whether the newest stands on the path, and its contrary.
+/// Returns the answers about the newest fact: whether it is on the path, and whether its contrary is.
 fn newest_told<'i, P: Path<'i>>(path: &P) -> u64 {
     match newest(path) {
         None => 0,
@@ -144,7 +144,7 @@ fn newest_told<'i, P: Path<'i>>(path: &P) -> u64 {
     }
 }
 
-/// The answers of the cells of one course in one room.
+/// Returns the answers about the cells of one course in one room.
 fn cells_told<'i, P: Path<'i>>(path: &P, course: u32, room: u32, ranges: Ranges) -> u64 {
     let mut told = 0;
     for day in 0..ranges.days {
@@ -161,7 +161,7 @@ fn cells_told<'i, P: Path<'i>>(path: &P, course: u32, room: u32, ranges: Ranges)
     told
 }
 
-/// Which periods are pinned for the curricula.
+/// Returns the answers about the pinned periods of the curricula.
 fn curricula_told<'i, P: Path<'i>>(path: &P, day: u32, period: u32, ranges: Ranges) -> u64 {
     let mut told = 0;
     for curriculum in 0..ranges.curricula {
@@ -174,7 +174,7 @@ fn curricula_told<'i, P: Path<'i>>(path: &P, day: u32, period: u32, ranges: Rang
     told
 }
 
-/// Which periods of a day are pinned for the curricula.
+/// Returns the answers about the pinned periods of the curricula on a day.
 fn day_told<'i, P: Path<'i>>(path: &P, day: u32, ranges: Ranges) -> u64 {
     let mut told = 0;
     for period in 0..ranges.periods {
@@ -183,7 +183,7 @@ fn day_told<'i, P: Path<'i>>(path: &P, day: u32, ranges: Ranges) -> u64 {
     told
 }
 
-/// All answers about all cells of an instance that is small.
+/// Returns all answers about all cells of a small instance.
 pub fn all_told<'i, P: Path<'i>>(path: &P, ranges: Ranges, seed: u64) -> u64 {
     let mut told = mixed(newest_told(path), standing_told(path, ranges, seed));
     for course in 0..ranges.courses {
@@ -197,7 +197,7 @@ pub fn all_told<'i, P: Path<'i>>(path: &P, ranges: Ranges, seed: u64) -> u64 {
     told
 }
 
-/// What is pinned in a period and a room for all courses and curricula.
+/// Returns the answers about pinned periods and rooms of all courses and curricula, for one period and one room.
 fn pinned_told<'i, P: Path<'i>>(path: &P, cell: Cell, ranges: Ranges) -> u64 {
     let mut told = curricula_told(path, cell.day, cell.period, ranges);
     for course in 0..ranges.courses {
@@ -210,7 +210,7 @@ fn pinned_told<'i, P: Path<'i>>(path: &P, cell: Cell, ranges: Ranges) -> u64 {
     told
 }
 
-/// The answers about one cell that is drawn from a seed; those about live cells, which take long, one time of many.
+/// Returns the answers about one cell that is drawn from a seed; those about live cells, which take long, only one time in many.
 pub fn some_told<'i, P: Path<'i>>(path: &P, ranges: Ranges, seed: u64) -> u64 {
     let mut dice = Dice { state: seed };
     let cell = Cell {

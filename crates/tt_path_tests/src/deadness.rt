@@ -1,4 +1,4 @@
-//! Cells that die as facts come and are live again as facts go, by both paths.
+//! Cells that become dead as facts are added and live again as facts are removed, by both paths.
 
 use std::alloc::Global;
 use std::test::Fail;
@@ -7,7 +7,7 @@ use tt_instance::read_instance;
 use tt_paths::{Cell, Fact, MAX_FACTS, Path, PathFault, Pattern, PlainPath, Who};
 use tt_samples::{GAP, MINI};
 
-/// A fact of all cells of a course or of a curriculum's members.
+/// Returns a fact about all cells of a course or of a curriculum's members.
 pub fn fact_of(who: Who, holds: bool) -> Fact {
     let pattern = Pattern {
         who,
@@ -18,7 +18,7 @@ pub fn fact_of(who: Who, holds: bool) -> Fact {
     Fact { pattern, holds }
 }
 
-/// A fact of their cells in a period of the first day.
+/// Returns a fact about the cells of a course or of a curriculum's members in a period of the first day.
 pub fn fact_in_period(who: Who, period: u32, holds: bool) -> Fact {
     let pattern = Pattern {
         who,
@@ -29,12 +29,12 @@ pub fn fact_in_period(who: Who, period: u32, holds: bool) -> Fact {
     Fact { pattern, holds }
 }
 
-/// Adds a fact; whether the path took it.
+/// Adds a fact, and returns whether the path accepted it.
 pub fn pushed<'i, P: Path<'i>>(path: &mut P, fact: Fact) -> bool {
     path.push(fact).is_ok()
 }
 
-/// Takes the newest fact away; nothing where there is none.
+/// Removes and returns the newest fact, or returns `None` if there is none.
 pub fn popped<'i, P: Path<'i>>(path: &mut P) -> Option<Fact> {
     if path.depth() == 0 {
         return None;
@@ -42,7 +42,7 @@ pub fn popped<'i, P: Path<'i>>(path: &mut P) -> Option<Fact> {
     Some(path.pop())
 }
 
-/// Whether a course's cell in the first room, in a period of the first day, is dead; nothing where there is no such cell.
+/// Returns whether a course's cell in the first room, in a period of the first day, is dead; `None` if there is no such cell.
 fn is_dead<'i, P: Path<'i>>(path: &P, course: u32, period: u32) -> Option<bool> {
     let instance = path.instance();
     if course >= instance.courses()
@@ -60,7 +60,7 @@ fn is_dead<'i, P: Path<'i>>(path: &P, course: u32, period: u32) -> Option<bool> 
     }))
 }
 
-/// Whether the second course's cells in the first and in the last period of Gap are dead, and the first course's in the last.
+/// Whether the second course's cells in the first and in the last period of Gap are dead, and the first course's cell in the last period.
 #[derive(Clone, Copy, PartialEq, Eq)]
 struct DeadCells {
     second_first: Option<bool>,
@@ -76,7 +76,7 @@ fn seen<'i, P: Path<'i>>(path: &P) -> DeadCells {
     }
 }
 
-/// The same, of cells all of which there are.
+/// Returns the state of the three cells of Gap, if all of them exist.
 fn of_cells(second_first: bool, second_last: bool, first_last: bool) -> DeadCells {
     DeadCells {
         second_first: Some(second_first),
@@ -85,14 +85,14 @@ fn of_cells(second_first: bool, second_last: bool, first_last: bool) -> DeadCell
     }
 }
 
-/// Adds facts, as far as the path takes them.
+/// Adds facts, as far as the path accepts them.
 fn push_all<'i, P: Path<'i>>(path: &mut P, facts: &[Fact]) {
     for fact in facts {
         let _taken = pushed(path, *fact);
     }
 }
 
-/// Whether a path shows this after these facts, and this after each pop.
+/// Checks that a path has the first of these states after the facts, and the next one after each pop.
 fn shows<'i, P: Path<'i>>(path: &mut P, facts: &[Fact], told: &[DeadCells]) -> bool {
     push_all(path, facts);
     for cells in told {
@@ -104,7 +104,7 @@ fn shows<'i, P: Path<'i>>(path: &mut P, facts: &[Fact], told: &[DeadCells]) -> b
     true
 }
 
-/// Whether the plain path and the other of Gap show it.
+/// Returns whether the plain path and the other path of Gap have these states.
 fn both_show(alloc: Global, facts: &[Fact], told: &[DeadCells]) -> Result<(bool, bool), Fail> {
     let instance = read_instance(alloc, GAP.as_bytes())?;
     let mut plain = PlainPath::new(alloc, &instance);
@@ -118,7 +118,7 @@ fn both_show(alloc: Global, facts: &[Fact], told: &[DeadCells]) -> Result<(bool,
 #[test]
 fn a_fact_bars_cells_and_its_pop_frees_them(rt: HostRuntime) -> Result<(), Fail> {
     let fact = fact_in_period(Who::Course(0), 0, true);
-    // The first course takes the first period: its other cells stay live, since it may have more lectures.
+    // The first course takes the first period: its other cells remain live, since it may have more lectures.
     let told = [of_cells(true, false, false), of_cells(false, false, false)];
     assert_eq!(rt; both_show(rt.alloc(), &[fact], &told)?, (true, true));
     Ok(())
@@ -156,7 +156,7 @@ fn a_yes_fact_then_a_no_fact_that_leaves_it_one_period(rt: HostRuntime) -> Resul
     Ok(())
 }
 
-/// Adds a fact as often as a path takes facts; whether it took each.
+/// Adds a fact as often as a path may accept facts, and returns whether it accepted each.
 fn filled<'i, P: Path<'i>>(path: &mut P, fact: Fact) -> bool {
     for _ in 0..MAX_FACTS {
         if path.push(fact).is_err() {
@@ -166,7 +166,7 @@ fn filled<'i, P: Path<'i>>(path: &mut P, fact: Fact) -> bool {
     true
 }
 
-/// Whether a path takes one fact as often as it takes facts, and then no other.
+/// Checks that a path accepts one fact as often as it may accept facts, and then no other.
 fn takes_no_more<'i, P: Path<'i>>(path: &mut P, fact: Fact, other: Fact) -> bool {
     filled(path, fact)
         && path.push(other) == Err(PathFault::TooDeep)

@@ -3,7 +3,7 @@
 use tt_instance::Instance;
 use tt_paths::{Fact, Pattern, Who};
 
-/// How many courses, curricula, rooms, days and periods facts are drawn from.
+/// The numbers of courses, curricula, rooms, days and periods from which facts are drawn.
 #[derive(Clone, Copy)]
 pub struct Ranges {
     pub courses: u32,
@@ -13,7 +13,7 @@ pub struct Ranges {
     pub periods: u32,
 }
 
-/// The ranges of an instance, and one number more of each, so that some facts speak of what isn't there.
+/// Returns the ranges of an instance, each increased by 1, so that some facts are about things that don't exist.
 pub fn ranges_of(instance: &Instance<'_>) -> Ranges {
     Ranges {
         courses: instance.courses() + 1,
@@ -24,14 +24,14 @@ pub fn ranges_of(instance: &Instance<'_>) -> Ranges {
     }
 }
 
-/// A series of numbers, the same for the same seed.
+/// A series of random numbers, the same for the same seed.
 #[derive(Drop)]
 pub struct Dice {
     pub state: u64,
 }
 
 impl Dice {
-    /// The next number below 2^31.
+    /// Returns the next number, which is below 2^31.
     fn roll(&mut self) -> u64 {
         self.state = self
             .state
@@ -40,7 +40,7 @@ impl Dice {
         self.state >> 33
     }
 
-    /// A number below a bound; 0 where there is none.
+    /// Returns a number below a bound; 0 if the bound is 0.
     pub fn below(&mut self, bound: u32) -> u32 {
         let rolled = self.roll();
         if bound == 0 {
@@ -49,7 +49,7 @@ impl Dice {
         (rolled % u64::from(bound)) as u32
     }
 
-    /// A number below a bound, three times of four.
+    /// Returns a number below a bound three times out of four, else `None`.
     fn maybe_below(&mut self, bound: u32) -> Option<u32> {
         if self.below(4) == 0 {
             return None;
@@ -57,7 +57,7 @@ impl Dice {
         Some(self.below(bound))
     }
 
-    /// A course, or one time of four a curriculum.
+    /// Returns a course, or one time out of four a curriculum.
     fn who(&mut self, ranges: Ranges) -> Who {
         if self.below(4) == 0 {
             Who::Curriculum(self.below(ranges.curricula))
@@ -66,7 +66,7 @@ impl Dice {
         }
     }
 
-    /// A pattern of any kind.
+    /// Returns a pattern of any kind.
     pub fn pattern(&mut self, ranges: Ranges) -> Pattern {
         Pattern {
             who: self.who(ranges),
@@ -76,7 +76,7 @@ impl Dice {
         }
     }
 
-    /// A fact of any kind.
+    /// Returns a fact of any kind.
     pub fn fact(&mut self, ranges: Ranges) -> Fact {
         Fact {
             pattern: self.pattern(ranges),

@@ -1,4 +1,4 @@
-//! Two small drawn instances, as they stand in examples/.
+//! Two small random instances, as they are in examples/.
 
 /// Four courses in three curricula, two rooms, and two days of three periods.
 pub const TINY05: &str =

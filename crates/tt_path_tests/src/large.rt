@@ -2,7 +2,7 @@
 
 use std::alloc::{AllocError, Global};
 
-/// The lines of this many rooms.
+/// Returns the lines of this many rooms.
 fn room_lines(alloc: Global, rooms: u32) -> Result<String, AllocError> {
     let mut lines = String::new(alloc);
     for room in 0..rooms {
@@ -13,7 +13,7 @@ fn room_lines(alloc: Global, rooms: u32) -> Result<String, AllocError> {
     Ok(lines)
 }
 
-/// Four courses in two curricula, 512 rooms, and two days of 64 periods.
+/// Returns the text of an instance of four courses in two curricula, 512 rooms, and two days of 64 periods.
 pub fn large_text(alloc: Global) -> Result<String, AllocError> {
     let rooms = room_lines(alloc, 512)?;
     let mut text = String::new(alloc);

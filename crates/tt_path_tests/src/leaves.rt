@@ -1,4 +1,4 @@
-//! Leaves that are judged on both paths.
+//! Leaves that are checked on both paths.
 
 ghost use Rattle.std.specs.Prelude.{◌≡◌, [], ◌∷◌, IfOk};
 ghost use Rattle.tt_leaf_rules.specs.declared.leaf.Claim.{Claim};
@@ -15,13 +15,13 @@ use tt_leaf_rules::{
 use tt_paths::{Path, Pattern, PlainPath, Who};
 use tt_samples::{APART, GAP, MINI, SAME, WIDE};
 
-/// Puts Gap's courses into its first and its last period; whether the path took both facts.
+/// Pins Gap's courses in its first and its last period, and returns whether the path accepted both facts.
 fn pin_both<'i, P: Path<'i>>(path: &mut P) -> bool {
     pushed(path, fact_in_period(Who::Course(0), 0, true))
         && pushed(path, fact_in_period(Who::Course(1), 2, true))
 }
 
-/// The value of a claim of seats of the second course, at price 1; nothing where there is no such course.
+/// Returns the value of a claim of seats of the second course, at price 1; `None` if there is no such course.
 fn seats_value<'i, P: Path<'i>>(path: &P) -> Option<u64> {
     if path.instance().courses() < 2 {
         return None;
@@ -33,7 +33,7 @@ fn seats_value<'i, P: Path<'i>>(path: &P) -> Option<u64> {
     Some(claim_value(path, &seats))
 }
 
-/// The value of a claim of the first curriculum's isolated lectures; nothing without curricula.
+/// Returns the value of a claim of the first curriculum's isolated lectures; `None` if there are no curricula.
 fn gaps_value<'i, P: Path<'i>>(path: &P) -> Option<u64> {
     if path.instance().curricula() == 0 {
         return None;
@@ -41,7 +41,7 @@ fn gaps_value<'i, P: Path<'i>>(path: &P) -> Option<u64> {
     Some(claim_value(path, &Claim::Compact(0)))
 }
 
-/// The leaf of both claims.
+/// Returns the leaf of both claims.
 fn both_claims(alloc: Global) -> Result<Leaf, AllocError>
     ensures { IfOk result (λ leaf. leaf ≡ Leaf.Cost (Claim.Capacity 1 1 ∷ Claim.Compact 0 ∷ [])) }
 {
@@ -53,7 +53,7 @@ fn both_claims(alloc: Global) -> Result<Leaf, AllocError>
     Ok(Leaf::Cost(ClaimList::new(claims)))
 }
 
-/// What the leaf of both claims comes to; nothing where the instance has no such course or curriculum.
+/// Returns the result of checking the leaf of both claims; `None` if the instance has no such course or curriculum.
 fn both_judged<'i, P: Path<'i>>(
     alloc: Global,
     path: &P,
@@ -66,7 +66,7 @@ fn both_judged<'i, P: Path<'i>>(
     Ok(Some(holds(path, &leaf, bound)))
 }
 
-/// The value of that leaf.
+/// Returns the value of the leaf of both claims.
 fn both_value<'i, P: Path<'i>>(alloc: Global, path: &P) -> Result<Option<u64>, AllocError> {
     if path.instance().courses() < 2 || path.instance().curricula() == 0 {
         return Ok(None);
@@ -75,7 +75,7 @@ fn both_value<'i, P: Path<'i>>(alloc: Global, path: &P) -> Result<Option<u64>, A
     Ok(Some(leaf_value(path, &leaf)))
 }
 
-/// What the two claims and their leaf come to.
+/// The values and results of the two claims and their leaf.
 #[derive(Clone, Copy, Debug, PartialEq, Eq)]
 struct Verdicts {
     values: (Option<u64>, Option<u64>, Option<u64>),
@@ -84,7 +84,7 @@ struct Verdicts {
     at_nothing: Option<Result<(), RuleFault>>,
 }
 
-/// The verdicts once both courses are pinned; nothing where the path didn't take the facts.
+/// Returns the verdicts once both courses are pinned; `None` if the path didn't accept the facts.
 fn pinned_verdicts<'i, P: Path<'i>>(
     alloc: Global,
     path: &mut P,
@@ -101,7 +101,7 @@ fn pinned_verdicts<'i, P: Path<'i>>(
     }))
 }
 
-/// What the claim of seats of the second course comes to where it stands twice; nothing where there is no such course.
+/// Returns the result of checking a leaf that has the claim of seats of the second course twice; `None` if there is no such course.
 fn twice_judged<'i, P: Path<'i>>(
     alloc: Global,
     path: &P,
@@ -114,7 +114,7 @@ fn twice_judged<'i, P: Path<'i>>(
     Ok(Some(holds(path, &leaf, bound)))
 }
 
-/// The leaf of that claim twice.
+/// Returns the leaf with the claim of seats of the second course twice.
 fn seats_twice(alloc: Global) -> Result<Leaf, AllocError>
     ensures { IfOk result (λ leaf. leaf ≡ Leaf.Cost (Claim.Capacity 1 1 ∷ Claim.Capacity 1 1 ∷ [])) }
 {
@@ -130,7 +130,7 @@ fn seats_twice(alloc: Global) -> Result<Leaf, AllocError>
     Ok(Leaf::Cost(ClaimList::new(claims)))
 }
 
-/// The leaf of a claim of the first course's working days.
+/// Returns the leaf of a claim of the first course's working days.
 fn days_alone(alloc: Global) -> Result<Leaf, AllocError>
     ensures { IfOk result (λ leaf. leaf ≡ Leaf.Cost (Claim.Days 0 ∷ [])) }
 {
@@ -138,7 +138,7 @@ fn days_alone(alloc: Global) -> Result<Leaf, AllocError>
     Ok(Leaf::Cost(ClaimList::new(claims)))
 }
 
-/// What that leaf comes to; nothing where there is no course.
+/// Returns the result of checking the leaf of working days; `None` if there is no course.
 fn days_judged<'i, P: Path<'i>>(
     alloc: Global,
     path: &P,
@@ -151,7 +151,7 @@ fn days_judged<'i, P: Path<'i>>(
     Ok(Some(holds(path, &leaf, bound)))
 }
 
-/// What a Many leaf of the first course comes to; nothing where there is no course.
+/// Returns the result of checking a Many leaf of the first course; `None` if there is no course.
 fn many_judged<'i, P: Path<'i>>(path: &P) -> Option<Result<(), RuleFault>> {
     if path.instance().courses() == 0 {
         return None;
@@ -159,7 +159,7 @@ fn many_judged<'i, P: Path<'i>>(path: &P) -> Option<Result<(), RuleFault>> {
     Some(holds(path, &Leaf::Many(0), Bound::AtLeast(1)))
 }
 
-/// What an Empty leaf of the first course in the first period comes to; nothing where the instance has no such cell.
+/// Returns the result of checking an Empty leaf of the first course in the first period; `None` if the instance has no such cell.
 fn empty_judged<'i, P: Path<'i>>(path: &P) -> Option<Result<(), RuleFault>> {
     let instance = path.instance();
     if instance.courses() == 0 || instance.days() == 0 || instance.periods() == 0 {
@@ -174,7 +174,7 @@ fn empty_judged<'i, P: Path<'i>>(path: &P) -> Option<Result<(), RuleFault>> {
     Some(holds(path, &Leaf::Empty(pattern), Bound::AtLeast(1)))
 }
 
-/// What it comes to on an empty path, and once its fact stands there.
+/// Returns the results of checking the Empty leaf on an empty path, and after its fact is on the path.
 fn emptied<'i, P: Path<'i>>(
     path: &mut P,
 ) -> (Option<Result<(), RuleFault>>, Option<Result<(), RuleFault>>) {
@@ -190,7 +190,7 @@ enum List {
     Clique,
 }
 
-/// What a leaf of some courses comes to; nothing where one of them isn't there.
+/// Returns the result of checking a leaf of some courses; `None` if one of them doesn't exist.
 fn list_judged<'i, P: Path<'i>>(
     alloc: Global,
     path: &P,
@@ -209,7 +209,7 @@ fn list_judged<'i, P: Path<'i>>(
     Ok(Some(holds(path, &leaf, Bound::Nothing)))
 }
 
-/// What a Clique of the second course comes to on an empty path, and after a no-fact and a yes-fact have left it no period.
+/// Returns the results of checking a Clique of the second course on an empty path, and after a no-fact and a yes-fact have left it no period.
 fn clique_judged<'i, P: Path<'i>>(
     alloc: Global,
     path: &mut P,
@@ -221,7 +221,7 @@ fn clique_judged<'i, P: Path<'i>>(
     Ok((before, after))
 }
 
-/// What a path is asked.
+/// A question to a path.
 #[derive(Clone, Copy)]
 enum Question<'a> {
     Pinned,
@@ -233,7 +233,7 @@ enum Question<'a> {
     Emptied,
 }
 
-/// What it answers.
+/// The answer of a path.
 #[derive(Clone, Copy, Debug, PartialEq, Eq)]
 enum Told {
     Pinned(Option<Verdicts>),
@@ -265,7 +265,7 @@ fn ask<'i, P: Path<'i>>(
     }
 }
 
-/// The answers of the plain path and of the other.
+/// Returns the answers of the plain path and of the other path.
 fn answers(alloc: Global, text: &str, question: Question<'_>) -> Result<(Told, Told), Fail> {
     let instance = read_instance(alloc, text.as_bytes())?;
     let mut plain = PlainPath::new(alloc, &instance);

@@ -1,4 +1,4 @@
-//! Tests that the path with tables answers what the plain path does.
+//! Tests that the path with tables gives the same answers as the plain path.
 #![tactic(auto)]
 
 #[cfg(test)]

@@ -1,4 +1,4 @@
-//! Both paths, between two marks: hostile/run.py refuses their growths in turn. After a refusal each of their answers is as before.
+//! Both paths, between two marks: hostile/run.py refuses their allocations in turn. After a refusal each of their answers is unchanged.
 
 use crate::answers::all_told;
 use crate::deadness::fact_in_period;
@@ -9,7 +9,7 @@ use tt_instance::read_instance;
 use tt_paths::{Path, PathFault, PlainPath, Who};
 use tt_samples::{GAP, MARK};
 
-/// How many facts are pushed at most.
+/// The maximum number of facts that are pushed.
 const FACTS: u32 = 100;
 
 #[test]
@@ -22,7 +22,7 @@ fn the_call_trail_path_new(rt: HostRuntime) -> Result<(), Fail> {
     Ok(())
 }
 
-/// Pushes facts that are drawn from a seed, until this many are there or one is refused.
+/// Pushes facts that are drawn from a seed, until there are `most` of them or one is refused.
 fn push_drawn<'i, P: Path<'i>>(path: &mut P, ranges: Ranges, most: u32) -> Result<(), PathFault> {
     let mut dice = Dice { state: 3 };
     for _ in 0..most {
@@ -31,7 +31,7 @@ fn push_drawn<'i, P: Path<'i>>(path: &mut P, ranges: Ranges, most: u32) -> Resul
     Ok(())
 }
 
-/// Whether a path answers what another does that is given as many of the same facts.
+/// Checks that a path gives the same answers as another one after as many of the same facts.
 fn is_as<'i, P: Path<'i>, Q: Path<'i>>(
     path: &P,
     other: &mut Q,
@@ -64,7 +64,7 @@ fn push_facts(path: &mut PlainPath<'_, '_>) -> Result<(), PathFault> {
     Ok(())
 }
 
-/// How many of those facts stand on a path.
+/// Returns the number of those facts that are on a path.
 fn standing(path: &PlainPath<'_, '_>) -> u32 {
     (0..40)
         .filter(|period| path.has(&fact_in_period(Who::Course(0), *period, true).pattern, true))

@@ -1,4 +1,4 @@
--- Paths of facts on small instances, as the definitions judge them.
+-- Paths of facts on small instances, evaluated by the definitions.
 use Rattle.std.proofs.Common.{◌≡◌, ℕ, true, false, [], ◌∷◌, Some, None, refl}
 use Rattle.tt_instance.specs.Cells.{slot}
 use Rattle.tt_instance.proofs.Examples.{at, mini, gap}
@@ -22,7 +22,7 @@ yes g = record { pattern = g; holds = true }
 abbrev pub no : Pattern → Fact
 no g = record { pattern = g; holds = false }
 
--- ---- a and b, members of one curriculum, and three periods; neither is taught in the second
+-- -- a and b, members of one curriculum, and three periods; neither can be taught in the second
 
 -- no course of the curriculum in the first period
 abbrev pub not_first : Fact
@@ -32,7 +32,7 @@ not_first = no (first_day (Curriculum 0) 0)
 abbrev pub a_is_taught : Fact
 a_is_taught = yes (anywhere (Course 0))
 
--- a has it in the first period
+-- the entry of a is in the first period
 abbrev pub a_is_first : Fact
 a_is_first = yes (first_day (Course 0) 0)
 
@@ -74,7 +74,7 @@ not_live_first = refl
 live_today : live_day gap (a_is_first ∷ []) 1 0 ≡ true
 live_today = refl
 
--- no period is left for b
+-- no period is left for course b
 not_live_today : live_day gap (not_first ∷ a_is_taught ∷ []) 1 0 ≡ false
 not_live_today = refl
 
@@ -87,19 +87,19 @@ seats_for_all = refl
 nothing_live : least_excess gap (a_is_first ∷ []) 1 (slot 0 0) ≡ None
 nothing_live = refl
 
--- ---- what is pinned
+-- -- pinned periods
 
 pinned_course : pinned mini (a_is_first ∷ []) (Course 0) (slot 0 0) ≡ true
 pinned_course = refl
 
--- a fact of a member speaks of its curriculum, and not of the other member
+-- a fact about a member is about its curriculum, and not about the other member
 pinned_curriculum : pinned mini (a_is_first ∷ []) (Curriculum 0) (slot 0 0) ≡ true
 pinned_curriculum = refl
 
 not_the_other : pinned mini (a_is_first ∷ []) (Course 1) (slot 0 0) ≡ false
 not_the_other = refl
 
--- a fact of a curriculum speaks of no course
+-- a fact about a curriculum is about no course
 not_a_member : pinned mini (yes (first_day (Curriculum 0) 0) ∷ []) (Course 0) (slot 0 0) ≡ false
 not_a_member = refl
 
@@ -112,7 +112,7 @@ pinned_once = refl
 no_room_given : pinned_room mini (a_is_first ∷ []) 0 0 ≡ false
 no_room_given = refl
 
--- ---- what stands on the path
+-- -- the facts on the path
 
 on_the_path : has_fact (not_first ∷ a_is_first ∷ []) (first_day (Course 0) 0) true ≡ true
 on_the_path = refl
@@ -123,6 +123,6 @@ another_answer = refl
 another_period : has_fact (not_first ∷ a_is_first ∷ []) (first_day (Course 0) 1) true ≡ false
 another_period = refl
 
--- a pattern that gives less is another pattern
+-- a pattern that gives less isn't the same pattern
 less_given : has_fact (a_is_first ∷ []) (anywhere (Course 0)) true ≡ false
 less_given = refl

@@ -1,4 +1,4 @@
--- Tests of the elements that agree with what is given, and which numbers these are.
+-- Tests of the elements that agree with a given number, and which numbers these are.
 use Rattle.std.proofs.Common.{◌≡◌, ℕ, zero, suc, ◌+◌, ◌-◌, ◌<◌, ◌≤◌, Bool, true, false, not, ◌&&◌, ◌||◌, List, [], ◌∷◌, Some, None, refl, sym, ap, ◌∙◌, arith, inl, inr, eq-eqb, ne_eqb, le-leb}
 use Rattle.std.specs.Prelude.{◌==◌, nat_le, filter}
 use Rattle.std.specs.List.{list_any, list_all, range_with_len}
@@ -13,7 +13,7 @@ use Rattle.tt_paths.specs.Nested.{numbers_given}
 
 -- ---- tests
 
--- each element passes that agrees, if the rest agrees
+-- each element that agrees passes, if the rest agrees
 pub all_that_agree : {X : Type 0} (rest : Bool) (p t : X → Bool) (xs : List X) → list_all (λ x. not (rest && p x) || t x) xs ≡ (not rest || list_all t (filter p xs))
 all_that_agree true p t xs = sym (list_all-of_filter t p xs)
 all_that_agree false p t xs = all_pass (λ x. true) xs (λ x. refl)

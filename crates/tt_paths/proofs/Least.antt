@@ -1,4 +1,4 @@
--- The least number of a list: as the list grows at its end, and its bounds.
+-- The least number of a list: when the list grows at its end, and its bounds.
 use Rattle.std.proofs.Common.{◌≡◌, ℕ, ◌+◌, ◌≤◌, Bool, true, false, cond, ◌||◌, List, [], ◌∷◌, ◌++◌, min, map, Option, Some, None, refl, ap, ◌∙◌, arith, inl, inr}
 use Rattle.std.specs.Prelude.{Contains, filter, is_some}
 use Rattle.std.specs.List.{list_any, AllByRecursion}
@@ -17,7 +17,7 @@ pub least_push : (ns : List ℕ) (n : ℕ) → least (ns ++ n ∷ []) ≡ Some (
 least_push [] n = refl
 least_push (m ∷ ns) n = ap (λ o. Some (least_with m o)) (least_push ns n) ∙ ap Some (least_with-turn n m (least ns))
 
--- the least value of the numbers that pass, with one number more
+-- the least value of the numbers that pass, after another number is added
 pub least_more : (f : ℕ → ℕ) (p : ℕ → Bool) (i : ℕ) → least (map f (filter p (range_below (i + 1)))) ≡ cond (p i) (Some (least_with (f i) (least (map f (filter p (range_below i)))))) (least (map f (filter p (range_below i))))
 least_more f p i =
     ap (λ l. least (map f (filter p l))) (range_below_more i) ∙ ap (λ l. least (map f l)) (filter-append p (range_below i) (i ∷ [])) ∙ by_test (p i)
@@ -29,14 +29,14 @@ least_more f p i =
     by_test true = ap least (map-append f before (i ∷ [])) ∙ least_push (map f before) (f i)
     by_test false = ap (λ l. least (map f l)) (append-nil before)
 
--- ---- what the least is
+-- -- the properties of the least number
 
--- the least of a number and another is no more than the number
+-- the least of a number and another is at most the number
 pub least_with-le : (n : ℕ) (o : Option ℕ) → least_with n o ≤ n
 least_with-le n None = omega arith
 least_with-le n (Some m) = omega arith
 
--- there is a least value where some number passes
+-- a least value exists if some number passes
 pub is_some-least : (f : ℕ → ℕ) (q : ℕ → Bool) (xs : List ℕ) → is_some (least (map f (filter q xs))) ≡ list_any q xs
 is_some-least f q [] = refl
 is_some-least f q (x ∷ xs) = by_test (q x) (is_some-least f q xs)
@@ -45,7 +45,7 @@ is_some-least f q (x ∷ xs) = by_test (q x) (is_some-least f q xs)
     by_test true e = refl
     by_test false e = e
 
--- what no number is below, the least is not below
+-- a lower bound of the numbers is a lower bound of the least
 pub least_over : (v : ℕ) (f : ℕ → ℕ) (q : ℕ → Bool) (xs : List ℕ) → AllByRecursion (λ x. q x ≡ true → v ≤ f x) xs → (m : ℕ) → least (map f (filter q xs)) ≡ Some m → v ≤ m
 least_over v f q [] a m e = cc
 least_over v f q (x ∷ xs) a m e = by_test (q x) refl e (least_over v f q xs a.1)
@@ -58,7 +58,7 @@ least_over v f q (x ∷ xs) a m e = by_test (q x) refl e (least_over v f q xs a.
     by_test true h k rest = with_rest (least (map f (filter q xs))) refl k (a.0 h) rest
     by_test false h k rest = rest m k
 
--- the least of some numbers is one of them, so no more than their bound
+-- the least of some numbers is one of them, so it is at most their bound
 pub least_short : (n : ℕ) (f : ℕ → ℕ) (q : ℕ → Bool) (xs : List ℕ) → ((x : ℕ) → f x ≤ n) → (m : ℕ) → least (map f (filter q xs)) ≡ Some m → m ≤ n
 least_short n f q [] h m e = cc
 least_short n f q (x ∷ xs) h m e = by_test (q x) e (least_short n f q xs h)

@@ -37,13 +37,13 @@ module _ (p : Problem) (path : List Fact) where
   pub is_live_of : (x : Cell) → Contains (live_cells p path) x → is_live p path x ≡ true
   is_live_of x h = member_passes (is_live p path) (all_cells p) x h
 
-  -- a test that a live cell passes
+  -- if a live cell passes a test, some live cell does
   pub any_live : (q : Cell → Bool) (x : Cell) → InRange p x → is_live p path x ≡ true → q x ≡ true → list_any q (live_cells p path) ≡ true
   any_live q x r l e =
       list_any-of_filter q (is_live p path) (all_cells p)
       ∙ any_cell p (λ y. is_live p path y && q y) x r (and_from (is_live p path x) (q x) l e)
 
-  -- no cell is there twice
+  -- no cell occurs twice
   pub once_live : (x : Cell) → count_by (is_cell x) (live_cells p path) ≤ 1
   once_live x =
       let fewer = sum_by-le (λ y. cond (is_live p path y) (one_if (is_cell x y)) 0) (λ y. one_if (is_cell x y)) (all_cells p)

@@ -28,7 +28,7 @@ or-turn false true false = refl
 or-turn false false true = refl
 or-turn false false false = refl
 
--- a course is meant if it is one of those that are
+-- a pattern means a course exactly if the course is one of those listed for it
 pub is_who-has : (p : Problem) (who : Who) (c : ℕ) → is_who p who c ≡ has_number (courses_of p who) c
 is_who-has p (Course a) c = same_test c a a c sym sym ∙ sym (or-false (a == c))
 is_who-has p (Curriculum q) c = refl
@@ -54,7 +54,7 @@ module _ (p : Problem) (path : List Fact) (g : Pattern) (x : Cell) where
       (λ c. of_course c ∙ ap (λ b. not b || rooms_lost p path g x c) (is_who-has p g.who c))
       ∙ list_all-of_members (rooms_lost p path g x) (length p.courses) (courses_of p g.who)
 
-  -- as the code goes through the courses that are meant
+  -- the form in which the code goes through the courses that the pattern means
   pub excludes-by_one : (a : ℕ) → g.who ≡ Course a → excludes p path g x ≡ course_lost p path g x a
   excludes-by_one a e = excludes-by_course ∙ ap (λ w. list_all (course_lost p path g x) (courses_of p w)) e ∙ and-true (course_lost p path g x a)
 

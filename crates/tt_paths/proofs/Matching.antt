@@ -1,4 +1,4 @@
--- What a pattern says of a cell that it matches.
+-- What a pattern says about a cell that it matches.
 use Rattle.std.proofs.Common.{◌≡◌, ℕ, true, ◌&&◌, Option, Some, None, ◌∙◌, eqb-true, eq-eqb}
 use Rattle.std.proofs.lemmas.Bool.{and_parts}
 use Rattle.tt_instance.specs.Problem.{Problem}
@@ -9,12 +9,12 @@ use Rattle.tt_paths.specs.declared.facts.Who.{Who}
 use Rattle.tt_paths.specs.declared.facts.Who.TheVariants.{Course, Curriculum}
 use Rattle.tt_paths.specs.declared.facts.Pattern.{Pattern}
 
--- the number that is given is the one that agrees
+-- if the pattern gives a number, a number that agrees is the same
 pub gives-agrees : (o : Option ℕ) (m n : ℕ) → gives o m ≡ true → agrees o n ≡ true → n ≡ m
 gives-agrees None m n g a = cc
 gives-agrees (Some k) m n g a = let e = eqb-true k m g in let f = eqb-true k n a in cc
 
--- who is meant by a fact is meant by the one that it pins
+-- if one fact pins another, the courses that it means are among those that the other means
 pub speaks-is_who : (p : Problem) (who of : Who) (c : ℕ) → is_pinned_by p who of ≡ true → is_who p of c ≡ true → is_who p who c ≡ true
 speaks-is_who p (Course a) (Course b) c s w = eq-eqb c a (eqb-true c b w ∙ eqb-true b a s)
 speaks-is_who p (Course a) (Curriculum k) c s w = cc

@@ -1,4 +1,4 @@
--- Patterns, answers and facts that are found to be the same are, and each is the same as itself.
+-- Patterns, answers and facts for which the test says "same" are equal, and each passes the test with itself.
 use Rattle.std.proofs.Common.{◌≡◌, ℕ, Bool, true, false, ◌&&◌, List, Option, Some, None, refl, sym, ap, ◌∙◌, eqb-true, eq-eqb}
 use Rattle.std.specs.Prelude.{Contains}
 use Rattle.std.proofs.lemmas.Bool.{and_parts, and_from}
@@ -9,7 +9,7 @@ use Rattle.tt_paths.specs.declared.facts.Who.TheVariants.{Course, Curriculum}
 use Rattle.tt_paths.specs.declared.facts.Pattern.{Pattern}
 use Rattle.tt_paths.specs.declared.facts.Fact.{Fact}
 
--- ---- what is found to be the same
+-- -- equality from the tests
 
 pub same_answer-true : (a b : Bool) → same_answer a b ≡ true → a ≡ b
 same_answer-true true b e = sym e
@@ -51,7 +51,7 @@ same_fact f g e =
     let a = and_parts (same_answer f.holds g.holds) (same_pattern f.pattern g.pattern) e in
     ap (fact_of f.pattern) (same_answer-true f.holds g.holds a.0) ∙ ap (λ h. fact_of h g.holds) (same_pattern-true f.pattern g.pattern a.1)
 
--- ---- what is the same as itself
+-- -- the tests of a value with itself
 
 same_option-itself : (o : Option ℕ) → same_option o o ≡ true
 same_option-itself None = refl
@@ -70,7 +70,7 @@ same_pattern-itself g =
 
 -- ---- facts on a path
 
--- the fact that stands on the path
+-- the fact found is on the path
 pub fact_there : (path : List Fact) (g : Pattern) (holds : Bool) → has_fact path g holds ≡ true → (f : Fact) × Contains path f × (f.holds ≡ holds) × (f.pattern ≡ g)
 fact_there path g holds e =
     let w = member_from_any (λ f. same_answer f.holds holds && same_pattern f.pattern g) path e in

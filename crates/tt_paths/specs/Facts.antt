@@ -9,12 +9,12 @@ use Rattle.tt_paths.specs.declared.facts.Who.TheVariants.{Course, Curriculum}
 use Rattle.tt_paths.specs.declared.facts.Pattern.{Pattern}
 use Rattle.tt_paths.specs.declared.facts.Fact.{Fact}
 
--- what is not given agrees with every number
+-- A number that isn't given agrees with every number.
 abbrev pub agrees : Option ℕ → ℕ → Bool
 agrees None n = true
 agrees (Some m) n = m == n
 
--- the course is the one that is meant, or a member of the curriculum that is meant
+-- The course is the one that is meant, or a member of the curriculum that is meant.
 abbrev pub is_who : Problem → Who → ℕ → Bool
 is_who p (Course a) c = c == a
 is_who p (Curriculum q) c = in_curriculum p q c
@@ -26,7 +26,7 @@ matches p g x = is_who p g.who x.course && agrees g.room x.room && agrees g.day 
 abbrev pub Holds : Problem → List Cell → Fact → Type 0
 Holds p t f = list_any (matches p f.pattern) t ≡ f.holds
 
--- each fact of the path holds of the timetable
+-- Each fact of the path holds for the timetable.
 abbrev pub Fits : Problem → List Cell → List Fact → Type 0
 Fits p t path = All (Holds p t) path
 
@@ -36,7 +36,7 @@ abbrev pub IsWho : Problem → Who → Type 0
 IsWho p (Course c) = c < length p.courses
 IsWho p (Curriculum q) = q < length p.curricula
 
--- the numbers of a pattern are the instance's
+-- The numbers of a pattern are in the range of the instance.
 pub record IsPattern (p : Problem) (g : Pattern) : Type 0 where
   pub who : IsWho p g.who
   pub room : IfSome g.room (λ n. n < length p.rooms)
@@ -61,12 +61,12 @@ abbrev pub same_pattern : Pattern → Pattern → Bool
 same_pattern g h =
     same_who g.who h.who && same_option g.room h.room && same_option g.day h.day && same_option g.period h.period
 
--- one truth value
+-- Whether two truth values are the same.
 abbrev pub same_answer : Bool → Bool → Bool
 same_answer true b = b
 same_answer false true = false
 same_answer false false = true
 
--- that very fact stands on the path
+-- Whether exactly this fact is on the path.
 abbrev pub has_fact : List Fact → Pattern → Bool → Bool
 has_fact path g holds = list_any (λ f. same_answer f.holds holds && same_pattern f.pattern g) path

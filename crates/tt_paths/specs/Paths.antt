@@ -1,10 +1,10 @@
--- Only proofs rest on this file: nobody has to believe it.
--- What a path is.
+-- Not part of the trusted statement: only proofs use this file.
+-- The value of a path.
 use Rattle.std.specs.Prelude.{List}
 use Rattle.tt_instance.specs.Problem.{Problem}
 use Rattle.tt_paths.specs.declared.facts.Fact.{Fact}
 
--- facts about the timetables of an instance, the oldest first
+-- Facts about the timetables of an instance, the oldest first.
 pub record Facts : Type 0 where
   pub problem : Problem
   pub facts : List Fact

@@ -7,7 +7,7 @@ ghost use Rattle.tt_paths.specs.Nested.{agrees_at};
 
 use tt_instance::{Cell, Instance};
 
-/// Whose cells a pattern matches.
+/// The course or the curriculum whose cells a pattern matches.
 #[derive(Clone, Copy, Debug, PartialEq, Eq)]
 pub enum Who {
     Course(u32),
@@ -15,7 +15,7 @@ pub enum Who {
 }
 
 impl Who {
-    /// Whether a course is the one that is meant, or a member of the curriculum that is meant.
+    /// Returns whether a course is the one that is meant, or a member of the curriculum that is meant.
     pub fn includes(self, instance: &Instance<'_>, course: u32) -> bool
         ensures { result ≡ is_who instance.now self course }
     {
@@ -25,7 +25,7 @@ impl Who {
         }
     }
 
-    /// Whether a fact of another speaks of this one: one of a member speaks of its curriculum.
+    /// Returns whether a fact about the other is about this one: a fact about a member is also about its curriculum.
     pub fn is_pinned_by(self, instance: &Instance<'_>, other: Who) -> bool
         ensures { result ≡ is_pinned_by instance.now self other }
     {
@@ -38,7 +38,7 @@ impl Who {
     }
 }
 
-/// A set of cells: those of a course or of a curriculum's members that agree with what is given.
+/// A set of cells: those of a course or of a curriculum's members that agree with the numbers given.
 #[derive(Clone, Copy, Debug, PartialEq, Eq)]
 pub struct Pattern {
     pub who: Who,
@@ -47,14 +47,14 @@ pub struct Pattern {
     pub period: Option<u32>,
 }
 
-/// Whether a number is the one that is given; each number is where none is given.
+/// Returns whether a number agrees with the one given; if none is given, each number agrees.
 pub fn agrees(given: Option<u32>, number: u32) -> bool
     ensures { result ≡ agrees given number }
 {
     given.is_none_or(|wanted| wanted == number)
 }
 
-/// Whether a number is given.
+/// Returns whether this number is given.
 pub fn gives(given: Option<u32>, number: u32) -> bool
     ensures { result ≡ gives given number }
 {
@@ -62,7 +62,7 @@ pub fn gives(given: Option<u32>, number: u32) -> bool
 }
 
 impl Pattern {
-    /// Whether the room, the day and the period of a cell are the pattern's, where it gives them.
+    /// Returns whether the room, the day and the period of a cell are the pattern's, if it gives them.
     pub fn agrees_at(&self, cell: Cell) -> bool
         ensures { result ≡ agrees_at self.now cell }
     {
@@ -71,7 +71,7 @@ impl Pattern {
             && agrees(self.period, cell.period)
     }
 
-    /// Whether the pattern matches a cell.
+    /// Returns whether the pattern matches a cell.
     pub fn matches(&self, instance: &Instance<'_>, cell: Cell) -> bool
         ensures { result ≡ matches instance.now self.now cell }
     {
@@ -79,7 +79,7 @@ impl Pattern {
     }
 }
 
-/// Some entry of the timetable matches the pattern (it holds), or none does.
+/// Says that some entry of the timetable matches the pattern (if it holds), or that none does.
 #[derive(Clone, Copy, Debug, PartialEq, Eq)]
 pub struct Fact {
     pub pattern: Pattern,

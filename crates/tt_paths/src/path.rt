@@ -13,13 +13,13 @@ use crate::facts::{Fact, Pattern, Who};
 use thiserror::Error;
 use tt_instance::{Cell, Instance};
 
-/// The most facts of a path.
+/// The maximum number of facts of a path.
 pub const MAX_FACTS: u32 = 65_536;
 
 /// Why a fact was not added.
 #[derive(Clone, Copy, Debug, PartialEq, Eq, Error)]
 pub enum PathFault {
-    /// The path has as many facts as it may have.
+    /// The path has the maximum number of facts.
     #[error("too deep")]
     TooDeep,
     #[error("out of memory")]
@@ -34,16 +34,16 @@ pub trait Path<'i> {
     // The facts, the oldest first.
     ghost facts: { Self → List Fact };
 
-    /// The instance that the facts speak of.
+    /// Returns the instance that the facts are about.
     fn instance(&self) -> &Instance<'i>
         ensures { result.now ≡ problem self.now };
 
-    /// How many facts there are, at most MAX_FACTS.
+    /// Returns the number of facts, at most `MAX_FACTS`.
     fn depth(&self) -> u32
         ensures value { result ≡ length (facts self.now) }
         ensures within { result ≤ MAX_FACTS };
 
-    /// The fact at a place, counted from the oldest.
+    /// Returns the fact at a place, counted from the oldest.
     fn fact(&self, index: u32) -> Fact
         requires { index < length (facts self.now) }
         ensures { slice_get (facts self.now) index ≡ Some result };
@@ -56,37 +56,37 @@ pub trait Path<'i> {
         ensures err { OnErr result (facts self.new ≡ facts self.old) }
         ensures same { problem self.new ≡ problem self.old };
 
-    /// Takes the newest fact away.
+    /// Removes the newest fact and returns it.
     fn pop(&mut self) -> Fact
         requires { 0 < length (facts self.old) }
         ensures fact { facts self.old ≡ facts self.new ++ result ∷ [] }
         ensures same { problem self.new ≡ problem self.old };
 
-    /// Whether that very fact stands on the path.
+    /// Returns whether exactly this fact is on the path.
     fn has(&self, pattern: &Pattern, holds: bool) -> bool
         ensures { result ≡ has_fact (facts self.now) pattern.now holds };
 
-    /// Whether a cell is barred, or left no place beside it by some yes-fact.
+    /// Returns whether a cell is barred, or excluded by some yes-fact.
     fn dead(&self, cell: Cell) -> bool
         requires { InRange (problem self.now) cell }
         ensures { result ≡ is_dead (problem self.now) (facts self.now) cell };
 
-    /// Whether some room gives a live cell of the course in the period.
+    /// Returns whether some room gives a live cell of the course in the period.
     fn live_period(&self, course: u32, day: u32, period: u32) -> bool
         requires course { course < length (problem self.now).courses }
         requires day { day < (problem self.now).days }
         requires period { period < (problem self.now).periods }
         ensures { result ≡ live_period (problem self.now) (facts self.now) course (slot day period) };
 
-    /// The live periods of a course on a day, as a set.
+    /// Returns the live periods of a course on a day, as a set.
     fn live_periods(&self, course: u32, day: u32) -> u64
         requires course { course < length (problem self.now).courses }
         requires day { day < (problem self.now).days }
         ensures { (s : ℕ) → s < 64 → has_bit result s
             ≡ (nat_lt s (problem self.now).periods && live_period (problem self.now) (facts self.now) course (slot day s)) };
 
-    /// The rooms of a block whose cells of the course in the period are live, as a set: the block's number times 64 and the
-    /// 63 that follow.
+    /// Returns the rooms of a block whose cells of the course in the period are live, as a set. The block consists of the room with number
+    /// `block * 64` and the 63 that follow.
     fn live_rooms(&self, course: u32, day: u32, period: u32, block: u32) -> u64
         requires course { course < length (problem self.now).courses }
         requires day { day < (problem self.now).days }
@@ -96,13 +96,13 @@ pub trait Path<'i> {
             ≡ (nat_lt (block * 64 + n) (length (problem self.now).rooms)
             && is_live (problem self.now) (facts self.now) (cell course (block * 64 + n) (slot day period))) };
 
-    /// Whether the course has a live period on the day.
+    /// Returns whether the course has a live period on the day.
     fn live_day(&self, course: u32, day: u32) -> bool
         requires course { course < length (problem self.now).courses }
         requires day { day < (problem self.now).days }
         ensures { result ≡ live_day (problem self.now) (facts self.now) course day };
 
-    /// The least excess, in students, of the course's live cells in the period; none where no cell is live.
+    /// Returns the least excess, in students, of the course's live cells in the period; `None` if no cell is live.
     fn least_excess(&self, course: u32, day: u32, period: u32) -> Option<u64>
         requires course { course < length (problem self.now).courses }
         requires day { day < (problem self.now).days }
@@ -110,27 +110,27 @@ pub trait Path<'i> {
         ensures value { result ≡ least_excess (problem self.now) (facts self.now) course (slot day period) }
         ensures within { IfSome result (λ n. n ≤ MAX_SEATS) };
 
-    /// Whether a yes-fact of it (for a curriculum, also of a member) gives this day and period.
+    /// Returns whether a yes-fact about it (for a curriculum, also about a member) gives this day and period.
     fn pinned(&self, who: Who, day: u32, period: u32) -> bool
         requires who { IsWho (problem self.now) who }
         requires day { day < (problem self.now).days }
         requires period { period < (problem self.now).periods }
         ensures { result ≡ pinned (problem self.now) (facts self.now) who (slot day period) };
 
-    /// The pinned periods of a course or a curriculum on a day, as a set.
+    /// Returns the pinned periods of a course or a curriculum on a day, as a set.
     fn pinned_periods(&self, who: Who, day: u32) -> u64
         requires who { IsWho (problem self.now) who }
         requires day { day < (problem self.now).days }
         ensures { (s : ℕ) → s < 64 → has_bit result s
             ≡ (nat_lt s (problem self.now).periods && pinned (problem self.now) (facts self.now) who (slot day s)) };
 
-    /// Whether a yes-fact of the course gives this room.
+    /// Returns whether a yes-fact about the course gives this room.
     fn pinned_room(&self, course: u32, room: u32) -> bool
         requires course { course < length (problem self.now).courses }
         requires room { room < length (problem self.now).rooms }
         ensures { result ≡ pinned_room (problem self.now) (facts self.now) course room };
 
-    /// The pinned rooms of a course in a block, as a set: the block's number times 64 and the 63 that follow.
+    /// Returns the pinned rooms of a course in a block, as a set. The block consists of the room with number `block * 64` and the 63 that follow.
     fn pinned_rooms(&self, course: u32, block: u32) -> u64
         requires course { course < length (problem self.now).courses }
         requires block { block * 64 < length (problem self.now).rooms }

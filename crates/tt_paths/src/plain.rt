@@ -13,7 +13,7 @@ use std::marker::Model;
 use tt_bits::with_if;
 use tt_instance::{Cell, Instance};
 
-/// The facts as a list. No table stands beside it, so an answer looks at each fact.
+/// The facts as a list, without further tables; each answer goes through all facts.
 #[derive(Drop)]
 pub struct PlainPath<'p, 'i> {
     instance: &'p Instance<'i>,
@@ -33,7 +33,7 @@ impl<'p, 'i> Model for PlainPath<'p, 'i> {
 }
 
 impl<'p, 'i> PlainPath<'p, 'i> {
-    /// A path with no facts; it takes no memory yet.
+    /// Creates a path with no facts; it allocates no memory yet.
     pub fn new(alloc: Global, instance: &'p Instance<'i>) -> PlainPath<'p, 'i>
         ensures problem { result.problem ≡ instance.now }
         ensures facts { result.facts ≡ [] }
@@ -45,7 +45,7 @@ impl<'p, 'i> PlainPath<'p, 'i> {
     }
 }
 
-/// The lesser of a number and the least so far.
+/// Returns the lesser of a number and the least one so far.
 fn least_with(number: u64, least: Option<u64>) -> u64
     ensures value { result ≡ least_with number least }
     ensures within { result ≤ number }

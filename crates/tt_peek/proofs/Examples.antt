@@ -1,4 +1,4 @@
--- Texts of which the first token is `CTTG`, and others.
+-- Texts with the first token `CTTG`, and others.
 use Rattle.std.proofs.Common.{◌≡◌, true, false, [], ◌∷◌, refl, codes}
 use Rattle.tt_peek.specs.Fronts.{begins_with_groups, is_groups, is_settled}
 
@@ -17,7 +17,7 @@ another_word = refl
 nothing : is_groups [] ≡ false
 nothing = refl
 
--- a token may still go on at the end of what was read
+-- a token at the end of the bytes read may still go on
 may_go_on : is_settled (codes "CTTG") ≡ false
 may_go_on = refl
 

@@ -1,4 +1,4 @@
--- The first token of a text, and what its first bytes say of it.
+-- The first token of a text, and what its first bytes say about it.
 use Rattle.std.proofs.Common.{◌≡◌, ℕ, ◌+◌, ◌-◌, ◌<◌, ◌≤◌, zero, suc, Bool, true, false, ◌||◌, List, [], ◌∷◌, ◌++◌, length, take, drop, Option, Some, None, Err, refl, sym, ap, subst, ◌∙◌, arith, append_assoc, append-nil, inl, inr}
 use Rattle.std.specs.Prelude.{nat_lt, codes, ◌⊎◌, ◌==◌, ◌&&◌}
 use Rattle.std.specs.Io.KnownBytes.{prepend_known, Keeps, Consumes}
@@ -53,7 +53,7 @@ word_at bytes t ts e = on (word_len bytes) refl
         let at : 0 + prefix_len is_separator bytes ≡ t.at = ap (λ (x : Placed). x.at) first in
         record { text = ap (λ (x : Placed). x.text) first; at = omega (arith, at) }
 
--- where there is no token, nothing is begun
+-- if no token begins, all bytes are separators
 pub nothing_begun : (bytes : List ℕ) → prefix_len in_token (begun bytes) ≡ 0 → length bytes ≤ prefix_len is_separator bytes
 nothing_begun bytes none =
     let long : length (begun bytes) ≡ length bytes - prefix_len is_separator bytes = length-drop (prefix_len is_separator bytes) bytes in
@@ -62,7 +62,7 @@ nothing_begun bytes none =
 
 -- ---- further bytes
 
--- a run that ends before the end goes no further, and no run is shorter for what follows
+-- a run that stops before the end of the bytes stays the same with further bytes, and no run gets shorter with further bytes
 run_stops : (f : ℕ → Bool) (xs ys : List ℕ) → prefix_len f xs < length xs → prefix_len f (xs ++ ys) ≡ prefix_len f xs
 run_stops f [] ys h = absurd (omega (arith, h))
 run_stops f (x ∷ xs) ys h = on (f x) refl (λ less. run_stops f xs ys less)
@@ -87,7 +87,7 @@ drop_front zero xs ys h = refl
 drop_front (suc n) [] ys h = absurd (omega (arith, h))
 drop_front (suc n) (x ∷ xs) ys h = drop_front n xs ys (omega (arith, h))
 
--- what has begun goes on with what follows
+-- if the first token has begun, further bytes are appended to it
 begun_more : (xs ys : List ℕ) → prefix_len is_separator xs < length xs → begun (xs ++ ys) ≡ begun xs ++ ys
 begun_more xs ys h = ap (λ (n : ℕ). drop n (xs ++ ys)) (run_stops is_separator xs ys h) ∙ drop_front (prefix_len is_separator xs) xs ys (omega (arith, h))
 
@@ -106,7 +106,7 @@ none_settled bytes none =
 word_long : (bytes : List ℕ) → length (first_word bytes) ≡ word_len bytes
 word_long bytes = length-prefix_len in_token (begun bytes)
 
--- the word of the first of two texts is the front of their word
+-- the first word of a text is a front of the first word of a longer text
 pub word_front : (xs ys : List ℕ) → (k : ℕ) × (first_word xs ≡ take k (first_word (xs ++ ys)))
 word_front xs ys = on (ltb_cases (prefix_len is_separator xs) (length xs))
   where
@@ -127,7 +127,7 @@ word_front xs ys = on (ltb_cases (prefix_len is_separator xs) (length xs))
         let empty : begun xs ≡ [] = drop_all (prefix_len is_separator xs) xs h in
         (0, ap (λ (l : List ℕ). take (prefix_len in_token l) l) empty)
 
--- `CTTP` and all its fronts are other words
+-- neither `CTTP` nor any of its fronts is `CTTG`
 no_front : (k : ℕ) → is_text (codes "CTTG") (take k (codes "CTTP")) ≡ false
 no_front zero = refl
 no_front (suc zero) = refl
@@ -135,7 +135,7 @@ no_front (suc (suc zero)) = refl
 no_front (suc (suc (suc zero))) = refl
 no_front (suc (suc (suc (suc k)))) = refl
 
--- a text whose first token is `CTTP` is no file of groups
+-- a text with the first token `CTTP` is not a file of groups
 pub proofs_are_no_groups : (bytes : List ℕ) (t : Placed) (ts : List Placed) → tokens_of bytes ≡ t ∷ ts → t.text ≡ codes "CTTP" → is_groups bytes ≡ false
 proofs_are_no_groups bytes t ts e proof =
     let w = word_at bytes t ts e in
@@ -143,7 +143,7 @@ proofs_are_no_groups bytes t ts e proof =
     let f = word_front (take 4096 bytes) (drop 4096 bytes) in
     ap (is_text (codes "CTTG")) (f.1 ∙ ap (λ (l : List ℕ). take f.0 (first_word l)) parts ∙ ap (take f.0) (w.text ∙ proof)) ∙ no_front f.0
 
--- a long word is no `CTTG`
+-- a word of more than 32 bytes is not `CTTG`
 long_word : (w : List ℕ) → 32 < length w → is_text (codes "CTTG") w ≡ false
 long_word [] h = absurd (omega (arith, h))
 long_word (a ∷ []) h = absurd (omega (arith, h))
@@ -187,7 +187,7 @@ take_over n [] ys h = (n, refl)
 take_over zero (x ∷ xs) ys h = absurd (omega (arith, h))
 take_over (suc n) (x ∷ xs) ys h = let r = take_over n xs ys (omega (arith, h)) in (r.0, ap (λ (l : List ℕ). x ∷ l) r.1)
 
--- ---- what the front of a text says of it
+-- -- what the front of a text says about it
 
 pub full_front : (xs ys : List ℕ) → 4096 ≤ length xs → begins_with_groups (take 4096 xs) ≡ is_groups (xs ++ ys)
 full_front xs ys h = ap begins_with_groups (sym (take-append-le 4096 xs ys h))
@@ -227,7 +227,7 @@ no_token_yet bytes e below =
     } in
     (finds_more 0 gap len false bytes scan (omega (arith, short, n)) over refl (omega (arith, below))).open_token
 
--- ---- what is read of a source
+-- -- the bytes read from a source
 
 pub kept_start : (known : Option (List ℕ)) → Keeps known known
 kept_start None = tt
@@ -245,7 +245,7 @@ kept_same (Some xs) None after front h c = absurd h
 kept_same (Some xs) (Some ys) None front h c = absurd c
 kept_same (Some xs) (Some ys) (Some zs) front h c = ap (λ (l : List ℕ). front ++ l) c ∙ h
 
--- known bytes are the front and what follows
+-- known bytes are the front and the bytes after it
 pub known_parts : (before r : Option (List ℕ)) (front bytes : List ℕ) → Keeps before (prepend_known front r) → before ≡ Some bytes → (ys : List ℕ) × (r ≡ Some ys) × (bytes ≡ front ++ ys)
 known_parts None r front bytes h e = absurd cc
 known_parts (Some xs) None front bytes h e = absurd h
@@ -257,7 +257,7 @@ front_given None r front h = tt
 front_given (Some xs) None front h = absurd h
 front_given (Some xs) (Some ys) front h = sym h
 
--- the front of the front is given
+-- the first n bytes of the front are given
 pub piece_given : (r : Option (List ℕ)) (front : List ℕ) (n : ℕ) → Consumes (prepend_known front r) (prepend_known (drop n front) r) (take n front)
 piece_given None front n = tt
 piece_given (Some ys) front n = ap (λ (l : List ℕ). l ++ ys) (sym (take-append-drop n front)) ∙ append_assoc (take n front) (drop n front) ys

@@ -1,4 +1,4 @@
--- What the first bytes of a text say of its kind.
+-- What the first bytes of a text say about its kind.
 use Rattle.std.specs.Prelude.{◌≡◌, ℕ, ◌-◌, nat_lt, Bool, true, false, ◌||◌, List, length, take, drop, Option, Result, Err, codes}
 use Rattle.std.specs.List.{prefix_len}
 use Rattle.std.specs.Io.KnownBytes.{Consumes}
@@ -12,11 +12,11 @@ use Rattle.tt_peek.specs.declared.peek.PeekFault.{PeekFault}
 use Rattle.tt_peek.specs.declared.peek.PeekFault.TheVariants as fault
 use Rattle.tt_peek.specs.declared.peek.TheConstants.{PEEKED_BYTES}
 
--- The bytes from the first that is no separator on.
+-- The bytes from the first one that is not a separator on.
 abbrev pub begun : List ℕ → List ℕ
 begun bytes = drop (prefix_len is_separator bytes) bytes
 
--- The first token, or as much of it as the bytes have; nothing where they have only separators.
+-- The first token, or as much of it as the bytes have; empty if they have only separators.
 abbrev pub first_word : List ℕ → List ℕ
 first_word bytes = take (prefix_len in_token (begun bytes)) (begun bytes)
 
@@ -24,16 +24,16 @@ first_word bytes = take (prefix_len in_token (begun bytes)) (begun bytes)
 abbrev pub begins_with_groups : List ℕ → Bool
 begins_with_groups bytes = is_text (codes "CTTG") (first_word bytes)
 
--- A text is a file of groups where the first token of its first 4,096 bytes is `CTTG`. A token that goes on beyond them counts as if it ended
+-- A text is a file of groups if the first token of its first 4,096 bytes is `CTTG`. A token that goes on beyond them counts as if it ended
 -- there, and each other text is a tree proof.
 abbrev pub is_groups : List ℕ → Bool
 is_groups bytes = begins_with_groups (take PEEKED_BYTES bytes)
 
--- A further byte follows the first token, or it is longer than a token may be.
+-- Another byte follows the first token, or it is longer than a token may be.
 abbrev pub is_settled : List ℕ → Bool
 is_settled bytes = nat_lt (length (first_word bytes)) (length bytes - prefix_len is_separator bytes) || nat_lt MAX_TOKEN_BYTES (length (first_word bytes))
 
--- The source gave bytes in which no token is whole, and then a read failed: that failure is all that a feed gives of them.
+-- The source gave bytes without a complete token, and then a read failed: a feed of these bytes gives only that failure.
 pub record BreaksOff (before after : Option (List ℕ)) : Type 0 where
   pub given : List ℕ
   pub consumed : Consumes before after given

@@ -11,7 +11,7 @@ ghost use Rattle.tt_peek.specs.Fronts.{begins_with_groups, is_settled, is_groups
 use crate::peek::{PEEKED_BYTES, PeekFault};
 use tt_text::{MAX_TOKEN_BYTES, Source, Tokens};
 
-/// Whether the first token is `CTTG`.
+/// Returns whether the first token is `CTTG`.
 pub fn begins_with_groups(bytes: &[u8]) -> bool
     ensures { result ≡ begins_with_groups bytes.now }
 {
@@ -21,7 +21,7 @@ pub fn begins_with_groups(bytes: &[u8]) -> bool
     }
 }
 
-/// Whether further bytes leave the first token as it is, or too long.
+/// Returns whether further bytes leave the first token as it is, or too long.
 fn is_settled(bytes: &[u8]) -> bool
     ensures { result ≡ is_settled bytes.now }
 {
@@ -34,7 +34,7 @@ fn is_settled(bytes: &[u8]) -> bool
     }
 }
 
-/// Reads on after the first bytes of a source until they settle its first token, or are 4,096 or all.
+/// Reads more bytes after the first ones of a source until they settle its first token, are 4,096 bytes, or are all bytes.
 pub fn read_front<R: Source>(front: &mut Vec<u8>, source: &mut R) -> Result<(), PeekFault>
     ensures kept { ¬ (result ≡ Err PeekFault.OutOfMemory) →
         Keeps (prepend_known front.old.items (R.remaining source.old)) (prepend_known front.new.items (R.remaining source.new)) }

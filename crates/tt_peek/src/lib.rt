@@ -1,4 +1,4 @@
-//! Sources whose first token can be looked at before they are read.
+//! Sources that can report their first token before it is read.
 #![tactic(auto)]
 
 mod front;

@@ -8,7 +8,7 @@ use crate::peek::{PEEKED_BYTES, Peek, PeekFault};
 use std::alloc::Global;
 use tt_text::{ReadFailed, Source};
 
-/// Gives the bytes that were looked at, and then those of the source.
+/// Gives the bytes that were read ahead, and then those of the source.
 #[derive(Drop)]
 pub struct Peeked<R> {
     front: Vec<u8>,
@@ -16,7 +16,7 @@ pub struct Peeked<R> {
 }
 
 impl<R: Source> Peeked<R> {
-    /// A source of which nothing was looked at.
+    /// Creates a source that has read nothing ahead.
     pub fn new(alloc: Global, source: R) -> Self
         ensures front { result.front.items ≡ [] }
         ensures source { result.source ≡ source }

@@ -1,4 +1,4 @@
--- Places of words.
+-- The places of words.
 use Rattle.std.proofs.Common.{◌≡◌, ℕ, ◌+◌, ◌*◌, ◌/◌, ◌%◌, ◌<◌, ◌≤◌, false, ◌&&◌, length, arith, subst, sym, ap, ◌∙◌, eq-eqb, ne_eqb}
 use Rattle.std.specs.Prelude.{◌==◌}
 use Rattle.std.proofs.Math.Nat.{mul_comm}
@@ -21,7 +21,7 @@ row_within p (Curriculum q) h = omega arith
 pub day_within : (p : Problem) (row d : ℕ) → row < rows p → d < p.days → day_place p row d < days_size p
 day_within p row d h k = within_row row p.days d (rows p) h k
 
--- one place is of one row and day
+-- a place belongs to only one row and day
 pub same_day : (row d row0 d0 days : ℕ) → d < days → d0 < days → (row * days + d == row0 * days + d0) ≡ ((row == row0) && (d0 == d))
 same_day row d row0 d0 days h k = same_truth (row * days + d == row0 * days + d0) ((row == row0) && (d0 == d))
     (λ e. let q = eqb-true (row * days + d) (row0 * days + d0) e in
@@ -43,7 +43,7 @@ of_block b i h = div-mul-add b 64 i h
 pub in_block : (b i : ℕ) → i < 64 → (b * 64 + i) % 64 ≡ i
 in_block b i h = mod-mul-add b 64 i h
 
--- one place and number is of one course and room
+-- a place and a number belong to only one course and room
 pub same_room : (base w c r c0 r0 : ℕ) → r / 64 < w → r0 / 64 < w → ((base + (c * w + r / 64) == base + (c0 * w + r0 / 64)) && (r % 64 == r0 % 64)) ≡ ((c0 == c) && (r0 == r))
 same_room base w c r c0 r0 h k = same_truth ((base + (c * w + r / 64) == base + (c0 * w + r0 / 64)) && (r % 64 == r0 % 64)) ((c0 == c) && (r0 == r))
     (λ e. let b = and_parts (base + (c * w + r / 64) == base + (c0 * w + r0 / 64)) (r % 64 == r0 % 64) e in
@@ -64,7 +64,7 @@ same_room base w c r c0 r0 h k = same_truth ((base + (c * w + r / 64) == base + 
     cancel : (a b c : ℕ) → a + b ≡ a + c → b ≡ c
     cancel a b c e = omega arith
 
--- the days' words and the rooms' words stand apart
+-- the words of days and the words of rooms have different places
 pub apart : (a b base : ℕ) → a < base → base ≤ b → (a == b) ≡ false
 apart a b base h k = ne_eqb a b (λ e. omega arith)
 

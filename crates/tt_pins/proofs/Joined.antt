@@ -1,4 +1,4 @@
--- Numbers that are put into sets.
+-- Numbers that are added to sets.
 use Rattle.std.proofs.Common.{◌≡◌, ℕ, ◌+◌, ◌<◌, Bool, true, false, ◌&&◌, ◌||◌, List, [], ◌∷◌, ◌++◌, take, length, get_or, refl, sym, ap, ◌∙◌, inl, inr, eq-eqb, ne_eqb}
 use Rattle.std.specs.Prelude.{◌==◌}
 use Rattle.std.proofs.Math.Bool.{or-false}
@@ -48,7 +48,7 @@ day_more p qs d k q i h e =
     ∙ list_any-append (λ n. i == day_place p (length p.courses + n) d) (take k qs) (q ∷ [])
     ∙ ap (λ b. is_day_of p (take k qs) d i || b) (or-false (i == day_place p (length p.courses + q) d))
 
--- one curriculum more
+-- another curriculum
 pub adds_more : (p : Problem) (qs : List ℕ) (d k q number : ℕ) (a b e : List ℕ) → k < length qs → q ≡ get_or qs k 0 → Adds a (is_day_of p (take k qs) d) number b → Adds b (λ i. i == day_place p (length p.courses + q) d) number e → Adds a (is_day_of p (take (k + 1) qs) d) number e
 adds_more p qs d k q number a b e h is f g =
     let both = adds_both a b e (is_day_of p (take k qs) d) (λ i. i == day_place p (length p.courses + q) d) number f g in

@@ -1,4 +1,4 @@
--- What one more yes-fact pins.
+-- The periods and rooms that another yes-fact pins.
 use Rattle.std.proofs.Common.{◌≡◌, ℕ, ◌+◌, ◌%◌, ◌<◌, ◌≤◌, Bool, true, false, ◌&&◌, ◌||◌, List, [], ◌∷◌, Option, Some, None, length, get_or, refl, sym, ap, ◌∙◌, arith, inl, inr, ne_eqb}
 use Rattle.std.specs.Prelude.{◌==◌, nat_lt, All}
 use Rattle.std.proofs.Math.Bool.{or-false, and-false}
@@ -20,12 +20,12 @@ use Rattle.tt_pins.specs.Sets.{has_at}
 use Rattle.tt_pins.specs.Tables.{row_of, day_place, days_size, width, room_place, Adds, is_day_of, pins_period, pins_room, PinsPeriods, PinsRooms}
 use Rattle.tt_pins.proofs.Grid.{row_within, day_within, same_day, room_within, same_room, apart, apart_back}
 
--- a number that is below a bound
+-- a test of a number that is below a bound
 in_bound : (t u v l : Bool) → u ≡ v → (u ≡ true → l ≡ true) → (t && u) ≡ (l && (t && v))
 in_bound t true v l e f = ap (λ b. t && b) e ∙ sym (ap (λ b. b && (t && v)) (f refl))
 in_bound t false v l e f = and-false t ∙ sym (ap (λ b. l && (t && b)) (sym e) ∙ ap (λ b. l && b) (and-false t) ∙ and-false l)
 
--- from the places that were written to what they mean
+-- from the places written to the periods that they mean
 pub pins_from_adds : (p : Problem) (told : Who) (d0 s0 : ℕ) (old new : List ℕ) (test : ℕ → Bool) → s0 < p.periods → Adds old test s0 new
     → ((who : Who) (d : ℕ) → IsWho p who → d < p.days → test (day_place p (row_of p who) d) ≡ (is_pinned_by p who told && (d0 == d)))
     → ((i : ℕ) → days_size p ≤ i → test i ≡ false)

@@ -1,4 +1,4 @@
--- What the table shows after one more fact.
+-- What the table shows after another fact.
 use Rattle.std.proofs.Common.{◌≡◌, ℕ, ◌+◌, ◌*◌, ◌/◌, ◌%◌, ◌<◌, Bool, true, false, ◌&&◌, ◌||◌, List, [], ◌∷◌, ◌++◌, length, refl, sym, ap, ◌∙◌, arith}
 use Rattle.std.specs.Prelude.{nat_lt}
 use Rattle.std.proofs.Math.Bool.{or-false}
@@ -12,7 +12,7 @@ use Rattle.tt_pins.specs.Sets.{has_at}
 use Rattle.tt_pins.specs.Tables.{row_of, day_place, block_place, room_place, pins_period, pins_room, ShowsPins, PinsPeriods, PinsRooms, Pins}
 use Rattle.tt_pins.proofs.Grid.{row_within, day_within, block_within, of_block, in_block}
 
--- one test more, after a bound
+-- another test, after a bound
 one_more : (x l a h b c d : Bool) → x ≡ (l && a) → (x || (h && (l && (b && c && d)))) ≡ (l && (a || ((h && b && c && d) || false)))
 one_more x true a true b c d e = ap (λ t. t || (b && c && d)) e ∙ ap (λ t. a || t) (sym (or-false (b && c && d)))
 one_more x true a false b c d e = or-false x ∙ e ∙ sym (or-false a)
@@ -38,7 +38,7 @@ shown_more p facts f old new s w = record {
       ∙ ap (λ b. nat_lt r (length p.rooms) && b) (sym (list_any-append (λ (g : Fact). g.holds && is_pinned_by p (Course c) g.pattern.who && gives g.pattern.room r) facts (f ∷ [])));
 }
 
--- first the periods, then the rooms, of a yes-fact
+-- the periods of a yes-fact first, then its rooms
 pub pins_both : (p : Problem) (f : Fact) (a b d : List ℕ) → f.holds ≡ true → PinsPeriods p f.pattern.who f.pattern.day f.pattern.period a b → PinsRooms p f.pattern.who f.pattern.room b d → Pins p f a d
 pins_both p f a b d told g h = record {
   len = h.len ∙ g.len;

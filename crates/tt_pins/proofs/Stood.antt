@@ -1,4 +1,4 @@
--- Where facts stand, and what one more fact changes.
+-- The places of facts in the table, and the changes by another fact.
 use Rattle.std.proofs.Common.{◌≡◌, ℕ, ◌+◌, ◌%◌, ◌<◌, ◌≤◌, Bool, true, false, cond, ◌&&◌, ◌||◌, List, [], ◌∷◌, ◌++◌, Option, Some, None, length, refl, sym, ap, ◌∙◌, arith, inl, inr, ne_eqb}
 use Rattle.std.specs.Prelude.{◌==◌, nat_lt}
 use Rattle.std.proofs.Math.Bool.{or-false, and-false, and-true}
@@ -23,7 +23,7 @@ use Rattle.tt_pins.proofs.Grid.{within_row, same_day, same_room, room_within, ap
 
 -- ---- facts that are the same
 
--- one fact stands in one place
+-- equal facts have the same place
 spot_of-same : (p : Problem) (g : Pattern) (holds : Bool) (f : Fact) → is_fact g holds f ≡ true → spot_at p f.pattern f.holds ≡ spot_at p g holds
 spot_of-same p g holds f e =
     let a = and_parts (same_answer f.holds holds) (same_pattern f.pattern g) e in
@@ -36,7 +36,7 @@ spot_of-same p g holds f e =
     ∙ ap (λ w. spot_of p holds g.who g.room w f.pattern.period) (same_option-true f.pattern.day g.day d.1)
     ∙ ap (λ w. spot_of p holds g.who g.room g.day w) (same_option-true f.pattern.period g.period b.1)
 
--- ---- what a place says of its fact
+-- -- what a place says about its fact
 
 record Usual (p : Problem) (holds : Bool) (who : Who) (room day period : Option ℕ) (x : Spot) : Type 0 where
   course : ℕ
@@ -97,7 +97,7 @@ closed p holds c d s r x e = elim (cases_Bool (nat_lt r (length p.rooms))) [
     nowhere : None ≡ Some x → Closed p holds c d s r x
     nowhere n = cc
 
--- ---- one place is of one fact
+-- -- each place belongs to one fact
 
 same_fact_row : (p : Problem) (h h0 : Bool) (c c0 : ℕ) → c < length p.courses → c0 < length p.courses → (fact_row p h c == fact_row p h0 c0) ≡ (same_answer h0 h && (c0 == c))
 same_fact_row p true true c c0 l k = same_test (length p.courses + c) (length p.courses + c0) c0 c (λ e. omega arith) (λ e. omega arith)
@@ -171,7 +171,7 @@ module _ (p : Problem) (h h0 : Bool) (c d s c0 d0 s0 : ℕ) (hc : c < length p.c
       ∙ ap (λ b. (b && (s0 == s)) && (r0 == r)) (same_open p h h0 c d c0 d0 hc hc0 hd hd0)
       ∙ in_order_too (same_answer h0 h) (c0 == c) (d0 == d) (s0 == s) (r0 == r)
 
--- two facts stand in one place exactly if they are the same
+-- two facts have the same place exactly if they are equal
 same_spot : (p : Problem) (g : Pattern) (holds : Bool) (f : Fact) (x y : Spot) → spot_at p g holds ≡ Some x → spot_at p f.pattern f.holds ≡ Some y → ((x.place == y.place) && (x.number == y.number)) ≡ is_fact g holds f
 same_spot p g holds f x y e k =
     let a = usual p holds g.who g.room g.day g.period x e in
@@ -181,7 +181,7 @@ same_spot p g holds f x y e k =
     ∙ ap (λ t. same_answer f.holds holds && (((b.course == a.course) && same_option f.pattern.room g.room && same_option f.pattern.day g.day) && t)) (ap (λ w. same_option w (Some a.at)) (sym b.period_is) ∙ ap (same_option f.pattern.period) (sym a.period_is))
     ∙ ap (λ t. same_answer f.holds holds && ((t && same_option f.pattern.room g.room && same_option f.pattern.day g.day) && same_option f.pattern.period g.period)) (ap (λ w. same_who w (Course a.course)) (sym b.who_is) ∙ ap (same_who f.pattern.who) (sym a.who_is))
 
--- ---- one more fact
+-- -- another fact
 
 pub stands_there : (p : Problem) (f : Fact) (y : Spot) (old new : List ℕ) → spot_at p f.pattern f.holds ≡ Some y → Adds old (λ i. i == y.place) y.number new → ((g : Pattern) (holds : Bool) (x : Spot) → spot_at p g holds ≡ Some x → x.number < 64) → Stands p f old new
 stands_there p f y old new k adds small = record {
@@ -232,7 +232,7 @@ small_numbers p h g holds x e =
 nowhere_is : (x : Option Spot) → x ≡ None → is_nowhere x ≡ true
 nowhere_is x e = ap is_nowhere e
 
--- a fact that stands nowhere stands on the path where it is one of the others
+-- a fact without a place is on the path exactly if it is one of the others
 pub other_stands : (p : Problem) (facts : List Fact) (g : Pattern) (holds : Bool) → spot_at p g holds ≡ None → has_fact (others_of p facts) g holds ≡ has_fact facts g holds
 other_stands p facts g holds e =
     any-filter_same (is_fact g holds) (λ f. is_nowhere (spot_at p f.pattern f.holds)) true

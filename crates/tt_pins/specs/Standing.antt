@@ -1,5 +1,5 @@
--- Only proofs rest on this file: nobody has to believe it.
--- The table of the facts that stand: nobody has to believe these.
+-- Not part of the trusted statement: only proofs use this file.
+-- The table of the facts on the path.
 use Rattle.std.specs.Prelude.{◌≡◌, ℕ, ◌+◌, ◌*◌, ◌/◌, ◌%◌, nat_lt, Bool, true, false, ◌&&◌, ◌||◌, if◌then◌else◌, List, length, Option, Some, None, filter}
 use Rattle.tt_instance.specs.Problem.{Problem}
 use Rattle.tt_paths.specs.Facts.{same_answer, same_pattern, has_fact}
@@ -11,23 +11,23 @@ use Rattle.tt_pins.specs.declared.spots.Spot.{Spot}
 use Rattle.tt_pins.specs.Sets.{has_at}
 use Rattle.tt_pins.specs.Tables.{width}
 
--- ---- where a fact stands: one that gives a course, a day and a period that are there, and a room that is there or none
+-- -- the place of a fact that gives a course, a day and a period in range, and no room or a room in range
 
--- a row for the no-facts of each course, and then one for the yes-facts of each
+-- A row for the no-facts of each course, and then a row for the yes-facts of each course.
 abbrev pub fact_row : Problem → Bool → ℕ → ℕ
 fact_row p holds c = (if holds then length p.courses else 0) + c
 
 abbrev pub fact_rows : Problem → ℕ
 fact_rows p = length p.courses + length p.courses
 
--- without a room
+-- The place of a fact without a room.
 abbrev pub open_place : Problem → Bool → ℕ → ℕ → ℕ
 open_place p holds c d = fact_row p holds c * p.days + d
 
 abbrev pub open_size : Problem → ℕ
 open_size p = fact_rows p * p.days
 
--- with one
+-- The row of a fact with a room.
 abbrev pub slot_row : Problem → Bool → ℕ → ℕ → ℕ → ℕ
 slot_row p holds c d s = open_place p holds c d * p.periods + s
 
@@ -59,22 +59,22 @@ abbrev pub is_nowhere : Option Spot → Bool
 is_nowhere None = true
 is_nowhere (Some x) = false
 
--- the facts that stand nowhere in the table
+-- The facts that have no place in the table.
 abbrev pub others_of : Problem → List Fact → List Fact
 others_of p facts = filter (λ f. is_nowhere (spot_at p f.pattern f.holds)) facts
 
--- ---- what the words say
+-- -- the meaning of the words
 
 pub record ShowsStanding (p : Problem) (facts : List Fact) (words : List ℕ) : Type 0 where
   pub len : length words ≡ standing_size p
   pub each : (g : Pattern) (holds : Bool) (x : Spot) → spot_at p g holds ≡ Some x →
       has_at words x.place x.number ≡ has_fact facts g holds
 
--- the fact is this one
+-- The fact is this one.
 abbrev pub is_fact : Pattern → Bool → Fact → Bool
 is_fact g holds f = same_answer f.holds holds && same_pattern f.pattern g
 
--- one more fact
+-- Another fact has been added.
 pub record Stands (p : Problem) (f : Fact) (old new : List ℕ) : Type 0 where
   pub len : length new ≡ length old
   pub each : (g : Pattern) (holds : Bool) (x : Spot) → spot_at p g holds ≡ Some x →

@@ -1,4 +1,4 @@
-//! One more fact in the tables.
+//! Adding a fact to the tables.
 
 ghost use Rattle.std.specs.Prelude.{◌≡◌, [], ◌∷◌, ◌++◌, length, OnOk, OnErr};
 ghost use Rattle.tt_links.specs.Linked.{AreCurricula};
@@ -13,7 +13,7 @@ use tt_links::Curricula;
 use tt_paths::Fact;
 use tt_trail::Trail;
 
-/// Writes what a fact pins.
+/// Writes the period and the room that a fact pins.
 fn pin(
     instance: &Instance<'_>,
     links: &Curricula,
@@ -62,7 +62,7 @@ fn write(
     Ok(())
 }
 
-/// Marks both tables and then writes a fact into them. Kept apart, as the call that lists the fact is.
+/// Marks both tables and then writes a fact into them. Not inlined, like the call that lists the fact.
 #[inline(never)]
 pub fn add(
     instance: &Instance<'_>,

@@ -1,4 +1,4 @@
-//! What the yes-facts of a path pin, and which facts stand on it, from tables.
+//! The periods and rooms that the yes-facts of a path pin, and the facts on the path, from tables.
 #![tactic(auto)]
 
 mod adding;

@@ -1,4 +1,4 @@
-//! The facts as a list, and beside it the list of those that have no place in the table.
+//! The facts as a list, and the list of those that have no place in the table.
 
 ghost use Rattle.std.specs.Prelude.{◌≡◌, ◌<◌, [], ◌∷◌, ◌++◌, length, OnOk, OnErr};
 ghost use Rattle.tt_paths.specs.Facts.{has_fact};
@@ -9,7 +9,7 @@ use std::alloc::AllocError;
 use tt_instance::Instance;
 use tt_paths::{Fact, Pattern};
 
-/// Adds a fact to the lists where it belongs. Kept apart, since the fact is copied field by field where it is inlined.
+/// Adds a fact to the lists it belongs in. Not inlined, since inlining copies the fact field by field.
 #[inline(never)]
 pub fn list_fact(
     instance: &Instance<'_>,
@@ -33,7 +33,7 @@ pub fn list_fact(
     Ok(())
 }
 
-/// Takes the newest fact from the lists.
+/// Removes the newest fact from the lists and returns it.
 #[inline(always)]
 pub fn unlist_fact(instance: &Instance<'_>, facts: &mut Vec<Fact>, others: &mut Vec<Fact>) -> Fact
     requires some { 0 < length facts.old.items }
@@ -48,7 +48,7 @@ pub fn unlist_fact(instance: &Instance<'_>, facts: &mut Vec<Fact>, others: &mut 
     fact
 }
 
-/// Whether a fact that has no place in the table is one of the others.
+/// Returns whether a fact that has no place in the table is one of the others.
 pub fn is_other(others: &[Fact], pattern: &Pattern, holds: bool) -> bool
     ensures { result ≡ has_fact others.now pattern.now holds }
 {

@@ -1,4 +1,4 @@
-//! What one more yes-fact pins.
+//! The periods and rooms that another yes-fact pins.
 
 ghost use Rattle.std.specs.Prelude.{◌≡◌, ◌<◌, ◌==◌, All, Some, length, OnOk};
 ghost use Rattle.tt_instance.specs.Limits.{IsInstance};
@@ -14,7 +14,7 @@ use tt_links::Curricula;
 use tt_paths::Who;
 use tt_trail::Trail;
 
-/// Puts a period into the set of a course or a curriculum on a day.
+/// Adds a period to the set of a course or a curriculum on a day.
 #[inline(always)]
 fn pin_one(
     instance: &Instance<'_>,
@@ -35,7 +35,7 @@ fn pin_one(
     Ok(())
 }
 
-/// Puts a period into the sets of curricula on a day.
+/// Adds a period to the sets of curricula on a day.
 fn pin_each(
     instance: &Instance<'_>,
     table: &mut Trail,
@@ -57,7 +57,7 @@ fn pin_each(
     Ok(())
 }
 
-/// Puts a period into the sets of a course and of its curricula on a day.
+/// Adds a period to the sets of a course and of its curricula on a day.
 fn pin_course(
     instance: &Instance<'_>,
     links: &Curricula,
@@ -82,7 +82,7 @@ fn pin_course(
     Ok(())
 }
 
-/// Puts a period into the set of a curriculum on a day.
+/// Adds a period to the set of a curriculum on a day.
 fn pin_curriculum(
     instance: &Instance<'_>,
     table: &mut Trail,
@@ -104,7 +104,7 @@ fn pin_curriculum(
     Ok(())
 }
 
-/// Puts a period into the sets of all of which a fact of a course or a curriculum speaks.
+/// Adds a period to the sets of each course and curriculum that a fact about a course or a curriculum is about.
 fn pin_at(
     instance: &Instance<'_>,
     links: &Curricula,
@@ -137,7 +137,7 @@ fn pin_at(
     }
 }
 
-/// Puts what a yes-fact pins of the periods into their sets; numbers that aren't there pin nothing.
+/// Adds the period that a yes-fact pins to its sets; numbers out of range pin nothing.
 pub fn pin_period(
     instance: &Instance<'_>,
     links: &Curricula,
@@ -164,7 +164,7 @@ pub fn pin_period(
     Ok(())
 }
 
-/// Puts a room into the set of a course.
+/// Adds a room to the set of a course.
 fn pin_room_of(
     instance: &Instance<'_>,
     table: &mut Trail,
@@ -182,7 +182,7 @@ fn pin_room_of(
     Ok(())
 }
 
-/// Puts the room that a yes-fact pins into its course's set; numbers that aren't there pin nothing.
+/// Adds the room that a yes-fact pins to its course's set; numbers out of range pin nothing.
 pub fn pin_room(
     instance: &Instance<'_>,
     table: &mut Trail,

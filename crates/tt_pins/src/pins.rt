@@ -1,4 +1,4 @@
-//! The facts of a path with what they pin.
+//! The facts of a path with the periods and rooms that they pin.
 
 ghost use Rattle.std.specs.Prelude.{◌≡◌, ◌<◌, ◌+◌, ◌*◌, ◌&&◌, ℕ, nat_lt, length, slice_get, Some};
 ghost use Rattle.tt_bits.specs.Bits.{has_bit};
@@ -19,7 +19,7 @@ use tt_links::Curricula;
 use tt_paths::{Fact, Pattern, Who};
 use tt_trail::Trail;
 
-/// The facts, with a table of the periods and rooms that they pin and one of the facts that stand.
+/// The facts, with a table of the periods and rooms that they pin and a table of the facts themselves.
 #[derive(Drop)]
 pub struct Pins<'p, 'i> {
     instance: &'p Instance<'i>,
@@ -57,7 +57,7 @@ impl<'p, 'i> Model for Pins<'p, 'i> {
 impl<'p, 'i> Pins<'p, 'i> {
     ghost use Rattle.std.specs.Prelude.{◌≤◌, [], ◌∷◌, ◌++◌, OnOk, OnErr, IfOk};
 
-    /// No facts.
+    /// Creates a list of no facts, with its tables.
     pub fn new(alloc: Global, instance: &'p Instance<'i>) -> Result<Pins<'p, 'i>, AllocError>
         ensures problem { IfOk result (λ s. s.problem ≡ instance.now) }
         ensures facts { IfOk result (λ s. s.facts ≡ []) }
@@ -75,14 +75,14 @@ impl<'p, 'i> Pins<'p, 'i> {
         })
     }
 
-    /// The instance that the facts speak of.
+    /// Returns the instance that the facts are about.
     pub fn instance(&self) -> &Instance<'i>
         ensures { result.now ≡ self.now.problem }
     {
         self.instance
     }
 
-    /// How many facts there are.
+    /// Returns the number of facts.
     pub fn depth(&self) -> u32
         ensures value { result ≡ length self.now.facts }
         ensures within { result ≤ MAX_FACTS }
@@ -90,7 +90,7 @@ impl<'p, 'i> Pins<'p, 'i> {
         self.facts.len() as u32
     }
 
-    /// The fact at a place, counted from the oldest.
+    /// Returns the fact at a place, counted from the oldest.
     pub fn fact(&self, index: u32) -> Fact
         requires { index < length self.now.facts }
         ensures { slice_get self.now.facts index ≡ Some result }
@@ -98,7 +98,7 @@ impl<'p, 'i> Pins<'p, 'i> {
         self.facts[index as usize]
     }
 
-    /// Adds a fact after the others; its numbers may be any. Kept apart, as the call that lists the fact is.
+    /// Adds a fact after the others; its numbers may be any. Not inlined, like the call that lists the fact.
     #[inline(never)]
     pub fn push(&mut self, fact: Fact) -> Result<(), AllocError>
         requires { length self.old.facts < MAX_FACTS }
@@ -120,7 +120,7 @@ impl<'p, 'i> Pins<'p, 'i> {
         Ok(())
     }
 
-    /// Takes the newest fact away.
+    /// Removes the newest fact and returns it.
     #[inline(always)]
     pub fn pop(&mut self) -> Fact
         requires { 0 < length self.old.facts }
@@ -132,7 +132,7 @@ impl<'p, 'i> Pins<'p, 'i> {
         unlist_fact(self.instance, &mut self.facts, &mut self.others)
     }
 
-    /// Whether that very fact stands among them.
+    /// Returns whether exactly this fact is one of them.
     pub fn has(&self, pattern: &Pattern, holds: bool) -> bool
         ensures { result ≡ has_fact self.now.facts pattern.now holds }
     {
@@ -142,7 +142,7 @@ impl<'p, 'i> Pins<'p, 'i> {
         }
     }
 
-    /// The pinned periods of a course or a curriculum on a day, as a set.
+    /// Returns the pinned periods of a course or a curriculum on a day, as a set.
     pub fn pinned_periods(&self, who: Who, day: u32) -> u64
         requires who { IsWho self.now.problem who }
         requires day { day < self.now.problem.days }
@@ -152,7 +152,7 @@ impl<'p, 'i> Pins<'p, 'i> {
         self.pinned.word(day_place(self.instance, who, day))
     }
 
-    /// Whether a yes-fact of it (for a curriculum, also of a member) gives this day and period.
+    /// Returns whether a yes-fact about it (for a curriculum, also about a member) gives this day and period.
     pub fn pinned(&self, who: Who, day: u32, period: u32) -> bool
         requires who { IsWho self.now.problem who }
         requires day { day < self.now.problem.days }
@@ -164,7 +164,7 @@ impl<'p, 'i> Pins<'p, 'i> {
         has_bit(self.pinned_periods(who, day), period)
     }
 
-    /// The pinned rooms of a course in a block, as a set: the block's number times 64 and the 63 that follow.
+    /// Returns the pinned rooms of a course in a block, as a set. The block consists of the room with number `block * 64` and the 63 that follow.
     pub fn pinned_rooms(&self, course: u32, block: u32) -> u64
         requires course { course < length self.now.problem.courses }
         requires block { block * 64 < length self.now.problem.rooms }
@@ -175,7 +175,7 @@ impl<'p, 'i> Pins<'p, 'i> {
         self.pinned.word(block_place(self.instance, course, block))
     }
 
-    /// Whether a yes-fact of the course gives this room.
+    /// Returns whether a yes-fact about the course gives this room.
     pub fn pinned_room(&self, course: u32, room: u32) -> bool
         requires course { course < length self.now.problem.courses }
         requires room { room < length self.now.problem.rooms }

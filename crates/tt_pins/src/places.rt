@@ -1,4 +1,4 @@
-//! Where the words of the table stand.
+//! The places of the words of the table.
 
 ghost use Rattle.std.specs.Prelude.{◌≡◌, ◌<◌, ◌≤◌, ◌+◌, ◌*◌, length};
 ghost use Rattle.tt_paths.specs.Facts.{IsWho};
@@ -8,7 +8,7 @@ ghost use Rattle.tt_instance.specs.declared.limit.TheConstants.{MAX_COURSES, MAX
 use tt_instance::Instance;
 use tt_paths::Who;
 
-/// The row of a course or a curriculum.
+/// Returns the row of a course or a curriculum.
 pub fn row_of(instance: &Instance<'_>, who: Who) -> usize
     requires { IsWho instance.now who }
     ensures value { result ≡ row_of instance.now who }
@@ -26,7 +26,7 @@ pub fn row_of(instance: &Instance<'_>, who: Who) -> usize
     }
 }
 
-/// The place of the word of a day's periods.
+/// Returns the place of the word of a day's periods.
 pub fn day_place(instance: &Instance<'_>, who: Who, day: u32) -> usize
     requires who { IsWho instance.now who }
     requires day { day < instance.now.days }
@@ -38,7 +38,7 @@ pub fn day_place(instance: &Instance<'_>, who: Who, day: u32) -> usize
     row_of(instance, who) * days + day as usize
 }
 
-/// The place of the word of a course's rooms of a block: the block's number times 64 and the 63 that follow.
+/// Returns the place of the word of a course's rooms of a block: the room with number `block * 64` and the 63 that follow.
 pub fn block_place(instance: &Instance<'_>, course: u32, block: u32) -> usize
     requires course { course < length instance.now.courses }
     requires block { block * 64 < length instance.now.rooms }
@@ -55,7 +55,7 @@ pub fn block_place(instance: &Instance<'_>, course: u32, block: u32) -> usize
     rows * days + (course as usize * ((rooms + 63) / 64) + block as usize)
 }
 
-/// The place of the word that has a course's room.
+/// Returns the place of the word that has a course's room.
 pub fn room_place(instance: &Instance<'_>, course: u32, room: u32) -> usize
     requires course { course < length instance.now.courses }
     requires room { room < length instance.now.rooms }
@@ -66,7 +66,7 @@ pub fn room_place(instance: &Instance<'_>, course: u32, room: u32) -> usize
     block_place(instance, course, room / 64)
 }
 
-/// How many words the table has.
+/// Returns how many words the table has.
 pub fn size(instance: &Instance<'_>) -> usize
     ensures { result ≡ size instance.now }
 {

@@ -7,7 +7,7 @@ ghost use Rattle.tt_pins.specs.Sets.{Puts};
 use std::alloc::AllocError;
 use tt_trail::Trail;
 
-/// A set with one number more.
+/// Returns the set with the number added.
 fn with(word: u64, number: u32) -> u64
     requires { number < 64 }
     ensures { (r : ℕ) → r < 64 → has_bit result r ≡ (has_bit word r || (r == number)) }
@@ -15,7 +15,7 @@ fn with(word: u64, number: u32) -> u64
     word | 1 << number
 }
 
-/// Puts a number into the set at a place of a table. A set that has it is not written.
+/// Adds a number to the set at a place of a table. A set that has it already is not written.
 #[inline(always)]
 pub fn put(table: &mut Trail, place: usize, number: u32) -> Result<(), AllocError>
     requires place { place < length table.old.words }

@@ -1,4 +1,4 @@
-//! Where facts stand in their table.
+//! The places of facts in their table.
 
 ghost use Rattle.std.specs.Prelude.{◌≡◌, ◌<◌, ◌≤◌, ◌*◌, ℕ, not, length, IfSome, Bool};
 ghost use Rattle.tt_pins.specs.Standing.{fact_row, fact_rows, open_place, open_size, closed_place, standing_size, spot_in, spot_at, is_nowhere};
@@ -14,7 +14,7 @@ pub struct Spot {
     pub number: u32,
 }
 
-/// The row of a course's yes-facts or no-facts.
+/// Returns the row of a course's yes-facts or no-facts.
 fn fact_row(instance: &Instance<'_>, holds: bool, course: u32) -> usize
     requires { course < length instance.now.courses }
     ensures value { result ≡ fact_row instance.now holds course }
@@ -30,7 +30,7 @@ fn fact_row(instance: &Instance<'_>, holds: bool, course: u32) -> usize
     }
 }
 
-/// The place of a fact without a room.
+/// Returns the place of a fact without a room.
 fn open_place(instance: &Instance<'_>, holds: bool, course: u32, day: u32) -> usize
     requires course { course < length instance.now.courses }
     requires day { day < instance.now.days }
@@ -42,7 +42,7 @@ fn open_place(instance: &Instance<'_>, holds: bool, course: u32, day: u32) -> us
     fact_row(instance, holds, course) * days + day as usize
 }
 
-/// The place of a fact with a room.
+/// Returns the place of a fact with a room.
 fn closed_place(
     instance: &Instance<'_>,
     holds: bool,
@@ -65,7 +65,7 @@ fn closed_place(
     unroomed + (row * width + room as usize / 64)
 }
 
-/// How many words stand for facts without a room.
+/// Returns the number of words for facts without a room.
 fn open_size(instance: &Instance<'_>) -> usize
     ensures value { result ≡ open_size instance.now }
     ensures few { result ≤ 2 * MAX_COURSES * MAX_DAYS }
@@ -74,7 +74,7 @@ fn open_size(instance: &Instance<'_>) -> usize
     (courses + courses) * instance.days() as usize
 }
 
-/// How many words the table has.
+/// Returns the number of words of the table.
 pub fn standing_size(instance: &Instance<'_>) -> usize
     ensures { result ≡ standing_size instance.now }
 {
@@ -83,7 +83,7 @@ pub fn standing_size(instance: &Instance<'_>) -> usize
     unroomed + unroomed * instance.periods() as usize * width
 }
 
-/// Where a fact of a course, a day and a period stands.
+/// Returns the place of a fact about a course, a day and a period.
 fn spot_in(
     instance: &Instance<'_>,
     holds: bool,
@@ -116,7 +116,7 @@ fn spot_in(
     })
 }
 
-/// Whether the room that is given, if one is, is there.
+/// Returns whether the given room is in range; true if no room is given.
 fn is_room_there(instance: &Instance<'_>, room: Option<u32>) -> bool
     ensures { (holds : Bool) (c d s : ℕ) → result ≡ not (is_nowhere (spot_in instance.now holds c d s room)) }
 {
@@ -126,8 +126,8 @@ fn is_room_there(instance: &Instance<'_>, room: Option<u32>) -> bool
     }
 }
 
-/// Whether a fact stands somewhere. The place itself, which takes longer, is not looked for. Kept apart, as the call that lists
-/// the fact is.
+/// Returns whether a fact has a place. The place itself isn't computed, as that takes longer. Not inlined, like the call that lists
+/// the fact.
 #[inline(never)]
 pub fn has_spot(instance: &Instance<'_>, fact: &Fact) -> bool
     ensures { result ≡ not (is_nowhere (spot_at instance.now fact.now.pattern fact.now.holds)) }
@@ -149,7 +149,7 @@ pub fn has_spot(instance: &Instance<'_>, fact: &Fact) -> bool
     }
 }
 
-/// Where a fact stands; nowhere if it doesn't give a course, a day and a period, or gives what isn't there.
+/// Returns the place of a fact; `None` if it doesn't give a course, a day and a period, or if a number that it gives is out of range.
 pub fn find_spot(instance: &Instance<'_>, pattern: &Pattern, holds: bool) -> Option<Spot>
     ensures value { result ≡ spot_at instance.now pattern.now holds }
     ensures place { IfSome result (λ x. x.place < standing_size instance.now) }

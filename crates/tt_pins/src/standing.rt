@@ -1,4 +1,4 @@
-//! One more fact that stands.
+//! Adding a fact to the table of facts.
 
 ghost use Rattle.std.specs.Prelude.{◌≡◌, length, OnOk};
 ghost use Rattle.tt_pins.specs.Standing.{standing_size, Stands};
@@ -10,7 +10,7 @@ use tt_instance::Instance;
 use tt_paths::Fact;
 use tt_trail::Trail;
 
-/// Writes that a fact stands, where the table has a place for it.
+/// Writes a fact into the table, if the table has a place for it.
 pub fn stand(instance: &Instance<'_>, standing: &mut Trail, fact: &Fact) -> Result<(), AllocError>
     requires size { length standing.old.words ≡ standing_size instance.now }
     ensures ok { OnOk result (Stands instance.now fact.now standing.old.words standing.new.words) }

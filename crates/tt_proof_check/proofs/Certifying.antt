@@ -1,4 +1,4 @@
--- What `certify` answers, from what its steps answered.
+-- The result of `certify`, from the results of its steps.
 use Rattle.std.proofs.Common.{◌≡◌, ℕ, zero, suc, ◌+◌, ◌<◌, ◌≤◌, Bool, true, false, List, Option, Some, None, Result, Ok, Err, IfOk, refl, sym, ap, subst, ◌∙◌, arith, inl, inr}
 use Rattle.std.specs.Prelude.{IfSome, ◌↔◌, IsTrue, ◌⊎◌}
 use Rattle.tt_text.specs.declared.feed.FeedFault.TheVariants as feed
@@ -30,11 +30,11 @@ use Rattle.tt_proof_check.proofs.Files.{IsFileFault, one_instance, one_table, on
 
 -- ---- before the score is known
 
--- what is certified is refused for being out of memory alone
+-- files that are certified are refused only for being out of memory
 pub certified_memory : (i s bytes : List ℕ) (c b : ℕ) (f : CertifyFault) → Certifies i s bytes c b → IsFileFault i s f → AnswersYes (Err f) c b
 certified_memory i s bytes c b f h tells = inl (only_memory i s h.solves.problem h.solves.table f h.solves.both tells)
 
--- and so is what breaks a hard rule
+-- files of a timetable that breaks a hard rule are refused only for being out of memory
 pub broken_memory : (i s : List ℕ) (f : CertifyFault) → BreaksARule i s → IsFileFault i s f → AnswersBroken (Err f)
 broken_memory i s f k tells = only_memory i s k.problem k.table f k.both tells
 
@@ -47,26 +47,26 @@ no_points b n both feasible = both.0 feasible
 
 -- ---- the proof's bound
 
--- a fault of the check is told
+-- an error of the check is reported as an error of the proof
 pub check_told : (p : Problem) (bytes : List ℕ) (f : CheckFault) → IsProofFault p (stream_of bytes) f → IsBoundFault p bytes (fault_from_check f)
 check_told p bytes check.OutOfMemory h = tt
 check_told p bytes (check.Text f) h = h
 check_told p bytes (check.Rule n f) h = h
 check_told p bytes (check.TooDeep n) h = h
 
--- a silent fault says nothing of the bytes
+-- a silent error says nothing about the bytes
 pub silent_told : (f : CheckFault) (b : ℕ) → IsSilent f → GivesBound (Err (fault_from_check f)) b
 silent_told f b (inl e) = subst (λ g. GivesBound (Err (fault_from_check g)) b) (sym e) (inl refl)
 silent_told f b (inr e) = subst (λ g. GivesBound (Err (fault_from_check g)) b) (sym e) (inr refl)
 
--- a fault of the proof is none of the instance or the solution
+-- an error of the proof is not an error of the instance or the solution
 pub bound_not_files : (f : CheckFault) → IsOfFiles (fault_from_check f) → ⊥
 bound_not_files check.OutOfMemory of = of
 bound_not_files (check.Text f) of = of
 bound_not_files (check.Rule n f) of = of
 bound_not_files (check.TooDeep n) of = of
 
--- being out of memory is told as itself
+-- being out of memory is reported as itself
 pub memory_instance : (f : InstanceFault) → OutOfMemoryIsOneFault (fault_from_instance f)
 memory_instance instance.OutOfMemory = tt
 memory_instance f = λ e. cc
@@ -81,7 +81,7 @@ memory_check (check.Text f) h = (λ e. cc, h)
 memory_check (check.Rule n f) h = (λ e. cc, h)
 memory_check (check.TooDeep n) h = (λ e. cc, h)
 
--- only a failed read is told as one
+-- only a failed read is reported as one
 pub read_checked : (f : CheckFault) → fault_from_check f ≡ read_failed → f ≡ check.Text (text.Feed feed.Read)
 read_checked check.OutOfMemory e = cc
 read_checked (check.Text f) e = cc
@@ -94,7 +94,7 @@ broken_by s = s.lectures + s.conflicts + s.availability + s.room_occupancy
 abbrev costs_of : Score → ℕ
 costs_of s = s.room_capacity + s.min_working_days + s.compactness + s.room_stability
 
--- what certifies, of the instance and the timetable that were read
+-- the conditions of a certificate, for the instance and the timetable that were read
 record Certified (p : Problem) (t : List Cell) (bytes : List ℕ) (c b : ℕ) : Type 0 where
   feasible : IsFeasible p t
   costs : cost p t ≡ c
@@ -125,7 +125,7 @@ module _ (i s : List ℕ) (p : Problem) (t : List Cell) (spelled : Spells i p) (
     pub is_feasible : broken_by score ≡ 0 → IsFeasible p t
     is_feasible e = (feasible_is p t score solved.in_range is).0 e
 
-    -- ---- where a hard rule is broken
+    -- -- a timetable that breaks a hard rule
 
     pub not_certified : (bytes : List ℕ) (c b : ℕ) → (broken_by score ≡ 0 → ⊥) → Certifies i s bytes c b → ⊥
     not_certified bytes c b broken h = broken ((feasible_is p t score solved.in_range is).1 (certified_here bytes c b h).feasible)
@@ -140,12 +140,12 @@ module _ (i s : List ℕ) (p : Problem) (t : List Cell) (spelled : Spells i p) (
       score_is = is;
     }
 
-    -- ---- where none is
+    -- -- a timetable that breaks no hard rule
 
     pub not_broken : broken_by score ≡ 0 → BreaksARule i s → ⊥
     not_broken e k = omega (arith, e, hard_is p t score is, broken_here k)
 
-    -- a refusal of the proof
+    -- an error of the proof is the first error
     pub bound_tells : (q : Option (List ℕ)) (f : CertifyFault) → broken_by score ≡ 0 → (IsOfFiles f → ⊥) → ((bytes : List ℕ) → q ≡ Some bytes → IsBoundFault p bytes f) → IsFirstFault i s q f
     bound_tells q (fault.Proof f) e own h = record { problem = p; table = t; both = both; feasible = is_feasible e; fails = told q h }
       where
@@ -175,9 +175,9 @@ module _ (i s : List ℕ) (p : Problem) (t : List Cell) (spelled : Spells i p) (
         told None h = tt
         told (Some bytes) h = record { solves = solves_here e; proved = h bytes refl }
 
--- ---- the answer as a whole
+-- -- the whole result
 
--- no fault of the instance or of the solution is told as a failed read
+-- no error of the instance or of the solution is reported as a failed read
 pub not_read_instance : (f : InstanceFault) → fault_from_instance f ≡ read_failed → ⊥
 not_read_instance instance.OutOfMemory e = cc
 not_read_instance f e = cc
@@ -186,12 +186,12 @@ pub not_read_solution : (f : SolutionFault) → fault_from_solution f ≡ read_f
 not_read_solution solution.OutOfMemory e = cc
 not_read_solution f e = cc
 
--- the answer yes
+-- the verdict `Yes`
 abbrev yes_with : ℕ → ℕ → Result Verdict CertifyFault
 yes_with c b = Ok (Yes c b)
 
 module _ (i s : List ℕ) (q : Option (List ℕ)) where
-  -- where memory and the reads hold out, the answer is yes with c and b exactly where they are certified
+  -- if memory doesn't run out and no read fails, the verdict is `Yes` with c and b if and only if they are certified
   pub exactly_certified : (r : Result Verdict CertifyFault) (fails : Bool) (bytes : List ℕ) → q ≡ Some bytes → (r ≡ Err read_failed → fails ≡ true) → IfOk r (IsVerdict i s q)
       → ((c b : ℕ) → Certifies i s bytes c b → AnswersYes r c b) → (c b : ℕ) → fails ≡ false → ¬ (r ≡ Err fault.OutOfMemory) → (r ≡ Ok (Yes c b)) ↔ Certifies i s bytes c b
   exactly_certified (Ok (Yes n m)) fails bytes known failed found answers c b reads memory = (there, here)
@@ -211,7 +211,7 @@ module _ (i s : List ℕ) (q : Option (List ℕ)) where
       silent (inl e) = memory (ap (λ k. Err k) e)
       silent (inr e) = let t = failed (ap (λ k. Err k) e) in cc
 
-  -- and then every timetable that breaks no hard rule costs at least b
+  -- if the verdict is `Yes`, every timetable that breaks no hard rule costs at least b
   pub certified_bounds : (r : Result Verdict CertifyFault) → IfOk r (IsVerdict i s q) → (c b : ℕ) → r ≡ Ok (Yes c b) → BoundsAll i b
   certified_bounds (Ok (Yes n m)) found c b e = let y : m ≡ b = cc in subst (BoundsAll i) y found.bounds
   certified_bounds (Ok (Breaks score)) found c b e = absurd cc

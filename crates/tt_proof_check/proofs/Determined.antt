@@ -1,4 +1,4 @@
--- A text is one tree at most: reading it is determined, and no tree begins another.
+-- A text spells at most one tree: reading it is deterministic, and no tree is a proper prefix of another.
 use Rattle.std.proofs.Common.{◌≡◌, ℕ, suc, zero, ◌+◌, ◌<◌, List, [], ◌∷◌, ◌++◌, length, Result, Ok, refl, sym, ap, subst, ◌∙◌, arith, append_assoc, append-nil, ◌⊎◌, inl, inr}
 use Rattle.std.specs.Prelude.{slice_get}
 use Rattle.tt_text.specs.Feeds.{Stream}
@@ -10,7 +10,7 @@ use Rattle.tt_proof_read.specs.declared.node.Node.{Node}
 use Rattle.tt_proof_read.specs.declared.sizes.Sizes.{Sizes}
 use Rattle.tt_proof_check.proofs.Reading.{Stack, root, next_stack, places_of, whole_places}
 
--- no tree begins another
+-- no tree is a proper prefix of another
 pub prefix_free : (x y : Tree) (xs ys : List Node) → preorder x ++ xs ≡ preorder y ++ ys → (x ≡ y) × (xs ≡ ys)
 prefix_free (Close l) (Close m) xs ys e = let a : l ≡ m = cc in let b : xs ≡ ys = cc in (ap Close a, b)
 prefix_free (Close l) (Branch g x y) xs ys e = cc
@@ -22,7 +22,7 @@ prefix_free (Branch g a b) (Branch h c d) xs ys e =
     let second = prefix_free b d xs ys first.1 in
     (ap (λ q. Branch q a b) root ∙ ap (λ t. Branch h t b) first.0 ∙ ap (Branch h c) second.0, second.1)
 
--- a tree that begins with a whole one is that tree, and nothing follows
+-- a tree that begins with a whole tree is that tree, and nothing follows
 pub begins_whole : (x y : Tree) (more : List Node) → preorder x ≡ preorder y ++ more → (x ≡ y) × ([] ≡ more)
 begins_whole x y more e = prefix_free x y [] more (append-nil (preorder x) ∙ e)
 
@@ -38,7 +38,7 @@ ok_header x = Ok x
 pub same_header : (x y : (ℕ × Bound) × Stream) → ok_header x ≡ ok_header y → x ≡ y
 same_header x y e = cc
 
--- of two readings of one stream, one goes on where the other ends
+-- of two readings of one stream, one continues where the other ends
 pub compare : (sizes : Sizes) (v count : ℕ) (s t u : Stream) (ms ns : List Node) → ReadsNodes sizes v count s ms t → ReadsNodes sizes v count s ns u
     → ((more : List Node) × (ms ++ more ≡ ns) × ReadsNodes sizes v (count + length ms) t more u)
     ⊎ ((more : List Node) × (ns ++ more ≡ ms) × ReadsNodes sizes v (count + length ns) u more t)

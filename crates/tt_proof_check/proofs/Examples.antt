@@ -1,4 +1,4 @@
--- A tree that derives its bound and no greater one, and the places that a path leaves open.
+-- A tree that derives its bound and no greater bound, and the places that a path leaves open.
 use Rattle.std.proofs.Common.{◌≡◌, ℕ, List, Bool, true, false, [], ◌∷◌, take, codes, Ok, Err, inl, inr, refl, lit≤}
 use Rattle.std.proofs.lemmas.List.Elements.{All-from_recursion}
 use Rattle.tt_text.specs.Tokens.{Placed, tokens_from}
@@ -26,11 +26,11 @@ use Rattle.tt_proof_check.specs.Pending.{pending}
 use Rattle.tt_proof_check.specs.Streams.{stream_of, sizes_of}
 use Rattle.tt_proof_check.specs.Tells.{Passes, FailsAt}
 
--- a seat that lacks and two isolated entries
+-- a missing seat and two isolated entries
 abbrev five : Leaf
 five = Cost (Capacity 1 1 ∷ Compact 0 ∷ [])
 
--- a in the first period and b in the third, or the other way round; nothing else has a period for both
+-- a in the first period and b in the third, or vice versa; every other choice leaves one of them without a period
 abbrev gap_tree : Tree
 gap_tree =
     Branch (when 0 0) (Branch (when 1 2) (Close five) (Close (Clique (1 ∷ []))))
@@ -63,12 +63,12 @@ gap_costs_no_six = record {
 abbrev fact : Pattern → Bool → Fact
 fact g holds = record { pattern = g; holds = holds }
 
--- after a yes-fact its second child is to come, after a no-fact nothing
+-- after a yes-fact its second child is pending, after a no-fact nothing is
 two_to_come : pending (fact (when 0 0) true ∷ fact (when 1 2) false ∷ fact (when 1 1) true ∷ [])
     ≡ (fact (when 0 0) true ∷ fact (when 1 2) false ∷ fact (when 1 1) false ∷ []) ∷ (fact (when 0 0) false ∷ []) ∷ []
 two_to_come = refl
 
--- the first split has come whole, and the failure of a read breaks the second off
+-- the first split has been read whole, and the failure of a read cuts off the second
 abbrev begun : List ℕ
 begun = codes "CTTP 1 bound 5 S c0 * d0 p0 S c1"
 

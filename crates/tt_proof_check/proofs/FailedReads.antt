@@ -1,4 +1,4 @@
--- What a failed read leaves known of the bytes.
+-- The information about the bytes that remains after a failed read.
 use Rattle.std.proofs.Common.{◌≡◌, ℕ, List, ◌++◌, true, Option, Some, None, is_some, refl, sym, ap, subst, ◌∙◌}
 use Rattle.std.specs.Io.KnownBytes.{Consumes}
 use Rattle.tt_text.specs.CutShort.{rest_of}
@@ -11,7 +11,7 @@ given_left : (bytes given : List ℕ) (after : Option (List ℕ)) → is_some af
 given_left bytes given None k e = absurd cc
 given_left bytes given (Some rest) k e = cc
 
--- what is so of a feed that has read nothing before is so of the bytes
+-- a property of a feed that had read nothing before is a property of the bytes
 pub of_given : (P : Stream → Type 0) (before after : Option (List ℕ)) → (is_some before ≡ true → is_some after ≡ true) → UpToFailure fresh before after P → (bytes : List ℕ) → before ≡ Some bytes → HoldsOfGiven bytes after P
 of_given P before after known up bytes e =
     let k : is_some before ≡ true = ap is_some e in

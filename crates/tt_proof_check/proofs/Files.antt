@@ -1,4 +1,4 @@
--- The bytes of an instance and of a solution: what the readers answer of them.
+-- The bytes of an instance and of a solution, and the results of reading them.
 use Rattle.std.proofs.Common.{◌≡◌, ℕ, List, Ok, Err, refl, sym, subst}
 use Rattle.tt_instance.specs.Problem.{Problem}
 use Rattle.tt_instance.specs.Reading.{instance_of, Fails}
@@ -17,14 +17,14 @@ use Rattle.tt_proof_check.specs.Verdicts.{fault_from_instance, fault_from_soluti
 use Rattle.tt_proof_check.specs.declared.fault.CertifyFault.{CertifyFault}
 use Rattle.tt_proof_check.specs.declared.fault.CertifyFault.TheVariants as fault
 
--- bytes spell one instance
+-- bytes spell at most one instance
 pub one_instance : (bytes : List ℕ) (p q : Problem) → Spells bytes p → Spells bytes q → p ≡ q
 one_instance bytes p q a b =
     let e : Ok p ≡ instance_of bytes = sym (is_read bytes p a) in
     let f = is_read bytes q b in
     cc
 
--- and one timetable of it
+-- bytes spell at most one timetable of an instance
 pub one_table : (bytes i : List ℕ) (p : Problem) (t u : List Cell) → Spells i p → SpellsTable p bytes t → SpellsTable p bytes u → t ≡ u
 one_table bytes i p t u s a b =
     let limits = (spelled_instance i p s).within in
@@ -32,24 +32,24 @@ one_table bytes i p t u s a b =
     let f = solution_read p bytes u limits b in
     cc
 
--- a fault of the instance or of the solution
+-- whether the error is one of the instance or of the solution
 abbrev pub IsFileFault : List ℕ → List ℕ → CertifyFault → Type 0
 IsFileFault i s (fault.Instance f) = instance_of i ≡ Err f
 IsFileFault i s (fault.Solution f) = FailsSolution i s f
 IsFileFault i s (fault.Proof f) = ⊥
 IsFileFault i s fault.OutOfMemory = Unit {0}
 
--- a fault of the instance is told
+-- an error of the instance is reported
 pub tells_instance : (i s : List ℕ) (f : InstanceFault) → Fails f (instance_of i) → IsFileFault i s (fault_from_instance f)
 tells_instance i s instance.OutOfMemory h = tt
 tells_instance i s f h = h
 
--- a fault of the solution is told
+-- an error of the solution is reported
 pub tells_solution : (i s : List ℕ) (p : Problem) (f : SolutionFault) → Spells i p → FailsTable f (solution_of p s) → IsFileFault i s (fault_from_solution f)
 tells_solution i s p solution.OutOfMemory spelled h = tt
 tells_solution i s p f spelled h = record { problem = p; spelled = spelled; fails = h }
 
--- where both are spelled, the only refusal is being out of memory
+-- if both are spelled, the only error is being out of memory
 pub only_memory : (i s : List ℕ) (p : Problem) (t : List Cell) (f : CertifyFault) → SpellsBoth i s p t → IsFileFault i s f → f ≡ fault.OutOfMemory
 only_memory i s p t (fault.Instance f) both h = let e = is_read i p both.spelled in absurd cc
 only_memory i s p t (fault.Solution f) both h =

@@ -1,4 +1,4 @@
--- Whole lists of nodes that are judged in order, and what a proof leaves of their faults.
+-- Whole lists of nodes that are checked in order, and the errors that are possible for the nodes of a proof.
 use Rattle.std.proofs.Common.{◌≡◌, ℕ, zero, suc, ◌+◌, ◌≤◌, ◌<◌, Bool, true, false, List, [], ◌∷◌, ◌++◌, length, take, drop, get_or, Some, Result, Ok, Err, IfErr, OnOk, refl, sym, ap, ◌∙◌, subst, arith}
 use Rattle.std.specs.Prelude.{All, slice_get, IsOkUnless}
 use Rattle.std.specs.List.{AllByRecursion}
@@ -24,7 +24,7 @@ use Rattle.tt_proof_check.proofs.Reading.{whole_places}
 use Rattle.tt_proof_check.proofs.Soundness.{proof_sound}
 use Rattle.tt_proof_check.proofs.Walking.{Walked, walked_due, walked_next, walked_tree, fails_at, too_deep, deep_tree}
 
--- the nodes before the one at i have been taken
+-- whether the nodes before the one at i have been checked
 abbrev pub Midway : Problem → Bound → List Node → ℕ → List Fact → Type 0
 Midway p b nodes i path = (due : Bool) × Walked p b (take i nodes) path due
 
@@ -59,7 +59,7 @@ pub midway_end : (p : Problem) (b : Bound) (nodes : List Node) → IsPreorder no
 midway_end p b nodes tree i past path m =
     walked_tree p b nodes path tree.0 tree.1 m.0 (subst (λ (l : List Node). Walked p b l path m.0) (take_all i nodes past) m.1)
 
--- ---- the other way: where a tree derives the bound, each node passes
+-- -- the converse: if a tree derives the bound, each node passes
 
 join_parts : {X : Type 0} (P : X → Type 0) (xs ys : List X) → AllByRecursion P xs → AllByRecursion P ys → AllByRecursion P (xs ++ ys)
 join_parts P [] ys a b = b
@@ -81,7 +81,7 @@ at_place P [] i x e a = cc
 at_place P (y ∷ ys) zero x e a = let same : y ≡ x = cc in subst P same a.0
 at_place P (y ∷ ys) (suc i) x e a = at_place P ys i x e a.1
 
--- so none has a fault, seen in another tree that has the same node there
+-- so no node has an error in another tree that has the same node there
 pub never_fails : (p : Problem) (b : Bound) (tree other : Tree) (i : ℕ) (f : RuleFault) → All (Passes p b) (on_paths [] tree) → slice_get (on_paths [] tree) i ≡ slice_get (on_paths [] other) i → ¬ (FailsAt p b other i f)
 never_fails p b tree other i f all same h =
     let right = (at_place (Passes p b) (on_paths [] tree) i _ (same ∙ h.found) (recursion_from_All (Passes p b) (on_paths [] tree) all)).1 in
@@ -94,11 +94,11 @@ never_deep p b tree other i all same h =
     let within = (at_place (Passes p b) (on_paths [] tree) i _ (same ∙ h.found) (recursion_from_All (Passes p b) (on_paths [] tree) all)).0 in
     omega (arith, within, h.deep)
 
--- one list of nodes has one place for each
+-- in trees with the same nodes, the node at i has the same path
 pub same_at : (nodes : List Node) (x y : Tree) (i : ℕ) → preorder x ≡ nodes → preorder y ≡ nodes → slice_get (on_paths [] x) i ≡ slice_get (on_paths [] y) i
 same_at nodes x y i e d = ap (λ (l : List OnPath). slice_get l i) (sym (whole_places x nodes e) ∙ whole_places y nodes d)
 
--- nodes that prove the bound have no fault
+-- the only error of nodes that prove the bound is being out of memory
 proves_only : (p : Problem) (b : Bound) (nodes : List Node) (e : NodesFault) → Tells p b nodes e → Proves p b nodes → e ≡ told.OutOfMemory
 proves_only p b nodes told.NotATree t h = absurd (t (h.0, h.1))
 proves_only p b nodes (told.Rule i f) t h = absurd (never_fails p b h.0 t.0 i f (tree_passes p b h.0 h.2 h.3) (same_at nodes h.0 t.0 i h.1 t.1) t.2)

@@ -1,4 +1,4 @@
--- Of two faults that a text has, either they are the same or one of them is silent.
+-- Two errors of the same text are equal, or one of them is silent.
 use Rattle.std.proofs.Common.{◌≡◌, ℕ, zero, suc, ◌+◌, ◌≤◌, ◌<◌, List, [], ◌∷◌, ◌++◌, length, take, Option, Some, None, Result, Ok, Err, refl, sym, ap, subst, ◌∙◌, arith, append_assoc, append-nil, ◌⊎◌, inl, inr}
 use Rattle.std.specs.Prelude.{All, slice_get}
 use Rattle.std.specs.List.{AllByRecursion}
@@ -40,7 +40,7 @@ use Rattle.tt_proof_check.proofs.Judging.{at_place, tree_passes}
 use Rattle.tt_proof_check.proofs.TextFaults.{on_false, silent_is, fails_silently}
 use Rattle.tt_proof_check.proofs.Texts.{node_silent, place_read}
 
--- they are the same, or one says nothing of the text
+-- whether the errors are equal, or one says nothing about the text
 abbrev pub AreOne : CheckFault → CheckFault → Type 0
 AreOne f g = (f ≡ g) ⊎ (IsSilent f ⊎ IsSilent g)
 
@@ -49,7 +49,7 @@ turned f g (inl e) = inl (sym e)
 turned f g (inr (inl s)) = inr (inr s)
 turned f g (inr (inr s)) = inr (inl s)
 
--- two faults of one reading
+-- two errors of one reading
 one_reading : {Y : Type 0} (read : Result Y TextFault) (f g : TextFault) → ¬ (f ≡ text.OutOfMemory) → ¬ (g ≡ text.OutOfMemory) → Fails f read → Fails g read → AreOne (told.Text f) (told.Text g)
 one_reading read f g n m h k = elim (on_false (is_silent f) (read ≡ Err f) h) [
   | inl s ↦ inr (inl (silent_is f s n))
@@ -86,21 +86,21 @@ stops_by_depth p b tree i h = record {
   before = h.before;
 }
 
--- what is said of each of the first is said of one of them
+-- a property of each of the first elements holds for any of them
 at_first : {X : Type 0} (P : X → Type 0) (n : ℕ) (xs : List X) (i : ℕ) (x : X) → i < n → slice_get xs i ≡ Some x → AllByRecursion P (take n xs) → P x
 at_first P zero xs i x h e a = absurd (omega (arith, h))
 at_first P (suc n) [] i x h e a = cc
 at_first P (suc n) (y ∷ ys) zero x h e a = let same : y ≡ x = cc in subst P same a.0
 at_first P (suc n) (y ∷ ys) (suc i) x h e a = at_first P n ys i x (omega (arith, h)) e a.1
 
--- where the first n nodes of a tree pass, another with the same node at i below n doesn't stop there
+-- if the first n nodes of a tree pass, another tree with the same node at i below n does not stop at i
 none_stops : (p : Problem) (b : Bound) (tree other : Tree) (n i : ℕ) → i < n → All (Passes p b) (take n (on_paths [] tree)) → slice_get (on_paths [] tree) i ≡ slice_get (on_paths [] other) i → ¬ (Stops p b other i)
 none_stops p b tree other n i h all same s =
     s.stops (at_first (Passes p b) n (on_paths [] tree) i s.at h (same ∙ s.found) (recursion_from_All (Passes p b) (take n (on_paths [] tree)) all))
 
 -- ---- two trees that begin with nodes of one stream
 
--- what a stream gives, and a tree that begins with it
+-- nodes that a stream gives, and a tree that begins with them
 record Begun (p : Problem) (v : ℕ) (s : Stream) : Type 0 where
   nodes : List Node
   rest : Stream
@@ -116,7 +116,7 @@ abbrev begun_before : (p : Problem) (v : ℕ) (b : Bound) (s : Stream) (f : Text
 begun_before p v b s f h = record { nodes = h.nodes; rest = h.rest; reads = h.reads; tree = h.tree; more = h.next ∷ h.more; begins = h.begins }
 
 module _ (p : Problem) (v : ℕ) (b : Bound) (s : Stream) where
-  -- a node that both have stands on one path
+  -- a node that both trees have is on the same path in both
   one_place : (x y : Begun p v s) (i : ℕ) → i < length x.nodes → i < length y.nodes → slice_get (on_paths [] x.tree) i ≡ slice_get (on_paths [] y.tree) i
   one_place x y i h k = elim (compare (sizes_of p) v 0 s x.rest y.rest x.nodes y.nodes x.reads y.reads) [
     | inl m ↦ same_place x.tree y.tree x.nodes x.more (m.0 ++ y.more) i x.begins (longer y x m.0 m.1) h
@@ -126,12 +126,12 @@ module _ (p : Problem) (v : ℕ) (b : Bound) (s : Stream) where
       longer : (z w : Begun p v s) (more : List Node) → w.nodes ++ more ≡ z.nodes → preorder z.tree ≡ w.nodes ++ (more ++ z.more)
       longer z w more e = z.begins ∙ ap (λ l. l ++ z.more) (sym e) ∙ append_assoc w.nodes more z.more
 
-  -- the first that doesn't pass is one
+  -- the first node that doesn't pass is the same
   one_stop : (x y : Begun p v s) (i j : ℕ) → length x.nodes ≡ i + 1 → length y.nodes ≡ j + 1 → Stops p b x.tree i → Stops p b y.tree j → ¬ (i < j)
   one_stop x y i j h k a c less =
       none_stops p b y.tree x.tree j i less c.before (one_place y x i (omega (arith, k, less)) (omega (arith, h))) a
 
-  -- of the text of a node and the text of one after it, the first is read
+  -- if a node has been read, an error in its text is silent
   node_first : (f : TextFault) → ¬ (f ≡ text.OutOfMemory) → (k : ℕ) (nodes : List Node) (rest after : Stream) (x : Node) (xs : List Node) → length nodes ≡ k → ReadsNodes (sizes_of p) v (0 + length nodes) rest (x ∷ xs) after
       → Fails f (node_at (sizes_of p) v k rest) → IsSilent (told.Text f)
   node_first f n k nodes rest after x xs e r fails =
@@ -173,7 +173,7 @@ module _ (p : Problem) (v : ℕ) (b : Bound) (s : Stream) where
   texts_fail f g n m (inr a) (inl c) = turned (told.Text g) (told.Text f) (node_or_end g f m c a)
   texts_fail f g n m (inr a) (inr c) = ends_fail f g n m a c
 
-  -- before a node that doesn't pass all texts are read, or fail silently
+  -- before a node that doesn't pass, all texts are read, or fail silently
   text_silent : (f : TextFault) → ¬ (f ≡ text.OutOfMemory) → (NodeFails p v b s f ⊎ EndFails p v b s f) → (i : ℕ) (P : Tree → Type 0) (c : IsReadTo p v s i P) → Stops p b c.tree i → IsSilent (told.Text f)
   text_silent f n (inr a) i P c stops = absurd (stops.stops (passes (place_read p v s a.rest a.tree a.reads i P c ∙ stops.found)))
     where
@@ -203,12 +203,12 @@ some_point x = Some x
 one_point : (x y : OnPath) → some_point x ≡ some_point y → x ≡ y
 one_point x y e = cc
 
--- a leaf has one first fault on its path
+-- a leaf has only one first error on its path
 one_first : (p : Problem) (b : Bound) (x y : List Fact) (l m : Leaf) (f g : RuleFault) → node.Leaf l ≡ node.Leaf m → x ≡ y → fault_of p x b l ≡ Some f → fault_of p y b m ≡ Some g → f ≡ g
 one_first p b x y l m f g same path h k = cc
 
 module _ (p : Problem) (v : ℕ) (b : Bound) (s : Stream) where
-  -- a property of a tree by which it stops at a node
+  -- a property of trees that stop at a node
   abbrev StopsAt : ℕ → (Tree → Type 0) → Type 0
   StopsAt i P = (tree : Tree) → P tree → Stops p b tree i
 
@@ -218,7 +218,7 @@ module _ (p : Problem) (v : ℕ) (b : Bound) (s : Stream) where
   by_depth : (i : ℕ) → StopsAt i (λ t. IsDeepAt p b t i)
   by_depth i tree h = stops_by_depth p b tree i h
 
-  -- both stop at one node, which stands on one path
+  -- both trees stop at the same node, on the same path
   meets : (i j : ℕ) (P Q : Tree → Type 0) → StopsAt i P → StopsAt j Q → (a : IsReadTo p v s i P) (c : IsReadTo p v s j Q) → (i ≡ j) × (slice_get (on_paths [] a.tree) i ≡ slice_get (on_paths [] c.tree) j)
   meets i j P Q stops ends a c = elim (cases_order i j) [
     | inl same ↦ (same, one_place p v b s (begun_to p v s i P a) (begun_to p v s j Q c) i (omega (arith, a.last)) (omega (arith, same, c.last)) ∙ ap (slice_get (on_paths [] c.tree)) same)
@@ -236,7 +236,7 @@ module _ (p : Problem) (v : ℕ) (b : Bound) (s : Stream) where
   depths_fail : (i j : ℕ) → IsReadTo p v s i (λ t. IsDeepAt p b t i) → IsReadTo p v s j (λ t. IsDeepAt p b t j) → AreOne (told.TooDeep i) (told.TooDeep j)
   depths_fail i j a c = inl (ap told.TooDeep (meets i j (λ t. IsDeepAt p b t i) (λ t. IsDeepAt p b t j) (by_depth i) (by_depth j) a c).0)
 
-  -- a leaf that is judged isn't too deep
+  -- a leaf whose rule is checked isn't too deep
   rule_or_depth : (i j : ℕ) (f : RuleFault) → IsReadTo p v s i (λ t. FailsAt p b t i f) → IsReadTo p v s j (λ t. IsDeepAt p b t j) → ⊥
   rule_or_depth i j f a c =
       let m = meets i j (λ t. FailsAt p b t i f) (λ t. IsDeepAt p b t j) (by_fault i f) (by_depth j) a c in
@@ -246,7 +246,7 @@ module _ (p : Problem) (v : ℕ) (b : Bound) (s : Stream) where
 
 -- ---- whole texts
 
--- what is said after two headers of one stream is said after one
+-- a conclusion from two headers of one stream needs only the case of one header
 one_header : (P Q : ℕ → Bound → Stream → Type 0) (Z : Type 0) (s : Stream) → ((v : ℕ) (b : Bound) (rest : Stream) → P v b rest → Q v b rest → Z) → HasHeader s P → HasHeader s Q → Z
 one_header P Q Z s f h k =
     let same = same_header ((k.0, k.1), k.2) ((h.0, h.1), h.2) (sym k.3 ∙ h.3) in
@@ -271,7 +271,7 @@ text_one p s f i P stops (n, inl h) k = header_silent (λ v b rest. IsReadTo p v
 text_one p s f i P stops (n, inr h) k =
     one_header (FailsAfter p f) (λ v b rest. IsReadTo p v rest i (P b)) (IsSilent (told.Text f)) s (λ v b rest x y. text_silent p v b rest f n x i (P b) y (stops b y.tree y.is)) h k
 
--- of two faults of one text, either they are the same or one is silent
+-- two errors of one text are equal, or one of them is silent
 pub one_fault : (p : Problem) (s : Stream) (f g : CheckFault) → IsProofFault p s f → IsProofFault p s g → AreOne f g
 one_fault p s told.OutOfMemory g h k = inr (inl (inl refl))
 one_fault p s (told.Text f) told.OutOfMemory h k = inr (inr (inl refl))
@@ -295,7 +295,7 @@ one_fault p s (told.TooDeep i) (told.Rule j g) h k =
     one_header (λ v b rest. IsReadTo p v rest i (λ t. IsDeepAt p b t i)) (λ v b rest. IsReadTo p v rest j (λ t. FailsAt p b t j g)) (AreOne (told.TooDeep i) (told.Rule j g)) s
     (λ v b rest x y. absurd (rule_or_depth p v b rest j i g y x)) h k
 
--- ---- what `certify` refuses
+-- -- the errors of `certify`
 
 abbrev AreOneRefusal : CertifyFault → CertifyFault → Type 0
 AreOneRefusal f g = (f ≡ g) ⊎ (SaysNothing f ⊎ SaysNothing g)
@@ -319,7 +319,7 @@ solutions_refused i s f g h k =
 spelled_or_refused : (i : List ℕ) (p : Problem) (f : InstanceFault) → instance_of i ≡ Err f → Spells i p → ⊥
 spelled_or_refused i p f h spelled = let e = is_read i p spelled in cc
 
--- of two faults that `certify` may tell of its bytes, either they are the same or one says nothing of them
+-- two errors that `certify` may report for its bytes are equal, or one says nothing about them
 pub one_refusal : (i s bytes : List ℕ) (f g : CertifyFault) → IsFirstFault i s (Some bytes) f → IsFirstFault i s (Some bytes) g → AreOneRefusal f g
 one_refusal i s bytes fault.OutOfMemory g h k = inr (inl tt)
 one_refusal i s bytes (fault.Instance f) fault.OutOfMemory h k = inr (inr tt)

@@ -15,7 +15,7 @@ pending_after-push before (x ∷ xs) f =
 pub pending-push : (path : List Fact) (f : Fact) → pending (path ++ f ∷ []) ≡ other_side path f ++ pending path
 pending-push path f = pending_after-push [] path f
 
--- a yes-fact that is turned is the next place
+-- if a yes-fact is replaced by its no-fact, the new path is the next place
 pub pending-turned : (now before after : List Fact) (f : Fact) → now ≡ before ++ f ∷ [] → f.holds ≡ true → after ≡ with_fact before f.pattern false → pending now ≡ after ∷ pending after
 pending-turned now before after f e h a =
     let opened : other_side before f ≡ with_fact before f.pattern false ∷ [] = rw h in

@@ -1,4 +1,4 @@
--- Nodes in preorder, read with a stack of the paths whose nodes are still to come.
+-- Nodes in preorder, read with a stack of the paths whose nodes are not read yet.
 use Rattle.std.proofs.Common.{◌≡◌, ℕ, zero, suc, ◌≤◌, ◌<◌, true, false, List, [], ◌∷◌, ◌++◌, map, length, Option, Some, None, refl, sym, ap, ◌∙◌, arith, append_assoc, append-nil, le_of_suc-le-suc}
 use Rattle.std.specs.Prelude.{slice_get}
 use Rattle.tt_paths.specs.declared.facts.Fact.{Fact}
@@ -19,7 +19,7 @@ abbrev pub next_stack : List Fact → Stack → Node → Stack
 next_stack path rest (Leaf leaf) = rest
 next_stack path rest (Split g) = with_fact path g true ∷ with_fact path g false ∷ rest
 
--- the stack after these nodes, if there was a place for each
+-- the stack after these nodes, if each of them had an open place
 abbrev pub stack_after : Stack → List Node → Option Stack
 stack_after stack [] = Some stack
 stack_after [] (n ∷ ns) = None
@@ -28,7 +28,7 @@ stack_after (path ∷ rest) (n ∷ ns) = stack_after (next_stack path rest n) ns
 abbrev pub at : List Fact → Node → OnPath
 at path node = record { path = path; node = node }
 
--- each node with the path that is open when it comes
+-- each node with the path that is open when the node is read
 abbrev pub places_of : Stack → List Node → List OnPath
 places_of [] ns = []
 places_of (path ∷ rest) [] = []
@@ -57,7 +57,7 @@ length-places_of (path ∷ rest) after [] e = refl
 length-places_of [] after (n ∷ ns) e = cc
 length-places_of (path ∷ rest) after (n ∷ ns) e = ap (λ k. suc k) (length-places_of (next_stack path rest n) after ns e)
 
--- one more node
+-- another node
 pub stack_after-push : (path : List Fact) (rest : Stack) (nodes : List Node) (n : Node) → stack_after root nodes ≡ Some (path ∷ rest) → stack_after root (nodes ++ n ∷ []) ≡ Some (next_stack path rest n)
 stack_after-push path rest nodes n e = stack_after-append root (path ∷ rest) nodes (n ∷ []) e
 
@@ -83,15 +83,15 @@ places_of-tree (Branch g x y) path rest ns =
     ap (λ l. at path (Split g) ∷ places_of (a ∷ b ∷ rest) l) (append_assoc (preorder x) (preorder y) ns)
     ∙ ap (λ l. at path (Split g) ∷ l) (places_of-tree x a (b ∷ rest) (preorder y ++ ns) ∙ ap (λ l. on_paths a x ++ l) (places_of-tree y b rest ns) ∙ sym (append_assoc (on_paths a x) (on_paths b y) (places_of rest ns)))
 
--- the nodes of a tree leave no place
+-- the nodes of a tree leave no place open
 pub whole_stack : (tree : Tree) (nodes : List Node) → preorder tree ≡ nodes → stack_after root nodes ≡ Some []
 whole_stack tree nodes e = ap (stack_after root) (sym e ∙ sym (append-nil (preorder tree))) ∙ stack_after-tree tree [] [] []
 
--- and stand on the paths of the tree
+-- the nodes of a tree are on the paths of the tree
 pub whole_places : (tree : Tree) (nodes : List Node) → preorder tree ≡ nodes → places_of root nodes ≡ on_paths [] tree
 whole_places tree nodes e = ap (places_of root) (sym e ∙ sym (append-nil (preorder tree))) ∙ places_of-tree tree [] [] [] ∙ append-nil (on_paths [] tree)
 
--- a tree that stands first
+-- a tree at the beginning of the nodes
 record Begins (rest : Stack) (nodes : List Node) : Type 0 where
   tree : Tree
   behind : List Node
@@ -119,7 +119,7 @@ nothing_behind : (nodes : List Node) → stack_after [] nodes ≡ Some [] → no
 nothing_behind [] e = refl
 nothing_behind (n ∷ ns) e = cc
 
--- nodes that leave no place are a tree
+-- nodes that leave no place open are a tree
 pub stack_whole : (nodes : List Node) → stack_after root nodes ≡ Some [] → IsPreorder nodes
 stack_whole nodes e =
     let h = first_tree (length nodes) nodes [] [] (omega arith) e in
@@ -135,23 +135,23 @@ stack_after-closing : (stack : Stack) → stack_after stack (closing stack) ≡ 
 stack_after-closing [] = refl
 stack_after-closing (path ∷ rest) = stack_after-closing rest
 
--- some tree goes on from nodes for which there was a place, with a node for each place that is open
+-- some tree continues any nodes that each had an open place, with a node for each place that is open
 pub some_tree : (nodes : List Node) (stack : Stack) → stack_after root nodes ≡ Some stack → (tree : Tree) × (preorder tree ≡ nodes ++ closing stack)
 some_tree nodes stack e = stack_whole (nodes ++ closing stack) (stack_after-append root stack nodes (closing stack) e ∙ stack_after-closing stack)
 
--- a tree that goes on from the nodes has them on these paths
+-- a tree that continues the nodes has them on these paths
 pub tree_goes_on : (tree : Tree) (path : List Fact) (others : Stack) (nodes : List Node) (n : Node) (rest : List Node) → preorder tree ≡ nodes ++ n ∷ rest → stack_after root nodes ≡ Some (path ∷ others)
     → on_paths [] tree ≡ places_of root nodes ++ at path n ∷ places_of (next_stack path others n) rest
 tree_goes_on tree path others nodes n rest s e = sym (whole_places tree (nodes ++ n ∷ rest) s) ∙ places_of-append root (path ∷ others) nodes (n ∷ rest) e
 
--- where no place is open, no tree goes on
+-- if no place is open, no tree continues the nodes
 pub no_tree_goes_on : (tree : Tree) (nodes : List Node) (n : Node) (rest : List Node) → preorder tree ≡ nodes ++ n ∷ rest → stack_after root nodes ≡ Some [] → ⊥
 no_tree_goes_on tree nodes n rest s e =
     let none : stack_after root (nodes ++ n ∷ rest) ≡ None = stack_after-append root [] nodes (n ∷ rest) e in
     let some = whole_stack tree (nodes ++ n ∷ rest) s in
     cc
 
--- where a place is open, the nodes are no tree
+-- if a place is open, the nodes are no tree
 pub no_tree_yet : (tree : Tree) (path : List Fact) (others : Stack) (nodes : List Node) → preorder tree ≡ nodes → stack_after root nodes ≡ Some (path ∷ others) → ⊥
 no_tree_yet tree path others nodes s e = let some = whole_stack tree nodes s in cc
 

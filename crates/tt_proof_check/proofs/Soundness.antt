@@ -1,4 +1,4 @@
--- What a tree derives holds of every feasible timetable that fits.
+-- A bound that a tree derives holds for every feasible timetable that fits.
 use Rattle.std.proofs.Common.{true, false, List, [], inl, inr}
 use Rattle.std.specs.List.{list_any}
 use Rattle.std.proofs.lemmas.List.Elements.{All-push, All-nil}
@@ -15,7 +15,7 @@ use Rattle.tt_proof_read.specs.Trees.{Tree, Close, Branch, with_fact}
 use Rattle.tt_proof_read.specs.declared.node.Node.{Node}
 use Rattle.tt_proof_check.specs.Derives.{Derives, HoldsOfAll, Proves}
 
--- by induction over the tree: a timetable meets the pattern of a split or it doesn't
+-- by induction on the tree: a timetable meets the pattern of a split or it doesn't
 pub tree_sound : (p : Problem) (t : List Cell) (ok : IsFeasible p t) (b : Bound) (path : List Fact) (tree : Tree) → Derives p b path tree → Fits p t path → Respects b (cost p t)
 tree_sound p t ok b path (Close leaf) d fits = leaf_sound p t ok path fits b leaf d
 tree_sound p t ok b path (Branch g first second) d fits = elim (cases_Bool (list_any (matches p g) t)) [
@@ -23,10 +23,10 @@ tree_sound p t ok b path (Branch g first second) d fits = elim (cases_Bool (list
   | inr h ↦ tree_sound p t ok b (with_fact path g false) second d.1 (All-push (Holds p t) path (record { pattern = g; holds = false }) fits h)
 ]
 
--- what a tree derives from no fact holds of every feasible timetable
+-- a bound that a tree derives from no fact holds for every feasible timetable
 pub root_sound : (p : Problem) (b : Bound) (tree : Tree) → Derives p b [] tree → HoldsOfAll p b
 root_sound p b tree d t ok = tree_sound p t ok b [] tree d (All-nil (Holds p t))
 
--- what the nodes prove holds of every feasible timetable
+-- a bound that the nodes prove holds for every feasible timetable
 pub proof_sound : (p : Problem) (b : Bound) (nodes : List Node) → Proves p b nodes → HoldsOfAll p b
 proof_sound p b nodes h t ok = root_sound p b h.0 h.3 t ok

@@ -1,4 +1,4 @@
--- Nodes that are judged as they are read.
+-- Nodes that are checked as they are read.
 use Rattle.std.proofs.Common.{◌≡◌, ℕ, ◌+◌, ◌<◌, ◌≤◌, Bool, true, false, List, [], ◌∷◌, ◌++◌, length, take, Some, None, Result, Ok, Err, refl, sym, ap, subst, ◌∙◌, arith, add-zero, append_assoc, length-append, take_at}
 use Rattle.std.specs.Prelude.{All}
 use Rattle.tt_text.specs.Feeds.{Stream}
@@ -41,7 +41,7 @@ reads_push sizes v count s t u (m ∷ ms) n r e =
     let here : count + length (m ∷ ms) ≡ (count + 1) + length ms = omega arith in
     (r.0, r.1, reads_push sizes v (count + 1) r.0 t u ms n r.2 (ap (λ (k : ℕ). node_at sizes v k t) (sym here) ∙ e))
 
--- one more is heard
+-- another node is visited
 pub heard_push : {X : Type 0} (hears : X → ℕ → Node → X → Type 0) (i : ℕ) (old mid new : X) (k : ℕ) (n : Node) → hears mid k n new → (nodes : List Node) → k ≡ i + length nodes → Heard hears i old mid nodes → Heard hears i old new (nodes ++ n ∷ [])
 heard_push hears i old mid new k n h [] c e =
     let here : k ≡ i = omega (arith, c) in
@@ -50,7 +50,7 @@ heard_push hears i old mid new k n h (m ∷ ms) c e =
     let here : k ≡ (i + 1) + length ms = omega (arith, c) in
     (e.0, e.1, heard_push hears (i + 1) e.0 mid new k n h ms here e.2)
 
--- What has been read, judged and heard, in this state of the reader, with this stream after it and the path of the node that is due.
+-- The nodes that have been read, checked and visited, in this state of the reader, with this stream after them and the path of the due node.
 pub record Sofar (p : Problem) (v : ℕ) (b : Bound) (known : Bool) (H : List Node → Type 0) (s : Stream) (reader : Reader) (t : Stream) (path : List Fact) : Type 0 where
   pub nodes : List Node
   pub due : Bool
@@ -100,7 +100,7 @@ node_fails p v b s t f nodes path others stack passed reads fails =
       fails = fails;
     }
 
--- after nodes that pass, a node is due, and the failure of a read breaks it off
+-- after nodes that pass, a node is due, and the failure of a read cuts it off
 node_breaks : (p : Problem) (v : ℕ) (b : Bound) (s t : Stream) (nodes : List Node) (path : List Fact) (others : Stack) → stack_after root nodes ≡ Some (path ∷ others) → All (Passes p b) (places_of root nodes)
     → ReadsNodes (sizes_of p) v 0 s nodes t → node_at (sizes_of p) v (length nodes) t ≡ Err read_failed → NodeIsCutOff p v b s
 unfolding node_fails
@@ -139,7 +139,7 @@ told_child p v b s t nodes i d len reads (told.TooDeep j) c =
 told_child p v b s t nodes i d len reads told.OutOfMemory c = tt
 
 module _ (p : Problem) (v : ℕ) (b : Bound) (known : Bool) (H : List Node → Type 0) (s : Stream) (old : Reader) (t : Stream) (path : List Fact) (m : Sofar p v b known H s old t path) where
-  -- where a place is open, a node is due
+  -- if a place is open, a node is due
   is_due : 0 < old.places → Walked p b m.nodes path true × (length (path ∷ pending path) ≡ old.places)
   is_due some = on m.due m.walked m.places
     where
@@ -153,7 +153,7 @@ module _ (p : Problem) (v : ℕ) (b : Bound) (known : Bool) (H : List Node → T
   same_sizes : old.sizes ≡ sizes_of p
   same_sizes = sizes_are p old.sizes m.sizes
 
-  -- a node was read, which is judged next
+  -- a node was read, which is checked next
   module _ (new : Reader) (u : Stream) (n : Node) (goes : Goes old (Ok (Some n)) new) (says : known ≡ true → Says old t (Ok (Some n)) u) where
     read_one : known ≡ true → ReadsNodes (sizes_of p) v 0 s (m.nodes ++ n ∷ []) u
     read_one k =
@@ -179,7 +179,7 @@ module _ (p : Problem) (v : ℕ) (b : Bound) (known : Bool) (H : List Node → T
           heard = hear m.nodes m.count m.heard;
         }
 
-    -- it is a leaf that is not right
+    -- the node is a leaf that is not right
     pub sofar_wrong : (i : ℕ) (f : RuleFault) → i ≡ old.count → Stops p b path n (Rule f) → known ≡ true → TellsNodes p v b s (told.Rule i f)
     sofar_wrong i f number stops k =
         let w = (is_due goes.0).0 in
@@ -197,14 +197,14 @@ module _ (p : Problem) (v : ℕ) (b : Bound) (known : Bool) (H : List Node → T
           is = subst (λ (j : ℕ). FailsAt p b h.0 j f) (m.count ∙ sym number) fails;
         }
 
-    -- it is a split whose children are too deep
+    -- the node is a split whose children are too deep
     pub sofar_deep : (i : ℕ) (e : CheckFault) → i ≡ old.count → Stops p b path n TooDeep → known ≡ true → TellsChild new.sizes new.version new.count u (i + 1) e → TellsNodes p v b s e
     sofar_deep i e number stops k child =
         let here : new.count ≡ i + 1 = ap (λ (r : Reader). r.count) goes.1 ∙ ap (λ (j : ℕ). j + 1) (sym number) in
         told_child p v b s u (m.nodes ++ n ∷ []) (i + 1) (too_deep p b m.nodes path n (is_due goes.0).0 stops) (one_more n ∙ ap (λ (j : ℕ). j + 1) (sym number)) (read_one k) e
         (child_as new.sizes (sizes_of p) new.version v new.count (i + 1) u (i + 1) e (ap (λ (r : Reader). r.sizes) goes.1 ∙ same_sizes) (ap (λ (r : Reader). r.version) goes.1 ∙ m.version) here child)
 
-    -- it is a split whose children are too deep, and the failure of a read breaks the first of them off
+    -- the node is a split whose children are too deep, and the failure of a read cuts off the first of them
     pub sofar_deep_breaks : Stops p b path n TooDeep → known ≡ true → node_at new.sizes new.version new.count u ≡ Err read_failed → NodeIsCutOff p v b s
     sofar_deep_breaks stops k breaks =
         let d = too_deep p b m.nodes path n (is_due goes.0).0 stops in
@@ -228,7 +228,7 @@ module _ (p : Problem) (v : ℕ) (b : Bound) (known : Bool) (H : List Node → T
             heard = subst H (sym h.1) m.heard;
           }
 
-  -- the text of the node that is due fails
+  -- the text of the due node fails
   pub sofar_unread : (new : Reader) (u : Stream) (f : TextFault) → Goes old (Err f) new → known ≡ true → Says old t (Err f) u → TellsNodes p v b s (fault_from_text f)
   sofar_unread new u f goes k says =
       let w = (is_due goes.0).0 in
@@ -236,7 +236,7 @@ module _ (p : Problem) (v : ℕ) (b : Bound) (known : Bool) (H : List Node → T
       text_cases f (TellsNodes p v b s) tt
       (λ n. (n, node_fails p v b s t f m.nodes path (pending path) w.stack w.passed (m.reads k) (subst (λ (i : ℕ). Fails f (node_at (sizes_of p) v i t)) (sym m.count) fails)))
 
-  -- the failure of a read breaks the node off that is due
+  -- the failure of a read cuts off the due node
   pub sofar_breaks : 0 < old.places → known ≡ true → node_at old.sizes old.version old.count t ≡ Err read_failed → NodeIsCutOff p v b s
   sofar_breaks some k breaks =
       let w = (is_due some).0 in

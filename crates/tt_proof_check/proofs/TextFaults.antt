@@ -1,4 +1,4 @@
--- What a fault of the text is called, and which faults say nothing of the bytes.
+-- The check errors that errors of the text become, and the errors that say nothing about the bytes.
 use Rattle.std.proofs.Common.{◌≡◌, Bool, true, false, Result, Ok, Err, IfErr, refl, sym, subst, ◌∙◌, ◌⊎◌, inl, inr}
 use Rattle.std.specs.Prelude.{IsErrAnd}
 use Rattle.std.specs.Bool.{OnFalse}
@@ -11,7 +11,7 @@ use Rattle.tt_proof_check.specs.declared.fault.CheckFault.TheVariants as told
 use Rattle.tt_proof_check.specs.Faults.{fault_from_text, OutOfMemoryIsNoTextFault}
 use Rattle.tt_proof_check.specs.Streams.{Fails, IsSilent}
 
--- a fault of the text is being out of memory, or is told as it is
+-- an error of the text is either being out of memory or becomes a text error of the check
 pub text_cases : (f : TextFault) (Q : CheckFault → Type 0) → Q told.OutOfMemory → (¬ (f ≡ text.OutOfMemory) → Q (told.Text f)) → Q (fault_from_text f)
 text_cases (text.Ended at) Q a b = b (λ e. cc)
 text_cases (text.Expected w at) Q a b = b (λ e. cc)
@@ -24,11 +24,11 @@ text_cases (text.TooManyNodes at) Q a b = b (λ e. cc)
 text_cases (text.Feed f) Q a b = b (λ e. cc)
 text_cases text.OutOfMemory Q a b = a
 
--- being out of memory is told as itself
+-- being out of memory is reported as itself
 pub memory_text : (f : TextFault) → OutOfMemoryIsNoTextFault (fault_from_text f)
 memory_text f = text_cases f OutOfMemoryIsNoTextFault tt (λ n. n)
 
--- only a failed read is told as one
+-- only a failed read is reported as one
 pub read_told : (f : TextFault) → fault_from_text f ≡ told.Text read_failed → f ≡ read_failed
 read_told (text.Ended at) e = cc
 read_told (text.Expected w at) e = cc
@@ -41,17 +41,17 @@ read_told (text.TooManyNodes at) e = cc
 read_told (text.Feed f) e = cc
 read_told text.OutOfMemory e = cc
 
--- an error that was made of a fault, and is a failed read
+-- an error made from a text error that is reported as a failed read: the text error is a failed read
 pub err_read : {A : Type 0} (r : Result A CheckFault) (f : TextFault) → IsErrAnd r (λ e. e ≡ fault_from_text f) → r ≡ Err (told.Text read_failed) → f ≡ read_failed
 err_read (Ok x) f e h = absurd cc
 err_read (Err x) f e h = read_told f (let same : x ≡ told.Text read_failed = cc in sym e ∙ same)
 
--- an error that was handed on
+-- an error that was passed on is the same error
 pub err_same : {A E : Type 0} (r : Result A E) (x y : E) → IsErrAnd r (λ e. e ≡ x) → r ≡ Err y → x ≡ y
 err_same (Ok a) x y e h = absurd cc
 err_same (Err z) x y e h = let same : z ≡ y = cc in sym e ∙ same
 
--- an error that was made of a fault
+-- a property of a check error made from a text error
 pub err_gives : {A : Type 0} (r : Result A CheckFault) (f : TextFault) (Q : CheckFault → Type 0) → IsErrAnd r (λ e. e ≡ fault_from_text f) → Q (fault_from_text f) → IfErr r Q
 err_gives (Ok x) f Q e h = tt
 err_gives (Err x) f Q e h = subst Q (sym e) h
@@ -60,7 +60,7 @@ pub on_false : (b : Bool) (P : Type 0) → OnFalse b P → (b ≡ true) ⊎ P
 on_false true P h = inl refl
 on_false false P h = inr h
 
--- a silent fault is a failed read or being out of memory
+-- a silent error is a failed read or being out of memory
 pub silent_is : (f : TextFault) → is_silent f ≡ true → ¬ (f ≡ text.OutOfMemory) → IsSilent (told.Text f)
 silent_is (text.Ended at) e n = cc
 silent_is (text.Expected w at) e n = cc
@@ -79,7 +79,7 @@ silent_is text.OutOfMemory e n = absurd (n refl)
 abbrev read_fault : {Y : Type 0} → TextFault → Result Y TextFault
 read_fault f = Err f
 
--- a fault of a text that is read is silent
+-- an error of a text that can be read is silent
 pub fails_silently : {Y : Type 0} (f : TextFault) (read : Result Y TextFault) (y : Y) → read ≡ Ok y → ¬ (f ≡ text.OutOfMemory) → Fails f read → IsSilent (told.Text f)
 fails_silently f read y e n h = elim (on_false (is_silent f) (read ≡ Err f) h) [
   | inl s ↦ silent_is f s n

@@ -1,4 +1,4 @@
--- What a proof that was read whole, or a fault of it, says of the bytes.
+-- The facts about the bytes that follow from a proof that was read whole, or from an error of it.
 use Rattle.std.proofs.Common.{◌≡◌, ℕ, ◌+◌, ◌<◌, Bool, true, List, [], ◌∷◌, ◌++◌, length, Some, Option, Result, Ok, Err, IfOk, IfErr, refl, sym, ap, subst, ◌∙◌, arith, append_assoc, append-nil, ◌⊎◌, inl, inr, is_some}
 use Rattle.std.specs.Prelude.{slice_get, MatchResult}
 use Rattle.tt_text.specs.Feeds.{Stream, stream_at, fresh}
@@ -27,7 +27,7 @@ use Rattle.tt_proof_check.proofs.Sizes.{are_sizes_of}
 use Rattle.tt_proof_check.proofs.Soundness.{root_sound}
 use Rattle.tt_proof_check.proofs.TextFaults.{fails_silently}
 
--- ---- a tree that is read and derives the bound leaves silent faults alone
+-- -- if a tree is read and derives the bound, only silent errors are possible
 
 module _ (p : Problem) (v : ℕ) (s noded : Stream) (tree : Tree) (reads : ReadsNodes (sizes_of p) v 0 s (preorder tree) noded) where
   -- no node is due after a whole tree
@@ -39,7 +39,7 @@ module _ (p : Problem) (v : ℕ) (s noded : Stream) (tree : Tree) (reads : Reads
       nothing [] h = cc
       nothing (x ∷ xs) h = cc
 
-  -- after nodes that some tree goes on from, the text of a node fails silently
+  -- after nodes that some tree continues, an error in the text of a node is silent
   pub node_silent : (f : TextFault) → ¬ (f ≡ text.OutOfMemory) → (nodes : List Node) (rest : Stream) (other : Tree) (next : Node) (behind : List Node) → ReadsNodes (sizes_of p) v 0 s nodes rest → preorder other ≡ nodes ++ next ∷ behind
       → Fails f (node_at (sizes_of p) v (length nodes) rest) → IsSilent (told.Text f)
   node_silent f n nodes rest other next behind reads_these begins fails = elim (compare (sizes_of p) v 0 s rest noded nodes (preorder tree) reads_these reads) [
@@ -53,7 +53,7 @@ module _ (p : Problem) (v : ℕ) (s noded : Stream) (tree : Tree) (reads : Reads
           let here : length nodes ≡ 0 + length nodes = omega arith in
           fails_silently f (node_at (sizes_of p) v (length nodes) rest) (x, r.0) (ap (λ (k : ℕ). node_at (sizes_of p) v k rest) here ∙ r.1) n fails
 
-  -- after a whole tree, the end fails silently
+  -- after a whole tree, an error in the text of the end is silent
   pub end_silent : (ended : Stream) → end_at noded ≡ Ok ended → (f : TextFault) → ¬ (f ≡ text.OutOfMemory) → (other : Tree) (rest : Stream) → ReadsNodes (sizes_of p) v 0 s (preorder other) rest → Fails f (end_at rest) → IsSilent (told.Text f)
   end_silent ended finish f n other rest reads_these fails = fails_silently f (end_at rest) ended (ap end_at same ∙ finish) n fails
     where
@@ -76,7 +76,7 @@ module _ (p : Problem) (v : ℕ) (s noded : Stream) (tree : Tree) (reads : Reads
       ]
 
 module _ (p : Problem) (s : Stream) (v : ℕ) (b : Bound) (tree : Tree) (r : Reads (sizes_of p) s v b tree) where
-  -- the header is this one
+  -- any header of the stream is this one
   header_is : (P : ℕ → Bound → Stream → Type 0) → HasHeader s P → P v b r.headed
   header_is P h = subst (λ (x : (ℕ × Bound) × Stream). P x.0.0 x.0.1 x.1) (same_header ((h.0, h.1), h.2) ((v, b), r.headed) (sym h.3 ∙ r.header)) h.4
 
@@ -141,12 +141,12 @@ module _ (p : Problem) (remaining : Option (List ℕ)) (H : List Node → Type 0
       on (Ok c) done told reads = bound_is p (stream_of bytes) h.0 b h.1 reads true H c refl (proved_in bytes e c done)
       on (Err x) done told reads = only_silent p (stream_of bytes) h.0 b h.1 reads h.2.within.depth h.3 x (told_in bytes e x (told (ap is_some e)))
 
--- a fault of bytes that spell a proof is silent
+-- an error of bytes that spell a proof is silent
 pub proved_silent : (p : Problem) → IsInstance p → (bytes : List ℕ) (b : Bound) → IsProved p bytes b → (e : CheckFault) → IsProofFault p (stream_of bytes) e → IsSilent e
 proved_silent p is bytes b h e told =
     only_silent p (stream_of bytes) h.0 b h.1 (spelled_reads p (sizes_of p) (are_sizes_of p) (are_small p (sizes_of p) is (are_sizes_of p)) bytes h.0 b h.1 h.2) h.2.within.depth h.3 e told
 
--- bytes spell one version, one bound and one tree at most
+-- bytes spell at most one version, one bound and one tree
 pub spelled_once : (p : Problem) → IsInstance p → (bytes : List ℕ) (v w : ℕ) (b c : Bound) (x y : Tree) → SpellsProof p bytes v b x → SpellsProof p bytes w c y → ((v ≡ w) × (b ≡ c)) × (x ≡ y)
 spelled_once p is bytes v w b c x y h k =
     let small = are_small p (sizes_of p) is (are_sizes_of p) in

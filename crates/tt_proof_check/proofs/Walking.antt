@@ -1,4 +1,4 @@
--- Nodes that are judged one by one, with one path.
+-- Nodes that are checked in turn, with one path.
 use Rattle.std.proofs.Common.{◌≡◌, ◌≤◌, ◌<◌, Bool, true, false, List, [], ◌∷◌, ◌++◌, length, take, Some, sym, ap, ◌∙◌, subst, arith, inl, inr, append-nil, take_at, length-append}
 use Rattle.std.specs.Prelude.{All, slice_get}
 use Rattle.std.specs.List.{AllByRecursion}
@@ -21,7 +21,7 @@ use Rattle.tt_proof_check.specs.Tells.{Passes, FailsAt, IsDeepAt}
 use Rattle.tt_proof_check.proofs.Places.{pending-push}
 use Rattle.tt_proof_check.proofs.Reading.{Stack, root, next_stack, stack_after, at, places_of, stack_after-push, places_of-push, length-places_of, whole_places, stack_whole, tree_goes_on, no_tree_goes_on, no_tree_yet, get-behind}
 
--- the open places where the node of a path is due, or none is
+-- the open places if the node of a path is due, or if none is
 abbrev pub stack_of : Bool → List Fact → Stack
 stack_of true path = path ∷ pending path
 stack_of false path = []
@@ -39,18 +39,18 @@ walked_start p b path e = record {
   within = omega (arith, ap length e);
 }
 
--- a node of a tree that is still to come is due
+-- if a tree has another node, a node is due
 pub walked_due : (p : Problem) (b : Bound) (nodes rest : List Node) (n : Node) (path : List Fact) (tree : Tree) → preorder tree ≡ nodes ++ n ∷ rest → (due : Bool) → Walked p b nodes path due → Walked p b nodes path true
 walked_due p b nodes rest n path tree e true w = w
 walked_due p b nodes rest n path tree e false w = absurd (no_tree_goes_on tree nodes n rest e w.stack)
 
--- ---- one more node
+-- -- another node
 
 step_passes : (p : Problem) (b : Bound) (path : List Fact) (n : Node) (next : List Fact) → length path ≤ 65536 → Steps p b path n next → Passes p b (at path n)
 step_passes p b path (Split g) next h s = (h, tt)
 step_passes p b path (Leaf leaf) next h s = (h, s.0)
 
--- what is due after the node
+-- the stack after the node
 step_stack : (p : Problem) (b : Bound) (path : List Fact) (n : Node) (next : List Fact) → Steps p b path n next → (due : Bool) × (next_stack path (pending path) n ≡ stack_of due next)
 step_stack p b path (Split g) next s =
     (true, sym (ap (stack_of true) s ∙ ap (λ l. with_fact path g true ∷ l) (pending-push path (record { pattern = g; holds = true }))))
@@ -69,7 +69,7 @@ walked_next p b nodes path next n w s within =
       },
     )
 
--- ---- the same for another name of the problem and of the bound
+-- -- the same facts for an equal problem and an equal bound
 
 pub steps_as : (p q : Problem) (b c : Bound) (path : List Fact) (n : Node) (next : List Fact) → p ≡ q → b ≡ c → Steps p b path n next → Steps q c path n next
 steps_as p q b c path n next e d h = subst (λ (x : Bound). Steps q x path n next) d (subst (λ (x : Problem). Steps x b path n next) e h)
@@ -93,14 +93,14 @@ derives_on p b (Branch g x y) path a =
 pub passed_tree : (p : Problem) (b : Bound) (tree : Tree) → All (Passes p b) (on_paths [] tree) → IsShallow tree × Derives p b [] tree
 passed_tree p b tree a = (leaves_low MAX_FACTS tree (λ k d h. (a k d h).0), derives_on p b tree [] (recursion_from_All (Passes p b) (on_paths [] tree) a))
 
--- where no node is due, the nodes are a tree's, and it derives the bound
+-- if no node is due, the nodes are a tree's, and the tree derives the bound
 pub walked_end : (p : Problem) (b : Bound) (nodes : List Node) (path : List Fact) → Walked p b nodes path false → Proves p b nodes
 walked_end p b nodes path w =
     let h = stack_whole nodes w.stack in
     let a = passed_tree p b h.0 (subst (λ (l : List OnPath). All (Passes p b) l) (whole_places h.0 nodes h.1) w.passed) in
     (h.0, h.1, a.0, a.1)
 
--- a tree whose nodes are all read leaves none due
+-- after all nodes of a tree, no node is due
 pub walked_tree : (p : Problem) (b : Bound) (nodes : List Node) (path : List Fact) (tree : Tree) → preorder tree ≡ nodes → (due : Bool) → Walked p b nodes path due → Proves p b nodes
 walked_tree p b nodes path tree e false w = walked_end p b nodes path w
 walked_tree p b nodes path tree e true w = absurd (no_tree_yet tree path (pending path) nodes e w.stack)
@@ -124,7 +124,7 @@ fails_at p b nodes rest path (Leaf leaf) f tree e w s =
           (subst (λ (l : List OnPath). All (Passes p b) l) (sym (take_at (places_of root nodes) (at path (Leaf leaf) ∷ behind) (length nodes) len)) w.passed);
     }
 
--- nodes that pass, and after them a node is due on a path that is too long
+-- nodes that pass, if the node due after them is on a path that is too long
 pub record IsDeepNext (p : Problem) (b : Bound) (nodes : List Node) : Type 0 where
   pub path : List Fact
   pub others : Stack
@@ -157,7 +157,7 @@ deep_at p b nodes rest n tree e w =
           (subst (λ (l : List OnPath). All (Passes p b) l) (sym (take_at (places_of root nodes) (at w.path n ∷ behind) (length nodes) len)) w.passed);
     }
 
--- the tree goes on from them
+-- if a tree continues these nodes, it is too deep at the next node
 pub deep_tree : (p : Problem) (b : Bound) (nodes rest : List Node) (tree : Tree) → preorder tree ≡ nodes ++ rest → IsDeepNext p b nodes → IsDeepAt p b tree (length nodes)
 deep_tree p b nodes [] tree e w = absurd (no_tree_yet tree w.path w.others nodes (e ∙ append-nil nodes) w.stack)
 deep_tree p b nodes (n ∷ rest) tree e w = deep_at p b nodes rest n tree e w

@@ -1,4 +1,4 @@
--- What a tree derives, and what that means.
+-- The bound that a tree derives, and its meaning.
 use Rattle.std.specs.Prelude.{◌≡◌, ◌≤◌, List, [], length}
 use Rattle.tt_instance.specs.Problem.{Problem}
 use Rattle.tt_instance.specs.declared.cell.Cell.{Cell}
@@ -12,22 +12,22 @@ use Rattle.tt_proof_read.specs.Trees.{Tree, AllLeaves, preorder}
 use Rattle.tt_proof_read.specs.declared.node.Node.{Node}
 use Rattle.tt_paths.specs.declared.path.TheConstants.{MAX_FACTS}
 
--- each leaf is right on its path
+-- whether each leaf is right on its path
 abbrev pub Derives : Problem → Bound → List Fact → Tree → Type 0
 Derives p b path tree = AllLeaves (λ facts leaf. IsRight p facts b leaf) path tree
 
--- each feasible timetable that fits the path respects the bound
+-- whether each feasible timetable that fits the path respects the bound
 abbrev pub HoldsOn : Problem → Bound → List Fact → Type 0
 HoldsOn p b path = (t : List Cell) → IsFeasible p t → Fits p t path → Respects b (cost p t)
 
--- each feasible timetable respects the bound
+-- whether each feasible timetable respects the bound
 abbrev pub HoldsOfAll : Problem → Bound → Type 0
 HoldsOfAll p b = (t : List Cell) → IsFeasible p t → Respects b (cost p t)
 
--- no leaf stands below more than 65,536 splits
+-- whether no leaf is below more than 65,536 splits
 abbrev pub IsShallow : Tree → Type 0
 IsShallow tree = AllLeaves (λ path _. length path ≤ MAX_FACTS) [] tree
 
--- the nodes are a tree's that is not too deep, and it derives the bound
+-- whether the nodes are those of a tree that is not too deep and derives the bound
 abbrev pub Proves : Problem → Bound → List Node → Type 0
 Proves p b nodes = (tree : Tree) × (preorder tree ≡ nodes) × IsShallow tree × Derives p b [] tree

@@ -1,4 +1,4 @@
--- What a failed read leaves known of a proof.
+-- The facts about a proof that are known after a failed read.
 use Rattle.std.specs.Prelude.{◌≡◌, ℕ, true, is_some, List, length, Option, Some, Err, ◌⊎◌}
 use Rattle.std.specs.Io.KnownBytes.{Consumes}
 use Rattle.tt_text.specs.CutShort.{cut_short, rest_of, cut_at, MayFail}
@@ -10,37 +10,37 @@ use Rattle.tt_proof_read.specs.Faults.{read_failed}
 use Rattle.tt_proof_read.specs.Reading.{header_at, node_at, end_at}
 use Rattle.tt_proof_check.specs.Streams.{stream_of, sizes_of, NodeFails, EndFails, HasHeader}
 
--- after a header with this version and bound, nodes have been read, each of which passes, and the failure breaks the next node off
+-- after a header with this version and bound, nodes have been read, each of which passes, and the failure cuts off the next node
 abbrev pub NodeIsCutOff : Problem → ℕ → Bound → Stream → Type 0
 NodeIsCutOff p v b s = (x : NodeFails p v b s read_failed) × (node_at (sizes_of p) v (length x.nodes) x.rest ≡ Err read_failed)
 
--- the tree is whole and derives the bound, and the failure breaks the end off
+-- the tree is whole and derives the bound, and the failure cuts off the end
 abbrev pub EndIsCutOff : Problem → ℕ → Bound → Stream → Type 0
 EndIsCutOff p v b s = (x : EndFails p v b s read_failed) × (end_at x.rest ≡ Err read_failed)
 
--- All of the stream has been read and judged, up to the failure at its end.
+-- All of the stream has been read and checked, up to the failure at its end.
 abbrev pub IsCutOff : Problem → Stream → Type 0
 IsCutOff p s = (header_at s ≡ Err read_failed) ⊎ HasHeader s (λ v b rest. NodeIsCutOff p v b rest ⊎ EndIsCutOff p v b rest)
 
--- The source gave some of the bytes before the read failed, and the others are left. P holds of what a feed gives of those which it gave.
+-- The source gave some of the bytes before the read failed, and the others are left. P holds for the stream that a feed gives for these bytes.
 abbrev pub HoldsOfGiven : List ℕ → Option (List ℕ) → (Stream → Type 0) → Type 0
 HoldsOfGiven bytes left P = (given : List ℕ) × Consumes (Some bytes) left given × P (cut_short (stream_of given))
 
--- All that the bytes which the source gave say has been read and judged.
+-- All the bytes that the source gave have been read and checked.
 abbrev pub IsJudgedUpToFailedRead : Problem → List ℕ → Option (List ℕ) → Type 0
 IsJudgedUpToFailedRead p bytes left = HoldsOfGiven bytes left (IsCutOff p)
 
--- The same, of the instance that the bytes spell.
+-- The bytes spell an instance, and all the bytes that the source gave have been read and checked for it.
 pub record IsSpelledAndJudgedUpToFailedRead (instance proof : List ℕ) (left : Option (List ℕ)) : Type 0 where
   pub problem : Problem
   pub spelled : Spells instance problem
   pub tells : IsJudgedUpToFailedRead problem proof left
 
--- P holds of what a feed gives, where the read fails before what is left now
+-- P holds for the stream that a feed gives, if the read fails before the bytes that are left now
 abbrev pub UpToFailure : Fed → Option (List ℕ) → Option (List ℕ) → (Stream → Type 0) → Type 0
 UpToFailure fed before after P = is_some before ≡ true → MayFail (rest_of after) fed before × P (cut_at (rest_of after) fed before)
 
--- P holds of what the old and the new feed give, wherever a read fails later
+-- P holds for the streams that the old and the new feed give, for any later position at which a read fails
 abbrev pub BeforeFailure : Fed → Option (List ℕ) → Fed → Option (List ℕ) → (Stream → Stream → Type 0) → Type 0
 BeforeFailure old before new after P =
     is_some before ≡ true → (rest : List ℕ) → MayFail rest new after → MayFail rest old before × P (cut_at rest old before) (cut_at rest new after)

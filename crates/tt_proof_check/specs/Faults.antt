@@ -1,4 +1,4 @@
--- What a fault of the text is called, and how being out of memory is told.
+-- The check error that an error of the text becomes, and how being out of memory is reported.
 use Rattle.std.specs.Prelude.{◌≡◌, ⊤}
 use Rattle.tt_proof_read.specs.declared.fault.TextFault.{TextFault}
 use Rattle.tt_proof_read.specs.declared.fault.TextFault.TheVariants as text
@@ -9,7 +9,7 @@ abbrev pub fault_from_text : TextFault → CheckFault
 fault_from_text text.OutOfMemory = OutOfMemory
 fault_from_text f = Text f
 
--- Being out of memory is told as itself, and not as a fault of the text.
+-- Being out of memory is reported as itself, and not as an error of the text.
 abbrev pub OutOfMemoryIsNoTextFault : CheckFault → Type 0
 OutOfMemoryIsNoTextFault (Text f) = ¬ (f ≡ text.OutOfMemory)
 OutOfMemoryIsNoTextFault _ = ⊤

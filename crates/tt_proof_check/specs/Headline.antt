@@ -1,4 +1,4 @@
--- The headline: when the bytes of an instance, a solution and a proof certify a cost and a lower bound.
+-- The headline: the conditions under which the bytes of an instance, a solution and a proof certify a cost and a lower bound.
 use Rattle.std.specs.Prelude.{◌≡◌, ℕ, ◌<◌, List}
 use Rattle.tt_instance.specs.Problem.{Problem}
 use Rattle.tt_instance.specs.Spelling.{Spells}
@@ -9,7 +9,7 @@ use Rattle.tt_leaf_rules.specs.declared.leaf.Bound.TheVariants.{AtLeast}
 use Rattle.tt_proof_check.specs.Derives.{HoldsOfAll}
 use Rattle.tt_proof_check.specs.Streams.{IsProved}
 
--- the bytes spell an instance and a timetable of it
+-- whether the bytes spell an instance and a timetable of it
 pub record SpellsBoth (instance solution : List ℕ) (p : Problem) (t : List Cell) : Type 0 where
   pub spelled : Spells instance p
   pub solved : SpellsTable p solution t
@@ -29,7 +29,7 @@ pub record BreaksARule (instance solution : List ℕ) : Type 0 where
   pub both : SpellsBoth instance solution problem table
   pub some : 0 < hard problem table
 
--- the solution keeps the hard rules at the cost c, as the competition counts it, and the proof derives that nothing feasible costs less than b
+-- the solution respects the hard rules at the cost c, as the competition counts it, and the proof derives that nothing feasible costs less than b
 pub record Certifies (instance solution proof : List ℕ) (c b : ℕ) : Type 0 where
   pub solves : Solves instance solution c
   pub proved : IsProved solves.problem proof (AtLeast b)

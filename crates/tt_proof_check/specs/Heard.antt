@@ -1,4 +1,4 @@
--- What hears nodes, one after another.
+-- A listener that visits nodes in turn.
 use Rattle.std.specs.Prelude.{◌≡◌, ℕ, ◌+◌, List, [], ◌∷◌, Option, Some, ⊤}
 use Rattle.tt_instance.specs.Problem.{Problem}
 use Rattle.tt_leaf_rules.specs.declared.leaf.Bound.{Bound}
@@ -7,16 +7,17 @@ use Rattle.tt_proof_read.specs.Trees.{Tree, preorder}
 use Rattle.tt_proof_read.specs.declared.node.Node.{Node}
 use Rattle.tt_proof_check.specs.Derives.{Derives}
 
--- from the old state it has heard these nodes, the first by the number i and each further one by the next, and come to the new one
+-- starting in the old state, it has visited these nodes, the first with the number i and each further node with the next number, and is in
+-- the new state
 abbrev pub Heard : {X : Type 0} → (X → ℕ → Node → X → Type 0) → ℕ → X → X → List Node → Type 0
 Heard hears i old new [] = new ≡ old
 Heard {X} hears i old new (n ∷ ns) = (mid : X) × hears old i n mid × Heard hears (i + 1) mid new ns
 
--- nothing is said of what was heard
+-- the condition of a caller that needs no information about the visited nodes
 abbrev pub Unheard : List Node → Type 0
 Unheard nodes = ⊤
 
--- A tree derives the bound, the bytes spell it where they are known, and H holds of its nodes.
+-- A tree derives the bound, the bytes spell it if they are known, and H holds for its nodes.
 pub record IsHeardProof (p : Problem) (remaining : Option (List ℕ)) (H : List Node → Type 0) (b : Bound) : Type 0 where
   pub version : ℕ
   pub tree : Tree

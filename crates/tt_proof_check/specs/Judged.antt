@@ -1,5 +1,5 @@
--- Only proofs rest on this file: nobody has to believe it.
--- What has been judged of a proof that is being read, after a header with this version and bound.
+-- Not part of the trusted statement: only proofs use this file.
+-- The part of a proof that has been checked so far while it is read, after a header with this version and bound.
 use Rattle.std.specs.Prelude.{◌≡◌, ℕ, Bool, true, List, [], Ok, ⊤}
 use Rattle.tt_text.specs.Feeds.{Stream}
 use Rattle.tt_instance.specs.Problem.{Problem}
@@ -16,7 +16,7 @@ use Rattle.tt_proof_check.specs.Derives.{Derives, IsShallow}
 use Rattle.tt_proof_check.specs.Streams.{sizes_of, Fails, NodeFails, IsReadTo}
 use Rattle.tt_proof_check.specs.Tells.{FailsAt, IsDeepAt}
 
--- a tree was read whole, where the bytes are known, and derives the bound; its nodes were heard
+-- a tree was read whole, if the bytes are known, and derives the bound; its nodes were visited
 pub record Judged (p : Problem) (v : ℕ) (b : Bound) (known : Bool) (H : List Node → Type 0) (s after : Stream) : Type 0 where
   pub tree : Tree
   pub reads : known ≡ true → ReadsNodes (sizes_of p) v 0 s (preorder tree) after
@@ -24,7 +24,7 @@ pub record Judged (p : Problem) (v : ℕ) (b : Bound) (known : Bool) (H : List N
   pub derives : Derives p b [] tree
   pub heard : H (preorder tree)
 
--- what a fault of the nodes says
+-- the meaning of an error of the nodes
 abbrev pub TellsNodes : Problem → ℕ → Bound → Stream → CheckFault → Type 0
 TellsNodes p v b s (Text f) = ¬ (f ≡ text.OutOfMemory) × NodeFails p v b s f
 TellsNodes p v b s (Rule i f) = IsReadTo p v s i (λ tree. FailsAt p b tree i f)
@@ -38,7 +38,7 @@ TellsChild sizes v count s i (Rule k f) = ⊥
 TellsChild sizes v count s i (TooDeep k) = (k ≡ i) × (child : Node) × (after : Stream) × (node_at sizes v count s ≡ Ok (child, after))
 TellsChild sizes v count s i OutOfMemory = ⊤
 
--- a tree that derives the bound, which the text is, where it is known; its nodes were heard
+-- a tree that derives the bound and is spelled by the text, if the text is known; its nodes were visited
 pub record Proved (p : Problem) (known : Bool) (H : List Node → Type 0) (s : Stream) (b : Bound) : Type 0 where
   pub version : ℕ
   pub tree : Tree

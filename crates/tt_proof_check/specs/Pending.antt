@@ -1,4 +1,4 @@
--- Only proofs rest on this file: nobody has to believe it.
+-- Not part of the trusted statement: only proofs use this file.
 -- The places that a path leaves open.
 use Rattle.std.specs.Prelude.{◌≡◌, ◌⊎◌, false, List, [], ◌∷◌, ◌++◌, if◌then◌else◌}
 use Rattle.tt_paths.specs.declared.facts.Fact.{Fact}
@@ -12,10 +12,10 @@ abbrev pub pending_after : List Fact → List Fact → List (List Fact)
 pending_after before [] = []
 pending_after before (f ∷ fs) = pending_after (before ++ f ∷ []) fs ++ other_side before f
 
--- the second children that are still to come, the deepest first, each by its path
+-- the second children that are not read yet, the deepest first, each by its path
 abbrev pub pending : List Fact → List (List Fact)
 pending path = pending_after [] path
 
--- the deepest second child that is still to come is the next, if one is
+-- the deepest second child that is not read yet is the next, if there is one
 abbrev pub GoesOn : List Fact → List Fact → Type 0
 GoesOn path next = (pending path ≡ []) ⊎ (pending path ≡ next ∷ pending next)

@@ -1,5 +1,5 @@
--- Only proofs rest on this file: nobody has to believe it.
--- What one node does to a path.
+-- Not part of the trusted statement: only proofs use this file.
+-- The change of a path by one node.
 use Rattle.std.specs.Prelude.{◌≡◌, true, List, length, Some, ⊤}
 use Rattle.tt_instance.specs.Problem.{Problem}
 use Rattle.tt_paths.specs.declared.facts.Fact.{Fact}
@@ -16,7 +16,7 @@ use Rattle.tt_proof_check.specs.declared.walk.Stop.TheVariants.{Rule, TooDeep, O
 use Rattle.tt_proof_check.specs.Pending.{GoesOn}
 use Rattle.tt_paths.specs.declared.path.TheConstants.{MAX_FACTS}
 
--- a split goes down to its first child, and a right leaf on to the next place
+-- a split leads down to its first child, and a right leaf to the next place
 abbrev pub Steps : Problem → Bound → List Fact → Node → List Fact → Type 0
 Steps p b facts (Split g) next = next ≡ with_fact facts g true
 Steps p b facts (Leaf leaf) next = IsRight p facts b leaf × GoesOn facts next
@@ -29,7 +29,7 @@ Stops p b facts (Split g) TooDeep = length facts ≡ MAX_FACTS
 Stops p b facts (Leaf leaf) TooDeep = ⊥
 Stops p b facts node OutOfMemory = ⊤
 
--- what stops where a fact was not added
+-- the reason to stop if a fact was not added
 abbrev pub stop_of : PathFault → Stop
 stop_of path.TooDeep = TooDeep
 stop_of path.OutOfMemory = OutOfMemory

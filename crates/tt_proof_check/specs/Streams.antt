@@ -1,4 +1,4 @@
--- What the answers of a checker that reads node by node say of the text.
+-- The meaning for the text of the results of a checker that reads node by node.
 use Rattle.std.specs.Prelude.{◌≡◌, ℕ, ◌+◌, List, [], ◌∷◌, ◌++◌, length, take, All, Result, Ok, ⊤, ◌⊎◌}
 use Rattle.tt_text.specs.Feeds.{Stream, stream_from}
 use Rattle.tt_text.specs.declared.feed.TheConstants.{MAX_BYTES}
@@ -20,19 +20,19 @@ use Rattle.tt_proof_check.specs.declared.fault.CheckFault.TheVariants.{Text, Rul
 use Rattle.tt_proof_check.specs.Derives.{Derives, IsShallow}
 use Rattle.tt_proof_check.specs.Tells.{Passes, FailsAt, IsDeepAt}
 
--- the bytes spell a tree that derives the bound
+-- whether the bytes spell a tree that derives the bound
 abbrev pub IsProved : Problem → List ℕ → Bound → Type 0
 IsProved p bytes b = (version : ℕ) × (tree : Tree) × SpellsProof p bytes version b tree × Derives p b [] tree
 
--- being out of memory or a failed read, which say nothing of the bytes
+-- whether the error is being out of memory or a failed read, which say nothing about the bytes
 abbrev pub IsSilent : CheckFault → Type 0
 IsSilent e = (e ≡ OutOfMemory) ⊎ (e ≡ Text (text.Feed feed.Read))
 
--- what a feed gives of the bytes
+-- the stream that a feed gives for the bytes
 abbrev pub stream_of : List ℕ → Stream
 stream_of bytes = stream_from MAX_BYTES 0 bytes
 
--- how many there are of each thing
+-- the number of each kind of thing
 abbrev pub sizes_of : Problem → Sizes
 sizes_of p = record {
   courses = length p.courses;
@@ -42,13 +42,13 @@ sizes_of p = record {
   periods = p.periods;
 }
 
--- the text has this very fault; a silent one says nothing of it
+-- whether reading the text gives exactly this error; a silent error says nothing about the text
 abbrev pub Fails : {Y : Type 0} → TextFault → Result Y TextFault → Type 0
 Fails f read = FailsUnless is_silent f read
 
 -- ---- the nodes, after a header with this version and bound
 
--- some tree goes on from the nodes that have been read, each of which passes, and the text of the next node fails
+-- some tree continues the nodes that have been read, each of which passes, and the text of the next node fails
 pub record NodeFails (p : Problem) (v : ℕ) (b : Bound) (s : Stream) (f : TextFault) : Type 0 where
   pub nodes : List Node
   pub rest : Stream
@@ -73,7 +73,7 @@ pub record IsReadTo (p : Problem) (v : ℕ) (s : Stream) (i : ℕ) (P : Tree →
 
 -- ---- the whole text
 
--- a header with some version and bound, and after it what P says
+-- a header with some version and bound, after which P holds
 abbrev pub HasHeader : Stream → (ℕ → Bound → Stream → Type 0) → Type 0
 HasHeader s P = (v : ℕ) × (b : Bound) × (rest : Stream) × (header_at s ≡ Ok ((v, b), rest)) × P v b rest
 
@@ -86,7 +86,7 @@ pub record EndFails (p : Problem) (v : ℕ) (b : Bound) (s : Stream) (f : TextFa
   pub derives : Derives p b [] tree
   pub fails : Fails f (end_at rest)
 
--- what a fault says of a text, of which a feed gives this stream
+-- the meaning of an error for a text for which a feed gives this stream
 abbrev pub IsProofFault : Problem → Stream → CheckFault → Type 0
 IsProofFault p s (Text f) = ¬ (f ≡ text.OutOfMemory) × (Fails f (header_at s) ⊎ HasHeader s (λ v b rest. NodeFails p v b rest f ⊎ EndFails p v b rest f))
 IsProofFault p s (Rule i f) = HasHeader s (λ v b rest. IsReadTo p v rest i (λ tree. FailsAt p b tree i f))

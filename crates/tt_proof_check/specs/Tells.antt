@@ -1,4 +1,4 @@
--- What the faults of a list of nodes say of it.
+-- The meaning of an error for a list of nodes.
 use Rattle.std.specs.Prelude.{◌≡◌, ℕ, ◌<◌, ◌≤◌, List, [], length, take, All, Some, slice_get, ⊤}
 use Rattle.tt_instance.specs.Problem.{Problem}
 use Rattle.tt_paths.specs.declared.facts.Fact.{Fact}
@@ -14,16 +14,16 @@ use Rattle.tt_proof_check.specs.declared.fault.NodesFault.{NodesFault}
 use Rattle.tt_proof_check.specs.declared.fault.NodesFault.TheVariants.{NotATree, Rule, TooDeep, OutOfMemory}
 use Rattle.tt_paths.specs.declared.path.TheConstants.{MAX_FACTS}
 
--- a leaf is right on its path
+-- whether a node is right on its path: a leaf has to be, a split always is
 abbrev pub IsRightOn : Problem → Bound → List Fact → Node → Type 0
 IsRightOn p b path (node.Split g) = ⊤
 IsRightOn p b path (node.Leaf leaf) = IsRight p path b leaf
 
--- at most 65,536 splits are above the node, and a leaf is right
+-- whether at most 65,536 splits are above the node, and a leaf is right
 abbrev pub Passes : Problem → Bound → OnPath → Type 0
 Passes p b x = (length x.path ≤ MAX_FACTS) × IsRightOn p b x.path x.node
 
--- the node at i is the first that does not pass: a leaf that is not too deep, and this is its first fault on its path
+-- the node at i is the first that does not pass: a leaf that is not too deep, and f is its first error on its path
 pub record FailsAt (p : Problem) (b : Bound) (tree : Tree) (i : ℕ) (f : RuleFault) : Type 0 where
   pub path : List Fact
   pub leaf : Leaf

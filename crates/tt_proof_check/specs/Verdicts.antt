@@ -1,4 +1,4 @@
--- What `certify` answers, and what has to be answered.
+-- The results of `certify`, and the results that are required.
 use Rattle.std.specs.Prelude.{◌≡◌, ℕ, ◌≤◌, ◌⊎◌, List, Option, Result, Ok, Err, IfSome, ⊤}
 use Rattle.tt_text.specs.declared.feed.FeedFault.TheVariants as feed
 use Rattle.tt_instance.specs.Problem.{Problem}
@@ -23,9 +23,9 @@ use Rattle.tt_proof_check.specs.declared.fault.Verdict.TheVariants.{Yes, Breaks}
 use Rattle.tt_proof_check.specs.declared.fault.CertifyFault.{CertifyFault}
 use Rattle.tt_proof_check.specs.declared.fault.CertifyFault.TheVariants as fault
 
--- ---- what is answered
+-- -- the meaning of a result
 
--- yes with c and b: what it says of the bytes (of the proof's, where its reader tells them), and what it means
+-- `Yes` with c and b: what it states about the bytes (about the proof's, if its reader reports them), and what it means
 pub record IsYes (instance solution : List ℕ) (proof : Option (List ℕ)) (c b : ℕ) : Type 0 where
   pub solves : Solves instance solution c
   pub certified : IfSome proof (λ bytes. Certifies instance solution bytes c b)
@@ -41,15 +41,15 @@ abbrev pub IsVerdict : List ℕ → List ℕ → Option (List ℕ) → Verdict �
 IsVerdict i s proof (Yes c b) = IsYes i s proof c b
 IsVerdict i s proof (Breaks score) = IsBroken i s score
 
--- ---- refusals
+-- -- errors
 
--- the bytes spell an instance, and those of the solution have this fault
+-- the bytes spell an instance, and those of the solution have this error
 pub record FailsSolution (instance solution : List ℕ) (f : SolutionFault) : Type 0 where
   pub problem : Problem
   pub spelled : Spells instance problem
   pub fails : solution_of problem solution ≡ Err f
 
--- the solution breaks no hard rule, and the proof has this fault
+-- the solution breaks no hard rule, and the proof has this error
 pub record FailsProof (instance solution : List ℕ) (proof : Option (List ℕ)) (f : CheckFault) : Type 0 where
   pub problem : Problem
   pub table : List Cell
@@ -57,46 +57,46 @@ pub record FailsProof (instance solution : List ℕ) (proof : Option (List ℕ))
   pub feasible : IsFeasible problem table
   pub fails : IfSome proof (λ bytes. IsProofFault problem (stream_of bytes) f)
 
--- a refusal tells the first fault: the instance's, then the solution's, then the proof's
+-- an error is the first one: the instance's, then the solution's, then the proof's
 abbrev pub IsFirstFault : List ℕ → List ℕ → Option (List ℕ) → CertifyFault → Type 0
 IsFirstFault i s proof (fault.Instance f) = instance_of i ≡ Err f
 IsFirstFault i s proof (fault.Solution f) = FailsSolution i s f
 IsFirstFault i s proof (fault.Proof f) = FailsProof i s proof f
 IsFirstFault i s proof fault.OutOfMemory = ⊤
 
--- being out of memory or a failed read, which say nothing of the bytes
+-- whether the error is being out of memory or a failed read, which say nothing about the bytes
 abbrev pub SaysNothing : CertifyFault → Type 0
 SaysNothing (fault.Instance f) = ⊥
 SaysNothing (fault.Solution f) = ⊥
 SaysNothing (fault.Proof f) = IsSilent f
 SaysNothing fault.OutOfMemory = ⊤
 
--- the instance or the solution is refused
+-- whether the error is one of the instance or the solution
 abbrev pub IsOfFiles : CertifyFault → Type 0
 IsOfFiles (fault.Instance f) = ⊤
 IsOfFiles (fault.Solution f) = ⊤
 IsOfFiles (fault.Proof f) = ⊥
 IsOfFiles fault.OutOfMemory = ⊥
 
--- ---- what has to be answered
+-- -- required results
 
 -- a read of the proof failed
 abbrev pub read_failed : CertifyFault
 read_failed = fault.Proof (check.Text (text.Feed feed.Read))
 
--- yes with c and b, unless memory runs out or a read of the proof fails
+-- the result is `Yes` with c and b, unless memory runs out or a read of the proof fails
 abbrev pub AnswersYes : Result Verdict CertifyFault → ℕ → ℕ → Type 0
 AnswersYes (Ok (Yes n m)) c b = (n ≡ c) × (m ≡ b)
 AnswersYes (Ok (Breaks score)) c b = ⊥
 AnswersYes (Err f) c b = (f ≡ fault.OutOfMemory) ⊎ (f ≡ read_failed)
 
--- that a hard rule is broken, unless memory runs out
+-- the result is that a hard rule is broken, unless memory runs out
 abbrev pub AnswersBroken : Result Verdict CertifyFault → Type 0
 AnswersBroken (Ok (Yes n m)) = ⊥
 AnswersBroken (Ok (Breaks score)) = ⊤
 AnswersBroken (Err f) = f ≡ fault.OutOfMemory
 
--- ---- how a fault is told: being out of memory is always one and the same
+-- -- how an error is reported: being out of memory is always the same error
 
 abbrev pub fault_from_instance : InstanceFault → CertifyFault
 fault_from_instance instance.OutOfMemory = fault.OutOfMemory
@@ -110,19 +110,19 @@ abbrev pub fault_from_check : CheckFault → CertifyFault
 fault_from_check check.OutOfMemory = fault.OutOfMemory
 fault_from_check f = fault.Proof f
 
--- Being out of memory is told as itself, wherever it comes from.
+-- Being out of memory is reported as itself, regardless of its source.
 abbrev pub OutOfMemoryIsOneFault : CertifyFault → Type 0
 OutOfMemoryIsOneFault (fault.Instance f) = ¬ (f ≡ instance.OutOfMemory)
 OutOfMemoryIsOneFault (fault.Solution f) = ¬ (f ≡ solution.OutOfMemory)
 OutOfMemoryIsOneFault (fault.Proof f) = ¬ (f ≡ check.OutOfMemory) × OutOfMemoryIsNoTextFault f
 OutOfMemoryIsOneFault fault.OutOfMemory = ⊤
 
--- this bound, unless memory runs out or a read fails
+-- the result is this bound, unless memory runs out or a read fails
 abbrev pub GivesBound : Result ℕ CertifyFault → ℕ → Type 0
 GivesBound (Ok c) b = c ≡ b
 GivesBound (Err f) b = (f ≡ fault.OutOfMemory) ⊎ (f ≡ read_failed)
 
--- a fault of the proof
+-- the error is one of the proof
 abbrev pub IsBoundFault : Problem → List ℕ → CertifyFault → Type 0
 IsBoundFault p bytes (fault.Instance f) = ⊥
 IsBoundFault p bytes (fault.Solution f) = ⊥

@@ -1,4 +1,4 @@
-//! What the checker answers, and why it refuses.
+//! The results and the errors of the checker.
 
 ghost use Rattle.std.specs.Prelude.{◌≡◌};
 ghost use Rattle.tt_proof_check.specs.declared.fault.CheckFault.TheVariants.{OutOfMemory};
@@ -11,16 +11,16 @@ use tt_proof_read::TextFault;
 use tt_rules::Score;
 use tt_table::SolutionFault;
 
-/// Why a proof is refused. Nodes are numbered from 0 in the order of the file.
+/// The reason why a proof is refused. Nodes are numbered from 0 in the order of the file.
 #[derive(Clone, Copy, Debug, PartialEq, Eq, Error)]
 pub enum CheckFault {
-    /// The text is no proof; being out of memory is told as `OutOfMemory`.
+    /// The text is no proof; being out of memory is reported as `OutOfMemory`.
     #[error("{0}")]
     Text(TextFault),
     /// The leaf at this node does not close it.
     #[error("{1} at node {0}")]
     Rule(u32, RuleFault),
-    /// This node stands below more than 65,536 splits.
+    /// This node is below more than 65,536 splits.
     #[error("TooDeep at node {0}")]
     TooDeep(u32),
     #[error("out of memory")]
@@ -56,7 +56,7 @@ impl From<TextFault> for CheckFault {
     }
 }
 
-/// Why a list of nodes is refused. Nodes are numbered from 0 in the order of the list.
+/// The reason why a list of nodes is refused. Nodes are numbered from 0 in the order of the list.
 #[derive(Clone, Copy, Debug, PartialEq, Eq, Error)]
 pub enum NodesFault {
     /// The nodes are not one tree in preorder.
@@ -80,7 +80,7 @@ impl From<AllocError> for NodesFault {
     }
 }
 
-/// What an instance, a solution and a proof come to.
+/// The verdict on an instance, a solution and a proof.
 #[derive(Clone, Copy, Debug, PartialEq, Eq)]
 pub enum Verdict {
     /// The solution breaks no hard rule, and its cost and the bound are proved; both in cost points.
@@ -89,7 +89,7 @@ pub enum Verdict {
     Breaks(Score),
 }
 
-/// Why there is no verdict.
+/// The reason why there is no verdict.
 #[derive(Clone, Copy, Debug, PartialEq, Eq, Error)]
 pub enum CertifyFault {
     #[error("instance: {0}")]

@@ -20,7 +20,7 @@ use tt_rules::score;
 use tt_table::{Timetable, read_solution};
 use tt_text::Source;
 
-/// The bound of a proof, where some timetable breaks no hard rule: so it is a number.
+/// Returns the bound of a proof, if some timetable breaks no hard rule: so the bound is a number.
 fn proved_bound<R: Source>(
     alloc: Global,
     instance: &Instance<'_>,
@@ -45,37 +45,37 @@ fn proved_bound<R: Source>(
     }
 }
 
-/// Whether the solution of an instance breaks no hard rule, with its cost and the lower bound that the proof derives, in cost points.
-/// The proof is read only where no hard rule is broken.
+/// Checks whether the solution of an instance breaks no hard rule, and returns its cost and the lower bound that the proof derives, in cost
+/// points. The proof is read only if no hard rule is broken.
 pub fn certify<R: Source>(
     alloc: Global,
     instance: &[u8],
     solution: &[u8],
     proof: &mut R,
 ) -> Result<Verdict, CertifyFault>
-    // The headline. Where no read failed and memory did not run out, the answer is yes with c and b exactly where the bytes certify them ..
+    // The headline. If no read failed and memory did not run out, the result is `Yes` with c and b if and only if the bytes certify them.
     ensures exactly { (c b : ℕ) (bytes : List ℕ) → R.remaining proof.old ≡ Some bytes → R.has_failed proof.new ≡ false → ¬ (result ≡ Err OutOfMemory) →
         ((result ≡ Ok (Yes c b)) ↔ Certifies instance.now solution.now bytes c b) }
-    // .. and then every timetable of the instance that breaks no hard rule costs at least b, whatever the proof's bytes were.
+    // If the result is `Yes`, every timetable of the instance that breaks no hard rule costs at least b, for any bytes of the proof.
     ensures bounds { (c b : ℕ) → result ≡ Ok (Yes c b) → BoundsAll instance.now b }
-    // What is answered is so.
+    // If there is a verdict, it is right.
     ensures found { IfOk result (IsVerdict instance.now solution.now (R.remaining proof.old)) }
-    // What is certified is answered with yes.
+    // If the bytes certify c and b, the result is `Yes` with c and b, unless memory runs out or a read fails.
     ensures yes { (c b : ℕ) (bytes : List ℕ) → R.remaining proof.old ≡ Some bytes →
         Certifies instance.now solution.now bytes c b → AnswersYes result c b }
-    // What breaks a hard rule is answered, and the proof isn't read.
+    // If the timetable breaks a hard rule, the result says so, unless memory runs out, and the proof isn't read.
     ensures broken { BreaksARule instance.now solution.now → AnswersBroken result × (proof.new ≡ proof.old) }
-    // A refusal tells the first fault.
+    // An error is the first one.
     ensures fault { IfErr result (IsFirstFault instance.now solution.now (R.remaining proof.old)) }
-    // The proof isn't read where the instance or the solution is refused.
+    // If the instance or the solution is refused, the proof isn't read.
     ensures unread { IfErr result (λ f. IsOfFiles f → proof.new ≡ proof.old) }
-    // A read is said to have failed only where one did.
+    // A failed read is reported only if a read failed.
     ensures failed { result ≡ Err read_failed → R.has_failed proof.new ≡ true }
     ensures unfailed { ¬ (result ≡ Err read_failed) → R.has_failed proof.new ≡ R.has_failed proof.old }
-    // Where one failed, all that the proof's bytes before it say has been judged.
+    // If a failed read is reported, all the bytes of the proof before it have been checked.
     ensures up_to_failed_read { result ≡ Err read_failed → (bytes : List ℕ) → R.remaining proof.old ≡ Some bytes →
         IsSpelledAndJudgedUpToFailedRead instance.now bytes (R.remaining proof.new) }
-    // Being out of memory is one answer, wherever it comes from.
+    // Being out of memory is always the same error, regardless of its source.
     ensures memory { IfErr result OutOfMemoryIsOneFault }
 {
     let instance = read_instance(alloc, instance)?;

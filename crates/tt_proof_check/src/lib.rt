@@ -1,4 +1,4 @@
-//! The checker of proofs, and what it certifies.
+//! The checker of proofs, and the headline that it certifies.
 #![tactic(auto)]
 
 mod fault;

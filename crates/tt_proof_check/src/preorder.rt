@@ -1,4 +1,4 @@
-//! Lists of nodes: whether they are a tree, and what it derives.
+//! Lists of nodes: checks that they are a tree that derives a bound.
 
 ghost use Rattle.std.specs.Prelude.{◌≡◌, [], IsOkUnless, IfErr, OnOk, All};
 ghost use Rattle.tt_proof_check.specs.Derives.{Proves, HoldsOfAll};
@@ -15,7 +15,7 @@ use tt_leaf_rules::Bound;
 use tt_paths::Path;
 use tt_proof_read::{Node, is_tree};
 
-/// Judges the nodes of a tree, each on its path.
+/// Checks the nodes of a tree, each on its path.
 fn judge_tree<'i, P: Path<'i>>(path: &mut P, bound: Bound, nodes: &[Node]) -> Result<(), NodesFault>
     requires root { P.facts path.old ≡ [] }
     requires tree { IsPreorder nodes.now }
@@ -34,7 +34,7 @@ fn judge_tree<'i, P: Path<'i>>(path: &mut P, bound: Bound, nodes: &[Node]) -> Re
     Ok(())
 }
 
-/// Whether the nodes prove a bound: they are one tree in preorder, and each leaf closes its node on its path.
+/// Checks that the nodes prove a bound: they are one tree in preorder, and each leaf closes its node on its path.
 pub fn check_nodes(
     alloc: Global,
     instance: &Instance<'_>,
@@ -47,7 +47,7 @@ pub fn check_nodes(
     ensures only { Proves instance.now bound nodes.now → IsOkUnless result NodesFault.OutOfMemory }
     ensures holds { OnOk result (HoldsOfAll instance.now bound) }
 
-    // That they are no tree is told before anything else.
+    // The error that the nodes are no tree is reported before any other.
     ensures only_trees { ¬ (IsPreorder nodes.now) → result ≡ Err NodesFault.NotATree }
     ensures fault { IfErr result (λ e. Tells instance.now bound nodes.now e) }
 {

@@ -1,4 +1,4 @@
-//! Proofs that are judged as they are read.
+//! Proofs that are checked as they are read.
 
 ghost use Rattle.std.specs.Prelude.{◌≡◌, ◌<◌, ◌≤◌, ℕ, List, [], length, true, is_some, Some, None, Err, OnOk, IfOk, IfErr, MatchResult};
 ghost use Rattle.tt_paths.specs.declared.path.TheConstants.{MAX_FACTS};
@@ -28,7 +28,7 @@ use tt_paths::Path;
 use tt_proof_read::{Node, NodeReader};
 use tt_text::Source;
 
-/// Takes a node and lets it go.
+/// Takes a node and drops it.
 #[inline(always)]
 fn take<'i, P: Path<'i>>(path: &mut P, bound: Bound, node: Node) -> Result<(), Stop>
     requires node { IsNodeOf (P.problem path.old) node }
@@ -41,7 +41,7 @@ fn take<'i, P: Path<'i>>(path: &mut P, bound: Bound, node: Node) -> Result<(), S
     take_node(path, bound, &node)
 }
 
-/// The fault of a split whose children are too deep: its first child is read before it is told.
+/// Returns the error of a split whose children are too deep: its first child is read before the error is reported.
 #[cold]
 #[inline(never)]
 fn deep_fault<R: Source>(reader: &mut NodeReader, source: &mut R, node: u32) -> CheckFault
@@ -62,7 +62,7 @@ fn deep_fault<R: Source>(reader: &mut NodeReader, source: &mut R, node: u32) -> 
     }
 }
 
-/// Reads the nodes of a tree, and judges each before it reads the next. The listener hears each before it is judged.
+/// Reads the nodes of a tree, and checks each before it reads the next. The listener visits each node before it is checked.
 fn judge<'i, P: Path<'i>, R: Source, L: Listener>(
     path: &mut P,
     listener: &mut L,
@@ -103,7 +103,7 @@ fn judge<'i, P: Path<'i>, R: Source, L: Listener>(
     Ok(())
 }
 
-/// Reads a proof and judges it on a path.
+/// Reads a proof and checks it on a path.
 fn read_proof<'i, P: Path<'i>, R: Source, L: Listener>(
     alloc: Global,
     path: &mut P,
@@ -128,38 +128,38 @@ fn read_proof<'i, P: Path<'i>, R: Source, L: Listener>(
     Ok(bound)
 }
 
-/// Checks a proof as it is read, node by node, and answers the bound that it proves; the listener hears each node. It keeps no node.
+/// Checks a proof as it is read, node by node, and returns the bound that it proves; the listener visits each node. It stores no node.
 pub fn hear_proof<R: Source, L: Listener>(
     alloc: Global,
     instance: &Instance<'_>,
     listener: &mut L,
     source: &mut R,
 ) -> Result<Bound, CheckFault>
-    // A tree derives the bound, the bytes spell it, and the listener has heard its nodes.
+    // A tree derives the bound, the bytes spell it, and the listener has visited its nodes.
     ensures heard { IfOk result (IsHeardProof instance.now (R.remaining source.old) (Heard L.hears 0 listener.old listener.new)) }
     ensures found { IfOk result (λ b. (bytes : List ℕ) → R.remaining source.old ≡ Some bytes → IsProved instance.now bytes b) }
 
-    // Where they spell one, its bound is found, unless memory or a read fails.
+    // If the bytes spell such a tree, its bound is returned, unless memory runs out or a read fails.
     ensures only { (bytes : List ℕ) (b : Bound) → R.remaining source.old ≡ Some bytes → IsProved instance.now bytes b →
         MatchResult result (λ c. c ≡ b) IsSilent }
 
-    // This holds whatever the source gives.
+    // This holds for any source.
     ensures holds { IfOk result (HoldsOfAll instance.now) }
     ensures failed { result ≡ Err (CheckFault.Text read_failed) → R.has_failed source.new ≡ true }
     ensures unfailed { ¬ (result ≡ Err (CheckFault.Text read_failed)) → R.has_failed source.new ≡ R.has_failed source.old }
     ensures memory { IfErr result OutOfMemoryIsNoTextFault }
     ensures fault { IfErr result (λ e. (bytes : List ℕ) → R.remaining source.old ≡ Some bytes → IsProofFault instance.now (stream_of bytes) e) }
-    // Where a read fails, all that the bytes before it say has been judged.
+    // If a read fails, all the bytes before it have been checked.
     ensures up_to_failed_read { result ≡ Err (CheckFault.Text read_failed) → (bytes : List ℕ) → R.remaining source.old ≡ Some bytes →
         IsJudgedUpToFailedRead instance.now bytes (R.remaining source.new) }
 {
-    // What is true of every instance: its numbers are small enough to be read.
+    // This holds for every instance: its numbers are small enough to be read.
     prove!(instance.days() > 0);
     let mut path = TrailPath::new(alloc, instance)?;
     read_proof(alloc, &mut path, listener, source)
 }
 
-/// Checks a proof as it is read, node by node, and answers the bound that it proves. It keeps no node.
+/// Checks a proof as it is read, node by node, and returns the bound that it proves. It stores no node.
 pub fn check_proof<R: Source>(
     alloc: Global,
     instance: &Instance<'_>,
@@ -168,17 +168,17 @@ pub fn check_proof<R: Source>(
     // The bytes spell a tree that derives the bound.
     ensures found { IfOk result (λ b. (bytes : List ℕ) → R.remaining source.old ≡ Some bytes → IsProved instance.now bytes b) }
 
-    // Where they spell one, its bound is found, unless memory or a read fails.
+    // If the bytes spell such a tree, its bound is returned, unless memory runs out or a read fails.
     ensures only { (bytes : List ℕ) (b : Bound) → R.remaining source.old ≡ Some bytes → IsProved instance.now bytes b →
         MatchResult result (λ c. c ≡ b) IsSilent }
 
-    // This holds whatever the source gives.
+    // This holds for any source.
     ensures holds { IfOk result (HoldsOfAll instance.now) }
     ensures failed { result ≡ Err (CheckFault.Text read_failed) → R.has_failed source.new ≡ true }
     ensures unfailed { ¬ (result ≡ Err (CheckFault.Text read_failed)) → R.has_failed source.new ≡ R.has_failed source.old }
     ensures memory { IfErr result OutOfMemoryIsNoTextFault }
     ensures fault { IfErr result (λ e. (bytes : List ℕ) → R.remaining source.old ≡ Some bytes → IsProofFault instance.now (stream_of bytes) e) }
-    // Where a read fails, all that the bytes before it say has been judged.
+    // If a read fails, all the bytes before it have been checked.
     ensures up_to_failed_read { result ≡ Err (CheckFault.Text read_failed) → (bytes : List ℕ) → R.remaining source.old ≡ Some bytes →
         IsJudgedUpToFailedRead instance.now bytes (R.remaining source.new) }
 {

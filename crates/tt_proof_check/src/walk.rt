@@ -1,4 +1,4 @@
-//! Nodes in preorder, one after another. One path is the whole stack: a yes-fact on it has its second child still to come.
+//! Nodes in preorder, in turn. One path is the whole stack: the second child of each yes-fact on it is not read yet.
 
 ghost use Rattle.std.specs.Prelude.{◌≡◌, ◌≤◌, length, OnOk, IfErr, IsOkUnless};
 ghost use Rattle.tt_paths.specs.declared.path.TheConstants.{MAX_FACTS};
@@ -10,12 +10,12 @@ use tt_leaf_rules::{Bound, RuleFault, holds};
 use tt_paths::{Fact, Path, PathFault};
 use tt_proof_read::Node;
 
-/// Why a node was not taken.
+/// The reason why a node was not taken.
 #[derive(Clone, Copy, Debug)]
 pub enum Stop {
     /// The leaf does not close its node.
     Rule(RuleFault),
-    /// The children of this split stand too deep.
+    /// The children of this split would be too deep.
     TooDeep,
     OutOfMemory,
 }
@@ -45,7 +45,7 @@ impl From<PathFault> for Stop {
     }
 }
 
-/// Goes on to the second child of the newest split that has one still to come.
+/// Moves to the second child of the newest split whose second child is not read yet.
 #[inline(always)]
 fn go_on<'i, P: Path<'i>>(path: &mut P) -> Result<(), PathFault>
     requires { length (P.facts path.old) ≤ MAX_FACTS }
@@ -66,7 +66,7 @@ fn go_on<'i, P: Path<'i>>(path: &mut P) -> Result<(), PathFault>
     Ok(())
 }
 
-/// Takes the node that is due, and goes on to the next place.
+/// Takes the due node, and moves to the next place.
 #[inline(always)]
 pub fn take_node<'i, P: Path<'i>>(path: &mut P, bound: Bound, node: &Node) -> Result<(), Stop>
     requires node { IsNodeOf (P.problem path.old) node.now }

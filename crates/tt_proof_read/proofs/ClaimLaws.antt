@@ -1,4 +1,4 @@
--- Claims: what is read is spelled, and what is spelled is read.
+-- Claims: those that are read are spelled, and those that are spelled are read.
 use Rattle.std.proofs.Common.{◌≡◌, ℕ, ◌<◌, ◌==◌, suc, ◌&&◌, List, [], ◌∷◌, ◌++◌, length, Option, Some, None, Result, Ok, refl, sym, ap, subst, ◌∙◌, arith, eqb-true, codes}
 use Rattle.std.specs.Prelude.{flat_map, All}
 use Rattle.std.specs.List.{push}
@@ -49,7 +49,7 @@ abbrev IsWord : ℕ → List ℕ → Option ClaimWord → Type 0
 IsWord version text None = text ≡ codes ";"
 IsWord version text (Some w) = (text ≡ code_of w) × IsWordIn version w
 
--- a word that was read is its text
+-- a word that was read has its text
 word_took : (version : ℕ) (t : Placed) (o : Option ClaimWord) → claim_word_of version t ≡ Ok o → IsWord version t.text o
 word_took version t o e =
     let P : Option ClaimWord → Type 0 = IsWord version t.text in
@@ -61,7 +61,7 @@ word_took version t o e =
     choice P ((version == 2) && is_text (codes "P") t.text) (Some word.Prices) o _ (λ h. let b = and_parts (version == 2) (is_text (codes "P") t.text) h in (text_is t.text (codes "P") b.1, eqb-true version 2 b.0)) (λ _ r6.
     choice P ((version == 2) && is_text (codes "T") t.text) (Some word.Stacked) o _ (λ h. let b = and_parts (version == 2) (is_text (codes "T") t.text) h in (text_is t.text (codes "T") b.1, eqb-true version 2 b.0)) (λ _ r7. absurd cc) r6) r5) r4) r3) r2) r1) e
 
--- the text of a word is read as it
+-- the text of a word is read as that word
 word_reads : (version : ℕ) (w : ClaimWord) (t : Placed) → IsWordIn version w → t.text ≡ code_of w → claim_word_of version t ≡ Ok (Some w)
 word_reads version word.Capacity t fits e = rw e refl
 word_reads version word.Days t fits e = rw e refl
@@ -79,14 +79,14 @@ module _ (p : Problem) (sizes : Sizes) (are : AreSizes p sizes) (version : ℕ) 
   abbrev IsNext : List Claim → Claim → Type 0
   IsNext before c = IsClaim p version c
 
-  -- what was read after a word is spelled
+  -- the claim read after a word is spelled
   record Behind (w : ClaimWord) (s : Stream) (x : Claim × Stream) : Type 0 where
     rest : List Piece
     spells : SpellsClaim x.0 (Text (code_of w) ∷ rest)
     took : Took s rest x.1
     is : IsClaim p version x.0
 
-  -- what was read after a word is spelled
+  -- the claim read after a word is spelled
   behind_took : (w : ClaimWord) (s : Stream) (x : Claim × Stream) → IsWordIn version w → claim_after_word sizes w s ≡ Ok x → Behind w s x
   unfolding claim_after_word
   behind_took word.Capacity s x fits e =
@@ -196,12 +196,12 @@ module _ (p : Problem) (sizes : Sizes) (are : AreSizes p sizes) (version : ℕ) 
         let is = is_text_of f.token.text (codes ";") f.piece in
         rw (f.is, is) (ap (λ (m : Stream). let r : Result (Option Claim × Stream) TextFault = Ok (None, m) in r) (took_same f.mid after f.rest))
 
-  -- claims that may each come next are right
+  -- if each claim may come next, all are right
   each_all : (before cs : List Claim) → EachNext push (λ _ rest. claim_at sizes version rest) SpellsClaim IsNext last before cs → All (IsClaim p version) cs
   each_all before [] each = All-nil (IsClaim p version)
   each_all before (c ∷ cs) each = All-cons (IsClaim p version) c cs each.0 (each_all (before ++ c ∷ []) cs each.1)
 
-  -- right claims may each come next
+  -- if all claims are right, each may come next
   all_each : (before cs : List Claim) → All (IsClaim p version) cs → EachNext push (λ _ rest. claim_at sizes version rest) SpellsClaim IsNext last before cs
   all_each before [] all = tt
   all_each before (c ∷ cs) all = (All-head (IsClaim p version) c cs all, all_each (before ++ c ∷ []) cs (All-tail (IsClaim p version) c cs all))

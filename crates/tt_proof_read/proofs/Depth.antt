@@ -1,4 +1,4 @@
--- How deep a tree is, by its leaves and by all of its nodes.
+-- The depth of a tree, by its leaves and by all of its nodes.
 use Rattle.std.proofs.Common.{◌≡◌, ℕ, ◌+◌, ◌≤◌, true, false, List, [], length, arith, length-append}
 use Rattle.std.specs.Prelude.{All}
 use Rattle.std.specs.List.{AllByRecursion}
@@ -22,7 +22,7 @@ module _ (n : ℕ) where
       let parts = each_of_append IsLowNode (on_paths (with_fact path g true) first) (on_paths (with_fact path g false) second) h.1 in
       (low_leaves first (with_fact path g true) parts.0, low_leaves second (with_fact path g false) parts.1)
 
-  -- a tree has a leaf below its root
+  -- if no leaf below a node is too deep, the node isn't
   pub root_low : (tree : Tree) (path : List Fact) → AllLeaves IsLow path tree → length path ≤ n
   root_low (Close leaf) path h = h
   root_low (Branch g first second) path h =
@@ -36,10 +36,10 @@ module _ (n : ℕ) where
     each_append IsLowNode (on_paths (with_fact path g true) first) (on_paths (with_fact path g false) second) (low_nodes first (with_fact path g true) h.0) (low_nodes second (with_fact path g false) h.1),
   )
 
-  -- where no node stands too deep, no leaf does
+  -- if no node is too deep, no leaf is
   pub leaves_low : (tree : Tree) → All (λ x. length x.path ≤ n) (on_paths [] tree) → AllLeaves (λ path _. length path ≤ n) [] tree
   leaves_low tree h = low_leaves tree [] (recursion_from_All IsLowNode (on_paths [] tree) h)
 
-  -- and where no leaf does, no node does
+  -- if no leaf is too deep, no node is
   pub nodes_low : (tree : Tree) → AllLeaves (λ path _. length path ≤ n) [] tree → All (λ x. length x.path ≤ n) (on_paths [] tree)
   nodes_low tree h = All-from_recursion IsLowNode (on_paths [] tree) (low_nodes tree [] h)

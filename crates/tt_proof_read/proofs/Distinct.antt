@@ -7,7 +7,7 @@ use Rattle.tt_lists.specs.Words.{each_two, with_new, distinct}
 use Rattle.tt_lists.proofs.Distinct.{distinct_push, distinct_stays, each_two-distinct}
 use Rattle.tt_lists.proofs.Members.{each_two-of_append}
 
--- an element that is like none of those before it
+-- adding an element that is like none of those before it
 pub each_two_push : {X : Type 0} (same : X → X → Bool) (xs : List X) (x : X) → each_two (λ a b. not (same a b)) xs ≡ true → list_any (λ y. same y x) xs ≡ false
     → each_two (λ a b. not (same a b)) (xs ++ x ∷ []) ≡ true
 each_two_push same xs x e none =
@@ -15,7 +15,7 @@ each_two_push same xs x e none =
     let made : distinct same (xs ++ x ∷ []) ≡ xs ++ x ∷ [] = distinct_push same xs x ∙ ap (λ l. with_new same l x) (distinct_stays same xs e) ∙ pushed in
     subst (λ l. each_two (λ a b. not (same a b)) l ≡ true) made (each_two-distinct same (xs ++ x ∷ []))
 
--- where no two are alike, an element is like none of those before it
+-- if no two elements are alike, an element is like none of those before it
 pub is_new : {X : Type 0} (same : X → X → Bool) (before : List X) (x : X) (xs : List X) → each_two (λ a b. not (same a b)) (before ++ x ∷ xs) ≡ true → list_any (λ y. same y x) before ≡ false
 is_new same before x xs e = false_from_ne_true (list_any (λ y. same y x) before) (λ some.
     let grouped : before ++ x ∷ xs ≡ (before ++ x ∷ []) ++ xs = sym (append_assoc before (x ∷ []) xs) in

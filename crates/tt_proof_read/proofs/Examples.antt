@@ -1,4 +1,4 @@
--- Nodes as they stand in a file, for two courses, a curriculum, two rooms, a day and three periods.
+-- Nodes as they appear in a file, for two courses, a curriculum, two rooms, a day and three periods.
 use Rattle.std.proofs.Common.{◌≡◌, ℕ, List, [], ◌∷◌, Some, None, Ok, Err, codes, refl}
 use Rattle.tt_text.specs.Tokens.{tokens_from, tokens_of}
 use Rattle.tt_text.specs.Numbers.{number_of}
@@ -17,7 +17,7 @@ use Rattle.tt_proof_read.specs.declared.fault.Word.TheVariants as word
 use Rattle.tt_proof_read.specs.declared.node.Node.TheVariants as node
 use Rattle.tt_proof_read.specs.declared.sizes.Sizes.{Sizes}
 
--- how many there are
+-- the numbers of courses, curricula, rooms, days and periods
 abbrev sizes : Sizes
 sizes = record { courses = 2; curricula = 1; rooms = 2; days = 1; periods = 3 }
 
@@ -40,7 +40,7 @@ a_list : node_at sizes 1 0 (behind (codes "K c1 c0 ;")) ≡ Ok (node.Leaf (leaf.
 unfolding tokens_from number_of token_at numbered_below index_of up_to_end listed_at list_at node_after_word node_at
 a_list = refl
 
--- leading zeros do not make another course
+-- leading zeros don't make a different course
 repeated : node_at sizes 1 0 (behind (codes "K c1 c01 ;")) ≡ Err (fault.RepeatedIndex 5)
 unfolding tokens_from number_of token_at numbered_below index_of up_to_end listed_at list_at node_after_word node_at
 repeated = refl
@@ -60,7 +60,7 @@ too_new : node_at sizes 1 0 (behind (codes "B T c0 ;")) ≡ Err (fault.UnknownWo
 unfolding tokens_from number_of token_at up_to_end claim_at claims_at node_after_word node_at
 too_new = refl
 
--- a sign is no digit
+-- a sign isn't a digit
 signed : node_at sizes 1 0 (behind (codes "M c+1")) ≡ Err (fault.UnknownWord 2)
 unfolding tokens_from number_of token_at numbered_below index_of course_at node_after_word node_at
 signed = refl
@@ -77,12 +77,12 @@ bound_goes_on : header_at (cut_short (stream_from MAX_BYTES 0 (codes "CTTP 1 bou
 unfolding stream_from fault_from tokens_from number_of token_at word_at version_at bound_of bound_at header_at
 bound_goes_on = refl
 
--- it has come whole
+-- the number is complete
 bound_is_whole : header_at (cut_short (stream_from MAX_BYTES 0 (codes "CTTP 1 bound 5 "))) ≡ Ok ((1, AtLeast 5), stopped (Err Read))
 unfolding stream_from fault_from tokens_from number_of token_at word_at version_at bound_of bound_at header_at
 bound_is_whole = refl
 
--- a fault before it is told
+-- a fault before the failure is reported
 fault_first : header_at (cut_short (stream_from MAX_BYTES 0 (codes "CTTP 3 bound 5"))) ≡ Err (fault.Expected word.One 5)
 unfolding stream_from fault_from tokens_from number_of token_at word_at version_at bound_of bound_at header_at
 fault_first = refl

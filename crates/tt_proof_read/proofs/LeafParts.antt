@@ -1,4 +1,4 @@
--- What a leaf of a proof is, in three parts: its numbers, its limits and its version.
+-- The three parts of the condition on a leaf of a proof: its numbers, its limits and its version.
 use Rattle.std.proofs.Common.{ℕ}
 use Rattle.tt_instance.specs.Problem.{Problem}
 use Rattle.tt_leaf_rules.specs.Ranges.{IsClaimOf, IsLeafOf}

@@ -1,4 +1,4 @@
--- Lists of different courses: what is read is spelled, and what is spelled is read.
+-- Lists of distinct courses: those that are read are spelled, and those that are spelled are read.
 use Rattle.std.proofs.Common.{◌≡◌, ℕ, ◌<◌, ◌==◌, suc, true, false, not, List, [], ◌∷◌, ◌++◌, length, Option, Some, None, Result, Ok, refl, sym, ap, subst, ◌∙◌, append_assoc, arith, codes}
 use Rattle.std.specs.Prelude.{map, fold}
 use Rattle.std.specs.List.{push}
@@ -34,15 +34,15 @@ abbrev listed_piece : Option ℕ → Piece
 listed_piece None = last
 listed_piece (Some c) = course_piece c
 
--- no two courses are one
+-- no two courses are the same
 abbrev AreOnce : List ℕ → Type 0
 AreOnce cs = each_two (λ a b. not (a == b)) cs ≡ true
 
--- a course of the instance that is none of those before it
+-- a course of the instance that differs from those before it
 abbrev IsNext : Sizes → List ℕ → ℕ → Type 0
 IsNext sizes before c = (c < sizes.courses) × (has_number before c ≡ false)
 
--- a course that may come next, if it is one
+-- a course that may come next, or the end
 abbrev IsNextIf : Sizes → List ℕ → Option ℕ → Type 0
 IsNextIf sizes before None = Unit {0}
 IsNextIf sizes before (Some c) = IsNext sizes before c
@@ -83,9 +83,9 @@ last_reads : (sizes : Sizes) (before : List ℕ) (s after : Stream) → Took s (
 unfolding listed_at
 last_reads sizes before s after took = one_reads (listed_of sizes before) last None s after (λ t piece. rw (is_text_of t.text (codes ";") piece) refl) took
 
--- ---- what the courses are
+-- -- the properties of the courses
 
--- elements at the end, one after the other
+-- elements pushed in turn are appended
 pub fold_push : {X : Type 0} (before xs : List X) → fold push before xs ≡ before ++ xs
 fold_push before [] = sym (append-nil before)
 fold_push before (x ∷ xs) = fold_push (before ++ x ∷ []) xs ∙ append_assoc before (x ∷ []) xs
@@ -95,13 +95,13 @@ each_below : (sizes : Sizes) (before cs : List ℕ) → EachNext push (listed_at
 each_below sizes before [] each = All-nil (λ n. n < sizes.courses)
 each_below sizes before (c ∷ cs) each = All-cons (λ n. n < sizes.courses) c cs each.0.0 (each_below sizes (before ++ c ∷ []) cs each.1)
 
--- and none of them stands twice
+-- courses that may each come next are distinct
 each_once : (sizes : Sizes) (before cs : List ℕ) → AreOnce before → EachNext push (listed_at sizes) Spell (IsNext sizes) last before cs → AreOnce (before ++ cs)
 each_once sizes before [] once each = subst AreOnce (sym (append-nil before)) once
 each_once sizes before (c ∷ cs) once each =
     subst AreOnce (append_assoc before (c ∷ []) cs) (each_once sizes (before ++ c ∷ []) cs (each_two_push (λ a b. a == b) before c once each.0.1) each.1)
 
--- different courses may each come next
+-- distinct courses may each come next
 next_each : (sizes : Sizes) (before cs : List ℕ) → AreBelow sizes.courses cs → AreOnce (before ++ cs) → EachNext push (listed_at sizes) Spell (IsNext sizes) last before cs
 next_each sizes before [] below once = tt
 next_each sizes before (c ∷ cs) below once = (
@@ -109,12 +109,12 @@ next_each sizes before (c ∷ cs) below once = (
   next_each sizes (before ++ c ∷ []) cs (All-tail (λ n. n < sizes.courses) c cs below) (subst AreOnce (sym (append_assoc before (c ∷ []) cs)) once),
 )
 
--- the courses are spelled by their pieces alone
+-- the pieces of courses are their only spelling
 body_is : (cs : List ℕ) (body : List Piece) → SpellsEach Spell cs body → body ≡ map course_piece cs
 body_is [] body h = h
 body_is (c ∷ cs) body h = h.4 ∙ ap (λ ps. ps ++ h.1) h.2 ∙ ap (λ ps. course_piece c ∷ ps) (body_is cs h.1 h.3)
 
--- and by these they are
+-- the pieces of courses spell them
 body_spells : (cs : List ℕ) → SpellsEach Spell cs (map course_piece cs)
 body_spells [] = refl
 body_spells (c ∷ cs) = (course_piece c ∷ [], map course_piece cs, refl, body_spells cs, refl)

@@ -1,4 +1,4 @@
--- Parts up to their end, one after the other.
+-- Parts up to their end, in turn.
 use Rattle.std.proofs.Common.{◌≡◌, ℕ, zero, suc, ◌<◌, Bool, length, Option, Some, None, Result, Ok, refl, sym, ap, subst, ◌∙◌, arith}
 use Rattle.tt_text.specs.Feeds.{Stream}
 use Rattle.tt_text.specs.Reading.{FailsUnless}
@@ -11,17 +11,17 @@ module _ {S X : Type 0} (add : S → X → S) (part : S → Stream → Result (O
   pub record TakesTokens : Type 0 where
     pub less : (kept : S) (s : Stream) (x : Option X × Stream) → part kept s ≡ Ok x → length x.1.tokens < length s.tokens
 
-  -- what is left to read comes to the total, by a count that is enough
+  -- reading the parts left gives the total, with a count that is large enough
   pub record IsLeft (kept : S) (s : Stream) (total : Result (S × Stream) TextFault) : Type 0 where
     pub most : ℕ
     pub enough : length s.tokens < most
     pub is : up_to_end add part most kept s ≡ total
 
-  -- before the first part all is left
+  -- before the first part, all parts are left
   pub all_left : (kept : S) (s : Stream) → IsLeft kept s (up_to_end add part (suc (length s.tokens)) kept s)
   all_left kept s = record { most = suc (length s.tokens); enough = omega arith; is = refl }
 
-  -- one part, and then the others
+  -- one part and then the others
   step : (n : ℕ) (kept : S) (s rest : Stream) (x : Option X) → part kept s ≡ Ok (x, rest) → up_to_end add part (suc n) kept s ≡ kept_then add kept rest (λ now. up_to_end add part n now rest) x
   unfolding up_to_end
   step n kept s rest x e = rw e refl
@@ -60,14 +60,14 @@ module _ {S X : Type 0} (add : S → X → S) (part : S → Stream → Result (O
       by_most (suc n) enough is =
           fails_as silent f _ _ is (fails_then silent f (part kept s) (λ x. kept_then add kept x.1 (λ now. up_to_end add part n now x.1) x.0) fails)
 
-  -- one part, and then the others, of which each takes a token
+  -- one part and then the others, if each takes a token
   rest_less : (n : ℕ) (kept : S) (s rest : Stream) (o : Option X) (x : S × Stream) → length rest.tokens < length s.tokens
       → ((now : S) → up_to_end add part n now rest ≡ Ok x → length x.1.tokens < length rest.tokens)
       → kept_then add kept rest (λ now. up_to_end add part n now rest) o ≡ Ok x → length x.1.tokens < length s.tokens
   rest_less n kept s rest None x less more e = subst (λ (y : S × Stream). length y.1.tokens < length s.tokens) (ok_is (kept, rest) x e) less
   rest_less n kept s rest (Some a) x less more e = let later = more (add kept a) e in omega (arith, less, later)
 
-  -- parts up to their end take a token
+  -- parts up to their end take at least a token
   pub total_less : TakesTokens → (n : ℕ) (kept : S) (s : Stream) (x : S × Stream) → up_to_end add part n kept s ≡ Ok x → length x.1.tokens < length s.tokens
   unfolding up_to_end
   total_less takes zero kept s x e = absurd cc

@@ -1,4 +1,4 @@
--- Nodes: what is read is spelled, and what is spelled is read.
+-- Nodes: those that are read are spelled, and those that are spelled are read.
 use Rattle.std.proofs.Common.{◌≡◌, ℕ, ◌<◌, true, List, [], ◌∷◌, ◌++◌, Ok, refl, sym, subst, arith, codes}
 use Rattle.std.specs.Prelude.{nat_lt, IfSome}
 use Rattle.std.proofs.lemmas.Bool.{leb-true, le-leb}
@@ -43,7 +43,7 @@ code_of word.Clique = codes "K"
 code_of word.Slots = codes "H"
 code_of word.Cost = codes "B"
 
--- a word that was read is its text
+-- a word that was read has its text
 word_took : (t : Placed) (w : NodeWord) → node_word_of t ≡ Ok w → t.text ≡ code_of w
 word_took t w e =
     let P : NodeWord → Type 0 = λ v. t.text ≡ code_of v in
@@ -54,7 +54,7 @@ word_took t w e =
     choice P (is_text (codes "H") t.text) word.Slots w _ (λ h. text_is t.text (codes "H") h) (λ _ r5.
     choice P (is_text (codes "B") t.text) word.Cost w _ (λ h. text_is t.text (codes "B") h) (λ _ r6. absurd cc) r5) r4) r3) r2) r1) e
 
--- the text of a word is read as it
+-- the text of a word is read as that word
 word_reads : (w : NodeWord) (t : Placed) → t.text ≡ code_of w → node_word_of t ≡ Ok w
 word_reads word.Split t e = rw e refl
 word_reads word.Empty t e = rw e refl
@@ -66,12 +66,12 @@ word_reads word.Cost t e = rw e refl
 module _ (p : Problem) (sizes : Sizes) (are : AreSizes p sizes) where
   -- ---- patterns
 
-  -- a number below its size is the instance's
+  -- a number below its size is in the range of the instance
   who_is : (w : Who) → IsWhoIn sizes w → IsWho p w
   who_is (Course c) h = omega (arith, are.courses, h)
   who_is (Curriculum q) h = omega (arith, are.curricula, h)
 
-  -- a number of the instance is below its size
+  -- a number in the range of the instance is below its size
   is_who : (w : Who) → IsWho p w → IsWhoIn sizes w
   is_who (Course c) h = omega (arith, are.courses, h)
   is_who (Curriculum q) h = omega (arith, are.curricula, h)
@@ -120,14 +120,14 @@ module _ (p : Problem) (sizes : Sizes) (are : AreSizes p sizes) where
   -- ---- nodes
 
   module _ (version : ℕ) where
-    -- what was read after a word is spelled
+    -- the node read after a word is spelled
     record Behind (w : NodeWord) (s : Stream) (x : Node × Stream) : Type 0 where
       rest : List Piece
       spells : SpellsNode x.0 (Text (code_of w) ∷ rest)
       took : Took s rest x.1
       is : IsNode p version x.0
 
-    -- what was read after a word is spelled
+    -- the node read after a word is spelled
     behind_took : (w : NodeWord) (s : Stream) (x : Node × Stream) → node_after_word sizes version w s ≡ Ok x → Behind w s x
     unfolding node_after_word
     behind_took word.Split s x e =

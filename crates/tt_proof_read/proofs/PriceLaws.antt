@@ -1,4 +1,4 @@
--- Prices: what is read is spelled, and what is spelled is read.
+-- Prices: those that are read are spelled, and those that are spelled are read.
 use Rattle.std.proofs.Common.{◌≡◌, ℕ, ◌≤◌, ◌==◌, suc, Bool, true, false, cond, List, [], ◌∷◌, ◌++◌, length, Option, Some, None, Result, Ok, Err, refl, sym, ap, subst, ◌∙◌, append_assoc, arith, eqb-true, codes}
 use Rattle.std.specs.Prelude.{map, flat_map, fold}
 use Rattle.std.proofs.lemmas.List.{append-nil}
@@ -56,7 +56,7 @@ price_of (Room r) u = OfRoom r u
 abbrev price_is : Priced × ℕ → Price
 price_is x = price_of x.0 x.1
 
--- a number that has not been seen, if it is one
+-- a number that hasn't been seen, or the end
 abbrev IsUnseenIf : Sizes → Seen → Option Priced → Type 0
 IsUnseenIf sizes seen None = Unit {0}
 IsUnseenIf sizes seen (Some x) = IsUnseen sizes seen x
@@ -98,12 +98,12 @@ priced_took_in at sizes seen (b ∷ bs) x e = by_letter (b == COURSE_LETTER) (b 
         subst (λ y. IsPiece (priced_piece y) (b ∷ bs) × IsUnseen sizes seen y) made ((bs, ap (λ (k : ℕ). k ∷ bs) (eqb-true b 114 w_is), s.0), (s.1, u.0))
     by_letter false false v_is w_is h = absurd cc
 
--- the piece of a course or a room is read as it
+-- the piece of a course or a room is read as that course or room
 priced_reads_in : (at : ℕ) (sizes : Sizes) (seen : Seen) (x : Priced) (text : List ℕ) → AreSmall sizes → IsUnseen sizes seen x → IsPiece (priced_piece x) text → priced_in at sizes seen text ≡ Ok x
 priced_reads_in at sizes seen (Course n) text small next piece = let new = next.1 in rw (piece.1, number_reads at sizes.courses piece.0 n small.courses next.0 piece.2, new) refl
 priced_reads_in at sizes seen (Room n) text small next piece = let new = next.1 in rw (piece.1, number_reads at sizes.rooms piece.0 n small.rooms next.0 piece.2, new) refl
 
--- the same for a token that may be the end
+-- a token that was read as a course or a room, or as the end, is its piece
 priced_took_of : (sizes : Sizes) (seen : Seen) (t : Placed) (o : Option Priced) → priced_of sizes seen t ≡ Ok o → IsPiece (first_piece o) t.text × IsUnseenIf sizes seen o
 priced_took_of sizes seen t o e =
     let P : Option Priced → Type 0 = λ v. IsPiece (first_piece v) t.text × IsUnseenIf sizes seen v in
@@ -111,12 +111,12 @@ priced_took_of sizes seen t o e =
     let x = bind_ok (priced_in t.at sizes seen t.text) (λ y. Ok (Some y)) o r in
     subst P (ok_is (Some x.0) o x.2) (priced_took_in t.at sizes seen t.text x.0 x.1)) e
 
--- a course or a room is not the end
+-- a course or a room isn't the end
 not_last : (x : Priced) (text : List ℕ) → IsPiece (priced_piece x) text → is_text (codes "/") text ≡ false
 not_last (Course c) text piece = not_single 47 COURSE_LETTER c text piece
 not_last (Room r) text piece = not_single 47 ROOM_LETTER r text piece
 
--- the piece of a course or a room is read as it, where the end may stand
+-- the piece of a course or a room is read as that course or room, also if the end may come
 priced_reads_of : (sizes : Sizes) (seen : Seen) (x : Priced) (t : Placed) → AreSmall sizes → IsUnseen sizes seen x → IsPiece (priced_piece x) t.text → priced_of sizes seen t ≡ Ok (Some x)
 priced_reads_of sizes seen x t small next piece = rw (not_last x t.text piece, priced_reads_in t.at sizes seen x t.text small next piece) refl
 
@@ -169,44 +169,44 @@ last_reads sizes kept s after took =
     let is = is_text_of f.token.text (codes "/") f.piece in
     rw (f.is, is) (ap (λ (m : Stream). let r : Result (Option (Priced × ℕ) × Stream) TextFault = Ok (None, m) in r) (took_same f.mid after f.rest))
 
--- ---- what the prices are
+-- -- the properties of the prices
 
--- two lists
+-- the pair of two lists
 abbrev make : List (ℕ × ℕ) → List (ℕ × ℕ) → Kept
 make courses rooms = (courses, rooms)
 
--- lists that are equal
+-- pairs of equal lists are equal
 both : (a b c d : List (ℕ × ℕ)) → a ≡ c → b ≡ d → make a b ≡ make c d
 both a b c d e f = ap (λ l. make l b) e ∙ ap (make c) f
 
--- one pair more
+-- another pair
 more_pairs : (kept : Kept) (y : Priced) (u : ℕ) (ps : List Price)
     → make ((with_priced kept y u).0 ++ course_prices ps) ((with_priced kept y u).1 ++ room_prices ps) ≡ make (kept.0 ++ course_prices (price_of y u ∷ ps)) (kept.1 ++ room_prices (price_of y u ∷ ps))
 more_pairs kept (Course c) u ps = both _ _ _ _ (append_assoc kept.0 ((c, u) ∷ []) (course_prices ps)) refl
 more_pairs kept (Room r) u ps = both _ _ _ _ refl (append_assoc kept.1 ((r, u) ∷ []) (room_prices ps))
 
--- the lists that pairs make
+-- the lists that result from pairs
 fold_pairs : (kept : Kept) (xs : List (Priced × ℕ)) → fold with_pair kept xs ≡ make (kept.0 ++ course_prices (map price_is xs)) (kept.1 ++ room_prices (map price_is xs))
 fold_pairs kept [] = both kept.0 kept.1 (kept.0 ++ []) (kept.1 ++ []) (sym (append-nil kept.0)) (sym (append-nil kept.1))
 fold_pairs kept (x ∷ xs) = fold_pairs (with_pair kept x) xs ∙ more_pairs kept x.0 x.1 (map price_is xs)
 
--- pairs that may each come next are right
+-- if each pair may come next, all are right
 each_kept : (sizes : Sizes) (kept : Kept) (xs : List (Priced × ℕ)) → AreKept sizes kept → EachNext with_pair (next_pair_at sizes) Spell (IsNext sizes) last kept xs → AreKept sizes (fold with_pair kept xs)
 each_kept sizes kept [] are each = are
 each_kept sizes kept (x ∷ xs) are each = each_kept sizes (with_pair kept x) xs (kept_push sizes kept x.0 x.1 are each.0.0 each.0.1) each.1
 
--- right pairs may each come next
+-- if all pairs are right, each may come next
 next_each : (sizes : Sizes) (kept : Kept) (xs : List (Priced × ℕ)) → AreKept sizes (fold with_pair kept xs) → EachNext with_pair (next_pair_at sizes) Spell (IsNext sizes) last kept xs
 next_each sizes kept [] are = tt
 next_each sizes kept (x ∷ xs) are =
     (kept_before sizes kept x.0 x.1 (course_prices (map price_is xs)) (room_prices (map price_is xs)) (subst (AreKept sizes) (fold_pairs (with_pair kept x) xs) are), next_each sizes (with_pair kept x) xs are)
 
--- the pairs are spelled by their pieces alone
+-- the pieces of pairs are their only spelling
 body_is : (xs : List (Priced × ℕ)) (body : List Piece) → SpellsEach Spell xs body → body ≡ flat_map price_pieces (map price_is xs)
 body_is [] body h = h
 body_is (x ∷ xs) body h = h.4 ∙ ap (λ ps. ps ++ h.1) h.2 ∙ ap (λ ps. price_pieces (price_is x) ++ ps) (body_is xs h.1 h.3)
 
--- and by these they are
+-- the pieces of pairs spell them
 body_spells : (xs : List (Priced × ℕ)) → SpellsEach Spell xs (flat_map price_pieces (map price_is xs))
 body_spells [] = refl
 body_spells (x ∷ xs) = (price_pieces (price_is x), flat_map price_pieces (map price_is xs), refl, body_spells xs, refl)
@@ -216,12 +216,12 @@ abbrev pair_of : Price → Priced × ℕ
 pair_of (OfCourse c u) = (Course c, u)
 pair_of (OfRoom r u) = (Room r, u)
 
--- a price as a pair and back
+-- a price turned into a pair and back
 price_pair : (x : Price) → price_is (pair_of x) ≡ x
 price_pair (OfCourse c u) = refl
 price_pair (OfRoom r u) = refl
 
--- the same for a list
+-- a list of prices turned into pairs and back
 prices_pairs : (xs : List Price) → map price_is (map pair_of xs) ≡ xs
 prices_pairs [] = refl
 prices_pairs (x ∷ xs) = ap (λ y. y ∷ map price_is (map pair_of xs)) (price_pair x) ∙ ap (λ ys. x ∷ ys) (prices_pairs xs)

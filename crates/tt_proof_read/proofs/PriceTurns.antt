@@ -1,4 +1,4 @@
--- One turn of the loop that reads prices.
+-- One iteration of the loop that reads prices.
 use Rattle.std.proofs.Common.{◌≡◌, ℕ, ◌<◌, ◌≤◌, ◌==◌, ◌||◌, false, List, [], ◌∷◌, ◌++◌, Option, Result, refl, sym, ap, subst, append_assoc, ◌∙◌}
 use Rattle.std.specs.Prelude.{map, All}
 use Rattle.std.specs.List.{list_any}
@@ -25,14 +25,14 @@ any_number : (prices : List (ℕ × ℕ)) (n : ℕ) → list_any (λ k. k.0 == n
 any_number [] n = refl
 any_number (k ∷ ks) n = ap (λ b. (k.0 == n) || b) (any_number ks n)
 
--- one price more
+-- another price
 prices_push : (count : ℕ) (prices : List (ℕ × ℕ)) (n u : ℕ) → ArePrices count prices → n < count → has_number (map (λ k. k.0) prices) n ≡ false → ArePrices count (prices ++ (n, u) ∷ [])
 prices_push count prices n u are below new = record {
   within = subst (AreBelow count) (sym (map-append (λ k. k.0) prices ((n, u) ∷ []))) (All-push (λ m. m < count) (map (λ k. k.0) prices) n are.within below);
   once = each_two_push (λ a b. a.0 == b.0) prices (n, u) are.once (any_number prices n ∙ new);
 }
 
--- one pair more
+-- another pair
 pub kept_push : (sizes : Sizes) (kept : Kept) (x : Priced) (u : ℕ) → AreKept sizes kept → IsUnseen sizes (seen_in kept) x → u ≤ MAX_PRICE → AreKept sizes (with_priced kept x u)
 kept_push sizes kept (Course c) u are new within = record {
   courses = prices_push sizes.courses kept.0 c u are.courses new.0 new.1;
@@ -61,20 +61,20 @@ pub prices_left : (sizes : Sizes) (kept : Kept) (s : Stream) → kept ≡ ([], [
 unfolding prices_at
 prices_left sizes kept s e = subst (λ k. IsLeft with_pair (next_pair_at sizes) k s (prices_at sizes s)) (sym e) (all_left with_pair (next_pair_at sizes) ([], []) s)
 
--- ---- what the prices are
+-- -- the properties of the prices
 
--- what holds of each element holds of one in the middle
+-- a property of each element holds of one in the middle
 middle : {X : Type 0} (P : X → Type 0) (before : List X) (x : X) (xs : List X) → All P (before ++ x ∷ xs) → P x
 middle P before x xs all = (each_of_append P before (x ∷ xs) (recursion_from_All P (before ++ x ∷ xs) all)).1.0
 
--- a price among others is of a number below the count that is not priced before it
+-- if a price is followed by others, its number is below the count and has no price before it
 price_before : (count : ℕ) (before : List (ℕ × ℕ)) (n u : ℕ) (xs : List (ℕ × ℕ)) → ArePrices count (before ++ (n, u) ∷ xs) → (n < count) × (has_number (map (λ k. k.0) before) n ≡ false)
 price_before count before n u xs are = (
   middle (λ m. m < count) (map (λ k. k.0) before) n (map (λ k. k.0) xs) (subst (AreBelow count) (map-append (λ k. k.0) before ((n, u) ∷ xs)) are.within),
   sym (any_number before n) ∙ is_new (λ a b. a.0 == b.0) before (n, u) xs are.once,
 )
 
--- prices among which one comes next
+-- if more prices follow, the next one is for a number without a price, and within the limit
 pub kept_before : (sizes : Sizes) (kept : Kept) (x : Priced) (u : ℕ) (courses rooms : List (ℕ × ℕ)) → AreKept sizes ((with_priced kept x u).0 ++ courses, (with_priced kept x u).1 ++ rooms) → IsUnseen sizes (seen_in kept) x × (u ≤ MAX_PRICE)
 kept_before sizes kept (Course c) u courses rooms are =
     let grouped : (kept.0 ++ (c, u) ∷ []) ++ courses ≡ kept.0 ++ (c, u) ∷ courses = append_assoc kept.0 ((c, u) ∷ []) courses in (
@@ -91,14 +91,14 @@ kept_before sizes kept (Room r) u courses rooms are =
 abbrev seen : List ℕ → List ℕ → Seen
 seen courses rooms = (courses, rooms)
 
--- the numbers of pairs and of one more
+-- the numbers of the pairs and of another one
 pub seen_push : (kept : Kept) (x : Priced) (u : ℕ) → with_seen (seen_in kept) x ≡ seen_in (with_priced kept x u)
 seen_push kept (Course c) u = ap (λ (l : List ℕ). seen l (map (λ k. k.0) kept.1)) (sym (map-append (λ k. k.0) kept.0 ((c, u) ∷ [])))
 seen_push kept (Room r) u = ap (λ (l : List ℕ). seen (map (λ k. k.0) kept.0) l) (sym (map-append (λ k. k.0) kept.1 ((r, u) ∷ [])))
 
--- ---- one turn
+-- -- one iteration
 
--- a pair after those that are seen is one after those that are kept
+-- reading a pair after the numbers seen is reading the next part after the stored pairs
 pub pair_kept : (sizes : Sizes) (now next : State) (result : Result (Option (Priced × ℕ)) TextFault) (listed : Seen) (kept : Kept) → listed ≡ seen_in kept → IsReading now next (λ o s. (o, s)) result (pair_at sizes listed)
     → ReadsPart with_pair (next_pair_at sizes) (prices_at sizes) now next result kept
 pair_kept sizes now next result listed kept same read = subst (λ l. IsReading now next (λ o s. (o, s)) result (pair_at sizes l)) same read

@@ -1,4 +1,4 @@
--- What is read takes tokens.
+-- Each reading takes tokens.
 use Rattle.std.proofs.Common.{◌≡◌, ℕ, ◌<◌, ◌≤◌, suc, [], length, Option, Some, None, Result, Ok, subst, arith}
 use Rattle.std.specs.List.{push}
 use Rattle.tt_text.specs.Tokens.{Placed}
@@ -22,14 +22,14 @@ use Rattle.tt_proof_read.proofs.Loops.{TakesTokens, total_less}
 abbrev pub IsLess : {A : Type 0} → Stream → A × Stream → Type 0
 IsLess s x = length x.1.tokens < length s.tokens
 
--- what is made of one token
+-- a value made of one token
 pub one_less : {A : Type 0} (make : Placed → Result A TextFault) (s : Stream) (x : A × Stream) → one_at make s ≡ Ok x → IsLess s x
 one_less make s x e =
     let t = bind_ok (token_at s) _ x e in
     let a = bind_ok (make t.0.0) (λ b. Ok (b, t.0.1)) x t.2 in
     subst (IsLess s) (ok_is (a.0, t.0.1) x a.2) (token_less s t.0 t.1)
 
--- and what is made of that
+-- a value made of another value that was read
 made_less : {A B : Type 0} (read : Result (A × Stream) TextFault) (make : A → B) (s : Stream) (x : B × Stream) → ((y : A × Stream) → read ≡ Ok y → IsLess s y)
     → (read >>= λ y. Ok (make y.0, y.1)) ≡ Ok x → IsLess s x
 made_less read make s x less e =
@@ -58,7 +58,7 @@ pub listed_takes : (sizes : Sizes) → TakesTokens push (listed_at sizes)
 unfolding listed_at
 listed_takes sizes = record { less = λ before s x e. one_less (listed_of sizes before) s x e }
 
--- with a price no more tokens are left
+-- reading the price takes no token back
 with_price_less : (s : Stream) (o : Option Priced) (x : Option (Priced × ℕ) × Stream) → with_price o s ≡ Ok x → length x.1.tokens ≤ length s.tokens
 with_price_less s None x e = subst (λ (y : Option (Priced × ℕ) × Stream). length y.1.tokens ≤ length s.tokens) (ok_is (None, s) x e) (omega arith)
 with_price_less s (Some a) x e = let less = made_less (price_at s) (λ u. Some (a, u)) s x (price_less s) e in omega (arith, less)
@@ -78,7 +78,7 @@ prices_less : (sizes : Sizes) (s : Stream) (x : Kept × Stream) → prices_at si
 unfolding prices_at
 prices_less sizes s x e = total_less with_pair (next_pair_at sizes) (pair_takes sizes) (suc (length s.tokens)) ([], []) s x e
 
--- what follows the word of a claim
+-- the rest of a claim after its word
 behind_less : (sizes : Sizes) (w : ClaimWord) (s : Stream) (x : Claim × Stream) → claim_after_word sizes w s ≡ Ok x → IsLess s x
 unfolding claim_after_word
 behind_less sizes claim_word.Capacity s x e =

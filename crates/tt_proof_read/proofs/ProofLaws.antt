@@ -1,4 +1,4 @@
--- Whole proofs: what is read node by node is spelled, and what is spelled is read.
+-- Whole proofs: those that are read node by node are spelled, and those that are spelled are read.
 use Rattle.std.proofs.Common.{◌≡◌, ℕ, ◌+◌, ◌≤◌, List, [], ◌∷◌, ◌++◌, length, Result, Ok, Err, refl, sym, ap, subst, ◌∙◌, arith}
 use Rattle.std.specs.Prelude.{All}
 use Rattle.std.proofs.lemmas.List.Elements.{All-nil, All-cons, All-head, All-tail, All-from_recursion, recursion_from_All}
@@ -64,7 +64,7 @@ header_reads v b s after low high within took =
 
 -- ---- the end
 
--- where no token is refused there is none
+-- if no token is refused, none is left
 no_more_took : (ts : List Placed) (stop : Result ℕ FeedFault) (x : Stream) → no_more ts stop ≡ Ok x → (ts ≡ []) × ((m : ℕ) × (stop ≡ Ok m))
 no_more_took [] (Ok m) x e = (refl, (m, refl))
 no_more_took [] (Err f) x e = absurd cc
@@ -131,10 +131,10 @@ module _ (p : Problem) (sizes : Sizes) (are : AreSizes p sizes) (version : ℕ) 
         nodes_read small (count + 1) ns spells.1 parts.0 after (omega arith) spells.3 (All-tail (IsNode p version) n ns each) parts.2,
       )
 
--- ---- the whole
+-- -- the whole proof
 
 module _ (p : Problem) (sizes : Sizes) (are : AreSizes p sizes) where
-  -- a proof that was read is spelled, where no path is too long
+  -- a proof that was read is spelled, if no path is too long
   pub reads_spelled : (bytes : List ℕ) (v : ℕ) (b : Bound) (tree : Tree) → AllLeaves (λ path _. length path ≤ MAX_FACTS) [] tree → Reads sizes (stream_of_bytes bytes) v b tree → SpellsProof p bytes v b tree
   reads_spelled bytes v b tree depth r =
       let s = stream_of_bytes bytes in

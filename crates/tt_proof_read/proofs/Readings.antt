@@ -1,4 +1,4 @@
--- Readings from a feed, one after the other.
+-- Readings from a feed, in turn.
 use Rattle.std.proofs.Common.{◌≡◌, ℕ, ◌<◌, true, if◌then◌else◌, Result, Ok, Err, refl, sym, ap, ◌∙◌}
 use Rattle.std.proofs.lemmas.Bool.{lt-ltb}
 use Rattle.tt_text.specs.Feeds.{Stream}
@@ -10,7 +10,7 @@ use Rattle.tt_proof_read.specs.Reading.{counted}
 use Rattle.tt_proof_read.specs.declared.fault.TextFault.{TextFault}
 use Rattle.tt_proof_read.specs.declared.format.TheConstants.{MAX_NODES}
 
--- nothing more is read: a value is made of what was
+-- nothing more is read: a value is made of those that were read
 pub reads_value : {Y W : Type 0} (s : State) (last : Y → Stream → W) (y : Y) → IsReading s s last (Ok y) (λ t. Ok (last y t))
 reads_value s last y = record {
   known = λ k. k;
@@ -42,7 +42,7 @@ module _ {Y Z W : Type 0} (last : Y → Stream → W) where
         (before.0, bind_is _ _ next _ before.1 here.1);
   }
 
-  -- a fault was read, and is handed on
+  -- a fault was read, and is passed on
   pub reads_fault : {X : Type 0} (view : X → Stream → Z) (first : Stream → Result Z TextFault) (next : Z → Result W TextFault) (old new : State) (f : TextFault)
       → IsReading old new view (Err f) first → IsReading old new last (Err f) (λ s. first s >>= next)
   reads_fault view first next old new f a = record {
@@ -52,11 +52,11 @@ module _ {Y Z W : Type 0} (last : Y → Stream → W) where
     cut_short = λ k failure. let here = a.cut_short k failure in (here.0, ap (λ q. q >>= next) here.1);
   }
 
-  -- what was read was taken, and then the rest
+  -- a value was made of those that were read, and then the rest
   pub takes_then : (made : Result Z TextFault) (next : Z → Stream → Result W TextFault) (old new : State) (z : Z) (r : Result Y TextFault)
       → made ≡ Ok z → IsReading old new last r (next z) → IsReading old new last r (λ s. made >>= λ x. next x s)
   takes_then made next old new z r e a = rw e a
 
--- there is room for one more node
+-- there is room for another node
 pub counted_below : (at count : ℕ) → count < MAX_NODES → counted at count ≡ Ok (tt {0})
 counted_below at count below = rw (lt-ltb count MAX_NODES below) refl

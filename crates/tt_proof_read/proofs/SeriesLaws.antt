@@ -1,4 +1,4 @@
--- Parts up to their end: what is read is spelled, and what is spelled is read.
+-- Parts up to their end: those that are read are spelled, and those that are spelled are read.
 use Rattle.std.proofs.Common.{◌≡◌, ℕ, zero, suc, ◌<◌, List, [], ◌∷◌, ◌++◌, length, Option, Some, None, Result, Ok, refl, sym, ap, subst, ◌∙◌, append_assoc, arith}
 use Rattle.std.specs.Prelude.{fold}
 use Rattle.tt_text.specs.Pieces.{Piece}
@@ -11,7 +11,7 @@ use Rattle.tt_proof_read.proofs.Loops.{TakesTokens}
 use Rattle.tt_proof_read.proofs.Taking.{Took, took_then, took_split}
 
 module _ {S X : Type 0} (add : S → X → S) (part : S → Stream → Result (Option X × Stream) TextFault) (Spell : X → List Piece → Type 0) (Next : S → X → Type 0) (last : Piece) where
-  -- each part is right beside what is kept of those before it
+  -- each part satisfies its condition, given the stored value of the parts before it
   abbrev pub EachNext : S → List X → Type 0
   EachNext kept [] = Unit {0}
   EachNext kept (x ∷ xs) = Next kept x × EachNext (add kept x) xs
@@ -30,7 +30,7 @@ module _ {S X : Type 0} (add : S → X → S) (part : S → Stream → Result (O
     pub took : Took s (body ++ last ∷ []) y.1
     pub each : EachNext kept items
 
-  -- one part, and then the others
+  -- one part and then the others
   then_took : (n : ℕ) (kept : S) (s rest : Stream) (o : Option X) (y : S × Stream) → PartTook kept s o rest → ((now : S) → up_to_end add part n now rest ≡ Ok y → SeriesTook now rest y)
       → kept_then add kept rest (λ now. up_to_end add part n now rest) o ≡ Ok y → SeriesTook kept s y
   then_took n kept s rest None y took more e =

@@ -1,4 +1,4 @@
--- Sizes that an index can reach, and what is below them.
+-- Sizes that an index can reach, and the numbers below them.
 use Rattle.std.proofs.Common.{◌≤◌, ◌<◌, arith}
 use Rattle.tt_instance.specs.Problem.{Problem}
 use Rattle.tt_instance.specs.Limits.{IsInstance}
@@ -15,7 +15,7 @@ pub record AreSmall (sizes : Sizes) : Type 0 where
   pub days : sizes.days ≤ 4294967295
   pub periods : sizes.periods ≤ 4294967295
 
--- the sizes of an instance are
+-- the sizes of an instance are numbers that an index may have
 pub are_small : (p : Problem) (sizes : Sizes) → IsInstance p → AreSizes p sizes → AreSmall sizes
 are_small p sizes is are = record {
   courses = omega (arith, are.courses, is.within.courses);

@@ -1,4 +1,4 @@
--- What was read of a stream is spelled by the tokens that it took.
+-- The value read from a stream is spelled by the tokens that it took.
 use Rattle.std.proofs.Common.{◌≡◌, ℕ, ◌<◌, List, [], ◌∷◌, ◌++◌, length, Result, Ok, refl, sym, ap, subst, ◌∙◌, arith}
 use Rattle.tt_text.specs.Tokens.{Placed}
 use Rattle.tt_text.specs.Pieces.{Piece, IsPiece, Begins}
@@ -8,7 +8,7 @@ use Rattle.tt_text.proofs.Steps.{ok_is, bind_ok}
 use Rattle.tt_proof_read.specs.Reading.{first_of, token_at, one_at}
 use Rattle.tt_proof_read.specs.declared.fault.TextFault.{TextFault}
 
--- The stream begins with these pieces, and this is what comes after them.
+-- The stream begins with these pieces, and `after` is the rest.
 pub record Took (s : Stream) (ps : List Piece) (after : Stream) : Type 0 where
   pub begins : Begins ps s.tokens after.tokens
   pub stop : s.stop ≡ after.stop
@@ -19,7 +19,7 @@ begins_then [] qs ts mid rest a b = subst (λ (xs : List Placed). Begins qs xs r
 begins_then (p ∷ ps) qs [] mid rest a b = absurd a
 begins_then (p ∷ ps) qs (t ∷ ts) mid rest a b = (a.0, begins_then ps qs ts mid rest a.1 b)
 
--- the same for streams
+-- some pieces of a stream, and then more pieces
 pub took_then : (s mid after : Stream) (ps qs : List Piece) → Took s ps mid → Took mid qs after → Took s (ps ++ qs) after
 took_then s mid after ps qs a b = record {
   begins = begins_then ps qs s.tokens mid.tokens after.tokens a.begins b.begins;
@@ -30,7 +30,7 @@ took_then s mid after ps qs a b = record {
 pub took_nothing : (s : Stream) → Took s [] s
 took_nothing s = record { begins = refl; stop = refl }
 
--- a token that was read stands first
+-- a token that was read is the first one
 first_is : (ts : List Placed) (stop : Result ℕ FeedFault) (x : Placed × Stream) → first_of ts stop ≡ Ok x → (ts ≡ x.0 ∷ x.1.tokens) × (stop ≡ x.1.stop)
 first_is [] stop x e = absurd cc
 first_is (t ∷ ts) stop x e =
@@ -44,14 +44,14 @@ took_piece s x p e piece =
     let h = first_is s.tokens s.stop x e in
     record { begins = subst (λ (ts : List Placed). Begins (p ∷ []) ts x.1.tokens) (sym h.0) (piece, refl); stop = h.1 }
 
--- a token less is left
+-- after a token is read, the number of tokens left is smaller
 pub token_less : (s : Stream) (x : Placed × Stream) → token_at s ≡ Ok x → length x.1.tokens < length s.tokens
 unfolding token_at
 token_less s x e = let h = ap length (first_is s.tokens s.stop x e).0 in omega arith
 
 -- ---- pieces that are spelled
 
--- the next token is this piece, and what follows begins with these pieces
+-- the next token is this piece, and the tokens after it begin with these pieces
 pub record First (p : Piece) (ps : List Piece) (s after : Stream) : Type 0 where
   pub token : Placed
   pub mid : Stream
@@ -59,7 +59,7 @@ pub record First (p : Piece) (ps : List Piece) (s after : Stream) : Type 0 where
   pub piece : IsPiece p token.text
   pub rest : Took mid ps after
 
--- the first of some pieces, where the stream is shown
+-- the first of some pieces, for a stream given by its parts
 first_in : (p : Piece) (ps : List Piece) (ts : List Placed) (stop : Result ℕ FeedFault) (after : Stream) → Took (record { tokens = ts; stop = stop }) (p ∷ ps) after → First p ps (record { tokens = ts; stop = stop }) after
 unfolding token_at
 first_in p ps [] stop after a = absurd a.begins
@@ -81,21 +81,21 @@ begins_split [] qs ts rest a = (ts, refl, a)
 begins_split (p ∷ ps) qs [] rest a = absurd a
 begins_split (p ∷ ps) qs (t ∷ ts) rest a = let b = begins_split ps qs ts rest a.1 in (b.0, (a.0, b.1), b.2)
 
--- some pieces, and then the others
+-- some pieces and then the others
 pub took_split : (ps qs : List Piece) (s after : Stream) → Took s (ps ++ qs) after → (mid : Stream) × Took s ps mid × Took mid qs after
 took_split ps qs s after a =
     let b = begins_split ps qs s.tokens after.tokens a.begins in
     (record { tokens = b.0; stop = s.stop }, record { begins = b.1; stop = refl }, record { begins = b.2; stop = a.stop })
 
--- tokens and what stops them
+-- tokens, and the fault or end after them
 abbrev stream : List Placed → Result ℕ FeedFault → Stream
 stream ts stop = record { tokens = ts; stop = stop }
 
--- where no piece is left, nothing is taken
+-- if no piece is left, no token is taken
 pub took_same : (s after : Stream) → Took s [] after → s ≡ after
 took_same s after a = ap (λ ts. stream ts s.stop) a.begins ∙ ap (stream after.tokens) a.stop
 
--- ---- what is made of one token
+-- -- values made of one token
 
 -- a token that was read is a piece
 pub one_took : {A : Type 0} (make : Placed → Result A TextFault) (piece : A → Piece) (P : A → Type 0) (s : Stream) (x : A × Stream) → ((t : Placed) (a : A) → make t ≡ Ok a → IsPiece (piece a) t.text × P a)

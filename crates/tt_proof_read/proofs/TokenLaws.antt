@@ -1,4 +1,4 @@
--- Single tokens of a proof: what is read is spelled, and what is spelled is read.
+-- Single tokens of a proof: those that are read are spelled, and those that are spelled are read.
 use Rattle.std.proofs.Common.{◌≡◌, ℕ, ◌≤◌, ◌<◌, Bool, true, false, cond, List, [], ◌∷◌, Option, Some, None, Result, Ok, Err, refl, sym, ap, subst, ◌∙◌, arith, inl, inr, eqb-true, lit≤, codes}
 use Rattle.std.specs.Prelude.{◌==◌, nat_lt, IfSome}
 use Rattle.std.proofs.lemmas.Bool.{leb-true, le-leb, cases_eq, false_from_ne_true}
@@ -29,7 +29,7 @@ use Rattle.tt_proof_read.specs.declared.sizes.Sizes.{Sizes}
 use Rattle.tt_proof_read.proofs.Small.{AreSmall, IsWhoIn}
 use Rattle.tt_proof_read.proofs.Taking.{Took, first_of_pieces, took_piece, took_same, one_took, one_reads}
 
--- what two ways of a choice give
+-- the result of a choice, from its two branches
 pub choice : {A : Type 0} (P : A → Type 0) (b : Bool) (a x : A) (r : Result A TextFault) → (b ≡ true → P a) → (b ≡ false → r ≡ Ok x → P x) → cond b (Ok a) r ≡ Ok x → P x
 choice P true a x r one other e = subst P (ok_is a x e) (one refl)
 choice P false a x r one other e = other refl e
@@ -54,7 +54,7 @@ word_reads w s after took =
 
 -- ---- numbers after a letter
 
--- what was read as a number after a letter is a number
+-- a token that was read as a number after a letter is a number
 numbered_ok : (at : ℕ) (r : Result ℕ NumberFault) (n : ℕ) → numbered at r ≡ Ok n → r ≡ Ok n
 numbered_ok at (Ok m) n e = cc
 numbered_ok at (Err number.NotANumber) n e = absurd cc
@@ -84,20 +84,20 @@ in_took at letter count (b ∷ bs) n e =
     let s = number_took at count bs n h.1 in
     ((bs, ap (λ (k : ℕ). k ∷ bs) (eqb-true b letter h.0), s.0), s.1)
 
--- a letter is itself
+-- a letter equals itself
 same_letter : (b : ℕ) → (b == b) ≡ true
 same_letter b = grind arith
 
--- the piece of a letter and a number is read as it
+-- the piece of a letter and a number is read as that number
 in_reads : (at letter count : ℕ) (text : List ℕ) (n : ℕ) → count ≤ 4294967295 → n < count → IsPiece (Index letter n) text → index_in at letter count text ≡ Ok n
 in_reads at letter count text n few less piece = rw (piece.1, same_letter letter) (number_reads at count piece.0 n few less piece.2)
 
--- the same for a token
+-- a token that was read as a letter and a number is its piece
 pub index_took : (letter count : ℕ) (t : Placed) (n : ℕ) → index_of letter count t ≡ Ok n → IsPiece (Index letter n) t.text × (n < count)
 unfolding index_of
 index_took letter count t n e = in_took t.at letter count t.text n e
 
--- and back
+-- a token that is the piece of a letter and a number is read as that number
 pub index_reads : (letter count n : ℕ) (t : Placed) → count ≤ 4294967295 → n < count → IsPiece (Index letter n) t.text → index_of letter count t ≡ Ok n
 unfolding index_of
 index_reads letter count n t few less piece = in_reads t.at letter count t.text n few less piece
@@ -122,13 +122,13 @@ pub curriculum_reads : (sizes : Sizes) (q : ℕ) (s after : Stream) → sizes.cu
 unfolding curriculum_at
 curriculum_reads sizes q s after few less took = one_reads (index_of CURRICULUM_LETTER sizes.curricula) (Index CURRICULUM_LETTER q) q s after (λ t piece. index_reads CURRICULUM_LETTER sizes.curricula q t few less piece) took
 
--- a number that was taken is none of those before it
+-- a number that was taken differs from those before it
 pub new_number_ok : (at : ℕ) (before : List ℕ) (n m : ℕ) → new_number at before n ≡ Ok m → (has_number before n ≡ false) × (n ≡ m)
 new_number_ok at before n m e = let h = refusal_ok (has_number before n) (fault.RepeatedIndex at) (Ok n) m e in (h.0, ok_is n m h.1)
 
 -- ---- prices
 
--- what was read as a price is a number
+-- a token that was read as a price is a number
 priced_ok : (at : ℕ) (r : Result ℕ NumberFault) (u : ℕ) → priced_as at r ≡ Ok u → r ≡ Ok u
 priced_ok at (Ok m) u e = cc
 priced_ok at (Err f) u e = absurd cc
@@ -163,7 +163,7 @@ who_took_in at sizes (b ∷ bs) w e = by_letter (b == COURSE_LETTER) (b == CURRI
         subst (λ v. IsPiece (who_piece v) (b ∷ bs) × IsWhoIn sizes v) (ok_is (Curriculum n.0) w n.2) ((bs, ap (λ (k : ℕ). k ∷ bs) (eqb-true b 113 y_is), s.0), s.1)
     by_letter false false x_is y_is h = absurd cc
 
--- the piece of a course or a curriculum is read as it
+-- the piece of a course or a curriculum is read as that course or curriculum
 who_reads_in : (at : ℕ) (sizes : Sizes) (w : Who) (text : List ℕ) → AreSmall sizes → IsWhoIn sizes w → IsPiece (who_piece w) text → who_in at sizes text ≡ Ok w
 who_reads_in at sizes (Course n) text small less piece = rw (piece.1, number_reads at sizes.courses piece.0 n small.courses less piece.2) refl
 who_reads_in at sizes (Curriculum n) text small less piece = rw (piece.1, number_reads at sizes.curricula piece.0 n small.curricula less piece.2) refl
@@ -194,7 +194,7 @@ not_single byte letter n text piece = false_from_ne_true (is_text (byte ∷ []) 
     let digits : is_number_text [] ≡ true = subst (λ (ds : List ℕ). is_number_text ds ≡ true) none piece.2.digits_only in
     cc)
 
--- the piece of a given number or `*` is read as it
+-- the piece of a given number or `*` is read as that number or `*`
 given_reads_of : (letter count : ℕ) (o : Option ℕ) (t : Placed) → count ≤ 4294967295 → IfSome o (λ n. n < count) → IsPiece (given_piece letter o) t.text → given_of letter count t ≡ Ok o
 unfolding given_of
 given_reads_of letter count None t few less piece = rw (is_text_of t.text (codes "*") piece) refl
@@ -212,14 +212,14 @@ given_reads letter count o s after few less took = one_reads (given_of letter co
 
 -- ---- the version
 
--- a token that was read as a version is its text
+-- a token that was read as a version has its text
 version_is : (t : Placed) (v : ℕ) → version_of t ≡ Ok v → (t.text ≡ version_text v) × ((1 ≤ v) × (v ≤ 2))
 version_is t v e =
     let P : ℕ → Type 0 = λ n. (t.text ≡ version_text n) × ((1 ≤ n) × (n ≤ 2)) in
     choice P (is_text (codes "1") t.text) 1 v (cond (is_text (codes "2") t.text) (Ok 2) (Err (fault.Expected word.One t.at))) (λ h. (text_is t.text (codes "1") h, (lit≤ tt, lit≤ tt))) (λ _ r.
     choice P (is_text (codes "2") t.text) 2 v (Err (fault.Expected word.One t.at)) (λ h. (text_is t.text (codes "2") h, (lit≤ tt, lit≤ tt))) (λ _ x. absurd cc) r) e
 
--- the text of a version is read as it
+-- the text of a version is read as that version
 is_version : (v : ℕ) (t : Placed) → 1 ≤ v → v ≤ 2 → t.text ≡ version_text v → version_of t ≡ Ok v
 is_version v t low high h = elim (cases_eq v 1) [
   | inl e ↦ rw (h, e) refl
@@ -251,13 +251,13 @@ bound_is t b e =
     let n = bounded_ok t.at _ b r in
     subst (λ (c : Bound). IsPiece (bound_piece c) t.text × IsBound c) n.2 (number_spelled MAX_POINTS t.text n.0 n.1)) e
 
--- digits are not `none`
+-- digits are different from `none`
 not_none : (text : List ℕ) → is_number_text text ≡ true → is_text (codes "none") text ≡ false
 not_none text digits = false_from_ne_true (is_text (codes "none") text) (λ e.
     let none : is_number_text (codes "none") ≡ true = subst (λ (t : List ℕ). is_number_text t ≡ true) (text_is text (codes "none") e) digits in
     cc)
 
--- the piece of a bound is read as it
+-- the piece of a bound is read as that bound
 is_bound : (b : Bound) (t : Placed) → IsBound b → IsPiece (bound_piece b) t.text → bound_of t ≡ Ok b
 unfolding bound_of
 is_bound (AtLeast n) t within piece = rw (not_none t.text piece.digits_only, number_read MAX_POINTS t.text n piece within) refl

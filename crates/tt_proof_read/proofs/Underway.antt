@@ -1,4 +1,4 @@
--- Parts up to their end, read from a feed one after the other.
+-- Parts up to their end, read from a feed in turn.
 use Rattle.std.proofs.Common.{◌≡◌, ℕ, true, false, is_some, if◌then◌else◌, List, Option, Some, None, Result, Ok, Err, refl, ap, ◌∙◌}
 use Rattle.tt_text.specs.Feeds.{Stream, stream_at}
 use Rattle.tt_text.specs.CutShort.{cut_at, MayFail}
@@ -9,7 +9,7 @@ use Rattle.tt_proof_read.specs.declared.fault.TextFault.{TextFault}
 use Rattle.tt_proof_read.proofs.Loops.{TakesTokens, IsLeft, left_then, left_end, left_fails}
 
 module _ {S X : Type 0} (add : S → X → S) (part : S → Stream → Result (Option X × Stream) TextFault) (whole : Stream → Result (S × Stream) TextFault) where
-  -- parts were read from the old state to this one, and those that are left come to the whole
+  -- parts were read from the old state to this one, and reading those that are left completes the whole
   pub record IsUnderway (old now : State) (kept : S) : Type 0 where
     pub known : StaysKnown old.remaining now.remaining
     pub failed : old.fed.fault ≡ None → (now.fed.fault ≡ None) × (now.failed ≡ old.failed)
@@ -17,7 +17,7 @@ module _ {S X : Type 0} (add : S → X → S) (part : S → Stream → Result (O
     pub cut_short : is_some old.remaining ≡ true → (rest : List ℕ) → MayFail rest now.fed now.remaining
         → MayFail rest old.fed old.remaining × IsLeft add part kept (cut_at rest now.fed now.remaining) (whole (cut_at rest old.fed old.remaining))
 
-  -- what a part says of its own reading
+  -- the contract of reading one part
   abbrev pub ReadsPart : State → State → Result (Option X) TextFault → S → Type 0
   ReadsPart now next result kept = IsReading now next (λ o s. (o, s)) result (part kept)
 

@@ -14,7 +14,7 @@ tree_fills (Branch g x y) places nodes =
     ap (λ l. open_after (suc (suc places)) l) (append_assoc (preorder x) (preorder y) nodes)
     ∙ tree_fills x (suc places) (preorder y ++ nodes) ∙ tree_fills y places nodes
 
--- a tree that stands first
+-- a tree at the front of some nodes
 record Begins (places : ℕ) (nodes : List Node) : Type 0 where
   tree : Tree
   more : List Node
@@ -47,15 +47,15 @@ filled_tree nodes e =
     let h = first_tree (length nodes) nodes 0 (omega arith) e in
     (h.tree, sym (append-nil (preorder h.tree)) ∙ ap (λ l. preorder h.tree ++ l) (sym (none_left h.more h.others)) ∙ h.split)
 
--- and a tree's nodes leave none open
+-- the nodes of a tree leave no place open
 pub tree_filled : (tree : Tree) → open_after 1 (preorder tree) ≡ Some 0
 tree_filled tree = ap (open_after 1) (sym (append-nil (preorder tree))) ∙ tree_fills tree 0 []
 
--- nodes of a tree fill each place
+-- nodes in preorder leave no place open
 pub preorder_fills : (nodes : List Node) → IsPreorder nodes → open_after 1 nodes ≡ Some 0
 preorder_fills nodes whole = ap (open_after 1) (sym whole.1) ∙ tree_filled whole.0
 
--- a node is read where a place is open
+-- a node is read if a place is open
 pub open_more : (nodes : List Node) (i places : ℕ) (node : Node) → i < length nodes → node ≡ get_or nodes i node → ¬ (places ≡ 0)
     → open_after places (drop i nodes) ≡ open_after (places_after node places) (drop (i + 1) nodes)
 open_more nodes i zero node below is some = absurd (some refl)
@@ -74,13 +74,13 @@ none_is_not n e = cc
 some_is : (a b : ℕ) → Some a ≡ Some b → a ≡ b
 some_is a b e = cc
 
--- and none where no place is open
+-- if no place is open but a node is left, the nodes are not one tree
 pub open_over : (nodes : List Node) (i : ℕ) (node : Node) → i < length nodes → open_after 1 nodes ≡ open_after 0 (drop i nodes) → ¬ IsPreorder nodes
 open_over nodes i node below so_far whole =
     let none : open_after 0 (drop i nodes) ≡ None = at_drop_more (open_after 0) nodes i node below in
     none_is_not 0 (sym (so_far ∙ none) ∙ preorder_fills nodes whole)
 
--- at the end the count of the open places tells
+-- at the end, no place is open exactly if the nodes are one tree
 pub open_told : (nodes : List Node) (i places : ℕ) → length nodes ≤ i → open_after 1 nodes ≡ open_after places (drop i nodes) → IsTrue (places == 0) ↔ IsPreorder nodes
 open_told nodes i places past so_far =
     let left : open_after 1 nodes ≡ Some places = so_far ∙ at_drop_all (open_after places) nodes i past in

@@ -1,16 +1,16 @@
--- What a reader over a feed answers.
+-- The results of a reader over a feed.
 use Rattle.std.specs.Prelude.{◌≡◌, ℕ, true, is_some, List, Option, Result, Ok, Err}
 use Rattle.tt_text.specs.Feeds.{Fed, Stream}
 use Rattle.tt_text.specs.CutShort.{rest_of, cut_at, MayFail}
 use Rattle.tt_proof_read.specs.Faults.{is_failed_read}
 use Rattle.tt_proof_read.specs.declared.fault.TextFault.{TextFault}
 
--- a source that tells its bytes still tells them
+-- A source whose bytes are known still has known bytes afterwards.
 abbrev pub StaysKnown : Option (List ℕ) → Option (List ℕ) → Type 0
 StaysKnown before after = is_some before ≡ true → is_some after ≡ true
 
--- What an answer says of the failure of a read, its own or a later one, where the source tells its bytes. A value is what reading gives of what comes
--- before a later failure. A failed read is told where reading comes to that very failure.
+-- What a result says about a failed read, in this call or a later one, if the source's bytes are known. A value is what reading gives for the
+-- bytes before a later failure. A failed read is reported only if reading the bytes before it reaches exactly that failure.
 abbrev pub AgreesWhenCut : {X Z : Type 0} → Fed → Option (List ℕ) → Fed → Option (List ℕ) → (X → Stream → Z) → Result X TextFault → (Stream → Result Z TextFault) → Type 0
 AgreesWhenCut old before new after view (Ok x) reading =
     is_some before ≡ true → (rest : List ℕ) → MayFail rest new after
@@ -18,6 +18,6 @@ AgreesWhenCut old before new after view (Ok x) reading =
 AgreesWhenCut old before new after view (Err f) reading =
     is_some before ≡ true → is_failed_read f ≡ true → MayFail (rest_of after) old before × (reading (cut_at (rest_of after) old before) ≡ Err f)
 
--- the same of a reading that gives a value and what comes after it
+-- What a result says about a failed read, for a reading that gives a value and the rest of the stream.
 abbrev pub AgreesWhenCutAs : {X Y : Type 0} → Fed → Option (List ℕ) → Fed → Option (List ℕ) → (X → Y) → Result X TextFault → (Stream → Result (Y × Stream) TextFault) → Type 0
 AgreesWhenCutAs old before new after view result reading = AgreesWhenCut old before new after (λ x s. (view x, s)) result reading

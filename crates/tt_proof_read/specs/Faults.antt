@@ -1,4 +1,4 @@
--- What a fault says of the text, and what an answer says of it.
+-- What a fault says about the text, and what a result says about it.
 use Rattle.std.specs.Prelude.{◌≡◌, Bool, true, false, Result, IfErr}
 use Rattle.tt_text.specs.Reading.{AgreesUnless}
 use Rattle.tt_text.specs.declared.feed.FeedFault.{FeedFault}
@@ -6,12 +6,12 @@ use Rattle.tt_text.specs.declared.feed.FeedFault.TheVariants as feed
 use Rattle.tt_proof_read.specs.declared.fault.TextFault.{TextFault}
 use Rattle.tt_proof_read.specs.declared.fault.TextFault.TheVariants as fault
 
--- what a fault of the feed is called
+-- The fault of the text for a fault of the feed.
 abbrev pub fault_from_feed : FeedFault → TextFault
 fault_from_feed feed.OutOfMemory = fault.OutOfMemory
 fault_from_feed f = fault.Feed f
 
--- a failed read says nothing of the bytes, nor does being out of memory
+-- A failed read says nothing about the bytes, and neither does being out of memory.
 abbrev pub is_silent : TextFault → Bool
 is_silent fault.OutOfMemory = true
 is_silent (fault.Feed feed.Read) = true
@@ -24,14 +24,14 @@ abbrev pub is_failed_read : TextFault → Bool
 is_failed_read (fault.Feed feed.Read) = true
 is_failed_read _ = false
 
--- no failed read is told
+-- No failed read is reported.
 abbrev pub TellsNoFailedRead : {X : Type 0} → Result X TextFault → Type 0
 TellsNoFailedRead result = IfErr result (λ f. is_failed_read f ≡ false)
 
--- being out of memory is not told
+-- Being out of memory is not reported.
 abbrev pub TellsNoOutOfMemory : {X : Type 0} → Result X TextFault → Type 0
 TellsNoOutOfMemory result = IfErr result (λ f. ¬ (f ≡ fault.OutOfMemory))
 
--- what was answered, seen by view, is what the text gives, silent faults aside
+-- The result, seen by `view`, is what the text gives, except for silent faults.
 abbrev pub Gives : {X Y : Type 0} → (X → Y) → Result X TextFault → Result Y TextFault → Type 0
 Gives view result read = AgreesUnless is_silent view result read

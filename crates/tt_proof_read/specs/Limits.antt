@@ -1,4 +1,4 @@
--- The limits of a leaf, and the claims of a version, for those who ask only for these.
+-- The limits of a leaf, and the claims of a version, for users who need only these.
 use Rattle.std.specs.Prelude.{◌≡◌, ℕ, ◌≤◌, ◌==◌, true, not, All, ⊤}
 use Rattle.tt_lists.specs.Words.{each_two}
 use Rattle.tt_leaf_rules.specs.declared.leaf.Claim.{Claim}
@@ -7,7 +7,7 @@ use Rattle.tt_leaf_rules.specs.declared.leaf.Leaf.{Leaf}
 use Rattle.tt_leaf_rules.specs.declared.leaf.Leaf.TheVariants.{Clique, Slots, Cost}
 use Rattle.tt_proof_read.specs.declared.format.TheConstants.{MAX_PRICE}
 
--- The courses of one `K` or `H` are distinct, and no price is above 1,000,000.
+-- No price is above 1,000,000; the courses of one `K` or `H` are distinct.
 abbrev pub IsShortClaim : Claim → Type 0
 IsShortClaim (Capacity c u) = u ≤ MAX_PRICE
 IsShortClaim (Prices courses rooms) = All (λ k. k.1 ≤ MAX_PRICE) courses × All (λ k. k.1 ≤ MAX_PRICE) rooms
@@ -19,7 +19,7 @@ IsShortLeaf (Slots cs) = each_two (λ a b. not (a == b)) cs ≡ true
 IsShortLeaf (Cost claims) = All IsShortClaim claims
 IsShortLeaf _ = ⊤
 
--- Prices and Stacked are claims of version 2.
+-- `Prices` and `Stacked` are claims of version 2.
 abbrev pub IsClaimIn : ℕ → Claim → Type 0
 IsClaimIn v (Prices courses rooms) = v ≡ 2
 IsClaimIn v (Stacked c) = v ≡ 2

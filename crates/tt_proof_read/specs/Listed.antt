@@ -1,14 +1,14 @@
--- Only proofs rest on this file: nobody has to believe it.
+-- Not part of the trusted statement: only proofs use this file.
 -- Numbers that have been seen.
 use Rattle.std.specs.Prelude.{◌≡◌, ℕ, ◌<◌, Bool, false, List, length, slice_index_or, All}
 use Rattle.tt_lists.specs.Words.{has_number}
 
--- numbers below a count
+-- Numbers below a count.
 pub record Listed : Type 0 where
   pub count : ℕ
   pub numbers : List ℕ
 
--- the table tells which numbers are listed
+-- The marks say which numbers are listed.
 pub record AreMarked (marks : List Bool) (numbers : List ℕ) : Type 0 where
   pub below : All (λ n. n < length marks) numbers
   pub told : (k : ℕ) → slice_index_or marks k false ≡ has_number numbers k

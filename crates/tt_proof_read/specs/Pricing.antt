@@ -1,4 +1,4 @@
--- Only proofs rest on this file: nobody has to believe it.
+-- Not part of the trusted statement: only proofs use this file.
 -- The prices that a claim lists.
 use Rattle.std.specs.Prelude.{◌≡◌, ℕ, ◌<◌, ◌≤◌, false, [], ◌∷◌, ◌++◌, All}
 use Rattle.tt_lists.specs.Words.{has_number}
@@ -11,11 +11,11 @@ use Rattle.tt_proof_read.specs.declared.prices.Prices.{Prices}
 use Rattle.tt_proof_read.specs.declared.sizes.Sizes.{Sizes}
 use Rattle.tt_proof_read.specs.declared.tables.Tables.{Tables}
 
--- the prices as two lists
+-- The prices as two lists.
 abbrev pub kept_of : Prices → Kept
 kept_of prices = (prices.courses.items, prices.rooms.items)
 
--- the numbers in the tables
+-- The numbers in the tables.
 abbrev pub seen_of : Tables → Seen
 seen_of tables = (tables.courses.numbers, tables.rooms.numbers)
 
@@ -23,22 +23,22 @@ abbrev pub with_seen : Seen → Priced → Seen
 with_seen seen (Course c) = (seen.0 ++ c ∷ [], seen.1)
 with_seen seen (Room r) = (seen.0, seen.1 ++ r ∷ [])
 
--- the tables have a place for each course and each room
+-- The tables have a place for each course and each room.
 pub record AreTables (sizes : Sizes) (tables : Tables) : Type 0 where
   pub courses : tables.courses.count ≡ sizes.courses
   pub rooms : tables.rooms.count ≡ sizes.rooms
 
--- its number is below the count of its kind
+-- Its number is below the count of its kind.
 abbrev pub IsIn : ℕ → ℕ → Priced → Type 0
 IsIn courses rooms (Course c) = c < courses
 IsIn courses rooms (Room r) = r < rooms
 
--- a course or a room of the instance that has not been seen
+-- A course or a room of the instance that hasn't been seen.
 abbrev pub IsUnseen : Sizes → Seen → Priced → Type 0
 IsUnseen sizes seen (Course c) = (c < sizes.courses) × (has_number seen.0 c ≡ false)
 IsUnseen sizes seen (Room r) = (r < sizes.rooms) × (has_number seen.1 r ≡ false)
 
--- no course and no room stands twice, and each price is within its limit
+-- No course and no room occurs twice, and each price is within its limit.
 pub record AreKept (sizes : Sizes) (kept : Kept) : Type 0 where
   pub courses : ArePrices sizes.courses kept.0
   pub rooms : ArePrices sizes.rooms kept.1

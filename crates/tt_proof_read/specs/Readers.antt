@@ -1,4 +1,4 @@
--- What a reader of nodes has read, and what it says.
+-- The state of a reader of nodes, and the meaning of its results.
 use Rattle.std.specs.Prelude.{◌≡◌, ℕ, ◌+◌, ◌-◌, ◌<◌, true, is_some, List, Option, Some, None, Result, Ok, Err, ⊤}
 use Rattle.tt_instance.specs.Problem.{Problem}
 use Rattle.tt_leaf_rules.specs.declared.leaf.Bound.{Bound}
@@ -18,7 +18,7 @@ use Rattle.tt_proof_read.specs.declared.node.Node.{Node}
 use Rattle.tt_proof_read.specs.declared.node.Node.TheVariants.{Split, Leaf}
 use Rattle.tt_proof_read.specs.declared.sizes.Sizes.{Sizes}
 
--- prices and the stacked claims are of version 2
+-- `Prices` and `Stacked` are words of version 2.
 abbrev pub IsWordIn : ℕ → ClaimWord → Type 0
 IsWordIn version Capacity = ⊤
 IsWordIn version Days = ⊤
@@ -27,15 +27,15 @@ IsWordIn version Stable = ⊤
 IsWordIn version Prices = version ≡ 2
 IsWordIn version Stacked = version ≡ 2
 
--- a claim of this version on any problem of these sizes
+-- A claim of this version on any problem of these sizes.
 abbrev pub IsClaimAt : Sizes → ℕ → Claim → Type 0
 IsClaimAt sizes version claim = (p : Problem) → AreSizes p sizes → IsClaim p version claim
 
--- a node of this version on any problem of these sizes
+-- A node of this version on any problem of these sizes.
 abbrev pub IsNodeAt : Sizes → ℕ → Node → Type 0
 IsNodeAt sizes version node = (p : Problem) → AreSizes p sizes → IsNode p version node
 
--- a reader: its feed, what the header said, how many nodes were read, how many places of the tree are open, and its fault
+-- A reader: its feed, the contents of the header, how many nodes were read, how many places of the tree are open, and its fault.
 pub record Reader : Type 0 where
   pub fed : Fed
   pub sizes : Sizes
@@ -45,29 +45,29 @@ pub record Reader : Type 0 where
   pub places : ℕ
   pub fault : Option TextFault
 
--- the open places after a node
+-- The number of open places after a node.
 abbrev pub places_after : Node → ℕ → ℕ
 places_after (Split g) n = n + 1
 places_after (Leaf leaf) n = n - 1
 
--- None where the tree is whole, and else a node, which takes a place, or a fault, which stays
+-- `None` if the tree is complete; otherwise a node, which fills a place, or a fault, which the reader stores.
 abbrev pub Goes : Reader → Result (Option Node) TextFault → Reader → Type 0
 Goes old (Ok None) new = (old.places ≡ 0) × (new ≡ old)
 Goes old (Ok (Some node)) new = (0 < old.places) × (new ≡ record old { fed = new.fed; count = old.count + 1; places = places_after node old.places })
 Goes old (Err f) new = (0 < old.places) × (new ≡ record old { fed = new.fed; fault = Some f })
 
--- the answer is what the stream gives
+-- The result is what the stream gives.
 abbrev pub Says : Reader → Stream → Result (Option Node) TextFault → Stream → Type 0
 Says old s (Ok None) after = after ≡ s
 Says old s (Ok (Some node)) after = node_at old.sizes old.version old.count s ≡ Ok (node, after)
 Says old s (Err f) after = FailsUnless is_silent f (node_at old.sizes old.version old.count s)
 
--- what a reader that has read its header, or has not, says of the failure of a read
+-- What a reader says about a failed read, after it has read its header or failed to.
 abbrev pub HeaderAgreesWhenCut : Option (List ℕ) → Result Reader TextFault → Option (List ℕ) → Type 0
 HeaderAgreesWhenCut before (Ok r) after = AgreesWhenCutAs {X = ℕ × Bound} fresh before r.fed after (λ h. h) (Ok (r.version, r.bound)) header_at
 HeaderAgreesWhenCut before (Err f) after = AgreesWhenCutAs {X = ℕ × Bound} fresh before fresh after (λ h. h) (Err f) header_at
 
--- what a reader that has read a node, or has not, says of the failure of a read
+-- What a reader says about a failed read, after it has read a node or failed to.
 abbrev pub NodeAgreesWhenCut : Reader → Option (List ℕ) → Result (Option Node) TextFault → Fed → Option (List ℕ) → Type 0
 NodeAgreesWhenCut old before (Ok None) new after =
     is_some before ≡ true → (rest : List ℕ) → MayFail rest new after → MayFail rest old.fed before × (cut_at rest new after ≡ cut_at rest old.fed before)

@@ -1,4 +1,4 @@
--- What reading a proof gives: a value and what comes after it, or the first fault from the left. All checks of one token come
+-- The result of reading a proof: a value and the rest of the stream, or the first fault from the left. All checks of one token come
 -- before the next token.
 use Rattle.std.specs.Prelude.{ℕ, zero, suc, ◌==◌, nat_lt, ◌&&◌, if◌then◌else◌, List, [], ◌∷◌, length, map, Option, Some, None, Result, Ok, Err, codes}
 use Rattle.std.specs.List.{push}
@@ -38,7 +38,7 @@ use Rattle.tt_proof_read.specs.declared.sizes.Sizes.{Sizes}
 
 -- ---- single tokens
 
--- why there is no token where one is due
+-- The fault if a token is missing.
 abbrev pub ended_as : Result ℕ FeedFault → TextFault
 ended_as (Ok n) = fault.Ended n
 ended_as (Err f) = fault_from_feed f
@@ -47,24 +47,24 @@ abbrev pub first_of : List Placed → Result ℕ FeedFault → Result (Placed ×
 first_of [] stop = Err (ended_as stop)
 first_of (t ∷ ts) stop = Ok (t, record { tokens = ts; stop = stop })
 
--- the next token
+-- The next token.
 unfoldable pub token_at : Stream → Result (Placed × Stream) TextFault
 token_at s = first_of s.tokens s.stop
 
--- what is made of the next token
+-- The value made of the next token.
 abbrev pub one_at : {A : Type 0} → (Placed → Result A TextFault) → Stream → Result (A × Stream) TextFault
 one_at make s = do
   t ← token_at s
   a ← make t.0
   Ok (a, t.1)
 
--- a fixed word
+-- A fixed word.
 unfoldable pub word_at : Word → Stream → Result Stream TextFault
 word_at w s = do
   t ← token_at s
   if is_text (word_text w) t.0.text then Ok t.1 else Err (fault.Expected w t.0.at)
 
--- a number after a letter
+-- A number after a letter.
 abbrev pub numbered : ℕ → Result ℕ NumberFault → Result ℕ TextFault
 numbered at (Ok n) = Ok n
 numbered at (Err number.NotANumber) = Err (fault.UnknownWord at)
@@ -73,7 +73,7 @@ numbered at (Err number.TooLarge) = Err (fault.UnknownIndex at)
 abbrev pub below : ℕ → ℕ → ℕ → Result ℕ TextFault
 below at count n = if nat_lt n count then Ok n else Err (fault.UnknownIndex at)
 
--- the number after a letter, below a count
+-- The number after a letter, below a count.
 unfoldable pub numbered_below : ℕ → ℕ → List ℕ → Result ℕ TextFault
 numbered_below at count digits = numbered at (number_of 4294967295 digits) >>= below at count
 
@@ -81,19 +81,19 @@ abbrev pub index_in : ℕ → ℕ → ℕ → List ℕ → Result ℕ TextFault
 index_in at letter count [] = Err (fault.UnknownWord at)
 index_in at letter count (b ∷ bs) = if b == letter then numbered_below at count bs else Err (fault.UnknownWord at)
 
--- a letter and a number below a count, in one token
+-- A letter and a number below a count, in one token.
 unfoldable pub index_of : ℕ → ℕ → Placed → Result ℕ TextFault
 index_of letter count t = index_in t.at letter count t.text
 
--- a number that is none of those before it
+-- A number that differs from those before it.
 abbrev pub new_number : ℕ → List ℕ → ℕ → Result ℕ TextFault
 new_number at before n = if has_number before n then Err (fault.RepeatedIndex at) else Ok n
 
--- `c` and the number of a course
+-- `c` and the number of a course.
 unfoldable pub course_at : Sizes → Stream → Result (ℕ × Stream) TextFault
 course_at sizes s = one_at (index_of COURSE_LETTER sizes.courses) s
 
--- `q` and the number of a curriculum
+-- `q` and the number of a curriculum.
 unfoldable pub curriculum_at : Sizes → Stream → Result (ℕ × Stream) TextFault
 curriculum_at sizes s = one_at (index_of CURRICULUM_LETTER sizes.curricula) s
 
@@ -101,7 +101,7 @@ abbrev pub priced_as : ℕ → Result ℕ NumberFault → Result ℕ TextFault
 priced_as at (Ok n) = Ok n
 priced_as at (Err e) = Err (fault.NotANumber at)
 
--- a price, at most 1,000,000
+-- A price, at most 1,000,000.
 unfoldable pub price_at : Stream → Result (ℕ × Stream) TextFault
 price_at s = one_at (λ t. priced_as t.at (number_of MAX_PRICE t.text)) s
 
@@ -113,18 +113,18 @@ who_in at sizes (b ∷ bs) =
     if b == COURSE_LETTER then (numbered_below at sizes.courses bs >>= λ n. Ok (who.Course n))
     else (if b == CURRICULUM_LETTER then (numbered_below at sizes.curricula bs >>= λ n. Ok (who.Curriculum n)) else Err (fault.UnknownWord at))
 
--- a course or a curriculum
+-- A course or a curriculum.
 unfoldable pub who_at : Sizes → Stream → Result (Who × Stream) TextFault
 who_at sizes s = one_at (λ t. who_in t.at sizes t.text) s
 
--- a letter and a number below a count, or `*`
+-- A letter and a number below a count, or `*`.
 unfoldable pub given_of : ℕ → ℕ → Placed → Result (Option ℕ) TextFault
 given_of letter count t = if is_text (codes "*") t.text then Ok None else (index_of letter count t >>= λ n. Ok (Some n))
 
 unfoldable pub given_at : ℕ → ℕ → Stream → Result (Option ℕ × Stream) TextFault
 given_at letter count s = one_at (given_of letter count) s
 
--- who, room, day and period
+-- The course or curriculum, the room, the day and the period.
 unfoldable pub pattern_at : Sizes → Stream → Result (Pattern × Stream) TextFault
 pattern_at sizes s = do
   who ← who_at sizes s
@@ -135,12 +135,12 @@ pattern_at sizes s = do
 
 -- ---- parts up to their end
 
--- what is kept, at the end, and else more with the next part
+-- At the end, the collected value; otherwise more parts after adding the next one.
 abbrev pub kept_then : {S X : Type 0} → (S → X → S) → S → Stream → (S → Result (S × Stream) TextFault) → Option X → Result (S × Stream) TextFault
 kept_then add kept rest more None = Ok (kept, rest)
 kept_then add kept rest more (Some x) = more (add kept x)
 
--- What is kept of parts up to their end, each read beside what was kept of those before it. Fewer than n tokens are left.
+-- The value collected from parts up to their end; each part is read given the value collected before it. Fewer than n tokens are left.
 unfoldable pub up_to_end : {S X : Type 0} → (S → X → S) → (S → Stream → Result (Option X × Stream) TextFault) → ℕ → S → Stream → Result (S × Stream) TextFault
 up_to_end add part zero kept s = Err (ended_as s.stop)
 up_to_end add part (suc n) kept s = do
@@ -152,21 +152,21 @@ up_to_end add part (suc n) kept s = do
 abbrev pub listed_of : Sizes → List ℕ → Placed → Result (Option ℕ) TextFault
 listed_of sizes before t = if is_text (codes ";") t.text then Ok None else (index_of COURSE_LETTER sizes.courses t >>= new_number t.at before >>= λ c. Ok (Some c))
 
--- a course that is none of those before it, or none at `;`
+-- A course that differs from those before it, or none at `;`.
 unfoldable pub listed_at : Sizes → List ℕ → Stream → Result (Option ℕ × Stream) TextFault
 listed_at sizes before s = one_at (listed_of sizes before) s
 
--- different courses up to `;`
+-- Distinct courses up to `;`.
 unfoldable pub list_at : Sizes → Stream → Result (List ℕ × Stream) TextFault
 list_at sizes s = up_to_end push (listed_at sizes) (suc (length s.tokens)) [] s
 
 -- ---- prices of courses and of rooms
 
--- the prices of courses, and those of rooms
+-- The prices of courses, and the prices of rooms.
 abbrev pub Kept : Type 0
 Kept = List (ℕ × ℕ) × List (ℕ × ℕ)
 
--- the courses and the rooms that have a price
+-- The courses and the rooms that have a price.
 abbrev pub Seen : Type 0
 Seen = List ℕ × List ℕ
 
@@ -179,7 +179,7 @@ priced_in at sizes seen (b ∷ bs) =
     if b == COURSE_LETTER then (numbered_below at sizes.courses bs >>= new_number at seen.0 >>= λ n. Ok (priced.Course n))
     else (if b == ROOM_LETTER then (numbered_below at sizes.rooms bs >>= new_number at seen.1 >>= λ n. Ok (priced.Room n)) else Err (fault.UnknownWord at))
 
--- what has no price yet, or none at `/`
+-- A course or a room that has no price yet, or none at `/`.
 abbrev pub priced_of : Sizes → Seen → Placed → Result (Option Priced) TextFault
 priced_of sizes seen t = if is_text (codes "/") t.text then Ok None else (priced_in t.at sizes seen t.text >>= λ x. Ok (Some x))
 
@@ -187,14 +187,14 @@ abbrev pub with_price : Option Priced → Stream → Result (Option (Priced × �
 with_price None s = Ok (None, s)
 with_price (Some x) s = price_at s >>= λ u. Ok (Some (x, u.0), u.1)
 
--- a course or a room with its price, or none at `/`
+-- A course or a room with its price, or none at `/`.
 unfoldable pub pair_at : Sizes → Seen → Stream → Result (Option (Priced × ℕ) × Stream) TextFault
 pair_at sizes seen s = do
   t ← token_at s
   x ← priced_of sizes seen t.0
   with_price x t.1
 
--- a pair after those that are kept
+-- A pair after those collected.
 abbrev pub next_pair_at : Sizes → Kept → Stream → Result (Option (Priced × ℕ) × Stream) TextFault
 next_pair_at sizes kept s = pair_at sizes (seen_in kept) s
 
@@ -205,13 +205,13 @@ with_priced kept (priced.Room r) u = (kept.0, push kept.1 (r, u))
 abbrev pub with_pair : Kept → Priced × ℕ → Kept
 with_pair kept x = with_priced kept x.0 x.1
 
--- pairs up to `/`
+-- Pairs up to `/`.
 unfoldable pub prices_at : Sizes → Stream → Result (Kept × Stream) TextFault
 prices_at sizes s = up_to_end with_pair (next_pair_at sizes) (suc (length s.tokens)) ([], []) s
 
 -- ---- claims
 
--- `P` and `T` are words of version 2; no word is due at `;`
+-- The word of a claim, or none at `;`. `P` and `T` are words of version 2.
 abbrev pub claim_word_of : ℕ → Placed → Result (Option ClaimWord) TextFault
 claim_word_of version t =
     if is_text (codes ";") t.text then Ok None
@@ -223,7 +223,7 @@ claim_word_of version t =
     else (if version == 2 && is_text (codes "T") t.text then Ok (Some claim_word.Stacked)
     else Err (fault.UnknownWord t.at)))))))
 
--- what follows the word of a claim
+-- The rest of a claim after its word.
 unfoldable pub claim_after_word : Sizes → ClaimWord → Stream → Result (Claim × Stream) TextFault
 claim_after_word sizes claim_word.Capacity s = do
   c ← course_at sizes s
@@ -239,14 +239,14 @@ abbrev pub claim_then : Sizes → Option ClaimWord → Stream → Result (Option
 claim_then sizes None s = Ok (None, s)
 claim_then sizes (Some w) s = claim_after_word sizes w s >>= λ c. Ok (Some c.0, c.1)
 
--- a claim, or none at `;`
+-- A claim, or none at `;`.
 unfoldable pub claim_at : Sizes → ℕ → Stream → Result (Option Claim × Stream) TextFault
 claim_at sizes version s = do
   t ← token_at s
   w ← claim_word_of version t.0
   claim_then sizes w t.1
 
--- claims up to `;`
+-- Claims up to `;`.
 unfoldable pub claims_at : Sizes → ℕ → Stream → Result (List Claim × Stream) TextFault
 claims_at sizes version s = up_to_end push (λ _ rest. claim_at sizes version rest) (suc (length s.tokens)) [] s
 
@@ -262,7 +262,7 @@ node_word_of t =
     else (if is_text (codes "B") t.text then Ok node_word.Cost
     else Err (fault.UnknownWord t.at))))))
 
--- what follows the word of a node
+-- The rest of a node after its word.
 unfoldable pub node_after_word : Sizes → ℕ → NodeWord → Stream → Result (Node × Stream) TextFault
 node_after_word sizes version node_word.Split s = pattern_at sizes s >>= λ g. Ok (node.Split g.0, g.1)
 node_after_word sizes version node_word.Empty s = pattern_at sizes s >>= λ g. Ok (node.Leaf (leaf.Empty g.0), g.1)
@@ -271,11 +271,11 @@ node_after_word sizes version node_word.Clique s = list_at sizes s >>= λ l. Ok 
 node_after_word sizes version node_word.Slots s = list_at sizes s >>= λ l. Ok (node.Leaf (leaf.Slots l.0), l.1)
 node_after_word sizes version node_word.Cost s = claims_at sizes version s >>= λ l. Ok (node.Leaf (leaf.Cost l.0), l.1)
 
--- a file has at most 16,777,216 nodes
+-- A file has at most 16,777,216 nodes.
 abbrev pub counted : ℕ → ℕ → Result (Unit {0}) TextFault
 counted at count = if nat_lt count MAX_NODES then Ok tt else Err (fault.TooManyNodes at)
 
--- a node, with this many nodes before it
+-- A node, with this many nodes before it.
 unfoldable pub node_at : Sizes → ℕ → ℕ → Stream → Result (Node × Stream) TextFault
 node_at sizes version count s = do
   t ← token_at s
@@ -286,7 +286,7 @@ node_at sizes version count s = do
 abbrev pub version_of : Placed → Result ℕ TextFault
 version_of t = if is_text (codes "1") t.text then Ok 1 else (if is_text (codes "2") t.text then Ok 2 else Err (fault.Expected word.One t.at))
 
--- `1` or `2`
+-- `1` or `2`.
 unfoldable pub version_at : Stream → Result (ℕ × Stream) TextFault
 version_at s = one_at version_of s
 
@@ -294,14 +294,14 @@ abbrev pub bounded : ℕ → Result ℕ NumberFault → Result Bound TextFault
 bounded at (Ok n) = Ok (bound.AtLeast n)
 bounded at (Err e) = Err (fault.NotANumber at)
 
--- `none`, or a number up to 1,000,000,000,000
+-- `none`, or a number up to 1,000,000,000,000.
 unfoldable pub bound_of : Placed → Result Bound TextFault
 bound_of t = if is_text (codes "none") t.text then Ok bound.Nothing else bounded t.at (number_of MAX_POINTS t.text)
 
 unfoldable pub bound_at : Stream → Result (Bound × Stream) TextFault
 bound_at s = one_at bound_of s
 
--- the version and the bound
+-- The version and the bound.
 unfoldable pub header_at : Stream → Result ((ℕ × Bound) × Stream) TextFault
 header_at s = do
   cttp ← word_at word.Cttp s
@@ -312,13 +312,13 @@ header_at s = do
 
 -- ---- the end
 
--- no token after the last
+-- No token comes after the last one.
 abbrev pub no_more : List Placed → Result ℕ FeedFault → Result Stream TextFault
 no_more [] (Ok n) = Ok (stopped (Ok n))
 no_more [] (Err f) = Err (fault_from_feed f)
 no_more (t ∷ ts) stop = Err (fault.TrailingToken t.at)
 
--- the last token
+-- The last token.
 unfoldable pub end_at : Stream → Result Stream TextFault
 end_at s = do
   rest ← word_at word.End s

@@ -9,13 +9,13 @@ use Rattle.tt_proof_read.specs.declared.node.Node.{Node}
 use Rattle.tt_proof_read.specs.declared.node.Node.TheVariants.{Split, Leaf}
 use Rattle.tt_proof_read.specs.declared.sizes.Sizes.{Sizes}
 
--- The stream goes on with these nodes, and this is what comes after them. This many nodes come before.
+-- The stream continues with these nodes, and `after` is the rest. `count` nodes come before.
 abbrev pub ReadsNodes : Sizes → ℕ → ℕ → Stream → List Node → Stream → Type 0
 ReadsNodes sizes version count s [] after = s ≡ after
 ReadsNodes sizes version count s (node ∷ nodes) after =
     (mid : Stream) × (node_at sizes version count s ≡ Ok (node, mid)) × ReadsNodes sizes version (count + 1) mid nodes after
 
--- the stream is a header, the nodes of a tree and the end
+-- The stream is a header, the nodes of a tree and the end.
 pub record Reads (sizes : Sizes) (s : Stream) (version : ℕ) (bound : Bound) (tree : Tree) : Type 0 where
   pub headed : Stream
   pub noded : Stream
@@ -24,11 +24,11 @@ pub record Reads (sizes : Sizes) (s : Stream) (version : ℕ) (bound : Bound) (t
   pub nodes : ReadsNodes sizes version 0 headed (preorder tree) noded
   pub finish : end_at noded ≡ Ok ended
 
--- what a feed gives of bytes
+-- The stream that a feed gives for some bytes.
 abbrev pub stream_of_bytes : List ℕ → Stream
 stream_of_bytes bytes = stream_from MAX_BYTES 0 bytes
 
--- How many places of a tree are open after nodes, each of which fills one: a leaf opens none, a split two. None where no place is open for a node.
+-- How many places of a tree are open after nodes, each of which fills one: a leaf opens none, a split two. `None` if no place is open for a node.
 abbrev pub open_after : ℕ → List Node → Option ℕ
 open_after places [] = Some places
 open_after zero (node ∷ nodes) = None

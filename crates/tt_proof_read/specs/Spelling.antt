@@ -1,4 +1,4 @@
--- Which proofs the bytes of a CTTP file spell.
+-- Which proofs the bytes of a `CTTP` file spell.
 use Rattle.std.specs.Prelude.{◌≡◌, ℕ, ◌<◌, ◌≤◌, ◌==◌, true, not, List, [], ◌∷◌, ◌++◌, length, map, flat_map, codes, All, if◌then◌else◌, Option, Some, None, ⊤}
 use Rattle.tt_lists.specs.Words.{each_two}
 use Rattle.tt_text.specs.Tokens.{tokens_of}
@@ -22,14 +22,14 @@ use Rattle.tt_proof_read.specs.declared.node.Node.{Node}
 use Rattle.tt_proof_read.specs.declared.node.Node.TheVariants as node
 use Rattle.tt_proof_read.specs.Trees.{Tree, AllLeaves, preorder}
 
--- ---- how each part is spelled
+-- -- the spelling of each part
 
--- the number after its letter, or `*` where none is given
+-- The number after its letter, or `*` if no number is given.
 abbrev pub given_piece : ℕ → Option ℕ → Piece
 given_piece letter None = Text (codes "*")
 given_piece letter (Some n) = Index letter n
 
--- `c` and a number
+-- `c` and a number.
 abbrev pub course_piece : ℕ → Piece
 course_piece c = Index COURSE_LETTER c
 
@@ -37,15 +37,15 @@ abbrev pub who_piece : Who → Piece
 who_piece (Course c) = course_piece c
 who_piece (Curriculum q) = Index CURRICULUM_LETTER q
 
--- who, room, day and period
+-- The course or curriculum, the room, the day and the period.
 abbrev pub pattern_pieces : Pattern → List Piece
 pattern_pieces g = who_piece g.who ∷ given_piece ROOM_LETTER g.room ∷ given_piece DAY_LETTER g.day ∷ given_piece PERIOD_LETTER g.period ∷ []
 
--- courses up to `;`
+-- Courses up to `;`.
 abbrev pub listed_pieces : List ℕ → List Piece
 listed_pieces cs = map course_piece cs ++ Text (codes ";") ∷ []
 
--- a price of a course or of a room
+-- A price of a course or of a room.
 pub data Price : Type 0 where
   OfCourse : ℕ → ℕ → Price
   OfRoom : ℕ → ℕ → Price
@@ -54,7 +54,7 @@ abbrev pub price_pieces : Price → List Piece
 price_pieces (OfCourse c u) = course_piece c ∷ Number u ∷ []
 price_pieces (OfRoom r u) = Index ROOM_LETTER r ∷ Number u ∷ []
 
--- the prices of courses and those of rooms, which may stand in any order
+-- The prices of courses and the prices of rooms; in a file they may be in any order.
 abbrev pub by_kind : List Price → List (ℕ × ℕ) × List (ℕ × ℕ)
 by_kind [] = ([], [])
 by_kind (OfCourse c u ∷ xs) = ((c, u) ∷ (by_kind xs).0, (by_kind xs).1)
@@ -69,7 +69,7 @@ SpellsClaim (Prices courses rooms) ps =
     (prices : List Price) × (by_kind prices ≡ (courses, rooms)) × (ps ≡ Text (codes "P") ∷ (flat_map price_pieces prices ++ Text (codes "/") ∷ []))
 SpellsClaim (Stacked c) ps = ps ≡ Text (codes "T") ∷ course_piece c ∷ []
 
--- each part in order
+-- Each part in order.
 abbrev pub SpellsEach : {X : Type 0} → (X → List Piece → Type 0) → List X → List Piece → Type 0
 SpellsEach S [] ps = ps ≡ []
 SpellsEach S (x ∷ xs) ps = (first rest : List Piece) × S x first × SpellsEach S xs rest × (ps ≡ first ++ rest)
@@ -90,9 +90,9 @@ bound_piece Nothing = Text (codes "none")
 abbrev pub version_text : ℕ → List ℕ
 version_text v = if v == 1 then codes "1" else codes "2"
 
--- ---- what a file may say
+-- -- the contents of a file
 
--- The numbers of a claim are the instance's and within the limits; Prices and Stacked are claims of version 2.
+-- The numbers of a claim are in the range of the instance and within the limits; `Prices` and `Stacked` are claims of version 2.
 abbrev pub IsClaim : Problem → ℕ → Claim → Type 0
 IsClaim p v (Capacity c u) = (c < length p.courses) × (u ≤ MAX_PRICE)
 IsClaim p v (Days c) = c < length p.courses
@@ -102,7 +102,7 @@ IsClaim p v (Prices courses rooms) =
     (v ≡ 2) × (ArePrices (length p.courses) courses × All (λ k. k.1 ≤ MAX_PRICE) courses) × (ArePrices (length p.rooms) rooms × All (λ k. k.1 ≤ MAX_PRICE) rooms)
 IsClaim p v (Stacked c) = (v ≡ 2) × (c < length p.courses)
 
--- courses of the instance, none of them twice
+-- Courses of the instance, none of them twice.
 abbrev pub AreCourses : Problem → List ℕ → Type 0
 AreCourses p cs = AreBelow (length p.courses) cs × (each_two (λ a b. not (a == b)) cs ≡ true)
 
@@ -121,14 +121,14 @@ abbrev pub IsBound : Bound → Type 0
 IsBound (AtLeast b) = b ≤ MAX_POINTS
 IsBound Nothing = ⊤
 
--- the limits of a file
+-- The limits of a file.
 pub record IsWithinLimits (bytes : List ℕ) (tree : Tree) : Type 0 where
   pub size : length bytes ≤ MAX_BYTES
   pub tokens : All (λ t. length t.text ≤ MAX_TOKEN_BYTES) (tokens_of bytes)
   pub nodes : length (preorder tree) ≤ MAX_NODES
   pub depth : AllLeaves (λ path _. length path ≤ MAX_FACTS) [] tree
 
--- The tokens of the bytes are `CTTP`, the version, `bound`, the bound, the tree in preorder and `end`, and no more.
+-- The tokens of the bytes are exactly `CTTP`, the version, `bound`, the bound, the tree in preorder and `end`.
 pub record SpellsProof (p : Problem) (bytes : List ℕ) (v : ℕ) (b : Bound) (tree : Tree) : Type 0 where
   pub version : (1 ≤ v) × (v ≤ 2)
   pub bound : IsBound b

@@ -6,36 +6,36 @@ use Rattle.tt_leaf_rules.specs.declared.leaf.Leaf.{Leaf}
 use Rattle.tt_proof_read.specs.declared.node.Node.{Node}
 use Rattle.tt_proof_read.specs.declared.node.Node.TheVariants as node
 
--- a leaf, or a split with its two children
+-- A leaf, or a split with its two children.
 pub data Tree : Type 0 where
   Close : Leaf → Tree
   Branch : Pattern → Tree → Tree → Tree
 
--- the path with one more fact
+-- The path with another fact.
 abbrev pub with_fact : List Fact → Pattern → Bool → List Fact
 with_fact path g holds = path ++ record { pattern = g; holds = holds } ∷ []
 
--- What holds of each leaf on its path: the facts of the splits above it, the first child under "yes", the second under "no".
+-- A property of each leaf on its path: the facts of the splits above it, the first child under "yes", the second under "no".
 abbrev pub AllLeaves : (List Fact → Leaf → Type 0) → List Fact → Tree → Type 0
 AllLeaves P path (Close leaf) = P path leaf
 AllLeaves P path (Branch g first second) =
     AllLeaves P (with_fact path g true) first × AllLeaves P (with_fact path g false) second
 
--- each node before its children, the first child before the second
+-- Each node before its children, the first child before the second.
 abbrev pub preorder : Tree → List Node
 preorder (Close leaf) = node.Leaf leaf ∷ []
 preorder (Branch g first second) = node.Split g ∷ (preorder first ++ preorder second)
 
--- the nodes are those of one tree, in preorder
+-- The nodes are those of one tree, in preorder.
 abbrev pub IsPreorder : List Node → Type 0
 IsPreorder nodes = (tree : Tree) × (preorder tree ≡ nodes)
 
--- a node, and the facts of the splits above it
+-- A node, and the facts of the splits above it.
 pub record OnPath : Type 0 where
   pub path : List Fact
   pub node : Node
 
--- the nodes in preorder, each on its path
+-- The nodes in preorder, each on its path.
 abbrev pub on_paths : List Fact → Tree → List OnPath
 on_paths path (Close leaf) = record { path = path; node = node.Leaf leaf } ∷ []
 on_paths path (Branch g first second) =

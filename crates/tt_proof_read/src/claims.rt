@@ -28,7 +28,7 @@ pub enum ClaimWord {
     Stacked,
 }
 
-/// The word of a claim, or none at `;`, in one token.
+/// Reads the word of a claim, or none at `;`, in one token.
 #[inline(always)]
 fn claim_word(text: &[u8], at: usize, version: u8) -> Result<Option<ClaimWord>, TextFault>
     ensures read { Gives (λ w. w) result (claim_word_of version (record { text = text.now; at = at })) }
@@ -47,7 +47,7 @@ fn claim_word(text: &[u8], at: usize, version: u8) -> Result<Option<ClaimWord>, 
     }
 }
 
-/// What follows the word of a claim.
+/// Reads the rest of a claim after its word.
 #[tactic(auto, unfolding(crate::specs::Reading::claim_after_word))]
 #[inline(always)]
 fn read_claim_after_word<R: Source>(
@@ -98,7 +98,7 @@ fn read_claim_after_word<R: Source>(
     }
 }
 
-/// A claim, or none at `;`.
+/// Reads a claim, or none at `;`.
 #[tactic(auto, unfolding(crate::specs::Reading::claim_at))]
 #[inline(always)]
 fn read_claim<R: Source>(
@@ -123,7 +123,7 @@ fn read_claim<R: Source>(
     Ok(Some(claim))
 }
 
-/// Claims up to `;`.
+/// Reads claims up to `;`.
 pub fn read_claims<R: Source>(
     alloc: Global,
     feed: &mut Feed,

@@ -1,4 +1,4 @@
-//! Why a text is no proof.
+//! Why a text isn't a proof.
 
 ghost use Rattle.std.specs.Prelude.{◌≡◌};
 ghost use Rattle.tt_proof_read.specs.declared.fault.TextFault.TheVariants.{OutOfMemory};
@@ -19,7 +19,7 @@ pub enum Word {
 }
 
 impl Word {
-    /// The word as text.
+    /// Returns the word as text.
     pub fn as_str(self) -> &'static str
         ensures { result.now ≡ word_text self }
     {
@@ -31,7 +31,7 @@ impl Word {
         }
     }
 
-    /// The bytes of the word.
+    /// Returns the bytes of the word.
     pub fn text(self) -> &'static [u8]
         ensures { result.now ≡ word_text self }
     {
@@ -45,7 +45,7 @@ impl fmt::Display for Word {
     }
 }
 
-/// The first fault from the left, with the offset of its token (of the end, where one is missing), or what the feed met.
+/// The first fault from the left, with the offset of its token (of the end, if a token is missing), or the feed's own fault.
 #[derive(Clone, Copy, Debug, PartialEq, Eq, Error)]
 pub enum TextFault {
     #[error("Ended at byte {0}")]
@@ -54,7 +54,7 @@ pub enum TextFault {
     Expected(Word, usize),
     #[error("UnknownWord at byte {0}")]
     UnknownWord(usize),
-    /// No number where one is due, or one above its limit.
+    /// A number is missing, or is above its limit.
     #[error("NotANumber at byte {0}")]
     NotANumber(usize),
     #[error("UnknownIndex at byte {0}")]

@@ -12,7 +12,7 @@ use crate::format::{COURSE_LETTER, CURRICULUM_LETTER, MAX_PRICE};
 use crate::sizes::Sizes;
 use tt_text::{Feed, NumberFault, Source, Token, number};
 
-/// The next token.
+/// Reads the next token.
 #[tactic(auto, unfolding(crate::specs::Reading::token_at))]
 #[inline(always)]
 pub fn token<R: Source>(feed: &mut Feed, source: &mut R) -> Result<usize, TextFault>
@@ -30,7 +30,7 @@ pub fn token<R: Source>(feed: &mut Feed, source: &mut R) -> Result<usize, TextFa
     }
 }
 
-/// A fixed word.
+/// Reads a fixed word.
 #[tactic(auto, unfolding(crate::specs::Reading::word_at))]
 pub fn read_word<R: Source>(feed: &mut Feed, source: &mut R, word: Word) -> Result<(), TextFault>
     ensures read { ReadsPast R.Source feed.old source.old feed.new source.new result (word_at word) }
@@ -44,7 +44,7 @@ pub fn read_word<R: Source>(feed: &mut Feed, source: &mut R, word: Word) -> Resu
     }
 }
 
-/// The number after a letter, below a count.
+/// Returns the number after a letter, below a count.
 #[tactic(auto, unfolding(crate::specs::Reading::numbered_below))]
 #[inline(always)]
 pub fn number_below(digits: &[u8], at: usize, count: u32) -> Result<u32, TextFault>
@@ -65,7 +65,7 @@ pub fn number_below(digits: &[u8], at: usize, count: u32) -> Result<u32, TextFau
     }
 }
 
-/// A letter and a number below a count, in one token.
+/// Returns the number of a letter and a number below a count, in one token.
 #[tactic(auto, unfolding(crate::specs::Reading::index_of))]
 #[inline(always)]
 pub fn index(text: &[u8], at: usize, letter: u8, count: u32) -> Result<u32, TextFault>
@@ -85,7 +85,7 @@ pub fn index(text: &[u8], at: usize, letter: u8, count: u32) -> Result<u32, Text
     }
 }
 
-/// A course.
+/// Reads a course.
 #[tactic(auto, unfolding(crate::specs::Reading::course_at))]
 #[inline(always)]
 pub fn read_course<R: Source>(
@@ -101,7 +101,7 @@ pub fn read_course<R: Source>(
     index(feed.token(), at, COURSE_LETTER, sizes.courses)
 }
 
-/// A curriculum.
+/// Reads a curriculum.
 #[tactic(auto, unfolding(crate::specs::Reading::curriculum_at))]
 #[inline(always)]
 pub fn read_curriculum<R: Source>(
@@ -117,7 +117,7 @@ pub fn read_curriculum<R: Source>(
     index(feed.token(), at, CURRICULUM_LETTER, sizes.curricula)
 }
 
-/// A price, in one token.
+/// Returns the price in one token.
 #[inline(always)]
 fn price(text: &[u8], at: usize) -> Result<u32, TextFault>
     ensures read { Gives (λ u. u) result (priced_as at (number_of MAX_PRICE text.now)) }
@@ -130,7 +130,7 @@ fn price(text: &[u8], at: usize) -> Result<u32, TextFault>
     }
 }
 
-/// A price in cost points.
+/// Reads a price in cost points.
 #[tactic(auto, unfolding(crate::specs::Reading::price_at))]
 #[inline(always)]
 pub fn read_price<R: Source>(feed: &mut Feed, source: &mut R) -> Result<u32, TextFault>

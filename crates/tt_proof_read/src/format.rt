@@ -1,25 +1,25 @@
 //! The limits and the letters of the format.
 
-/// The greatest price, in cost points.
+/// The maximum price, in cost points.
 pub const MAX_PRICE: u32 = 1_000_000;
 
-/// The greatest bound, in cost points.
+/// The maximum bound, in cost points.
 pub const MAX_POINTS: u64 = 1_000_000_000_000;
 
-/// The most nodes of a proof.
+/// The maximum number of nodes of a proof.
 pub const MAX_NODES: u32 = 16_777_216;
 
-/// Stands before the number of a course.
+/// The letter before the number of a course.
 pub const COURSE_LETTER: u8 = b'c';
 
-/// Stands before the number of a curriculum.
+/// The letter before the number of a curriculum.
 pub const CURRICULUM_LETTER: u8 = b'q';
 
-/// Stands before the number of a room.
+/// The letter before the number of a room.
 pub const ROOM_LETTER: u8 = b'r';
 
-/// Stands before the number of a day.
+/// The letter before the number of a day.
 pub const DAY_LETTER: u8 = b'd';
 
-/// Stands before the number of a period.
+/// The letter before the number of a period.
 pub const PERIOD_LETTER: u8 = b'p';

@@ -11,7 +11,7 @@ use crate::format::MAX_POINTS;
 use tt_leaf_rules::Bound;
 use tt_text::{Feed, Source, Token, number};
 
-/// The version, in one token.
+/// Returns the version in one token.
 fn version(text: &[u8], at: usize) -> Result<u8, TextFault>
     ensures read { Gives (λ v. v) result (version_of (record { text = text.now; at = at })) }
     ensures unread { TellsNoFailedRead result }
@@ -31,7 +31,7 @@ fn read_version<R: Source>(feed: &mut Feed, source: &mut R) -> Result<u8, TextFa
     version(feed.token(), at)
 }
 
-/// `none`, or a number of cost points, in one token.
+/// Returns the bound in one token: `none`, or a number of cost points.
 #[tactic(auto, unfolding(crate::specs::Reading::bound_of))]
 fn bound(text: &[u8], at: usize) -> Result<Bound, TextFault>
     ensures read { Gives (λ b. b) result (bound_of (record { text = text.now; at = at })) }
@@ -54,7 +54,7 @@ fn read_bound<R: Source>(feed: &mut Feed, source: &mut R) -> Result<Bound, TextF
     bound(feed.token(), at)
 }
 
-/// The version and the bound.
+/// Reads the version and the bound.
 #[tactic(auto, unfolding(crate::specs::Reading::header_at))]
 pub fn read_header<R: Source>(feed: &mut Feed, source: &mut R) -> Result<(u8, Bound), TextFault>
     ensures read { ReadsAs R.Source feed.old source.old feed.new source.new (λ h. h) result header_at }
@@ -66,7 +66,7 @@ pub fn read_header<R: Source>(feed: &mut Feed, source: &mut R) -> Result<(u8, Bo
     Ok((version, bound))
 }
 
-/// The last token, and none after it.
+/// Reads the last token, and checks that none comes after it.
 #[tactic(auto, unfolding(crate::specs::Reading::end_at))]
 pub fn read_end<R: Source>(feed: &mut Feed, source: &mut R) -> Result<(), TextFault>
     ensures read { ReadsPast R.Source feed.old source.old feed.new source.new result end_at }

@@ -17,7 +17,7 @@ use crate::tables::new_number;
 use std::alloc::Global;
 use tt_text::{Feed, Source};
 
-/// A course that is none of those before it, or none at `;`, in one token.
+/// Returns a course that differs from those before it, or none at `;`, in one token.
 #[inline(always)]
 fn listed(text: &[u8], at: usize, sizes: Sizes, seen: &Seen) -> Result<Option<u32>, TextFault>
     ensures read { Gives (λ c. c) result (listed_of sizes seen.now.numbers (record { text = text.now; at = at })) }
@@ -50,7 +50,7 @@ fn read_listed<R: Source>(
     listed(feed.token(), at, sizes, seen)
 }
 
-/// Different courses up to `;`.
+/// Reads distinct courses up to `;`.
 pub fn read_list<R: Source>(
     alloc: Global,
     feed: &mut Feed,

@@ -3,7 +3,7 @@
 use tt_leaf_rules::Leaf;
 use tt_paths::Pattern;
 
-/// A node of a proof; in a file nodes stand in preorder.
+/// A node of a proof; a file has the nodes in preorder.
 #[derive(Debug, Drop)]
 pub enum Node {
     /// The first child is under the yes-fact of the pattern, the second under its no-fact.

@@ -31,7 +31,7 @@ pub enum NodeWord {
     Cost,
 }
 
-/// The word of a node, in one token.
+/// Returns the word of a node, in one token.
 fn node_word(text: &[u8], at: usize) -> Result<NodeWord, TextFault>
     ensures read { Gives (λ w. w) result (node_word_of (record { text = text.now; at = at })) }
     ensures unread { TellsNoFailedRead result }
@@ -47,7 +47,7 @@ fn node_word(text: &[u8], at: usize) -> Result<NodeWord, TextFault>
     }
 }
 
-/// What follows the word of a node.
+/// Reads the rest of a node after its word.
 #[tactic(auto, unfolding(crate::specs::Reading::node_after_word))]
 #[inline(always)]
 fn read_node_after_word<R: Source>(
@@ -92,7 +92,7 @@ fn read_node_after_word<R: Source>(
     }
 }
 
-/// A node, with this many nodes before it.
+/// Reads a node, with this many nodes before it.
 #[tactic(auto, unfolding(crate::specs::Reading::node_at))]
 #[inline(always)]
 pub fn read_node<R: Source>(

@@ -15,7 +15,7 @@ use crate::sizes::Sizes;
 use tt_paths::{Pattern, Who};
 use tt_text::{Feed, Source};
 
-/// A course or a curriculum, in one token.
+/// Returns a course or a curriculum, in one token.
 #[inline(always)]
 fn who(text: &[u8], at: usize, sizes: Sizes) -> Result<Who, TextFault>
     ensures read { Gives (λ w. w) result (who_in at sizes text.now) }
@@ -45,7 +45,7 @@ fn read_who<R: Source>(feed: &mut Feed, source: &mut R, sizes: Sizes) -> Result<
     who(feed.token(), at, sizes)
 }
 
-/// A letter and a number below a count, or `*`, in one token.
+/// Returns a letter's number below a count, or none at `*`, in one token.
 #[tactic(auto, unfolding(crate::specs::Reading::given_of))]
 #[inline(always)]
 fn given(text: &[u8], at: usize, letter: u8, count: u32) -> Result<Option<u32>, TextFault>
@@ -77,7 +77,7 @@ fn read_given<R: Source>(
     given(feed.token(), at, letter, count)
 }
 
-/// A pattern.
+/// Reads a pattern.
 #[tactic(auto, unfolding(crate::specs::Reading::pattern_at))]
 #[inline(always)]
 pub fn read_pattern<R: Source>(

@@ -22,7 +22,7 @@ pub enum Priced {
     Room(u32),
 }
 
-/// The prices of courses, and those of rooms.
+/// The prices of courses and the prices of rooms.
 #[derive(Drop)]
 pub struct Prices {
     pub courses: Vec<(u32, u32)>,
@@ -34,7 +34,7 @@ impl Prices {
     ghost use Rattle.tt_proof_read.specs.Pricing.{kept_of, seen_of, with_seen, IsIn};
     ghost use Rattle.tt_proof_read.specs.Reading.{with_priced};
 
-    /// One more price, of a number that the tables have from then on.
+    /// Adds a price, and adds its number to the tables.
     #[inline(always)]
     fn add(&mut self, tables: &mut Tables, priced: Priced, points: u32) -> Result<(), AllocError>
         requires { IsIn (tables.old.courses.count) (tables.old.rooms.count) priced }
@@ -57,7 +57,7 @@ impl Prices {
     }
 }
 
-/// A course or a room without a price, in one token.
+/// Returns a course or a room that has no price yet, in one token.
 #[inline(always)]
 fn new_priced(text: &[u8], at: usize, sizes: Sizes, tables: &Tables) -> Result<Priced, TextFault>
     ensures read { Gives (λ x. x) result (priced_in at sizes (seen_of tables.now) text.now) }
@@ -79,7 +79,7 @@ fn new_priced(text: &[u8], at: usize, sizes: Sizes, tables: &Tables) -> Result<P
     }
 }
 
-/// A course or a room without a price, or none at `/`, in one token.
+/// Returns a course or a room that has no price yet, or none at `/`, in one token.
 #[inline(always)]
 fn priced_or_end(
     text: &[u8],
@@ -118,7 +118,7 @@ fn read_pair<R: Source>(
     Ok(Some((priced, points)))
 }
 
-/// Pairs up to `/`.
+/// Reads pairs up to `/`.
 pub fn read_prices<R: Source>(
     alloc: Global,
     feed: &mut Feed,

@@ -21,7 +21,7 @@ use tt_instance::Instance;
 use tt_leaf_rules::Bound;
 use tt_text::{Feed, Source};
 
-/// Reads a proof from one source, node by node, and keeps none of them.
+/// Reads a proof from one source, node by node, without storing the nodes.
 #[derive(Drop)]
 pub struct NodeReader {
     alloc: Global,
@@ -60,7 +60,7 @@ impl NodeReader {
         ensures unfailed { TellsNoFailedRead result → R.has_failed source.new ≡ R.has_failed source.old }
         ensures read { is_some (R.remaining source.old) ≡ true →
             Gives (λ r. ((r.version, r.bound), stream_at r.fed (R.remaining source.new))) result (header_at (stream_at fresh (R.remaining source.old))) }
-        // A failed read is told where the bytes before it give a part of the header and no fault.
+        // A failed read is reported if the bytes before it give a part of the header and no fault.
         ensures cut_short { HeaderAgreesWhenCut (R.remaining source.old) result (R.remaining source.new) }
         ensures start { IfOk result (λ r. (r.count ≡ 0) × (r.places ≡ 1) × (r.fault ≡ None)) }
         ensures sizes { IfOk result (λ r. AreSizes instance.now r.sizes) }
@@ -84,28 +84,28 @@ impl NodeReader {
         })
     }
 
-    /// The bound that the header names.
+    /// Returns the bound that the header gives.
     pub fn bound(&self) -> Bound
         ensures { result ≡ self.now.bound }
     {
         self.bound
     }
 
-    /// The version that the header names, 1 or 2.
+    /// Returns the version that the header gives, 1 or 2.
     pub fn version(&self) -> u8
         ensures { result ≡ self.now.version }
     {
         self.version
     }
 
-    /// Whether the tree is whole.
+    /// Returns whether the tree is complete.
     pub fn whole(&self) -> bool
         ensures { result ≡ (self.now.places == 0) }
     {
         self.places == 0
     }
 
-    /// The next node, `None` once the tree is whole. After a fault the same fault again.
+    /// Returns the next node, or `None` once the tree is complete. After a fault it returns the same fault again.
     #[inline(always)]
     pub fn next_node<R: Source>(&mut self, source: &mut R) -> Result<Option<Node>, TextFault>
         ensures known { StaysKnown (R.remaining source.old) (R.remaining source.new) }
@@ -117,9 +117,9 @@ impl NodeReader {
         ensures room { IfOk result (λ o. IfSome o (λ _. self.old.count < MAX_NODES)) }
         ensures says { self.old.fault ≡ None → is_some (R.remaining source.old) ≡ true →
             Says self.old (stream_at self.old.fed (R.remaining source.old)) result (stream_at self.new.fed (R.remaining source.new)) }
-        // A failed read is told where the bytes before it give a part of the node and no fault.
+        // A failed read is reported if the bytes before it give a part of the node and no fault.
         ensures cut_short { self.old.fault ≡ None → NodeAgreesWhenCut self.old (R.remaining source.old) result self.new.fed (R.remaining source.new) }
-        // Its numbers are the instance's, and its claims are of the version.
+        // The numbers of the node are in the range of the instance, and its claims belong to the version.
         ensures node { IfOk result (λ o. IfSome o (IsNodeAt self.old.sizes self.old.version)) }
     {
         if let Some(fault) = self.fault {
@@ -153,7 +153,7 @@ impl NodeReader {
         }
     }
 
-    /// Reads the end of the text. After a fault the same fault again.
+    /// Reads the end of the text. After a fault it returns the same fault again.
     pub fn finish<R: Source>(&mut self, source: &mut R) -> Result<(), TextFault>
         requires { self.old.places ≡ 0 }
         ensures known { StaysKnown (R.remaining source.old) (R.remaining source.new) }

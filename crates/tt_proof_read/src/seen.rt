@@ -6,7 +6,7 @@ ghost use Rattle.tt_lists.specs.Words.{has_number};
 use std::alloc::{AllocError, Global};
 use std::marker::Model;
 
-/// Numbers below a count in the order in which they came, and a table of them.
+/// Numbers below a count, in the order in which they were added, and a table of them.
 #[derive(Drop)]
 pub struct Seen {
     numbers: Vec<u32>,
@@ -24,7 +24,7 @@ impl Model for Seen {
     ghost invariant = { λ a. AreMarked a.marks.items a.numbers.items };
 }
 
-/// Takes the marks of numbers away.
+/// Removes the marks of numbers.
 fn unmark(marks: &mut [bool], numbers: &[u32])
     requires { All (λ n. n < length marks.old) numbers.now }
     ensures { (k : ℕ) → slice_index_or marks.new k false ≡ (slice_index_or marks.old k false && not (has_number numbers.now k)) }
@@ -35,7 +35,7 @@ fn unmark(marks: &mut [bool], numbers: &[u32])
 }
 
 impl Seen {
-    /// No number below the count.
+    /// Creates a table for the numbers below the count, without any number.
     pub fn new(alloc: Global, count: u32) -> Result<Seen, AllocError>
         ensures { IfOk result (λ s. s ≡ record { count = count; numbers = [] }) }
     {
@@ -46,7 +46,7 @@ impl Seen {
         })
     }
 
-    /// Whether a number has been seen.
+    /// Returns whether a number has been seen.
     #[inline(always)]
     pub fn has(&self, number: u32) -> bool
         ensures { result ≡ has_number self.now.numbers number }
@@ -54,7 +54,7 @@ impl Seen {
         self.marks.get(number as usize).copied().unwrap_or(false)
     }
 
-    /// One number more.
+    /// Adds a number.
     #[inline(always)]
     pub fn add(&mut self, number: u32) -> Result<(), AllocError>
         requires { number < self.old.count }
@@ -66,7 +66,7 @@ impl Seen {
         Ok(())
     }
 
-    /// Forgets all numbers.
+    /// Removes all numbers.
     pub fn clear(&mut self)
         ensures { self.new ≡ record self.old { numbers = [] } }
     {
@@ -74,7 +74,7 @@ impl Seen {
         self.numbers.clear();
     }
 
-    /// The numbers in order, in memory of their own.
+    /// Copies the numbers into a new vector, in order.
     pub fn to_vec(&self, alloc: Global) -> Result<Vec<u32>, AllocError>
         ensures { IfOk result (λ v. v.items ≡ self.now.numbers) }
     {

@@ -1,8 +1,8 @@
-//! How many there are of each thing that a proof numbers.
+//! The numbers of courses, rooms and other things that a proof refers to by number.
 
 use tt_instance::Instance;
 
-/// How many there are of each thing that a proof numbers.
+/// The numbers of courses, rooms and other things that a proof refers to by number.
 #[derive(Clone, Copy, Debug, Drop)]
 pub struct Sizes {
     pub courses: u32,
@@ -15,7 +15,7 @@ pub struct Sizes {
 impl Sizes {
     ghost use Rattle.tt_proof_read.specs.Sizes.{AreSizes};
 
-    /// The sizes of an instance.
+    /// Returns the sizes of an instance.
     pub fn of(instance: &Instance<'_>) -> Sizes
         ensures { AreSizes instance.now result }
     {

@@ -21,7 +21,7 @@ impl Tables {
     ghost use Rattle.std.specs.Prelude.{IfOk};
     ghost use Rattle.tt_proof_read.specs.Pricing.{AreTables};
 
-    /// Tables for an instance of these sizes, with nothing in them.
+    /// Creates empty tables for an instance of these sizes.
     pub fn new(alloc: Global, sizes: Sizes) -> Result<Tables, AllocError>
         ensures { IfOk result (AreTables sizes) }
     {
@@ -31,7 +31,7 @@ impl Tables {
     }
 }
 
-/// A number that has not been seen.
+/// Returns the number if it hasn't been seen.
 pub fn new_number(seen: &Seen, number: u32, at: usize) -> Result<u32, TextFault>
     ensures read { Gives (λ n. n) result (new_number at seen.now.numbers number) }
     ensures unread { TellsNoFailedRead result }

@@ -1,11 +1,11 @@
-//! Whether nodes make a tree.
+//! Whether nodes form a tree.
 
 ghost use Rattle.std.specs.Prelude.{◌↔◌, IsTrue};
 ghost use Rattle.tt_proof_read.specs.Trees.{IsPreorder};
 
 use crate::node::Node;
 
-/// Whether nodes are those of one tree, in preorder.
+/// Returns whether nodes are those of one tree, in preorder.
 pub fn is_tree(nodes: &[Node]) -> bool
     ensures { IsTrue result ↔ IsPreorder nodes.now }
 {

@@ -32,11 +32,11 @@ of_course k = OfCourse k.0 k.1
 abbrev of_room : ℕ × ℕ → Price
 of_room k = OfRoom k.0 k.1
 
--- courses first
+-- the prices of courses before those of rooms
 abbrev prices_of : List (ℕ × ℕ) → List (ℕ × ℕ) → List Price
 prices_of courses rooms = map of_course courses ++ map of_room rooms
 
--- the prices of both kinds with one more of a course, and of a room
+-- the prices of both kinds with another price of a course, and of a room
 abbrev with_course : ℕ × ℕ → List (ℕ × ℕ) × List (ℕ × ℕ) → List (ℕ × ℕ) × List (ℕ × ℕ)
 with_course k kinds = (k ∷ kinds.0, kinds.1)
 

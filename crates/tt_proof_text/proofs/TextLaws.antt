@@ -23,7 +23,7 @@ pub tail_text-rows : {X : Type 0} (f : X → List Piece) (xs : List X) → tail_
 tail_text-rows f [] = refl
 tail_text-rows f (x ∷ xs) = tail_text-append (f x) (flat_map f xs) ∙ ap (λ (t : List ℕ). tail_text (f x) ++ t) (tail_text-rows f xs)
 
--- and of single pieces
+-- the texts of single pieces
 pub tail_text-map : {X : Type 0} (f : X → Piece) (xs : List X) → tail_text (map f xs) ≡ flat_map (λ x. tail_text (f x ∷ [])) xs
 tail_text-map f [] = refl
 tail_text-map f (x ∷ xs) = tail_text-append (f x ∷ []) (map f xs) ∙ ap (λ (t : List ℕ). tail_text (f x ∷ []) ++ t) (tail_text-map f xs)
@@ -43,7 +43,7 @@ pub lines_written : {X : Type 0} (f : X → List Piece) (xs : List X) (i : ℕ) 
 lines_written {X} f xs i old out so_far le =
     so_far ∙ ap (λ (ys : List X). old ++ flat_map (λ (x : X). line_text (f x)) ys) (take_all i xs le) ∙ ap (λ (t : List ℕ). old ++ t) (sym (rows_text f xs))
 
--- pieces after others
+-- pieces after other pieces
 pub pieces_behind : (old out more : List ℕ) (ps qs : List Piece) → out ≡ old ++ tail_text ps → more ≡ tail_text qs → out ++ more ≡ old ++ tail_text (ps ++ qs)
 pieces_behind old out more ps qs e f =
     rw (e, f) (append_assoc old (tail_text ps) (tail_text qs) ∙ ap (λ (t : List ℕ). old ++ t) (sym (tail_text-append ps qs)))
@@ -58,17 +58,17 @@ pub all_written : (head : List Piece) (ls : List (List Piece)) (word none first 
 all_written head ls word none first second third fourth a b c d e =
     rw (e, d, c, b, a) (simp append_assoc refl) ∙ ap (λ (t : List ℕ). line_text head ++ t) (sym (lines_text-append ls ((Text word ∷ []) ∷ []) ∙ ap (λ (t : List ℕ). lines_text ls ++ t) (append-nil (word ++ 10 ∷ []))))
 
--- one more is written
+-- another row is written
 pub one_more : {X A : Type 0} (f : X → List A) (xs : List X) (i : ℕ) (d x : X) (old out more : List A) → i < length xs → x ≡ get_or xs i d → out ≡ old ++ flat_map f (take i xs) → more ≡ out ++ f x → more ≡ old ++ flat_map f (take (i + 1) xs)
 one_more {X} f xs i d x old out more below is so_far now =
     let longer = sym (take_more xs i d below) in
     now ∙ rw (so_far, is) (flat_map_more f old (take i xs) (get_or xs i d)) ∙ ap (λ (ys : List X). old ++ flat_map f ys) longer
 
--- and holds of one more
+-- a property holds for the elements so far and another one
 pub All_more : {X : Type 0} (P : X → Type 0) (xs : List X) (i : ℕ) (d x : X) → i < length xs → x ≡ get_or xs i d → All P (take i xs) → P x → All P (take (i + 1) xs)
 All_more {X} P xs i d x below is so_far here = subst (All P) (sym (take_more xs i d below)) (All-push P (take i xs) (get_or xs i d) so_far (subst P is here))
 
--- and of all at the end
+-- at the end, the property holds for all elements
 pub All_done : {X : Type 0} (P : X → Type 0) (xs : List X) (i : ℕ) → length xs ≤ i → All P (take i xs) → All P xs
 All_done P xs i le so_far = subst (All P) (take_all i xs le) so_far
 

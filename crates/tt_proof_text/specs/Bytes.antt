@@ -1,4 +1,4 @@
--- Only proofs rest on this file: nobody has to believe it.
+-- Not part of the trusted statement: only proofs use this file.
 -- Counts of bytes.
 use Rattle.std.specs.Prelude.{ℕ, ◌-◌, ◌^◌, min}
 

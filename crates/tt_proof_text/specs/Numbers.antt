@@ -1,4 +1,4 @@
--- Only proofs rest on this file: nobody has to believe it.
+-- Not part of the trusted statement: only proofs use this file.
 -- The numbers of nodes have 32 bits.
 use Rattle.std.specs.Prelude.{ℕ, ◌<◌, IfSome, All}
 use Rattle.tt_paths.specs.declared.facts.Who.{Who}

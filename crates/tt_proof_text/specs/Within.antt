@@ -1,4 +1,4 @@
--- Which nodes can be written.
+-- The nodes that can be written.
 use Rattle.std.specs.Prelude.{◌≡◌, ℕ, ◌≤◌, List, [], length, All, ⊤}
 use Rattle.tt_leaf_rules.specs.declared.leaf.Bound.{Bound}
 use Rattle.tt_leaf_rules.specs.declared.leaf.Leaf.{Leaf}
@@ -19,16 +19,16 @@ abbrev pub HasShortClaims : Leaf → Type 0
 HasShortClaims (Cost claims) = All IsShortClaim claims
 HasShortClaims _ = ⊤
 
--- no price of its claims is above 1,000,000
+-- whether no price of the node's claims is above 1,000,000
 abbrev pub HasShortPrices : Node → Type 0
 HasShortPrices (node.Split g) = ⊤
 HasShortPrices (node.Leaf leaf) = HasShortClaims leaf
 
--- no leaf stands below more than 65,536 splits
+-- whether no leaf is below more than 65,536 splits
 abbrev pub IsShallow : List Node → Type 0
 IsShallow nodes = (tree : Tree) → preorder tree ≡ nodes → AllLeaves (λ path _. length path ≤ MAX_FACTS) [] tree
 
--- the limits of a file, its bytes aside
+-- the limits of a file, except the limit on its bytes
 pub record AreWithin (b : Bound) (nodes : List Node) : Type 0 where
   pub bound : IsBound b
   pub count : length nodes ≤ MAX_NODES
@@ -40,19 +40,19 @@ pub record FitsFile (v : ℕ) (b : Bound) (nodes : List Node) : Type 0 where
   pub parts : AreWithin b nodes
   pub bytes : length (proof_text v b nodes) ≤ MAX_BYTES
 
--- the claims of a node are the version's
+-- whether the claims of a node are of the version
 abbrev pub IsNodeIn : ℕ → Node → Type 0
 IsNodeIn v (node.Split g) = ⊤
 IsNodeIn v (node.Leaf leaf) = IsLeafIn v leaf
 
--- why nodes were not written: the first of the faults that applies, being out of memory last
+-- the reason why nodes were not written: the first of the errors that applies, being out of memory last
 abbrev pub Refuses : ℕ → Bound → List Node → WriteFault → Type 0
 Refuses v b nodes NotATree = ¬ IsPreorder nodes
 Refuses v b nodes OverLimit = IsPreorder nodes × ¬ FitsFile v b nodes
 Refuses v b nodes NotInVersion = IsPreorder nodes × FitsFile v b nodes × ¬ All (IsNodeIn v) nodes
 Refuses v b nodes OutOfMemory = IsPreorder nodes × FitsFile v b nodes × All (IsNodeIn v) nodes
 
--- what was written
+-- whether the bytes are the text of the nodes, which are a tree within the limits and of the version
 pub record Writes (v : ℕ) (b : Bound) (nodes : List Node) (bytes : List ℕ) : Type 0 where
   pub tree : IsPreorder nodes
   pub within : FitsFile v b nodes

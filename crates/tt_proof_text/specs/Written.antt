@@ -1,4 +1,4 @@
--- The text that writes a proof: one line for the header, one for each node and one for the end.
+-- The text of a proof: one line for the header, one for each node and one for the end.
 use Rattle.std.specs.Prelude.{ℕ, List, [], ◌∷◌, ◌++◌, map, flat_map, codes}
 use Rattle.tt_text.specs.Pieces.{Piece, Text, Number, Index}
 use Rattle.tt_text.specs.Lines.{text_of, lines_text}
@@ -25,7 +25,7 @@ claim_word (Stable c) = codes "R"
 claim_word (Prices courses rooms) = codes "P"
 claim_word (Stacked c) = codes "T"
 
--- what follows the word of a claim; the prices of courses come before those of rooms
+-- the pieces after the word of a claim; the prices of courses come before those of rooms
 abbrev pub claim_rest : Claim → List Piece
 claim_rest (Capacity c u) = course_piece c ∷ Number u ∷ []
 claim_rest (Days c) = course_piece c ∷ []
@@ -45,7 +45,7 @@ node_word (Leaf (Clique cs)) = codes "K"
 node_word (Leaf (Slots cs)) = codes "H"
 node_word (Leaf (Cost claims)) = codes "B"
 
--- what follows the word of a node
+-- the pieces after the word of a node
 abbrev pub node_rest : Node → List Piece
 node_rest (Split g) = pattern_pieces g
 node_rest (Leaf (Empty g)) = pattern_pieces g

@@ -1,7 +1,7 @@
-//! How many bytes the text of a proof has, counted without writing it.
+//! The number of bytes in the text of a proof, counted without writing it.
 //!
 //! Each piece of a line is counted with one separator: the space before it or, for the first, the end of the line.
-//! Sums over lists stop at the greatest number, since a caller's lists may be of any length.
+//! Sums over lists are capped at the greatest number, since a caller's lists may be of any length.
 
 ghost use Rattle.std.specs.Prelude.{◌≡◌, ◌+◌, ◌≤◌, ◌++◌, ◌∷◌, [], ℕ, length, map, flat_map, codes};
 ghost use Rattle.std.specs.Fmt.{decimal};
@@ -20,14 +20,14 @@ use tt_text::digit_count;
 /// A token of one byte, with its separator.
 const ONE_BYTE_TOKEN: u64 = 2;
 
-/// A token.
+/// Counts the bytes of a token.
 fn token_bytes(token: &[u8]) -> u64
     ensures { result ≡ length (tail_text (Text token.now ∷ [])) }
 {
     token.len() as u64 + 1
 }
 
-/// A number.
+/// Counts the bytes of a number.
 fn number_bytes(number: u64) -> u64
     ensures text { result ≡ length (tail_text (Number number ∷ [])) }
     ensures short { result ≤ 21 }
@@ -35,7 +35,7 @@ fn number_bytes(number: u64) -> u64
     digit_count(number) as u64 + 1
 }
 
-/// A letter and a number.
+/// Counts the bytes of a letter and a number.
 fn index_bytes(number: u32) -> u64
     ensures text { result ≡ 2 + length (decimal number) }
     ensures short { result ≤ 22 }
@@ -43,7 +43,7 @@ fn index_bytes(number: u32) -> u64
     digit_count(u64::from(number)) as u64 + 2
 }
 
-/// A letter and a number, or `*`.
+/// Counts the bytes of a letter and a number, or of `*`.
 fn given_bytes(number: Option<u32>) -> u64
     ensures text { (letter : ℕ) → result ≡ length (tail_text (given_piece letter number ∷ [])) }
     ensures short { result ≤ 22 }
@@ -63,7 +63,7 @@ fn who_bytes(who: Who) -> u64
     }
 }
 
-/// Who, room, day and period.
+/// Counts the bytes of who, room, day and period.
 fn pattern_bytes(pattern: &Pattern) -> u64
     ensures { result ≡ length (tail_text (pattern_pieces pattern.now)) }
 {
@@ -73,7 +73,7 @@ fn pattern_bytes(pattern: &Pattern) -> u64
     who_bytes(pattern.who) + room + day + period
 }
 
-/// Courses up to `;`.
+/// Counts the bytes of courses up to `;`.
 fn courses_bytes(courses: &[u32]) -> u64
     ensures { result ≡ clipped (length (tail_text (listed_pieces courses.now))) }
 {
@@ -84,7 +84,7 @@ fn courses_bytes(courses: &[u32]) -> u64
     total
 }
 
-/// Numbers of one kind, each with its price.
+/// Counts the bytes of numbers of one kind, each with its price.
 fn prices_bytes(prices: &[(u32, u32)]) -> u64
     ensures { (letter : ℕ) → result ≡ clipped (length (tail_text (flat_map (priced_pieces letter) prices.now))) }
 {
@@ -96,7 +96,7 @@ fn prices_bytes(prices: &[(u32, u32)]) -> u64
     total
 }
 
-/// What follows the word of a claim.
+/// Counts the bytes after the word of a claim.
 fn claim_rest_bytes(claim: &Claim) -> u64
     ensures { result ≡ clipped (length (tail_text (claim_rest claim.now))) }
 {
@@ -122,7 +122,7 @@ fn claim_bytes(claim: &Claim) -> u64
     claim_rest_bytes(claim).saturating_add(ONE_BYTE_TOKEN)
 }
 
-/// Claims up to `;`.
+/// Counts the bytes of claims up to `;`.
 fn claims_bytes(claims: &[Claim]) -> u64
     ensures { result ≡ clipped (length (tail_text (flat_map claim_pieces claims.now ++ Text (codes ";") ∷ []))) }
 {
@@ -133,7 +133,7 @@ fn claims_bytes(claims: &[Claim]) -> u64
     total
 }
 
-/// What follows the word of a node.
+/// Counts the bytes after the word of a node.
 fn node_rest_bytes(node: &Node) -> u64
     ensures { result ≡ clipped (length (tail_text (node_rest node.now))) }
 {
@@ -147,14 +147,14 @@ fn node_rest_bytes(node: &Node) -> u64
     }
 }
 
-/// The line of a node.
+/// Counts the bytes of a node's line.
 fn node_bytes(node: &Node) -> u64
     ensures { result ≡ clipped (length (line_text (node_pieces node.now))) }
 {
     node_rest_bytes(node).saturating_add(ONE_BYTE_TOKEN)
 }
 
-/// One line for each node.
+/// Counts the bytes of one line for each node.
 fn nodes_bytes(nodes: &[Node]) -> u64
     ensures { result ≡ clipped (length (lines_text (map node_pieces nodes.now))) }
 {
@@ -175,7 +175,7 @@ fn bound_bytes(bound: Bound) -> u64
     }
 }
 
-/// The first line.
+/// Counts the bytes of the first line.
 fn header_bytes(version: u8, bound: Bound) -> u64
     ensures text { result ≡ length (line_text (header_pieces version bound)) }
     ensures short { result ≤ 40 }
@@ -184,7 +184,7 @@ fn header_bytes(version: u8, bound: Bound) -> u64
     words + token_bytes(version_text(version)) + bound_bytes(bound)
 }
 
-/// The whole text of a proof, or the greatest number where it has more bytes.
+/// Returns the number of bytes of the whole text of a proof, or the greatest number if the text has more bytes.
 pub fn proof_bytes(version: u8, bound: Bound, nodes: &[Node]) -> u64
     ensures { result ≡ clipped (length (proof_text version bound nodes.now)) }
 {

@@ -10,7 +10,7 @@ use std::alloc::AllocError;
 use tt_leaf_rules::Claim;
 use tt_text::put_next_token;
 
-/// Numbers of one kind, each with its price.
+/// Writes numbers of one kind, each with its price.
 fn put_prices(out: &mut Vec<u8>, letter: u8, prices: &[(u32, u32)]) -> Result<(), AllocError>
     ensures text { OnOk result (out.new.items ≡ out.old.items ++ tail_text (flat_map (priced_pieces letter) prices.now)) }
     ensures narrow { OnOk result (All IsNarrowPair prices.now) }
@@ -35,7 +35,7 @@ fn claim_word(claim: &Claim) -> &'static [u8]
     }
 }
 
-/// What follows the word of a claim.
+/// Writes the pieces after the word of a claim.
 fn put_claim_rest(out: &mut Vec<u8>, claim: &Claim) -> Result<(), AllocError>
     ensures text { OnOk result (out.new.items ≡ out.old.items ++ tail_text (claim_rest claim.now)) }
     ensures narrow { OnOk result (IsNarrowClaim claim.now) }
@@ -65,7 +65,7 @@ fn put_claim(out: &mut Vec<u8>, claim: &Claim) -> Result<(), AllocError>
     put_claim_rest(out, claim)
 }
 
-/// Claims up to `;`.
+/// Writes claims up to `;`.
 pub fn put_claims(out: &mut Vec<u8>, claims: &[Claim]) -> Result<(), AllocError>
     ensures text { OnOk result (out.new.items ≡ out.old.items
         ++ tail_text (flat_map claim_pieces claims.now ++ Text (codes ";") ∷ [])) }

@@ -1,4 +1,4 @@
-//! How deep the nodes of a tree stand.
+//! The depth of the nodes of a tree.
 
 ghost use Rattle.std.specs.Prelude.{◌↔◌, IsTrue};
 ghost use Rattle.tt_proof_read.specs.Trees.{IsPreorder};
@@ -8,21 +8,21 @@ use arrayvec::ArrayVec;
 use tt_paths::MAX_FACTS;
 use tt_proof_read::Node;
 
-/// As many second children as can be to come at once.
+/// The maximum number of second children that can be pending at once.
 const MAX_PENDING: usize = MAX_FACTS as usize;
 
-/// Whether no node of a tree stands below more splits than a file may have.
+/// Checks that no node of a tree is below more splits than a file may have.
 pub fn is_shallow(nodes: &[Node]) -> bool
     requires { IsPreorder nodes.now }
     ensures { IsTrue result ↔ IsShallow nodes.now }
 {
     let mut depth: u32 = 0;
-    // The depths of the second children that are still to come.
+    // The depths of the second children that are not read yet.
     let mut pending: ArrayVec<u32, MAX_PENDING> = ArrayVec::new();
     for node in nodes {
         match node {
             Node::Split(_) => {
-                // Its children would stand too deep.
+                // Its children would be too deep.
                 if depth == MAX_FACTS {
                     return false;
                 }

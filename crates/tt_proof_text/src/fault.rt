@@ -1,4 +1,4 @@
-//! Why a list of nodes can't be written.
+//! The reasons why a list of nodes can't be written.
 
 ghost use Rattle.std.specs.Prelude.{◌≡◌};
 ghost use Rattle.tt_proof_text.specs.declared.fault.WriteFault.TheVariants.{OutOfMemory};
@@ -6,19 +6,19 @@ ghost use Rattle.tt_proof_text.specs.declared.fault.WriteFault.TheVariants.{OutO
 use std::alloc::AllocError;
 use thiserror::Error;
 
-/// Why a list of nodes can't be written: the first in this order that applies.
+/// The reason why a list of nodes can't be written: the first in this order that applies.
 #[derive(Clone, Copy, Debug, PartialEq, Eq, Error)]
 pub enum WriteFault {
     /// The nodes are not one tree in preorder.
     #[error("NotATree")]
     NotATree,
-    /// A number, the nodes, the depth or the bytes pass the format's limit.
+    /// A number, the nodes, the depth or the bytes exceed the format's limit.
     #[error("OverLimit")]
     OverLimit,
-    /// Version 1 was asked for, and a node has a claim of version 2.
+    /// The version is 1, and a node has a claim of version 2.
     #[error("NotInVersion")]
     NotInVersion,
-    /// Memory for the text was refused.
+    /// No memory was available for the text.
     #[error("out of memory")]
     OutOfMemory,
 }

@@ -11,14 +11,14 @@ use tt_paths::{Pattern, Who};
 use tt_proof_read::{COURSE_LETTER, CURRICULUM_LETTER, DAY_LETTER, PERIOD_LETTER, ROOM_LETTER};
 use tt_text::{put_next_number, put_next_token, put_number, put_token};
 
-/// The number of a version.
+/// Returns the number of a version.
 pub fn version_text(version: u8) -> &'static [u8]
     ensures { result.now ≡ version_text version }
 {
     if version == 1 { b"1" } else { b"2" }
 }
 
-/// A letter and a number.
+/// Writes a letter and a number.
 pub fn put_index(out: &mut Vec<u8>, letter: u8, number: u32) -> Result<(), AllocError>
     ensures text { OnOk result (out.new.items ≡ out.old.items ++ tail_text (Index letter number ∷ [])) }
     ensures narrow { IsNarrow number }
@@ -27,7 +27,7 @@ pub fn put_index(out: &mut Vec<u8>, letter: u8, number: u32) -> Result<(), Alloc
     put_number(out, u64::from(number))
 }
 
-/// A price in cost points.
+/// Writes a price in cost points.
 pub fn put_price(out: &mut Vec<u8>, price: u32) -> Result<(), AllocError>
     ensures text { OnOk result (out.new.items ≡ out.old.items ++ tail_text (Number price ∷ [])) }
     ensures narrow { IsNarrow price }
@@ -35,7 +35,7 @@ pub fn put_price(out: &mut Vec<u8>, price: u32) -> Result<(), AllocError>
     put_next_number(out, u64::from(price))
 }
 
-/// A letter and a number, or `*`.
+/// Writes a letter and a number, or `*`.
 fn put_given(out: &mut Vec<u8>, letter: u8, number: Option<u32>) -> Result<(), AllocError>
     ensures text { OnOk result (out.new.items ≡ out.old.items ++ tail_text (given_piece letter number ∷ [])) }
     ensures narrow { IfSome number IsNarrow }
@@ -56,7 +56,7 @@ fn put_who(out: &mut Vec<u8>, who: Who) -> Result<(), AllocError>
     }
 }
 
-/// Who, room, day and period.
+/// Writes who, room, day and period.
 pub fn put_pattern(out: &mut Vec<u8>, pattern: &Pattern) -> Result<(), AllocError>
     ensures text { OnOk result (out.new.items ≡ out.old.items ++ tail_text (pattern_pieces pattern.now)) }
     ensures narrow { OnOk result (IsNarrowPattern pattern.now) }
@@ -67,7 +67,7 @@ pub fn put_pattern(out: &mut Vec<u8>, pattern: &Pattern) -> Result<(), AllocErro
     put_given(out, PERIOD_LETTER, pattern.period)
 }
 
-/// Courses up to `;`.
+/// Writes courses up to `;`.
 pub fn put_courses(out: &mut Vec<u8>, courses: &[u32]) -> Result<(), AllocError>
     ensures text { OnOk result (out.new.items ≡ out.old.items ++ tail_text (listed_pieces courses.now)) }
     ensures narrow { OnOk result (All IsNarrow courses.now) }

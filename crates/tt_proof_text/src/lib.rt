@@ -1,4 +1,4 @@
-//! Proofs of lower bounds to text.
+//! Writes proofs of lower bounds as text.
 #![tactic(auto)]
 
 mod bytes;

@@ -1,4 +1,4 @@
-//! The limits of a file, and the claims of a version. What is asked here takes no memory.
+//! The limits of a file, and the claims of a version. The checks here allocate no memory.
 
 ghost use Rattle.std.specs.Prelude.{◌↔◌, ◌≤◌, IsTrue, All};
 ghost use Rattle.tt_proof_read.specs.Limits.{IsShortClaim, IsClaimIn};
@@ -58,7 +58,7 @@ fn is_bound(bound: Bound) -> bool
     }
 }
 
-/// Whether a bound and the nodes of a tree are within the limits of a file, its bytes aside.
+/// Checks that a bound and the nodes of a tree are within the limits of a file, except the limit on its bytes.
 pub fn are_within(bound: Bound, nodes: &[Node]) -> bool
     requires { IsPreorder nodes.now }
     ensures { IsTrue result ↔ AreWithin bound nodes.now }
@@ -93,7 +93,7 @@ fn is_node_in(version: u8, node: &Node) -> bool
     }
 }
 
-/// Whether each claim of the nodes is of the version.
+/// Checks that each claim of the nodes is of the version.
 pub fn are_nodes_in(version: u8, nodes: &[Node]) -> bool
     ensures { IsTrue result ↔ All (IsNodeIn version) nodes.now }
 {

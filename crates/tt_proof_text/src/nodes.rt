@@ -25,7 +25,7 @@ fn node_word(node: &Node) -> &'static [u8]
     }
 }
 
-/// What follows the word of a node.
+/// Writes the pieces after the word of a node.
 fn put_node_rest(out: &mut Vec<u8>, node: &Node) -> Result<(), AllocError>
     ensures text { OnOk result (out.new.items ≡ out.old.items ++ tail_text (node_rest node.now)) }
     ensures narrow { OnOk result (IsNarrowNode node.now) }
@@ -40,7 +40,7 @@ fn put_node_rest(out: &mut Vec<u8>, node: &Node) -> Result<(), AllocError>
     }
 }
 
-/// The line of a node.
+/// Writes the line of a node.
 fn put_node(out: &mut Vec<u8>, node: &Node) -> Result<(), AllocError>
     ensures text { OnOk result (out.new.items ≡ out.old.items ++ line_text (node_pieces node.now)) }
     ensures narrow { OnOk result (IsNarrowNode node.now) }
@@ -50,7 +50,7 @@ fn put_node(out: &mut Vec<u8>, node: &Node) -> Result<(), AllocError>
     put_line_end(out)
 }
 
-/// One line for each node.
+/// Writes one line for each node.
 pub fn put_nodes(out: &mut Vec<u8>, nodes: &[Node]) -> Result<(), AllocError>
     ensures text { OnOk result (out.new.items ≡ out.old.items ++ lines_text (map node_pieces nodes.now)) }
     ensures narrow { OnOk result (All IsNarrowNode nodes.now) }

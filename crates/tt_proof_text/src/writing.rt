@@ -1,4 +1,4 @@
-//! Proofs to text.
+//! Writes proofs as text.
 
 ghost use Rattle.std.specs.Prelude.{◌≡◌, ◌≤◌, ◌++◌, ◌∷◌, [], All, IfOk, IfErr, OnOk};
 ghost use Rattle.tt_text.specs.Lines.{line_text};
@@ -32,7 +32,7 @@ fn put_header(out: &mut Vec<u8>, version: u8, bound: Bound) -> Result<(), AllocE
     put_line_end(out)
 }
 
-/// The text of a proof, in bytes for which there is room from the start.
+/// Writes the text of a proof into bytes for which there is room from the start.
 fn put_proof(
     alloc: Global,
     version: u8,
@@ -51,7 +51,7 @@ fn put_proof(
     Ok(out)
 }
 
-/// The text of a proof of a version: the header, one line for each node in preorder, and the end.
+/// Writes the text of a proof of a version: the header, one line for each node in preorder, and the end.
 pub fn write_proof(
     alloc: Global,
     version: u8,
@@ -61,7 +61,7 @@ pub fn write_proof(
     requires { (1 ≤ version) × (version ≤ 2) }
     ensures text { IfOk result (λ out. Writes version bound nodes.now out.items) }
     ensures refuses { IfErr result (Refuses version bound nodes.now) }
-    // It is read as the same tree.
+    // The text spells the same tree.
     ensures again { (p : Problem) (tree : Tree) → preorder tree ≡ nodes.now → All (IsNode p version) nodes.now →
         IfOk result (λ out. SpellsProof p out.items version bound tree) }
 {

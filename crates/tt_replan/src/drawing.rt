@@ -3,12 +3,12 @@
 use rand_core::Rng;
 use rand_pcg::Pcg32;
 
-/// A number that is at most this.
+/// Returns a random number that is at most `most`.
 pub fn at_most(rng: &mut Pcg32, most: u32) -> u32 {
     rng.next_u32() % most.saturating_add(1).max(1)
 }
 
-/// One of some items, if there is one.
+/// Returns a random item, or `None` if there are no items.
 pub fn one_of<T: Copy + Drop>(rng: &mut Pcg32, items: &[T]) -> Option<T> {
     let last = items.len().checked_sub(1)?;
     let index = at_most(rng, u32::try_from(last).unwrap_or(u32::MAX));

@@ -5,13 +5,13 @@ use crate::rooms::POINT;
 use crate::spelling::{DEAR, Speller, Vector, left_after};
 use std::alloc::{AllocError, Global};
 
-/// How many vectors all days have at most.
+/// The maximum number of vectors of all days together.
 const MOST_VECTORS: usize = 16_384;
 
 /// The bits of bytes that are more than 1.
 const CROWDED: u32 = 0x7e7e_7e7e;
 
-/// What a missing day costs.
+/// The cost of a missing day.
 const MISSING_DAY: u32 = 5 * POINT;
 
 /// The cheapest way to a state.
@@ -35,14 +35,14 @@ impl State {
     };
 }
 
-/// What crowded lectures add to a state and to its cost.
+/// The amounts that crowded lectures add to a state and to its cost.
 #[derive(Clone, Copy)]
 struct Crowding {
     index: u32,
     cost: u32,
 }
 
-/// What a day with these lectures adds to a state, since it is crowded.
+/// Returns the amounts that the crowded lectures of a day with these lectures add to a state and to its cost.
 fn crowding_on(group: &Group, state: u32, counts: u32) -> Crowding {
     let mut crowding = Crowding { index: 0, cost: 0 };
     if counts & CROWDED == 0 {
@@ -68,7 +68,7 @@ fn crowding_on(group: &Group, state: u32, counts: u32) -> Crowding {
     crowding
 }
 
-/// What crowded lectures cost in a week in which a course is taught on this many days.
+/// Returns the cost of crowded lectures in a week in which a course is taught on this many days.
 pub fn crowding_cost(lectures: u32, slack: u32, days: u32) -> u32 {
     lectures
         .saturating_sub(days)
@@ -79,19 +79,19 @@ pub fn crowding_cost(lectures: u32, slack: u32, days: u32) -> u32 {
 /// The vectors of each day, and the states after each day.
 #[derive(Drop)]
 pub struct Folder {
-    /// Those of each day, cheapest first.
+    /// The vectors of each day, cheapest first.
     vectors: Vec<Vector>,
-    /// Where each day's begin, and where the last one's end.
+    /// The index at which the vectors of each day begin, and the index at which those of the last day end.
     begins: Vec<usize>,
     states: Vec<State>,
 }
 
-/// Where the states after this many days begin.
+/// Returns the index at which the states after this many days begin.
 fn first_state(days: usize) -> usize {
     days.wrapping_mul(MOST_STATES as usize)
 }
 
-/// Sorts the vectors between two places, the cheapest first.
+/// Sorts the vectors between two indices, the cheapest first.
 fn sort_between(vectors: &mut Vec<Vector>, begin: usize, end: usize) {
     if begin <= end && end <= vectors.len() {
         let part = &mut vectors[begin..end];
@@ -118,12 +118,12 @@ impl Folder {
         self.vectors.get(number).copied().unwrap_or(Vector::NONE)
     }
 
-    /// The cheapest vector's cost on a day.
+    /// Returns the cost of the cheapest vector on a day.
     pub fn least(&self, day: usize) -> u32 {
         self.vector(self.begin(day)).cost
     }
 
-    /// Takes over the vectors that a speller has found for a day. Whether there are some, and not too many.
+    /// Takes over the vectors that a speller has found for a day. Returns whether there are any, and not too many.
     pub fn take(&mut self, speller: &mut Speller, day: usize) -> bool {
         let begin = self.begin(day);
         let mut end = begin;
@@ -158,7 +158,7 @@ impl Folder {
         }
     }
 
-    /// Goes on from a state by each vector of a day, as far as the limit allows.
+    /// Reaches states from a state by each vector of a day, within the limit.
     fn extend(&mut self, group: &Group, day: usize, number: u32, limit: u32) {
         let here = self.state(day, number);
         let next = day.saturating_add(1);
@@ -187,7 +187,7 @@ impl Folder {
         }
     }
 
-    /// Empties the states.
+    /// Resets the states to the beginning of the week.
     fn clear(&mut self, group: &Group, days: usize) {
         for day in 0..days.saturating_add(1) {
             for number in 0..group.states {
@@ -205,7 +205,7 @@ impl Folder {
         self.reach(0, 0, start);
     }
 
-    /// The cheapest state after all days with no lecture left, if there is one.
+    /// Returns the cheapest state after all days with no lecture left, if there is one.
     fn cheapest(&self, group: &Group, days: usize) -> Option<u32> {
         let mut best = None;
         let mut least = DEAR;
@@ -219,7 +219,7 @@ impl Folder {
         best
     }
 
-    /// Finds the cheapest week that costs no more than the limit, where the days cost this much at least.
+    /// Finds the cheapest week that costs no more than the limit, given a lower bound of the cost of all days.
     pub fn fold(&mut self, group: &Group, days: usize, limit: u32, least: u32) -> Option<u32> {
         self.clear(group, days);
         let mut rest = least;
@@ -233,7 +233,7 @@ impl Folder {
         self.cheapest(group, days)
     }
 
-    /// The sets of members on a day of the way to a state after it, and the state before it.
+    /// Returns the sets of members on a day of the path to a state after it, and the state before it.
     pub fn trace(&self, day: usize, number: u32) -> (u64, u32) {
         let state = self.state(day.saturating_add(1), number);
         (self.vector(state.by).spelled, state.from)

@@ -1,36 +1,36 @@
-//! The courses whose lectures are planned anew.
+//! The courses whose lectures are planned again.
 
 use crate::drawing::{at_most, one_of};
 use rand_pcg::Pcg32;
 use tt_instance::Instance;
 use tt_occupancy::Occupied;
 
-/// How many courses a group has at most.
+/// The maximum number of courses of a group.
 pub const MOST_MEMBERS: usize = 4;
 
-/// How many states of a group's week are told apart at most.
+/// The maximum number of states of a group's week.
 pub const MOST_STATES: u32 = 2_048;
 
-/// How many lectures a member has at most.
+/// The maximum number of lectures of a member.
 const MOST_LECTURES: u32 = 60;
 
-/// How often a course is looked for to join, for each place in the group.
+/// The number of tries to find another course, for each place in the group.
 const TRIES: u32 = 4;
 
 /// A course of the group. A state of a week is a number whose digits are the lectures of each member so far, and then its crowded lectures.
 #[derive(Clone, Copy)]
 pub struct Member {
     pub course: u32,
-    /// Itself as a set of members.
+    /// The set of this member alone.
     pub set: u8,
-    /// One lecture of it, where each member has a byte.
+    /// One lecture of it, in a word with a byte for each member.
     pub unit: u32,
     pub lectures: u32,
-    /// How many lectures on a day with another one cost nothing.
+    /// The number of crowded lectures (on a day with another lecture of the course) that cost nothing.
     pub slack: u32,
-    /// What one lecture more adds to the state.
+    /// The amount that another lecture adds to the state.
     pub stride: u32,
-    /// What one crowded lecture more adds to it.
+    /// The amount that another crowded lecture adds to the state.
     pub crowd_stride: u32,
 }
 
@@ -45,7 +45,7 @@ impl Member {
         crowd_stride: 0,
     };
 
-    /// A course, if it can be planned.
+    /// Returns a course as a member, if it can be planned.
     fn of(instance: &Instance<'_>, course: u32) -> Option<Member> {
         if course >= instance.courses() {
             return None;
@@ -62,19 +62,19 @@ impl Member {
         })
     }
 
-    /// How many digits it has in all.
+    /// Returns the number of values of its digits together.
     fn states(self) -> u32 {
         let counts = self.lectures.saturating_add(1);
         counts.saturating_mul(self.slack.saturating_add(1))
     }
 }
 
-/// The courses whose lectures are planned anew.
+/// The courses whose lectures are planned again.
 #[derive(Clone, Copy)]
 pub struct Group {
     members: [Member; MOST_MEMBERS],
     len: u32,
-    /// How many states there are.
+    /// The number of states.
     pub states: u32,
 }
 
@@ -85,12 +85,12 @@ impl Group {
         states: 1,
     };
 
-    /// The members.
+    /// Returns the members.
     pub fn members(&self) -> &[Member] {
         self.members.get(..self.len as usize).unwrap_or(&[])
     }
 
-    /// How many sets of members there are.
+    /// Returns the number of sets of members.
     pub fn sets(&self) -> u8 {
         1u8.wrapping_shl(self.len)
     }
@@ -104,7 +104,7 @@ impl Group {
         self.members().iter().any(|member| member.course == course)
     }
 
-    /// Adds a course, where there are few enough states with it.
+    /// Adds a course, if the number of states with it is within the limit.
     fn add(&mut self, instance: &Instance<'_>, course: u32) {
         let Some(member) = Member::of(instance, course) else {
             return;
@@ -124,12 +124,12 @@ impl Group {
         }
     }
 
-    /// The last member leaves.
+    /// Removes the last member.
     pub fn pop(&mut self) {
         self.len = self.len.saturating_sub(1);
     }
 
-    /// A course of a curriculum of a member.
+    /// Returns a random course of a curriculum of a member.
     fn neighbour(&self, occupied: &Occupied<'_, '_>, rng: &mut Pcg32) -> Option<u32> {
         let instance = occupied.instance();
         let member = one_of(rng, self.members())?;
@@ -143,7 +143,7 @@ impl Group {
         one_of(rng, instance.members(curriculum))
     }
 
-    /// A course, and others that share curricula.
+    /// Returns a group of a course and others that share curricula.
     pub fn choose(occupied: &Occupied<'_, '_>, rng: &mut Pcg32, course: u32) -> Group {
         let wanted = at_most(rng, 3).saturating_add(1);
         let mut group = Group::EMPTY;
@@ -159,7 +159,7 @@ impl Group {
         group
     }
 
-    /// Gives each digit of a state its place.
+    /// Assigns each digit of a state its place.
     pub fn number(&mut self) {
         let mut stride: u32 = 1;
         for member in self.members.iter_mut().take(self.len as usize) {
@@ -173,7 +173,7 @@ impl Group {
         self.states = stride;
     }
 
-    /// The lectures of all members, a byte each.
+    /// Returns the lectures of all members, a byte each.
     pub fn all(&self) -> u32 {
         let mut all: u32 = 0;
         for member in self.members() {

@@ -5,17 +5,17 @@ use crate::links::Links;
 use crate::prices::Prices;
 use crate::week::{Slot, Week};
 
-/// How many sets of members there are at most.
+/// The maximum number of sets of members.
 pub const MOST_LETTERS: usize = 1 << MOST_MEMBERS;
 
-/// A set of members, and what it means to teach them in a period.
+/// A set of members, and the effects of teaching them in a period.
 #[derive(Clone, Copy)]
 pub struct Letter {
     /// The group's curricula that are taught in the period, as a set.
     pub curricula: u128,
     /// The members, a byte each.
     pub counts: u32,
-    /// What it adds to the state.
+    /// The amount that it adds to the state.
     pub index: u32,
     pub price: u32,
     pub members: u8,
@@ -31,12 +31,12 @@ impl Letter {
     };
 }
 
-/// Whether a set of members may be taught in a period, by what is there already.
+/// Checks whether a set of members may be taught in a period, given the other lectures in it.
 fn is_open(slot: Slot, members: u8) -> bool {
     members & !slot.open == 0 && members.count_ones() <= slot.free.count_ones()
 }
 
-/// A set of members in a period, unless two of them exclude each other.
+/// Returns a set of members in a period, or `None` if two of them conflict.
 fn letter_of(links: &Links, group: &Group, members: u8) -> Option<Letter> {
     let mut letter = Letter {
         members,
@@ -56,7 +56,7 @@ fn letter_of(links: &Links, group: &Group, members: u8) -> Option<Letter> {
     Some(letter)
 }
 
-/// The sets of members that go together.
+/// The sets of members without a conflict.
 #[derive(Clone, Copy)]
 pub struct Alphabet {
     letters: [Letter; MOST_LETTERS],
@@ -69,7 +69,7 @@ impl Alphabet {
         len: 0,
     };
 
-    /// The sets of members of a group that go together.
+    /// Finds the sets of members of a group without a conflict.
     pub fn find(&mut self, links: &Links, group: &Group) {
         self.len = 0;
         for members in 0..group.sets() {
@@ -82,13 +82,13 @@ impl Alphabet {
         }
     }
 
-    /// Those that may be taught in a period.
+    /// Returns the sets of members without a conflict.
     pub fn letters(&self) -> &[Letter] {
         self.letters.get(..self.len).unwrap_or(&[])
     }
 }
 
-/// A set of members with its price in a period, if it may be taught there.
+/// Returns a set of members with its price in a period, or `None` if it may not be taught in it.
 pub fn priced(
     letter: Letter,
     week: &Week,

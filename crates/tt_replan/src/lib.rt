@@ -1,4 +1,4 @@
-//! Plans the lectures of a few courses anew, at least cost where all others stay. Nothing is proved of what a plan costs.
+//! Plans the lectures of a few courses again, at least cost while all others remain. Nothing is proved about the cost of a plan.
 #![tactic(auto)]
 
 mod drawing;

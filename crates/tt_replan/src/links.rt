@@ -1,18 +1,18 @@
-//! What each course is to those of the group.
+//! The relation of each course to those of the group.
 
 use crate::group::Group;
 use std::alloc::{AllocError, Global};
 use tt_occupancy::Occupied;
 
-/// How many curricula the courses of a group have at most.
+/// The maximum number of curricula of a group's courses.
 const MOST_CURRICULA: u32 = 128;
 
-/// What a course is to those of the group.
+/// The relation of a course to those of the group.
 #[derive(Clone, Copy)]
 pub struct Link {
     /// Its curricula among those of the group, as a set.
     pub curricula: u128,
-    /// The members that it excludes, as a set.
+    /// The members that it conflicts with, as a set.
     pub excluded: u8,
     /// Its own number as a member, if it is one, as a set.
     pub member: u8,
@@ -30,9 +30,9 @@ impl Link {
 #[derive(Drop)]
 pub struct Links {
     links: Vec<Link>,
-    /// Which curricula have a bit.
+    /// Whether each curriculum has a bit.
     is_known: Vec<bool>,
-    /// How many have one.
+    /// The number of curricula that have a bit.
     known: u32,
 }
 
@@ -46,7 +46,7 @@ impl Links {
         })
     }
 
-    /// The link of a course.
+    /// Returns the link of a course.
     pub fn get(&self, course: u32) -> Link {
         self.links
             .get(course as usize)
@@ -60,7 +60,7 @@ impl Links {
         self.known = 0;
     }
 
-    /// Gives a curriculum a bit, which each of its courses has then.
+    /// Gives a curriculum a bit, which is then set for each of its courses.
     fn know(&mut self, occupied: &Occupied<'_, '_>, curriculum: u32) {
         let instance = occupied.instance();
         let Some(is_known) = self.is_known.get_mut(curriculum as usize) else {
@@ -79,7 +79,7 @@ impl Links {
         }
     }
 
-    /// Marks the courses that exclude a member.
+    /// Marks the courses that conflict with a member.
     fn exclude(&mut self, occupied: &Occupied<'_, '_>, course: u32, set: u8) {
         let instance = occupied.instance();
         for other in 0..instance.courses() {
@@ -104,7 +104,7 @@ impl Links {
         self.exclude(occupied, course, set);
     }
 
-    /// Links all courses to a group. Whether its curricula are few enough.
+    /// Links all courses to a group. Returns whether the number of its curricula is within the limit.
     pub fn set(&mut self, occupied: &Occupied<'_, '_>, group: &Group) -> bool {
         self.clear();
         for member in group.members() {

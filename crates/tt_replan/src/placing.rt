@@ -8,10 +8,10 @@ use std::alloc::{AllocError, Global};
 use tt_moves::Step;
 use tt_occupancy::Occupied;
 
-/// How many steps lead to a plan at most.
+/// The maximum number of steps that lead to a plan.
 const MOST_STEPS: usize = 512;
 
-/// No step.
+/// A placeholder for no step.
 const NO_STEP: Step = Step::Swap {
     first: 0,
     second: 0,
@@ -24,7 +24,7 @@ pub struct Plan {
     members: Vec<u8>,
     steps: Vec<Step>,
     count: usize,
-    /// What the seats cost, and what their prices were.
+    /// The cost of the seats, and the sum of their prices.
     paid: u32,
     priced: u32,
 }
@@ -41,19 +41,19 @@ impl Plan {
         })
     }
 
-    /// The steps.
+    /// Returns the steps.
     pub fn steps(&self) -> &[Step] {
         self.steps.get(..self.count).unwrap_or(&[])
     }
 
-    /// No step leads anywhere.
+    /// Removes all steps.
     pub fn clear(&mut self) {
         self.count = 0;
         self.paid = 0;
         self.priced = 0;
     }
 
-    /// Writes the members of a day, four bits a period, the last period lowest.
+    /// Writes the members of a day, given as four bits for each period, the last period lowest.
     pub fn write_day(&mut self, first: usize, periods: usize, spelled: u64) {
         let mut rest = spelled;
         for period in (0..periods).rev() {
@@ -90,7 +90,7 @@ impl Plan {
         });
     }
 
-    /// A period of the plan in which a member is not taught now. It is found once.
+    /// Returns a period of the plan in which a member is not taught now. Each such period is returned once.
     fn take_slot(&mut self, week: &Week, member: u8) -> Option<usize> {
         for slot in 0..week.len() {
             if self.has(slot, member) && week.slot(slot).present & member == 0 {
@@ -129,7 +129,7 @@ impl Plan {
         }
     }
 
-    /// The lectures that stay in their periods keep their rooms.
+    /// Leaves the lectures that remain in their periods in their rooms.
     fn keep_staying(&self, week: &mut Week) {
         for number in 0..week.own().len() {
             if let Some(own) = week.own().get(number).copied()
@@ -140,7 +140,7 @@ impl Plan {
         }
     }
 
-    /// Finds the steps to the plan. None is made where the seats cost more than their prices.
+    /// Finds the steps to the plan. No steps are made if the seats cost more than their prices.
     pub fn find_steps(
         &mut self,
         occupied: &Occupied<'_, '_>,

@@ -1,4 +1,4 @@
-//! What the present plan of a group costs.
+//! The cost of the present plan of a group.
 
 use crate::folding::crowding_cost;
 use crate::group::{Group, Member};
@@ -7,7 +7,7 @@ use crate::prices::Prices;
 use crate::spelling::isolation;
 use crate::week::Week;
 
-/// The group's curricula that are taught in a period, as a set.
+/// Returns the group's curricula that are taught in a period, as a set.
 fn taught(links: &Links, week: &Week, group: &Group, slot: usize) -> u128 {
     let place = week.slot(slot);
     let mut curricula = place.fixed;
@@ -19,7 +19,7 @@ fn taught(links: &Links, week: &Week, group: &Group, slot: usize) -> u128 {
     curricula
 }
 
-/// What isolated lectures cost on a day that begins with this period.
+/// Returns the cost of isolated lectures on a day that begins with this period.
 fn isolation_on(links: &Links, week: &Week, group: &Group, first: usize) -> u32 {
     let (mut before, mut here) = (0, 0);
     let mut cost: u32 = 0;
@@ -32,7 +32,7 @@ fn isolation_on(links: &Links, week: &Week, group: &Group, first: usize) -> u32 
     cost.wrapping_add(isolation(before, here, 0))
 }
 
-/// What a member's rooms and days cost.
+/// Returns the cost of a member's rooms and days.
 fn member_cost(week: &Week, prices: &Prices, number: usize, member: Member) -> u32 {
     let (mut cost, mut days): (u32, u32) = (0, 0);
     for day in 0..week.days {
@@ -49,7 +49,7 @@ fn member_cost(week: &Week, prices: &Prices, number: usize, member: Member) -> u
     cost.wrapping_add(crowding_cost(member.lectures, member.slack, days))
 }
 
-/// What the present plan costs.
+/// Returns the cost of the present plan.
 pub fn present_cost(links: &Links, week: &Week, prices: &Prices, group: &Group) -> u32 {
     let mut cost: u32 = 0;
     for day in 0..week.days {

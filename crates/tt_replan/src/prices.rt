@@ -1,4 +1,4 @@
-//! What a lecture of each member costs in each period, by its room.
+//! The cost of a lecture of each member in each period, by its room.
 
 use crate::drawing::at_most;
 use crate::group::{Group, MOST_MEMBERS};
@@ -9,10 +9,10 @@ use rand_pcg::Pcg32;
 use std::alloc::{AllocError, Global};
 use tt_occupancy::Occupied;
 
-/// A dearer seat counts as this dear.
+/// The maximum price of a seat; a more expensive seat counts as this.
 const DEAREST: u32 = 200 * POINT;
 
-/// A price, and the same with noise.
+/// A price without and with noise.
 #[derive(Clone, Copy)]
 pub struct Price {
     pub plain: u32,
@@ -41,7 +41,7 @@ impl Prices {
         })
     }
 
-    /// The price of a member in a period where it may be taught.
+    /// Returns the price of a member in a period in which it may be taught.
     pub fn get(&self, slot: usize, member: usize) -> Price {
         self.prices
             .get(index(slot, member))

@@ -16,10 +16,10 @@ use tt_instance::Instance;
 use tt_moves::Step;
 use tt_occupancy::Occupied;
 
-/// How many periods a day has at most.
+/// The maximum number of periods of a day.
 const MOST_PERIODS: u32 = 15;
 
-/// Plans the lectures of a few courses anew.
+/// Plans the lectures of a few courses again.
 #[derive(Drop)]
 pub struct Replanner {
     rooms: Rooms,
@@ -33,13 +33,13 @@ pub struct Replanner {
     plan: Plan,
 }
 
-/// Whether an instance is small enough for plans.
+/// Checks whether an instance is small enough for plans.
 pub fn can_replan(instance: &Instance<'_>) -> bool {
     instance.rooms() <= MOST_ROOMS && instance.periods() <= MOST_PERIODS
 }
 
 impl Replanner {
-    /// One that has no plan yet. No later call takes memory.
+    /// Returns a replanner without a plan. No later call allocates memory.
     pub fn new(alloc: Global, occupied: &Occupied<'_, '_>) -> Result<Replanner, AllocError> {
         let instance = occupied.instance();
         let week = Week::new(alloc, occupied)?;
@@ -63,7 +63,7 @@ impl Replanner {
         }
     }
 
-    /// The steps to the plan: none where it is the present one.
+    /// Returns the steps to the plan; none if it is the present plan.
     pub fn steps(&self) -> &[Step] {
         self.plan.steps()
     }
@@ -82,7 +82,7 @@ impl Replanner {
         true
     }
 
-    /// Finds what each day can have at no more than the limit, and what all days cost at least.
+    /// Finds the possible vectors of each day within the limit, and returns a lower bound of the cost of all days.
     fn find_days(&mut self, limit: u32) -> Option<u32> {
         let mut least: u32 = 0;
         for day in 0..self.week.days {
@@ -115,7 +115,7 @@ impl Replanner {
         }
     }
 
-    /// Plans the group. Whether its tables were large enough.
+    /// Plans the group. Returns whether its tables were large enough.
     fn plan_group(&mut self, occupied: &Occupied<'_, '_>, rng: &mut Pcg32, noise: u32) -> bool {
         if !self.lift(occupied, rng, noise) {
             return false;
@@ -132,8 +132,8 @@ impl Replanner {
         true
     }
 
-    /// Plans a course and some that share curricula with it anew. Prices have a noise of at most this many thousandths of a
-    /// cost point. No memory is taken.
+    /// Plans a course and some that share curricula with it again. Prices have a noise of at most `noise` thousandths of a
+    /// cost point. No memory is allocated.
     pub fn replan(
         &mut self,
         occupied: &Occupied<'_, '_>,

@@ -1,4 +1,4 @@
-//! The rooms, and what it costs to have a course in one.
+//! The rooms, and the cost of a course in each.
 
 ghost use Rattle.std.specs.Prelude.{◌<◌, length};
 
@@ -8,16 +8,16 @@ use std::alloc::{AllocError, Global};
 use tt_instance::Instance;
 use tt_occupancy::Occupied;
 
-/// A cost point, in the thousandths in which plans are valued.
+/// A cost point, in the thousandths used for the costs of plans.
 pub const POINT: u32 = 1_000;
 
-/// How many rooms there are at most.
+/// The maximum number of rooms.
 pub const MOST_ROOMS: u32 = 64;
 
-/// What a lecture outside the most used room counts against another room as home.
+/// The cost of each lecture outside a room, when the room is considered as home.
 const MOVING: u32 = 500;
 
-/// More missing seats than this count as this many.
+/// The maximum number of missing seats; more than this count as this many.
 const MOST_MISSING: u32 = 1_000;
 
 /// The rooms, the largest first: a place in this order is a rank. Sets of ranks are words.
@@ -33,18 +33,18 @@ pub struct Rooms {
     students: Vec<u32>,
     /// The ranks that are large enough for each course.
     fitting: Vec<u64>,
-    /// The rank in which each course is wanted.
+    /// The preferred rank of each course.
     homes: Vec<u32>,
 }
 
-/// A rank and what it costs to have a course there.
+/// A rank and the cost of a course in it.
 #[derive(Clone, Copy)]
 pub struct Rank {
     pub cost: u32,
     pub rank: u32,
 }
 
-/// How many rooms come before one.
+/// Returns the number of rooms that come before a room.
 fn rank_of(instance: &Instance<'_>, room: u32) -> u32
     requires { room < length instance.now.rooms }
 {
@@ -59,7 +59,7 @@ fn rank_of(instance: &Instance<'_>, room: u32) -> u32
     rank
 }
 
-/// The number of rooms that are large enough for a course.
+/// Returns the number of rooms that are large enough for a course.
 fn fitting_of(instance: &Instance<'_>, students: u32) -> u32 {
     let mut count: u32 = 0;
     for room in 0..instance.rooms() {
@@ -70,7 +70,7 @@ fn fitting_of(instance: &Instance<'_>, students: u32) -> u32 {
     count
 }
 
-/// The set of one rank; one that is too high makes the empty set.
+/// Returns the set of one rank; the empty set if the rank is too high.
 pub fn set_of(rank: u32) -> u64 {
     1u64.checked_shl(rank).unwrap_or(0)
 }
@@ -86,7 +86,7 @@ fn put(numbers: &mut Vec<u32>, index: u32, number: u32) {
 }
 
 impl Rooms {
-    /// The rooms of an instance; nothing is known of its courses yet.
+    /// Returns the rooms of an instance, without the data of its courses.
     fn empty(alloc: Global, instance: &Instance<'_>) -> Result<Rooms, AllocError> {
         let (courses, rooms) = (instance.courses() as usize, instance.rooms() as usize);
         Ok(Rooms {
@@ -119,7 +119,7 @@ impl Rooms {
         }
     }
 
-    /// The rooms of an instance.
+    /// Returns the rooms of an instance.
     pub fn new(alloc: Global, instance: &Instance<'_>) -> Result<Rooms, AllocError> {
         let mut rooms = Rooms::empty(alloc, instance)?;
         rooms.rank_rooms(instance);
@@ -127,7 +127,7 @@ impl Rooms {
         Ok(rooms)
     }
 
-    /// How many there are.
+    /// Returns the number of rooms.
     pub fn count(&self) -> u32 {
         u32::try_from(self.rooms.len()).unwrap_or(u32::MAX)
     }
@@ -142,13 +142,13 @@ impl Rooms {
         at(&self.rooms, rank)
     }
 
-    /// The seats that a course misses in a rank.
+    /// Returns the number of seats that a course misses in a rank.
     fn missing(&self, course: u32, rank: u32) -> u32 {
         let missing = at(&self.students, course).saturating_sub(at(&self.seats, rank));
         missing.min(MOST_MISSING)
     }
 
-    /// What a lecture of a course costs in a rank.
+    /// Returns the cost of a lecture of a course in a rank.
     pub fn cost(&self, course: u32, rank: u32) -> u32 {
         let away = u32::from(rank != at(&self.homes, course));
         self.missing(course, rank)
@@ -156,7 +156,7 @@ impl Rooms {
             .wrapping_mul(POINT)
     }
 
-    /// Chooses where a course is wanted: where it fits, and rather where more of it is; noise may choose otherwise.
+    /// Chooses the preferred rank of a course: one where it fits, and preferably one with more of its lectures; noise may change the choice.
     pub fn choose_home(
         &mut self,
         occupied: &Occupied<'_, '_>,
@@ -187,7 +187,7 @@ impl Rooms {
         put(&mut self.homes, course, home);
     }
 
-    /// The free rank that costs a course least, of equal ones the smallest room. Some rank is free.
+    /// Returns the free rank with the lowest cost for a course; among equal ones, the smallest room. Some rank is free.
     pub fn cheapest(&self, course: u32, free: u64) -> Rank {
         let home = at(&self.homes, course);
         if free & set_of(home) != 0 && self.missing(course, home) == 0 {

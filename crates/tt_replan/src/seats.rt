@@ -1,17 +1,17 @@
-//! Rooms for one lecture more in a period.
+//! Rooms for another lecture in a period.
 
 use crate::rooms::{MOST_ROOMS, Rooms, set_of};
 use crate::week::Week;
 use tt_occupancy::Occupied;
 
-/// An entry that makes room, and the rank to which it goes.
+/// An entry that makes room, and the rank to which it moves.
 #[derive(Clone, Copy)]
 pub struct Evicted {
     pub entry: u32,
     pub rank: u32,
 }
 
-/// A seat for a lecture, and what it costs.
+/// A seat for a lecture, and its cost.
 #[derive(Clone, Copy)]
 pub struct Seat {
     pub cost: u32,
@@ -19,7 +19,7 @@ pub struct Seat {
     pub evicted: Option<Evicted>,
 }
 
-/// The seat of a course in a rank where another entry is, which goes to a free rank.
+/// Returns the seat of a course in a rank with another entry, which moves to a free rank.
 fn taken_seat(
     occupied: &Occupied<'_, '_>,
     rooms: &Rooms,
@@ -45,7 +45,7 @@ fn taken_seat(
     })
 }
 
-/// The cheapest seat of a course in a period, if a room is free there. At most one entry makes room.
+/// Returns the cheapest seat of a course in a period, if a room is free in it. At most one entry makes room.
 pub fn cheapest_seat(
     occupied: &Occupied<'_, '_>,
     rooms: &Rooms,

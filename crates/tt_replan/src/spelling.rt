@@ -1,4 +1,4 @@
-//! Which lectures a day can have, and at what cost.
+//! The possible lectures of a day, and their costs.
 
 use crate::group::{Group, MOST_STATES};
 use crate::letters::{Alphabet, Letter, MOST_LETTERS, priced};
@@ -7,25 +7,25 @@ use crate::rooms::POINT;
 use crate::week::Week;
 use std::alloc::{AllocError, Global};
 
-/// How many sequences of sets a day has at most.
+/// The maximum number of sequences of sets of a day.
 const MOST_SEQUENCES: usize = 50_000;
 
 /// The bits above each byte's seven, which a subtraction in a byte borrows from.
 pub const GUARDS: u32 = 0x8080_8080;
 
-/// What two isolated lectures cost.
+/// The cost of a curriculum that is isolated in a period.
 const ISOLATED: u32 = 2 * POINT;
 
-/// More than a plan costs.
+/// A number that is higher than the cost of any plan.
 pub const DEAR: u32 = 1_000_000_000;
 
-/// The lectures of a day, and the least that they cost.
+/// The lectures of a day, and their lowest cost.
 #[derive(Clone, Copy)]
 pub struct Vector {
     pub cost: u32,
     /// The lectures of each member, a byte each.
     pub counts: u32,
-    /// What they add to the state.
+    /// The amount that they add to the state.
     pub index: u32,
     /// The sets of members by periods, four bits each, the last period lowest.
     pub spelled: u64,
@@ -51,7 +51,7 @@ struct Front {
     before: u128,
 }
 
-/// The bytes that are left, if there are as many.
+/// Returns the bytes that are left, or `None` if there are fewer than the lectures.
 pub fn left_after(left: u32, counts: u32) -> Option<u32> {
     let rest = (left | GUARDS).wrapping_sub(counts);
     if rest & GUARDS == GUARDS {
@@ -61,7 +61,7 @@ pub fn left_after(left: u32, counts: u32) -> Option<u32> {
     }
 }
 
-/// The cost of the curricula that are isolated in a period.
+/// Returns the cost of the curricula that are isolated in a period.
 pub fn isolation(before: u128, here: u128, after: u128) -> u32 {
     (here & !before & !after)
         .count_ones()
@@ -69,7 +69,7 @@ pub fn isolation(before: u128, here: u128, after: u128) -> u32 {
 }
 
 impl Front {
-    /// A day's beginning.
+    /// Returns the beginning of a day.
     fn first(all: u32) -> Front {
         Front {
             vector: Vector {
@@ -82,7 +82,7 @@ impl Front {
         }
     }
 
-    /// With a set of members in the next period, if lectures are left for it and it costs no more than the limit.
+    /// Returns the front with a set of members in the next period, if enough lectures are left for it and it costs no more than the limit.
     fn with(self, letter: Letter, limit: u32) -> Option<Front> {
         let cost = self
             .vector
@@ -106,12 +106,12 @@ impl Front {
     }
 }
 
-/// The lectures that one day can have.
+/// The possible lectures of one day.
 #[derive(Drop)]
 pub struct Speller {
     /// The sets of members of each period of the day.
     letters: Vec<Letter>,
-    /// How many there are of each.
+    /// The number of sets in each period.
     counts: Vec<usize>,
     /// The cheapest day for each state.
     cheapest: Vec<Vector>,
@@ -143,7 +143,7 @@ impl Speller {
         }
     }
 
-    /// The sets of members for each period of a day. Whether they are few enough.
+    /// Finds the sets of members for each period of a day. Returns whether their number is within the limit.
     fn find_letters(
         &mut self,
         week: &Week,
@@ -167,7 +167,7 @@ impl Speller {
         sequences <= MOST_SEQUENCES
     }
 
-    /// Keeps a whole day, where it is the cheapest of its state.
+    /// Stores a whole day, if it is the cheapest of its state.
     fn keep(&mut self, front: Front, limit: u32) {
         let vector = front.vector;
         let cost = vector
@@ -187,7 +187,7 @@ impl Speller {
         }
     }
 
-    /// Goes through all ways to go on with a day.
+    /// Tries all ways to continue a day.
     fn spell(&mut self, period: usize, left: usize, front: Front, limit: u32) {
         if left == 0 {
             self.keep(front, limit);
@@ -204,7 +204,7 @@ impl Speller {
         }
     }
 
-    /// Finds the lectures that a day can have at no more than the limit. Whether the day could be gone through.
+    /// Finds the possible lectures of a day within the limit. Returns whether the day could be searched.
     pub fn find(
         &mut self,
         week: &Week,
@@ -222,7 +222,7 @@ impl Speller {
         true
     }
 
-    /// Takes out the day that was found at this place, if there is one.
+    /// Removes and returns the day that was found with this number, if there is one.
     pub fn take(&mut self, number: usize) -> Option<Vector> {
         if number >= self.found_count {
             return None;

@@ -8,7 +8,7 @@ use tt_instance::Instance;
 use tt_occupancy::Occupied;
 use tt_table::Entry;
 
-/// How many lectures the courses of a group have at most.
+/// The maximum number of lectures of a group's courses.
 const MOST_OWN: usize = 256;
 
 /// No entry.
@@ -36,7 +36,7 @@ impl Slot {
     };
 }
 
-/// A lecture of the group as it is now.
+/// A lecture of the group in its present place.
 #[derive(Clone, Copy)]
 pub struct Own {
     pub entry: u32,
@@ -68,7 +68,7 @@ pub struct Week {
     own_count: usize,
 }
 
-/// The members that are not barred in a period, as a set.
+/// Returns the members that are not barred in a period, as a set.
 fn open_to(instance: &Instance<'_>, group: &Group, day: u32, period: u32) -> u8 {
     let mut open = 0;
     for member in group.members() {
@@ -96,7 +96,7 @@ impl Week {
         })
     }
 
-    /// How many periods the week has.
+    /// Returns the number of periods of the week.
     pub fn len(&self) -> usize {
         self.slots.len()
     }
@@ -106,7 +106,7 @@ impl Week {
         self.slots.get(slot).copied().unwrap_or(Slot::NONE)
     }
 
-    /// The lectures of the group as they are now.
+    /// Returns the lectures of the group in their present places.
     pub fn own(&self) -> &[Own] {
         self.own.get(..self.own_count).unwrap_or(&[])
     }
@@ -122,7 +122,7 @@ impl Week {
         slot.wrapping_mul(self.rooms).wrapping_add(rank as usize)
     }
 
-    /// The entry in a room of a period, if one is known there.
+    /// Returns the entry in a room of a period, if one is known.
     pub fn entry_in(&self, slot: usize, rank: u32) -> Option<u32> {
         self.entries
             .get(self.cell(slot, rank))
@@ -141,7 +141,7 @@ impl Week {
         }
     }
 
-    /// Empties all periods, and opens them to the members that are not barred there.
+    /// Empties all periods, and opens them to the members that are not barred in them.
     fn clear(&mut self, instance: &Instance<'_>, group: &Group) {
         let free = set_of(instance.rooms()).wrapping_sub(1);
         self.entries.fill(NOBODY);

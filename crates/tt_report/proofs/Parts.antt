@@ -24,7 +24,7 @@ appends_kept (Some a) None after xs h k = absurd h
 appends_kept (Some a) (Some b) None xs h k = absurd k
 appends_kept (Some a) (Some b) (Some c) xs h k = k ∙ h
 
--- the bytes are those that were taken and the rest
+-- the bytes are those taken so far and the rest
 pub record Taken (before after : Option (List ℕ)) (bytes rest : List ℕ) : Type 0 where
   pub taken : List ℕ
   pub front : bytes ≡ taken ++ rest

@@ -19,12 +19,12 @@ use Rattle.tt_report.specs.declared.blocks.Block.{Block}
 use Rattle.tt_report.specs.declared.blocks.Block.TheVariants as of
 use Rattle.tt_report.specs.declared.by.By.TheVariants.{Room, Teacher, Curriculum}
 
--- one number more
+-- another number
 pub texts_more : {Y : Type 0} (f : ℕ → List Y) (i : ℕ) → flat_map f (range_below (i + 1)) ≡ flat_map f (range_below i) ++ f i
 texts_more f i =
     ap (flat_map f) (range_below_more i) ∙ flat_map-append f (range_below i) (i ∷ []) ∙ ap (λ z. flat_map f (range_below i) ++ z) (append-nil (f i))
 
--- a text that grows by that of one number more
+-- a text is extended by that of another number
 pub text_further : (f : ℕ → List ℕ) (i : ℕ) (first old new : List ℕ) → old ≡ first ++ flat_map f (range_below i) → new ≡ old ++ f i → new ≡ first ++ flat_map f (range_below (i + 1))
 text_further f i first old new before more =
     more ∙ ap (λ z. z ++ f i) before ∙ append_assoc first (flat_map f (range_below i)) (f i) ∙ ap (λ z. first ++ z) (sym (texts_more f i))
@@ -99,7 +99,7 @@ slot_is p b t d s =
     ∙ ap (λ es. decimal d ++ 32 ∷ (decimal s ++ (next_texts (flat_map (shown_in p b) es) ++ 10 ∷ []))) (sym (filter-filter (belongs_to p b) (is_at (slot d s)) t))
     ∙ ap (λ z. decimal d ++ 32 ∷ (decimal s ++ (z ++ 10 ∷ []))) (next_texts-of_flat_map (shown_in p b) (filter (belongs_to p b) (filter (is_at (slot d s)) t)))
 
--- what was put, part by part, is the line
+-- the parts written in turn are the line
 pub slot_put : (p : Problem) (b : Block) (t es : List Cell) (day period d s : ℕ) (first a c e g : List ℕ) → d ≡ day → s ≡ period → a ≡ first ++ decimal d → c ≡ a ++ 32 ∷ decimal s → es ≡ filter (is_at (slot day period)) t → e ≡ c ++ entries_text p b es → g ≡ e ++ 10 ∷ [] → g ≡ first ++ slot_text p t b (slot day period)
 slot_put p b t es day period d s first a c e g day_is period_is ea ec es_is ee eg =
     let here = filter (is_at (slot day period)) t in

@@ -1,4 +1,4 @@
--- Only proofs rest on this file: nobody has to believe it.
+-- Not part of the trusted statement: only proofs use this file.
 -- The blocks of a report, one by one.
 use Rattle.std.specs.Prelude.{ℕ, ◌<◌, Bool, List, [], ◌∷◌, ◌++◌, filter, length, flat_map, codes, slice_index_or}
 use Rattle.tt_lists.specs.Words.{range_below}
@@ -13,7 +13,7 @@ use Rattle.tt_report.specs.Reports.{course_text, course_and_room, is_taught_by, 
 use Rattle.tt_report.specs.declared.blocks.Block.{Block}
 use Rattle.tt_report.specs.declared.blocks.Block.TheVariants as of
 
--- the room, teacher or curriculum is there
+-- The room, teacher or curriculum exists.
 abbrev pub IsBlock : Problem → Block → Type 0
 IsBlock p (of.Room r) = r < length p.rooms
 IsBlock p (of.Teacher k) = k < length (teachers p)
@@ -24,25 +24,25 @@ head_of p (of.Room r) = Text (codes "room") ∷ Text (slice_index_or p.rooms r n
 head_of p (of.Teacher k) = Text (codes "teacher") ∷ Text (slice_index_or (teachers p) k []) ∷ []
 head_of p (of.Curriculum q) = Text (codes "curriculum") ∷ Text (slice_index_or p.curricula q no_curriculum).id ∷ []
 
--- what is shown of an entry
+-- The pieces shown for an entry.
 abbrev pub shown_in : Problem → Block → Cell → List Piece
 shown_in p (of.Room r) e = course_text p e ∷ []
 shown_in p (of.Teacher k) e = course_and_room p e
 shown_in p (of.Curriculum q) e = course_and_room p e
 
--- the entries of the block
+-- The entry belongs to the block.
 abbrev pub belongs_to : Problem → Block → Cell → Bool
 belongs_to p (of.Room r) e = is_in r e
 belongs_to p (of.Teacher k) e = is_taught_by p (slice_index_or (teachers p) k []) e
 belongs_to p (of.Curriculum q) e = in_curriculum p q e.course
 
--- each piece after a space
+-- Each piece after a space.
 abbrev pub next_texts : List Piece → List ℕ
 next_texts ps = flat_map (λ p. 32 ∷ text_of p) ps
 
 -- ---- the text of each part
 
--- what is shown of those entries that belong to the block
+-- The texts of the entries that belong to the block.
 abbrev pub entries_text : Problem → Block → List Cell → List ℕ
 entries_text p b es = flat_map (λ e. next_texts (shown_in p b e)) (filter (belongs_to p b) es)
 

@@ -17,7 +17,7 @@ course_text p e = Text (slice_index_or p.courses e.course no_course).id
 abbrev pub room_text : Problem → Cell → Piece
 room_text p e = Text (slice_index_or p.rooms e.room no_room).id
 
--- day and period, and what is shown of each entry of the period that belongs to the block, in list order
+-- Day and period, and the pieces shown for each entry of the period that belongs to the block, in list order.
 abbrev pub slot_line : (Cell → List Piece) → (Cell → Bool) → List Cell → Slot → List Piece
 slot_line shown belongs t s = Number s.day ∷ Number s.period ∷ flat_map shown (filter (λ e. belongs e && is_at s e) t)
 
@@ -27,7 +27,7 @@ block p head shown belongs t = head ∷ map (slot_line shown belongs t) (all_slo
 abbrev pub course_and_room : Problem → Cell → List Piece
 course_and_room p e = course_text p e ∷ room_text p e ∷ []
 
--- the entry's course has the teacher of this name
+-- The entry's course has the teacher with this name.
 abbrev pub is_taught_by : Problem → List ℕ → Cell → Bool
 is_taught_by p name e = is_same_text (Some name) (slice_get (course_teachers p) e.course)
 

@@ -1,8 +1,8 @@
--- What a write that failed on its way leaves after.
+-- The contents of a sink after a failed write.
 use Rattle.std.specs.Prelude.{◌≡◌, ℕ, ◌++◌, List, Option}
 use Rattle.std.specs.Io.KnownBytes.{Appends}
 
--- a part from the front of the bytes was taken
+-- A part from the front of the bytes was taken.
 pub record TakesPart (before after : Option (List ℕ)) (bytes : List ℕ) : Type 0 where
   pub taken : List ℕ
   pub rest : List ℕ

@@ -11,7 +11,7 @@ use tt_instance::Instance;
 use tt_table::Entry;
 use tt_text::{put_line_end, put_next_token, put_token};
 
-/// Whose week a block shows, by number.
+/// The room, teacher or curriculum whose week a block shows, by number.
 #[derive(Clone, Copy)]
 pub enum Block {
     Room(u32),
@@ -47,7 +47,7 @@ fn teacher_name<'a>(instance: &Instance<'a>, teacher: u32) -> &'a [u8]
     instance.teacher_name(teacher)
 }
 
-/// The name of a course's teacher.
+/// Returns the name of a course's teacher.
 fn name_of_teacher<'a>(instance: &Instance<'a>, course: u32) -> &'a [u8]
     requires { course < length instance.now.courses }
     ensures { result.now ≡ (slice_index_or instance.now.courses course no_course).teacher }
@@ -56,7 +56,7 @@ fn name_of_teacher<'a>(instance: &Instance<'a>, course: u32) -> &'a [u8]
 }
 
 impl Block {
-    /// Whether an entry belongs to the block.
+    /// Returns whether an entry belongs to the block.
     pub fn has(self, instance: &Instance<'_>, entry: &Entry) -> bool
         requires block { IsBlock instance.now self }
         requires entry { InRange instance.now entry.now }
@@ -71,7 +71,7 @@ impl Block {
         }
     }
 
-    /// The head line.
+    /// Appends the head line.
     pub fn put_head(self, out: &mut Vec<u8>, instance: &Instance<'_>) -> Result<(), AllocError>
         requires { IsBlock instance.now self }
         ensures { OnOk result (out.new.items ≡ out.old.items ++ line_text (head_of instance.now self)) }
@@ -86,7 +86,7 @@ impl Block {
         put_line_end(out)
     }
 
-    /// What is shown of an entry.
+    /// Appends the text shown for an entry.
     pub fn put_entry(
         self,
         out: &mut Vec<u8>,

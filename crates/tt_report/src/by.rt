@@ -1,6 +1,6 @@
 //! The kinds of weekly report.
 
-/// By what a report has its blocks.
+/// The kind of the blocks of a report.
 #[derive(Clone, Copy, Debug, PartialEq, Eq)]
 pub enum By {
     Room,

@@ -1,4 +1,4 @@
-//! Why there is no report.
+//! Why a report was not written.
 
 ghost use Rattle.std.specs.Prelude.{◌≡◌};
 ghost use Rattle.tt_report.specs.declared.fault.ReportFault.TheVariants as fault;
@@ -7,7 +7,7 @@ use crate::sink::WriteFailed;
 use std::alloc::{AllocError, AllocFailed};
 use thiserror::Error;
 
-/// Why a report was not written whole.
+/// Why a report was not written completely.
 #[derive(Clone, Copy, Debug, PartialEq, Eq, Error)]
 pub enum ReportFault {
     /// A write failed; a prefix of the report was taken.

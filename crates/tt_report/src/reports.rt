@@ -1,4 +1,4 @@
-//! The text of a report, and its way out.
+//! The text of a report, and writing it to a sink.
 
 ghost use Rattle.std.specs.Prelude.{◌≡◌, ◌<◌, ◌++◌, length, flat_map, All, OnOk, IfOk, Err, true};
 ghost use Rattle.std.specs.Io.KnownBytes.{Appends};
@@ -23,7 +23,7 @@ use tt_instance::Instance;
 use tt_table::{Group, GroupBy, Groups, Timetable};
 use tt_text::{put_line_end, put_next_number, put_number};
 
-/// What is shown of those entries that belong to a block.
+/// Appends the texts of the entries that belong to a block.
 fn put_entries(
     out: &mut Vec<u8>,
     instance: &Instance<'_>,
@@ -42,7 +42,7 @@ fn put_entries(
     Ok(())
 }
 
-/// The line of a period.
+/// Appends the line of a period.
 fn put_slot(
     out: &mut Vec<u8>,
     instance: &Instance<'_>,
@@ -65,7 +65,7 @@ fn put_slot(
     put_line_end(out)
 }
 
-/// The lines of a day.
+/// Appends the lines of a day.
 #[tactic(auto, using(crate::proofs::Written::text_further))]
 fn put_day(
     out: &mut Vec<u8>,
@@ -86,7 +86,7 @@ fn put_day(
     Ok(())
 }
 
-/// The lines of a block.
+/// Appends the lines of a block.
 #[tactic(auto, using(crate::proofs::Written::text_further))]
 fn put_block(
     out: &mut Vec<u8>,
@@ -157,7 +157,7 @@ fn put_curricula(
     Ok(())
 }
 
-/// The text of a report.
+/// Returns the text of a report.
 fn text_of(
     alloc: Global,
     instance: &Instance<'_>,
@@ -177,7 +177,7 @@ fn text_of(
     Ok(out)
 }
 
-/// Writes the week of each room, teacher or curriculum. The text is made before its first byte is written.
+/// Writes the week of each room, teacher or curriculum. The whole text is made before its first byte is written.
 pub fn report<W: Sink>(
     alloc: Global,
     instance: &Instance<'_>,
@@ -187,11 +187,11 @@ pub fn report<W: Sink>(
 ) -> Result<(), ReportFault>
     requires { IsTimetable instance.now table.now }
     ensures written { OnOk result (Appends (W.contents sink.old) (W.contents sink.new) (report_text instance.now table.now by)) }
-    // After a failed write a part from its front was taken.
+    // After a failed write, a part from the front of the text was taken.
     ensures part { result ≡ Err fault.Write → TakesPart (W.contents sink.old) (W.contents sink.new) (report_text instance.now table.now by) }
     ensures failed { result ≡ Err fault.Write → W.has_failed sink.new ≡ true }
     ensures unfailed { ¬ (result ≡ Err fault.Write) → W.has_failed sink.new ≡ W.has_failed sink.old }
-    // Where memory ran out nothing was written.
+    // If memory ran out, nothing was written.
     ensures unwritten { result ≡ Err fault.OutOfMemory → sink.new ≡ sink.old }
 {
     let text = text_of(alloc, instance, table, by)?;

@@ -1,4 +1,4 @@
-//! Writers that tell which bytes they took, and whether a write has failed.
+//! Writers that report which bytes they took, and whether a write has failed.
 
 ghost use Rattle.std.specs.Prelude.{◌≡◌, ◌<◌, ◌≤◌, ℕ, List, Bool, true, false, is_ok, if◌then◌else◌, length, take, Option, OnOk, OnErr, IfOk};
 ghost use Rattle.std.specs.Io.KnownBytes.{Appends, WriteAppends};
@@ -7,32 +7,32 @@ ghost use Rattle.tt_report.specs.Sinks.{TakesPart};
 use std::io::Write;
 use thiserror::Error;
 
-/// A write did not work.
+/// A write failed.
 #[derive(Clone, Copy, Debug, PartialEq, Eq, Error)]
 #[error("a write failed")]
 pub struct WriteFailed;
 
 /// A sink of bytes.
 pub trait Sink {
-    // The bytes that it holds, where they are known.
+    // The bytes that it holds, if they are known.
     ghost contents: { Self → Option (List ℕ) };
 
     // Whether a write has failed.
     ghost has_failed: { Self → Bool };
 
-    /// Takes bytes from the front, at least one where there are some, and answers how many.
+    /// Takes bytes from the front, at least one if there are any, and returns how many.
     fn write(&mut self, bytes: &[u8]) -> Result<usize, WriteFailed>
         ensures within { IfOk result (λ n. n ≤ length bytes.now) }
         ensures some { IfOk result (λ n. 0 < length bytes.now → 0 < n) }
         ensures bytes { WriteAppends (contents self.old) (contents self.new) result bytes.now }
         ensures failed { has_failed self.new ≡ (if is_ok result then has_failed self.old else true) };
 
-    /// Whether a write has failed.
+    /// Returns whether a write has failed.
     fn failed(&self) -> bool
         ensures { result ≡ has_failed self.now };
 }
 
-/// A writer of std. A write that was interrupted, or that takes no byte of some, has failed.
+/// A writer of std. A write that was interrupted, or that takes none of the bytes given, has failed.
 #[derive(Drop)]
 pub struct Writing<W> {
     writer: W,
@@ -40,7 +40,7 @@ pub struct Writing<W> {
 }
 
 impl<W: Write> Writing<W> {
-    /// The sink of a writer's bytes.
+    /// Creates the sink of a writer's bytes.
     pub fn new(writer: W) -> Self
         ensures writer { result.writer ≡ writer }
         ensures failed { result.failed ≡ false }
@@ -72,7 +72,7 @@ impl<W: Write> Sink for Writing<W> {
     }
 }
 
-/// Writes all bytes. Where that fails, a part from their front was taken.
+/// Writes all bytes. If that fails, a part from their front was taken.
 #[tactic(auto, using(crate::proofs::Parts::taken_first, crate::proofs::Parts::taken_more, crate::proofs::Parts::taken_part, crate::proofs::Parts::taken_all))]
 pub fn write_all<W: Sink>(sink: &mut W, bytes: &[u8]) -> Result<(), WriteFailed>
     ensures all { OnOk result (Appends (W.contents sink.old) (W.contents sink.new) bytes.now) }

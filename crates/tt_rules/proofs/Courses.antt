@@ -13,7 +13,7 @@ use Rattle.tt_instance.specs.Cells.{is_of}
 use Rattle.tt_instance.specs.declared.cell.Cell.{Cell}
 
 module _ (test : Cell → Bool) (t : List Cell) where
-  -- an entry of one of the courses that passes
+  -- whether some entry of one of the courses passes
   pub any_of_courses : (cs : List ℕ) → list_any (λ c. list_any (λ e. is_of c e && test e) t) cs ≡ list_any (λ e. has_number cs e.course && test e) t
   any_of_courses [] = sym (never t)
     where
@@ -32,7 +32,7 @@ module _ (test : Cell → Bool) (t : List Cell) where
       joined true false false = refl
       joined false b x = refl
 
-  -- the entries of distinct courses that pass
+  -- the number of entries of distinct courses that pass
   pub count_of_courses : (cs : List ℕ) → each_two (λ a b. not (a == b)) cs ≡ true → sum_by (λ c. count_by (λ e. is_of c e && test e) t) cs ≡ count_by (λ e. has_number cs e.course && test e) t
   count_of_courses [] once = sym (sum_by-nothing t)
   count_of_courses (c ∷ cs) once =
@@ -49,7 +49,7 @@ module _ (test : Cell → Bool) (t : List Cell) where
           list_any-same (λ m. m == c) (λ m. c == m) cs (λ m. test_turned m c)
           ∙ not-true (list_any (λ m. c == m) cs) (sym (list_all-not (λ m. c == m) cs) ∙ h)
 
-      -- of two tests that do not pass together one counts at most
+      -- of two tests that never pass together, at most one counts
       joined : (a b x : Bool) → (a && b) ≡ false → one_if (a && x) + one_if (b && x) ≡ one_if ((a || b) && x)
       joined true true x h = absurd (false≢true (sym h))
       joined true false x h = let z : one_if (false && x) ≡ 0 = refl in omega (arith, z)

@@ -1,4 +1,4 @@
--- What holds of a timetable that breaks no hard rule.
+-- Properties of a timetable that breaks no hard rule.
 use Rattle.std.proofs.Common.{◌≡◌, ℕ, ◌-◌, ◌≤◌, ◌<◌, true, false, ◌&&◌, List, length, sym, ap, ◌∙◌, arith, inl, inr, eqb-true}
 use Rattle.std.specs.Prelude.{sum_by, count_by, Contains, ◌==◌}
 use Rattle.std.specs.List.{list_any, AllByRecursion}
@@ -32,7 +32,7 @@ collide-itself p x = and_right ((x.day == x.day) && (x.period == x.period)) (con
 
 -- ---- the counts
 
--- a course's entries at all periods, added up, are no more than it has
+-- a course's entries in all periods, added up, are at most all its entries
 pub in_periods : (p : Problem) (t : List Cell) (c : ℕ) → sum_by (λ s. count_by (λ e. is_of c e && is_at s e) t) (all_slots p) ≤ entries_of t c
 in_periods p t c =
     spread_down (λ e. one_if (is_of c e)) (λ s e. one_if (is_of c e && is_at s e)) t (all_slots p)
@@ -71,7 +71,7 @@ module _ (p : Problem) (t : List Cell) (ok : IsFeasible p t) where
     | inr h ↦ omega (arith, no_entries c h)
   ]
 
-  -- a course has one entry in a period at most
+  -- a course has at most one entry in a period
   pub once_a_period : (c : ℕ) → AllByRecursion (λ s. count_by (λ e. is_of c e && is_at s e) t ≤ 1) (all_slots p)
   once_a_period c =
       let one : Slot → ℕ = λ s. one_if (list_any (λ e. is_of c e && is_at s e) t) in
@@ -83,14 +83,14 @@ module _ (p : Problem) (t : List Cell) (ok : IsFeasible p t) where
   pub once_at : (c : ℕ) (x : Cell) → InRange p x → count_by (λ e. is_of c e && is_at (slot_of x) e) t ≤ 1
   once_at c x h = each_slot_at p (λ s. count_by (λ e. is_of c e && is_at s e) t ≤ 1) x.day x.period (once_a_period c) h.day h.period
 
-  -- a room has one entry in a period at most
+  -- a room has at most one entry in a period
   pub one_in_room : AllByRecursion (λ r. AllByRecursion (λ s. entries_in t r s ≤ 1) (all_slots p)) (all_rooms p)
   one_in_room =
       each_weaker (λ r. sum_by (λ s. entries_in t r s - 1) (all_slots p) ≡ 0) (λ r. AllByRecursion (λ s. entries_in t r s ≤ 1) (all_slots p))
       (λ r h. each_weaker (λ s. entries_in t r s - 1 ≡ 0) (λ s. entries_in t r s ≤ 1) (λ s k. omega arith) (all_slots p) (sum_by-zero_each (λ s. entries_in t r s - 1) (all_slots p) h))
       (all_rooms p) (sum_by-zero_each (λ r. sum_by (λ s. entries_in t r s - 1) (all_slots p)) (all_rooms p) ok.room_occupancy)
 
-  -- also in a room that is not there, which has none
+  -- a room has at most one entry in a period, also a room that is out of range and has none
   pub one_in_each : (r : ℕ) → AllByRecursion (λ s. entries_in t r s ≤ 1) (all_slots p)
   one_in_each r = elim (cases_lt r (length p.rooms)) [
     | inl h ↦ each_below_at (λ i. AllByRecursion (λ s. entries_in t i s ≤ 1) (all_slots p)) (length p.rooms) r one_in_room h
@@ -107,7 +107,7 @@ module _ (p : Problem) (t : List Cell) (ok : IsFeasible p t) where
       each_slot_at p (λ s. entries_in t x.room s ≤ 1) x.day x.period
       (each_below_at (λ r. AllByRecursion (λ s. entries_in t r s ≤ 1) (all_slots p)) (length p.rooms) x.room one_in_room h.room) h.day h.period
 
-  -- two courses that exclude each other have no period in common
+  -- two courses that conflict have no period in common
   pub no_collision : (x y : Cell) → Contains t x → Contains t y → collide p x y ≡ true → ⊥
   no_collision x y hx hy = no_two (collide p) (collide-turn p) (collide-itself p) t ok.conflicts x y hx hy
 

@@ -1,4 +1,4 @@
--- The places of a week with one free place between two days: next to each other where the periods are.
+-- The places of a week with one free place between two days: they are adjacent exactly if the periods are.
 use Rattle.std.proofs.Common.{◌≡◌, ℕ, ◌+◌, ◌-◌, ◌*◌, ◌<◌, ◌≤◌, Bool, true, false, not, ◌&&◌, ◌||◌, List, length, slice_index_or, refl, sym, ap, ◌∙◌, arith, mul-le-mul_left}
 use Rattle.std.specs.Prelude.{◌==◌, All, sum_by, count_by}
 use Rattle.std.specs.List.{list_any}
@@ -16,28 +16,28 @@ use Rattle.tt_lists.proofs.Tests.{list_any-same_at, list_any-or, same_test}
 use Rattle.tt_lists.proofs.Counting.{count_by-same_at}
 use Rattle.tt_table.proofs.Numbering.{same_number, number_below_week}
 
--- the places are few
+-- a place is below 2048
 pub place_below : (day period days periods : ℕ) → day < days → period < periods → days * periods ≤ 512 → day * (periods + 1) + period + 1 < 2048
 place_below day period days periods h k week =
     let a : day * (periods + 1) + (period + 1) < days * (periods + 1) = number_below_week day (period + 1) days (periods + 1) h (omega arith) in
     let b : days * 1 ≤ days * periods = mul-le-mul_left days (omega arith) in
     omega arith
 
--- day and period of two entries, and the periods of a day
+-- day and period of two entries, and the number of periods of a day
 module _ (a b d s w : ℕ) where
-  -- the first place is one after the second where the first period is right after the second
+  -- the first place is one after the second exactly if the first period immediately follows the second
   pub right_after : b < w → s < w → (a * (w + 1) + b + 1 == d * (w + 1) + s + 1 + 1) ≡ ((a == d) && (b == s + 1))
   right_after h k =
       same_test (a * (w + 1) + b + 1) (d * (w + 1) + s + 1 + 1) (a * (w + 1) + b) (d * (w + 1) + (s + 1)) (λ e. omega arith) (λ e. omega arith)
       ∙ same_number a b d (s + 1) (w + 1) (omega arith) (omega arith)
 
-  -- and one before it where it is right before
+  -- the first place is one before the second exactly if the first period immediately precedes the second
   pub right_before : b < w → s < w → (a * (w + 1) + b + 1 == d * (w + 1) + s + 1 - 1) ≡ ((a == d) && (b + 1 == s))
   right_before h k =
       same_test (a * (w + 1) + b + 1) (d * (w + 1) + s + 1 - 1) (a * (w + 1) + (b + 1)) (d * (w + 1) + s) (λ e. omega arith) (λ e. omega arith)
       ∙ same_number a (b + 1) d s (w + 1) (omega arith) (omega arith)
 
--- where the places of a curriculum's entries are marked, an entry is alone where it is isolated
+-- if the places of a curriculum's entries are marked, an entry is alone exactly if it is isolated
 pub alone_is : (p : Problem) (t : List Cell) (q : ℕ) (taught : List Bool) (e : Cell) → IsTimetable p t → InRange p e
     → ((k : ℕ) → slice_index_or taught k false ≡ list_any (λ x. in_curriculum p q x.course && (place_of p x == k)) t)
     → is_alone p taught e ≡ is_isolated p t q e
@@ -59,7 +59,7 @@ alone_is p t q taught e ok h marked =
     by_tests true false a b = refl
     by_tests false d a b = refl
 
--- so the entries of its members that are alone are its isolated ones
+-- the entries of a curriculum's members that are alone are its isolated ones
 pub isolated_counted : (p : Problem) (t : List Cell) (q : ℕ) (taught : List Bool) (total : ℕ) → IsInstance p → q < length p.curricula → IsTimetable p t
     → ((k : ℕ) → slice_index_or taught k false ≡ list_any (λ c. list_any (λ e. is_of c e && (place_of p e == k)) t) (members p q))
     → total ≡ sum_by (λ c. count_by (λ e. is_of c e && is_alone p taught e) t) (members p q)
@@ -70,6 +70,6 @@ isolated_counted p t q taught total ok h within marked summed =
     ∙ count_by-same_at (InRange p) (λ e. in_curriculum p q e.course && is_alone p taught e) (λ e. in_curriculum p q e.course && is_isolated p t q e) t within
     (λ e k. ap (λ b. in_curriculum p q e.course && b) (alone_is p t q taught e within k (λ n. marked n ∙ any_of_courses (λ x. place_of p x == n) t (members p q))))
 
--- the members of a curriculum are few
+-- the members of a curriculum are numbers below 2048
 pub members_few : (p : Problem) (q : ℕ) → IsInstance p → q < length p.curricula → All (λ c. c < 2048) (members p q)
 members_few p q ok h i d k = let below = members_below p q ok h i d k in omega (arith, below, ok.within.courses)

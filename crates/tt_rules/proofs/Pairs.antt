@@ -15,12 +15,12 @@ use Rattle.tt_table.specs.Groups.{in_group, group_of}
 use Rattle.tt_table.specs.declared.groups.GroupBy.TheVariants.{Period}
 use Rattle.tt_table.proofs.Numbering.{same_number}
 
--- the pairs of the elements so far, and those after them, are all: one element more
+-- the pairs counted so far, and those of the elements left, are all pairs: another element
 pub pairs_more : {X : Type 0} (related : X → X → Bool) (xs : List X) (i : ℕ) (d : X) (total here : ℕ) → i < length xs → total + count_pairs related (drop i xs) ≡ count_pairs related xs → here ≡ count_by (related (get_or xs i d)) (drop (i + 1) xs) → total + here + count_pairs related (drop (i + 1) xs) ≡ count_pairs related xs
 pairs_more related xs i d total here h so_far found =
     omega (arith, ap (count_pairs related) (drop_more xs i d h), found, so_far)
 
--- the later entries that collide with one: those of its period whose courses exclude its own
+-- the later entries that collide with an entry are those in its period whose courses conflict with its own
 pub collide_behind : (p : Problem) (e : Cell) (later : List Cell) → InRange p e → All (InRange p) later → count_by (λ other. conflict p e.course other.course) (filter (in_group (Period p.periods) (group_of (Period p.periods) e)) later) ≡ count_by (collide p e) later
 collide_behind p e later here ok =
     count_by-of_filter (λ other. conflict p e.course other.course) (in_group (Period p.periods) (group_of (Period p.periods) e)) later

@@ -13,13 +13,13 @@ use Rattle.tt_instance.proofs.Places.{any_slot, count_slots}
 use Rattle.tt_table.specs.Table.{IsTimetable}
 use Rattle.tt_lists.proofs.Tests.{first_and_others}
 
--- an entry in range stands in one
+-- an entry in range is in one of them
 own_slot : (q : Problem) (e : Cell) → InRange q e → list_any (λ s. is_at s e) (all_slots q) ≡ true
 own_slot q e h =
     any_slot q (λ s. is_at s e) e.day e.period h.day h.period
     (and_from (e.day == e.day) (e.period == e.period) (eq-eqb e.day e.day refl) (eq-eqb e.period e.period refl))
 
--- each chosen entry stands in one period
+-- each chosen entry is in exactly one period
 pub slots_of_entries : (q : Problem) (t : List Cell) (chosen : Cell → Bool) → IsTimetable q t → sum_by (λ s. count_by (λ e. chosen e && is_at s e) t) (all_slots q) ≡ count_by chosen t
 slots_of_entries q t chosen ok =
     let f : Cell → ℕ = λ e. one_if (chosen e) in
@@ -30,7 +30,7 @@ slots_of_entries q t chosen ok =
     (each (λ e. sum_by (λ s. w s e) (all_slots q) ≤ f e) (λ e. once_at_most (chosen e) (λ s. is_at s e) 1 (all_slots q) (count_slots q e)) t) in
     omega (arith, up, down)
 
--- the chosen entries but the first of each period: as many as there are, less the periods
+-- the chosen entries except the first of each period: the number of chosen entries minus the number of their periods
 pub entries_but_first : (q : Problem) (t : List Cell) (chosen : Cell → Bool) → IsTimetable q t → sum_by (λ s. count_by (λ e. chosen e && is_at s e) t - 1) (all_slots q) ≡ count_by chosen t - count_by (λ s. list_any (λ e. chosen e && is_at s e) t) (all_slots q)
 entries_but_first q t chosen ok =
     let here : Slot → Cell → Bool = λ s e. chosen e && is_at s e in

@@ -7,7 +7,7 @@ use Rattle.tt_rules.specs.Hard.{lectures_count, conflicts_count, availability_co
 use Rattle.tt_rules.specs.Soft.{capacity_count, days_count, compactness_count, stability_count}
 use Rattle.tt_rules.specs.declared.counts.Score.{Score}
 
--- these are the eight counts of the timetable
+-- The fields of the score are the eight counts of the timetable.
 pub record IsScore (p : Problem) (t : List Cell) (s : Score) : Type 0 where
   pub lectures : s.lectures ≡ lectures_count p t
   pub conflicts : s.conflicts ≡ conflicts_count p t
@@ -21,11 +21,11 @@ pub record IsScore (p : Problem) (t : List Cell) (s : Score) : Type 0 where
 abbrev pub hard : Problem → List Cell → ℕ
 hard p t = lectures_count p t + conflicts_count p t + availability_count p t + occupancy_count p t
 
--- the cost of a timetable by the competition's definition
+-- The cost of a timetable by the competition's definition.
 abbrev pub cost : Problem → List Cell → ℕ
 cost p t = capacity_count p t + days_count p t + compactness_count p t + stability_count p t
 
--- a timetable that breaks no hard rule
+-- A timetable that breaks no hard rule.
 pub record IsFeasible (p : Problem) (t : List Cell) : Type 0 where
   pub timetable : IsTimetable p t
   pub lectures : lectures_count p t ≡ 0

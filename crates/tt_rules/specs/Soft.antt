@@ -11,34 +11,34 @@ use Rattle.tt_instance.specs.declared.cell.Cell.{Cell}
 abbrev pub capacity_count : Problem → List Cell → ℕ
 capacity_count p t = sum_by (λ e. excess p e.course e.room) t
 
--- the days on which the course is taught
+-- The number of days on which the course is taught.
 abbrev pub days_of : Problem → List Cell → ℕ → ℕ
 days_of p t c = count_by (λ d. list_any (λ e. is_of c e && is_on d e) t) (all_days p)
 
--- 5 for each day below the minimum
+-- 5 for each day below the minimum.
 abbrev pub days_cost : Problem → List Cell → ℕ → ℕ
 days_cost p t c = 5 * (min_days p c - days_of p t c)
 
--- Minimum working days
+-- Minimum working days.
 abbrev pub days_count : Problem → List Cell → ℕ
 days_count p t = sum_by (days_cost p t) (all_courses p)
 
--- no entry of the curriculum lies one period before or after on the day; days don't join
+-- No entry of the curriculum is one period before or after it on the same day; days don't join.
 abbrev pub is_isolated : Problem → List Cell → ℕ → Cell → Bool
 is_isolated p t q e = not (list_any (λ x. in_curriculum p q x.course && next_to (slot_of x) (slot_of e)) t)
 
--- 2 for each isolated entry of the curriculum
+-- 2 for each isolated entry of the curriculum.
 abbrev pub compactness_cost : Problem → List Cell → ℕ → ℕ
 compactness_cost p t q = 2 * count_by (λ e. in_curriculum p q e.course && is_isolated p t q e) t
 
--- Curriculum compactness
+-- Curriculum compactness.
 abbrev pub compactness_count : Problem → List Cell → ℕ
 compactness_count p t = sum_by (compactness_cost p t) (all_curricula p)
 
--- each room of the course but the first
+-- Each room of the course except the first.
 abbrev pub stability_cost : Problem → List Cell → ℕ → ℕ
 stability_cost p t c = count_by (λ r. list_any (λ e. is_of c e && is_in r e) t) (all_rooms p) - 1
 
--- Room stability
+-- Room stability.
 abbrev pub stability_count : Problem → List Cell → ℕ
 stability_count p t = sum_by (stability_cost p t) (all_courses p)

@@ -1,4 +1,4 @@
-//! Availability: no entry stands in a period that is unavailable for its course.
+//! Availability: no entry is in a period that is unavailable for its course.
 
 ghost use Rattle.std.specs.Prelude.{◌≡◌, ◌≤◌, length};
 ghost use Rattle.tt_rules.specs.Hard.{availability_count};
@@ -6,7 +6,7 @@ ghost use Rattle.tt_rules.specs.Hard.{availability_count};
 use tt_instance::Instance;
 use tt_table::Entry;
 
-/// The entries in a period that is unavailable for their course.
+/// Counts the entries in a period that is unavailable for their course.
 pub fn count(instance: &Instance<'_>, entries: &[Entry]) -> u64
     ensures count { result ≡ availability_count instance.now entries.now }
     ensures few { result ≤ length entries.now }

@@ -11,7 +11,7 @@ ghost use Rattle.tt_instance.specs.declared.limit.TheConstants.{MAX_SEATS};
 use tt_instance::Instance;
 use tt_table::Entry;
 
-/// The students of an entry's course for whom its room has no seat.
+/// Counts the students of an entry's course for whom its room has no seat.
 fn without_seat(instance: &Instance<'_>, entry: &Entry) -> u64
     requires { InRange instance.now entry.now }
     ensures value { result ≡ excess instance.now entry.now.course entry.now.room }
@@ -21,7 +21,7 @@ fn without_seat(instance: &Instance<'_>, entry: &Entry) -> u64
     u64::from(instance.students(entry.course).saturating_sub(seats))
 }
 
-/// The students without a seat, in all entries.
+/// Counts the students without a seat, in all entries.
 #[tactic(auto, using(std::proofs::lemmas::List::Sums::sum_by_more))]
 pub fn cost(instance: &Instance<'_>, entries: &[Entry]) -> u64
     requires in_range { All (InRange instance.now) entries.now }

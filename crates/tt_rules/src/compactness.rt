@@ -17,7 +17,7 @@ use crate::marks::Marks;
 use tt_instance::Instance;
 use tt_table::{Entry, Group, Groups};
 
-/// The place of an entry's period, from 1: day by day, with one free place between two days, so
+/// Returns the place of an entry's period, from 1: day by day, with one free place between two days, so
 /// that they do not join.
 #[tactic(auto, using(crate::proofs::Neighbours::place_below))]
 fn place(instance: &Instance<'_>, entry: &Entry) -> usize
@@ -39,7 +39,7 @@ fn mark_places(instance: &Instance<'_>, group: Group<'_>, marks: &mut Marks)
     }
 }
 
-/// The places in which some of the courses is taught.
+/// Returns the places in which some of the courses are taught.
 fn taught(instance: &Instance<'_>, by_course: &Groups<'_>, courses: &[u32]) -> Marks
     requires by { by_course.now.by ≡ by.Course }
     requires courses { All (λ c. c < MAX_COURSES) courses.now }
@@ -54,7 +54,7 @@ fn taught(instance: &Instance<'_>, by_course: &Groups<'_>, courses: &[u32]) -> M
     marks
 }
 
-/// The entries of a group with no mark right before their place or right after it.
+/// Counts the entries of a group with no mark immediately before or after their place.
 fn alone(instance: &Instance<'_>, group: Group<'_>, taught: &Marks) -> u64
     requires few { length group ≤ MAX_ENTRIES }
     ensures count { result ≡ count_by (is_alone instance.now taught.now) group.entry }
@@ -68,7 +68,7 @@ fn alone(instance: &Instance<'_>, group: Group<'_>, taught: &Marks) -> u64
         .count() as u64
 }
 
-/// The entries of courses with no mark right before their place or right after it.
+/// Counts the entries of courses with no mark immediately before or after their place.
 fn alone_of(instance: &Instance<'_>, by_course: &Groups<'_>, courses: &[u32], taught: &Marks) -> u64
     requires by { by_course.now.by ≡ by.Course }
     requires courses { All (λ c. c < MAX_COURSES) courses.now }
@@ -84,7 +84,7 @@ fn alone_of(instance: &Instance<'_>, by_course: &Groups<'_>, courses: &[u32], ta
     total
 }
 
-/// The isolated entries of a curriculum.
+/// Counts the isolated entries of a curriculum.
 fn isolated(instance: &Instance<'_>, by_course: &Groups<'_>, curriculum: u32) -> u64
     requires by { by_course.now.by ≡ by.Course }
     requires curriculum { curriculum < length instance.now.curricula }
@@ -94,14 +94,14 @@ fn isolated(instance: &Instance<'_>, by_course: &Groups<'_>, curriculum: u32) ->
         && is_isolated instance.now by_course.now.entries curriculum e) by_course.now.entries }
     ensures few { result ≤ length by_course.now.entries }
 {
-    // What is true of every instance: its members are courses.
+    // In every instance, the members of a curriculum are courses.
     prove!(instance.days() > 0);
     let members = instance.members(curriculum);
     let taught = taught(instance, by_course, members);
     alone_of(instance, by_course, members, &taught)
 }
 
-/// The cost of all curricula.
+/// Returns the cost of all curricula.
 #[tactic(auto, using(tt_lists::proofs::Numbers::sum_more))]
 pub fn cost(instance: &Instance<'_>, by_course: &Groups<'_>) -> u64
     requires by { by_course.now.by ≡ by.Course }

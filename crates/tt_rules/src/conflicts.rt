@@ -1,4 +1,4 @@
-//! Conflicts: no two entries of one period have courses that exclude each other.
+//! Conflicts: no two entries of one period have courses that conflict.
 
 ghost use Rattle.std.specs.Prelude.{◌≡◌, ◌≤◌, ◌+◌, length, count_by, drop, All, Some, slice_get};
 ghost use Rattle.tt_instance.specs.Cells.{InRange};
@@ -11,7 +11,7 @@ ghost use Rattle.tt_rules.specs.declared.limit.TheConstants.{MAX_COUNT};
 use tt_instance::Instance;
 use tt_table::{Entry, Group, Groups};
 
-/// The entries of a group whose courses exclude an entry's.
+/// Counts the entries of a group whose courses conflict with an entry's.
 fn excluded(instance: &Instance<'_>, entry: &Entry, group: Group<'_>) -> u64
     requires few { length group ≤ MAX_ENTRIES }
     ensures count { result
@@ -23,7 +23,7 @@ fn excluded(instance: &Instance<'_>, entry: &Entry, group: Group<'_>) -> u64
         .count() as u64
 }
 
-/// The later entries that collide with one.
+/// Counts the later entries that collide with an entry.
 fn against(instance: &Instance<'_>, by_period: &Groups<'_>, entry: &Entry, index: u32) -> u64
     requires by { by_period.now.by ≡ by.Period instance.now.periods }
     requires in_range { All (InRange instance.now) by_period.now.entries }
@@ -35,7 +35,7 @@ fn against(instance: &Instance<'_>, by_period: &Groups<'_>, entry: &Entry, index
     excluded(instance, entry, by_period.after(index))
 }
 
-/// The pairs of entries that collide.
+/// Counts the pairs of entries that collide.
 pub fn count(instance: &Instance<'_>, entries: &[Entry], by_period: &Groups<'_>) -> u64
     requires by { by_period.now.by ≡ by.Period instance.now.periods }
     requires same { by_period.now.entries ≡ entries.now }

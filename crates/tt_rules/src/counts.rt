@@ -2,7 +2,7 @@
 
 ghost use Rattle.std.specs.Prelude.{◌≡◌, ◌+◌, ◌^◌, ◌<◌, ◌↔◌, IsTrue};
 
-/// What a timetable breaks of the four hard rules, and what it costs by the four soft ones.
+/// The violations of the four hard rules by a timetable, and its costs by the four soft rules.
 #[derive(Clone, Copy, Debug, PartialEq, Eq)]
 pub struct Score {
     pub lectures: u64,
@@ -18,21 +18,21 @@ pub struct Score {
 }
 
 impl Score {
-    /// What is broken of the hard rules in all; 0 exactly where none is.
+    /// Returns the number of violations of the hard rules, 0 exactly if no hard rule is broken.
     pub fn hard(&self) -> u64
         ensures { result ≡ self.now.lectures + self.now.conflicts + self.now.availability + self.now.room_occupancy }
     {
         self.lectures + self.conflicts + self.availability + self.room_occupancy
     }
 
-    /// The cost in all, in cost points.
+    /// Returns the total cost, in cost points.
     pub fn cost(&self) -> u64
         ensures { result ≡ self.now.room_capacity + self.now.min_working_days + self.now.compactness + self.now.room_stability }
     {
         self.room_capacity + self.min_working_days + self.compactness + self.room_stability
     }
 
-    /// Whether no hard rule is broken.
+    /// Returns whether no hard rule is broken.
     pub fn feasible(&self) -> bool
         ensures { IsTrue result ↔ (self.now.lectures + self.now.conflicts + self.now.availability + self.now.room_occupancy ≡ 0) }
     {

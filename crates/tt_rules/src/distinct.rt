@@ -1,4 +1,4 @@
-//! How many periods, days or rooms the entries of a group have, each once.
+//! How many distinct periods, days or rooms the entries of a group have.
 
 ghost use Rattle.std.specs.Prelude.{◌≡◌, ◌≤◌, count_by, All};
 ghost use Rattle.std.specs.List.{list_any};
@@ -10,7 +10,7 @@ use crate::slots;
 use tt_instance::Instance;
 use tt_table::Group;
 
-/// The periods of the week in which some entry stands.
+/// Counts the periods of the week that have some entry.
 #[tactic(auto, using(crate::proofs::Marking::marks_first))]
 pub fn periods(instance: &Instance<'_>, group: Group<'_>) -> u64
     requires { All (InRange instance.now) group }
@@ -23,7 +23,7 @@ pub fn periods(instance: &Instance<'_>, group: Group<'_>) -> u64
     marks.count(slots::in_week(instance))
 }
 
-/// The days on which some entry stands.
+/// Counts the days that have some entry.
 #[tactic(auto, using(crate::proofs::Marking::marks_first, crate::proofs::Marking::marks_counted))]
 pub fn days(instance: &Instance<'_>, group: Group<'_>) -> u64
     requires { All (InRange instance.now) group }
@@ -37,7 +37,7 @@ pub fn days(instance: &Instance<'_>, group: Group<'_>) -> u64
     marks.count(days)
 }
 
-/// The rooms in which some entry stands.
+/// Counts the rooms that have some entry.
 #[tactic(auto, using(crate::proofs::Marking::marks_first, crate::proofs::Marking::marks_counted))]
 pub fn rooms(instance: &Instance<'_>, group: Group<'_>) -> u64
     requires { All (InRange instance.now) group }

@@ -11,7 +11,7 @@ use crate::distinct;
 use tt_instance::{Instance, MAX_COURSES};
 use tt_table::Groups;
 
-/// The entries of a course.
+/// Counts the entries of a course.
 fn entries_of(by_course: &Groups<'_>, course: u32) -> u64
     requires by { by_course.now.by ≡ by.Course }
     requires course { course < MAX_COURSES }
@@ -22,7 +22,7 @@ fn entries_of(by_course: &Groups<'_>, course: u32) -> u64
     by_course.of_course(course).len()
 }
 
-/// The periods in which the course is taught.
+/// Counts the periods in which the course is taught.
 fn periods_of(instance: &Instance<'_>, by_course: &Groups<'_>, course: u32) -> u64
     requires by { by_course.now.by ≡ by.Course }
     requires course { course < MAX_COURSES }
@@ -32,7 +32,7 @@ fn periods_of(instance: &Instance<'_>, by_course: &Groups<'_>, course: u32) -> u
     distinct::periods(instance, by_course.of_course(course))
 }
 
-/// How far a course is from its lectures, and its entries that share a period with an earlier one.
+/// Returns how far a course is from its number of lectures, plus its entries that share a period with an earlier one.
 fn lectures_off(instance: &Instance<'_>, by_course: &Groups<'_>, course: u32) -> u64
     requires by { by_course.now.by ≡ by.Course }
     requires course { course < length instance.now.courses }
@@ -41,7 +41,7 @@ fn lectures_off(instance: &Instance<'_>, by_course: &Groups<'_>, course: u32) ->
     ensures value { result ≡ lectures_off instance.now by_course.now.entries course }
     ensures within { result ≤ 4 * MAX_ENTRIES }
 {
-    // What is true of every instance: each course is a group.
+    // In every instance, each course is a group.
     prove!(instance.courses() <= MAX_COURSES);
     let wanted = u64::from(instance.lectures(course));
     let placed = entries_of(by_course, course);
@@ -49,7 +49,7 @@ fn lectures_off(instance: &Instance<'_>, by_course: &Groups<'_>, course: u32) ->
     (wanted.max(placed) - wanted.min(placed)) + placed.saturating_sub(periods)
 }
 
-/// How far the courses are from their lectures, in all.
+/// Returns how far the courses are from their lectures in total.
 #[tactic(auto, using(tt_lists::proofs::Numbers::sum_more))]
 pub fn count(instance: &Instance<'_>, by_course: &Groups<'_>) -> u64
     requires by { by_course.now.by ≡ by.Course }

@@ -5,7 +5,7 @@ ghost use Rattle.tt_lists.specs.Words.{range_below};
 
 use std::marker::Model;
 
-/// Places are numbered from 0; there are as many as courses, and fewer rooms, days and periods.
+/// Places are numbered from 0, up to the maximum number of courses; rooms, days and periods have fewer.
 pub const PLACES: usize = 2048;
 
 /// Whether each place is marked.
@@ -23,7 +23,7 @@ impl Model for Marks {
 }
 
 impl Marks {
-    /// No place is marked.
+    /// Creates marks with no place marked.
     pub fn none() -> Self
         ensures { (k : ℕ) → slice_index_or result k false ≡ false }
     {
@@ -32,7 +32,7 @@ impl Marks {
         }
     }
 
-    /// Whether a place is marked; one that is not there is not.
+    /// Returns whether a place is marked; false if the place is out of range.
     pub fn has(&self, place: usize) -> bool
         ensures { result ≡ slice_index_or self.now place false }
     {
@@ -48,7 +48,7 @@ impl Marks {
         self.places[place] = true;
     }
 
-    /// How many places below a bound are marked.
+    /// Counts the marked places below a bound.
     #[tactic(auto, using(tt_lists::proofs::Numbers::count_more))]
     pub fn count(&self, bound: u32) -> u64
         requires { bound ≤ PLACES }

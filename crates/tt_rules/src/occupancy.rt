@@ -1,4 +1,4 @@
-//! Room occupancy: one for each entry of a room and a period but the first.
+//! Room occupancy: one for each entry of a room and a period except the first.
 
 ghost use Rattle.std.specs.Prelude.{◌≡◌, ◌<◌, ◌≤◌, ◌-◌, ◌&&◌, length, sum_by, count_by, All};
 ghost use Rattle.std.specs.List.{list_any};
@@ -13,7 +13,7 @@ use crate::distinct;
 use tt_instance::Instance;
 use tt_table::Groups;
 
-/// The entries in a room.
+/// Counts the entries in a room.
 fn entries_in(by_room: &Groups<'_>, room: u32) -> u64
     requires by { by_room.now.by ≡ by.Room }
     requires room { room < GROUPS }
@@ -24,7 +24,7 @@ fn entries_in(by_room: &Groups<'_>, room: u32) -> u64
     by_room.in_room(room).len()
 }
 
-/// The periods in which the room is used.
+/// Counts the periods in which the room is used.
 fn periods_of(instance: &Instance<'_>, by_room: &Groups<'_>, room: u32) -> u64
     requires by { by_room.now.by ≡ by.Room }
     requires room { room < GROUPS }
@@ -36,7 +36,7 @@ fn periods_of(instance: &Instance<'_>, by_room: &Groups<'_>, room: u32) -> u64
     distinct::periods(instance, by_room.in_room(room))
 }
 
-/// The entries of a room but the first of each period.
+/// Counts the entries of a room except the first of each period.
 fn doubled(instance: &Instance<'_>, by_room: &Groups<'_>, room: u32) -> u64
     requires by { by_room.now.by ≡ by.Room }
     requires room { room < GROUPS }
@@ -49,7 +49,7 @@ fn doubled(instance: &Instance<'_>, by_room: &Groups<'_>, room: u32) -> u64
     entries_in(by_room, room).saturating_sub(periods_of(instance, by_room, room))
 }
 
-/// The entries of each room and period but the first, in all.
+/// Counts the entries of each room and period except the first, in total.
 #[tactic(auto, using(tt_lists::proofs::Numbers::sum_more))]
 pub fn count(instance: &Instance<'_>, by_room: &Groups<'_>) -> u64
     requires by { by_room.now.by ≡ by.Room }

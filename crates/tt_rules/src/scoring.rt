@@ -14,29 +14,29 @@ use crate::{
 use tt_instance::{Instance, MAX_COURSES, MAX_ROOMS};
 use tt_table::{Entry, GroupBy, Groups, Timetable};
 
-/// The entries by course.
+/// Groups the entries by course.
 fn by_course<'t>(instance: &Instance<'_>, entries: &'t [Entry]) -> Groups<'t>
     requires in_range { All (InRange instance.now) entries.now }
     requires few { length entries.now ≤ MAX_ENTRIES }
     ensures { result ≡ record { by = by.Course; entries = entries.now } }
 {
-    // What is true of every instance: each course is a group.
+    // In every instance, each course is a group.
     prove!(instance.courses() <= MAX_COURSES);
     Groups::new(entries, GroupBy::Course)
 }
 
-/// The entries by room.
+/// Groups the entries by room.
 fn by_room<'t>(instance: &Instance<'_>, entries: &'t [Entry]) -> Groups<'t>
     requires in_range { All (InRange instance.now) entries.now }
     requires few { length entries.now ≤ MAX_ENTRIES }
     ensures { result ≡ record { by = by.Room; entries = entries.now } }
 {
-    // What is true of every instance: each room is a group.
+    // In every instance, each room is a group.
     prove!(instance.rooms() <= MAX_ROOMS);
     Groups::new(entries, GroupBy::Room)
 }
 
-/// The entries by the period of the week.
+/// Groups the entries by period of the week.
 fn by_period<'t>(instance: &Instance<'_>, entries: &'t [Entry]) -> Groups<'t>
     requires in_range { All (InRange instance.now) entries.now }
     requires few { length entries.now ≤ MAX_ENTRIES }
@@ -45,7 +45,7 @@ fn by_period<'t>(instance: &Instance<'_>, entries: &'t [Entry]) -> Groups<'t>
     Groups::new(entries, GroupBy::Period(instance.periods()))
 }
 
-/// The eight counts of a timetable, whose entries are all in the instance's range.
+/// Returns the eight counts of a timetable whose entries are all in the instance's range.
 pub fn score(instance: &Instance<'_>, table: &Timetable) -> Score
     requires { IsTimetable instance.now table.now }
     ensures { IsScore instance.now table.now result }

@@ -7,7 +7,7 @@ ghost use Rattle.tt_instance.specs.declared.limit.TheConstants.{MAX_SLOTS};
 use tt_instance::Instance;
 use tt_table::Entry;
 
-/// How many periods the week has.
+/// Returns how many periods the week has.
 pub fn in_week(instance: &Instance<'_>) -> u32
     ensures value { result ≡ instance.now.days * instance.now.periods }
     ensures within { result ≤ MAX_SLOTS }
@@ -15,7 +15,7 @@ pub fn in_week(instance: &Instance<'_>) -> u32
     instance.days() * instance.periods()
 }
 
-/// The number of an entry's period.
+/// Returns the number of an entry's period.
 #[tactic(auto, using(tt_table::proofs::Numbering::number_below_week))]
 pub fn number(instance: &Instance<'_>, entry: &Entry) -> usize
     requires { InRange instance.now entry.now }

@@ -1,4 +1,4 @@
-//! Room stability: one for each room of a course but the first.
+//! Room stability: one for each room of a course except the first.
 
 ghost use Rattle.std.specs.Prelude.{◌≡◌, ◌<◌, ◌≤◌, ◌&&◌, count_by, All};
 ghost use Rattle.std.specs.List.{list_any};
@@ -13,7 +13,7 @@ use crate::distinct;
 use tt_instance::Instance;
 use tt_table::Groups;
 
-/// The rooms in which the course is taught.
+/// Counts the rooms in which the course is taught.
 fn rooms_of(instance: &Instance<'_>, by_course: &Groups<'_>, course: u32) -> u64
     requires by { by_course.now.by ≡ by.Course }
     requires course { course < GROUPS }
@@ -26,7 +26,7 @@ fn rooms_of(instance: &Instance<'_>, by_course: &Groups<'_>, course: u32) -> u64
     distinct::rooms(instance, by_course.of_course(course))
 }
 
-/// The cost of a course.
+/// Returns the cost of a course.
 fn cost_of(instance: &Instance<'_>, by_course: &Groups<'_>, course: u32) -> u64
     requires by { by_course.now.by ≡ by.Course }
     requires course { course < GROUPS }
@@ -37,7 +37,7 @@ fn cost_of(instance: &Instance<'_>, by_course: &Groups<'_>, course: u32) -> u64
     rooms_of(instance, by_course, course).saturating_sub(1)
 }
 
-/// The cost of all courses.
+/// Returns the cost of all courses.
 #[tactic(auto, using(tt_lists::proofs::Numbers::sum_more))]
 pub fn cost(instance: &Instance<'_>, by_course: &Groups<'_>) -> u64
     requires by { by_course.now.by ≡ by.Course }

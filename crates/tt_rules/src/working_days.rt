@@ -12,7 +12,7 @@ use crate::limit::DAY_PRICE;
 use tt_instance::{Instance, MAX_COURSES};
 use tt_table::Groups;
 
-/// The days on which the course is taught.
+/// Counts the days on which the course is taught.
 fn days_of(instance: &Instance<'_>, by_course: &Groups<'_>, course: u32) -> u64
     requires by { by_course.now.by ≡ by.Course }
     requires course { course < MAX_COURSES }
@@ -22,7 +22,7 @@ fn days_of(instance: &Instance<'_>, by_course: &Groups<'_>, course: u32) -> u64
     distinct::days(instance, by_course.of_course(course))
 }
 
-/// The cost of a course.
+/// Returns the cost of a course.
 fn cost_of(instance: &Instance<'_>, by_course: &Groups<'_>, course: u32) -> u64
     requires by { by_course.now.by ≡ by.Course }
     requires course { course < length instance.now.courses }
@@ -30,13 +30,13 @@ fn cost_of(instance: &Instance<'_>, by_course: &Groups<'_>, course: u32) -> u64
     ensures cost { result ≡ days_cost instance.now by_course.now.entries course }
     ensures few { result ≤ DAY_PRICE * MAX_MIN_DAYS }
 {
-    // What is true of every instance: each course is a group.
+    // In every instance, each course is a group.
     prove!(instance.courses() <= MAX_COURSES);
     let days = days_of(instance, by_course, course);
     DAY_PRICE * u64::from(instance.min_days(course)).saturating_sub(days)
 }
 
-/// The cost of all courses.
+/// Returns the cost of all courses.
 #[tactic(auto, using(tt_lists::proofs::Numbers::sum_more))]
 pub fn cost(instance: &Instance<'_>, by_course: &Groups<'_>) -> u64
     requires by { by_course.now.by ≡ by.Course }

@@ -7,7 +7,7 @@ use std::test::Fail;
 pub const MINI: &str =
     "Name: Mini\nCourses: 2\nRooms: 1\nDays: 1\nPeriods_per_day: 3\nCurricula: 1\nConstraints: 0\n\nCOURSES:\na t1 1 1 10\nb t2 1 1 12\n\nROOMS:\nR 11\n\nCURRICULA:\nq 2 a b\n\nUNAVAILABILITY_CONSTRAINTS:\n\nEND.\n";
 
-/// Mini, where no course has a lecture in the middle period.
+/// Mini with no course available in the middle period.
 pub const GAP: &str =
     "Name: Gap\nCourses: 2\nRooms: 1\nDays: 1\nPeriods_per_day: 3\nCurricula: 1\nConstraints: 2\n\nCOURSES:\na t1 1 1 10\nb t2 1 1 12\n\nROOMS:\nR 11\n\nCURRICULA:\nq 2 a b\n\nUNAVAILABILITY_CONSTRAINTS:\na 0 1\nb 0 1\n\nEND.\n";
 
@@ -15,11 +15,11 @@ pub const GAP: &str =
 pub const LONG: &str =
     "Name: Long\nCourses: 2\nRooms: 1\nDays: 2\nPeriods_per_day: 1\nCurricula: 1\nConstraints: 0\n\nCOURSES:\na t1 1 1 10\nb t2 1 1 12\n\nROOMS:\nR 11\n\nCURRICULA:\nq 2 a b\n\nUNAVAILABILITY_CONSTRAINTS:\n\nEND.\n";
 
-/// One course of two lectures, wanted on three of five days.
+/// One course of two lectures that needs three of five days.
 pub const WIDE: &str =
     "Name: Wide\nCourses: 1\nRooms: 1\nDays: 5\nPeriods_per_day: 1\nCurricula: 0\nConstraints: 0\n\nCOURSES:\na t1 2 3 10\n\nROOMS:\nR 11\n\nCURRICULA:\n\nUNAVAILABILITY_CONSTRAINTS:\n\nEND.\n";
 
-/// Two courses that exclude each other by nothing, and one room in one period.
+/// Two courses that do not conflict, and one room in one period.
 pub const APART: &str =
     "Name: Apart\nCourses: 2\nRooms: 1\nDays: 1\nPeriods_per_day: 1\nCurricula: 0\nConstraints: 0\n\nCOURSES:\nx t1 1 1 1\ny t2 1 1 1\n\nROOMS:\nA 10\n\nCURRICULA:\n\nUNAVAILABILITY_CONSTRAINTS:\n\nEND.\n";
 
@@ -39,10 +39,10 @@ pub const TRIO: &str =
 pub const TOUR: &str =
     "Name: Tour\nCourses: 1\nRooms: 2\nDays: 3\nPeriods_per_day: 1\nCurricula: 0\nConstraints: 0\n\nCOURSES:\nx t1 3 3 1\n\nROOMS:\nA 10\nB 10\n\nCURRICULA:\n\nUNAVAILABILITY_CONSTRAINTS:\n\nEND.\n";
 
-/// Both lectures of Wide, on days of their own.
+/// Both lectures of Wide, on different days.
 pub const WIDE_SOLUTION: &str = "a R 0 0\na R 1 0\n";
 
-/// As many lectures of one course as there may be, and a room without a seat.
+/// One course with the maximum number of lectures, and a room without a seat.
 pub const CROWDED: &str =
     "Name: Crowded\nCourses: 1\nRooms: 1\nDays: 1\nPeriods_per_day: 1\nCurricula: 0\nConstraints: 0\n\nCOURSES:\nx t 4096 1 1000000\n\nROOMS:\nA 0\n\nCURRICULA:\n\nUNAVAILABILITY_CONSTRAINTS:\n\nEND.\n";
 
@@ -50,20 +50,20 @@ pub const CROWDED: &str =
 pub const FLAT: &str =
     "Name: Flat\nCourses: 1\nRooms: 2\nDays: 1\nPeriods_per_day: 4\nCurricula: 0\nConstraints: 0\n\nCOURSES:\nx t 4 1 1\n\nROOMS:\nA 10\nB 10\n\nCURRICULA:\n\nUNAVAILABILITY_CONSTRAINTS:\n\nEND.\n";
 
-/// Its lectures in both rooms, which no single step makes better.
+/// The lectures of Flat in both rooms; no single step improves this timetable.
 pub const FLAT_SOLUTION: &str = "x A 0 0\nx A 0 1\nx B 0 2\nx B 0 3\n";
 
-/// Both lectures of Mini, each alone.
+/// Both lectures of Mini, each isolated.
 pub const MINI_SOLUTION: &str = "a R 0 0\nb R 0 2\n";
 
-/// Gap costs at least 5: whichever periods its courses take.
+/// Gap costs at least 5, for any periods of its courses.
 pub const GAP_PROOF: &str =
     "CTTP 1 bound 5\nS c0 * d0 p0\nS c1 * d0 p2\nB C c1 1 Q q0 ;\nK c1 ;\nS c0 * d0 p2\nS c1 * d0 p0\nB C c1 1 Q q0 ;\nK c1 ;\nK c0 ;\nend\n";
 
-/// A line that a test of memory prints before its call and after it: between the two hostile/run.py refuses growths.
+/// A line that a test of memory prints before and after its call: between the two, hostile/run.py refuses allocations.
 pub const MARK: &str = "mark";
 
-/// A text with other words at the first place of some.
+/// Returns a text in which the first occurrence of some words is replaced by others.
 pub fn edited(alloc: Global, text: &str, old: &str, new: &str) -> Result<String, Fail> {
     match text.split_once(old) {
         Some((before, after)) => Ok(format!(in alloc; "{before}{new}{after}")?),
@@ -71,7 +71,7 @@ pub fn edited(alloc: Global, text: &str, old: &str, new: &str) -> Result<String,
     }
 }
 
-/// A text this many times.
+/// Returns a text repeated this many times.
 pub fn repeated(alloc: Global, text: &str, times: usize) -> Result<String, AllocError> {
     let mut all = String::new(alloc);
     for _ in 0..times {

@@ -1,4 +1,4 @@
--- Which timetables of a small instance are no worse than others: two courses of a curriculum, and one room.
+-- Comparisons of timetables of a small instance, whether they are no worse than others: two courses of a curriculum, and one room.
 use Rattle.std.proofs.Common.{◌≡◌, ℕ, ◌<◌, List, [], ◌∷◌, refl, inl, inr, ap, arith, get_or, lit<}
 use Rattle.std.proofs.lemmas.List.Elements.{All-cons, All-nil}
 use Rattle.tt_instance.specs.Cells.{InRange}
@@ -11,7 +11,7 @@ use Rattle.tt_search.specs.Improved.{IsNoWorse}
 use Rattle.tt_search.specs.Pairs.{IsLowerPair}
 use Rattle.tt_search.proofs.Improvements.{IsNoWorse-refl}
 
--- two entries with a period between them, side by side, and exchanged
+-- two entries with a period between them, in adjacent periods, and exchanged
 abbrev apart : List Cell
 apart = at 0 0 0 0 ∷ at 1 0 0 2 ∷ []
 

@@ -16,7 +16,7 @@ use Rattle.tt_search.specs.Improved.Leads.{here, step}
 pub IsNoWorse-refl : (p : Problem) (t : List Cell) → IsTimetable p t → IsNoWorse p t t
 IsNoWorse-refl p t ok = record { timetable = ok; courses = refl; no_higher = IsBelow-irrefl p t }
 
--- nor is the end of a descent from one that is no worse
+-- the end of a descent from a timetable that is no worse is no worse
 pub IsNoWorse-descends : {p : Problem} {t u v : List Cell} {n : ℕ} → IsNoWorse p t u → Descends p u n v → IsNoWorse p t v
 IsNoWorse-descends {p} {t} {u} {v} kept down = record {
   timetable = IsTimetable-descends down kept.timetable;
@@ -27,7 +27,7 @@ IsNoWorse-descends {p} {t} {u} {v} kept down = record {
   ];
 }
 
--- a timetable that is no worse than one that is no worse is no worse
+-- being no worse is transitive
 pub IsNoWorse-trans : {p : Problem} {t u v : List Cell} → IsNoWorse p t u → IsNoWorse p u v → IsNoWorse p t v
 IsNoWorse-trans first second = record {
   timetable = second.timetable;
@@ -35,18 +35,18 @@ IsNoWorse-trans first second = record {
   no_higher = λ below. grind (arith, below, first.no_higher, second.no_higher);
 }
 
--- no step leads to where one stands
+-- a timetable leads to itself by no step
 pub leads_here : (p : Problem) (t : List Cell) (n : ℕ) → LeadsWithin p t n t
 leads_here p t n = record { made = 0; path = here p t; within = omega arith }
 
--- a step more, or none
+-- another step, or none
 pub leads_on : {p : Problem} {t u : List Cell} {n : ℕ} (s : Step) → LeadsWithin p t n u → CanStep p u s → LeadsWithin p t (n + 1) (stepped u s)
 leads_on {p} {t} {u} {n} s led able = record { made = led.made + 1; path = step p t u led.made s led.path able; within = omega (arith, led.within) }
 
 pub leads_longer : {p : Problem} {t u : List Cell} {n : ℕ} → LeadsWithin p t n u → LeadsWithin p t (n + 1) u
 leads_longer led = record { made = led.made; path = led.path; within = omega (arith, led.within) }
 
--- at most more steps do
+-- a larger limit on the steps
 pub leads_more : {p : Problem} {t u : List Cell} {n : ℕ} (m : ℕ) → LeadsWithin p t n u → n ≤ m → LeadsWithin p t m u
 leads_more m led within = record { made = led.made; path = led.path; within = omega (arith, led.within, within) }
 
@@ -56,13 +56,13 @@ leads_along {t = t} {a = a} (step p u w n s path able) led =
     let e : (a + n) + 1 ≡ a + (n + 1) = omega arith in
     subst (λ k. LeadsWithin p t k (stepped w s)) e (leads_on s (leads_along path led) able)
 
--- steps, and then others
+-- steps, and then other steps
 pub leads_then : {p : Problem} {t u v : List Cell} {a b n : ℕ} → LeadsWithin p t a u → LeadsWithin p u b v → a + b ≤ n → LeadsWithin p t n v
 leads_then led next within =
     let far = leads_along next.path led in
     record { made = far.made; path = far.path; within = omega (arith, far.within, next.within, within) }
 
--- from a first timetable to one that is no worse, and down from there
+-- from a first timetable to one that is no worse, and then a descent
 pub no_worse_then_down : (p : Problem) (t v : List Cell) (first best : Filled) (draws steps : ℕ) (settled : Bool) → first ≡ record { problem = p; entries = t } → best.problem ≡ first.problem → IsNoWorse first.problem first.entries best.entries → LeadsWithin first.problem first.entries draws best.entries
     → IsDescent best.problem best.entries steps v settled → IsDescended p t draws steps v
 no_worse_then_down p t v first best draws steps settled is problem kept led down = record {
@@ -73,6 +73,6 @@ no_worse_then_down p t v first best draws steps settled is problem kept led down
   descent = subst (λ (q : Problem). IsDescent q best.entries steps v settled) (problem ∙ ap (λ o. o.problem) is) down;
 }
 
--- what a descent from a timetable that is no worse leads to is no worse either
+-- the end of a descent from a timetable that is no worse is no worse
 pub no_worse_down : {p : Problem} {t v : List Cell} {draws steps : ℕ} → IsDescended p t draws steps v → IsNoWorse p t v
 no_worse_down down = IsNoWorse-descends down.found down.descent.path

@@ -1,4 +1,4 @@
--- What an improvement keeps.
+-- The properties that an improvement preserves.
 use Rattle.std.specs.Prelude.{◌≡◌, ◌≤◌, ℕ, ◌+◌, Bool, List, map}
 use Rattle.tt_instance.specs.Problem.{Problem}
 use Rattle.tt_instance.specs.declared.cell.Cell.{Cell}
@@ -23,14 +23,14 @@ pub data Leads : Problem → List Cell → ℕ → List Cell → Type 0 where
   here : (p : Problem) (t : List Cell) → Leads p t 0 t
   step : (p : Problem) (t u : List Cell) (n : ℕ) (s : Step) → Leads p t n u → CanStep p u s → Leads p t (n + 1) (stepped u s)
 
--- at most this many steps do
+-- at most this many steps lead from the first timetable to the second
 pub record LeadsWithin (p : Problem) (t : List Cell) (most : ℕ) (u : List Cell) : Type 0 where
   pub made : ℕ
   pub path : Leads p t made u
   pub within : made ≤ most
 
--- At most this many draws lead from t to a timetable that is no worse, and u is the end of a descent of at most this many steps from there: if some step lowers
--- u's pair, all of them were made.
+-- At most this many draws lead from t to a timetable that is no worse, and u is the end of a descent of at most this many steps from that
+-- timetable: if some step lowers u's pair, all of the steps were made.
 pub record IsDescended (p : Problem) (t : List Cell) (draws steps : ℕ) (u : List Cell) : Type 0 where
   pub best : List Cell
   pub found : IsNoWorse p t best

@@ -1,4 +1,4 @@
--- Only proofs rest on this file: nobody has to believe it.
+-- Not part of the trusted statement: only proofs use this file.
 -- Pairs of a hard count and a cost.
 use Rattle.std.specs.Prelude.{◌≡◌, List}
 use Rattle.tt_instance.specs.Problem.{Problem}
@@ -14,11 +14,11 @@ pub record IsPairOf (p : Problem) (t : List Cell) (pair : Pair) : Type 0 where
   pub hard_is : pair.hard ≡ hard p t
   pub cost_is : pair.cost ≡ cost p t
 
--- the first pair is below the second
+-- whether the first pair is below the second
 abbrev pub IsLowerPair : Pair → Pair → Type 0
 IsLowerPair a b = IsLower a.hard a.cost b.hard b.cost
 
--- the best that a search from t has found: no worse than t, with its pair
+-- the best timetable that a search from t has found: no worse than t, with its pair
 pub record IsBest (p : Problem) (t : List Cell) (b : Best) : Type 0 where
   pub found : IsNoWorse p t b.entries.items
   pub pair : IsPairOf p b.entries.items b.pair

@@ -1,4 +1,4 @@
--- Only proofs rest on this file: nobody has to believe it.
+-- Not part of the trusted statement: only proofs use this file.
 -- Timetables that some step lowers.
 use Rattle.std.specs.Prelude.{List}
 use Rattle.tt_instance.specs.Problem.{Problem}
@@ -7,6 +7,6 @@ use Rattle.tt_moves.specs.Changes.{IsBelow}
 use Rattle.tt_moves.specs.Steps.{CanStep, stepped}
 use Rattle.tt_moves.specs.declared.step.Step.{Step}
 
--- some step lowers the pair
+-- whether some step lowers the pair
 abbrev pub CanFall : Problem → List Cell → Type 0
 CanFall p t = (s : Step) × CanStep p t s × IsBelow p (stepped t s) t

@@ -1,12 +1,12 @@
-//! Which steps a walk makes.
+//! The steps that a walk accepts.
 
 use crate::random::{HALF, below, noise};
 use rand_pcg::Pcg32;
 use tt_moves::Change;
 
-/// Whether a walk makes a step with this change: always where it breaks fewer hard rules, never where more, and else by
-/// chance, the seldomer the more it costs. The temperature is the cost, in thousandths, that is taken half of the time; of so
-/// many steps that change no cost one is made.
+/// Decides whether a walk makes a step with this change: always if it breaks fewer hard rules, never if it breaks more, and otherwise at
+/// random, less often the more it costs. The temperature is the added cost, in thousandths, that is accepted half of the time; of `level`
+/// steps that change no cost, one is made.
 pub fn admits(rng: &mut Pcg32, temperature: u64, level: u32, change: Change) -> bool {
     if change.hard != 0 {
         return change.hard < 0;

@@ -18,7 +18,7 @@ pub struct Best {
 }
 
 impl Best {
-    /// The first timetable is the best one so far.
+    /// Starts with the first timetable as the best one so far.
     pub fn new(alloc: Global, occupied: &Occupied<'_, '_>) -> Result<Best, AllocError>
         ensures best { IfOk result (IsBest occupied.now.problem occupied.now.entries) }
         ensures entries { IfOk result (λ b. b.entries.items ≡ occupied.now.entries) }
@@ -30,7 +30,7 @@ impl Best {
         })
     }
 
-    /// Keeps a timetable where it is better. No memory is taken.
+    /// Stores a timetable if it is better. No memory is allocated.
     pub fn keep(&mut self, occupied: &Occupied<'_, '_>)
         requires { (t : List Cell) × (courses_of occupied.now.entries ≡ courses_of t)
             × IsBest occupied.now.problem t self.old }

@@ -1,14 +1,14 @@
-//! Which entry stands in which cell. Nothing is proved of what it tells.
+//! The entry in each cell. Nothing is proved about the contents.
 
 use std::alloc::{AllocError, Global};
 use tt_instance::{Instance, Slot};
 use tt_moves::Step;
 use tt_occupancy::Occupied;
 
-/// What an empty cell has in the place of an entry.
+/// The value of an empty cell.
 const NOBODY: u32 = u32::MAX;
 
-/// The entry in each room and period. Of several in one cell it knows the one that came last.
+/// The entry in each room and period. If several are in one cell, it has the one that was added last.
 #[derive(Drop)]
 pub struct Board {
     days: usize,
@@ -16,7 +16,7 @@ pub struct Board {
     entries: Vec<u32>,
 }
 
-/// The entries that a step moves.
+/// Returns the entries that a step moves.
 fn moved_by(step: Step) -> [u32; 2] {
     match step {
         Step::Move { entry, .. } => [entry, entry],
@@ -25,7 +25,7 @@ fn moved_by(step: Step) -> [u32; 2] {
 }
 
 impl Board {
-    /// The cells of an instance, all empty.
+    /// Returns the cells of an instance, all empty.
     pub fn new(alloc: Global, occupied: &Occupied<'_, '_>) -> Result<Board, AllocError> {
         let instance = occupied.instance();
         let (rooms, days, periods) = (
@@ -48,7 +48,7 @@ impl Board {
             .wrapping_add(slot.period as usize)
     }
 
-    /// The entry in a cell, if one is known there.
+    /// Returns the entry in a cell, if one is known.
     pub fn entry_in(&self, room: u32, slot: Slot) -> Option<u32> {
         let index = self.index(room, slot);
         self.entries
@@ -57,7 +57,7 @@ impl Board {
             .filter(|entry| *entry != NOBODY)
     }
 
-    /// Writes who stands in the cell of an entry.
+    /// Writes a value to the cell of an entry.
     fn write(&mut self, occupied: &Occupied<'_, '_>, entry: u32, who: u32) {
         let Some(place) = occupied.table().entries().get(entry as usize).copied() else {
             return;
@@ -72,7 +72,7 @@ impl Board {
         }
     }
 
-    /// Puts every entry in its cell, and none in the others.
+    /// Writes every entry to its cell, and empties the other cells.
     pub fn fill(&mut self, occupied: &Occupied<'_, '_>) {
         self.entries.fill(NOBODY);
         for entry in 0..occupied.table().len() {
@@ -80,14 +80,14 @@ impl Board {
         }
     }
 
-    /// The entries of a step leave their cells.
+    /// Empties the cells of a step's entries.
     pub fn take(&mut self, occupied: &Occupied<'_, '_>, step: Step) {
         for entry in moved_by(step) {
             self.write(occupied, entry, NOBODY);
         }
     }
 
-    /// The entries of a step come to their cells.
+    /// Writes the entries of a step to their cells.
     pub fn put(&mut self, occupied: &Occupied<'_, '_>, step: Step) {
         for entry in moved_by(step) {
             self.write(occupied, entry, entry);

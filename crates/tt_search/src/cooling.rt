@@ -1,68 +1,68 @@
-//! How far a walk has come, and how warm it is.
+//! The progress of a walk, and its temperature.
 
 use crate::logarithm::{STEPS, logarithm, power};
 use crate::rounds::Part;
 
-/// What a first draw takes half of the time at most, in thousandths of a point.
+/// The maximum cost that a first draw accepts half of the time, in thousandths of a point.
 const HOTTEST: u64 = 5_600;
 
-/// What it takes beside a timetable that costs nothing, in thousandths of a point.
+/// The cost that a first draw accepts half of the time if the timetable costs nothing, in thousandths of a point.
 const WARM: u64 = 420;
 
-/// How much more it takes for each point that an entry costs in the mean, in thousandths of a point.
+/// The amount added to it for each point that an entry costs on average, in thousandths of a point.
 const WARMER: u64 = 1_400;
 
-/// The samples of all draws come to about this number, times the root of the number of draws.
+/// The number of samples of all draws is about this number times the root of the number of draws.
 const SAMPLES: u64 = 100_000;
 
-/// The most samples that one draw takes.
+/// The maximum number of samples that one draw takes.
 const PATIENCE: u64 = 4_000;
 
-/// Where a draw has this many samples times some number, one step of that number is made of those that change no cost.
+/// The number of samples of a draw for each unit of the level: of `level` steps that change no cost, one is made.
 const SAMPLES_A_LEVEL: u64 = 35;
 
-/// The number is at least this.
+/// The minimum level.
 const FEWEST_LEVELS: u64 = 2;
 
-/// And at most this.
+/// The maximum level.
 const MOST_LEVELS: u64 = 64;
 
-/// A share that is the whole.
+/// The share that is the whole.
 pub const WHOLE: u64 = 65_536;
 
-/// The cooling of a round: what is left of its draws and its samples.
+/// The cooling of a round: the remaining number of its draws and its samples.
 #[derive(Clone, Copy)]
 pub struct Cooling {
     draws: u64,
     samples: u64,
     drawn: u64,
     sampled: u64,
-    /// Of how many steps that change no cost one is made.
+    /// The level: of so many steps that change no cost, one is made.
     level: u32,
-    /// What the last draws take half of the time, in thousandths of a point.
+    /// The cost that the last draws accept half of the time, in thousandths of a point.
     coldest: u64,
-    /// The logarithm of how much warmer the round begins than it ends.
+    /// The logarithm of the ratio of the temperatures at the round's beginning and at its end.
     height: u64,
 }
 
-/// A part of a number, as a share of the whole.
+/// Returns a part of a number, as a share of the whole.
 pub fn share(part: u64, all: u64) -> u64 {
     (part.saturating_mul(WHOLE) / all.max(1)).min(WHOLE)
 }
 
-/// How many samples a draw has in the mean, where this many are drawn.
+/// Returns the average number of samples of a draw, for this number of draws.
 pub fn samples(draws: u64) -> u64 {
     (SAMPLES / draws.isqrt().max(1)).clamp(16, 1024)
 }
 
-/// What a first draw usually takes half of the time, beside a timetable of this cost and this many entries.
+/// Returns the cost that a first draw usually accepts half of the time, for a timetable of this cost and this many entries.
 fn first(cost: u64, entries: u64) -> u64 {
     let more = cost.saturating_mul(WARMER) / entries.max(1);
     WARM.saturating_add(more).min(HOTTEST)
 }
 
 impl Cooling {
-    /// The cooling of a round, of this many draws, of this many samples each in the mean, from a timetable of this cost
+    /// Returns the cooling of a round of `draws` draws, with `samples` samples each on average, from a timetable of this cost
     /// and this many entries.
     pub fn new(part: Part, draws: u64, samples: u64, cost: u64, entries: u64) -> Cooling {
         let coldest = part.coldest.max(1);
@@ -79,7 +79,7 @@ impl Cooling {
         }
     }
 
-    /// What the next draw takes half of the time, in thousandths of a point.
+    /// Returns the cost that the next draw accepts half of the time, in thousandths of a point.
     pub fn temperature(self) -> u64 {
         let gone = share(self.drawn, self.draws).max(share(self.sampled, self.samples));
         let left = WHOLE.saturating_sub(gone);
@@ -87,22 +87,22 @@ impl Cooling {
         self.coldest.saturating_mul(warmer) / STEPS
     }
 
-    /// Of how many steps that change no cost one is made.
+    /// Returns the level: of so many steps that change no cost, one is made.
     pub fn level(self) -> u32 {
         self.level
     }
 
-    /// How many samples the next draw takes at most.
+    /// Returns the maximum number of samples that the next draw takes.
     pub fn patience(self) -> u64 {
         self.samples.saturating_sub(self.sampled).min(PATIENCE)
     }
 
-    /// A sample more has been taken.
+    /// Counts another sample.
     pub fn sample(&mut self) {
         self.sampled = self.sampled.saturating_add(1);
     }
 
-    /// A draw more has been made.
+    /// Counts another draw.
     pub fn draw(&mut self) {
         self.drawn = self.drawn.saturating_add(1);
     }

@@ -13,11 +13,11 @@ use rand_pcg::Pcg32;
 use tt_moves::{Change, EntryCost, Step, change_within, cost_change, entry_cost};
 use tt_occupancy::Occupied;
 
-/// How many samples are steps of one entry, one after the other.
+/// The number of consecutive samples that are steps of one entry.
 pub const SAMPLES_AN_ENTRY: u64 = 8;
 
-/// What a step would change, unless it would break more hard rules. Where the timetable breaks none, a sample is taken to
-/// break none either.
+/// Returns the changes that a step would make, unless it would break more hard rules. If the timetable breaks none, a sample is assumed
+/// to break none either.
 fn judge(
     occupied: &Occupied<'_, '_>,
     step: Step,
@@ -37,7 +37,7 @@ fn judge(
     }
 }
 
-/// The first of some steps of an entry that is admitted, if there is one.
+/// Returns the first of some steps of an entry that is accepted, if there is one.
 fn draw_of(
     occupied: &Occupied<'_, '_>,
     board: &Board,
@@ -65,7 +65,7 @@ fn draw_of(
     None
 }
 
-/// The first of some steps that is admitted, if there is one.
+/// Returns the first of some steps that is accepted, if there is one.
 pub fn draw(
     occupied: &Occupied<'_, '_>,
     board: &Board,

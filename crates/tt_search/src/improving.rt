@@ -23,7 +23,7 @@ use tt_occupancy::Occupied;
 use tt_replan::{Replanner, can_replan};
 use tt_table::Timetable;
 
-/// Walks from the best timetable, and goes to the best one then. No memory is taken.
+/// Walks from the best timetable, and then returns to the best one so far. No memory is allocated.
 fn go_round<W: Watch>(
     occupied: &mut Occupied<'_, '_>,
     best: &mut Best,
@@ -51,13 +51,13 @@ fn go_round<W: Watch>(
     restore(occupied, &best.entries);
 }
 
-/// Whether plans can be made from a timetable.
+/// Checks whether plans can be made from a timetable.
 fn can_plan(occupied: &Occupied<'_, '_>) -> bool {
     occupied.score().feasible() && can_replan(occupied.instance())
 }
 
-/// Walks in rounds, each from the best timetable so far, and goes to the best one then. Only the first round is walked where
-/// plans can be made. Returns how many draws were made. No memory is taken.
+/// Walks in rounds, each from the best timetable so far, and then returns to the best one. Only the first round is walked if
+/// plans can be made. Returns the number of draws made. No memory is allocated.
 fn go_rounds<W: Watch>(
     occupied: &mut Occupied<'_, '_>,
     best: &mut Best,
@@ -96,7 +96,7 @@ fn go_rounds<W: Watch>(
     made
 }
 
-/// Makes plans from the best timetable, where plans can be made, and goes to the best one then. No memory is taken.
+/// Makes plans from the best timetable, if plans can be made, and then returns to the best one so far. No memory is allocated.
 fn go_plans<W: Watch>(
     occupied: &mut Occupied<'_, '_>,
     best: &mut Best,
@@ -123,7 +123,7 @@ fn go_plans<W: Watch>(
     restore(occupied, &best.entries);
 }
 
-/// Goes on to the best timetable that this many drawn steps lead to.
+/// Moves to the best timetable that this many drawn steps lead to.
 fn walk_to_best<W: Watch>(
     alloc: Global,
     occupied: &mut Occupied<'_, '_>,
@@ -193,9 +193,9 @@ pub fn improve_watched<W: Watch>(
     Ok(occupied.into_timetable())
 }
 
-/// Searches for a better timetable with the same courses, from a seed and this many steps: half of them are drawn, and make a walk
-/// near the best timetable so far; the others descend from the best one. The same seed gives the same answer on every machine.
-/// The table is used up also where memory runs out. That it is mostly better is not proved.
+/// Searches for a better timetable with the same courses, from a seed and a number of steps: half of them are drawn, and make a walk
+/// near the best timetable so far; the others descend from the best one. The same seed gives the same result on every machine.
+/// The table is consumed even if memory runs out. It is not proved that the result is mostly better.
 pub fn improve(
     alloc: Global,
     instance: &Instance<'_>,

@@ -1,9 +1,9 @@
-//! Logarithms and powers of two in small steps, straight between whole ones.
+//! Logarithms and powers of two in small steps, with linear interpolation between whole numbers.
 
-/// The steps between one power of two and the next.
+/// The number of steps between one power of two and the next.
 pub const STEPS: u64 = 64;
 
-/// The logarithm of a number above 0, in steps.
+/// Returns the logarithm of a number above 0, in steps.
 pub fn logarithm(number: u64) -> u64 {
     let number = number.max(1);
     let whole = u64::from(number.ilog2());
@@ -12,7 +12,7 @@ pub fn logarithm(number: u64) -> u64 {
     whole * STEPS + rest as u64
 }
 
-/// The number of a logarithm, in steps.
+/// Returns the number with a logarithm, given in steps.
 pub fn power(logarithm: u64) -> u64 {
     let whole = (logarithm / STEPS).min(u64::from(u64::BITS)) as u32;
     2u64.saturating_pow(whole)

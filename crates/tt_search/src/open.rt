@@ -1,4 +1,4 @@
-//! The periods that an entry's course may go to. Nothing is proved of which they are.
+//! The periods to which an entry's course may move. Nothing is proved about them.
 
 ghost use Rattle.std.specs.Prelude.{◌<◌, IfSome};
 ghost use Rattle.tt_instance.specs.Cells.{InRange};
@@ -10,11 +10,11 @@ use tt_instance::{Instance, Slot};
 use tt_occupancy::Occupied;
 use tt_table::Entry;
 
-/// A period in which a course is neither taught nor barred, and where at most one entry excludes it.
+/// A period in which a course is neither taught nor barred, and in which at most one entry conflicts with it.
 #[derive(Clone, Copy)]
 pub struct OpenSlot {
     pub slot: Slot,
-    /// Whether no entry there excludes the course.
+    /// Whether no entry in the period conflicts with the course.
     pub is_free: bool,
 }
 
@@ -25,7 +25,7 @@ pub struct Open {
     count: u32,
 }
 
-/// A period, if it is open for a course.
+/// Returns a period, if it is open for a course.
 fn open_slot(occupied: &Occupied<'_, '_>, entry: Entry, slot: Slot) -> Option<OpenSlot>
     requires in_range { InRange occupied.now.problem entry }
     requires day { slot.day < occupied.now.problem.days }
@@ -47,7 +47,7 @@ fn open_slot(occupied: &Occupied<'_, '_>, entry: Entry, slot: Slot) -> Option<Op
 }
 
 impl Open {
-    /// Room for all periods of an instance; none is open yet.
+    /// Allocates room for all periods of an instance; none is open yet.
     pub fn new(alloc: Global, instance: &Instance<'_>) -> Result<Open, AllocError> {
         let none = OpenSlot {
             slot: Slot { day: 0, period: 0 },
@@ -60,7 +60,7 @@ impl Open {
         })
     }
 
-    /// One more is open.
+    /// Adds an open period.
     fn push(&mut self, open: OpenSlot) {
         if let Some(place) = self.slots.get_mut(self.count as usize) {
             *place = open;
@@ -68,7 +68,7 @@ impl Open {
         }
     }
 
-    /// Adds those of a day.
+    /// Adds the open periods of a day.
     fn find_on(&mut self, occupied: &Occupied<'_, '_>, entry: Entry, day: u32)
         requires in_range { InRange occupied.now.problem entry }
         requires day { day < occupied.now.problem.days }
@@ -80,7 +80,7 @@ impl Open {
         }
     }
 
-    /// Finds those of an entry's course. No memory is taken.
+    /// Finds the open periods of an entry's course. No memory is allocated.
     pub fn find(&mut self, occupied: &Occupied<'_, '_>, entry: Entry)
         requires { InRange occupied.now.problem entry }
     {
@@ -90,7 +90,7 @@ impl Open {
         }
     }
 
-    /// Any of those found, if there is one.
+    /// Returns a random one of the periods found, if there is one.
     pub fn draw(&self, instance: &Instance<'_>, rng: &mut Pcg32) -> Option<OpenSlot>
         ensures day { IfSome result (λ o. o.slot.day < instance.now.days) }
         ensures period { IfSome result (λ o. o.slot.period < instance.now.periods) }

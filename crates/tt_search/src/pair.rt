@@ -5,7 +5,7 @@ ghost use Rattle.tt_search.specs.Pairs.{IsPairOf, IsLowerPair};
 
 use tt_occupancy::Occupied;
 
-/// How many hard rules a timetable breaks, and what it costs.
+/// The number of hard rules that a timetable breaks, and its cost.
 #[derive(Clone, Copy, Debug, PartialEq, Eq)]
 pub struct Pair {
     pub hard: u64,
@@ -13,7 +13,7 @@ pub struct Pair {
 }
 
 impl Pair {
-    /// The pair of a timetable.
+    /// Returns the pair of a timetable.
     pub fn of(occupied: &Occupied<'_, '_>) -> Pair
         ensures { IsPairOf occupied.now.problem occupied.now.entries result }
     {
@@ -24,7 +24,7 @@ impl Pair {
         }
     }
 
-    /// Whether it has a lower hard count, or the same at a lower cost.
+    /// Checks whether it has a lower hard count, or the same at a lower cost.
     pub fn is_below(self, other: Pair) -> bool
         ensures { IsTrue result ↔ IsLowerPair self other }
     {

@@ -1,4 +1,4 @@
-//! Places that an entry may go to.
+//! Places to which an entry may move.
 
 ghost use Rattle.std.specs.Prelude.{◌≡◌, ◌<◌, length};
 ghost use Rattle.tt_instance.specs.Cells.{InRange};
@@ -9,7 +9,7 @@ use tt_instance::{Instance, Slot};
 use tt_occupancy::Occupied;
 use tt_table::Entry;
 
-/// The period of an entry.
+/// Returns the period of an entry.
 pub fn slot_of(entry: Entry) -> Slot
     ensures day { result.day ≡ entry.day }
     ensures period { result.period ≡ entry.period }
@@ -20,7 +20,7 @@ pub fn slot_of(entry: Entry) -> Slot
     }
 }
 
-/// Any period.
+/// Returns a random period.
 pub fn any_slot(instance: &Instance<'_>, rng: &mut Pcg32) -> Slot
     ensures day { result.day < instance.now.days }
     ensures period { result.period < instance.now.periods }
@@ -31,7 +31,7 @@ pub fn any_slot(instance: &Instance<'_>, rng: &mut Pcg32) -> Slot
     }
 }
 
-/// Whether an entry breaks no hard rule in a period, beside the room's. This many of the entries there do not count.
+/// Checks that an entry breaks no hard rule in a period, except possibly the room's. `gone` of the conflicting entries in it do not count.
 pub fn may_stand(occupied: &Occupied<'_, '_>, entry: Entry, slot: Slot, gone: u32) -> bool
     requires in_range { InRange occupied.now.problem entry }
     requires day { slot.day < occupied.now.problem.days }
@@ -46,8 +46,8 @@ pub fn may_stand(occupied: &Occupied<'_, '_>, entry: Entry, slot: Slot, gone: u3
         && !instance.unavailable(entry.course, slot.day, slot.period)
 }
 
-/// Whether two entries break no hard rule each in the other's place. Of the first it is known to be so, but where an entry
-/// excludes it there.
+/// Checks that two entries each break no hard rule in the other's place. For the first this is already known, unless an entry in
+/// that place conflicts with it.
 pub fn may_change_places(
     occupied: &Occupied<'_, '_>,
     one: Entry,

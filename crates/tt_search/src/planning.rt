@@ -14,10 +14,10 @@ use tt_moves::{Step, apply, can_step};
 use tt_occupancy::Occupied;
 use tt_replan::Replanner;
 
-/// After how many plans a search is seen again.
+/// The number of plans between two reports to the watch.
 const PLANS_BETWEEN: u64 = 32;
 
-/// Makes a step, if it can be made.
+/// Makes a step if it can be made.
 fn try_step(occupied: &mut Occupied<'_, '_>, step: Step)
     ensures problem { occupied.new.problem ≡ occupied.old.problem }
     ensures courses { courses_of occupied.new.entries ≡ courses_of occupied.old.entries }
@@ -29,7 +29,7 @@ fn try_step(occupied: &mut Occupied<'_, '_>, step: Step)
     }
 }
 
-/// Makes steps, one after the other, without those that can't be made.
+/// Makes steps in turn, and skips those that can't be made.
 fn make_steps(occupied: &mut Occupied<'_, '_>, steps: &[Step])
     ensures problem { occupied.new.problem ≡ occupied.old.problem }
     ensures courses { courses_of occupied.new.entries ≡ courses_of occupied.old.entries }
@@ -40,8 +40,8 @@ fn make_steps(occupied: &mut Occupied<'_, '_>, steps: &[Step])
     }
 }
 
-/// Plans a few courses anew, and makes the steps to the plan if they are at most so many. Says how many of these are used
-/// up: all, where the plan has more.
+/// Plans a few courses again, and makes the steps to the plan if there are at most `left` of them. Returns how many of these are used
+/// up: all of them if the plan has more.
 fn make_plan(
     occupied: &mut Occupied<'_, '_>,
     replanner: &mut Replanner,
@@ -67,7 +67,7 @@ fn make_plan(
     count
 }
 
-/// Makes plans, and keeps the best timetable on the way. Each of their steps is a draw. No memory is taken.
+/// Makes plans, and stores the best timetable on the way. Each of their steps is a draw. No memory is allocated.
 pub fn walk_by_plans<W: Watch>(
     occupied: &mut Occupied<'_, '_>,
     best: &mut Best,

@@ -6,7 +6,7 @@ use rand::RngExt;
 use rand_core::Rng;
 use rand_pcg::Pcg32;
 
-/// A number below a bound.
+/// Returns a random number below a bound.
 pub fn below(rng: &mut Pcg32, bound: u32) -> u32
     requires { 0 < bound }
     ensures { result < bound }
@@ -14,10 +14,10 @@ pub fn below(rng: &mut Pcg32, bound: u32) -> u32
     rng.random_range(0..bound)
 }
 
-/// How much more of the noise is half as likely.
+/// Each increase of the noise by this amount is half as likely.
 pub const HALF: u64 = 16;
 
-/// A number of which each 16 more are half as likely.
+/// Returns a random number; each increase by 16 is half as likely.
 pub fn noise(rng: &mut Pcg32) -> u32 {
     let word = rng.next_u32();
     word.leading_zeros().saturating_mul(16) + word % 16

@@ -1,4 +1,4 @@
-//! The way back to a timetable.
+//! The return to an earlier timetable.
 
 ghost use Rattle.std.specs.Prelude.{◌≡◌};
 ghost use Rattle.tt_table.specs.Table.{IsTimetable};
@@ -7,7 +7,7 @@ ghost use Rattle.tt_search.specs.Improved.{courses_of};
 use tt_occupancy::Occupied;
 use tt_table::Entry;
 
-/// Moves each entry to where it stood. No memory is taken.
+/// Moves each entry to its old place. No memory is allocated.
 pub fn restore(occupied: &mut Occupied<'_, '_>, entries: &[Entry])
     requires in_range { IsTimetable occupied.old.problem entries.now }
     requires courses { courses_of occupied.old.entries ≡ courses_of entries.now }

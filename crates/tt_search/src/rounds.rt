@@ -2,14 +2,14 @@
 
 ghost use Rattle.std.specs.Prelude.{◌+◌, ◌≤◌};
 
-/// A round of a walk: where it ends, and how warm it is.
+/// A round of a walk: its end, and its temperatures.
 #[derive(Clone, Copy)]
 pub struct Part {
-    /// How many sixteenths of all draws are made at its end.
+    /// The number of sixteenths of all draws that are made by its end.
     pub end: u64,
-    /// How warm it begins, in thousandths of what is usual.
+    /// The temperature at its beginning, in thousandths of the usual one.
     pub start: u64,
-    /// What its last draws take half of the time, in thousandths of a point.
+    /// The cost that its last draws accept half of the time, in thousandths of a point.
     pub coldest: u64,
 }
 
@@ -46,13 +46,13 @@ const SETTLED: [Part; 2] = [
     },
 ];
 
-/// The rounds from a timetable.
+/// Returns the rounds from a timetable.
 pub fn parts(is_settled: bool) -> &'static [Part] {
     if is_settled { &SETTLED } else { &UNSETTLED }
 }
 
 impl Part {
-    /// How many draws the round makes, of this many in all, after those that are made.
+    /// Returns the number of draws of the round, out of `all` draws, after `made` draws were made.
     pub fn draws(self, all: u64, made: u64) -> u64
         requires { made ≤ all }
         ensures { made + result ≤ all }

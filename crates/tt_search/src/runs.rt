@@ -11,7 +11,7 @@ use std::alloc::{AllocError, Global};
 use tt_instance::Instance;
 use tt_table::Timetable;
 
-/// Improves a timetable in this many runs, each from what the run before it found, with the seed counted up.
+/// Improves a timetable in this many runs, each from the result of the run before, with the seed increased by 1 each time.
 pub fn improve_in_runs<W: Watch>(
     alloc: Global,
     instance: &Instance<'_>,

@@ -14,18 +14,18 @@ use tt_instance::Slot;
 use tt_moves::Step;
 use tt_occupancy::Occupied;
 
-/// How often a period is drawn anew where a step would break a hard rule.
+/// The number of periods that are drawn until a step breaks no hard rule.
 const TRIES: u32 = 8;
 
-/// How many entries are looked at for one that breaks or costs something.
+/// The number of entries that are checked to find one that breaks a rule or has a cost.
 const LOOKS: u32 = 4;
 
-/// Of ten steps, how many change the room alone, and how many the period alone. The others change both.
+/// The number of steps out of ten that change only the room, and the number that change only the period. The others change both.
 const ROOMS_OF_TEN: u32 = 2;
 
 const PERIODS_OF_TEN: u32 = 3;
 
-/// Any entry.
+/// Returns a random entry.
 fn any_entry(occupied: &Occupied<'_, '_>, rng: &mut Pcg32) -> u32
     requires { 0 < length occupied.now.entries }
     ensures { result < length occupied.now.entries }
@@ -33,7 +33,7 @@ fn any_entry(occupied: &Occupied<'_, '_>, rng: &mut Pcg32) -> u32
     below(rng, occupied.table().len() as u32)
 }
 
-/// An entry that breaks or costs something, where one is seen soon.
+/// Returns an entry that breaks a rule or has a cost, if one is found soon.
 fn costly_entry(occupied: &Occupied<'_, '_>, rng: &mut Pcg32) -> u32
     requires { 0 < length occupied.now.entries }
     ensures { result < length occupied.now.entries }
@@ -47,7 +47,7 @@ fn costly_entry(occupied: &Occupied<'_, '_>, rng: &mut Pcg32) -> u32
     any_entry(occupied, rng)
 }
 
-/// Any entry, half of the time one that breaks or costs something.
+/// Returns a random entry; half of the time one that breaks a rule or has a cost.
 pub fn entry_to_move(occupied: &Occupied<'_, '_>, rng: &mut Pcg32) -> u32
     requires { 0 < length occupied.now.entries }
     ensures { result < length occupied.now.entries }
@@ -59,7 +59,7 @@ pub fn entry_to_move(occupied: &Occupied<'_, '_>, rng: &mut Pcg32) -> u32
     }
 }
 
-/// The step of an entry to a cell: where another entry is known to stand there, the two change places.
+/// Returns the step of an entry to a cell: if another entry is known to be in it, the two change places.
 fn step_to(occupied: &Occupied<'_, '_>, board: &Board, entry: u32, room: u32, slot: Slot) -> Step
     requires entry { entry < length occupied.now.entries }
     requires room { room < length occupied.now.problem.rooms }
@@ -82,7 +82,7 @@ fn step_to(occupied: &Occupied<'_, '_>, board: &Board, entry: u32, room: u32, sl
     }
 }
 
-/// Whether the entries of a step to an open period break no hard rule there.
+/// Checks that the entries of a step to an open period break no hard rule in their new places.
 fn is_open(occupied: &Occupied<'_, '_>, step: Step, is_free: bool) -> bool
     requires { CanStep occupied.now.problem occupied.now.entries step }
 {
@@ -97,8 +97,8 @@ fn is_open(occupied: &Occupied<'_, '_>, step: Step, is_free: bool) -> bool
     }
 }
 
-/// A step of an entry to a room in another period, where one is soon found that breaks no hard rule. Where the timetable
-/// breaks one already, it is any step of this kind.
+/// Returns a step of an entry to a room in another period, if one that breaks no hard rule is found soon. If the timetable
+/// already breaks one, it may be any step of this kind.
 fn sample_period(
     occupied: &Occupied<'_, '_>,
     board: &Board,
@@ -132,7 +132,7 @@ fn sample_period(
     ))
 }
 
-/// A step of an entry that mostly breaks no hard rule, over the periods that are open for it.
+/// Returns a step of an entry that mostly breaks no hard rule, from the periods that are open for it.
 pub fn sample(
     occupied: &Occupied<'_, '_>,
     board: &Board,

@@ -1,19 +1,19 @@
-//! How many plans a walk makes, and how much noise their prices have.
+//! The number of plans of a walk, and the noise of their prices.
 
 ghost use Rattle.std.specs.Prelude.{◌≡◌};
 
 use crate::cooling::{WHOLE, share};
 
-/// The noise of a first plan's prices, at most, in thousandths of a point.
+/// The maximum noise of a first plan's prices, in thousandths of a point.
 const LOUDEST: u64 = 3_500;
 
-/// And of a last one's.
+/// The maximum noise of a last plan's prices, in thousandths of a point.
 const QUIETEST: u64 = 400;
 
-/// How many plans there are, times the root of the number of draws.
+/// The number of plans for each unit of the root of the number of draws.
 const PLANS: u64 = 220;
 
-/// How many plans a walk makes, with how many steps in all at most, and how loud it begins.
+/// The number of plans of a walk, the maximum number of their steps in all, and the noise at the beginning.
 #[derive(Clone, Copy)]
 pub struct Schedule {
     pub plans: u64,
@@ -22,7 +22,7 @@ pub struct Schedule {
 }
 
 impl Schedule {
-    /// The schedule of a walk of this many draws. From a start that seems to be near the best it begins half as loud.
+    /// Returns the schedule of a walk of this many draws. From a start that seems to be near the best, the noise begins half as high.
     pub fn new(draws: u64, is_settled: bool) -> Schedule
         ensures { result.draws ≡ draws }
     {
@@ -33,7 +33,7 @@ impl Schedule {
         }
     }
 
-    /// The noise of the next plan's prices, in thousandths of a point, after this many plans and draws.
+    /// Returns the noise of the next plan's prices, in thousandths of a point, after this many plans and draws.
     pub fn noise(self, plan: u64, made: u64) -> u32 {
         let gone = share(plan, self.plans).max(share(made, self.draws));
         let left = WHOLE.saturating_sub(gone);

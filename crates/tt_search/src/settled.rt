@@ -1,4 +1,4 @@
-//! Whether a timetable seems to be near the best.
+//! The test whether a timetable seems to be near the best.
 
 ghost use Rattle.std.specs.Prelude.{◌≡◌, ◌<◌, ◌⊎◌, true, false, length};
 ghost use Rattle.tt_rules.specs.Score.{hard};
@@ -13,10 +13,10 @@ use rand_pcg::Pcg32;
 use tt_moves::{cost_change, entry_cost, lowers};
 use tt_occupancy::Occupied;
 
-/// How many entries are looked at.
+/// The number of entries that are checked.
 const ENTRIES_LOOKED_AT: u32 = 200;
 
-/// Whether one of some samples of an entry lowers a timetable that breaks no hard rule.
+/// Checks whether one of some samples of an entry lowers a timetable that breaks no hard rule.
 fn falls_by(
     occupied: &Occupied<'_, '_>,
     board: &Board,
@@ -38,8 +38,8 @@ fn falls_by(
     false
 }
 
-/// Whether the timetable with which a walker began breaks no hard rule, and none of the samples that are looked at
-/// lowers it. No memory is taken.
+/// Checks that the timetable with which a walker began breaks no hard rule, and that none of the samples tried
+/// lowers it. No memory is allocated.
 pub fn seems_settled(occupied: &Occupied<'_, '_>, walker: &mut Walker) -> bool
     requires { 0 < length occupied.now.entries }
     ensures feasible { result ≡ true → hard occupied.now.problem occupied.now.entries ≡ 0 }

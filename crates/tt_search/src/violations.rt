@@ -1,4 +1,4 @@
-//! Entries that another place may be better for.
+//! Entries for which another place may be better.
 
 ghost use Rattle.std.specs.Prelude.{◌<◌, length};
 ghost use Rattle.tt_instance.specs.Cells.{InRange};
@@ -6,7 +6,7 @@ ghost use Rattle.tt_instance.specs.Cells.{InRange};
 use tt_occupancy::Occupied;
 use tt_table::Entry;
 
-/// Whether an entry breaks a hard rule.
+/// Checks whether an entry breaks a hard rule.
 fn is_broken(occupied: &Occupied<'_, '_>, entry: Entry) -> bool
     requires { InRange occupied.now.problem entry }
 {
@@ -17,7 +17,7 @@ fn is_broken(occupied: &Occupied<'_, '_>, entry: Entry) -> bool
         || occupied.instance().unavailable(course, day, period)
 }
 
-/// Whether an entry of a curriculum stands in the period before or after.
+/// Checks whether an entry of a curriculum is in the period before or after.
 fn is_beside(occupied: &Occupied<'_, '_>, curriculum: u32, entry: Entry) -> bool
     requires curriculum { curriculum < length occupied.now.problem.curricula }
     requires in_range { InRange occupied.now.problem entry }
@@ -28,7 +28,7 @@ fn is_beside(occupied: &Occupied<'_, '_>, curriculum: u32, entry: Entry) -> bool
         || (period + 1 < periods && occupied.of_curriculum(curriculum, day, period + 1) > 0)
 }
 
-/// Whether an entry is isolated in one of its curricula.
+/// Checks whether an entry is isolated in one of its curricula.
 fn is_isolated(occupied: &Occupied<'_, '_>, entry: Entry) -> bool
     requires { InRange occupied.now.problem entry }
 {
@@ -40,8 +40,8 @@ fn is_isolated(occupied: &Occupied<'_, '_>, entry: Entry) -> bool
     false
 }
 
-/// Whether an entry has too small a room, a room that its course has not elsewhere, or a day that its course has
-/// twice and wants another one for.
+/// Checks whether an entry has too small a room, a room that no other entry of its course has, or a day with two entries of its course
+/// while the course needs another day.
 fn is_misplaced(occupied: &Occupied<'_, '_>, entry: Entry) -> bool
     requires { InRange occupied.now.problem entry }
 {
@@ -53,7 +53,7 @@ fn is_misplaced(occupied: &Occupied<'_, '_>, entry: Entry) -> bool
             && occupied.on_day(course, entry.day) > 1)
 }
 
-/// Whether an entry breaks a hard rule or costs something where it stands.
+/// Checks whether an entry breaks a hard rule or has a cost at its place.
 pub fn costs_or_breaks(occupied: &Occupied<'_, '_>, entry: Entry) -> bool
     requires { InRange occupied.now.problem entry }
 {

@@ -17,7 +17,7 @@ use std::alloc::{AllocError, Global};
 use tt_moves::apply;
 use tt_occupancy::Occupied;
 
-/// What draws steps.
+/// The state for drawing steps.
 #[derive(Drop)]
 pub struct Walker {
     pub board: Board,
@@ -26,7 +26,7 @@ pub struct Walker {
 }
 
 impl Walker {
-    /// One that knows no timetable yet.
+    /// Returns a walker without a timetable.
     pub fn new(
         alloc: Global,
         occupied: &Occupied<'_, '_>,
@@ -39,13 +39,13 @@ impl Walker {
         })
     }
 
-    /// Begins with this timetable. No memory is taken.
+    /// Begins with this timetable. No memory is allocated.
     pub fn begin(&mut self, occupied: &Occupied<'_, '_>) {
         self.board.fill(occupied);
     }
 }
 
-/// Makes a drawn step, where one is admitted.
+/// Makes a drawn step, if one is accepted.
 fn try_draw(occupied: &mut Occupied<'_, '_>, walker: &mut Walker, cooling: &mut Cooling)
     requires { 0 < length occupied.old.entries }
     ensures problem { occupied.new.problem ≡ occupied.old.problem }
@@ -66,7 +66,7 @@ fn try_draw(occupied: &mut Occupied<'_, '_>, walker: &mut Walker, cooling: &mut 
     }
 }
 
-/// Makes drawn steps, and keeps the best timetable on the way. No memory is taken.
+/// Makes drawn steps, and stores the best timetable on the way. No memory is allocated.
 pub fn walk<W: Watch>(
     occupied: &mut Occupied<'_, '_>,
     best: &mut Best,

@@ -1,38 +1,38 @@
-//! Watching a search while it goes on.
+//! Watches a search while it runs.
 
 use crate::best::Best;
 use crate::pair::Pair;
 use tt_table::Entry;
 
-/// What a search counts towards its limit.
+/// The unit in which a search counts towards its limit.
 #[derive(Clone, Copy, Debug, PartialEq, Eq)]
 pub enum Unit {
     Steps,
     Nodes,
 }
 
-/// How far a search is.
+/// The progress of a search.
 #[derive(Clone, Copy, Debug, PartialEq, Eq)]
 pub struct Progress {
     pub unit: Unit,
-    /// How many steps or nodes are done, of how many at most.
+    /// The number of steps or nodes done, and their maximum number.
     pub done: u64,
     pub limit: u64,
     /// The best timetable so far, if there is one.
     pub best: Option<Pair>,
     /// The lower bound so far, in cost points, if the search knows one.
     pub bound: Option<u64>,
-    /// How many curricula the group has that is tried, where a search tries groups.
+    /// The number of curricula of the group that is tried, if the search tries groups.
     pub tried: Option<u64>,
 }
 
-/// Watches a search. What it sees promises nothing.
+/// Watches a search. Nothing is promised about what it is shown.
 pub trait Watch {
-    /// Sees how far the search is, and the entries of the best timetable so far, none if there is no such timetable.
+    /// Receives the progress of the search, and the entries of the best timetable so far; none if there is no such timetable.
     fn see(&mut self, progress: Progress, best: &[Entry]);
 }
 
-/// Watches nothing.
+/// A watch that ignores everything.
 #[derive(Clone, Copy, Debug)]
 pub struct Unwatched;
 
@@ -40,27 +40,27 @@ impl Watch for Unwatched {
     fn see(&mut self, _progress: Progress, _best: &[Entry]) {}
 }
 
-/// After how many steps a search is seen again.
+/// The number of steps between two reports to the watch.
 const STEPS_BETWEEN: u64 = 256;
 
-/// Where a walk begins and ends among the steps of a search.
+/// The position of a walk among the steps of a search.
 #[derive(Clone, Copy)]
 pub struct Span {
-    /// How many steps were made before the walk.
+    /// The number of steps that were made before the walk.
     pub before: u64,
-    /// How many steps the search makes at most.
+    /// The maximum number of steps of the search.
     pub limit: u64,
 }
 
 impl Span {
-    /// Shows a walk that has made this many steps, now and then.
+    /// Reports a walk that has made this many steps, at intervals.
     pub fn show<W: Watch>(self, watch: &mut W, made: u64, best: &Best) {
         if made % STEPS_BETWEEN == 0 {
             self.tell(watch, made, best);
         }
     }
 
-    /// Shows a walk that has made this many steps.
+    /// Reports a walk that has made this many steps.
     pub fn tell<W: Watch>(self, watch: &mut W, made: u64, best: &Best) {
         watch.see(
             Progress {

@@ -1,4 +1,4 @@
--- One more file is added, or its fault is silent.
+-- Another file is added, or its fault is silent.
 use Rattle.std.proofs.Common.{◌≡◌, ℕ, ◌+◌, ◌-◌, ◌<◌, ◌≤◌, ◌^◌, Bool, true, ◌||◌, List, [], ◌∷◌, ◌++◌, Option, Some, refl, sym, ap, subst, ◌∙◌, arith, inl, inr, zero-le}
 use Rattle.std.specs.Prelude.{flat_map}
 use Rattle.std.specs.List.{list_any}
@@ -62,14 +62,14 @@ all_points-push parts part = let e = sum_by-append (λ (k : Part). points (bound
 
 -- ---- parts that are apart
 
--- what a node claims, its tree claims
+-- a target that a node claims is claimed by its tree
 claimed_in_tree : (tree : Tree) (before : List Node) (node : Node) (more : List Node) (y : Target) → preorder tree ≡ before ++ node ∷ more → is_among (claims_at node) y ≡ true → is_among (claimed_by tree) y ≡ true
 claimed_in_tree tree before node more y e h =
     let among : Node → Bool = λ n. is_among (claims_at n) y in
     ap (λ ys. is_among ys y) (sym (tree_claims tree)) ∙ ap (λ ns. is_among (flat_map claims_at ns) y) e ∙ list_any-of_flat_map (same_target y) claims_at (before ++ node ∷ more)
     ∙ list_any-append among before (node ∷ more) ∙ or_right (list_any among before) (among node || list_any among more) (or_left (among node) (list_any among more) h)
 
--- ---- what is added
+-- -- the sum after adding
 
 pub adds : (p : Problem) (remaining : Option (List ℕ)) (s : Sum) (parts : List Part) (a : State) (b total : Bound) → IsSumOf s parts → Joins p remaining parts a b → total ≡ both_bounds s.total b → Adds p remaining parts (record { table = a; total = total })
 adds p remaining s parts a b total of j e = (
@@ -82,7 +82,7 @@ adds p remaining s parts a b total of j e = (
   },
 )
 
--- the part is what known bytes spell
+-- if the bytes are known, they spell the part
 pub spelled_part : (p : Problem) (remaining : Option (List ℕ)) (bytes : List ℕ) (k : Part) → remaining ≡ Some bytes → IsPartOf p remaining k → IsPart p bytes k
 spelled_part p remaining bytes (TreeProof k) known is = record { spelled = is.spelled bytes known; derives = is.derives }
 spelled_part p remaining bytes (GroupsFile k) known is = record { kind = is.kind bytes known; spelled = is.spelled bytes known; right = is.right }
@@ -95,7 +95,7 @@ too_large p remaining s parts a b of j large bytes known =
 
 -- ---- faults
 
--- a tree claims elsewhere what one of the parts claims, so the two are not apart
+-- if a tree claims a target that one of the parts claims, the two are not apart
 tree_meets : (p : Problem) → IsInstance p → (parts : List Part) (bytes : List ℕ) (k : TreePart) (i e : ℕ) → IsTreePart p bytes k → AreApart (parts ++ TreeProof k ∷ []) → IsClaimedElsewhere p parts bytes i e → ⊥
 tree_meets p is parts bytes k i e spelled apart told =
     let same = (spelled_once p is bytes told.part.version k.version told.part.bound k.bound told.part.tree k.tree told.is.spelled spelled.spelled).1 in

@@ -18,21 +18,21 @@ use Rattle.tt_sum.specs.Sums.{are_apart, cost_over, every_target, group_targets,
 abbrev proof : Bound → Tree → Part
 proof b tree = TreeProof (record { version = 2; bound = b; tree = tree })
 
--- the seat that the second course lacks, and the same by a price
+-- the seat that the second course lacks, claimed directly and by a price
 abbrev seat : Part
 seat = proof (AtLeast 1) (Close (Cost (Capacity 1 1 ∷ [])))
 
 abbrev priced : Part
 priced = proof (AtLeast 1) (Close (Cost (Prices ((1, 1) ∷ []) [] ∷ [])))
 
--- two isolated entries, whichever of two periods the first course takes; where it takes neither, nothing is claimed
+-- two isolated entries, in whichever of two periods the first course is; if it is in neither, nothing is claimed
 abbrev alone : Leaf
 alone = Cost (Compact 0 ∷ [])
 
 abbrev isolated : Part
 isolated = proof (AtLeast 4) (Branch (when 0 0) (Close alone) (Branch (when 0 2) (Close alone) (Close (Clique (0 ∷ [])))))
 
--- the days of the first course, and the same of what is pinned
+-- the days of the first course, claimed by live days and by pinned periods
 abbrev days : Part
 days = proof (AtLeast 5) (Close (Cost (Days 0 ∷ [])))
 
@@ -53,7 +53,7 @@ groups bound claims = GroupsFile (record { bound = bound; claims = claims })
 abbrev two_groups : List GroupClaim
 two_groups = group 4 (0 ∷ []) [] ∷ group 5 [] (0 ∷ 1 ∷ []) ∷ []
 
--- a target is named by each leaf that claims it
+-- a target occurs once for each leaf that claims it
 claimed_twice : claims_of isolated ≡ Compactness 0 ∷ Compactness 0 ∷ []
 claimed_twice = refl
 
@@ -69,7 +69,7 @@ groups_are_apart = refl
 one_group_twice : each_two (λ a b. are_apart (group_targets a.group) (group_targets b.group)) (group 4 (0 ∷ []) [] ∷ group 2 (0 ∷ []) (1 ∷ []) ∷ []) ≡ false
 one_group_twice = refl
 
--- a tree and groups side by side
+-- a tree and groups with different targets
 kinds_are_apart : AreApart (seat ∷ groups 9 two_groups ∷ [])
 kinds_are_apart = refl
 
@@ -105,7 +105,7 @@ targets_of_gap : every_target gap
     ≡ RoomCapacity 0 ∷ RoomCapacity 1 ∷ WorkingDays 0 ∷ WorkingDays 1 ∷ Compactness 0 ∷ Stability 0 ∷ Stability 1 ∷ []
 targets_of_gap = refl
 
--- of the five points of the courses apart, one is a seat's and four are their curriculum's
+-- of the five points of the two courses taken apart, one is for a seat and four are for their curriculum
 abbrev ends : List Cell
 ends = cell 0 0 (slot 0 0) ∷ cell 1 0 (slot 0 2) ∷ []
 

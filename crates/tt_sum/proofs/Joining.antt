@@ -1,4 +1,4 @@
--- A proof joins those whose claims the table has, or one of its nodes claims what an earlier one does.
+-- A proof joins those whose claims the table has, or one of its nodes claims a target that an earlier proof claims.
 use Rattle.std.proofs.Common.{◌≡◌, ℕ, ◌+◌, ◌-◌, ◌<◌, suc, Bool, true, false, not, cond, ◌||◌, List, [], ◌∷◌, ◌++◌, map, length, append-nil, Option, Some, None, add-zero, refl, sym, ap, subst, ◌∙◌, arith, inl, inr, lit<, length-append}
 use Rattle.std.specs.Prelude.{◌==◌, ◌⊎◌, nat_le, flat_map, slice_get, IsSomeAnd}
 use Rattle.std.specs.Option.{option_or}
@@ -68,7 +68,7 @@ claim_below n (x ∷ xs) k some = on (claim_below (n + 1) xs k (omega arith)) (h
     on rest true = omega arith
     on rest false = omega (arith, rest)
 
--- none of the proofs claims what has no first claim
+-- if a target has no first claim, none of the proofs claims it
 pub unclaimed : (n : ℕ) (parts : List Part) (y : Target) → 0 < n → first_claim n parts (place y) ≡ 0 → list_all (λ k. not (is_among (claims_of k) y)) parts ≡ true
 unclaimed n [] y some e = refl
 unclaimed n (x ∷ xs) y some e = on (λ z. unclaimed (n + 1) xs y (omega arith) z) (has_number (map place (claims_of x)) (place y)) refl e
@@ -79,7 +79,7 @@ unclaimed n (x ∷ xs) y some e = on (λ z. unclaimed (n + 1) xs y (omega arith)
         and_from (not (is_among (claims_of x) y)) (list_all (λ k. not (is_among (claims_of k) y)) xs) (not_from_false (is_among (claims_of x) y) (sym (has_place (claims_of x) y) ∙ b))
         (rest z)
 
--- the proof that claims it first claims it
+-- the proof recorded as the first to claim a target claims it
 pub claims_it : (n : ℕ) (parts : List Part) (y : Target) (o : ℕ) → first_claim n parts (place y) ≡ o → (o ≡ 0 → ⊥) → (j : ℕ) × (o ≡ n + j) × IsSomeAnd (slice_get parts j) (λ k. is_among (claims_of k) y ≡ true)
 claims_it n [] y o e some = absurd (some (sym e))
 claims_it n (x ∷ xs) y o e some = on (λ z. claims_it (n + 1) xs y o z some) (has_number (map place (claims_of x)) (place y)) refl e
@@ -259,9 +259,9 @@ node_placed p is v (Leaf (Slots cs)) h y e = absurd cc
 node_placed p is v (Leaf (Cost claims)) h y e =
     claims_placed claims y (recursion_from_All IsPlaced claims (each_placed p is.within.courses is.within.curricula claims (λ k c i. (claim_parts p v _ (h k c i)).0))) e
 
--- ---- a proof that was heard
+-- -- a proof whose nodes were visited
 
--- one table has heard the nodes, and come to the other
+-- the table has visited the nodes, and its state changed from the first to the second
 abbrev pub TableHeard : State → State → List Node → Type 0
 TableHeard a b = Heard (λ s j n u. 0 < s.proof → Claims s (at_node j (places_in n)) u) 0 a b
 

@@ -52,7 +52,7 @@ module _ (p : Problem) (is : IsInstance p) where
   same_parts (x ∷ xs) (k ∷ ks) [] h i = absurd i
   same_parts (x ∷ xs) (k ∷ ks) (l ∷ ls) h i = ap (λ (y : Part). y ∷ ks) (same_part p is x k l h.0 i.0) ∙ ap (λ (zs : List Part). l ∷ zs) (same_parts xs ks ls h.1 i.1)
 
-  -- a refusal of files that have a sum is silent
+  -- if files have a sum, a refusal of them is silent
   refused_silent : (proofs : List (List ℕ)) (s : Bound) (h : IsSum p proofs s) → all_points h.parts < 2 ^ 64 → (e : SumFault) → OutOfMemoryIsOneFault e → IsRefused p proofs e → IsSilentSum e
   refused_silent proofs s h within e memory r =
       let z = zip_split (IsPart p) r.before r.bytes r.more h.parts (subst (λ (l : List (List ℕ)). AllZip (IsPart p) l h.parts) r.split h.each) in
@@ -70,7 +70,7 @@ module _ (p : Problem) (is : IsInstance p) where
   sum_silent proofs s h within (TooLarge n) memory told = refused_silent proofs s h within (TooLarge n) memory told
   sum_silent proofs s h within OutOfMemory memory told = tt
 
-  -- files have one sum at most
+  -- files have at most one sum
   pub same_sum : (proofs : List (List ℕ)) (s t : Bound) → IsSum p proofs s → IsSum p proofs t → s ≡ t
   same_sum proofs s t h i = sym h.total ∙ ap sum_of (same_parts proofs h.parts i.parts h.each i.each) ∙ i.total
 
@@ -81,7 +81,7 @@ tells_sum p proofs (ClaimedElsewhere n i e) r = r
 tells_sum p proofs (TooLarge n) r = r
 tells_sum p proofs OutOfMemory r = tt
 
--- ---- sources that tell their bytes
+-- -- sources whose bytes are known
 
 module _ {R : Type 0} (p : Problem) (remaining : R → Option (List ℕ)) where
   pub zip_known : (sources : List R) (proofs : List (List ℕ)) (parts : List Part) → Give remaining sources proofs → AllZip (λ r k. IsPartOf p (remaining r) k) sources parts → AllZip (IsPart p) proofs parts
@@ -114,7 +114,7 @@ module _ {R : Type 0} (p : Problem) (remaining : R → Option (List ℕ)) where
 -- ---- a loop over the sources
 
 module _ {R : Type 0} (p : Problem) (remaining : R → Option (List ℕ)) (failed : R → Bool) where
-  -- The sources before the one at i have been read, and have given these parts; those from there on are as they were.
+  -- The sources before the one at i have been read, and have given these parts; the source at i and those after it are unchanged.
   pub record Sofar (old now : List R) (i : ℕ) (s : Sum) : Type 0 where
     pub parts : List Part
     pub each : AllZip (λ r k. IsPartOf p (remaining r) k) (take i old) parts
@@ -125,14 +125,14 @@ module _ {R : Type 0} (p : Problem) (remaining : R → Option (List ℕ)) (faile
   pub sofar_start : (old : List R) (s : Sum) → IsSumOf s [] → Sofar old old 0 s
   sofar_start old s of = record { parts = []; each = tt; of = of; rest = λ k d h. refl; same = λ k d h. refl }
 
-  -- how many proofs have been taken
+  -- the number of files taken so far
   pub taken : (old now : List R) (i : ℕ) (s : Sum) → i ≤ length old → Sofar old now i s → due s ≡ i + 1
   taken old now i s within h =
       let long = AllZip-long (λ r k. IsPartOf p (remaining r) k) (take i old) h.parts h.each in
       let many = length-take-le i old within in
       omega (arith, long, many, h.of.table.number)
 
-  -- one more source
+  -- another source
   pub sofar_next : (old now : List R) (i : ℕ) (s t : Sum) (r q : R) → i < length old → length now ≡ length old → r ≡ get_or now i r → Sofar old now i s
       → ((parts : List Part) → IsSumOf s parts → Adds p (remaining r) parts t) → failed q ≡ failed r → Sofar old (set now i q) (i + 1) t
   sofar_next old now i s t r q l long is h adds unfailed =
@@ -159,7 +159,7 @@ module _ {R : Type 0} (p : Problem) (remaining : R → Option (List ℕ)) (faile
           let there : r ≡ get_or old k d = get_or_read old i r l (is ∙ h.rest i r (omega arith)) d ∙ ap (λ j. get_or old j d) (sym e) in
           ap failed here ∙ unfailed ∙ ap failed there
 
-  -- the bytes that are known spell the parts
+  -- if the bytes are known, they spell the parts
   pub sofar_found : (old now : List R) (i : ℕ) (s : Sum) → length old ≤ i → (h : Sofar old now i s) → (proofs : List (List ℕ)) → Give remaining old proofs → IsSum p proofs (sum_of h.parts)
   sofar_found old now i s all h proofs given = record {
     parts = h.parts;
@@ -195,7 +195,7 @@ module _ {R : Type 0} (p : Problem) (remaining : R → Option (List ℕ)) (faile
   pub set_found : (now : List R) (i k : ℕ) (q x : R) → i < length now → k ≡ i → slice_get (set now i q) k ≡ Some x → x ≡ q
   set_found now i k q x l e found = sym (get_or_from_slice_get (set now i q) k x q found) ∙ ap (λ j. get_or (set now i q) j q) e ∙ get_or-set_same now i q q l
 
-  -- the source at i, and what it has come to
+  -- the source at i, before and after it was read
   pub record At (old now : List R) (i k : ℕ) (item q r x : R) : Type 0 where
     pub was : item ≡ r
     pub is : x ≡ q

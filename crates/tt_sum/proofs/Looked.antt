@@ -1,4 +1,4 @@
--- A file whose kind was looked at before it was read.
+-- A file whose kind was checked before it was read.
 use Rattle.std.proofs.Common.{◌≡◌, ℕ, Bool, true, List, Option, Some, None, Result, Ok, Err, refl, ap, subst, ◌∙◌, inl}
 use Rattle.std.specs.Prelude.{IfOk, IfErr}
 use Rattle.std.specs.Io.KnownBytes.{Consumes, Keeps}
@@ -18,7 +18,7 @@ use Rattle.tt_sum.specs.Sums.{Part, TreeProof, GroupsFile}
 use Rattle.tt_sum.specs.Tables.{State, begun, IsTableOf}
 use Rattle.tt_sum.specs.UpToFailedRead.{IsFileJudgedUpToFailedRead}
 
--- known bytes are still there
+-- known bytes are preserved
 pub keeps_known : (old mid : Option (List ℕ)) (bytes : List ℕ) → Keeps old mid → old ≡ Some bytes → mid ≡ Some bytes
 keeps_known None mid bytes k e = absurd cc
 keeps_known (Some xs) None bytes k e = absurd k
@@ -57,7 +57,7 @@ module _ (p : Problem) (old mid : Option (List ℕ)) (kept : Keeps old mid) (tab
       → IfErr r (λ e. (parts : List Part) (bytes : List ℕ) → IsTableOf table parts → old ≡ Some bytes → TellsAdded p parts bytes e)
   kind_fault z kind h = err_as r _ _ (λ e f parts bytes of known. f table parts bytes of begins (keeps_known old mid bytes kept known) (kind bytes known)) h
 
--- nothing but a failed read comes
+-- a stream that gives only a failed read
 header_broken : (s : Stream) → s ≡ stopped (Err Read) → header_at s ≡ Err read_failed
 unfolding header_at word_at token_at
 header_broken s e = rw e refl

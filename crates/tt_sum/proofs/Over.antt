@@ -1,4 +1,4 @@
--- A tree bounds the part of the cost that is its targets'.
+-- A tree bounds the part of the cost that belongs to its targets.
 use Rattle.std.proofs.Common.{◌≡◌, ℕ, ◌≤◌, Bool, true, false, not, List, refl, sym, ◌∙◌, arith, inl, inr}
 use Rattle.std.specs.Prelude.{sum_by}
 use Rattle.std.specs.List.{list_any, list_all}
@@ -30,12 +30,12 @@ use Rattle.tt_proof_read.specs.Trees.{Tree, Close, Branch, with_fact}
 use Rattle.tt_proof_check.specs.Derives.{Derives}
 use Rattle.tt_sum.specs.Sums.{claimed_in, claimed_by, is_among, are_among, cost_over, every_target}
 
--- each two are different
+-- each two targets differ
 abbrev pub are_different : List Target → Bool
 are_different ys = each_two (λ a b. not (same_target a b)) ys
 
 module _ (p : Problem) (t : List Cell) (ok : IsFeasible p t) where
-  -- n bounds the parts of any different targets that pass the test
+  -- n is an upper bound for the parts of any distinct targets that pass the test
   abbrev pub IsMost : ℕ → (Target → Bool) → Type 0
   IsMost n test = (ys : List Target) → are_different ys ≡ true → list_all test ys ≡ true → sum_by (part p t) ys ≤ n
 
@@ -62,7 +62,7 @@ module _ (p : Problem) (t : List Cell) (ok : IsFeasible p t) where
           | inr h ↦ tree_by b (with_fact path g false) second k.1 d.1 (All-push (Holds p t) path (record { pattern = g; holds = false }) fits h)
         ]
 
-  -- a list bounds the parts of different targets that it has
+  -- the cost over a list of targets is an upper bound for the parts of any distinct targets in it
   pub most_over : (targets : List Target) → IsMost (cost_over p t targets) (is_among targets)
   most_over targets ys apart there =
       distinct_sum same_target same_target-true same_target-itself (part p t) ys targets apart
@@ -71,7 +71,7 @@ module _ (p : Problem) (t : List Cell) (ok : IsFeasible p t) where
   pub tree_over : (b : Bound) (path : List Fact) (tree : Tree) (targets : List Target) → are_among targets (claimed_by tree) ≡ true → Derives p b path tree → Fits p t path → Respects b (cost_over p t targets)
   tree_over b path tree targets there d fits = tree_by (cost_over p t targets) (is_among targets) (most_over targets) b path tree there d fits
 
-  -- all targets bound the parts of any
+  -- the cost over all targets is an upper bound for the parts of any distinct targets
   most_all : IsMost (cost_over p t (every_target p)) (λ y. true)
   most_all ys apart there = distinct_sum same_target same_target-true same_target-itself (part p t) ys (every_target p) apart (λ y m. target_there p t ok y)
 

@@ -1,4 +1,4 @@
--- Owners of the targets of groups, and a table that a group is entered into.
+-- Owners of the targets of groups, and a table to which a group is added.
 use Rattle.std.proofs.Common.{◌≡◌, ℕ, ◌+◌, ◌-◌, ◌*◌, ◌<◌, ◌≤◌, Bool, true, false, not, cond, ◌&&◌, ◌||◌, List, [], ◌∷◌, ◌++◌, take, drop, length, get_or, map, Option, Some, None, refl, sym, ap, subst, ◌∙◌, arith, append-nil, inl, inr, lit<}
 use Rattle.std.specs.Prelude.{◌==◌, slice_get, IsSomeAnd}
 use Rattle.std.specs.Option.{option_or}
@@ -110,9 +110,9 @@ group_placed p is k claim =
     placed_curricula (length p.curricula) k.group.curricula (map WorkingDays k.group.courses) is.within.curricula (recursion_from_All (λ q. q < length p.curricula) k.group.curricula claim.curricula.0)
     (placed_courses (length p.courses) k.group.courses (let few = is.within.courses in omega (arith, few)) (recursion_from_All (λ c. c < length p.courses) k.group.courses claim.courses.0))
 
--- ---- what an owner says
+-- -- the meaning of an owner
 
--- the table while a file is read, after claims of it
+-- the table while a file is read, after some of its claims
 module _ (before b : State) (parts : List Part) (claims : List GroupClaim) (of : IsTableOf before parts) (marks : Marks (begun before) (map place (targets_of_claims claims)) b) where
   abbrev targets : List Target
   targets = targets_of_claims claims
@@ -121,7 +121,7 @@ module _ (before b : State) (parts : List Part) (claims : List GroupClaim) (of :
   owner_is y l =
       marks.owners (place y) l ∙ ap (λ z. cond z (before.proof + 1) (owner before (place y))) (has_place targets y) ∙ ap (λ o. cond (is_among targets y) (before.proof + 1) o) (of.owners (place y) l)
 
-  -- a target with no owner is unclaimed
+  -- a target without an owner is unclaimed
   unowned : (y : Target) → place y < 32768 → owner b (place y) ≡ 0 → is_unclaimed parts claims y ≡ true
   unowned y l none = on (is_among targets y) refl (sym (owner_is y l) ∙ none)
     where
@@ -129,7 +129,7 @@ module _ (before b : State) (parts : List Part) (claims : List GroupClaim) (of :
       on true e h = absurd (omega (arith, h))
       on false e h = and_from (not (is_among targets y)) (list_all (λ k. not (is_among (claims_of k) y)) parts) (not_from_false (is_among targets y) e) (unclaimed 1 parts y (lit< tt) h)
 
-  -- a target of the file's own
+  -- a target owned by the newest file is among its targets
   own_target : (y : Target) → place y < 32768 → owner b (place y) ≡ b.proof → is_among targets y ≡ true
   own_target y l is = on (is_among targets y) refl (sym (owner_is y l) ∙ is ∙ marks.proof)
     where
@@ -137,7 +137,7 @@ module _ (before b : State) (parts : List Part) (claims : List GroupClaim) (of :
       on true e h = e
       on false e h = absurd (omega (arith, h, claim_below 1 parts (place y) (lit< tt), of.number))
 
-  -- a target of an earlier file
+  -- a target owned by an earlier file is claimed by it
   earlier_target : (y : Target) (o : ℕ) → place y < 32768 → owner b (place y) ≡ o → (o ≡ 0 → ⊥) → (o ≡ b.proof → ⊥) → IsClaimedBy parts o y
   earlier_target y o l is some other = on (is_among targets y) (sym (owner_is y l) ∙ is)
     where
@@ -200,7 +200,7 @@ module _ (before b : State) (parts : List Part) (claims : List GroupClaim) (of :
       let f = first_owned ys o placed e in
       record { before = f.first; target = f.target; more = f.more; split = f.split; unclaimed = f.unclaimed_before; is = earlier_target f.target o f.within f.owned f.some other }
 
--- ---- one more claim
+-- -- another claim
 
 abbrev targets_in : GroupClaim → List Target
 targets_in k = group_targets k.group
@@ -209,7 +209,7 @@ not_or : (a b : Bool) → not (a || b) ≡ (not a && not b)
 not_or true b = refl
 not_or false b = refl
 
--- in none of the claims
+-- a target is in none of the claims
 in_none : (claims : List GroupClaim) (y : Target) → not (is_among (targets_of_claims claims) y) ≡ list_all (λ k. not (is_among (targets_in k) y)) claims
 in_none [] y = refl
 in_none (k ∷ ks) y =
@@ -227,20 +227,20 @@ same_all : {X : Type 0} (f g : X → Bool) (xs : List X) → ((x : X) → f x �
 same_all f g [] e = refl
 same_all f g (x ∷ xs) e = ap (λ b. b && list_all f xs) (e x) ∙ ap (λ b. g x && b) (same_all f g xs e)
 
--- the places of claims and one more
+-- the targets of claims and of another claim
 more_targets : (claims : List GroupClaim) (k : GroupClaim) → targets_of_claims (claims ++ k ∷ []) ≡ targets_of_claims claims ++ targets_in k
 more_targets claims k = flat_map-append targets_in claims (k ∷ []) ∙ ap (λ (l : List Target). targets_of_claims claims ++ l) (append-nil (targets_in k))
 
 pub more_places : (claims : List GroupClaim) (k : GroupClaim) → map place (targets_of_claims (claims ++ k ∷ [])) ≡ map place (targets_of_claims claims) ++ group_places k.group
 more_places claims k = ap (map place) (more_targets claims k) ∙ map-append place (targets_of_claims claims) (targets_in k)
 
--- a claim is apart from those that have none of its targets
+-- if none of a claim's targets is in the other claims, it is apart from them
 own_apart : (claims : List GroupClaim) (k : GroupClaim) → list_all (λ y. not (is_among (targets_of_claims claims) y)) (targets_in k) ≡ true → list_all (λ c. are_apart (targets_in c) (targets_in k)) claims ≡ true
 own_apart claims k e =
     list_all-swap (λ c y. not (is_among (targets_in c) y)) claims (targets_in k)
     ∙ sym (same_all (λ y. not (is_among (targets_of_claims claims) y)) (λ y. list_all (λ c. not (is_among (targets_in c) y)) claims) (targets_in k) (in_none claims)) ∙ e
 
--- targets with no owner are in none of the claims
+-- targets without an owner are in none of the claims
 own_unclaimed : (a b : State) (claims : List GroupClaim) → Marks a (map place (targets_of_claims claims)) b → 0 < a.proof → (ys : List Target) → AllByRecursion (λ y. place y < 32768) ys → first_owner b (map place ys) ≡ None
     → list_all (λ y. not (is_among (targets_of_claims claims) y)) ys ≡ true
 own_unclaimed a b claims marks some [] placed e = refl
@@ -260,7 +260,7 @@ own_unclaimed a b claims marks some (y ∷ ys) placed e = on (owner b (place y) 
     on true z h rest = and_from (not (is_among (targets_of_claims claims) y)) (list_all (λ x. not (is_among (targets_of_claims claims) x)) ys) (free (eqb-true (owner b (place y)) 0 z)) (rest h)
     on false z h rest = absurd cc
 
--- claims that pass and one more whose targets are unclaimed pass
+-- claims that pass and another claim whose targets are unclaimed pass together
 more_pass : (p : Problem) (parts : List Part) (claims : List GroupClaim) (k : GroupClaim) → Pass p parts claims → list_all (is_unclaimed parts claims) (targets_in k) ≡ true → IsGroupBound p k.group k.value → Pass p parts (claims ++ k ∷ [])
 more_pass p parts claims k h new bound =
     let parted = both_all (λ y. not (is_among (targets_of_claims claims) y)) (λ y. list_all (λ q. not (is_among (claims_of q) y)) parts) (targets_in k) new in
@@ -296,7 +296,7 @@ entered_none p a = record {
   passed = λ before parts of begins. record { bounds = All-nil (λ k. IsGroupBound p k.group k.value); apart = refl; free = all_pass (λ k. true) parts (λ k. refl) };
 }
 
--- places that are marked and others that are free had no owner before
+-- places that are marked, and further places without an owner, had no owner before
 fresh_more : (a b : State) (old new : List ℕ) → Marks a old b → first_owner b new ≡ None → ((k : ℕ) → k < 32768 → has_number old k ≡ true → owner a k ≡ 0) → (n : ℕ) → n < 32768 → has_number (old ++ new) n ≡ true → owner a n ≡ 0
 fresh_more a b old new marks none fresh n l has = on (has_number old n) refl
   where

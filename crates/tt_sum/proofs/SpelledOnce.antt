@@ -1,4 +1,4 @@
--- A text spells one part at most, and one kind of it.
+-- A text spells at most one part, of only one kind.
 use Rattle.std.proofs.Common.{◌≡◌, ℕ, ◌-◌, Bool, true, false, List, [], ◌∷◌, ◌++◌, Option, Some, None, Result, Ok, Err, refl, sym, ap, subst, ◌∙◌, arith, append-nil, append_assoc, inl, inr}
 use Rattle.std.specs.Prelude.{Contains, codes, sum_by}
 use Rattle.std.proofs.lemmas.List.Elements.{All-contains, Contains-append_right}
@@ -47,7 +47,7 @@ use Rattle.tt_sum.specs.GroupsFaults.{AfterClaims, TellsGroups, IsLeftOpen}
 use Rattle.tt_sum.specs.Sums.{is_among, are_apart, group_targets, targets_of_claims, TreePart, GroupsPart, Part, TreeProof, GroupsFile, IsGroupsPart, IsPart, claims_of, AreClaimsApart}
 use Rattle.tt_sum.proofs.Together.{not_both}
 
--- ---- a proof is no file of groups
+-- -- a proof isn't a file of groups
 
 starts : (bytes : List ℕ) (ps : List Piece) (ts : List Placed) → tokens_of bytes ≡ ts → Begins (Text (codes "CTTP") ∷ ps) ts [] → is_groups bytes ≡ false
 starts bytes ps [] e b = absurd b
@@ -57,7 +57,7 @@ pub proofs_are_trees : (p : Problem) (bytes : List ℕ) (k : TreePart) → Spell
 proofs_are_trees p bytes k spelled =
     starts bytes (Text (version_text k.version) ∷ Text (codes "bound") ∷ bound_piece k.bound ∷ (spelled.body ++ Text (codes "end") ∷ [])) (tokens_of bytes) refl spelled.tokens
 
--- a fault of a tree proof says nothing of a file of groups but that a read failed
+-- a fault of a text as a tree proof is not one of a file of groups, unless a read failed
 pub read_or_tree : (p : Problem) (bytes : List ℕ) (k : GroupsPart) (f : CheckFault) → IsGroupsPart p bytes k → IsTreeFault p bytes f → f ≡ check.Text (text.Feed feed.Read)
 read_or_tree p bytes k f spelled told = elim told.kind [
   | inl e ↦ e
@@ -74,7 +74,7 @@ has_claim (Ok (Some k, s)) = true
 has_claim (Ok (None, s)) = false
 has_claim (Err t) = false
 
--- a claim is no end
+-- a claim isn't the end
 not_both_answers : (k : GroupClaim) (s t : Stream) → answer (Some k) s ≡ answer None t → ⊥
 unfolding has_claim
 not_both_answers k s t e = let no : true ≡ false = ap has_claim e in cc
@@ -86,7 +86,7 @@ claim_same x k s t e =
     let claim : x ≡ k = cc in
     (claim, ap (λ (z : Option GroupClaim × Stream). z.1) pair)
 
--- claims that were read are the first of all
+-- the claims read so far are the first of all claims
 pub record GoesOn (sizes : Sizes) (all claims : List GroupClaim) (rest end : Stream) : Type 0 where
   pub more : List GroupClaim
   pub split : all ≡ claims ++ more
@@ -102,7 +102,7 @@ module _ (sizes : Sizes) where
       let r = goes_on part.0 xs ks rest end after (subst (λ (z : Stream). ReadsClaims sizes z xs end) same.1 reads.2) finish part.2 in
       record { more = r.more; split = ap (λ (z : GroupClaim). z ∷ xs) same.0 ∙ ap (λ (l : List GroupClaim). k ∷ l) r.split; reads = r.reads }
 
-  -- the claim that follows is one of all
+  -- the next claim is one of all claims
   pub next_is : (all claims : List GroupClaim) (rest end after mid : Stream) (k : GroupClaim) → GoesOn sizes all claims rest end → group_at sizes end ≡ Ok (None, after) → group_at sizes rest ≡ Ok (Some k, mid)
       → (more : List GroupClaim) × (all ≡ claims ++ k ∷ more)
   next_is all claims rest end after mid k g finish read = on g.more g.split g.reads
@@ -113,7 +113,7 @@ module _ (sizes : Sizes) where
       on (m ∷ ms) split reads =
           (ms, split ∙ ap (λ (z : GroupClaim). claims ++ z ∷ ms) (claim_same m k reads.0 mid (sym reads.1 ∙ read)).0)
 
-  -- where no claim follows, these are all
+  -- if no claim follows, the claims read are all claims
   pub none_is : (all claims : List GroupClaim) (rest end mid : Stream) → GoesOn sizes all claims rest end → group_at sizes rest ≡ Ok (None, mid) → all ≡ claims
   none_is all claims rest end mid g read = on g.more g.split g.reads
     where
@@ -122,7 +122,7 @@ module _ (sizes : Sizes) where
       on (m ∷ ms) split reads =
           absurd (not_both_answers m reads.0 mid (sym reads.1 ∙ read))
 
-  -- the text does not fail after claims of a whole file
+  -- after claims of a complete file the text doesn't fail
   pub never_fails : (all claims : List GroupClaim) (rest end after : Stream) (t : TextFault) → GoesOn sizes all claims rest end → group_at sizes end ≡ Ok (None, after) → group_at sizes rest ≡ Err t → ⊥
   never_fails all claims rest end after t g finish read = on g.more g.reads
     where
@@ -176,20 +176,20 @@ same_part p is bytes (GroupsFile k) (GroupsFile l) h i =
 abbrev targets_in : GroupClaim → List Target
 targets_in k = group_targets k.group
 
--- a target of one of the claims is one of theirs
+-- a target of one of the claims is among the targets of all claims
 pub claim_among : (before : List GroupClaim) (k : GroupClaim) (more : List GroupClaim) (y : Target) → is_among (targets_in k) y ≡ true → is_among (targets_of_claims (before ++ k ∷ more)) y ≡ true
 claim_among before k more y h =
     let among : GroupClaim → Bool = λ x. is_among (targets_in x) y in
     list_any-of_flat_map (same_target y) targets_in (before ++ k ∷ more) ∙ list_any-append among before (k ∷ more)
     ∙ or_right (list_any among before) (list_any among (k ∷ more)) (or_left (among k) (list_any among more) h)
 
--- the target at the split is one of these
+-- the target at the split is among these targets
 pub split_among : (targets before : List Target) (y : Target) (more : List Target) → targets ≡ before ++ y ∷ more → is_among targets y ≡ true
 split_among targets before y more split =
     ap (λ (l : List Target). is_among l y) split ∙ list_any-append (same_target y) before (y ∷ more)
     ∙ or_right (list_any (same_target y) before) (is_among (y ∷ more) y) (or_left (same_target y y) (is_among more y) (same_target-itself y))
 
--- no target of a claim is in those before it
+-- no target of a claim is a target of those before it
 claims_meet : (before : List GroupClaim) (k : GroupClaim) (more : List GroupClaim) (y : Target) → AreClaimsApart (before ++ k ∷ more) → is_among (targets_of_claims before) y ≡ true → is_among (targets_in k) y ≡ true → ⊥
 claims_meet before k more y apart earlier here =
     let test : GroupClaim → GroupClaim → Bool = λ a b. are_apart (targets_in a) (targets_in b) in
@@ -204,7 +204,7 @@ module _ (p : Problem) (is : IsInstance p) (parts : List Part) (bytes : List ℕ
   file : ReadsFile (sizes_of p) (stream_of bytes) k.bound k.claims
   file = groups_read p is bytes k.bound k.claims spelled.spelled
 
-  -- what was read of the file goes on to its end
+  -- the rest of the file continues the part that was read, up to its end
   read_on : {P : ℕ → List GroupClaim → Stream → Type 0} → (a : AfterClaims p parts (stream_of bytes) P) → (a.bound ≡ k.bound) × GoesOn (sizes_of p) k.claims a.claims a.rest file.listed
   read_on a =
       let same = header_bound a.bound k.bound a.headed file.headed (sym a.header ∙ file.header) in

@@ -1,4 +1,4 @@
--- Claims one after another.
+-- Claims taken in turn.
 use Rattle.std.proofs.Common.{◌≡◌, ℕ, ◌<◌, Bool, true, false, cond, ◌&&◌, ◌||◌, List, [], ◌∷◌, ◌++◌, take, length, get_or, replicate, zero, suc, ◌+◌, ◌*◌, map, append-nil, Option, Some, None, refl, sym, ap, subst, ◌∙◌, arith}
 use Rattle.std.specs.Prelude.{◌==◌, nat_le, slice_index_or, flat_map}
 use Rattle.std.specs.Option.{option_or}
@@ -15,7 +15,7 @@ use Rattle.tt_proof_check.specs.Heard.{Heard}
 use Rattle.tt_sum.specs.declared.table.Clash.{Clash}
 use Rattle.tt_sum.specs.Tables.{State, owner, clash_with, clash_at, first_clash, Claims, at_node, places_in}
 
--- the owner of a place after a claim that has it or not
+-- the owner of a place after a claim that may have it
 abbrev pub owner_after : ℕ → Bool → ℕ → ℕ
 owner_after o h q = cond ((o == 0) && h) q o
 
@@ -31,7 +31,7 @@ twice o h g q some = on (o == 0) refl h
     on false e true = rw e (rw e refl)
     on false e false = rw e (rw e refl)
 
--- a claim takes no clash away, and makes none
+-- a claim neither removes nor adds a clash
 still_clash : (past : Bool) (n o r : ℕ) (h : Bool) (q : ℕ) → 0 < q → (past ≡ false → r ≡ owner_after o h q) → clash_with past n r q ≡ clash_with past n o q
 still_clash true n o r h q some e = refl
 still_clash false n o r h q some e = ap (λ x. clash_with false n x q) (e refl) ∙ on (o == 0) refl h
@@ -88,7 +88,7 @@ free z zero k = refl
 free z (suc n) zero = refl
 free z (suc n) (suc k) = free z n k
 
--- one more of a list
+-- another element of a list
 pub claims_more : {X : Type 0} (f : X → List (ℕ × ℕ)) (a b c : State) (xs : List X) (i : ℕ) (d : X) → 0 < a.proof → i < length xs → Claims a (flat_map f (take i xs)) b → Claims b (f (get_or xs i d)) c → Claims a (flat_map f (take (i + 1) xs)) c
 claims_more f a b c xs i d some l h k =
     let x = get_or xs i d in
@@ -110,12 +110,12 @@ claimed_places n (c ∷ cs) =
 
 -- ---- the nodes of a proof
 
--- the places that nodes claim, each with its node, the first of them by the number i
+-- the places that nodes claim, each with its node; the first node has the number i
 abbrev pub places_from : ℕ → List Node → List (ℕ × ℕ)
 places_from i [] = []
 places_from i (n ∷ ns) = at_node i (places_in n) ++ places_from (i + 1) ns
 
--- what a table has heard, it has claimed
+-- a table that has visited nodes has the claims of these nodes
 pub heard_claims : (i : ℕ) (a b : State) (nodes : List Node) → 0 < a.proof → Heard (λ x j n y. 0 < x.proof → Claims x (at_node j (places_in n)) y) i a b nodes → Claims a (places_from i nodes) b
 heard_claims i a b [] some h = subst (Claims a []) (sym h) (claims_none a)
 heard_claims i a b (n ∷ ns) some h =

@@ -1,4 +1,4 @@
--- Bounds of trees and of groups that claim different targets add up.
+-- Bounds of trees and of groups that claim distinct targets add up.
 use Rattle.std.proofs.Common.{◌≡◌, ℕ, ◌+◌, ◌≤◌, Bool, true, false, not, cond, ◌&&◌, ◌||◌, List, [], ◌∷◌, ◌++◌, map, Option, refl, subst, ◌∙◌, arith, inl, inr, zero-le}
 use Rattle.std.specs.Prelude.{Contains, ◌⊎◌, sum_by, flat_map}
 use Rattle.std.specs.List.{list_any, list_all, AllZip, AllByRecursion}
@@ -32,12 +32,12 @@ use Rattle.tt_sum.specs.Added.{IsPartOf}
 use Rattle.tt_sum.specs.Sums.{claimed_by, is_among, are_among, are_apart, cost_over, every_target, group_targets, targets_of_claims, AreClaimsApart, both_bounds, sum_of, Part, TreeProof, GroupsFile, IsPart, ShowsOn, bound_of, claims_of, AreApart, IsSum}
 use Rattle.tt_sum.proofs.Over.{are_different, tree_by, most_over, over_all, IsMost}
 
--- each target is one of these, if it is in the list
+-- if each target of a list is one of these, the test says so
 itself_among : (targets ys : List Target) → ((y : Target) → Contains ys y → Contains targets y) → list_all (is_among targets) ys ≡ true
 itself_among targets [] h = refl
 itself_among targets (y ∷ ys) h = rw (any_member (same_target y) targets y (h y (0, omega arith, refl)) (same_target-itself y)) (itself_among targets ys (λ z m. h z (Contains-append_right (y ∷ []) ys z m)))
 
--- a bound of a number is one of a greater
+-- a number above one that respects a bound respects it, too
 pub respects_more : (b : Bound) (m n : ℕ) → m ≤ n → Respects b m → Respects b n
 respects_more (AtLeast b) m n le h = omega (arith, le, h)
 respects_more Nothing m n le h = h
@@ -55,7 +55,7 @@ not_both xs ys apart y a b =
     let n = at_member (λ z. not (is_among xs z) ≡ true) ys w.0 (each_from_list_all (λ z. not (is_among xs z)) ys apart) w.1 in
     both_ways (is_among xs w.0) (not-true (is_among xs w.0) n) (subst (λ z. is_among xs z ≡ true) e a)
 
--- a claim has different targets
+-- the targets of a claim are distinct
 group_different : (p : Problem) (k : GroupClaim) → IsClaim p k → are_different (group_targets k.group) ≡ true
 group_different p k claim =
     let g = k.group in
@@ -70,11 +70,11 @@ group_different p k claim =
     (and_from (list_all (λ y. list_all (differ y) courses) curricula) (each_two differ courses) between (each_two-of_map differ WorkingDays g.courses ∙ claim.courses.1))
 
 module _ (p : Problem) (t : List Cell) (ok : IsFeasible p t) where
-  -- the part of a target that is one of these
+  -- the part of the cost that belongs to a target, if it is one of these, otherwise 0
   abbrev own : List Target → Target → ℕ
   own targets y = cond (is_among targets y) (part p t y) 0
 
-  -- the parts of the instance's targets that are among these
+  -- the sum of the parts of the instance's targets that are among these
   abbrev share : List Target → ℕ
   share targets = sum_by (own targets) (every_target p)
 
@@ -95,7 +95,7 @@ module _ (p : Problem) (t : List Cell) (ok : IsFeasible p t) where
       there_or_none y (inl e) = inl (nothing (is_among targets y) (part p t y) e)
       there_or_none y (inr e) = inr e
 
-  -- shares of targets that are apart are together one
+  -- if lists of targets are apart, their shares add up to at most the share of both lists together
   shares_add : (xs ys : List Target) → are_apart xs ys ≡ true → share xs + share ys ≤ share (xs ++ ys)
   shares_add xs ys apart =
       let two = sum_by-plus (own xs) (own ys) (every_target p) in
@@ -110,7 +110,7 @@ module _ (p : Problem) (t : List Cell) (ok : IsFeasible p t) where
       one : (y : Target) → own xs y + own ys y ≤ own (xs ++ ys) y
       one y = rw (list_any-append (same_target y) xs ys) (by (is_among xs y) (is_among ys y) (part p t y) (not_both xs ys apart y))
 
-  -- what is apart from each of several lists is apart from all of them
+  -- targets that are apart from each of several lists are apart from all of them together
   pub apart_from_all : {X : Type 0} (f : X → List Target) (xs : List Target) (ks : List X) → list_all (λ k. are_apart xs (f k)) ks ≡ true → are_apart xs (flat_map f ks) ≡ true
   apart_from_all f xs [] e = refl
   apart_from_all f xs (k ∷ ks) e =
@@ -128,13 +128,13 @@ module _ (p : Problem) (t : List Cell) (ok : IsFeasible p t) where
 
   -- ---- groups
 
-  -- what is paid for a group's targets is its cost
+  -- the parts of a group's targets add up to its cost
   group_parts : (g : Group) → sum_by (part p t) (group_targets g) ≡ group_cost p g t
   group_parts g =
       let f = part p t in
       omega (arith, sum_by-append f (map Compactness g.curricula) (map WorkingDays g.courses), sum_by-of_map f Compactness g.curricula, sum_by-of_map f WorkingDays g.courses)
 
-  -- a bound of a group is one of any number that bounds its targets
+  -- a bound of a group is at most any number that bounds its targets
   group_by : (n : ℕ) (test : Target → Bool) → IsMost p t ok n test → (k : GroupClaim) → IsClaim p k → list_all test (group_targets k.group) ≡ true → IsGroupBound p k.group k.value → k.value ≤ n
   group_by n test most k claim in_test bound =
       let within = most (group_targets k.group) (group_different p k claim) in_test in
@@ -143,7 +143,7 @@ module _ (p : Problem) (t : List Cell) (ok : IsFeasible p t) where
   pub group_over : (k : GroupClaim) (targets : List Target) → IsClaim p k → are_among targets (group_targets k.group) ≡ true → IsGroupBound p k.group k.value → k.value ≤ cost_over p t targets
   group_over k targets claim there bound = group_by (cost_over p t targets) (is_among targets) (most_over p t ok targets) k claim there bound
 
-  -- the claims of a file
+  -- the values of a file's claims are at most the share of their targets
   claims_paid : (claims : List GroupClaim) → AllByRecursion (IsClaim p) claims → AllByRecursion (λ k. IsGroupBound p k.group k.value) claims → AreClaimsApart claims
       → sum_by (λ k. k.value) claims ≤ share (targets_of_claims claims)
   claims_paid [] each bounds apart = zero-le
@@ -182,7 +182,7 @@ module _ (p : Problem) (t : List Cell) (ok : IsFeasible p t) where
     bounds_add parts d apart =
         respects_more (sum_of parts) (share (flat_map claims_of parts)) (cost p t) (share_within (flat_map claims_of parts)) (shares_hold parts d apart)
 
--- parts of files that are right
+-- if each part is right, so are all parts of the files
 show_each : {X : Type 0} (p : Problem) (R : X → Part → Type 0) → ((x : X) (k : Part) → R x k → ShowsOn p [] k) → (xs : List X) (parts : List Part) → AllZip R xs parts → AllByRecursion (ShowsOn p []) parts
 show_each p R shows [] [] h = tt
 show_each p R shows [] (k ∷ ks) h = absurd h

@@ -50,7 +50,7 @@ use Rattle.tt_sum.proofs.Joining.{first_claim-push}
 use Rattle.tt_sum.proofs.Looked.{keeps_known}
 use Rattle.tt_sum.proofs.Owners.{entered_none, entered_more, group_placed, all_unclaimed, claimed_twice, claimed_before}
 
--- ---- one claim more of a stream
+-- -- another claim of a stream
 
 reads_more : (sizes : Sizes) (s : Stream) (ks : List GroupClaim) (mid after : Stream) (k : GroupClaim) → ReadsClaims sizes s ks mid → group_at sizes mid ≡ Ok (Some k, after) → ReadsClaims sizes s (ks ++ k ∷ []) after
 reads_more sizes s [] mid after k reads e = (after, ap (group_at sizes) reads ∙ e, refl)
@@ -81,10 +81,10 @@ underway_start p before now a r known says cut start sizes = record {
   total = refl;
 }
 
--- ---- one claim more
+-- -- another claim
 
 module _ (p : Problem) (is : IsInstance p) (before : Option (List ℕ)) (a : State) (r : Reader) (now : Option (List ℕ)) (b : State) (number sum : ℕ) (u : Underway p before a r now b number sum) where
-  -- the claim that was read is one on the problem
+  -- the claim that was read is a claim on the problem
   pub claim_is : (k : GroupClaim) → IsClaimAt r.sizes k → IsClaim p k
   claim_is k claim = claim p (subst (AreSizes p) (sym u.sizes) (are_sizes_of p))
 
@@ -177,7 +177,7 @@ module _ (p : Problem) (is : IsInstance p) (before : Option (List ℕ)) (a : Sta
       table = table_after;
     }
 
-    -- a fault after the claims that were read
+    -- the stream of the file, for a fault after the claims that were read
     abbrev s : Stream
     s = stream_at fresh before
 
@@ -235,7 +235,7 @@ read_is (group_text.Text t) e = ap group_text.Text (text_read t e)
     text_read (text.TooManyNodes at) h = absurd cc
     text_read text.OutOfMemory h = absurd cc
 
--- a fault of the text becomes a failed read, being out of memory, or a fault of the file
+-- a fault of the text is reported as a failed read, as being out of memory, or as a fault of the file
 told_cases : (P : SumFault → Type 0) (n : ℕ) (f : GroupTextFault) → (is_failed_read f ≡ true → P (read_failed_at n)) → P fault.OutOfMemory → (is_silent f ≡ false → P (fault.Groups n (groups.Text f))) → P (told_text n f)
 told_cases P n f read memory other = on (is_failed_read f) refl (is_silent f) refl
   where
@@ -250,11 +250,11 @@ told_memory n f = told_cases OutOfMemoryIsOneFault n f (λ e. (λ x. cc, λ x. c
 pub told_number : (n : ℕ) (f : GroupTextFault) → IsNumbered n (told_text n f)
 told_number n f = told_cases (IsNumbered n) n f (λ e. refl) tt (λ e. refl)
 
--- only a failed read becomes one
+-- only a failed read is reported as one
 pub told_read : (n : ℕ) (f : GroupTextFault) → told_text n f ≡ read_failed_at n → f ≡ group_text.Text read_failed
 told_read n f = told_cases (λ x. x ≡ read_failed_at n → f ≡ group_text.Text read_failed) n f (λ e h. read_is f e) (λ h. absurd cc) (λ e h. absurd cc)
 
--- and each is
+-- each failed read is reported as one
 pub told_unread : (n : ℕ) (f : GroupTextFault) → (told_text n f ≡ read_failed_at n → ⊥) → is_failed_read f ≡ false
 told_unread n f other = on (is_failed_read f) refl
   where
@@ -279,12 +279,12 @@ header_fault p parts bytes before now e kind n f says =
     told_added p parts bytes kind n f
     (λ l. inl (subst (λ (z : Option (List ℕ)). header_at (stream_at fresh z) ≡ Err f) e (loud (is_silent f) (header_at (stream_at fresh before) ≡ Err f) (says (ap is_some e)) l)))
 
--- a failed read breaks the header off
+-- a failed read within the header
 pub header_cut : (p : Problem) (before now : Option (List ℕ)) (f : GroupTextFault) → f ≡ group_text.Text read_failed → StaysKnown before now → HeaderAgreesWhenCut before (Err f) now → (bytes : List ℕ) → before ≡ Some bytes → HoldsOfGiven bytes now (AreGroupsCutOff p)
 header_cut p before now f is known cut =
     of_given (AreGroupsCutOff p) before now known (λ k. let h = cut k (ap is_failed_read is) in (h.0, inl (h.1 ∙ ap (λ (z : GroupTextFault). Err z) is)))
 
--- the claims that follow fail
+-- reading the next claim fails
 module _ (p : Problem) (is : IsInstance p) (before : Option (List ℕ)) (a : State) (r : Reader) (now : Option (List ℕ)) (b : State) (number sum : ℕ) (u : Underway p before a r now b number sum)
     (after : Reader) (later : Option (List ℕ)) (t : TextFault) where
   pub text_fault : (parts : List Part) (old : State) → IsTableOf old parts → a ≡ begun old → (is_some now ≡ true → Says r (stream_at r.fed now) (Err t) (stream_at after.fed later)) → (bytes : List ℕ) → before ≡ Some bytes
@@ -316,7 +316,7 @@ module _ (p : Problem) (is : IsInstance p) (before : Option (List ℕ)) (a : Sta
         }),
       )) bytes e
 
--- the bound is reached, or it is not
+-- the two cases: the total reaches the bound, or not
 pub reached_ok : (result : Result Bound SumFault) (file sum bound : ℕ) (P : Bound → Type 0) → result ≡ cond (nat_lt sum bound) (Err (fault.Groups file groups.TooCheap)) (Ok (AtLeast bound)) → (bound ≤ sum → P (AtLeast bound)) → IfOk result P
 reached_ok result file sum bound P e h = on (nat_lt sum bound) refl e
   where
@@ -334,7 +334,7 @@ reached_err result file sum bound P e h = on (nat_lt sum bound) refl e
 abbrev failed : SumFault → Result Bound SumFault
 failed e = Err e
 
--- a fault of the text that becomes a failed read is one
+-- a fault of the text that is reported as a failed read is a failed read
 pub told_failed : (result : SumFault) (file n : ℕ) (f : GroupTextFault) → result ≡ told_text file f → file ≡ n → failed result ≡ failed (read_failed_at n) → f ≡ group_text.Text read_failed
 told_failed result file n f told same e =
     let is : result ≡ read_failed_at n = cc in

@@ -1,4 +1,4 @@
--- Files that have been added, and one more.
+-- Files that have been added, and another file.
 use Rattle.std.specs.Prelude.{◌≡◌, ℕ, ◌+◌, Bool, true, List, [], ◌∷◌, ◌++◌, Option, Some, All}
 use Rattle.std.specs.List.{list_all, AllZip}
 use Rattle.tt_instance.specs.Problem.{Problem}
@@ -11,16 +11,16 @@ use Rattle.tt_peek.specs.Fronts.{is_groups}
 use Rattle.tt_sum.specs.Sums.{are_apart, AreRight, TreePart, GroupsPart, Part, TreeProof, GroupsFile, bound_of, claims_of, AreApart, sum_of}
 use Rattle.tt_sum.specs.Tables.{State, IsTableOf}
 
--- the bytes, where they are known, are a file of groups, or are none
+-- If the bytes are known, they are a file of groups exactly if `kind` is true.
 abbrev pub IsOfKind : Bool → Option (List ℕ) → Type 0
 IsOfKind kind remaining = (bytes : List ℕ) → remaining ≡ Some bytes → is_groups bytes ≡ kind
 
--- the part is what the bytes spell, where they are known, and derives its bound
+-- If the bytes are known, they spell the part, and it derives its bound.
 pub record IsTreeOf (p : Problem) (remaining : Option (List ℕ)) (k : TreePart) : Type 0 where
   pub spelled : (bytes : List ℕ) → remaining ≡ Some bytes → SpellsProof p bytes k.version k.bound k.tree
   pub derives : Derives p k.bound [] k.tree
 
--- the part is what the bytes, which begin with `CTTG`, spell, where they are known, and its claims are right
+-- If the bytes are known, they begin with `CTTG` and spell the part, and its claims are right.
 pub record AreGroupsOf (p : Problem) (remaining : Option (List ℕ)) (k : GroupsPart) : Type 0 where
   pub kind : IsOfKind true remaining
   pub spelled : (bytes : List ℕ) → remaining ≡ Some bytes → SpellsGroups p bytes k.bound k.claims
@@ -31,7 +31,7 @@ abbrev pub IsPartOf : Problem → Option (List ℕ) → Part → Type 0
 IsPartOf p remaining (TreeProof k) = IsTreeOf p remaining k
 IsPartOf p remaining (GroupsFile k) = AreGroupsOf p remaining k
 
--- A part with this bound claims nothing that these do, and the table is theirs and its.
+-- A part with this bound claims no target that these parts claim, and the table is the one of these parts and that part.
 pub record Joins (p : Problem) (remaining : Option (List ℕ)) (parts : List Part) (a : State) (b : Bound) : Type 0 where
   pub part : Part
   pub is : IsPartOf p remaining part
@@ -39,20 +39,20 @@ pub record Joins (p : Problem) (remaining : Option (List ℕ)) (parts : List Par
   pub apart : list_all (λ k. are_apart (claims_of k) (claims_of part)) parts ≡ true
   pub table : IsTableOf a (parts ++ part ∷ [])
 
--- the sum is of these parts
+-- The sum is the one of these parts.
 pub record IsSumOf (s : Sum) (parts : List Part) : Type 0 where
   pub table : IsTableOf s.table parts
   pub apart : AreApart parts
   pub total : s.total ≡ sum_of parts
 
--- the number of the file that is due, from 1 on
+-- The number of the next file, counted from 1.
 abbrev pub due : Sum → ℕ
 due s = s.table.proof + 1
 
--- the sum is of these parts and one more
+-- The sum is the one of these parts and another part.
 abbrev pub Adds : Problem → Option (List ℕ) → List Part → Sum → Type 0
 Adds p remaining parts s = (part : Part) × IsPartOf p remaining part × IsSumOf s (parts ++ part ∷ [])
 
--- what each source gives, where all are known
+-- The bytes that each source gives, if all are known.
 abbrev pub Give : {R : Type 0} → (R → Option (List ℕ)) → List R → List (List ℕ) → Type 0
 Give remaining sources proofs = AllZip (λ r bytes. remaining r ≡ Some bytes) sources proofs

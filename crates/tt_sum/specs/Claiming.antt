@@ -1,5 +1,5 @@
--- Only proofs rest on this file: nobody has to believe it.
--- Claims of one file that are taken one after the other.
+-- Not part of the trusted statement: only proofs use this file.
+-- Claims of one file that are taken in turn.
 use Rattle.std.specs.Prelude.{◌≡◌, ℕ, ◌+◌, ◌-◌, ◌<◌, ◌≤◌, ◌^◌, min, true, false, is_some, List, [], Option, Some, None, length, map, sum_by, All, Ok, ⊤}
 use Rattle.tt_text.specs.CutShort.{cut_at, MayFail}
 use Rattle.tt_text.specs.Feeds.{Stream, stream_at, fresh, room_of}
@@ -23,7 +23,7 @@ use Rattle.tt_sum.specs.GroupsFaults.{Pass, IsRefusal}
 use Rattle.tt_sum.specs.Sums.{targets_of_claims, Part}
 use Rattle.tt_sum.specs.Tables.{State, owner, begun, group_places, first_owner, Marks, IsTableOf}
 
--- what the refusal of the claim with the number i says, with the table before it
+-- The meaning of a refusal of the claim with number i, with the table before it.
 abbrev pub TellsOfClaim : Problem → State → ℕ → GroupClaim → GroupsFault → Type 0
 TellsOfClaim p a i k (groups.Text f) = ⊥
 TellsOfClaim p a i k (groups.ClaimedTwice j) = (j ≡ i) × (first_owner a (group_places k.group) ≡ Some a.proof)
@@ -36,13 +36,13 @@ TellsClaim p a i k (fault.Groups n f) = (n ≡ a.proof) × TellsOfClaim p a i k 
 TellsClaim p a i k fault.OutOfMemory = ⊤
 TellsClaim p a i k _ = ⊥
 
--- the stream is a header with this bound and these claims, and this follows
+-- The stream is a header with this bound and these claims, and then `rest`.
 pub record ReadsTo (p : Problem) (s : Stream) (b : ℕ) (claims : List GroupClaim) (rest : Stream) : Type 0 where
   pub headed : Stream
   pub header : header_at s ≡ Ok (b, headed)
   pub reads : ReadsClaims (sizes_of p) headed claims rest
 
--- The claims pass, and the table has them all, after a file has begun in the table a.
+-- The claims pass, and the table has them all, after a file has begun in table a.
 pub record Entered (p : Problem) (a : State) (claims : List GroupClaim) (b : State) : Type 0 where
   pub each : All (IsClaim p) claims
   pub marks : Marks a (map place (targets_of_claims claims)) b
@@ -50,7 +50,7 @@ pub record Entered (p : Problem) (a : State) (claims : List GroupClaim) (b : Sta
   pub passed_alone : Pass p [] claims
   pub passed : (before : State) (parts : List Part) → IsTableOf before parts → a ≡ begun before → Pass p parts claims
 
--- A reader has come to this place of a source, and the table to this state.
+-- A reader has reached this place of a source, and the table this state.
 pub record Underway (p : Problem) (before : Option (List ℕ)) (a : State) (r : Reader) (now : Option (List ℕ)) (b : State) (number sum : ℕ) : Type 0 where
   pub claims : List GroupClaim
   pub known : StaysKnown before now

@@ -1,4 +1,4 @@
--- What the refusals of files that are added up say.
+-- The meaning of the refusals of files that are added up.
 use Rattle.std.specs.Prelude.{◌≡◌, ℕ, ◌+◌, ◌-◌, ◌≤◌, ◌^◌, true, false, if◌then◌else◌, List, ◌∷◌, ◌++◌, length, sum_by, slice_get, IsSomeAnd, ⊤, ◌⊎◌}
 use Rattle.std.specs.List.{list_all, AllZip}
 use Rattle.tt_text.specs.declared.feed.FeedFault.TheVariants as feed
@@ -24,10 +24,10 @@ use Rattle.tt_sum.specs.GroupsFaults.{IsOfFile, IsLeftOpen, TellsGroups}
 use Rattle.tt_sum.specs.Sums.{is_among, are_apart, TreePart, Part, IsTreePart, IsPart, bound_of, claims_of, AreApart}
 use Rattle.tt_sum.specs.Tables.{claims_at}
 
--- ---- one more file, after those of these parts
+-- -- another file, after those of these parts
 
--- The proof spells a tree that derives its bound, and the node at i is its first that claims a target which one of the parts claims: the one at e,
--- counted from 1.
+-- The proof spells a tree that derives its bound, and the node at i is its first that claims a target which one of the parts claims: the part
+-- at e, counted from 1.
 pub record IsClaimedElsewhere (p : Problem) (parts : List Part) (bytes : List ℕ) (i e : ℕ) : Type 0 where
   pub part : TreePart
   pub is : IsTreePart p bytes part
@@ -42,7 +42,7 @@ pub record IsClaimedElsewhere (p : Problem) (parts : List Part) (bytes : List �
   pub counted : 1 ≤ e
   pub earlier : IsSomeAnd (slice_get parts (e - 1)) (λ k. is_among (claims_of k) target ≡ true)
 
--- the points of a bound, 0 where it says that there is no timetable
+-- The points of a bound, 0 if it says that no timetable exists.
 abbrev pub points : Bound → ℕ
 points (AtLeast b) = b
 points Nothing = 0
@@ -50,11 +50,11 @@ points Nothing = 0
 abbrev pub all_points : List Part → ℕ
 all_points parts = sum_by (λ k. points (bound_of k)) parts
 
--- The file spells what is right, and with the parts' the bounds are 2^64 or more.
+-- The file spells a part that is right, and its bound and those of the other parts add up to 2^64 or more.
 abbrev pub IsTooLarge : Problem → List Part → List ℕ → Type 0
 IsTooLarge p parts bytes = (part : Part) × IsPart p bytes part × (2 ^ 64 ≤ all_points parts + points (bound_of part))
 
--- A read failed, or the text is no file of groups; it has this fault as a proof.
+-- A read failed, or the text isn't a file of groups; as a proof it has this fault.
 pub record IsTreeFault (p : Problem) (bytes : List ℕ) (f : CheckFault) : Type 0 where
   pub kind : (f ≡ check.Text (text.Feed feed.Read)) ⊎ (is_groups bytes ≡ false)
   pub fault : IsProofFault p (stream_of bytes) f
@@ -64,7 +64,7 @@ pub record IsGroupsFault (p : Problem) (parts : List Part) (bytes : List ℕ) (f
   pub kind : is_groups bytes ≡ true
   pub fault : TellsGroups p parts (stream_of bytes) f
 
--- what a fault says of one more file
+-- The meaning of a fault of another file.
 abbrev pub TellsAdded : Problem → List Part → List ℕ → SumFault → Type 0
 TellsAdded p parts bytes (Proof n f) = IsTreeFault p bytes f
 TellsAdded p parts bytes (Groups n f) = IsGroupsFault p parts bytes f
@@ -72,7 +72,7 @@ TellsAdded p parts bytes (ClaimedElsewhere n i e) = IsClaimedElsewhere p parts b
 TellsAdded p parts bytes (TooLarge n) = IsTooLarge p parts bytes
 TellsAdded p parts bytes OutOfMemory = ⊤
 
--- the fault tells the number of the file
+-- The fault reports the number of the file.
 abbrev pub IsNumbered : ℕ → SumFault → Type 0
 IsNumbered n (Proof m f) = m ≡ n
 IsNumbered n (Groups m f) = m ≡ n
@@ -82,7 +82,7 @@ IsNumbered n OutOfMemory = ⊤
 
 -- ---- a list of files
 
--- This file does not join those before it.
+-- This file can't be added to those before it.
 pub record IsRefused (p : Problem) (files : List (List ℕ)) (e : SumFault) : Type 0 where
   pub before : List (List ℕ)
   pub bytes : List ℕ
@@ -94,7 +94,7 @@ pub record IsRefused (p : Problem) (files : List (List ℕ)) (e : SumFault) : Ty
   pub numbered : IsNumbered (length parts + 1) e
   pub tells : TellsAdded p parts bytes e
 
--- a fault is that of the first file that does not join those before it
+-- The fault is that of the first file that can't be added to those before it.
 abbrev pub IsSumFault : Problem → List (List ℕ) → SumFault → Type 0
 IsSumFault p files OutOfMemory = ⊤
 IsSumFault p files e = IsRefused p files e
@@ -105,21 +105,21 @@ abbrev pub told_proof : ℕ → CheckFault → SumFault
 told_proof n check.OutOfMemory = OutOfMemory
 told_proof n f = Proof n f
 
--- a read of this file failed, whichever kind it has
+-- A read of this file failed, of whichever kind the file is.
 abbrev pub read_failed_at : ℕ → SumFault
 read_failed_at n = Proof n (check.Text (text.Feed feed.Read))
 
--- the fault of a file of groups that a fault of its text is
+-- The fault of a file of groups for a fault of its text.
 abbrev pub told_text : ℕ → GroupTextFault → SumFault
 told_text n f = if is_failed_read f then read_failed_at n else (if is_silent f then OutOfMemory else Groups n (groups.Text f))
 
--- Being out of memory is a fault of its own.
+-- Being out of memory is a single fault.
 abbrev pub OutOfMemoryIsOneFault : SumFault → Type 0
 OutOfMemoryIsOneFault (Proof n f) = ¬ (f ≡ check.OutOfMemory) × OutOfMemoryIsNoTextFault f
 OutOfMemoryIsOneFault (Groups n f) = IsOfFile f
 OutOfMemoryIsOneFault _ = ⊤
 
--- being out of memory, a failed read, or a group whose claim is left open
+-- The fault is being out of memory, a failed read, or a group whose claim is left open.
 abbrev pub IsSilentSum : SumFault → Type 0
 IsSilentSum (Proof n f) = f ≡ check.Text (text.Feed feed.Read)
 IsSilentSum (Groups n f) = IsLeftOpen f

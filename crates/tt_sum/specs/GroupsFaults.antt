@@ -1,4 +1,4 @@
--- What the refusals of a file of groups say, after files with these parts.
+-- The meaning of the refusals of a file of groups, after files with these parts.
 use Rattle.std.specs.Prelude.{◌≡◌, ℕ, ◌-◌, ◌<◌, ◌≤◌, Bool, true, false, not, ◌&&◌, List, ◌∷◌, ◌++◌, length, sum_by, slice_get, All, IsSomeAnd, Some, None, Ok, Err, ⊤, ◌⊎◌}
 use Rattle.std.specs.List.{list_all}
 use Rattle.tt_text.specs.Feeds.{Stream}
@@ -30,7 +30,7 @@ pub record Pass (p : Problem) (parts : List Part) (claims : List GroupClaim) : T
   pub apart : AreClaimsApart claims
   pub free : list_all (λ k. are_apart (claims_of k) (targets_of_claims claims)) parts ≡ true
 
--- The stream is a header and these claims, each of which passes, and then what P says of the bound, the claims and what follows.
+-- The stream is a header and these claims, each of which passes, and P holds of the bound, the claims and the rest of the stream.
 pub record AfterClaims (p : Problem) (parts : List Part) (s : Stream) (P : ℕ → List GroupClaim → Stream → Type 0) : Type 0 where
   pub bound : ℕ
   pub claims : List GroupClaim
@@ -41,14 +41,14 @@ pub record AfterClaims (p : Problem) (parts : List Part) (s : Stream) (P : ℕ �
   pub passed : Pass p parts claims
   pub is : P bound claims rest
 
--- After claims that pass, the claim with this number follows, from 0 on, and has the property.
+-- After claims that pass, the claim with this number, counted from 0, comes next, and it has the property.
 abbrev pub AtClaim : Problem → List Part → Stream → ℕ → (List GroupClaim → GroupClaim → Type 0) → Type 0
 AtClaim p parts s i P =
     AfterClaims p parts s (λ b claims rest. (length claims ≡ i) × (k : GroupClaim) × (after : Stream) × (group_at (sizes_of p) rest ≡ Ok (Some k, after)) × P claims k)
 
 -- ---- targets that are claimed already
 
--- the target is in none of the claims, and none of the parts claims it
+-- The target is in none of the claims, and none of the parts claims it.
 abbrev pub is_unclaimed : List Part → List GroupClaim → Target → Bool
 is_unclaimed parts claims y = not (is_among (targets_of_claims claims) y) && list_all (λ k. not (is_among (claims_of k) y)) parts
 
@@ -61,13 +61,13 @@ pub record FirstClaimed (parts : List Part) (claims : List GroupClaim) (targets 
   pub unclaimed : list_all (is_unclaimed parts claims) before ≡ true
   pub is : P target
 
--- the part at e, counted from 1, claims the target
+-- The part at e, counted from 1, claims the target.
 abbrev pub IsClaimedBy : List Part → ℕ → Target → Type 0
 IsClaimedBy parts e y = (1 ≤ e) × IsSomeAnd (slice_get parts (e - 1)) (λ k. is_among (claims_of k) y ≡ true)
 
 -- ---- faults
 
--- the tables are wide enough for the claim
+-- The tables are wide enough for the claim.
 pub record HasRoom (p : Problem) (k : GroupClaim) : Type 0 where
   pub width : is_too_wide p k.group k.value ≡ false
   pub states : states_of p k.group ≤ MAX_PLACES
@@ -76,7 +76,7 @@ pub record HasRoom (p : Problem) (k : GroupClaim) : Type 0 where
 abbrev pub IsNoBound : Problem → GroupClaim → Type 0
 IsNoBound p k = (t : List Cell) × IsRelaxedTimetable p k.group t × (group_cost p k.group t < k.value)
 
--- What a refusal of a claim says. `TooManySets` and `TooMuchWork` leave open whether the claim is right.
+-- The meaning of a refusal of a claim. `TooManySets` and `TooMuchWork` leave open whether the claim is right.
 abbrev pub IsRefusal : Problem → GroupClaim → GroupFault → Type 0
 IsRefusal p k group.TooWide = is_too_wide p k.group k.value ≡ true
 IsRefusal p k group.TooManyStates = (is_too_wide p k.group k.value ≡ false) × (MAX_PLACES < states_of p k.group)
@@ -85,8 +85,8 @@ IsRefusal p k group.TooMuchWork = MakesTables p k.group k.value × (sets_of p k.
 IsRefusal p k group.TooCheap = HasRoom p k × IsNoBound p k
 IsRefusal p k group.OutOfMemory = ⊥
 
--- What a fault says of a text, of which a feed gives this stream. It is the first: of a claim first its text, then the first of its targets that is
--- claimed already, then the limits of its check in their order; and last that all values together are below the bound.
+-- The meaning of a fault of a text whose stream is s. It is the first fault: for each claim first its text, then the first of its targets that
+-- is claimed already, then the limits of its check in their order; and last that all values together are below the bound.
 abbrev pub TellsGroups : Problem → List Part → Stream → GroupsFault → Type 0
 TellsGroups p parts s (Text f) =
     (is_silent f ≡ false)
@@ -99,7 +99,7 @@ TellsGroups p parts s (Group i f) =
 TellsGroups p parts s TooCheap =
     AfterClaims p parts s (λ b claims rest. (after : Stream) × (group_at (sizes_of p) rest ≡ Ok (None, after)) × (sum_by (λ k. k.value) claims < b))
 
--- the fault is the file's: neither being out of memory nor a failed read
+-- The fault belongs to the file: it is neither being out of memory nor a failed read.
 abbrev pub IsOfFile : GroupsFault → Type 0
 IsOfFile (Text f) = is_silent f ≡ false
 IsOfFile (Group i f) = ¬ (f ≡ group.OutOfMemory)

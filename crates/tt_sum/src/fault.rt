@@ -1,4 +1,4 @@
-//! Why files are not added up.
+//! Why files can't be added up.
 
 ghost use Rattle.std.specs.Prelude.{◌≡◌, false};
 ghost use Rattle.tt_groups_read.specs.Faults.{is_failed_read, is_silent};
@@ -13,16 +13,16 @@ use tt_proof_check::CheckFault;
 use tt_proof_read::TextFault;
 use tt_text::FeedFault;
 
-/// Why files are not added up. Files are counted from 1, and nodes and groups from 0 in the order of the file.
+/// Why files can't be added up. Files are counted from 1, and nodes and groups from 0 in the order of the file.
 #[derive(Clone, Copy, Debug, PartialEq, Eq)]
 pub enum SumFault {
-    /// This proof has this fault, or a read of this file failed, whichever kind it has; being out of memory is `OutOfMemory`.
+    /// This proof has this fault, or a read of this file failed, of whichever kind the file is; being out of memory is `OutOfMemory`.
     Proof(u64, CheckFault),
     /// This file of groups has this fault.
     Groups(u64, GroupsFault),
     /// This node of the proof is its first that claims a target which an earlier file claims.
     ClaimedElsewhere { proof: u64, node: u32, earlier: u64 },
-    /// With this file the bounds are together 2^64 or more.
+    /// With this file the bounds add up to 2^64 or more.
     TooLarge(u64),
     OutOfMemory,
 }
@@ -59,7 +59,7 @@ impl fmt::Display for SumFault {
 
 impl Error for SumFault {}
 
-/// The fault of the proof of this number.
+/// Returns the fault of the proof with this number.
 pub fn fault_of_proof(number: u64, fault: CheckFault) -> SumFault
     ensures { result ≡ told_proof number fault }
 {
@@ -69,7 +69,7 @@ pub fn fault_of_proof(number: u64, fault: CheckFault) -> SumFault
     }
 }
 
-/// A read of the file of this number failed.
+/// Returns the fault of a failed read of the file with this number.
 pub fn read_failed(number: u64) -> SumFault
     ensures { result ≡ read_failed_at number }
 {
@@ -91,7 +91,7 @@ fn is_out_of_memory(fault: &GroupTextFault) -> bool
     matches!(fault, GroupTextFault::Text(TextFault::OutOfMemory))
 }
 
-/// The fault of the text of a file of groups of this number.
+/// Returns the fault of the text of the file of groups with this number.
 pub fn fault_of_text(number: u64, fault: GroupTextFault) -> SumFault
     ensures { result ≡ told_text number fault }
 {

@@ -1,4 +1,4 @@
-//! One more file of groups, whose claims are entered into the table of owners.
+//! Adding a file of groups, whose claims are added to the table of owners.
 
 ghost use Rattle.std.specs.Prelude.{◌≡◌, ◌<◌, ◌==◌, ℕ, List, Some, None, Ok, Err, true, IfOk, IfErr, OnOk, if◌then◌else◌, nat_lt};
 ghost use Rattle.std.specs.Io.KnownBytes.{Keeps};
@@ -27,7 +27,7 @@ use tt_instance::Instance;
 use tt_leaf_rules::Bound;
 use tt_text::Source;
 
-/// The fault of a group, one of whose targets this file claims.
+/// Returns the fault of a group that has a target which this file or an earlier one claims.
 fn claimed_before(file: u64, group: u32, owner: u64) -> GroupsFault
     ensures { result ≡ (if owner == file then groups.ClaimedTwice group else groups.ClaimedElsewhere group owner) }
 {
@@ -41,7 +41,7 @@ fn claimed_before(file: u64, group: u32, owner: u64) -> GroupsFault
     }
 }
 
-/// Takes one claim of the newest file, the one with this number: enters its targets and checks it.
+/// Takes one claim of the newest file, the claim with this number: adds its targets to the table and checks it.
 fn take_claim(
     alloc: Global,
     instance: &Instance<'_>,
@@ -69,7 +69,7 @@ fn take_claim(
     }
 }
 
-/// The bound, where the values of all groups reach it.
+/// Returns the bound if the values of all groups reach it.
 fn reached(file: u64, bound: u64, total: u64) -> Result<Bound, SumFault>
     ensures { result ≡ (if nat_lt total bound then Err (Groups file groups.TooCheap) else Ok (AtLeast bound)) }
 {
@@ -80,8 +80,8 @@ fn reached(file: u64, bound: u64, total: u64) -> Result<Bound, SumFault>
     }
 }
 
-/// Checks a file of groups, as the file that has begun, and answers its bound where it claims no target that an earlier file claims. It keeps
-/// one group at a time, and stops at the first fault: of a group first that of its text, then the first of its targets that is claimed already,
+/// Checks a file of groups, as the file that has begun, and returns its bound if it claims no target that an earlier file claims. It stores
+/// one group at a time, and stops at the first fault: for each group first that of its text, then the first of its targets that is claimed already,
 /// then that of its check; and last that all values together are below the bound.
 pub fn take_groups<R: Source>(
     alloc: Global,
@@ -102,7 +102,7 @@ pub fn take_groups<R: Source>(
     ensures up_to_failed_read { result ≡ Err (read_failed_at table.old.proof) → (bytes : List ℕ) → R.remaining source.old ≡ Some bytes →
         HoldsOfGiven bytes (R.remaining source.new) (AreGroupsCutOff instance.now) }
 {
-    // What is true of every instance: its numbers are small enough to be read.
+    // In every instance, the numbers are small enough to be read.
     prove!(instance.days() > 0);
     let file = table.proof();
     let mut reader = match GroupReader::new(alloc, instance, source) {

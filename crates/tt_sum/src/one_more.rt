@@ -1,4 +1,4 @@
-//! One more file, whose claims are entered into the table of owners.
+//! Adding a file, whose claims are added to the table of owners.
 
 ghost use Rattle.std.specs.Prelude.{◌≡◌, ◌+◌, ◌<◌, ℕ, List, Some, Err, true, false, IfOk, IfErr, OnOk};
 ghost use Rattle.tt_peek.specs.Fronts.{is_groups};
@@ -19,7 +19,7 @@ use tt_peek::{Peek, PeekFault};
 use tt_proof_check::hear_proof;
 use tt_text::Source;
 
-/// Checks a tree proof, as the file that has begun, and answers its bound where it claims no target that an earlier file claims.
+/// Checks a tree proof, as the file that has begun, and returns its bound if it claims no target that an earlier file claims.
 fn take_proof<R: Source>(
     alloc: Global,
     instance: &Instance<'_>,
@@ -39,7 +39,7 @@ fn take_proof<R: Source>(
     ensures up_to_failed_read { result ≡ Err (read_failed_at table.old.proof) → (bytes : List ℕ) → R.remaining source.old ≡ Some bytes →
         IsJudgedUpToFailedRead instance.now bytes (R.remaining source.new) }
 {
-    // What is true of every instance: its numbers are small enough to be read.
+    // In every instance, the numbers are small enough to be read.
     prove!(instance.days() > 0);
     let proof = table.proof();
     let bound = match hear_proof(alloc, instance, table, source) {
@@ -56,7 +56,7 @@ fn take_proof<R: Source>(
     Ok(bound)
 }
 
-/// Checks one more file, and answers its bound where it claims no target that an earlier file claims.
+/// Checks another file, and returns its bound if it claims no target that an earlier file claims.
 pub fn take_file<R: Peek>(
     alloc: Global,
     instance: &Instance<'_>,

@@ -15,32 +15,32 @@ use tt_instance::Instance;
 use tt_leaf_rules::Bound;
 use tt_peek::Peek;
 
-/// The sum of the bounds of files that claim different targets, tree proofs and files of groups; `Nothing` where one of them says that there is
-/// no timetable, and 0 where there is no file. The files are read one after the other.
+/// Returns the sum of the bounds of files that claim distinct targets, tree proofs and files of groups; `Nothing` if one of them says that
+/// no timetable exists, and 0 if there is no file. The files are read in turn.
 pub fn sum_proofs<R: Peek>(
     alloc: Global,
     instance: &Instance<'_>,
     sources: &mut [R],
 ) -> Result<Bound, SumFault>
-    // Each file spells what is right, no target is claimed by two, and this is the sum.
+    // Each file spells a part that is right, no target is claimed by two of them, and the result is the sum.
     ensures found { IfOk result (λ s. (files : List (List ℕ)) → Give R.remaining sources.old files → IsSum instance.now files s) }
-    // What has a sum below 2^64 is answered, unless memory or a read fails or a group's claim is left open.
+    // If the files have a sum below 2^64, the result is that sum, unless memory runs out, a read fails or a group's claim is left open.
     ensures only { (files : List (List ℕ)) (s : Bound) → Give R.remaining sources.old files → (h : IsSum instance.now files s) →
         all_points h.parts < 2 ^ 64 → MatchResult result (λ c. c ≡ s) IsSilentSum }
-    // This holds whatever the sources give.
+    // This holds for any bytes that the sources give.
     ensures holds { IfOk result (HoldsOfAll instance.now) }
-    // A refusal names the first file that does not join those before it, and its first fault.
+    // A refusal names the first file that can't be added to those before it, and its first fault.
     ensures fault { IfErr result (λ e. (files : List (List ℕ)) → Give R.remaining sources.old files → IsSumFault instance.now files e) }
-    // A read is said to have failed exactly where one did.
+    // A failed read is reported exactly if a read failed.
     ensures failed { (i : ℕ) (r : R) → result ≡ Err (read_failed_at (i + 1)) → slice_get sources.new i ≡ Some r → R.has_failed r ≡ true }
     ensures unfailed { (i : ℕ) (r q : R) → ¬ (result ≡ Err (read_failed_at (i + 1))) → slice_get sources.old i ≡ Some r → slice_get sources.new i ≡ Some q →
         R.has_failed q ≡ R.has_failed r }
     ensures memory { IfErr result OutOfMemoryIsOneFault }
-    // Where one failed, all that the bytes before it say has been judged.
+    // If a read failed, everything in the bytes before it has been checked.
     ensures up_to_failed_read { (i : ℕ) (r q : R) (bytes : List ℕ) → result ≡ Err (read_failed_at (i + 1)) → slice_get sources.old i ≡ Some r → slice_get sources.new i ≡ Some q →
         R.remaining r ≡ Some bytes → IsFileJudgedUpToFailedRead instance.now bytes (R.remaining q) }
 {
-    // What is true of every instance: its numbers are small enough to be read.
+    // In every instance, the numbers are small enough to be read.
     prove!(instance.days() > 0);
     let mut sum = Sum::new(alloc)?;
     for source in sources {

@@ -1,4 +1,4 @@
-//! A sum of files that takes one file after the other.
+//! A sum of files that are added in turn.
 
 ghost use Rattle.std.specs.Prelude.{◌≡◌, ◌+◌, ◌<◌, ◌≤◌, ◌^◌, ℕ, List, [], ◌++◌, ◌∷◌, Some, Err, true, IfOk, IfErr, MatchOption};
 ghost use Rattle.tt_sum.specs.Added.{IsSumOf, Adds, due};
@@ -14,7 +14,7 @@ use tt_instance::Instance;
 use tt_leaf_rules::Bound;
 use tt_peek::Peek;
 
-/// The sum of two bounds, where it is below 2^64.
+/// Returns the sum of two bounds if it is below 2^64.
 fn both(a: Bound, b: Bound) -> Option<Bound>
     ensures { MatchOption result (2 ^ 64 ≤ points a + points b) (λ c. c ≡ both_bounds a b) }
 {
@@ -24,7 +24,7 @@ fn both(a: Bound, b: Bound) -> Option<Bound>
     }
 }
 
-/// The sum of the bounds of files that claim different targets.
+/// The sum of the bounds of files that claim distinct targets.
 #[derive(Drop)]
 pub struct Sum {
     table: Table,
@@ -32,7 +32,7 @@ pub struct Sum {
 }
 
 impl Sum {
-    /// The sum of no files.
+    /// Creates the sum of no files.
     pub fn new(alloc: Global) -> Result<Sum, AllocError>
         ensures { IfOk result (λ s. IsSumOf s []) }
     {
@@ -42,14 +42,14 @@ impl Sum {
         })
     }
 
-    /// The bound that the files so far show together.
+    /// Returns the bound that the files added so far prove together.
     pub fn bound(&self) -> Bound
         ensures { (parts : List Part) → IsSumOf self.now parts → result ≡ sum_of parts }
     {
         self.total
     }
 
-    /// Checks one more file, and adds its bound where it claims no target that an earlier file claims.
+    /// Checks another file, and adds its bound if it claims no target that an earlier file claims.
     pub fn add<R: Peek>(
         mut self,
         alloc: Global,
@@ -57,25 +57,25 @@ impl Sum {
         source: &mut R,
     ) -> Result<Sum, SumFault>
         requires room { due self < 2 ^ 64 }
-        // The source's bytes spell what is right and apart from the others, and its bound is added.
+        // The source's bytes spell a part that is right and apart from the others, and its bound is added.
         ensures added { IfOk result (λ s. (parts : List Part) → IsSumOf self parts → Adds instance.now (R.remaining source.old) parts s) }
         ensures next { IfOk result (λ s. due s ≡ due self + 1) }
-        // What spells that is added, if the sum stays below 2^64, unless memory or a read fails or a group's claim is left open.
+        // If the bytes spell such a part, it is added if the sum stays below 2^64, unless memory runs out, a read fails or a group's claim is left open.
         ensures only { (parts : List Part) (bytes : List ℕ) (part : Part) → IsSumOf self parts → R.remaining source.old ≡ Some bytes →
             IsPart instance.now bytes part → AreApart (parts ++ part ∷ []) → all_points (parts ++ part ∷ []) < 2 ^ 64 → IfErr result IsSilentSum }
-        // A refusal has the first fault.
+        // A refusal reports the first fault.
         ensures fault { IfErr result (λ e. (parts : List Part) (bytes : List ℕ) → IsSumOf self parts → R.remaining source.old ≡ Some bytes →
             TellsAdded instance.now parts bytes e) }
         ensures numbered { IfErr result (IsNumbered (due self)) }
-        // A read is said to have failed exactly where one did.
+        // A failed read is reported exactly if a read failed.
         ensures failed { result ≡ Err (read_failed_at (due self)) → R.has_failed source.new ≡ true }
         ensures unfailed { ¬ (result ≡ Err (read_failed_at (due self))) → R.has_failed source.new ≡ R.has_failed source.old }
         ensures memory { IfErr result OutOfMemoryIsOneFault }
-        // Where one failed, all that the bytes before it say has been judged.
+        // If a read failed, everything in the bytes before it has been checked.
         ensures up_to_failed_read { result ≡ Err (read_failed_at (due self)) → (bytes : List ℕ) → R.remaining source.old ≡ Some bytes →
             IsFileJudgedUpToFailedRead instance.now bytes (R.remaining source.new) }
     {
-        // What is true of every instance: its numbers are small enough to be read.
+        // In every instance, the numbers are small enough to be read.
         prove!(instance.days() > 0);
         let bound = take_file(alloc, instance, &mut self.table, source)?;
         match both(self.total, bound) {

@@ -1,4 +1,4 @@
-//! Which file has claimed each target.
+//! The files that claimed each target.
 
 ghost use Rattle.std.specs.Prelude.{◌≡◌, ℕ, ◌+◌, ◌*◌, ◌<◌, ◌∷◌, [], map, flat_map, Some, IfOk};
 ghost use Rattle.std.specs.Option.{option_or};
@@ -13,7 +13,7 @@ use tt_leaf_rules::{Claim, Leaf};
 use tt_proof_check::Listener;
 use tt_proof_read::Node;
 
-/// The targets' places are below this: four for each number of a course or a curriculum.
+/// The places of targets are below this limit: four for each number of a course or a curriculum.
 pub const PLACES: usize = 32_768;
 
 /// The place of the working days of course 0.
@@ -22,14 +22,14 @@ const WORKING_DAYS: usize = 1;
 /// The place of the compactness of curriculum 0.
 const COMPACTNESS: usize = 2;
 
-/// A node that claims what an earlier file claims, and the number of that file, from 1 on.
+/// A node that claims a target which an earlier file claims, and the number of that file, counted from 1.
 #[derive(Clone, Copy, Debug, PartialEq, Eq)]
 pub struct Clash {
     pub node: u32,
     pub earlier: u64,
 }
 
-/// For each target the number of the file that claimed it first, from 1 on, and 0 for none.
+/// For each target, the number of the file that claimed it first, counted from 1, and 0 for none.
 #[derive(Drop)]
 pub struct Table {
     owners: Vec<u64>,
@@ -50,7 +50,7 @@ impl Model for Table {
 }
 
 impl Table {
-    /// No target is claimed, and no file has begun.
+    /// Creates a table with no target claimed and no file begun.
     pub fn new(alloc: Global) -> Result<Table, AllocError>
         ensures { IfOk result (λ t. IsTableOf t []) }
     {
@@ -61,21 +61,21 @@ impl Table {
         })
     }
 
-    /// The first claim of the newest proof of what another file has claimed.
+    /// Returns the first claim of the newest proof whose target another file has claimed.
     pub fn clash(&self) -> Option<Clash>
         ensures { result ≡ self.now.clash }
     {
         self.clash
     }
 
-    /// The number of the newest file, from 1 on, and 0 before the first.
+    /// Returns the number of the newest file, counted from 1, and 0 before the first.
     pub fn proof(&self) -> u64
         ensures { result ≡ self.now.proof }
     {
         self.proof
     }
 
-    /// The next file begins.
+    /// Begins the next file.
     pub fn begin(&mut self)
         requires { self.old.proof < u64.MAX }
         ensures { self.new ≡ record self.old { proof = self.old.proof + 1 } }
@@ -159,7 +159,7 @@ impl Table {
         }
     }
 
-    /// The owner of the first target of these curricula or courses that has one.
+    /// Returns the owner of the first target of these curricula or courses that has an owner.
     fn first_owner(&self, numbers: &[u32], kind: usize) -> Option<u64>
         requires { kind < 4 }
         ensures { result ≡ first_owner self.now (map (λ n. 4 * n + kind) numbers.now) }
@@ -173,7 +173,7 @@ impl Table {
         None
     }
 
-    /// The file that claims the first target of the group that is claimed: of its curricula, and then of its courses.
+    /// Returns the file that claims the first claimed target of the group: first of its curricula, and then of its courses.
     pub fn owner_of_group(&self, group: &Group) -> Option<u64>
         ensures { result ≡ first_owner self.now (group_places group.now) }
     {
@@ -200,7 +200,7 @@ impl Table {
         }
     }
 
-    /// The newest file claims the targets of the group.
+    /// Claims the targets of the group for the newest file.
     pub fn mark_group(&mut self, group: &Group)
         ensures { Marks self.old (group_places group.now) self.new }
     {
@@ -213,7 +213,7 @@ impl Listener for Table {
     ghost use Rattle.std.specs.Prelude.{◌<◌};
     ghost use Rattle.tt_sum.specs.Tables.{Claims, at_node, places_in};
 
-    // Before the first file begins there is nothing to hear.
+    // Before the first file begins, there are no nodes to visit.
     ghost hears = { λ old number node new. 0 < old.proof → Claims old (at_node number (places_in node)) new };
 
     fn hear(&mut self, number: u32, node: &Node) {

@@ -1,4 +1,4 @@
--- Each part of the reader of a solution, beside itself over other tokens.
+-- Each part of the reader of a solution, compared with itself over other tokens.
 use Rattle.std.proofs.Common.{◌≡◌, ◌≢◌, ℕ, zero, suc, ◌-◌, List, [], ◌∷◌, ◌++◌, length, Option, Some, None, Result, Ok, Err, inr, refl, sym, ◌∙◌}
 use Rattle.std.specs.Prelude.{Any}
 use Rattle.tt_text.specs.Tokens.{Placed, tokens_of}
@@ -55,11 +55,11 @@ module _ (at end other : ℕ) (p : Problem) where
 
   -- ---- the entries
 
-  -- the entries after those before, of which so many more are allowed
+  -- the entries after those before; the number says how many more are allowed
   abbrev EntriesAlike : ℕ → Type 0
   EntriesAlike n = (before : List Cell) → EndsAlike token_offset at (Unit {0}) (entries_at end p n before) (entries_at other p n before)
 
-  -- no more are allowed
+  -- no further entries are allowed
   full_stays : (before : List Cell) (ts : List Placed) → NoneAt at ts → Stays token_offset at (λ _. Unit {0}) (entries_at end p zero before ts)
   unfolding entries_at
   full_stays before [] none = tt
@@ -91,20 +91,20 @@ module _ (at end other : ℕ) (p : Problem) where
   entries_alike zero before = record { stays = λ c ts none. full_stays before ts none; joins = full_joins before }
   entries_alike (suc n) before = record { stays = λ c ts none. next_stays n (entries_alike n) before ts none; joins = next_joins n (entries_alike n) before }
 
--- ---- what a fault that is told of a token says
+-- -- the meaning of a fault at a token
 
 -- a solution is read from the tokens of its bytes
 read_from : (p : Problem) (bytes : List ℕ) → solution_of p bytes ≡ entries_at (length bytes) p MAX_ENTRIES [] (tokens_of bytes)
 unfolding solution_of
 read_from p bytes = refl
 
--- that token stands in the bytes
+-- a token of the bytes begins at the offset of the fault
 pub fault_stands : (p : Problem) (bytes : List ℕ) (e : SolutionFault) (at : ℕ) → solution_of p bytes ≡ Err e → token_offset e ≡ Some at → Any (λ t. t.at ≡ at) (tokens_of bytes)
 fault_stands p bytes e at failed told =
     let end : ℕ = length bytes in
     told_stands token_offset at _ _ (entries_alike at end end p MAX_ENTRIES []) (tokens_of bytes) e (sym (read_from p bytes) ∙ failed) told
 
--- bytes that begin so spell no solution
+-- bytes that begin the same way spell no solution
 pub fault_stays : (p : Problem) (bytes other : List ℕ) (e : SolutionFault) (at : ℕ) → IsWithinLimits p → solution_of p bytes ≡ Err e → token_offset e ≡ Some at → BeginsAs at bytes other → (t : List Cell) → ¬ SpellsTable p other t
 fault_stays p bytes other e at within failed told begins t spelled =
     told_stays token_offset at _ _ (entries_alike at (length bytes) (length other) p MAX_ENTRIES []) (tokens_of bytes) e (sym (read_from p bytes) ∙ failed) told

@@ -1,4 +1,4 @@
--- Entries of a solution: what is read is spelled, and what is spelled is read.
+-- Entries of a solution: those that are read are spelled, and those that are spelled are read.
 use Rattle.std.proofs.Common.{◌≡◌, ℕ, zero, suc, ◌-◌, ◌<◌, ◌≤◌, List, [], ◌∷◌, ◌++◌, length, Option, Some, None, Result, Ok, Err, refl, sym, ap, subst, ◌∙◌, append_assoc, arith, le_of_suc-le-suc}
 use Rattle.std.specs.Prelude.{flat_map, All, slice_index_or, IfOk}
 use Rattle.std.proofs.lemmas.List.{append-nil}
@@ -142,14 +142,14 @@ entries_read end p (suc n) before (e ∷ es) ts limits inside few h =
 
 -- ---- a whole file
 
--- what is read is spelled
+-- a solution that is read is spelled
 pub solution_spelled : (p : Problem) (bytes : List ℕ) (t : List Cell) → IsWithinLimits p → solution_of p bytes ≡ Ok t → SpellsTable p bytes t
 unfolding solution_of
 solution_spelled p bytes t limits e =
     let taken = entries_take (length bytes) p 16384 [] (tokens_of bytes) t limits e in
     subst (SpellsTable p bytes) (sym taken.list) (record { tokens = taken.spelled; few = taken.few; in_range = taken.in_range })
 
--- what is spelled is read
+-- a solution that is spelled is read
 pub solution_read : (p : Problem) (bytes : List ℕ) (t : List Cell) → IsWithinLimits p → SpellsTable p bytes t → solution_of p bytes ≡ Ok t
 unfolding solution_of
 solution_read p bytes t limits spelled = entries_read (length bytes) p 16384 [] t (tokens_of bytes) limits spelled.in_range spelled.few spelled.tokens
@@ -158,7 +158,7 @@ solution_read p bytes t limits spelled = entries_read (length bytes) p 16384 [] 
 pub solution_once : (p : Problem) (bytes : List ℕ) (t u : List Cell) → IsWithinLimits p → SpellsTable p bytes t → SpellsTable p bytes u → t ≡ u
 solution_once p bytes t u limits first second = ok_is t u (sym (solution_read p bytes t limits first) ∙ solution_read p bytes u limits second)
 
--- for the contract
+-- the form that the contract states: the result is spelled
 pub found_in : (p : Problem) (bytes : List ℕ) (r : Result (List Cell) SolutionFault) → IsWithinLimits p → Gives (λ t. t) r (solution_of p bytes) → IfOk r (SpellsTable p bytes)
 found_in p bytes (Ok t) limits given = solution_spelled p bytes t limits given
 found_in p bytes (Err f) limits given = tt

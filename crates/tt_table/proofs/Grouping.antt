@@ -1,4 +1,4 @@
--- Entries in groups: which is the first of its group, and what it leads.
+-- Entries in groups: the first entry of each group, and the group that it leads.
 use Rattle.std.proofs.Common.{◌≡◌, ℕ, ◌+◌, ◌<◌, ◌≤◌, Bool, true, false, not, cond, List, [], ◌∷◌, drop, set, replicate, length, get_or, refl, sym, ap, ◌∙◌, length-drop, arith, inl, inr}
 use Rattle.std.specs.Prelude.{filter}
 use Rattle.std.specs.List.{prefix_len}
@@ -10,19 +10,19 @@ use Rattle.tt_instance.specs.declared.cell.Cell.{Cell}
 use Rattle.tt_table.specs.Groups.{group_of, in_group, led_group, first_at, nobody, NamesNext, NamesFirst, IsChained}
 use Rattle.tt_table.specs.declared.groups.GroupBy.{GroupBy}
 
--- the entry here is the first of its group from here on
+-- an entry of the group is the first of its group from its own place on
 first_here : (by : GroupBy) (t : List Cell) (g i : ℕ) → i < length t → group_of by (get_or t i nobody) ≡ g → first_at by t g i ≡ i
 first_here by t g i h own =
     let none = prefix_len-drop_no (λ e. not (in_group by g e)) t i nobody h (ap not (eq-eqb (group_of by (get_or t i nobody)) g own)) in
     omega (arith, none)
 
--- the first of another group stands further on
+-- if the entry at i is of another group, the first of the group comes later
 first_past : (by : GroupBy) (t : List Cell) (g i : ℕ) → i < length t → (group_of by (get_or t i nobody) ≡ g → ⊥) → first_at by t g i ≡ first_at by t g (i + 1)
 first_past by t g i h other =
     let one = prefix_len-drop_yes (λ e. not (in_group by g e)) t i nobody h (ap not (ne_eqb (group_of by (get_or t i nobody)) g other)) in
     omega (arith, one)
 
--- after the last entry there is none
+-- after the last entry no group has a first entry
 pub begins_nowhere : (by : GroupBy) (t : List Cell) (i : ℕ) → i ≡ length t → NamesFirst by t (replicate 2048 (length t)) i
 begins_nowhere by t i end g below =
     let none = prefix_len-drop_all (λ e. not (in_group by g e)) t i (omega (arith, end)) in
@@ -31,7 +31,7 @@ begins_nowhere by t i end g below =
 pub named_nowhere : (by : GroupBy) (t : List Cell) (next : List ℕ) (i : ℕ) → i ≡ length t → NamesNext by t next i
 named_nowhere by t next i end j from within = absurd (omega (arith, end, from, within))
 
--- one entry more is linked, from after: the one at i, of group g
+-- linking another entry, the one at i, of group g, before those already linked
 module _ (by : GroupBy) (t : List Cell) (g i : ℕ) (own : group_of by (get_or t i nobody) ≡ g) (h : i < length t) where
   pub begins_more : (first : List ℕ) → g < length first → NamesFirst by t first (i + 1) → NamesFirst by t (set first g i) i
   begins_more first inside named k below = elim (cases_eq k g) [
@@ -67,17 +67,17 @@ pub led_from : (by : GroupBy) (t : List Cell) (g i : ℕ) → led_group by (drop
 led_from by t g i =
     ap (led_group by) (sym (drop-drop (prefix_len (λ e. not (in_group by g e)) (drop i t)) i t)) ∙ led by g (drop i t)
 
--- after an entry stands what its group has there
+-- the link of an entry leads to the rest of its group
 pub led_after : (by : GroupBy) (t : List Cell) (next : List ℕ) (i : ℕ) → IsChained by t next → i < length t → led_group by (drop (get_or next i 0) t) ≡ filter (in_group by (group_of by (get_or t i nobody))) (drop (i + 1) t)
 led_after by t next i chained h =
     ap (λ k. led_group by (drop k t)) (chained.named i (omega arith) h) ∙ led_from by t (group_of by (get_or t i nobody)) (i + 1)
 
--- the one here leads itself and then those after it
+-- an entry leads itself and then the rest of its group
 pub led_here : (by : GroupBy) (t : List Cell) (next : List ℕ) (i : ℕ) → IsChained by t next → i < length t → led_group by (drop i t) ≡ get_or t i nobody ∷ led_group by (drop (get_or next i 0) t)
 led_here by t next i chained h =
     at_drop_more (led_group by) t i nobody h ∙ ap (λ es. get_or t i nobody ∷ es) (sym (led_after by t next i chained h))
 
--- no more stand there than entries are left
+-- a group from a place on has at most as many entries as the timetable
 pub led_few : (by : GroupBy) (t : List Cell) (i : ℕ) → length (led_group by (drop i t)) ≤ length t
 led_few by t i = few (drop i t) (omega (arith, length-drop i t))
   where

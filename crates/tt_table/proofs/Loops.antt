@@ -1,4 +1,4 @@
--- One turn of the loop that reads entries.
+-- One iteration of the loop that reads entries.
 use Rattle.std.proofs.Common.{◌≡◌, ℕ, suc, List, [], ◌∷◌, ◌++◌, Ok, Err, refl, sym}
 use Rattle.tt_text.specs.Tokens.{Placed}
 use Rattle.tt_text.specs.Reading.{◌>>=◌}
@@ -20,7 +20,7 @@ pub entries_step : (end : ℕ) (p : Problem) (n : ℕ) (before : List Cell) (fir
 unfolding entries_at
 entries_step end p n before first more ts mid e split is = rw (split, is) refl
 
--- a token is left, and no entry is allowed
+-- a token is left, but no further entry is allowed
 pub entries_full : (end n : ℕ) (p : Problem) (before : List Cell) (first : Placed) (more ts : List Placed) → n ≡ 0 → ts ≡ first ∷ more → entries_at end p n before ts ≡ Err (fault.TooMany first.at)
 unfolding entries_at
 entries_full end n p before first more ts none split = rw (none, split) refl

@@ -30,7 +30,7 @@ one_line_each : (p : Problem) (t : List Cell) → all_pieces (map (entry_pieces 
 one_line_each p [] = refl
 one_line_each p (e ∷ es) = ap (λ (ps : List Piece). entry_pieces p e ++ ps) (one_line_each p es)
 
--- a field that a getter answered is that of the definitions
+-- a field that a getter returned is the one of the definitions
 pub field_is : {X Y : Type 0} (f : X → Y) (xs : List X) (i : ℕ) (d : X) (y : Y) → i < length xs → slice_get (map f xs) i ≡ Some y → y ≡ f (get_or xs i d)
 field_is f xs i d y lt e =
     let x = get_or xs i d in

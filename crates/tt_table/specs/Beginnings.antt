@@ -1,9 +1,9 @@
--- The token at which the first fault of a solution stands (what it says of other solutions is said by `BeginsAs` of `tt_instance`).
+-- The token of the first fault of a solution (`BeginsAs` of `tt_instance` defines which other solutions begin the same way).
 use Rattle.std.specs.Prelude.{ℕ, Option, Some, None}
 use Rattle.tt_table.specs.declared.fault.SolutionFault.{SolutionFault}
 use Rattle.tt_table.specs.declared.fault.SolutionFault.TheVariants as fault
 
--- the offset of the token that a fault is told of; where the bytes end too soon, or memory runs out, it is told of none
+-- The offset of the token at which a fault is reported; none if the bytes end too early, or if memory runs out.
 abbrev pub token_offset : SolutionFault → Option ℕ
 token_offset (fault.Ended end) = None
 token_offset (fault.UnknownCourse at) = Some at

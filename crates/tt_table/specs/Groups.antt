@@ -6,7 +6,7 @@ use Rattle.tt_table.specs.declared.groups.TheConstants.{GROUPS}
 use Rattle.tt_table.specs.declared.groups.GroupBy.{GroupBy}
 use Rattle.tt_table.specs.declared.groups.GroupBy.TheVariants.{Course, Room, Period}
 
--- the number of an entry's group
+-- The number of an entry's group.
 abbrev pub group_of : GroupBy → Cell → ℕ
 group_of Course e = e.course
 group_of Room e = e.room
@@ -15,28 +15,28 @@ group_of (Period periods) e = e.day * periods + e.period
 abbrev pub in_group : GroupBy → ℕ → Cell → Bool
 in_group by g e = group_of by e == g
 
--- the first entry and those after it that are of its group
+-- The first entry and those after it that are of its group.
 abbrev pub led_group : GroupBy → List Cell → List Cell
 led_group by [] = []
 led_group by (e ∷ es) = e ∷ filter (in_group by (group_of by e)) es
 
--- entries and by what they are grouped
+-- Entries, and the kind of their groups.
 pub record Grouped : Type 0 where
   pub by : GroupBy
   pub entries : List Cell
 
--- the place of the first entry of a group from a place on, or the number of entries
+-- The place of the first entry of a group from a place on, or the number of entries.
 abbrev pub first_at : GroupBy → List Cell → ℕ → ℕ → ℕ
 first_at by t g i = i + prefix_len (λ e. not (in_group by g e)) (drop i t)
 
 abbrev pub nobody : Cell
 nobody = record { course = 0; room = 0; day = 0; period = 0 }
 
--- after each entry from a place on the next one of its group is named
+-- For each entry from a place on, `next` has the place of the next entry of its group.
 abbrev pub NamesNext : GroupBy → List Cell → List ℕ → ℕ → Type 0
 NamesNext by t next i = (j : ℕ) → i ≤ j → j < length t → slice_index_or next j 0 ≡ first_at by t (group_of by (slice_index_or t j nobody)) (j + 1)
 
--- the first entry of each group from a place on is named
+-- For each group, `first` has the place of its first entry from a place on.
 abbrev pub NamesFirst : GroupBy → List Cell → List ℕ → ℕ → Type 0
 NamesFirst by t first i = (g : ℕ) → g < GROUPS → slice_index_or first g 0 ≡ first_at by t g i
 

@@ -14,12 +14,12 @@ abbrev pub entry_pieces : Problem → Cell → List Piece
 entry_pieces p e =
     named p.courses e.course ∷ Text (slice_index_or p.rooms e.room no_room).id ∷ Number e.day ∷ Number e.period ∷ []
 
--- the tokens of the bytes are the entries' and no more
+-- The tokens of the bytes are exactly those of the entries.
 pub record SpellsTable (p : Problem) (bytes : List ℕ) (t : List Cell) : Type 0 where
   pub tokens : Begins (flat_map (entry_pieces p) t) (tokens_of bytes) []
   pub few : length t ≤ MAX_ENTRIES
   pub in_range : IsTimetable p t
 
--- the text that writes a timetable: one line for each entry, in order
+-- The text written for a timetable: one line for each entry, in order.
 abbrev pub solution_text : Problem → List Cell → List ℕ
 solution_text p t = lines_text (map (entry_pieces p) t)

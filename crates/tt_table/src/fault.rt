@@ -1,4 +1,4 @@
-//! Why a timetable takes no entry, or bytes spell none.
+//! Why a timetable can't take another entry, or bytes spell no timetable.
 
 ghost use Rattle.std.specs.Prelude.{◌≡◌};
 ghost use Rattle.tt_table.specs.declared.fault.SolutionFault.TheVariants.{OutOfMemory};
@@ -9,14 +9,14 @@ use thiserror::Error;
 /// Why an entry was not added.
 #[derive(Clone, Copy, Debug, PartialEq, Eq, Error)]
 pub enum PushFault {
-    /// The timetable has as many entries as it may have.
+    /// The timetable has the maximum number of entries.
     #[error("Full")]
     Full,
     #[error("out of memory")]
     OutOfMemory,
 }
 
-/// The first fault from the left, with the offset of its token (of the end, where one is missing), or being out of memory.
+/// The first fault from the left, with the offset of its token (of the end, if a token is missing), or being out of memory.
 #[derive(Clone, Copy, Debug, PartialEq, Eq, Error)]
 pub enum SolutionFault {
     #[error("Ended at byte {0}")]
@@ -27,10 +27,10 @@ pub enum SolutionFault {
     UnknownRoom(usize),
     #[error("NotANumber at byte {0}")]
     NotANumber(usize),
-    /// A day or a period that is a number and not below its bound.
+    /// A day or a period that is a number but not below its bound.
     #[error("OutOfRange at byte {0}")]
     OutOfRange(usize),
-    /// The first token of an entry past the last that is allowed.
+    /// The first token of an entry past the last one allowed.
     #[error("TooMany at byte {0}")]
     TooMany(usize),
     #[error("out of memory")]

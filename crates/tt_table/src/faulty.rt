@@ -1,4 +1,4 @@
-//! What the first fault of a solution says of others.
+//! What the first fault of a solution says about other solutions.
 
 ghost use Rattle.std.specs.Prelude.{◌≡◌, ℕ, List, Any, Some, Err};
 ghost use Rattle.tt_text.specs.Tokens.{tokens_of};
@@ -11,8 +11,8 @@ ghost use Rattle.tt_table.specs.Reading.{solution_of};
 ghost use Rattle.tt_table.specs.Spelling.{SpellsTable};
 ghost use Rattle.tt_table.specs.declared.fault.SolutionFault.{SolutionFault};
 
-/// Where reading a solution of an instance fails at a token, that token stands in the bytes, and no bytes whose tokens have the same texts up to it,
-/// and that one too, spell a solution of this instance, whatever else they hold.
+/// If reading a solution of an instance fails at a token, the bytes have a token at that offset, and no bytes whose tokens have the same texts up
+/// to and including that one spell a solution of this instance, whichever tokens follow.
 pub fn faulty_beginnings_spell_none()
     ensures token { (p : Problem) (bytes : List ℕ) (e : SolutionFault) (at : ℕ) →
         solution_of p bytes ≡ Err e → token_offset e ≡ Some at → Any (λ t. t.at ≡ at) (tokens_of bytes) }

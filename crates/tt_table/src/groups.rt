@@ -9,20 +9,20 @@ use crate::table::MAX_ENTRIES;
 use std::marker::Model;
 use tt_instance::{Cell as Entry, Instance};
 
-/// More than there are courses, rooms, or periods of the week.
+/// At least the number of courses, of rooms, and of periods of the week.
 pub const GROUPS: usize = 2048;
 
-/// By what entries are grouped.
+/// The criterion by which entries are grouped.
 #[derive(Clone, Copy)]
 pub enum GroupBy {
     Course,
     Room,
-    /// The period of the week; a day has this many.
+    /// By period of the week; a day has this many periods.
     Period(u32),
 }
 
 impl GroupBy {
-    /// The number of an entry's group.
+    /// Returns the number of an entry's group.
     fn group_of(self, entry: &Entry) -> usize
         requires { group_of self entry.now < GROUPS }
         ensures { result ≡ group_of self entry.now }
@@ -36,7 +36,7 @@ impl GroupBy {
     }
 }
 
-/// Where each group begins, and after each entry the next one of its group.
+/// The first entry of each group, and for each entry the next one of its group.
 #[derive(Drop)]
 struct Links {
     first: [u16; GROUPS],
@@ -82,7 +82,7 @@ impl<'t> Model for Groups<'t> {
 }
 
 impl<'t> Groups<'t> {
-    /// Groups the entries, in one pass and without memory.
+    /// Groups the entries in one pass, without allocating memory.
     pub fn new(entries: &'t [Entry], by: GroupBy) -> Groups<'t>
         requires few { length entries.now ≤ MAX_ENTRIES }
         requires inside { All (λ e. group_of by e < GROUPS) entries.now }
@@ -92,7 +92,7 @@ impl<'t> Groups<'t> {
         Groups { entries, by, links }
     }
 
-    /// The entries of a course, where each course is a group.
+    /// Returns the entries of a course, if entries are grouped by course.
     pub fn of_course(&self, course: u32) -> Group<'_>
         requires by { self.now.by ≡ by.Course }
         requires course { course < GROUPS }
@@ -102,7 +102,7 @@ impl<'t> Groups<'t> {
         self.of(course as usize)
     }
 
-    /// The entries in a room, where each room is a group.
+    /// Returns the entries in a room, if entries are grouped by room.
     pub fn in_room(&self, room: u32) -> Group<'_>
         requires by { self.now.by ≡ by.Room }
         requires room { room < GROUPS }
@@ -112,7 +112,7 @@ impl<'t> Groups<'t> {
         self.of(room as usize)
     }
 
-    /// The entries in a period, where each period of the week is a group.
+    /// Returns the entries in a period, if entries are grouped by period.
     pub fn in_period(&self, instance: &Instance<'_>, day: u32, period: u32) -> Group<'_>
         requires by { self.now.by ≡ by.Period instance.now.periods }
         requires in_range { All (InRange instance.now) self.now.entries }
@@ -125,7 +125,7 @@ impl<'t> Groups<'t> {
         self.of((day * periods + period) as usize)
     }
 
-    /// The entries of a group.
+    /// Returns the entries of a group.
     #[tactic(auto, using(crate::proofs::Grouping::led_few))]
     fn of(&self, group: usize) -> Group<'_>
         requires { group < GROUPS }
@@ -140,7 +140,7 @@ impl<'t> Groups<'t> {
         }
     }
 
-    /// The entries after one, of its group.
+    /// Returns the entries after this one of the same group.
     #[tactic(auto, using(crate::proofs::Grouping::led_few))]
     pub fn after(&self, index: u32) -> Group<'_>
         requires { index < length self.now.entries }
@@ -179,7 +179,7 @@ impl<'g> Model for Group<'g> {
 }
 
 impl<'g> Group<'g> {
-    /// How many entries there are.
+    /// Returns the number of entries.
     pub fn len(self) -> u64
         requires { length self ≤ MAX_ENTRIES }
         ensures { result ≡ length self.entry }

@@ -13,7 +13,7 @@ use std::alloc::Global;
 use tt_instance::{Cell as Entry, Instance};
 use tt_text::{NumberFault, Token, Tokens, number};
 
-/// The next token of a text of end bytes.
+/// Reads the next token of a text of `end` bytes.
 #[tactic(auto, unfolding(tt_text::specs::Reading::token_or))]
 fn read_token<'a>(tokens: &mut Tokens<'a>, end: usize) -> Result<Token<'a>, SolutionFault>
     ensures { Gives (λ t. (place t, tokens.new)) result (token_at end tokens.old) }
@@ -24,7 +24,7 @@ fn read_token<'a>(tokens: &mut Tokens<'a>, end: usize) -> Result<Token<'a>, Solu
     }
 }
 
-/// A number below a bound.
+/// Reads a number below a bound.
 #[tactic(auto, unfolding(crate::specs::Reading::index_at))]
 fn read_index(tokens: &mut Tokens<'_>, end: usize, bound: u32) -> Result<u32, SolutionFault>
     requires { 0 < bound }
@@ -38,7 +38,7 @@ fn read_index(tokens: &mut Tokens<'_>, end: usize, bound: u32) -> Result<u32, So
     }
 }
 
-/// An entry whose first token has been taken.
+/// Reads an entry whose first token has been taken.
 #[tactic(auto, unfolding(crate::specs::Reading::entry_at))]
 fn read_entry(
     instance: &Instance<'_>,
@@ -88,25 +88,25 @@ fn read_entries(
     Ok(table)
 }
 
-/// The timetable that the bytes of a solution file spell. It fits the instance.
+/// Returns the timetable that the bytes of a solution file spell. It fits the instance.
 pub fn read_solution(
     alloc: Global,
     instance: &Instance<'_>,
     bytes: &[u8],
 ) -> Result<Timetable, SolutionFault>
-    // What is read is spelled.
+    // The result is a timetable that the bytes spell.
     ensures found { IfOk result (λ t. SpellsTable instance.now bytes.now t) }
-    // What is spelled is read, unless memory runs out.
+    // If the bytes spell a timetable, the result is that timetable, unless memory runs out.
     ensures only { (t : List Cell) → SpellsTable instance.now bytes.now t → Gives (λ r. r) result (Ok t) }
-    // Which fault it is.
+    // The exact result: the timetable or the fault that `solution_of` gives.
     ensures exact { Gives (λ t. t) result (solution_of instance.now bytes.now) }
-    // So `solution_of` gives a timetable exactly where the bytes spell it, and they spell at most one.
+    // Therefore `solution_of` gives a timetable exactly if the bytes spell it, and they spell at most one.
     ensures spelled { (t : List Cell) → SpellsTable instance.now bytes.now t → solution_of instance.now bytes.now ≡ Ok t }
     ensures spells { (t : List Cell) → solution_of instance.now bytes.now ≡ Ok t → SpellsTable instance.now bytes.now t }
     ensures one { (t u : List Cell) → SpellsTable instance.now bytes.now t → SpellsTable instance.now bytes.now u → t ≡ u }
     ensures fits { IfOk result (λ t. IsTimetable instance.now t) }
 {
-    // What is true of every instance: it keeps its limits.
+    // Every instance is within its limits.
     prove!(instance.days() > 0);
     read_entries(alloc, instance, bytes)
 }

@@ -9,10 +9,10 @@ use std::alloc::{AllocError, Global};
 use std::marker::Model;
 use tt_instance::{Cell as Entry, Instance};
 
-/// The most entries of a timetable.
+/// The maximum number of entries of a timetable.
 pub const MAX_ENTRIES: usize = 16_384;
 
-/// Entries in order, at most MAX_ENTRIES of them.
+/// Entries in order, at most `MAX_ENTRIES` of them.
 #[derive(Drop)]
 pub struct Timetable {
     entries: Vec<Entry>,
@@ -40,7 +40,7 @@ fn is_in_range(instance: &Instance<'_>, entry: Entry) -> bool
 }
 
 impl Timetable {
-    /// A timetable without entries.
+    /// Creates a timetable without entries.
     pub fn new(alloc: Global) -> Self
         ensures { result ≡ [] }
     {
@@ -49,7 +49,7 @@ impl Timetable {
         }
     }
 
-    /// How many entries there are.
+    /// Returns the number of entries.
     pub fn len(&self) -> usize
         ensures len { result ≡ length self.now }
         ensures within { result ≤ MAX_ENTRIES }
@@ -57,14 +57,14 @@ impl Timetable {
         self.entries.len()
     }
 
-    /// Whether there is no entry.
+    /// Returns whether the timetable has no entry.
     pub fn is_empty(&self) -> bool
         ensures { IsTrue result ↔ (self.now ≡ []) }
     {
         self.entries.is_empty()
     }
 
-    /// The entry at a place, counted from 0.
+    /// Returns the entry at a place, counted from 0.
     pub fn get(&self, index: u32) -> Entry
         requires { index < length self.now }
         ensures { slice_get self.now index ≡ Some result }
@@ -72,7 +72,7 @@ impl Timetable {
         self.entries[index as usize]
     }
 
-    /// The entries in order.
+    /// Returns the entries in order.
     pub fn entries(&self) -> &[Entry]
         ensures value { result.now ≡ self.now }
         ensures within { length result.now ≤ MAX_ENTRIES }
@@ -80,7 +80,7 @@ impl Timetable {
         self.entries.as_slice()
     }
 
-    /// Whether each entry is in an instance's range: what every call asks that takes both.
+    /// Returns whether each entry is in an instance's range: each call that takes a timetable and an instance requires it.
     pub fn fits(&self, instance: &Instance<'_>) -> bool
         ensures { IsTrue result ↔ IsTimetable instance.now self.now }
     {
@@ -105,7 +105,7 @@ impl Timetable {
         Ok(())
     }
 
-    /// Puts an entry at a place, for the one that is there.
+    /// Replaces the entry at a place.
     pub fn set(&mut self, index: u32, entry: Entry)
         requires { index < length self.old }
         ensures { self.new ≡ slice_set self.old index entry }
@@ -114,7 +114,7 @@ impl Timetable {
         self.entries[place] = entry;
     }
 
-    /// The same list once more.
+    /// Returns a copy of the list.
     pub fn copy(&self) -> Result<Timetable, AllocError>
         ensures { IfOk result (λ t. t ≡ self.now) }
     {

@@ -1,4 +1,4 @@
-//! Timetables to solution files.
+//! Solution files from timetables.
 
 ghost use Rattle.std.specs.Prelude.{◌≡◌, ◌<◌, ◌++◌, IfOk, OnOk, length};
 ghost use Rattle.tt_text.specs.Lines.{line_text};
@@ -11,7 +11,7 @@ use std::alloc::{AllocError, Global};
 use tt_instance::{Cell as Entry, Instance};
 use tt_text::{put_line_end, put_next_number, put_next_token, put_token};
 
-/// One line: course, room, day and period.
+/// Appends one line: course, room, day and period.
 fn put_entry(out: &mut Vec<u8>, instance: &Instance<'_>, entry: Entry) -> Result<(), AllocError>
     requires { InRange instance.now entry }
     ensures { OnOk result (out.new.items ≡ out.old.items ++ line_text (entry_pieces instance.now entry)) }
@@ -38,7 +38,7 @@ fn put_entries(
     Ok(out)
 }
 
-/// The text of a timetable: one line for each entry, in order.
+/// Returns the text of a timetable: one line for each entry, in order.
 pub fn write_solution(
     alloc: Global,
     instance: &Instance<'_>,
@@ -46,10 +46,10 @@ pub fn write_solution(
 ) -> Result<Vec<u8>, AllocError>
     requires { IsTimetable instance.now table.now }
     ensures text { IfOk result (λ out. out.items ≡ solution_text instance.now table.now) }
-    // It is read as the same timetable.
+    // The text is read as the same timetable.
     ensures again { IfOk result (λ out. SpellsTable instance.now out.items table.now) }
 {
-    // What is true of every instance: it keeps its limits.
+    // Every instance is within its limits.
     prove!(instance.days() > 0);
     put_entries(alloc, instance, table.entries())
 }

@@ -1,4 +1,4 @@
--- Which teachers teach which courses.
+-- Examples of which teachers teach which courses.
 use Rattle.std.proofs.Common.{◌≡◌, true, false, refl}
 use Rattle.tt_instance.proofs.Examples.{mini, same}
 use Rattle.tt_tallies.specs.Tallies.{teaches}

@@ -1,4 +1,4 @@
--- The words beside a table of counts, once one count has changed.
+-- The words next to a table of counts, after one count has changed.
 use Rattle.std.proofs.Common.{◌≡◌, ℕ, ◌+◌, ◌*◌, ◌<◌, Bool, true, false, cond, ◌&&◌, List, refl, sym, ap, ◌∙◌, subst, inl, inr, eq-eqb, ne_eqb}
 use Rattle.std.specs.Prelude.{◌==◌, nat_lt, slice_index}
 use Rattle.std.proofs.lemmas.Bool.{cases_eq, cases_lt, lt-ltb, le-ltb}
@@ -7,7 +7,7 @@ use Rattle.tt_bits.specs.Bits.{has_bit}
 use Rattle.tt_tallies.specs.Counts.{in_period, AreMarks}
 use Rattle.tt_tallies.specs.declared.week.Week.{Week}
 
--- one test of three fails
+-- a conjunction of three tests fails if the second test fails
 second_fails : (a b c : Bool) → b ≡ false → (a && (b && c)) ≡ false
 second_fails true b c e = ap (λ z. z && c) e
 second_fails false b c e = refl

@@ -1,4 +1,4 @@
--- One number of a table is changed: what stands at each row and column.
+-- The numbers at each row and column after one number of a table has changed.
 use Rattle.std.proofs.Common.{◌≡◌, ℕ, ◌+◌, ◌-◌, ◌*◌, ◌≤◌, ◌<◌, ◌≢◌, cond, ◌&&◌, List, [], ◌∷◌, zero, suc, le_of_suc-le-suc, length, get_or, set, take, refl, sym, ap, ◌∙◌, arith, inl, inr, eq-eqb, ne_eqb, get_or-set_other, get_or-set_same}
 use Rattle.std.specs.Prelude.{◌==◌, count_by}
 use Rattle.std.proofs.lemmas.List.Sums.{sum_by_more_le}
@@ -6,7 +6,7 @@ use Rattle.std.proofs.lemmas.Bool.{cases_eq}
 use Rattle.tt_lists.proofs.Sums.{one_if, one_if_true, one_if_false}
 use Rattle.tt_table.proofs.Numbering.{same_number}
 
--- a number that is there is the same by any default
+-- a number within the list doesn't depend on the default
 any_default : (xs : List ℕ) (n d e : ℕ) → n < length xs → get_or xs n d ≡ get_or xs n e
 any_default [] n d e h = absurd (omega arith)
 any_default (x ∷ xs) zero d e h = refl
@@ -17,7 +17,7 @@ module _ (xs : List ℕ) (a b w v : ℕ) (inside : a * w + b < length xs) (colum
   abbrev here : ℕ
   here = a * w + b
 
-  -- what stands there
+  -- the number at this place
   pub there : get_or xs here 0 ≡ v
   there = sym (is ∙ any_default xs here v 0 inside)
 
@@ -51,9 +51,9 @@ module _ (xs : List ℕ) (a b w v : ℕ) (inside : a * w + b < length xs) (colum
         omega arith
   ]
 
--- ---- rows one after the other
+-- -- rows in turn
 
--- a row that comes next was not counted yet
+-- the next row is counted in the whole list once more than in the part before it
 pub row_next : (rows : List ℕ) (k : ℕ) → k < length rows → count_by (λ r. r == get_or rows k 0) (take k rows) + 1 ≤ count_by (λ r. r == get_or rows k 0) rows
 row_next rows k h =
     let i = get_or rows k 0 in
@@ -61,6 +61,6 @@ row_next rows k h =
     let b = one_if_true (i == i) (eq-eqb i i refl) in
     omega arith
 
--- a term that one period alone has
+-- a term that only one period has
 pub at_period : (d s n : ℕ) → cond ((d == d) && (s == s)) n 0 ≡ n
 at_period d s n = ap (λ b. cond (b && (s == s)) n 0) (eq-eqb d d refl) ∙ ap (λ b. cond b n 0) (eq-eqb s s refl)

@@ -1,4 +1,4 @@
--- The rows that one entry counts for.
+-- The rows in which one entry is counted.
 use Rattle.std.proofs.Common.{◌≡◌, ℕ, ◌+◌, ◌*◌, ◌≤◌, ◌<◌, ◌^◌, Bool, true, false, cond, ◌&&◌, List, ◌∷◌, length, refl, sym, ap, ◌∙◌, subst, arith, inl, inr, eq-eqb, ne_eqb}
 use Rattle.std.specs.Prelude.{◌==◌, ◌⊎◌, count_by, filter, All}
 use Rattle.std.proofs.lemmas.Bool.{cases_eq, and_from}
@@ -24,7 +24,7 @@ each_below n k d h =
     let e = get_or-range_with_len 0 n k d l in
     omega arith
 
--- a row's term in a period, as the test of both
+-- a row's term in a period, as the conjunction of both tests
 pub row_and_period : (a b : Bool) → cond b (one_if a) 0 ≡ one_if (a && b)
 row_and_period true true = refl
 row_and_period true false = refl
@@ -36,7 +36,7 @@ module _ (passes : ℕ → Bool) (n : ℕ) (rows : List ℕ) (are : rows ≡ fil
   pub passing_below : All (λ q. q < n) rows
   passing_below = subst (λ l. All (λ q. q < n) l) (sym are) (All-filter passes (λ q. q < n) (range_below n) (each_below n))
 
-  -- a number that passes is there once
+  -- a number that passes occurs once
   pub passing_once : (i : ℕ) → i < n → count_by (λ r. r == i) rows ≡ one_if (passes i)
   passing_once i h =
       let all = range_below n in
@@ -61,7 +61,7 @@ module _ (passes : ℕ → Bool) (n : ℕ) (rows : List ℕ) (are : rows ≡ fil
       at r (inr e) =
           ap (λ b. cond (passes r) (one_if b) 0) (ne_eqb r i (λ h. e (sym h))) ∙ never (passes r) ∙ sym (ap (λ b. cond b (one_if (passes i)) 0) (ne_eqb i r e))
 
-  -- there are no more than there are numbers
+  -- there are no more passing numbers than numbers
   pub passing_few : length rows ≤ n
   passing_few =
       omega (arith, ap length are, length-filter passes (range_below n), count_by-le-length passes (range_below n), length-range_with_len 0 n)
@@ -76,13 +76,13 @@ module _ (p : Problem) (n : ℕ) (chooses : ℕ → Cell → Bool) (e : Cell) (r
     pub rows_below : IsTally p n chooses t w → All (λ i. i < w.grid.rows) rows
     rows_below ok = subst (λ z. All (λ i. i < z) rows) (sym ok.rows) (passing_below (λ i. chooses i e) n rows are)
 
-    -- each of their counts has room for one more
+    -- each count of these rows has room for another entry
     pub rows_room : IsTally p n chooses t w → length t < 16384 → All (λ i. in_period w i e.day e.period + count_by (λ k. k == i) rows < 2 ^ 16) rows
     rows_room ok few =
         All-weaker (λ i. i < n) (λ i. in_period w i e.day e.period + count_by (λ k. k == i) rows < 2 ^ 16)
         (λ i h. omega (arith, few, tally_room p n chooses t w ok i e.day e.period h r.day r.period, passing_once (λ i. chooses i e) n rows are i h, one_if-le (chooses i e))) rows (passing_below (λ i. chooses i e) n rows are)
 
-    -- where the entry is there, each of their counts is some
+    -- if the entry is in the list, each count of these rows is above 0
     pub rows_some : IsTally p n chooses (e ∷ t) w → All (λ i. count_by (λ k. k == i) rows ≤ in_period w i e.day e.period) rows
     rows_some ok =
         All-weaker (λ i. i < n) (λ i. count_by (λ k. k == i) rows ≤ in_period w i e.day e.period)

@@ -1,4 +1,4 @@
--- The places of each course, with one entry more or less.
+-- The places of each course, with an entry added or removed.
 use Rattle.std.proofs.Common.{◌≡◌, ℕ, ◌+◌, ◌≤◌, ◌<◌, Bool, true, false, cond, not, ◌&&◌, ◌||◌, List, [], ◌∷◌, length, refl, sym, ap, ◌∙◌, subst, arith, inl, inr, eq-eqb, ne_eqb, eqb-true}
 use Rattle.std.specs.Prelude.{◌==◌, count_by}
 use Rattle.std.specs.List.{list_any}
@@ -17,7 +17,7 @@ use Rattle.tt_tallies.specs.Counts.{at, used_at, IsOneMore}
 use Rattle.tt_tallies.specs.Tallies.{IsSpread}
 use Rattle.tt_tallies.specs.declared.spread.Spread.{Spread}
 
--- no element passes where none is counted
+-- no element passes if and only if none is counted
 pub none_passes_is : (q : Cell → Bool) (t : List Cell) → not (list_any q t) ≡ (count_by q t == 0)
 none_passes_is q t = elim (cases_lt 0 (count_by q t)) [
   | inl h ↦ ap not (any_if_count q t h) ∙ sym (ne_eqb (count_by q t) 0 (λ e. omega arith))
@@ -28,7 +28,7 @@ none_passes_is q t = elim (cases_lt 0 (count_by q t)) [
     by_test true e z = let c = count_if_any q t e in absurd (omega arith)
     by_test false e z = ap not e ∙ sym (eq-eqb (count_by q t) 0 z)
 
--- a table of zeros is one of no entry
+-- a table of zeros is a table of no entries
 pub spread_none : (p : Problem) (n : ℕ) (place : Cell → ℕ) (x : Spread) → x.counts.rows ≡ length p.courses → x.counts.columns ≡ n → ((i j : ℕ) → at x.counts i j ≡ 0) → ((i : ℕ) → used_at x i ≡ 0) → IsSpread p n place [] x
 spread_none p n place x rows places zeros unused = record {
   rows = rows;
@@ -37,7 +37,7 @@ spread_none p n place x rows places zeros unused = record {
   used = λ c h. unused c ∙ sym (sum_by-nothing (range_below n));
 }
 
--- places numbered from 0, n of them, of which each entry has one
+-- n places numbered from 0; each entry has one of them
 module _ (n : ℕ) (place : Cell → ℕ) where
   abbrev stands_at : ℕ → Cell → Bool
   stands_at k z = place z == k
@@ -45,7 +45,7 @@ module _ (n : ℕ) (place : Cell → ℕ) where
   abbrev used : List Cell → ℕ → ℕ
   used t c = count_by (λ k. list_any (λ z. is_of c z && (place z == k)) t) (range_below n)
 
-  -- the places of each course, with one entry more
+  -- the places of each course, with another entry
   pub used_more : (t : List Cell) (e : Cell) → place e < n → (i : ℕ) → used (e ∷ t) i ≡ used t i + cond ((e.course == i) && (count_by (λ z. is_of e.course z && (place z == place e)) t == 0)) 1 0
   used_more t e h i = elim (cases_eq e.course i) [
     | inl same ↦
@@ -79,11 +79,11 @@ module _ (n : ℕ) (place : Cell → ℕ) where
       own : here e ≡ true
       own = and_from (e.course == e.course) (place e == place e) (eq-eqb e.course e.course refl) (eq-eqb (place e) (place e) refl)
 
-      -- an entry that is there is counted
+      -- an entry of the list is counted
       pub spread_some : IsSpread p n place (e ∷ t) x → 1 ≤ at x.counts e.course (place e)
       spread_some ok = omega (arith, ok.counts e.course (place e) r.course h, count_by-cons here e t, one_if_true (here e) own)
 
-      -- and so is its place
+      -- the place of an entry of the list is counted
       pub spread_used : IsSpread p n place (e ∷ t) x → 1 ≤ used_at x e.course
       spread_used ok =
           let taught = λ (k : ℕ). list_any (λ z. is_of e.course z && (place z == k)) (e ∷ t) in
@@ -91,7 +91,7 @@ module _ (n : ℕ) (place : Cell → ℕ) where
           let some = count_if_any taught (range_below n) (any_below taught n (place e) h there) in
           omega (arith, ok.used e.course r.course)
 
-      -- the places of its course with an entry more, by the table
+      -- the number of the course's places with another entry, by the table
       pub used_with : IsSpread p n place t x → used (e ∷ t) e.course ≡ used_at x e.course + one_if (at x.counts e.course (place e) == 0)
       used_with ok =
           let more = used_more t e h e.course in

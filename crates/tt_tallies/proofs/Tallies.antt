@@ -1,4 +1,4 @@
--- A tally of a list with one entry more or less.
+-- A tally of a list with an entry added or removed.
 use Rattle.std.proofs.Common.{◌≡◌, ℕ, ◌≤◌, ◌<◌, Bool, true, ◌&&◌, ◌∷◌, List, [], length, refl, sym, ◌∙◌, subst, arith, eq-eqb}
 use Rattle.std.specs.Prelude.{◌==◌}
 use Rattle.std.proofs.lemmas.Bool.{and_from}
@@ -11,7 +11,7 @@ use Rattle.tt_tallies.specs.Counts.{in_period, IsMore}
 use Rattle.tt_tallies.specs.Tallies.{IsTally}
 use Rattle.tt_tallies.specs.declared.week.Week.{Week}
 
--- a table of zeros is one of no entry
+-- a table of zeros is a tally of no entries
 pub tally_none : (p : Problem) (n : ℕ) (chooses : ℕ → Cell → Bool) (w : Week) → w.grid.rows ≡ n → w.days ≡ p.days → w.periods ≡ p.periods → ((i d s : ℕ) → in_period w i d s ≡ 0) → IsTally p n chooses [] w
 tally_none p n chooses w rows days periods zeros = record {
   rows = rows;
@@ -21,12 +21,12 @@ tally_none p n chooses w rows days periods zeros = record {
 }
 
 module _ (p : Problem) (n : ℕ) (chooses : ℕ → Cell → Bool) (t : List Cell) (w : Week) where
-  -- no count is more than there are entries
+  -- no count is more than the number of entries
   pub tally_room : IsTally p n chooses t w → (i d s : ℕ) → i < n → d < p.days → s < p.periods → in_period w i d s ≤ length t
   tally_room ok i d s h k l = omega (arith, ok.counts i d s h k l, count_by-le-length (λ e. chooses i e && is_at (slot d s) e) t)
 
   module _ (e : Cell) where
-    -- an entry that is there is counted
+    -- an entry of the list is counted
     pub tally_some : IsTally p n chooses (e ∷ t) w → InRange p e → (i : ℕ) → i < n → chooses i e ≡ true → 1 ≤ in_period w i e.day e.period
     tally_some ok r i h chosen =
         let test = λ (z : Cell). chooses i z && is_at (slot e.day e.period) z in
@@ -34,7 +34,7 @@ module _ (p : Problem) (n : ℕ) (chooses : ℕ → Cell → Bool) (t : List Cel
         omega (arith, ok.counts i e.day e.period h r.day r.period, count_by-cons test e t, one_if_true (test e) (and_from (chooses i e) (is_at (slot e.day e.period) e) chosen at))
 
     module _ (v : Week) (more : ℕ → ℕ → ℕ → ℕ) (same : (i d s : ℕ) → i < n → more i d s ≡ one_if (chooses i e && is_at (slot d s) e)) where
-      -- a table with one more where the entry counts is one of the list with the entry
+      -- a tally raised by one in each count of the entry is a tally of the list with the entry
       pub tally_added : IsMore w v more → IsTally p n chooses t w → IsTally p n chooses (e ∷ t) v
       tally_added m ok = record {
         rows = m.rows ∙ ok.rows;
@@ -43,7 +43,7 @@ module _ (p : Problem) (n : ℕ) (chooses : ℕ → Cell → Bool) (t : List Cel
         counts = λ i d s h k l. omega (arith, m.counts i d s (subst (λ z. d < z) (sym ok.days) k) (subst (λ z. s < z) (sym ok.periods) l), ok.counts i d s h k l, same i d s h, count_by-cons (λ z. chooses i z && is_at (slot d s) z) e t);
       }
 
-      -- and one with one less is one of the list without it
+      -- a tally lowered by one in each count of the entry is a tally of the list without it
       pub tally_taken : IsMore v w more → IsTally p n chooses (e ∷ t) w → IsTally p n chooses t v
       tally_taken m ok =
           let days = sym m.days ∙ ok.days in

@@ -1,5 +1,5 @@
--- Only proofs rest on this file: nobody has to believe it.
--- What tables of counts hold.
+-- Not part of the trusted statement: only proofs use this file.
+-- The contents of tables of counts.
 use Rattle.std.specs.Prelude.{◌≡◌, ℕ, ◌+◌, ◌*◌, ◌<◌, ◌==◌, ◌&&◌, List, nat_lt, slice_index, cond}
 use Rattle.tt_bits.specs.Bits.{has_bit}
 use Rattle.tt_tallies.specs.declared.grid.Grid.{Grid}
@@ -14,22 +14,22 @@ at g i j = slice_index g.counts.items (i * g.columns + j)
 abbrev pub in_period : Week → ℕ → ℕ → ℕ → ℕ
 in_period w i d s = at w.grid i (d * w.periods + s)
 
--- the second table is the first with this many more at each place
+-- whether the second table is the first with this many more at each place
 pub record IsMore (old new : Week) (more : ℕ → ℕ → ℕ → ℕ) : Type 0 where
   pub rows : new.grid.rows ≡ old.grid.rows
   pub days : new.days ≡ old.days
   pub periods : new.periods ≡ old.periods
   pub counts : (i d s : ℕ) → d < old.days → s < old.periods → in_period new i d s ≡ in_period old i d s + more i d s
 
--- the word of row i and day d, which stands at its number, is the set of the periods in which the count is above 0
+-- whether the word of each row i and day d, stored at its number, is the set of the periods in which the count is above 0
 abbrev pub AreMarks : Week → List ℕ → Type 0
 AreMarks w words = (i d s : ℕ) → i < w.grid.rows → d < w.days → s < 64 → has_bit (slice_index words (i * w.days + d)) s ≡ (nat_lt s w.periods && nat_lt 0 (in_period w i d s))
 
--- how many places of row i have a count above 0
+-- the number of places of row i with a count above 0
 abbrev pub used_at : Spread → ℕ → ℕ
 used_at x i = slice_index x.used.items i
 
--- the second table is the first with one more at a place of a row
+-- whether the second table is the first with one more at a place of a row
 pub record IsOneMore (old new : Spread) (row place : ℕ) : Type 0 where
   pub rows : new.counts.rows ≡ old.counts.rows
   pub places : new.counts.columns ≡ old.counts.columns

@@ -1,5 +1,5 @@
--- Only proofs rest on this file: nobody has to believe it.
--- The curricula of each course, and the courses that exclude it.
+-- Not part of the trusted statement: only proofs use this file.
+-- The curricula of each course, and the courses that conflict with it.
 use Rattle.std.specs.Prelude.{◌≡◌, ℕ, ◌<◌, [], length, filter, slice_index_or}
 use Rattle.tt_instance.specs.Problem.{Problem}
 use Rattle.tt_instance.specs.Cells.{all_courses, all_curricula}

@@ -1,4 +1,4 @@
--- Only proofs rest on this file: nobody has to believe it.
+-- Not part of the trusted statement: only proofs use this file.
 -- The tables of a list of entries.
 use Rattle.std.specs.Prelude.{List, length}
 use Rattle.tt_instance.specs.Problem.{Problem}
@@ -9,7 +9,7 @@ use Rattle.tt_tallies.specs.Links.{AreLinks}
 use Rattle.tt_tallies.specs.Tallies.{IsTally, IsSpread, of_curriculum, of_teacher, opposes}
 use Rattle.tt_tallies.specs.declared.tables.Tables.{Tables}
 
--- each table counts the entries
+-- whether each table counts the entries
 pub record AreTables (p : Problem) (t : List Cell) (x : Tables) : Type 0 where
   pub links : AreLinks p x.links
   pub rooms : IsTally p (length p.rooms) is_in t x.rooms

@@ -4,7 +4,7 @@ ghost use Rattle.std.specs.Prelude.{◌≡◌, ℕ, ◌+◌, ◌*◌, ◌^◌, �
 
 use std::alloc::{AllocError, Global};
 
-/// Rows of counts, one after the other.
+/// Rows of counts, stored in turn.
 #[derive(Drop)]
 pub struct Grid {
     pub rows: usize,
@@ -16,7 +16,7 @@ pub struct Grid {
 impl Grid {
     ghost use Rattle.tt_tallies.specs.Counts.{at};
 
-    /// All counts are 0.
+    /// Returns a table in which all counts are 0.
     pub fn new(alloc: Global, rows: usize, columns: usize) -> Result<Grid, AllocError>
         requires { rows * columns < 2 ^ 32 }
         ensures rows { IfOk result (λ g. g.rows ≡ rows) }
@@ -30,7 +30,7 @@ impl Grid {
         })
     }
 
-    /// The count at a row and a column.
+    /// Returns the count at a row and a column.
     pub fn get(&self, row: usize, column: usize) -> u16
         requires row { row < self.now.rows }
         requires column { column < self.now.columns }
@@ -39,7 +39,7 @@ impl Grid {
         self.counts[row * self.columns + column]
     }
 
-    /// One more at a row and a column.
+    /// Adds 1 at a row and a column.
     pub fn add(&mut self, row: usize, column: usize)
         requires row { row < self.old.rows }
         requires column { column < self.old.columns }
@@ -52,7 +52,7 @@ impl Grid {
         self.counts[row * self.columns + column] += 1;
     }
 
-    /// One less at a row and a column.
+    /// Subtracts 1 at a row and a column.
     pub fn take(&mut self, row: usize, column: usize)
         requires row { row < self.old.rows }
         requires column { column < self.old.columns }

@@ -1,4 +1,4 @@
-//! The curricula of each course, and the courses that exclude it.
+//! The curricula of each course, and the courses that conflict with it.
 
 ghost use Rattle.std.specs.Prelude.{◌≡◌, ℕ, ◌<◌, [], length, filter, slice_index_or, IfOk};
 ghost use Rattle.tt_instance.specs.Cells.{all_courses, all_curricula};
@@ -9,7 +9,7 @@ use std::alloc::{AllocError, Global};
 use std::marker::Model;
 use tt_instance::Instance;
 
-/// Numbers, rising.
+/// Numbers in increasing order.
 #[derive(Drop)]
 pub struct Numbers {
     numbers: Vec<u32>,
@@ -31,14 +31,14 @@ impl Numbers {
     }
 }
 
-/// Which curricula and which courses an entry of each course counts for.
+/// The curricula and courses in whose rows an entry of each course is counted.
 #[derive(Drop)]
 pub struct Links {
     pub curricula: Vec<Numbers>,
     pub opponents: Vec<Numbers>,
 }
 
-/// The curricula of a course.
+/// Returns the curricula of a course.
 fn curricula_of(alloc: Global, instance: &Instance<'_>, course: u32) -> Result<Numbers, AllocError>
     ensures { IfOk result (λ n. n
         ≡ filter (λ q. in_curriculum instance.now q course) (all_curricula instance.now)) }
@@ -49,7 +49,7 @@ fn curricula_of(alloc: Global, instance: &Instance<'_>, course: u32) -> Result<N
     Ok(Numbers { numbers })
 }
 
-/// The courses that exclude a course.
+/// Returns the courses that conflict with a course.
 fn opponents_of(alloc: Global, instance: &Instance<'_>, course: u32) -> Result<Numbers, AllocError>
     ensures { IfOk result (λ n. n
         ≡ filter (λ i. conflict instance.now i course) (all_courses instance.now)) }
@@ -61,7 +61,7 @@ fn opponents_of(alloc: Global, instance: &Instance<'_>, course: u32) -> Result<N
 }
 
 impl Links {
-    /// The links of an instance.
+    /// Returns the links of an instance.
     pub fn new(alloc: Global, instance: &Instance<'_>) -> Result<Links, AllocError>
         ensures { IfOk result (AreLinks instance.now) }
     {
@@ -77,7 +77,7 @@ impl Links {
         })
     }
 
-    /// The curricula of a course.
+    /// Returns the curricula of a course.
     pub fn curricula_of(&self, course: u32) -> &[u32]
         requires { course < length self.now.curricula.items }
         ensures { result.now ≡ slice_index_or self.now.curricula.items course [] }
@@ -85,7 +85,7 @@ impl Links {
         self.curricula[course as usize].as_slice()
     }
 
-    /// The courses that exclude a course.
+    /// Returns the courses that conflict with a course.
     pub fn opponents_of(&self, course: u32) -> &[u32]
         requires { course < length self.now.opponents.items }
         ensures { result.now ≡ slice_index_or self.now.opponents.items course [] }

@@ -1,4 +1,4 @@
-//! Counts by the week, and the sets of the periods that have one.
+//! Counts by the week, and the sets of the periods with a count above 0.
 
 ghost use Rattle.std.specs.Prelude.{◌≡◌, ℕ, ◌+◌, ◌*◌, ◌^◌, ◌<◌, ◌≤◌, ◌==◌, ◌&&◌, IfOk, cond, nat_lt, length, slice_index, count_by, All};
 ghost use Rattle.tt_instance.specs.declared.limit.TheConstants.{MAX_CURRICULA, MAX_PERIODS, MAX_SLOTS};
@@ -18,7 +18,7 @@ pub struct Marked {
     ghost marks: { AreMarks week words.items },
 }
 
-/// The set with a number or without it.
+/// Returns the set with a number added or removed.
 pub fn put(word: u64, number: u32, is_in: bool) -> u64
     requires { number < 64 }
     ensures { (r : ℕ) → r < 64 → has_bit result r ≡ cond (r == number) is_in (has_bit word r) }
@@ -30,7 +30,7 @@ pub fn put(word: u64, number: u32, is_in: bool) -> u64
     }
 }
 
-/// Puts a number into the set at a place, or takes it out of it.
+/// Adds a number to the set at a place, or removes it.
 fn mark(words: &mut Vec<u64>, place: usize, number: u32, is_in: bool)
     requires place { place < length words.old.items }
     requires number { number < 64 }
@@ -44,7 +44,7 @@ fn mark(words: &mut Vec<u64>, place: usize, number: u32, is_in: bool)
 }
 
 impl Marked {
-    /// All counts are 0.
+    /// Returns a table in which all counts are 0.
     pub fn new(alloc: Global, rows: u32, days: u32, periods: u32) -> Result<Marked, AllocError>
         requires rows { rows ≤ MAX_CURRICULA }
         requires week { days * periods ≤ MAX_SLOTS }
@@ -59,7 +59,7 @@ impl Marked {
         Ok(Marked { week, words })
     }
 
-    /// Where the word of a row and a day stands.
+    /// Returns the index of the word of a row and a day.
     fn place(&self, row: u32, day: u32) -> usize
         requires row { row < self.now.week.grid.rows }
         requires day { day < self.now.week.days }
@@ -69,7 +69,7 @@ impl Marked {
         row as usize * self.week.days as usize + day as usize
     }
 
-    /// The periods of a day in which the count of a row is above 0, as a set.
+    /// Returns the periods of a day in which the count of a row is above 0, as a set.
     pub fn word(&self, row: u32, day: u32) -> u64
         requires row { row < self.now.week.grid.rows }
         requires day { day < self.now.week.days }
@@ -79,7 +79,7 @@ impl Marked {
         self.words[self.place(row, day)]
     }
 
-    /// One more of a row in a period.
+    /// Adds 1 to the count of a row in a period.
     fn add(&mut self, row: u32, day: u32, period: u32)
         requires row { row < self.old.week.grid.rows }
         requires day { day < self.old.week.days }
@@ -93,7 +93,7 @@ impl Marked {
         mark(&mut self.words, place, period, true);
     }
 
-    /// One less of a row in a period.
+    /// Subtracts 1 from the count of a row in a period.
     fn take(&mut self, row: u32, day: u32, period: u32)
         requires row { row < self.old.week.grid.rows }
         requires day { day < self.old.week.days }
@@ -108,7 +108,7 @@ impl Marked {
         mark(&mut self.words, place, period, is_in);
     }
 
-    /// One more of each row in a period.
+    /// Adds 1 to the count of each row in a period.
     pub fn add_rows(&mut self, rows: &[u32], day: u32, period: u32)
         requires rows { All (λ r. r < self.old.week.grid.rows) rows.now }
         requires day { day < self.old.week.days }
@@ -123,7 +123,7 @@ impl Marked {
         }
     }
 
-    /// One less of each row in a period.
+    /// Subtracts 1 from the count of each row in a period.
     pub fn take_rows(&mut self, rows: &[u32], day: u32, period: u32)
         requires rows { All (λ r. r < self.old.week.grid.rows) rows.now }
         requires day { day < self.old.week.days }

@@ -1,4 +1,4 @@
-//! How often each row stands at each place, and at how many places.
+//! The count of each row at each place, and the number of places with a count above 0.
 
 ghost use Rattle.std.specs.Prelude.{◌≡◌, ℕ, ◌+◌, ◌*◌, ◌^◌, ◌<◌, ◌≤◌, IfOk, length};
 ghost use Rattle.tt_instance.specs.declared.limit.TheConstants.{MAX_COURSES, MAX_SLOTS};
@@ -6,7 +6,7 @@ ghost use Rattle.tt_instance.specs.declared.limit.TheConstants.{MAX_COURSES, MAX
 use crate::grid::Grid;
 use std::alloc::{AllocError, Global};
 
-/// Rows of counts, and for each row how many of its counts are above 0.
+/// Rows of counts, and for each row the number of its counts above 0.
 #[derive(Drop)]
 pub struct Spread {
     pub counts: Grid,
@@ -18,7 +18,7 @@ pub struct Spread {
 impl Spread {
     ghost use Rattle.tt_tallies.specs.Counts.{at, used_at, IsOneMore};
 
-    /// All counts are 0.
+    /// Returns a table in which all counts are 0.
     pub fn new(alloc: Global, rows: u32, places: u32) -> Result<Spread, AllocError>
         requires rows { rows ≤ MAX_COURSES }
         requires places { places ≤ MAX_SLOTS }
@@ -33,7 +33,7 @@ impl Spread {
         })
     }
 
-    /// The count of a row at a place.
+    /// Returns the count of a row at a place.
     pub fn get(&self, row: u32, place: u32) -> u16
         requires row { row < self.now.counts.rows }
         requires place { place < self.now.counts.columns }
@@ -42,7 +42,7 @@ impl Spread {
         self.counts.get(row as usize, place as usize)
     }
 
-    /// At how many places a row stands.
+    /// Returns the number of places at which a row has a count above 0.
     pub fn used(&self, row: u32) -> u16
         requires { row < self.now.counts.rows }
         ensures { result ≡ used_at self.now row }
@@ -50,7 +50,7 @@ impl Spread {
         self.used[row as usize]
     }
 
-    /// One more of a row at a place.
+    /// Adds 1 to the count of a row at a place.
     pub fn add(&mut self, row: u32, place: u32)
         requires row { row < self.old.counts.rows }
         requires place { place < self.old.counts.columns }
@@ -65,7 +65,7 @@ impl Spread {
         }
     }
 
-    /// One less of a row at a place.
+    /// Subtracts 1 from the count of a row at a place.
     pub fn take(&mut self, row: u32, place: u32)
         requires row { row < self.old.counts.rows }
         requires place { place < self.old.counts.columns }

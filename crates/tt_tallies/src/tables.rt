@@ -21,25 +21,25 @@ pub struct Tables {
     pub links: Links,
     /// The entries in each room.
     pub rooms: Week,
-    /// Those of each teacher.
+    /// The entries of each teacher.
     pub teachers: Week,
-    /// Those of each course.
+    /// The entries of each course.
     pub courses: Week,
-    /// Those of each curriculum.
+    /// The entries of each curriculum.
     pub curricula: Marked,
-    /// Those whose courses exclude each course.
+    /// The entries whose courses conflict with each course.
     pub opponents: Week,
-    /// Those of each course on each day.
+    /// The entries of each course on each day.
     pub days: Spread,
-    /// Those of each course in each room.
+    /// The entries of each course in each room.
     pub course_rooms: Spread,
 }
 
 impl Tables {
-    /// The tables of no entry. No later call takes memory.
+    /// Returns the tables of no entries. No later call allocates memory.
     pub fn new(alloc: Global, instance: &Instance<'_>) -> Result<Tables, AllocError>
         ensures tables { IfOk result (AreTables instance.now []) }
-        // What is true of every instance.
+        // This holds for every instance.
         ensures instance { IsInstance instance.now }
     {
         let days = instance.days();
@@ -58,7 +58,7 @@ impl Tables {
         })
     }
 
-    /// Counts one entry more.
+    /// Adds an entry to the counts.
     pub fn add(&mut self, instance: &Instance<'_>, entry: Entry)
         requires in_range { InRange instance.now entry }
         requires counted { (t : List Cell)
@@ -79,7 +79,7 @@ impl Tables {
         self.course_rooms.add(entry.course, entry.room);
     }
 
-    /// Counts one entry less.
+    /// Removes an entry from the counts.
     pub fn take(&mut self, instance: &Instance<'_>, entry: Entry)
         requires in_range { InRange instance.now entry }
         requires counted { (t : List Cell) × AreTables instance.now (entry ∷ t) self.old }

@@ -1,4 +1,4 @@
-//! Tables of counts with one for each period of the week.
+//! Tables of counts with a count for each period of the week.
 
 ghost use Rattle.std.specs.Prelude.{◌≡◌, ℕ, ◌+◌, ◌*◌, ◌^◌, ◌<◌, ◌≤◌, ◌==◌, ◌&&◌, IfOk, cond, count_by, All};
 ghost use Rattle.tt_instance.specs.declared.limit.TheConstants.{MAX_CURRICULA, MAX_PERIODS, MAX_SLOTS};
@@ -6,7 +6,7 @@ ghost use Rattle.tt_instance.specs.declared.limit.TheConstants.{MAX_CURRICULA, M
 use crate::grid::Grid;
 use std::alloc::{AllocError, Global};
 
-/// Rows of counts, each with one for each period of each day.
+/// Rows of counts, each with a count for each period of each day.
 #[derive(Drop)]
 pub struct Week {
     pub days: u32,
@@ -20,7 +20,7 @@ pub struct Week {
 impl Week {
     ghost use Rattle.tt_tallies.specs.Counts.{in_period, IsMore};
 
-    /// All counts are 0.
+    /// Returns a table in which all counts are 0.
     pub fn new(alloc: Global, rows: u32, days: u32, periods: u32) -> Result<Week, AllocError>
         requires rows { rows ≤ MAX_CURRICULA }
         requires week { days * periods ≤ MAX_SLOTS }
@@ -38,7 +38,7 @@ impl Week {
         })
     }
 
-    /// The number of a period in the week, day by day.
+    /// Returns the number of a period in the week, day by day.
     fn number(&self, day: u32, period: u32) -> usize
         requires day { day < self.now.days }
         requires period { period < self.now.periods }
@@ -48,7 +48,7 @@ impl Week {
         day as usize * self.periods as usize + period as usize
     }
 
-    /// The count of a row in a period.
+    /// Returns the count of a row in a period.
     pub fn get(&self, row: u32, day: u32, period: u32) -> u16
         requires row { row < self.now.grid.rows }
         requires day { day < self.now.days }
@@ -58,7 +58,7 @@ impl Week {
         self.grid.get(row as usize, self.number(day, period))
     }
 
-    /// One more of a row in a period.
+    /// Adds 1 to the count of a row in a period.
     pub fn add(&mut self, row: u32, day: u32, period: u32)
         requires row { row < self.old.grid.rows }
         requires day { day < self.old.days }
@@ -71,7 +71,7 @@ impl Week {
         self.grid.add(row as usize, column);
     }
 
-    /// One less of a row in a period.
+    /// Subtracts 1 from the count of a row in a period.
     pub fn take(&mut self, row: u32, day: u32, period: u32)
         requires row { row < self.old.grid.rows }
         requires day { day < self.old.days }
@@ -84,7 +84,7 @@ impl Week {
         self.grid.take(row as usize, column);
     }
 
-    /// One more of each row in a period.
+    /// Adds 1 to the count of each row in a period.
     pub fn add_rows(&mut self, rows: &[u32], day: u32, period: u32)
         requires rows { All (λ r. r < self.old.grid.rows) rows.now }
         requires day { day < self.old.days }
@@ -99,7 +99,7 @@ impl Week {
         }
     }
 
-    /// One less of each row in a period.
+    /// Subtracts 1 from the count of each row in a period.
     pub fn take_rows(&mut self, rows: &[u32], day: u32, period: u32)
         requires rows { All (λ r. r < self.old.grid.rows) rows.now }
         requires day { day < self.old.days }

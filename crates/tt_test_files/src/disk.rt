@@ -7,7 +7,7 @@ use std::io::{Error, ErrorKind, Read, Seek, SeekFrom, Write};
 use std::rt::{Clock, Files};
 use std::time::Duration;
 
-/// A file of a disk. The read `fails_at`, counted from 1, fails; 0 says that none does.
+/// A file of a disk. The read `fails_at`, counted from 1, fails; 0 means that none does.
 #[derive(Clone, Copy)]
 pub struct StoredFile<'a> {
     pub path: &'a str,
@@ -16,7 +16,7 @@ pub struct StoredFile<'a> {
 }
 
 impl<'a> StoredFile<'a> {
-    /// A file that can be read to its end.
+    /// Returns a file that can be read to its end.
     pub fn new(path: &'a str, bytes: &'a [u8]) -> Self {
         StoredFile {
             path,
@@ -32,7 +32,7 @@ pub struct Disk<'a> {
     pub files: &'a [StoredFile<'a>],
 }
 
-/// What is left of an opened file, and in how many reads one fails.
+/// The rest of an opened file, and the number of reads until one fails.
 #[derive(Drop)]
 pub struct OpenedFile<'a> {
     rest: &'a [u8],

@@ -9,7 +9,7 @@ use std::rt::{Clock, Files};
 use std::test::Fail;
 use std::time::Duration;
 
-/// What is refused.
+/// The operations that are refused.
 #[derive(Clone, Copy, Debug, PartialEq, Eq)]
 pub enum Refusal {
     Nothing,
@@ -33,7 +33,7 @@ pub struct MemoryFiles {
     refusal: Refusal,
 }
 
-/// An opened file: what is read of it is a copy, and what is written goes to the file.
+/// An opened file: reads are made from a copy, and writes go to the file.
 #[derive(Drop)]
 pub struct OpenMemoryFile<'s> {
     memory: &'s MemoryFiles,
@@ -46,7 +46,7 @@ fn fault(kind: ErrorKind) -> Error {
 }
 
 impl MemoryFiles {
-    /// No files.
+    /// Returns a memory without files.
     pub fn new(alloc: Global, refusal: Refusal) -> MemoryFiles {
         MemoryFiles {
             alloc,
@@ -55,7 +55,7 @@ impl MemoryFiles {
         }
     }
 
-    /// Puts a file that is not there yet there, whatever is refused.
+    /// Adds a file that doesn't exist yet, regardless of the refusal.
     pub fn put(&self, path: &str, text: &str) -> Result<(), Fail> {
         match self.insert(path, text.as_bytes()) {
             Ok(()) => Ok(()),
@@ -76,7 +76,7 @@ impl MemoryFiles {
         }
     }
 
-    /// The text of a file, if it is there.
+    /// Returns the text of a file, if it exists.
     pub fn text(&self, path: &str) -> Result<Option<String>, Fail> {
         match self.copied(path) {
             Ok(bytes) => Ok(Some(String::from_utf8(bytes)?)),
@@ -84,7 +84,7 @@ impl MemoryFiles {
         }
     }
 
-    /// How many files there are.
+    /// Returns the number of files.
     pub fn count(&self) -> usize {
         match self.entries.try_borrow() {
             Ok(entries) => entries.len(),
@@ -131,7 +131,7 @@ impl MemoryFiles {
         Err(fault(ErrorKind::NotFound))
     }
 
-    /// Gives a file another path.
+    /// Changes the path of a file.
     fn turn(&self, from: &str, to: &str) -> io::Result<()> {
         let Ok(mut entries) = self.entries.try_borrow_mut() else {
             return Err(fault(ErrorKind::Other));
@@ -145,7 +145,7 @@ impl MemoryFiles {
         Err(fault(ErrorKind::NotFound))
     }
 
-    /// Takes a file away, if it is there.
+    /// Removes a file, if it exists.
     fn remove(&self, path: &str) -> io::Result<()> {
         let Ok(mut entries) = self.entries.try_borrow_mut() else {
             return Err(fault(ErrorKind::Other));

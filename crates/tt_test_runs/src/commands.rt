@@ -6,7 +6,7 @@ use std::test::Fail;
 use tt_app_run::run;
 use tt_test_files::{Disk, StoredFile};
 
-/// The status of a run, and what it wrote.
+/// The status of a run, and its output.
 #[derive(Debug, Drop)]
 pub struct Outcome {
     pub status: u8,
@@ -15,7 +15,7 @@ pub struct Outcome {
 }
 
 impl Outcome {
-    /// The status, the standard output and the standard error.
+    /// Returns the status, the standard output and the standard error.
     pub fn answer(&self) -> (u8, &str, &str) {
         (self.status, self.out.as_str(), self.err.as_str())
     }
@@ -46,7 +46,7 @@ pub fn run_with(alloc: Global, words: &[&str], files: &[StoredFile<'_>]) -> Resu
     run_on(alloc, words, Disk { files })
 }
 
-/// What `validate` makes of an instance and a solution.
+/// Returns the outcome of `validate` for an instance and a solution.
 pub fn validated(alloc: Global, instance: &str, solution: &str) -> Result<Outcome, Fail> {
     let files = [
         StoredFile::new("a.ctt", instance.as_bytes()),
@@ -55,7 +55,7 @@ pub fn validated(alloc: Global, instance: &str, solution: &str) -> Result<Outcom
     run_with(alloc, &["validate", "a.ctt", "a.sol"], &files)
 }
 
-/// What `check` makes of an instance, a solution and a proof.
+/// Returns the outcome of `check` for an instance, a solution and a proof.
 pub fn checked(
     alloc: Global,
     instance: &str,

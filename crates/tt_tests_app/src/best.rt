@@ -1,4 +1,4 @@
-//! What `best` finds, and the files that it writes.
+//! The results of `best`, and the files that it writes.
 
 use std::alloc::Global;
 use std::test::Fail;
@@ -36,7 +36,7 @@ fn a_best_timetable_with_its_proof(rt: HostRuntime) -> Result<(), Fail> {
 #[test]
 fn no_timetable_at_all(rt: HostRuntime) -> Result<(), Fail> {
     let memory = MemoryFiles::new(rt.alloc(), Refusal::Nothing);
-    // Five lectures of a course have four periods.
+    // Five lectures of a course have only four periods.
     let packed = edited(rt.alloc(), FLAT, "x t 4 1 1", "x t 5 1 1")?;
     memory.put("a.ctt", packed.as_str())?;
     let outcome = best_of(rt.alloc(), &memory)?;

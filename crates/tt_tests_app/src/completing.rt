@@ -1,4 +1,4 @@
-//! What `improve --complete` makes of timetables that lack lectures.
+//! The results of `improve --complete` for timetables that lack lectures.
 
 use std::alloc::Global;
 use std::test::Fail;
@@ -6,7 +6,7 @@ use tt_samples::{GAP, MINI, edited};
 use tt_test_files::{MemoryFiles, Refusal};
 use tt_test_runs::{Outcome, run_on};
 
-/// What `improve` makes of a solution, and the file that it writes.
+/// Returns the outcome of `improve` for a solution, and the file that it writes.
 fn completed(
     alloc: Global,
     instance: &str,

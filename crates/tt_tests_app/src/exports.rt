@@ -1,4 +1,4 @@
-//! What `report --csv` and `report --ics` print.
+//! The output of `report --csv` and `report --ics`.
 
 use std::alloc::Global;
 use std::test::Fail;
@@ -6,7 +6,7 @@ use tt_samples::{MINI, edited};
 use tt_test_files::StoredFile;
 use tt_test_runs::{Outcome, run_with};
 
-/// Mini's first course in the first period, and its second in the next.
+/// Mini's first course in the first period, and its second course in the next.
 const SOLUTION: &str = "a R 0 0 b R 0 1";
 
 fn exported(

@@ -1,4 +1,4 @@
-//! The files and the words of a command line.
+//! The files and the arguments of a command line.
 
 use std::alloc::{AllocError, Global};
 use std::io;
@@ -13,7 +13,7 @@ const PROOF: &[u8] = b"CTTP 1 bound 5 B D c0 ; end";
 
 const WORDS: [&str; 4] = ["check", "a.ctt", "a.sol", "a.proof"];
 
-/// The files of a check by their reads that fail.
+/// Returns the files of a check, given the reads that fail.
 fn wide_files(fails_at: [u64; 3]) -> [StoredFile<'static>; 3] {
     let [instance, solution, proof] = fails_at;
     [
@@ -93,7 +93,7 @@ fn missing_files(rt: HostRuntime) -> Result<(), Fail> {
     Ok(())
 }
 
-/// What the program says with files named bad and a.ctt.
+/// Returns the program's error output, with files named bad and a.ctt.
 fn refusal_of(alloc: Global, words: &[&str]) -> Result<String, Fail> {
     let memory = MemoryFiles::new(alloc, Refusal::Nothing);
     memory.put("bad", "bad")?;
@@ -122,7 +122,7 @@ fn missing_files_of_proofs(rt: HostRuntime) -> Result<(), Fail> {
     Ok(())
 }
 
-/// What the program says of an output that is one of its inputs or its other output, and whether its files are as they were.
+/// Returns the program's error output for an output that is one of its inputs or its other output, and whether its files are unchanged.
 fn overlap(alloc: Global, words: &[&str]) -> Result<(String, bool), Fail> {
     let memory = MemoryFiles::new(alloc, Refusal::Nothing);
     memory.put("a.ctt", GAP)?;
@@ -158,10 +158,10 @@ fn outputs_are_apart(rt: HostRuntime) -> Result<(), Fail> {
     Ok(())
 }
 
-/// The most bytes of an instance or of a solution file.
+/// The maximum number of bytes of an instance or of a solution file.
 const LONGEST: usize = 67_108_864;
 
-/// Wide with this many bytes after its end that the file is as long as it may be.
+/// Returns Wide with so many bytes after its end that the file has the maximum length.
 fn longest_instance(alloc: Global) -> Result<Vec<u8>, AllocError> {
     let mut bytes = WIDE.as_bytes().to_vec(alloc)?;
     bytes.resize(LONGEST, b' ')?;
@@ -235,7 +235,7 @@ fn help_is_no_refusal(rt: HostRuntime) -> Result<(), Fail> {
     Ok(())
 }
 
-/// A writer that takes nothing.
+/// A writer that accepts nothing.
 #[derive(Drop)]
 struct Closed;
 

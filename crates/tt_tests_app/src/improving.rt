@@ -1,4 +1,4 @@
-//! What `improve` makes of timetables.
+//! The results of `improve`.
 
 use std::alloc::Global;
 use std::test::Fail;
@@ -9,7 +9,7 @@ use tt_table::read_solution;
 use tt_test_files::{MemoryFiles, Refusal};
 use tt_test_runs::{Outcome, run_on};
 
-/// What `improve` makes of an instance and a solution on a memory.
+/// Returns the outcome of `improve` for an instance and a solution on a memory.
 fn improved(alloc: Global, memory: &MemoryFiles, seed: &str, steps: &str) -> Result<Outcome, Fail> {
     let words = [
         "improve", "a.ctt", "a.sol", "a.out", "--seed", seed, "--steps", steps,
@@ -58,7 +58,7 @@ fn steps_of_equal_cost_lead_on(rt: HostRuntime) -> Result<(), Fail> {
 
 #[test]
 fn broken_rules_and_refusals(rt: HostRuntime) -> Result<(), Fail> {
-    // Two lectures of a course have no period of their own.
+    // Five lectures of a course have only four periods.
     let packed = edited(rt.alloc(), FLAT, "x t 4 1 1", "x t 5 1 1")?;
     let memory = filled(rt.alloc(), &packed, FLAT_SOLUTION)?;
     let outcome = improved(rt.alloc(), &memory, "1", "100")?;
@@ -73,7 +73,7 @@ fn broken_rules_and_refusals(rt: HostRuntime) -> Result<(), Fail> {
     Ok(())
 }
 
-/// The status of `improve` with more options on Mini, its line, and whether it wrote a timetable.
+/// Returns the status of `improve` with more options on Mini, its line, and whether it wrote a timetable.
 fn with_options(alloc: Global, options: &[&str]) -> Result<(u8, String, bool), Fail> {
     let memory = filled(alloc, MINI, MINI_SOLUTION)?;
     let mut words = Vec::new(alloc);

@@ -1,4 +1,4 @@
-//! What `inspect` prints of files.
+//! The output of `inspect`.
 
 use std::alloc::Global;
 use std::test::Fail;
@@ -6,13 +6,13 @@ use tt_samples::{MINI, SAME, TRIO, edited};
 use tt_test_files::StoredFile;
 use tt_test_runs::{Outcome, run_with};
 
-/// What `inspect` makes of an instance.
+/// Returns the outcome of `inspect` for an instance.
 fn inspected(alloc: Global, instance: &str) -> Result<Outcome, Fail> {
     let files = [StoredFile::new("a.ctt", instance.as_bytes())];
     run_with(alloc, &["inspect", "a.ctt"], &files)
 }
 
-/// What `inspect` makes of Mini and a solution.
+/// Returns the outcome of `inspect` for Mini and a solution.
 fn mini_inspected(alloc: Global, solution: &str) -> Result<Outcome, Fail> {
     let files = [
         StoredFile::new("a.ctt", MINI.as_bytes()),
@@ -21,11 +21,11 @@ fn mini_inspected(alloc: Global, solution: &str) -> Result<Outcome, Fail> {
     run_with(alloc, &["inspect", "a.ctt", "a.sol"], &files)
 }
 
-/// What is printed of Mini.
+/// The output for Mini.
 const MINI_LINES: &str =
     "2 courses with 2 lectures, 2 teachers, 1 room, 1 curriculum\n1 day of 3 periods, 3 places in all rooms, 66 percent full\n1 of 1 pair of courses can't meet at the same time, 100 percent\nthe largest room has 11 seats, the largest course 12 students; 1 lecture has no room that is large enough\ncosts 1 at least: course b has 12 students, the largest room 11 seats\n";
 
-/// A curriculum, a teacher and a course with more lectures than open periods, and things to look at.
+/// A curriculum, a teacher and a course with more lectures than open periods, and other remarkable data.
 const SOLO: &str =
     "Name: Solo\nCourses: 2\nRooms: 2\nDays: 2\nPeriods_per_day: 1\nCurricula: 1\nConstraints: 1\n\nCOURSES:\na t1 2 3 10\nb t2 1 1 12\n\nROOMS:\nR 11\nS 9\n\nCURRICULA:\nq 1 a\n\nUNAVAILABILITY_CONSTRAINTS:\na 0 0\n\nEND.\n";
 

@@ -1,4 +1,4 @@
-//! Tests of the program's other commands and of its files: worked examples, through the commands and the calls.
+//! Tests of the program's other commands and of its files: worked examples, through the commands and the library's calls.
 #![tactic(auto)]
 
 #[cfg(test)]

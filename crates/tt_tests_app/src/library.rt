@@ -1,4 +1,4 @@
-//! The crates as a library.
+//! The crates used as a library.
 
 use std::alloc::Global;
 use std::test::Fail;
@@ -11,7 +11,7 @@ use tt_samples::{GAP, GAP_PROOF, MINI_SOLUTION};
 use tt_table::read_solution;
 use tt_text::Pieces;
 
-/// What a solution costs, and the bound of a proof.
+/// Returns the cost of a solution, and the bound of a proof.
 fn cost_and_bound(
     alloc: Global,
     instance: &str,

@@ -1,4 +1,4 @@
-//! What `page` writes.
+//! The pages that `page` writes.
 
 use crate::reports::Narrow;
 use std::alloc::Global;
@@ -10,10 +10,10 @@ use tt_samples::{MINI, MINI_SOLUTION, edited};
 use tt_test_files::{MemoryFiles, Refusal};
 use tt_test_runs::{Outcome, run_on};
 
-/// Both courses of Mini in one period, and one of them once more.
+/// Both courses of Mini in one period, and one of them again in another.
 const BROKEN: &str = "a R 0 0 b R 0 0 a R 0 2";
 
-/// What the program says of a page on a memory.
+/// Runs `page` on a memory and returns the outcome.
 fn paged(alloc: Global, memory: &MemoryFiles) -> Result<Outcome, Fail> {
     run_on(alloc, &["page", "a.ctt", "a.sol", "a.html"], memory)
 }
@@ -30,7 +30,7 @@ fn filled(
     Ok(memory)
 }
 
-/// The page of an instance and a solution.
+/// Returns the page of an instance and a solution.
 fn page_of(alloc: Global, instance: &str, solution: &str) -> Result<String, Fail> {
     let memory = filled(alloc, instance, solution, Refusal::Nothing)?;
     paged(alloc, &memory)?;
@@ -40,7 +40,7 @@ fn page_of(alloc: Global, instance: &str, solution: &str) -> Result<String, Fail
     }
 }
 
-/// Which of some parts a page lacks.
+/// Returns the first of some parts that a page lacks.
 fn missing<'p>(text: &str, parts: &[&'p str]) -> Option<&'p str> {
     for part in parts {
         if !text.contains(*part) {
@@ -107,7 +107,7 @@ fn unavailable_periods(rt: HostRuntime) -> Result<(), Fail> {
     Ok(())
 }
 
-/// What a name becomes.
+/// Returns the text that is shown for a name.
 fn shown(alloc: Global, name: &[u8]) -> Result<String, Fail> {
     let mut out = Vec::new(alloc);
     put_shown(&mut out, name)?;

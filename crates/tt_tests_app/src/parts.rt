@@ -1,4 +1,4 @@
-//! What `parts` finds, and the files that it writes.
+//! The results of `parts`, and the files that it writes.
 
 use std::alloc::Global;
 use std::test::Fail;

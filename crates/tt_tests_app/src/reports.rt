@@ -1,4 +1,4 @@
-//! What `report` prints.
+//! The output of `report`.
 
 use std::alloc::Global;
 use std::io;
@@ -10,7 +10,7 @@ use tt_samples::MINI;
 use tt_test_files::StoredFile;
 use tt_test_runs::{Outcome, run_with};
 
-/// Mini's first course in the first period, and its second in the next.
+/// Mini's first course in the first period, and its second course in the next.
 const SOLUTION: &str = "a R 0 0 b R 0 1";
 
 const BY_ROOM: &str = "room R\n0 0 a\n0 1 b\n0 2\n";
@@ -52,7 +52,7 @@ fn kinds_that_are_none(rt: HostRuntime) -> Result<(), Fail> {
     Ok(())
 }
 
-/// Takes one byte a write, and none at the write `stops_at`, counted from 1, which fails or answers so.
+/// A writer that takes one byte in each write, and none in the write `stops_at`, counted from 1, which fails or returns 0.
 #[derive(Drop)]
 pub struct Narrow {
     bytes: Vec<u8>,
@@ -61,7 +61,7 @@ pub struct Narrow {
 }
 
 impl Narrow {
-    /// One that has taken nothing, and will answer that it takes nothing.
+    /// Returns a writer that has taken nothing, and will return 0 in the write `stops_at`.
     pub fn new(alloc: Global, stops_at: usize) -> Self {
         Narrow {
             bytes: Vec::new(alloc),
@@ -70,7 +70,7 @@ impl Narrow {
         }
     }
 
-    /// One that has taken nothing, and will fail.
+    /// Returns a writer that has taken nothing, and will fail.
     pub fn failing(alloc: Global, stops_at: usize) -> Self {
         Narrow {
             bytes: Vec::new(alloc),
@@ -79,7 +79,7 @@ impl Narrow {
         }
     }
 
-    /// What was taken.
+    /// Returns the bytes that were taken.
     pub fn bytes(&self) -> &[u8] {
         &self.bytes
     }
@@ -149,7 +149,7 @@ fn an_interrupted_write_has_failed(rt: HostRuntime) {
     assert!(rt; interrupted.bytes.is_empty());
 }
 
-/// What `report` answers over a writer, and whether the sink had failed then.
+/// Returns the result of `report` over a writer, and whether the sink had failed by then.
 fn reported_to(alloc: Global, narrow: &mut Narrow) -> (Result<u8, AppFault>, bool) {
     let mut sink = Writing::new(narrow);
     let answer = report(

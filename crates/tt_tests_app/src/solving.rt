@@ -1,4 +1,4 @@
-//! What `solve` finds, and the files that it writes.
+//! The results of `solve`, and the files that it writes.
 
 use std::alloc::Global;
 use std::test::Fail;
@@ -21,7 +21,7 @@ fn bounded(alloc: Global, memory: &MemoryFiles) -> Result<Outcome, Fail> {
     run_on(alloc, &["bound", "a.ctt", "a.proof"], memory)
 }
 
-/// One course of two lectures, wanted on three days, and no room.
+/// An instance of one course of two lectures that needs three days, and no room.
 fn roomless(alloc: Global) -> Result<String, Fail> {
     let text = edited(alloc, WIDE, "Rooms: 1", "Rooms: 0")?;
     edited(alloc, &text, "R 11\n", "")
@@ -65,7 +65,7 @@ fn a_search_of_one_node(rt: HostRuntime) -> Result<(), Fail> {
     Ok(())
 }
 
-/// Whether a line of a search says this cost and this bound, finished or not.
+/// Checks whether a line of a search has this cost and this bound, finished or unfinished.
 fn says(alloc: Global, line: &str, bound: &str) -> Result<bool, Fail> {
     let finished = format!(in alloc; "cost 5 {bound} finished")?;
     let unfinished = format!(in alloc; "cost 5 {bound} unfinished")?;
@@ -87,7 +87,7 @@ fn each_limit_up_to_a_hundred(rt: HostRuntime) -> Result<(), Fail> {
             outcome.out
         );
         let proof = memory.text("a.proof")?.unwrap_or(String::new(rt.alloc()));
-        // The header and the end are no nodes.
+        // The lines of the header and the end are not nodes.
         let written = proof.lines().count().saturating_sub(2);
         if outcome.out.ends_with("unfinished\n") {
             assert!(rt; limit <= written && written < 2 * limit, "{limit}");

@@ -1,4 +1,4 @@
-//! What `upgrade` makes of proofs, and of the files that it writes.
+//! The results of `upgrade` on proofs, and the files that it writes.
 
 use std::alloc::Global;
 use std::test::Fail;
@@ -18,7 +18,7 @@ fn upgraded(alloc: Global, memory: &MemoryFiles) -> Result<Outcome, Fail> {
     run_on(alloc, &["upgrade", "a.ctt", "a.proof", "a.out"], memory)
 }
 
-/// A memory with an instance, a proof and an older file where the new one is to stand.
+/// Returns a memory with an instance, a proof and an older file at the path of the new one.
 fn filled(
     alloc: Global,
     instance: &str,
@@ -56,7 +56,7 @@ fn refused_proofs_leave_the_older_file(rt: HostRuntime) -> Result<(), Fail> {
             "CTTP 2 bound 5 B P c0 5 c1 5 r0 4 / ; end",
             "refused: proof: BadPrice at node 0\n",
         ),
-        // Since the proof is read whole, its text is judged before its nodes.
+        // Since the proof is read whole, its text is checked before its nodes.
         (
             "CTTP 2 bound 5 B P c0 5 c1 5 r0 4 / ; end x",
             "refused: proof: TrailingToken at byte 42\n",

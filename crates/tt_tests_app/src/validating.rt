@@ -1,4 +1,4 @@
-//! What `validate` prints of a solution.
+//! The output of `validate` for a solution.
 
 use std::test::Fail;
 use tt_samples::{LONG, MINI, TOUR, TRIO, edited, repeated};
@@ -47,7 +47,7 @@ fn as_many_entries_as_allowed(rt: HostRuntime) -> Result<(), Fail> {
 #[test]
 fn one_entry_too_many(rt: HostRuntime) -> Result<(), Fail> {
     let lines = repeated(rt.alloc(), "a R 0 0\n", MAX_ENTRIES)?;
-    // The first token of the entry is enough, whatever it is.
+    // Any first token of the entry is enough.
     for more in ["a R 0 0\n", "c", "a R 0 0 b R"] {
         let solution = format!(in rt.alloc(); "{lines}{more}")?;
         let outcome = validated(rt.alloc(), MINI, &solution)?;

@@ -1,4 +1,4 @@
-//! What `check` answers.
+//! The results of `check`.
 
 use std::test::Fail;
 use tt_app::{AppFault, check};

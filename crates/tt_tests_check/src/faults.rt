@@ -1,4 +1,4 @@
-//! The texts of faults.
+//! The texts of errors.
 
 use std::alloc::{AllocError, Global};
 use std::fmt::Display;
@@ -131,7 +131,7 @@ fn of_rules(rt: HostRuntime) -> Result<(), Fail> {
     Ok(())
 }
 
-/// The text of a fault.
+/// Returns the text of an error.
 fn text_of<E: Display + Drop>(alloc: Global, fault: E) -> Result<String, Fail> {
     Ok(fault.to_string(alloc)?)
 }

@@ -1,4 +1,4 @@
-//! Tests of the checker and of what is refused: worked examples, through the commands and the calls.
+//! Tests of the checker and of refusals: worked examples, through the commands and the library's calls.
 #![tactic(auto)]
 
 #[cfg(test)]

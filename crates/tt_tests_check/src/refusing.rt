@@ -1,10 +1,10 @@
-//! Refusals: the first fault, on standard error, with status 2.
+//! Refusals: the first error, on standard error, with status 2.
 
 use std::test::Fail;
 use tt_samples::{MINI, WIDE, WIDE_SOLUTION, edited};
 use tt_test_runs::{checked, validated};
 
-/// Mini with other words in one place, and why it is refused.
+/// Mini with other words in one place, and the reason why it is refused.
 const INSTANCES: [(&str, &str, &str); 15] = [
     ("b t2 1 1 12", "a t2 1 1 12", "Repeated at byte 108"),
     ("q 2 a b", "q 2 a z", "UnknownCourse at byte 151"),
@@ -22,7 +22,7 @@ const INSTANCES: [(&str, &str, &str); 15] = [
         "Days: 64\nPeriods_per_day: 9",
         "OverLimit at byte 57",
     ),
-    // More cells than are allowed, and then as many; with this many courses the rooms are read as one.
+    // More cells than are allowed, and then the maximum; with this many courses, the rooms are read as another course.
     (
         "Courses: 2\nRooms: 1\nDays: 1\nPeriods_per_day: 3",
         "Courses: 2048\nRooms: 512\nDays: 9\nPeriods_per_day: 8",
@@ -107,7 +107,7 @@ fn solutions(rt: HostRuntime) -> Result<(), Fail> {
     Ok(())
 }
 
-/// Proofs for Mini with a solution that breaks no hard rule, and why they are refused.
+/// Proofs for Mini with a solution that breaks no hard rule, and the reasons why they are refused.
 pub const PROOFS: [(&str, &str); 14] = [
     ("", "Ended at byte 0"),
     ("cttp 1 bound 0 B ; end", "Expected CTTP at byte 0"),

@@ -7,27 +7,27 @@ use tt_samples::{GAP, GAP_PROOF, MINI, SAME, WIDE, WIDE_SOLUTION, edited};
 use tt_test_files::StoredFile;
 use tt_test_runs::{Outcome, run_with};
 
-/// The room of Mini is short of one seat for its second course.
+/// The room of Mini lacks one seat for its second course.
 const SEATS: &str = "CTTP 1 bound 1 B C c1 1 ; end";
 
-/// The same by prices.
+/// The room of Mini lacks one seat for its second course, claimed by prices.
 const PRICED: &str = "CTTP 2 bound 1 B P c1 1 / ; end";
 
-/// The two lectures of Wide reach two days.
+/// The two lectures of Wide reach only two days.
 const DAYS: &str = "CTTP 1 bound 5 B D c0 ; end";
 
-/// The same, of what is pinned.
+/// The two lectures of Wide reach only two days, claimed for pinned lectures.
 const STACKED: &str = "CTTP 2 bound 5 B T c0 ; end";
 
-/// The two lectures of Wide, a student short of a seat each.
+/// The two lectures of Wide lack a seat for one student each.
 const CRAMPED: &str = "CTTP 1 bound 2 B C c0 1 ; end";
 
-/// Nothing costs 0 at least.
+/// No claims, which cost at least 0.
 const NOTHING: &str = "CTTP 1 bound 0 B ; end";
 
 const NAMES: [&str; 4] = ["1.proof", "2.proof", "3.proof", "4.proof"];
 
-/// What `sum` says of an instance and proofs, with a solution where one is given.
+/// Returns the outcome of `sum` for an instance and proofs, with a solution if one is given.
 fn summed(alloc: Global, instance: &str, solution: &str, proofs: &[&str]) -> Result<Outcome, Fail> {
     let mut words = Vec::new(alloc);
     let mut files = Vec::new(alloc);
@@ -78,7 +78,7 @@ fn no_timetable_at_all(rt: HostRuntime) -> Result<(), Fail> {
     Ok(())
 }
 
-/// Each with the number of the proof that is refused, its node and the earlier proof.
+/// Each case has the number of the proof that is refused, its node and the earlier proof.
 #[test]
 fn targets_that_are_claimed_twice(rt: HostRuntime) -> Result<(), Fail> {
     for (instance, proofs, (proof, node, earlier)) in [
@@ -109,7 +109,7 @@ fn faults_of_the_second_proof(rt: HostRuntime) -> Result<(), Fail> {
         let refused = format!(in rt.alloc(); "refused: proof 2: {fault}\n")?;
         assert_eq!(rt; outcome.answer(), (2, "", refused.as_str()), "with {proof}");
     }
-    // Its own fault is told before what it claims.
+    // A proof's own error is reported before a target claimed twice.
     let outcome = summed(
         rt.alloc(),
         MINI,
@@ -179,7 +179,7 @@ fn failed_reads_of_the_second_proof(rt: HostRuntime) -> Result<(), Fail> {
     Ok(())
 }
 
-/// How many costs from a bound to 20 a line tells with that bound.
+/// Counts the costs from a bound to 20 that a line reports with that bound.
 fn costs_told(alloc: Global, out: &str, bound: u32) -> Result<u32, Fail> {
     let mut costs = 0_u32;
     for cost in 0_u32..=20 {
@@ -191,7 +191,7 @@ fn costs_told(alloc: Global, out: &str, bound: u32) -> Result<u32, Fail> {
     Ok(costs)
 }
 
-/// The first line's cost and bound of each timetable of two lectures in one room and three periods, where it breaks no hard rule.
+/// For each timetable of two lectures in one room and three periods that breaks no hard rule, the first line has its cost and bound.
 #[test]
 fn no_timetable_costs_less(rt: HostRuntime) -> Result<(), Fail> {
     let mut feasible = 0_u32;

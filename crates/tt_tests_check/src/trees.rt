@@ -1,4 +1,4 @@
-//! What `bound` and `check` make of whole proofs.
+//! The results of `bound` and `check` for whole proofs.
 
 use std::alloc::Global;
 use std::test::Fail;
@@ -21,7 +21,7 @@ fn bounded(alloc: Global, instance: &str, proof: &str) -> Result<Outcome, Fail> 
     run_with(alloc, &["bound", "a.ctt", "a.cttp"], &files)
 }
 
-/// Whether `bound` refuses a proof by this fault.
+/// Checks whether `bound` refuses a proof with this error.
 fn is_refused(alloc: Global, instance: &str, proof: &str, fault: &str) -> Result<bool, Fail> {
     let outcome = bounded(alloc, instance, proof)?;
     let told = format!(in alloc; "refused: proof: {fault}\n")?;
@@ -89,7 +89,7 @@ fn a_tree_cut_to_each_length(rt: HostRuntime) -> Result<(), Fail> {
 #[test]
 fn each_read_of_a_tree_fails(rt: HostRuntime) -> Result<(), Fail> {
     let solution = b"a R 0 0 b R 0 2".as_slice();
-    // One byte a read; the last one finds the end.
+    // One byte in each read; the last read finds the end.
     for fail_at in 1..=125 {
         let mut proof = Pieces::new(GAP_PROOF.as_bytes(), 1, fail_at);
         let answer = check(rt.alloc(), GAP.as_bytes(), solution, &mut proof);
@@ -114,7 +114,7 @@ fn bounds_that_hold(rt: HostRuntime) -> Result<(), Fail> {
         ),
         (WIDE, "CTTP 2 bound 5 B T c0 ; end", "bound 5\n"),
         (MINI, "CTTP 2 bound 0 B P / P r0 7 / P / ; end", "bound 0\n"),
-        // The most digits of a token.
+        // The maximum number of digits of a token.
         (
             MINI,
             "CTTP 1 bound 00000000000000000000000000000001 B C c1 1 ; end",

@@ -1,4 +1,4 @@
-//! Leaves found and judged on paths whose facts are the instance's.
+//! Leaves found and checked on paths whose facts have the instance's numbers.
 
 ghost use Rattle.std.specs.Prelude.{◌≡◌, ◌<◌, true, IfSome};
 ghost use Rattle.tt_paths.specs.Facts.{IsPattern, IsWho};
@@ -29,7 +29,7 @@ fn is_there(instance: &Instance<'_>, who: Who) -> bool
     }
 }
 
-/// Whether the numbers of a pattern are the instance's.
+/// Checks that the numbers of a pattern are the instance's.
 fn is_pattern(instance: &Instance<'_>, pattern: Pattern) -> bool
     ensures { result ≡ true → IsPattern instance.now pattern }
 {
@@ -39,7 +39,7 @@ fn is_pattern(instance: &Instance<'_>, pattern: Pattern) -> bool
         && is_given(pattern.period, instance.periods())
 }
 
-/// Adds a fact, if its numbers are the instance's; whether it was added.
+/// Adds a fact, if its numbers are the instance's, and returns whether it was added.
 pub fn push<'i, P: Path<'i>>(path: &mut P, fact: Fact) -> bool
     requires { ArePatterns (P.problem path.old) (P.facts path.old) }
     ensures patterns { ArePatterns (P.problem path.new) (P.facts path.new) }
@@ -54,14 +54,14 @@ pub fn push<'i, P: Path<'i>>(path: &mut P, fact: Fact) -> bool
     }
 }
 
-/// Whether a leaf is right by the judge.
+/// Checks whether a leaf is right by the rules.
 pub fn is_right<'i, P: Path<'i>>(path: &P, leaf: &Leaf, bound: Bound) -> bool
     requires { IsLeafOf (P.problem path.now) leaf.now }
 {
     holds(path, leaf, bound).is_ok()
 }
 
-/// What was found on a path.
+/// The result of a search on a path.
 #[derive(Clone, Copy, Debug, PartialEq, Eq)]
 pub enum Found {
     Nothing,
@@ -69,7 +69,7 @@ pub enum Found {
     Wrong,
 }
 
-/// Looks for a leaf on a path, and judges it on another one of the same facts.
+/// Searches for a leaf on a path, and checks it on another path with the same facts.
 pub fn find<'i, P: Path<'i>, Q: Path<'i>>(
     alloc: Global,
     path: &P,
@@ -91,7 +91,7 @@ pub fn find<'i, P: Path<'i>, Q: Path<'i>>(
     }
 }
 
-/// A leaf that is found after some facts, each of which has to be the instance's.
+/// Returns a leaf that is found after some facts, each of which has to have the instance's numbers.
 pub fn leaf_after<'i, P: Path<'i>>(
     alloc: Global,
     path: &mut P,

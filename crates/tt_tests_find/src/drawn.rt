@@ -1,4 +1,4 @@
-//! Leaves on drawn paths: what one path finds the other finds too, and it is right by the judge over the plain path.
+//! Leaves on random paths: if one path finds a leaf, the other does too, and it is right when checked on the plain path.
 
 ghost use Rattle.std.specs.Prelude.{◌≡◌, []};
 ghost use Rattle.tt_leaf.specs.Found.{ArePatterns};
@@ -13,23 +13,23 @@ use tt_leaf_rules::Bound;
 use tt_paths::{Fact, Path, Pattern, PlainPath, Who};
 use tt_samples::{GAP, MINI, SAME, SEATS, TOUR, TRIO};
 
-/// How many paths are drawn for each instance.
+/// The number of random paths for each instance.
 const PATHS: u64 = 60;
 
-/// The most facts of a path.
+/// The maximum number of facts of a path.
 const MOST_FACTS: u32 = 4;
 
-/// The bounds that are tried on each, in cost points.
+/// The number of bounds that are tried on each path: cost points from 0 on.
 const MOST_POINTS: u64 = 7;
 
-/// A series of numbers, the same for the same seed.
+/// A series of random numbers, the same for the same seed.
 #[derive(Drop)]
 struct Dice {
     state: u64,
 }
 
 impl Dice {
-    /// A number below a bound; 0 where there is none.
+    /// Returns a number below a bound; 0 if the bound is 0.
     fn below(&mut self, bound: u32) -> u32 {
         self.state = self
             .state
@@ -41,7 +41,7 @@ impl Dice {
         ((self.state >> 33) % u64::from(bound)) as u32
     }
 
-    /// A number below a bound, two times of three.
+    /// Returns a number below a bound two times out of three, else `None`.
     fn maybe_below(&mut self, bound: u32) -> Option<u32> {
         if self.below(3) == 0 {
             return None;
@@ -49,7 +49,7 @@ impl Dice {
         Some(self.below(bound))
     }
 
-    /// A fact of one of the first three courses, and of the first rooms, days and periods.
+    /// Returns a fact of one of the first three courses, and of the first rooms, days and periods.
     fn fact(&mut self) -> Fact {
         let pattern = Pattern {
             who: Who::Course(self.below(3)),
@@ -64,7 +64,7 @@ impl Dice {
     }
 }
 
-/// Adds the facts of a seed, as far as their numbers are the instance's.
+/// Adds the facts of a seed whose numbers are the instance's.
 fn push_drawn<'i, P: Path<'i>>(path: &mut P, seed: u64)
     requires { ArePatterns (P.problem path.old) (P.facts path.old) }
     ensures patterns { ArePatterns (P.problem path.new) (P.facts path.new) }
@@ -77,7 +77,7 @@ fn push_drawn<'i, P: Path<'i>>(path: &mut P, seed: u64)
     }
 }
 
-/// Whether both paths find a leaf that is right, or neither finds one and none of the listed leaves is right, by both.
+/// Checks that both paths find a leaf that is right, or neither finds one and none of the listed leaves is right on either path.
 fn is_same<'i, P: Path<'i>, Q: Path<'i>>(
     alloc: Global,
     plain: &P,
@@ -98,7 +98,7 @@ fn is_same<'i, P: Path<'i>, Q: Path<'i>>(
     })
 }
 
-/// Whether what is found on two empty paths is right after the facts of a seed, for each bound.
+/// Checks that the results on two empty paths are correct once the facts of a seed are added, for each bound.
 fn all_same<'i, P: Path<'i>, Q: Path<'i>>(
     alloc: Global,
     plain: &mut P,
@@ -119,7 +119,7 @@ fn all_same<'i, P: Path<'i>, Q: Path<'i>>(
     is_same(alloc, plain, trail, Bound::Nothing)
 }
 
-/// The first seed whose paths differ or find a wrong leaf, if there is one.
+/// Returns the first seed for which the paths differ or find a wrong leaf, if there is one.
 fn first_wrong(alloc: Global, text: &str) -> Result<Option<u64>, Fail> {
     let instance = read_instance(alloc, text.as_bytes())?;
     for seed in 0..PATHS {

@@ -10,7 +10,7 @@ use tt_leaf_rules::{Bound, Claim, Leaf};
 use tt_paths::{Fact, Pattern, PlainPath, Who};
 use tt_samples::{GAP, WIDE, edited};
 
-/// A yes-fact of the first course in a period of the first day.
+/// Returns a yes-fact of the first course in a period of the first day.
 fn first_course_in(period: u32) -> Fact {
     Fact {
         pattern: Pattern {
@@ -23,7 +23,7 @@ fn first_course_in(period: u32) -> Fact {
     }
 }
 
-/// What is found on a new path after some facts, by the plain path and by the one with tables.
+/// Returns the leaves found on a new path after some facts, by the plain path and by the path with tables.
 fn by_both(
     alloc: Global,
     instance: &Instance<'_>,
@@ -38,7 +38,7 @@ fn by_both(
     ))
 }
 
-/// Whether a leaf of costs has just this claim of seats.
+/// Checks whether a leaf of costs has exactly this claim of seats.
 fn is_of_seats(leaf: &Leaf) -> bool {
     match leaf {
         Leaf::Cost(claims) => matches!(
@@ -52,7 +52,7 @@ fn is_of_seats(leaf: &Leaf) -> bool {
     }
 }
 
-/// Whether a leaf of costs has just a claim of stacked days of the first course.
+/// Checks whether a leaf of costs has exactly one claim, of stacked days of the first course.
 fn is_stacked(leaf: &Option<Leaf>) -> bool {
     match leaf {
         Some(Leaf::Cost(claims)) => matches!(claims.as_slice(), [Claim::Stacked(0)]),
@@ -80,7 +80,7 @@ fn on_an_empty_path(rt: HostRuntime) -> Result<(), Fail> {
 
 #[test]
 fn two_lectures_on_one_day(rt: HostRuntime) -> Result<(), Fail> {
-    // Two days of two periods, and a course of two lectures that is wanted on both.
+    // Two days of two periods, and a course of two lectures that needs both days.
     let fewer = edited(
         rt.alloc(),
         WIDE,

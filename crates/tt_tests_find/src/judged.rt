@@ -1,4 +1,4 @@
-//! The leaves that `find_leaf` lists, each judged by itself.
+//! The leaves that `find_leaf` lists, each checked by itself.
 
 ghost use Rattle.std.specs.Prelude.{◌<◌, length, All, IfOk, OnOk};
 ghost use Rattle.tt_leaf.specs.Found.{ArePatterns};
@@ -10,7 +10,7 @@ use tt_leaf::best_claims;
 use tt_leaf_rules::{Bound, Claim, ClaimList, CourseList, Leaf, claim_value};
 use tt_paths::Path;
 
-/// Whether the Empty leaf of some yes-fact is right.
+/// Checks whether the Empty leaf of some yes-fact is right.
 fn is_empty_right<'i, P: Path<'i>>(path: &P, bound: Bound) -> bool
     requires { ArePatterns (P.problem path.now) (P.facts path.now) }
 {
@@ -47,7 +47,7 @@ fn is_closed_by_course<'i, P: Path<'i>>(
     Ok(is_right(path, &Leaf::Many(course), bound) || is_clique(alloc, path, course, bound)?)
 }
 
-/// Whether a Many or a Clique of one course is right.
+/// Checks whether a Many or a Clique of one course is right.
 fn is_course_right<'i, P: Path<'i>>(
     alloc: Global,
     path: &P,
@@ -61,7 +61,7 @@ fn is_course_right<'i, P: Path<'i>>(
     Ok(false)
 }
 
-/// Adds a claim, unless it is one on working days.
+/// Adds a claim, unless it is a claim of working days.
 fn add_but_days<'i, P: Path<'i>>(
     path: &P,
     claims: &mut Vec<Claim>,
@@ -83,7 +83,7 @@ fn add_but_days<'i, P: Path<'i>>(
     Ok(())
 }
 
-/// The claims but those on working days.
+/// Returns the claims without those of working days.
 fn but_days<'i, P: Path<'i>>(
     alloc: Global,
     path: &P,
@@ -99,7 +99,7 @@ fn but_days<'i, P: Path<'i>>(
     Ok(kept)
 }
 
-/// Adds a claim of stacked days, if it is worth something.
+/// Adds a claim of stacked days, if its value is above 0.
 fn add_stacked<'i, P: Path<'i>>(
     path: &P,
     claims: &mut Vec<Claim>,
@@ -116,7 +116,7 @@ fn add_stacked<'i, P: Path<'i>>(
     Ok(())
 }
 
-/// The best claims with stacked days in the place of working days.
+/// Returns the best claims, with stacked days instead of working days.
 fn stacked_claims<'i, P: Path<'i>>(alloc: Global, path: &P) -> Result<Leaf, AllocError>
     ensures { IfOk result (IsLeafOf (P.problem path.now)) }
 {
@@ -131,7 +131,7 @@ fn stacked_claims<'i, P: Path<'i>>(alloc: Global, path: &P) -> Result<Leaf, Allo
     Ok(Leaf::Cost(ClaimList::new(claims)))
 }
 
-/// Whether the leaf of the best claims is right, or the one with stacked days.
+/// Checks whether the leaf of the best claims is right, or the leaf with stacked days.
 fn is_cost_right<'i, P: Path<'i>>(
     alloc: Global,
     path: &P,
@@ -142,7 +142,7 @@ fn is_cost_right<'i, P: Path<'i>>(
     Ok(is_right(path, &best, bound) || is_right(path, &stacked, bound))
 }
 
-/// Whether one of the leaves is right that `find_leaf` lists: the Empty of a yes-fact, a Many, a Clique of one course,
+/// Checks whether one of the leaves that `find_leaf` lists is right: the Empty of a yes-fact, a Many, a Clique of one course,
 /// the best claims, and these with stacked days.
 pub fn is_closed<'i, P: Path<'i>>(alloc: Global, path: &P, bound: Bound) -> Result<bool, AllocError>
     requires { ArePatterns (P.problem path.now) (P.facts path.now) }

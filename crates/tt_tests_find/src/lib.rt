@@ -1,4 +1,4 @@
-//! Tests of leaves that are found, over both paths.
+//! Tests of found leaves, over both paths.
 #![tactic(auto)]
 
 #[cfg(test)]

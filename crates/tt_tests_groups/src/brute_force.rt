@@ -1,17 +1,17 @@
-//! The least cost of a drawn group, by trying each relaxed timetable.
+//! The lowest cost of a random group, found by trying each relaxed timetable.
 
 use crate::drawn::{Course, Drawn, SLOTS, has_bit};
 
-/// The sets of slots.
+/// The number of sets of slots.
 const SETS: u32 = 1 << SLOTS;
 
-/// Points for each working day that a course lacks.
+/// The points for each working day that a course lacks.
 const DAY_POINTS: u32 = 5;
 
-/// Points for each lecture of a curriculum that is alone.
+/// The points for each isolated lecture of a curriculum.
 const ALONE_POINTS: u32 = 2;
 
-/// The group's courses and the members of its curricula.
+/// Returns the group's courses and the members of its curricula.
 fn concerned(drawn: &Drawn) -> u32 {
     let mut courses = drawn.group_courses;
     for (number, members) in drawn.curricula.iter().enumerate() {
@@ -22,7 +22,7 @@ fn concerned(drawn: &Drawn) -> u32 {
     courses
 }
 
-/// Whether a course's slots are as many as its lectures and available; a course of which the group doesn't speak has none.
+/// Checks that a course has as many slots as lectures, all available; a course that the group doesn't concern must have none.
 fn suits(course: &Course, is_concerned: bool, slots: u32) -> bool {
     if !is_concerned {
         return slots == 0;
@@ -30,7 +30,7 @@ fn suits(course: &Course, is_concerned: bool, slots: u32) -> bool {
     slots.count_ones() == course.lectures && slots & !course.available == 0
 }
 
-/// Whether two courses may not meet in one period: a common teacher, or a curriculum that has both.
+/// Checks whether two courses conflict: a common teacher, or a curriculum that has both.
 fn conflict(drawn: &Drawn, one: u32, other: u32) -> bool {
     let both = (1 << (one % 3)) | (1 << (other % 3));
     let first = &drawn.courses[(one % 3) as usize];
@@ -42,14 +42,14 @@ fn conflict(drawn: &Drawn, one: u32, other: u32) -> bool {
             .any(|members| *members & both == both)
 }
 
-/// The slots that are each day's first.
+/// Returns the first slot of each day.
 fn first_slots(drawn: &Drawn) -> u32 {
     (0..SLOTS)
         .filter(|slot| *slot % drawn.periods.max(1) == 0)
         .fold(0, |slots, slot| slots | (1 << (slot % 32)))
 }
 
-/// The days on which some slot of a set is.
+/// Returns the number of days that have a slot of a set.
 fn days_used(drawn: &Drawn, slots: u32) -> u32 {
     let day_slots = (1 << (drawn.periods % 32)) - 1;
     let mut used: u32 = 0;
@@ -61,14 +61,14 @@ fn days_used(drawn: &Drawn, slots: u32) -> u32 {
     used
 }
 
-/// How many slots of a set have no neighbour in it on their day.
+/// Returns the number of slots of a set without a neighbour in it on their day.
 fn alone(slots: u32, first: u32) -> u32 {
     let after = (slots << 1) & !first;
     let before = (slots & !first) >> 1;
     (slots & !(after | before)).count_ones()
 }
 
-/// What the group costs where its courses meet in these slots.
+/// Returns the cost of the group if its courses are taught in these slots.
 fn cost(drawn: &Drawn, plan: [u32; 3], first: u32) -> u32 {
     let mut cost: u32 = 0;
     for (number, course) in drawn.courses.iter().enumerate() {
@@ -92,7 +92,7 @@ fn cost(drawn: &Drawn, plan: [u32; 3], first: u32) -> u32 {
     cost
 }
 
-/// The least cost of the group over all relaxed timetables, or None where there is none.
+/// Returns the lowest cost of the group over all relaxed timetables, or `None` if there is none.
 pub fn least_cost(drawn: &Drawn) -> Option<u32> {
     let courses = concerned(drawn);
     let first = first_slots(drawn);

@@ -1,4 +1,4 @@
-//! Claims about drawn groups, beside brute force.
+//! Claims about random groups, compared with brute force.
 
 use crate::brute_force::least_cost;
 use crate::drawn::{Drawn, draw};
@@ -11,13 +11,13 @@ use tt_peek::Peeked;
 use tt_sum::{GroupsFault, SumFault, sum_proofs};
 use tt_text::Pieces;
 
-/// How many groups are drawn.
+/// The number of random groups.
 const GROUPS: u64 = 500;
 
-/// A claim about a group that has no relaxed timetable, so that any value holds.
+/// The value of a claim about a group that has no relaxed timetable, so that any value holds.
 const ANY_VALUE: u64 = 100;
 
-/// The sum of one file that has one claim about the group.
+/// Returns the sum of one file that has one claim about the group.
 fn sum_of(alloc: Global, drawn: &Drawn, value: u64) -> Result<Result<Bound, SumFault>, Fail> {
     let text = drawn.instance_text(alloc)?;
     let instance = read_instance(alloc, text.as_bytes())?;
@@ -49,7 +49,7 @@ fn the_least_cost_is_the_highest_bound(rt: HostRuntime) -> Result<(), Fail> {
         impossible = impossible.saturating_add(u64::from(least.is_none()));
         positive = positive.saturating_add(u64::from(least.unwrap_or(0) > 0));
     }
-    // Some of each kind are drawn.
+    // Some groups of each kind are drawn.
     assert!(rt;
         impossible > 10 && positive > 100,
         "{impossible} {positive}"

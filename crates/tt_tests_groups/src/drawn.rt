@@ -1,10 +1,10 @@
-//! Drawn groups of tiny instances: six periods, three courses, two curricula.
+//! Random groups of tiny instances: six periods, three courses, two curricula.
 
 use rand_core::{Rng, SeedableRng};
 use rand_pcg::Pcg32;
 use std::alloc::{AllocError, Global};
 
-/// The periods of a week, on one, two or three days.
+/// The number of periods of a week, on one, two or three days.
 pub const SLOTS: u32 = 6;
 
 /// A tiny instance and a group of it. Sets are words of bits: of slots, of courses or of curricula.
@@ -18,7 +18,7 @@ pub struct Drawn {
     pub group_courses: u32,
 }
 
-/// A course that meets in a set of slots, as often and on as many days as it is drawn.
+/// A course with a random number of lectures and of wanted days, and the set of its available slots.
 #[derive(Clone, Copy)]
 pub struct Course {
     pub teacher: u32,
@@ -27,17 +27,17 @@ pub struct Course {
     pub available: u32,
 }
 
-/// Whether a word has a bit.
+/// Checks whether a word has a bit.
 pub fn has_bit(word: u32, number: u32) -> bool {
     (word >> (number % 32)) & 1 == 1
 }
 
-/// A number below `bound`, which is positive.
+/// Returns a random number below `bound`, which is positive.
 fn below(rng: &mut Pcg32, bound: u32) -> u32 {
     rng.next_u32() % bound.max(1)
 }
 
-/// Draws a course of up to three lectures; it may want more days than it has lectures, and can't meet in some slots.
+/// Draws a course of up to three lectures; it may need more days than it has lectures, and is unavailable in some slots.
 fn draw_course(rng: &mut Pcg32) -> Course {
     Course {
         teacher: below(rng, 4),
@@ -71,7 +71,7 @@ pub fn draw(seed: u64) -> Drawn {
 }
 
 impl Drawn {
-    /// The lines of the periods in which a course can't meet, and how many they are.
+    /// Returns the lines of the periods in which a course is unavailable, and their number.
     fn unavailable_lines(&self, alloc: Global) -> Result<(String, u32), AllocError> {
         let mut lines = String::new(alloc);
         let mut count: u32 = 0;
@@ -89,7 +89,7 @@ impl Drawn {
         Ok((lines, count))
     }
 
-    /// The lines of the courses.
+    /// Returns the lines of the courses.
     fn course_lines(&self, alloc: Global) -> Result<String, AllocError> {
         let mut lines = String::new(alloc);
         for (number, course) in self.courses.iter().enumerate() {
@@ -105,7 +105,7 @@ impl Drawn {
         Ok(lines)
     }
 
-    /// The lines of the curricula.
+    /// Returns the lines of the curricula.
     fn curriculum_lines(&self, alloc: Global) -> Result<String, AllocError> {
         let mut lines = String::new(alloc);
         for (number, courses) in self.curricula.iter().enumerate() {
@@ -117,7 +117,7 @@ impl Drawn {
         Ok(lines)
     }
 
-    /// The text of the instance.
+    /// Returns the text of the instance.
     pub fn instance_text(&self, alloc: Global) -> Result<String, AllocError> {
         let (unavailable, constraints) = self.unavailable_lines(alloc)?;
         let courses = self.course_lines(alloc)?;
@@ -131,7 +131,7 @@ impl Drawn {
         )
     }
 
-    /// The text of one claim about the group.
+    /// Returns the text of one claim about the group.
     pub fn claim_text(&self, alloc: Global, value: u64) -> Result<String, AllocError> {
         let curricula = names(alloc, 'q', self.group_curricula)?;
         let courses = names(alloc, 'c', self.group_courses)?;
@@ -139,7 +139,7 @@ impl Drawn {
     }
 }
 
-/// The names of the first three numbers in a set, each after a space.
+/// Returns the names of the first three numbers in a set, each after a space.
 fn names(alloc: Global, letter: char, set: u32) -> Result<String, AllocError> {
     let mut names = String::new(alloc);
     for number in 0..3 {

@@ -9,19 +9,20 @@ use tt_search::Unwatched;
 use tt_table::Entry;
 use tt_text::Pieces;
 
-/// Two curricula without a course in common. In each a course of three lectures on three days and one helper of one lecture: two of the
-/// three lectures are alone.
+/// Two curricula without a course in common. Each has a course of three lectures on three days and a helper of one lecture: two of the
+/// three lectures are isolated.
 const PAIR: &str =
     "Name: Pair\nCourses: 4\nRooms: 2\nDays: 3\nPeriods_per_day: 2\nCurricula: 2\nConstraints: 0\n\nCOURSES:\na t1 3 3 10\nb t2 1 1 10\nc t3 3 3 10\nd t4 1 1 10\n\nROOMS:\nR 20\nS 20\n\nCURRICULA:\nq 2 a b\nr 2 c d\n\nUNAVAILABILITY_CONSTRAINTS:\n\nEND.\n";
 
-/// A course of three lectures on three days, which shares a curriculum with each of two helpers of one lecture: two lectures on one day cost least.
+/// A course of three lectures on three days, which shares a curriculum with each of two helpers of one lecture: two lectures on one day cost
+/// least.
 const CHAIN: &str =
     "Name: Chain\nCourses: 3\nRooms: 2\nDays: 3\nPeriods_per_day: 3\nCurricula: 2\nConstraints: 0\n\nCOURSES:\na t1 3 3 10\nb t2 1 1 10\nc t3 1 1 10\n\nROOMS:\nR 20\nS 20\n\nCURRICULA:\nq 2 a b\nr 2 a c\n\nUNAVAILABILITY_CONSTRAINTS:\n\nEND.\n";
 
-/// How much work is enough for all that is found here.
+/// An amount of work that is enough for every search in this file.
 const EFFORT: u64 = 1_000_000;
 
-/// The text of the groups that are found.
+/// Returns the text of the groups that are found.
 fn found(
     alloc: Global,
     instance: &Instance<'_>,

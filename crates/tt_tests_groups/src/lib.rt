@@ -1,4 +1,4 @@
-//! Tests of groups that are found and of claims about drawn groups, on small instances.
+//! Tests of found groups and of claims about random groups, on small instances.
 #![tactic(auto)]
 
 #[cfg(test)]

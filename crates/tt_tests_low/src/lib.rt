@@ -1,4 +1,4 @@
-//! Tests of what stands below the search and the program: files, tables and texts of proofs, by the calls.
+//! Tests of the layers below the search and the program: files, tables and texts of proofs, by the library's calls.
 #![tactic(auto)]
 
 #[cfg(test)]

@@ -1,5 +1,5 @@
-//! Calls that take memory, each between two marks: hostile/run.py refuses their growths in turn. A call answers what it does without a
-//! refusal, or that memory ran out, and then what it was lent is as before.
+//! Calls that allocate memory, each between two marks: hostile/run.py refuses their allocations in turn. A call returns the same result as
+//! without a refusal, or that memory ran out, and then its borrowed arguments are unchanged.
 
 use std::test::Fail;
 use tt_instance::{read_instance, write_instance};
@@ -198,7 +198,7 @@ fn the_call_node_reader_new(rt: HostRuntime) -> Result<(), Fail> {
     Ok(())
 }
 
-/// Reads nodes until there are no more, and answers how many.
+/// Reads nodes until there are no more, and returns their number.
 fn nodes_read(reader: &mut NodeReader, source: &mut Pieces<'_>) -> Result<usize, TextFault> {
     for count in 0..20 {
         if reader.next_node(source)?.is_none() {
@@ -208,7 +208,7 @@ fn nodes_read(reader: &mut NodeReader, source: &mut Pieces<'_>) -> Result<usize,
     Ok(20)
 }
 
-/// The same between the marks.
+/// Reads nodes between the marks until there are no more, and returns their number.
 fn nodes_between_marks(
     rt: &impl Print,
     reader: &mut NodeReader,
@@ -217,7 +217,7 @@ fn nodes_between_marks(
     println!(rt; "{MARK}")?;
     let count = nodes_read(reader, source);
     println!(rt; "{MARK}")?;
-    // After a fault it answers the same fault again, though there is memory now.
+    // After an error it returns the same error again, although there is memory now.
     if count.is_err() && nodes_read(reader, source) != count {
         return Err(Fail::new(format_args!("another answer after a fault")));
     }

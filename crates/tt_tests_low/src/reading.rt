@@ -1,4 +1,4 @@
-//! Instances and whole sources by the calls.
+//! Instances and whole sources, tested by the library's calls.
 
 use std::alloc::{AllocError, Global};
 use std::test::Fail;
@@ -6,14 +6,14 @@ use tt_instance::{Instance, InstanceFault, read_instance, write_instance};
 use tt_samples::{GAP, MINI, TOUR, TRIO, WIDE, edited};
 use tt_text::{Pieces, Source, WholeFault, read_whole};
 
-/// What is written of the instance that a text spells.
+/// Returns the text that is written for the instance that a text spells.
 fn rewritten(alloc: Global, text: &str) -> Result<String, Fail> {
     let instance = read_instance(alloc, text.as_bytes())?;
     let written = write_instance(alloc, &instance)?;
     Ok(String::from_utf8(written)?)
 }
 
-/// A text with other bytes between its tokens.
+/// Returns a text with other bytes between its tokens.
 fn relaid(alloc: Global, text: &str, space: &str, line_end: &str) -> Result<String, AllocError> {
     let mut all = String::new(alloc);
     for letter in text.chars() {
@@ -75,7 +75,7 @@ fn names_of_any_number_of_tokens(rt: HostRuntime) -> Result<(), Fail> {
     Ok(())
 }
 
-/// How many there are of each, and the days and periods.
+/// Returns the numbers of days, periods, courses, rooms, curricula, teachers and bars.
 fn counts_of(instance: &Instance<'_>) -> [u32; 7] {
     [
         instance.days(),
@@ -88,12 +88,12 @@ fn counts_of(instance: &Instance<'_>) -> [u32; 7] {
     ]
 }
 
-/// Which course and which room has a name.
+/// Returns the course and the room with a name.
 fn named(instance: &Instance<'_>, name: &[u8]) -> (Option<u32>, Option<u32>) {
     (instance.course_named(name), instance.room_named(name))
 }
 
-/// Whether two courses exclude each other, whether the second is in the first curriculum, and whether it is unavailable in two periods.
+/// Returns whether two courses conflict, whether the second is in the first curriculum, and whether it is unavailable in two periods.
 fn relations_of(instance: &Instance<'_>) -> [bool; 4] {
     [
         instance.conflict(0, 1),
@@ -134,7 +134,7 @@ fn instances_that_end_anywhere(rt: HostRuntime) {
     }
 }
 
-/// Whether a source that is at most this long gives Mini's text, and whether a read had failed.
+/// Returns whether a source that is limited to this length gives Mini's text, and whether a read had failed.
 fn whole_of(alloc: Global, limit: usize, fail_at: u64) -> (Result<bool, WholeFault>, bool) {
     let mut source = Pieces::new(MINI.as_bytes(), 100, fail_at);
     let whole = read_whole(alloc, &mut source, limit);

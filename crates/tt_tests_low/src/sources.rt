@@ -1,4 +1,4 @@
-//! Readers, feeds and readers of proofs by the calls.
+//! Readers, feeds and readers of proofs, tested by the library's calls.
 
 use std::alloc::Global;
 use std::io;
@@ -78,7 +78,7 @@ fn a_source_without_end(rt: HostRuntime) {
     assert_eq!(rt; whole.err(), Some(WholeFault::TooLong));
 }
 
-/// What a feed says: where its next token begins or why it has none, the first byte of that token, and where the text ended.
+/// The answers of a feed: the offset of its next token or the reason why it has none, the first byte of that token, and where the text ended.
 #[derive(Clone, Copy, Debug, PartialEq, Eq)]
 struct Said {
     next: Result<Option<usize>, FeedFault>,
@@ -86,7 +86,7 @@ struct Said {
     ended: Option<usize>,
 }
 
-/// What it says of a token.
+/// Returns the feed's answers about a token.
 fn token_said(at: usize, first: u8) -> Said {
     Said {
         next: Ok(Some(at)),
@@ -95,7 +95,7 @@ fn token_said(at: usize, first: u8) -> Said {
     }
 }
 
-/// What it says after a fault.
+/// Returns the feed's answers after an error.
 fn fault_said(fault: FeedFault) -> Said {
     Said {
         next: Err(fault),
@@ -112,7 +112,7 @@ fn say(feed: &mut Feed, source: &mut Pieces<'_>) -> Said {
     }
 }
 
-/// What a feed says the first four times.
+/// Returns a feed's answers to the first four calls.
 fn said_by_feed(alloc: Global, text: &[u8], fail_at: u64) -> Result<[Said; 4], FeedFault> {
     let mut source = Pieces::new(text, 4, fail_at);
     let mut feed = Feed::new(alloc)?;
@@ -145,12 +145,12 @@ fn a_feed_after_its_fault(rt: HostRuntime) -> Result<(), Fail> {
     Ok(())
 }
 
-/// Whether a reader gives a node.
+/// Checks whether a reader gives a node.
 fn gives_node(reader: &mut NodeReader, source: &mut Pieces<'_>) -> Result<bool, TextFault> {
     Ok(reader.next_node(source)?.is_some())
 }
 
-/// What a reader says twice of a node whose text is cut off by a read that fails once.
+/// Returns a reader's two results for a node whose text is cut off by a read that fails once.
 fn said_of_node(
     alloc: Global,
     instance: &Instance<'_>,
@@ -171,17 +171,17 @@ fn a_proof_reader_after_a_failed_read(rt: HostRuntime) -> Result<(), Fail> {
     Ok(())
 }
 
-/// What a reader of a proof of one leaf says at its end.
+/// The answers of a reader of a proof of one leaf at its end.
 #[derive(Clone, Copy, Debug, PartialEq, Eq)]
 struct Ending {
     finished: Result<(), TextFault>,
-    /// It is whole after that, too.
+    /// Whether it is still whole afterwards.
     whole: bool,
     version: u8,
     bound: Bound,
 }
 
-/// Reads one node; nothing where there is none, or where more are to come.
+/// Reads one node; returns `None` if there is none, or if more are to come.
 fn end(reader: &mut NodeReader, source: &mut Pieces<'_>) -> Result<Option<Ending>, TextFault> {
     let is_there = reader.next_node(source)?.is_some();
     if !is_there || !reader.whole() {
@@ -195,7 +195,7 @@ fn end(reader: &mut NodeReader, source: &mut Pieces<'_>) -> Result<Option<Ending
     }))
 }
 
-/// The same of a text.
+/// Reads the one node of a text; returns `None` if there is none, or if more are to come.
 fn end_of(
     alloc: Global,
     instance: &Instance<'_>,

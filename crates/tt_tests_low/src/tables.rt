@@ -1,4 +1,4 @@
-//! Timetables by the calls.
+//! Timetables, tested by the library's calls.
 
 use std::alloc::Global;
 use std::test::Fail;
@@ -7,7 +7,7 @@ use tt_rules::score;
 use tt_samples::{MINI, repeated};
 use tt_table::{Entry, MAX_ENTRIES, PushFault, Timetable, read_solution, write_solution};
 
-/// A lecture of Mini's first course, and one of its second.
+/// A lecture of Mini's first course, and a lecture of its second course.
 const ENTRIES: [Entry; 2] = [
     Entry {
         course: 0,
@@ -23,7 +23,7 @@ const ENTRIES: [Entry; 2] = [
     },
 ];
 
-/// Whether a text is read as these entries, a copy of them fits, and the copy is written in these lines.
+/// Checks that a text is read as these entries, a copy of them fits, and the copy is written as these lines.
 fn is_read_as(
     alloc: Global,
     instance: &Instance<'_>,
@@ -53,7 +53,7 @@ fn a_solution_is_read_copied_and_written(rt: HostRuntime) -> Result<(), Fail> {
     Ok(())
 }
 
-/// Pushes an entry to a table with room for one more, and then another one, and answers what the table said.
+/// Pushes an entry to a table with room for another, and then another one, and returns the table's results.
 fn push_two(
     table: &mut Timetable,
     first: Entry,
@@ -71,7 +71,7 @@ fn pushed_entries(rt: HostRuntime) -> Result<(), Fail> {
     let mut table = read_solution(rt.alloc(), &instance, lines.as_bytes())?;
     let pushed = push_two(&mut table, last, first);
     assert_eq!(rt; pushed, (Ok(()), Err(PushFault::Full)));
-    // The refused entry leaves the table as it was.
+    // The refused entry does not change the table.
     let entries = table.entries();
     assert_eq!(rt; entries.len(), 16_384);
     assert_eq!(rt;
@@ -103,7 +103,7 @@ fn entries_out_of_range_do_not_fit(rt: HostRuntime) -> Result<(), Fail> {
     Ok(())
 }
 
-/// The hard count and the cost of a text, and whether it is feasible.
+/// Returns the hard count and the cost of a text, and whether it is feasible.
 fn score_of(alloc: Global, instance: &Instance<'_>, text: &str) -> Result<(u64, u64, bool), Fail> {
     let table = read_solution(alloc, instance, text.as_bytes())?;
     if !table.fits(instance) {

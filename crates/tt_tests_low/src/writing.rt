@@ -1,4 +1,4 @@
-//! What `write_proof` refuses, and what it writes.
+//! The proofs that `write_proof` refuses, and the texts that it writes.
 
 use std::test::Fail;
 use tt_leaf_rules::{Bound, Claim, ClaimList, Leaf};

@@ -1,4 +1,4 @@
-//! Tests of memory of what stands above: leaves that are found, the checker, the search and the commands.
+//! Tests of memory in the upper layers: found leaves, the checker, the search and the commands.
 #![tactic(auto)]
 
 #[cfg(test)]

@@ -1,5 +1,5 @@
-//! Calls that take memory, each between two marks: hostile/run.py refuses their growths in turn. A call answers what it does without a
-//! refusal, or that memory ran out.
+//! Calls that allocate memory, each between two marks: hostile/run.py refuses their allocations in turn. A call returns the same result as
+//! without a refusal, or that memory ran out.
 
 use std::alloc::{AllocError, Global};
 use std::test::Fail;
@@ -19,12 +19,12 @@ use tt_upgrade::read_proof;
 
 const YES: &str = "yes cost 5 bound 5 optimal\n";
 
-/// The proof of Gap, seven bytes a read.
+/// Returns the proof of Gap, seven bytes in each read.
 fn gap_proof() -> Pieces<'static> {
     Pieces::new(GAP_PROOF.as_bytes(), 7, 0)
 }
 
-/// Whether a leaf is the one claim of seats of the second course at price 1.
+/// Checks whether a leaf is the single claim of seats of the second course at price 1.
 fn is_best(leaf: &Leaf) -> bool {
     match leaf {
         Leaf::Cost(claims) => matches!(
@@ -60,13 +60,13 @@ fn the_call_best_claims_on_trail_paths(rt: HostRuntime) -> Result<(), Fail> {
     Ok(())
 }
 
-/// Whether a leaf is found for a bound where there are no facts.
+/// Checks whether a leaf is found for a bound without any facts.
 fn is_found(alloc: Global, instance: &Instance<'_>, bound: Bound) -> Result<bool, AllocError> {
     let path = PlainPath::new(alloc, instance);
     Ok(find_leaf(alloc, &path, bound)?.is_some())
 }
 
-/// The same on a path with tables.
+/// Checks whether a leaf is found for a bound without any facts, on a path with tables.
 fn is_found_by_tables(
     alloc: Global,
     instance: &Instance<'_>,
@@ -137,7 +137,7 @@ fn the_call_check_proof(rt: HostRuntime) -> Result<(), Fail> {
     Ok(())
 }
 
-/// What a split and two leaves without claims come to for the bound 0; nothing where there is no course.
+/// Returns the result of checking a split and two leaves without claims for the bound 0; `None` if there is no course.
 fn split_judged(alloc: Global, instance: &Instance<'_>) -> Option<Result<(), NodesFault>> {
     if instance.courses() == 0 {
         return None;
@@ -233,7 +233,7 @@ fn the_call_solve_of_one_node(rt: HostRuntime) -> Result<(), Fail> {
     Ok(())
 }
 
-/// What an answer prints.
+/// Returns the text that an answer prints.
 fn text_of(answer: &Answer) -> &[u8] {
     &answer.out
 }

@@ -1,4 +1,4 @@
-//! Tests of timetables that move: their counts, steps, chains and searches, by the calls.
+//! Tests of changing timetables: their counts, steps, chains and searches, by the library's calls.
 #![tactic(auto)]
 
 #[cfg(test)]

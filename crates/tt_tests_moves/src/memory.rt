@@ -1,5 +1,5 @@
-//! Calls that take memory, each between two marks: hostile/run.py refuses their growths in turn. A call answers what it does without a
-//! refusal, or that memory ran out, and then what it was lent is as before.
+//! Calls that allocate memory, each between two marks: hostile/run.py refuses their allocations in turn. A call returns the same result as
+//! without a refusal, or that memory ran out, and then its borrowed arguments are unchanged.
 
 use crate::timetables::occupied;
 use std::alloc::Global;
@@ -47,7 +47,7 @@ fn the_call_occupied_new(rt: HostRuntime) -> Result<(), Fail> {
     }
 }
 
-/// The chain of the first entry to the second period; no fault where there is no such entry or period.
+/// Returns the chain of the first entry to the second period, or `None` if there is no such entry or period.
 fn first_chain(alloc: Global, occupied: &Occupied<'_, '_>) -> Result<Option<Chain>, ChainFault> {
     let instance = occupied.instance();
     if occupied.table().is_empty() || instance.days() == 0 || instance.periods() < 2 {
@@ -56,7 +56,7 @@ fn first_chain(alloc: Global, occupied: &Occupied<'_, '_>) -> Result<Option<Chai
     Ok(Some(chain(alloc, occupied, 0, 0, 1)?))
 }
 
-/// Whether both entries are its members.
+/// Checks whether both entries are members of the chain.
 fn chains_both(alloc: Global, occupied: &Occupied<'_, '_>) -> Result<bool, ChainFault> {
     let found = first_chain(alloc, occupied)?;
     Ok(found.is_some_and(|chain| chain.members() == [0, 1].as_slice()))

@@ -1,4 +1,4 @@
-//! What steps change, and chains of entries.
+//! The changes by steps, and chains of entries.
 
 use crate::timetables::{occupied, text_of};
 use std::alloc::Global;
@@ -11,7 +11,7 @@ use tt_moves::{
 use tt_occupancy::Occupied;
 use tt_samples::{MINI, MINI_SOLUTION, TOUR, edited};
 
-/// Two courses that exclude each other by nothing, two rooms and two periods.
+/// Two courses that do not conflict, two rooms and two periods.
 const PAIR: &str =
     "Name: Pair\nCourses: 2\nRooms: 2\nDays: 1\nPeriods_per_day: 2\nCurricula: 0\nConstraints: 0\n\nCOURSES:\nx t1 1 1 1\ny t2 1 1 1\n\nROOMS:\nA 10\nB 10\n\nCURRICULA:\n\nUNAVAILABILITY_CONSTRAINTS:\n\nEND.\n";
 
@@ -24,7 +24,7 @@ fn moved_to(entry: u32, room: u32, day: u32, period: u32) -> Step {
     }
 }
 
-/// What a step changes, and whether it lowers the pair; nothing where it can't be made.
+/// Returns the changes by a step, and whether it lowers the pair; `None` if it can't be made.
 fn changed(occupied: &Occupied<'_, '_>, step: Step) -> Option<(i64, i64, bool)> {
     if !can_step(occupied, step) {
         return None;
@@ -33,7 +33,7 @@ fn changed(occupied: &Occupied<'_, '_>, step: Step) -> Option<(i64, i64, bool)> 
     Some((change.hard, change.cost, lowers(occupied, step)))
 }
 
-/// The same of the timetable that a solution spells.
+/// Returns the changes by a step to the timetable that a solution spells, and whether it lowers the pair; `None` if it can't be made.
 fn changed_in(
     alloc: Global,
     instance: &str,
@@ -67,7 +67,7 @@ fn changes_of_steps(rt: HostRuntime) -> Result<(), Fail> {
     Ok(())
 }
 
-/// What a step changes in the hard count, and what in the score within a limit; nothing where it can't be made.
+/// Returns the change of the hard count by a step, and the change of the score within a limit; `None` if the step can't be made.
 fn changed_within(
     occupied: &Occupied<'_, '_>,
     step: Step,
@@ -82,7 +82,8 @@ fn changed_within(
     ))
 }
 
-/// The same of Mini's solution.
+/// Returns the change of the hard count of Mini's solution by a step, and the change of the score within a limit; `None` if the step can't be
+/// made.
 fn mini_changed_within(
     alloc: Global,
     step: Step,
@@ -114,18 +115,18 @@ fn a_room_that_is_used_no_longer(rt: HostRuntime) -> Result<(), Fail> {
     Ok(())
 }
 
-/// A step that is made and taken back.
+/// A step that is made and undone.
 #[derive(Drop)]
 struct TakenBack {
-    /// The cost between and after.
+    /// The costs after the step and after undoing it.
     costs: (u64, u64),
     between: String,
     after: String,
-    /// What takes the step back.
+    /// The step that undoes it.
     back: Step,
 }
 
-/// Makes a step and takes it back.
+/// Makes a step and undoes it.
 fn take_back(
     alloc: Global,
     occupied: &mut Occupied<'_, '_>,
@@ -147,7 +148,7 @@ fn take_back(
     })
 }
 
-/// The same on Mini's solution.
+/// Makes a step on Mini's solution and undoes it.
 fn mini_taken_back(alloc: Global, step: Step) -> Result<TakenBack, Fail> {
     let instance = read_instance(alloc, MINI.as_bytes())?;
     let mut occupied = occupied(alloc, &instance, MINI_SOLUTION)?;
@@ -163,12 +164,12 @@ fn steps_that_are_taken_back(rt: HostRuntime) -> Result<(), Fail> {
     Ok(())
 }
 
-/// A chain whose members changed places, and the timetable then.
+/// A chain whose members changed places, and the timetable afterwards.
 #[derive(Drop)]
 struct ChainSwap {
     members: Vec<u32>,
     text: String,
-    /// No hard rule is broken.
+    /// Whether no hard rule is broken.
     feasible: bool,
     cost: u64,
 }
@@ -203,7 +204,7 @@ fn swap_from_first(
     })
 }
 
-/// The same of the timetable that a solution spells, to the second period.
+/// Swaps the chain of the first entry to the second period, in the timetable that a solution spells.
 fn swapped_in(alloc: Global, instance: &str, solution: &str) -> Result<ChainSwap, Fail> {
     let instance = read_instance(alloc, instance.as_bytes())?;
     let mut occupied = occupied(alloc, &instance, solution)?;
@@ -233,7 +234,7 @@ fn chains_that_change_places(rt: HostRuntime) -> Result<(), Fail> {
     Ok(())
 }
 
-/// Why the first entry has no chain to a period of the first day.
+/// Returns the reason why the first entry has no chain to a period of the first day.
 fn refused(
     alloc: Global,
     occupied: &Occupied<'_, '_>,
@@ -247,7 +248,7 @@ fn refused(
     Ok(chain(alloc, occupied, 0, 0, period).err())
 }
 
-/// The same in the timetable that a solution spells.
+/// Returns the reason why the first entry has no chain to a period of the first day, in the timetable that a solution spells.
 fn refused_in(
     alloc: Global,
     instance: &str,

@@ -1,4 +1,4 @@
-//! A timetable with its counts and its score, by the calls.
+//! A timetable with its counts and its score, tested by the library's calls.
 
 ghost use Rattle.std.specs.Prelude.{◌<◌, ◌↔◌, IsTrue};
 
@@ -9,13 +9,13 @@ use tt_instance::{Instance, read_instance};
 use tt_occupancy::Occupied;
 use tt_samples::{MINI, MINI_SOLUTION};
 
-/// The hard count and the cost.
+/// Returns the hard count and the cost.
 fn pair(occupied: &Occupied<'_, '_>) -> (u64, u64) {
     let score = occupied.score();
     (score.hard(), score.cost())
 }
 
-/// Whether a day has the period.
+/// Checks whether the day and the period exist.
 fn is_period(instance: &Instance<'_>, day: u32, period: u32) -> bool
     ensures { IsTrue result ↔ (day < instance.now.days × period < instance.now.periods) }
 {
@@ -75,7 +75,7 @@ fn course_in_room(occupied: &Occupied<'_, '_>, course: u32, room: u32) -> Option
     Some(occupied.course_in_room(course, room))
 }
 
-/// The hard count and the cost once an entry stands elsewhere.
+/// Returns the hard count and the cost after an entry is moved.
 fn moved(
     occupied: &mut Occupied<'_, '_>,
     entry: u32,
@@ -94,7 +94,7 @@ fn moved(
     Some(pair(occupied))
 }
 
-/// The hard count and the cost once two entries have changed places.
+/// Returns the hard count and the cost after two entries have changed places.
 fn swapped(occupied: &mut Occupied<'_, '_>, first: u32, second: u32) -> Option<(u64, u64)> {
     let entries = occupied.table().len() as u32;
     if first >= entries || second >= entries {
@@ -104,7 +104,7 @@ fn swapped(occupied: &mut Occupied<'_, '_>, first: u32, second: u32) -> Option<(
     Some(pair(occupied))
 }
 
-/// Counts of some entries.
+/// Returns counts of some entries.
 fn counts(occupied: &Occupied<'_, '_>) -> [Option<u32>; 6] {
     [
         in_room(occupied, 0, 0, 2),
@@ -116,7 +116,7 @@ fn counts(occupied: &Occupied<'_, '_>) -> [Option<u32>; 6] {
     ]
 }
 
-/// The same of Mini's solution, after its hard count and cost.
+/// Returns the hard count and cost of Mini's solution, and counts of some of its entries.
 fn mini_counts(alloc: Global) -> Result<((u64, u64), [Option<u32>; 6]), Fail> {
     let instance = read_instance(alloc, MINI.as_bytes())?;
     let occupied = occupied(alloc, &instance, MINI_SOLUTION)?;
@@ -132,7 +132,7 @@ fn counts_of_entries(rt: HostRuntime) -> Result<(), Fail> {
     Ok(())
 }
 
-/// The pair after a move, after a swap, and after an entry has changed places with itself.
+/// Returns the pair after a move, after a swap, and after an entry has changed places with itself.
 fn pairs(occupied: &mut Occupied<'_, '_>) -> [Option<(u64, u64)>; 3] {
     [
         moved(occupied, 1, 0, 0, 1),
@@ -141,7 +141,7 @@ fn pairs(occupied: &mut Occupied<'_, '_>) -> [Option<(u64, u64)>; 3] {
     ]
 }
 
-/// The same of Mini's solution, with a count and the text then.
+/// Returns the pairs of Mini's solution after a move, a swap and a swap with itself, and a count and the text afterwards.
 fn mini_pairs(alloc: Global) -> Result<([Option<(u64, u64)>; 3], Option<u32>, String), Fail> {
     let instance = read_instance(alloc, MINI.as_bytes())?;
     let mut occupied = occupied(alloc, &instance, MINI_SOLUTION)?;

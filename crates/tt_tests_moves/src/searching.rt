@@ -1,4 +1,4 @@
-//! What construction, descent and search make of timetables.
+//! The results of construction, descent and search.
 
 use std::alloc::Global;
 use std::test::Fail;
@@ -8,7 +8,7 @@ use tt_samples::{FLAT, FLAT_SOLUTION, MINI, MINI_SOLUTION, WIDE, edited};
 use tt_search::{construct, descend, improve};
 use tt_table::{Timetable, read_solution, write_solution};
 
-/// How many entries a course has.
+/// Returns the number of entries of a course.
 fn lectures_of(table: &Timetable, course: u32) -> usize {
     table
         .entries()
@@ -17,7 +17,7 @@ fn lectures_of(table: &Timetable, course: u32) -> usize {
         .count()
 }
 
-/// How often the first and the second course are taught in a first timetable of Mini, and its hard count.
+/// Returns the numbers of entries of the first and the second course in a constructed timetable of Mini, and its hard count.
 fn constructed(alloc: Global, seed: u64) -> Result<((usize, usize), u64), Fail> {
     let instance = read_instance(alloc, MINI.as_bytes())?;
     let table = construct(alloc, &instance, seed)?;
@@ -41,7 +41,7 @@ fn no_lectures_without_rooms(rt: HostRuntime) -> Result<(), Fail> {
     Ok(())
 }
 
-/// Whether a descent settled, the cost then, and whether the timetable stayed as it was.
+/// Returns whether a descent settled, the cost at its end, and whether the timetable is unchanged.
 fn descended(
     alloc: Global,
     instance: &str,
@@ -72,7 +72,7 @@ fn descents(rt: HostRuntime) -> Result<(), Fail> {
     Ok(())
 }
 
-/// The text of what `improve` makes of Mini's solution in 50 steps.
+/// Returns the text of the result of `improve` on Mini's solution with 50 steps.
 fn improved_text(alloc: Global, seed: u64) -> Result<Vec<u8>, Fail> {
     let instance = read_instance(alloc, MINI.as_bytes())?;
     let table = read_solution(alloc, &instance, MINI_SOLUTION.as_bytes())?;

@@ -6,7 +6,7 @@ use tt_instance::Instance;
 use tt_occupancy::Occupied;
 use tt_table::{read_solution, write_solution};
 
-/// The timetable that a solution spells, with its counts.
+/// Returns the timetable that a solution spells, with its counts.
 pub fn occupied<'a, 'i>(
     alloc: Global,
     instance: &'a Instance<'i>,
@@ -19,7 +19,7 @@ pub fn occupied<'a, 'i>(
     }
 }
 
-/// The text of the timetable as it stands.
+/// Returns the text of the current timetable.
 pub fn text_of(alloc: Global, occupied: &Occupied<'_, '_>) -> Result<String, Fail> {
     let text = write_solution(alloc, occupied.instance(), occupied.table())?;
     Ok(String::from_utf8(text)?)

@@ -1,4 +1,4 @@
-//! Tests of parts that are found, on small instances.
+//! Tests of found parts, on small instances.
 #![tactic(auto)]
 
 #[cfg(test)]

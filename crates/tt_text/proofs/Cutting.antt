@@ -1,4 +1,4 @@
--- What a feed gives, step by step, of bytes after which a read fails.
+-- The stream of a feed, step by step, for bytes after which a read fails.
 use Rattle.std.proofs.Common.{◌≡◌, ℕ, ◌+◌, ◌-◌, ◌<◌, Bool, true, false, ◌||◌, List, [], ◌∷◌, ◌++◌, length, take, drop, Option, Some, None, Result, Ok, Err, is_some, refl, sym, ap, subst, ◌∙◌, arith, append_assoc, append-nil, length-append}
 use Rattle.std.specs.Result.{is_err, OnOk, OnErr}
 use Rattle.std.specs.Io.KnownBytes.{Consumes, Keeps}
@@ -16,7 +16,7 @@ use Rattle.tt_text.specs.declared.feed.FeedFault.TheVariants.{Read}
 use Rattle.tt_text.proofs.Feeding.{while-yes}
 use Rattle.tt_text.proofs.Windows.{fed_of}
 
--- ---- the bytes before the rest
+-- -- the bytes before the remaining ones
 
 front_is : (given rest : List ℕ) → take (length (given ++ rest) - length rest) (given ++ rest) ≡ given
 front_is given rest =
@@ -39,7 +39,7 @@ broken_fault rest fed known f e = rw e refl
 
 -- ---- a token
 
--- a token that ends before the end
+-- a token that ends before the end of the bytes
 first_stays : (t : Placed) (ts : List Placed) (stop : Result ℕ FeedFault) → ((n : ℕ) → stop ≡ Ok n → t.at + length t.text < n) → cut_short_by (t ∷ ts) stop ≡ with_token t (cut_short_by ts stop)
 first_stays t ts (Ok n) h =
     ap (λ (l : List Placed). record { tokens = l; stop = Err Read }) (while-yes (ends_before (Some (record { byte = n; told = Read }))) t ts (lt-ltb _ _ (h n refl)))
@@ -65,7 +65,7 @@ token_broken held at gap len given f =
     ap cut_short (f.given given (λ e. absurd cc))
     ∙ first_stays (record { text = t; at = at + gap }) rest.tokens rest.stop (λ n e. let end = stream_end 4294967295 (at + gap + len) behind n e in omega arith)
 
--- what may fail after a token, may fail before it
+-- a read that may fail after a token may fail before it
 pub fed_token_cut : (f new : Fed) (gap len at : ℕ) (known : Option (List ℕ)) → f.fault ≡ None → FindsToken f.at f.held f.ended gap len → at ≡ f.at + gap
     → new ≡ fed_of (drop (gap + len) f.held) (f.at + gap + len) (take len (drop gap f.held)) f.ended false f.fault
     → (rest : List ℕ) → MayFail rest new known → MayFail rest f known × (cut_at rest f known ≡ with_token (record { text = new.token; at = at }) (cut_at rest new known))
@@ -91,7 +91,7 @@ known_before (Some xs) (Some ys) bytes given rest k c e =
     let same : ys ≡ given ++ rest = cc in
     ap Some (c ∙ ap (λ (l : List ℕ). bytes ++ l) same ∙ sym (append_assoc bytes given rest))
 
--- what may fail after a read, may fail before it, and gives the same
+-- a read that may fail after another read may fail before it, and gives the same
 pub fed_more_cut : (f skipped new : Fed) (gap : ℕ) (before after : Option (List ℕ)) → is_some before ≡ true → f.fault ≡ None → FindsMore f.at f.held f.ended gap
     → skipped ≡ fed_of (drop gap f.held) (f.at + gap) [] f.ended f.over f.fault → Filled skipped new before after
     → (rest : List ℕ) → MayFail rest new after → MayFail rest f before × (cut_at rest f before ≡ cut_at rest new after)
@@ -108,7 +108,7 @@ fed_more_cut f skipped new gap before after k sound finds skipped_is filled rest
           ∙ sym (cut_is rest new after m.given sound_new (m.goes_on sound_new) m.bytes),
     )
 
--- bytes of the source are wanted there
+-- at this point the feed needs bytes of the source
 pub more_wanted : (f : Fed) (gap : ℕ) → f.fault ≡ None → FindsMore f.at f.held f.ended gap → is_ready f ≡ true → ⊥
 more_wanted f gap sound finds r = no_way (is_some f.fault) f.ended (has_token f.held) (ap is_some sound) finds.goes_on finds.partial r
   where
@@ -125,7 +125,7 @@ rest_known None after k c = absurd cc
 rest_known (Some xs) None k c = absurd c
 rest_known (Some xs) (Some ys) k c = ap Some (sym c)
 
--- a read fails here
+-- a read fails at this point
 pub fed_cut_off : (f : Fed) (gap : ℕ) (before after : Option (List ℕ)) → is_some before ≡ true → f.fault ≡ None → FindsMore f.at f.held f.ended gap → Keeps before after
     → MayFail (rest_of after) f before × (cut_at (rest_of after) f before ≡ stopped (Err Read))
 fed_cut_off f gap before after k sound finds keeps =
@@ -134,7 +134,7 @@ fed_cut_off f gap before after k sound finds keeps =
       cut_is (rest_of after) f before [] sound finds.goes_on bytes ∙ ap (λ (l : List ℕ). cut_short (stream_from 4294967295 f.at l)) (append-nil f.held) ∙ finds.open_token,
     )
 
--- it has failed before
+-- a read has failed before
 pub fed_fault_cut : (f : Fed) (fault : FeedFault) (known : Option (List ℕ)) → is_some known ≡ true → f.fault ≡ Some fault
     → MayFail (rest_of known) f known × (cut_at (rest_of known) f known ≡ stopped (Err fault))
 fed_fault_cut f fault known k e = (
@@ -146,7 +146,7 @@ fed_fault_cut f fault known k e = (
     is_rest None k = absurd cc
     is_rest (Some xs) k = refl
 
--- ---- an answer that was a value, and one that was not
+-- -- results that are a value, and results that are not
 
 pub was_ok : {T E : Type 0} (r : Result T E) (P : Type 0) → is_err r ≡ false → OnOk r P → P
 was_ok (Ok x) P e h = h

@@ -10,12 +10,12 @@ use Rattle.tt_text.specs.Numbers.{value_on, number_of}
 pub own : IsNumeralModel (λ ds. all_ascii_digits ds ≡ true) (value_on 0)
 own = numerals_by_fold _ (search rules) value_on (search rules)
 
--- a longer number is no smaller
+-- appending digits makes a number no smaller
 pub le-value_on : (n : ℕ) (ds : List ℕ) → n ≤ value_on n ds
 le-value_on n [] = omega arith
 le-value_on n (d ∷ ds) = omega (arith, le-value_on (10 * n + (d - 48)) ds)
 
--- digits that pass the limit are refused, and by the bytes after them
+-- digits that pass the limit are refused; the bytes after them determine the fault
 pub refused_digits : (limit n d : ℕ) (text rest ds : List ℕ) → rest ≡ d ∷ ds → value_on n rest ≡ value_on 0 text → all_ascii_digits rest ≡ all_ascii_digits text → length rest ≤ length text → is_ascii_digit d ≡ true → limit < 10 * n + (d - 48)
     → Err (if all_ascii_digits ds then TooLarge else NotANumber) ≡ number_of limit text
 unfolding number_of

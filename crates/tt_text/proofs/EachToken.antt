@@ -1,19 +1,19 @@
--- Each token of a text is a token, and so is each text among the pieces that it begins with.
+-- Each token of a text satisfies `IsToken`, and so does each text among the pieces that the tokens begin with.
 use Rattle.std.proofs.Common.{◌≡◌, ℕ, ◌+◌, Bool, true, false, List, [], ◌∷◌, take, refl, sym, subst, arith}
 use Rattle.std.specs.List.{prefix_len, AllByRecursion}
 use Rattle.tt_text.specs.Tokens.{is_separator, in_token, Placed, tokens_from, tokens_of, IsToken}
 use Rattle.tt_text.specs.Pieces.{Piece, Text, Number, Index, IsPiece, Begins}
 use Rattle.tt_text.proofs.Runs.{is_a_token}
 
--- the run of bytes from the first byte of a token is a token
+-- the run of bytes from the first byte of a token satisfies `IsToken`
 begun : (b : ℕ) (bs : List ℕ) → is_separator b ≡ false → IsToken (take (prefix_len in_token (b ∷ bs)) (b ∷ bs))
 begun b bs e = is_a_token (prefix_len in_token (b ∷ bs)) (b ∷ bs) _ refl refl (let some : prefix_len in_token (b ∷ bs) ≡ 1 + prefix_len in_token bs = rw e refl in omega arith)
 
--- each of them is a token
+-- each element satisfies `IsToken`
 abbrev AreAll : List Placed → Type 0
 AreAll ts = AllByRecursion (λ t. IsToken t.text) ts
 
--- one byte more in front
+-- another byte in front
 step : (inside : Bool) (at b : ℕ) (bs : List ℕ) (v : Bool) → is_separator b ≡ v → ((into : Bool) → AreAll (tokens_from into (at + 1) bs)) → AreAll (tokens_from inside at (b ∷ bs))
 unfolding tokens_from
 step inside at b bs true e more = rw e (more false)
@@ -29,17 +29,17 @@ unfolding tokens_from
 from inside at [] = tt
 from inside at (b ∷ bs) = step inside at b bs (is_separator b) refl (λ into. from into (at + 1) bs)
 
--- each token of a text is a token
+-- each token of a text satisfies `IsToken`
 pub each_token : (bytes : List ℕ) → AllByRecursion (λ t. IsToken t.text) (tokens_of bytes)
 each_token bytes = from false 0 bytes
 
--- a text is a token
+-- if the piece is a text, it is a token
 abbrev pub IsTokenPiece : Piece → Type 0
 IsTokenPiece (Text text) = IsToken text
 IsTokenPiece (Number n) = Unit {0}
 IsTokenPiece (Index letter n) = Unit {0}
 
--- a text that is a token's bytes is a token
+-- a text piece that has a token's bytes is a token
 piece_token : (p : Piece) (text : List ℕ) → IsPiece p text → IsToken text → IsTokenPiece p
 piece_token (Text x) text is token = subst IsToken is token
 piece_token (Number n) text is token = tt

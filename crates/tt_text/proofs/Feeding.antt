@@ -1,4 +1,4 @@
--- What a feed gives of bytes that begin with a gap, with a token, or with a byte that passes a limit.
+-- The stream of bytes that begin with a gap, with a token, or with a byte that passes a limit.
 use Rattle.std.proofs.Common.{◌≡◌, ℕ, zero, suc, ◌+◌, ◌-◌, ◌<◌, ◌≤◌, Bool, true, false, not, cond, leb, ltb, List, [], ◌∷◌, ◌++◌, length, take, drop, min, Option, Some, None, Ok, Err, refl, sym, ap, subst, ◌∙◌, add-zero, length-append, drop-cons, get_or, arith}
 use Rattle.std.specs.Prelude.{take_while}
 use Rattle.std.specs.List.{prefix_len, list_all}
@@ -15,7 +15,7 @@ use Rattle.tt_text.specs.declared.feed.FeedFault.TheVariants.{TokenTooLong, TooM
 use Rattle.tt_text.proofs.Runs.{tokens-begins, ended}
 use Rattle.tt_text.proofs.Written.{tokens-written, after_separator}
 
--- ---- where the fault is
+-- -- the place of the fault
 
 -- a separator within the limit
 pub fault-separator : (most n k b : ℕ) (xs : List ℕ) → is_separator b ≡ true → n < most → fault_from most n k (b ∷ xs) ≡ fault_from most (n + 1) 0 xs
@@ -69,7 +69,7 @@ token_fault most n k (b ∷ t) xs all h s =
     let same_k : (k + 1) + length t ≡ k + length (b ∷ t) = omega arith in
     first ∙ more ∙ ap (λ (m : ℕ). fault_from most m ((k + 1) + length t) xs) same ∙ ap (λ (m : ℕ). fault_from most (n + length (b ∷ t)) m xs) same_k
 
--- the fault is at no byte before these
+-- the fault is at byte n or later
 abbrev pub NotBefore : ℕ → Option Fault → Type 0
 NotBefore n None = Unit {0}
 NotBefore n (Some f) = n ≤ f.byte
@@ -127,7 +127,7 @@ none_step f n b bs false e h more =
     let first : tokens_from false n (b ∷ bs) ≡ made ∷ tokens_from true (n + 1) bs = rw e refl in
     ap (take_while (ends_before (Some f))) first ∙ while-no (ends_before (Some f)) made (tokens_from true (n + 1) bs) late_end
 
--- no token ends before a fault within the first of them
+-- if the fault is within the first token, no token ends before it
 no_tokens : (f : Fault) (n : ℕ) (xs : List ℕ) → f.byte ≤ n + prefix_len in_token xs → take_while (ends_before (Some f)) (tokens_from false n xs) ≡ []
 unfolding tokens_from
 no_tokens f n [] h = refl
@@ -139,7 +139,7 @@ pub stream_is : (most n : ℕ) (xs : List ℕ) (fault : Option Fault) (end : ℕ
 unfolding stream_from
 stream_is most n xs fault end ts a b c = ap (λ f. stream_with f (n + length xs) (tokens_from false n xs)) a ∙ ap (λ (m : ℕ). stream_with fault m (tokens_from false n xs)) b ∙ ap (stream_with fault end) c
 
--- a gap gives nothing
+-- a gap adds nothing to the stream
 pub stream-gap : (most n : ℕ) (g xs : List ℕ) → list_all is_separator g ≡ true → n + length g ≤ most → stream_from most n (g ++ xs) ≡ stream_from most (n + length g) xs
 stream-gap most n g xs all h =
     let len : n + length (g ++ xs) ≡ (n + length g) + length xs = omega (arith, length-append g xs) in
@@ -190,7 +190,7 @@ tokens-last n t all some =
     let len = all_prefix t all in
     tokens-begins n t (omega (arith, len, some)) ∙ rw (len, take_length t, drop_length t, nothing_more (n + length t)) refl
 
--- a token at the end
+-- a token at the end of the bytes
 pub stream-last : (most n : ℕ) (t : List ℕ) → list_all in_token t ≡ true → 0 < length t → length t ≤ 32 → n + length t ≤ most
     → stream_from most n t ≡ with_token (record { text = t; at = n }) (stream_from most (n + length t) [])
 stream-last most n t all some short h =
@@ -328,7 +328,7 @@ gap_over_step b bs false e more h =
     let first : is_separator b ≡ true = subst (λ (m : ℕ). AtGap (drop m (b ∷ bs))) none h in
     absurd (let no : true ≡ false = sym first ∙ e in cc)
 
--- no separator stands after a gap
+-- no separator comes after a gap
 gap_over : (xs : List ℕ) → AtGap (drop (prefix_len is_separator xs) xs) → drop (prefix_len is_separator xs) xs ≡ []
 gap_over [] h = refl
 gap_over (b ∷ bs) h = gap_over_step b bs (is_separator b) refl (gap_over bs) h

@@ -1,4 +1,4 @@
--- What is found at the front of the bytes that are held, by a scan of those within the limit.
+-- The result of a scan at the front of the bytes held, within the limit.
 use Rattle.std.proofs.Common.{◌≡◌, ℕ, zero, suc, ◌+◌, ◌<◌, ◌≤◌, Bool, true, false, ltb, List, [], ◌∷◌, ◌++◌, length, take, drop, Some, Ok, Err, refl, sym, ap, subst, ◌∙◌, add-zero, append_assoc, append-nil, length-append, arith}
 use Rattle.std.specs.List.{list_all, prefix_len}
 use Rattle.std.proofs.lemmas.List.{drop-drop, drop_all, length-drop, take-append-drop, take-append-le, drop-append-le, length-take-le}
@@ -11,7 +11,7 @@ use Rattle.tt_text.specs.Found.{AtGap, IsScan, FindsToken, FindsMore, MayFollow,
 use Rattle.tt_text.specs.declared.feed.FeedFault.TheVariants.{Read, TokenTooLong, TooManyBytes}
 use Rattle.tt_text.proofs.Feeding.{not_false, while-no, stream-gap, stream-nothing, stream-token, stream-last, stream-long, stream-past}
 
--- a gap and a token have no byte after them
+-- a run whose bytes all pass goes on with the run of the bytes after it
 run_of : (p : ℕ → Bool) (xs ys : List ℕ) → list_all p xs ≡ true → prefix_len p (xs ++ ys) ≡ length xs + prefix_len p ys
 run_of p [] ys all = omega arith
 run_of p (x ∷ xs) ys all = let parts = and_parts (p x) (list_all p xs) all in let more = run_of p xs ys parts.1 in rw parts.0 (omega arith)
@@ -30,7 +30,7 @@ whole_partial g t seps token =
     ∙ ap (λ (l : List ℕ). ltb (length g + prefix_len in_token l) (length (g ++ t))) back
     ∙ le-ltb _ _ (omega arith)
 
--- the gap, the token and what follows them
+-- the gap, the token and the bytes after them
 cut : (w : List ℕ) (gap len : ℕ) → w ≡ take gap w ++ (take len (drop gap w) ++ drop (gap + len) w)
 cut w gap len =
     sym (take-append-drop gap w) ∙ ap (λ (l : List ℕ). take gap w ++ l) (sym (take-append-drop len (drop gap w)) ∙ ap (λ (l : List ℕ). take len (drop gap w) ++ l) (drop-drop len gap w))
@@ -73,7 +73,7 @@ found_inside most at gap len w more scan short h below =
         ∙ here
         ∙ ap (λ (m : ℕ). with_token (record { text = t; at = at + gap }) (stream_from most (at + gap + m) (b ∷ (r ++ more)))) n
 
--- nothing is after the gap and the token
+-- no byte comes after the gap and the token
 all_read : (w : List ℕ) (gap len : ℕ) → length w ≤ gap + len → drop (gap + len) w ≡ []
 all_read w gap len h = drop_all (gap + len) w h
 
@@ -120,7 +120,7 @@ found_past most at gap len b w more scan short h here =
     ∙ ap (λ (l : List ℕ). stream_from most (at + gap) (t ++ (l ++ (b ∷ more)))) (all_read w gap len h)
     ∙ stream-past most (at + gap) b t more scan.token (omega arith) (omega (arith, scan.within))
 
--- a gap, after which more have to come
+-- a gap, after which more bytes must come
 pub found_more : (most at gap len : ℕ) (w more : List ℕ) → IsScan w gap len → at + length w ≤ most → stream_from most at (w ++ more) ≡ stream_from most (at + gap) (drop gap w ++ more)
 found_more most at gap len w more scan below =
     let t : List ℕ = take len (drop gap w) in
@@ -129,7 +129,7 @@ found_more most at gap len w more scan below =
     after_gap most at gap len w more scan below
     ∙ ap (stream_from most (at + gap)) (sym (append_assoc t r more) ∙ ap (λ (l : List ℕ). l ++ more) back)
 
--- ---- what is held is the bytes within the limit, and those past it
+-- -- the bytes held: those within the limit, and those past it
 
 pub finds_inside : (at gap len : ℕ) (ended : Bool) (w past : List ℕ) → IsScan w gap len → len ≤ 32 → gap + len < length w → at + length w ≤ 4294967295 → FindsToken at (w ++ past) ended gap len
 finds_inside at gap len ended w past scan short h below =
@@ -161,7 +161,7 @@ finds_last at gap len ended w scan short h some e below =
           ∙ ap (λ (l : List ℕ). with_token (record { text = take len (drop gap w); at = at + gap }) (stream_from 4294967295 (at + gap + len) l)) (sym (ap (λ (l : List ℕ). drop (gap + len) w ++ l) (m e) ∙ append-nil _ ∙ all_read w gap len h));
     }
 
--- nothing is after the token
+-- no byte comes after the token
 partial_of : (w : List ℕ) (gap len : ℕ) → IsScan w gap len → length w ≤ gap + len → has_token w ≡ false
 partial_of w gap len scan h =
     let g : List ℕ = take gap w in
@@ -170,7 +170,7 @@ partial_of w gap len scan h =
     let parts : w ≡ g ++ t = cut w gap len ∙ ap (λ (l : List ℕ). g ++ (t ++ l)) r ∙ ap (λ (l : List ℕ). g ++ l) (append-nil t) in
     ap has_token parts ∙ whole_partial g t scan.separators scan.token
 
--- a token at the end of what was read is still open
+-- a token at the end of the bytes read is still open
 found_open : (at gap len : ℕ) (w : List ℕ) → IsScan w gap len → len ≤ 32 → length w ≤ gap + len → at + length w ≤ 4294967295 → cut_short (stream_from 4294967295 at w) ≡ stopped (Err Read)
 found_open at gap zero w scan short h below = ap cut_short (found_end 4294967295 at gap w scan h below)
 found_open at gap (suc len) w scan short h below =

@@ -6,7 +6,7 @@ use Rattle.std.proofs.lemmas.List.Elements.{All-head, All-tail}
 use Rattle.tt_text.specs.Pieces.{Piece}
 use Rattle.tt_text.specs.Lines.{all_pieces, IsWritable, AreWritable, LinesWritable}
 
--- the pieces of lines and then more lines
+-- the pieces of some lines followed by more lines
 pub all_pieces-append : (ls ms : List (List Piece)) → all_pieces (ls ++ ms) ≡ all_pieces ls ++ all_pieces ms
 all_pieces-append [] ms = refl
 all_pieces-append (l ∷ ls) ms = ap (λ ps. l ++ ps) (all_pieces-append ls ms) ∙ sym (append_assoc l (all_pieces ls) (all_pieces ms))
@@ -21,7 +21,7 @@ pub AreWritable-map : {X : Type 0} (piece : X → Piece) (xs : List X) → All (
 AreWritable-map piece [] h = tt
 AreWritable-map piece (x ∷ xs) h = (All-head (λ y. IsWritable (piece y)) x xs h, AreWritable-map piece xs (All-tail (λ y. IsWritable (piece y)) x xs h))
 
--- lines and then more lines
+-- some lines followed by more lines
 pub LinesWritable-append : (ls ms : List (List Piece)) → LinesWritable ls → LinesWritable ms → LinesWritable (ls ++ ms)
 LinesWritable-append [] ms a b = b
 LinesWritable-append (l ∷ ls) ms a b = (a.0, LinesWritable-append ls ms a.1 b)

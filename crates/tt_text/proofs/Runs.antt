@@ -1,4 +1,4 @@
--- What is left of a text after a gap and after a token.
+-- The tokens of a text after a gap and after a token.
 use Rattle.std.proofs.Common.{◌≡◌, ℕ, zero, suc, ◌+◌, ◌<◌, Bool, true, false, List, [], ◌∷◌, length, take, drop, refl, sym, ap, ◌∙◌, add-zero, arith}
 use Rattle.std.specs.List.{prefix_len, list_all}
 use Rattle.std.proofs.lemmas.Bool.{and_from}
@@ -46,7 +46,7 @@ unfolding tokens_from
 tokens-inside at [] = refl
 tokens-inside at (b ∷ bs) = inside_step at b bs (is_separator b) refl (tokens-inside (at + 1) bs)
 
--- the token that begins at once, and what is after it
+-- the token that begins at the first byte, and the bytes after it
 begins_step : (at b : ℕ) (bs : List ℕ) (v : Bool) → is_separator b ≡ v → 0 < prefix_len in_token (b ∷ bs)
     → tokens_from false at (b ∷ bs) ≡ record { text = take (prefix_len in_token (b ∷ bs)) (b ∷ bs); at = at } ∷ tokens_from false (at + prefix_len in_token (b ∷ bs)) (drop (prefix_len in_token (b ∷ bs)) (b ∷ bs))
 unfolding tokens_from
@@ -76,7 +76,7 @@ ended_step b bs false e more none =
     let nothing : prefix_len in_token (b ∷ bs) ≡ 0 = ap (prefix_len in_token) (sym same) ∙ none in
     absurd (omega (arith, one, nothing))
 
--- after a gap with no token after it the text is at its end
+-- if no token comes after a gap, the text is at its end
 pub ended : (bs : List ℕ) → prefix_len in_token (drop (prefix_len is_separator bs) bs) ≡ 0 → drop (prefix_len is_separator bs) bs ≡ []
 ended [] none = refl
 ended (b ∷ bs) none = ended_step b bs (is_separator b) refl (ended bs) none
@@ -86,7 +86,7 @@ unfolding tokens_from
 nothing_left n zero = refl
 nothing_left n (suc m) = refl
 
--- there is no token
+-- no token is left
 pub tokens-none : (at gap len : ℕ) (bs begun rest : List ℕ) → begun ≡ drop gap bs → gap ≡ prefix_len is_separator bs → len ≡ prefix_len in_token begun
     → rest ≡ drop len begun → len ≡ 0 → (tokens_from false at bs ≡ []) × (tokens_from false (at + gap + len) rest ≡ [])
 unfolding tokens_from
@@ -97,7 +97,7 @@ tokens-none at gap len bs begun rest begun_is gap_is len_is rest_is none =
       ap (tokens_from false (at + gap + len)) (rest_is ∙ ap (drop len) end) ∙ nothing_left (at + gap + len) len,
     )
 
--- there is a token
+-- a token comes next
 pub tokens-some : (at gap len : ℕ) (bs begun text rest : List ℕ) → begun ≡ drop gap bs → gap ≡ prefix_len is_separator bs → len ≡ prefix_len in_token begun
     → text ≡ take len begun → rest ≡ drop len begun → 0 < len
     → tokens_from false at bs ≡ record { text = text; at = at + gap } ∷ tokens_from false (at + gap + len) rest
@@ -118,7 +118,7 @@ run_passes p (x ∷ xs) = by_test (p x) refl (run_passes p xs)
         rw more (and_from (p x) (list_all p (take (prefix_len p xs) xs)) e rest)
     by_test false e rest = let none : prefix_len p (x ∷ xs) ≡ 0 = rw e refl in rw none refl
 
--- a run of bytes that are no separators is a token
+-- a run of bytes that are not separators is a token
 pub is_a_token : (len : ℕ) (begun text : List ℕ) → len ≡ prefix_len in_token begun → text ≡ take len begun → 0 < len → IsToken text
 is_a_token len begun text len_is text_is some =
     let whole : text ≡ take (prefix_len in_token begun) begun = text_is ∙ ap (λ (n : ℕ). take n begun) len_is in

@@ -1,4 +1,4 @@
--- The tokens that are read from left to right are those that stand in a text.
+-- The tokens read from left to right are exactly the tokens of the text.
 use Rattle.std.proofs.Common.{◌≡◌, ℕ, zero, suc, ◌+◌, ◌<◌, ◌≤◌, Bool, true, false, List, [], ◌∷◌, ◌++◌, length, take, drop, refl, sym, ap, subst, ◌∙◌, add-zero, append-nil, arith}
 use Rattle.std.specs.List.{prefix_len, list_all}
 use Rattle.std.proofs.lemmas.Bool.{and_parts}
@@ -9,7 +9,7 @@ use Rattle.tt_text.specs.Standing.{IsApart, StandsFirst, HasTokens}
 use Rattle.tt_text.proofs.Runs.{tokens-begins, tokens-some, run_passes, is_a_token, ended}
 use Rattle.tt_text.proofs.Written.{after_separator, tokens-written}
 
--- ---- what stands in a text is read
+-- -- each token of a text is read
 
 over_gap : (at : ℕ) (gap rest : List ℕ) → list_all is_separator gap ≡ true → tokens_from false at (gap ++ rest) ≡ tokens_from false (at + length gap) rest
 over_gap at [] rest all = ap (λ (n : ℕ). tokens_from false n rest) (sym (add-zero at))
@@ -31,7 +31,7 @@ all_run (b ∷ bs) all =
     let h = and_parts (in_token b) (list_all in_token bs) all in
     rw h.0 (ap (λ (n : ℕ). 1 + n) (all_run bs h.1) ∙ omega arith)
 
--- a token with nothing or a separator after it
+-- a token at the end or before a separator
 first_token : (at : ℕ) (text back : List ℕ) → IsToken text → IsApart back → tokens_from false at (text ++ back) ≡ record { text = text; at = at } ∷ tokens_from false (at + length text) back
 first_token at text (s ∷ rest) token apart =
     tokens-written at text rest s token apart ∙ ap (λ (ts : List Placed). record { text = text; at = at } ∷ ts) (sym (after_separator (at + length text) s rest apart))
@@ -49,9 +49,9 @@ standing_are_read at bytes (t ∷ ts) h =
     ap (tokens_from false at) s.whole ∙ over_gap at s.gap (t.text ++ h.0) s.separators ∙ ap (λ (n : ℕ). tokens_from false n (t.text ++ h.0)) (sym s.offset)
     ∙ first_token t.at t.text h.0 s.token s.apart ∙ ap (λ (us : List Placed). t ∷ us) behind
 
--- ---- what is read stands in the text
+-- -- each token read is one of the text
 
--- after a run nothing comes, or a byte that isn't of it
+-- after a run comes the end or a byte that is not part of it
 after_run : (bs : List ℕ) → IsApart (drop (prefix_len in_token bs) bs)
 after_run [] = tt
 after_run (b ∷ bs) = by_test (is_separator b) refl (after_run bs)
@@ -62,7 +62,7 @@ after_run (b ∷ bs) = by_test (is_separator b) refl (after_run bs)
         let more : prefix_len in_token (b ∷ bs) ≡ suc (prefix_len in_token bs) = rw e (omega arith) in
         subst (λ (n : ℕ). IsApart (drop n (b ∷ bs))) (sym more) rest
 
--- separators and nothing else
+-- only separators
 no_token : (at : ℕ) (bytes : List ℕ) → prefix_len in_token (drop (prefix_len is_separator bytes) bytes) ≡ 0 → HasTokens at bytes (tokens_from false at bytes)
 no_token at bytes none =
     let nothing = ended bytes none in
@@ -92,7 +92,7 @@ one_token at bytes begun text rest begun_is text_is rest_is some more =
     } in
     subst (HasTokens at bytes) (sym read) (rest, stands, more (made.at + length text))
 
--- the text, given that shorter ones have their tokens
+-- the text, given that the property holds of shorter ones
 one_more : (at fuel : ℕ) (bytes : List ℕ) → length bytes ≤ suc fuel → ((rest : List ℕ) → length rest ≤ fuel → (from : ℕ) → HasTokens from rest (tokens_from false from rest)) → HasTokens at bytes (tokens_from false at bytes)
 one_more at fuel bytes h shorter = by_len (prefix_len in_token (drop (prefix_len is_separator bytes) bytes)) refl
   where

@@ -1,4 +1,4 @@
--- What a feed gives of bytes after which a read fails.
+-- The stream of a feed, for bytes after which a read fails.
 use Rattle.std.specs.Prelude.{◌≡◌, ℕ, ◌-◌, false, List, [], ◌++◌, length, take, Option, Some, None, Result, Ok, Err, unwrap_or}
 use Rattle.std.specs.Option.{option_map}
 use Rattle.tt_text.specs.Tokens.{Placed}
@@ -10,24 +10,24 @@ abbrev pub cut_short_by : List Placed → Result ℕ FeedFault → Stream
 cut_short_by ts (Ok n) = stream_with (Some (record { byte = n; told = Read })) n ts
 cut_short_by ts (Err f) = record { tokens = ts; stop = Err f }
 
--- The stream of bytes after which a read fails. It ends in that failure, and a token that no byte follows has not come whole. Where a limit is
--- passed before, it stays as it is.
+-- The stream of bytes after which a read fails. It ends in that failure, and a token that no byte follows counts as incomplete. If a limit is
+-- passed before, the stream stays as it is.
 abbrev pub cut_short : Stream → Stream
 cut_short s = cut_short_by s.tokens s.stop
 
--- known bytes without those at their end
+-- Known bytes without the given ones at their end.
 abbrev pub all_before : List ℕ → Option (List ℕ) → Option (List ℕ)
 all_before rest known = option_map (λ xs. take (length xs - length rest) xs) known
 
--- the bytes that are left, where they are known
+-- The remaining bytes, if they are known.
 abbrev pub rest_of : Option (List ℕ) → List ℕ
 rest_of known = unwrap_or known []
 
--- what a feed gives from here on, where a read fails before the rest of the bytes
+-- The stream of a feed from here on, if a read fails before the last bytes, `rest`.
 unfoldable pub cut_at : List ℕ → Fed → Option (List ℕ) → Stream
 cut_at rest fed known = cut_short (stream_at fed (all_before rest known))
 
--- a read may still fail before the rest of the bytes
+-- A read may still fail before the last bytes, `rest`.
 pub record MayFail (rest : List ℕ) (fed : Fed) (known : Option (List ℕ)) : Type 0 where
   pub given : List ℕ
   pub bytes : known ≡ Some (given ++ rest)

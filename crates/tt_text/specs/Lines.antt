@@ -1,4 +1,4 @@
--- The text that writes pieces: lines of them, as all three formats are written.
+-- The text of pieces: lines of them, the form in which all three formats are written.
 use Rattle.std.specs.Prelude.{ℕ, ◌<◌, ◌^◌, ◌≡◌, false, List, [], ◌∷◌, ◌++◌}
 use Rattle.std.specs.Fmt.{decimal}
 use Rattle.tt_text.specs.Tokens.{IsToken, is_separator}
@@ -9,7 +9,7 @@ text_of (Text text) = text
 text_of (Number n) = decimal n
 text_of (Index letter n) = letter ∷ decimal n
 
--- a line: its pieces with one space between two, and a line feed
+-- A line: its pieces with one space between two, and a line feed.
 abbrev pub line_text : List Piece → List ℕ
 line_text [] = 10 ∷ []
 line_text (p ∷ []) = text_of p ++ 10 ∷ []
@@ -19,12 +19,12 @@ abbrev pub lines_text : List (List Piece) → List ℕ
 lines_text [] = []
 lines_text (l ∷ ls) = line_text l ++ lines_text ls
 
--- the pieces of lines, one line after the other
+-- The pieces of all lines, in their order.
 abbrev pub all_pieces : List (List Piece) → List Piece
 all_pieces [] = []
 all_pieces (l ∷ ls) = l ++ all_pieces ls
 
--- what can be written as a token
+-- The piece can be written as a token.
 abbrev pub IsWritable : Piece → Type 0
 IsWritable (Text text) = IsToken text
 IsWritable (Number n) = n < 2 ^ 64

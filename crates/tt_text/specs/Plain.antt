@@ -1,4 +1,4 @@
--- Bytes above the space, as nearly all bytes of tokens are.
+-- Bytes above the space: nearly all bytes of tokens are such bytes.
 use Rattle.std.specs.Prelude.{ℕ, Bool, nat_lt}
 
 abbrev pub is_plain : ℕ → Bool

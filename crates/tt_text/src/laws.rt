@@ -1,10 +1,10 @@
-//! What tokens are.
+//! What tokens are, defined without a reader.
 
 ghost use Rattle.std.specs.Prelude.{◌≡◌, ℕ, List};
 ghost use Rattle.tt_text.specs.Standing.{HasTokens};
 ghost use Rattle.tt_text.specs.Tokens.{Placed, tokens_of};
 
-/// The tokens that are read from a text, from left to right, are those that stand in it: runs of bytes that are no separators, each at
+/// The tokens read from a text, from left to right, are exactly its tokens: runs of bytes that are not separators, each at
 /// its offset, with separators or an end of the text on both sides.
 pub fn tokens_stand_apart()
     ensures read { (bytes : List ℕ) → HasTokens 0 bytes (tokens_of bytes) }

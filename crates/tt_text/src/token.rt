@@ -7,7 +7,7 @@ ghost use Rattle.tt_text.specs.Tokens.{is_separator, in_token, tokens_of, place,
 
 use std::marker::Model;
 
-/// A maximal run of bytes that are no separators, and its offset in the text.
+/// A maximal run of bytes that are not separators, and its offset in the text.
 #[derive(Clone, Copy, Debug)]
 pub struct Token<'a> {
     pub bytes: &'a [u8],
@@ -32,19 +32,19 @@ impl<'a> Model for Tokens<'a> {
     ghost invariant = { λ a. a.at + length a.rest.now < 2 ^ 64 };
 }
 
-/// Whether a byte separates tokens.
+/// Returns whether a byte separates tokens.
 pub fn is_space(byte: u8) -> bool
     ensures { result ≡ is_separator byte }
 {
     byte == b' ' || matches!(byte, b'\t'..=b'\r')
 }
 
-/// How many separators the bytes begin with.
+/// Counts the separators that the bytes begin with.
 pub fn gap_len(bytes: &[u8]) -> usize
     ensures len { result ≡ prefix_len is_separator bytes.now }
     ensures within { result ≤ length bytes.now }
 {
-    // Mostly it is one space or the end of a line.
+    // Mostly the gap is one space or the end of a line.
     if bytes.len() > 1 && bytes[1] > b' ' && (bytes[0] == b' ' || bytes[0] == b'\n') {
         return 1;
     }
@@ -55,7 +55,7 @@ pub fn gap_len(bytes: &[u8]) -> usize
     len
 }
 
-/// How many bytes that are no separators the bytes begin with.
+/// Counts the bytes that are not separators at the front of the bytes.
 pub fn token_len(bytes: &[u8]) -> usize
     ensures len { result ≡ prefix_len in_token bytes.now }
     ensures within { result ≤ length bytes.now }
@@ -68,7 +68,7 @@ pub fn token_len(bytes: &[u8]) -> usize
     bytes.len()
 }
 
-/// Where the bytes above the space end that stand from `from` on.
+/// Returns the end of the run of bytes above the space that begins at `from`.
 pub fn plain_end(bytes: &[u8], from: usize) -> usize
     requires { from ≤ length bytes.now }
     ensures end { result ≡ from + prefix_len is_plain (drop from bytes.now) }
@@ -82,14 +82,14 @@ pub fn plain_end(bytes: &[u8], from: usize) -> usize
 }
 
 impl<'a> Tokens<'a> {
-    /// All tokens of a text.
+    /// Creates the sequence of all tokens of a text.
     pub fn new(bytes: &'a [u8]) -> Self
         ensures { result ≡ tokens_of bytes.now }
     {
         Tokens { rest: bytes, at: 0 }
     }
 
-    /// The next token, `None` once there is none.
+    /// Returns the next token, or `None` if no token is left.
     pub fn next(&mut self) -> Option<Token<'a>>
         ensures gives { MatchOption result ((self.old ≡ []) × (self.new ≡ [])) (λ t. self.old ≡ place t ∷ self.new) }
         ensures token { IfSome result (λ t. IsToken t.bytes.now) }

@@ -6,7 +6,7 @@ use crate::source::Source;
 use std::alloc::Global;
 use thiserror::Error;
 
-/// Why a source was not read whole.
+/// Why a source was not read as a whole.
 #[derive(Clone, Copy, Debug, PartialEq, Eq, Error)]
 pub enum WholeFault {
     /// A read failed.
@@ -21,7 +21,7 @@ pub enum WholeFault {
 
 const PIECE: usize = 4096;
 
-/// All bytes of a source up to its end, if they are at most limit.
+/// Returns all bytes of a source up to its end, if they are at most `limit`.
 pub fn read_whole<R: Source>(
     alloc: Global,
     source: &mut R,

@@ -1,4 +1,4 @@
--- Writes that are taken back.
+-- Writes that are undone.
 use Rattle.std.proofs.Common.{◌≡◌, ℕ, ◌≤◌, ◌<◌, zero, suc, List, [], ◌∷◌, ◌++◌, drop, Option, Some, length, get_or, refl, ap, ◌∙◌, arith}
 use Rattle.std.specs.Prelude.{slice_set, option_to_list}
 use Rattle.std.specs.List.{AllByRecursion}
@@ -48,7 +48,7 @@ undone-append : (words : List ℕ) (a b : List Old) → undone words (a ++ b) �
 undone-append words [] b = refl
 undone-append words (o ∷ os) b = ap (λ w. slice_set w o.place o.word) (undone-append words os b)
 
--- one write taken back
+-- one write is undone
 pub table_at-back : (words : List ℕ) (log : List Old) (o : Old) (m : ℕ) → m ≤ length log → table_at words (log ++ o ∷ []) m ≡ table_at (slice_set words o.place o.word) log m
 table_at-back words log o m h = ap (undone words) (drop-append-le m log (o ∷ []) h) ∙ undone-append words (drop m log) (o ∷ [])
 
@@ -63,7 +63,7 @@ set_twice [] i a b = refl
 set_twice (x ∷ xs) zero a b = refl
 set_twice (x ∷ xs) (suc i) a b = ap (λ l. x ∷ l) (set_twice xs i a b)
 
--- a write, as the log has it
+-- a write with its entry in the log leaves the earlier tables as they were
 pub table_at-write : (words : List ℕ) (log : List Old) (o : Old) (w m : ℕ) → o.place < length words → o.word ≡ get_or words o.place 0 → m ≤ length log → table_at (slice_set words o.place w) (log ++ o ∷ []) m ≡ table_at words log m
 table_at-write words log o w m k e h =
     table_at-back (slice_set words o.place w) log o m h
@@ -78,7 +78,7 @@ tables_at-write words log o w (m ∷ ms) k e a =
     ap (λ t. t ∷ tables_at (slice_set words o.place w) (log ++ o ∷ []) ms) (table_at-write words log o w m k e a.0)
     ∙ ap (λ ts. table_at words log m ∷ ts) (tables_at-write words log o w ms k e a.1)
 
--- what is popped
+-- the last element is removed and returned
 pub last_taken : {X : Type 0} (old new : List X) (r : Option X) (x : X) → old ≡ new ++ option_to_list r → r ≡ Some x → old ≡ new ++ x ∷ []
 last_taken old new r x e f = e ∙ ap (λ q. new ++ option_to_list q) f
 

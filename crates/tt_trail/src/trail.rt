@@ -1,18 +1,18 @@
-//! A table of numbers whose writes are kept, so that they can be taken back.
+//! A table of numbers whose writes are logged, so that they can be undone.
 
 ghost use Rattle.std.specs.Prelude.{◌≡◌, ◌<◌, [], ◌∷◌, ◌++◌, length, slice_index_or, slice_set, OnOk, OnErr};
 
 use std::alloc::{AllocError, Global};
 use std::marker::Model;
 
-/// What stood at a place before a write.
+/// The number at a place before a write.
 #[derive(Clone, Copy)]
 struct Old {
     place: usize,
     word: u64,
 }
 
-/// A table of numbers and the tables that were marked: the newest of these can be had back.
+/// A table of numbers with a stack of marked states; the newest can be restored.
 #[derive(Drop)]
 pub struct Trail {
     words: Vec<u64>,
@@ -40,7 +40,7 @@ impl Model for Trail {
 }
 
 impl Trail {
-    /// A table with no marks.
+    /// Creates a table with no marks.
     pub fn new(alloc: Global, words: Vec<u64>) -> Trail
         ensures words { result.words ≡ words.items }
         ensures earlier { result.earlier ≡ [] }
@@ -52,14 +52,14 @@ impl Trail {
         }
     }
 
-    /// How many numbers the table has.
+    /// Returns how many numbers the table has.
     pub fn len(&self) -> usize
         ensures { result ≡ length self.now.words }
     {
         self.words.len()
     }
 
-    /// The number at a place.
+    /// Returns the number at a place.
     pub fn word(&self, place: usize) -> u64
         requires { place < length self.now.words }
         ensures { result ≡ slice_index_or self.now.words place 0 }
@@ -67,7 +67,7 @@ impl Trail {
         self.words[place]
     }
 
-    /// Marks the table as it is.
+    /// Marks the current state of the table.
     pub fn mark(&mut self) -> Result<(), AllocError>
         ensures ok { OnOk result (self.new.earlier ≡ self.old.earlier ++ self.old.words ∷ []) }
         ensures err { OnErr result (self.new.earlier ≡ self.old.earlier) }
@@ -78,7 +78,7 @@ impl Trail {
         Ok(())
     }
 
-    /// Writes a number at a place. What stood there is kept only where there is a mark to go back to.
+    /// Writes a number at a place. The old number is logged only if there is a mark to return to.
     pub fn set(&mut self, place: usize, word: u64) -> Result<(), AllocError>
         requires { place < length self.old.words }
         ensures ok { OnOk result (self.new.words ≡ slice_set self.old.words place word) }
@@ -98,7 +98,7 @@ impl Trail {
         Ok(())
     }
 
-    /// Takes the table back to the newest mark, and that mark away.
+    /// Restores the table to the newest mark, and removes that mark.
     #[inline(always)]
     pub fn undo(&mut self)
         requires { 0 < length self.old.earlier }

@@ -1,4 +1,4 @@
--- Nodes that are read and kept.
+-- Nodes that are read and stored.
 use Rattle.std.proofs.Common.{◌≡◌, ℕ, ◌+◌, ◌<◌, Bool, true, List, [], ◌∷◌, ◌++◌, length, Some, None, Result, Ok, Err, refl, sym, ap, subst, ◌∙◌, arith, length-append}
 use Rattle.std.specs.Prelude.{All}
 use Rattle.std.proofs.lemmas.List.Elements.{All-push}
@@ -19,7 +19,7 @@ use Rattle.tt_proof_check.proofs.Reading.{Stack, root, next_stack, stack_after, 
 use Rattle.tt_proof_check.proofs.Streaming.{reads_push}
 use Rattle.tt_upgrade.specs.Texts.{IsCollected, NodeTextFails, NodeIsCutOff}
 
--- What has been kept, in this state of the reader, with this stream after it.
+-- The nodes stored so far, in this state of the reader, with this stream after them.
 pub record Collected (sizes : Sizes) (v : ℕ) (known : Bool) (s : Stream) (reader : Reader) (t : Stream) (nodes : List Node) : Type 0 where
   pub stack : Stack
   pub after : stack_after root nodes ≡ Some stack
@@ -78,7 +78,7 @@ module _ (sizes : Sizes) (v : ℕ) (known : Bool) (s : Stream) (old : Reader) (t
       on [] after places = after
       on (path ∷ others) after places = absurd (omega (arith, none, places))
 
-  -- some tree goes on from the nodes
+  -- some tree continues the nodes
   goes_on : 0 < old.places → (tree : Tree) × (more : List Node) × (preorder tree ≡ nodes ++ Leaf (Many 0) ∷ more)
   goes_on some = on m.stack m.after m.places
     where

@@ -28,7 +28,7 @@ place_small tree nodes i x e few found =
     let k = paths_of tree nodes e in
     omega (arith, h, k, few)
 
--- the number of the node that is wrong has 32 bits
+-- the number of the wrong node has 32 bits
 pub is_of_node : (p : Problem) (b : Bound) (nodes : List Node) → IsPreorder nodes → length nodes ≤ 16777216 → (e : NodesFault) → Tells p b nodes e → IsOfNode e
 is_of_node p b nodes tree few NotATree t = absurd (t tree)
 is_of_node p b nodes tree few (Rule i f) t = place_small t.0 nodes i _ t.1 few t.2.found
@@ -41,7 +41,7 @@ fault_of_node p b nodes (Rule i f) u is t = subst (IsNodesFault p b nodes) (sym 
 fault_of_node p b nodes (TooDeep i) u is t = subst (IsNodesFault p b nodes) (sym is) t
 fault_of_node p b nodes OutOfMemory u is t = subst (IsNodesFault p b nodes) (sym is) tt
 
--- only a failed read is told as one
+-- only a failed read is reported as one
 pub read_told : (f : TextFault) → fault_from_text f ≡ read_failed → f ≡ text.Feed feed.Read
 read_told (text.Ended at) e = cc
 read_told (text.Expected w at) e = cc
@@ -54,7 +54,7 @@ read_told (text.TooManyNodes at) e = cc
 read_told (text.Feed f) e = cc
 read_told text.OutOfMemory e = cc
 
--- being out of memory is told as itself
+-- being out of memory is reported as such
 pub memory_text : (f : TextFault) → OutOfMemoryIsOneFault (fault_from_text f)
 memory_text text.OutOfMemory = tt
 memory_text f = (λ e. cc, λ e. cc)

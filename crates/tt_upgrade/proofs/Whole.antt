@@ -1,4 +1,4 @@
--- Proofs that were read whole.
+-- Proofs that were read as a whole.
 use Rattle.std.proofs.Common.{◌≡◌, ℕ, Bool, true, List, Some, Option, Ok, Err, sym, ap, subst, inl, inr, is_some}
 use Rattle.tt_text.specs.Feeds.{Stream, stream_at, fresh}
 use Rattle.tt_instance.specs.Problem.{Problem}
@@ -16,7 +16,7 @@ use Rattle.tt_proof_check.proofs.Sizes.{sizes_are}
 use Rattle.tt_upgrade.specs.Texts.{IsRead, IsCollected, NodeTextFails, NodeIsCutOff, IsTextFault, TextIsCutOff}
 
 module _ (p : Problem) (sizes : Sizes) (are : AreSizes p sizes) (s : Stream) (v : ℕ) (b : Bound) (headed : Stream) (header : header_at s ≡ Ok ((v, b), headed)) where
-  -- the nodes fail
+  -- reading the nodes fails
   pub nodes_break : (f : TextFault) → NodeTextFails sizes v headed f → IsTextFault p s f
   nodes_break f h = inr (v, b, headed, header, inl (subst (λ (x : Sizes). NodeTextFails x v headed f) (sizes_are p sizes are) h))
 
@@ -41,6 +41,6 @@ module _ (p : Problem) (sizes : Sizes) (are : AreSizes p sizes) (s : Stream) (v 
       reads = record { headed = headed; noded = noded; ended = ended; header = header; nodes = reads; finish = finish };
     }
 
--- the same of bytes that are known
+-- a property of the stream, for bytes that are known
 pub of_bytes : (P : Stream → Type 0) (bytes : List ℕ) (known : Option (List ℕ)) → known ≡ Some bytes → (is_some known ≡ true → P (stream_at fresh known)) → P (stream_at fresh (Some bytes))
 of_bytes P bytes known e h = subst (λ (k : Option (List ℕ)). P (stream_at fresh k)) e (h (ap is_some e))

@@ -1,4 +1,4 @@
--- Proofs that are written anew, and why others are not.
+-- Proofs that are written again, and why others aren't.
 use Rattle.std.proofs.Common.{◌≡◌, ℕ, List, [], refl, sym, ap, subst, ◌∙◌, ◌⊎◌, inl, inr, append-nil}
 use Rattle.std.specs.Prelude.{All, slice_get}
 use Rattle.tt_text.specs.Feeds.{Stream}
@@ -85,7 +85,7 @@ module _ (p : Problem) (s : Stream) (v : ℕ) (b : Bound) (nodes : List Node) (r
   read_as : (tree : Tree) → preorder tree ≡ nodes → Reads (sizes_of p) s v b tree
   read_as tree e = subst (λ (t : Tree). Reads (sizes_of p) s v b t) (same_tree r.tree tree nodes r.nodes_are e) r.reads
 
-  -- the first node that does not pass is told
+  -- the first node that doesn't pass is reported
   pub nodes_tell : (e : UpgradeFault) → IsNodesFault p b nodes e → IsUpgradeFault p s e
   nodes_tell (Proof (check.Text f)) t = absurd t
   nodes_tell (Proof (check.Rule i f)) t = record { version = v; bound = b; tree = t.0; reads = read_as t.0 t.1; is = t.2 }
@@ -95,7 +95,7 @@ module _ (p : Problem) (s : Stream) (v : ℕ) (b : Bound) (nodes : List Node) (r
   nodes_tell OutOfMemory t = tt
 
   module _ (h : Proves p b nodes) where
-    -- that the text grows too large is told
+    -- a text that grows too large is reported
     pub write_tells : (f : UpgradeFault) → IsWriteFault b nodes f → IsUpgradeFault p s f
     write_tells (Proof f) t = absurd t
     write_tells TooLarge t = record {
@@ -107,7 +107,7 @@ module _ (p : Problem) (s : Stream) (v : ℕ) (b : Bound) (nodes : List Node) (r
     }
     write_tells OutOfMemory t = tt
 
--- what was read, judged and written is written anew
+-- a proof that was read, checked and written is written again
 pub upgraded : (p : Problem) (bytes out : List ℕ) (v : ℕ) (b : Bound) (nodes : List Node) → IsRead p (stream_of bytes) v b nodes → Proves p b nodes → AreNodesOf p v nodes → Writes 2 b nodes out
     → ((tree : Tree) → preorder tree ≡ nodes → All (IsNode p 2) nodes → SpellsProof p out 2 b tree) → IsUpgraded p bytes b out
 upgraded p bytes out v b nodes r h are w again = record {
@@ -119,9 +119,9 @@ upgraded p bytes out v b nodes r h are w again = record {
   again = again h.0 h.1 (λ k n e. node_of_two p v _ (are.each k n e));
 }
 
--- ---- a text that derives its bound is refused by silent faults alone
+-- -- a text that derives its bound is refused only by silent faults
 
--- a fault of the text is being out of memory, or is told as it is
+-- a fault of the text is being out of memory, or is reported unchanged
 cases_of_fault : (f : TextFault) (Q : UpgradeFault → Type 0) → Q OutOfMemory → (¬ (f ≡ text.OutOfMemory) → Q (Proof (check.Text f))) → Q (fault_from_text f)
 cases_of_fault (text.Ended at) Q a b = b (λ e. cc)
 cases_of_fault (text.Expected w at) Q a b = b (λ e. cc)
@@ -151,7 +151,7 @@ module _ (p : Problem) (is : IsInstance p) (bytes : List ℕ) (b : Bound) (prove
   header_is : (P : ℕ → Bound → Stream → Type 0) → HasHeader (stream_of bytes) P → P proved.0 b reads.headed
   header_is P h = subst (λ (x : (ℕ × Bound) × Stream). P x.0.0 x.0.1 x.1) (same_header ((h.0, h.1), h.2) ((proved.0, b), reads.headed) (sym h.3 ∙ reads.header)) h.4
 
-  -- the bound that is read is this one
+  -- the bound read is this one
   pub bound_read : (v : ℕ) (c : Bound) (nodes : List Node) → IsRead p (stream_of bytes) v c nodes → c ≡ b
   bound_read v c nodes r = (same_text (sizes_of p) (stream_of bytes) v proved.0 c b r.tree tree r.reads reads).0
 

@@ -1,4 +1,4 @@
--- Texts that are read whole before anything is judged.
+-- Texts that are read as a whole before anything is checked.
 use Rattle.std.specs.Prelude.{◌≡◌, ℕ, ◌≤◌, ◌⊎◌, Bool, true, List, ◌∷◌, ◌++◌, length, All, Option, Err}
 use Rattle.tt_text.specs.Feeds.{Stream}
 use Rattle.tt_instance.specs.Problem.{Problem}
@@ -15,24 +15,24 @@ use Rattle.tt_proof_read.specs.declared.sizes.Sizes.{Sizes}
 use Rattle.tt_proof_check.specs.FailedReads.{HoldsOfGiven}
 use Rattle.tt_proof_check.specs.Streams.{sizes_of, Fails, HasHeader}
 
--- the text is a proof of this version with this bound, and these are the nodes of its tree in preorder
+-- The text is a proof of this version with this bound, and these are the nodes of its tree in preorder.
 pub record IsRead (p : Problem) (s : Stream) (v : ℕ) (b : Bound) (nodes : List Node) : Type 0 where
   pub tree : Tree
   pub nodes_are : preorder tree ≡ nodes
   pub reads : Reads (sizes_of p) s v b tree
 
--- they are one tree, of at most 16,777,216 nodes, and each is the instance's and of the version
+-- The nodes are one tree, of at most 16,777,216 nodes; the numbers of each are in the range of the instance, and each belongs to the version.
 pub record AreNodesOf (p : Problem) (v : ℕ) (nodes : List Node) : Type 0 where
   pub tree : IsPreorder nodes
   pub few : length nodes ≤ MAX_NODES
   pub each : All (IsNode p v) nodes
 
--- the nodes are one tree, and were read, where the bytes are known
+-- The nodes are one tree, and if the bytes are known, the nodes were read from the stream.
 pub record IsCollected (sizes : Sizes) (v : ℕ) (known : Bool) (s after : Stream) (nodes : List Node) : Type 0 where
   pub tree : IsPreorder nodes
   pub reads : known ≡ true → ReadsNodes sizes v 0 s nodes after
 
--- some tree goes on from the nodes that have been read, and the text of the next node fails
+-- Some tree continues the nodes that have been read, and the text of the next node fails.
 pub record NodeTextFails (sizes : Sizes) (v : ℕ) (s : Stream) (f : TextFault) : Type 0 where
   pub nodes : List Node
   pub rest : Stream
@@ -43,24 +43,24 @@ pub record NodeTextFails (sizes : Sizes) (v : ℕ) (s : Stream) (f : TextFault) 
   pub begins : preorder tree ≡ nodes ++ next ∷ more
   pub fails : Fails f (node_at sizes v (length nodes) rest)
 
--- the tree is whole, and the text of the end fails
+-- The tree is complete, and the text of the end fails.
 pub record EndTextFails (p : Problem) (v : ℕ) (s : Stream) (f : TextFault) : Type 0 where
   pub tree : Tree
   pub rest : Stream
   pub reads : ReadsNodes (sizes_of p) v 0 s (preorder tree) rest
   pub fails : Fails f (end_at rest)
 
--- the first fault of the text; being out of memory and a failed read say nothing of it
+-- The first fault of the text; being out of memory and a failed read say nothing about it.
 abbrev pub IsTextFault : Problem → Stream → TextFault → Type 0
 IsTextFault p s f = Fails f (header_at s) ⊎ HasHeader s (λ v b rest. NodeTextFails (sizes_of p) v rest f ⊎ EndTextFails p v rest f)
 
--- ---- what a failed read leaves known
+-- -- what is known after a failed read
 
--- nodes have been read, and the failure breaks the next one off
+-- Nodes have been read, and the failure is within the next one.
 abbrev pub NodeIsCutOff : Sizes → ℕ → Stream → Type 0
 NodeIsCutOff sizes v s = (x : NodeTextFails sizes v s read_failed) × (node_at sizes v (length x.nodes) x.rest ≡ Err read_failed)
 
--- the tree is whole, and the failure breaks the end off
+-- The tree is complete, and the failure is within the end.
 abbrev pub EndIsCutOff : Problem → ℕ → Stream → Type 0
 EndIsCutOff p v s = (x : EndTextFails p v s read_failed) × (end_at x.rest ≡ Err read_failed)
 
@@ -68,6 +68,6 @@ EndIsCutOff p v s = (x : EndTextFails p v s read_failed) × (end_at x.rest ≡ E
 abbrev pub TextIsCutOff : Problem → Stream → Type 0
 TextIsCutOff p s = (header_at s ≡ Err read_failed) ⊎ HasHeader s (λ v b rest. NodeIsCutOff (sizes_of p) v rest ⊎ EndIsCutOff p v rest)
 
--- All that the bytes which the source gave say has been read, and nothing of it was judged.
+-- Everything in the bytes that the source gave has been read, and nothing of it was checked.
 abbrev pub IsReadUpToFailedRead : Problem → List ℕ → Option (List ℕ) → Type 0
 IsReadUpToFailedRead p bytes left = HoldsOfGiven bytes left (TextIsCutOff p)

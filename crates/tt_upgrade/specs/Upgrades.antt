@@ -1,4 +1,4 @@
--- What it means that a proof was written anew, and what a refusal says.
+-- The meaning of an upgrade of a proof, and of a refusal.
 use Rattle.std.specs.Prelude.{◌≡◌, ℕ, ◌⊎◌, List, [], ⊤}
 use Rattle.tt_text.specs.Feeds.{Stream}
 use Rattle.tt_instance.specs.Problem.{Problem}
@@ -18,7 +18,7 @@ use Rattle.tt_upgrade.specs.Texts.{IsTextFault}
 use Rattle.tt_upgrade.specs.declared.fault.UpgradeFault.{UpgradeFault}
 use Rattle.tt_upgrade.specs.declared.fault.UpgradeFault.TheVariants.{Proof, TooLarge, OutOfMemory}
 
--- The bytes spell a tree that derives the bound, and what was written is the text of this tree in version 2, which spells it again.
+-- The bytes spell a tree that derives the bound, and the output is the text of this tree in version 2, which spells it again.
 pub record IsUpgraded (p : Problem) (bytes : List ℕ) (b : Bound) (out : List ℕ) : Type 0 where
   pub version : ℕ
   pub tree : Tree
@@ -27,7 +27,7 @@ pub record IsUpgraded (p : Problem) (bytes : List ℕ) (b : Bound) (out : List �
   pub text : out ≡ proof_text 2 b (preorder tree)
   pub again : SpellsProof p out 2 b tree
 
--- the whole text is that of a tree, with its bound
+-- The whole text is that of a tree, with its bound.
 pub record HasTree (p : Problem) (s : Stream) (P : Bound → Tree → Type 0) : Type 0 where
   pub version : ℕ
   pub bound : Bound
@@ -35,13 +35,13 @@ pub record HasTree (p : Problem) (s : Stream) (P : Bound → Tree → Type 0) : 
   pub reads : Reads (sizes_of p) s version bound tree
   pub is : P bound tree
 
--- the tree derives the bound, and its text in version 2 is more than a file may have
+-- The tree derives the bound, and its text in version 2 is larger than a file may be.
 pub record IsTooLarge (p : Problem) (b : Bound) (tree : Tree) : Type 0 where
   pub shallow : IsShallow tree
   pub derives : Derives p b [] tree
   pub large : ¬ (FitsFile 2 b (preorder tree))
 
--- A fault of the text is told before one of a node, of which there are then all.
+-- A fault of the text is reported before one of a node; if a node has a fault, the text has none.
 abbrev pub IsUpgradeFault : Problem → Stream → UpgradeFault → Type 0
 IsUpgradeFault p s (Proof (check.Text f)) = ¬ (f ≡ text.OutOfMemory) × IsTextFault p s f
 IsUpgradeFault p s (Proof (check.Rule i f)) = HasTree p s (λ b tree. FailsAt p b tree i f)
@@ -50,6 +50,6 @@ IsUpgradeFault p s (Proof check.OutOfMemory) = ⊥
 IsUpgradeFault p s TooLarge = HasTree p s (λ b tree. IsTooLarge p b tree)
 IsUpgradeFault p s OutOfMemory = ⊤
 
--- being out of memory, a failed read or a text that is too large, which say nothing against the proof
+-- The fault is being out of memory, a failed read or a text that is too large: these say nothing against the proof.
 abbrev pub IsSilent : UpgradeFault → Type 0
 IsSilent e = (e ≡ OutOfMemory) ⊎ (e ≡ read_failed) ⊎ (e ≡ TooLarge)

@@ -1,4 +1,4 @@
-//! Why a proof is not written anew.
+//! Why a proof can't be written again.
 
 ghost use Rattle.tt_upgrade.specs.Faults.{IsOfNode, IsFaultOfNode};
 
@@ -6,10 +6,10 @@ use thiserror::Error;
 use tt_proof_check::{CheckFault, NodesFault};
 use tt_proof_read::TextFault;
 
-/// Why a proof is not written anew.
+/// Why a proof can't be written again.
 #[derive(Clone, Copy, Debug, PartialEq, Eq, Error)]
 pub enum UpgradeFault {
-    /// The proof is refused; being out of memory is told as `OutOfMemory`.
+    /// The proof is refused; being out of memory is reported as `OutOfMemory`.
     #[error("{0}")]
     Proof(CheckFault),
     /// The text in version 2 has more than 4,294,967,295 bytes.
@@ -33,7 +33,7 @@ impl From<TextFault> for UpgradeFault {
     }
 }
 
-/// What a fault of the nodes of a tree is called; a file's nodes are numbered with 32 bits.
+/// Returns the fault for a fault of the nodes of a tree; a file's nodes are numbered with 32 bits.
 pub fn node_fault(fault: NodesFault) -> UpgradeFault
     requires { IsOfNode fault }
     ensures { IsFaultOfNode fault result }

@@ -1,4 +1,4 @@
-//! Proofs that are read whole, and written anew in version 2.
+//! Proofs that are read as a whole, and written again in version 2.
 #![tactic(auto)]
 
 mod fault;

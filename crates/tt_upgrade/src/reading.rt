@@ -1,4 +1,4 @@
-//! Proofs that are read whole.
+//! Proofs that are read as a whole.
 
 ghost use Rattle.std.specs.Prelude.{◌≡◌, ◌≤◌, List, ℕ, length, true, is_some, Some, None, Err, All, IfOk, IfErr, OnOk};
 ghost use Rattle.tt_text.specs.Feeds.{stream_at};
@@ -17,7 +17,7 @@ use tt_leaf_rules::Bound;
 use tt_proof_read::{Node, NodeReader, TextFault};
 use tt_text::Source;
 
-/// A proof that was read whole: its version, 1 or 2, its bound and the nodes of its tree in preorder. Nothing was judged.
+/// A proof that was read as a whole: its version, 1 or 2, its bound and the nodes of its tree in preorder. Nothing was checked.
 #[derive(Debug, Drop)]
 pub struct ReadProof {
     pub version: u8,
@@ -25,7 +25,7 @@ pub struct ReadProof {
     pub nodes: Vec<Node>,
 }
 
-/// All nodes of a tree.
+/// Reads all nodes of a tree.
 fn collect<R: Source>(
     alloc: Global,
     reader: &mut NodeReader,
@@ -57,20 +57,20 @@ fn collect<R: Source>(
     Ok(nodes)
 }
 
-/// Reads a proof whole, and judges nothing of it but its text.
+/// Reads a proof as a whole, and checks only its text.
 pub fn read_proof<R: Source>(
     alloc: Global,
     instance: &Instance<'_>,
     source: &mut R,
 ) -> Result<ReadProof, TextFault>
     ensures read { IfOk result (λ r. (bytes : List ℕ) → R.remaining source.old ≡ Some bytes → IsRead instance.now (stream_of bytes) r.version r.bound r.nodes.items) }
-    // Whatever the source gives, they are nodes of the instance and one tree.
+    // For any bytes that the source gives, the result consists of nodes of the instance that are one tree.
     ensures nodes { IfOk result (λ r. AreNodesOf instance.now r.version r.nodes.items) }
     ensures failed { result ≡ Err read_failed → R.has_failed source.new ≡ true }
     ensures unfailed { ¬ (result ≡ Err read_failed) → R.has_failed source.new ≡ R.has_failed source.old }
-    // The first fault of the text is told, unless memory is wanting.
+    // The first fault of the text is reported, unless memory runs out.
     ensures fault { IfErr result (λ f. ¬ (f ≡ TextFault.OutOfMemory) → (bytes : List ℕ) → R.remaining source.old ≡ Some bytes → IsTextFault instance.now (stream_of bytes) f) }
-    // Where a read fails, all that the bytes before it say has been read.
+    // If a read fails, everything in the bytes before it has been read.
     ensures up_to_failed_read { result ≡ Err read_failed → (bytes : List ℕ) → R.remaining source.old ≡ Some bytes →
         IsReadUpToFailedRead instance.now bytes (R.remaining source.new) }
 {

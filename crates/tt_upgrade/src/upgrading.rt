@@ -1,4 +1,4 @@
-//! Proofs that are written anew.
+//! Proofs that are written again.
 
 ghost use Rattle.std.specs.Prelude.{◌≡◌, ◌≤◌, List, ℕ, length, All, true, Some, Err, IfOk, IfErr, OnOk, MatchResult};
 ghost use Rattle.tt_leaf_rules.specs.declared.leaf.Bound.{Bound};
@@ -31,7 +31,7 @@ pub struct Upgraded {
     pub bytes: Vec<u8>,
 }
 
-/// Judges the nodes of a tree.
+/// Checks the nodes of a tree.
 fn judge(
     alloc: Global,
     instance: &Instance<'_>,
@@ -50,7 +50,7 @@ fn judge(
     }
 }
 
-/// The text of a tree in version 2.
+/// Writes the text of a tree in version 2.
 fn write(
     alloc: Global,
     instance: &Instance<'_>,
@@ -71,31 +71,31 @@ fn write(
     }
 }
 
-/// Reads a proof of either version whole, checks it, and writes its bound and its tree in version 2. Since it is read whole, a fault of
-/// the text is told before one of its nodes.
+/// Reads a proof of either version as a whole, checks it, and writes its bound and its tree in version 2. Since it is read as a whole, a fault of
+/// the text is reported before one of its nodes.
 pub fn upgrade<R: Source>(
     alloc: Global,
     instance: &Instance<'_>,
     source: &mut R,
 ) -> Result<Upgraded, UpgradeFault>
-    // The bytes spell a tree that derives the bound, and what was written spells the same tree.
+    // The bytes spell a tree that derives the bound, and the output spells the same tree.
     ensures found { IfOk result (λ u. (bytes : List ℕ) → R.remaining source.old ≡ Some bytes → IsUpgraded instance.now bytes u.bound u.bytes.items) }
-    // Where they spell one, it is found, unless memory or a read fails or the text grows too large.
+    // If the bytes spell a tree that derives its bound, the proof is written, unless memory runs out, a read fails or the text grows too large.
     ensures only { (bytes : List ℕ) (b : Bound) → R.remaining source.old ≡ Some bytes → IsProved instance.now bytes b →
         MatchResult result (λ u. u.bound ≡ b) IsSilent }
-    // This holds whatever the source gives.
+    // This holds for any bytes that the source gives.
     ensures holds { IfOk result (λ u. HoldsOfAll instance.now u.bound) }
-    // A read is said to have failed exactly where one did.
+    // A failed read is reported exactly if a read failed.
     ensures failed { result ≡ Err read_failed → R.has_failed source.new ≡ true }
     ensures unfailed { ¬ (result ≡ Err read_failed) → R.has_failed source.new ≡ R.has_failed source.old }
     ensures fault { IfErr result (λ f. (bytes : List ℕ) → R.remaining source.old ≡ Some bytes → IsUpgradeFault instance.now (stream_of bytes) f) }
-    // Where a read fails, all that the bytes before it say has been read.
+    // If a read fails, everything in the bytes before it has been read.
     ensures up_to_failed_read { result ≡ Err read_failed → (bytes : List ℕ) → R.remaining source.old ≡ Some bytes →
         IsReadUpToFailedRead instance.now bytes (R.remaining source.new) }
-    // Being out of memory is one answer, wherever it comes from.
+    // Being out of memory is a single fault, wherever it comes from.
     ensures memory { IfErr result OutOfMemoryIsOneFault }
 {
-    // What is true of every instance: its numbers are small enough to be read.
+    // In every instance, the numbers are small enough to be read.
     prove!(instance.days() > 0);
     let read = read_proof(alloc, instance, source)?;
     judge(alloc, instance, read.bound, &read.nodes)?;

@@ -26,20 +26,20 @@ use tt_search::Watch;
 use tt_table::{Timetable, write_solution};
 use tt_text::{put_line_end, put_number, put_token};
 
-/// What `best` prints, and the texts of the files that it writes.
+/// The output of `best`, and the texts of the files that it writes.
 #[derive(Debug, Drop)]
 pub struct BestAnswer {
-    /// 0 says that there is a timetable, 1 that none was found.
+    /// 0 means that there is a timetable, 1 that none was found.
     pub status: u8,
     /// The text for standard output.
     pub out: Vec<u8>,
     /// The text of the best timetable's file.
     pub table: Option<Vec<u8>>,
-    /// A file of groups comes first, if there is one; the others are tree proofs.
+    /// The texts of the proofs. A file of groups comes first, if there is one; the others are tree proofs.
     pub proofs: Vec<Vec<u8>>,
 }
 
-/// The line of a timetable that was found.
+/// Returns the line of a timetable that was found.
 fn found_line(alloc: Global, cost: u64, bound: u64) -> Result<Vec<u8>, AllocError>
     ensures { IfOk result (λ out. out.items ≡ best_line cost bound) }
 {
@@ -55,7 +55,7 @@ fn found_line(alloc: Global, cost: u64, bound: u64) -> Result<Vec<u8>, AllocErro
     Ok(out)
 }
 
-/// The line of a bound where no timetable was found.
+/// Returns the line of a bound if no timetable was found.
 fn missing_line(alloc: Global, bound: Bound) -> Result<Vec<u8>, AllocError>
     ensures { IfOk result (λ out. out.items ≡ none_line bound) }
 {
@@ -66,7 +66,7 @@ fn missing_line(alloc: Global, bound: Bound) -> Result<Vec<u8>, AllocError>
     Ok(out)
 }
 
-/// Answers a timetable that breaks no hard rule, and proofs.
+/// Returns the answer with a timetable that breaks no hard rule, and proofs.
 fn found_answer(
     alloc: Global,
     instance: &Instance<'_>,
@@ -91,7 +91,7 @@ fn found_answer(
     })
 }
 
-/// Answers proofs alone.
+/// Returns the answer with proofs alone.
 fn missing_answer(
     alloc: Global,
     instance: &Instance<'_>,
@@ -109,7 +109,7 @@ fn missing_answer(
     })
 }
 
-/// Answers what a search found.
+/// Returns the answer for what a search found.
 fn answer_of(alloc: Global, instance: &Instance<'_>, week: Week) -> Result<BestAnswer, AllocError>
     requires { IsWeek instance.now week }
     ensures { IfOk result (λ a. (i : List ℕ) → Spells i instance.now → IsBest i a) }
@@ -123,19 +123,19 @@ fn answer_of(alloc: Global, instance: &Instance<'_>, week: Week) -> Result<BestA
     }
 }
 
-/// Searches for a best timetable and for proofs of a lower bound, in rounds, until they meet, and shows the searches to a watch. How good they
-/// are is not promised.
+/// Searches for a best timetable and for proofs of a lower bound, in rounds, until they meet, and shows the searches to a watch. Nothing is
+/// promised about how good they are.
 pub fn best_watched<W: Watch>(
     alloc: Global,
     instance: &[u8],
     rounds: Rounds,
     watch: &mut W,
 ) -> Result<BestAnswer, AppFault>
-    // The timetable breaks no hard rule and costs what the line says; the proofs add up to the bound, which holds of every such timetable.
+    // The timetable breaks no hard rule and its cost is the one in the line; the proofs add up to the bound, which holds for every such timetable.
     ensures found { IfOk result (IsBest instance.now) }
-    // A refusal names the first fault.
+    // A refusal reports the first error.
     ensures fault { IfErr result (IsPartsRefusal instance.now) }
-    // What is spelled is answered, unless memory runs out.
+    // If the bytes spell an instance, there is an answer, unless memory runs out.
     ensures only { (p : Problem) → Spells instance.now p → MatchResult result (λ _. ⊤) (λ f. f ≡ fault.OutOfMemory) }
 {
     let instance = read_instance(alloc, instance)?;

@@ -19,7 +19,7 @@ use tt_leaf_rules::Bound;
 use tt_proof_check::check_proof;
 use tt_text::Source;
 
-/// The answer that is this bound's line.
+/// Returns the answer that is this bound's line.
 pub fn bound_answer(alloc: Global, bound: Bound) -> Result<Answer, AllocError>
     ensures { IfOk result (λ a. IsBoundAnswer a bound) }
 {
@@ -31,24 +31,24 @@ pub fn bound_answer(alloc: Global, bound: Bound) -> Result<Answer, AllocError>
     })
 }
 
-/// The lower bound that a proof derives for an instance.
+/// Returns the lower bound that a proof derives for an instance.
 pub fn bound<R: Source>(alloc: Global, instance: &[u8], proof: &mut R) -> Result<Answer, AppFault>
-    // What is answered is derived, and holds.
+    // The bound in the answer is derived, and holds.
     ensures found { IfOk result (IsBounded instance.now (R.remaining proof.old)) }
-    // A refusal tells the first fault.
+    // A refusal reports the first error.
     ensures fault { IfErr result (IsBoundRefusal instance.now (R.remaining proof.old)) }
-    // What is derived is answered.
+    // If a bound is derived, it is the answer, unless memory runs out or a read fails.
     ensures only { (p : Problem) (bytes : List ℕ) (b : Bound) → Spells instance.now p → R.remaining proof.old ≡ Some bytes →
         IsProved p bytes b → AnswersBound result b }
-    // The proof isn't read where the instance is refused.
+    // If the instance is refused, the proof isn't read.
     ensures unread { IfErr result (λ f. IsOfInstance f → proof.new ≡ proof.old) }
-    // A read is said to have failed exactly where one did.
+    // A failed read is reported exactly if a read failed.
     ensures failed { result ≡ Err read_failed → R.has_failed proof.new ≡ true }
     ensures unfailed { ¬ (result ≡ Err read_failed) → R.has_failed proof.new ≡ R.has_failed proof.old }
-    // Where one failed, all that the proof's bytes before it say has been judged.
+    // If a failed read is reported, all the bytes of the proof before it have been checked.
     ensures up_to_failed_read { result ≡ Err read_failed → (bytes : List ℕ) → R.remaining proof.old ≡ Some bytes →
         IsSpelledAndJudgedUpToFailedRead instance.now bytes (R.remaining proof.new) }
-    // Being out of memory is one answer, wherever it comes from.
+    // Being out of memory is always the same error, regardless of its source.
     ensures memory { IfErr result OutOfMemoryIsOneFault }
 {
     let instance = read_instance(alloc, instance)?;

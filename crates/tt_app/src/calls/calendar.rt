@@ -11,18 +11,18 @@ use tt_instance::{Instance, read_instance};
 use tt_report::By;
 use tt_table::read_solution;
 
-/// When the week of a calendar takes place.
+/// The dates and times of a calendar's week.
 #[derive(Clone, Copy, Debug)]
 pub struct WeekTimes<'a> {
     /// The date of day 0, as 2027-02-01.
     pub first_day: &'a str,
-    /// When the periods of a day begin, as 8:00,9:00.
+    /// The times at which the periods of a day begin, as 8:00,9:00.
     pub times: &'a str,
-    /// How long a period lasts.
+    /// The length of a period in minutes.
     pub minutes: u32,
 }
 
-/// When the days and periods of an instance take place.
+/// Returns the dates and times of an instance's days and periods.
 fn term_of(alloc: Global, instance: &Instance<'_>, times: WeekTimes<'_>) -> Result<Term, AppFault>
     ensures { IfErr result IsNoTerm }
 {
@@ -35,7 +35,8 @@ fn term_of(alloc: Global, instance: &Instance<'_>, times: WeekTimes<'_>) -> Resu
     Ok(Term::new(alloc, sizes, first_day, times, minutes)?)
 }
 
-/// The week of the room, the teacher or the curriculum of this name under a solution of an instance as an iCalendar file; the status is 0.
+/// Returns the week of the room, the teacher or the curriculum of this name under a solution of an instance as an iCalendar file; the status
+/// is 0.
 pub fn calendar(
     alloc: Global,
     instance: &[u8],
@@ -45,7 +46,7 @@ pub fn calendar(
     times: WeekTimes<'_>,
 ) -> Result<Answer, AppFault>
     ensures found { IfOk result (IsCalendar instance.now solution.now by name.now) }
-    // A refusal is the first fault: a file's, then an unknown name, then the dates and times.
+    // A refusal reports the first error: that of a file, then an unknown name, then the dates and times.
     ensures fault { IfErr result (IsCalendarRefusal instance.now solution.now by name.now) }
 {
     let instance = read_instance(alloc, instance)?;

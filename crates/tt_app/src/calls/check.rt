@@ -14,7 +14,7 @@ use tt_proof_check::{Verdict, certify};
 use tt_rules::Score;
 use tt_text::Source;
 
-/// The answer yes, with a cost and a bound.
+/// Returns the answer `yes`, with a cost and a bound.
 pub fn yes_answer(alloc: Global, cost: u64, bound: u64) -> Result<Answer, AllocError>
     ensures { IfOk result (λ a. IsYesAnswer a cost bound) }
 {
@@ -26,7 +26,7 @@ pub fn yes_answer(alloc: Global, cost: u64, bound: u64) -> Result<Answer, AllocE
     })
 }
 
-/// The answer that a hard rule is broken, with the sums of the counts.
+/// Returns the answer that a hard rule is broken, with the sums of the counts.
 pub fn broken_answer(alloc: Global, score: &Score) -> Result<Answer, AllocError>
     ensures { IfOk result (λ a. IsBrokenAnswer a
         (score.now.lectures + score.now.conflicts + score.now.availability + score.now.room_occupancy)
@@ -40,32 +40,32 @@ pub fn broken_answer(alloc: Global, score: &Score) -> Result<Answer, AllocError>
     })
 }
 
-/// Whether a solution of an instance breaks no hard rule, with its cost and the lower bound that a proof derives. The proof is read as
-/// it is checked, and only where no hard rule is broken.
+/// Checks whether a solution of an instance breaks no hard rule, and returns its cost and the lower bound that a proof derives. The proof is
+/// read as it is checked, and only if no hard rule is broken.
 pub fn check<R: Source>(
     alloc: Global,
     instance: &[u8],
     solution: &[u8],
     proof: &mut R,
 ) -> Result<Answer, AppFault>
-    // What is answered is so.
+    // If there is an answer, it is right.
     ensures found { IfOk result (IsChecked instance.now solution.now (R.remaining proof.old)) }
-    // A refusal tells the first fault.
+    // A refusal reports the first error.
     ensures fault { IfErr result (IsCheckRefusal instance.now solution.now (R.remaining proof.old)) }
-    // What is certified is answered with yes.
+    // If the bytes certify c and b, the answer is `yes` with c and b, unless memory runs out or a read fails.
     ensures yes { (c b : ℕ) (bytes : List ℕ) → R.remaining proof.old ≡ Some bytes →
         Certifies instance.now solution.now bytes c b → AnswersYes result c b }
-    // What breaks a hard rule is answered, and the proof isn't read.
+    // If the timetable breaks a hard rule, the answer says so, unless memory runs out, and the proof isn't read.
     ensures broken { BreaksARule instance.now solution.now → AnswersBroken result × (proof.new ≡ proof.old) }
-    // Nor is it read where the instance or the solution is refused.
+    // If the instance or the solution is refused, the proof isn't read.
     ensures unread { IfErr result (λ f. IsOfFiles f → proof.new ≡ proof.old) }
-    // A read is said to have failed exactly where one did.
+    // A failed read is reported exactly if a read failed.
     ensures failed { result ≡ Err read_failed → R.has_failed proof.new ≡ true }
     ensures unfailed { ¬ (result ≡ Err read_failed) → R.has_failed proof.new ≡ R.has_failed proof.old }
-    // Where one failed, all that the proof's bytes before it say has been judged.
+    // If a failed read is reported, all the bytes of the proof before it have been checked.
     ensures up_to_failed_read { result ≡ Err read_failed → (bytes : List ℕ) → R.remaining proof.old ≡ Some bytes →
         IsSpelledAndJudgedUpToFailedRead instance.now bytes (R.remaining proof.new) }
-    // Being out of memory is one answer, wherever it comes from.
+    // Being out of memory is always the same error, regardless of its source.
     ensures memory { IfErr result OutOfMemoryIsOneFault }
 {
     match certify(alloc, instance, solution, proof)? {

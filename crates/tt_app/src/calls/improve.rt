@@ -36,8 +36,8 @@ fn table_answer(
     })
 }
 
-/// Searches from a solution in this many runs, each from the best timetable so far and by this many steps, shown to a watch. Answers a
-/// timetable that is no worse; status 1 where it breaks a hard rule.
+/// Searches from a solution in `runs` runs, each from the best timetable so far and with `steps` steps, and shows the search to a watch.
+/// Returns a timetable that is no worse; the status is 1 if it breaks a hard rule.
 pub fn improve_in_runs<W: Watch>(
     alloc: Global,
     instance: &[u8],
@@ -48,9 +48,9 @@ pub fn improve_in_runs<W: Watch>(
     watch: &mut W,
 ) -> Result<Answer, AppFault>
     ensures found { IfOk result (IsImprovedInRuns instance.now solution.now steps runs) }
-    // A refusal tells the first fault.
+    // A refusal reports the first error.
     ensures fault { IfErr result (IsFileRefusal instance.now solution.now) }
-    // What is spelled is answered, unless memory runs out.
+    // If both files are spelled, there is an answer, unless memory runs out.
     ensures only { (p : Problem) (t : List Cell) → SpellsBoth instance.now solution.now p t →
         MatchResult result (λ _. ⊤) (λ f. f ≡ fault.OutOfMemory) }
 {
@@ -60,7 +60,7 @@ pub fn improve_in_runs<W: Watch>(
     Ok(table_answer(alloc, &instance, &better)?)
 }
 
-/// Searches from a solution by this many steps, and answers a timetable that is no worse; status 1 where it breaks a hard rule.
+/// Searches from a solution with `steps` steps, and returns a timetable that is no worse; the status is 1 if it breaks a hard rule.
 pub fn improve(
     alloc: Global,
     instance: &[u8],
@@ -68,18 +68,19 @@ pub fn improve(
     seed: u64,
     steps: u64,
 ) -> Result<Answer, AppFault>
-    // The answer is no worse, and each entry keeps its course.
+    // The timetable is no worse, and the course of each entry is preserved.
     ensures found { IfOk result (IsImproved instance.now solution.now steps) }
-    // A refusal tells the first fault.
+    // A refusal reports the first error.
     ensures fault { IfErr result (IsFileRefusal instance.now solution.now) }
-    // What is spelled is answered, unless memory runs out.
+    // If both files are spelled, there is an answer, unless memory runs out.
     ensures only { (p : Problem) (t : List Cell) → SpellsBoth instance.now solution.now p t →
         MatchResult result (λ _. ⊤) (λ f. f ≡ fault.OutOfMemory) }
 {
     improve_in_runs(alloc, instance, solution, seed, steps, 1, &mut Unwatched)
 }
 
-/// Adds the lectures that a solution lacks, and searches from there as `improve_in_runs` does; the status is 1 if the timetable breaks a hard rule.
+/// Adds the lectures that a solution lacks, and searches from the result as `improve_in_runs` does; the status is 1 if the timetable breaks a
+/// hard rule.
 pub fn complete_and_improve<W: Watch>(
     alloc: Global,
     instance: &[u8],
@@ -90,7 +91,7 @@ pub fn complete_and_improve<W: Watch>(
     watch: &mut W,
 ) -> Result<Answer, AppFault>
     ensures found { IfOk result (IsCompletedAndImproved instance.now solution.now steps runs) }
-    // A refusal is the first fault: a file's, then that the timetable can't be completed.
+    // A refusal reports the first error: that of a file, then that the timetable can't be completed.
     ensures fault { IfErr result (IsCompletionRefusal instance.now solution.now) }
 {
     let instance = read_instance(alloc, instance)?;

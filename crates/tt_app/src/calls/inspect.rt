@@ -16,7 +16,7 @@ use tt_instance::{InstanceFault, read_instance};
 use tt_rules::score;
 use tt_table::{SolutionFault, read_solution};
 
-/// What is printed of a file that is refused.
+/// Returns the answer for a file that is refused.
 fn refusal(text: String) -> Answer
     ensures { IsRefusalText result }
 {
@@ -28,7 +28,7 @@ fn refusal(text: String) -> Answer
     }
 }
 
-/// What is printed of files that are read.
+/// Returns the answer for files that are read.
 fn findings(inspected: Inspected) -> Answer
     ensures { IsFindings result }
 {
@@ -41,7 +41,7 @@ fn findings(inspected: Inspected) -> Answer
     }
 }
 
-/// Why bytes are no instance.
+/// Returns the reason why bytes are no instance.
 fn refused_instance(alloc: Global, bytes: &[u8], why: InstanceFault) -> Result<Answer, AppFault>
     ensures text { IfOk result IsRefusalText }
     ensures first { IfOk result (λ _. instance.is_silent why ≡ false) }
@@ -53,7 +53,7 @@ fn refused_instance(alloc: Global, bytes: &[u8], why: InstanceFault) -> Result<A
     Ok(refusal(explain_instance(alloc, bytes, why)?))
 }
 
-/// Why bytes are no solution of an instance.
+/// Returns the reason why bytes are no solution of an instance.
 fn refused_solution(alloc: Global, bytes: &[u8], why: SolutionFault) -> Result<Answer, AppFault>
     ensures text { IfOk result IsRefusalText }
     ensures first { IfOk result (λ _. solution.is_silent why ≡ false) }
@@ -65,7 +65,7 @@ fn refused_solution(alloc: Global, bytes: &[u8], why: SolutionFault) -> Result<A
     Ok(refusal(explain_solution(alloc, bytes, why)?))
 }
 
-/// What there is in an instance.
+/// Describes an instance.
 fn inspect_alone(alloc: Global, instance: &[u8]) -> Result<Answer, AppFault>
     ensures status { IfOk result (IsInspected instance.now None) }
     ensures memory { IfErr result (λ f. f ≡ fault.OutOfMemory) }
@@ -77,7 +77,7 @@ fn inspect_alone(alloc: Global, instance: &[u8]) -> Result<Answer, AppFault>
     Ok(findings(inspect_instance(alloc, &read)?))
 }
 
-/// What there is in an instance and in a solution of it.
+/// Describes an instance and a solution of it.
 fn inspect_both(alloc: Global, instance: &[u8], solution: &[u8]) -> Result<Answer, AppFault>
     ensures status { IfOk result (IsInspected instance.now (Some solution.now)) }
     ensures memory { IfErr result (λ f. f ≡ fault.OutOfMemory) }
@@ -94,13 +94,13 @@ fn inspect_both(alloc: Global, instance: &[u8], solution: &[u8]) -> Result<Answe
     Ok(findings(inspect_solution(alloc, &read, &table, &score)?))
 }
 
-/// What there is in an instance, and in a solution of it where one is given, in words; status 2 where a file isn't one,
-/// and 1 where something can't be or the solution breaks a hard rule. What the words say has no contract.
+/// Describes an instance, and a solution of it if one is given, in words. The status is 2 if a file can't be read as one, and 1 if something is
+/// impossible or the solution breaks a hard rule. The words have no contract.
 pub fn inspect(alloc: Global, instance: &[u8], solution: Option<&[u8]>) -> Result<Answer, AppFault>
-    // The status is 2 exactly where a file isn't one.
+    // The status is 2 exactly if a file can't be read as an instance or a solution.
     ensures status { IfOk result (λ a. MatchOption solution.entry
         (IsInspected instance.now None a) (λ s. IsInspected instance.now (Some s.now) a)) }
-    // Nothing else is refused.
+    // The only refusal is being out of memory.
     ensures memory { IfErr result (λ f. f ≡ fault.OutOfMemory) }
 {
     match solution {

@@ -20,16 +20,16 @@ use tt_search::{Unwatched, Watch};
 use tt_table::{Entry, read_solution};
 use tt_text::{put_line_end, put_number, put_token};
 
-/// What `parts` prints, and the texts of the proofs that it writes.
+/// The output of `parts`, and the texts of the proofs that it writes.
 #[derive(Debug, Drop)]
 pub struct PartsAnswer {
     /// The text for standard output.
     pub out: Vec<u8>,
-    /// A file of groups comes first, if there is one; the others are tree proofs.
+    /// The texts of the proofs. A file of groups comes first, if there is one; the others are tree proofs.
     pub proofs: Vec<Vec<u8>>,
 }
 
-/// The line of a sum and how many proofs there are.
+/// Returns the line of a sum and the number of proofs.
 fn line_of(alloc: Global, bound: Bound, count: u64) -> Result<Vec<u8>, AllocError>
     ensures { IfOk result (λ out. out.items ≡ parts_line bound count) }
 {
@@ -66,17 +66,17 @@ pub fn parts_watched<W: Watch>(
 ) -> Result<PartsAnswer, AppFault>
     // The proofs of the answer add up, and their sum holds.
     ensures found { IfOk result (IsParted instance.now) }
-    // A refusal names the first fault.
+    // A refusal reports the first error.
     ensures fault { IfErr result (IsPartsRefusal instance.now) }
-    // What is spelled is answered, unless memory runs out.
+    // If the bytes spell an instance, there is an answer, unless memory runs out.
     ensures only { (p : Problem) → Spells instance.now p → MatchResult result (λ _. ⊤) (λ f. f ≡ fault.OutOfMemory) }
 {
     let instance = read_instance(alloc, instance)?;
     Ok(answer_of(alloc, &instance, effort, &[], watch)?)
 }
 
-/// Searches for proofs as `parts` does, guided by a solution: no group is tried that would have to be worth more than it costs there. It shows
-/// the search to a watch.
+/// Searches for proofs as `parts` does, guided by a solution: no group is tried whose value would have to be above its cost in the solution.
+/// Shows the search to a watch.
 pub fn guided_parts_watched<W: Watch>(
     alloc: Global,
     instance: &[u8],
@@ -86,9 +86,9 @@ pub fn guided_parts_watched<W: Watch>(
 ) -> Result<PartsAnswer, AppFault>
     // The proofs of the answer add up, and their sum holds.
     ensures found { IfOk result (IsParted instance.now) }
-    // A refusal names the first fault.
+    // A refusal reports the first error.
     ensures fault { IfErr result (IsFileRefusal instance.now solution.now) }
-    // What is spelled is answered, unless memory runs out.
+    // If both files are spelled, there is an answer, unless memory runs out.
     ensures only { (p : Problem) (t : List Cell) → SpellsBoth instance.now solution.now p t →
         MatchResult result (λ _. ⊤) (λ f. f ≡ fault.OutOfMemory) }
 {
@@ -97,13 +97,13 @@ pub fn guided_parts_watched<W: Watch>(
     Ok(answer_of(alloc, &instance, effort, table.entries(), watch)?)
 }
 
-/// Searches for proofs of lower bounds that add up, and answers them and their sum. Which ones it finds is not promised.
+/// Searches for proofs of lower bounds that add up, and returns them and their sum. Nothing is promised about which proofs it finds.
 pub fn parts(alloc: Global, instance: &[u8], effort: Effort) -> Result<PartsAnswer, AppFault>
     // The proofs of the answer add up, and their sum holds.
     ensures found { IfOk result (IsParted instance.now) }
-    // A refusal names the first fault.
+    // A refusal reports the first error.
     ensures fault { IfErr result (IsPartsRefusal instance.now) }
-    // What is spelled is answered, unless memory runs out.
+    // If the bytes spell an instance, there is an answer, unless memory runs out.
     ensures only { (p : Problem) → Spells instance.now p → MatchResult result (λ _. ⊤) (λ f. f ≡ fault.OutOfMemory) }
 {
     parts_watched(alloc, instance, effort, &mut Unwatched)

@@ -21,16 +21,16 @@ pub fn report<W: Sink>(
     by: By,
     sink: &mut W,
 ) -> Result<u8, AppFault>
-    // What is written is the report.
+    // The bytes written are the report.
     ensures written { IfOk result (IsReported instance.now solution.now by (W.contents sink.old) (W.contents sink.new)) }
-    // A refusal tells the first fault.
+    // A refusal reports the first error.
     ensures fault { IfErr result (IsReportRefusal instance.now solution.now by (W.contents sink.old) (W.contents sink.new)) }
-    // What is spelled is reported, unless memory runs out or a write fails.
+    // If both files are spelled, the report is written, unless memory runs out or a write fails.
     ensures only { (p : Problem) (t : List Cell) → SpellsBoth instance.now solution.now p t →
         MatchResult result (λ _. ⊤) (λ f. (f ≡ fault.OutOfMemory) ⊎ (f ≡ fault.CannotWrite)) }
-    // Nothing is written where anything else is refused.
+    // If any other error is reported, nothing is written.
     ensures unwritten { IfErr result (λ f. IsUnwritten f → sink.new ≡ sink.old) }
-    // A write is said to have failed exactly where one did.
+    // A failed write is reported exactly if a write failed.
     ensures failed { result ≡ Err fault.CannotWrite → W.has_failed sink.new ≡ true }
     ensures unfailed { ¬ (result ≡ Err fault.CannotWrite) → W.has_failed sink.new ≡ W.has_failed sink.old }
 {

@@ -60,7 +60,7 @@ fn put_end(out: &mut Vec<u8>, finished: bool) -> Result<(), AllocError>
     put_line_end(out)
 }
 
-/// The line of what a search found.
+/// Returns the line of a search's result.
 fn line_of(
     alloc: Global,
     instance: &Instance<'_>,
@@ -80,7 +80,7 @@ fn line_of(
     Ok(out)
 }
 
-/// The text of the best timetable, if there is one.
+/// Returns the text of the best timetable, if there is one.
 fn best_text(
     alloc: Global,
     instance: &Instance<'_>,
@@ -125,7 +125,7 @@ fn least_text(alloc: Global, bound: Bound, nodes: &[Node]) -> Result<Vec<u8>, Ap
     }
 }
 
-/// What is answered of a search.
+/// Returns the answer for a search.
 fn search_answer(
     alloc: Global,
     instance: &Instance<'_>,
@@ -158,11 +158,11 @@ pub fn solve_watched<W: Watch>(
 ) -> Result<Answer, AppFault>
     requires some { 1 ≤ nodes }
     requires few { nodes ≤ MAX_OPENED }
-    // What is answered is feasible, and the proof derives its bound.
+    // The timetable in the answer is feasible, and the proof derives its bound.
     ensures found { IfOk result (IsSolved instance.now nodes) }
-    // A refusal tells the first fault.
+    // A refusal reports the first error.
     ensures fault { IfErr result (IsSolveRefusal instance.now nodes) }
-    // What is spelled is answered, unless memory runs out or the proof grows too large.
+    // If the bytes spell an instance, there is an answer, unless memory runs out or the proof grows too large.
     ensures only { (p : Problem) → Spells instance.now p →
         MatchResult result (λ _. ⊤) (λ f. (f ≡ fault.OutOfMemory) ⊎ (f ≡ fault.ProofTooLarge)) }
 {
@@ -180,16 +180,16 @@ pub fn solve_watched<W: Watch>(
     Ok(search_answer(alloc, &instance, &best, bound, finished, text)?)
 }
 
-/// Searches for a best timetable by a tree, and answers it with a proof of a lower bound, of at most `nodes` nodes if each is closed, and of
-/// fewer than twice as many if not; status 1 if it found no timetable. Which nodes are opened is not promised.
+/// Searches for a best timetable by a tree, and returns it with a proof of a lower bound, of at most `nodes` nodes if each is closed, and of
+/// fewer than twice as many if not; the status is 1 if it found no timetable. Nothing is promised about which nodes are opened.
 pub fn solve(alloc: Global, instance: &[u8], seed: u64, nodes: u32) -> Result<Answer, AppFault>
     requires some { 1 ≤ nodes }
     requires few { nodes ≤ MAX_OPENED }
-    // What is answered is feasible, and the proof derives its bound.
+    // The timetable in the answer is feasible, and the proof derives its bound.
     ensures found { IfOk result (IsSolved instance.now nodes) }
-    // A refusal tells the first fault.
+    // A refusal reports the first error.
     ensures fault { IfErr result (IsSolveRefusal instance.now nodes) }
-    // What is spelled is answered, unless memory runs out or the proof grows too large.
+    // If the bytes spell an instance, there is an answer, unless memory runs out or the proof grows too large.
     ensures only { (p : Problem) → Spells instance.now p →
         MatchResult result (λ _. ⊤) (λ f. (f ≡ fault.OutOfMemory) ⊎ (f ≡ fault.ProofTooLarge)) }
 {

@@ -33,25 +33,25 @@ impl From<SumFault> for AppFault {
     }
 }
 
-/// The sum of the lower bounds that proofs derive for an instance, no two of which claim one target.
+/// Returns the sum of the lower bounds that proofs derive for an instance; no two of the proofs claim the same target.
 pub fn sum<R: Peek>(alloc: Global, instance: &[u8], proofs: &mut [R]) -> Result<Answer, AppFault>
-    // What is answered is the sum of what is derived, and holds.
+    // The bound in the answer is the sum of the derived bounds, and holds.
     ensures found { IfOk result (IsSummed instance.now (Give R.remaining proofs.old)) }
-    // A refusal tells the first fault.
+    // A refusal reports the first error.
     ensures fault { IfErr result (IsSumRefusal instance.now (Give R.remaining proofs.old)) }
-    // What has a sum below 2^64 is answered.
+    // If the proofs have a sum below 2^64, it is the answer, unless the refusal says nothing about the bytes.
     ensures only { (p : Problem) (files : List (List ℕ)) (b : Bound) → Spells instance.now p → Give R.remaining proofs.old files →
         (h : IsSum p files b) → all_points h.parts < 2 ^ 64 → AnswersSum result b }
-    // No proof is read where the instance is refused.
+    // If the instance is refused, no proof is read.
     ensures unread { IfErr result (λ f. IsOfInstance f → proofs.new ≡ proofs.old) }
-    // A read is said to have failed exactly where one did.
+    // A failed read is reported exactly if a read failed.
     ensures failed { (i : ℕ) (r : R) → result ≡ Err (read_failed_at (i + 1)) → slice_get proofs.new i ≡ Some r → R.has_failed r ≡ true }
     ensures unfailed { (i : ℕ) (r q : R) → ¬ (result ≡ Err (read_failed_at (i + 1))) → slice_get proofs.old i ≡ Some r → slice_get proofs.new i ≡ Some q →
         R.has_failed q ≡ R.has_failed r }
-    // Where one failed, all that the bytes of its proof before it say has been judged.
+    // If a failed read is reported, all the bytes of its proof before it have been checked.
     ensures up_to_failed_read { (i : ℕ) (r q : R) (bytes : List ℕ) → result ≡ Err (read_failed_at (i + 1)) → slice_get proofs.old i ≡ Some r →
         slice_get proofs.new i ≡ Some q → R.remaining r ≡ Some bytes → IsSpelledAndFileJudgedUpToFailedRead instance.now bytes (R.remaining q) }
-    // Being out of memory is one answer, wherever it comes from.
+    // Being out of memory is always the same error, regardless of its source.
     ensures memory { IfErr result OutOfMemoryIsOneFault }
 {
     let instance = read_instance(alloc, instance)?;

@@ -15,12 +15,12 @@ use tt_export::write_table;
 use tt_instance::read_instance;
 use tt_table::read_solution;
 
-/// The solution of an instance as comma-separated values, with a row for each entry; the status is 0.
+/// Returns the solution of an instance as comma-separated values, with a row for each entry; the status is 0.
 pub fn table(alloc: Global, instance: &[u8], solution: &[u8]) -> Result<Answer, AppFault>
     ensures found { IfOk result (IsTable instance.now solution.now) }
-    // A refusal is the first fault.
+    // A refusal reports the first error.
     ensures fault { IfErr result (IsFileRefusal instance.now solution.now) }
-    // Two files that are spelled have a table, unless memory runs out.
+    // If both files are spelled, there is a table, unless memory runs out.
     ensures only { (p : Problem) (t : List Cell) → SpellsBoth instance.now solution.now p t →
         MatchResult result (λ _. ⊤) (λ f. f ≡ fault.OutOfMemory) }
 {

@@ -31,22 +31,22 @@ fn upgraded_answer(alloc: Global, upgraded: Upgraded) -> Result<Answer, AllocErr
 
 /// Checks a proof of either version, which is read whole, and writes its bound and its tree in version 2.
 pub fn upgrade<R: Source>(alloc: Global, instance: &[u8], proof: &mut R) -> Result<Answer, AppFault>
-    // What is written derives the same bound by the same tree, and the bound holds.
+    // The proof written derives the same bound by the same tree, and the bound holds.
     ensures found { IfOk result (IsRewritten instance.now (R.remaining proof.old)) }
-    // A refusal tells the first fault.
+    // A refusal reports the first error.
     ensures fault { IfErr result (IsUpgradeRefusal instance.now (R.remaining proof.old)) }
-    // What is derived is written.
+    // If a bound is derived, the proof is written, unless memory runs out, a read fails or the text grows too large.
     ensures only { (p : Problem) (bytes : List ℕ) (b : Bound) → Spells instance.now p → R.remaining proof.old ≡ Some bytes →
         IsProved p bytes b → AnswersUpgrade result b }
-    // The proof isn't read where the instance is refused.
+    // If the instance is refused, the proof isn't read.
     ensures unread { IfErr result (λ f. IsOfInstance f → proof.new ≡ proof.old) }
-    // A read is said to have failed exactly where one did.
+    // A failed read is reported exactly if a read failed.
     ensures failed { result ≡ Err read_failed → R.has_failed proof.new ≡ true }
     ensures unfailed { ¬ (result ≡ Err read_failed) → R.has_failed proof.new ≡ R.has_failed proof.old }
-    // Where one failed, all that the proof's bytes before it say has been read.
+    // If a failed read is reported, all the bytes of the proof before it have been read.
     ensures up_to_failed_read { result ≡ Err read_failed → (bytes : List ℕ) → R.remaining proof.old ≡ Some bytes →
         IsSpelledAndReadUpToFailedRead instance.now bytes (R.remaining proof.new) }
-    // Being out of memory is one answer, wherever it comes from.
+    // Being out of memory is always the same error, regardless of its source.
     ensures memory { IfErr result OutOfMemoryIsOneFault }
 {
     let instance = read_instance(alloc, instance)?;

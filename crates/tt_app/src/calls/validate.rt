@@ -15,7 +15,7 @@ use tt_instance::read_instance;
 use tt_rules::{Score, score};
 use tt_table::read_solution;
 
-/// The ten lines of a score.
+/// Returns the ten lines of a score.
 fn score_text(alloc: Global, score: &Score) -> Result<Vec<u8>, AllocError>
     ensures { IfOk result (λ out. out.items ≡ score_lines score.now) }
 {
@@ -33,7 +33,7 @@ fn score_text(alloc: Global, score: &Score) -> Result<Vec<u8>, AllocError>
     Ok(out)
 }
 
-/// What is printed of a score, and the status.
+/// Returns the answer for a score, with its status.
 fn score_answer(alloc: Global, score: &Score) -> Result<Answer, AllocError>
     ensures { IfOk result (IsScoreAnswer score.now) }
 {
@@ -45,13 +45,13 @@ fn score_answer(alloc: Global, score: &Score) -> Result<Answer, AllocError>
     })
 }
 
-/// The score of a solution of an instance, in ten lines; status 1 where a hard rule is broken.
+/// Returns the score of a solution of an instance, in ten lines; the status is 1 if a hard rule is broken.
 pub fn validate(alloc: Global, instance: &[u8], solution: &[u8]) -> Result<Answer, AppFault>
-    // What is answered is the score.
+    // The answer has the score.
     ensures found { IfOk result (IsValidated instance.now solution.now) }
-    // A refusal tells the first fault.
+    // A refusal reports the first error.
     ensures fault { IfErr result (IsFileRefusal instance.now solution.now) }
-    // What is spelled is answered, unless memory runs out.
+    // If both files are spelled, there is an answer, unless memory runs out.
     ensures only { (p : Problem) (t : List Cell) → SpellsBoth instance.now solution.now p t →
         MatchResult result (λ _. ⊤) (λ f. f ≡ fault.OutOfMemory) }
 {

@@ -13,7 +13,7 @@ use crate::facts::{Pattern, Who};
 use std::ops::Range;
 use tt_instance::{Cell, Instance};
 
-/// The numbers below a bound that agree with what is given.
+/// Returns the numbers below a bound that agree with a number that may be given.
 fn numbers_given(given: Option<u32>, count: u32) -> Range<u32>
     ensures { range_with_len result.start (result.end - result.start) ≡ numbers_given given count }
 {
@@ -24,7 +24,7 @@ fn numbers_given(given: Option<u32>, count: u32) -> Range<u32>
     }
 }
 
-/// Whether two cells cannot both be taken.
+/// Returns whether two cells clash, so that no timetable can have both.
 fn clash(instance: &Instance<'_>, first: Cell, second: Cell) -> bool
     ensures { result ≡ clash instance.now first second }
 {
@@ -51,7 +51,7 @@ impl<'p, 'i> PlainPath<'p, 'i> {
             || self.is_denied(cell)
     }
 
-    // ---- the cells that a pattern matches, each against one cell
+    // -- the cells that a pattern matches, each tested against one cell
 
     fn is_lost(&self, cell: Cell, other: Cell) -> bool
         ensures { result ≡ is_lost self.now.problem self.now.facts cell other }
@@ -128,14 +128,14 @@ impl<'p, 'i> PlainPath<'p, 'i> {
             .any(|fact| fact.holds && self.excludes(&fact.pattern, cell))
     }
 
-    /// Whether a cell is barred, or left no place beside it by some yes-fact.
+    /// Returns whether a cell is barred, or excluded by some yes-fact.
     pub(super) fn is_dead(&self, cell: Cell) -> bool
         ensures { result ≡ is_dead self.now.problem self.now.facts cell }
     {
         self.is_barred(cell) || self.is_excluded(cell)
     }
 
-    /// Whether the cell of these numbers is live.
+    /// Returns whether the cell with these numbers is live.
     pub(super) fn is_live(&self, course: u32, room: u32, day: u32, period: u32) -> bool
         ensures { result
             ≡ is_live self.now.problem self.now.facts (cell course room (slot day period)) }
@@ -149,14 +149,14 @@ impl<'p, 'i> PlainPath<'p, 'i> {
         !self.is_dead(cell)
     }
 
-    /// Whether some room gives a live cell of the course in the period.
+    /// Returns whether some room gives a live cell of the course in the period.
     pub(super) fn is_live_period(&self, course: u32, day: u32, period: u32) -> bool
         ensures { result ≡ live_period self.now.problem self.now.facts course (slot day period) }
     {
         (0..self.instance.rooms()).any(|room| self.is_live(course, room, day, period))
     }
 
-    /// The students of a course for whom a room has no seat.
+    /// Returns the number of students of a course for whom a room has no seat.
     pub(super) fn excess(&self, course: u32, room: u32) -> u64
         requires course { course < length self.now.problem.courses }
         requires room { room < length self.now.problem.rooms }

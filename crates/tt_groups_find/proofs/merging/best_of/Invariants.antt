@@ -1,4 +1,4 @@
--- What was found is one of them.
+-- The result found so far is one of them.
 use Rattle.std.proofs.Common.{◌<◌, length, IfSome}
 use Rattle.tt_groups_find.proofs.merging.best_of.Given as goal
 

@@ -4,7 +4,7 @@ use Rattle.tt_page.specs.Courses.{course_head, course_row}
 use Rattle.tt_page.proofs.Growing.{then_more}
 use Rattle.tt_page.proofs.courses.put_course.Goals as goal
 
--- the head was put
+-- the head was written
 head_put : (c : goal.After-put_token-2) → c.put.new.out.items ≡ c.args.out.now.items ++ course_head c.args.plan.now.problem c.args.course
 unfolding course_head
 head_put c = rw (c.course_name-name.ensures, c.instance.ensures) at c.in_ok-put.ensures

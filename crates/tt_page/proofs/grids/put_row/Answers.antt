@@ -4,7 +4,7 @@ use Rattle.tt_page.specs.Grids.{row_head, row_text}
 use Rattle.tt_page.proofs.Growing.{then_more}
 use Rattle.tt_page.proofs.grids.put_row.Goals as goal
 
--- the head was put
+-- the head was written
 head_put : (c : goal.After-put_token) → c.put.new.out.items ≡ c.args.out.now.items ++ row_head c.args.period
 unfolding row_head
 head_put c = c.in_ok-put.ensures

@@ -4,7 +4,7 @@ use Rattle.tt_page.specs.Heading.{before_title, head_text}
 use Rattle.tt_page.proofs.Growing.{then_more}
 use Rattle.tt_page.proofs.heading.put_head.Goals as goal
 
--- what stands before the title was put
+-- the text before the title was written
 begin_put : (c : goal.After-put_token-4) → c.put_token.new.out.items ≡ c.args.out.now.items ++ before_title
 unfolding before_title
 begin_put c = rw c.as_bytes.ensures.value at c.in_ok-put_token.ensures.ok

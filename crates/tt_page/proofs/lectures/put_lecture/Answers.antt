@@ -4,7 +4,7 @@ use Rattle.tt_page.specs.Lectures.{lecture_head, lecture_text}
 use Rattle.tt_page.proofs.Growing.{then_more}
 use Rattle.tt_page.proofs.lectures.put_lecture.Goals as goal
 
--- the head was put
+-- the head was written
 head_put : (c : goal.After-put_token) → c.put.new.out.items ≡ c.args.out.now.items ++ lecture_head c.args.plan.now.problem c.args.entry.now.course
 unfolding lecture_head
 head_put c = rw (c.course_name-name.ensures, c.instance-instance.ensures) at c.in_ok-put.ensures

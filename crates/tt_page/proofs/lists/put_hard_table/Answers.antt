@@ -5,7 +5,7 @@ use Rattle.tt_page.specs.Lists.{hard_head, hard_table, table_foot, table_end}
 use Rattle.tt_page.proofs.Growing.{then_more}
 use Rattle.tt_page.proofs.lists.put_hard_table.Goals as goal
 
--- the head was put
+-- the head was written
 head_put : (c : goal.After-put_token-3) → c.put_token.new.out.items ≡ c.args.out.now.items ++ hard_head
 unfolding hard_head
 head_put c = c.in_ok-put_token.ensures.ok

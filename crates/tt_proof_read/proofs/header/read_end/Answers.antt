@@ -2,7 +2,7 @@ use Rattle.std.proofs.Common.{rules}
 use Rattle.tt_proof_read.specs.Reading.{end_at}
 use Rattle.tt_proof_read.proofs.header.read_end.Goals as goal
 
--- after the end no read fails
+-- after the end of the bytes no read fails
 pub returns-in-Ok-None-clause-read : goal.returns-in-Ok-None-clause-read
 unfolding end_at
 returns-in-Ok-None-clause-read g c =

@@ -1,4 +1,4 @@
--- Each call has one period less to come.
+-- Each call has one period fewer left.
 use Rattle.std.proofs.Common.{length}
 use Rattle.tt_groups_least.proofs.day.Table.+enter_days.Given as goal
 

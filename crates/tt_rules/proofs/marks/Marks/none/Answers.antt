@@ -3,7 +3,7 @@ use Rattle.std.proofs.lemmas.Bool.{cases_lt}
 use Rattle.std.proofs.lemmas.List.{get_or-replicate, get_or_past, length-replicate}
 use Rattle.tt_rules.proofs.marks.Marks.none.Goals as goal
 
--- a list that has one element alone has it as the default, too
+-- in a list that repeats one element, each place has it, if it is the default, too
 read_default : {X : Type 0} (n k : ℕ) (x : X) → get_or (replicate n x) k x ≡ x
 read_default n k x = elim (cases_lt k n) [ inl h ↦ get_or-replicate n k x x h | inr h ↦ get_or_past (replicate n x) k x (omega (arith, length-replicate n x)) ]
 
