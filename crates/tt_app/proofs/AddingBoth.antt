@@ -3,13 +3,13 @@ use Rattle.std.proofs.Common.{◌≡◌, ℕ, ◌+◌, ◌<◌, ◌≤◌, ◌^�
 use Rattle.tt_instance.specs.Problem.{Problem}
 use Rattle.tt_instance.specs.Spelling.{Spells}
 use Rattle.tt_instance.specs.declared.cell.Cell.{Cell}
-use Rattle.tt_table.specs.Spelling.{SpellsTable}
+use Rattle.tt_table.specs.Spelling.{SpellsBoth, SpellsTable}
 use Rattle.tt_rules.specs.Score.{IsScore, IsFeasible, cost}
 use Rattle.tt_rules.specs.declared.counts.Score.{Score}
 use Rattle.tt_rules.proofs.Scores.{cost_is, feasible_is}
 use Rattle.tt_leaf_rules.specs.declared.leaf.Bound.TheVariants.{AtLeast}
 use Rattle.tt_proof_check.specs.Derives.{HoldsOfAll}
-use Rattle.tt_proof_check.specs.Headline.{SpellsBoth, Solves, BoundsAll}
+use Rattle.tt_proof_check.specs.Headline.{Solves, BoundsAll}
 use Rattle.tt_proof_check.proofs.Files.{one_instance, one_table}
 use Rattle.tt_sum.specs.Faults.{IsSumFault, IsSilentSum, all_points}
 use Rattle.tt_sum.specs.Sums.{IsSum}

@@ -5,7 +5,7 @@ use Rattle.tt_instance.specs.declared.cell.Cell.{Cell}
 use Rattle.tt_complete.specs.declared.completing.TheConstants.{MOST_ENTRIES}
 use Rattle.tt_complete.specs.declared.fault.CompleteFault.{CompleteFault}
 use Rattle.tt_complete.specs.declared.fault.CompleteFault.TheVariants as completion
-use Rattle.tt_proof_check.specs.Headline.{SpellsBoth}
+use Rattle.tt_table.specs.Spelling.{SpellsBoth}
 use Rattle.tt_app.specs.Improved.{IsCompletionRefusal}
 use Rattle.tt_app.specs.Told.{fault_from_completion}
 

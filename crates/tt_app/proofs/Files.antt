@@ -8,7 +8,7 @@ use Rattle.tt_instance.specs.declared.fault.InstanceFault.{InstanceFault}
 use Rattle.tt_instance.specs.declared.fault.InstanceFault.TheVariants as instance
 use Rattle.tt_instance.proofs.Laws.{is_read, spelled_instance}
 use Rattle.tt_table.specs.Reading.{solution_of, Fails as FailsTable}
-use Rattle.tt_table.specs.Spelling.{SpellsTable}
+use Rattle.tt_table.specs.Spelling.{SpellsBoth, SpellsTable}
 use Rattle.tt_table.specs.declared.fault.SolutionFault.{SolutionFault}
 use Rattle.tt_table.specs.declared.fault.SolutionFault.TheVariants as solution
 use Rattle.tt_table.proofs.EntryLaws.{solution_read}
@@ -17,7 +17,6 @@ use Rattle.tt_rules.specs.Score.{IsScore}
 use Rattle.tt_rules.specs.declared.counts.Score.{Score}
 use Rattle.tt_rules.proofs.Scores.{hard_is}
 use Rattle.tt_app.specs.Lines.{score_text}
-use Rattle.tt_proof_check.specs.Headline.{SpellsBoth}
 use Rattle.tt_proof_check.proofs.Files.{one_instance}
 use Rattle.tt_app.specs.Validated.{IsFileRefusal, score_lines, IsScoreAnswer, IsValidated}
 use Rattle.tt_app.specs.declared.answer.Answer.{Answer}

@@ -8,7 +8,7 @@ use Rattle.tt_export.specs.Tables.{table_text}
 use Rattle.tt_export.specs.Calendars.{Term, calendar_text}
 use Rattle.tt_export.specs.Weeks.{IsWeekOf, names_by}
 use Rattle.tt_export.specs.declared.week.Week.{Week}
-use Rattle.tt_proof_check.specs.Headline.{SpellsBoth}
+use Rattle.tt_table.specs.Spelling.{SpellsBoth}
 use Rattle.tt_proof_check.specs.Verdicts.{FailsSolution}
 use Rattle.tt_app.specs.declared.answer.Answer.{Answer}
 use Rattle.tt_app.specs.declared.fault.AppFault.{AppFault}

@@ -5,9 +5,9 @@ use Rattle.tt_instance.specs.Problem.{Problem}
 use Rattle.tt_instance.specs.Reading.{instance_of}
 use Rattle.tt_instance.specs.declared.cell.Cell.{Cell}
 use Rattle.tt_report.specs.Reports.{report_text}
-use Rattle.tt_report.specs.Sinks.{TakesPart}
+use Rattle.tt_text.specs.Sinks.{TakesPart}
 use Rattle.tt_report.specs.declared.by.By.{By}
-use Rattle.tt_proof_check.specs.Headline.{SpellsBoth}
+use Rattle.tt_table.specs.Spelling.{SpellsBoth}
 use Rattle.tt_proof_check.specs.Verdicts.{FailsSolution}
 use Rattle.tt_app.specs.declared.fault.AppFault.{AppFault}
 use Rattle.tt_app.specs.declared.fault.AppFault.TheVariants as fault

@@ -9,7 +9,8 @@ use Rattle.tt_rules.specs.declared.counts.Score.{Score}
 use Rattle.tt_leaf_rules.specs.declared.leaf.Bound.{Bound}
 use Rattle.tt_leaf_rules.specs.declared.leaf.Bound.TheVariants.{AtLeast}
 use Rattle.tt_proof_check.specs.Derives.{HoldsOfAll}
-use Rattle.tt_proof_check.specs.Headline.{SpellsBoth, Solves, BoundsAll}
+use Rattle.tt_table.specs.Spelling.{SpellsBoth}
+use Rattle.tt_proof_check.specs.Headline.{Solves, BoundsAll}
 use Rattle.tt_proof_check.specs.Verdicts.{IsBroken, FailsSolution}
 use Rattle.tt_sum.specs.Faults.{IsSumFault}
 use Rattle.tt_sum.specs.Faults as below

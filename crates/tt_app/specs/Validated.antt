@@ -5,7 +5,7 @@ use Rattle.tt_instance.specs.Reading.{instance_of}
 use Rattle.tt_instance.specs.declared.cell.Cell.{Cell}
 use Rattle.tt_rules.specs.Score.{hard}
 use Rattle.tt_rules.specs.declared.counts.Score.{Score}
-use Rattle.tt_proof_check.specs.Headline.{SpellsBoth}
+use Rattle.tt_table.specs.Spelling.{SpellsBoth}
 use Rattle.tt_proof_check.specs.Verdicts.{FailsSolution}
 use Rattle.tt_app.specs.Lines.{count_line, score_text}
 use Rattle.tt_app.specs.declared.answer.Answer.{Answer}

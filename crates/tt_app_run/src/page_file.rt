@@ -7,7 +7,7 @@ use std::rt::{Clock, Files};
 use tt_app::{AppFault, Input, page};
 use tt_app_files::{Batch, Draft, Output, Place, Ready, finish};
 use tt_page::STYLE;
-use tt_report::Writing;
+use tt_text::Writing;
 
 /// Writes a page.
 fn write_page<F: Write>(

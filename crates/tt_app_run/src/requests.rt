@@ -10,8 +10,8 @@ use std::rt::{Clock, Files};
 use tt_app::{Answer, AppFault, Input, bound, check, report, upgrade, validate};
 use tt_app_files::Output;
 use tt_arguments::Showing;
-use tt_report::{By, Writing};
-use tt_text::{Pieces, Reading};
+use tt_report::By;
+use tt_text::{Pieces, Reading, Writing};
 
 /// Returns the answer of `check`.
 pub fn answer_check<R: Files + Clock + AllocGlobal, E: Write>(

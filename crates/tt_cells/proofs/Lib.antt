@@ -1,3 +1,6 @@
+pub mod Confined
+pub mod More
+pub mod Recomputed
 pub mod Losing
 pub mod Struck
 pub mod Settled

@@ -22,8 +22,8 @@ use Rattle.tt_paths.specs.declared.facts.Who.{Who}
 use Rattle.tt_paths.specs.declared.facts.Who.TheVariants.{Course, Curriculum}
 use Rattle.tt_paths.specs.declared.facts.Pattern.{Pattern}
 use Rattle.tt_paths.specs.declared.facts.Fact.{Fact}
-use Rattle.tt_kills.proofs.More.{is_barred-yes, is_barred-no, is_dead-yes}
-use Rattle.tt_kills.proofs.Recomputed.{excludes-untouched, is_dead-no-more}
+use Rattle.tt_cells.proofs.More.{is_barred-yes, is_barred-no, is_dead-yes}
+use Rattle.tt_cells.proofs.Recomputed.{excludes-untouched, is_dead-no-more}
 use Rattle.tt_cell_set.specs.Tables.{Shows, Loses}
 use Rattle.tt_cells.specs.Touching.{may_agree, may_share, may_touch}
 use Rattle.tt_cells.specs.Shown.{is_free_of, yes_facts, Settles, Renews, Adds}

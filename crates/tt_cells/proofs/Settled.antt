@@ -13,8 +13,8 @@ use Rattle.tt_paths.specs.Live.{excludes}
 use Rattle.tt_paths.specs.Nested.{courses_of}
 use Rattle.tt_paths.specs.declared.facts.Pattern.{Pattern}
 use Rattle.tt_paths.specs.declared.facts.Fact.{Fact}
-use Rattle.tt_kills.specs.Killing.{is_free, IsConfined}
-use Rattle.tt_kills.proofs.Confined.{kills_there, kills_all, spares_all, spares_elsewhere}
+use Rattle.tt_cells.specs.Killing.{is_free, IsConfined}
+use Rattle.tt_cells.proofs.Confined.{kills_there, kills_all, spares_all, spares_elsewhere}
 use Rattle.tt_cell_set.specs.Tables.{IsTable, Shows, Loses}
 use Rattle.tt_cells.specs.Struck.{is_left, loses_room}
 use Rattle.tt_cells.specs.Slots.{allows, is_left_in, Covers, IsNone, IsFirst}

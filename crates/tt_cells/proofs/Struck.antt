@@ -22,7 +22,7 @@ use Rattle.tt_paths.specs.declared.facts.Who.{Who}
 use Rattle.tt_paths.specs.declared.facts.Who.TheVariants as Whose
 use Rattle.tt_paths.specs.declared.facts.Pattern.{Pattern}
 use Rattle.tt_paths.specs.declared.facts.Fact.{Fact}
-use Rattle.tt_kills.specs.Killing.{is_free, kills_by, kills_at}
+use Rattle.tt_cells.specs.Killing.{is_free, kills_by, kills_at}
 use Rattle.tt_cell_set.specs.Tables.{has_cell, Shows, is_open}
 use Rattle.tt_cells.specs.Struck.{is_left_to, is_left, is_beside, loses_room}
 use Rattle.tt_cells.specs.Shown.{is_free_of}

@@ -1,3 +1,4 @@
+pub mod Killing
 pub mod Struck
 pub mod Slots
 pub mod Shown

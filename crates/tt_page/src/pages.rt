@@ -4,7 +4,7 @@ ghost use Rattle.std.specs.Prelude.{◌≡◌, ◌++◌, Err, true, OnOk, IfOk};
 ghost use Rattle.std.specs.Io.KnownBytes.{Appends};
 ghost use Rattle.tt_table.specs.Table.{IsTimetable};
 ghost use Rattle.tt_rules.specs.Score.{IsScore};
-ghost use Rattle.tt_report.specs.Sinks.{TakesPart};
+ghost use Rattle.tt_text.specs.Sinks.{TakesPart};
 ghost use Rattle.tt_report.specs.declared.fault.ReportFault.TheVariants as fault;
 ghost use Rattle.tt_page.specs.Pages.{counts_text, weeks_text, page_text};
 
@@ -16,10 +16,10 @@ use crate::lists::{put_cost_table, put_hard_table, put_lists};
 use crate::plan::Plan;
 use std::alloc::{AllocError, Global};
 use tt_instance::Instance;
-use tt_report::{ReportFault, Sink, write_all};
+use tt_report::ReportFault;
 use tt_rules::{Score, score};
 use tt_table::Timetable;
-use tt_text::put_token;
+use tt_text::{Sink, put_token, write_all};
 
 /// Appends the counts of the timetable, and the places where they arise.
 #[tactic(auto, unfolding(crate::specs::Pages::counts_text))]

@@ -8,11 +8,10 @@ use Rattle.tt_instance.specs.declared.fault.InstanceFault.{InstanceFault}
 use Rattle.tt_instance.specs.declared.fault.InstanceFault.TheVariants as instance
 use Rattle.tt_instance.proofs.Laws.{is_read, spelled_instance}
 use Rattle.tt_table.specs.Reading.{solution_of, Fails as FailsTable}
-use Rattle.tt_table.specs.Spelling.{SpellsTable}
+use Rattle.tt_table.specs.Spelling.{SpellsBoth, SpellsTable}
 use Rattle.tt_table.specs.declared.fault.SolutionFault.{SolutionFault}
 use Rattle.tt_table.specs.declared.fault.SolutionFault.TheVariants as solution
 use Rattle.tt_table.proofs.EntryLaws.{solution_read}
-use Rattle.tt_proof_check.specs.Headline.{SpellsBoth}
 use Rattle.tt_proof_check.specs.Verdicts.{fault_from_instance, fault_from_solution, FailsSolution}
 use Rattle.tt_proof_check.specs.declared.fault.CertifyFault.{CertifyFault}
 use Rattle.tt_proof_check.specs.declared.fault.CertifyFault.TheVariants as fault

@@ -3,16 +3,11 @@ use Rattle.std.specs.Prelude.{◌≡◌, ℕ, ◌<◌, List}
 use Rattle.tt_instance.specs.Problem.{Problem}
 use Rattle.tt_instance.specs.Spelling.{Spells}
 use Rattle.tt_instance.specs.declared.cell.Cell.{Cell}
-use Rattle.tt_table.specs.Spelling.{SpellsTable}
+use Rattle.tt_table.specs.Spelling.{SpellsBoth}
 use Rattle.tt_rules.specs.Score.{IsFeasible, hard, cost}
 use Rattle.tt_leaf_rules.specs.declared.leaf.Bound.TheVariants.{AtLeast}
 use Rattle.tt_proof_check.specs.Derives.{HoldsOfAll}
 use Rattle.tt_proof_check.specs.Streams.{IsProved}
-
--- whether the bytes spell an instance and a timetable of it
-pub record SpellsBoth (instance solution : List ℕ) (p : Problem) (t : List Cell) : Type 0 where
-  pub spelled : Spells instance p
-  pub solved : SpellsTable p solution t
 
 -- the timetable breaks no hard rule of the instance and costs c by the competition's definition
 pub record Solves (instance solution : List ℕ) (c : ℕ) : Type 0 where

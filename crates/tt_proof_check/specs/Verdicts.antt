@@ -14,7 +14,8 @@ use Rattle.tt_rules.specs.Score.{IsScore, IsFeasible}
 use Rattle.tt_rules.specs.declared.counts.Score.{Score}
 use Rattle.tt_proof_read.specs.declared.fault.TextFault.TheVariants as text
 use Rattle.tt_proof_check.specs.Faults.{OutOfMemoryIsNoTextFault}
-use Rattle.tt_proof_check.specs.Headline.{SpellsBoth, Solves, BreaksARule, Certifies, BoundsAll}
+use Rattle.tt_table.specs.Spelling.{SpellsBoth}
+use Rattle.tt_proof_check.specs.Headline.{Solves, BreaksARule, Certifies, BoundsAll}
 use Rattle.tt_proof_check.specs.Streams.{stream_of, IsSilent, IsProofFault}
 use Rattle.tt_proof_check.specs.declared.fault.CheckFault.{CheckFault}
 use Rattle.tt_proof_check.specs.declared.fault.CheckFault.TheVariants as check

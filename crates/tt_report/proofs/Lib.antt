@@ -1,4 +1,3 @@
 pub mod Examples
 pub mod Names
-pub mod Parts
 pub mod Written

@@ -1,3 +1,2 @@
 pub mod Blocks
 pub mod Reports
-pub mod Sinks

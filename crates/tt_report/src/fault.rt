@@ -3,9 +3,9 @@
 ghost use Rattle.std.specs.Prelude.{◌≡◌};
 ghost use Rattle.tt_report.specs.declared.fault.ReportFault.TheVariants as fault;
 
-use crate::sink::WriteFailed;
 use std::alloc::{AllocError, AllocFailed};
 use thiserror::Error;
+use tt_text::WriteFailed;
 
 /// Why a report was not written completely.
 #[derive(Clone, Copy, Debug, PartialEq, Eq, Error)]

@@ -10,18 +10,17 @@ ghost use Rattle.tt_table.specs.Table.{IsTimetable};
 ghost use Rattle.tt_table.specs.declared.groups.GroupBy.TheVariants as group;
 ghost use Rattle.tt_report.specs.Blocks.{IsBlock, entries_text, slot_text, day_text, block_text};
 ghost use Rattle.tt_report.specs.Reports.{report_text};
-ghost use Rattle.tt_report.specs.Sinks.{TakesPart};
+ghost use Rattle.tt_text.specs.Sinks.{TakesPart};
 ghost use Rattle.tt_report.specs.declared.blocks.Block.TheVariants as of;
 ghost use Rattle.tt_report.specs.declared.fault.ReportFault.TheVariants as fault;
 
 use crate::blocks::Block;
 use crate::by::By;
 use crate::fault::ReportFault;
-use crate::sink::{Sink, write_all};
 use std::alloc::{AllocError, Global};
 use tt_instance::Instance;
 use tt_table::{Group, GroupBy, Groups, Timetable};
-use tt_text::{put_line_end, put_next_number, put_number};
+use tt_text::{Sink, put_line_end, put_next_number, put_number, write_all};
 
 /// Appends the texts of the entries that belong to a block.
 fn put_entries(

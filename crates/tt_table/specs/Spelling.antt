@@ -5,7 +5,7 @@ use Rattle.tt_text.specs.Pieces.{Piece, Text, Number, Begins}
 use Rattle.tt_text.specs.Lines.{lines_text}
 use Rattle.tt_instance.specs.Problem.{Problem}
 use Rattle.tt_instance.specs.Courses.{no_room}
-use Rattle.tt_instance.specs.Spelling.{named}
+use Rattle.tt_instance.specs.Spelling.{Spells, named}
 use Rattle.tt_instance.specs.declared.cell.Cell.{Cell}
 use Rattle.tt_table.specs.Table.{IsTimetable}
 use Rattle.tt_table.specs.declared.table.TheConstants.{MAX_ENTRIES}
@@ -19,6 +19,11 @@ pub record SpellsTable (p : Problem) (bytes : List ℕ) (t : List Cell) : Type 0
   pub tokens : Begins (flat_map (entry_pieces p) t) (tokens_of bytes) []
   pub few : length t ≤ MAX_ENTRIES
   pub in_range : IsTimetable p t
+
+-- whether the bytes spell an instance and a timetable of it
+pub record SpellsBoth (instance solution : List ℕ) (p : Problem) (t : List Cell) : Type 0 where
+  pub spelled : Spells instance p
+  pub solved : SpellsTable p solution t
 
 -- The text written for a timetable: one line for each entry, in order.
 abbrev pub solution_text : Problem → List Cell → List ℕ

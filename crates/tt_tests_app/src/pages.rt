@@ -5,10 +5,10 @@ use std::alloc::Global;
 use std::test::Fail;
 use tt_app::{AppFault, page};
 use tt_page::put_shown;
-use tt_report::{Sink, Writing};
 use tt_samples::{MINI, MINI_SOLUTION, edited};
 use tt_test_files::{MemoryFiles, Refusal};
 use tt_test_runs::{Outcome, run_on};
+use tt_text::{Sink, Writing};
 
 /// Both courses of Mini in one period, and one of them again in another.
 const BROKEN: &str = "a R 0 0 b R 0 0 a R 0 2";

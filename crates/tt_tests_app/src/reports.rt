@@ -5,10 +5,11 @@ use std::io;
 use std::io::{Error, ErrorKind, Write};
 use std::test::Fail;
 use tt_app::{AppFault, report};
-use tt_report::{By, Sink, Writing};
+use tt_report::By;
 use tt_samples::MINI;
 use tt_test_files::StoredFile;
 use tt_test_runs::{Outcome, run_with};
+use tt_text::{Sink, Writing};
 
 /// Mini's first course in the first period, and its second course in the next.
 const SOLUTION: &str = "a R 0 0 b R 0 1";

@@ -12,9 +12,9 @@ use tt_page::put_shown;
 use tt_paths::{Pattern, PlainPath, Who};
 use tt_proof_check::{NodesFault, Verdict, certify, check_nodes, check_proof};
 use tt_proof_read::Node;
-use tt_report::{By, Writing};
+use tt_report::By;
 use tt_samples::{GAP, GAP_PROOF, MARK, MINI, MINI_SOLUTION};
-use tt_text::Pieces;
+use tt_text::{Pieces, Writing};
 use tt_upgrade::read_proof;
 
 const YES: &str = "yes cost 5 bound 5 optimal\n";

@@ -14,3 +14,4 @@ pub mod Texts
 pub mod Unlimited
 pub mod Windows
 pub mod Written
+pub mod TakenParts

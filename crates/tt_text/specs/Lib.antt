@@ -11,3 +11,4 @@ pub mod Sources
 pub mod Standing
 pub mod Texts
 pub mod Tokens
+pub mod Sinks

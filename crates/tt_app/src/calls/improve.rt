@@ -4,7 +4,7 @@ ghost use Rattle.std.specs.Prelude.{◌≡◌, List, IfOk, IfErr, MatchResult, �
 ghost use Rattle.tt_instance.specs.Problem.{Problem};
 ghost use Rattle.tt_instance.specs.declared.cell.Cell.{Cell};
 ghost use Rattle.tt_table.specs.Table.{IsTimetable};
-ghost use Rattle.tt_proof_check.specs.Headline.{SpellsBoth};
+ghost use Rattle.tt_table.specs.Spelling.{SpellsBoth};
 ghost use Rattle.tt_app.specs.Improved.{IsImproved, IsImprovedInRuns, IsCompletedAndImproved, IsCompletionRefusal, IsTableAnswer};
 ghost use Rattle.tt_app.specs.Validated.{IsFileRefusal};
 ghost use Rattle.tt_app.specs.declared.fault.AppFault.TheVariants as fault;

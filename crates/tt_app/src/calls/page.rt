@@ -5,14 +5,14 @@ ghost use Rattle.tt_instance.specs.Problem.{Problem};
 ghost use Rattle.tt_instance.specs.declared.cell.Cell.{Cell};
 ghost use Rattle.tt_app.specs.Paged.{IsPaged, IsPageRefusal};
 ghost use Rattle.tt_app.specs.Reported.{IsUnwritten};
-ghost use Rattle.tt_proof_check.specs.Headline.{SpellsBoth};
+ghost use Rattle.tt_table.specs.Spelling.{SpellsBoth};
 ghost use Rattle.tt_app.specs.declared.fault.AppFault.TheVariants as fault;
 
 use crate::fault::AppFault;
 use std::alloc::Global;
 use tt_instance::read_instance;
-use tt_report::Sink;
 use tt_table::read_solution;
+use tt_text::Sink;
 
 /// Writes the page of a solution's week, with a style; the status is 0.
 pub fn page<W: Sink>(

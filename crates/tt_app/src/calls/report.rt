@@ -4,14 +4,15 @@ ghost use Rattle.std.specs.Prelude.{◌≡◌, ◌⊎◌, List, Err, true, IfOk,
 ghost use Rattle.tt_instance.specs.Problem.{Problem};
 ghost use Rattle.tt_instance.specs.declared.cell.Cell.{Cell};
 ghost use Rattle.tt_app.specs.Reported.{IsReported, IsReportRefusal, IsUnwritten};
-ghost use Rattle.tt_proof_check.specs.Headline.{SpellsBoth};
+ghost use Rattle.tt_table.specs.Spelling.{SpellsBoth};
 ghost use Rattle.tt_app.specs.declared.fault.AppFault.TheVariants as fault;
 
 use crate::fault::AppFault;
 use std::alloc::Global;
 use tt_instance::read_instance;
-use tt_report::{By, Sink};
+use tt_report::By;
 use tt_table::read_solution;
+use tt_text::Sink;
 
 /// Writes the week of each room, teacher or curriculum under a solution of an instance; the status is 0.
 pub fn report<W: Sink>(

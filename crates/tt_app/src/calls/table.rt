@@ -3,7 +3,7 @@
 ghost use Rattle.std.specs.Prelude.{◌≡◌, List, IfOk, IfErr, MatchResult, ⊤};
 ghost use Rattle.tt_instance.specs.Problem.{Problem};
 ghost use Rattle.tt_instance.specs.declared.cell.Cell.{Cell};
-ghost use Rattle.tt_proof_check.specs.Headline.{SpellsBoth};
+ghost use Rattle.tt_table.specs.Spelling.{SpellsBoth};
 ghost use Rattle.tt_app.specs.Exported.{IsTable};
 ghost use Rattle.tt_app.specs.Validated.{IsFileRefusal};
 ghost use Rattle.tt_app.specs.declared.fault.AppFault.TheVariants as fault;

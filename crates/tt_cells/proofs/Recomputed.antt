@@ -10,8 +10,8 @@ use Rattle.tt_paths.specs.Facts.{matches}
 use Rattle.tt_paths.specs.Live.{is_barred, excludes, is_dead}
 use Rattle.tt_paths.specs.declared.facts.Pattern.{Pattern}
 use Rattle.tt_paths.specs.declared.facts.Fact.{Fact}
-use Rattle.tt_kills.proofs.Confined.{excluded-clash, excluded_from}
-use Rattle.tt_kills.proofs.More.{is_dead-no, dead_stays}
+use Rattle.tt_cells.proofs.Confined.{excluded-clash, excluded_from}
+use Rattle.tt_cells.proofs.More.{is_dead-no, dead_stays}
 
 module _ (p : Problem) (path longer : List Fact) (g : Pattern) (x : Cell) where
   half : (a b : List Fact) → ((y : Cell) → InRange p y → matches p g y ≡ true → is_barred p a y ≡ is_barred p b y) → excludes p a g x ≡ true → excludes p b g x ≡ true

@@ -1,6 +1,6 @@
 use Rattle.std.proofs.Common.{◌≡◌, length}
-use Rattle.tt_report.proofs.Parts.{Taken}
-use Rattle.tt_report.proofs.sink.write_all.Given as goal
+use Rattle.tt_text.proofs.TakenParts.{Taken}
+use Rattle.tt_text.proofs.sink.write_all.Given as goal
 
 abbrev pub invariant-loop-rest : goal.invariant-loop-rest
 invariant-loop-rest g l = record {

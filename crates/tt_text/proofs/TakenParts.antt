@@ -3,7 +3,7 @@ use Rattle.std.proofs.Common.{◌≡◌, ℕ, List, [], ◌++◌, take, drop, So
 use Rattle.std.specs.Prelude.{Option}
 use Rattle.std.specs.Io.KnownBytes.{Appends, Keeps}
 use Rattle.std.proofs.lemmas.List.{append-nil, take-append-drop}
-use Rattle.tt_report.specs.Sinks.{TakesPart}
+use Rattle.tt_text.specs.Sinks.{TakesPart}
 
 -- nothing is taken at first
 pub appends_nothing : (known : Option (List ℕ)) → Appends known known []

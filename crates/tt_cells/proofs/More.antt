@@ -18,7 +18,7 @@ use Rattle.tt_paths.specs.Nested.{is_denied, is_excluded}
 use Rattle.tt_paths.specs.declared.facts.Pattern.{Pattern}
 use Rattle.tt_paths.specs.declared.facts.Fact.{Fact}
 use Rattle.tt_paths.proofs.Same.{same_fact}
-use Rattle.tt_kills.proofs.Confined.{excluded-clash, excluded_from}
+use Rattle.tt_cells.proofs.Confined.{excluded-clash, excluded_from}
 
 or-assoc : (a b c : Bool) → (a || (b || c)) ≡ ((a || b) || c)
 or-assoc true b c = refl

@@ -2,7 +2,7 @@
 
 ghost use Rattle.std.specs.Prelude.{◌≡◌, ◌<◌, ◌≤◌, ℕ, List, Bool, true, false, is_ok, if◌then◌else◌, length, take, Option, OnOk, OnErr, IfOk};
 ghost use Rattle.std.specs.Io.KnownBytes.{Appends, WriteAppends};
-ghost use Rattle.tt_report.specs.Sinks.{TakesPart};
+ghost use Rattle.tt_text.specs.Sinks.{TakesPart};
 
 use std::io::Write;
 use thiserror::Error;
@@ -73,7 +73,7 @@ impl<W: Write> Sink for Writing<W> {
 }
 
 /// Writes all bytes. If that fails, a part from their front was taken.
-#[tactic(auto, using(crate::proofs::Parts::taken_first, crate::proofs::Parts::taken_more, crate::proofs::Parts::taken_part, crate::proofs::Parts::taken_all))]
+#[tactic(auto, using(crate::proofs::TakenParts::taken_first, crate::proofs::TakenParts::taken_more, crate::proofs::TakenParts::taken_part, crate::proofs::TakenParts::taken_all))]
 pub fn write_all<W: Sink>(sink: &mut W, bytes: &[u8]) -> Result<(), WriteFailed>
     ensures all { OnOk result (Appends (W.contents sink.old) (W.contents sink.new) bytes.now) }
     ensures part { OnErr result (TakesPart (W.contents sink.old) (W.contents sink.new) bytes.now) }
