@@ -13,7 +13,7 @@ use Rattle.tt_sum.specs.Sums.{IsSum}
 use Rattle.tt_sum.specs.declared.fault.SumFault.{SumFault}
 use Rattle.tt_sum.specs.declared.fault.SumFault.TheVariants as sum
 use Rattle.tt_app.specs.Summed.{IsSumRefusal, AnswersSum, fault_from_sum, read_failed_at}
-use Rattle.tt_app.specs.Told.{fault_from_instance, OutOfMemoryIsOneFault}
+use Rattle.tt_app.specs.FaultMaps.{fault_from_instance, OutOfMemoryIsOneFault}
 
 -- if the bytes spell an instance, reading it is refused only for being out of memory
 pub spelled_memory : (i : List ℕ) (p : Problem) (f : InstanceFault) (b : Bound) → Spells i p → Fails f (instance_of i) → AnswersSum (Err (fault_from_instance f)) b

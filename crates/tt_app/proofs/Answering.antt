@@ -7,7 +7,7 @@ use Rattle.tt_proof_check.specs.declared.fault.CheckFault.TheVariants as check
 use Rattle.tt_proof_check.specs.declared.fault.CertifyFault.{CertifyFault}
 use Rattle.tt_proof_check.specs.declared.fault.CertifyFault.TheVariants as certify
 use Rattle.tt_app.specs.Checked.{IsCheckRefusal, AnswersYes, IsYesAnswer}
-use Rattle.tt_app.specs.Told.{fault_from_certify}
+use Rattle.tt_app.specs.FaultMaps.{fault_from_certify}
 use Rattle.tt_app.specs.declared.answer.Answer.{Answer}
 
 -- an error of the checker is reported

@@ -7,7 +7,7 @@ use Rattle.tt_complete.specs.declared.fault.CompleteFault.{CompleteFault}
 use Rattle.tt_complete.specs.declared.fault.CompleteFault.TheVariants as completion
 use Rattle.tt_table.specs.Spelling.{SpellsBoth}
 use Rattle.tt_app.specs.Improved.{IsCompletionRefusal}
-use Rattle.tt_app.specs.Told.{fault_from_completion}
+use Rattle.tt_app.specs.FaultMaps.{fault_from_completion}
 
 pub tells_completion : (i s : List ℕ) (p : Problem) (t : List Cell) (f : CompleteFault) → SpellsBoth i s p t → (f ≡ completion.TooManyEntries → MOST_ENTRIES < length t) → (f ≡ completion.NoRoom → p.rooms ≡ []) → IsCompletionRefusal i s (fault_from_completion f)
 tells_completion i s p t completion.TooManyEntries both many none = record { problem = p; table = t; both = both; cannot = many refl }

@@ -9,12 +9,12 @@ use Rattle.tt_instance.specs.declared.fault.InstanceFault.TheVariants as instanc
 use Rattle.tt_instance.proofs.Laws.{is_read}
 use Rattle.tt_leaf_rules.specs.declared.leaf.Bound.{Bound}
 use Rattle.tt_proof_check.specs.Derives.{HoldsOfAll}
-use Rattle.tt_proof_check.specs.Streams.{IsProved, IsSilent, stream_of, IsProofFault}
+use Rattle.tt_proof_check.specs.Streams.{IsProved, IsEnvironmental, stream_of, IsProofFault}
 use Rattle.tt_proof_check.specs.declared.fault.CheckFault.{CheckFault}
 use Rattle.tt_proof_check.specs.declared.fault.CheckFault.TheVariants as check
 use Rattle.tt_proof_check.proofs.Files.{one_instance}
 use Rattle.tt_app.specs.Bounded.{IsBoundAnswer, IsBounded, IsBoundRefusal, AnswersBound}
-use Rattle.tt_app.specs.Told.{fault_from_instance, fault_from_check}
+use Rattle.tt_app.specs.FaultMaps.{fault_from_instance, fault_from_check}
 use Rattle.tt_app.specs.declared.answer.Answer.{Answer}
 
 -- if the bytes spell an instance, reading it is refused only for being out of memory
@@ -41,7 +41,7 @@ proof_tells i p q (check.Rule n f) spells h = record { problem = p; spelled = sp
 proof_tells i p q (check.TooDeep n) spells h = record { problem = p; spelled = spells; fails = told q (λ bytes. IsProofFault p (stream_of bytes) (check.TooDeep n)) h }
 
 -- a silent error says nothing about the bytes
-pub silent_bound : (f : CheckFault) (b : Bound) → IsSilent f → AnswersBound (Err (fault_from_check f)) b
+pub silent_bound : (f : CheckFault) (b : Bound) → IsEnvironmental f → AnswersBound (Err (fault_from_check f)) b
 silent_bound f b (inl e) = subst (λ g. AnswersBound (Err (fault_from_check g)) b) (sym e) (inl refl)
 silent_bound f b (inr e) = subst (λ g. AnswersBound (Err (fault_from_check g)) b) (sym e) (inr refl)
 

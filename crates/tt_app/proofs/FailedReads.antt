@@ -11,7 +11,7 @@ use Rattle.tt_proof_check.specs.declared.fault.CertifyFault.TheVariants as certi
 use Rattle.tt_upgrade.specs.declared.fault.UpgradeFault.{UpgradeFault}
 use Rattle.tt_upgrade.specs.declared.fault.UpgradeFault.TheVariants as upgrade
 use Rattle.tt_app.specs.Checked.{read_failed}
-use Rattle.tt_app.specs.Told.{fault_from_check, fault_from_certify, fault_from_upgrade}
+use Rattle.tt_app.specs.FaultMaps.{fault_from_check, fault_from_certify, fault_from_upgrade}
 
 abbrev pub failed_text : CheckFault
 failed_text = check.Text (text.Feed feed.Read)

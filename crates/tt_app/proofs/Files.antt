@@ -12,7 +12,7 @@ use Rattle.tt_table.specs.Spelling.{SpellsBoth, SpellsTable}
 use Rattle.tt_table.specs.declared.fault.SolutionFault.{SolutionFault}
 use Rattle.tt_table.specs.declared.fault.SolutionFault.TheVariants as solution
 use Rattle.tt_table.proofs.EntryLaws.{solution_read}
-use Rattle.tt_app.specs.Told.{fault_from_instance, fault_from_solution}
+use Rattle.tt_app.specs.FaultMaps.{fault_from_instance, fault_from_solution}
 use Rattle.tt_rules.specs.Score.{IsScore}
 use Rattle.tt_rules.specs.declared.counts.Score.{Score}
 use Rattle.tt_rules.proofs.Scores.{hard_is}

@@ -6,12 +6,12 @@ use Rattle.tt_leaf_rules.specs.declared.leaf.Bound.{Bound}
 use Rattle.tt_proof_check.specs.Derives.{HoldsOfAll}
 use Rattle.tt_proof_check.specs.Streams.{stream_of}
 use Rattle.tt_proof_check.specs.declared.fault.CheckFault.TheVariants as check
-use Rattle.tt_upgrade.specs.Upgrades.{IsUpgraded, IsSilent, IsUpgradeFault}
+use Rattle.tt_upgrade.specs.Upgrades.{IsUpgraded, IsEnvironmental, IsUpgradeFault}
 use Rattle.tt_upgrade.specs.declared.fault.UpgradeFault.{UpgradeFault}
 use Rattle.tt_upgrade.specs.declared.fault.UpgradeFault.TheVariants as upgrade
 use Rattle.tt_app.specs.Bounded.{AnswersBound}
 use Rattle.tt_app.specs.Rewritten.{IsUpgradeAnswer, IsRewritten, FailsWhole, IsUpgradeRefusal, AnswersUpgrade}
-use Rattle.tt_app.specs.Told.{fault_from_upgrade}
+use Rattle.tt_app.specs.FaultMaps.{fault_from_upgrade}
 use Rattle.tt_app.specs.declared.answer.Answer.{Answer}
 use Rattle.tt_app.specs.declared.fault.AppFault.{AppFault}
 use Rattle.tt_app.proofs.DerivedBounds.{told}
@@ -38,7 +38,7 @@ module _ (i : List ℕ) (p : Problem) (q : Option (List ℕ)) (spells : Spells i
   rewritten a b out h holds answer = record { problem = p; spelled = spells; bound = b; out = out; upgraded = told q (λ bytes. IsUpgraded p bytes b out) h; holds = holds; answer = answer }
 
 -- a silent error says nothing against the proof
-pub silent_upgrade : (f : UpgradeFault) (b : Bound) → IsSilent f → AnswersUpgrade (Err (fault_from_upgrade f)) b
+pub silent_upgrade : (f : UpgradeFault) (b : Bound) → IsEnvironmental f → AnswersUpgrade (Err (fault_from_upgrade f)) b
 silent_upgrade f b (inl e) = subst (λ g. AnswersUpgrade (Err (fault_from_upgrade g)) b) (sym e) (inl refl)
 silent_upgrade f b (inr (inl e)) = subst (λ g. AnswersUpgrade (Err (fault_from_upgrade g)) b) (sym e) (inr (inl refl))
 silent_upgrade f b (inr (inr e)) = subst (λ g. AnswersUpgrade (Err (fault_from_upgrade g)) b) (sym e) (inr (inr refl))

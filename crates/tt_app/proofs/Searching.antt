@@ -18,7 +18,7 @@ use Rattle.tt_proof_text.specs.declared.fault.WriteFault.TheVariants as write
 use Rattle.tt_upgrade.proofs.Written.{node_in_two}
 use Rattle.tt_branch.specs.Outcomes.{IsOutcome}
 use Rattle.tt_app.specs.Solved.{IsProofFile, IsOverLong, IsTextRefusal, IsSolveRefusal}
-use Rattle.tt_app.specs.Told.{fault_from_instance}
+use Rattle.tt_app.specs.FaultMaps.{fault_from_instance}
 use Rattle.tt_app.specs.declared.fault.AppFault.{AppFault}
 use Rattle.tt_app.specs.declared.fault.AppFault.TheVariants as fault
 

@@ -12,7 +12,7 @@ use Rattle.tt_proof_check.specs.declared.fault.CertifyFault.TheVariants as certi
 use Rattle.tt_upgrade.specs.Faults.{OutOfMemoryIsOneFault as OneFaultOfUpgrade}
 use Rattle.tt_upgrade.specs.declared.fault.UpgradeFault.{UpgradeFault}
 use Rattle.tt_upgrade.specs.declared.fault.UpgradeFault.TheVariants as upgrade
-use Rattle.tt_app.specs.Told.{fault_from_instance, fault_from_solution, fault_from_check, fault_from_certify, fault_from_upgrade, OutOfMemoryIsOneFault}
+use Rattle.tt_app.specs.FaultMaps.{fault_from_instance, fault_from_solution, fault_from_check, fault_from_certify, fault_from_upgrade, OutOfMemoryIsOneFault}
 
 pub memory_instance : (f : InstanceFault) → OutOfMemoryIsOneFault (fault_from_instance f)
 memory_instance instance.OutOfMemory = tt

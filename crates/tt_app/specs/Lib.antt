@@ -11,5 +11,5 @@ pub mod Reported
 pub mod Rewritten
 pub mod Solved
 pub mod Summed
-pub mod Told
+pub mod FaultMaps
 pub mod Validated

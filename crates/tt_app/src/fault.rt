@@ -66,7 +66,7 @@ impl From<AllocError> for AppFault {
 
 impl From<CompleteFault> for AppFault {
     ghost use Rattle.std.specs.Prelude.{◌≡◌};
-    ghost use Rattle.tt_app.specs.Told.{fault_from_completion};
+    ghost use Rattle.tt_app.specs.FaultMaps.{fault_from_completion};
 
     ghost from_gives = { λ f e. e ≡ fault_from_completion f };
 
@@ -102,7 +102,7 @@ impl From<OutputFault> for AppFault {
 
 impl From<InstanceFault> for AppFault {
     ghost use Rattle.std.specs.Prelude.{◌≡◌};
-    ghost use Rattle.tt_app.specs.Told.{fault_from_instance};
+    ghost use Rattle.tt_app.specs.FaultMaps.{fault_from_instance};
 
     ghost from_gives = { λ f e. e ≡ fault_from_instance f };
 
@@ -116,7 +116,7 @@ impl From<InstanceFault> for AppFault {
 
 impl From<SolutionFault> for AppFault {
     ghost use Rattle.std.specs.Prelude.{◌≡◌};
-    ghost use Rattle.tt_app.specs.Told.{fault_from_solution};
+    ghost use Rattle.tt_app.specs.FaultMaps.{fault_from_solution};
 
     ghost from_gives = { λ f e. e ≡ fault_from_solution f };
 
@@ -130,7 +130,7 @@ impl From<SolutionFault> for AppFault {
 
 impl From<CheckFault> for AppFault {
     ghost use Rattle.std.specs.Prelude.{◌≡◌};
-    ghost use Rattle.tt_app.specs.Told.{fault_from_check};
+    ghost use Rattle.tt_app.specs.FaultMaps.{fault_from_check};
 
     ghost from_gives = { λ f e. e ≡ fault_from_check f };
 
@@ -144,7 +144,7 @@ impl From<CheckFault> for AppFault {
 
 impl From<ReportFault> for AppFault {
     ghost use Rattle.std.specs.Prelude.{◌≡◌};
-    ghost use Rattle.tt_app.specs.Told.{fault_from_report};
+    ghost use Rattle.tt_app.specs.FaultMaps.{fault_from_report};
 
     ghost from_gives = { λ f e. e ≡ fault_from_report f };
 
@@ -158,7 +158,7 @@ impl From<ReportFault> for AppFault {
 
 impl From<CertifyFault> for AppFault {
     ghost use Rattle.std.specs.Prelude.{◌≡◌};
-    ghost use Rattle.tt_app.specs.Told.{fault_from_certify};
+    ghost use Rattle.tt_app.specs.FaultMaps.{fault_from_certify};
 
     ghost from_gives = { λ f e. e ≡ fault_from_certify f };
 
@@ -174,7 +174,7 @@ impl From<CertifyFault> for AppFault {
 
 impl From<UpgradeFault> for AppFault {
     ghost use Rattle.std.specs.Prelude.{◌≡◌};
-    ghost use Rattle.tt_app.specs.Told.{fault_from_upgrade};
+    ghost use Rattle.tt_app.specs.FaultMaps.{fault_from_upgrade};
 
     ghost from_gives = { λ f e. e ≡ fault_from_upgrade f };
 

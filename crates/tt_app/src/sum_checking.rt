@@ -12,7 +12,7 @@ ghost use Rattle.tt_sum.specs.Faults.{IsSumFault, IsSilentSum, all_points};
 ghost use Rattle.tt_sum.specs.Sums.{IsSum};
 ghost use Rattle.tt_app.specs.Checked.{IsOfFiles, AnswersBroken};
 ghost use Rattle.tt_app.specs.Summed.{IsSpelledAndFileJudgedUpToFailedRead, read_failed_at, CertifiesSum, IsSumChecked, IsSumCheckFault, AnswersSumYes};
-ghost use Rattle.tt_app.specs.Told.{OutOfMemoryIsOneFault};
+ghost use Rattle.tt_app.specs.FaultMaps.{OutOfMemoryIsOneFault};
 
 use crate::answer::Answer;
 use crate::calls::check::{broken_answer, yes_answer};

@@ -8,7 +8,7 @@ use std::rt::{Clock, Files};
 use tt_app::{Answer, AppFault, Input, complete_and_improve, improve_in_runs, solve_watched};
 use tt_app_files::{Batch, Output, Ready};
 use tt_app_watch::{Keeper, Ticker};
-use tt_arguments::{MAX_NODES, Search, Showing, TreeSearch};
+use tt_arguments::{MAX_SOLVE_NODES, Search, Showing, TreeSearch};
 use tt_instance::{Instance, read_instance};
 
 /// Writes one file, if there is one to write.
@@ -101,7 +101,7 @@ fn solve_shown<R: Files + Clock + AllocGlobal, E: Write>(
 ) -> Result<Answer, AppFault> {
     let saved = saved_instance(rt.alloc(), instance, tree.keeps);
     let mut keeper = Keeper::new(rt, ticker, out, saved, true);
-    let nodes = tree.nodes.clamp(1, MAX_NODES);
+    let nodes = tree.nodes.clamp(1, MAX_SOLVE_NODES);
     solve_watched(rt.alloc(), instance, tree.seed, nodes, &mut keeper)
 }
 

@@ -29,9 +29,9 @@ pub struct Search {
 }
 
 /// The maximum number of nodes of a tree that a search opens.
-pub const MAX_NODES: u32 = 65_536;
+pub const MAX_SOLVE_NODES: u32 = 65_536;
 
-/// A seed, the maximum number of nodes of its tree that a search opens, 1 to MAX_NODES, and whether the best timetable is saved on the way.
+/// A seed, the maximum number of nodes of its tree that a search opens, 1 to MAX_SOLVE_NODES, and whether the best timetable is saved on the way.
 #[derive(Clone, Copy, Debug)]
 pub struct TreeSearch {
     pub seed: u64,
@@ -249,7 +249,7 @@ fn complete_option<'a>(alloc: Global) -> Arg<'a> {
 }
 
 fn nodes<'a>(alloc: Global) -> Arg<'a> {
-    number(alloc, "nodes", (1, u64::from(MAX_NODES)), "1000").help(
+    number(alloc, "nodes", (1, u64::from(MAX_SOLVE_NODES)), "1000").help(
         "How many nodes of the tree to open at most, 1 to 65536",
     )
 }

@@ -9,7 +9,7 @@ mod reports;
 mod showing;
 mod sums;
 
-pub use arguments::{MAX_NODES, Request, Search, TreeSearch, parse_arguments};
+pub use arguments::{MAX_SOLVE_NODES, Request, Search, TreeSearch, parse_arguments};
 pub use best::BestSearch;
 pub use parts::PartSearch;
 pub use reports::CalendarWish;

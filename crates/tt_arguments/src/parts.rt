@@ -6,7 +6,7 @@ use clap::{Arg, ArgAction, ArgMatches, Command};
 use std::alloc::{AllocError, Global};
 
 /// The maximum number of nodes that a search for parts may use.
-const MAX_NODES: u64 = 1_000_000;
+const MAX_PARTS_NODES: u64 = 1_000_000;
 
 /// A seed, and the number of nodes that a search for parts may use; each counts for 50,000 relaxations.
 #[derive(Clone, Copy, Debug)]
@@ -25,7 +25,7 @@ fn folder<'a>(alloc: Global) -> Arg<'a> {
 }
 
 fn nodes<'a>(alloc: Global) -> Arg<'a> {
-    number(alloc, "nodes", (1, MAX_NODES), "100000").help(
+    number(alloc, "nodes", (1, MAX_PARTS_NODES), "100000").help(
         "How long to search at most, 1 to 1000000; each stands for 50,000 relaxations",
     )
 }

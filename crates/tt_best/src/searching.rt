@@ -204,7 +204,7 @@ fn begin<W: Watch>(
 }
 
 /// Makes another round, from the result of the one before it.
-fn go_on<W: Watch>(
+fn search_round<W: Watch>(
     alloc: Global,
     instance: &Instance<'_>,
     week: Week,
@@ -249,7 +249,7 @@ pub fn find_best_watched<W: Watch>(
         if is_settled(instance, &week.table, week.parts.bound) {
             break;
         }
-        week = go_on(alloc, instance, week, rounds, round, watch)?;
+        week = search_round(alloc, instance, week, rounds, round, watch)?;
     }
     Ok(week)
 }

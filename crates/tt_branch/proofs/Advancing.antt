@@ -22,8 +22,8 @@ use Rattle.tt_proof_read.specs.Trees.{on_paths}
 use Rattle.tt_proof_read.specs.declared.node.Node.TheVariants as node
 use Rattle.tt_leaf.specs.Best.{best_leaf}
 use Rattle.tt_branch.specs.declared.best.Best.{Best}
-use Rattle.tt_branch.specs.declared.entry.Mark.{Mark}
-use Rattle.tt_branch.specs.declared.entry.Mark.TheVariants.{Divided, Closed, Opened, Waiting}
+use Rattle.tt_branch.specs.declared.entry.NodeState.{NodeState}
+use Rattle.tt_branch.specs.declared.entry.NodeState.TheVariants.{Divided, Closed, Opened, Waiting}
 use Rattle.tt_branch.specs.declared.entry.Entry.{Entry}
 use Rattle.tt_branch.specs.declared.links.Link.{Link}
 use Rattle.tt_branch.specs.declared.search.Search.{Search}
@@ -77,7 +77,7 @@ each_there p best links entries grown few =
 count_cut : (before : List Entry) (e : Entry) (after : List Entry) → opened_in (before ++ e ∷ after) ≡ opened_in before + (one_if (was_opened e.mark) + opened_in after)
 count_cut before e after = omega (arith, sum_by-append (λ (k : Entry). one_if (was_opened k.mark)) before (e ∷ after), count_by-cons (λ (k : Entry). was_opened k.mark) e after)
 
-one_opened : (m : Mark) → was_opened m ≡ true → one_if (was_opened m) ≡ 1
+one_opened : (m : NodeState) → was_opened m ≡ true → one_if (was_opened m) ≡ 1
 one_opened m e = ap one_if e
 
 -- a new mark replaces the mark of a node that waits
@@ -86,7 +86,7 @@ pub record IsOpening (p : Problem) (old new : Option Best) (links : List Link) (
   pub opened : opened_in more ≡ opened_in entries + 1
   pub many : length more ≡ length entries
 
-shown_leaf : (p : Problem) (links : List Link) (e : Entry) (m : Mark) → IsSingle m → (leaf : Leaf) × (node_of p (path_at links e.link) m ≡ node.Leaf leaf)
+shown_leaf : (p : Problem) (links : List Link) (e : Entry) (m : NodeState) → IsSingle m → (leaf : Leaf) × (node_of p (path_at links e.link) m ≡ node.Leaf leaf)
 shown_leaf p links e (Divided g) s = absurd s
 shown_leaf p links e (Closed leaf) s = (leaf, refl)
 shown_leaf p links e (Opened g) s = (best_leaf p (path_at links e.link), refl)
@@ -166,7 +166,7 @@ waits_same place old h = record { under_way = λ p u. u; waiting = h; opened = r
 
 -- ---- the end of the rounds
 
-opened_unless : (m : Mark) → is_open m ≡ false → was_opened m ≡ true
+opened_unless : (m : NodeState) → is_open m ≡ false → was_opened m ≡ true
 opened_unless (Divided g) e = refl
 opened_unless (Closed leaf) e = refl
 opened_unless (Opened g) e = refl

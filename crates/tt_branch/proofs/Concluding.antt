@@ -38,8 +38,8 @@ use Rattle.tt_leaf.specs.Best.{best_claims}
 use Rattle.tt_leaf.proofs.Answering.{best_answer}
 use Rattle.tt_leaf.proofs.Claims.{once}
 use Rattle.tt_branch.specs.declared.best.Best.{Best}
-use Rattle.tt_branch.specs.declared.entry.Mark.{Mark}
-use Rattle.tt_branch.specs.declared.entry.Mark.TheVariants.{Divided, Closed, Opened, Waiting}
+use Rattle.tt_branch.specs.declared.entry.NodeState.{NodeState}
+use Rattle.tt_branch.specs.declared.entry.NodeState.TheVariants.{Divided, Closed, Opened, Waiting}
 use Rattle.tt_branch.specs.declared.entry.Entry.{Entry}
 use Rattle.tt_branch.specs.declared.links.Link.{Link}
 use Rattle.tt_branch.specs.declared.search.Search.{Search}
@@ -71,7 +71,7 @@ pub record IsFit (p : Problem) (n : Node) : Type 0 where
   pub short : IsShortNode n
 
 module _ (p : Problem) (ok : IsInstance p) where
-  pub fit_mark : (best : Option (List Cell)) (path : List Fact) (m : Mark) → IsKnown p best path m → IsFit p (node_of p path m)
+  pub fit_mark : (best : Option (List Cell)) (path : List Fact) (m : NodeState) → IsKnown p best path m → IsFit p (node_of p path m)
   fit_mark best path (Divided g) k = record { numbers = k.numbers; once = tt; short = tt }
   fit_mark best path (Closed leaf) k = record { numbers = k.answer.numbers; once = once_closed p path (final_bound p best) leaf k.right; short = k.answer.short }
   fit_mark best path (Opened g) k = let a = best_answer p path ok in record { numbers = a.numbers; once = once Days (λ c. refl) p path; short = a.short }
@@ -128,7 +128,7 @@ module _ (p : Problem) (ok : IsInstance p) where
       path : List Fact
       path = path_at links e.link
 
-      by_mark : (m : Mark) → is_open m ≡ true → (n : ℕ) × (node_worth p (path_at links e.link) (node_of p (path_at links e.link) m) ≡ Some n) × (n ≤ 1000000000000)
+      by_mark : (m : NodeState) → is_open m ≡ true → (n : ℕ) × (node_worth p (path_at links e.link) (node_of p (path_at links e.link) m) ≡ Some n) × (n ≤ 1000000000000)
       by_mark (Divided g) k = cc
       by_mark (Closed leaf) k = cc
       by_mark (Opened g) k = (total_of p (path_at links e.link) (best_claims p (path_at links e.link)), refl, total_limit p ok (path_at links e.link))

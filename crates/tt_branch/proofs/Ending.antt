@@ -23,11 +23,11 @@ use Rattle.tt_leaf_rules.specs.declared.leaf.Leaf.{Leaf}
 use Rattle.tt_proof_read.specs.Trees.{Tree, Close, Branch, OnPath, on_paths, preorder, with_fact}
 use Rattle.tt_proof_read.specs.declared.node.Node.TheVariants as node
 use Rattle.tt_proof_check.specs.Derives.{Derives, IsShallow}
-use Rattle.tt_proof_check.specs.Tells.{IsRightOn, Passes}
+use Rattle.tt_proof_check.specs.Explains.{IsRightOn, Passes}
 use Rattle.tt_proof_check.proofs.Walking.{passed_tree}
 use Rattle.tt_leaf.specs.Best.{best_claims, best_leaf}
-use Rattle.tt_branch.specs.declared.entry.Mark.{Mark}
-use Rattle.tt_branch.specs.declared.entry.Mark.TheVariants.{Divided, Closed, Opened, Waiting}
+use Rattle.tt_branch.specs.declared.entry.NodeState.{NodeState}
+use Rattle.tt_branch.specs.declared.entry.NodeState.TheVariants.{Divided, Closed, Opened, Waiting}
 use Rattle.tt_branch.specs.declared.entry.Entry.{Entry}
 use Rattle.tt_branch.specs.declared.links.Link.{Link}
 use Rattle.tt_branch.specs.Growing.{node_of, IsKnown, Stands, IsGrown, is_open}
@@ -89,7 +89,7 @@ module _ (p : Problem) (best : Option (List Cell)) (links : List Link) (entries 
 
   -- ---- each node is closed
 
-  closed_right : (x : OnPath) (m : Mark) → x.node ≡ node_of p x.path m → IsKnown p best x.path m → is_open m ≡ false → IsRightOn p (final_bound p best) x.path x.node
+  closed_right : (x : OnPath) (m : NodeState) → x.node ≡ node_of p x.path m → IsKnown p best x.path m → is_open m ≡ false → IsRightOn p (final_bound p best) x.path x.node
   closed_right x (Divided g) n k e = subst (IsRightOn p (final_bound p best) x.path) (sym n) tt
   closed_right x (Closed leaf) n k e = subst (IsRightOn p (final_bound p best) x.path) (sym n) k.right
   closed_right x (Opened g) n k e = cc
@@ -110,7 +110,7 @@ module _ (p : Problem) (best : Option (List Cell)) (links : List Link) (entries 
   -- ---- some nodes are open
 
   module _ (v : ℕ) (is_least : least (worths p xs) ≡ Some v) where
-    known_right : (x : OnPath) (m : Mark) → x.node ≡ node_of p x.path m → IsKnown p best x.path m → Contains xs x → IsRightOn p (AtLeast v) x.path x.node
+    known_right : (x : OnPath) (m : NodeState) → x.node ≡ node_of p x.path m → IsKnown p best x.path m → Contains xs x → IsRightOn p (AtLeast v) x.path x.node
     known_right x m is known i = by_mark m is known
       where
         below : (n : ℕ) → node_worth p x.path x.node ≡ Some n → v ≤ n
@@ -119,7 +119,7 @@ module _ (p : Problem) (best : Option (List Cell)) (links : List Link) (entries 
         by_best : x.node ≡ node.Leaf (best_leaf p x.path) → IsRightOn p (AtLeast v) x.path x.node
         by_best e = subst (IsRightOn p (AtLeast v) x.path) (sym e) (best_right p x.path v (below (total_of p x.path (best_claims p x.path)) (ap (node_worth p x.path) e)))
 
-        by_mark : (n : Mark) → x.node ≡ node_of p x.path n → IsKnown p best x.path n → IsRightOn p (AtLeast v) x.path x.node
+        by_mark : (n : NodeState) → x.node ≡ node_of p x.path n → IsKnown p best x.path n → IsRightOn p (AtLeast v) x.path x.node
         by_mark (Divided g) e k = subst (IsRightOn p (AtLeast v) x.path) (sym e) tt
         by_mark (Closed leaf) e k =
             subst (IsRightOn p (AtLeast v) x.path) (sym e) (right_for p x.path (final_bound p best) leaf v k.right (λ n w. below n (ap (node_worth p x.path) e ∙ w)))
@@ -144,7 +144,7 @@ module _ (p : Problem) (best : Option (List Cell)) (links : List Link) (entries 
       dear None leaf e d right = no_worth p x.path leaf n right (sym (ap (node_worth p x.path) e) ∙ k)
       dear (Some t) leaf e d right = let l = worth_reaches p x.path (cost p t) leaf n right (sym (ap (node_worth p x.path) e) ∙ k) in omega arith
 
-      by_mark : (j : Mark) → x.node ≡ node_of p x.path j → IsKnown p best x.path j → x.node ≡ node.Leaf (best_leaf p x.path)
+      by_mark : (j : NodeState) → x.node ≡ node_of p x.path j → IsKnown p best x.path j → x.node ≡ node.Leaf (best_leaf p x.path)
       by_mark (Divided g) e j = let a = sym (ap (node_worth p x.path) e) ∙ k in cc
       by_mark (Closed leaf) e j = absurd (dear best leaf e c j.right)
       by_mark (Opened g) e j = e

@@ -1,10 +1,10 @@
 -- The limits and the letters as numbers: contracts, definitions and code share their names, so only these examples would reveal a changed number.
 use Rattle.std.proofs.Common.{◌≡◌, ◌-◌, ◌*◌, refl}
 use Rattle.tt_text.specs.declared.feed.TheConstants.{MAX_BYTES, MAX_TOKEN_BYTES}
-use Rattle.tt_instance.specs.declared.limit.TheConstants.{MAX_COURSES, MAX_ROOMS, MAX_DAYS, MAX_PERIODS, MAX_SLOTS, MAX_CELLS, MAX_CURRICULA, MAX_MEMBERS, MAX_BARS, MAX_LECTURES, MAX_MIN_DAYS, MAX_SEATS}
+use Rattle.tt_instance.specs.declared.limit.TheConstants.{MAX_COURSES, MAX_ROOMS, MAX_DAYS, MAX_PERIODS, MAX_SLOTS, MAX_CELLS, MAX_CURRICULA, MAX_MEMBERS, MAX_UNAVAILABILITIES, MAX_LECTURES, MAX_MIN_DAYS, MAX_SEATS}
 use Rattle.tt_table.specs.declared.table.TheConstants.{MAX_ENTRIES}
 use Rattle.tt_paths.specs.declared.path.TheConstants.{MAX_FACTS}
-use Rattle.tt_proof_read.specs.declared.format.TheConstants.{MAX_PRICE, MAX_POINTS, MAX_NODES, COURSE_LETTER, CURRICULUM_LETTER, ROOM_LETTER, DAY_LETTER, PERIOD_LETTER}
+use Rattle.tt_proof_read.specs.declared.format.TheConstants.{MAX_PRICE, MAX_POINTS, MAX_PROOF_NODES, COURSE_LETTER, CURRICULUM_LETTER, ROOM_LETTER, DAY_LETTER, PERIOD_LETTER}
 use Rattle.tt_branch.specs.declared.limit.TheConstants.{MAX_OPENED, MAX_TREE, FIRST_STEPS}
 
 -- ---- files
@@ -41,8 +41,8 @@ max_curricula = refl
 max_members : MAX_MEMBERS ≡ 4096
 max_members = refl
 
-max_bars : MAX_BARS ≡ 65536
-max_bars = refl
+max_unavailabilities : MAX_UNAVAILABILITIES ≡ 65536
+max_unavailabilities = refl
 
 max_lectures : MAX_LECTURES ≡ 4096
 max_lectures = refl
@@ -71,7 +71,7 @@ max_price = refl
 max_points : MAX_POINTS ≡ 1000000000000
 max_points = refl
 
-max_nodes : MAX_NODES ≡ 16777216
+max_nodes : MAX_PROOF_NODES ≡ 16777216
 max_nodes = refl
 
 course_letter : COURSE_LETTER ≡ 99

@@ -22,8 +22,8 @@ use Rattle.tt_proof_read.specs.Trees.{Close, Branch, OnPath, on_paths, with_fact
 use Rattle.tt_proof_read.specs.declared.node.Node.TheVariants as node
 use Rattle.tt_leaf.specs.Best.{best_claims, best_leaf}
 use Rattle.tt_leaf.proofs.Claims.{all_different, all_fair}
-use Rattle.tt_branch.specs.declared.entry.Mark.{Mark}
-use Rattle.tt_branch.specs.declared.entry.Mark.TheVariants.{Divided, Closed, Opened, Waiting}
+use Rattle.tt_branch.specs.declared.entry.NodeState.{NodeState}
+use Rattle.tt_branch.specs.declared.entry.NodeState.TheVariants.{Divided, Closed, Opened, Waiting}
 use Rattle.tt_branch.specs.declared.entry.Entry.{Entry}
 use Rattle.tt_branch.specs.declared.links.Link.{Link}
 use Rattle.tt_branch.specs.Links.{path_at, AreLinks, link_of, divided_links}
@@ -79,7 +79,7 @@ closes_better p path (Some u) t leaf h e = right_for p path (AtLeast (cost p u))
 -- ---- steps
 
 -- an open node has the leaf of the best claims
-pub open_leaf : (p : Problem) (m : Mark) (path : List Fact) → is_open m ≡ true → node_of p path m ≡ node.Leaf (best_leaf p path)
+pub open_leaf : (p : Problem) (m : NodeState) (path : List Fact) → is_open m ≡ true → node_of p path m ≡ node.Leaf (best_leaf p path)
 open_leaf p (Divided g) path e = cc
 open_leaf p (Closed leaf) path e = cc
 open_leaf p (Opened g) path e = refl
@@ -93,7 +93,7 @@ module _ (p : Problem) where
     together = zip_weaker (Stands p best links) (Stands p (Some t) links) (λ x e s. record { node = s.node; known = by_mark x.path e.mark s.known; link = s.link; path = s.path; patterns = s.patterns }) (on_paths [] grown.tree) entries grown.together;
   }
     where
-      by_mark : (path : List Fact) (m : Mark) → IsKnown p best path m → IsKnown p (Some t) path m
+      by_mark : (path : List Fact) (m : NodeState) → IsKnown p best path m → IsKnown p (Some t) path m
       by_mark path (Divided g) k = k
       by_mark path (Closed leaf) k = record { right = closes_better p path best t leaf h k.right; answer = k.answer }
       by_mark path (Opened g) k = k
@@ -213,7 +213,7 @@ module _ (p : Problem) where
   pub splits_well : (best : Option (List Cell)) (links : List Link) (x : OnPath) (e : Entry) → Stands p best links x e → SplitsWell p x
   splits_well best links x e s k is = by_mark e.mark s.node s.known
     where
-      by_mark : (m : Mark) → x.node ≡ node_of p x.path m → IsKnown p best x.path m → IsSplitOn p x.path k
+      by_mark : (m : NodeState) → x.node ≡ node_of p x.path m → IsKnown p best x.path m → IsSplitOn p x.path k
       by_mark (Divided g) n known = let same : g ≡ k = cc (n, is) in subst (λ q. IsSplitOn p x.path q) same known
       by_mark (Closed leaf) n known = cc
       by_mark (Opened g) n known = cc

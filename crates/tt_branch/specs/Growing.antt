@@ -10,8 +10,8 @@ use Rattle.tt_proof_read.specs.declared.node.Node.{Node}
 use Rattle.tt_proof_read.specs.declared.node.Node.TheVariants as node
 use Rattle.tt_leaf.specs.Best.{best_leaf}
 use Rattle.tt_leaf.specs.Found.{Closes, ArePatterns}
-use Rattle.tt_branch.specs.declared.entry.Mark.{Mark}
-use Rattle.tt_branch.specs.declared.entry.Mark.TheVariants.{Divided, Closed, Opened, Waiting}
+use Rattle.tt_branch.specs.declared.entry.NodeState.{NodeState}
+use Rattle.tt_branch.specs.declared.entry.NodeState.TheVariants.{Divided, Closed, Opened, Waiting}
 use Rattle.tt_branch.specs.declared.entry.Entry.{Entry}
 use Rattle.tt_branch.specs.declared.links.Link.{Link}
 use Rattle.tt_branch.specs.Links.{path_at}
@@ -19,14 +19,14 @@ use Rattle.tt_branch.specs.Outcomes.{final_bound}
 use Rattle.tt_branch.specs.Proofs.{IsSplitOn, node_worth}
 
 -- The node of the tree for a mark; an open node has the leaf of the best claims.
-abbrev pub node_of : Problem → List Fact → Mark → Node
+abbrev pub node_of : Problem → List Fact → NodeState → Node
 node_of p path (Divided g) = node.Split g
 node_of p path (Closed leaf) = node.Leaf leaf
 node_of p path (Opened g) = node.Leaf (best_leaf p path)
 node_of p path Waiting = node.Leaf (best_leaf p path)
 
 -- What is known about a node by its mark.
-abbrev pub IsKnown : Problem → Option (List Cell) → List Fact → Mark → Type 0
+abbrev pub IsKnown : Problem → Option (List Cell) → List Fact → NodeState → Type 0
 IsKnown p best path (Divided g) = IsSplitOn p path g
 IsKnown p best path (Closed leaf) = Closes p path (final_bound p best) leaf
 IsKnown p best path (Opened g) = IsSplitOn p path g
@@ -47,17 +47,17 @@ pub record IsGrown (p : Problem) (best : Option (List Cell)) (links : List Link)
 
 -- ---- marks
 
-abbrev pub was_opened : Mark → Bool
+abbrev pub was_opened : NodeState → Bool
 was_opened Waiting = false
 was_opened _ = true
 
-abbrev pub is_open : Mark → Bool
+abbrev pub is_open : NodeState → Bool
 is_open (Opened g) = true
 is_open Waiting = true
 is_open _ = false
 
 -- The mark is not that of a split.
-abbrev pub IsSingle : Mark → Type 0
+abbrev pub IsSingle : NodeState → Type 0
 IsSingle (Divided g) = ⊥
 IsSingle _ = ⊤
 
@@ -70,7 +70,7 @@ abbrev pub IsOpenAt : List Entry → ℕ → Type 0
 IsOpenAt entries k = (e : Entry) × (slice_get entries k ≡ Some e) × (is_open e.mark ≡ true)
 
 -- The entry at the place has the mark.
-abbrev pub HasMark : List Entry → ℕ → Mark → Type 0
+abbrev pub HasMark : List Entry → ℕ → NodeState → Type 0
 HasMark entries k m = (e : Entry) × (slice_get entries k ≡ Some e) × (e.mark ≡ m)
 
 -- -- the proof made of the tree

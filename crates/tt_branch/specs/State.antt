@@ -4,7 +4,7 @@ use Rattle.std.specs.Prelude.{◌≡◌, ℕ, ◌+◌, ◌*◌, ◌≤◌, Bool,
 use Rattle.std.specs.List.{list_any}
 use Rattle.tt_instance.specs.Problem.{Problem}
 use Rattle.tt_paths.specs.declared.facts.Pattern.{Pattern}
-use Rattle.tt_branch.specs.declared.entry.Mark.TheVariants.{Opened, Waiting}
+use Rattle.tt_branch.specs.declared.entry.NodeState.TheVariants.{Opened, Waiting}
 use Rattle.tt_branch.specs.declared.entry.Entry.{Entry}
 use Rattle.tt_branch.specs.declared.search.Search.{Search}
 use Rattle.tt_branch.specs.Growing.{IsGrown, HasMark, is_open, opened_in}

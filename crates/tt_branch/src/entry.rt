@@ -8,7 +8,7 @@ use tt_paths::Pattern;
 
 /// How far a node has been searched.
 #[derive(Drop)]
-pub enum Mark {
+pub enum NodeState {
     /// The node is split, and its children follow it.
     Divided(Pattern),
     /// A leaf closes the node.
@@ -19,14 +19,14 @@ pub enum Mark {
     Waiting,
 }
 
-impl Mark {
+impl NodeState {
     /// Returns the pattern by which an opened node will be split.
     pub fn pattern(&self) -> Option<Pattern>
-        ensures some { IfSome result (λ g. self.now ≡ Mark.Opened g) }
-        ensures none { IsNone result → is_open self.now ≡ true → self.now ≡ Mark.Waiting }
+        ensures some { IfSome result (λ g. self.now ≡ NodeState.Opened g) }
+        ensures none { IsNone result → is_open self.now ≡ true → self.now ≡ NodeState.Waiting }
     {
         match self {
-            Mark::Opened(pattern) => Some(*pattern),
+            NodeState::Opened(pattern) => Some(*pattern),
             _ => None,
         }
     }
@@ -34,16 +34,16 @@ impl Mark {
 
 /// By how much the best claims of the two children exceed those of a node, in cost points.
 #[derive(Clone, Copy)]
-pub struct Rises {
+pub struct ChildGains {
     pub yes: u64,
     pub no: u64,
 }
 
-impl Rises {
-    pub const NONE: Rises = Rises { yes: 0, no: 0 };
+impl ChildGains {
+    pub const NONE: ChildGains = ChildGains { yes: 0, no: 0 };
 
     /// Returns whether the second child has a lower value than the first.
-    pub fn are_falling(self) -> bool {
+    pub fn is_second_better(self) -> bool {
         self.no < self.yes
     }
 }
@@ -51,25 +51,25 @@ impl Rises {
 /// A node.
 #[derive(Drop)]
 pub struct Entry {
-    pub mark: Mark,
+    pub mark: NodeState,
     /// The place of its facts, by the links.
     pub link: usize,
     /// The value of the best claims: the open node with the least key is next.
     pub key: u64,
-    pub rises: Rises,
+    pub rises: ChildGains,
 }
 
 impl Entry {
     /// Creates a node that waits.
     pub fn waiting(link: usize, key: u64) -> Entry
-        ensures mark { result.mark ≡ Mark.Waiting }
+        ensures mark { result.mark ≡ NodeState.Waiting }
         ensures link { result.link ≡ link }
     {
         Entry {
-            mark: Mark::Waiting,
+            mark: NodeState::Waiting,
             link,
             key,
-            rises: Rises::NONE,
+            rises: ChildGains::NONE,
         }
     }
 
@@ -78,8 +78,8 @@ impl Entry {
         ensures { result ≡ is_open self.now.mark }
     {
         match self.mark {
-            Mark::Opened(_) | Mark::Waiting => true,
-            Mark::Divided(_) | Mark::Closed(_) => false,
+            NodeState::Opened(_) | NodeState::Waiting => true,
+            NodeState::Divided(_) | NodeState::Closed(_) => false,
         }
     }
 }

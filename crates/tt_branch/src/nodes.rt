@@ -9,7 +9,7 @@ ghost use Rattle.tt_branch.specs.Proofs.{node_worth};
 ghost use Rattle.tt_branch.specs.Steps.{lower};
 ghost use Rattle.tt_branch.specs.Written.{IsReached, IsWritable, IsOnceNode};
 
-use crate::entry::{Entry, Mark};
+use crate::entry::{Entry, NodeState};
 use crate::links::Link;
 use crate::visit::go_to;
 use std::alloc::{AllocError, Global};
@@ -39,9 +39,9 @@ fn node_for<'i, P: Path<'i>>(
 {
     let Entry { mark, link, .. } = entry;
     match mark {
-        Mark::Divided(pattern) => Ok(Node::Split(pattern)),
-        Mark::Closed(leaf) => Ok(Node::Leaf(leaf)),
-        Mark::Opened(_) | Mark::Waiting => {
+        NodeState::Divided(pattern) => Ok(Node::Split(pattern)),
+        NodeState::Closed(leaf) => Ok(Node::Leaf(leaf)),
+        NodeState::Opened(_) | NodeState::Waiting => {
             go_to(alloc, path, links, link)?;
             Ok(Node::Leaf(best_claims(alloc, path)?))
         }

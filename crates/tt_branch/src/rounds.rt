@@ -6,7 +6,7 @@ ghost use Rattle.tt_branch.specs.Kept.{Advances};
 ghost use Rattle.tt_branch.specs.State.{IsUnderWay, MakesWait, EndsAt};
 ghost use Rattle.tt_branch.specs.declared.limit.TheConstants.{MAX_OPENED, MAX_TREE};
 
-use crate::entry::Mark;
+use crate::entry::NodeState;
 use crate::search::{Search, next_open, split};
 use crate::visit::open_at;
 use crate::watching::show;
@@ -21,7 +21,7 @@ fn make_wait(search: &mut Search, place: usize) -> Result<usize, AllocError>
 {
     match search.entries[place].mark.pattern() {
         Some(pattern) => {
-            let second_first = search.entries[place].rises.are_falling();
+            let second_first = search.entries[place].rises.is_second_better();
             split(search, place, pattern)?;
             Ok(if second_first { place + 2 } else { place + 1 })
         }

@@ -9,7 +9,7 @@ ghost use Rattle.tt_branch.specs.Links.{link_of};
 ghost use Rattle.tt_branch.specs.State.{IsUnderWay, IsSplitAt};
 
 use crate::best::Best;
-use crate::entry::{Entry, Mark, Rises};
+use crate::entry::{ChildGains, Entry, NodeState};
 use crate::links::Link;
 use std::alloc::{AllocError, Global};
 use tt_paths::{Fact, Pattern};
@@ -29,14 +29,14 @@ impl Search {
         ensures best { IfOk result (λ s. s.best ≡ best) }
         ensures alone { IfOk result (λ s. length s.entries.items ≡ 1) }
         ensures unopened { IfOk result (λ s. opened_in s.entries.items ≡ 0) }
-        ensures waiting { IfOk result (λ s. HasMark s.entries.items 0 Mark.Waiting) }
+        ensures waiting { IfOk result (λ s. HasMark s.entries.items 0 NodeState.Waiting) }
     {
         let mut entries = Vec::new(alloc);
         entries.push(Entry {
-            mark: Mark::Waiting,
+            mark: NodeState::Waiting,
             link: 0,
             key: 0,
-            rises: Rises::NONE,
+            rises: ChildGains::NONE,
         })?;
         Ok(Search {
             entries,
@@ -97,7 +97,7 @@ pub fn put(entries: &mut Vec<Entry>, place: usize, entry: Entry)
 
 /// Splits an opened node by its pattern: its children follow it, and wait.
 pub fn split(search: &mut Search, place: usize, pattern: Pattern) -> Result<(), AllocError>
-    requires { HasMark search.old.entries.items place (Mark.Opened pattern) }
+    requires { HasMark search.old.entries.items place (NodeState.Opened pattern) }
     ensures { OnOk result (IsSplitAt place pattern search.old search.new) }
 {
     let Entry {
@@ -117,7 +117,7 @@ pub fn split(search: &mut Search, place: usize, pattern: Pattern) -> Result<(), 
         &mut search.entries,
         place,
         Entry {
-            mark: Mark::Divided(pattern),
+            mark: NodeState::Divided(pattern),
             link,
             key,
             rises,

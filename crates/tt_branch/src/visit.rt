@@ -13,7 +13,7 @@ ghost use Rattle.tt_branch.specs.State.{IsUnderWay};
 ghost use Rattle.tt_branch.specs.declared.limit.TheConstants.{MAX_TREE};
 
 use crate::best::{Best, bound_of};
-use crate::entry::{Entry, Mark, Rises};
+use crate::entry::{ChildGains, Entry, NodeState};
 use crate::links::{Link, facts_to};
 use crate::live::live_table;
 use crate::moves::move_to;
@@ -61,7 +61,7 @@ fn take_live<'i, P: Path<'i>>(
     requires kept { IsKept (P.problem path.now) best.old }
     requires pinned { IsPinnedDown (P.problem path.now) (P.facts path.now) }
     requires unclosed { IsOpen (P.problem path.now) (P.facts path.now) (final_bound (P.problem path.now) (table_of best.old)) }
-    ensures known { IfOk result (λ leaf. IsKnown (P.problem path.now) (table_of best.new) (P.facts path.now) (Mark.Closed leaf)) }
+    ensures known { IfOk result (λ leaf. IsKnown (P.problem path.now) (table_of best.new) (P.facts path.now) (NodeState.Closed leaf)) }
     ensures better { OnOk result (Advances (P.problem path.now) best.old best.new) }
 {
     // In every instance, the number of lectures is limited.
@@ -76,16 +76,16 @@ fn take_live<'i, P: Path<'i>>(
 /// The result of opening a node.
 #[derive(Drop)]
 struct Opening {
-    mark: Mark,
+    mark: NodeState,
     key: u64,
 }
 
 /// Creates the result of a node that a leaf closes.
 fn closed(leaf: Leaf) -> Opening
-    ensures { result.mark ≡ Mark.Closed leaf }
+    ensures { result.mark ≡ NodeState.Closed leaf }
 {
     Opening {
-        mark: Mark::Closed(leaf),
+        mark: NodeState::Closed(leaf),
         key: 0,
     }
 }
@@ -110,7 +110,7 @@ fn open<'i, P: Path<'i>>(
     if let Some(pattern) = choose_split(alloc, path)? {
         let key = best_worth(alloc, path)?;
         return Ok(Opening {
-            mark: Mark::Opened(pattern),
+            mark: NodeState::Opened(pattern),
             key,
         });
     }
@@ -143,11 +143,11 @@ fn rises_of<'i, P: Path<'i>>(
     path: &mut P,
     split: Option<Pattern>,
     points: u64,
-) -> Result<Rises, AllocError>
+) -> Result<ChildGains, AllocError>
     ensures { P.problem path.new ≡ P.problem path.old }
 {
     let Some(pattern) = split else {
-        return Ok(Rises::NONE);
+        return Ok(ChildGains::NONE);
     };
     let first = Fact {
         pattern,
@@ -159,7 +159,7 @@ fn rises_of<'i, P: Path<'i>>(
     };
     let yes = rise(alloc, path, first, points)?;
     let no = rise(alloc, path, second, points)?;
-    Ok(Rises { yes, no })
+    Ok(ChildGains { yes, no })
 }
 
 /// Opens a node that waits.
@@ -170,7 +170,7 @@ pub fn open_at<'i, P: Path<'i>>(
     place: usize,
 ) -> Result<(), AllocError>
     requires under_way { IsUnderWay (P.problem path.old) search.old }
-    requires waiting { HasMark search.old.entries.items place Mark.Waiting }
+    requires waiting { HasMark search.old.entries.items place NodeState.Waiting }
     requires few { length search.old.entries.items ≤ MAX_TREE + 2 }
     ensures under_way { OnOk result (IsUnderWay (P.problem path.old) search.new) }
     ensures better { OnOk result (Advances (P.problem path.old) search.old.best search.new.best) }

@@ -13,7 +13,7 @@ use Rattle.std.proofs.Math.Bool.{or-false, and-true}
 use Rattle.tt_lists.proofs.Tests.{same_test}
 use Rattle.tt_lists.proofs.Truth.{same_truth}
 use Rattle.tt_lists.proofs.Twos.{neither}
-use Rattle.tt_instance.specs.Problem.{Problem, Bar}
+use Rattle.tt_instance.specs.Problem.{Problem, Unavailability}
 use Rattle.tt_instance.specs.declared.cell.Cell.{Cell}
 use Rattle.tt_bits.specs.Bits.{has_bit}
 use Rattle.tt_cell_set.specs.Words.{Bit, IsBit, width, place, size, room_of, bit_of, is_set}
@@ -22,11 +22,11 @@ use Rattle.tt_cell_set.specs.First.{AreFull}
 use Rattle.tt_cell_set.proofs.Grid.{word_within, bit_within, room_back}
 
 -- the unavailability is for the cell's course and period
-abbrev pub bars_at : Cell → Bar → Bool
-bars_at x b = (b.course == x.course) && (b.day == x.day) && (b.period == x.period)
+abbrev pub unavailabilities_at : Cell → Unavailability → Bool
+unavailabilities_at x b = (b.course == x.course) && (b.day == x.day) && (b.period == x.period)
 
-abbrev pub is_open_by : List Bar → Cell → Bool
-is_open_by bars x = not (list_any (bars_at x) bars)
+abbrev pub is_open_by : List Unavailability → Cell → Bool
+is_open_by unavailabilities x = not (list_any (unavailabilities_at x) unavailabilities)
 
 -- ---- all cells
 
@@ -72,40 +72,40 @@ module _ (p : Problem) (full : List ℕ) (a : AreFull p full (size p)) where
 
 -- -- another unavailability
 
-one_bar : (bars : List Bar) (b : Bar) (x : Cell) → is_open_by (bars ++ b ∷ []) x ≡ (is_open_by bars x && not (bars_at x b))
-one_bar bars b x = ap not (list_any-append (bars_at x) bars (b ∷ []) ∙ ap (λ v. list_any (bars_at x) bars || v) (or-false (bars_at x b))) ∙ neither (list_any (bars_at x) bars) (bars_at x b)
+one_unavailability : (unavailabilities : List Unavailability) (b : Unavailability) (x : Cell) → is_open_by (unavailabilities ++ b ∷ []) x ≡ (is_open_by unavailabilities x && not (unavailabilities_at x b))
+one_unavailability unavailabilities b x = ap not (list_any-append (unavailabilities_at x) unavailabilities (b ∷ []) ∙ ap (λ v. list_any (unavailabilities_at x) unavailabilities || v) (or-false (unavailabilities_at x b))) ∙ neither (list_any (unavailabilities_at x) unavailabilities) (unavailabilities_at x b)
 
-module _ (p : Problem) (bars : List Bar) (b : Bar) (words : List ℕ) (a : Shows p (is_open_by bars) words) where
-  pub bar_in : (new : List ℕ) → Loses p words (λ x. is_placed b.course b.day b.period x && true) new → Shows p (is_open_by (bars ++ b ∷ [])) new
-  bar_in new l = record {
+module _ (p : Problem) (unavailabilities : List Unavailability) (b : Unavailability) (words : List ℕ) (a : Shows p (is_open_by unavailabilities) words) where
+  pub unavailability_in : (new : List ℕ) → Loses p words (λ x. is_placed b.course b.day b.period x && true) new → Shows p (is_open_by (unavailabilities ++ b ∷ [])) new
+  unavailability_in new l = record {
     table = l.table;
     cells = λ x h. l.cells x h ∙ ap (λ v. v && not (is_placed b.course b.day b.period x && true)) (a.cells x h)
-        ∙ ap (λ v. is_open_by bars x && not v) (and-true (is_placed b.course b.day b.period x) ∙ turned x)
-        ∙ sym (one_bar bars b x);
+        ∙ ap (λ v. is_open_by unavailabilities x && not v) (and-true (is_placed b.course b.day b.period x) ∙ turned x)
+        ∙ sym (one_unavailability unavailabilities b x);
   }
     where
-      turned : (x : Cell) → is_placed b.course b.day b.period x ≡ bars_at x b
+      turned : (x : Cell) → is_placed b.course b.day b.period x ≡ unavailabilities_at x b
       turned x =
           ap (λ v. v && (x.day == b.day) && (x.period == b.period)) (same_test x.course b.course b.course x.course sym sym)
           ∙ ap (λ v. (b.course == x.course) && v && (x.period == b.period)) (same_test x.day b.day b.day x.day sym sym)
           ∙ ap (λ v. (b.course == x.course) && (b.day == x.day) && v) (same_test x.period b.period b.period x.period sym sym)
 
   -- an unavailability whose course, day or period is out of range
-  pub bar_out : ((b.course < length p.courses) × (b.day < p.days) × (b.period < p.periods) → ⊥) → Shows p (is_open_by (bars ++ b ∷ [])) words
-  bar_out out = record {
+  pub unavailability_out : ((b.course < length p.courses) × (b.day < p.days) × (b.period < p.periods) → ⊥) → Shows p (is_open_by (unavailabilities ++ b ∷ [])) words
+  unavailability_out out = record {
     table = a.table;
-    cells = λ x h. a.cells x h ∙ still (is_open_by bars x) (bars_at x b) (false_from_ne_true (bars_at x b) (λ t.
+    cells = λ x h. a.cells x h ∙ still (is_open_by unavailabilities x) (unavailabilities_at x b) (false_from_ne_true (unavailabilities_at x b) (λ t.
         let u = and_parts ((b.course == x.course) && (b.day == x.day)) (b.period == x.period) t in
         let v = and_parts (b.course == x.course) (b.day == x.day) u.0 in
         let i = eqb-true b.course x.course v.0 in let j = eqb-true b.day x.day v.1 in let k = eqb-true b.period x.period u.1 in
         let c = h.course in let d = h.day in let s = h.period in
         out (omega arith, omega arith, omega arith)))
-        ∙ sym (one_bar bars b x);
+        ∙ sym (one_unavailability unavailabilities b x);
   }
     where
       still : (o t : Bool) → t ≡ false → o ≡ (o && not t)
       still true t e = sym (ap not e)
       still false t e = refl
 
-pub up_to_more : (p : Problem) (i : ℕ) (b : Bar) (words : List ℕ) → i < length p.bars → slice_get p.bars i ≡ Some b → Shows p (is_open_by (take i p.bars ++ b ∷ [])) words → Shows p (is_open_by (take (i + 1) p.bars)) words
-up_to_more p i b words h e a = subst (λ l. Shows p (is_open_by l) words) (sym (take_more p.bars i b h ∙ ap (λ x. take i p.bars ++ x ∷ []) (get_or_from_slice_get p.bars i b b e))) a
+pub up_to_more : (p : Problem) (i : ℕ) (b : Unavailability) (words : List ℕ) → i < length p.unavailabilities → slice_get p.unavailabilities i ≡ Some b → Shows p (is_open_by (take i p.unavailabilities ++ b ∷ [])) words → Shows p (is_open_by (take (i + 1) p.unavailabilities)) words
+up_to_more p i b words h e a = subst (λ l. Shows p (is_open_by l) words) (sym (take_more p.unavailabilities i b h ∙ ap (λ x. take i p.unavailabilities ++ x ∷ []) (get_or_from_slice_get p.unavailabilities i b b e))) a

@@ -42,8 +42,8 @@ pub fn first_table(alloc: Global, instance: &Instance<'_>) -> Result<Trail, Allo
     let courses = instance.courses();
     let days = instance.days();
     let periods = instance.periods();
-    for index in 0..instance.bars() {
-        let (course, day, period) = instance.bar(index);
+    for index in 0..instance.unavailabilities() {
+        let (course, day, period) = instance.unavailability(index);
         if course >= courses || day >= days || period >= periods {
             continue;
         }

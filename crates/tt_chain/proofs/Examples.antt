@@ -5,7 +5,7 @@ use Rattle.tt_instance.specs.Problem.{Problem}
 use Rattle.tt_instance.specs.Cells.{slot}
 use Rattle.tt_instance.specs.Courses.{unavailable}
 use Rattle.tt_instance.specs.declared.cell.Cell.{Cell}
-use Rattle.tt_instance.proofs.Examples.{at, bar, course, week, two_rooms, mini}
+use Rattle.tt_instance.proofs.Examples.{at, unavailability, course, week, two_rooms, mini}
 use Rattle.tt_chain.specs.Chains.{linked, swapped}
 
 abbrev together : List Cell
@@ -21,7 +21,7 @@ swapped_both : swapped (slot 0 0) (slot 0 1) (has_number (0 ∷ 1 ∷ [])) toget
 swapped_both = refl
 
 -- if b is unavailable in the first period, it can't move there
-b_is_barred : unavailable (record mini { bars = bar 1 0 0 ∷ [] }) 1 0 0 ≡ true
+b_is_barred : unavailable (record mini { unavailabilities = unavailability 1 0 0 ∷ [] }) 1 0 0 ≡ true
 b_is_barred = refl
 
 -- two courses without a teacher or a curriculum in common

@@ -23,26 +23,29 @@ const NEARLY_ALONE: [u64; 9] = [123, 98, 79, 63, 50, 40, 32, 26, 21];
 
 /// The gain of a child compared with its parent.
 #[derive(Clone, Copy)]
-struct Gain {
+struct ChildEstimate {
     /// The increase of the value of its claims, in cost points.
     cost: u64,
     /// The value of what makes further gains below likely, in parts.
-    hope: u64,
+    expected: u64,
 }
 
-impl Gain {
-    const NONE: Gain = Gain { cost: 0, hope: 0 };
+impl ChildEstimate {
+    const NONE: ChildEstimate = ChildEstimate {
+        cost: 0,
+        expected: 0,
+    };
 
-    fn add(&mut self, more: Gain) {
+    fn add(&mut self, more: ChildEstimate) {
         self.cost = self.cost.saturating_add(more.cost);
-        self.hope = self.hope.saturating_add(more.hope);
+        self.expected = self.expected.saturating_add(more.expected);
     }
 
     /// Returns the gain in parts, and at least 1.
     fn parts(self) -> u64 {
         self.cost
             .saturating_mul(POINT)
-            .saturating_add(self.hope)
+            .saturating_add(self.expected)
             .max(1)
     }
 }
@@ -50,8 +53,8 @@ impl Gain {
 /// The gains of the two children of a split.
 #[derive(Clone, Copy)]
 struct Gains {
-    yes: Gain,
-    no: Gain,
+    yes: ChildEstimate,
+    no: ChildEstimate,
 }
 
 /// A course and a period to split by.
@@ -65,7 +68,7 @@ pub struct Candidate {
 
 /// The tables on which a choice is based.
 #[derive(Clone, Copy)]
-struct Scene<'s, 'i> {
+struct BranchingTables<'s, 'i> {
     instance: &'s Instance<'i>,
     prospects: &'s Prospects,
     neighbours: &'s Neighbours,
@@ -82,19 +85,19 @@ fn worth_of_fall(fall: u32) -> u64 {
 }
 
 /// Returns the gain if a course loses an open period.
-fn loss(prospects: &Prospects, course: u32, slot: Slot) -> Gain {
+fn loss(prospects: &Prospects, course: u32, slot: Slot) -> ChildEstimate {
     let Some(prospect) = prospects.of(course) else {
-        return Gain::NONE;
+        return ChildEstimate::NONE;
     };
     let leeway = prospect.leeway;
     let is_last = prospects.on(course, slot.day).live() == bit_of(slot.period);
-    Gain {
+    ChildEstimate {
         cost: if is_last {
             prospect.days_less.saturating_sub(prospect.days)
         } else {
             0
         },
-        hope: if leeway.open <= leeway.left {
+        expected: if leeway.open <= leeway.left {
             CLOSED
         } else {
             worth_of_fall(prospect.fall_barred)
@@ -103,13 +106,13 @@ fn loss(prospects: &Prospects, course: u32, slot: Slot) -> Gain {
 }
 
 /// Returns the gain for the course itself if it is in an open period.
-fn hold(prospects: &Prospects, course: u32) -> Gain {
+fn hold(prospects: &Prospects, course: u32) -> ChildEstimate {
     let Some(prospect) = prospects.of(course) else {
-        return Gain::NONE;
+        return ChildEstimate::NONE;
     };
-    Gain {
+    ChildEstimate {
         cost: 0,
-        hope: if prospect.leeway.left == 0 {
+        expected: if prospect.leeway.left == 0 {
             CLOSED
         } else {
             worth_of_fall(prospect.fall_pinned)
@@ -118,26 +121,26 @@ fn hold(prospects: &Prospects, course: u32) -> Gain {
 }
 
 /// Returns the gain for a pinned period of a curriculum if `lost` of the members next to it lose a period.
-fn isolation(beside: u32, lost: u32) -> Gain {
+fn isolation(beside: u32, lost: u32) -> ChildEstimate {
     let left = beside.saturating_sub(lost);
     if left == beside {
-        return Gain::NONE;
+        return ChildEstimate::NONE;
     }
     if left == 0 {
-        return Gain {
+        return ChildEstimate {
             cost: ISOLATED,
-            hope: 0,
+            expected: 0,
         };
     }
-    Gain {
+    ChildEstimate {
         cost: 0,
-        hope: weight(left).saturating_sub(weight(beside)),
+        expected: weight(left).saturating_sub(weight(beside)),
     }
 }
 
 /// Returns the gain for the pinned periods next to a period if `lost` members lose it.
-fn thin_out(neighbours: &Neighbours, curriculum: u32, slot: Slot, lost: u32) -> Gain {
-    let mut gain = Gain::NONE;
+fn thin_out(neighbours: &Neighbours, curriculum: u32, slot: Slot, lost: u32) -> ChildEstimate {
+    let mut gain = ChildEstimate::NONE;
     let pinned = neighbours.pinned(curriculum, slot.day);
     if let Some(before) = slot.period.checked_sub(1)
         && pinned & bit_of(before) != 0
@@ -154,27 +157,27 @@ fn thin_out(neighbours: &Neighbours, curriculum: u32, slot: Slot, lost: u32) -> 
 }
 
 /// Returns the gain if a period of a curriculum is pinned.
-fn pin(neighbours: &Neighbours, curriculum: u32, slot: Slot) -> Gain {
+fn pin(neighbours: &Neighbours, curriculum: u32, slot: Slot) -> ChildEstimate {
     if neighbours.pinned(curriculum, slot.day) & bit_of(slot.period) != 0 {
-        return Gain::NONE;
+        return ChildEstimate::NONE;
     }
     let beside = neighbours.beside(curriculum, slot.day, slot.period);
     if beside == 0 {
-        return Gain {
+        return ChildEstimate {
             cost: ISOLATED,
-            hope: 0,
+            expected: 0,
         };
     }
-    Gain {
+    ChildEstimate {
         cost: 0,
-        hope: weight(beside),
+        expected: weight(beside),
     }
 }
 
 impl Gains {
     const NONE: Gains = Gains {
-        yes: Gain::NONE,
-        no: Gain::NONE,
+        yes: ChildEstimate::NONE,
+        no: ChildEstimate::NONE,
     };
 }
 
@@ -182,21 +185,21 @@ fn gains_of(gains: &[Gains], course: u32) -> Gains {
     gains.get(course as usize).copied().unwrap_or(Gains::NONE)
 }
 
-fn add_yes(gains: &mut [Gains], course: u32, gain: Gain) {
+fn add_yes(gains: &mut [Gains], course: u32, gain: ChildEstimate) {
     if let Some(both) = gains.get_mut(course as usize) {
         both.yes.add(gain);
     }
 }
 
-fn add_no(gains: &mut [Gains], course: u32, gain: Gain) {
+fn add_no(gains: &mut [Gains], course: u32, gain: ChildEstimate) {
     if let Some(both) = gains.get_mut(course as usize) {
         both.no.add(gain);
     }
 }
 
 /// Returns the total gain if the courses of a word lose a period.
-fn sum_of_no(gains: &[Gains], word: u32, set: u64) -> Gain {
-    let mut gain = Gain::NONE;
+fn sum_of_no(gains: &[Gains], word: u32, set: u64) -> ChildEstimate {
+    let mut gain = ChildEstimate::NONE;
     let mut left = set;
     for _ in 0..set.count_ones() {
         gain.add(gains_of(gains, first_course(word, left)).no);
@@ -211,7 +214,7 @@ fn beside(period: u32) -> u64 {
     before | bit_of(period.saturating_add(1))
 }
 
-impl Scene<'_, '_> {
+impl BranchingTables<'_, '_> {
     /// Returns the courses for which the period is open.
     fn open_at(&self, alloc: Global, slot: Slot) -> Result<Vec<u32>, AllocError> {
         (0..self.instance.courses())
@@ -232,8 +235,8 @@ impl Scene<'_, '_> {
     }
 
     /// Returns the gain of the courses that conflict with a course when it is in the period.
-    fn rivals(&self, course: u32, set: &CourseSet, gains: &[Gains]) -> Gain {
-        let mut gain = Gain::NONE;
+    fn rivals(&self, course: u32, set: &CourseSet, gains: &[Gains]) -> ChildEstimate {
+        let mut gain = ChildEstimate::NONE;
         for word in 0..self.conflicts.words() {
             let rivals = self.conflicts.word(course, word) & set.word(word);
             gain.add(sum_of_no(gains, word, rivals));
@@ -394,7 +397,7 @@ pub fn best_candidate(
     let neighbours = Neighbours::new(alloc, instance, prospects)?;
     let conflicts = Conflicts::new(alloc, instance)?;
     let mut gains = vec![in alloc; Gains::NONE; instance.courses() as usize]?;
-    let scene = Scene {
+    let scene = BranchingTables {
         instance,
         prospects,
         neighbours: &neighbours,

@@ -76,8 +76,8 @@ impl Board {
     ) -> Result<Board, AllocError> {
         let periods = instance.periods();
         let mut board = Board::empty(alloc, setting)?;
-        for index in 0..instance.bars() {
-            let (course, day, period) = instance.bar(index);
+        for index in 0..instance.unavailabilities() {
+            let (course, day, period) = instance.unavailability(index);
             board.close(course, day.saturating_mul(periods).saturating_add(period));
         }
         Ok(board)

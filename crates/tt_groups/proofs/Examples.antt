@@ -22,7 +22,7 @@ three = record {
   courses = course (codes "a") (codes "t1") 2 3 ∷ course (codes "b") (codes "t2") 1 1 ∷ course (codes "c") (codes "t2") 1 1 ∷ [];
   rooms = record { id = codes "R"; capacity = 9 } ∷ [];
   curricula = record { id = codes "q"; members = 0 ∷ 1 ∷ [] } ∷ [];
-  bars = record { course = 2; day = 0; period = 1 } ∷ [];
+  unavailabilities = record { course = 2; day = 0; period = 1 } ∷ [];
 }
 
 -- the curriculum, and the days of a

@@ -5,9 +5,9 @@ use Rattle.tt_groups_read.specs.declared.fault.GroupTextFault.{GroupTextFault}
 use Rattle.tt_groups_read.specs.declared.fault.GroupTextFault.TheVariants.{ExpectedGroups, Text}
 
 -- Whether an error says nothing about the bytes: a failed read, or being out of memory.
-abbrev pub is_silent : GroupTextFault → Bool
-is_silent (ExpectedGroups at) = false
-is_silent (Text f) = proof.is_silent f
+abbrev pub is_environmental : GroupTextFault → Bool
+is_environmental (ExpectedGroups at) = false
+is_environmental (Text f) = proof.is_environmental f
 
 -- Whether an error is a failed read.
 abbrev pub is_failed_read : GroupTextFault → Bool

@@ -9,7 +9,7 @@ use Rattle.tt_proof_read.specs.Faults as proof
 use Rattle.tt_proof_read.specs.Sizes.{AreSizes}
 use Rattle.tt_proof_read.specs.declared.fault.TextFault.{TextFault}
 use Rattle.tt_proof_read.specs.declared.sizes.Sizes.{Sizes}
-use Rattle.tt_groups_read.specs.Faults.{is_silent, is_failed_read}
+use Rattle.tt_groups_read.specs.Faults.{is_environmental, is_failed_read}
 use Rattle.tt_groups_read.specs.Reading.{header_at, group_at}
 use Rattle.tt_groups_read.specs.Spelling.{IsClaim}
 use Rattle.tt_groups_read.specs.declared.claim.GroupClaim.{GroupClaim}
@@ -36,12 +36,12 @@ Goes old (Err f) new = (old.over ≡ false) × (new ≡ record old { fed = new.f
 -- The result is what the stream gives, unless the file has ended before.
 abbrev pub Says : Reader → Stream → Result (Option GroupClaim) TextFault → Stream → Type 0
 Says old s (Ok o) after = old.over ≡ false → group_at old.sizes s ≡ Ok (o, after)
-Says old s (Err f) after = FailsUnless proof.is_silent f (group_at old.sizes s)
+Says old s (Err f) after = FailsUnless proof.is_environmental f (group_at old.sizes s)
 
 -- The result for a header is what the stream gives.
 abbrev pub HeaderSays : Stream → Result Reader GroupTextFault → Option (List ℕ) → Type 0
 HeaderSays s (Ok r) after = header_at s ≡ Ok (r.bound, stream_at r.fed after)
-HeaderSays s (Err f) after = FailsUnless is_silent f (header_at s)
+HeaderSays s (Err f) after = FailsUnless is_environmental f (header_at s)
 
 -- The result of a reader for its header agrees with the stream when a read fails, whether or not the header was read.
 abbrev pub HeaderAgreesWhenCut : Option (List ℕ) → Result Reader GroupTextFault → Option (List ℕ) → Type 0

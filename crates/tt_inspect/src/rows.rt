@@ -10,7 +10,7 @@ pub enum Section {
     Courses,
     Rooms,
     Curricula,
-    Bars,
+    Unavailabilities,
     End,
 }
 
@@ -25,7 +25,7 @@ impl Section {
             Section::Courses => 1,
             Section::Rooms => 2,
             Section::Curricula => 3,
-            Section::Bars => 4,
+            Section::Unavailabilities => 4,
             Section::End => 5,
         }
     }
@@ -36,7 +36,7 @@ impl Section {
             Section::Courses => Some((Word::Courses, Word::CoursesPart)),
             Section::Rooms => Some((Word::Rooms, Word::RoomsPart)),
             Section::Curricula => Some((Word::Curricula, Word::CurriculaPart)),
-            Section::Bars => Some((Word::Constraints, Word::UnavailabilityPart)),
+            Section::Unavailabilities => Some((Word::Constraints, Word::UnavailabilityPart)),
             Section::Head | Section::End => None,
         }
     }
@@ -49,7 +49,7 @@ impl Section {
             Section::Curricula => {
                 "a curriculum has its name, how many courses it has, and their names"
             }
-            Section::Bars => "an unavailability has 3: course, day, period",
+            Section::Unavailabilities => "an unavailability has 3: course, day, period",
             Section::Head | Section::End => "",
         }
     }
@@ -112,7 +112,7 @@ impl<'a> Row<'a> {
             return Some(Section::Curricula);
         }
         if self.begins_with(Word::UnavailabilityPart.text()) {
-            return Some(Section::Bars);
+            return Some(Section::Unavailabilities);
         }
         if self.begins_with(Word::End.text()) {
             return Some(Section::End);
@@ -125,7 +125,7 @@ impl<'a> Row<'a> {
         match section {
             Section::Courses => Some(5),
             Section::Rooms => Some(2),
-            Section::Bars => Some(3),
+            Section::Unavailabilities => Some(3),
             Section::Curricula => Some(self.number()?.saturating_add(2)),
             Section::Head | Section::End => None,
         }

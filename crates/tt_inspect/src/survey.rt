@@ -36,7 +36,7 @@ impl Survey {
             Section::Courses,
             Section::Rooms,
             Section::Curricula,
-            Section::Bars,
+            Section::Unavailabilities,
         ] {
             if let Some((word, _)) = section.words()
                 && row.begins_with(word.text())
@@ -73,7 +73,7 @@ impl Survey {
             Section::Courses,
             Section::Rooms,
             Section::Curricula,
-            Section::Bars,
+            Section::Unavailabilities,
         ] {
             if section.index() > self.section.index() {
                 return None;

@@ -14,8 +14,8 @@ use Rattle.tt_instance.specs.declared.fault.InstanceFault.TheVariants as fault
 use Rattle.tt_instance.specs.declared.limit.TheConstants.{MAX_DAYS, MAX_PERIODS, MAX_SLOTS, MAX_CELLS}
 use Rattle.tt_instance.specs.Words.{word_text}
 use Rattle.tt_instance.specs.Beginnings.{token_offset, BeginsAs}
-use Rattle.tt_instance.specs.Problem.{Course, Room, Curriculum, Bar, Problem}
-use Rattle.tt_instance.specs.Reading.{Counts, ids_of, word_at, numbered, ranged, known, limited_at, below_at, course_at, courses_at, room_at, rooms_at, named_at, member_at, members_at, curriculum_at, curricula_at, bar_at, bars_at, name_at, counted_at, days_at, periods_at, header_at, places_at, groups_at, sections_at, instance_of}
+use Rattle.tt_instance.specs.Problem.{Course, Room, Curriculum, Unavailability, Problem}
+use Rattle.tt_instance.specs.Reading.{Counts, ids_of, word_at, numbered, ranged, known, limited_at, below_at, course_at, courses_at, room_at, rooms_at, named_at, member_at, members_at, curriculum_at, curricula_at, unavailability_at, unavailabilities_at, name_at, counted_at, days_at, periods_at, header_at, places_at, groups_at, sections_at, instance_of}
 use Rattle.tt_instance.specs.Spelling.{Spells}
 use Rattle.tt_instance.proofs.Beginnings.{begins_shared, told_stands, told_stays}
 use Rattle.tt_instance.proofs.WholeLaws.{is_read}
@@ -131,15 +131,15 @@ module _ (at end other : ℕ) where
   curricula_alike ids (suc n) before = then_reads _ _ (curriculum_alike ids before) (λ more. curricula_alike ids n more)
 
   -- another unavailability
-  bar_alike : (ids : List (List ℕ)) (days periods : ℕ) (before : List Bar) → Reads (λ e. bar_at e ids days periods before)
-  unfolding bar_at
-  bar_alike ids days periods before = then_reads _ _ (named_alike ids) (λ course. then_reads _ _ (below_alike days) (λ day. then_reads _ _ (below_alike periods) (λ period. ok_reads _)))
+  unavailability_alike : (ids : List (List ℕ)) (days periods : ℕ) (before : List Unavailability) → Reads (λ e. unavailability_at e ids days periods before)
+  unfolding unavailability_at
+  unavailability_alike ids days periods before = then_reads _ _ (named_alike ids) (λ course. then_reads _ _ (below_alike days) (λ day. then_reads _ _ (below_alike periods) (λ period. ok_reads _)))
 
   -- this many more unavailabilities
-  bars_alike : (ids : List (List ℕ)) (days periods n : ℕ) (before : List Bar) → Reads (λ e. bars_at e ids days periods n before)
-  unfolding bars_at
-  bars_alike ids days periods zero before = ok_reads before
-  bars_alike ids days periods (suc n) before = then_reads _ _ (bar_alike ids days periods before) (λ more. bars_alike ids days periods n more)
+  unavailabilities_alike : (ids : List (List ℕ)) (days periods n : ℕ) (before : List Unavailability) → Reads (λ e. unavailabilities_at e ids days periods n before)
+  unfolding unavailabilities_at
+  unavailabilities_alike ids days periods zero before = ok_reads before
+  unavailabilities_alike ids days periods (suc n) before = then_reads _ _ (unavailability_alike ids days periods before) (λ more. unavailabilities_alike ids days periods n more)
 
   -- ---- the name and the header
 
@@ -199,7 +199,7 @@ module _ (at end other : ℕ) where
   unfolding header_at
   header_alike =
       then_reads _ _ (limited_alike _) (λ courses. then_reads _ _ (counted_alike word.Rooms _) (λ rooms. then_reads _ _ days_alike (λ days. then_reads _ _ (periods_alike _ days) (λ periods.
-      then_reads _ _ (counted_alike word.Curricula _) (λ curricula. then_reads _ _ (counted_alike word.Constraints _) (λ bars. ok_reads _))))))
+      then_reads _ _ (counted_alike word.Curricula _) (λ curricula. then_reads _ _ (counted_alike word.Constraints _) (λ unavailabilities. ok_reads _))))))
 
   -- -- the sections, and the whole instance
 
@@ -215,7 +215,7 @@ module _ (at end other : ℕ) where
   unfolding groups_at
   groups_alike counts ids =
       then_skips _ _ (word_alike word.CurriculaPart) (then_reads _ _ (curricula_alike ids counts.curricula []) (λ curricula.
-      then_skips _ _ (word_alike word.UnavailabilityPart) (then_reads _ _ (bars_alike ids counts.days counts.periods counts.bars []) (λ bars.
+      then_skips _ _ (word_alike word.UnavailabilityPart) (then_reads _ _ (unavailabilities_alike ids counts.days counts.periods counts.unavailabilities []) (λ unavailabilities.
       then_skips _ _ (word_alike word.End) (ok_reads _)))))
 
   -- all sections after the header
@@ -237,7 +237,7 @@ instance_from end ts =
       courses = sections.0.courses;
       rooms = sections.0.rooms;
       curricula = sections.0.curricula;
-      bars = sections.0.bars;
+      unavailabilities = sections.0.unavailabilities;
     })
 
 -- the whole instance

@@ -1,7 +1,7 @@
 -- The limits on one course, on one curriculum and on one unavailability.
 use Rattle.std.specs.Prelude.{ℕ, ◌≤◌, ◌<◌, length, All}
 use Rattle.tt_instance.specs.declared.limit.TheConstants.{MAX_MEMBERS, MAX_MIN_DAYS, MAX_SEATS}
-use Rattle.tt_instance.specs.Problem.{Course, Curriculum, Bar}
+use Rattle.tt_instance.specs.Problem.{Course, Curriculum, Unavailability}
 
 abbrev pub IsCourse : Course → Type 0
 IsCourse c = (c.min_days ≤ MAX_MIN_DAYS) × (c.students ≤ MAX_SEATS)
@@ -10,5 +10,5 @@ IsCourse c = (c.min_days ≤ MAX_MIN_DAYS) × (c.students ≤ MAX_SEATS)
 abbrev pub IsCurriculum : ℕ → Curriculum → Type 0
 IsCurriculum courses q = (length q.members ≤ MAX_MEMBERS) × All (λ c. c < courses) q.members
 
-abbrev pub IsBar : ℕ → ℕ → ℕ → Bar → Type 0
-IsBar courses days periods b = (b.course < courses) × (b.day < days) × (b.period < periods)
+abbrev pub IsUnavailability : ℕ → ℕ → ℕ → Unavailability → Type 0
+IsUnavailability courses days periods b = (b.course < courses) × (b.day < days) × (b.period < periods)

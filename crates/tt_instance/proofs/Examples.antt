@@ -3,7 +3,7 @@ use Rattle.std.proofs.Common.{◌≡◌, ℕ, List, [], ◌∷◌, Err, codes, r
 use Rattle.tt_text.specs.Tokens.{tokens_from}
 use Rattle.tt_text.specs.Numbers.{number_of}
 use Rattle.tt_text.specs.Reading.{token_or}
-use Rattle.tt_instance.specs.Problem.{Course, Room, Curriculum, Bar, Problem}
+use Rattle.tt_instance.specs.Problem.{Course, Room, Curriculum, Unavailability, Problem}
 use Rattle.tt_instance.specs.Beginnings.{texts_of, tokens_up_to, BeginsAs}
 use Rattle.tt_instance.specs.Reading.{word_at, limited_at, name_at, header_at, instance_of}
 use Rattle.tt_instance.specs.declared.cell.Cell.{Cell}
@@ -19,8 +19,8 @@ course id teacher l w s = record { id = id; teacher = teacher; lectures = l; min
 abbrev pub room : List ℕ → ℕ → Room
 room id seats = record { id = id; capacity = seats }
 
-abbrev pub bar : ℕ → ℕ → ℕ → Bar
-bar c d s = record { course = c; day = d; period = s }
+abbrev pub unavailability : ℕ → ℕ → ℕ → Unavailability
+unavailability c d s = record { course = c; day = d; period = s }
 
 -- a week without unavailabilities
 abbrev pub week : ℕ → ℕ → List Course → List Room → List Curriculum → Problem
@@ -31,7 +31,7 @@ week days periods courses rooms curricula = record {
   courses = courses;
   rooms = rooms;
   curricula = curricula;
-  bars = [];
+  unavailabilities = [];
 }
 
 -- course a of teacher t1 and course b of teacher t2, each with one lecture
@@ -46,7 +46,7 @@ mini = week 1 3 two_courses (room (codes "R") 11 ∷ []) both
 
 -- the second period is unavailable to both courses
 abbrev pub gap : Problem
-gap = record mini { bars = bar 0 0 1 ∷ bar 1 0 1 ∷ [] }
+gap = record mini { unavailabilities = unavailability 0 0 1 ∷ unavailability 1 0 1 ∷ [] }
 
 abbrev pub long : Problem
 long = week 2 1 two_courses (room (codes "R") 11 ∷ []) both

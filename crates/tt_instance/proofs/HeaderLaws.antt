@@ -161,13 +161,13 @@ pub record IsHeader (c : Counts) : Type 0 where
   pub days : c.days ≤ 64
   pub periods : IsPeriods (c.courses * c.rooms) c.days c.periods
   pub curricula : c.curricula ≤ 8192
-  pub bars : c.bars ≤ 65536
+  pub unavailabilities : c.unavailabilities ≤ 65536
 
 -- the header after the word that ends the name
 abbrev pub count_pieces : Counts → List Piece
 count_pieces c =
     Number c.courses ∷ fixed word.Rooms ∷ Number c.rooms ∷ fixed word.Days ∷ Number c.days ∷ fixed word.PeriodsPerDay ∷ Number c.periods
-    ∷ fixed word.Curricula ∷ Number c.curricula ∷ fixed word.Constraints ∷ Number c.bars ∷ []
+    ∷ fixed word.Curricula ∷ Number c.curricula ∷ fixed word.Constraints ∷ Number c.unavailabilities ∷ []
 
 -- a header that was read is spelled and within the limits
 pub header_takes : (end : ℕ) (ts : List Placed) (x : Counts × List Placed) → header_at end ts ≡ Ok x → Takes ts (count_pieces x.0) x.1 × IsHeader x.0
@@ -178,24 +178,24 @@ header_takes end ts x e =
     let days = bind_ok (days_at end rooms.0.1) _ x rooms.2 in
     let periods = bind_ok (periods_at end (courses.0.0 * rooms.0.0) days.0.0 days.0.1) _ x days.2 in
     let curricula = bind_ok (counted_at end word.Curricula 8192 periods.0.1) _ x periods.2 in
-    let bars = bind_ok (counted_at end word.Constraints 65536 curricula.0.1) _ x curricula.2 in
+    let unavailabilities = bind_ok (counted_at end word.Constraints 65536 curricula.0.1) _ x curricula.2 in
     let c = limited_takes end 2048 ts courses.0 courses.1 in
     let r = counted_takes end word.Rooms 512 courses.0.1 rooms.0 rooms.1 in
     let d = days_takes end rooms.0.1 days.0 days.1 in
     let p = periods_takes end (courses.0.0 * rooms.0.0) days.0.0 days.0.1 periods.0 periods.1 in
     let q = counted_takes end word.Curricula 8192 periods.0.1 curricula.0 curricula.1 in
-    let b = counted_takes end word.Constraints 65536 curricula.0.1 bars.0 bars.1 in
-    let h : Counts = record { courses = courses.0.0; rooms = rooms.0.0; days = days.0.0; periods = periods.0.0; curricula = curricula.0.0; bars = bars.0.0 } in
-    let takes : Takes ts (count_pieces h) bars.0.1 =
+    let b = counted_takes end word.Constraints 65536 curricula.0.1 unavailabilities.0 unavailabilities.1 in
+    let h : Counts = record { courses = courses.0.0; rooms = rooms.0.0; days = days.0.0; periods = periods.0.0; curricula = curricula.0.0; unavailabilities = unavailabilities.0.0 } in
+    let takes : Takes ts (count_pieces h) unavailabilities.0.1 =
     takes_then _ _ _ _ _ c.0 (takes_then _ _ _ _ _ r.0 (takes_then _ _ _ _ _ d.0 (takes_then _ _ _ _ _ p.0 (takes_then _ _ _ _ _ q.0 b.0)))) in
-    subst (λ (y : Counts × List Placed). Takes ts (count_pieces y.0) y.1 × IsHeader y.0) (ok_is (h, bars.0.1) x bars.2)
-    (takes, record { courses = c.1; rooms = r.1; some_day = d.1; days = d.2; periods = p.1; curricula = q.1; bars = b.1 })
+    subst (λ (y : Counts × List Placed). Takes ts (count_pieces y.0) y.1 × IsHeader y.0) (ok_is (h, unavailabilities.0.1) x unavailabilities.2)
+    (takes, record { courses = c.1; rooms = r.1; some_day = d.1; days = d.2; periods = p.1; curricula = q.1; unavailabilities = b.1 })
 
 -- a header within the limits that is spelled is read
 pub header_reads : (end : ℕ) (ts : List Placed) (c : Counts) (qs : List Piece) (rest : List Placed) → IsHeader c → Begins (count_pieces c ++ qs) ts rest → ReadsOn (header_at end ts) c qs rest
 unfolding header_at
 header_reads end ts c qs rest ok h =
-    let s4 : List Piece = fixed word.Constraints ∷ Number c.bars ∷ qs in
+    let s4 : List Piece = fixed word.Constraints ∷ Number c.unavailabilities ∷ qs in
     let s3 : List Piece = fixed word.Curricula ∷ Number c.curricula ∷ s4 in
     let s2 : List Piece = fixed word.PeriodsPerDay ∷ Number c.periods ∷ s3 in
     let s1 : List Piece = fixed word.Days ∷ Number c.days ∷ s2 in
@@ -205,5 +205,5 @@ header_reads end ts c qs rest ok h =
     let days = days_reads end rooms.mid c.days s2 rest ok.some_day ok.days rooms.left in
     let periods = periods_reads end (c.courses * c.rooms) c.days days.mid c.periods s3 rest ok.periods days.left in
     let curricula = counted_reads end word.Curricula 8192 periods.mid c.curricula s4 rest ok.curricula periods.left in
-    let bars = counted_reads end word.Constraints 65536 curricula.mid c.bars qs rest ok.bars curricula.left in
-    record { mid = bars.mid; is = rw (courses.is, rooms.is, days.is, periods.is, curricula.is, bars.is) refl; left = bars.left }
+    let unavailabilities = counted_reads end word.Constraints 65536 curricula.mid c.unavailabilities qs rest ok.unavailabilities curricula.left in
+    record { mid = unavailabilities.mid; is = rw (courses.is, rooms.is, days.is, periods.is, curricula.is, unavailabilities.is) refl; left = unavailabilities.left }

@@ -6,10 +6,10 @@ use Rattle.std.proofs.lemmas.List.Elements.{All-map, All-weaker}
 use Rattle.std.proofs.lemmas.List.Folds.{map_fixed}
 use Rattle.tt_lists.specs.Words.{each_two, distinct}
 use Rattle.tt_lists.proofs.Distinct.{All-distinct, length-distinct, each_two-distinct, distinct_stays}
-use Rattle.tt_instance.specs.Problem.{Curriculum, Bar, Problem}
-use Rattle.tt_instance.specs.Limits.{same_bar, IsWithinLimits}
+use Rattle.tt_instance.specs.Problem.{Curriculum, Unavailability, Problem}
+use Rattle.tt_instance.specs.Limits.{same_unavailability, IsWithinLimits}
 use Rattle.tt_instance.specs.Spelling.{members_kept, without_repeats}
-use Rattle.tt_instance.proofs.Each.{IsCurriculum, IsBar}
+use Rattle.tt_instance.proofs.Each.{IsCurriculum, IsUnavailability}
 use Rattle.tt_instance.proofs.CurriculumLaws.{all_kept}
 
 -- a curriculum without repeated members is within the limits, too
@@ -38,7 +38,7 @@ kept_within w within = let Is : Curriculum → Type 0 = IsCurriculum (length w.c
   slots = within.slots;
   cells = within.cells;
   curricula = omega (arith, length-map w.curricula members_kept, within.curricula);
-  bars = omega (arith, length-distinct same_bar w.bars, within.bars);
+  unavailabilities = omega (arith, length-distinct same_unavailability w.unavailabilities, within.unavailabilities);
   course_names = within.course_names;
   room_names = within.room_names;
   curriculum_names = names_apart w.curricula within.curriculum_names;
@@ -46,7 +46,7 @@ kept_within w within = let Is : Curriculum → Type 0 = IsCurriculum (length w.c
   each_course = within.each_course;
   each_room = within.each_room;
   each_curriculum = All-map Is members_kept w.curricula (All-weaker Is (λ q. Is (members_kept q)) (curriculum_within (length w.courses)) w.curricula within.each_curriculum);
-  each_bar = All-distinct same_bar (IsBar (length w.courses) w.days w.periods) w.bars within.each_bar;
+  each_unavailability = All-distinct same_unavailability (IsUnavailability (length w.courses) w.days w.periods) w.unavailabilities within.each_unavailability;
 }
 
 -- each member of a curriculum occurs once
@@ -62,10 +62,10 @@ curriculum_stays : (q : Curriculum) → HasOnce q → members_kept q ≡ q
 curriculum_stays q once = ap (λ (ms : List ℕ). let r : Curriculum = record { id = q.id; members = ms } in r) (distinct_stays (λ a b. a == b) q.members once)
 
 -- an instance with the same curricula and unavailabilities
-kept_is : (p : Problem) (qs : List Curriculum) (bs : List Bar) → qs ≡ p.curricula → bs ≡ p.bars → p ≡ record p { curricula = qs; bars = bs }
+kept_is : (p : Problem) (qs : List Curriculum) (bs : List Unavailability) → qs ≡ p.curricula → bs ≡ p.unavailabilities → p ≡ record p { curricula = qs; unavailabilities = bs }
 kept_is p qs bs qs_is bs_is = rw (qs_is, bs_is) refl
 
 -- an instance that has each member and each unavailability once stays as it is
-pub kept_stays : (p : Problem) → All HasOnce p.curricula → each_two (λ a b. not (same_bar a b)) p.bars ≡ true → p ≡ without_repeats p
-kept_stays p members bars =
-    kept_is p (all_kept p.curricula) (distinct same_bar p.bars) (map_fixed members_kept p.curricula (All-weaker HasOnce (λ q. members_kept q ≡ q) curriculum_stays p.curricula members)) (distinct_stays same_bar p.bars bars)
+pub kept_stays : (p : Problem) → All HasOnce p.curricula → each_two (λ a b. not (same_unavailability a b)) p.unavailabilities ≡ true → p ≡ without_repeats p
+kept_stays p members unavailabilities =
+    kept_is p (all_kept p.curricula) (distinct same_unavailability p.unavailabilities) (map_fixed members_kept p.curricula (All-weaker HasOnce (λ q. members_kept q ≡ q) curriculum_stays p.curricula members)) (distinct_stays same_unavailability p.unavailabilities unavailabilities)

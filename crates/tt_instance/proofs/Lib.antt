@@ -1,5 +1,5 @@
 pub mod AfterLaws
-pub mod BarLaws
+pub mod UnavailabilityLaws
 pub mod BeginningLaws
 pub mod Beginnings
 pub mod Cells

@@ -1,6 +1,6 @@
 -- The lists of an instance are read element by element.
 use Rattle.std.proofs.Common.{ℕ, List, refl}
-use Rattle.tt_instance.specs.Reading.{course_at, courses_at, room_at, rooms_at, member_at, members_at, curriculum_at, curricula_at, bar_at, bars_at}
+use Rattle.tt_instance.specs.Reading.{course_at, courses_at, room_at, rooms_at, member_at, members_at, curriculum_at, curricula_at, unavailability_at, unavailabilities_at}
 use Rattle.tt_instance.proofs.SeriesLaws.{IsSeries}
 
 -- courses
@@ -24,6 +24,6 @@ unfolding curricula_at
 curricula_repeat end ids = record { none = λ x ts. refl; more = λ n x ts. refl }
 
 -- unavailabilities
-pub bars_repeat : (end : ℕ) (ids : List (List ℕ)) (days periods : ℕ) → IsSeries (bar_at end ids days periods) (bars_at end ids days periods)
-unfolding bars_at
-bars_repeat end ids days periods = record { none = λ x ts. refl; more = λ n x ts. refl }
+pub unavailabilities_repeat : (end : ℕ) (ids : List (List ℕ)) (days periods : ℕ) → IsSeries (unavailability_at end ids days periods) (unavailabilities_at end ids days periods)
+unfolding unavailabilities_at
+unavailabilities_repeat end ids days periods = record { none = λ x ts. refl; more = λ n x ts. refl }

@@ -4,7 +4,7 @@ use Rattle.tt_text.specs.Tokens.{Placed}
 use Rattle.tt_text.specs.Reading.{◌>>=◌}
 use Rattle.tt_text.proofs.Steps.{fails_then, fails_as}
 use Rattle.tt_instance.specs.declared.fault.InstanceFault.{InstanceFault}
-use Rattle.tt_instance.specs.Reading.{is_silent, Fails}
+use Rattle.tt_instance.specs.Reading.{is_environmental, Fails}
 use Rattle.tt_instance.proofs.SeriesLaws.{IsSeries}
 
 abbrev pub Read : Type 0 → Type 0
@@ -28,7 +28,7 @@ module _ {A : Type 0} (one : A → List Placed → Read A) (all : ℕ → A → 
   -- a fault of one element is the fault of all
   pub reads_fail : (e : InstanceFault) (count i : ℕ) (x : A) (ts : List Placed) (total : Read A) → i < count → Fails e (one x ts) → all (count - i) x ts ≡ total → Fails e total
   reads_fail e count i x ts total lt fails so_far =
-      fails_as is_silent e _ _ (sym (next count i x ts lt) ∙ so_far) (fails_then is_silent e (one x ts) (λ y. all (count - (i + 1)) y.0 y.1) fails)
+      fails_as is_environmental e _ _ (sym (next count i x ts lt) ∙ so_far) (fails_then is_environmental e (one x ts) (λ y. all (count - (i + 1)) y.0 y.1) fails)
 
   -- all elements were read
   pub reads_end : (count i : ℕ) (x : A) (ts : List Placed) (total : Read A) → count ≤ i → all (count - i) x ts ≡ total → total ≡ Ok (x, ts)

@@ -12,16 +12,16 @@ use Rattle.tt_instance.specs.declared.fault.Word.{Word}
 use Rattle.tt_instance.specs.declared.fault.Word.TheVariants as word
 use Rattle.tt_instance.specs.declared.rows.CourseRow.{CourseRow}
 use Rattle.tt_instance.specs.declared.rows.CurriculumRow.{CurriculumRow}
-use Rattle.tt_instance.specs.declared.rows.BarRow.{BarRow}
+use Rattle.tt_instance.specs.declared.rows.UnavailabilityRow.{UnavailabilityRow}
 use Rattle.tt_instance.specs.declared.parts.Parts.{Parts}
 use Rattle.tt_instance.specs.Words.{fixed}
-use Rattle.tt_instance.specs.Problem.{Course, Room, Curriculum, Bar, Problem}
+use Rattle.tt_instance.specs.Problem.{Course, Room, Curriculum, Unavailability, Problem}
 use Rattle.tt_instance.specs.Courses.{no_course}
 use Rattle.tt_instance.specs.Limits.{IsInstance}
-use Rattle.tt_instance.specs.Spelling.{named, course_pieces, room_pieces, curriculum_pieces, bar_pieces}
+use Rattle.tt_instance.specs.Spelling.{named, course_pieces, room_pieces, curriculum_pieces, unavailability_pieces}
 use Rattle.tt_instance.specs.Writing.{counted_line, section, header_lines, instance_text}
-use Rattle.tt_instance.specs.Seen.{course_seen, courses_seen, curriculum_seen, curricula_seen, bar_seen, bars_seen, problem_seen}
-use Rattle.tt_instance.proofs.Each.{IsCurriculum, IsBar}
+use Rattle.tt_instance.specs.Seen.{course_seen, courses_seen, curriculum_seen, curricula_seen, unavailability_seen, unavailabilities_seen, problem_seen}
+use Rattle.tt_instance.proofs.Each.{IsCurriculum, IsUnavailability}
 
 module _ {X Y : Type 0} (v : X → Y) where
   -- a line for each row
@@ -75,17 +75,17 @@ seven_lines : (o : List ℕ) (l1 l2 l3 l4 l5 l6 l7 : List Piece)
 seven_lines o l1 l2 l3 l4 l5 l6 l7 = simp (append_assoc, append-nil)
 
 -- the lines before the first section
-pub header_done : (p : Problem) (courses rooms curricula bars : ℕ) (o o1 o2 o3 o4 o5 o6 : List ℕ) → courses ≡ length p.courses → rooms ≡ length p.rooms → curricula ≡ length p.curricula → bars ≡ length p.bars
+pub header_done : (p : Problem) (courses rooms curricula unavailabilities : ℕ) (o o1 o2 o3 o4 o5 o6 : List ℕ) → courses ≡ length p.courses → rooms ≡ length p.rooms → curricula ≡ length p.curricula → unavailabilities ≡ length p.unavailabilities
     → o1 ≡ o ++ line_text (fixed word.Name ∷ map Text p.name) → o2 ≡ o1 ++ line_text (counted_line word.Courses courses) → o3 ≡ o2 ++ line_text (counted_line word.Rooms rooms)
     → o4 ≡ o3 ++ line_text (counted_line word.Days p.days) → o5 ≡ o4 ++ line_text (counted_line word.PeriodsPerDay p.periods) → o6 ≡ o5 ++ line_text (counted_line word.Curricula curricula)
-    → o6 ++ line_text (counted_line word.Constraints bars) ≡ o ++ lines_text (header_lines p)
-header_done p courses rooms curricula bars o o1 o2 o3 o4 o5 o6 courses_is rooms_is curricula_is bars_is e1 e2 e3 e4 e5 e6 =
+    → o6 ++ line_text (counted_line word.Constraints unavailabilities) ≡ o ++ lines_text (header_lines p)
+header_done p courses rooms curricula unavailabilities o o1 o2 o3 o4 o5 o6 courses_is rooms_is curricula_is unavailabilities_is e1 e2 e3 e4 e5 e6 =
     let up : o6 ≡ (((((o ++ line_text (fixed word.Name ∷ map Text p.name)) ++ line_text (counted_line word.Courses courses)) ++ line_text (counted_line word.Rooms rooms)) ++ line_text (counted_line word.Days p.days))
     ++ line_text (counted_line word.PeriodsPerDay p.periods)) ++ line_text (counted_line word.Curricula curricula) = rw (e6, e5, e4, e3, e2, e1) refl in
-    ap (λ (t : List ℕ). t ++ line_text (counted_line word.Constraints bars)) up
+    ap (λ (t : List ℕ). t ++ line_text (counted_line word.Constraints unavailabilities)) up
     ∙ seven_lines o (fixed word.Name ∷ map Text p.name) (counted_line word.Courses courses) (counted_line word.Rooms rooms) (counted_line word.Days p.days)
-    (counted_line word.PeriodsPerDay p.periods) (counted_line word.Curricula curricula) (counted_line word.Constraints bars)
-    ∙ rw (courses_is, rooms_is, curricula_is, bars_is) refl
+    (counted_line word.PeriodsPerDay p.periods) (counted_line word.Curricula curricula) (counted_line word.Constraints unavailabilities)
+    ∙ rw (courses_is, rooms_is, curricula_is, unavailabilities_is) refl
 
 -- six groups of lines in turn
 six_texts : (a b c d e f : List (List Piece)) (o1 o2 o3 o4 o5 o6 : List ℕ) → o1 ≡ [] ++ lines_text a → o2 ≡ o1 ++ lines_text b → o3 ≡ o2 ++ lines_text c → o4 ≡ o3 ++ lines_text d
@@ -93,19 +93,19 @@ six_texts : (a b c d e f : List (List Piece)) (o1 o2 o3 o4 o5 o6 : List ℕ) →
 six_texts a b c d e f o1 o2 o3 o4 o5 o6 e1 e2 e3 e4 e5 e6 = rw (e6, e5, e4, e3, e2, e1) (sym (simp lines_text-append))
 
 -- all sections in turn
-pub sections_done : (p : Problem) (courses : List Course) (rooms : List Room) (curricula : List Curriculum) (bars : List Bar) (cs1 cs2 : List Course) (o o1 o2 o3 o4 o5 o6 : List ℕ)
-    → courses ≡ p.courses → rooms ≡ p.rooms → cs1 ≡ p.courses → curricula ≡ p.curricula → cs2 ≡ p.courses → bars ≡ p.bars
+pub sections_done : (p : Problem) (courses : List Course) (rooms : List Room) (curricula : List Curriculum) (unavailabilities : List Unavailability) (cs1 cs2 : List Course) (o o1 o2 o3 o4 o5 o6 : List ℕ)
+    → courses ≡ p.courses → rooms ≡ p.rooms → cs1 ≡ p.courses → curricula ≡ p.curricula → cs2 ≡ p.courses → unavailabilities ≡ p.unavailabilities
     → o ≡ [] → o1 ≡ o ++ lines_text (header_lines p) → o2 ≡ o1 ++ lines_text (section word.CoursesPart ++ map course_pieces courses) → o3 ≡ o2 ++ lines_text (section word.RoomsPart ++ map room_pieces rooms)
-    → o4 ≡ o3 ++ lines_text (section word.CurriculaPart ++ map (curriculum_pieces cs1) curricula) → o5 ≡ o4 ++ lines_text (section word.UnavailabilityPart ++ map (bar_pieces cs2) bars)
+    → o4 ≡ o3 ++ lines_text (section word.CurriculaPart ++ map (curriculum_pieces cs1) curricula) → o5 ≡ o4 ++ lines_text (section word.UnavailabilityPart ++ map (unavailability_pieces cs2) unavailabilities)
     → o6 ≡ o5 ++ lines_text (section word.End) → o6 ≡ instance_text p
-sections_done p courses rooms curricula bars cs1 cs2 o o1 o2 o3 o4 o5 o6 courses_are rooms_are cs1_are curricula_are cs2_are bars_are none e1 e2 e3 e4 e5 e6 =
+sections_done p courses rooms curricula unavailabilities cs1 cs2 o o1 o2 o3 o4 o5 o6 courses_are rooms_are cs1_are curricula_are cs2_are unavailabilities_are none e1 e2 e3 e4 e5 e6 =
     six_texts (header_lines p) (section word.CoursesPart ++ map course_pieces p.courses) (section word.RoomsPart ++ map room_pieces p.rooms)
-    (section word.CurriculaPart ++ map (curriculum_pieces p.courses) p.curricula) (section word.UnavailabilityPart ++ map (bar_pieces p.courses) p.bars) (section word.End) o1 o2 o3 o4 o5 o6
+    (section word.CurriculaPart ++ map (curriculum_pieces p.courses) p.curricula) (section word.UnavailabilityPart ++ map (unavailability_pieces p.courses) p.unavailabilities) (section word.End) o1 o2 o3 o4 o5 o6
     (e1 ∙ rw none refl)
     (e2 ∙ ap (λ (xs : List Course). o1 ++ lines_text (section word.CoursesPart ++ map course_pieces xs)) courses_are)
     (e3 ∙ ap (λ (xs : List Room). o2 ++ lines_text (section word.RoomsPart ++ map room_pieces xs)) rooms_are)
     (e4 ∙ ap (λ (cs : List Course). o3 ++ lines_text (section word.CurriculaPart ++ map (curriculum_pieces cs) curricula)) cs1_are ∙ ap (λ (xs : List Curriculum). o3 ++ lines_text (section word.CurriculaPart ++ map (curriculum_pieces p.courses) xs)) curricula_are)
-    (e5 ∙ ap (λ (cs : List Course). o4 ++ lines_text (section word.UnavailabilityPart ++ map (bar_pieces cs) bars)) cs2_are ∙ ap (λ (xs : List Bar). o4 ++ lines_text (section word.UnavailabilityPart ++ map (bar_pieces p.courses) xs)) bars_are)
+    (e5 ∙ ap (λ (cs : List Course). o4 ++ lines_text (section word.UnavailabilityPart ++ map (unavailability_pieces cs) unavailabilities)) cs2_are ∙ ap (λ (xs : List Unavailability). o4 ++ lines_text (section word.UnavailabilityPart ++ map (unavailability_pieces p.courses) xs)) unavailabilities_are)
     e6
 
 module _ (p : Parts) (courses : List CourseRow) (courses_are : courses ≡ p.courses.rows.items) (instance : IsInstance (problem_seen p)) where
@@ -124,9 +124,9 @@ module _ (p : Parts) (courses : List CourseRow) (courses_are : courses ≡ p.cou
       subst (λ (qs : List CurriculumRow). All (λ q. All (λ c. c < length courses) q.members.courses.items) qs) (sym rows_are) (all_seen curriculum_seen Q p.curricula.rows.items all)
 
   -- the course of each unavailability has a row
-  pub bars_within : (rows : List BarRow) → rows ≡ p.bars.rows.items → All (λ b. b.course < length courses) rows
-  bars_within rows rows_are =
-      let Q : Bar → Type 0 = λ b. b.course < length courses in
-      let Is : Bar → Type 0 = IsBar (length (courses_seen p.courses.rows.items)) p.days p.periods in
-      let all : All Q (bars_seen p.bars.rows.items) = All-weaker Is Q (λ b is. omega (arith, is.0, count_is)) (bars_seen p.bars.rows.items) instance.within.each_bar in
-      subst (λ (bs : List BarRow). All (λ b. b.course < length courses) bs) (sym rows_are) (all_seen bar_seen Q p.bars.rows.items all)
+  pub unavailabilities_within : (rows : List UnavailabilityRow) → rows ≡ p.unavailabilities.rows.items → All (λ b. b.course < length courses) rows
+  unavailabilities_within rows rows_are =
+      let Q : Unavailability → Type 0 = λ b. b.course < length courses in
+      let Is : Unavailability → Type 0 = IsUnavailability (length (courses_seen p.courses.rows.items)) p.days p.periods in
+      let all : All Q (unavailabilities_seen p.unavailabilities.rows.items) = All-weaker Is Q (λ b is. omega (arith, is.0, count_is)) (unavailabilities_seen p.unavailabilities.rows.items) instance.within.each_unavailability in
+      subst (λ (bs : List UnavailabilityRow). All (λ b. b.course < length courses) bs) (sym rows_are) (all_seen unavailability_seen Q p.unavailabilities.rows.items all)

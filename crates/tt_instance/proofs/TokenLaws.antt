@@ -11,9 +11,9 @@ use Rattle.tt_text.proofs.EachToken.{IsTokenPiece, each_token, each_piece_token}
 use Rattle.tt_instance.specs.declared.fault.Word.TheVariants as word
 use Rattle.tt_instance.specs.Words.{fixed}
 use Rattle.tt_instance.specs.Problem.{Problem}
-use Rattle.tt_instance.specs.Limits.{same_bar, IsInstance}
+use Rattle.tt_instance.specs.Limits.{same_unavailability, IsInstance}
 use Rattle.tt_instance.specs.Reading.{instance_of}
-use Rattle.tt_instance.specs.Spelling.{header_pieces, course_pieces, room_pieces, curriculum_pieces, bar_pieces, pieces, members_kept, Spells}
+use Rattle.tt_instance.specs.Spelling.{header_pieces, course_pieces, room_pieces, curriculum_pieces, unavailability_pieces, pieces, members_kept, Spells}
 use Rattle.tt_instance.proofs.KeptLaws.{kept_within, members_once}
 use Rattle.tt_instance.proofs.WholeLaws.{is_spelled}
 
@@ -30,11 +30,11 @@ each_item item_pieces P weaker xs h =
     All-weaker (λ x. AllByRecursion IsTokenPiece (item_pieces x)) P weaker xs (All-from_recursion (λ x. AllByRecursion IsTokenPiece (item_pieces x)) xs (each_of_flat_map IsTokenPiece item_pieces xs h))
 
 -- the parts of a file, each of them a list of pieces
-each_part : (name header courses rooms curricula bars last : List Piece) → AllByRecursion IsTokenPiece (name ++ header ++ courses ++ rooms ++ curricula ++ bars ++ last)
+each_part : (name header courses rooms curricula unavailabilities last : List Piece) → AllByRecursion IsTokenPiece (name ++ header ++ courses ++ rooms ++ curricula ++ unavailabilities ++ last)
     → AllByRecursion IsTokenPiece name × AllByRecursion IsTokenPiece courses × AllByRecursion IsTokenPiece rooms × AllByRecursion IsTokenPiece curricula
-each_part name header courses rooms curricula bars last h =
-    let to_bars = (each_of_append IsTokenPiece (name ++ header ++ courses ++ rooms ++ curricula ++ bars) last h).0 in
-    let to_curricula = each_of_append IsTokenPiece (name ++ header ++ courses ++ rooms ++ curricula) bars to_bars in
+each_part name header courses rooms curricula unavailabilities last h =
+    let to_unavailabilities = (each_of_append IsTokenPiece (name ++ header ++ courses ++ rooms ++ curricula ++ unavailabilities) last h).0 in
+    let to_curricula = each_of_append IsTokenPiece (name ++ header ++ courses ++ rooms ++ curricula) unavailabilities to_unavailabilities in
     let to_rooms = each_of_append IsTokenPiece (name ++ header ++ courses ++ rooms) curricula to_curricula.0 in
     let to_courses = each_of_append IsTokenPiece (name ++ header ++ courses) rooms to_rooms.0 in
     let to_header = each_of_append IsTokenPiece (name ++ header) courses to_courses.0 in
@@ -45,7 +45,7 @@ has_tokens : (w : Problem) → AllByRecursion IsTokenPiece (pieces w) → HasTok
 has_tokens w h =
     let parts =
     each_part (fixed word.Name ∷ map Text w.name) (header_pieces w) (fixed word.CoursesPart ∷ flat_map course_pieces w.courses) (fixed word.RoomsPart ∷ flat_map room_pieces w.rooms)
-    (fixed word.CurriculaPart ∷ flat_map (curriculum_pieces w.courses) w.curricula) (fixed word.UnavailabilityPart ∷ flat_map (bar_pieces w.courses) w.bars) (fixed word.End ∷ []) h in
+    (fixed word.CurriculaPart ∷ flat_map (curriculum_pieces w.courses) w.curricula) (fixed word.UnavailabilityPart ∷ flat_map (unavailability_pieces w.courses) w.unavailabilities) (fixed word.End ∷ []) h in
     record {
       name = All-from_recursion IsToken w.name (each_of_map IsTokenPiece Text w.name parts.0.1);
       courses = each_item course_pieces (λ c. IsToken c.id × IsToken c.teacher) (λ c p. (p.0, p.1.0)) w.courses parts.1.1;
@@ -61,7 +61,7 @@ spelled_instance bytes p spelled =
     subst IsInstance (sym spelled.is_kept) (record {
       within = kept_within w spelled.within;
       members_once = members_once w.curricula;
-      bars_once = each_two-distinct same_bar w.bars;
+      unavailabilities_once = each_two-distinct same_unavailability w.unavailabilities;
       name_tokens = tokens.name;
       course_tokens = tokens.courses;
       room_tokens = tokens.rooms;

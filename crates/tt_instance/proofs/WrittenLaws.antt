@@ -10,12 +10,12 @@ use Rattle.tt_text.proofs.Parts.{all_pieces-append, all_pieces-map, AreWritable-
 use Rattle.tt_instance.specs.declared.fault.Word.{Word}
 use Rattle.tt_instance.specs.declared.fault.Word.TheVariants as word
 use Rattle.tt_instance.specs.Words.{word_text, fixed}
-use Rattle.tt_instance.specs.Problem.{Course, Bar, Problem}
+use Rattle.tt_instance.specs.Problem.{Course, Unavailability, Problem}
 use Rattle.tt_instance.specs.Courses.{no_course}
 use Rattle.tt_instance.specs.Limits.{IsInstance}
-use Rattle.tt_instance.specs.Spelling.{course_pieces, room_pieces, curriculum_pieces, bar_pieces, pieces, named, Spells}
+use Rattle.tt_instance.specs.Spelling.{course_pieces, room_pieces, curriculum_pieces, unavailability_pieces, pieces, named, Spells}
 use Rattle.tt_instance.specs.Writing.{section, header_lines, instance_lines, instance_text}
-use Rattle.tt_instance.proofs.Each.{IsCurriculum, IsBar}
+use Rattle.tt_instance.proofs.Each.{IsCurriculum, IsUnavailability}
 use Rattle.tt_instance.proofs.CourseLimits.{each_few}
 use Rattle.tt_instance.proofs.KeptLaws.{kept_stays}
 
@@ -57,23 +57,23 @@ section_is : {X : Type 0} (w : Word) (line : X → List Piece) (xs : List X) →
 section_is w line xs = ap (λ (ps : List Piece). fixed w ∷ ps) (all_pieces-map line xs)
 
 -- the pieces of a file in its parts
-all_parts : (header courses rooms curricula bars last : List (List Piece)) → all_pieces (header ++ courses ++ rooms ++ curricula ++ bars ++ last)
-    ≡ all_pieces header ++ all_pieces courses ++ all_pieces rooms ++ all_pieces curricula ++ all_pieces bars ++ all_pieces last
-all_parts header courses rooms curricula bars last = simp all_pieces-append
+all_parts : (header courses rooms curricula unavailabilities last : List (List Piece)) → all_pieces (header ++ courses ++ rooms ++ curricula ++ unavailabilities ++ last)
+    ≡ all_pieces header ++ all_pieces courses ++ all_pieces rooms ++ all_pieces curricula ++ all_pieces unavailabilities ++ all_pieces last
+all_parts header courses rooms curricula unavailabilities last = simp all_pieces-append
 
 -- files whose parts are equal are equal
 same_parts : (header a1 a2 b1 b2 c1 c2 d1 d2 last : List Piece) → a1 ≡ a2 → b1 ≡ b2 → c1 ≡ c2 → d1 ≡ d2 → header ++ a1 ++ b1 ++ c1 ++ d1 ++ last ≡ header ++ a2 ++ b2 ++ c2 ++ d2 ++ last
 same_parts header a1 a2 b1 b2 c1 c2 d1 d2 last a b c d = rw (a, b, c, d) refl
 
 -- parts that can be written
-parts_writable : (header courses rooms curricula bars last : List (List Piece)) → LinesWritable header → LinesWritable courses → LinesWritable rooms → LinesWritable curricula → LinesWritable bars → LinesWritable last
-    → LinesWritable (header ++ courses ++ rooms ++ curricula ++ bars ++ last)
-parts_writable header courses rooms curricula bars last h c r q b e =
+parts_writable : (header courses rooms curricula unavailabilities last : List (List Piece)) → LinesWritable header → LinesWritable courses → LinesWritable rooms → LinesWritable curricula → LinesWritable unavailabilities → LinesWritable last
+    → LinesWritable (header ++ courses ++ rooms ++ curricula ++ unavailabilities ++ last)
+parts_writable header courses rooms curricula unavailabilities last h c r q b e =
     let to_courses = LinesWritable-append header courses h c in
     let to_rooms = LinesWritable-append (header ++ courses) rooms to_courses r in
     let to_curricula = LinesWritable-append (header ++ courses ++ rooms) curricula to_rooms q in
-    let to_bars = LinesWritable-append (header ++ courses ++ rooms ++ curricula) bars to_curricula b in
-    LinesWritable-append (header ++ courses ++ rooms ++ curricula ++ bars) last to_bars e
+    let to_unavailabilities = LinesWritable-append (header ++ courses ++ rooms ++ curricula) unavailabilities to_curricula b in
+    LinesWritable-append (header ++ courses ++ rooms ++ curricula ++ unavailabilities) last to_unavailabilities e
 
 -- -- an instance can be written
 
@@ -87,8 +87,8 @@ module _ (p : Problem) (ok : IsInstance p) where
       let days = counted word.Days p.days (omega (arith, ok.within.days)) in
       let periods = counted word.PeriodsPerDay p.periods (omega (arith, ok.within.periods)) in
       let curricula = counted word.Curricula (length p.curricula) (omega (arith, ok.within.curricula)) in
-      let bars = counted word.Constraints (length p.bars) (omega (arith, ok.within.bars)) in
-      (name, (courses, (rooms, (days, (periods, (curricula, (bars, tt)))))))
+      let unavailabilities = counted word.Constraints (length p.unavailabilities) (omega (arith, ok.within.unavailabilities)) in
+      (name, (courses, (rooms, (days, (periods, (curricula, (unavailabilities, tt)))))))
 
   -- the courses can be written
   courses_writable : LinesWritable (map course_pieces p.courses)
@@ -117,11 +117,11 @@ module _ (p : Problem) (ok : IsInstance p) where
       (ok.curriculum_tokens k d h, (small (length ms) (omega (arith, is.0)), names)))
 
   -- the unavailabilities can be written
-  bars_writable : LinesWritable (map (bar_pieces p.courses) p.bars)
-  bars_writable =
-      LinesWritable-map (bar_pieces p.courses) p.bars (λ k d h.
-      let b : Bar = get_or p.bars k d in
-      let is : IsBar (length p.courses) p.days p.periods b = ok.within.each_bar k d h in
+  unavailabilities_writable : LinesWritable (map (unavailability_pieces p.courses) p.unavailabilities)
+  unavailabilities_writable =
+      LinesWritable-map (unavailability_pieces p.courses) p.unavailabilities (λ k d h.
+      let b : Unavailability = get_or p.unavailabilities k d in
+      let is : IsUnavailability (length p.courses) p.days p.periods b = ok.within.each_unavailability k d h in
       (named_writable b.course is.0, (small b.day (omega (arith, is.1, ok.within.days)), (small b.period (omega (arith, is.2, ok.within.periods)), tt))))
 
   -- an instance can be written
@@ -130,19 +130,19 @@ module _ (p : Problem) (ok : IsInstance p) where
       let courses = LinesWritable-append (section word.CoursesPart) (map course_pieces p.courses) (section_writable word.CoursesPart) courses_writable in
       let rooms = LinesWritable-append (section word.RoomsPart) (map room_pieces p.rooms) (section_writable word.RoomsPart) rooms_writable in
       let curricula = LinesWritable-append (section word.CurriculaPart) (map (curriculum_pieces p.courses) p.curricula) (section_writable word.CurriculaPart) curricula_writable in
-      let bars = LinesWritable-append (section word.UnavailabilityPart) (map (bar_pieces p.courses) p.bars) (section_writable word.UnavailabilityPart) bars_writable in
+      let unavailabilities = LinesWritable-append (section word.UnavailabilityPart) (map (unavailability_pieces p.courses) p.unavailabilities) (section_writable word.UnavailabilityPart) unavailabilities_writable in
       parts_writable (header_lines p) (section_lines word.CoursesPart course_pieces p.courses) (section_lines word.RoomsPart room_pieces p.rooms)
-      (section_lines word.CurriculaPart (curriculum_pieces p.courses) p.curricula) (section_lines word.UnavailabilityPart (bar_pieces p.courses) p.bars) (section word.End)
-      header_writable courses rooms curricula bars (section_writable word.End)
+      (section_lines word.CurriculaPart (curriculum_pieces p.courses) p.curricula) (section_lines word.UnavailabilityPart (unavailability_pieces p.courses) p.unavailabilities) (section word.End)
+      header_writable courses rooms curricula unavailabilities (section_writable word.End)
 
 -- the lines of a file have its pieces
 lines_are : (p : Problem) → all_pieces (instance_lines p) ≡ pieces p
 lines_are p =
     all_parts (header_lines p) (section_lines word.CoursesPart course_pieces p.courses) (section_lines word.RoomsPart room_pieces p.rooms)
-    (section_lines word.CurriculaPart (curriculum_pieces p.courses) p.curricula) (section_lines word.UnavailabilityPart (bar_pieces p.courses) p.bars) (section word.End)
+    (section_lines word.CurriculaPart (curriculum_pieces p.courses) p.curricula) (section_lines word.UnavailabilityPart (unavailability_pieces p.courses) p.unavailabilities) (section word.End)
     ∙ same_parts (all_pieces (header_lines p)) _ _ _ _ _ _ _ _ (fixed word.End ∷ [])
     (section_is word.CoursesPart course_pieces p.courses) (section_is word.RoomsPart room_pieces p.rooms)
-    (section_is word.CurriculaPart (curriculum_pieces p.courses) p.curricula) (section_is word.UnavailabilityPart (bar_pieces p.courses) p.bars)
+    (section_is word.CurriculaPart (curriculum_pieces p.courses) p.curricula) (section_is word.UnavailabilityPart (unavailability_pieces p.courses) p.unavailabilities)
 
 -- the text written for an instance spells it
 pub written_again : (p : Problem) → IsInstance p → Spells (instance_text p) p
@@ -151,5 +151,5 @@ written_again p ok = record {
   rest = [];
   begins = subst (λ (ps : List Piece). Begins ps (tokens_of (instance_text p)) []) (lines_are p) (lines_begin (instance_lines p) 0 (writable p ok));
   within = ok.within;
-  is_kept = kept_stays p ok.members_once ok.bars_once;
+  is_kept = kept_stays p ok.members_once ok.unavailabilities_once;
 }

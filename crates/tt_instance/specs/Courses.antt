@@ -71,4 +71,4 @@ conflict p a b = not (a == b) && (one_teacher p a b || one_curriculum p a b)
 
 -- The course must not have a lecture in this period (the hard rule "Availability").
 abbrev pub unavailable : Problem → ℕ → ℕ → ℕ → Bool
-unavailable p c d s = list_any (λ b. (b.course == c) && (b.day == d) && (b.period == s)) p.bars
+unavailable p c d s = list_any (λ b. (b.course == c) && (b.day == d) && (b.period == s)) p.unavailabilities

@@ -10,12 +10,12 @@ use Rattle.tt_instance.specs.declared.rows.CourseRow.{CourseRow}
 use Rattle.tt_instance.specs.declared.rows.RoomList.{RoomList}
 use Rattle.tt_instance.specs.declared.rows.MemberList.{MemberList}
 use Rattle.tt_instance.specs.declared.rows.CurriculumList.{CurriculumList}
-use Rattle.tt_instance.specs.declared.rows.BarList.{BarList}
+use Rattle.tt_instance.specs.declared.rows.UnavailabilityList.{UnavailabilityList}
 use Rattle.tt_instance.specs.declared.parts.Parts.{Parts}
-use Rattle.tt_instance.specs.Problem.{Course, Bar, Problem}
+use Rattle.tt_instance.specs.Problem.{Course, Unavailability, Problem}
 use Rattle.tt_instance.specs.Courses.{conflict}
 use Rattle.tt_instance.specs.Reading.{ids_of, room_ids_of, curriculum_ids_of, lectures_of}
-use Rattle.tt_instance.specs.Seen.{courses_seen, rooms_seen, curricula_seen, bars_seen}
+use Rattle.tt_instance.specs.Seen.{courses_seen, rooms_seen, curricula_seen, unavailabilities_seen}
 
 -- The teachers of courses, each once, in the order of their first mention.
 abbrev pub teachers_of : List Course → List (List ℕ)
@@ -46,25 +46,25 @@ pub record IsCurriculaIndexed (count : ℕ) (l : CurriculumList) : Type 0 where
   pub marked : All (λ r. IsMarked count r.members) l.rows.items
 
 -- A list of unavailabilities has this one.
-abbrev pub has_bar : List Bar → ℕ → ℕ → ℕ → Bool
-has_bar bars c d s = list_any (λ b. (b.course == c) && (b.day == d) && (b.period == s)) bars
+abbrev pub has_unavailability : List Unavailability → ℕ → ℕ → ℕ → Bool
+has_unavailability unavailabilities c d s = list_any (λ b. (b.course == c) && (b.day == d) && (b.period == s)) unavailabilities
 
 -- The mark of a period, in marks that have 64 places for each day.
 abbrev pub is_marked_at : List (List Bool) → ℕ → ℕ → ℕ → Bool
 is_marked_at rows c d s = nat_lt s 64 && slice_index_or (slice_index_or rows c []) (d * 64 + s) false
 
 -- The list has marks for each course and each day, and they say which periods are unavailable.
-pub record IsBarred (count days : ℕ) (l : BarList) : Type 0 where
+pub record IsBarred (count days : ℕ) (l : UnavailabilityList) : Type 0 where
   pub len : length l.marks.items ≡ count
   pub lens : All (λ m. length m ≡ days * 64) l.marks.items
-  pub told : (c d s : ℕ) → is_marked_at l.marks.items c d s ≡ has_bar (bars_seen l.rows.items) c d s
+  pub told : (c d s : ℕ) → is_marked_at l.marks.items c d s ≡ has_unavailability (unavailabilities_seen l.rows.items) c d s
 
 -- The tables of all parts are right.
 pub record IsIndexedParts (a : Parts) : Type 0 where
   pub courses : IsIndexed a.courses
   pub rooms : IsRoomsIndexed a.rooms
   pub curricula : IsCurriculaIndexed (length a.courses.ids) a.curricula
-  pub bars : IsBarred (length a.courses.ids) a.days a.bars
+  pub unavailabilities : IsBarred (length a.courses.ids) a.days a.unavailabilities
 
 -- The mark of a number in a row of a table; false if the row or the number is out of range.
 abbrev pub mark_at : List (List Bool) → ℕ → ℕ → Bool

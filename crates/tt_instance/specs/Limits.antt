@@ -2,8 +2,8 @@
 use Rattle.std.specs.Prelude.{◌≡◌, ◌≢◌, ℕ, ◌*◌, ◌≤◌, ◌<◌, ◌==◌, Bool, true, not, ◌&&◌, length, sum_by, All, AllPairs, codes}
 use Rattle.tt_lists.specs.Words.{each_two}
 use Rattle.tt_text.specs.Tokens.{IsToken}
-use Rattle.tt_instance.specs.declared.limit.TheConstants.{MAX_COURSES, MAX_ROOMS, MAX_DAYS, MAX_PERIODS, MAX_SLOTS, MAX_CELLS, MAX_CURRICULA, MAX_MEMBERS, MAX_BARS, MAX_LECTURES, MAX_MIN_DAYS, MAX_SEATS}
-use Rattle.tt_instance.specs.Problem.{Bar, Problem}
+use Rattle.tt_instance.specs.declared.limit.TheConstants.{MAX_COURSES, MAX_ROOMS, MAX_DAYS, MAX_PERIODS, MAX_SLOTS, MAX_CELLS, MAX_CURRICULA, MAX_MEMBERS, MAX_UNAVAILABILITIES, MAX_LECTURES, MAX_MIN_DAYS, MAX_SEATS}
+use Rattle.tt_instance.specs.Problem.{Unavailability, Problem}
 
 -- The limits of the format; no two courses, no two rooms and no two curricula have the same name; members and unavailabilities refer to
 -- courses, days and periods that exist.
@@ -18,7 +18,7 @@ pub record IsWithinLimits (p : Problem) : Type 0 where
   pub slots : p.days * p.periods ≤ MAX_SLOTS
   pub cells : (length p.courses * length p.rooms) * (p.days * p.periods) ≤ MAX_CELLS
   pub curricula : length p.curricula ≤ MAX_CURRICULA
-  pub bars : length p.bars ≤ MAX_BARS
+  pub unavailabilities : length p.unavailabilities ≤ MAX_UNAVAILABILITIES
   pub course_names : AllPairs (λ c d. c.id ≢ d.id) p.courses
   pub room_names : AllPairs (λ r s. r.id ≢ s.id) p.rooms
   pub curriculum_names : AllPairs (λ q r. q.id ≢ r.id) p.curricula
@@ -26,16 +26,16 @@ pub record IsWithinLimits (p : Problem) : Type 0 where
   pub each_course : All (λ c. (c.min_days ≤ MAX_MIN_DAYS) × (c.students ≤ MAX_SEATS)) p.courses
   pub each_room : All (λ r. r.capacity ≤ MAX_SEATS) p.rooms
   pub each_curriculum : All (λ q. (length q.members ≤ MAX_MEMBERS) × All (λ c. c < length p.courses) q.members) p.curricula
-  pub each_bar : All (λ b. (b.course < length p.courses) × (b.day < p.days) × (b.period < p.periods)) p.bars
+  pub each_unavailability : All (λ b. (b.course < length p.courses) × (b.day < p.days) × (b.period < p.periods)) p.unavailabilities
 
-abbrev pub same_bar : Bar → Bar → Bool
-same_bar a b = (a.course == b.course) && (a.day == b.day) && (a.period == b.period)
+abbrev pub same_unavailability : Unavailability → Unavailability → Bool
+same_unavailability a b = (a.course == b.course) && (a.day == b.day) && (a.period == b.period)
 
 -- The properties of every instance that was read: it is within the limits, has each member and each unavailability once, and each name is a token.
 pub record IsInstance (p : Problem) : Type 0 where
   pub within : IsWithinLimits p
   pub members_once : All (λ q. each_two (λ a b. not (a == b)) q.members ≡ true) p.curricula
-  pub bars_once : each_two (λ a b. not (same_bar a b)) p.bars ≡ true
+  pub unavailabilities_once : each_two (λ a b. not (same_unavailability a b)) p.unavailabilities ≡ true
   pub name_tokens : All IsToken p.name
   pub course_tokens : All (λ c. IsToken c.id × IsToken c.teacher) p.courses
   pub room_tokens : All (λ r. IsToken r.id) p.rooms

@@ -19,7 +19,7 @@ pub record Curriculum : Type 0 where
   pub members : List ℕ
 
 -- An unavailability: a course that must not have a lecture in a period of a day.
-pub record Bar : Type 0 where
+pub record Unavailability : Type 0 where
   pub course : ℕ
   pub day : ℕ
   pub period : ℕ
@@ -32,4 +32,4 @@ pub record Problem : Type 0 where
   pub courses : List Course
   pub rooms : List Room
   pub curricula : List Curriculum
-  pub bars : List Bar
+  pub unavailabilities : List Unavailability

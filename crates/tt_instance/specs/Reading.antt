@@ -11,21 +11,21 @@ use Rattle.tt_instance.specs.declared.fault.Word.{Word}
 use Rattle.tt_instance.specs.declared.fault.Word.TheVariants as word
 use Rattle.tt_instance.specs.declared.fault.InstanceFault.{InstanceFault}
 use Rattle.tt_instance.specs.declared.fault.InstanceFault.TheVariants as fault
-use Rattle.tt_instance.specs.declared.limit.TheConstants.{MAX_COURSES, MAX_ROOMS, MAX_DAYS, MAX_PERIODS, MAX_SLOTS, MAX_CELLS, MAX_CURRICULA, MAX_MEMBERS, MAX_BARS, MAX_LECTURES, MAX_MIN_DAYS, MAX_SEATS}
+use Rattle.tt_instance.specs.declared.limit.TheConstants.{MAX_COURSES, MAX_ROOMS, MAX_DAYS, MAX_PERIODS, MAX_SLOTS, MAX_CELLS, MAX_CURRICULA, MAX_MEMBERS, MAX_UNAVAILABILITIES, MAX_LECTURES, MAX_MIN_DAYS, MAX_SEATS}
 use Rattle.tt_instance.specs.Words.{word_text}
-use Rattle.tt_instance.specs.Problem.{Course, Room, Curriculum, Bar, Problem}
-use Rattle.tt_instance.specs.Limits.{same_bar}
+use Rattle.tt_instance.specs.Problem.{Course, Room, Curriculum, Unavailability, Problem}
+use Rattle.tt_instance.specs.Limits.{same_unavailability}
 
 -- Being out of memory says nothing about the bytes.
-abbrev pub is_silent : InstanceFault → Bool
-is_silent fault.OutOfMemory = true
-is_silent _ = false
+abbrev pub is_environmental : InstanceFault → Bool
+is_environmental fault.OutOfMemory = true
+is_environmental _ = false
 
 abbrev pub Fails : {Y : Type 0} → InstanceFault → Result Y InstanceFault → Type 0
-Fails e read = FailsUnless is_silent e read
+Fails e read = FailsUnless is_environmental e read
 
 abbrev pub Gives : {X Y : Type 0} → (X → Y) → Result X InstanceFault → Result Y InstanceFault → Type 0
-Gives view result read = AgreesUnless is_silent view result read
+Gives view result read = AgreesUnless is_environmental view result read
 
 -- The next token of a text of `end` bytes.
 abbrev pub token_at : ℕ → List Placed → Result (Placed × List Placed) InstanceFault
@@ -158,19 +158,19 @@ curricula_at end ids (suc n) before ts = do
   curricula_at end ids n q.0 q.1
 
 -- Another unavailability, if it is new.
-unfoldable pub bar_at : ℕ → List (List ℕ) → ℕ → ℕ → List Bar → List Placed → Result (List Bar × List Placed) InstanceFault
-bar_at end ids days periods before ts = do
+unfoldable pub unavailability_at : ℕ → List (List ℕ) → ℕ → ℕ → List Unavailability → List Placed → Result (List Unavailability × List Placed) InstanceFault
+unavailability_at end ids days periods before ts = do
   course ← named_at end ids ts
   day ← below_at end days course.1
   period ← below_at end periods day.1
-  Ok (with_new same_bar before (record { course = course.0; day = day.0; period = period.0 }), period.1)
+  Ok (with_new same_unavailability before (record { course = course.0; day = day.0; period = period.0 }), period.1)
 
 -- This many more unavailability lines.
-unfoldable pub bars_at : ℕ → List (List ℕ) → ℕ → ℕ → ℕ → List Bar → List Placed → Result (List Bar × List Placed) InstanceFault
-bars_at end ids days periods zero before ts = Ok (before, ts)
-bars_at end ids days periods (suc n) before ts = do
-  b ← bar_at end ids days periods before ts
-  bars_at end ids days periods n b.0 b.1
+unfoldable pub unavailabilities_at : ℕ → List (List ℕ) → ℕ → ℕ → ℕ → List Unavailability → List Placed → Result (List Unavailability × List Placed) InstanceFault
+unavailabilities_at end ids days periods zero before ts = Ok (before, ts)
+unavailabilities_at end ids days periods (suc n) before ts = do
+  b ← unavailability_at end ids days periods before ts
+  unavailabilities_at end ids days periods n b.0 b.1
 
 -- ---- the name and the header
 
@@ -187,7 +187,7 @@ pub record Counts : Type 0 where
   pub days : ℕ
   pub periods : ℕ
   pub curricula : ℕ
-  pub bars : ℕ
+  pub unavailabilities : ℕ
 
 -- A fixed word, and a number up to a limit.
 unfoldable pub counted_at : ℕ → Word → ℕ → List Placed → Result (ℕ × List Placed) InstanceFault
@@ -221,8 +221,8 @@ header_at end ts = do
   days ← days_at end rooms.1
   periods ← periods_at end (courses.0 * rooms.0) days.0 days.1
   curricula ← counted_at end word.Curricula MAX_CURRICULA periods.1
-  bars ← counted_at end word.Constraints MAX_BARS curricula.1
-  Ok (record { courses = courses.0; rooms = rooms.0; days = days.0; periods = periods.0; curricula = curricula.0; bars = bars.0 }, bars.1)
+  unavailabilities ← counted_at end word.Constraints MAX_UNAVAILABILITIES curricula.1
+  Ok (record { courses = courses.0; rooms = rooms.0; days = days.0; periods = periods.0; curricula = curricula.0; unavailabilities = unavailabilities.0 }, unavailabilities.1)
 
 -- -- the whole instance
 
@@ -231,7 +231,7 @@ pub record Sections : Type 0 where
   pub courses : List Course
   pub rooms : List Room
   pub curricula : List Curriculum
-  pub bars : List Bar
+  pub unavailabilities : List Unavailability
 
 -- The courses and rooms after the header.
 unfoldable pub places_at : ℕ → Counts → List Placed → Result ((List Course × List Room) × List Placed) InstanceFault
@@ -243,20 +243,20 @@ places_at end counts ts = do
   Ok ((courses.0, rooms.0), rooms.1)
 
 -- The curricula and unavailabilities after the rooms, up to the end.
-unfoldable pub groups_at : ℕ → Counts → List (List ℕ) → List Placed → Result ((List Curriculum × List Bar) × List Placed) InstanceFault
+unfoldable pub groups_at : ℕ → Counts → List (List ℕ) → List Placed → Result ((List Curriculum × List Unavailability) × List Placed) InstanceFault
 groups_at end counts ids ts = do
   ts1 ← word_at end word.CurriculaPart ts
   curricula ← curricula_at end ids counts.curricula [] ts1
   ts2 ← word_at end word.UnavailabilityPart curricula.1
-  bars ← bars_at end ids counts.days counts.periods counts.bars [] ts2
-  ts3 ← word_at end word.End bars.1
-  Ok ((curricula.0, bars.0), ts3)
+  unavailabilities ← unavailabilities_at end ids counts.days counts.periods counts.unavailabilities [] ts2
+  ts3 ← word_at end word.End unavailabilities.1
+  Ok ((curricula.0, unavailabilities.0), ts3)
 
 unfoldable pub sections_at : ℕ → Counts → List Placed → Result (Sections × List Placed) InstanceFault
 sections_at end counts ts = do
   places ← places_at end counts ts
   groups ← groups_at end counts (ids_of places.0.0) places.1
-  Ok (record { courses = places.0.0; rooms = places.0.1; curricula = groups.0.0; bars = groups.0.1 }, groups.1)
+  Ok (record { courses = places.0.0; rooms = places.0.1; curricula = groups.0.0; unavailabilities = groups.0.1 }, groups.1)
 
 -- The instance that bytes spell, or their first fault.
 unfoldable pub instance_of : List ℕ → Result Problem InstanceFault
@@ -265,4 +265,4 @@ instance_of bytes = do
   name ← name_at (length bytes) [] ts1
   header ← header_at (length bytes) name.1
   sections ← sections_at (length bytes) header.0 header.1
-  Ok (record { name = name.0; days = header.0.days; periods = header.0.periods; courses = sections.0.courses; rooms = sections.0.rooms; curricula = sections.0.curricula; bars = sections.0.bars })
+  Ok (record { name = name.0; days = header.0.days; periods = header.0.periods; courses = sections.0.courses; rooms = sections.0.rooms; curricula = sections.0.curricula; unavailabilities = sections.0.unavailabilities })

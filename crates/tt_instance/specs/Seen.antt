@@ -5,16 +5,16 @@ use Rattle.tt_instance.specs.declared.header.Header.{Header}
 use Rattle.tt_instance.specs.declared.rows.CourseRow.{CourseRow}
 use Rattle.tt_instance.specs.declared.rows.RoomRow.{RoomRow}
 use Rattle.tt_instance.specs.declared.rows.CurriculumRow.{CurriculumRow}
-use Rattle.tt_instance.specs.declared.rows.BarRow.{BarRow}
+use Rattle.tt_instance.specs.declared.rows.UnavailabilityRow.{UnavailabilityRow}
 use Rattle.tt_instance.specs.declared.parts.Parts.{Parts}
-use Rattle.tt_instance.specs.Problem.{Course, Room, Curriculum, Bar, Problem}
+use Rattle.tt_instance.specs.Problem.{Course, Room, Curriculum, Unavailability, Problem}
 use Rattle.tt_instance.specs.Reading.{Counts}
 
 abbrev pub name_seen : List (Bor (List ℕ)) → List (List ℕ)
 name_seen ts = map (λ t. t.now) ts
 
 abbrev pub counts_seen : Header → Counts
-counts_seen h = record { courses = h.courses; rooms = h.rooms; days = h.days; periods = h.periods; curricula = h.curricula; bars = h.bars }
+counts_seen h = record { courses = h.courses; rooms = h.rooms; days = h.days; periods = h.periods; curricula = h.curricula; unavailabilities = h.unavailabilities }
 
 abbrev pub course_seen : CourseRow → Course
 course_seen r = record { id = r.id.now; teacher = r.teacher_name.now; lectures = r.lectures; min_days = r.min_days; students = r.students }
@@ -34,11 +34,11 @@ curriculum_seen r = record { id = r.id.now; members = r.members.courses.items }
 abbrev pub curricula_seen : List CurriculumRow → List Curriculum
 curricula_seen rs = map curriculum_seen rs
 
-abbrev pub bar_seen : BarRow → Bar
-bar_seen r = record { course = r.course; day = r.day; period = r.period }
+abbrev pub unavailability_seen : UnavailabilityRow → Unavailability
+unavailability_seen r = record { course = r.course; day = r.day; period = r.period }
 
-abbrev pub bars_seen : List BarRow → List Bar
-bars_seen rs = map bar_seen rs
+abbrev pub unavailabilities_seen : List UnavailabilityRow → List Unavailability
+unavailabilities_seen rs = map unavailability_seen rs
 
 abbrev pub problem_seen : Parts → Problem
 problem_seen a = record {
@@ -48,5 +48,5 @@ problem_seen a = record {
   courses = courses_seen a.courses.rows.items;
   rooms = rooms_seen a.rooms.rows.items;
   curricula = curricula_seen a.curricula.rows.items;
-  bars = bars_seen a.bars.rows.items;
+  unavailabilities = unavailabilities_seen a.unavailabilities.rows.items;
 }

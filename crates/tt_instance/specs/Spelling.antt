@@ -4,9 +4,9 @@ use Rattle.std.specs.Prelude.{◌≡◌, ℕ, ◌==◌, List, [], ◌∷◌, ◌
 use Rattle.tt_lists.specs.Words.{distinct}
 use Rattle.tt_text.specs.Tokens.{Placed, tokens_of}
 use Rattle.tt_text.specs.Pieces.{Piece, Text, Number, Begins}
-use Rattle.tt_instance.specs.Problem.{Course, Room, Curriculum, Bar, Problem}
+use Rattle.tt_instance.specs.Problem.{Course, Room, Curriculum, Unavailability, Problem}
 use Rattle.tt_instance.specs.Courses.{no_course}
-use Rattle.tt_instance.specs.Limits.{same_bar, IsWithinLimits}
+use Rattle.tt_instance.specs.Limits.{same_unavailability, IsWithinLimits}
 
 -- A course by its name.
 abbrev pub named : List Course → ℕ → Piece
@@ -21,14 +21,14 @@ room_pieces r = Text r.id ∷ Number r.capacity ∷ []
 abbrev pub curriculum_pieces : List Course → Curriculum → List Piece
 curriculum_pieces cs q = Text q.id ∷ Number (length q.members) ∷ map (named cs) q.members
 
-abbrev pub bar_pieces : List Course → Bar → List Piece
-bar_pieces cs b = named cs b.course ∷ Number b.day ∷ Number b.period ∷ []
+abbrev pub unavailability_pieces : List Course → Unavailability → List Piece
+unavailability_pieces cs b = named cs b.course ∷ Number b.day ∷ Number b.period ∷ []
 
 abbrev pub header_pieces : Problem → List Piece
 header_pieces p =
     Text (codes "Courses:") ∷ Number (length p.courses) ∷ Text (codes "Rooms:") ∷ Number (length p.rooms)
     ∷ Text (codes "Days:") ∷ Number p.days ∷ Text (codes "Periods_per_day:") ∷ Number p.periods
-    ∷ Text (codes "Curricula:") ∷ Number (length p.curricula) ∷ Text (codes "Constraints:") ∷ Number (length p.bars) ∷ []
+    ∷ Text (codes "Curricula:") ∷ Number (length p.curricula) ∷ Text (codes "Constraints:") ∷ Number (length p.unavailabilities) ∷ []
 
 -- The pieces of a whole file.
 abbrev pub pieces : Problem → List Piece
@@ -38,7 +38,7 @@ pieces p =
     ++ (Text (codes "COURSES:") ∷ flat_map course_pieces p.courses)
     ++ (Text (codes "ROOMS:") ∷ flat_map room_pieces p.rooms)
     ++ (Text (codes "CURRICULA:") ∷ flat_map (curriculum_pieces p.courses) p.curricula)
-    ++ (Text (codes "UNAVAILABILITY_CONSTRAINTS:") ∷ flat_map (bar_pieces p.courses) p.bars)
+    ++ (Text (codes "UNAVAILABILITY_CONSTRAINTS:") ∷ flat_map (unavailability_pieces p.courses) p.unavailabilities)
     ++ (Text (codes "END.") ∷ [])
 
 abbrev pub members_kept : Curriculum → Curriculum
@@ -46,7 +46,7 @@ members_kept q = record q { members = distinct (λ a b. a == b) q.members }
 
 -- The instance of a file's lines without repeats: each member of a curriculum and each unavailability once, in the order of first mention.
 abbrev pub without_repeats : Problem → Problem
-without_repeats w = record w { curricula = map members_kept w.curricula; bars = distinct same_bar w.bars }
+without_repeats w = record w { curricula = map members_kept w.curricula; unavailabilities = distinct same_unavailability w.unavailabilities }
 
 -- The bytes spell the instance: they begin with the pieces of an instance that is this one if repeats are removed. Bytes after `END.` are not read.
 pub record Spells (bytes : List ℕ) (p : Problem) : Type 0 where

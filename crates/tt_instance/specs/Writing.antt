@@ -6,7 +6,7 @@ use Rattle.tt_instance.specs.declared.fault.Word.{Word}
 use Rattle.tt_instance.specs.declared.fault.Word.TheVariants as word
 use Rattle.tt_instance.specs.Words.{fixed}
 use Rattle.tt_instance.specs.Problem.{Problem}
-use Rattle.tt_instance.specs.Spelling.{course_pieces, room_pieces, curriculum_pieces, bar_pieces}
+use Rattle.tt_instance.specs.Spelling.{course_pieces, room_pieces, curriculum_pieces, unavailability_pieces}
 
 abbrev pub counted_line : Word → ℕ → List Piece
 counted_line w n = fixed w ∷ Number n ∷ []
@@ -19,7 +19,7 @@ abbrev pub header_lines : Problem → List (List Piece)
 header_lines p =
     (fixed word.Name ∷ map Text p.name) ∷ counted_line word.Courses (length p.courses) ∷ counted_line word.Rooms (length p.rooms)
     ∷ counted_line word.Days p.days ∷ counted_line word.PeriodsPerDay p.periods
-    ∷ counted_line word.Curricula (length p.curricula) ∷ counted_line word.Constraints (length p.bars) ∷ []
+    ∷ counted_line word.Curricula (length p.curricula) ∷ counted_line word.Constraints (length p.unavailabilities) ∷ []
 
 -- The lines of a file.
 abbrev pub instance_lines : Problem → List (List Piece)
@@ -28,7 +28,7 @@ instance_lines p =
     ++ (section word.CoursesPart ++ map course_pieces p.courses)
     ++ (section word.RoomsPart ++ map room_pieces p.rooms)
     ++ (section word.CurriculaPart ++ map (curriculum_pieces p.courses) p.curricula)
-    ++ (section word.UnavailabilityPart ++ map (bar_pieces p.courses) p.bars)
+    ++ (section word.UnavailabilityPart ++ map (unavailability_pieces p.courses) p.unavailabilities)
     ++ section word.End
 
 abbrev pub instance_text : Problem → List ℕ

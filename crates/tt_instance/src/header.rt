@@ -7,7 +7,8 @@ ghost use Rattle.tt_instance.specs.Seen.{counts_seen, name_seen};
 use crate::fault::{InstanceFault, Word};
 use crate::fields::{read_counted, read_limited, read_token, read_value, read_word};
 use crate::limit::{
-    MAX_BARS, MAX_CELLS, MAX_COURSES, MAX_CURRICULA, MAX_DAYS, MAX_PERIODS, MAX_ROOMS, MAX_SLOTS,
+    MAX_CELLS, MAX_COURSES, MAX_CURRICULA, MAX_DAYS, MAX_PERIODS, MAX_ROOMS, MAX_SLOTS,
+    MAX_UNAVAILABILITIES,
 };
 use std::alloc::Global;
 use tt_text::Tokens;
@@ -20,7 +21,7 @@ pub struct Header {
     pub days: u32,
     pub periods: u32,
     pub curricula: u32,
-    pub bars: u32,
+    pub unavailabilities: u32,
 }
 
 /// Reads the tokens before the word that ends the name.
@@ -95,13 +96,13 @@ pub fn read_header(tokens: &mut Tokens<'_>, end: usize) -> Result<Header, Instan
     let days = read_days(tokens, end)?;
     let periods = read_periods(tokens, end, courses * rooms, days)?;
     let curricula = read_counted(tokens, end, Word::Curricula, MAX_CURRICULA)?;
-    let bars = read_counted(tokens, end, Word::Constraints, MAX_BARS)?;
+    let unavailabilities = read_counted(tokens, end, Word::Constraints, MAX_UNAVAILABILITIES)?;
     Ok(Header {
         courses,
         rooms,
         days,
         periods,
         curricula,
-        bars,
+        unavailabilities,
     })
 }

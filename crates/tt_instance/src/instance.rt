@@ -9,15 +9,15 @@ ghost use Rattle.tt_instance.specs.Reading.{Gives, instance_of};
 ghost use Rattle.tt_instance.specs.Spelling.{Spells};
 ghost use Rattle.tt_instance.specs.Writing.{instance_text};
 
-use crate::bars::is_barred;
 use crate::conflicts::conflict_rows;
 use crate::fault::InstanceFault;
 use crate::limit::{
-    MAX_BARS, MAX_COURSES, MAX_CURRICULA, MAX_DAYS, MAX_LECTURES, MAX_MEMBERS, MAX_MIN_DAYS,
-    MAX_PERIODS, MAX_ROOMS, MAX_SEATS, MAX_SLOTS,
+    MAX_COURSES, MAX_CURRICULA, MAX_DAYS, MAX_LECTURES, MAX_MEMBERS, MAX_MIN_DAYS, MAX_PERIODS,
+    MAX_ROOMS, MAX_SEATS, MAX_SLOTS, MAX_UNAVAILABILITIES,
 };
 use crate::marks::{Marks, has_at};
 use crate::parts::{Parts, read_parts};
+use crate::unavailabilities::is_barred;
 use crate::writing::write_parts;
 use std::alloc::{AllocError, Global};
 use std::marker::Model;
@@ -151,11 +151,11 @@ impl<'a> Instance<'a> {
     }
 
     /// Returns the number of unavailabilities.
-    pub fn bars(&self) -> u32
-        ensures value { result ≡ length self.now.bars }
-        ensures within { result ≤ MAX_BARS }
+    pub fn unavailabilities(&self) -> u32
+        ensures value { result ≡ length self.now.unavailabilities }
+        ensures within { result ≤ MAX_UNAVAILABILITIES }
     {
-        self.parts.bars.rows.len() as u32
+        self.parts.unavailabilities.rows.len() as u32
     }
 
     /// Returns how many lectures a course needs.
@@ -207,12 +207,12 @@ impl<'a> Instance<'a> {
     }
 
     /// Returns an unavailability: the course, the day and the period.
-    pub fn bar(&self, index: u32) -> (u32, u32, u32)
-        requires { index < length self.now.bars }
-        ensures { slice_get self.now.bars index
+    pub fn unavailability(&self, index: u32) -> (u32, u32, u32)
+        requires { index < length self.now.unavailabilities }
+        ensures { slice_get self.now.unavailabilities index
             ≡ Some (record { course = result.0; day = result.1; period = result.2 }) }
     {
-        let row = self.parts.bars.rows[index as usize];
+        let row = self.parts.unavailabilities.rows[index as usize];
         (row.course, row.day, row.period)
     }
 
@@ -298,7 +298,7 @@ impl<'a> Instance<'a> {
     pub fn unavailable(&self, course: u32, day: u32, period: u32) -> bool
         ensures { result ≡ unavailable self.now course day period }
     {
-        is_barred(&self.parts.bars.marks, course, day, period)
+        is_barred(&self.parts.unavailabilities.marks, course, day, period)
     }
 }
 

@@ -25,7 +25,7 @@ pub const MAX_CURRICULA: u32 = 8192;
 pub const MAX_MEMBERS: u32 = 4096;
 
 /// The maximum number of unavailability lines.
-pub const MAX_BARS: u32 = 65_536;
+pub const MAX_UNAVAILABILITIES: u32 = 65_536;
 
 /// The maximum number of lectures of all courses.
 pub const MAX_LECTURES: u32 = 4096;

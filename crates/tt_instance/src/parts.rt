@@ -3,9 +3,8 @@
 ghost use Rattle.std.specs.Prelude.{◌<◌, ◌≤◌, ◌^◌, length, IfOk};
 ghost use Rattle.tt_instance.specs.Reading.{Gives, places_at, groups_at, instance_of};
 ghost use Rattle.tt_instance.specs.Indexed.{IsIndexed, IsRoomsIndexed, IsCurriculaIndexed, IsBarred, IsIndexedParts};
-ghost use Rattle.tt_instance.specs.Seen.{courses_seen, rooms_seen, curricula_seen, bars_seen, counts_seen, problem_seen};
+ghost use Rattle.tt_instance.specs.Seen.{courses_seen, rooms_seen, curricula_seen, unavailabilities_seen, counts_seen, problem_seen};
 
-use crate::bars::read_bars;
 use crate::courses::read_courses;
 use crate::curricula::read_curricula;
 use crate::fault::{InstanceFault, Word};
@@ -14,7 +13,8 @@ use crate::header::{Header, read_header, read_name};
 use crate::limit::{MAX_COURSES, MAX_PERIODS};
 use crate::names::Names;
 use crate::rooms::read_rooms;
-use crate::rows::{BarList, CourseList, CurriculumList, RoomList};
+use crate::rows::{CourseList, CurriculumList, RoomList, UnavailabilityList};
+use crate::unavailabilities::read_unavailabilities;
 use std::alloc::Global;
 use tt_text::Tokens;
 
@@ -27,7 +27,7 @@ pub struct Parts<'a> {
     pub courses: CourseList<'a>,
     pub rooms: RoomList<'a>,
     pub curricula: CurriculumList<'a>,
-    pub bars: BarList,
+    pub unavailabilities: UnavailabilityList,
 }
 
 /// Reads the courses and rooms after a header.
@@ -61,23 +61,23 @@ fn read_groups<'a>(
     end: usize,
     ids: &Names<'_>,
     header: Header,
-) -> Result<(CurriculumList<'a>, BarList), InstanceFault>
+) -> Result<(CurriculumList<'a>, UnavailabilityList), InstanceFault>
     requires few { length ids.now < 2 ^ 32 }
     requires days { 0 < header.days }
     requires some { 0 < header.periods }
     requires periods { header.periods ≤ MAX_PERIODS }
     ensures read { Gives
-        (λ s. ((curricula_seen s.0.rows.items, bars_seen s.1.rows.items), tokens.new))
+        (λ s. ((curricula_seen s.0.rows.items, unavailabilities_seen s.1.rows.items), tokens.new))
         result (groups_at end (counts_seen header) ids.now tokens.old) }
     ensures curricula { IfOk result (λ s. IsCurriculaIndexed (length ids.now) s.0) }
-    ensures bars { IfOk result (λ s. IsBarred (length ids.now) header.days s.1) }
+    ensures unavailabilities { IfOk result (λ s. IsBarred (length ids.now) header.days s.1) }
 {
     read_word(tokens, end, Word::CurriculaPart)?;
     let curricula = read_curricula(alloc, tokens, end, ids, header.curricula)?;
     read_word(tokens, end, Word::UnavailabilityPart)?;
-    let bars = read_bars(alloc, tokens, end, ids, header)?;
+    let unavailabilities = read_unavailabilities(alloc, tokens, end, ids, header)?;
     read_word(tokens, end, Word::End)?;
-    Ok((curricula, bars))
+    Ok((curricula, unavailabilities))
 }
 
 /// Reads the parts of the instance that bytes spell.
@@ -92,7 +92,7 @@ pub fn read_parts<'a>(alloc: Global, bytes: &'a [u8]) -> Result<Parts<'a>, Insta
     let name = read_name(alloc, &mut tokens, end)?;
     let header = read_header(&mut tokens, end)?;
     let (courses, rooms) = read_places(alloc, &mut tokens, end, header)?;
-    let (curricula, bars) = read_groups(alloc, &mut tokens, end, &courses.ids, header)?;
+    let (curricula, unavailabilities) = read_groups(alloc, &mut tokens, end, &courses.ids, header)?;
     Ok(Parts {
         name,
         days: header.days,
@@ -100,6 +100,6 @@ pub fn read_parts<'a>(alloc: Global, bytes: &'a [u8]) -> Result<Parts<'a>, Insta
         courses,
         rooms,
         curricula,
-        bars,
+        unavailabilities,
     })
 }

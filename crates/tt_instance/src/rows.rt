@@ -60,7 +60,7 @@ pub struct CurriculumList<'a> {
 
 /// A course that must not have a lecture in a period of a day.
 #[derive(Clone, Copy, Debug)]
-pub struct BarRow {
+pub struct UnavailabilityRow {
     pub course: u32,
     pub day: u32,
     pub period: u32,
@@ -68,7 +68,7 @@ pub struct BarRow {
 
 /// Unavailabilities, each once, and for each course the marks of its periods.
 #[derive(Drop)]
-pub struct BarList {
-    pub rows: Vec<BarRow>,
+pub struct UnavailabilityList {
+    pub rows: Vec<UnavailabilityRow>,
     pub marks: Vec<Marks>,
 }

@@ -7,13 +7,13 @@ ghost use Rattle.tt_text.specs.Lines.{line_text, lines_text};
 ghost use Rattle.tt_instance.specs.declared.fault.Word.TheVariants as word;
 ghost use Rattle.tt_instance.specs.Words.{fixed};
 ghost use Rattle.tt_instance.specs.Limits.{IsInstance};
-ghost use Rattle.tt_instance.specs.Spelling.{course_pieces, room_pieces, curriculum_pieces, bar_pieces};
+ghost use Rattle.tt_instance.specs.Spelling.{course_pieces, room_pieces, curriculum_pieces, unavailability_pieces};
 ghost use Rattle.tt_instance.specs.Writing.{counted_line, section, header_lines, instance_text};
-ghost use Rattle.tt_instance.specs.Seen.{name_seen, course_seen, courses_seen, room_seen, rooms_seen, curriculum_seen, curricula_seen, bar_seen, bars_seen, problem_seen};
+ghost use Rattle.tt_instance.specs.Seen.{name_seen, course_seen, courses_seen, room_seen, rooms_seen, curriculum_seen, curricula_seen, unavailability_seen, unavailabilities_seen, problem_seen};
 
 use crate::fault::Word;
 use crate::parts::Parts;
-use crate::rows::{BarRow, CourseRow, CurriculumRow, RoomRow};
+use crate::rows::{CourseRow, CurriculumRow, RoomRow, UnavailabilityRow};
 use std::alloc::{AllocError, Global};
 use tt_text::{put_number, put_token};
 
@@ -81,7 +81,7 @@ fn put_header(out: &mut Vec<u8>, parts: &Parts<'_>) -> Result<(), AllocError>
     put_count(out, Word::Days, parts.days as usize)?;
     put_count(out, Word::PeriodsPerDay, parts.periods as usize)?;
     put_count(out, Word::Curricula, parts.curricula.rows.len())?;
-    put_count(out, Word::Constraints, parts.bars.rows.len())
+    put_count(out, Word::Constraints, parts.unavailabilities.rows.len())
 }
 
 /// Appends the line of a course.
@@ -168,10 +168,14 @@ fn put_curricula(
 }
 
 /// Appends the line of an unavailability.
-fn put_bar(out: &mut Vec<u8>, courses: &[CourseRow<'_>], row: BarRow) -> Result<(), AllocError>
+fn put_unavailability(
+    out: &mut Vec<u8>,
+    courses: &[CourseRow<'_>],
+    row: UnavailabilityRow,
+) -> Result<(), AllocError>
     requires { row.course < length courses.now }
     ensures { OnOk result (out.new.items ≡ out.old.items
-        ++ line_text (bar_pieces (courses_seen courses.now) (bar_seen row))) }
+        ++ line_text (unavailability_pieces (courses_seen courses.now) (unavailability_seen row))) }
 {
     put_token(out, courses[row.course as usize].id)?;
     put_value(out, u64::from(row.day))?;
@@ -180,15 +184,19 @@ fn put_bar(out: &mut Vec<u8>, courses: &[CourseRow<'_>], row: BarRow) -> Result<
 }
 
 /// Appends the section of the unavailabilities.
-fn put_bars(out: &mut Vec<u8>, courses: &[CourseRow<'_>], rows: &[BarRow]) -> Result<(), AllocError>
+fn put_unavailabilities(
+    out: &mut Vec<u8>,
+    courses: &[CourseRow<'_>],
+    rows: &[UnavailabilityRow],
+) -> Result<(), AllocError>
     requires { All (λ b. b.course < length courses.now) rows.now }
     ensures { OnOk result (out.new.items ≡ out.old.items
         ++ lines_text (section word.UnavailabilityPart
-        ++ map (bar_pieces (courses_seen courses.now)) (bars_seen rows.now))) }
+        ++ map (unavailability_pieces (courses_seen courses.now)) (unavailabilities_seen rows.now))) }
 {
     put_section(out, Word::UnavailabilityPart)?;
     for row in rows {
-        put_bar(out, courses, *row)?;
+        put_unavailability(out, courses, *row)?;
     }
     Ok(())
 }
@@ -203,7 +211,7 @@ pub fn write_parts(alloc: Global, parts: &Parts<'_>) -> Result<Vec<u8>, AllocErr
     put_courses(&mut out, &parts.courses.rows)?;
     put_rooms(&mut out, &parts.rooms.rows)?;
     put_curricula(&mut out, &parts.courses.rows, &parts.curricula.rows)?;
-    put_bars(&mut out, &parts.courses.rows, &parts.bars.rows)?;
+    put_unavailabilities(&mut out, &parts.courses.rows, &parts.unavailabilities.rows)?;
     put_section(&mut out, Word::End)?;
     Ok(out)
 }

@@ -6,7 +6,7 @@ pub use Rattle.tt_leaf_rules.specs.Bounds
 pub use Rattle.tt_leaf_rules.specs.Claims
 pub use Rattle.tt_leaf_rules.specs.Faults
 pub use Rattle.tt_leaf_rules.specs.Leaves
-pub use Rattle.tt_leaf_rules.specs.Met
+pub use Rattle.tt_leaf_rules.specs.NumberSet
 pub use Rattle.tt_leaf_rules.specs.Nested
 pub use Rattle.tt_leaf_rules.specs.Outcomes
 pub use Rattle.tt_leaf_rules.specs.Ranges

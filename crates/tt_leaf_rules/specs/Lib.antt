@@ -2,7 +2,7 @@ pub mod Bounds
 pub mod Claims
 pub mod Faults
 pub mod Leaves
-pub mod Met
+pub mod NumberSet
 pub mod Nested
 pub mod Outcomes
 pub mod Ranges

@@ -12,7 +12,7 @@ ghost use Rattle.tt_leaf_rules.specs.Ranges.{AreBelow};
 ghost use Rattle.tt_leaf_rules.specs.Tests.{are_distinct, is_clique};
 ghost use Rattle.tt_instance.specs.declared.limit.TheConstants.{MAX_COURSES, MAX_ROOMS, MAX_SLOTS};
 
-use crate::met::{FEW, Met};
+use crate::met::{FEW, NumberSet};
 use crate::slots::{slot_at, slot_count};
 use tt_bits::{below, count, either};
 use tt_instance::{Instance, MAX_PERIODS};
@@ -69,10 +69,10 @@ fn each_is_new(courses: &[u32]) -> bool
     requires { AreBelow MAX_COURSES courses.now }
     ensures { result ≡ are_distinct courses.now }
 {
-    let mut met = Met::none();
+    let mut met = NumberSet::none();
     let mut rest = courses;
     while let Some((first, others)) = rest.split_first() {
-        if !met.meet(*first as usize) {
+        if !met.insert(*first as usize) {
             return false;
         }
         rest = others;

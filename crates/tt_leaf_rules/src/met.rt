@@ -1,7 +1,7 @@
 //! Numbers that have been met.
 
 ghost use Rattle.std.specs.Prelude.{◌≡◌, ℕ, ◌<◌, ◌==◌, ◌||◌, ◌&&◌, ◌∷◌, not, false, List, slice_index_or};
-ghost use Rattle.tt_leaf_rules.specs.Met.{marked, are_new};
+ghost use Rattle.tt_leaf_rules.specs.NumberSet.{marked, are_new};
 
 use std::marker::Model;
 
@@ -13,11 +13,11 @@ pub const FEW: usize = 32;
 
 /// For each number, whether it has been met.
 #[derive(Drop)]
-pub struct Met {
+pub struct NumberSet {
     marks: [bool; PLACES],
 }
 
-impl Model for Met {
+impl Model for NumberSet {
     ghost use Rattle.std.specs.Prelude.{List, Bool};
 
     ghost Value = { List Bool };
@@ -25,12 +25,12 @@ impl Model for Met {
     ghost view = { λ m. m.marks };
 }
 
-impl Met {
+impl NumberSet {
     /// Creates marks that say that no number has been met.
     pub fn none() -> Self
         ensures { (k : ℕ) → marked result k ≡ false }
     {
-        Met {
+        NumberSet {
             marks: [false; PLACES],
         }
     }
@@ -50,7 +50,7 @@ impl Met {
     }
 
     /// Meets a number, and returns whether it had not been met before.
-    pub fn meet(&mut self, number: usize) -> bool
+    pub fn insert(&mut self, number: usize) -> bool
         requires { number < PLACES }
         ensures { (behind : List ℕ) → are_new self.old (number ∷ behind) ≡ (result && are_new self.new behind) }
     {

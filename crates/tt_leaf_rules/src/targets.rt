@@ -3,13 +3,13 @@
 ghost use Rattle.std.specs.Prelude.{◌≡◌, ℕ, ◌*◌, ◌<◌, ◌==◌, ◌&&◌, ◌++◌, not, map, List, All};
 ghost use Rattle.std.specs.List.{list_any, list_all};
 ghost use Rattle.tt_leaf_rules.specs.Claims.{RoomCapacity, WorkingDays, Compactness, Stability};
-ghost use Rattle.tt_leaf_rules.specs.Met.{are_new, places_of, IsPlaced};
+ghost use Rattle.tt_leaf_rules.specs.NumberSet.{are_new, places_of, IsPlaced};
 ghost use Rattle.tt_leaf_rules.specs.Nested.{claims_target, are_apart, IsOnce};
 ghost use Rattle.tt_leaf_rules.specs.Tests.{claims_once};
 ghost use Rattle.tt_leaf_rules.specs.declared.met.TheConstants.{PLACES};
 
 use crate::leaf::Claim;
-use crate::met::{FEW, Met};
+use crate::met::{FEW, NumberSet};
 
 fn is_priced(courses: &[(u32, u32)], course: u32) -> bool
     ensures { result ≡ list_any (λ k. course == k.0) courses.now }
@@ -98,13 +98,13 @@ fn each_two_apart(claims: &[Claim]) -> bool
 }
 
 /// Meets the room capacity of each course in turn, up to the first that had been met before; returns whether none had been.
-fn meet_capacities(met: &mut Met, courses: &[(u32, u32)]) -> bool
+fn insert_capacities(met: &mut NumberSet, courses: &[(u32, u32)]) -> bool
     requires { All (λ n. n < PLACES) (map (λ k. 4 * k.0) courses.now) }
     ensures { (behind : List ℕ) → are_new met.old (map (λ k. 4 * k.0) courses.now ++ behind) ≡ (result && are_new met.new behind) }
 {
     let mut rest = courses;
     while let Some((first, others)) = rest.split_first() {
-        if !met.meet(4 * first.0 as usize) {
+        if !met.insert(4 * first.0 as usize) {
             return false;
         }
         rest = others;
@@ -113,16 +113,16 @@ fn meet_capacities(met: &mut Met, courses: &[(u32, u32)]) -> bool
 }
 
 /// Meets the targets of a claim in turn, up to the first that had been met before; returns whether none had been.
-fn meet_targets(met: &mut Met, claim: &Claim) -> bool
+fn insert_targets(met: &mut NumberSet, claim: &Claim) -> bool
     requires { IsPlaced claim.now }
     ensures { (behind : List ℕ) → are_new met.old (places_of claim.now ++ behind) ≡ (result && are_new met.new behind) }
 {
     match claim {
-        Claim::Capacity { course, .. } => met.meet(4 * *course as usize),
-        Claim::Days(course) | Claim::Stacked(course) => met.meet(4 * *course as usize + 1),
-        Claim::Compact(curriculum) => met.meet(4 * *curriculum as usize + 2),
-        Claim::Stable(course) => met.meet(4 * *course as usize + 3),
-        Claim::Prices { courses, .. } => meet_capacities(met, courses.as_slice()),
+        Claim::Capacity { course, .. } => met.insert(4 * *course as usize),
+        Claim::Days(course) | Claim::Stacked(course) => met.insert(4 * *course as usize + 1),
+        Claim::Compact(curriculum) => met.insert(4 * *curriculum as usize + 2),
+        Claim::Stable(course) => met.insert(4 * *course as usize + 3),
+        Claim::Prices { courses, .. } => insert_capacities(met, courses.as_slice()),
     }
 }
 
@@ -132,10 +132,10 @@ fn each_is_new(claims: &[Claim]) -> bool
     requires { All IsPlaced claims.now }
     ensures { result ≡ claims_once claims.now }
 {
-    let mut met = Met::none();
+    let mut met = NumberSet::none();
     let mut rest = claims;
     while let Some((first, others)) = rest.split_first() {
-        if !meet_targets(&mut met, first) {
+        if !insert_targets(&mut met, first) {
             return false;
         }
         rest = others;

@@ -12,9 +12,9 @@ use Rattle.tt_change.specs.Weight.{repeats}
 use Rattle.tt_change.proofs.Chosen.{any_counted}
 use Rattle.tt_tallies.proofs.Spreads.{used_more}
 use Rattle.tt_moves.specs.Rests.{IsRest}
-use Rattle.tt_moves.specs.declared.rest.Rest.{Rest}
+use Rattle.tt_moves.specs.declared.rest.WithoutEntry.{WithoutEntry}
 
-module _ (r : Rest) (u : List Cell) (ok : IsRest r u) where
+module _ (r : WithoutEntry) (u : List Cell) (ok : IsRest r u) where
   abbrev entries : List Cell
   entries = r.occupied.now.entries
 

@@ -14,8 +14,8 @@ use Rattle.tt_change.specs.Standing.{standing, stands, stands_beside, joined_bef
 use Rattle.tt_change.proofs.Chosen.{any_counted}
 use Rattle.tt_occupancy.proofs.Standings.{none_standing}
 use Rattle.tt_moves.specs.Rests.{IsRest, IsStill}
-use Rattle.tt_moves.specs.Rounds.{is_beside, CountsOther}
-use Rattle.tt_moves.specs.declared.rest.Rest.{Rest}
+use Rattle.tt_moves.specs.Rounds.{is_beside, OtherIsHandled}
+use Rattle.tt_moves.specs.declared.rest.WithoutEntry.{WithoutEntry}
 
 -- ---- tests
 
@@ -91,9 +91,9 @@ module _ (p : Problem) (u : List Cell) (q d : ℕ) (ok : IsTimetable p u) (short
 
 -- -- the moved entry
 
-module _ (r : Rest) (q d : ℕ) (gone : in_curriculum r.occupied.now.problem q r.gone.course ≡ true) where
+module _ (r : WithoutEntry) (q d : ℕ) (gone : in_curriculum r.occupied.now.problem q r.gone.course ≡ true) where
   -- the moved entry makes no difference, or is counted if its course belongs to the curriculum
-  pub other_counts : (is_still other : Bool) → r.from.course ≡ r.to.course → (is_still ≡ true → IsStill r d) → other ≡ (not is_still && in_curriculum r.occupied.now.problem q r.from.course) → CountsOther r q d other
+  pub other_counts : (is_still other : Bool) → r.from.course ≡ r.to.course → (is_still ≡ true → IsStill r d) → other ≡ (not is_still && in_curriculum r.occupied.now.problem q r.from.course) → OtherIsHandled r q d other
   other_counts true other course still e = λ s.
       let same = ap one_if (still refl q s gone) in
       let to = ap (λ b. one_if (b && is_at (slot d s) r.to)) e in
@@ -105,7 +105,7 @@ module _ (r : Rest) (q d : ℕ) (gone : in_curriculum r.occupied.now.problem q r
       let both = ap (λ k. one_if (in_curriculum r.occupied.now.problem q k && is_at (slot d s) r.to)) course in
       omega arith
 
-  module _ (other : Bool) (counts : CountsOther r q d other) (u : List Cell) (rest : IsRest r u) (s : ℕ) where
+  module _ (other : Bool) (counts : OtherIsHandled r q d other) (u : List Cell) (rest : IsRest r u) (s : ℕ) where
     -- the count over the rest, from the count over the timetable
     pub standing_adjusted : standing r.occupied.now.problem u q d s + one_if (other && is_at (slot d s) r.from) + one_if (is_at (slot d s) r.gone) ≡ standing r.occupied.now.problem r.occupied.now.entries q d s + one_if (other && is_at (slot d s) r.to)
     standing_adjusted =

@@ -18,7 +18,7 @@ use Rattle.tt_moves.specs.Exchanges.{IsExchange, IsFirst, Lead}
 use Rattle.tt_moves.specs.Rests.{IsRest, rest_without}
 use Rattle.tt_moves.specs.Steps.{no_entry, entry_at, in_place_of, stepped}
 use Rattle.tt_moves.specs.declared.exchanges.Exchanges.TheVariants.{Two}
-use Rattle.tt_moves.specs.declared.rest.Rest.{Rest}
+use Rattle.tt_moves.specs.declared.rest.WithoutEntry.{WithoutEntry}
 use Rattle.tt_moves.specs.declared.step.Step.TheVariants.{Move, Swap}
 
 All-remove : {X : Type 0} (P : X → Type 0) (xs : List X) (i : ℕ) → i < length xs → All P xs → All P (remove xs i)
@@ -81,7 +81,7 @@ module _ (o : Bor Filled) where
   }
 
   -- a move by one exchange
-  pub moved_by_one : (i r d s : ℕ) (rest : Rest) → rest ≡ rest_without o i → IsRest rest (remove t i) → i < length t → r < length p.rooms → d < p.days → s < p.periods → IsFirst o.now (Move i r d s) (record { rest = rest; to = record { course = rest.gone.course; room = r; day = d; period = s } }) (stepped t (Move i r d s))
+  pub moved_by_one : (i r d s : ℕ) (rest : WithoutEntry) → rest ≡ rest_without o i → IsRest rest (remove t i) → i < length t → r < length p.rooms → d < p.days → s < p.periods → IsFirst o.now (Move i r d s) (record { rest = rest; to = record { course = rest.gone.course; room = r; day = d; period = s } }) (stepped t (Move i r d s))
   moved_by_one i r d s rest is ok h room day period =
       let whole = subst (λ z. IsRest z (remove t i)) is ok in
       let at = whole.gone in
@@ -111,7 +111,7 @@ module _ (o : Bor Filled) where
       here = in_place_of (entry_at t j) (entry_at t i)
 
       -- the entries except the second
-      abbrev rest_other : Rest
+      abbrev rest_other : WithoutEntry
       rest_other = record { occupied = o; from = entry_at t i; to = there; gone = entry_at t j }
 
       there_in_range : InRange p there

@@ -7,14 +7,14 @@ use Rattle.tt_instance.specs.Courses.{in_curriculum}
 use Rattle.tt_instance.specs.declared.cell.Cell.{Cell}
 use Rattle.tt_table.specs.Table.{IsTimetable}
 use Rattle.tt_occupancy.specs.Filled.{Filled, entry_at}
-use Rattle.tt_moves.specs.declared.rest.Rest.{Rest}
+use Rattle.tt_moves.specs.declared.rest.WithoutEntry.{WithoutEntry}
 
 -- all entries of a timetable except the one at place i
-abbrev pub rest_without : Bor Filled → ℕ → Rest
+abbrev pub rest_without : Bor Filled → ℕ → WithoutEntry
 rest_without o i = record { occupied = o; from = entry_at o.now.entries i; to = entry_at o.now.entries i; gone = entry_at o.now.entries i }
 
 -- u has the entries of the timetable, except that one is moved and one is left out
-pub record IsRest (r : Rest) (u : List Cell) : Type 0 where
+pub record IsRest (r : WithoutEntry) (u : List Cell) : Type 0 where
   pub in_range : IsTimetable r.occupied.now.problem u
   pub gone : InRange r.occupied.now.problem r.gone
   pub course : r.from.course ≡ r.to.course
@@ -23,5 +23,5 @@ pub record IsRest (r : Rest) (u : List Cell) : Type 0 where
   pub own : (test : Cell → Bool) → (is_of r.gone.course r.from && test r.from) ≡ (is_of r.gone.course r.to && test r.to)
 
 -- on day d the moved entry counts in each curriculum of the course left out as it did before
-abbrev pub IsStill : Rest → ℕ → Type 0
+abbrev pub IsStill : WithoutEntry → ℕ → Type 0
 IsStill r d = (q s : ℕ) → in_curriculum r.occupied.now.problem q r.gone.course ≡ true → (in_curriculum r.occupied.now.problem q r.from.course && is_at (slot d s) r.from) ≡ (in_curriculum r.occupied.now.problem q r.to.course && is_at (slot d s) r.to)

@@ -8,7 +8,7 @@ ghost use Rattle.tt_moves.specs.Steps.{CanStep, in_place_of, stepped};
 ghost use Rattle.tt_moves.specs.declared.step.Step.{Step};
 
 use crate::exchanging::Exchange;
-use crate::rest::Rest;
+use crate::rest::WithoutEntry;
 use crate::step::Step;
 use tt_occupancy::Occupied;
 use tt_table::Entry;
@@ -86,7 +86,7 @@ fn exchange_of_move<'b, 'a, 'i>(
     ensures { IsFirst occupied.now (Step.Move entry room day period) result
         (stepped occupied.now.entries (Step.Move entry room day period)) }
 {
-    let rest = Rest::without(occupied, entry);
+    let rest = WithoutEntry::without(occupied, entry);
     Exchange {
         rest,
         to: Entry {
@@ -109,14 +109,14 @@ fn exchanges_of_swap<'b, 'a, 'i>(
     requires second { second < length occupied.now.entries }
     ensures { Lead occupied.now (Step.Swap first second) result }
 {
-    let without_one = Rest::without(occupied, first);
+    let without_one = WithoutEntry::without(occupied, first);
     let one = without_one.gone;
     let other = occupied.entry(second);
     if one.course == other.course {
         return Exchanges::Same;
     }
     let there = in_place_of(one, other);
-    let without_other = Rest {
+    let without_other = WithoutEntry {
         to: there,
         gone: other,
         ..without_one

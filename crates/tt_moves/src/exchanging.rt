@@ -8,7 +8,7 @@ ghost use Rattle.tt_moves.specs.Exchanges.{IsExchange, CanExchange};
 ghost use Rattle.tt_moves.specs.Pricing.{IsCost};
 
 use crate::cost::EntryCost;
-use crate::rest::Rest;
+use crate::rest::WithoutEntry;
 use tt_table::Entry;
 
 /// The score after a step minus the score before it.
@@ -21,7 +21,7 @@ pub struct Change {
 /// The entry that a rest leaves out is replaced by another of its course.
 #[derive(Clone, Copy)]
 pub struct Exchange<'b, 'a, 'i> {
-    pub rest: Rest<'b, 'a, 'i>,
+    pub rest: WithoutEntry<'b, 'a, 'i>,
     pub to: Entry,
 }
 

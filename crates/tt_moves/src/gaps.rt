@@ -7,12 +7,12 @@ ghost use Rattle.tt_instance.specs.declared.cell.Cell.{Cell};
 ghost use Rattle.tt_change.specs.Weight.{alone, all_joined};
 ghost use Rattle.tt_moves.specs.Rests.{IsRest};
 
-use crate::rest::Rest;
+use crate::rest::WithoutEntry;
 use tt_instance::MAX_CURRICULA;
 use tt_occupancy::Gaps;
 use tt_table::Entry;
 
-impl Rest<'_, '_, '_> {
+impl WithoutEntry<'_, '_, '_> {
     /// Returns the curricula of the course left out.
     fn curricula(&self) -> &[u32]
         requires { self.now.gone.course < length self.now.occupied.now.problem.courses }

@@ -7,7 +7,7 @@ ghost use Rattle.tt_moves.specs.Steps.{CanStep, first_of, stepped};
 
 use crate::cost::EntryCost;
 use crate::exchanges::{Exchanges, exchanges_of};
-use crate::rest::Rest;
+use crate::rest::WithoutEntry;
 use crate::step::Step;
 use tt_occupancy::Occupied;
 
@@ -16,7 +16,7 @@ pub fn entry_cost(occupied: &Occupied<'_, '_>, entry: u32) -> EntryCost
     requires { entry < length occupied.now.entries }
     ensures { IsEntryCost occupied.now.problem occupied.now.entries entry result }
 {
-    let rest = Rest::without(occupied, entry);
+    let rest = WithoutEntry::without(occupied, entry);
     rest.cost_weight(rest.gone)
 }
 

@@ -10,7 +10,7 @@ ghost use Rattle.tt_tallies.specs.Tallies.{rooms_of};
 ghost use Rattle.tt_change.specs.Standing.{standing};
 ghost use Rattle.tt_change.specs.Weight.{repeats, shares, against};
 ghost use Rattle.tt_moves.specs.Rests.{IsRest, rest_without};
-ghost use Rattle.tt_moves.specs.Rounds.{CountsOther};
+ghost use Rattle.tt_moves.specs.Rounds.{OtherIsHandled};
 ghost use Rattle.tt_instance.specs.declared.limit.TheConstants.{MAX_SLOTS};
 
 use tt_instance::Instance;
@@ -19,7 +19,7 @@ use tt_table::Entry;
 
 /// The entries of a timetable, except that one may be moved and one is left out.
 #[derive(Clone, Copy)]
-pub struct Rest<'b, 'a, 'i> {
+pub struct WithoutEntry<'b, 'a, 'i> {
     pub occupied: &'b Occupied<'a, 'i>,
     /// The moved entry in its old place.
     pub from: Entry,
@@ -72,16 +72,16 @@ fn used_anew(used: u32, at_old: u32, at_new: u32, is_same: bool) -> u32
     used - one_if(at_old == 1) + one_if(at_new - one_if(is_same) == 0)
 }
 
-impl<'b, 'a, 'i> Rest<'b, 'a, 'i> {
+impl<'b, 'a, 'i> WithoutEntry<'b, 'a, 'i> {
     /// Returns all entries except one.
     #[inline(always)]
-    pub fn without(occupied: &'b Occupied<'a, 'i>, entry: u32) -> Rest<'b, 'a, 'i>
+    pub fn without(occupied: &'b Occupied<'a, 'i>, entry: u32) -> WithoutEntry<'b, 'a, 'i>
         requires { entry < length occupied.now.entries }
         ensures value { result ≡ rest_without occupied.entry entry }
         ensures rest { IsRest result (remove occupied.now.entries entry) }
     {
         let gone = occupied.entry(entry);
-        Rest {
+        WithoutEntry {
             occupied,
             from: gone,
             to: gone,
@@ -90,13 +90,13 @@ impl<'b, 'a, 'i> Rest<'b, 'a, 'i> {
     }
 }
 
-impl Rest<'_, '_, '_> {
+impl WithoutEntry<'_, '_, '_> {
     /// Returns the number of entries of a curriculum of the course left out, in a period; 0 past the day's end.
     pub fn standing(&self, curriculum: u32, other: bool, day: u32, period: u32) -> u32
         requires curriculum { curriculum < length self.now.occupied.now.problem.curricula }
         requires day { day < self.now.occupied.now.problem.days }
         requires gone { in_curriculum self.now.occupied.now.problem curriculum self.now.gone.course ≡ true }
-        requires other { CountsOther self.now curriculum day other }
+        requires other { OtherIsHandled self.now curriculum day other }
         requires rest { (u : List Cell) × IsRest self.now u }
         ensures value { (u : List Cell) → IsRest self.now u
             → result ≡ standing self.now.occupied.now.problem u curriculum day period }

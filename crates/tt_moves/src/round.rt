@@ -8,17 +8,17 @@ ghost use Rattle.tt_instance.specs.declared.cell.Cell.{Cell};
 ghost use Rattle.tt_change.specs.Standing.{standing, joined_before, joined_after};
 ghost use Rattle.tt_occupancy.specs.Around.{AreGaps};
 ghost use Rattle.tt_moves.specs.Rests.{IsRest, IsStill};
-ghost use Rattle.tt_moves.specs.Rounds.{AreStanding, AreIsolated, CountsOther};
+ghost use Rattle.tt_moves.specs.Rounds.{AreStanding, AreIsolated, OtherIsHandled};
 
 use crate::beside::beside;
-use crate::rest::Rest;
+use crate::rest::WithoutEntry;
 use tt_bits::{has_bit, next, previous, without};
 use tt_instance::MAX_PERIODS;
 use tt_occupancy::{Gaps, one_if};
 use tt_table::Entry;
 use tt_tallies::put;
 
-impl Rest<'_, '_, '_> {
+impl WithoutEntry<'_, '_, '_> {
     /// Checks whether the moved entry has to be counted again in a curriculum.
     fn is_other(&self, curriculum: u32, is_still: bool) -> bool
         ensures { result ≡ (not is_still
@@ -36,7 +36,7 @@ impl Rest<'_, '_, '_> {
         requires curriculum { curriculum < length self.now.occupied.now.problem.curricula }
         requires day { day < self.now.occupied.now.problem.days }
         requires gone { in_curriculum self.now.occupied.now.problem curriculum self.now.gone.course ≡ true }
-        requires other { CountsOther self.now curriculum day other }
+        requires other { OtherIsHandled self.now curriculum day other }
         requires rest { (u : List Cell) × IsRest self.now u }
         ensures { (u : List Cell) → IsRest self.now u → (s : ℕ) → s < 64
             → has_bit result s ≡ cond (is_at (slot day s) entry)
@@ -54,7 +54,7 @@ impl Rest<'_, '_, '_> {
         requires curriculum { curriculum < length self.now.occupied.now.problem.curricula }
         requires day { day < self.now.occupied.now.problem.days }
         requires gone { in_curriculum self.now.occupied.now.problem curriculum self.now.gone.course ≡ true }
-        requires other { CountsOther self.now curriculum day other }
+        requires other { OtherIsHandled self.now curriculum day other }
         requires rest { (u : List Cell) × IsRest self.now u }
         ensures { AreStanding self.now curriculum day result }
     {
@@ -80,7 +80,7 @@ impl Rest<'_, '_, '_> {
         requires day { day < self.now.occupied.now.problem.days }
         requires period { period < self.now.occupied.now.problem.periods }
         requires gone { in_curriculum self.now.occupied.now.problem curriculum self.now.gone.course ≡ true }
-        requires other { CountsOther self.now curriculum day other }
+        requires other { OtherIsHandled self.now curriculum day other }
         requires rest { (u : List Cell) × IsRest self.now u }
         requires isolated { AreIsolated self.now curriculum day isolated }
         ensures value { (u : List Cell) → IsRest self.now u
@@ -109,7 +109,7 @@ impl Rest<'_, '_, '_> {
         requires day { day < self.now.occupied.now.problem.days }
         requires period { period < self.now.occupied.now.problem.periods }
         requires gone { in_curriculum self.now.occupied.now.problem curriculum self.now.gone.course ≡ true }
-        requires other { CountsOther self.now curriculum day other }
+        requires other { OtherIsHandled self.now curriculum day other }
         requires rest { (u : List Cell) × IsRest self.now u }
         requires isolated { AreIsolated self.now curriculum day isolated }
         ensures value { (u : List Cell) → IsRest self.now u

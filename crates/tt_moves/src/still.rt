@@ -5,9 +5,9 @@ ghost use Rattle.tt_instance.specs.Courses.{in_curriculum};
 ghost use Rattle.tt_instance.specs.declared.cell.Cell.{Cell};
 ghost use Rattle.tt_moves.specs.Rests.{IsRest, IsStill};
 
-use crate::rest::Rest;
+use crate::rest::WithoutEntry;
 
-impl Rest<'_, '_, '_> {
+impl WithoutEntry<'_, '_, '_> {
     /// Checks whether the moved entry is of a course that shares no curriculum with the one left out.
     fn is_stranger(&self) -> bool
         ensures { result ≡ true → (q : ℕ)

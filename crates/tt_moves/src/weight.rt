@@ -9,11 +9,11 @@ ghost use Rattle.tt_moves.specs.Pricing.{IsCost};
 ghost use Rattle.tt_moves.specs.Rests.{IsRest};
 
 use crate::cost::EntryCost;
-use crate::rest::Rest;
+use crate::rest::WithoutEntry;
 use tt_occupancy::one_if;
 use tt_table::Entry;
 
-impl Rest<'_, '_, '_> {
+impl WithoutEntry<'_, '_, '_> {
     /// Returns the cost of the days and rooms of the course left out, with an entry of it.
     fn spread_cost(&self, entry: Entry) -> u32
         requires in_range { InRange self.now.occupied.now.problem entry }

@@ -18,7 +18,7 @@ use Rattle.tt_proof_read.specs.declared.fault.TextFault.TheVariants as text
 use Rattle.tt_proof_check.specs.Derives.{HoldsOfAll}
 use Rattle.tt_proof_check.specs.Faults.{OutOfMemoryIsNoTextFault}
 use Rattle.tt_proof_check.specs.Headline.{Solves, BreaksARule, Certifies, BoundsAll}
-use Rattle.tt_proof_check.specs.Streams.{IsProved, IsSilent, stream_of, IsProofFault}
+use Rattle.tt_proof_check.specs.Streams.{IsProved, IsEnvironmental, stream_of, IsProofFault}
 use Rattle.tt_proof_check.specs.Verdicts.{IsYes, IsBroken, IsVerdict, IsFirstFault, IsOfFiles, AnswersYes, AnswersBroken, GivesBound, IsBoundFault, OutOfMemoryIsOneFault, fault_from_instance, fault_from_solution, fault_from_check, read_failed}
 use Rattle.tt_proof_check.specs.declared.fault.CheckFault.{CheckFault}
 use Rattle.tt_proof_check.specs.declared.fault.CheckFault.TheVariants as check
@@ -55,7 +55,7 @@ check_told p bytes (check.Rule n f) h = h
 check_told p bytes (check.TooDeep n) h = h
 
 -- a silent error says nothing about the bytes
-pub silent_told : (f : CheckFault) (b : ℕ) → IsSilent f → GivesBound (Err (fault_from_check f)) b
+pub silent_told : (f : CheckFault) (b : ℕ) → IsEnvironmental f → GivesBound (Err (fault_from_check f)) b
 silent_told f b (inl e) = subst (λ g. GivesBound (Err (fault_from_check g)) b) (sym e) (inl refl)
 silent_told f b (inr e) = subst (λ g. GivesBound (Err (fault_from_check g)) b) (sym e) (inr refl)
 

@@ -24,7 +24,7 @@ use Rattle.tt_proof_check.specs.Derives.{Derives}
 use Rattle.tt_proof_check.specs.FailedReads.{IsCutOff}
 use Rattle.tt_proof_check.specs.Pending.{pending}
 use Rattle.tt_proof_check.specs.Streams.{stream_of, sizes_of}
-use Rattle.tt_proof_check.specs.Tells.{Passes, FailsAt}
+use Rattle.tt_proof_check.specs.Explains.{Passes, FailsAt}
 
 -- a missing seat and two isolated entries
 abbrev five : Leaf

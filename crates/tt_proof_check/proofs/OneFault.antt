@@ -19,7 +19,7 @@ use Rattle.tt_leaf_rules.specs.declared.leaf.Bound.{Bound}
 use Rattle.tt_leaf_rules.specs.declared.leaf.Leaf.{Leaf}
 use Rattle.tt_leaf_rules.specs.declared.leaf.RuleFault.{RuleFault}
 use Rattle.tt_leaf_rules.proofs.Rightness.{faultless}
-use Rattle.tt_proof_read.specs.Faults.{is_silent}
+use Rattle.tt_proof_read.specs.Faults.{is_environmental}
 use Rattle.tt_proof_read.specs.Reading.{header_at, node_at, end_at}
 use Rattle.tt_proof_read.specs.Reads.{ReadsNodes}
 use Rattle.tt_proof_read.specs.Trees.{Tree, preorder, OnPath, on_paths}
@@ -31,9 +31,9 @@ use Rattle.tt_proof_check.specs.declared.fault.CheckFault.{CheckFault}
 use Rattle.tt_proof_check.specs.declared.fault.CheckFault.TheVariants as told
 use Rattle.tt_proof_check.specs.declared.fault.CertifyFault.{CertifyFault}
 use Rattle.tt_proof_check.specs.declared.fault.CertifyFault.TheVariants as fault
-use Rattle.tt_proof_check.specs.Streams.{IsSilent, stream_of, sizes_of, Fails, NodeFails, EndFails, IsReadTo, HasHeader, IsProofFault}
-use Rattle.tt_proof_check.specs.Tells.{Passes, FailsAt, IsDeepAt}
-use Rattle.tt_proof_check.specs.Verdicts.{FailsSolution, FailsProof, IsFirstFault, SaysNothing}
+use Rattle.tt_proof_check.specs.Streams.{IsEnvironmental, stream_of, sizes_of, Fails, NodeFails, EndFails, IsReadTo, HasHeader, IsProofFault}
+use Rattle.tt_proof_check.specs.Explains.{Passes, FailsAt, IsDeepAt}
+use Rattle.tt_proof_check.specs.Verdicts.{FailsSolution, FailsProof, IsFirstFault, IsEnvironmentalRefusal}
 use Rattle.tt_proof_check.proofs.Determined.{begins_whole, same_header, compare, same_place}
 use Rattle.tt_proof_check.proofs.Files.{one_instance, only_memory}
 use Rattle.tt_proof_check.proofs.Judging.{at_place, tree_passes}
@@ -42,7 +42,7 @@ use Rattle.tt_proof_check.proofs.Texts.{node_silent, place_read}
 
 -- whether the errors are equal, or one says nothing about the text
 abbrev pub AreOne : CheckFault → CheckFault → Type 0
-AreOne f g = (f ≡ g) ⊎ (IsSilent f ⊎ IsSilent g)
+AreOne f g = (f ≡ g) ⊎ (IsEnvironmental f ⊎ IsEnvironmental g)
 
 turned : (f g : CheckFault) → AreOne f g → AreOne g f
 turned f g (inl e) = inl (sym e)
@@ -51,9 +51,9 @@ turned f g (inr (inr s)) = inr (inl s)
 
 -- two errors of one reading
 one_reading : {Y : Type 0} (read : Result Y TextFault) (f g : TextFault) → ¬ (f ≡ text.OutOfMemory) → ¬ (g ≡ text.OutOfMemory) → Fails f read → Fails g read → AreOne (told.Text f) (told.Text g)
-one_reading read f g n m h k = elim (on_false (is_silent f) (read ≡ Err f) h) [
+one_reading read f g n m h k = elim (on_false (is_environmental f) (read ≡ Err f) h) [
   | inl s ↦ inr (inl (silent_is f s n))
-  | inr a ↦ elim (on_false (is_silent g) (read ≡ Err g) k) [
+  | inr a ↦ elim (on_false (is_environmental g) (read ≡ Err g) k) [
     | inl s ↦ inr (inr (silent_is g s m))
     | inr b ↦ inl cc
   ]
@@ -133,7 +133,7 @@ module _ (p : Problem) (v : ℕ) (b : Bound) (s : Stream) where
 
   -- if a node has been read, an error in its text is silent
   node_first : (f : TextFault) → ¬ (f ≡ text.OutOfMemory) → (k : ℕ) (nodes : List Node) (rest after : Stream) (x : Node) (xs : List Node) → length nodes ≡ k → ReadsNodes (sizes_of p) v (0 + length nodes) rest (x ∷ xs) after
-      → Fails f (node_at (sizes_of p) v k rest) → IsSilent (told.Text f)
+      → Fails f (node_at (sizes_of p) v k rest) → IsEnvironmental (told.Text f)
   node_first f n k nodes rest after x xs e r fails =
       let here : k ≡ 0 + length nodes = omega (arith, e) in
       fails_silently f (node_at (sizes_of p) v k rest) (x, r.0) (ap (λ (c : ℕ). node_at (sizes_of p) v c rest) here ∙ r.1) n fails
@@ -174,7 +174,7 @@ module _ (p : Problem) (v : ℕ) (b : Bound) (s : Stream) where
   texts_fail f g n m (inr a) (inr c) = ends_fail f g n m a c
 
   -- before a node that doesn't pass, all texts are read, or fail silently
-  text_silent : (f : TextFault) → ¬ (f ≡ text.OutOfMemory) → (NodeFails p v b s f ⊎ EndFails p v b s f) → (i : ℕ) (P : Tree → Type 0) (c : IsReadTo p v s i P) → Stops p b c.tree i → IsSilent (told.Text f)
+  text_silent : (f : TextFault) → ¬ (f ≡ text.OutOfMemory) → (NodeFails p v b s f ⊎ EndFails p v b s f) → (i : ℕ) (P : Tree → Type 0) (c : IsReadTo p v s i P) → Stops p b c.tree i → IsEnvironmental (told.Text f)
   text_silent f n (inr a) i P c stops = absurd (stops.stops (passes (place_read p v s a.rest a.tree a.reads i P c ∙ stops.found)))
     where
       all : AllByRecursion (Passes p b) (on_paths [] a.tree)
@@ -191,7 +191,7 @@ module _ (p : Problem) (v : ℕ) (b : Bound) (s : Stream) where
       passed h = none_stops p b a.tree c.tree (length a.nodes) i h a.passed
           (one_place (begun_before p v b s f a) (begun_to p v s i P c) i h (omega (arith, c.last))) stops
 
-      onward : (more : List Node) → a.nodes ++ more ≡ c.nodes → ReadsNodes (sizes_of p) v (0 + length a.nodes) a.rest more c.rest → IsSilent (told.Text f)
+      onward : (more : List Node) → a.nodes ++ more ≡ c.nodes → ReadsNodes (sizes_of p) v (0 + length a.nodes) a.rest more c.rest → IsEnvironmental (told.Text f)
       onward [] e r = absurd (passed (omega (arith, ap length (sym (append-nil a.nodes) ∙ e), c.last)))
       onward (x ∷ xs) e r = node_first f n (length a.nodes) a.nodes a.rest c.rest x xs refl r a.fails
 
@@ -256,7 +256,7 @@ abbrev FailsAfter : Problem → TextFault → ℕ → Bound → Stream → Type 
 FailsAfter p f v b rest = NodeFails p v b rest f ⊎ EndFails p v b rest f
 
 -- a header is read, or its text fails silently
-header_silent : (P : ℕ → Bound → Stream → Type 0) (s : Stream) (f : TextFault) → ¬ (f ≡ text.OutOfMemory) → Fails f (header_at s) → HasHeader s P → IsSilent (told.Text f)
+header_silent : (P : ℕ → Bound → Stream → Type 0) (s : Stream) (f : TextFault) → ¬ (f ≡ text.OutOfMemory) → Fails f (header_at s) → HasHeader s P → IsEnvironmental (told.Text f)
 header_silent P s f n h k = fails_silently f (header_at s) ((k.0, k.1), k.2) k.3 n h
 
 texts_one : (p : Problem) (s : Stream) (f g : TextFault) → IsProofFault p s (told.Text f) → IsProofFault p s (told.Text g) → AreOne (told.Text f) (told.Text g)
@@ -266,10 +266,10 @@ texts_one p s f g (n, inr h) (m, inl k) = inr (inr (header_silent (FailsAfter p 
 texts_one p s f g (n, inr h) (m, inr k) = one_header (FailsAfter p f) (FailsAfter p g) (AreOne (told.Text f) (told.Text g)) s (λ v b rest x y. texts_fail p v b rest f g n m x y) h k
 
 text_one : (p : Problem) (s : Stream) (f : TextFault) (i : ℕ) (P : Bound → Tree → Type 0) → ((b : Bound) (tree : Tree) → P b tree → Stops p b tree i) → IsProofFault p s (told.Text f) → HasHeader s (λ v b rest. IsReadTo p v rest i (P b))
-    → IsSilent (told.Text f)
+    → IsEnvironmental (told.Text f)
 text_one p s f i P stops (n, inl h) k = header_silent (λ v b rest. IsReadTo p v rest i (P b)) s f n h k
 text_one p s f i P stops (n, inr h) k =
-    one_header (FailsAfter p f) (λ v b rest. IsReadTo p v rest i (P b)) (IsSilent (told.Text f)) s (λ v b rest x y. text_silent p v b rest f n x i (P b) y (stops b y.tree y.is)) h k
+    one_header (FailsAfter p f) (λ v b rest. IsReadTo p v rest i (P b)) (IsEnvironmental (told.Text f)) s (λ v b rest x y. text_silent p v b rest f n x i (P b) y (stops b y.tree y.is)) h k
 
 -- two errors of one text are equal, or one of them is silent
 pub one_fault : (p : Problem) (s : Stream) (f g : CheckFault) → IsProofFault p s f → IsProofFault p s g → AreOne f g
@@ -298,7 +298,7 @@ one_fault p s (told.TooDeep i) (told.Rule j g) h k =
 -- -- the errors of `certify`
 
 abbrev AreOneRefusal : CertifyFault → CertifyFault → Type 0
-AreOneRefusal f g = (f ≡ g) ⊎ (SaysNothing f ⊎ SaysNothing g)
+AreOneRefusal f g = (f ≡ g) ⊎ (IsEnvironmentalRefusal f ⊎ IsEnvironmentalRefusal g)
 
 proofs_refused : (i s bytes : List ℕ) (f g : CheckFault) → FailsProof i s (Some bytes) f → FailsProof i s (Some bytes) g → AreOneRefusal (fault.Proof f) (fault.Proof g)
 proofs_refused i s bytes f g h k =

@@ -22,12 +22,12 @@ use Rattle.tt_proof_check.specs.declared.fault.CheckFault.{CheckFault}
 use Rattle.tt_proof_check.specs.declared.fault.CheckFault.TheVariants as told
 use Rattle.tt_proof_check.specs.FailedReads.{NodeIsCutOff}
 use Rattle.tt_proof_check.specs.Faults.{fault_from_text}
-use Rattle.tt_proof_check.specs.Heard.{Heard}
+use Rattle.tt_proof_check.specs.Visited.{Visited}
 use Rattle.tt_proof_check.specs.Pending.{pending}
 use Rattle.tt_proof_check.specs.Steps.{Steps, Stops}
-use Rattle.tt_proof_check.specs.Judged.{Judged, TellsNodes, TellsChild}
+use Rattle.tt_proof_check.specs.Judged.{Judged, TellsNodes, ExplainsChild}
 use Rattle.tt_proof_check.specs.Streams.{sizes_of, Fails, NodeFails}
-use Rattle.tt_proof_check.specs.Tells.{Passes, FailsAt, IsDeepAt}
+use Rattle.tt_proof_check.specs.Explains.{Passes, FailsAt, IsDeepAt}
 use Rattle.tt_proof_check.proofs.Counting.{next_places}
 use Rattle.tt_proof_check.proofs.Reading.{Stack, root, next_stack, stack_after, at, places_of, stack_after-push, length-places_of, closing, some_tree, tree_goes_on}
 use Rattle.tt_proof_check.proofs.Sizes.{sizes_are}
@@ -42,13 +42,13 @@ reads_push sizes v count s t u (m ∷ ms) n r e =
     (r.0, r.1, reads_push sizes v (count + 1) r.0 t u ms n r.2 (ap (λ (k : ℕ). node_at sizes v k t) (sym here) ∙ e))
 
 -- another node is visited
-pub heard_push : {X : Type 0} (hears : X → ℕ → Node → X → Type 0) (i : ℕ) (old mid new : X) (k : ℕ) (n : Node) → hears mid k n new → (nodes : List Node) → k ≡ i + length nodes → Heard hears i old mid nodes → Heard hears i old new (nodes ++ n ∷ [])
-heard_push hears i old mid new k n h [] c e =
+pub visited_push : {X : Type 0} (visits : X → ℕ → Node → X → Type 0) (i : ℕ) (old mid new : X) (k : ℕ) (n : Node) → visits mid k n new → (nodes : List Node) → k ≡ i + length nodes → Visited visits i old mid nodes → Visited visits i old new (nodes ++ n ∷ [])
+visited_push visits i old mid new k n h [] c e =
     let here : k ≡ i = omega (arith, c) in
-    (new, subst (λ x. hears x i n new) e (subst (λ j. hears mid j n new) here h), refl)
-heard_push hears i old mid new k n h (m ∷ ms) c e =
+    (new, subst (λ x. visits x i n new) e (subst (λ j. visits mid j n new) here h), refl)
+visited_push visits i old mid new k n h (m ∷ ms) c e =
     let here : k ≡ (i + 1) + length ms = omega (arith, c) in
-    (e.0, e.1, heard_push hears (i + 1) e.0 mid new k n h ms here e.2)
+    (e.0, e.1, visited_push visits (i + 1) e.0 mid new k n h ms here e.2)
 
 -- The nodes that have been read, checked and visited, in this state of the reader, with this stream after them and the path of the due node.
 pub record Sofar (p : Problem) (v : ℕ) (b : Bound) (known : Bool) (H : List Node → Type 0) (s : Stream) (reader : Reader) (t : Stream) (path : List Fact) : Type 0 where
@@ -61,11 +61,11 @@ pub record Sofar (p : Problem) (v : ℕ) (b : Bound) (known : Bool) (H : List No
   pub sizes : AreSizes p reader.sizes
   pub version : reader.version ≡ v
   pub sound : reader.fault ≡ None
-  pub heard : H nodes
+  pub visited : H nodes
 
 pub sofar_start : (p : Problem) (b : Bound) (known : Bool) (H : List Node → Type 0) (s : Stream) (reader : Reader) (path : List Fact) → path ≡ [] → reader.count ≡ 0 → reader.places ≡ 1 → AreSizes p reader.sizes → reader.fault ≡ None → H []
     → Sofar p reader.version b known H s reader s path
-sofar_start p b known H s reader path e c d sizes sound heard = record {
+sofar_start p b known H s reader path e c d sizes sound visited = record {
   nodes = [];
   due = true;
   walked = walked_start p b path e;
@@ -75,7 +75,7 @@ sofar_start p b known H s reader path e c d sizes sound heard = record {
   sizes = sizes;
   version = refl;
   sound = sound;
-  heard = heard;
+  visited = visited;
 }
 
 pub same_length : (x y : Stack) → Some x ≡ Some y → length x ≡ length y
@@ -109,13 +109,13 @@ node_breaks p v b s t nodes path others stack passed reads breaks = (node_fails 
 node_as : (a c : Sizes) (v w count : ℕ) (s : Stream) (P : Result (Node × Stream) TextFault → Type 0) → a ≡ c → v ≡ w → P (node_at a v count s) → P (node_at c w count s)
 node_as a c v w count s P e d h = subst (λ (k : ℕ). P (node_at c k count s)) d (subst (λ (x : Sizes). P (node_at x v count s)) e h)
 
-child_as : (a c : Sizes) (v w count more : ℕ) (s : Stream) (i : ℕ) (e : CheckFault) → a ≡ c → v ≡ w → count ≡ more → TellsChild a v count s i e → TellsChild c w more s i e
+child_as : (a c : Sizes) (v w count more : ℕ) (s : Stream) (i : ℕ) (e : CheckFault) → a ≡ c → v ≡ w → count ≡ more → ExplainsChild a v count s i e → ExplainsChild c w more s i e
 child_as a c v w count more s i e same_sizes same_version same_count h =
-    subst (λ (k : ℕ). TellsChild c w k s i e) same_count
-    (subst (λ (k : ℕ). TellsChild c k count s i e) same_version (subst (λ (x : Sizes). TellsChild x v count s i e) same_sizes h))
+    subst (λ (k : ℕ). ExplainsChild c w k s i e) same_count
+    (subst (λ (k : ℕ). ExplainsChild c k count s i e) same_version (subst (λ (x : Sizes). ExplainsChild x v count s i e) same_sizes h))
 
 -- after nodes that pass, a node is due on a path that is too long; it has been read, or its text fails
-told_child : (p : Problem) (v : ℕ) (b : Bound) (s t : Stream) (nodes : List Node) (i : ℕ) → IsDeepNext p b nodes → length nodes ≡ i → ReadsNodes (sizes_of p) v 0 s nodes t → (e : CheckFault) → TellsChild (sizes_of p) v i t i e
+told_child : (p : Problem) (v : ℕ) (b : Bound) (s t : Stream) (nodes : List Node) (i : ℕ) → IsDeepNext p b nodes → length nodes ≡ i → ReadsNodes (sizes_of p) v 0 s nodes t → (e : CheckFault) → ExplainsChild (sizes_of p) v i t i e
     → TellsNodes p v b s e
 told_child p v b s t nodes i d len reads (told.Text f) c =
     (c.0, node_fails p v b s t f nodes d.path d.others d.stack d.passed reads (subst (λ (k : ℕ). Fails f (node_at (sizes_of p) v k t)) (sym len) c.1))
@@ -162,7 +162,7 @@ module _ (p : Problem) (v : ℕ) (b : Bound) (known : Bool) (H : List Node → T
         reads_push (sizes_of p) v 0 s t u m.nodes n (m.reads k) (ap (λ (i : ℕ). node_at (sizes_of p) v i t) here ∙ text)
 
     pub sofar_next : (G : List Node → Type 0) → ((nodes : List Node) → length nodes ≡ old.count → H nodes → G (nodes ++ n ∷ [])) → (next : List Fact) → Steps p b path n next → length next ≤ 65536 → Sofar p v b known G s new u next
-    sofar_next G hear next step within =
+    sofar_next G visit next step within =
         let w = is_due goes.0 in
         let h = walked_next p b m.nodes path next n w.0 step within in
         record {
@@ -176,7 +176,7 @@ module _ (p : Problem) (v : ℕ) (b : Bound) (known : Bool) (H : List Node → T
           sizes = subst (AreSizes p) (ap (λ (r : Reader). r.sizes) (sym goes.1)) m.sizes;
           version = ap (λ (r : Reader). r.version) goes.1 ∙ m.version;
           sound = ap (λ (r : Reader). r.fault) goes.1 ∙ m.sound;
-          heard = hear m.nodes m.count m.heard;
+          visited = visit m.nodes m.count m.visited;
         }
 
     -- the node is a leaf that is not right
@@ -198,7 +198,7 @@ module _ (p : Problem) (v : ℕ) (b : Bound) (known : Bool) (H : List Node → T
         }
 
     -- the node is a split whose children are too deep
-    pub sofar_deep : (i : ℕ) (e : CheckFault) → i ≡ old.count → Stops p b path n TooDeep → known ≡ true → TellsChild new.sizes new.version new.count u (i + 1) e → TellsNodes p v b s e
+    pub sofar_deep : (i : ℕ) (e : CheckFault) → i ≡ old.count → Stops p b path n TooDeep → known ≡ true → ExplainsChild new.sizes new.version new.count u (i + 1) e → TellsNodes p v b s e
     sofar_deep i e number stops k child =
         let here : new.count ≡ i + 1 = ap (λ (r : Reader). r.count) goes.1 ∙ ap (λ (j : ℕ). j + 1) (sym number) in
         told_child p v b s u (m.nodes ++ n ∷ []) (i + 1) (too_deep p b m.nodes path n (is_due goes.0).0 stops) (one_more n ∙ ap (λ (j : ℕ). j + 1) (sym number)) (read_one k) e
@@ -225,7 +225,7 @@ module _ (p : Problem) (v : ℕ) (b : Bound) (known : Bool) (H : List Node → T
             reads = λ k. subst (λ (x : Stream). ReadsNodes (sizes_of p) v 0 s (preorder h.0) x) (sym (says k)) (subst (λ (l : List Node). ReadsNodes (sizes_of p) v 0 s l t) (sym h.1) (m.reads k));
             shallow = h.2;
             derives = h.3;
-            heard = subst H (sym h.1) m.heard;
+            visited = subst H (sym h.1) m.visited;
           }
 
   -- the text of the due node fails

@@ -3,13 +3,13 @@ use Rattle.std.proofs.Common.{◌≡◌, Bool, true, false, Result, Ok, Err, IfE
 use Rattle.std.specs.Prelude.{IsErrAnd}
 use Rattle.std.specs.Bool.{OnFalse}
 use Rattle.tt_text.specs.declared.feed.FeedFault.TheVariants as feed
-use Rattle.tt_proof_read.specs.Faults.{is_silent, read_failed}
+use Rattle.tt_proof_read.specs.Faults.{is_environmental, read_failed}
 use Rattle.tt_proof_read.specs.declared.fault.TextFault.{TextFault}
 use Rattle.tt_proof_read.specs.declared.fault.TextFault.TheVariants as text
 use Rattle.tt_proof_check.specs.declared.fault.CheckFault.{CheckFault}
 use Rattle.tt_proof_check.specs.declared.fault.CheckFault.TheVariants as told
 use Rattle.tt_proof_check.specs.Faults.{fault_from_text, OutOfMemoryIsNoTextFault}
-use Rattle.tt_proof_check.specs.Streams.{Fails, IsSilent}
+use Rattle.tt_proof_check.specs.Streams.{Fails, IsEnvironmental}
 
 -- an error of the text is either being out of memory or becomes a text error of the check
 pub text_cases : (f : TextFault) (Q : CheckFault → Type 0) → Q told.OutOfMemory → (¬ (f ≡ text.OutOfMemory) → Q (told.Text f)) → Q (fault_from_text f)
@@ -61,7 +61,7 @@ on_false true P h = inl refl
 on_false false P h = inr h
 
 -- a silent error is a failed read or being out of memory
-pub silent_is : (f : TextFault) → is_silent f ≡ true → ¬ (f ≡ text.OutOfMemory) → IsSilent (told.Text f)
+pub silent_is : (f : TextFault) → is_environmental f ≡ true → ¬ (f ≡ text.OutOfMemory) → IsEnvironmental (told.Text f)
 silent_is (text.Ended at) e n = cc
 silent_is (text.Expected w at) e n = cc
 silent_is (text.UnknownWord at) e n = cc
@@ -80,8 +80,8 @@ abbrev read_fault : {Y : Type 0} → TextFault → Result Y TextFault
 read_fault f = Err f
 
 -- an error of a text that can be read is silent
-pub fails_silently : {Y : Type 0} (f : TextFault) (read : Result Y TextFault) (y : Y) → read ≡ Ok y → ¬ (f ≡ text.OutOfMemory) → Fails f read → IsSilent (told.Text f)
-fails_silently f read y e n h = elim (on_false (is_silent f) (read ≡ Err f) h) [
+pub fails_silently : {Y : Type 0} (f : TextFault) (read : Result Y TextFault) (y : Y) → read ≡ Ok y → ¬ (f ≡ text.OutOfMemory) → Fails f read → IsEnvironmental (told.Text f)
+fails_silently f read y e n h = elim (on_false (is_environmental f) (read ≡ Err f) h) [
   | inl s ↦ silent_is f s n
   | inr err ↦ absurd cc
 ]

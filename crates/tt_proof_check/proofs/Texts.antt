@@ -17,10 +17,10 @@ use Rattle.tt_proof_read.proofs.Small.{are_small}
 use Rattle.tt_proof_check.specs.declared.fault.CheckFault.{CheckFault}
 use Rattle.tt_proof_check.specs.declared.fault.CheckFault.TheVariants as told
 use Rattle.tt_proof_check.specs.Derives.{Derives, IsShallow, HoldsOfAll}
-use Rattle.tt_proof_check.specs.Heard.{IsHeardProof}
+use Rattle.tt_proof_check.specs.Visited.{IsVisitedProof}
 use Rattle.tt_proof_check.specs.Judged.{Proved}
-use Rattle.tt_proof_check.specs.Streams.{IsProved, IsSilent, stream_of, sizes_of, Fails, NodeFails, EndFails, IsReadTo, HasHeader, IsProofFault}
-use Rattle.tt_proof_check.specs.Tells.{FailsAt, IsDeepAt}
+use Rattle.tt_proof_check.specs.Streams.{IsProved, IsEnvironmental, stream_of, sizes_of, Fails, NodeFails, EndFails, IsReadTo, HasHeader, IsProofFault}
+use Rattle.tt_proof_check.specs.Explains.{FailsAt, IsDeepAt}
 use Rattle.tt_proof_check.proofs.Determined.{begins_whole, same_header, compare, same_place}
 use Rattle.tt_proof_check.proofs.Judging.{tree_passes, never_fails, never_deep}
 use Rattle.tt_proof_check.proofs.Sizes.{are_sizes_of}
@@ -41,20 +41,20 @@ module _ (p : Problem) (v : ℕ) (s noded : Stream) (tree : Tree) (reads : Reads
 
   -- after nodes that some tree continues, an error in the text of a node is silent
   pub node_silent : (f : TextFault) → ¬ (f ≡ text.OutOfMemory) → (nodes : List Node) (rest : Stream) (other : Tree) (next : Node) (behind : List Node) → ReadsNodes (sizes_of p) v 0 s nodes rest → preorder other ≡ nodes ++ next ∷ behind
-      → Fails f (node_at (sizes_of p) v (length nodes) rest) → IsSilent (told.Text f)
+      → Fails f (node_at (sizes_of p) v (length nodes) rest) → IsEnvironmental (told.Text f)
   node_silent f n nodes rest other next behind reads_these begins fails = elim (compare (sizes_of p) v 0 s rest noded nodes (preorder tree) reads_these reads) [
     | inl m ↦ onward m.0 m.1 m.2
     | inr m ↦ absurd (none_due nodes m.0 other next behind m.1 begins)
   ]
     where
-      onward : (more : List Node) → nodes ++ more ≡ preorder tree → ReadsNodes (sizes_of p) v (0 + length nodes) rest more noded → IsSilent (told.Text f)
+      onward : (more : List Node) → nodes ++ more ≡ preorder tree → ReadsNodes (sizes_of p) v (0 + length nodes) rest more noded → IsEnvironmental (told.Text f)
       onward [] e r = absurd (none_due nodes [] other next behind (append-nil (preorder tree) ∙ sym e ∙ append-nil nodes) begins)
       onward (x ∷ xs) e r =
           let here : length nodes ≡ 0 + length nodes = omega arith in
           fails_silently f (node_at (sizes_of p) v (length nodes) rest) (x, r.0) (ap (λ (k : ℕ). node_at (sizes_of p) v k rest) here ∙ r.1) n fails
 
   -- after a whole tree, an error in the text of the end is silent
-  pub end_silent : (ended : Stream) → end_at noded ≡ Ok ended → (f : TextFault) → ¬ (f ≡ text.OutOfMemory) → (other : Tree) (rest : Stream) → ReadsNodes (sizes_of p) v 0 s (preorder other) rest → Fails f (end_at rest) → IsSilent (told.Text f)
+  pub end_silent : (ended : Stream) → end_at noded ≡ Ok ended → (f : TextFault) → ¬ (f ≡ text.OutOfMemory) → (other : Tree) (rest : Stream) → ReadsNodes (sizes_of p) v 0 s (preorder other) rest → Fails f (end_at rest) → IsEnvironmental (told.Text f)
   end_silent ended finish f n other rest reads_these fails = fails_silently f (end_at rest) ended (ap end_at same ∙ finish) n fails
     where
       none : (k : ℕ) (x y : Stream) (more : List Node) → [] ≡ more → ReadsNodes (sizes_of p) v k x more y → x ≡ y
@@ -83,7 +83,7 @@ module _ (p : Problem) (s : Stream) (v : ℕ) (b : Bound) (tree : Tree) (r : Rea
   pub bound_is : (known : Bool) (H : List Node → Type 0) (c : Bound) → known ≡ true → Proved p known H s c → c ≡ b
   bound_is known H c k h = ap (λ (x : (ℕ × Bound) × Stream). x.0.1) (same_header ((h.version, c), (h.reads k).headed) ((v, b), r.headed) (sym (h.reads k).header ∙ r.header))
 
-  pub only_silent : IsShallow tree → Derives p b [] tree → (e : CheckFault) → IsProofFault p s e → IsSilent e
+  pub only_silent : IsShallow tree → Derives p b [] tree → (e : CheckFault) → IsProofFault p s e → IsEnvironmental e
   only_silent shallow d (told.Text f) (n, inl h) = fails_silently f (header_at s) ((v, b), r.headed) r.header n h
   only_silent shallow d (told.Text f) (n, inr h) = elim (header_is (λ w c rest. NodeFails p w c rest f ⊎ EndFails p w c rest f) h) [
     | inl a ↦ node_silent p v r.headed r.noded tree r.nodes f n a.nodes a.rest a.tree a.next a.more a.reads a.begins a.fails
@@ -115,34 +115,34 @@ module _ (p : Problem) (remaining : Option (List ℕ)) (H : List Node → Type 0
   proof_found (Ok b) h = λ bytes e. found_in bytes e b h
   proof_found (Err x) h = tt
 
-  pub proof_heard : (r : Result Bound CheckFault) → IfOk r (λ b. Proved p (is_some remaining) H (stream_at fresh remaining) b) → IfOk r (IsHeardProof p remaining H)
-  proof_heard (Ok b) h = record {
+  pub proof_visited : (r : Result Bound CheckFault) → IfOk r (λ b. Proved p (is_some remaining) H (stream_at fresh remaining) b) → IfOk r (IsVisitedProof p remaining H)
+  proof_visited (Ok b) h = record {
     version = h.version;
     tree = h.tree;
     spelled = λ bytes e. reads_spelled p (sizes_of p) (are_sizes_of p) bytes h.version b h.tree h.shallow
         (subst (λ (k : Option (List ℕ)). Reads (sizes_of p) (stream_at fresh k) h.version b h.tree) e (h.reads (ap is_some e)));
     derives = h.derives;
-    heard = h.heard;
+    visited = h.visited;
   }
-  proof_heard (Err x) h = tt
+  proof_visited (Err x) h = tt
 
   pub proof_holds : (r : Result Bound CheckFault) → IfOk r (λ b. Proved p (is_some remaining) H (stream_at fresh remaining) b) → IfOk r (HoldsOfAll p)
   proof_holds (Ok b) h = root_sound p b h.tree h.derives
   proof_holds (Err x) h = tt
 
   pub proof_only : IsInstance p → (r : Result Bound CheckFault) → IfOk r (λ b. Proved p (is_some remaining) H (stream_at fresh remaining) b) → (is_some remaining ≡ true → IfErr r (λ x. IsProofFault p (stream_at fresh remaining) x))
-      → (bytes : List ℕ) (b : Bound) → remaining ≡ Some bytes → IsProved p bytes b → MatchResult r (λ c. c ≡ b) IsSilent
+      → (bytes : List ℕ) (b : Bound) → remaining ≡ Some bytes → IsProved p bytes b → MatchResult r (λ c. c ≡ b) IsEnvironmental
   proof_only is r proved fault bytes b e h =
       let reads = spelled_reads p (sizes_of p) (are_sizes_of p) (are_small p (sizes_of p) is (are_sizes_of p)) bytes h.0 b h.1 h.2 in
       on r proved fault reads
     where
       on : (x : Result Bound CheckFault) → IfOk x (λ c. Proved p (is_some remaining) H (stream_at fresh remaining) c) → (is_some remaining ≡ true → IfErr x (λ y. IsProofFault p (stream_at fresh remaining) y))
-          → Reads (sizes_of p) (stream_of bytes) h.0 b h.1 → MatchResult x (λ c. c ≡ b) IsSilent
+          → Reads (sizes_of p) (stream_of bytes) h.0 b h.1 → MatchResult x (λ c. c ≡ b) IsEnvironmental
       on (Ok c) done told reads = bound_is p (stream_of bytes) h.0 b h.1 reads true H c refl (proved_in bytes e c done)
       on (Err x) done told reads = only_silent p (stream_of bytes) h.0 b h.1 reads h.2.within.depth h.3 x (told_in bytes e x (told (ap is_some e)))
 
 -- an error of bytes that spell a proof is silent
-pub proved_silent : (p : Problem) → IsInstance p → (bytes : List ℕ) (b : Bound) → IsProved p bytes b → (e : CheckFault) → IsProofFault p (stream_of bytes) e → IsSilent e
+pub proved_silent : (p : Problem) → IsInstance p → (bytes : List ℕ) (b : Bound) → IsProved p bytes b → (e : CheckFault) → IsProofFault p (stream_of bytes) e → IsEnvironmental e
 proved_silent p is bytes b h e told =
     only_silent p (stream_of bytes) h.0 b h.1 (spelled_reads p (sizes_of p) (are_sizes_of p) (are_small p (sizes_of p) is (are_sizes_of p)) bytes h.0 b h.1 h.2) h.2.within.depth h.3 e told
 

@@ -14,7 +14,7 @@ use Rattle.tt_proof_check.specs.declared.fault.CheckFault.{CheckFault}
 use Rattle.tt_proof_check.specs.declared.fault.CheckFault.TheVariants.{Text, Rule, TooDeep, OutOfMemory}
 use Rattle.tt_proof_check.specs.Derives.{Derives, IsShallow}
 use Rattle.tt_proof_check.specs.Streams.{sizes_of, Fails, NodeFails, IsReadTo}
-use Rattle.tt_proof_check.specs.Tells.{FailsAt, IsDeepAt}
+use Rattle.tt_proof_check.specs.Explains.{FailsAt, IsDeepAt}
 
 -- a tree was read whole, if the bytes are known, and derives the bound; its nodes were visited
 pub record Judged (p : Problem) (v : ℕ) (b : Bound) (known : Bool) (H : List Node → Type 0) (s after : Stream) : Type 0 where
@@ -22,7 +22,7 @@ pub record Judged (p : Problem) (v : ℕ) (b : Bound) (known : Bool) (H : List N
   pub reads : known ≡ true → ReadsNodes (sizes_of p) v 0 s (preorder tree) after
   pub shallow : IsShallow tree
   pub derives : Derives p b [] tree
-  pub heard : H (preorder tree)
+  pub visited : H (preorder tree)
 
 -- the meaning of an error of the nodes
 abbrev pub TellsNodes : Problem → ℕ → Bound → Stream → CheckFault → Type 0
@@ -32,11 +32,11 @@ TellsNodes p v b s (TooDeep i) = IsReadTo p v s i (λ tree. IsDeepAt p b tree i)
 TellsNodes p v b s OutOfMemory = ⊤
 
 -- the child that is too deep was read, or its text fails
-abbrev pub TellsChild : Sizes → ℕ → ℕ → Stream → ℕ → CheckFault → Type 0
-TellsChild sizes v count s i (Text f) = ¬ (f ≡ text.OutOfMemory) × Fails f (node_at sizes v count s)
-TellsChild sizes v count s i (Rule k f) = ⊥
-TellsChild sizes v count s i (TooDeep k) = (k ≡ i) × (child : Node) × (after : Stream) × (node_at sizes v count s ≡ Ok (child, after))
-TellsChild sizes v count s i OutOfMemory = ⊤
+abbrev pub ExplainsChild : Sizes → ℕ → ℕ → Stream → ℕ → CheckFault → Type 0
+ExplainsChild sizes v count s i (Text f) = ¬ (f ≡ text.OutOfMemory) × Fails f (node_at sizes v count s)
+ExplainsChild sizes v count s i (Rule k f) = ⊥
+ExplainsChild sizes v count s i (TooDeep k) = (k ≡ i) × (child : Node) × (after : Stream) × (node_at sizes v count s ≡ Ok (child, after))
+ExplainsChild sizes v count s i OutOfMemory = ⊤
 
 -- a tree that derives the bound and is spelled by the text, if the text is known; its nodes were visited
 pub record Proved (p : Problem) (known : Bool) (H : List Node → Type 0) (s : Stream) (b : Bound) : Type 0 where
@@ -45,4 +45,4 @@ pub record Proved (p : Problem) (known : Bool) (H : List Node → Type 0) (s : S
   pub reads : known ≡ true → Reads (sizes_of p) s version b tree
   pub shallow : IsShallow tree
   pub derives : Derives p b [] tree
-  pub heard : H (preorder tree)
+  pub visited : H (preorder tree)

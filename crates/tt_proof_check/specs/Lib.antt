@@ -2,11 +2,11 @@ pub mod Derives
 pub mod FailedReads
 pub mod Faults
 pub mod Headline
-pub mod Heard
+pub mod Visited
 pub mod Judged
 pub mod Nodes
 pub mod Pending
 pub mod Steps
 pub mod Streams
-pub mod Tells
+pub mod Explains
 pub mod Verdicts

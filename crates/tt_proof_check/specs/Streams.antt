@@ -6,7 +6,7 @@ use Rattle.tt_text.specs.Reading.{FailsUnless}
 use Rattle.tt_text.specs.declared.feed.FeedFault.TheVariants as feed
 use Rattle.tt_instance.specs.Problem.{Problem}
 use Rattle.tt_leaf_rules.specs.declared.leaf.Bound.{Bound}
-use Rattle.tt_proof_read.specs.Faults.{is_silent}
+use Rattle.tt_proof_read.specs.Faults.{is_environmental}
 use Rattle.tt_proof_read.specs.Reading.{header_at, node_at, end_at}
 use Rattle.tt_proof_read.specs.Reads.{ReadsNodes}
 use Rattle.tt_proof_read.specs.Spelling.{SpellsProof}
@@ -18,15 +18,15 @@ use Rattle.tt_proof_read.specs.declared.sizes.Sizes.{Sizes}
 use Rattle.tt_proof_check.specs.declared.fault.CheckFault.{CheckFault}
 use Rattle.tt_proof_check.specs.declared.fault.CheckFault.TheVariants.{Text, Rule, TooDeep, OutOfMemory}
 use Rattle.tt_proof_check.specs.Derives.{Derives, IsShallow}
-use Rattle.tt_proof_check.specs.Tells.{Passes, FailsAt, IsDeepAt}
+use Rattle.tt_proof_check.specs.Explains.{Passes, FailsAt, IsDeepAt}
 
 -- whether the bytes spell a tree that derives the bound
 abbrev pub IsProved : Problem → List ℕ → Bound → Type 0
 IsProved p bytes b = (version : ℕ) × (tree : Tree) × SpellsProof p bytes version b tree × Derives p b [] tree
 
 -- whether the error is being out of memory or a failed read, which say nothing about the bytes
-abbrev pub IsSilent : CheckFault → Type 0
-IsSilent e = (e ≡ OutOfMemory) ⊎ (e ≡ Text (text.Feed feed.Read))
+abbrev pub IsEnvironmental : CheckFault → Type 0
+IsEnvironmental e = (e ≡ OutOfMemory) ⊎ (e ≡ Text (text.Feed feed.Read))
 
 -- the stream that a feed gives for the bytes
 abbrev pub stream_of : List ℕ → Stream
@@ -44,7 +44,7 @@ sizes_of p = record {
 
 -- whether reading the text gives exactly this error; a silent error says nothing about the text
 abbrev pub Fails : {Y : Type 0} → TextFault → Result Y TextFault → Type 0
-Fails f read = FailsUnless is_silent f read
+Fails f read = FailsUnless is_environmental f read
 
 -- ---- the nodes, after a header with this version and bound
 

@@ -16,7 +16,7 @@ use Rattle.tt_proof_read.specs.declared.fault.TextFault.TheVariants as text
 use Rattle.tt_proof_check.specs.Faults.{OutOfMemoryIsNoTextFault}
 use Rattle.tt_table.specs.Spelling.{SpellsBoth}
 use Rattle.tt_proof_check.specs.Headline.{Solves, BreaksARule, Certifies, BoundsAll}
-use Rattle.tt_proof_check.specs.Streams.{stream_of, IsSilent, IsProofFault}
+use Rattle.tt_proof_check.specs.Streams.{stream_of, IsEnvironmental, IsProofFault}
 use Rattle.tt_proof_check.specs.declared.fault.CheckFault.{CheckFault}
 use Rattle.tt_proof_check.specs.declared.fault.CheckFault.TheVariants as check
 use Rattle.tt_proof_check.specs.declared.fault.Verdict.{Verdict}
@@ -66,11 +66,11 @@ IsFirstFault i s proof (fault.Proof f) = FailsProof i s proof f
 IsFirstFault i s proof fault.OutOfMemory = ⊤
 
 -- whether the error is being out of memory or a failed read, which say nothing about the bytes
-abbrev pub SaysNothing : CertifyFault → Type 0
-SaysNothing (fault.Instance f) = ⊥
-SaysNothing (fault.Solution f) = ⊥
-SaysNothing (fault.Proof f) = IsSilent f
-SaysNothing fault.OutOfMemory = ⊤
+abbrev pub IsEnvironmentalRefusal : CertifyFault → Type 0
+IsEnvironmentalRefusal (fault.Instance f) = ⊥
+IsEnvironmentalRefusal (fault.Solution f) = ⊥
+IsEnvironmentalRefusal (fault.Proof f) = IsEnvironmental f
+IsEnvironmentalRefusal fault.OutOfMemory = ⊤
 
 -- whether the error is one of the instance or the solution
 abbrev pub IsOfFiles : CertifyFault → Type 0

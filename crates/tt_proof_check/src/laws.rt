@@ -7,8 +7,8 @@ ghost use Rattle.tt_paths.specs.declared.facts.Fact.{Fact};
 ghost use Rattle.tt_leaf_rules.specs.declared.leaf.Bound.{Bound};
 ghost use Rattle.tt_proof_read.specs.Trees.{Tree};
 ghost use Rattle.tt_proof_check.specs.Derives.{Derives, HoldsOn};
-ghost use Rattle.tt_proof_check.specs.Streams.{IsProofFault, IsSilent};
-ghost use Rattle.tt_proof_check.specs.Verdicts.{IsFirstFault, SaysNothing};
+ghost use Rattle.tt_proof_check.specs.Streams.{IsProofFault, IsEnvironmental};
+ghost use Rattle.tt_proof_check.specs.Verdicts.{IsFirstFault, IsEnvironmentalRefusal};
 ghost use Rattle.tt_proof_check.specs.declared.fault.CheckFault.{CheckFault};
 ghost use Rattle.tt_proof_check.specs.declared.fault.CertifyFault.{CertifyFault};
 
@@ -19,12 +19,12 @@ pub fn derived_bounds_hold()
 
 /// A proof has at most one error: two errors of the same text are equal, or one of them says nothing about the text.
 pub fn proofs_have_one_fault()
-    ensures { (p : Problem) (s : Stream) (f g : CheckFault) → IsProofFault p s f → IsProofFault p s g → (f ≡ g) ⊎ (IsSilent f ⊎ IsSilent g) }
+    ensures { (p : Problem) (s : Stream) (f g : CheckFault) → IsProofFault p s f → IsProofFault p s g → (f ≡ g) ⊎ (IsEnvironmental f ⊎ IsEnvironmental g) }
 {}
 
 /// An instance, a solution and a proof have at most one first error: two errors that `certify` may report are equal, or one of them says
 /// nothing about the bytes.
 pub fn files_have_one_fault()
     ensures { (i s bytes : List ℕ) (f g : CertifyFault) → IsFirstFault i s (Some bytes) f → IsFirstFault i s (Some bytes) g →
-        (f ≡ g) ⊎ (SaysNothing f ⊎ SaysNothing g) }
+        (f ≡ g) ⊎ (IsEnvironmentalRefusal f ⊎ IsEnvironmentalRefusal g) }
 {}

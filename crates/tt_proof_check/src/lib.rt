@@ -4,14 +4,14 @@
 mod fault;
 mod headline;
 mod laws;
-mod listener;
 mod preorder;
 mod stream;
+mod visitor;
 mod walk;
 
 pub use fault::{CertifyFault, CheckFault, NodesFault, Verdict};
 pub use headline::certify;
 pub use laws::{derived_bounds_hold, files_have_one_fault, proofs_have_one_fault};
-pub use listener::{Deaf, Listener};
 pub use preorder::check_nodes;
-pub use stream::{check_proof, hear_proof};
+pub use stream::{check_proof, check_proof_with};
+pub use visitor::{NoVisitor, NodeVisitor};

@@ -4,10 +4,10 @@ ghost use Rattle.std.specs.Prelude.{◌≡◌, [], IsOkUnless, IfErr, OnOk, All}
 ghost use Rattle.tt_proof_check.specs.Derives.{Proves, HoldsOfAll};
 ghost use Rattle.tt_proof_read.specs.Trees.{IsPreorder};
 ghost use Rattle.tt_proof_check.specs.Nodes.{IsNodeOf};
-ghost use Rattle.tt_proof_check.specs.Tells.{Tells};
+ghost use Rattle.tt_proof_check.specs.Explains.{Explains};
 
 use crate::fault::NodesFault;
-use crate::walk::{Stop, take_node};
+use crate::walk::{Stop, check_node};
 use std::alloc::Global;
 use tt_facts::TrailPath;
 use tt_instance::Instance;
@@ -21,10 +21,10 @@ fn judge_tree<'i, P: Path<'i>>(path: &mut P, bound: Bound, nodes: &[Node]) -> Re
     requires tree { IsPreorder nodes.now }
     requires nodes { All (IsNodeOf (P.problem path.old)) nodes.now }
     ensures derived { OnOk result (Proves (P.problem path.old) bound nodes.now) }
-    ensures fault { IfErr result (λ e. Tells (P.problem path.old) bound nodes.now e) }
+    ensures fault { IfErr result (λ e. Explains (P.problem path.old) bound nodes.now e) }
 {
     for (i, node) in nodes.iter().enumerate() {
-        match take_node(path, bound, node) {
+        match check_node(path, bound, node) {
             Ok(()) => {}
             Err(Stop::Rule(fault)) => return Err(NodesFault::Rule(i, fault)),
             Err(Stop::TooDeep) => return Err(NodesFault::TooDeep(i + 1)),
@@ -49,7 +49,7 @@ pub fn check_nodes(
 
     // The error that the nodes are no tree is reported before any other.
     ensures only_trees { ¬ (IsPreorder nodes.now) → result ≡ Err NodesFault.NotATree }
-    ensures fault { IfErr result (λ e. Tells instance.now bound nodes.now e) }
+    ensures fault { IfErr result (λ e. Explains instance.now bound nodes.now e) }
 {
     if !is_tree(nodes) {
         return Err(NodesFault::NotATree);

@@ -11,15 +11,15 @@ ghost use Rattle.tt_proof_read.specs.Sizes.{AreSizes};
 ghost use Rattle.tt_proof_check.specs.Derives.{HoldsOfAll};
 ghost use Rattle.tt_proof_check.specs.FailedReads.{NodeIsCutOff, IsCutOff, IsJudgedUpToFailedRead, UpToFailure, BeforeFailure};
 ghost use Rattle.tt_proof_check.specs.Faults.{OutOfMemoryIsNoTextFault};
-ghost use Rattle.tt_proof_check.specs.Heard.{Heard, Unheard, IsHeardProof};
+ghost use Rattle.tt_proof_check.specs.Visited.{Visited, Unvisited, IsVisitedProof};
 ghost use Rattle.tt_proof_check.specs.Nodes.{IsNodeOf};
 ghost use Rattle.tt_proof_check.specs.Steps.{Steps, Stops};
-ghost use Rattle.tt_proof_check.specs.Judged.{Judged, Proved, TellsNodes, TellsChild};
-ghost use Rattle.tt_proof_check.specs.Streams.{stream_of, IsProved, IsSilent, IsProofFault};
+ghost use Rattle.tt_proof_check.specs.Judged.{Judged, Proved, TellsNodes, ExplainsChild};
+ghost use Rattle.tt_proof_check.specs.Streams.{stream_of, IsProved, IsEnvironmental, IsProofFault};
 
 use crate::fault::CheckFault;
-use crate::listener::{Deaf, Listener};
-use crate::walk::{Stop, take_node};
+use crate::visitor::{NoVisitor, NodeVisitor};
+use crate::walk::{Stop, check_node};
 use std::alloc::Global;
 use tt_facts::TrailPath;
 use tt_instance::Instance;
@@ -38,7 +38,7 @@ fn take<'i, P: Path<'i>>(path: &mut P, bound: Bound, node: Node) -> Result<(), S
     ensures stops { IfErr result (λ stop. Stops (P.problem path.old) bound (P.facts path.old) node stop) }
     ensures same { P.problem path.new ≡ P.problem path.old }
 {
-    take_node(path, bound, &node)
+    check_node(path, bound, &node)
 }
 
 /// Returns the error of a split whose children are too deep: its first child is read before the error is reported.
@@ -52,7 +52,7 @@ fn deep_fault<R: Source>(reader: &mut NodeReader, source: &mut R, node: u32) -> 
     ensures unfailed { ¬ (result ≡ CheckFault.Text read_failed) → R.has_failed source.new ≡ R.has_failed source.old }
     ensures memory { OutOfMemoryIsNoTextFault result }
     ensures fault { is_some (R.remaining source.old) ≡ true →
-        TellsChild reader.old.sizes reader.old.version reader.old.count (stream_at reader.old.fed (R.remaining source.old)) node result }
+        ExplainsChild reader.old.sizes reader.old.version reader.old.count (stream_at reader.old.fed (R.remaining source.old)) node result }
     ensures up_to_failed_read { result ≡ CheckFault.Text read_failed → UpToFailure reader.old.fed (R.remaining source.old) (R.remaining source.new)
         (λ s. node_at reader.old.sizes reader.old.version reader.old.count s ≡ Err read_failed) }
 {
@@ -62,10 +62,10 @@ fn deep_fault<R: Source>(reader: &mut NodeReader, source: &mut R, node: u32) -> 
     }
 }
 
-/// Reads the nodes of a tree, and checks each before it reads the next. The listener visits each node before it is checked.
-fn judge<'i, P: Path<'i>, R: Source, L: Listener>(
+/// Reads the nodes of a tree, and checks each before it reads the next. The visitor visits each node before it is checked.
+fn check_tree<'i, P: Path<'i>, R: Source, L: NodeVisitor>(
     path: &mut P,
-    listener: &mut L,
+    visitor: &mut L,
     reader: &mut NodeReader,
     source: &mut R,
 ) -> Result<(), CheckFault>
@@ -75,7 +75,7 @@ fn judge<'i, P: Path<'i>, R: Source, L: Listener>(
     requires place { reader.old.places ≡ 1 }
     requires sound { reader.old.fault ≡ None }
     ensures known { StaysKnown (R.remaining source.old) (R.remaining source.new) }
-    ensures judged { OnOk result (Judged (P.problem path.old) reader.old.version reader.old.bound (is_some (R.remaining source.old)) (Heard L.hears 0 listener.old listener.new)
+    ensures judged { OnOk result (Judged (P.problem path.old) reader.old.version reader.old.bound (is_some (R.remaining source.old)) (Visited L.visits 0 visitor.old visitor.new)
         (stream_at reader.old.fed (R.remaining source.old)) (stream_at reader.new.fed (R.remaining source.new))) }
     ensures whole { OnOk result (reader.new.places ≡ 0) }
     ensures sound { OnOk result (reader.new.fault ≡ None) }
@@ -85,14 +85,14 @@ fn judge<'i, P: Path<'i>, R: Source, L: Listener>(
     ensures fault { is_some (R.remaining source.old) ≡ true →
         IfErr result (λ e. TellsNodes (P.problem path.old) reader.old.version reader.old.bound (stream_at reader.old.fed (R.remaining source.old)) e) }
     ensures cut_short { OnOk result (BeforeFailure reader.old.fed (R.remaining source.old) reader.new.fed (R.remaining source.new)
-        (Judged (P.problem path.old) reader.old.version reader.old.bound true Unheard)) }
+        (Judged (P.problem path.old) reader.old.version reader.old.bound true Unvisited)) }
     ensures up_to_failed_read { result ≡ Err (CheckFault.Text read_failed) → UpToFailure reader.old.fed (R.remaining source.old) (R.remaining source.new)
         (NodeIsCutOff (P.problem path.old) reader.old.version reader.old.bound) }
 {
     let bound = reader.bound();
     let mut count: u32 = 0;
     while let Some(node) = reader.next_node(source)? {
-        listener.hear(count, &node);
+        visitor.visit(count, &node);
         match take(path, bound, node) {
             Ok(()) => count += 1,
             Err(Stop::Rule(fault)) => return Err(CheckFault::Rule(count, fault)),
@@ -104,15 +104,15 @@ fn judge<'i, P: Path<'i>, R: Source, L: Listener>(
 }
 
 /// Reads a proof and checks it on a path.
-fn read_proof<'i, P: Path<'i>, R: Source, L: Listener>(
+fn check_on_path<'i, P: Path<'i>, R: Source, L: NodeVisitor>(
     alloc: Global,
     path: &mut P,
-    listener: &mut L,
+    visitor: &mut L,
     source: &mut R,
 ) -> Result<Bound, CheckFault>
     requires { P.facts path.old ≡ [] }
     ensures known { StaysKnown (R.remaining source.old) (R.remaining source.new) }
-    ensures proved { IfOk result (λ b. Proved (P.problem path.old) (is_some (R.remaining source.old)) (Heard L.hears 0 listener.old listener.new) (stream_at fresh (R.remaining source.old)) b) }
+    ensures proved { IfOk result (λ b. Proved (P.problem path.old) (is_some (R.remaining source.old)) (Visited L.visits 0 visitor.old visitor.new) (stream_at fresh (R.remaining source.old)) b) }
     ensures failed { result ≡ Err (CheckFault.Text read_failed) → R.has_failed source.new ≡ true }
     ensures unfailed { ¬ (result ≡ Err (CheckFault.Text read_failed)) → R.has_failed source.new ≡ R.has_failed source.old }
     ensures memory { IfErr result OutOfMemoryIsNoTextFault }
@@ -123,25 +123,25 @@ fn read_proof<'i, P: Path<'i>, R: Source, L: Listener>(
 {
     let mut reader = NodeReader::new(alloc, path.instance(), source)?;
     let bound = reader.bound();
-    judge(path, listener, &mut reader, source)?;
+    check_tree(path, visitor, &mut reader, source)?;
     reader.finish(source)?;
     Ok(bound)
 }
 
-/// Checks a proof as it is read, node by node, and returns the bound that it proves; the listener visits each node. It stores no node.
-pub fn hear_proof<R: Source, L: Listener>(
+/// Checks a proof as it is read, node by node, and returns the bound that it proves; the visitor visits each node. It stores no node.
+pub fn check_proof_with<R: Source, L: NodeVisitor>(
     alloc: Global,
     instance: &Instance<'_>,
-    listener: &mut L,
+    visitor: &mut L,
     source: &mut R,
 ) -> Result<Bound, CheckFault>
-    // A tree derives the bound, the bytes spell it, and the listener has visited its nodes.
-    ensures heard { IfOk result (IsHeardProof instance.now (R.remaining source.old) (Heard L.hears 0 listener.old listener.new)) }
+    // A tree derives the bound, the bytes spell it, and the visitor has visited its nodes.
+    ensures visited { IfOk result (IsVisitedProof instance.now (R.remaining source.old) (Visited L.visits 0 visitor.old visitor.new)) }
     ensures found { IfOk result (λ b. (bytes : List ℕ) → R.remaining source.old ≡ Some bytes → IsProved instance.now bytes b) }
 
     // If the bytes spell such a tree, its bound is returned, unless memory runs out or a read fails.
     ensures only { (bytes : List ℕ) (b : Bound) → R.remaining source.old ≡ Some bytes → IsProved instance.now bytes b →
-        MatchResult result (λ c. c ≡ b) IsSilent }
+        MatchResult result (λ c. c ≡ b) IsEnvironmental }
 
     // This holds for any source.
     ensures holds { IfOk result (HoldsOfAll instance.now) }
@@ -156,7 +156,7 @@ pub fn hear_proof<R: Source, L: Listener>(
     // This holds for every instance: its numbers are small enough to be read.
     prove!(instance.days() > 0);
     let mut path = TrailPath::new(alloc, instance)?;
-    read_proof(alloc, &mut path, listener, source)
+    check_on_path(alloc, &mut path, visitor, source)
 }
 
 /// Checks a proof as it is read, node by node, and returns the bound that it proves. It stores no node.
@@ -170,7 +170,7 @@ pub fn check_proof<R: Source>(
 
     // If the bytes spell such a tree, its bound is returned, unless memory runs out or a read fails.
     ensures only { (bytes : List ℕ) (b : Bound) → R.remaining source.old ≡ Some bytes → IsProved instance.now bytes b →
-        MatchResult result (λ c. c ≡ b) IsSilent }
+        MatchResult result (λ c. c ≡ b) IsEnvironmental }
 
     // This holds for any source.
     ensures holds { IfOk result (HoldsOfAll instance.now) }
@@ -182,5 +182,5 @@ pub fn check_proof<R: Source>(
     ensures up_to_failed_read { result ≡ Err (CheckFault.Text read_failed) → (bytes : List ℕ) → R.remaining source.old ≡ Some bytes →
         IsJudgedUpToFailedRead instance.now bytes (R.remaining source.new) }
 {
-    hear_proof(alloc, instance, &mut Deaf, source)
+    check_proof_with(alloc, instance, &mut NoVisitor, source)
 }

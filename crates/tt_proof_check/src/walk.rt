@@ -47,7 +47,7 @@ impl From<PathFault> for Stop {
 
 /// Moves to the second child of the newest split whose second child is not read yet.
 #[inline(always)]
-fn go_on<'i, P: Path<'i>>(path: &mut P) -> Result<(), PathFault>
+fn advance<'i, P: Path<'i>>(path: &mut P) -> Result<(), PathFault>
     requires { length (P.facts path.old) ≤ MAX_FACTS }
     ensures next { OnOk result (GoesOn (P.facts path.old) (P.facts path.new)) }
     ensures within { length (P.facts path.new) ≤ MAX_FACTS }
@@ -68,7 +68,7 @@ fn go_on<'i, P: Path<'i>>(path: &mut P) -> Result<(), PathFault>
 
 /// Takes the due node, and moves to the next place.
 #[inline(always)]
-pub fn take_node<'i, P: Path<'i>>(path: &mut P, bound: Bound, node: &Node) -> Result<(), Stop>
+pub fn check_node<'i, P: Path<'i>>(path: &mut P, bound: Bound, node: &Node) -> Result<(), Stop>
     requires node { IsNodeOf (P.problem path.old) node.now }
     requires within { length (P.facts path.old) ≤ MAX_FACTS }
     ensures steps { OnOk result (Steps (P.problem path.old) bound (P.facts path.old) node.now (P.facts path.new)) }
@@ -83,7 +83,7 @@ pub fn take_node<'i, P: Path<'i>>(path: &mut P, bound: Bound, node: &Node) -> Re
         })?,
         Node::Leaf(leaf) => {
             holds(path, leaf, bound)?;
-            go_on(path)?;
+            advance(path)?;
         }
     }
     Ok(())

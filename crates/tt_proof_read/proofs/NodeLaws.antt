@@ -20,7 +20,7 @@ use Rattle.tt_proof_read.specs.Sizes.{AreSizes}
 use Rattle.tt_proof_read.specs.Spelling.{who_piece, given_piece, course_piece, pattern_pieces, listed_pieces, SpellsNode, IsNode}
 use Rattle.tt_proof_read.specs.Reading.{token_at, course_at, who_at, given_at, pattern_at, list_at, claims_at, node_word_of, node_after_word, counted, node_at}
 use Rattle.tt_proof_read.specs.declared.fault.TextFault.TheVariants as fault
-use Rattle.tt_proof_read.specs.declared.format.TheConstants.{DAY_LETTER, MAX_NODES, PERIOD_LETTER, ROOM_LETTER}
+use Rattle.tt_proof_read.specs.declared.format.TheConstants.{DAY_LETTER, MAX_PROOF_NODES, PERIOD_LETTER, ROOM_LETTER}
 use Rattle.tt_proof_read.specs.declared.node.Node.{Node}
 use Rattle.tt_proof_read.specs.declared.node.Node.TheVariants as node
 use Rattle.tt_proof_read.specs.declared.nodes.NodeWord.{NodeWord}
@@ -163,7 +163,7 @@ module _ (p : Problem) (sizes : Sizes) (are : AreSizes p sizes) where
       pub spells : SpellsNode x.0 pieces
       pub took : Took s pieces x.1
       pub is : IsNode p version x.0
-      pub room : count < MAX_NODES
+      pub room : count < MAX_PROOF_NODES
 
     -- a node that was read is spelled
     pub node_took : (count : ℕ) (s : Stream) (x : Node × Stream) → node_at sizes version count s ≡ Ok x → NodeTook count s x
@@ -173,7 +173,7 @@ module _ (p : Problem) (sizes : Sizes) (are : AreSizes p sizes) where
         let u = bind_ok (counted t.0.0.at count) (λ (_ : Unit {0}). node_word_of t.0.0 >>= λ w. node_after_word sizes version w t.0.1) x t.2 in
         let w = bind_ok (node_word_of t.0.0) (λ w. node_after_word sizes version w t.0.1) x u.2 in
         let b = behind_took w.0 t.0.1 x w.2 in
-        let few = test_ok (nat_lt count MAX_NODES) (fault.TooManyNodes t.0.0.at) (Ok tt) u.0 u.1 in
+        let few = test_ok (nat_lt count MAX_PROOF_NODES) (fault.TooManyNodes t.0.0.at) (Ok tt) u.0 u.1 in
         record {
           pieces = Text (code_of w.0) ∷ b.rest;
           spells = b.spells;
@@ -182,16 +182,16 @@ module _ (p : Problem) (sizes : Sizes) (are : AreSizes p sizes) where
           room = omega (arith, leb-true _ _ few.0);
         }
 
-    by_word : (w : NodeWord) (n : Node) (rest : List Piece) (count : ℕ) (s after : Stream) → count < MAX_NODES → ((mid : Stream) → Took mid rest after → node_after_word sizes version w mid ≡ Ok (n, after))
+    by_word : (w : NodeWord) (n : Node) (rest : List Piece) (count : ℕ) (s after : Stream) → count < MAX_PROOF_NODES → ((mid : Stream) → Took mid rest after → node_after_word sizes version w mid ≡ Ok (n, after))
         → Took s (Text (code_of w) ∷ rest) after → node_at sizes version count s ≡ Ok (n, after)
     unfolding node_at
     by_word w n rest count s after room more took =
         let f = first_of_pieces (Text (code_of w)) rest s after took in
-        let few : nat_lt count MAX_NODES ≡ true = le-leb _ _ (omega arith) in
+        let few : nat_lt count MAX_PROOF_NODES ≡ true = le-leb _ _ (omega arith) in
         rw (f.is, few, word_reads w f.token f.piece, more f.mid f.rest) refl
 
     -- a node that is spelled is read
-    pub node_reads : AreSmall sizes → (count : ℕ) (n : Node) (ps : List Piece) (s after : Stream) → count < MAX_NODES → SpellsNode n ps → IsNode p version n → Took s ps after
+    pub node_reads : AreSmall sizes → (count : ℕ) (n : Node) (ps : List Piece) (s after : Stream) → count < MAX_PROOF_NODES → SpellsNode n ps → IsNode p version n → Took s ps after
         → node_at sizes version count s ≡ Ok (n, after)
     unfolding node_after_word
     node_reads small count (node.Split g) ps s after room spell is took =

@@ -19,7 +19,7 @@ use Rattle.tt_proof_read.specs.Reading.{word_at, version_at, bound_at, header_at
 use Rattle.tt_proof_read.specs.Trees.{Tree, AllLeaves, preorder}
 use Rattle.tt_proof_read.specs.Words.{fixed}
 use Rattle.tt_proof_read.specs.declared.fault.Word.TheVariants as word
-use Rattle.tt_proof_read.specs.declared.format.TheConstants.{MAX_NODES}
+use Rattle.tt_proof_read.specs.declared.format.TheConstants.{MAX_PROOF_NODES}
 use Rattle.tt_proof_read.specs.declared.node.Node.{Node}
 use Rattle.tt_proof_read.specs.declared.sizes.Sizes.{Sizes}
 use Rattle.tt_proof_read.proofs.NodeLaws.{node_took, node_reads}
@@ -98,10 +98,10 @@ module _ (p : Problem) (sizes : Sizes) (are : AreSizes p sizes) (version : ℕ) 
     pub spells : SpellsEach SpellsNode nodes body
     pub took : Took s body after
     pub each : All (IsNode p version) nodes
-    pub few : count + length nodes ≤ MAX_NODES
+    pub few : count + length nodes ≤ MAX_PROOF_NODES
 
   -- nodes that were read are spelled
-  pub nodes_took : (count : ℕ) (s : Stream) (nodes : List Node) (after : Stream) → count ≤ MAX_NODES → ReadsNodes sizes version count s nodes after → NodesTook count s nodes after
+  pub nodes_took : (count : ℕ) (s : Stream) (nodes : List Node) (after : Stream) → count ≤ MAX_PROOF_NODES → ReadsNodes sizes version count s nodes after → NodesTook count s nodes after
   nodes_took count s [] after few reads = record {
     body = [];
     spells = refl;
@@ -121,7 +121,7 @@ module _ (p : Problem) (sizes : Sizes) (are : AreSizes p sizes) (version : ℕ) 
       }
 
   -- nodes that are spelled are read
-  pub nodes_read : AreSmall sizes → (count : ℕ) (nodes : List Node) (body : List Piece) (s after : Stream) → count + length nodes ≤ MAX_NODES → SpellsEach SpellsNode nodes body → All (IsNode p version) nodes
+  pub nodes_read : AreSmall sizes → (count : ℕ) (nodes : List Node) (body : List Piece) (s after : Stream) → count + length nodes ≤ MAX_PROOF_NODES → SpellsEach SpellsNode nodes body → All (IsNode p version) nodes
       → Took s body after → ReadsNodes sizes version count s nodes after
   nodes_read small count [] body s after few spells each took = took_same s after (subst (λ ps. Took s ps after) spells took)
   nodes_read small count (n ∷ ns) body s after few spells each took =

@@ -5,10 +5,10 @@ use Rattle.tt_text.specs.Feeds.{Stream}
 use Rattle.tt_text.specs.Reading.{◌>>=◌}
 use Rattle.tt_text.proofs.Steps.{fails_then, fails_as, bind_is}
 use Rattle.tt_proof_read.specs.Contract.{State, IsReading}
-use Rattle.tt_proof_read.specs.Faults.{is_silent, is_failed_read}
+use Rattle.tt_proof_read.specs.Faults.{is_environmental, is_failed_read}
 use Rattle.tt_proof_read.specs.Reading.{counted}
 use Rattle.tt_proof_read.specs.declared.fault.TextFault.{TextFault}
-use Rattle.tt_proof_read.specs.declared.format.TheConstants.{MAX_NODES}
+use Rattle.tt_proof_read.specs.declared.format.TheConstants.{MAX_PROOF_NODES}
 
 -- nothing more is read: a value is made of those that were read
 pub reads_value : {Y W : Type 0} (s : State) (last : Y → Stream → W) (y : Y) → IsReading s s last (Ok y) (λ t. Ok (last y t))
@@ -35,7 +35,7 @@ module _ {Y Z W : Type 0} (last : Y → Stream → W) where
   reads_then view first next old mid new x (Err f) a b = record {
     known = λ k. b.known (a.known k);
     failed = λ sound. let was = a.failed sound in b.failed was.0 ∙ ap (λ q. if is_failed_read f then true else q) was.1;
-    gives = λ k. fails_as is_silent f _ _ (sym (bind_is _ _ next _ (a.gives k) refl)) (b.gives (a.known k));
+    gives = λ k. fails_as is_environmental f _ _ (sym (bind_is _ _ next _ (a.gives k) refl)) (b.gives (a.known k));
     cut_short = λ k failure.
         let here = b.cut_short (a.known k) failure in
         let before = a.cut_short k _ here.0 in
@@ -48,7 +48,7 @@ module _ {Y Z W : Type 0} (last : Y → Stream → W) where
   reads_fault view first next old new f a = record {
     known = a.known;
     failed = a.failed;
-    gives = λ k. fails_then is_silent f _ next (a.gives k);
+    gives = λ k. fails_then is_environmental f _ next (a.gives k);
     cut_short = λ k failure. let here = a.cut_short k failure in (here.0, ap (λ q. q >>= next) here.1);
   }
 
@@ -58,5 +58,5 @@ module _ {Y Z W : Type 0} (last : Y → Stream → W) where
   takes_then made next old new z r e a = rw e a
 
 -- there is room for another node
-pub counted_below : (at count : ℕ) → count < MAX_NODES → counted at count ≡ Ok (tt {0})
-counted_below at count below = rw (lt-ltb count MAX_NODES below) refl
+pub counted_below : (at count : ℕ) → count < MAX_PROOF_NODES → counted at count ≡ Ok (tt {0})
+counted_below at count below = rw (lt-ltb count MAX_PROOF_NODES below) refl

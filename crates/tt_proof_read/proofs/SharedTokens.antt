@@ -19,7 +19,7 @@ use Rattle.tt_proof_read.specs.declared.fault.TextFault.TheVariants as fault
 use Rattle.tt_proof_read.specs.declared.fault.Word.TheVariants as word
 use Rattle.tt_proof_read.specs.declared.claims.ClaimWord.{ClaimWord}
 use Rattle.tt_proof_read.specs.declared.claims.ClaimWord.TheVariants as claim_word
-use Rattle.tt_proof_read.specs.declared.format.TheConstants.{COURSE_LETTER, CURRICULUM_LETTER, MAX_NODES, MAX_POINTS, MAX_PRICE, ROOM_LETTER}
+use Rattle.tt_proof_read.specs.declared.format.TheConstants.{COURSE_LETTER, CURRICULUM_LETTER, MAX_PROOF_NODES, MAX_POINTS, MAX_PRICE, ROOM_LETTER}
 use Rattle.tt_proof_read.specs.declared.nodes.NodeWord.{NodeWord}
 use Rattle.tt_proof_read.specs.declared.nodes.NodeWord.TheVariants as node_word
 use Rattle.tt_proof_read.specs.declared.prices.Priced.{Priced}
@@ -148,7 +148,7 @@ module _ (at : ℕ) where
       (same_err t.at (fault.UnknownWord t.at) (fault.UnknownWord n) refl))))))
 
   pub counted_same : (a n count : ℕ) → SameAt a (counted a count) (counted n count)
-  counted_same a n count = same_if a (nat_lt count MAX_NODES) _ _ _ _ (same_ok a tt) (same_err a (fault.TooManyNodes a) (fault.TooManyNodes n) refl)
+  counted_same a n count = same_if a (nat_lt count MAX_PROOF_NODES) _ _ _ _ (same_ok a tt) (same_err a (fault.TooManyNodes a) (fault.TooManyNodes n) refl)
 
   -- ---- the header
 

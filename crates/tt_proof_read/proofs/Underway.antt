@@ -4,7 +4,7 @@ use Rattle.tt_text.specs.Feeds.{Stream, stream_at}
 use Rattle.tt_text.specs.CutShort.{cut_at, MayFail}
 use Rattle.tt_proof_read.specs.Answers.{StaysKnown}
 use Rattle.tt_proof_read.specs.Contract.{State, IsReading}
-use Rattle.tt_proof_read.specs.Faults.{is_silent, is_failed_read}
+use Rattle.tt_proof_read.specs.Faults.{is_environmental, is_failed_read}
 use Rattle.tt_proof_read.specs.declared.fault.TextFault.{TextFault}
 use Rattle.tt_proof_read.proofs.Loops.{TakesTokens, IsLeft, left_then, left_end, left_fails}
 
@@ -60,7 +60,7 @@ module _ {S X : Type 0} (add : S → X → S) (part : S → Stream → Result (O
   underway_fails view f old now next kept before read = record {
     known = λ k. read.known (before.known k);
     failed = λ sound. let was = before.failed sound in read.failed was.0 ∙ ap (λ b. if is_failed_read f then true else b) was.1;
-    gives = λ k. left_fails add part is_silent f kept _ _ (read.gives (before.known k)) (before.left k);
+    gives = λ k. left_fails add part is_environmental f kept _ _ (read.gives (before.known k)) (before.left k);
     cut_short = λ k failure.
         let here = read.cut_short (before.known k) failure in
         let first = before.cut_short k _ here.0 in

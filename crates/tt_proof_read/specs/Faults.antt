@@ -12,10 +12,10 @@ fault_from_feed feed.OutOfMemory = fault.OutOfMemory
 fault_from_feed f = fault.Feed f
 
 -- A failed read says nothing about the bytes, and neither does being out of memory.
-abbrev pub is_silent : TextFault → Bool
-is_silent fault.OutOfMemory = true
-is_silent (fault.Feed feed.Read) = true
-is_silent _ = false
+abbrev pub is_environmental : TextFault → Bool
+is_environmental fault.OutOfMemory = true
+is_environmental (fault.Feed feed.Read) = true
+is_environmental _ = false
 
 abbrev pub read_failed : TextFault
 read_failed = fault.Feed feed.Read
@@ -34,4 +34,4 @@ TellsNoOutOfMemory result = IfErr result (λ f. ¬ (f ≡ fault.OutOfMemory))
 
 -- The result, seen by `view`, is what the text gives, except for silent faults.
 abbrev pub Gives : {X Y : Type 0} → (X → Y) → Result X TextFault → Result Y TextFault → Type 0
-Gives view result read = AgreesUnless is_silent view result read
+Gives view result read = AgreesUnless is_environmental view result read

@@ -7,7 +7,7 @@ use Rattle.tt_text.specs.Feeds.{Fed, Stream, fresh}
 use Rattle.tt_text.specs.CutShort.{cut_at, MayFail}
 use Rattle.tt_text.specs.Reading.{FailsUnless}
 use Rattle.tt_proof_read.specs.Answers.{AgreesWhenCutAs}
-use Rattle.tt_proof_read.specs.Faults.{is_silent}
+use Rattle.tt_proof_read.specs.Faults.{is_environmental}
 use Rattle.tt_proof_read.specs.Reading.{header_at, node_at}
 use Rattle.tt_proof_read.specs.Sizes.{AreSizes}
 use Rattle.tt_proof_read.specs.Spelling.{IsClaim, IsNode}
@@ -60,7 +60,7 @@ Goes old (Err f) new = (0 < old.places) × (new ≡ record old { fed = new.fed; 
 abbrev pub Says : Reader → Stream → Result (Option Node) TextFault → Stream → Type 0
 Says old s (Ok None) after = after ≡ s
 Says old s (Ok (Some node)) after = node_at old.sizes old.version old.count s ≡ Ok (node, after)
-Says old s (Err f) after = FailsUnless is_silent f (node_at old.sizes old.version old.count s)
+Says old s (Err f) after = FailsUnless is_environmental f (node_at old.sizes old.version old.count s)
 
 -- What a reader says about a failed read, after it has read its header or failed to.
 abbrev pub HeaderAgreesWhenCut : Option (List ℕ) → Result Reader TextFault → Option (List ℕ) → Type 0

@@ -27,7 +27,7 @@ use Rattle.tt_proof_read.specs.declared.fault.TextFault.{TextFault}
 use Rattle.tt_proof_read.specs.declared.fault.TextFault.TheVariants as fault
 use Rattle.tt_proof_read.specs.declared.claims.ClaimWord.{ClaimWord}
 use Rattle.tt_proof_read.specs.declared.claims.ClaimWord.TheVariants as claim_word
-use Rattle.tt_proof_read.specs.declared.format.TheConstants.{COURSE_LETTER, CURRICULUM_LETTER, DAY_LETTER, MAX_NODES, MAX_POINTS, MAX_PRICE, PERIOD_LETTER, ROOM_LETTER}
+use Rattle.tt_proof_read.specs.declared.format.TheConstants.{COURSE_LETTER, CURRICULUM_LETTER, DAY_LETTER, MAX_PROOF_NODES, MAX_POINTS, MAX_PRICE, PERIOD_LETTER, ROOM_LETTER}
 use Rattle.tt_proof_read.specs.declared.node.Node.{Node}
 use Rattle.tt_proof_read.specs.declared.node.Node.TheVariants as node
 use Rattle.tt_proof_read.specs.declared.nodes.NodeWord.{NodeWord}
@@ -273,7 +273,7 @@ node_after_word sizes version node_word.Cost s = claims_at sizes version s >>= �
 
 -- A file has at most 16,777,216 nodes.
 abbrev pub counted : ℕ → ℕ → Result (Unit {0}) TextFault
-counted at count = if nat_lt count MAX_NODES then Ok tt else Err (fault.TooManyNodes at)
+counted at count = if nat_lt count MAX_PROOF_NODES then Ok tt else Err (fault.TooManyNodes at)
 
 -- A node, with this many nodes before it.
 unfoldable pub node_at : Sizes → ℕ → ℕ → Stream → Result (Node × Stream) TextFault

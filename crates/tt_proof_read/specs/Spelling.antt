@@ -17,7 +17,7 @@ use Rattle.tt_leaf_rules.specs.declared.leaf.Claim.{Claim}
 use Rattle.tt_leaf_rules.specs.declared.leaf.Claim.TheVariants.{Capacity, Days, Compact, Stable, Prices, Stacked}
 use Rattle.tt_leaf_rules.specs.declared.leaf.Leaf.{Leaf}
 use Rattle.tt_leaf_rules.specs.declared.leaf.Leaf.TheVariants.{Empty, Many, Clique, Slots, Cost}
-use Rattle.tt_proof_read.specs.declared.format.TheConstants.{COURSE_LETTER, CURRICULUM_LETTER, DAY_LETTER, MAX_NODES, MAX_POINTS, MAX_PRICE, PERIOD_LETTER, ROOM_LETTER}
+use Rattle.tt_proof_read.specs.declared.format.TheConstants.{COURSE_LETTER, CURRICULUM_LETTER, DAY_LETTER, MAX_PROOF_NODES, MAX_POINTS, MAX_PRICE, PERIOD_LETTER, ROOM_LETTER}
 use Rattle.tt_proof_read.specs.declared.node.Node.{Node}
 use Rattle.tt_proof_read.specs.declared.node.Node.TheVariants as node
 use Rattle.tt_proof_read.specs.Trees.{Tree, AllLeaves, preorder}
@@ -125,7 +125,7 @@ IsBound Nothing = ⊤
 pub record IsWithinLimits (bytes : List ℕ) (tree : Tree) : Type 0 where
   pub size : length bytes ≤ MAX_BYTES
   pub tokens : All (λ t. length t.text ≤ MAX_TOKEN_BYTES) (tokens_of bytes)
-  pub nodes : length (preorder tree) ≤ MAX_NODES
+  pub nodes : length (preorder tree) ≤ MAX_PROOF_NODES
   pub depth : AllLeaves (λ path _. length path ≤ MAX_FACTS) [] tree
 
 -- The tokens of the bytes are exactly `CTTP`, the version, `bound`, the bound, the tree in preorder and `end`.

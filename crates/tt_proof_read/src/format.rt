@@ -7,7 +7,7 @@ pub const MAX_PRICE: u32 = 1_000_000;
 pub const MAX_POINTS: u64 = 1_000_000_000_000;
 
 /// The maximum number of nodes of a proof.
-pub const MAX_NODES: u32 = 16_777_216;
+pub const MAX_PROOF_NODES: u32 = 16_777_216;
 
 /// The letter before the number of a course.
 pub const COURSE_LETTER: u8 = b'c';

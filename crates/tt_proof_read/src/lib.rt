@@ -22,8 +22,8 @@ mod tree;
 pub use fault::{TextFault, Word};
 pub use faulty::faulty_beginnings_spell_none;
 pub use format::{
-    COURSE_LETTER, CURRICULUM_LETTER, DAY_LETTER, MAX_NODES, MAX_POINTS, MAX_PRICE, PERIOD_LETTER,
-    ROOM_LETTER,
+    COURSE_LETTER, CURRICULUM_LETTER, DAY_LETTER, MAX_POINTS, MAX_PRICE, MAX_PROOF_NODES,
+    PERIOD_LETTER, ROOM_LETTER,
 };
 pub use laws::{filled_trees_are_whole, leaves_stand_in_proofs, read_proofs_are_spelled};
 pub use node::Node;

@@ -10,7 +10,7 @@ ghost use Rattle.tt_proof_read.specs.Reading.{node_word_of, node_after_word, nod
 use crate::claims::read_claims;
 use crate::fault::TextFault;
 use crate::fields::{read_course, token};
-use crate::format::MAX_NODES;
+use crate::format::MAX_PROOF_NODES;
 use crate::lists::read_list;
 use crate::node::Node;
 use crate::patterns::read_pattern;
@@ -108,10 +108,10 @@ pub fn read_node<R: Source>(
     ensures tables { AreTables sizes tables.new }
     ensures read { ReadsAs R.Source feed.old source.old feed.new source.new (λ n. n) result (node_at sizes version count) }
     ensures node { IfOk result (IsNodeAt sizes version) }
-    ensures room { IfOk result (λ _. count < MAX_NODES) }
+    ensures room { IfOk result (λ _. count < MAX_PROOF_NODES) }
 {
     let at = token(feed, source)?;
-    if count >= MAX_NODES {
+    if count >= MAX_PROOF_NODES {
         return Err(TextFault::TooManyNodes(at));
     }
     let word = node_word(feed.token(), at)?;

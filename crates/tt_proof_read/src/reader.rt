@@ -9,7 +9,7 @@ ghost use Rattle.tt_proof_read.specs.Readers.{IsNodeAt, Goes, Says, HeaderAgrees
 ghost use Rattle.tt_proof_read.specs.Sizes.{AreSizes};
 
 use crate::fault::TextFault;
-use crate::format::MAX_NODES;
+use crate::format::MAX_PROOF_NODES;
 use crate::header::{read_end, read_header};
 use crate::node::Node;
 use crate::nodes::read_node;
@@ -39,13 +39,13 @@ impl Model for NodeReader {
     ghost use Rattle.std.specs.Prelude.{◌≡◌, ◌≤◌, ◌+◌, None};
     ghost use Rattle.tt_proof_read.specs.Pricing.{AreTables};
     ghost use Rattle.tt_proof_read.specs.Readers.{Reader};
-    ghost use Rattle.tt_proof_read.specs.declared.format.TheConstants.{MAX_NODES};
+    ghost use Rattle.tt_proof_read.specs.declared.format.TheConstants.{MAX_PROOF_NODES};
 
     ghost Value = { Reader };
 
     ghost view = { λ a. record { fed = a.feed; sizes = a.sizes; version = a.version; bound = a.bound; count = a.count; places = a.places; fault = a.fault } };
 
-    ghost invariant = { λ a. record { nodes : a.count ≤ MAX_NODES; places : a.places ≤ a.count + 1; tables : AreTables a.sizes a.tables; feed : a.fault ≡ None → a.feed.fault ≡ None } };
+    ghost invariant = { λ a. record { nodes : a.count ≤ MAX_PROOF_NODES; places : a.places ≤ a.count + 1; tables : AreTables a.sizes a.tables; feed : a.fault ≡ None → a.feed.fault ≡ None } };
 }
 
 impl NodeReader {
@@ -114,7 +114,7 @@ impl NodeReader {
         ensures again { IfSome self.old.fault (λ f. (result ≡ Err f) × (self.new ≡ self.old)) }
         ensures still { IfSome self.old.fault (λ _. source.new ≡ source.old) }
         ensures goes { self.old.fault ≡ None → Goes self.old result self.new }
-        ensures room { IfOk result (λ o. IfSome o (λ _. self.old.count < MAX_NODES)) }
+        ensures room { IfOk result (λ o. IfSome o (λ _. self.old.count < MAX_PROOF_NODES)) }
         ensures says { self.old.fault ≡ None → is_some (R.remaining source.old) ≡ true →
             Says self.old (stream_at self.old.fed (R.remaining source.old)) result (stream_at self.new.fed (R.remaining source.new)) }
         // A failed read is reported if the bytes before it give a part of the node and no fault.

@@ -4,7 +4,7 @@ use Rattle.tt_leaf_rules.specs.declared.leaf.Bound.{Bound}
 use Rattle.tt_leaf_rules.specs.declared.leaf.Leaf.{Leaf}
 use Rattle.tt_leaf_rules.specs.declared.leaf.Leaf.TheVariants.{Cost}
 use Rattle.tt_text.specs.declared.feed.TheConstants.{MAX_BYTES}
-use Rattle.tt_proof_read.specs.declared.format.TheConstants.{MAX_NODES}
+use Rattle.tt_proof_read.specs.declared.format.TheConstants.{MAX_PROOF_NODES}
 use Rattle.tt_proof_read.specs.declared.node.Node.{Node}
 use Rattle.tt_proof_read.specs.declared.node.Node.TheVariants as node
 use Rattle.tt_proof_read.specs.Limits.{IsShortClaim, IsLeafIn}
@@ -31,7 +31,7 @@ IsShallow nodes = (tree : Tree) → preorder tree ≡ nodes → AllLeaves (λ pa
 -- the limits of a file, except the limit on its bytes
 pub record AreWithin (b : Bound) (nodes : List Node) : Type 0 where
   pub bound : IsBound b
-  pub count : length nodes ≤ MAX_NODES
+  pub count : length nodes ≤ MAX_PROOF_NODES
   pub prices : All HasShortPrices nodes
   pub depth : IsShallow nodes
 

@@ -8,7 +8,7 @@ ghost use Rattle.tt_proof_text.specs.Within.{HasShortPrices, IsNodeIn, AreWithin
 
 use crate::depth::is_shallow;
 use tt_leaf_rules::{Bound, Claim, Leaf};
-use tt_proof_read::{MAX_NODES, MAX_POINTS, MAX_PRICE, Node};
+use tt_proof_read::{MAX_POINTS, MAX_PRICE, MAX_PROOF_NODES, Node};
 
 fn are_short_prices(prices: &[(u32, u32)]) -> bool
     ensures { IsTrue result ↔ All (λ k. k.1 ≤ MAX_PRICE) prices.now }
@@ -64,7 +64,7 @@ pub fn are_within(bound: Bound, nodes: &[Node]) -> bool
     ensures { IsTrue result ↔ AreWithin bound nodes.now }
 {
     is_bound(bound)
-        && nodes.len() <= MAX_NODES as usize
+        && nodes.len() <= MAX_PROOF_NODES as usize
         && have_short_prices(nodes)
         && is_shallow(nodes)
 }

@@ -7,10 +7,10 @@ use crate::rounds::Part;
 const HOTTEST: u64 = 5_600;
 
 /// The cost that a first draw accepts half of the time if the timetable costs nothing, in thousandths of a point.
-const WARM: u64 = 420;
+const BASE_TEMPERATURE: u64 = 420;
 
 /// The amount added to it for each point that an entry costs on average, in thousandths of a point.
-const WARMER: u64 = 1_400;
+const TEMPERATURE_PER_COST: u64 = 1_400;
 
 /// The number of samples of all draws is about this number times the root of the number of draws.
 const SAMPLES: u64 = 100_000;
@@ -57,8 +57,8 @@ pub fn samples(draws: u64) -> u64 {
 
 /// Returns the cost that a first draw usually accepts half of the time, for a timetable of this cost and this many entries.
 fn first(cost: u64, entries: u64) -> u64 {
-    let more = cost.saturating_mul(WARMER) / entries.max(1);
-    WARM.saturating_add(more).min(HOTTEST)
+    let more = cost.saturating_mul(TEMPERATURE_PER_COST) / entries.max(1);
+    BASE_TEMPERATURE.saturating_add(more).min(HOTTEST)
 }
 
 impl Cooling {
@@ -93,7 +93,7 @@ impl Cooling {
     }
 
     /// Returns the maximum number of samples that the next draw takes.
-    pub fn patience(self) -> u64 {
+    pub fn max_samples(self) -> u64 {
         self.samples.saturating_sub(self.sampled).min(PATIENCE)
     }
 

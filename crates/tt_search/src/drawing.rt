@@ -52,7 +52,7 @@ fn draw_of(
     let (temperature, level) = (cooling.temperature(), cooling.level());
     let is_feasible = occupied.score().feasible();
     let before = entry_cost(occupied, entry);
-    for _ in 0..cooling.patience().min(SAMPLES_AN_ENTRY) {
+    for _ in 0..cooling.max_samples().min(SAMPLES_AN_ENTRY) {
         cooling.sample();
         if let Some(step) = sample(occupied, board, open, rng, entry) {
             if let Some(change) = judge(occupied, step, before, is_feasible) {
@@ -77,7 +77,7 @@ pub fn draw(
     ensures { IfSome result (CanStep occupied.now.problem occupied.now.entries) }
 {
     cooling.draw();
-    for _ in 0..cooling.patience().div_ceil(SAMPLES_AN_ENTRY) {
+    for _ in 0..cooling.max_samples().div_ceil(SAMPLES_AN_ENTRY) {
         let entry = entry_to_move(occupied, rng);
         open.find(occupied, occupied.entry(entry));
         if let Some(step) = draw_of(occupied, board, open, rng, cooling, entry) {

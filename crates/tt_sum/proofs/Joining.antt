@@ -15,7 +15,7 @@ use Rattle.tt_lists.proofs.Twos.{list_all-swap}
 use Rattle.tt_instance.specs.Problem.{Problem}
 use Rattle.tt_instance.specs.Limits.{IsInstance}
 use Rattle.tt_leaf_rules.specs.Claims.{Target, targets_of, claimed}
-use Rattle.tt_leaf_rules.specs.Met.{place, places_of, IsPlaced}
+use Rattle.tt_leaf_rules.specs.NumberSet.{place, places_of, IsPlaced}
 use Rattle.tt_leaf_rules.specs.Tests.{same_target}
 use Rattle.tt_leaf_rules.specs.declared.leaf.Bound.{Bound}
 use Rattle.tt_leaf_rules.specs.declared.leaf.Claim.{Claim}
@@ -27,13 +27,13 @@ use Rattle.tt_proof_read.specs.Trees.{Tree, Close, Branch, preorder}
 use Rattle.tt_proof_read.specs.declared.node.Node.{Node}
 use Rattle.tt_proof_read.specs.declared.node.Node.TheVariants.{Split, Leaf}
 use Rattle.tt_proof_read.proofs.LeafParts.{claim_parts}
-use Rattle.tt_proof_check.specs.Heard.{Heard, IsHeardProof}
+use Rattle.tt_proof_check.specs.Visited.{Visited, IsVisitedProof}
 use Rattle.tt_sum.specs.declared.table.Clash.{Clash}
 use Rattle.tt_sum.specs.Added.{Joins}
 use Rattle.tt_sum.specs.Faults.{IsClaimedElsewhere}
 use Rattle.tt_sum.specs.Sums.{claimed_in, claimed_by, is_among, are_apart, TreePart, Part, TreeProof, claims_of}
 use Rattle.tt_sum.specs.Tables.{State, owner, clash_with, clash_at, first_clash, Claims, at_node, places_in, claims_at, first_claim, begun, IsTableOf}
-use Rattle.tt_sum.proofs.Tables.{owner_after, not_none, first_clash-append, places_from, places_all, heard_claims}
+use Rattle.tt_sum.proofs.Tables.{owner_after, not_none, first_clash-append, places_from, places_all, visited_claims}
 
 -- ---- lists
 
@@ -262,19 +262,19 @@ node_placed p is v (Leaf (Cost claims)) h y e =
 -- -- a proof whose nodes were visited
 
 -- the table has visited the nodes, and its state changed from the first to the second
-abbrev pub TableHeard : State → State → List Node → Type 0
-TableHeard a b = Heard (λ s j n u. 0 < s.proof → Claims s (at_node j (places_in n)) u) 0 a b
+abbrev pub TableVisited : State → State → List Node → Type 0
+TableVisited a b = Visited (λ s j n u. 0 < s.proof → Claims s (at_node j (places_in n)) u) 0 a b
 
-pub newest : (p : Problem) (remaining : Option (List ℕ)) (t b : State) → 0 < t.proof → (x : Bound) → IsHeardProof p remaining (TableHeard t b) x → b.proof ≡ t.proof
-newest p remaining t b some x h = (heard_claims 0 t b (preorder h.tree) some h.heard).proof
+pub newest : (p : Problem) (remaining : Option (List ℕ)) (t b : State) → 0 < t.proof → (x : Bound) → IsVisitedProof p remaining (TableVisited t b) x → b.proof ≡ t.proof
+newest p remaining t b some x h = (visited_claims 0 t b (preorder h.tree) some h.visited).proof
 
 module _ (p : Problem) (remaining : Option (List ℕ)) (t b : State) (parts : List Part) (of : IsTableOf t parts) (x : Bound)
-    (h : IsHeardProof p remaining (TableHeard (begun t) b) x) where
+    (h : IsVisitedProof p remaining (TableVisited (begun t) b) x) where
   abbrev part : TreePart
   part = record { version = h.version; bound = x; tree = h.tree }
 
   claims : Claims (begun t) (places_from 0 (preorder h.tree)) b
-  claims = let some : 0 < t.proof + 1 = omega arith in heard_claims 0 (begun t) b (preorder h.tree) some h.heard
+  claims = let some : 0 < t.proof + 1 = omega arith in visited_claims 0 (begun t) b (preorder h.tree) some h.visited
 
   pub joins : b.clash ≡ None → Joins p remaining parts b x
   joins free = record {

@@ -14,7 +14,7 @@ use Rattle.tt_lists.proofs.Twos.{list_all-swap, each_two-push}
 use Rattle.tt_instance.specs.Problem.{Problem}
 use Rattle.tt_instance.specs.Limits.{IsInstance}
 use Rattle.tt_leaf_rules.specs.Claims.{Target, WorkingDays, Compactness}
-use Rattle.tt_leaf_rules.specs.Met.{place}
+use Rattle.tt_leaf_rules.specs.NumberSet.{place}
 use Rattle.tt_groups.specs.Group.{Group, IsGroupBound}
 use Rattle.tt_groups_read.specs.Spelling.{IsClaim}
 use Rattle.tt_groups_read.specs.declared.claim.GroupClaim.{GroupClaim}

@@ -8,10 +8,10 @@ use Rattle.std.proofs.lemmas.List.{take_more, map-append}
 use Rattle.tt_lists.specs.Words.{has_number}
 use Rattle.std.proofs.lemmas.Grind.{flat_map-append}
 use Rattle.tt_leaf_rules.specs.Claims.{RoomCapacity, targets_of, claimed}
-use Rattle.tt_leaf_rules.specs.Met.{place, places_of}
+use Rattle.tt_leaf_rules.specs.NumberSet.{place, places_of}
 use Rattle.tt_leaf_rules.specs.declared.leaf.Claim.{Claim}
 use Rattle.tt_proof_read.specs.declared.node.Node.{Node}
-use Rattle.tt_proof_check.specs.Heard.{Heard}
+use Rattle.tt_proof_check.specs.Visited.{Visited}
 use Rattle.tt_sum.specs.declared.table.Clash.{Clash}
 use Rattle.tt_sum.specs.Tables.{State, owner, clash_with, clash_at, first_clash, Claims, at_node, places_in}
 
@@ -116,11 +116,11 @@ places_from i [] = []
 places_from i (n ∷ ns) = at_node i (places_in n) ++ places_from (i + 1) ns
 
 -- a table that has visited nodes has the claims of these nodes
-pub heard_claims : (i : ℕ) (a b : State) (nodes : List Node) → 0 < a.proof → Heard (λ x j n y. 0 < x.proof → Claims x (at_node j (places_in n)) y) i a b nodes → Claims a (places_from i nodes) b
-heard_claims i a b [] some h = subst (Claims a []) (sym h) (claims_none a)
-heard_claims i a b (n ∷ ns) some h =
+pub visited_claims : (i : ℕ) (a b : State) (nodes : List Node) → 0 < a.proof → Visited (λ x j n y. 0 < x.proof → Claims x (at_node j (places_in n)) y) i a b nodes → Claims a (places_from i nodes) b
+visited_claims i a b [] some h = subst (Claims a []) (sym h) (claims_none a)
+visited_claims i a b (n ∷ ns) some h =
     let here = h.1 some in
-    claims_then a h.0 b (at_node i (places_in n)) (places_from (i + 1) ns) some here (heard_claims (i + 1) h.0 b ns (subst (λ q. 0 < q) (sym here.proof) some) h.2)
+    claims_then a h.0 b (at_node i (places_in n)) (places_from (i + 1) ns) some here (visited_claims (i + 1) h.0 b ns (subst (λ q. 0 < q) (sym here.proof) some) h.2)
 
 pub places_at : (n : ℕ) (ks : List ℕ) → map (λ x. x.1) (at_node n ks) ≡ ks
 places_at n [] = refl

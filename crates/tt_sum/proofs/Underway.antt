@@ -11,7 +11,7 @@ use Rattle.tt_text.specs.Feeds.{Stream, stream_at, fresh, room_of}
 use Rattle.tt_text.specs.declared.feed.FeedFault.TheVariants as feed
 use Rattle.tt_instance.specs.Problem.{Problem}
 use Rattle.tt_instance.specs.Limits.{IsInstance}
-use Rattle.tt_leaf_rules.specs.Met.{place}
+use Rattle.tt_leaf_rules.specs.NumberSet.{place}
 use Rattle.tt_leaf_rules.specs.declared.leaf.Bound.{Bound}
 use Rattle.tt_leaf_rules.specs.declared.leaf.Bound.TheVariants.{AtLeast}
 use Rattle.tt_proof_read.specs.Answers.{StaysKnown}
@@ -25,7 +25,7 @@ use Rattle.tt_proof_check.specs.Streams.{stream_of, sizes_of}
 use Rattle.tt_proof_check.proofs.FailedReads.{of_given}
 use Rattle.tt_proof_check.proofs.Sizes.{are_sizes_of, sizes_are}
 use Rattle.tt_groups.specs.Group.{IsGroupBound}
-use Rattle.tt_groups_read.specs.Faults.{is_silent, is_failed_read}
+use Rattle.tt_groups_read.specs.Faults.{is_environmental, is_failed_read}
 use Rattle.tt_groups_read.specs.Readers.{Reader, Goes, Says, HeaderSays, HeaderAgreesWhenCut, GroupAgreesWhenCut, IsClaimAt}
 use Rattle.tt_groups_read.specs.Reading.{header_at, group_at}
 use Rattle.tt_groups_read.specs.Reads.{ReadsClaims, ReadsFile}
@@ -236,10 +236,10 @@ read_is (group_text.Text t) e = ap group_text.Text (text_read t e)
     text_read text.OutOfMemory h = absurd cc
 
 -- a fault of the text is reported as a failed read, as being out of memory, or as a fault of the file
-told_cases : (P : SumFault → Type 0) (n : ℕ) (f : GroupTextFault) → (is_failed_read f ≡ true → P (read_failed_at n)) → P fault.OutOfMemory → (is_silent f ≡ false → P (fault.Groups n (groups.Text f))) → P (told_text n f)
-told_cases P n f read memory other = on (is_failed_read f) refl (is_silent f) refl
+told_cases : (P : SumFault → Type 0) (n : ℕ) (f : GroupTextFault) → (is_failed_read f ≡ true → P (read_failed_at n)) → P fault.OutOfMemory → (is_environmental f ≡ false → P (fault.Groups n (groups.Text f))) → P (told_text n f)
+told_cases P n f read memory other = on (is_failed_read f) refl (is_environmental f) refl
   where
-    on : (x : Bool) → is_failed_read f ≡ x → (y : Bool) → is_silent f ≡ y → P (cond x (read_failed_at n) (cond y fault.OutOfMemory (fault.Groups n (groups.Text f))))
+    on : (x : Bool) → is_failed_read f ≡ x → (y : Bool) → is_environmental f ≡ y → P (cond x (read_failed_at n) (cond y fault.OutOfMemory (fault.Groups n (groups.Text f))))
     on true e y g = read e
     on false e true g = memory
     on false e false g = other g
@@ -259,11 +259,11 @@ pub told_unread : (n : ℕ) (f : GroupTextFault) → (told_text n f ≡ read_fai
 told_unread n f other = on (is_failed_read f) refl
   where
     on : (x : Bool) → is_failed_read f ≡ x → is_failed_read f ≡ false
-    on true e = absurd (other (ap (λ (x : Bool). cond x (read_failed_at n) (cond (is_silent f) fault.OutOfMemory (fault.Groups n (groups.Text f)))) e))
+    on true e = absurd (other (ap (λ (x : Bool). cond x (read_failed_at n) (cond (is_environmental f) fault.OutOfMemory (fault.Groups n (groups.Text f)))) e))
     on false e = e
 
 pub told_added : (p : Problem) (parts : List Part) (bytes : List ℕ) → is_groups bytes ≡ true → (n : ℕ) (f : GroupTextFault)
-    → (is_silent f ≡ false → (header_at (stream_of bytes) ≡ Err f) ⊎ AfterClaims p parts (stream_of bytes) (λ b claims rest. (t : TextFault) × (f ≡ group_text.Text t) × (group_at (sizes_of p) rest ≡ Err t)))
+    → (is_environmental f ≡ false → (header_at (stream_of bytes) ≡ Err f) ⊎ AfterClaims p parts (stream_of bytes) (λ b claims rest. (t : TextFault) × (f ≡ group_text.Text t) × (group_at (sizes_of p) rest ≡ Err t)))
     → TellsAdded p parts bytes (told_text n f)
 told_added p parts bytes kind n f tells =
     told_cases (TellsAdded p parts bytes) n f (λ e. record { kind = inl refl; fault = (λ x. cc, inl tt) }) tt (λ e. record { kind = kind; fault = (e, tells e) })
@@ -277,7 +277,7 @@ pub header_fault : (p : Problem) (parts : List Part) (bytes : List ℕ) (before 
     → (is_some before ≡ true → HeaderSays (stream_at fresh before) (Err f) now) → TellsAdded p parts bytes (told_text n f)
 header_fault p parts bytes before now e kind n f says =
     told_added p parts bytes kind n f
-    (λ l. inl (subst (λ (z : Option (List ℕ)). header_at (stream_at fresh z) ≡ Err f) e (loud (is_silent f) (header_at (stream_at fresh before) ≡ Err f) (says (ap is_some e)) l)))
+    (λ l. inl (subst (λ (z : Option (List ℕ)). header_at (stream_at fresh z) ≡ Err f) e (loud (is_environmental f) (header_at (stream_at fresh before) ≡ Err f) (says (ap is_some e)) l)))
 
 -- a failed read within the header
 pub header_cut : (p : Problem) (before now : Option (List ℕ)) (f : GroupTextFault) → f ≡ group_text.Text read_failed → StaysKnown before now → HeaderAgreesWhenCut before (Err f) now → (bytes : List ℕ) → before ≡ Some bytes → HoldsOfGiven bytes now (AreGroupsCutOff p)
@@ -294,7 +294,7 @@ module _ (p : Problem) (is : IsInstance p) (before : Option (List ℕ)) (a : Sta
       told_added p parts bytes kind n (group_text.Text t)
       (λ l. inr (subst (λ (z : Option (List ℕ)). AfterClaims p parts (stream_at fresh z) (λ b claims rest. (x : TextFault) × (group_text.Text t ≡ group_text.Text x) × (group_at (sizes_of p) rest ≡ Err x))) e
       (after_claims p is before a r now b number sum u parts old of begins _ k
-      (t, refl, subst (λ (z : Sizes). group_at z (stream_at r.fed now) ≡ Err t) u.sizes (loud (is_silent (group_text.Text t)) (group_at r.sizes (stream_at r.fed now) ≡ Err t) (says (u.known k)) l)))))
+      (t, refl, subst (λ (z : Sizes). group_at z (stream_at r.fed now) ≡ Err t) u.sizes (loud (is_environmental (group_text.Text t)) (group_at r.sizes (stream_at r.fed now) ≡ Err t) (says (u.known k)) l)))))
 
   pub claim_cut : group_text.Text t ≡ group_text.Text read_failed → StaysKnown now later → GroupAgreesWhenCut r now (Err t) after.fed later → (bytes : List ℕ) → before ≡ Some bytes → HoldsOfGiven bytes later (AreGroupsCutOff p)
   claim_cut is_read known cut bytes e =

@@ -9,7 +9,7 @@ use Rattle.tt_leaf_rules.specs.declared.leaf.Bound.TheVariants.{AtLeast, Nothing
 use Rattle.tt_proof_read.specs.Trees.{preorder}
 use Rattle.tt_proof_read.specs.declared.fault.TextFault.TheVariants as text
 use Rattle.tt_proof_read.specs.declared.node.Node.{Node}
-use Rattle.tt_groups_read.specs.Faults.{is_silent, is_failed_read}
+use Rattle.tt_groups_read.specs.Faults.{is_environmental, is_failed_read}
 use Rattle.tt_groups_read.specs.declared.fault.GroupTextFault.{GroupTextFault}
 use Rattle.tt_peek.specs.Fronts.{is_groups}
 use Rattle.tt_proof_check.specs.Faults.{OutOfMemoryIsNoTextFault}
@@ -111,7 +111,7 @@ read_failed_at n = Proof n (check.Text (text.Feed feed.Read))
 
 -- The fault of a file of groups for a fault of its text.
 abbrev pub told_text : ℕ → GroupTextFault → SumFault
-told_text n f = if is_failed_read f then read_failed_at n else (if is_silent f then OutOfMemory else Groups n (groups.Text f))
+told_text n f = if is_failed_read f then read_failed_at n else (if is_environmental f then OutOfMemory else Groups n (groups.Text f))
 
 -- Being out of memory is a single fault.
 abbrev pub OutOfMemoryIsOneFault : SumFault → Type 0

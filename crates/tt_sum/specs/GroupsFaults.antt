@@ -13,7 +13,7 @@ use Rattle.tt_groups_check.specs.declared.fault.GroupFault.{GroupFault}
 use Rattle.tt_groups_check.specs.declared.fault.GroupFault.TheVariants as group
 use Rattle.tt_groups_day.specs.declared.sets.TheConstants.{MAX_SETS}
 use Rattle.tt_groups_week.specs.declared.digits.TheConstants.{MAX_PLACES}
-use Rattle.tt_groups_read.specs.Faults.{is_silent}
+use Rattle.tt_groups_read.specs.Faults.{is_environmental}
 use Rattle.tt_groups_read.specs.Reading.{header_at, group_at}
 use Rattle.tt_groups_read.specs.Reads.{ReadsClaims}
 use Rattle.tt_groups_read.specs.declared.claim.GroupClaim.{GroupClaim}
@@ -89,7 +89,7 @@ IsRefusal p k group.OutOfMemory = ⊥
 -- is claimed already, then the limits of its check in their order; and last that all values together are below the bound.
 abbrev pub TellsGroups : Problem → List Part → Stream → GroupsFault → Type 0
 TellsGroups p parts s (Text f) =
-    (is_silent f ≡ false)
+    (is_environmental f ≡ false)
     × ((header_at s ≡ Err f) ⊎ AfterClaims p parts s (λ b claims rest. (t : TextFault) × (f ≡ text.Text t) × (group_at (sizes_of p) rest ≡ Err t)))
 TellsGroups p parts s (ClaimedTwice i) =
     AtClaim p parts s i (λ claims k. FirstClaimed parts claims (group_targets k.group) (λ y. is_among (targets_of_claims claims) y ≡ true))
@@ -101,7 +101,7 @@ TellsGroups p parts s TooCheap =
 
 -- The fault belongs to the file: it is neither being out of memory nor a failed read.
 abbrev pub IsOfFile : GroupsFault → Type 0
-IsOfFile (Text f) = is_silent f ≡ false
+IsOfFile (Text f) = is_environmental f ≡ false
 IsOfFile (Group i f) = ¬ (f ≡ group.OutOfMemory)
 IsOfFile _ = ⊤
 

@@ -1,7 +1,7 @@
 //! Why files can't be added up.
 
 ghost use Rattle.std.specs.Prelude.{◌≡◌, false};
-ghost use Rattle.tt_groups_read.specs.Faults.{is_failed_read, is_silent};
+ghost use Rattle.tt_groups_read.specs.Faults.{is_failed_read, is_environmental};
 ghost use Rattle.tt_sum.specs.Faults.{told_proof, told_text, read_failed_at};
 
 use crate::groups_fault::GroupsFault;
@@ -86,7 +86,7 @@ fn is_failed_read(fault: &GroupTextFault) -> bool
 }
 
 fn is_out_of_memory(fault: &GroupTextFault) -> bool
-    ensures { is_failed_read fault.now ≡ false → result ≡ is_silent fault.now }
+    ensures { is_failed_read fault.now ≡ false → result ≡ is_environmental fault.now }
 {
     matches!(fault, GroupTextFault::Text(TextFault::OutOfMemory))
 }

@@ -16,7 +16,7 @@ use std::alloc::Global;
 use tt_instance::Instance;
 use tt_leaf_rules::Bound;
 use tt_peek::{Peek, PeekFault};
-use tt_proof_check::hear_proof;
+use tt_proof_check::check_proof_with;
 use tt_text::Source;
 
 /// Checks a tree proof, as the file that has begun, and returns its bound if it claims no target that an earlier file claims.
@@ -42,7 +42,7 @@ fn take_proof<R: Source>(
     // In every instance, the numbers are small enough to be read.
     prove!(instance.days() > 0);
     let proof = table.proof();
-    let bound = match hear_proof(alloc, instance, table, source) {
+    let bound = match check_proof_with(alloc, instance, table, source) {
         Ok(bound) => bound,
         Err(fault) => return Err(fault_of_proof(proof, fault)),
     };

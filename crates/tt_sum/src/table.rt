@@ -2,7 +2,7 @@
 
 ghost use Rattle.std.specs.Prelude.{◌≡◌, ℕ, ◌+◌, ◌*◌, ◌<◌, ◌∷◌, [], map, flat_map, Some, IfOk};
 ghost use Rattle.std.specs.Option.{option_or};
-ghost use Rattle.tt_leaf_rules.specs.Met.{place, places_of};
+ghost use Rattle.tt_leaf_rules.specs.NumberSet.{place, places_of};
 ghost use Rattle.tt_sum.specs.Sums.{claimed_in};
 ghost use Rattle.tt_sum.specs.Tables.{Claims, at_node, IsTableOf, owner, first_owner, Marks, group_places};
 
@@ -10,7 +10,7 @@ use std::alloc::{AllocError, Global};
 use std::marker::Model;
 use tt_groups::Group;
 use tt_leaf_rules::{Claim, Leaf};
-use tt_proof_check::Listener;
+use tt_proof_check::NodeVisitor;
 use tt_proof_read::Node;
 
 /// The places of targets are below this limit: four for each number of a course or a curriculum.
@@ -209,14 +209,14 @@ impl Table {
     }
 }
 
-impl Listener for Table {
+impl NodeVisitor for Table {
     ghost use Rattle.std.specs.Prelude.{◌<◌};
     ghost use Rattle.tt_sum.specs.Tables.{Claims, at_node, places_in};
 
     // Before the first file begins, there are no nodes to visit.
-    ghost hears = { λ old number node new. 0 < old.proof → Claims old (at_node number (places_in node)) new };
+    ghost visits = { λ old number node new. 0 < old.proof → Claims old (at_node number (places_in node)) new };
 
-    fn hear(&mut self, number: u32, node: &Node) {
+    fn visit(&mut self, number: u32, node: &Node) {
         if self.proof == 0 {
             return;
         }

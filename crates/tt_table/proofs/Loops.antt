@@ -7,7 +7,7 @@ use Rattle.tt_instance.specs.Problem.{Problem}
 use Rattle.tt_instance.specs.declared.cell.Cell.{Cell}
 use Rattle.tt_table.specs.declared.fault.SolutionFault.{SolutionFault}
 use Rattle.tt_table.specs.declared.fault.SolutionFault.TheVariants as fault
-use Rattle.tt_table.specs.Reading.{is_silent, Fails, entry_at, entries_at}
+use Rattle.tt_table.specs.Reading.{is_environmental, Fails, entry_at, entries_at}
 
 -- no token is left
 pub entries_none : (end : ℕ) (p : Problem) (n : ℕ) (before : List Cell) (ts : List Placed) → ts ≡ [] → entries_at end p n before ts ≡ Ok before
@@ -32,4 +32,4 @@ unfolding entries_at
 entries_fail f end n m p before first more ts left split fails =
     let go = λ (x : Cell × List Placed). entries_at end p m (before ++ x.0 ∷ []) x.1 in
     let step : entries_at end p n before ts ≡ (entry_at end p first more >>= go) = rw (left, split) refl in
-    fails_as is_silent f _ _ (sym step) (fails_then is_silent f (entry_at end p first more) go fails)
+    fails_as is_environmental f _ _ (sym step) (fails_then is_environmental f (entry_at end p first more) go fails)

@@ -14,15 +14,15 @@ use Rattle.tt_table.specs.declared.fault.SolutionFault.TheVariants as fault
 use Rattle.tt_table.specs.declared.table.TheConstants.{MAX_ENTRIES}
 
 -- Being out of memory says nothing about the bytes.
-abbrev pub is_silent : SolutionFault → Bool
-is_silent fault.OutOfMemory = true
-is_silent _ = false
+abbrev pub is_environmental : SolutionFault → Bool
+is_environmental fault.OutOfMemory = true
+is_environmental _ = false
 
 abbrev pub Fails : {Y : Type 0} → SolutionFault → Result Y SolutionFault → Type 0
-Fails e read = FailsUnless is_silent e read
+Fails e read = FailsUnless is_environmental e read
 
 abbrev pub Gives : {X Y : Type 0} → (X → Y) → Result X SolutionFault → Result Y SolutionFault → Type 0
-Gives view result read = AgreesUnless is_silent view result read
+Gives view result read = AgreesUnless is_environmental view result read
 
 -- The next token of a text of `end` bytes.
 abbrev pub token_at : ℕ → List Placed → Result (Placed × List Placed) SolutionFault

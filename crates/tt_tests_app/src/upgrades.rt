@@ -10,7 +10,7 @@ use tt_samples::{GAP, GAP_PROOF, SEATS, edited};
 use tt_test_files::{MemoryFiles, Refusal};
 use tt_test_runs::{Outcome, run_on};
 use tt_text::Pieces;
-use tt_upgrade::read_proof;
+use tt_upgrade::parse_proof;
 
 const OLDER: &str = "an older file";
 
@@ -87,7 +87,7 @@ fn refused_writes_leave_the_older_file(rt: HostRuntime) -> Result<(), Fail> {
 fn a_proof_is_read_checked_and_written(rt: HostRuntime) -> Result<(), Fail> {
     let instance = read_instance(rt.alloc(), GAP.as_bytes())?;
     let mut pieces = Pieces::new(GAP_PROOF.as_bytes(), 7, 0);
-    let proof = read_proof(rt.alloc(), &instance, &mut pieces)?;
+    let proof = parse_proof(rt.alloc(), &instance, &mut pieces)?;
     assert_eq!(rt; (proof.version, proof.bound), (1, Bound::AtLeast(5)));
     assert_eq!(rt; proof.nodes.len(), 9);
     assert_eq!(rt;

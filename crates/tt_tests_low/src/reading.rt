@@ -84,7 +84,7 @@ fn counts_of(instance: &Instance<'_>) -> [u32; 7] {
         instance.rooms(),
         instance.curricula(),
         instance.teachers(),
-        instance.bars(),
+        instance.unavailabilities(),
     ]
 }
 

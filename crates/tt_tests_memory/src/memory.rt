@@ -15,7 +15,7 @@ use tt_proof_read::Node;
 use tt_report::By;
 use tt_samples::{GAP, GAP_PROOF, MARK, MINI, MINI_SOLUTION};
 use tt_text::{Pieces, Writing};
-use tt_upgrade::read_proof;
+use tt_upgrade::parse_proof;
 
 const YES: &str = "yes cost 5 bound 5 optimal\n";
 
@@ -187,7 +187,7 @@ fn the_call_read_proof(rt: HostRuntime) -> Result<(), Fail> {
     let instance = read_instance(rt.alloc(), GAP.as_bytes())?;
     let mut proof = gap_proof();
     println!(rt; "{MARK}")?;
-    let read = read_proof(rt.alloc(), &instance, &mut proof);
+    let read = parse_proof(rt.alloc(), &instance, &mut proof);
     println!(rt; "{MARK}")?;
     assert_eq!(rt; read?.nodes.len(), 9);
     Ok(())

@@ -5,7 +5,7 @@ use Rattle.tt_text.specs.Numbers.{number_of}
 use Rattle.tt_text.specs.Feeds.{Stream}
 use Rattle.tt_proof_read.specs.Reading.{token_at, numbered_below, index_of, course_at, up_to_end, listed_at, list_at, node_after_word, node_at}
 use Rattle.tt_proof_read.specs.declared.fault.TextFault.TheVariants as fault
-use Rattle.tt_proof_read.specs.declared.format.TheConstants.{MAX_NODES}
+use Rattle.tt_proof_read.specs.declared.format.TheConstants.{MAX_PROOF_NODES}
 use Rattle.tt_proof_read.specs.declared.sizes.Sizes.{Sizes}
 
 abbrev sizes : Sizes
@@ -16,7 +16,7 @@ abbrev behind : List ℕ → Stream
 behind bytes = record { tokens = tokens_of bytes; stop = Ok 99 }
 
 -- a word that doesn't exist, after the maximum number of nodes
-too_many_first : node_at sizes 1 MAX_NODES (behind (codes "X")) ≡ Err (fault.TooManyNodes 0)
+too_many_first : node_at sizes 1 MAX_PROOF_NODES (behind (codes "X")) ≡ Err (fault.TooManyNodes 0)
 unfolding tokens_from token_at node_at
 too_many_first = refl
 

@@ -9,7 +9,7 @@ use Rattle.tt_proof_read.specs.Trees.{Tree, preorder, OnPath, on_paths, IsPreord
 use Rattle.tt_proof_read.specs.declared.fault.TextFault.{TextFault}
 use Rattle.tt_proof_read.specs.declared.fault.TextFault.TheVariants as text
 use Rattle.tt_proof_read.specs.declared.node.Node.{Node}
-use Rattle.tt_proof_check.specs.Tells.{Tells}
+use Rattle.tt_proof_check.specs.Explains.{Explains}
 use Rattle.tt_proof_check.specs.declared.fault.CheckFault.TheVariants as check
 use Rattle.tt_proof_check.specs.declared.fault.NodesFault.{NodesFault}
 use Rattle.tt_proof_check.specs.declared.fault.NodesFault.TheVariants.{NotATree, Rule, TooDeep, OutOfMemory}
@@ -29,13 +29,13 @@ place_small tree nodes i x e few found =
     omega (arith, h, k, few)
 
 -- the number of the wrong node has 32 bits
-pub is_of_node : (p : Problem) (b : Bound) (nodes : List Node) → IsPreorder nodes → length nodes ≤ 16777216 → (e : NodesFault) → Tells p b nodes e → IsOfNode e
+pub is_of_node : (p : Problem) (b : Bound) (nodes : List Node) → IsPreorder nodes → length nodes ≤ 16777216 → (e : NodesFault) → Explains p b nodes e → IsOfNode e
 is_of_node p b nodes tree few NotATree t = absurd (t tree)
 is_of_node p b nodes tree few (Rule i f) t = place_small t.0 nodes i _ t.1 few t.2.found
 is_of_node p b nodes tree few (TooDeep i) t = place_small t.0 nodes i _ t.1 few t.2.found
 is_of_node p b nodes tree few OutOfMemory t = tt
 
-pub fault_of_node : (p : Problem) (b : Bound) (nodes : List Node) (e : NodesFault) (u : UpgradeFault) → IsFaultOfNode e u → Tells p b nodes e → IsNodesFault p b nodes u
+pub fault_of_node : (p : Problem) (b : Bound) (nodes : List Node) (e : NodesFault) (u : UpgradeFault) → IsFaultOfNode e u → Explains p b nodes e → IsNodesFault p b nodes u
 fault_of_node p b nodes NotATree u is t = absurd is
 fault_of_node p b nodes (Rule i f) u is t = subst (IsNodesFault p b nodes) (sym is) t
 fault_of_node p b nodes (TooDeep i) u is t = subst (IsNodesFault p b nodes) (sym is) t

@@ -25,7 +25,7 @@ use Rattle.tt_proof_read.proofs.Small.{are_small}
 use Rattle.tt_proof_check.specs.Derives.{Proves}
 use Rattle.tt_proof_check.specs.Streams.{IsProved, stream_of, sizes_of, HasHeader}
 use Rattle.tt_proof_check.specs.Streams as checked
-use Rattle.tt_proof_check.specs.Tells.{FailsAt, IsDeepAt}
+use Rattle.tt_proof_check.specs.Explains.{FailsAt, IsDeepAt}
 use Rattle.tt_proof_check.specs.declared.fault.CheckFault.TheVariants as check
 use Rattle.tt_proof_check.proofs.Determined.{begins_whole, same_header, compare}
 use Rattle.tt_proof_check.proofs.Judging.{tree_passes, never_fails, never_deep}
@@ -36,7 +36,7 @@ use Rattle.tt_proof_text.specs.Within.{FitsFile, IsNodeIn, Writes}
 use Rattle.tt_proof_text.specs.Written.{proof_text}
 use Rattle.tt_upgrade.specs.Faults.{fault_from_text, IsNodesFault, IsWriteFault}
 use Rattle.tt_upgrade.specs.Texts.{IsRead, AreNodesOf, NodeTextFails, EndTextFails, IsTextFault}
-use Rattle.tt_upgrade.specs.Upgrades.{IsUpgraded, IsUpgradeFault, IsSilent}
+use Rattle.tt_upgrade.specs.Upgrades.{IsUpgraded, IsUpgradeFault, IsEnvironmental}
 use Rattle.tt_upgrade.specs.declared.fault.UpgradeFault.{UpgradeFault}
 use Rattle.tt_upgrade.specs.declared.fault.UpgradeFault.TheVariants.{Proof, TooLarge, OutOfMemory}
 
@@ -134,7 +134,7 @@ cases_of_fault (text.TooManyNodes at) Q a b = b (λ e. cc)
 cases_of_fault (text.Feed f) Q a b = b (λ e. cc)
 cases_of_fault text.OutOfMemory Q a b = a
 
-silent_text : (f : TextFault) → checked.IsSilent (check.Text f) → IsSilent (Proof (check.Text f))
+silent_text : (f : TextFault) → checked.IsEnvironmental (check.Text f) → IsEnvironmental (Proof (check.Text f))
 silent_text f (inl e) = absurd cc
 silent_text f (inr e) = inr (inl (ap Proof e))
 
@@ -155,7 +155,7 @@ module _ (p : Problem) (is : IsInstance p) (bytes : List ℕ) (b : Bound) (prove
   pub bound_read : (v : ℕ) (c : Bound) (nodes : List Node) → IsRead p (stream_of bytes) v c nodes → c ≡ b
   bound_read v c nodes r = (same_text (sizes_of p) (stream_of bytes) v proved.0 c b r.tree tree r.reads reads).0
 
-  pub silent : (e : UpgradeFault) → IsUpgradeFault p (stream_of bytes) e → IsSilent e
+  pub silent : (e : UpgradeFault) → IsUpgradeFault p (stream_of bytes) e → IsEnvironmental e
   silent (Proof (check.Text f)) (n, inl h) = silent_text f (fails_silently f (header_at (stream_of bytes)) ((proved.0, b), reads.headed) reads.header n h)
   silent (Proof (check.Text f)) (n, inr h) = silent_text f (elim (header_is (λ v c rest. NodeTextFails (sizes_of p) v rest f ⊎ EndTextFails p v rest f) h) [
     | inl a ↦ node_silent p proved.0 reads.headed reads.noded tree reads.nodes f n a.nodes a.rest a.tree a.next a.more a.reads a.begins a.fails

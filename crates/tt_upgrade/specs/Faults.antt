@@ -8,7 +8,7 @@ use Rattle.tt_proof_read.specs.declared.fault.TextFault.{TextFault}
 use Rattle.tt_proof_read.specs.declared.fault.TextFault.TheVariants as text
 use Rattle.tt_proof_read.specs.declared.node.Node.{Node}
 use Rattle.tt_proof_check.specs.Faults.{OutOfMemoryIsNoTextFault}
-use Rattle.tt_proof_check.specs.Tells.{FailsAt, IsDeepAt}
+use Rattle.tt_proof_check.specs.Explains.{FailsAt, IsDeepAt}
 use Rattle.tt_proof_check.specs.declared.fault.CheckFault.TheVariants as check
 use Rattle.tt_proof_check.specs.declared.fault.NodesFault.{NodesFault}
 use Rattle.tt_proof_check.specs.declared.fault.NodesFault.TheVariants as nodes

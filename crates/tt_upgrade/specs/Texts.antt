@@ -9,7 +9,7 @@ use Rattle.tt_proof_read.specs.Reads.{ReadsNodes, Reads}
 use Rattle.tt_proof_read.specs.Spelling.{IsNode}
 use Rattle.tt_proof_read.specs.Trees.{Tree, preorder, IsPreorder}
 use Rattle.tt_proof_read.specs.declared.fault.TextFault.{TextFault}
-use Rattle.tt_proof_read.specs.declared.format.TheConstants.{MAX_NODES}
+use Rattle.tt_proof_read.specs.declared.format.TheConstants.{MAX_PROOF_NODES}
 use Rattle.tt_proof_read.specs.declared.node.Node.{Node}
 use Rattle.tt_proof_read.specs.declared.sizes.Sizes.{Sizes}
 use Rattle.tt_proof_check.specs.FailedReads.{HoldsOfGiven}
@@ -24,7 +24,7 @@ pub record IsRead (p : Problem) (s : Stream) (v : ℕ) (b : Bound) (nodes : List
 -- The nodes are one tree, of at most 16,777,216 nodes; the numbers of each are in the range of the instance, and each belongs to the version.
 pub record AreNodesOf (p : Problem) (v : ℕ) (nodes : List Node) : Type 0 where
   pub tree : IsPreorder nodes
-  pub few : length nodes ≤ MAX_NODES
+  pub few : length nodes ≤ MAX_PROOF_NODES
   pub each : All (IsNode p v) nodes
 
 -- The nodes are one tree, and if the bytes are known, the nodes were read from the stream.

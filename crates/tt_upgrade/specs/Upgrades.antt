@@ -9,7 +9,7 @@ use Rattle.tt_proof_read.specs.Trees.{Tree, preorder}
 use Rattle.tt_proof_read.specs.declared.fault.TextFault.TheVariants as text
 use Rattle.tt_proof_check.specs.Derives.{Derives, IsShallow}
 use Rattle.tt_proof_check.specs.Streams.{sizes_of}
-use Rattle.tt_proof_check.specs.Tells.{FailsAt, IsDeepAt}
+use Rattle.tt_proof_check.specs.Explains.{FailsAt, IsDeepAt}
 use Rattle.tt_proof_check.specs.declared.fault.CheckFault.TheVariants as check
 use Rattle.tt_proof_text.specs.Within.{FitsFile}
 use Rattle.tt_proof_text.specs.Written.{proof_text}
@@ -51,5 +51,5 @@ IsUpgradeFault p s TooLarge = HasTree p s (λ b tree. IsTooLarge p b tree)
 IsUpgradeFault p s OutOfMemory = ⊤
 
 -- The fault is being out of memory, a failed read or a text that is too large: these say nothing against the proof.
-abbrev pub IsSilent : UpgradeFault → Type 0
-IsSilent e = (e ≡ OutOfMemory) ⊎ (e ≡ read_failed) ⊎ (e ≡ TooLarge)
+abbrev pub IsEnvironmental : UpgradeFault → Type 0
+IsEnvironmental e = (e ≡ OutOfMemory) ⊎ (e ≡ read_failed) ⊎ (e ≡ TooLarge)

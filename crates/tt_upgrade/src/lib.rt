@@ -6,5 +6,5 @@ mod reading;
 mod upgrading;
 
 pub use fault::UpgradeFault;
-pub use reading::{ReadProof, read_proof};
+pub use reading::{ReadProof, parse_proof};
 pub use upgrading::{Upgraded, upgrade};

@@ -6,7 +6,7 @@ ghost use Rattle.tt_proof_read.specs.Answers.{StaysKnown};
 ghost use Rattle.tt_proof_read.specs.Faults.{read_failed};
 ghost use Rattle.tt_proof_read.specs.Readers.{IsNodeAt};
 ghost use Rattle.tt_proof_read.specs.declared.fault.TextFault.{TextFault};
-ghost use Rattle.tt_proof_read.specs.declared.format.TheConstants.{MAX_NODES};
+ghost use Rattle.tt_proof_read.specs.declared.format.TheConstants.{MAX_PROOF_NODES};
 ghost use Rattle.tt_proof_check.specs.FailedReads.{UpToFailure, BeforeFailure};
 ghost use Rattle.tt_proof_check.specs.Streams.{stream_of};
 ghost use Rattle.tt_upgrade.specs.Texts.{IsRead, AreNodesOf, IsCollected, NodeTextFails, NodeIsCutOff, IsTextFault, IsReadUpToFailedRead};
@@ -38,7 +38,7 @@ fn collect<R: Source>(
     ensures whole { OnOk result (reader.new.places ≡ 0) }
     ensures sound { OnOk result (reader.new.fault ≡ None) }
     ensures nodes { IfOk result (λ nodes. All (IsNodeAt reader.old.sizes reader.old.version) nodes.items) }
-    ensures few { IfOk result (λ nodes. length nodes.items ≤ MAX_NODES) }
+    ensures few { IfOk result (λ nodes. length nodes.items ≤ MAX_PROOF_NODES) }
     ensures collected { IfOk result (λ nodes. IsCollected reader.old.sizes reader.old.version (is_some (R.remaining source.old))
         (stream_at reader.old.fed (R.remaining source.old)) (stream_at reader.new.fed (R.remaining source.new)) nodes.items) }
     ensures failed { result ≡ Err read_failed → R.has_failed source.new ≡ true }
@@ -58,7 +58,7 @@ fn collect<R: Source>(
 }
 
 /// Reads a proof as a whole, and checks only its text.
-pub fn read_proof<R: Source>(
+pub fn parse_proof<R: Source>(
     alloc: Global,
     instance: &Instance<'_>,
     source: &mut R,

@@ -2,7 +2,7 @@
 
 ghost use Rattle.std.specs.Prelude.{◌≡◌, ◌≤◌, List, ℕ, length, All, true, Some, Err, IfOk, IfErr, OnOk, MatchResult};
 ghost use Rattle.tt_leaf_rules.specs.declared.leaf.Bound.{Bound};
-ghost use Rattle.tt_proof_read.specs.declared.format.TheConstants.{MAX_NODES};
+ghost use Rattle.tt_proof_read.specs.declared.format.TheConstants.{MAX_PROOF_NODES};
 ghost use Rattle.tt_proof_check.specs.Derives.{HoldsOfAll, Proves};
 ghost use Rattle.tt_proof_read.specs.Spelling.{IsNode, SpellsProof};
 ghost use Rattle.tt_proof_read.specs.Trees.{Tree, preorder, IsPreorder};
@@ -12,10 +12,10 @@ ghost use Rattle.tt_proof_text.specs.Within.{Writes};
 ghost use Rattle.tt_instance.specs.Problem.{Problem};
 ghost use Rattle.tt_upgrade.specs.Faults.{read_failed, IsNodesFault, IsWriteFault, OutOfMemoryIsOneFault};
 ghost use Rattle.tt_upgrade.specs.Texts.{IsReadUpToFailedRead};
-ghost use Rattle.tt_upgrade.specs.Upgrades.{IsUpgraded, IsSilent, IsUpgradeFault};
+ghost use Rattle.tt_upgrade.specs.Upgrades.{IsUpgraded, IsEnvironmental, IsUpgradeFault};
 
 use crate::fault::{UpgradeFault, node_fault};
-use crate::reading::read_proof;
+use crate::reading::parse_proof;
 use std::alloc::Global;
 use tt_instance::Instance;
 use tt_leaf_rules::Bound;
@@ -40,7 +40,7 @@ fn judge(
 ) -> Result<(), UpgradeFault>
     requires nodes { All (IsNodeOf instance.now) nodes.now }
     requires tree { IsPreorder nodes.now }
-    requires few { length nodes.now ≤ MAX_NODES }
+    requires few { length nodes.now ≤ MAX_PROOF_NODES }
     ensures proves { OnOk result (Proves instance.now bound nodes.now) }
     ensures fault { IfErr result (IsNodesFault instance.now bound nodes.now) }
 {
@@ -82,7 +82,7 @@ pub fn upgrade<R: Source>(
     ensures found { IfOk result (λ u. (bytes : List ℕ) → R.remaining source.old ≡ Some bytes → IsUpgraded instance.now bytes u.bound u.bytes.items) }
     // If the bytes spell a tree that derives its bound, the proof is written, unless memory runs out, a read fails or the text grows too large.
     ensures only { (bytes : List ℕ) (b : Bound) → R.remaining source.old ≡ Some bytes → IsProved instance.now bytes b →
-        MatchResult result (λ u. u.bound ≡ b) IsSilent }
+        MatchResult result (λ u. u.bound ≡ b) IsEnvironmental }
     // This holds for any bytes that the source gives.
     ensures holds { IfOk result (λ u. HoldsOfAll instance.now u.bound) }
     // A failed read is reported exactly if a read failed.
@@ -97,7 +97,7 @@ pub fn upgrade<R: Source>(
 {
     // In every instance, the numbers are small enough to be read.
     prove!(instance.days() > 0);
-    let read = read_proof(alloc, instance, source)?;
+    let read = parse_proof(alloc, instance, source)?;
     judge(alloc, instance, read.bound, &read.nodes)?;
     let bytes = write(alloc, instance, read.bound, &read.nodes)?;
     Ok(Upgraded {

@@ -4,7 +4,7 @@ ghost use Rattle.std.specs.Prelude.{◌≡◌, ◌+◌, ℕ, List, Some, Err, tr
 ghost use Rattle.tt_proof_check.specs.FailedReads.{IsSpelledAndJudgedUpToFailedRead};
 ghost use Rattle.tt_proof_check.specs.Headline.{BreaksARule, Certifies};
 ghost use Rattle.tt_app.specs.Checked.{IsChecked, IsCheckRefusal, IsOfFiles, AnswersYes, AnswersBroken, IsYesAnswer, IsBrokenAnswer, read_failed};
-ghost use Rattle.tt_app.specs.Told.{OutOfMemoryIsOneFault};
+ghost use Rattle.tt_app.specs.FaultMaps.{OutOfMemoryIsOneFault};
 
 use crate::answer::Answer;
 use crate::fault::AppFault;

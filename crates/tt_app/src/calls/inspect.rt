@@ -44,7 +44,7 @@ fn findings(inspected: Inspected) -> Answer
 /// Returns the reason why bytes are no instance.
 fn refused_instance(alloc: Global, bytes: &[u8], why: InstanceFault) -> Result<Answer, AppFault>
     ensures text { IfOk result IsRefusalText }
-    ensures first { IfOk result (λ _. instance.is_silent why ≡ false) }
+    ensures first { IfOk result (λ _. instance.is_environmental why ≡ false) }
     ensures memory { IfErr result (λ f. f ≡ fault.OutOfMemory) }
 {
     if matches!(why, InstanceFault::OutOfMemory) {
@@ -56,7 +56,7 @@ fn refused_instance(alloc: Global, bytes: &[u8], why: InstanceFault) -> Result<A
 /// Returns the reason why bytes are no solution of an instance.
 fn refused_solution(alloc: Global, bytes: &[u8], why: SolutionFault) -> Result<Answer, AppFault>
     ensures text { IfOk result IsRefusalText }
-    ensures first { IfOk result (λ _. solution.is_silent why ≡ false) }
+    ensures first { IfOk result (λ _. solution.is_environmental why ≡ false) }
     ensures memory { IfErr result (λ f. f ≡ fault.OutOfMemory) }
 {
     if matches!(why, SolutionFault::OutOfMemory) {

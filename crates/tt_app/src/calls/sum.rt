@@ -9,7 +9,7 @@ ghost use Rattle.tt_sum.specs.Faults.{IsSumFault, all_points};
 ghost use Rattle.tt_sum.specs.Sums.{IsSum};
 ghost use Rattle.tt_app.specs.Bounded.{IsOfInstance};
 ghost use Rattle.tt_app.specs.Summed.{IsSpelledAndFileJudgedUpToFailedRead, IsSummed, IsSumRefusal, AnswersSum, read_failed_at};
-ghost use Rattle.tt_app.specs.Told.{OutOfMemoryIsOneFault};
+ghost use Rattle.tt_app.specs.FaultMaps.{OutOfMemoryIsOneFault};
 
 use crate::answer::Answer;
 use crate::calls::bound::bound_answer;

@@ -8,7 +8,7 @@ ghost use Rattle.tt_proof_check.specs.Streams.{IsProved};
 ghost use Rattle.tt_app.specs.Checked.{read_failed};
 ghost use Rattle.tt_app.specs.Bounded.{IsOfInstance};
 ghost use Rattle.tt_app.specs.Rewritten.{IsRewritten, IsUpgradeAnswer, IsSpelledAndReadUpToFailedRead, IsUpgradeRefusal, AnswersUpgrade};
-ghost use Rattle.tt_app.specs.Told.{OutOfMemoryIsOneFault};
+ghost use Rattle.tt_app.specs.FaultMaps.{OutOfMemoryIsOneFault};
 
 use crate::answer::Answer;
 use crate::fault::AppFault;

@@ -1,5 +1,5 @@
 use Rattle.std.proofs.Common.{refl}
-use Rattle.tt_branch.specs.declared.entry.Mark.TheVariants.{Divided}
+use Rattle.tt_branch.specs.declared.entry.NodeState.TheVariants.{Divided}
 use Rattle.tt_branch.proofs.Dividing.{split_by_steps}
 use Rattle.tt_branch.proofs.search.split.Goals as goal
 

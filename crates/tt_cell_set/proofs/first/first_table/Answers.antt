@@ -1,12 +1,12 @@
 use Rattle.std.proofs.Common.{◌≡◌, ℕ, ◌<◌, [], length, take, sym, ap, ◌∙◌, subst, arith}
 use Rattle.std.proofs.Math.Seq.{take-length}
-use Rattle.tt_instance.specs.Problem.{Bar}
+use Rattle.tt_instance.specs.Problem.{Unavailability}
 use Rattle.tt_cell_set.specs.Tables.{Shows}
-use Rattle.tt_cell_set.proofs.FirstTable.{is_open_by, full_table, bar_in, bar_out, up_to_more}
+use Rattle.tt_cell_set.proofs.FirstTable.{is_open_by, full_table, unavailability_in, unavailability_out, up_to_more}
 use Rattle.tt_cell_set.proofs.first.first_table.Goals as goal
 
-abbrev bar_of : ℕ → ℕ → ℕ → Bar
-bar_of c d s = record { course = c; day = d; period = s }
+abbrev unavailability_of : ℕ → ℕ → ℕ → Unavailability
+unavailability_of c d s = record { course = c; day = d; period = s }
 
 pub loop-index-init : goal.loop-index-init
 loop-index-init c =
@@ -23,13 +23,13 @@ pub loop-index-preserved : goal.loop-index-preserved
 loop-index-preserved c =
     let p = c.args.instance.now in
     let i = c.loop-index.index in
-    let t = c.bar-course.result in
-    let b = bar_of t.0 t.1 t.2 in
+    let t = c.unavailability-course.result in
+    let b = unavailability_of t.0 t.1 t.2 in
     let words = c.loop-index.table.words in
     let new = c.remove_rooms.new.table.words in
-    let h : i < length p.bars = omega (arith, c.bars-index-end.ensures.value) in
+    let h : i < length p.unavailabilities = omega (arith, c.unavailabilities-index-end.ensures.value) in
     record {
-      shows = up_to_more p i b new h c.bar-course.ensures (bar_in p (take i p.bars) b words c.loop-index.invariant.shows new c.in_ok-remove_rooms.ensures.ok);
+      shows = up_to_more p i b new h c.unavailability-course.ensures (unavailability_in p (take i p.unavailabilities) b words c.loop-index.invariant.shows new c.in_ok-remove_rooms.ensures.ok);
       earlier = c.remove_rooms.ensures.same ∙ c.loop-index.invariant.earlier;
     }
 
@@ -37,12 +37,12 @@ pub loop-index-preserved-then-course-courses : goal.loop-index-preserved-then-co
 loop-index-preserved-then-course-courses c =
     let p = c.args.instance.now in
     let i = c.loop-index.index in
-    let t = c.bar-course.result in
-    let b = bar_of t.0 t.1 t.2 in
+    let t = c.unavailability-course.result in
+    let b = unavailability_of t.0 t.1 t.2 in
     let words = c.loop-index.table.words in
-    let h : i < length p.bars = omega (arith, c.bars-index-end.ensures.value) in
+    let h : i < length p.unavailabilities = omega (arith, c.unavailabilities-index-end.ensures.value) in
     record {
-      shows = up_to_more p i b words h c.bar-course.ensures (bar_out p (take i p.bars) b words c.loop-index.invariant.shows (λ o.
+      shows = up_to_more p i b words h c.unavailability-course.ensures (unavailability_out p (take i p.unavailabilities) b words c.loop-index.invariant.shows (λ o.
           let x = o.0 in let y = o.1 in let z = o.2 in
           omega (arith, c.then-course-courses.either, c.courses-courses.ensures.value, c.days-days.ensures.value, c.periods-periods.ensures.value)));
       earlier = c.loop-index.invariant.earlier;
@@ -51,5 +51,5 @@ loop-index-preserved-then-course-courses c =
 pub returns-clause-shows : goal.returns-clause-shows
 returns-clause-shows c =
     let p = c.args.instance.now in
-    let end : c.loop-index.index ≡ length p.bars = omega (arith, c.bars-index-end.ensures.value) in
-    subst (λ l. Shows p (is_open_by l) c.loop-index.table.words) (ap (λ n. take n p.bars) end ∙ take-length p.bars) c.loop-index.invariant.shows
+    let end : c.loop-index.index ≡ length p.unavailabilities = omega (arith, c.unavailabilities-index-end.ensures.value) in
+    subst (λ l. Shows p (is_open_by l) c.loop-index.table.words) (ap (λ n. take n p.unavailabilities) end ∙ take-length p.unavailabilities) c.loop-index.invariant.shows

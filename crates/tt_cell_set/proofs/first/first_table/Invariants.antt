@@ -5,6 +5,6 @@ use Rattle.tt_cell_set.proofs.first.first_table.Given as goal
 
 abbrev pub invariant-loop-index : goal.invariant-loop-index
 invariant-loop-index l = record {
-  shows : Shows l.instance (is_open_by (take l.index l.instance.bars)) l.table.words;
+  shows : Shows l.instance (is_open_by (take l.index l.instance.unavailabilities)) l.table.words;
   earlier : l.table.earlier ≡ [];
 }

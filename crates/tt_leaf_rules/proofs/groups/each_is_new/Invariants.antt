@@ -1,5 +1,5 @@
 use Rattle.std.proofs.Common.{◌≡◌, length}
-use Rattle.tt_leaf_rules.specs.Met.{are_new}
+use Rattle.tt_leaf_rules.specs.NumberSet.{are_new}
 use Rattle.tt_leaf_rules.specs.Ranges.{AreBelow}
 use Rattle.tt_leaf_rules.specs.Tests.{are_distinct}
 use Rattle.tt_leaf_rules.proofs.groups.each_is_new.Given as goal

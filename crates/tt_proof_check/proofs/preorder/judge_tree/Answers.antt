@@ -34,7 +34,7 @@ loop-i-preserved g c =
     let i = c.loop-i.i in
     let inside : i < length nodes = omega arith in
     let path = g.P.Path.facts c.loop-i.path in
-    let next = g.P.Path.facts c.take_node.new.path in
+    let next = g.P.Path.facts c.check_node.new.path in
     let p = g.P.Path.problem c.args.path.now in
     let n = c.index-nodes-i.result in
     record {

@@ -7,6 +7,6 @@ unfolding node_at
 returns-clause-read g c =
     let word = rw c.token-2.ensures at c.in_ok-word.ensures.read in
     reads_then _ _ _ _ _ _ _ _ _ c.in_ok-at.ensures.read
-    (takes_then _ _ _ _ _ _ _ (counted_below c.in_ok-at.at c.args.count c.if-count-ge-MAX_NODES.false)
+    (takes_then _ _ _ _ _ _ _ (counted_below c.in_ok-at.at c.args.count c.if-count-ge-MAX_PROOF_NODES.false)
     (takes_then _ _ _ _ _ _ _ word
     c.read_node_after_word.ensures.read))

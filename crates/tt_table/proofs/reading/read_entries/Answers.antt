@@ -1,7 +1,7 @@
 use Rattle.std.proofs.Common.{◌≡◌, ◌-◌, ◌+◌, suc, length, ◌∙◌, sym, ap, [], ◌∷◌, refl, arith, ℕ}
 use Rattle.std.proofs.lemmas.Result.{err_from_is_err_and}
 use Rattle.std.proofs.lemmas.List.{length-append}
-use Rattle.tt_table.specs.Reading.{is_silent, entries_at, solution_of}
+use Rattle.tt_table.specs.Reading.{is_environmental, entries_at, solution_of}
 use Rattle.tt_text.proofs.Steps.{fails_as}
 use Rattle.tt_table.proofs.Loops.{entries_none, entries_step, entries_full, entries_fail}
 use Rattle.tt_table.proofs.reading.read_entries.Goals as goal
@@ -19,7 +19,7 @@ pub returns-in_err-entry : goal.returns-in_err-entry
 returns-in_err-entry c =
     let p = err_from_is_err_and c.from_residual.result c.from_residual.ensures.1 in
     let more : 16384 - length c.loop-first.table ≡ suc (16384 - (length c.loop-first.table + 1)) = omega (arith, c.if-len-eq-MAX_ENTRIES.false, c.len.ensures.len, c.loop-first.invariant.within) in
-    rw (p.1, p.2) (fails_as is_silent c.in_err-entry.field-0.0 _ _ c.loop-first.invariant.read (entries_fail c.in_err-entry.field-0.0 _ _ _ _ _ _ _ _ more c.in-Some.ensures.gives c.in_err-entry.ensures))
+    rw (p.1, p.2) (fails_as is_environmental c.in_err-entry.field-0.0 _ _ c.loop-first.invariant.read (entries_fail c.in_err-entry.field-0.0 _ _ _ _ _ _ _ _ more c.in-Some.ensures.gives c.in_err-entry.ensures))
 
 pub loop-first-preserved : goal.loop-first-preserved
 loop-first-preserved c =

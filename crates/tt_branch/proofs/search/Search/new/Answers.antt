@@ -1,7 +1,7 @@
 use Rattle.std.proofs.Common.{◌∷◌, ◌++◌, [], sym, ap, ◌∙◌, subst, refl, List}
 use Rattle.std.specs.Prelude.{slice_get}
 use Rattle.tt_branch.specs.declared.entry.Entry.{Entry}
-use Rattle.tt_branch.specs.declared.entry.Mark.TheVariants.{Waiting}
+use Rattle.tt_branch.specs.declared.entry.NodeState.TheVariants.{Waiting}
 use Rattle.tt_branch.specs.Growing.{IsGrown}
 use Rattle.tt_branch.specs.Kept.{table_of}
 use Rattle.tt_branch.specs.Links.{AreLinks}
