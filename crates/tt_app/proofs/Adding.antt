@@ -8,10 +8,10 @@ use Rattle.tt_instance.specs.declared.fault.InstanceFault.TheVariants as instanc
 use Rattle.tt_instance.proofs.Laws.{is_read}
 use Rattle.tt_leaf_rules.specs.declared.leaf.Bound.{Bound}
 use Rattle.tt_proof_check.proofs.Files.{one_instance}
-use Rattle.tt_sum.specs.Faults.{IsSumFault, IsSilentSum, all_points, OutOfMemoryIsOneFault as OneFaultOfSum, read_failed_at as read_failed_below}
-use Rattle.tt_sum.specs.Sums.{IsSum}
-use Rattle.tt_sum.specs.declared.fault.SumFault.{SumFault}
-use Rattle.tt_sum.specs.declared.fault.SumFault.TheVariants as sum
+use Rattle.tt_proof_sum.specs.Faults.{IsSumFault, IsSilentSum, all_points, OutOfMemoryIsOneFault as OneFaultOfSum, read_failed_at as read_failed_below}
+use Rattle.tt_proof_sum.specs.Sums.{IsSum}
+use Rattle.tt_proof_sum.specs.declared.fault.SumFault.{SumFault}
+use Rattle.tt_proof_sum.specs.declared.fault.SumFault.TheVariants as sum
 use Rattle.tt_app.specs.Summed.{IsSumRefusal, AnswersSum, fault_from_sum, read_failed_at}
 use Rattle.tt_app.specs.FaultMaps.{fault_from_instance, OutOfMemoryIsOneFault}
 

@@ -11,10 +11,10 @@ use Rattle.tt_leaf_rules.specs.declared.leaf.Bound.TheVariants.{AtLeast}
 use Rattle.tt_proof_check.specs.Derives.{HoldsOfAll}
 use Rattle.tt_proof_check.specs.Headline.{Solves, BoundsAll}
 use Rattle.tt_proof_check.proofs.Files.{one_instance, one_table}
-use Rattle.tt_sum.specs.Faults.{IsSumFault, IsSilentSum, all_points}
-use Rattle.tt_sum.specs.Sums.{IsSum}
-use Rattle.tt_sum.specs.declared.fault.SumFault.{SumFault}
-use Rattle.tt_sum.specs.declared.fault.SumFault.TheVariants as sum
+use Rattle.tt_proof_sum.specs.Faults.{IsSumFault, IsSilentSum, all_points}
+use Rattle.tt_proof_sum.specs.Sums.{IsSum}
+use Rattle.tt_proof_sum.specs.declared.fault.SumFault.{SumFault}
+use Rattle.tt_proof_sum.specs.declared.fault.SumFault.TheVariants as sum
 use Rattle.tt_app.specs.Summed.{CertifiesSum, IsSumYes, IsSumCheckFault, AnswersSumYes, fault_from_sum}
 
 -- a silent error says nothing about the bytes

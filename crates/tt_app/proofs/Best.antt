@@ -10,7 +10,7 @@ use Rattle.tt_leaf_rules.specs.declared.leaf.Bound.TheVariants.{AtLeast}
 use Rattle.tt_proof_check.specs.Derives.{HoldsOfAll}
 use Rattle.tt_proof_check.specs.Headline.{BoundsAll}
 use Rattle.tt_proof_check.proofs.Files.{one_instance}
-use Rattle.tt_sum.specs.Sums.{IsSum}
+use Rattle.tt_proof_sum.specs.Sums.{IsSum}
 use Rattle.tt_app.specs.Summed.{CertifiesSum}
 
 -- the solution and the proofs certify a cost and a bound, which holds for every feasible timetable

@@ -2,9 +2,9 @@
 use Rattle.std.proofs.Common.{◌≡◌, ℕ, ◌<◌, List, [], length, refl}
 use Rattle.tt_instance.specs.Problem.{Problem}
 use Rattle.tt_instance.specs.declared.cell.Cell.{Cell}
-use Rattle.tt_complete.specs.declared.completing.TheConstants.{MOST_ENTRIES}
-use Rattle.tt_complete.specs.declared.fault.CompleteFault.{CompleteFault}
-use Rattle.tt_complete.specs.declared.fault.CompleteFault.TheVariants as completion
+use Rattle.tt_search_complete.specs.declared.completing.TheConstants.{MOST_ENTRIES}
+use Rattle.tt_search_complete.specs.declared.fault.CompleteFault.{CompleteFault}
+use Rattle.tt_search_complete.specs.declared.fault.CompleteFault.TheVariants as completion
 use Rattle.tt_table.specs.Spelling.{SpellsBoth}
 use Rattle.tt_app.specs.Improved.{IsCompletionRefusal}
 use Rattle.tt_app.specs.FaultMaps.{fault_from_completion}

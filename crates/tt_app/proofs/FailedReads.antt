@@ -8,8 +8,8 @@ use Rattle.tt_proof_check.specs.declared.fault.CheckFault.{CheckFault}
 use Rattle.tt_proof_check.specs.declared.fault.CheckFault.TheVariants as check
 use Rattle.tt_proof_check.specs.declared.fault.CertifyFault.{CertifyFault}
 use Rattle.tt_proof_check.specs.declared.fault.CertifyFault.TheVariants as certify
-use Rattle.tt_upgrade.specs.declared.fault.UpgradeFault.{UpgradeFault}
-use Rattle.tt_upgrade.specs.declared.fault.UpgradeFault.TheVariants as upgrade
+use Rattle.tt_proof_upgrade.specs.declared.fault.UpgradeFault.{UpgradeFault}
+use Rattle.tt_proof_upgrade.specs.declared.fault.UpgradeFault.TheVariants as upgrade
 use Rattle.tt_app.specs.Checked.{read_failed}
 use Rattle.tt_app.specs.FaultMaps.{fault_from_check, fault_from_certify, fault_from_upgrade}
 

@@ -6,9 +6,9 @@ use Rattle.tt_leaf_rules.specs.declared.leaf.Bound.{Bound}
 use Rattle.tt_proof_check.specs.Derives.{HoldsOfAll}
 use Rattle.tt_proof_check.specs.Streams.{stream_of}
 use Rattle.tt_proof_check.specs.declared.fault.CheckFault.TheVariants as check
-use Rattle.tt_upgrade.specs.Upgrades.{IsUpgraded, IsEnvironmental, IsUpgradeFault}
-use Rattle.tt_upgrade.specs.declared.fault.UpgradeFault.{UpgradeFault}
-use Rattle.tt_upgrade.specs.declared.fault.UpgradeFault.TheVariants as upgrade
+use Rattle.tt_proof_upgrade.specs.Upgrades.{IsUpgraded, IsEnvironmental, IsUpgradeFault}
+use Rattle.tt_proof_upgrade.specs.declared.fault.UpgradeFault.{UpgradeFault}
+use Rattle.tt_proof_upgrade.specs.declared.fault.UpgradeFault.TheVariants as upgrade
 use Rattle.tt_app.specs.Bounded.{AnswersBound}
 use Rattle.tt_app.specs.Rewritten.{IsUpgradeAnswer, IsRewritten, FailsWhole, IsUpgradeRefusal, AnswersUpgrade}
 use Rattle.tt_app.specs.FaultMaps.{fault_from_upgrade}

@@ -15,7 +15,7 @@ use Rattle.tt_proof_read.specs.declared.node.Node.{Node}
 use Rattle.tt_proof_read.specs.Trees.{IsPreorder}
 use Rattle.tt_proof_text.specs.Within.{IsNodeIn, Refuses, Writes}
 use Rattle.tt_proof_text.specs.declared.fault.WriteFault.TheVariants as write
-use Rattle.tt_upgrade.proofs.Written.{node_in_two}
+use Rattle.tt_proof_upgrade.proofs.Written.{node_in_two}
 use Rattle.tt_branch.specs.Outcomes.{IsOutcome}
 use Rattle.tt_app.specs.Solved.{IsProofFile, IsOverLong, IsTextRefusal, IsSolveRefusal}
 use Rattle.tt_app.specs.FaultMaps.{fault_from_instance}

@@ -9,9 +9,9 @@ use Rattle.tt_proof_check.specs.declared.fault.CheckFault.{CheckFault}
 use Rattle.tt_proof_check.specs.declared.fault.CheckFault.TheVariants as check
 use Rattle.tt_proof_check.specs.declared.fault.CertifyFault.{CertifyFault}
 use Rattle.tt_proof_check.specs.declared.fault.CertifyFault.TheVariants as certify
-use Rattle.tt_upgrade.specs.Faults.{OutOfMemoryIsOneFault as OneFaultOfUpgrade}
-use Rattle.tt_upgrade.specs.declared.fault.UpgradeFault.{UpgradeFault}
-use Rattle.tt_upgrade.specs.declared.fault.UpgradeFault.TheVariants as upgrade
+use Rattle.tt_proof_upgrade.specs.Faults.{OutOfMemoryIsOneFault as OneFaultOfUpgrade}
+use Rattle.tt_proof_upgrade.specs.declared.fault.UpgradeFault.{UpgradeFault}
+use Rattle.tt_proof_upgrade.specs.declared.fault.UpgradeFault.TheVariants as upgrade
 use Rattle.tt_app.specs.FaultMaps.{fault_from_instance, fault_from_solution, fault_from_check, fault_from_certify, fault_from_upgrade, OutOfMemoryIsOneFault}
 
 pub memory_instance : (f : InstanceFault) → OutOfMemoryIsOneFault (fault_from_instance f)

@@ -5,7 +5,7 @@ use Rattle.tt_instance.specs.Spelling.{Spells}
 use Rattle.tt_leaf_rules.specs.declared.leaf.Bound.{Bound}
 use Rattle.tt_proof_check.specs.Derives.{HoldsOfAll}
 use Rattle.tt_proof_check.specs.Headline.{BoundsAll}
-use Rattle.tt_sum.specs.Sums.{IsSum}
+use Rattle.tt_proof_sum.specs.Sums.{IsSum}
 use Rattle.tt_parts.specs.Found.{texts_of}
 use Rattle.tt_app.specs.Lines.{best_line, none_line}
 use Rattle.tt_app.specs.Summed.{CertifiesSum}

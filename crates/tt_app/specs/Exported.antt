@@ -4,10 +4,10 @@ use Rattle.tt_instance.specs.Problem.{Problem}
 use Rattle.tt_instance.specs.Reading.{instance_of}
 use Rattle.tt_instance.specs.declared.cell.Cell.{Cell}
 use Rattle.tt_report.specs.declared.by.By.{By}
-use Rattle.tt_export.specs.Tables.{table_text}
-use Rattle.tt_export.specs.Calendars.{Term, calendar_text}
-use Rattle.tt_export.specs.Weeks.{IsWeekOf, names_by}
-use Rattle.tt_export.specs.declared.week.Week.{Week}
+use Rattle.tt_report_export.specs.Tables.{table_text}
+use Rattle.tt_report_export.specs.Calendars.{Term, calendar_text}
+use Rattle.tt_report_export.specs.Weeks.{IsWeekOf, names_by}
+use Rattle.tt_report_export.specs.declared.week.Week.{Week}
 use Rattle.tt_table.specs.Spelling.{SpellsBoth}
 use Rattle.tt_proof_check.specs.Verdicts.{FailsSolution}
 use Rattle.tt_app.specs.declared.answer.Answer.{Answer}

@@ -9,13 +9,13 @@ use Rattle.tt_proof_check.specs.declared.fault.CheckFault.{CheckFault}
 use Rattle.tt_proof_check.specs.declared.fault.CheckFault.TheVariants as check
 use Rattle.tt_proof_check.specs.declared.fault.CertifyFault.{CertifyFault}
 use Rattle.tt_proof_check.specs.declared.fault.CertifyFault.TheVariants as certify
-use Rattle.tt_upgrade.specs.declared.fault.UpgradeFault.{UpgradeFault}
-use Rattle.tt_upgrade.specs.declared.fault.UpgradeFault.TheVariants as upgrade
-use Rattle.tt_complete.specs.declared.fault.CompleteFault.{CompleteFault}
-use Rattle.tt_complete.specs.declared.fault.CompleteFault.TheVariants as completion
+use Rattle.tt_proof_upgrade.specs.declared.fault.UpgradeFault.{UpgradeFault}
+use Rattle.tt_proof_upgrade.specs.declared.fault.UpgradeFault.TheVariants as upgrade
+use Rattle.tt_search_complete.specs.declared.fault.CompleteFault.{CompleteFault}
+use Rattle.tt_search_complete.specs.declared.fault.CompleteFault.TheVariants as completion
 use Rattle.tt_report.specs.declared.fault.ReportFault.{ReportFault}
-use Rattle.tt_sum.specs.Faults.{OutOfMemoryIsOneFault as OneFaultOfSum}
-use Rattle.tt_sum.specs.declared.fault.SumFault.TheVariants as sum
+use Rattle.tt_proof_sum.specs.Faults.{OutOfMemoryIsOneFault as OneFaultOfSum}
+use Rattle.tt_proof_sum.specs.declared.fault.SumFault.TheVariants as sum
 use Rattle.tt_report.specs.declared.fault.ReportFault.TheVariants as report
 use Rattle.tt_app.specs.declared.fault.AppFault.{AppFault}
 use Rattle.tt_app.specs.declared.fault.AppFault.TheVariants as fault

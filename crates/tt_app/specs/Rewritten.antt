@@ -6,10 +6,10 @@ use Rattle.tt_instance.specs.Spelling.{Spells}
 use Rattle.tt_leaf_rules.specs.declared.leaf.Bound.{Bound}
 use Rattle.tt_proof_check.specs.Derives.{HoldsOfAll}
 use Rattle.tt_proof_check.specs.Streams.{stream_of}
-use Rattle.tt_upgrade.specs.Texts.{IsReadUpToFailedRead}
-use Rattle.tt_upgrade.specs.Upgrades.{IsUpgraded, IsUpgradeFault}
-use Rattle.tt_upgrade.specs.declared.fault.UpgradeFault.{UpgradeFault}
-use Rattle.tt_upgrade.specs.declared.fault.UpgradeFault.TheVariants as upgrade
+use Rattle.tt_proof_upgrade.specs.Texts.{IsReadUpToFailedRead}
+use Rattle.tt_proof_upgrade.specs.Upgrades.{IsUpgraded, IsUpgradeFault}
+use Rattle.tt_proof_upgrade.specs.declared.fault.UpgradeFault.{UpgradeFault}
+use Rattle.tt_proof_upgrade.specs.declared.fault.UpgradeFault.TheVariants as upgrade
 use Rattle.tt_app.specs.Checked.{read_failed}
 use Rattle.tt_app.specs.Lines.{bound_line}
 use Rattle.tt_app.specs.declared.answer.Answer.{Answer}

@@ -12,14 +12,14 @@ use Rattle.tt_proof_check.specs.Derives.{HoldsOfAll}
 use Rattle.tt_table.specs.Spelling.{SpellsBoth}
 use Rattle.tt_proof_check.specs.Headline.{Solves, BoundsAll}
 use Rattle.tt_proof_check.specs.Verdicts.{IsBroken, FailsSolution}
-use Rattle.tt_sum.specs.Faults.{IsSumFault}
-use Rattle.tt_sum.specs.Faults as below
-use Rattle.tt_sum.specs.GroupsFaults.{IsLeftOpen}
-use Rattle.tt_sum.specs.Sums.{IsSum}
-use Rattle.tt_sum.specs.UpToFailedRead.{IsFileJudgedUpToFailedRead}
-use Rattle.tt_sum.specs.declared.groups_fault.GroupsFault.{GroupsFault}
-use Rattle.tt_sum.specs.declared.fault.SumFault.{SumFault}
-use Rattle.tt_sum.specs.declared.fault.SumFault.TheVariants as sum
+use Rattle.tt_proof_sum.specs.Faults.{IsSumFault}
+use Rattle.tt_proof_sum.specs.Faults as below
+use Rattle.tt_proof_sum.specs.GroupsFaults.{IsLeftOpen}
+use Rattle.tt_proof_sum.specs.Sums.{IsSum}
+use Rattle.tt_proof_sum.specs.UpToFailedRead.{IsFileJudgedUpToFailedRead}
+use Rattle.tt_proof_sum.specs.declared.groups_fault.GroupsFault.{GroupsFault}
+use Rattle.tt_proof_sum.specs.declared.fault.SumFault.{SumFault}
+use Rattle.tt_proof_sum.specs.declared.fault.SumFault.TheVariants as sum
 use Rattle.tt_app.specs.Bounded.{IsBoundAnswer}
 use Rattle.tt_app.specs.Checked.{IsYesAnswer, IsBrokenAnswer}
 use Rattle.tt_app.specs.declared.answer.Answer.{Answer}

@@ -3,14 +3,14 @@
 use std::alloc::AllocError;
 use thiserror::Error;
 use tt_app_files::OutputFault;
-use tt_complete::CompleteFault;
-use tt_export::TermFault;
 use tt_instance::InstanceFault;
 use tt_proof_check::{CertifyFault, CheckFault};
+use tt_proof_sum::SumFault;
+use tt_proof_upgrade::UpgradeFault;
 use tt_report::ReportFault;
-use tt_sum::SumFault;
+use tt_report_export::TermFault;
+use tt_search_complete::CompleteFault;
 use tt_table::SolutionFault;
-use tt_upgrade::UpgradeFault;
 
 /// A file that a command reads.
 #[derive(Clone, Copy, Debug, PartialEq, Eq, Error)]

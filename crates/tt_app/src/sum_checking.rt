@@ -4,12 +4,12 @@ ghost use Rattle.std.specs.Prelude.{◌≡◌, ◌+◌, ◌<◌, ◌^◌, ℕ, L
 ghost use Rattle.tt_rules.specs.Score.{IsFeasible};
 ghost use Rattle.tt_leaf_rules.specs.declared.leaf.Bound.TheVariants.{AtLeast};
 ghost use Rattle.tt_proof_check.specs.Derives.{HoldsOfAll};
-ghost use Rattle.tt_sum.specs.UpToFailedRead.{IsFileJudgedUpToFailedRead};
+ghost use Rattle.tt_proof_sum.specs.UpToFailedRead.{IsFileJudgedUpToFailedRead};
 ghost use Rattle.tt_proof_check.specs.Headline.{BreaksARule};
-ghost use Rattle.tt_sum.specs.Added.{Give};
-ghost use Rattle.tt_sum.specs.Faults as below;
-ghost use Rattle.tt_sum.specs.Faults.{IsSumFault, IsSilentSum, all_points};
-ghost use Rattle.tt_sum.specs.Sums.{IsSum};
+ghost use Rattle.tt_proof_sum.specs.Added.{Give};
+ghost use Rattle.tt_proof_sum.specs.Faults as below;
+ghost use Rattle.tt_proof_sum.specs.Faults.{IsSumFault, IsSilentSum, all_points};
+ghost use Rattle.tt_proof_sum.specs.Sums.{IsSum};
 ghost use Rattle.tt_app.specs.Checked.{IsOfFiles, AnswersBroken};
 ghost use Rattle.tt_app.specs.Summed.{IsSpelledAndFileJudgedUpToFailedRead, read_failed_at, CertifiesSum, IsSumChecked, IsSumCheckFault, AnswersSumYes};
 ghost use Rattle.tt_app.specs.FaultMaps.{OutOfMemoryIsOneFault};
@@ -20,10 +20,10 @@ use crate::fault::AppFault;
 use std::alloc::Global;
 use tt_instance::{Instance, read_instance};
 use tt_leaf_rules::Bound;
-use tt_peek::Peek;
+use tt_proof_sum::{SumFault, sum_proofs};
 use tt_rules::score;
-use tt_sum::{SumFault, sum_proofs};
 use tt_table::{Timetable, read_solution};
+use tt_text_peek::Peek;
 
 /// Returns the bound of proofs, if some timetable breaks no hard rule: so the bound is a number.
 fn summed_bound<R: Peek>(

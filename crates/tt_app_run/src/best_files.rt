@@ -8,9 +8,9 @@ use crate::showing::ticker_of;
 use std::io::Write;
 use std::rt::{Clock, Files};
 use tt_app::{Answer, AppFault, BestAnswer, Input, Rounds, best_watched};
+use tt_app_arguments::{BestSearch, Showing};
 use tt_app_files::{Batch, Ready};
 use tt_app_watch::{Keeper, Ticker};
-use tt_arguments::{BestSearch, Showing};
 
 /// The name of the best timetable's file.
 const TABLE: &str = "best.sol";

@@ -3,7 +3,7 @@
 use crate::disk::read_file;
 use std::rt::Files;
 use tt_app::{Answer, AppFault, Input, WeekTimes, calendar, table};
-use tt_arguments::CalendarWish;
+use tt_app_arguments::CalendarWish;
 
 /// Returns the table of a solution.
 pub fn answer_table<R: Files + AllocGlobal>(

@@ -7,9 +7,9 @@ use std::alloc::AllocError;
 use std::io::Write;
 use std::rt::{Clock, Files};
 use tt_app::{Answer, AppFault, Input, PartsAnswer, guided_parts_watched, parts_watched};
+use tt_app_arguments::{PartSearch, Showing};
 use tt_app_files::{Batch, Ready};
 use tt_app_watch::Ticker;
-use tt_arguments::{PartSearch, Showing};
 use tt_parts::Effort;
 
 /// The name of the file of groups.

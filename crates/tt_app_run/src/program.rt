@@ -14,7 +14,7 @@ use clap::error::ErrorKind;
 use std::io::Write;
 use std::rt::{Clock, Files};
 use tt_app::{Answer, AppFault};
-use tt_arguments::{Request, parse_arguments};
+use tt_app_arguments::{Request, parse_arguments};
 
 /// Prints a refusal, and returns its status.
 fn print_refusal<E: Write>(fault: AppFault, err: &mut E) -> u8 {

@@ -8,8 +8,8 @@ use std::cell::RefCell;
 use std::io::Write;
 use std::rt::{Clock, Files};
 use tt_app::{Answer, AppFault, Input, bound, check, report, upgrade, validate};
+use tt_app_arguments::Showing;
 use tt_app_files::Output;
-use tt_arguments::Showing;
 use tt_report::By;
 use tt_text::{Pieces, Reading, Writing};
 

@@ -6,9 +6,9 @@ use std::alloc::Global;
 use std::io::Write;
 use std::rt::{Clock, Files};
 use tt_app::{Answer, AppFault, Input, complete_and_improve, improve_in_runs, solve_watched};
+use tt_app_arguments::{MAX_SOLVE_NODES, Search, Showing, TreeSearch};
 use tt_app_files::{Batch, Output, Ready};
 use tt_app_watch::{Keeper, Ticker};
-use tt_arguments::{MAX_SOLVE_NODES, Search, Showing, TreeSearch};
 use tt_instance::{Instance, read_instance};
 
 /// Writes one file, if there is one to write.

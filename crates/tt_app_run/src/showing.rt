@@ -5,8 +5,8 @@ use std::fs;
 use std::fs::OpenFile;
 use std::io::Write;
 use std::rt::{Clock, Files};
+use tt_app_arguments::Showing;
 use tt_app_watch::{Counted, Ticker, is_terminal};
-use tt_arguments::Showing;
 
 /// The line that shows how much of proofs has been read.
 pub type Shown<'s, R, E> = RefCell<Ticker<'s, R, E>>;

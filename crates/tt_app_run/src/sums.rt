@@ -8,8 +8,8 @@ use std::cell::RefCell;
 use std::io::Write;
 use std::rt::{Clock, Files};
 use tt_app::{Answer, AppFault, Input, check_sum, sum};
-use tt_arguments::Showing;
-use tt_peek::Peeked;
+use tt_app_arguments::Showing;
+use tt_text_peek::Peeked;
 
 fn proof_files<'r, 't, R: Files + Clock + AllocGlobal, E: Write>(
     rt: &'r R,

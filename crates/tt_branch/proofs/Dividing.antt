@@ -5,7 +5,7 @@ use Rattle.std.specs.List.{insert}
 use Rattle.std.proofs.Common.{zero, ◌<◌}
 use Rattle.std.proofs.lemmas.Option.{get_or_from_slice_get}
 use Rattle.tt_lists.proofs.Cuts.{IsCut, cut_at, set_cut, insert_cut}
-use Rattle.tt_paths.specs.declared.facts.Pattern.{Pattern}
+use Rattle.tt_facts_path.specs.declared.facts.Pattern.{Pattern}
 use Rattle.tt_branch.specs.declared.entry.NodeState.TheVariants.{Divided, Opened, Waiting}
 use Rattle.tt_branch.specs.declared.entry.Entry.{Entry}
 use Rattle.tt_branch.specs.declared.links.Link.{Link}

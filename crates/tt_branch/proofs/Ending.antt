@@ -13,9 +13,9 @@ use Rattle.tt_lists.proofs.Zipped.{zip_each, zip_length}
 use Rattle.tt_instance.specs.Problem.{Problem}
 use Rattle.tt_instance.specs.declared.cell.Cell.{Cell}
 use Rattle.tt_rules.specs.Score.{cost}
-use Rattle.tt_paths.specs.declared.facts.Fact.{Fact}
-use Rattle.tt_paths.specs.Live.{least, least_with}
-use Rattle.tt_paths.proofs.Least.{least-le}
+use Rattle.tt_facts_path.specs.declared.facts.Fact.{Fact}
+use Rattle.tt_facts_path.specs.Live.{least, least_with}
+use Rattle.tt_facts_path.proofs.Least.{least-le}
 use Rattle.tt_leaf_rules.specs.Claims.{total_of}
 use Rattle.tt_leaf_rules.specs.declared.leaf.Bound.{Bound}
 use Rattle.tt_leaf_rules.specs.declared.leaf.Bound.TheVariants.{AtLeast}

@@ -21,9 +21,9 @@ use Rattle.tt_rules.specs.Hard.{entries_of}
 use Rattle.tt_rules.specs.Soft.{days_cost, is_isolated, compactness_cost, stability_cost}
 use Rattle.tt_rules.specs.Score.{IsFeasible, cost}
 use Rattle.tt_rules.proofs.Feasible.{lectures_met, in_range}
-use Rattle.tt_paths.specs.Live.{pinned, pinned_room}
-use Rattle.tt_paths.specs.declared.facts.Who.TheVariants.{Curriculum}
-use Rattle.tt_paths.specs.declared.facts.Fact.{Fact}
+use Rattle.tt_facts_path.specs.Live.{pinned, pinned_room}
+use Rattle.tt_facts_path.specs.declared.facts.Who.TheVariants.{Curriculum}
+use Rattle.tt_facts_path.specs.declared.facts.Fact.{Fact}
 use Rattle.tt_leaf_rules.specs.Claims.{is_alone, value_of, total_of}
 use Rattle.tt_leaf_rules.specs.declared.leaf.Claim.TheVariants.{Capacity, Days, Compact, Stable}
 use Rattle.tt_leaf.specs.Best.{price_of, at_price, best_claims}

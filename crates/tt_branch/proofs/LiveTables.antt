@@ -23,8 +23,8 @@ use Rattle.tt_instance.specs.Courses.{lectures, no_course}
 use Rattle.tt_instance.specs.declared.cell.Cell.{Cell}
 use Rattle.tt_instance.proofs.CourseLimits.{few_lectures}
 use Rattle.tt_rules.specs.Hard.{entries_of}
-use Rattle.tt_paths.specs.declared.facts.Fact.{Fact}
-use Rattle.tt_paths.proofs.LiveCells.{live_cells, range_of}
+use Rattle.tt_facts_path.specs.declared.facts.Fact.{Fact}
+use Rattle.tt_facts_path.proofs.LiveCells.{live_cells, range_of}
 use Rattle.tt_leaf_rules.specs.declared.leaf.Bound.{Bound}
 use Rattle.tt_leaf.specs.Pinned.{IsPinnedDown, IsOpen}
 use Rattle.tt_leaf.proofs.Fitting.{lectures_placed}

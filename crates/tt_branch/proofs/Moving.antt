@@ -6,10 +6,10 @@ use Rattle.std.specs.Prelude.{reverse, slice_get}
 use Rattle.std.proofs.lemmas.List.{reverse-append, take-append-drop, take_more, drop_more}
 use Rattle.std.proofs.Math.Seq.{take-append_seam}
 use Rattle.std.proofs.lemmas.Option.{get_or_from_slice_get}
-use Rattle.tt_paths.specs.Facts.{same_answer, same_option, same_who, same_pattern}
-use Rattle.tt_paths.specs.declared.facts.Who.{Who}
-use Rattle.tt_paths.specs.declared.facts.Who.TheVariants.{Course, Curriculum}
-use Rattle.tt_paths.specs.declared.facts.Fact.{Fact}
+use Rattle.tt_facts_path.specs.Facts.{same_answer, same_option, same_who, same_pattern}
+use Rattle.tt_facts_path.specs.declared.facts.Who.{Who}
+use Rattle.tt_facts_path.specs.declared.facts.Who.TheVariants.{Course, Curriculum}
+use Rattle.tt_facts_path.specs.declared.facts.Fact.{Fact}
 
 -- with one fact fewer
 pub one_fewer : {X : Type 0} (all xs ys : List X) (x : X) → xs ≡ take (length xs) all → xs ≡ ys ++ x ∷ [] → ys ≡ take (length ys) all

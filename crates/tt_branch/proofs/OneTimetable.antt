@@ -15,12 +15,12 @@ use Rattle.tt_instance.specs.declared.cell.Cell.{Cell}
 use Rattle.tt_instance.proofs.Cells.{is_cell, at_itself}
 use Rattle.tt_rules.specs.Score.{IsFeasible, cost}
 use Rattle.tt_rules.proofs.Feasible.{in_range, one_in}
-use Rattle.tt_paths.specs.Facts.{matches, Fits}
-use Rattle.tt_paths.specs.Live.{is_live}
-use Rattle.tt_paths.specs.declared.facts.Pattern.{Pattern}
-use Rattle.tt_paths.specs.declared.facts.Fact.{Fact}
-use Rattle.tt_paths.proofs.LiveCells.{live_cells, range_of, is_live_of, any_live, once_live}
-use Rattle.tt_paths.proofs.Matching.{Matches-from}
+use Rattle.tt_facts_path.specs.Facts.{matches, Fits}
+use Rattle.tt_facts_path.specs.Live.{is_live}
+use Rattle.tt_facts_path.specs.declared.facts.Pattern.{Pattern}
+use Rattle.tt_facts_path.specs.declared.facts.Fact.{Fact}
+use Rattle.tt_facts_path.proofs.LiveCells.{live_cells, range_of, is_live_of, any_live, once_live}
+use Rattle.tt_facts_path.proofs.Matching.{Matches-from}
 use Rattle.tt_leaf_rules.specs.Claims.{total_of}
 use Rattle.tt_leaf_rules.specs.declared.leaf.Bound.TheVariants.{AtLeast, Nothing}
 use Rattle.tt_leaf_rules.proofs.Live.{matched, live_entry}

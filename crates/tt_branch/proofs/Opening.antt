@@ -9,12 +9,12 @@ use Rattle.tt_instance.specs.Limits.{IsInstance}
 use Rattle.tt_instance.specs.Courses.{unavailable}
 use Rattle.tt_instance.specs.declared.cell.Cell.{Cell}
 use Rattle.tt_rules.specs.Score.{IsFeasible, cost}
-use Rattle.tt_paths.specs.Facts.{matches, same_answer, same_pattern, has_fact}
-use Rattle.tt_paths.specs.Live.{is_live}
-use Rattle.tt_paths.specs.declared.facts.Pattern.{Pattern}
-use Rattle.tt_paths.specs.declared.facts.Fact.{Fact}
-use Rattle.tt_paths.proofs.LiveCells.{live_cells, live_not_barred}
-use Rattle.tt_paths.proofs.Same.{fact_there}
+use Rattle.tt_facts_path.specs.Facts.{matches, same_answer, same_pattern, has_fact}
+use Rattle.tt_facts_path.specs.Live.{is_live}
+use Rattle.tt_facts_path.specs.declared.facts.Pattern.{Pattern}
+use Rattle.tt_facts_path.specs.declared.facts.Fact.{Fact}
+use Rattle.tt_facts_path.proofs.LiveCells.{live_cells, live_not_barred}
+use Rattle.tt_facts_path.proofs.Same.{fact_there}
 use Rattle.tt_leaf_rules.specs.declared.leaf.Bound.{Bound}
 use Rattle.tt_leaf_rules.specs.declared.leaf.Bound.TheVariants.{AtLeast}
 use Rattle.tt_leaf.specs.Best.{best_leaf}
@@ -24,7 +24,7 @@ use Rattle.tt_leaf.proofs.Fitting.{is_feasible}
 use Rattle.tt_leaf.proofs.Closing.{cost-le_total}
 use Rattle.tt_leaf.proofs.Answering.{best_answer}
 use Rattle.tt_branch.specs.Outcomes.{final_bound}
-use Rattle.tt_choice.specs.Choice.{IsNewSplit}
+use Rattle.tt_branch_split.specs.Choice.{IsNewSplit}
 use Rattle.tt_branch.specs.Proofs.{IsSplitOn}
 use Rattle.tt_branch.proofs.Searching.{IsBetter, best_right}
 

@@ -5,9 +5,9 @@ use Rattle.tt_instance.specs.Problem.{Problem}
 use Rattle.tt_instance.specs.Cells.{all_cells}
 use Rattle.tt_instance.specs.declared.cell.Cell.{Cell}
 use Rattle.tt_rules.specs.Score.{IsFeasible, cost}
-use Rattle.tt_paths.specs.Facts.{Fits}
-use Rattle.tt_paths.specs.Live.{is_live}
-use Rattle.tt_paths.specs.declared.facts.Fact.{Fact}
+use Rattle.tt_facts_path.specs.Facts.{Fits}
+use Rattle.tt_facts_path.specs.Live.{is_live}
+use Rattle.tt_facts_path.specs.declared.facts.Fact.{Fact}
 use Rattle.tt_leaf_rules.specs.Claims.{total_of}
 use Rattle.tt_leaf.specs.Best.{best_claims}
 

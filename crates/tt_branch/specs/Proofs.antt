@@ -4,9 +4,9 @@ use Rattle.std.specs.List.{filter_map}
 use Rattle.tt_instance.specs.Problem.{Problem}
 use Rattle.tt_instance.specs.declared.cell.Cell.{Cell}
 use Rattle.tt_rules.specs.Score.{cost}
-use Rattle.tt_paths.specs.Facts.{IsPattern, has_fact}
-use Rattle.tt_paths.specs.declared.facts.Pattern.{Pattern}
-use Rattle.tt_paths.specs.declared.facts.Fact.{Fact}
+use Rattle.tt_facts_path.specs.Facts.{IsPattern, has_fact}
+use Rattle.tt_facts_path.specs.declared.facts.Pattern.{Pattern}
+use Rattle.tt_facts_path.specs.declared.facts.Fact.{Fact}
 use Rattle.tt_leaf_rules.specs.Claims.{total_of}
 use Rattle.tt_leaf_rules.specs.Leaves.{IsRight}
 use Rattle.tt_leaf_rules.specs.declared.leaf.Bound.{Bound}
@@ -21,7 +21,7 @@ use Rattle.tt_proof_text.specs.Within.{AreWithin}
 use Rattle.tt_proof_check.specs.Derives.{Derives}
 use Rattle.tt_proof_check.specs.Nodes.{IsNodeOf}
 use Rattle.tt_leaf.specs.Best.{best_leaf}
-use Rattle.tt_choice.specs.Choice.{Aims}
+use Rattle.tt_branch_split.specs.Choice.{Aims}
 
 -- ---- splits
 

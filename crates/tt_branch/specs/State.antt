@@ -3,7 +3,7 @@
 use Rattle.std.specs.Prelude.{◌≡◌, ℕ, ◌+◌, ◌*◌, ◌≤◌, Bool, true, false, List, ◌∷◌, ◌++◌, length}
 use Rattle.std.specs.List.{list_any}
 use Rattle.tt_instance.specs.Problem.{Problem}
-use Rattle.tt_paths.specs.declared.facts.Pattern.{Pattern}
+use Rattle.tt_facts_path.specs.declared.facts.Pattern.{Pattern}
 use Rattle.tt_branch.specs.declared.entry.NodeState.TheVariants.{Opened, Waiting}
 use Rattle.tt_branch.specs.declared.entry.Entry.{Entry}
 use Rattle.tt_branch.specs.declared.search.Search.{Search}

@@ -5,8 +5,8 @@ use Rattle.tt_lists.specs.Words.{range_below}
 use Rattle.tt_instance.specs.Problem.{Problem}
 use Rattle.tt_instance.specs.Cells.{slot, cell, all_days, all_rooms}
 use Rattle.tt_instance.specs.declared.cell.Cell.{Cell}
-use Rattle.tt_paths.specs.Live.{least_with}
-use Rattle.tt_paths.specs.declared.facts.Pattern.{Pattern}
+use Rattle.tt_facts_path.specs.Live.{least_with}
+use Rattle.tt_facts_path.specs.declared.facts.Pattern.{Pattern}
 use Rattle.tt_branch.specs.declared.entry.NodeState.TheVariants.{Divided, Waiting}
 use Rattle.tt_branch.specs.declared.entry.Entry.{Entry}
 use Rattle.tt_branch.specs.declared.links.Link.{Link}

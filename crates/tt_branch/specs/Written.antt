@@ -1,7 +1,7 @@
 -- Not part of the trusted statement: only proofs use this file.
 -- Entries that can be written as nodes of a proof.
 use Rattle.std.specs.Prelude.{◌≡◌, ℕ, ◌≤◌, Bool, true, List, ◌++◌, length, reverse, Option, ⊤}
-use Rattle.tt_paths.specs.Live.{least}
+use Rattle.tt_facts_path.specs.Live.{least}
 use Rattle.tt_instance.specs.Problem.{Problem}
 use Rattle.tt_leaf_rules.specs.Outcomes.{IsClaimedOnce}
 use Rattle.tt_proof_read.specs.declared.node.Node.{Node}
@@ -11,7 +11,7 @@ use Rattle.tt_branch.specs.declared.entry.Entry.{Entry}
 use Rattle.tt_branch.specs.declared.links.Link.{Link}
 use Rattle.tt_branch.specs.Growing.{node_at, nodes_of, worths_of}
 use Rattle.tt_branch.specs.Links.{path_at}
-use Rattle.tt_paths.specs.declared.path.TheConstants.{MAX_FACTS}
+use Rattle.tt_facts_path.specs.declared.path.TheConstants.{MAX_FACTS}
 
 -- The node exists, and its facts fit on a path.
 pub record IsReached (links : List Link) (place : ℕ) : Type 0 where

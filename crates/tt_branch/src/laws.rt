@@ -3,7 +3,7 @@
 ghost use Rattle.std.specs.Prelude.{List};
 ghost use Rattle.tt_instance.specs.Problem.{Problem};
 ghost use Rattle.tt_instance.specs.Limits.{IsInstance};
-ghost use Rattle.tt_paths.specs.declared.facts.Fact.{Fact};
+ghost use Rattle.tt_facts_path.specs.declared.facts.Fact.{Fact};
 ghost use Rattle.tt_leaf.specs.Pinned.{IsPinnedDown};
 ghost use Rattle.tt_branch.specs.Alone.{LeavesOne};
 ghost use Rattle.tt_branch.specs.Proofs.{IsUnclosed};

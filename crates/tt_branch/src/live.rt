@@ -3,11 +3,11 @@
 ghost use Rattle.std.specs.Prelude.{◌≡◌, ◌<◌, ◌≤◌, [], ◌∷◌, ◌++◌, length, flat_map, filter, IfOk, OnOk};
 ghost use Rattle.tt_instance.specs.Cells.{InRange, all_courses, all_cells};
 ghost use Rattle.tt_table.specs.declared.table.TheConstants.{MAX_ENTRIES};
-ghost use Rattle.tt_paths.specs.Live.{is_live};
+ghost use Rattle.tt_facts_path.specs.Live.{is_live};
 ghost use Rattle.tt_branch.specs.Steps.{cells_on, cells_in, cells_of};
 
 use std::alloc::{AllocError, Global};
-use tt_paths::{Cell, Path};
+use tt_facts_path::{Cell, Path};
 use tt_table::{PushFault, Timetable};
 
 /// Adds a cell if it is live.

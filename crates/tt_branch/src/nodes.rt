@@ -1,7 +1,7 @@
 //! The proof made of a tree.
 
 ghost use Rattle.std.specs.Prelude.{◌≡◌, ◌≤◌, length, true, IfOk, All, IsTrue};
-ghost use Rattle.tt_paths.specs.Live.{least};
+ghost use Rattle.tt_facts_path.specs.Live.{least};
 ghost use Rattle.tt_proof_check.specs.Nodes.{IsNodeOf};
 ghost use Rattle.tt_branch.specs.Growing.{node_at, worth_at, nodes_of, worths_of};
 ghost use Rattle.tt_branch.specs.Links.{path_at, AreLinks};
@@ -13,9 +13,9 @@ use crate::entry::{Entry, NodeState};
 use crate::links::Link;
 use crate::visit::go_to;
 use std::alloc::{AllocError, Global};
+use tt_facts_path::Path;
 use tt_leaf::best_claims;
 use tt_leaf_rules::{Leaf, leaf_value};
-use tt_paths::Path;
 use tt_proof_read::Node;
 
 /// The nodes of a proof in preorder, and the least value of a Cost leaf, if it was asked for.

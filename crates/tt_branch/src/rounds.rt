@@ -11,7 +11,7 @@ use crate::search::{Search, next_open, split};
 use crate::visit::open_at;
 use crate::watching::show;
 use std::alloc::{AllocError, Global};
-use tt_paths::{Path, Pattern};
+use tt_facts_path::{Path, Pattern};
 use tt_search::Watch;
 
 /// Splits a node if it was opened; returns the place of the node to open next: of two children, the one expected to have the lower value.

@@ -12,7 +12,7 @@ use crate::best::Best;
 use crate::entry::{ChildGains, Entry, NodeState};
 use crate::links::Link;
 use std::alloc::{AllocError, Global};
-use tt_paths::{Fact, Pattern};
+use tt_facts_path::{Fact, Pattern};
 
 /// A tree that grows, in preorder, the links to the facts of its nodes, and the best timetable so far.
 #[derive(Drop)]

@@ -2,7 +2,7 @@
 
 ghost use Rattle.std.specs.Prelude.{◌≡◌, ◌<◌, ◌≤◌, ◌+◌, length, true, IfOk, OnOk};
 ghost use Rattle.tt_instance.specs.Problem.{Problem};
-ghost use Rattle.tt_paths.specs.declared.path.TheConstants.{MAX_FACTS};
+ghost use Rattle.tt_facts_path.specs.declared.path.TheConstants.{MAX_FACTS};
 ghost use Rattle.tt_leaf.specs.Found.{ArePatterns};
 ghost use Rattle.tt_leaf.specs.Pinned.{IsPinnedDown, IsOpen};
 ghost use Rattle.tt_branch.specs.Growing.{IsKnown, IsSingle, HasMark, was_opened, opened_in};
@@ -19,10 +19,10 @@ use crate::live::live_table;
 use crate::moves::move_to;
 use crate::search::{Search, put};
 use std::alloc::{AllocError, Global};
-use tt_choice::choose_split;
+use tt_branch_split::choose_split;
+use tt_facts_path::{Fact, Path, PathFault, Pattern};
 use tt_leaf::{best_claims, find_leaf};
 use tt_leaf_rules::{Leaf, leaf_value};
-use tt_paths::{Fact, Path, PathFault, Pattern};
 use tt_rules::score;
 
 /// Replaces the facts of a path by those of a node.

@@ -6,13 +6,13 @@ use Rattle.std.proofs.lemmas.List.Elements.{filter-append}
 use Rattle.std.proofs.lemmas.Map.Views.{any-filter_same}
 use Rattle.tt_instance.specs.Problem.{Problem}
 use Rattle.tt_instance.specs.declared.cell.Slot.{Slot}
-use Rattle.tt_paths.specs.Facts.{has_fact, same_answer, same_pattern}
-use Rattle.tt_paths.specs.Live.{gives, is_pinned_by, pinned, pinned_room}
-use Rattle.tt_paths.specs.declared.facts.Who.{Who}
-use Rattle.tt_paths.specs.declared.facts.Who.TheVariants.{Course}
-use Rattle.tt_paths.specs.declared.facts.Pattern.{Pattern}
-use Rattle.tt_paths.specs.declared.facts.Fact.{Fact}
-use Rattle.tt_paths.specs.Paths.{Facts}
+use Rattle.tt_facts_path.specs.Facts.{has_fact, same_answer, same_pattern}
+use Rattle.tt_facts_path.specs.Live.{gives, is_pinned_by, pinned, pinned_room}
+use Rattle.tt_facts_path.specs.declared.facts.Who.{Who}
+use Rattle.tt_facts_path.specs.declared.facts.Who.TheVariants.{Course}
+use Rattle.tt_facts_path.specs.declared.facts.Pattern.{Pattern}
+use Rattle.tt_facts_path.specs.declared.facts.Fact.{Fact}
+use Rattle.tt_facts_path.specs.Paths.{Facts}
 use Rattle.tt_facts.specs.Halves.{yes_of, AreHalves}
 
 -- -- another fact

@@ -1,8 +1,8 @@
 -- Not part of the trusted statement: only proofs use this file.
 -- The relation between the two parts of a path that answers from tables.
 use Rattle.std.specs.Prelude.{◌≡◌, List, filter}
-use Rattle.tt_paths.specs.Paths.{Facts}
-use Rattle.tt_paths.specs.declared.facts.Fact.{Fact}
+use Rattle.tt_facts_path.specs.Paths.{Facts}
+use Rattle.tt_facts_path.specs.declared.facts.Fact.{Fact}
 
 -- The yes-facts, the oldest first.
 abbrev pub yes_of : List Fact → List Fact

@@ -1,5 +1,5 @@
-pub use Rattle.tt_paths.specs.Facts
-pub use Rattle.tt_paths.specs.Live
-pub use Rattle.tt_paths.specs.Nested
-pub use Rattle.tt_paths.specs.Paths
+pub use Rattle.tt_facts_path.specs.Facts
+pub use Rattle.tt_facts_path.specs.Live
+pub use Rattle.tt_facts_path.specs.Nested
+pub use Rattle.tt_facts_path.specs.Paths
 pub mod Halves

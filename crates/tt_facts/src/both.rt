@@ -1,13 +1,13 @@
 //! Adding a fact to the parts of a path.
 
 ghost use Rattle.std.specs.Prelude.{◌≡◌, ◌<◌, [], ◌∷◌, ◌++◌, length, OnOk, OnErr};
-ghost use Rattle.tt_paths.specs.declared.path.TheConstants.{MAX_FACTS};
+ghost use Rattle.tt_facts_path.specs.declared.path.TheConstants.{MAX_FACTS};
 ghost use Rattle.tt_facts.specs.Halves.{AreHalves};
 
 use std::alloc::AllocError;
-use tt_cells::Cells;
-use tt_paths::Fact;
-use tt_pins::Pins;
+use tt_facts_cells::Cells;
+use tt_facts_path::Fact;
+use tt_facts_pins::Pins;
 
 /// Adds a fact to the cells and, if it is a yes-fact, to the pins; or to neither.
 #[inline(always)]

@@ -5,10 +5,10 @@ ghost use Rattle.std.specs.Prelude.{◌≡◌};
 use crate::both::{pop_both, push_both};
 use std::alloc::{AllocError, Global};
 use std::marker::Model;
-use tt_cells::Cells;
+use tt_facts_cells::Cells;
+use tt_facts_path::{Cell, Fact, MAX_FACTS, Path, PathFault, Pattern, Who};
+use tt_facts_pins::Pins;
 use tt_instance::Instance;
-use tt_paths::{Cell, Fact, MAX_FACTS, Path, PathFault, Pattern, Who};
-use tt_pins::Pins;
 
 /// The facts with tables of the live cells and of the pinned periods and rooms, which only yes-facts change. Only `has` may
 /// go through facts for its answer: for a no-fact, or if the pattern gives no day or no period or is about a curriculum. A pop
@@ -19,7 +19,7 @@ pub struct TrailPath<'p, 'i> {
 }
 
 impl<'p, 'i> Model for TrailPath<'p, 'i> {
-    ghost use Rattle.tt_paths.specs.Paths.{Facts};
+    ghost use Rattle.tt_facts_path.specs.Paths.{Facts};
     ghost use Rattle.tt_facts.specs.Halves.{AreHalves};
 
     ghost Value = { Facts };

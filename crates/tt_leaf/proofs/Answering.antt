@@ -8,9 +8,9 @@ use Rattle.tt_instance.specs.Limits.{IsInstance}
 use Rattle.tt_instance.specs.Cells.{cell, all_slots, all_rooms}
 use Rattle.tt_instance.specs.Courses.{excess}
 use Rattle.tt_instance.proofs.CourseLimits.{few_students}
-use Rattle.tt_paths.specs.Live.{is_live, least_excess}
-use Rattle.tt_paths.specs.declared.facts.Fact.{Fact}
-use Rattle.tt_paths.proofs.Least.{least_short}
+use Rattle.tt_facts_path.specs.Live.{is_live, least_excess}
+use Rattle.tt_facts_path.specs.declared.facts.Fact.{Fact}
+use Rattle.tt_facts_path.proofs.Least.{least_short}
 use Rattle.tt_leaf_rules.specs.Ranges.{IsClaimOf}
 use Rattle.tt_leaf_rules.specs.declared.leaf.Claim.TheVariants.{Days, Stacked}
 use Rattle.tt_proof_read.specs.Limits.{IsShortClaim}

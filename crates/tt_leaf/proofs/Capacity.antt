@@ -17,10 +17,10 @@ use Rattle.tt_instance.specs.declared.cell.Cell.{Cell}
 use Rattle.tt_instance.proofs.Places.{any_slot}
 use Rattle.tt_instance.proofs.Cells.{at_itself, is_at-slot}
 use Rattle.tt_rules.specs.Hard.{entries_of}
-use Rattle.tt_paths.specs.Live.{is_live, live_period, least_excess}
-use Rattle.tt_paths.specs.declared.facts.Fact.{Fact}
-use Rattle.tt_paths.proofs.Least.{is_some-least, least_over}
-use Rattle.tt_paths.proofs.LiveCells.{live_cells, range_of, is_live_of}
+use Rattle.tt_facts_path.specs.Live.{is_live, live_period, least_excess}
+use Rattle.tt_facts_path.specs.declared.facts.Fact.{Fact}
+use Rattle.tt_facts_path.proofs.Least.{is_some-least, least_over}
+use Rattle.tt_facts_path.proofs.LiveCells.{live_cells, range_of, is_live_of}
 use Rattle.tt_leaf_rules.specs.Claims.{RoomCapacity, part, value_of}
 use Rattle.tt_leaf_rules.specs.Nested.{above_least}
 use Rattle.tt_leaf_rules.specs.declared.leaf.Bound.{Bound}

@@ -16,7 +16,7 @@ use Rattle.tt_lists.proofs.Range.{distinct_below, each_below}
 use Rattle.tt_lists.proofs.Tested.{each_append, each_flat, each_map}
 use Rattle.tt_instance.specs.Problem.{Problem}
 use Rattle.tt_instance.specs.Cells.{all_courses, all_curricula}
-use Rattle.tt_paths.specs.declared.facts.Fact.{Fact}
+use Rattle.tt_facts_path.specs.declared.facts.Fact.{Fact}
 use Rattle.tt_leaf_rules.specs.Claims.{Target, RoomCapacity, WorkingDays, Compactness, Stability, targets_of, claimed, is_fair, value_of, total_of}
 use Rattle.tt_leaf_rules.specs.Tests.{claims_once, same_target}
 use Rattle.tt_leaf_rules.specs.declared.leaf.Claim.{Claim}

@@ -21,11 +21,11 @@ use Rattle.tt_instance.proofs.Cells.{at_itself, is_at-slot, IsSlot, each_slot}
 use Rattle.tt_instance.proofs.Limits.{members_below}
 use Rattle.tt_rules.specs.Soft.{days_of, days_cost, is_isolated, compactness_cost, stability_cost, capacity_count}
 use Rattle.tt_rules.specs.Score.{IsFeasible, cost}
-use Rattle.tt_paths.specs.Facts.{Fits}
-use Rattle.tt_paths.specs.Live.{live_period, live_day, pinned, pinned_room}
-use Rattle.tt_paths.specs.declared.facts.Who.TheVariants.{Curriculum}
-use Rattle.tt_paths.specs.declared.facts.Fact.{Fact}
-use Rattle.tt_paths.proofs.LiveCells.{live_cells, range_of, is_live_of, any_live}
+use Rattle.tt_facts_path.specs.Facts.{Fits}
+use Rattle.tt_facts_path.specs.Live.{live_period, live_day, pinned, pinned_room}
+use Rattle.tt_facts_path.specs.declared.facts.Who.TheVariants.{Curriculum}
+use Rattle.tt_facts_path.specs.declared.facts.Fact.{Fact}
+use Rattle.tt_facts_path.proofs.LiveCells.{live_cells, range_of, is_live_of, any_live}
 use Rattle.tt_leaf_rules.specs.Bounds.{Respects}
 use Rattle.tt_leaf_rules.specs.Claims.{RoomCapacity, part, is_alone, value_of, total_of}
 use Rattle.tt_leaf_rules.specs.declared.leaf.Bound.{Bound}

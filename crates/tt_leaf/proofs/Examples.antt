@@ -2,8 +2,8 @@
 use Rattle.std.proofs.Common.{◌≡◌, List, [], ◌∷◌, Some, None, refl, codes}
 use Rattle.tt_instance.proofs.Examples.{course, room, week, gap, wide}
 use Rattle.tt_instance.specs.Problem.{Problem}
-use Rattle.tt_paths.specs.declared.facts.Fact.{Fact}
-use Rattle.tt_paths.proofs.Examples.{yes}
+use Rattle.tt_facts_path.specs.declared.facts.Fact.{Fact}
+use Rattle.tt_facts_path.proofs.Examples.{yes}
 use Rattle.tt_leaf_rules.specs.Faults.{fault_of}
 use Rattle.tt_leaf_rules.specs.declared.leaf.Bound.TheVariants.{AtLeast, Nothing}
 use Rattle.tt_leaf_rules.specs.declared.leaf.Claim.TheVariants.{Capacity, Days, Compact, Stacked}

@@ -24,13 +24,13 @@ use Rattle.tt_instance.proofs.Cells.{at_itself, is_at-slot, IsSlot, each_slot, e
 use Rattle.tt_rules.specs.Hard.{entries_of, periods_of, lectures_off, entries_in, collide, conflicts_count, availability_count, occupancy_count}
 use Rattle.tt_rules.specs.Score.{IsFeasible}
 use Rattle.tt_rules.proofs.Feasible.{periods-le_entries}
-use Rattle.tt_paths.specs.Facts.{matches, Holds, Fits}
-use Rattle.tt_paths.specs.Live.{is_dead, is_live, live_period, pinned, pinned_room, pinned_periods, is_pinned_by, gives}
-use Rattle.tt_paths.specs.declared.facts.Who.{Who}
-use Rattle.tt_paths.specs.declared.facts.Who.TheVariants.{Course}
-use Rattle.tt_paths.specs.declared.facts.Pattern.{Pattern}
-use Rattle.tt_paths.specs.declared.facts.Fact.{Fact}
-use Rattle.tt_paths.proofs.LiveCells.{live_cells, live_in_range, range_of, is_live_of, any_live, live_not_barred}
+use Rattle.tt_facts_path.specs.Facts.{matches, Holds, Fits}
+use Rattle.tt_facts_path.specs.Live.{is_dead, is_live, live_period, pinned, pinned_room, pinned_periods, is_pinned_by, gives}
+use Rattle.tt_facts_path.specs.declared.facts.Who.{Who}
+use Rattle.tt_facts_path.specs.declared.facts.Who.TheVariants.{Course}
+use Rattle.tt_facts_path.specs.declared.facts.Pattern.{Pattern}
+use Rattle.tt_facts_path.specs.declared.facts.Fact.{Fact}
+use Rattle.tt_facts_path.proofs.LiveCells.{live_cells, live_in_range, range_of, is_live_of, any_live, live_not_barred}
 use Rattle.tt_leaf_rules.specs.Leaves.{all_dead, open_periods, all_lectures}
 use Rattle.tt_leaf_rules.specs.declared.leaf.Bound.{Bound}
 use Rattle.tt_leaf.specs.Pinned.{IsPinnedDown, IsOpen}

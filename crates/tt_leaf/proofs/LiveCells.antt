@@ -14,12 +14,12 @@ use Rattle.tt_instance.specs.declared.cell.Cell.{Cell}
 use Rattle.tt_instance.proofs.Cells.{is_cell}
 use Rattle.tt_instance.proofs.Fellows.{fellows}
 use Rattle.tt_rules.specs.Hard.{entries_in}
-use Rattle.tt_paths.specs.Facts.{matches, has_fact}
-use Rattle.tt_paths.specs.Live.{clash, is_barred, excludes, is_dead, is_live}
-use Rattle.tt_paths.specs.declared.facts.Fact.{Fact}
-use Rattle.tt_paths.proofs.Same.{fact_there}
-use Rattle.tt_paths.proofs.Matching.{Matches-from}
-use Rattle.tt_paths.proofs.LiveCells.{live_cells, range_of, is_live_of, once_live, live_not_dead}
+use Rattle.tt_facts_path.specs.Facts.{matches, has_fact}
+use Rattle.tt_facts_path.specs.Live.{clash, is_barred, excludes, is_dead, is_live}
+use Rattle.tt_facts_path.specs.declared.facts.Fact.{Fact}
+use Rattle.tt_facts_path.proofs.Same.{fact_there}
+use Rattle.tt_facts_path.proofs.Matching.{Matches-from}
+use Rattle.tt_facts_path.proofs.LiveCells.{live_cells, range_of, is_live_of, once_live, live_not_dead}
 use Rattle.tt_leaf.specs.Pinned.{own_pattern, IsPinnedDown}
 
 -- the yes-fact of a cell, on the path

@@ -11,8 +11,8 @@ use Rattle.tt_instance.specs.Cells.{all_slots}
 use Rattle.tt_instance.specs.Courses.{lectures}
 use Rattle.tt_instance.specs.declared.cell.Slot.{Slot}
 use Rattle.tt_instance.proofs.Slots.{slots_count_yes}
-use Rattle.tt_paths.specs.Live.{least_excess}
-use Rattle.tt_paths.specs.declared.facts.Fact.{Fact}
+use Rattle.tt_facts_path.specs.Live.{least_excess}
+use Rattle.tt_facts_path.specs.declared.facts.Fact.{Fact}
 use Rattle.tt_leaf_rules.specs.Claims.{value_of}
 use Rattle.tt_leaf_rules.specs.declared.leaf.Claim.TheVariants.{Capacity}
 use Rattle.tt_leaf.specs.Best.{is_kth, least_excesses, price_of, at_price, capacity_claims, worth}

@@ -2,8 +2,8 @@
 use Rattle.tt_instance.specs.Problem.{Problem}
 use Rattle.std.specs.Prelude.{◌≡◌, ◌==◌, ℕ, true, not, List, All}
 use Rattle.tt_lists.specs.Words.{each_two}
-use Rattle.tt_paths.specs.Facts.{IsPattern}
-use Rattle.tt_paths.specs.declared.facts.Fact.{Fact}
+use Rattle.tt_facts_path.specs.Facts.{IsPattern}
+use Rattle.tt_facts_path.specs.declared.facts.Fact.{Fact}
 use Rattle.tt_leaf_rules.specs.Leaves.{IsRight}
 use Rattle.tt_leaf_rules.specs.Ranges.{AreBelow, IsClaimOf, IsLeafOf}
 use Rattle.tt_leaf_rules.specs.declared.leaf.Claim.{Claim}

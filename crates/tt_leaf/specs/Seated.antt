@@ -3,8 +3,8 @@ use Rattle.std.specs.Prelude.{ℕ, ◌==◌, Bool, false, List, Option, Some, No
 use Rattle.tt_instance.specs.Problem.{Problem}
 use Rattle.tt_instance.specs.Cells.{all_slots}
 use Rattle.tt_instance.specs.declared.cell.Slot.{Slot}
-use Rattle.tt_paths.specs.Live.{least_excess}
-use Rattle.tt_paths.specs.declared.facts.Fact.{Fact}
+use Rattle.tt_facts_path.specs.Live.{least_excess}
+use Rattle.tt_facts_path.specs.declared.facts.Fact.{Fact}
 
 -- There is an excess, and it is 0.
 abbrev pub is_nothing : Option ℕ → Bool

@@ -9,8 +9,8 @@ ghost use Rattle.tt_leaf.specs.Found.{IsAnswer};
 
 use crate::prices::{has_seats, price_of};
 use std::alloc::{AllocError, Global};
+use tt_facts_path::Path;
 use tt_leaf_rules::{Claim, ClaimList, Leaf, claim_value};
-use tt_paths::Path;
 
 /// Adds a claim if its value is positive.
 fn push_if_worth<'i, P: Path<'i>>(

@@ -3,8 +3,8 @@
 ghost use Rattle.std.specs.Prelude.{◌≡◌, ◌<◌, ◌↔◌, [], ◌∷◌, List, length, All, Contains, true, IsTrue, IfOk, IfSome, IsSome, IsNone, ℕ};
 ghost use Rattle.tt_instance.specs.declared.cell.Cell.{Cell};
 ghost use Rattle.tt_rules.specs.Score.{IsFeasible, cost};
-ghost use Rattle.tt_paths.specs.Facts.{IsPattern, Fits};
-ghost use Rattle.tt_paths.specs.declared.facts.Fact.{Fact};
+ghost use Rattle.tt_facts_path.specs.Facts.{IsPattern, Fits};
+ghost use Rattle.tt_facts_path.specs.declared.facts.Fact.{Fact};
 ghost use Rattle.tt_leaf_rules.specs.Bounds.{Respects};
 ghost use Rattle.tt_leaf_rules.specs.Leaves.{IsRight};
 ghost use Rattle.tt_leaf_rules.specs.Ranges.{IsLeafOf};
@@ -16,8 +16,8 @@ use crate::best::{best_claims, stacked_claims};
 use crate::overfull::overfull_leaf;
 use crate::priced::priced_claims;
 use std::alloc::{AllocError, Global};
+use tt_facts_path::Path;
 use tt_leaf_rules::{Bound, CourseList, Leaf, holds};
-use tt_paths::Path;
 
 /// Returns whether a leaf is right.
 fn is_right<'i, P: Path<'i>>(path: &P, leaf: &Leaf, bound: Bound) -> bool

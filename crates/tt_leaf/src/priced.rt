@@ -8,8 +8,8 @@ use crate::crowds::{Crowd, find_crowds};
 use crate::group_prices::Pricing;
 use crate::prices::{has_seats, price_of};
 use std::alloc::{AllocError, Global};
+use tt_facts_path::Path;
 use tt_leaf_rules::{Claim, ClaimList, Leaf, PriceList, claim_value};
-use tt_paths::Path;
 
 /// The maximum price that may appear in a proof.
 const MOST_PRICE: u32 = 1_000_000;

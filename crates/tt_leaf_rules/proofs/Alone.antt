@@ -7,9 +7,9 @@ use Rattle.tt_bits.proofs.BitLaws.{has_bit-none}
 use Rattle.tt_instance.specs.Problem.{Problem}
 use Rattle.tt_instance.specs.Cells.{slot}
 use Rattle.tt_instance.specs.Courses.{members}
-use Rattle.tt_paths.specs.Live.{pinned}
-use Rattle.tt_paths.specs.declared.facts.Fact.{Fact}
-use Rattle.tt_paths.specs.declared.facts.Who.TheVariants.{Curriculum}
+use Rattle.tt_facts_path.specs.Live.{pinned}
+use Rattle.tt_facts_path.specs.declared.facts.Fact.{Fact}
+use Rattle.tt_facts_path.specs.declared.facts.Who.TheVariants.{Curriculum}
 use Rattle.tt_leaf_rules.specs.Claims.{is_alone}
 use Rattle.tt_leaf_rules.specs.Nested.{live_for, live_before, live_after}
 use Rattle.tt_leaf_rules.proofs.Nested.{by_sides}

@@ -10,7 +10,7 @@ use Rattle.tt_instance.proofs.Exclusion.{eqb-turn, same_cell-itself}
 use Rattle.tt_lists.proofs.Members.{only_one}
 use Rattle.tt_rules.specs.Score.{IsFeasible}
 use Rattle.tt_rules.proofs.Feasible.{in_range, once_at, one_in, no_collision}
-use Rattle.tt_paths.specs.Live.{clash}
+use Rattle.tt_facts_path.specs.Live.{clash}
 
 module _ (p : Problem) (t : List Cell) (ok : IsFeasible p t) where
   -- no two entries clash

@@ -10,14 +10,14 @@ use Rattle.tt_instance.specs.Courses.{lectures, conflict}
 use Rattle.tt_instance.specs.declared.cell.Slot.{Slot}
 use Rattle.tt_rules.specs.Hard.{entries_of, periods_of, entries_in}
 use Rattle.tt_rules.specs.Score.{IsFeasible}
-use Rattle.tt_paths.specs.Facts.{matches, Fits}
-use Rattle.tt_paths.specs.Live.{is_dead, is_live, live_period, pinned, pinned_periods}
+use Rattle.tt_facts_path.specs.Facts.{matches, Fits}
+use Rattle.tt_facts_path.specs.Live.{is_dead, is_live, live_period, pinned, pinned_periods}
 use Rattle.tt_leaf_rules.specs.Leaves.{all_dead, open_periods, open_rooms, all_lectures}
 use Rattle.tt_leaf_rules.specs.Tests.{are_distinct}
 use Rattle.tt_instance.specs.declared.cell.Cell.{Cell}
-use Rattle.tt_paths.specs.declared.facts.Who.TheVariants.{Course}
-use Rattle.tt_paths.specs.declared.facts.Pattern.{Pattern}
-use Rattle.tt_paths.specs.declared.facts.Fact.{Fact}
+use Rattle.tt_facts_path.specs.declared.facts.Who.TheVariants.{Course}
+use Rattle.tt_facts_path.specs.declared.facts.Pattern.{Pattern}
+use Rattle.tt_facts_path.specs.declared.facts.Fact.{Fact}
 use Rattle.tt_lists.proofs.Sums.{one_if, cond-le, sum_by-le, sum_by-same, each, each_weaker, any_if_count, spread_up, once_at_least}
 use Rattle.tt_instance.proofs.Places.{any_slot, each_cell_at}
 use Rattle.tt_instance.proofs.Cells.{at_itself, is_at-slot}

@@ -2,10 +2,10 @@
 use Rattle.std.proofs.Common.{◌≡◌, ℕ, List, [], ◌∷◌, Some, None, refl, codes}
 use Rattle.tt_instance.specs.Problem.{Problem}
 use Rattle.tt_instance.proofs.Examples.{course, room, week, mini, gap, wide, same, apart}
-use Rattle.tt_paths.specs.declared.facts.Who.TheVariants.{Course}
-use Rattle.tt_paths.specs.declared.facts.Pattern.{Pattern}
-use Rattle.tt_paths.specs.declared.facts.Fact.{Fact}
-use Rattle.tt_paths.proofs.Examples.{first_day, yes, not_first, a_is_taught}
+use Rattle.tt_facts_path.specs.declared.facts.Who.TheVariants.{Course}
+use Rattle.tt_facts_path.specs.declared.facts.Pattern.{Pattern}
+use Rattle.tt_facts_path.specs.declared.facts.Fact.{Fact}
+use Rattle.tt_facts_path.proofs.Examples.{first_day, yes, not_first, a_is_taught}
 use Rattle.tt_leaf_rules.specs.Claims.{value_of}
 use Rattle.tt_leaf_rules.specs.Faults.{fault_of}
 use Rattle.tt_leaf_rules.specs.declared.leaf.Bound.TheVariants.{AtLeast, Nothing}

@@ -11,14 +11,14 @@ use Rattle.tt_instance.specs.Courses.{lectures, excess}
 use Rattle.tt_instance.specs.declared.cell.Slot.{Slot}
 use Rattle.tt_rules.specs.Soft.{days_of, days_cost}
 use Rattle.tt_rules.specs.Score.{IsFeasible}
-use Rattle.tt_paths.specs.Facts.{Fits}
-use Rattle.tt_paths.specs.Live.{is_live, pinned, pinned_periods}
+use Rattle.tt_facts_path.specs.Facts.{Fits}
+use Rattle.tt_facts_path.specs.Live.{is_live, pinned, pinned_periods}
 use Rattle.tt_leaf_rules.specs.Claims.{RoomCapacity}
 use Rattle.tt_leaf_rules.specs.Claims.{part, price_in, are_covered, open_in, pinned_day, targets_of, value_of}
 use Rattle.tt_leaf_rules.specs.Tests.{are_distinct, same_target}
 use Rattle.tt_instance.specs.declared.cell.Cell.{Cell}
-use Rattle.tt_paths.specs.declared.facts.Who.TheVariants.{Course}
-use Rattle.tt_paths.specs.declared.facts.Fact.{Fact}
+use Rattle.tt_facts_path.specs.declared.facts.Who.TheVariants.{Course}
+use Rattle.tt_facts_path.specs.declared.facts.Fact.{Fact}
 use Rattle.tt_leaf_rules.specs.declared.leaf.Claim.TheVariants.{Prices, Stacked}
 use Rattle.tt_lists.proofs.Sums.{one_if, one_if_any, cond-le, sum_by-le, sum_by-same, sum_by-plus, sum_by-of_map, sum_by-at_places, sum_by-times, each, each_from_list_all, list_any-of_map, spread_up, spread_down, once_at_most}
 use Rattle.tt_lists.proofs.Numbers.{any_below, count_below}

@@ -7,12 +7,12 @@ use Rattle.tt_instance.specs.Problem.{Problem}
 use Rattle.tt_instance.specs.Cells.{slot, next_to, cell, all_rooms, all_slots, all_courses}
 use Rattle.tt_instance.specs.Courses.{members, excess, no_curriculum}
 use Rattle.tt_instance.specs.declared.cell.Slot.{Slot}
-use Rattle.tt_paths.specs.Facts.{agrees, is_who, matches}
-use Rattle.tt_paths.specs.Live.{is_dead, is_live, live_period}
-use Rattle.tt_paths.specs.Nested.{courses_of}
-use Rattle.tt_paths.specs.declared.facts.Who.TheVariants.{Course, Curriculum}
-use Rattle.tt_paths.specs.declared.facts.Pattern.{Pattern}
-use Rattle.tt_paths.specs.declared.facts.Fact.{Fact}
+use Rattle.tt_facts_path.specs.Facts.{agrees, is_who, matches}
+use Rattle.tt_facts_path.specs.Live.{is_dead, is_live, live_period}
+use Rattle.tt_facts_path.specs.Nested.{courses_of}
+use Rattle.tt_facts_path.specs.declared.facts.Who.TheVariants.{Course, Curriculum}
+use Rattle.tt_facts_path.specs.declared.facts.Pattern.{Pattern}
+use Rattle.tt_facts_path.specs.declared.facts.Fact.{Fact}
 use Rattle.std.proofs.Math.Bool.{and-true}
 use Rattle.std.proofs.lemmas.List.{get_or_past}
 use Rattle.tt_lists.specs.Words.{has_number}
@@ -24,8 +24,8 @@ use Rattle.tt_lists.proofs.Truth.{same_truth}
 use Rattle.tt_instance.proofs.Places.{any_slot}
 use Rattle.tt_instance.proofs.Slots.{cells_in_rooms}
 use Rattle.tt_instance.proofs.Cells.{IsSlot, each_slot}
-use Rattle.tt_paths.proofs.Given.{at_number, list_all-of_members}
-use Rattle.tt_paths.proofs.Lost.{is_who-has}
+use Rattle.tt_facts_path.proofs.Given.{at_number, list_all-of_members}
+use Rattle.tt_facts_path.proofs.Lost.{is_who-has}
 use Rattle.tt_leaf_rules.specs.Leaves.{all_dead}
 use Rattle.tt_leaf_rules.specs.Claims.{is_alone, price_in}
 use Rattle.tt_leaf_rules.specs.Nested.{rooms_dead, period_dead, course_dead, gone_or_dead, live_before, live_after, covered_in}

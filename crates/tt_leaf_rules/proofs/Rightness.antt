@@ -6,12 +6,12 @@ use Rattle.std.proofs.lemmas.Bool.{and_parts, and_from}
 use Rattle.tt_lists.specs.Words.{each_two}
 use Rattle.tt_instance.specs.Problem.{Problem}
 use Rattle.tt_instance.specs.Courses.{lectures, conflict}
-use Rattle.tt_paths.specs.Facts.{has_fact}
-use Rattle.tt_paths.specs.Live.{pinned_periods}
-use Rattle.tt_paths.specs.declared.facts.Who.TheVariants.{Course}
-use Rattle.tt_paths.specs.declared.facts.Pattern.{Pattern}
-use Rattle.tt_paths.specs.declared.facts.Fact.{Fact}
-use Rattle.tt_paths.proofs.Same.{fact_there, yes_on_path}
+use Rattle.tt_facts_path.specs.Facts.{has_fact}
+use Rattle.tt_facts_path.specs.Live.{pinned_periods}
+use Rattle.tt_facts_path.specs.declared.facts.Who.TheVariants.{Course}
+use Rattle.tt_facts_path.specs.declared.facts.Pattern.{Pattern}
+use Rattle.tt_facts_path.specs.declared.facts.Fact.{Fact}
+use Rattle.tt_facts_path.proofs.Same.{fact_there, yes_on_path}
 use Rattle.tt_leaf_rules.specs.Claims.{claimed, is_fair, total_of}
 use Rattle.tt_leaf_rules.specs.Faults.{demand, fault_of}
 use Rattle.tt_leaf_rules.specs.Leaves.{all_dead, open_periods, all_lectures, open_rooms, IsRight}

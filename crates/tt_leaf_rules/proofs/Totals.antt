@@ -13,12 +13,12 @@ use Rattle.tt_instance.specs.Courses.{no_course, no_curriculum, in_curriculum, e
 use Rattle.tt_instance.specs.Cells.{all_courses, all_curricula, all_rooms, is_of, is_in}
 use Rattle.tt_rules.specs.Soft.{is_isolated}
 use Rattle.tt_rules.specs.Score.{cost, IsFeasible}
-use Rattle.tt_paths.specs.Facts.{Fits}
+use Rattle.tt_facts_path.specs.Facts.{Fits}
 use Rattle.tt_leaf_rules.specs.Claims.{Target, part, targets_of, value_of, is_fair, claimed, total_of}
 use Rattle.tt_leaf_rules.specs.Claims.{RoomCapacity, WorkingDays, Compactness, Stability}
 use Rattle.tt_leaf_rules.specs.Tests.{claims_once, same_target}
 use Rattle.tt_instance.specs.declared.cell.Cell.{Cell}
-use Rattle.tt_paths.specs.declared.facts.Fact.{Fact}
+use Rattle.tt_facts_path.specs.declared.facts.Fact.{Fact}
 use Rattle.tt_leaf_rules.specs.declared.leaf.Claim.{Claim}
 use Rattle.tt_leaf_rules.specs.declared.leaf.Claim.TheVariants.{Capacity, Days, Compact, Stable, Prices, Stacked}
 use Rattle.tt_lists.proofs.Sums.{sum_by-le, sum_by-of_map, sum_by-of_flat_map, each, list_any-of_map, spread_down, once_at_most, sum_by-nothing}

@@ -10,14 +10,14 @@ use Rattle.tt_instance.specs.declared.cell.Slot.{Slot}
 use Rattle.tt_rules.specs.Hard.{entries_of}
 use Rattle.tt_rules.specs.Soft.{days_of, days_cost, is_isolated, compactness_cost, stability_cost}
 use Rattle.tt_rules.specs.Score.{IsFeasible}
-use Rattle.tt_paths.specs.Facts.{Fits}
-use Rattle.tt_paths.specs.Live.{is_live, live_period, live_day, least_with, least, least_excess, pinned, pinned_room}
+use Rattle.tt_facts_path.specs.Facts.{Fits}
+use Rattle.tt_facts_path.specs.Live.{is_live, live_period, live_day, least_with, least, least_excess, pinned, pinned_room}
 use Rattle.tt_leaf_rules.specs.Claims.{RoomCapacity}
 use Rattle.tt_leaf_rules.specs.Claims.{part, greatest, discount, is_alone, value_of}
 use Rattle.tt_leaf_rules.specs.Nested.{above_least, discounts}
 use Rattle.tt_instance.specs.declared.cell.Cell.{Cell}
-use Rattle.tt_paths.specs.declared.facts.Who.TheVariants.{Curriculum}
-use Rattle.tt_paths.specs.declared.facts.Fact.{Fact}
+use Rattle.tt_facts_path.specs.declared.facts.Who.TheVariants.{Curriculum}
+use Rattle.tt_facts_path.specs.declared.facts.Fact.{Fact}
 use Rattle.tt_leaf_rules.specs.declared.leaf.Claim.TheVariants.{Capacity, Days, Compact, Stable}
 use Rattle.tt_lists.proofs.Sums.{one_if, cond-le, sum_by-le, sum_by-same, sum_by-plus, each, each_weaker, one_if_any, spread_up, spread_down, once_at_least, once_at_most, sum_by-at_places}
 use Rattle.tt_instance.proofs.Places.{any_slot, count_slots}

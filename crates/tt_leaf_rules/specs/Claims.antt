@@ -8,9 +8,9 @@ use Rattle.tt_instance.specs.Courses.{lectures, min_days, members, excess}
 use Rattle.tt_instance.specs.declared.cell.Cell.{Cell}
 use Rattle.tt_instance.specs.declared.cell.Slot.{Slot}
 use Rattle.tt_rules.specs.Soft.{days_cost, compactness_cost, stability_cost}
-use Rattle.tt_paths.specs.Live.{is_live, pinned_periods, live_period, live_day, pinned, pinned_room}
-use Rattle.tt_paths.specs.declared.facts.Who.TheVariants.{Course, Curriculum}
-use Rattle.tt_paths.specs.declared.facts.Fact.{Fact}
+use Rattle.tt_facts_path.specs.Live.{is_live, pinned_periods, live_period, live_day, pinned, pinned_room}
+use Rattle.tt_facts_path.specs.declared.facts.Who.TheVariants.{Course, Curriculum}
+use Rattle.tt_facts_path.specs.declared.facts.Fact.{Fact}
 use Rattle.tt_leaf_rules.specs.declared.leaf.Claim.{Claim}
 use Rattle.tt_leaf_rules.specs.declared.leaf.Claim.TheVariants.{Capacity, Days, Compact, Stable, Prices, Stacked}
 

@@ -3,10 +3,10 @@ use Rattle.std.specs.Prelude.{nat_lt, nat_le, Bool, true, List, Option, Some, No
 use Rattle.std.specs.List.{list_all}
 use Rattle.tt_instance.specs.Problem.{Problem}
 use Rattle.tt_instance.specs.Courses.{lectures}
-use Rattle.tt_paths.specs.Facts.{has_fact}
-use Rattle.tt_paths.specs.Live.{pinned_periods}
-use Rattle.tt_paths.specs.declared.facts.Who.TheVariants.{Course}
-use Rattle.tt_paths.specs.declared.facts.Fact.{Fact}
+use Rattle.tt_facts_path.specs.Facts.{has_fact}
+use Rattle.tt_facts_path.specs.Live.{pinned_periods}
+use Rattle.tt_facts_path.specs.declared.facts.Who.TheVariants.{Course}
+use Rattle.tt_facts_path.specs.declared.facts.Fact.{Fact}
 use Rattle.tt_leaf_rules.specs.Claims.{is_fair, total_of}
 use Rattle.tt_leaf_rules.specs.Leaves.{all_dead, all_lectures, open_periods, open_rooms}
 use Rattle.tt_leaf_rules.specs.Tests.{are_distinct, claims_once, is_clique}

@@ -5,11 +5,11 @@ use Rattle.tt_lists.specs.Words.{each_two}
 use Rattle.tt_instance.specs.Problem.{Problem}
 use Rattle.tt_instance.specs.Cells.{cell, all_rooms, all_slots, all_cells}
 use Rattle.tt_instance.specs.Courses.{lectures, conflict}
-use Rattle.tt_paths.specs.Facts.{matches}
-use Rattle.tt_paths.specs.Live.{is_dead, is_live, live_period, pinned_periods}
-use Rattle.tt_paths.specs.declared.facts.Who.TheVariants.{Course}
-use Rattle.tt_paths.specs.declared.facts.Pattern.{Pattern}
-use Rattle.tt_paths.specs.declared.facts.Fact.{Fact}
+use Rattle.tt_facts_path.specs.Facts.{matches}
+use Rattle.tt_facts_path.specs.Live.{is_dead, is_live, live_period, pinned_periods}
+use Rattle.tt_facts_path.specs.declared.facts.Who.TheVariants.{Course}
+use Rattle.tt_facts_path.specs.declared.facts.Pattern.{Pattern}
+use Rattle.tt_facts_path.specs.declared.facts.Fact.{Fact}
 use Rattle.tt_leaf_rules.specs.Claims.{claimed, is_fair, total_of}
 use Rattle.tt_leaf_rules.specs.declared.leaf.Bound.{Bound}
 use Rattle.tt_leaf_rules.specs.declared.leaf.Bound.TheVariants.{AtLeast, Nothing}

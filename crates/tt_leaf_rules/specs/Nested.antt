@@ -7,11 +7,11 @@ use Rattle.tt_instance.specs.Problem.{Problem}
 use Rattle.tt_instance.specs.Cells.{slot, cell, all_rooms, all_days, all_slots}
 use Rattle.tt_instance.specs.Courses.{lectures, excess}
 use Rattle.tt_instance.specs.declared.cell.Slot.{Slot}
-use Rattle.tt_paths.specs.Facts.{agrees}
-use Rattle.tt_paths.specs.Live.{is_dead, is_live, live_period, live_day, least_excess, pinned, pinned_room}
-use Rattle.tt_paths.specs.declared.facts.Who.TheVariants.{Curriculum}
-use Rattle.tt_paths.specs.declared.facts.Pattern.{Pattern}
-use Rattle.tt_paths.specs.declared.facts.Fact.{Fact}
+use Rattle.tt_facts_path.specs.Facts.{agrees}
+use Rattle.tt_facts_path.specs.Live.{is_dead, is_live, live_period, live_day, least_excess, pinned, pinned_room}
+use Rattle.tt_facts_path.specs.declared.facts.Who.TheVariants.{Curriculum}
+use Rattle.tt_facts_path.specs.declared.facts.Pattern.{Pattern}
+use Rattle.tt_facts_path.specs.declared.facts.Fact.{Fact}
 use Rattle.tt_leaf_rules.specs.Claims.{Target, targets_of, is_alone, price_in, open_in, pinned_day}
 use Rattle.tt_leaf_rules.specs.Tests.{same_target}
 use Rattle.tt_leaf_rules.specs.declared.leaf.Claim.{Claim}

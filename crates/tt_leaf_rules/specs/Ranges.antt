@@ -2,7 +2,7 @@
 use Rattle.std.specs.Prelude.{◌≡◌, ℕ, ◌<◌, ◌==◌, true, not, List, length, map, All}
 use Rattle.tt_lists.specs.Words.{each_two}
 use Rattle.tt_instance.specs.Problem.{Problem}
-use Rattle.tt_paths.specs.Facts.{IsPattern}
+use Rattle.tt_facts_path.specs.Facts.{IsPattern}
 use Rattle.tt_leaf_rules.specs.declared.leaf.Claim.{Claim}
 use Rattle.tt_leaf_rules.specs.declared.leaf.Claim.TheVariants.{Capacity, Days, Compact, Stable, Prices, Stacked}
 use Rattle.tt_leaf_rules.specs.declared.leaf.Leaf.{Leaf}

@@ -7,7 +7,7 @@ ghost use Rattle.tt_leaf_rules.specs.declared.leaf.Claim.TheVariants.{Capacity};
 ghost use Rattle.tt_leaf_rules.specs.declared.limit.TheConstants.{MAX_TARGET_VALUE};
 
 use crate::slots::{slot_at, slot_count};
-use tt_paths::Path;
+use tt_facts_path::Path;
 
 fn above_least(price: u64, least: Option<u64>) -> u64
     ensures value { result ≡ above_least price least }

@@ -12,7 +12,7 @@ use crate::isolated::compact_value;
 use crate::leaf::Claim;
 use crate::prices::{are_covered, prices_value};
 use crate::stable::stable_value;
-use tt_paths::Path;
+use tt_facts_path::Path;
 
 /// Returns the value of a claim on a path, in cost points.
 #[tactic(auto, using(crate::proofs::Sizes::prices_below))]

@@ -8,8 +8,8 @@ ghost use Rattle.tt_instance.specs.declared.limit.TheConstants.{MAX_DAYS, MAX_MI
 
 use crate::pinned::pinned_periods;
 use tt_bits::is_empty;
+use tt_facts_path::{Path, Who};
 use tt_instance::MAX_PERIODS;
-use tt_paths::{Path, Who};
 
 /// The cost of a missing day, in cost points.
 const DAY_PRICE: u64 = 5;

@@ -8,8 +8,8 @@ ghost use Rattle.tt_leaf_rules.specs.Leaves.{all_dead};
 ghost use Rattle.tt_leaf_rules.specs.Nested.{rooms_dead, period_dead, course_dead, gone_or_dead};
 
 use crate::slots::{slot_at, slot_count};
+use tt_facts_path::{Path, Pattern, Who, agrees};
 use tt_instance::Cell;
-use tt_paths::{Path, Pattern, Who, agrees};
 
 /// Returns whether the course's cells in the period are dead, in the given room if one is given.
 fn rooms_dead<'i, P: Path<'i>>(

@@ -15,8 +15,8 @@ ghost use Rattle.tt_instance.specs.declared.limit.TheConstants.{MAX_COURSES, MAX
 use crate::met::{FEW, NumberSet};
 use crate::slots::{slot_at, slot_count};
 use tt_bits::{below, count, either};
+use tt_facts_path::Path;
 use tt_instance::{Instance, MAX_PERIODS};
-use tt_paths::Path;
 
 fn excludes_each(instance: &Instance<'_>, course: u32, others: &[u32]) -> bool
     ensures { result ≡ list_all (conflict instance.now course) others.now }

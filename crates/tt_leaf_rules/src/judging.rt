@@ -16,8 +16,8 @@ use crate::groups::{are_distinct, have_more_lectures, is_clique, open_periods, o
 use crate::leaf::{Bound, Claim, Leaf, RuleFault};
 use crate::pinned::pinned_periods;
 use crate::targets::claims_once;
+use tt_facts_path::{Path, Pattern, Who};
 use tt_instance::{MAX_COURSES, MAX_CURRICULA};
-use tt_paths::{Path, Pattern, Who};
 
 fn fault_of_empty<'i, P: Path<'i>>(path: &P, pattern: &Pattern) -> Option<RuleFault>
     ensures { result ≡ fault_of (P.problem path.now) (P.facts path.now) Nothing (Empty pattern.now) }

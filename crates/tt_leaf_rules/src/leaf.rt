@@ -3,7 +3,7 @@
 use crate::lists::{CourseList, PriceList};
 use std::marker::Model;
 use thiserror::Error;
-use tt_paths::Pattern;
+use tt_facts_path::Pattern;
 
 /// A bound on the cost, in cost points, or the claim that there is no feasible timetable.
 #[derive(Clone, Copy, Debug, PartialEq, Eq)]

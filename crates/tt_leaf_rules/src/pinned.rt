@@ -1,13 +1,13 @@
 //! The periods that the yes-facts of a path pin.
 
 ghost use Rattle.std.specs.Prelude.{◌≡◌, ◌≤◌};
-ghost use Rattle.tt_paths.specs.Facts.{IsWho};
-ghost use Rattle.tt_paths.specs.Live.{pinned_periods};
+ghost use Rattle.tt_facts_path.specs.Facts.{IsWho};
+ghost use Rattle.tt_facts_path.specs.Live.{pinned_periods};
 ghost use Rattle.tt_instance.specs.declared.limit.TheConstants.{MAX_SLOTS};
 
 use tt_bits::count;
+use tt_facts_path::{Path, Who};
 use tt_instance::MAX_PERIODS;
-use tt_paths::{Path, Who};
 
 /// Counts the periods of the week that are pinned for a course or a curriculum.
 pub fn pinned_periods<'i, P: Path<'i>>(path: &P, who: Who) -> u32

@@ -11,8 +11,8 @@ ghost use Rattle.tt_instance.specs.declared.limit.TheConstants.{MAX_COURSES, MAX
 ghost use Rattle.tt_leaf_rules.specs.declared.limit.TheConstants.{MAX_TARGET_VALUE};
 
 use crate::slots::{slot_at, slot_count};
+use tt_facts_path::Path;
 use tt_instance::{Cell, Instance};
-use tt_paths::Path;
 
 // ---- covered prices
 

@@ -7,7 +7,7 @@ ghost use Rattle.tt_leaf_rules.specs.declared.leaf.Claim.TheVariants.{Stable};
 ghost use Rattle.tt_instance.specs.declared.limit.TheConstants.{MAX_ROOMS};
 
 use tt_bits::count;
-use tt_paths::Path;
+use tt_facts_path::Path;
 
 #[inline(always)]
 fn pinned_rooms<'i, P: Path<'i>>(path: &P, course: u32) -> u32

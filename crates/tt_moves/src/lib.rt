@@ -20,5 +20,5 @@ pub use cost::EntryCost;
 pub use exchanging::Change;
 pub use pricing::{cost_change, entry_cost};
 pub use step::{Step, apply, apply_all, can_step, undo};
-pub use tt_chain::{Chain, ChainFault, chain, swap_chain};
+pub use tt_moves_chain::{Chain, ChainFault, chain, swap_chain};
 pub use within::{change_within, hard_change};

@@ -5,7 +5,7 @@ ghost use Rattle.tt_bits.specs.Bits.{has_bit};
 ghost use Rattle.tt_instance.specs.Cells.{slot, is_at};
 ghost use Rattle.tt_instance.specs.Courses.{in_curriculum};
 ghost use Rattle.tt_instance.specs.declared.cell.Cell.{Cell};
-ghost use Rattle.tt_change.specs.Standing.{standing, joined_before, joined_after};
+ghost use Rattle.tt_occupancy_change.specs.Standing.{standing, joined_before, joined_after};
 ghost use Rattle.tt_occupancy.specs.Around.{AreGaps};
 ghost use Rattle.tt_moves.specs.Rests.{IsRest, IsStill};
 ghost use Rattle.tt_moves.specs.Rounds.{AreStanding, AreIsolated, OtherIsHandled};
@@ -15,8 +15,8 @@ use crate::rest::WithoutEntry;
 use tt_bits::{has_bit, next, previous, without};
 use tt_instance::MAX_PERIODS;
 use tt_occupancy::{Gaps, one_if};
+use tt_occupancy_tallies::put;
 use tt_table::Entry;
-use tt_tallies::put;
 
 impl WithoutEntry<'_, '_, '_> {
     /// Checks whether the moved entry has to be counted again in a curriculum.

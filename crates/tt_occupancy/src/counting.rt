@@ -4,12 +4,12 @@ ghost use Rattle.std.specs.Prelude.{◌≤◌, length, IfOk};
 ghost use Rattle.tt_instance.specs.Limits.{IsInstance};
 ghost use Rattle.tt_table.specs.Table.{IsTimetable};
 ghost use Rattle.tt_table.specs.declared.table.TheConstants.{MAX_ENTRIES};
-ghost use Rattle.tt_tallies.specs.Tables.{AreTables};
+ghost use Rattle.tt_occupancy_tallies.specs.Tables.{AreTables};
 
 use std::alloc::{AllocError, Global};
 use tt_instance::Instance;
+use tt_occupancy_tallies::Tables;
 use tt_table::Entry;
-use tt_tallies::Tables;
 
 /// Returns the tables of the entries.
 pub fn tables_of(

@@ -4,14 +4,14 @@ ghost use Rattle.std.specs.Prelude.{◌≡◌, ℕ, ◌+◌, ◌-◌, ◌*◌, �
 ghost use Rattle.tt_instance.specs.Problem.{Problem};
 ghost use Rattle.tt_instance.specs.declared.cell.Cell.{Cell};
 ghost use Rattle.tt_table.specs.Table.{IsTimetable};
-ghost use Rattle.tt_change.specs.Standing.{standing};
-ghost use Rattle.tt_tallies.specs.Tallies.{IsTally, of_curriculum};
+ghost use Rattle.tt_occupancy_change.specs.Standing.{standing};
+ghost use Rattle.tt_occupancy_tallies.specs.Tallies.{IsTally, of_curriculum};
 ghost use Rattle.tt_occupancy.specs.Around.{IsAround, AreGaps};
 ghost use Rattle.tt_instance.specs.declared.limit.TheConstants.{MAX_CURRICULA};
 
 use crate::around::Around;
 use crate::weighing::one_if;
-use tt_tallies::Week;
+use tt_occupancy_tallies::Week;
 
 /// The changes that an entry would make to the isolated entries of its curricula.
 #[derive(Clone, Copy)]

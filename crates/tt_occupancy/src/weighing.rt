@@ -5,14 +5,14 @@ ghost use Rattle.tt_instance.specs.Cells.{InRange};
 ghost use Rattle.tt_instance.specs.declared.cell.Cell.{Cell};
 ghost use Rattle.tt_table.specs.Table.{IsTimetable};
 ghost use Rattle.tt_rules.specs.Soft.{days_cost, stability_cost};
-ghost use Rattle.tt_tallies.specs.Tables.{AreTables};
+ghost use Rattle.tt_occupancy_tallies.specs.Tables.{AreTables};
 ghost use Rattle.tt_occupancy.specs.Weights.{IsWeight};
 
 use crate::gaps::gaps_round;
 use crate::weight::Weight;
 use tt_instance::Instance;
+use tt_occupancy_tallies::Tables;
 use tt_table::Entry;
-use tt_tallies::Tables;
 
 /// Returns 1 if the test passes, else 0.
 pub fn one_if(test: bool) -> u32

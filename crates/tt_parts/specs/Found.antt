@@ -2,7 +2,7 @@
 use Rattle.std.specs.Prelude.{List, ℕ, Vec, map}
 use Rattle.tt_instance.specs.Problem.{Problem}
 use Rattle.tt_proof_check.specs.Derives.{HoldsOfAll}
-use Rattle.tt_sum.specs.Sums.{IsSum}
+use Rattle.tt_proof_sum.specs.Sums.{IsSum}
 use Rattle.tt_parts.specs.declared.finding.Parts.{Parts}
 
 -- The bytes of each text.

@@ -5,10 +5,10 @@ ghost use Rattle.tt_leaf_rules.specs.Ranges.{IsClaimOf};
 
 use std::alloc::{AllocError, Global};
 use tt_facts::TrailPath;
+use tt_facts_path::Path;
 use tt_instance::Instance;
 use tt_leaf::best_claims;
 use tt_leaf_rules::{Bound, Claim, ClaimList, Leaf, claim_value};
-use tt_paths::Path;
 use tt_proof_read::Node;
 use tt_proof_text::{WriteFault, write_proof};
 

@@ -2,15 +2,15 @@
 
 ghost use Rattle.std.specs.Prelude.{IfOk, IfSome};
 ghost use Rattle.tt_proof_check.specs.Derives.{HoldsOfAll};
-ghost use Rattle.tt_sum.specs.Sums.{IsSum};
+ghost use Rattle.tt_proof_sum.specs.Sums.{IsSum};
 ghost use Rattle.tt_parts.specs.Found.{texts_of};
 
 use std::alloc::{AllocError, Global};
 use tt_instance::Instance;
 use tt_leaf_rules::Bound;
-use tt_peek::Peeked;
-use tt_sum::{SumFault, sum_proofs};
+use tt_proof_sum::{SumFault, sum_proofs};
 use tt_text::Pieces;
+use tt_text_peek::Peeked;
 
 /// The number of bytes of a proof that are read at once.
 const PIECE: usize = 4_096;

@@ -6,8 +6,8 @@ use Rattle.std.proofs.lemmas.Bool.{cases_Bool}
 use Rattle.tt_instance.specs.Problem.{Problem}
 use Rattle.tt_instance.specs.declared.cell.Cell.{Cell}
 use Rattle.tt_rules.specs.Score.{IsFeasible, cost}
-use Rattle.tt_paths.specs.Facts.{matches, Holds, Fits}
-use Rattle.tt_paths.specs.declared.facts.Fact.{Fact}
+use Rattle.tt_facts_path.specs.Facts.{matches, Holds, Fits}
+use Rattle.tt_facts_path.specs.declared.facts.Fact.{Fact}
 use Rattle.tt_leaf_rules.specs.Bounds.{Respects}
 use Rattle.tt_leaf_rules.specs.declared.leaf.Bound.{Bound}
 use Rattle.tt_leaf_rules.proofs.Soundness.{leaf_sound}

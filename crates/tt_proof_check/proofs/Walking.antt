@@ -4,8 +4,8 @@ use Rattle.std.specs.Prelude.{All, slice_get}
 use Rattle.std.specs.List.{AllByRecursion}
 use Rattle.std.proofs.lemmas.List.Elements.{All-push, All-nil, recursion_from_All}
 use Rattle.tt_instance.specs.Problem.{Problem}
-use Rattle.tt_paths.specs.declared.facts.Fact.{Fact}
-use Rattle.tt_paths.specs.declared.path.TheConstants.{MAX_FACTS}
+use Rattle.tt_facts_path.specs.declared.facts.Fact.{Fact}
+use Rattle.tt_facts_path.specs.declared.path.TheConstants.{MAX_FACTS}
 use Rattle.tt_leaf_rules.specs.declared.leaf.Bound.{Bound}
 use Rattle.tt_leaf_rules.specs.declared.leaf.RuleFault.{RuleFault}
 use Rattle.tt_proof_read.specs.Trees.{Tree, Close, Branch, with_fact, preorder, OnPath, on_paths}

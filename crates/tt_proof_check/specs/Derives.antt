@@ -3,14 +3,14 @@ use Rattle.std.specs.Prelude.{◌≡◌, ◌≤◌, List, [], length}
 use Rattle.tt_instance.specs.Problem.{Problem}
 use Rattle.tt_instance.specs.declared.cell.Cell.{Cell}
 use Rattle.tt_rules.specs.Score.{IsFeasible, cost}
-use Rattle.tt_paths.specs.Facts.{Fits}
-use Rattle.tt_paths.specs.declared.facts.Fact.{Fact}
+use Rattle.tt_facts_path.specs.Facts.{Fits}
+use Rattle.tt_facts_path.specs.declared.facts.Fact.{Fact}
 use Rattle.tt_leaf_rules.specs.Bounds.{Respects}
 use Rattle.tt_leaf_rules.specs.Leaves.{IsRight}
 use Rattle.tt_leaf_rules.specs.declared.leaf.Bound.{Bound}
 use Rattle.tt_proof_read.specs.Trees.{Tree, AllLeaves, preorder}
 use Rattle.tt_proof_read.specs.declared.node.Node.{Node}
-use Rattle.tt_paths.specs.declared.path.TheConstants.{MAX_FACTS}
+use Rattle.tt_facts_path.specs.declared.path.TheConstants.{MAX_FACTS}
 
 -- whether each leaf is right on its path
 abbrev pub Derives : Problem → Bound → List Fact → Tree → Type 0

@@ -1,7 +1,7 @@
 -- The meaning of an error for a list of nodes.
 use Rattle.std.specs.Prelude.{◌≡◌, ℕ, ◌<◌, ◌≤◌, List, [], length, take, All, Some, slice_get, ⊤}
 use Rattle.tt_instance.specs.Problem.{Problem}
-use Rattle.tt_paths.specs.declared.facts.Fact.{Fact}
+use Rattle.tt_facts_path.specs.declared.facts.Fact.{Fact}
 use Rattle.tt_leaf_rules.specs.Faults.{fault_of}
 use Rattle.tt_leaf_rules.specs.Leaves.{IsRight}
 use Rattle.tt_leaf_rules.specs.declared.leaf.Bound.{Bound}
@@ -12,7 +12,7 @@ use Rattle.tt_proof_read.specs.declared.node.Node.{Node}
 use Rattle.tt_proof_read.specs.declared.node.Node.TheVariants as node
 use Rattle.tt_proof_check.specs.declared.fault.NodesFault.{NodesFault}
 use Rattle.tt_proof_check.specs.declared.fault.NodesFault.TheVariants.{NotATree, Rule, TooDeep, OutOfMemory}
-use Rattle.tt_paths.specs.declared.path.TheConstants.{MAX_FACTS}
+use Rattle.tt_facts_path.specs.declared.path.TheConstants.{MAX_FACTS}
 
 -- whether a node is right on its path: a leaf has to be, a split always is
 abbrev pub IsRightOn : Problem → Bound → List Fact → Node → Type 0

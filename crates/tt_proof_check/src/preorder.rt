@@ -10,9 +10,9 @@ use crate::fault::NodesFault;
 use crate::walk::{Stop, check_node};
 use std::alloc::Global;
 use tt_facts::TrailPath;
+use tt_facts_path::Path;
 use tt_instance::Instance;
 use tt_leaf_rules::Bound;
-use tt_paths::Path;
 use tt_proof_read::{Node, is_tree};
 
 /// Checks the nodes of a tree, each on its path.

@@ -1,7 +1,7 @@
 //! Proofs that are checked as they are read.
 
 ghost use Rattle.std.specs.Prelude.{◌≡◌, ◌<◌, ◌≤◌, ℕ, List, [], length, true, is_some, Some, None, Err, OnOk, IfOk, IfErr, MatchResult};
-ghost use Rattle.tt_paths.specs.declared.path.TheConstants.{MAX_FACTS};
+ghost use Rattle.tt_facts_path.specs.declared.path.TheConstants.{MAX_FACTS};
 ghost use Rattle.tt_leaf_rules.specs.declared.leaf.Bound.{Bound};
 ghost use Rattle.tt_text.specs.Feeds.{stream_at, fresh};
 ghost use Rattle.tt_proof_read.specs.Answers.{StaysKnown};
@@ -22,9 +22,9 @@ use crate::visitor::{NoVisitor, NodeVisitor};
 use crate::walk::{Stop, check_node};
 use std::alloc::Global;
 use tt_facts::TrailPath;
+use tt_facts_path::Path;
 use tt_instance::Instance;
 use tt_leaf_rules::Bound;
-use tt_paths::Path;
 use tt_proof_read::{Node, NodeReader};
 use tt_text::Source;
 

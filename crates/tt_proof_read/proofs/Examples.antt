@@ -6,7 +6,7 @@ use Rattle.tt_text.specs.Feeds.{Stream, fault_from, stream_from, stopped}
 use Rattle.tt_text.specs.declared.feed.TheConstants.{MAX_BYTES}
 use Rattle.tt_text.specs.CutShort.{cut_short}
 use Rattle.tt_text.specs.declared.feed.FeedFault.TheVariants.{Read}
-use Rattle.tt_paths.specs.declared.facts.Who.TheVariants.{Curriculum}
+use Rattle.tt_facts_path.specs.declared.facts.Who.TheVariants.{Curriculum}
 use Rattle.tt_leaf_rules.specs.declared.leaf.Bound.TheVariants.{AtLeast}
 use Rattle.tt_leaf_rules.specs.declared.leaf.Claim.TheVariants as claim
 use Rattle.tt_leaf_rules.specs.declared.leaf.Leaf.TheVariants as leaf

@@ -10,10 +10,10 @@ use Rattle.tt_text.specs.Reading.{◌>>=◌}
 use Rattle.tt_text.proofs.Steps.{ok_is, bind_ok, test_ok}
 use Rattle.tt_text.proofs.Fields.{text_is}
 use Rattle.tt_instance.specs.Problem.{Problem}
-use Rattle.tt_paths.specs.Facts.{IsWho, IsPattern}
-use Rattle.tt_paths.specs.declared.facts.Who.{Who}
-use Rattle.tt_paths.specs.declared.facts.Who.TheVariants.{Course, Curriculum}
-use Rattle.tt_paths.specs.declared.facts.Pattern.{Pattern}
+use Rattle.tt_facts_path.specs.Facts.{IsWho, IsPattern}
+use Rattle.tt_facts_path.specs.declared.facts.Who.{Who}
+use Rattle.tt_facts_path.specs.declared.facts.Who.TheVariants.{Course, Curriculum}
+use Rattle.tt_facts_path.specs.declared.facts.Pattern.{Pattern}
 use Rattle.tt_leaf_rules.specs.Ranges.{AreBelow}
 use Rattle.tt_leaf_rules.specs.declared.leaf.Leaf.TheVariants as leaf
 use Rattle.tt_proof_read.specs.Sizes.{AreSizes}

@@ -13,8 +13,8 @@ use Rattle.tt_text.specs.declared.numbers.NumberFault.{NumberFault}
 use Rattle.tt_text.specs.declared.numbers.NumberFault.TheVariants as number
 use Rattle.tt_text.proofs.Steps.{ok_is, bind_ok, test_ok, refusal_ok}
 use Rattle.tt_text.proofs.Fields.{text_is, is_text_of, number_spelled, number_read}
-use Rattle.tt_paths.specs.declared.facts.Who.{Who}
-use Rattle.tt_paths.specs.declared.facts.Who.TheVariants.{Course, Curriculum}
+use Rattle.tt_facts_path.specs.declared.facts.Who.{Who}
+use Rattle.tt_facts_path.specs.declared.facts.Who.TheVariants.{Course, Curriculum}
 use Rattle.tt_leaf_rules.specs.declared.leaf.Bound.{Bound}
 use Rattle.tt_leaf_rules.specs.declared.leaf.Bound.TheVariants.{AtLeast, Nothing}
 use Rattle.tt_proof_read.specs.Words.{word_text, fixed}

@@ -11,9 +11,9 @@ use Rattle.tt_text.specs.Reading.{◌>>=◌}
 use Rattle.tt_text.specs.declared.feed.FeedFault.{FeedFault}
 use Rattle.tt_text.specs.declared.numbers.NumberFault.{NumberFault}
 use Rattle.tt_text.specs.declared.numbers.NumberFault.TheVariants as number
-use Rattle.tt_paths.specs.declared.facts.Who.{Who}
-use Rattle.tt_paths.specs.declared.facts.Who.TheVariants as who
-use Rattle.tt_paths.specs.declared.facts.Pattern.{Pattern}
+use Rattle.tt_facts_path.specs.declared.facts.Who.{Who}
+use Rattle.tt_facts_path.specs.declared.facts.Who.TheVariants as who
+use Rattle.tt_facts_path.specs.declared.facts.Pattern.{Pattern}
 use Rattle.tt_leaf_rules.specs.declared.leaf.Bound.{Bound}
 use Rattle.tt_leaf_rules.specs.declared.leaf.Bound.TheVariants as bound
 use Rattle.tt_leaf_rules.specs.declared.leaf.Claim.{Claim}

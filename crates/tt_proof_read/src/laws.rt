@@ -13,7 +13,7 @@ ghost use Rattle.tt_proof_read.specs.Spelling.{IsLeaf, SpellsProof};
 ghost use Rattle.tt_proof_read.specs.Trees.{Tree, AllLeaves, IsPreorder};
 ghost use Rattle.tt_proof_read.specs.declared.node.Node.{Node};
 ghost use Rattle.tt_proof_read.specs.declared.sizes.Sizes.{Sizes};
-ghost use Rattle.tt_paths.specs.declared.path.TheConstants.{MAX_FACTS};
+ghost use Rattle.tt_facts_path.specs.declared.path.TheConstants.{MAX_FACTS};
 
 /// If the stream of some bytes, read node by node, is a proof without a path longer than 65,536 facts, the bytes spell this proof;
 /// and each proof that they spell is read in this way.

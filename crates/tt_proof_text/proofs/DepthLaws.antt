@@ -4,9 +4,9 @@ use Rattle.std.specs.Option.{option_to_list}
 use Rattle.std.proofs.lemmas.Bool.{lt-ltb, and_parts, and_from}
 use Rattle.std.proofs.lemmas.Bool.Decides.{nat_tests}
 use Rattle.std.proofs.lemmas.List.{append-nil, at_drop_more, at_drop_all, length-reverse, reverse-append}
-use Rattle.tt_paths.specs.declared.facts.Fact.{Fact}
-use Rattle.tt_paths.specs.declared.facts.Pattern.{Pattern}
-use Rattle.tt_paths.specs.declared.path.TheConstants.{MAX_FACTS}
+use Rattle.tt_facts_path.specs.declared.facts.Fact.{Fact}
+use Rattle.tt_facts_path.specs.declared.facts.Pattern.{Pattern}
+use Rattle.tt_facts_path.specs.declared.path.TheConstants.{MAX_FACTS}
 use Rattle.tt_leaf_rules.specs.declared.leaf.Leaf.{Leaf as Closed}
 use Rattle.tt_proof_read.specs.declared.node.Node.{Node}
 use Rattle.tt_proof_read.specs.declared.node.Node.TheVariants.{Split, Leaf}

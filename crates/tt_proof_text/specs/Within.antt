@@ -13,7 +13,7 @@ use Rattle.tt_proof_read.specs.Trees.{Tree, AllLeaves, preorder, IsPreorder}
 use Rattle.tt_proof_text.specs.declared.fault.WriteFault.{WriteFault}
 use Rattle.tt_proof_text.specs.declared.fault.WriteFault.TheVariants.{NotATree, OverLimit, NotInVersion, OutOfMemory}
 use Rattle.tt_proof_text.specs.Written.{proof_text}
-use Rattle.tt_paths.specs.declared.path.TheConstants.{MAX_FACTS}
+use Rattle.tt_facts_path.specs.declared.path.TheConstants.{MAX_FACTS}
 
 abbrev pub HasShortClaims : Leaf → Type 0
 HasShortClaims (Cost claims) = All IsShortClaim claims

@@ -12,8 +12,8 @@ ghost use Rattle.tt_proof_text.specs.Bytes.{clipped};
 ghost use Rattle.tt_proof_text.specs.Written.{priced_pieces, claim_rest, claim_pieces, node_rest, node_pieces, header_pieces, proof_text, tail_text};
 
 use crate::fields::version_text;
+use tt_facts_path::{Pattern, Who};
 use tt_leaf_rules::{Bound, Claim, Leaf};
-use tt_paths::{Pattern, Who};
 use tt_proof_read::{Node, Word};
 use tt_text::digit_count;
 

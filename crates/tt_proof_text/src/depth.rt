@@ -5,7 +5,7 @@ ghost use Rattle.tt_proof_read.specs.Trees.{IsPreorder};
 ghost use Rattle.tt_proof_text.specs.Within.{IsShallow};
 
 use arrayvec::ArrayVec;
-use tt_paths::MAX_FACTS;
+use tt_facts_path::MAX_FACTS;
 use tt_proof_read::Node;
 
 /// The maximum number of second children that can be pending at once.

@@ -7,7 +7,7 @@ ghost use Rattle.tt_proof_text.specs.Numbers.{IsNarrow, IsNarrowWho, IsNarrowPat
 ghost use Rattle.tt_proof_text.specs.Written.{tail_text};
 
 use std::alloc::AllocError;
-use tt_paths::{Pattern, Who};
+use tt_facts_path::{Pattern, Who};
 use tt_proof_read::{COURSE_LETTER, CURRICULUM_LETTER, DAY_LETTER, PERIOD_LETTER, ROOM_LETTER};
 use tt_text::{put_next_number, put_next_token, put_number, put_token};
 

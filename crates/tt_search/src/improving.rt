@@ -17,10 +17,10 @@ use crate::walking::{Walker, walk};
 use crate::watch::{Span, Unwatched, Watch};
 use rand_pcg::Pcg32;
 use std::alloc::{AllocError, Global};
-use tt_descend::descend_in;
 use tt_instance::Instance;
+use tt_moves_descend::descend_in;
 use tt_occupancy::Occupied;
-use tt_replan::{Replanner, can_replan};
+use tt_search_replan::{Replanner, can_replan};
 use tt_table::Timetable;
 
 /// Walks from the best timetable, and then returns to the best one so far. No memory is allocated.

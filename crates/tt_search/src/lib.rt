@@ -26,6 +26,6 @@ mod watch;
 pub use improving::{improve, improve_watched};
 pub use pair::Pair;
 pub use runs::improve_in_runs;
-pub use tt_construct::construct;
-pub use tt_descend::{Descent, descend};
+pub use tt_moves_descend::{Descent, descend};
+pub use tt_search_construct::construct;
 pub use watch::{Progress, Unit, Unwatched, Watch};

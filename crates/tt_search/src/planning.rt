@@ -12,7 +12,7 @@ use crate::watch::{Span, Watch};
 use rand_pcg::Pcg32;
 use tt_moves::{Step, apply, can_step};
 use tt_occupancy::Occupied;
-use tt_replan::Replanner;
+use tt_search_replan::Replanner;
 
 /// The number of plans between two reports to the watch.
 const PLANS_BETWEEN: u64 = 32;

@@ -2,9 +2,9 @@
 
 use std::alloc::Global;
 use std::test::Fail;
-use tt_samples::{MINI, edited};
-use tt_test_files::StoredFile;
-use tt_test_runs::{Outcome, run_with};
+use tt_tests_files::StoredFile;
+use tt_tests_runs::{Outcome, run_with};
+use tt_tests_samples::{MINI, edited};
 
 /// Mini's first course in the first period, and its second course in the next.
 const SOLUTION: &str = "a R 0 0 b R 0 1";

@@ -5,9 +5,9 @@ use std::io;
 use std::io::{Error, ErrorKind, Write};
 use std::test::Fail;
 use tt_app_run::run;
-use tt_samples::{GAP, GAP_PROOF, MINI_SOLUTION, WIDE, WIDE_SOLUTION};
-use tt_test_files::{Disk, MemoryFiles, Refusal, StoredFile};
-use tt_test_runs::{run_on, run_with};
+use tt_tests_files::{Disk, MemoryFiles, Refusal, StoredFile};
+use tt_tests_runs::{run_on, run_with};
+use tt_tests_samples::{GAP, GAP_PROOF, MINI_SOLUTION, WIDE, WIDE_SOLUTION};
 
 const PROOF: &[u8] = b"CTTP 1 bound 5 B D c0 ; end";
 

@@ -2,9 +2,9 @@
 
 use std::alloc::Global;
 use std::test::Fail;
-use tt_samples::{MINI, SAME, TRIO, edited};
-use tt_test_files::StoredFile;
-use tt_test_runs::{Outcome, run_with};
+use tt_tests_files::StoredFile;
+use tt_tests_runs::{Outcome, run_with};
+use tt_tests_samples::{MINI, SAME, TRIO, edited};
 
 /// Returns the outcome of `inspect` for an instance.
 fn inspected(alloc: Global, instance: &str) -> Result<Outcome, Fail> {

@@ -7,8 +7,8 @@ use tt_instance::read_instance;
 use tt_leaf_rules::Bound;
 use tt_proof_check::check_proof;
 use tt_rules::score;
-use tt_samples::{GAP, GAP_PROOF, MINI_SOLUTION};
 use tt_table::read_solution;
+use tt_tests_samples::{GAP, GAP_PROOF, MINI_SOLUTION};
 use tt_text::Pieces;
 
 /// Returns the cost of a solution, and the bound of a proof.

@@ -5,9 +5,9 @@ use std::alloc::Global;
 use std::test::Fail;
 use tt_app::{AppFault, page};
 use tt_page::put_shown;
-use tt_samples::{MINI, MINI_SOLUTION, edited};
-use tt_test_files::{MemoryFiles, Refusal};
-use tt_test_runs::{Outcome, run_on};
+use tt_tests_files::{MemoryFiles, Refusal};
+use tt_tests_runs::{Outcome, run_on};
+use tt_tests_samples::{MINI, MINI_SOLUTION, edited};
 use tt_text::{Sink, Writing};
 
 /// Both courses of Mini in one period, and one of them again in another.

@@ -2,9 +2,9 @@
 
 use std::alloc::Global;
 use std::test::Fail;
-use tt_samples::{FLAT, GAP};
-use tt_test_files::{MemoryFiles, Refusal};
-use tt_test_runs::{Outcome, run_on};
+use tt_tests_files::{MemoryFiles, Refusal};
+use tt_tests_runs::{Outcome, run_on};
+use tt_tests_samples::{FLAT, GAP};
 
 fn parted(alloc: Global, memory: &MemoryFiles) -> Result<Outcome, Fail> {
     let words = ["parts", "a.ctt", "found", "--nodes", "100"];

@@ -6,9 +6,9 @@ use std::io::{Error, ErrorKind, Write};
 use std::test::Fail;
 use tt_app::{AppFault, report};
 use tt_report::By;
-use tt_samples::MINI;
-use tt_test_files::StoredFile;
-use tt_test_runs::{Outcome, run_with};
+use tt_tests_files::StoredFile;
+use tt_tests_runs::{Outcome, run_with};
+use tt_tests_samples::MINI;
 use tt_text::{Sink, Writing};
 
 /// Mini's first course in the first period, and its second course in the next.

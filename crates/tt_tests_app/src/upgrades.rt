@@ -6,11 +6,11 @@ use tt_instance::read_instance;
 use tt_leaf_rules::Bound;
 use tt_proof_check::check_nodes;
 use tt_proof_text::write_proof;
-use tt_samples::{GAP, GAP_PROOF, SEATS, edited};
-use tt_test_files::{MemoryFiles, Refusal};
-use tt_test_runs::{Outcome, run_on};
+use tt_proof_upgrade::parse_proof;
+use tt_tests_files::{MemoryFiles, Refusal};
+use tt_tests_runs::{Outcome, run_on};
+use tt_tests_samples::{GAP, GAP_PROOF, SEATS, edited};
 use tt_text::Pieces;
-use tt_upgrade::parse_proof;
 
 const OLDER: &str = "an older file";
 

@@ -1,9 +1,9 @@
 //! The output of `validate` for a solution.
 
 use std::test::Fail;
-use tt_samples::{LONG, MINI, TOUR, TRIO, edited, repeated};
 use tt_table::MAX_ENTRIES;
-use tt_test_runs::validated;
+use tt_tests_runs::validated;
+use tt_tests_samples::{LONG, MINI, TOUR, TRIO, edited, repeated};
 
 #[test]
 fn ten_lines_and_a_status(rt: HostRuntime) -> Result<(), Fail> {

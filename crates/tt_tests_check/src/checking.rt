@@ -4,8 +4,8 @@ use std::test::Fail;
 use tt_app::{AppFault, check};
 use tt_proof_check::CheckFault;
 use tt_proof_read::TextFault;
-use tt_samples::{MINI, WIDE, WIDE_SOLUTION, edited};
-use tt_test_runs::{checked, run_with};
+use tt_tests_runs::{checked, run_with};
+use tt_tests_samples::{MINI, WIDE, WIDE_SOLUTION, edited};
 use tt_text::{FeedFault, Pieces, Source};
 
 const WIDE_PROOF: &str = "CTTP 1 bound 5 B D c0 ; end";

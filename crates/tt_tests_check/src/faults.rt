@@ -9,10 +9,10 @@ use tt_leaf_rules::RuleFault;
 use tt_proof_check::{CertifyFault, CheckFault, NodesFault};
 use tt_proof_read::{TextFault, Word as ProofWord};
 use tt_proof_text::WriteFault;
+use tt_proof_upgrade::UpgradeFault;
 use tt_report::ReportFault;
 use tt_table::{PushFault, SolutionFault};
 use tt_text::FeedFault;
-use tt_upgrade::UpgradeFault;
 
 #[test]
 fn of_instances(rt: HostRuntime) -> Result<(), Fail> {

@@ -1,8 +1,8 @@
 //! Refusals: the first error, on standard error, with status 2.
 
 use std::test::Fail;
-use tt_samples::{MINI, WIDE, WIDE_SOLUTION, edited};
-use tt_test_runs::{checked, validated};
+use tt_tests_runs::{checked, validated};
+use tt_tests_samples::{MINI, WIDE, WIDE_SOLUTION, edited};
 
 /// Mini with other words in one place, and the reason why it is refused.
 const INSTANCES: [(&str, &str, &str); 15] = [

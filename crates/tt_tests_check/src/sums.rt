@@ -3,9 +3,9 @@
 use crate::refusing::PROOFS;
 use std::alloc::Global;
 use std::test::Fail;
-use tt_samples::{GAP, GAP_PROOF, MINI, SAME, WIDE, WIDE_SOLUTION, edited};
-use tt_test_files::StoredFile;
-use tt_test_runs::{Outcome, run_with};
+use tt_tests_files::StoredFile;
+use tt_tests_runs::{Outcome, run_with};
+use tt_tests_samples::{GAP, GAP_PROOF, MINI, SAME, WIDE, WIDE_SOLUTION, edited};
 
 /// The room of Mini lacks one seat for its second course.
 const SEATS: &str = "CTTP 1 bound 1 B C c1 1 ; end";

@@ -3,14 +3,16 @@
 use std::alloc::Global;
 use std::test::Fail;
 use tt_app::{AppFault, check};
+use tt_facts_path::{Pattern, Who};
 use tt_instance::read_instance;
 use tt_leaf_rules::{Bound, Leaf, RuleFault};
-use tt_paths::{Pattern, Who};
 use tt_proof_check::{CheckFault, NodesFault, check_nodes};
 use tt_proof_read::{Node, TextFault};
-use tt_samples::{APART, CROWDED, GAP, GAP_PROOF, MINI, SAME, SEATS, TOUR, WIDE, edited, repeated};
-use tt_test_files::StoredFile;
-use tt_test_runs::{Outcome, checked, run_with};
+use tt_tests_files::StoredFile;
+use tt_tests_runs::{Outcome, checked, run_with};
+use tt_tests_samples::{
+    APART, CROWDED, GAP, GAP_PROOF, MINI, SAME, SEATS, TOUR, WIDE, edited, repeated,
+};
 use tt_text::{FeedFault, Pieces};
 
 fn bounded(alloc: Global, instance: &str, proof: &str) -> Result<Outcome, Fail> {

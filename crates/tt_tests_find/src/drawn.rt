@@ -8,10 +8,10 @@ use crate::judged::is_closed;
 use std::alloc::{AllocError, Global};
 use std::test::Fail;
 use tt_facts::TrailPath;
+use tt_facts_path::{Fact, Path, Pattern, PlainPath, Who};
 use tt_instance::read_instance;
 use tt_leaf_rules::Bound;
-use tt_paths::{Fact, Path, Pattern, PlainPath, Who};
-use tt_samples::{GAP, MINI, SAME, SEATS, TOUR, TRIO};
+use tt_tests_samples::{GAP, MINI, SAME, SEATS, TOUR, TRIO};
 
 /// The number of random paths for each instance.
 const PATHS: u64 = 60;

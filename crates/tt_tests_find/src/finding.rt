@@ -4,11 +4,11 @@ use crate::checked::leaf_after;
 use std::alloc::Global;
 use std::test::Fail;
 use tt_facts::TrailPath;
+use tt_facts_path::{Fact, Pattern, PlainPath, Who};
 use tt_instance::{Instance, read_instance};
 use tt_leaf::best_claims;
 use tt_leaf_rules::{Bound, Claim, Leaf};
-use tt_paths::{Fact, Pattern, PlainPath, Who};
-use tt_samples::{GAP, WIDE, edited};
+use tt_tests_samples::{GAP, WIDE, edited};
 
 /// Returns a yes-fact of the first course in a period of the first day.
 fn first_course_in(period: u32) -> Fact {

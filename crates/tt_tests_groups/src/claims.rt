@@ -7,9 +7,9 @@ use std::test::Fail;
 use tt_groups_check::GroupFault;
 use tt_instance::read_instance;
 use tt_leaf_rules::Bound;
-use tt_peek::Peeked;
-use tt_sum::{GroupsFault, SumFault, sum_proofs};
+use tt_proof_sum::{GroupsFault, SumFault, sum_proofs};
 use tt_text::Pieces;
+use tt_text_peek::Peeked;
 
 /// The number of random groups.
 const GROUPS: u64 = 500;

@@ -2,9 +2,9 @@
 
 use std::alloc::Global;
 use std::test::Fail;
-use tt_groups_find::{find_groups, write_groups};
 use tt_groups_read::GroupReader;
 use tt_instance::{Instance, read_instance};
+use tt_parts_groups::{find_groups, write_groups};
 use tt_search::Unwatched;
 use tt_table::Entry;
 use tt_text::Pieces;

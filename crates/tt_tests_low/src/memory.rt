@@ -6,8 +6,8 @@ use tt_instance::{read_instance, write_instance};
 use tt_leaf_rules::{Bound, ClaimList, Leaf};
 use tt_proof_read::{Node, NodeReader, TextFault};
 use tt_proof_text::write_proof;
-use tt_samples::{GAP, GAP_PROOF, MARK, MINI, MINI_SOLUTION};
 use tt_table::{Entry, PushFault, Timetable, read_solution, write_solution};
+use tt_tests_samples::{GAP, GAP_PROOF, MARK, MINI, MINI_SOLUTION};
 use tt_text::{
     Feed, Pieces, put_line_end, put_next_number, put_next_token, put_number, put_token, read_whole,
 };

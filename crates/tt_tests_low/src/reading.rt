@@ -3,7 +3,7 @@
 use std::alloc::{AllocError, Global};
 use std::test::Fail;
 use tt_instance::{Instance, InstanceFault, read_instance, write_instance};
-use tt_samples::{GAP, MINI, TOUR, TRIO, WIDE, edited};
+use tt_tests_samples::{GAP, MINI, TOUR, TRIO, WIDE, edited};
 use tt_text::{Pieces, Source, WholeFault, read_whole};
 
 /// Returns the text that is written for the instance that a text spells.

@@ -7,7 +7,7 @@ use std::test::Fail;
 use tt_instance::{Instance, read_instance};
 use tt_leaf_rules::Bound;
 use tt_proof_read::{NodeReader, TextFault};
-use tt_samples::{MINI, WIDE};
+use tt_tests_samples::{MINI, WIDE};
 use tt_text::{Feed, FeedFault, Pieces, ReadFailed, Reading, Source, WholeFault, read_whole};
 
 /// A reader whose first read is interrupted.

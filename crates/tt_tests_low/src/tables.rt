@@ -4,8 +4,8 @@ use std::alloc::Global;
 use std::test::Fail;
 use tt_instance::{Instance, read_instance};
 use tt_rules::score;
-use tt_samples::{MINI, repeated};
 use tt_table::{Entry, MAX_ENTRIES, PushFault, Timetable, read_solution, write_solution};
+use tt_tests_samples::{MINI, repeated};
 
 /// A lecture of Mini's first course, and a lecture of its second course.
 const ENTRIES: [Entry; 2] = [

@@ -5,17 +5,17 @@ use std::alloc::{AllocError, Global};
 use std::test::Fail;
 use tt_app::{Answer, check, improve, page, report, solve, upgrade, validate};
 use tt_facts::TrailPath;
+use tt_facts_path::{Pattern, PlainPath, Who};
 use tt_instance::{Instance, read_instance};
 use tt_leaf::{best_claims, find_leaf};
 use tt_leaf_rules::{Bound, Claim, ClaimList, Leaf};
 use tt_page::put_shown;
-use tt_paths::{Pattern, PlainPath, Who};
 use tt_proof_check::{NodesFault, Verdict, certify, check_nodes, check_proof};
 use tt_proof_read::Node;
+use tt_proof_upgrade::parse_proof;
 use tt_report::By;
-use tt_samples::{GAP, GAP_PROOF, MARK, MINI, MINI_SOLUTION};
+use tt_tests_samples::{GAP, GAP_PROOF, MARK, MINI, MINI_SOLUTION};
 use tt_text::{Pieces, Writing};
-use tt_upgrade::parse_proof;
 
 const YES: &str = "yes cost 5 bound 5 optimal\n";
 
@@ -198,7 +198,7 @@ fn the_call_upgrade(rt: HostRuntime) -> Result<(), Fail> {
     let instance = read_instance(rt.alloc(), GAP.as_bytes())?;
     let mut proof = gap_proof();
     println!(rt; "{MARK}")?;
-    let upgraded = tt_upgrade::upgrade(rt.alloc(), &instance, &mut proof);
+    let upgraded = tt_proof_upgrade::upgrade(rt.alloc(), &instance, &mut proof);
     println!(rt; "{MARK}")?;
     assert_eq!(rt; upgraded?.bytes.len(), GAP_PROOF.len());
     Ok(())

@@ -8,9 +8,9 @@ use tt_instance::read_instance;
 use tt_moves::{Chain, ChainFault, chain};
 use tt_occupancy::{Occupied, Refused};
 use tt_rules::score;
-use tt_samples::{MARK, MINI, MINI_SOLUTION};
 use tt_search::{construct, descend, improve};
 use tt_table::{Entry, read_solution};
+use tt_tests_samples::{MARK, MINI, MINI_SOLUTION};
 
 /// The entries of Mini's solution.
 const ENTRIES: [Entry; 2] = [

@@ -9,7 +9,7 @@ use tt_moves::{
     swap_chain, undo,
 };
 use tt_occupancy::Occupied;
-use tt_samples::{MINI, MINI_SOLUTION, TOUR, edited};
+use tt_tests_samples::{MINI, MINI_SOLUTION, TOUR, edited};
 
 /// Two courses that do not conflict, two rooms and two periods.
 const PAIR: &str =

@@ -7,7 +7,7 @@ use std::alloc::Global;
 use std::test::Fail;
 use tt_instance::{Instance, read_instance};
 use tt_occupancy::Occupied;
-use tt_samples::{MINI, MINI_SOLUTION};
+use tt_tests_samples::{MINI, MINI_SOLUTION};
 
 /// Returns the hard count and the cost.
 fn pair(occupied: &Occupied<'_, '_>) -> (u64, u64) {

@@ -5,10 +5,10 @@ use std::test::Fail;
 use tt_instance::read_instance;
 use tt_leaf_rules::Bound;
 use tt_parts::{Effort, find_parts};
-use tt_peek::Peeked;
-use tt_samples::{GAP, MINI, WIDE};
-use tt_sum::sum_proofs;
+use tt_proof_sum::sum_proofs;
+use tt_tests_samples::{GAP, MINI, WIDE};
 use tt_text::Pieces;
+use tt_text_peek::Peeked;
 
 /// Two curricula without a course in common. Each has a course of three lectures on three days and a helper of one lecture: two of the
 /// three lectures are isolated.

@@ -13,10 +13,10 @@ use crate::answer::Answer;
 use crate::fault::AppFault;
 use crate::lines::pair_line;
 use std::alloc::{AllocError, Global};
-use tt_complete::complete;
 use tt_instance::{Instance, read_instance};
 use tt_rules::score;
 use tt_search::{Unwatched, Watch};
+use tt_search_complete::complete;
 use tt_table::{Timetable, read_solution, write_solution};
 
 fn table_answer(

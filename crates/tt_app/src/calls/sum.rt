@@ -4,9 +4,9 @@ ghost use Rattle.std.specs.Prelude.{◌≡◌, ◌+◌, ◌<◌, ◌^◌, ℕ, L
 ghost use Rattle.tt_instance.specs.Problem.{Problem};
 ghost use Rattle.tt_instance.specs.Spelling.{Spells};
 ghost use Rattle.tt_leaf_rules.specs.declared.leaf.Bound.{Bound};
-ghost use Rattle.tt_sum.specs.Added.{Give};
-ghost use Rattle.tt_sum.specs.Faults.{IsSumFault, all_points};
-ghost use Rattle.tt_sum.specs.Sums.{IsSum};
+ghost use Rattle.tt_proof_sum.specs.Added.{Give};
+ghost use Rattle.tt_proof_sum.specs.Faults.{IsSumFault, all_points};
+ghost use Rattle.tt_proof_sum.specs.Sums.{IsSum};
 ghost use Rattle.tt_app.specs.Bounded.{IsOfInstance};
 ghost use Rattle.tt_app.specs.Summed.{IsSpelledAndFileJudgedUpToFailedRead, IsSummed, IsSumRefusal, AnswersSum, read_failed_at};
 ghost use Rattle.tt_app.specs.FaultMaps.{OutOfMemoryIsOneFault};
@@ -16,8 +16,8 @@ use crate::calls::bound::bound_answer;
 use crate::fault::AppFault;
 use std::alloc::Global;
 use tt_instance::read_instance;
-use tt_peek::Peek;
-use tt_sum::{SumFault, sum_proofs};
+use tt_proof_sum::{SumFault, sum_proofs};
+use tt_text_peek::Peek;
 
 impl From<SumFault> for AppFault {
     ghost use Rattle.std.specs.Prelude.{◌≡◌};

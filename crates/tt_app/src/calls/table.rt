@@ -11,8 +11,8 @@ ghost use Rattle.tt_app.specs.declared.fault.AppFault.TheVariants as fault;
 use crate::answer::Answer;
 use crate::fault::AppFault;
 use std::alloc::Global;
-use tt_export::write_table;
 use tt_instance::read_instance;
+use tt_report_export::write_table;
 use tt_table::read_solution;
 
 /// Returns the solution of an instance as comma-separated values, with a row for each entry; the status is 0.

@@ -15,8 +15,8 @@ use crate::fault::AppFault;
 use crate::lines::bound_line;
 use std::alloc::{AllocError, Global};
 use tt_instance::read_instance;
+use tt_proof_upgrade::Upgraded;
 use tt_text::Source;
-use tt_upgrade::Upgraded;
 
 fn upgraded_answer(alloc: Global, upgraded: Upgraded) -> Result<Answer, AllocError>
     ensures { IfOk result (λ a. IsUpgradeAnswer a upgraded.bound upgraded.bytes.items) }
@@ -50,6 +50,6 @@ pub fn upgrade<R: Source>(alloc: Global, instance: &[u8], proof: &mut R) -> Resu
     ensures memory { IfErr result OutOfMemoryIsOneFault }
 {
     let instance = read_instance(alloc, instance)?;
-    let upgraded = tt_upgrade::upgrade(alloc, &instance, proof)?;
+    let upgraded = tt_proof_upgrade::upgrade(alloc, &instance, proof)?;
     Ok(upgraded_answer(alloc, upgraded)?)
 }

@@ -2,7 +2,7 @@ use Rattle.std.proofs.Common.{◌≡◌, ℕ, Err, refl, sym, ap, subst, ◌∙�
 use Rattle.std.proofs.lemmas.Result.{err_from_is_err_and}
 use Rattle.tt_proof_check.proofs.TextFaults.{err_same}
 use Rattle.tt_proof_check.proofs.Certifying.{points, no_points, is_feasible, not_broken, broken_found}
-use Rattle.tt_sum.specs.Added.{Give}
+use Rattle.tt_proof_sum.specs.Added.{Give}
 use Rattle.tt_app.specs.Summed.{IsSumYes, read_failed_at}
 use Rattle.tt_app.proofs.Answering.{yes_same}
 use Rattle.tt_app.proofs.Files.{tells_instance, tells_solution, only_memory}

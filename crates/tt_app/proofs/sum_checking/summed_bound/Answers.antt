@@ -2,7 +2,7 @@ use Rattle.std.proofs.Common.{◌≡◌, Err, ap}
 use Rattle.std.proofs.lemmas.Result.{err_from_is_err_and}
 use Rattle.tt_leaf_rules.specs.declared.leaf.Bound.TheVariants.{AtLeast}
 use Rattle.tt_proof_check.proofs.TextFaults.{err_same}
-use Rattle.tt_sum.specs.Faults.{read_failed_at}
+use Rattle.tt_proof_sum.specs.Faults.{read_failed_at}
 use Rattle.tt_app.proofs.sum_checking.summed_bound.Goals as goal
 
 pub returns-in_err-bound-clause-only : goal.returns-in_err-bound-clause-only

@@ -1,4 +1,4 @@
-use Rattle.tt_paths.specs.Live.{is_live}
+use Rattle.tt_facts_path.specs.Live.{is_live}
 use Rattle.std.proofs.Common.{◌++◌, sym, ap, ◌∙◌}
 use Rattle.std.specs.Prelude.{filter}
 use Rattle.tt_lists.proofs.Growing.{kept_more}

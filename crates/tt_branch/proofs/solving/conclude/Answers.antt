@@ -4,7 +4,7 @@ use Rattle.std.proofs.lemmas.Bool.{not_from_false}
 use Rattle.tt_instance.specs.Problem.{Problem}
 use Rattle.tt_instance.specs.Limits.{IsInstance}
 use Rattle.tt_instance.specs.declared.cell.Cell.{Cell}
-use Rattle.tt_paths.specs.Live.{least}
+use Rattle.tt_facts_path.specs.Live.{least}
 use Rattle.tt_leaf_rules.specs.declared.leaf.Bound.{Bound}
 use Rattle.tt_proof_check.specs.Derives.{HoldsOfAll, Proves}
 use Rattle.tt_proof_check.specs.Nodes.{IsNodeOf}

@@ -2,7 +2,7 @@ use Rattle.std.proofs.Common.{◌≡◌, ◌≤◌, ◌<◌, [], ◌++◌, lengt
 use Rattle.std.specs.Prelude.{All}
 use Rattle.std.specs.List.{filter_map, cons_option}
 use Rattle.tt_instance.specs.Cells.{all_slots}
-use Rattle.tt_paths.specs.Live.{least_excess}
+use Rattle.tt_facts_path.specs.Live.{least_excess}
 use Rattle.tt_lists.proofs.Given.{filter_map_more, All-option}
 use Rattle.tt_leaf.proofs.prices.least_excesses.Goals as goal
 

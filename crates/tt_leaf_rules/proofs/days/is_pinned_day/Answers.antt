@@ -3,8 +3,8 @@ use Rattle.std.specs.List.{list_any}
 use Rattle.tt_bits.specs.Bits.{has_bit, bits}
 use Rattle.tt_bits.proofs.Counts.{any-set}
 use Rattle.tt_instance.specs.Cells.{slot}
-use Rattle.tt_paths.specs.Live.{pinned}
-use Rattle.tt_paths.specs.declared.facts.Who.TheVariants.{Course}
+use Rattle.tt_facts_path.specs.Live.{pinned}
+use Rattle.tt_facts_path.specs.declared.facts.Who.TheVariants.{Course}
 use Rattle.tt_leaf_rules.proofs.days.is_pinned_day.Goals as goal
 
 not_not : (b : Bool) → not (not b) ≡ b

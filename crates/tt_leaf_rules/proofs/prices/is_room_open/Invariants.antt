@@ -1,7 +1,7 @@
 use Rattle.std.proofs.Common.{◌≡◌, false, take}
 use Rattle.std.specs.List.{list_any}
 use Rattle.tt_instance.specs.Cells.{slot, cell}
-use Rattle.tt_paths.specs.Live.{is_live}
+use Rattle.tt_facts_path.specs.Live.{is_live}
 use Rattle.tt_leaf_rules.proofs.prices.is_room_open.Given as goal
 
 abbrev pub invariant-loop-course : goal.invariant-loop-course

@@ -3,7 +3,7 @@ use Rattle.std.specs.List.{list_any}
 use Rattle.tt_instance.specs.Cells.{cell, all_slots}
 use Rattle.tt_instance.specs.declared.cell.Slot.{Slot}
 use Rattle.tt_instance.proofs.Slots.{slots_count_yes, slots_count_no}
-use Rattle.tt_paths.specs.Live.{is_live}
+use Rattle.tt_facts_path.specs.Live.{is_live}
 use Rattle.tt_leaf_rules.proofs.prices.open_in.Goals as goal
 use Rattle.tt_leaf_rules.proofs.prices.open_in.Goals.{then-is_room_open, else-is_room_open}
 

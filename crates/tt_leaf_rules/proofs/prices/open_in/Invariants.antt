@@ -2,7 +2,7 @@ use Rattle.std.proofs.Common.{◌≡◌, ◌≤◌, take}
 use Rattle.std.specs.Prelude.{count_by}
 use Rattle.std.specs.List.{list_any}
 use Rattle.tt_instance.specs.Cells.{cell, all_slots}
-use Rattle.tt_paths.specs.Live.{is_live}
+use Rattle.tt_facts_path.specs.Live.{is_live}
 use Rattle.tt_leaf_rules.proofs.prices.open_in.Given as goal
 
 abbrev pub invariant-loop-place : goal.invariant-loop-place

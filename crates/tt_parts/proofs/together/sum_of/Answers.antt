@@ -4,7 +4,7 @@ use Rattle.std.specs.Io.KnownBytes.{prepend_known}
 use Rattle.std.specs.List.{AllZip}
 use Rattle.std.proofs.lemmas.List.{take_all}
 use Rattle.tt_text.specs.Sources.{Cut}
-use Rattle.tt_peek.specs.declared.peeked.Peeked.{Peeked}
+use Rattle.tt_text_peek.specs.declared.peeked.Peeked.{Peeked}
 use Rattle.tt_parts.specs.Found.{texts_of}
 use Rattle.tt_parts.proofs.Sources.{Gives, sources_more}
 use Rattle.tt_parts.proofs.together.sum_of.Goals as goal

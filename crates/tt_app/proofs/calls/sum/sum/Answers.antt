@@ -1,7 +1,7 @@
 use Rattle.std.proofs.Common.{◌≡◌, Err, ap, subst}
 use Rattle.std.proofs.lemmas.Result.{err_from_is_err_and}
 use Rattle.tt_proof_check.proofs.TextFaults.{err_same}
-use Rattle.tt_sum.specs.Added.{Give}
+use Rattle.tt_proof_sum.specs.Added.{Give}
 use Rattle.tt_app.specs.Bounded.{IsBoundAnswer}
 use Rattle.tt_app.specs.Summed.{read_failed_at}
 use Rattle.tt_app.proofs.ToldMemory.{memory_instance}

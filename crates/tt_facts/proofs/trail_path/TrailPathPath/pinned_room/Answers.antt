@@ -1,6 +1,6 @@
 use Rattle.std.proofs.Common.{ap, ◌∙◌}
-use Rattle.tt_paths.specs.Paths.{Facts}
-use Rattle.tt_paths.specs.Live.{pinned_room}
+use Rattle.tt_facts_path.specs.Paths.{Facts}
+use Rattle.tt_facts_path.specs.Live.{pinned_room}
 use Rattle.tt_facts.proofs.Halving.{room_pinned_by_yes, by_halves}
 use Rattle.tt_facts.proofs.trail_path.TrailPathPath.pinned_room.Goals as goal
 

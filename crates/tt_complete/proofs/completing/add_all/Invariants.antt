@@ -1,5 +1,0 @@
-use Rattle.tt_complete.specs.Progress.{IsCompletedTo}
-use Rattle.tt_complete.proofs.completing.add_all.Given as goal
-
-abbrev pub invariant-loop-course : goal.invariant-loop-course
-invariant-loop-course l = IsCompletedTo l.instance l.course l.initial.table l.table

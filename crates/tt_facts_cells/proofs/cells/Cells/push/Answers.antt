@@ -1,0 +1,28 @@
+use Rattle.std.proofs.Common.{◌≡◌, [], ◌∷◌, ◌++◌, length, ap, ◌∙◌, subst, sym, arith}
+use Rattle.std.proofs.Common.{length-append}
+use Rattle.tt_facts_path.specs.Paths.{Facts}
+use Rattle.tt_facts_cells.specs.Shown.{yes_facts, AreTables}
+use Rattle.tt_facts_cells.proofs.Kept.{earlier_pushed}
+use Rattle.tt_facts_cells.proofs.cells.Cells.push.Goals as goal
+
+pub invariant_of-self-in_default : goal.invariant_of-self-in_default
+invariant_of-self-in_default c =
+    let s = c.self.inside in
+    let p = s.instance.now in
+    let f = c.args.fact in
+    let old = s.facts.items in
+    let facts = c.list_fact.new.facts.items in
+    let free = c.add.new.free.words in
+    let live = c.add.new.live.words in
+    let e : facts ≡ old ++ f ∷ [] = c.in_ok-list_fact.ensures.ok in
+    let listed : c.as_slice.result.now ≡ yes_facts (old ++ f ∷ []) = c.as_slice.ensures.value ∙ c.list_fact.ensures.yes ∙ ap yes_facts e in
+    let before = c.self.invariant.tables in
+    let kept = earlier_pushed p old f s.free.earlier s.live.earlier s.free.words s.live.words before c.self.invariant.earlier in
+    record {
+      links = c.self.invariant.links;
+      order = c.self.invariant.order;
+      depth = omega (arith, ap length e, length-append old (f ∷ []), ap (λ (v : Facts). length v.facts) c.self.view_is);
+      yes = c.list_fact.ensures.yes;
+      tables = subst (λ l. AreTables p l free live) (sym e) (c.in_default.ensures.ok.added old listed before);
+      earlier = rw (e, c.in_default.ensures.kept_free, c.in_default.ensures.kept_live) kept;
+    }

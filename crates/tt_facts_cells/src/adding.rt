@@ -1,0 +1,97 @@
+//! Adding a fact.
+
+ghost use Rattle.std.specs.Prelude.{◌≡◌, false, [], ◌∷◌, ◌++◌, OnOk, OnErr};
+ghost use Rattle.tt_instance_links.specs.Linked.{AreConflicts};
+ghost use Rattle.tt_facts_cell_set.specs.Tables.{IsTable};
+ghost use Rattle.tt_facts_cells.specs.Shown.{Adds};
+
+use crate::again::settle_again;
+use crate::barring::remove_matched;
+use crate::settling::settle;
+use std::alloc::AllocError;
+use tt_facts_path::{Fact, Pattern};
+use tt_instance::Instance;
+use tt_instance_links::Conflicts;
+use tt_trail::Trail;
+
+/// Changes both tables for a no-fact, the last of the facts. `yes` has the patterns of the yes-facts.
+fn deny(
+    instance: &Instance<'_>,
+    links: &Conflicts,
+    free: &mut Trail,
+    live: &mut Trail,
+    yes: &[Pattern],
+    fact: &Fact,
+) -> Result<(), AllocError>
+    requires links { AreConflicts instance.now links.now }
+    requires no { fact.now.holds ≡ false }
+    requires free { IsTable instance.now free.old.words }
+    requires live { IsTable instance.now live.old.words }
+    ensures ok { OnOk result (Adds instance.now yes.now free.old.words live.old.words fact.now
+        free.new.words live.new.words) }
+    ensures same_free { free.new.earlier ≡ free.old.earlier }
+    ensures same_live { live.new.earlier ≡ live.old.earlier }
+{
+    remove_matched(instance, free, &fact.pattern)?;
+    remove_matched(instance, live, &fact.pattern)?;
+    settle_again(instance, links, free, live, yes, &fact.pattern)?;
+    Ok(())
+}
+
+/// Changes both tables for the last of the facts.
+fn change(
+    instance: &Instance<'_>,
+    links: &Conflicts,
+    free: &mut Trail,
+    live: &mut Trail,
+    yes: &[Pattern],
+    fact: &Fact,
+) -> Result<(), AllocError>
+    requires links { AreConflicts instance.now links.now }
+    requires free { IsTable instance.now free.old.words }
+    requires live { IsTable instance.now live.old.words }
+    ensures ok { OnOk result (Adds instance.now yes.now free.old.words live.old.words fact.now
+        free.new.words live.new.words) }
+    ensures same_free { free.new.earlier ≡ free.old.earlier }
+    ensures same_live { live.new.earlier ≡ live.old.earlier }
+{
+    if fact.holds {
+        settle(instance, links, free, live, &fact.pattern)?;
+        Ok(())
+    } else {
+        deny(instance, links, free, live, yes, fact)?;
+        Ok(())
+    }
+}
+
+/// Marks both tables and changes them for the last of the facts.
+pub fn add(
+    instance: &Instance<'_>,
+    links: &Conflicts,
+    free: &mut Trail,
+    live: &mut Trail,
+    yes: &[Pattern],
+    fact: &Fact,
+) -> Result<(), AllocError>
+    requires links { AreConflicts instance.now links.now }
+    requires free { IsTable instance.now free.old.words }
+    requires live { IsTable instance.now live.old.words }
+    ensures ok { OnOk result (Adds instance.now yes.now free.old.words live.old.words fact.now
+        free.new.words live.new.words) }
+    ensures kept_free { OnOk result (free.new.earlier ≡ free.old.earlier ++ free.old.words ∷ []) }
+    ensures kept_live { OnOk result (live.new.earlier ≡ live.old.earlier ++ live.old.words ∷ []) }
+    ensures err_free { OnErr result (free.new ≡ free.old) }
+    ensures err_live { OnErr result (live.new ≡ live.old) }
+{
+    free.mark()?;
+    if let Err(fault) = live.mark() {
+        free.undo();
+        return Err(fault);
+    }
+    if let Err(fault) = change(instance, links, free, live, yes, fact) {
+        free.undo();
+        live.undo();
+        return Err(fault);
+    }
+    Ok(())
+}

@@ -1,0 +1,72 @@
+//! The older yes-facts after a no-fact.
+
+ghost use Rattle.std.specs.Prelude.{◌≡◌, OnOk};
+ghost use Rattle.tt_instance_links.specs.Linked.{AreConflicts};
+ghost use Rattle.tt_facts_cell_set.specs.Tables.{IsTable};
+ghost use Rattle.tt_facts_cells.specs.Touching.{may_agree, may_share, may_touch};
+ghost use Rattle.tt_facts_cells.specs.Shown.{Renews};
+
+use crate::settling::settle;
+use std::alloc::AllocError;
+use tt_facts_path::{Pattern, Who};
+use tt_instance::Instance;
+use tt_instance_links::Conflicts;
+use tt_trail::Trail;
+
+/// Returns whether some number agrees with both, as far as they are given.
+fn may_agree(first: Option<u32>, second: Option<u32>) -> bool
+    ensures { result ≡ may_agree first second }
+{
+    match (first, second) {
+        (Some(one), Some(other)) => one == other,
+        _ => true,
+    }
+}
+
+/// Returns whether some course may be meant by both; for two curricula this isn't checked.
+fn may_share(instance: &Instance<'_>, first: Who, second: Who) -> bool
+    ensures { result ≡ may_share instance.now first second }
+{
+    match (first, second) {
+        (Who::Course(one), Who::Course(other)) => one == other,
+        (Who::Course(one), Who::Curriculum(curriculum)) => instance.in_curriculum(curriculum, one),
+        (Who::Curriculum(curriculum), Who::Course(other)) => instance.in_curriculum(
+            curriculum, other,
+        ),
+        (Who::Curriculum(_), Who::Curriculum(_)) => true,
+    }
+}
+
+/// Returns whether some cell may be matched by both patterns.
+fn may_touch(instance: &Instance<'_>, first: &Pattern, second: &Pattern) -> bool
+    ensures { result ≡ may_touch instance.now first.now second.now }
+{
+    may_agree(first.room, second.room)
+        && may_agree(first.day, second.day)
+        && may_agree(first.period, second.period)
+        && may_share(instance, first.who, second.who)
+}
+
+/// Removes the live cells that the yes-facts of these patterns exclude now, after a no-fact of this pattern.
+pub fn settle_again(
+    instance: &Instance<'_>,
+    links: &Conflicts,
+    free: &Trail,
+    live: &mut Trail,
+    yes: &[Pattern],
+    pattern: &Pattern,
+) -> Result<(), AllocError>
+    requires links { AreConflicts instance.now links.now }
+    requires free { IsTable instance.now free.now.words }
+    requires live { IsTable instance.now live.old.words }
+    ensures ok { OnOk result (Renews instance.now yes.now free.now.words live.old.words pattern.now live.new.words) }
+    ensures same { live.new.earlier ≡ live.old.earlier }
+{
+    for older in yes {
+        if !may_touch(instance, older, pattern) {
+            continue;
+        }
+        settle(instance, links, free, live, older)?;
+    }
+    Ok(())
+}

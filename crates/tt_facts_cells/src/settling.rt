@@ -1,0 +1,192 @@
+//! The live cells that a yes-fact removes.
+
+ghost use Rattle.std.specs.Prelude.{◌≡◌, ◌<◌, ◌≤◌, ◌*◌, [], ◌∷◌, length, Some, OnOk};
+ghost use Rattle.tt_facts_path.specs.Nested.{courses_of};
+ghost use Rattle.tt_instance_links.specs.Linked.{AreConflicts};
+ghost use Rattle.tt_facts_cell_set.specs.Tables.{IsTable};
+ghost use Rattle.tt_facts_cells.specs.Slots.{is_left_in, Covers, IsFirst};
+ghost use Rattle.tt_facts_cells.specs.Shown.{Settles};
+
+use crate::courses::courses_of;
+use crate::killing::{kill_by_links, kill_one};
+use crate::periods::{first_left, is_left, slots_of};
+use std::alloc::AllocError;
+use tt_facts_cell_set::{Rooms, common_rooms, remove_all};
+use tt_facts_path::Pattern;
+use tt_instance::Instance;
+use tt_instance_links::Conflicts;
+use tt_trail::Trail;
+
+/// Removes the live cells that a pattern excludes, if its first free period is this one.
+fn settle_from(
+    instance: &Instance<'_>,
+    links: &Conflicts,
+    free: &Trail,
+    live: &mut Trail,
+    pattern: &Pattern,
+    courses: &[u32],
+    from: u32,
+    slot: u32,
+    to: u32,
+) -> Result<(), AllocError>
+    requires links { AreConflicts instance.now links.now }
+    requires courses { courses.now ≡ courses_of instance.now pattern.now.who }
+    requires covers { Covers instance.now pattern.now from to }
+    requires first { IsFirst (is_left_in instance.now free.now.words pattern.now courses.now) from to slot }
+    requires free { IsTable instance.now free.now.words }
+    requires live { IsTable instance.now live.old.words }
+    ensures ok { OnOk result (Settles instance.now free.now.words live.old.words pattern.now live.new.words) }
+    ensures same { live.new.earlier ≡ live.old.earlier }
+{
+    let periods = instance.periods();
+    match first_left(instance, free, pattern, courses, slot + 1, to) {
+        Some(_) => Ok(()),
+        None => {
+            kill_by_links(
+                instance,
+                links,
+                free,
+                live,
+                pattern,
+                slot / periods,
+                slot % periods,
+                courses,
+            )?;
+            Ok(())
+        }
+    }
+}
+
+/// Removes the live cells that a pattern of one course excludes, if the pattern gives this day and this period.
+#[inline(always)]
+fn settle_one(
+    instance: &Instance<'_>,
+    links: &Conflicts,
+    free: &Trail,
+    live: &mut Trail,
+    pattern: &Pattern,
+    day: u32,
+    period: u32,
+    course: u32,
+) -> Result<(), AllocError>
+    requires links { AreConflicts instance.now links.now }
+    requires one { courses_of instance.now pattern.now.who ≡ course ∷ [] }
+    requires course { course < length instance.now.courses }
+    requires given_day { pattern.now.day ≡ Some day }
+    requires given_period { pattern.now.period ≡ Some period }
+    requires day { day < instance.now.days }
+    requires period { period < instance.now.periods }
+    requires free { IsTable instance.now free.now.words }
+    requires live { IsTable instance.now live.old.words }
+    ensures ok { OnOk result (Settles instance.now free.now.words live.old.words pattern.now live.new.words) }
+    ensures same { live.new.earlier ≡ live.old.earlier }
+{
+    let common = common_rooms(instance, free, pattern.room, course, day, period);
+    match common {
+        Rooms::All => {
+            remove_all(instance, live)?;
+            Ok(())
+        }
+        _ => {
+            kill_one(
+                instance, links, free, live, pattern, day, period, course, common,
+            )?;
+            Ok(())
+        }
+    }
+}
+
+/// Removes the live cells that a pattern excludes, if the pattern gives this day and this period.
+#[inline(always)]
+fn settle_at(
+    instance: &Instance<'_>,
+    links: &Conflicts,
+    free: &Trail,
+    live: &mut Trail,
+    pattern: &Pattern,
+    courses: &[u32],
+    day: u32,
+    period: u32,
+) -> Result<(), AllocError>
+    requires links { AreConflicts instance.now links.now }
+    requires courses { courses.now ≡ courses_of instance.now pattern.now.who }
+    requires given_day { pattern.now.day ≡ Some day }
+    requires given_period { pattern.now.period ≡ Some period }
+    requires day { day < instance.now.days }
+    requires period { period < instance.now.periods }
+    requires free { IsTable instance.now free.now.words }
+    requires live { IsTable instance.now live.old.words }
+    ensures ok { OnOk result (Settles instance.now free.now.words live.old.words pattern.now live.new.words) }
+    ensures same { live.new.earlier ≡ live.old.earlier }
+{
+    if courses.len() == 1 && courses[0] < instance.courses() {
+        settle_one(
+            instance, links, free, live, pattern, day, period, courses[0],
+        )?;
+        return Ok(());
+    }
+    if !is_left(instance, free, pattern, day, period, courses) {
+        remove_all(instance, live)?;
+        return Ok(());
+    }
+    kill_by_links(instance, links, free, live, pattern, day, period, courses)?;
+    Ok(())
+}
+
+/// Removes the live cells that a pattern excludes, whichever periods it allows.
+fn settle_within(
+    instance: &Instance<'_>,
+    links: &Conflicts,
+    free: &Trail,
+    live: &mut Trail,
+    pattern: &Pattern,
+    courses: &[u32],
+) -> Result<(), AllocError>
+    requires links { AreConflicts instance.now links.now }
+    requires courses { courses.now ≡ courses_of instance.now pattern.now.who }
+    requires free { IsTable instance.now free.now.words }
+    requires live { IsTable instance.now live.old.words }
+    ensures ok { OnOk result (Settles instance.now free.now.words live.old.words pattern.now live.new.words) }
+    ensures same { live.new.earlier ≡ live.old.earlier }
+{
+    let (from, to) = slots_of(instance, pattern);
+    match first_left(instance, free, pattern, courses, from, to) {
+        None => {
+            remove_all(instance, live)?;
+            Ok(())
+        }
+        Some(slot) => {
+            settle_from(
+                instance, links, free, live, pattern, courses, from, slot, to,
+            )?;
+            Ok(())
+        }
+    }
+}
+
+/// Removes the live cells that a pattern excludes.
+pub fn settle(
+    instance: &Instance<'_>,
+    links: &Conflicts,
+    free: &Trail,
+    live: &mut Trail,
+    pattern: &Pattern,
+) -> Result<(), AllocError>
+    requires links { AreConflicts instance.now links.now }
+    requires free { IsTable instance.now free.now.words }
+    requires live { IsTable instance.now live.old.words }
+    ensures ok { OnOk result (Settles instance.now free.now.words live.old.words pattern.now live.new.words) }
+    ensures same { live.new.earlier ≡ live.old.earlier }
+{
+    let courses = courses_of(instance, &pattern.who);
+    match (pattern.day, pattern.period) {
+        (Some(day), Some(period)) if day < instance.days() && period < instance.periods() => {
+            settle_at(instance, links, free, live, pattern, courses, day, period)?;
+            Ok(())
+        }
+        _ => {
+            settle_within(instance, links, free, live, pattern, courses)?;
+            Ok(())
+        }
+    }
+}

@@ -1,0 +1,26 @@
+use Rattle.std.proofs.Common.{◌≡◌, ◌++◌, [], ◌∷◌, length, length-append, ap, arith}
+use Rattle.tt_facts_path.specs.Paths.{Facts}
+use Rattle.tt_facts_pins.specs.Tables.{ShowsPins}
+use Rattle.tt_facts_pins.specs.Standing.{ShowsStanding}
+use Rattle.tt_facts_pins.proofs.Kept.{earlier_pushed}
+use Rattle.tt_facts_pins.proofs.Shown.{shown_more}
+use Rattle.tt_facts_pins.proofs.Stood.{standing_more}
+use Rattle.tt_facts_pins.proofs.pins.Pins.push.Goals as goal
+
+pub invariant_of-self-in_default : goal.invariant_of-self-in_default
+invariant_of-self-in_default c =
+    let s = c.self.inside in
+    let p = s.instance.now in
+    let f = c.args.fact in
+    let added = c.in_default.ensures in
+    let e : c.list_fact.new.facts.items ≡ s.facts.items ++ f ∷ [] = c.in_ok-list_fact.ensures.ok in
+    let before = c.self.invariant in
+    record {
+      depth = omega (arith, ap length e, length-append s.facts.items (f ∷ []), ap (λ (v : Facts). length v.facts) c.self.view_is);
+      others = c.in_ok-list_fact.ensures.others;
+      links = before.links;
+      shown = rw e (shown_more p s.facts.items f s.pinned.words c.add.new.pinned.words before.shown added.pins);
+      earlier = rw (e, added.kept_pinned) (earlier_pushed (ShowsPins p) s.facts.items f s.pinned.earlier s.pinned.words before.shown before.earlier);
+      stands = rw e (standing_more p s.facts.items f s.standing.words c.add.new.standing.words before.stands added.stands);
+      stood = rw (e, added.kept_standing) (earlier_pushed (ShowsStanding p) s.facts.items f s.standing.earlier s.standing.words before.stands before.stood);
+    }

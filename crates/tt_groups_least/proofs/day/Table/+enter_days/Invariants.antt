@@ -1,6 +1,0 @@
--- Each call has one period fewer left.
-use Rattle.std.proofs.Common.{length}
-use Rattle.tt_groups_least.proofs.day.Table.+enter_days.Given as goal
-
-abbrev pub decreases-enter_days : goal.decreases-enter_days
-decreases-enter_days l = length l.periods.now

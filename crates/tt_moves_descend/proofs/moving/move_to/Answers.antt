@@ -1,0 +1,19 @@
+use Rattle.tt_moves_descend.specs.Scan.{NoMoveOn}
+use Rattle.tt_moves_descend.proofs.Scans.{on_err, scan_begin, scan_next, scan_spent}
+use Rattle.tt_moves_descend.proofs.moving.move_to.Goals as goal
+
+pub loop-day-init : goal.loop-day-init
+loop-day-init c = let a = c.args in scan_begin (NoMoveOn a.entry a.room) a.occupied.now a.left.now
+
+pub returns-in_err-move_on-clause-err : goal.returns-in_err-move_on-clause-err
+returns-in_err-move_on-clause-err c =
+    let a = c.args in
+    let l = c.loop-day in
+    on_err c.from_residual.result (scan_spent _ a.occupied.now l.occupied a.left.now l.left l.invariant c.move_on.new.occupied c.in_err-move_on.ensures.err)
+
+pub loop-day-preserved : goal.loop-day-preserved
+loop-day-preserved c =
+    let a = c.args in
+    let l = c.loop-day in
+    scan_next (NoMoveOn a.entry a.room) a.occupied.now l.occupied c.move_on.new.occupied l.day a.left.now l.left c.move_on.new.left l.invariant
+    (c.in_ok-move_on.ensures.ok)

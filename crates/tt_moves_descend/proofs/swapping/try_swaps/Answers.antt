@@ -1,0 +1,19 @@
+use Rattle.tt_moves_descend.specs.Scan.{NoSwapOf}
+use Rattle.tt_moves_descend.proofs.Scans.{on_err, scan_begin, scan_next, scan_spent}
+use Rattle.tt_moves_descend.proofs.swapping.try_swaps.Goals as goal
+
+pub loop-first-init : goal.loop-first-init
+loop-first-init c = let a = c.args in scan_begin (NoSwapOf) a.occupied.now a.left.now
+
+pub returns-in_err-swap_of-clause-err : goal.returns-in_err-swap_of-clause-err
+returns-in_err-swap_of-clause-err c =
+    let a = c.args in
+    let l = c.loop-first in
+    on_err c.from_residual.result (scan_spent _ a.occupied.now l.occupied a.left.now l.left l.invariant c.swap_of.new.occupied c.in_err-swap_of.ensures.err)
+
+pub loop-first-preserved : goal.loop-first-preserved
+loop-first-preserved c =
+    let a = c.args in
+    let l = c.loop-first in
+    scan_next (NoSwapOf) a.occupied.now l.occupied c.swap_of.new.occupied l.first a.left.now l.left c.swap_of.new.left l.invariant
+    (c.in_ok-swap_of.ensures.ok)

@@ -1,0 +1,137 @@
+-- Another file is added, or its fault is silent.
+use Rattle.std.proofs.Common.{◌≡◌, ℕ, ◌+◌, ◌-◌, ◌<◌, ◌≤◌, ◌^◌, Bool, true, ◌||◌, List, [], ◌∷◌, ◌++◌, Option, Some, refl, sym, ap, subst, ◌∙◌, arith, inl, inr, zero-le}
+use Rattle.std.specs.Prelude.{flat_map}
+use Rattle.std.specs.List.{list_any}
+use Rattle.std.proofs.lemmas.List.Folds.{list_any-append}
+use Rattle.std.proofs.lemmas.List.Sums.{sum_by-append}
+use Rattle.std.proofs.lemmas.Bool.{or_left, or_right, both_ways}
+use Rattle.tt_lists.proofs.Sums.{list_any-of_flat_map}
+use Rattle.tt_lists.proofs.Twos.{each_two-push, each_two-last}
+use Rattle.tt_lists.proofs.Tested.{all_at}
+use Rattle.tt_instance.specs.Problem.{Problem}
+use Rattle.tt_instance.specs.Limits.{IsInstance}
+use Rattle.tt_leaf_rules.specs.Claims.{Target}
+use Rattle.tt_leaf_rules.specs.Tests.{same_target}
+use Rattle.tt_leaf_rules.specs.declared.leaf.Bound.{Bound}
+use Rattle.tt_leaf_rules.specs.declared.leaf.Bound.TheVariants.{AtLeast, Nothing}
+use Rattle.tt_proof_read.specs.Trees.{Tree, preorder}
+use Rattle.tt_proof_read.specs.declared.node.Node.{Node}
+use Rattle.tt_proof_check.proofs.Texts.{proved_silent, spelled_once}
+use Rattle.tt_proof_sum.specs.declared.fault.SumFault.{SumFault}
+use Rattle.tt_proof_sum.specs.declared.fault.SumFault.TheVariants.{Proof, Groups, ClaimedElsewhere, TooLarge, OutOfMemory}
+use Rattle.tt_proof_sum.specs.declared.summed.Sum.{Sum}
+use Rattle.tt_text_peek.specs.Fronts.{is_groups}
+use Rattle.tt_proof_sum.specs.Added.{IsPartOf, Joins, IsSumOf, Adds}
+use Rattle.tt_proof_sum.specs.Faults.{points, all_points, IsClaimedElsewhere, IsTooLarge, TellsAdded, OutOfMemoryIsOneFault, IsSilentSum}
+use Rattle.tt_proof_sum.specs.Sums.{claimed_by, is_among, are_apart, TreePart, GroupsPart, Part, TreeProof, GroupsFile, IsTreePart, IsGroupsPart, IsPart, bound_of, claims_of, AreApart, both_bounds, sum_of}
+use Rattle.tt_proof_sum.specs.Tables.{State, claims_at}
+use Rattle.tt_proof_sum.proofs.Joining.{tree_claims}
+use Rattle.tt_proof_sum.proofs.SpelledOnce.{proofs_are_trees, same_part, read_or_tree, left_open}
+use Rattle.tt_proof_sum.proofs.Together.{not_both}
+
+-- ---- sums of bounds
+
+both_assoc : (a b c : Bound) → both_bounds a (both_bounds b c) ≡ both_bounds (both_bounds a b) c
+both_assoc (AtLeast a) (AtLeast b) (AtLeast c) = let e : a + (b + c) ≡ (a + b) + c = omega arith in ap AtLeast e
+both_assoc (AtLeast a) (AtLeast b) Nothing = refl
+both_assoc (AtLeast a) Nothing c = refl
+both_assoc Nothing b c = refl
+
+both_none : (b : Bound) → both_bounds b (AtLeast 0) ≡ both_bounds (AtLeast 0) b
+both_none (AtLeast n) = let e : n + 0 ≡ 0 + n = omega arith in ap AtLeast e
+both_none Nothing = refl
+
+sum_of-push : (parts : List Part) (part : Part) → sum_of (parts ++ part ∷ []) ≡ both_bounds (sum_of parts) (bound_of part)
+sum_of-push [] part = both_none (bound_of part)
+sum_of-push (k ∷ ks) part = ap (both_bounds (bound_of k)) (sum_of-push ks part) ∙ both_assoc (bound_of k) (sum_of ks) (bound_of part)
+
+points-both : (a b : Bound) → points (both_bounds a b) ≤ points a + points b
+points-both (AtLeast a) (AtLeast b) = omega arith
+points-both (AtLeast a) Nothing = zero-le
+points-both Nothing b = zero-le
+
+points-sum_of : (parts : List Part) → points (sum_of parts) ≤ all_points parts
+points-sum_of [] = zero-le
+points-sum_of (k ∷ ks) =
+    let sum = sum_by-append (λ (x : Part). points (bound_of x)) (k ∷ []) ks in
+    let both : points (sum_of (k ∷ ks)) ≤ points (bound_of k) + points (sum_of ks) = points-both (bound_of k) (sum_of ks) in
+    omega (arith, sum, both, points-sum_of ks)
+
+pub all_points-push : (parts : List Part) (part : Part) → all_points (parts ++ part ∷ []) ≡ all_points parts + points (bound_of part)
+all_points-push parts part = let e = sum_by-append (λ (k : Part). points (bound_of k)) parts (part ∷ []) in omega (arith, e)
+
+-- ---- parts that are apart
+
+-- a target that a node claims is claimed by its tree
+claimed_in_tree : (tree : Tree) (before : List Node) (node : Node) (more : List Node) (y : Target) → preorder tree ≡ before ++ node ∷ more → is_among (claims_at node) y ≡ true → is_among (claimed_by tree) y ≡ true
+claimed_in_tree tree before node more y e h =
+    let among : Node → Bool = λ n. is_among (claims_at n) y in
+    ap (λ ys. is_among ys y) (sym (tree_claims tree)) ∙ ap (λ ns. is_among (flat_map claims_at ns) y) e ∙ list_any-of_flat_map (same_target y) claims_at (before ++ node ∷ more)
+    ∙ list_any-append among before (node ∷ more) ∙ or_right (list_any among before) (among node || list_any among more) (or_left (among node) (list_any among more) h)
+
+-- -- the sum after adding
+
+pub adds : (p : Problem) (remaining : Option (List ℕ)) (s : Sum) (parts : List Part) (a : State) (b total : Bound) → IsSumOf s parts → Joins p remaining parts a b → total ≡ both_bounds s.total b → Adds p remaining parts (record { table = a; total = total })
+adds p remaining s parts a b total of j e = (
+  j.part,
+  j.is,
+  record {
+    table = j.table;
+    apart = each_two-push (λ x y. are_apart (claims_of x) (claims_of y)) parts j.part of.apart j.apart;
+    total = e ∙ ap (λ x. both_bounds x b) of.total ∙ ap (both_bounds (sum_of parts)) (sym j.bound) ∙ sym (sum_of-push parts j.part);
+  },
+)
+
+-- if the bytes are known, they spell the part
+pub spelled_part : (p : Problem) (remaining : Option (List ℕ)) (bytes : List ℕ) (k : Part) → remaining ≡ Some bytes → IsPartOf p remaining k → IsPart p bytes k
+spelled_part p remaining bytes (TreeProof k) known is = record { spelled = is.spelled bytes known; derives = is.derives }
+spelled_part p remaining bytes (GroupsFile k) known is = record { kind = is.kind bytes known; spelled = is.spelled bytes known; right = is.right }
+
+pub too_large : (p : Problem) (remaining : Option (List ℕ)) (s : Sum) (parts : List Part) (a : State) (b : Bound) → IsSumOf s parts → Joins p remaining parts a b → 2 ^ 64 ≤ points s.total + points b → (bytes : List ℕ) → remaining ≡ Some bytes → IsTooLarge p parts bytes
+too_large p remaining s parts a b of j large bytes known =
+    let total : points s.total ≡ points (sum_of parts) = ap points of.total in
+    let bound : points (bound_of j.part) ≡ points b = ap points j.bound in
+    (j.part, spelled_part p remaining bytes j.part known j.is, omega (arith, large, total, bound, points-sum_of parts))
+
+-- ---- faults
+
+-- if a tree claims a target that one of the parts claims, the two are not apart
+tree_meets : (p : Problem) → IsInstance p → (parts : List Part) (bytes : List ℕ) (k : TreePart) (i e : ℕ) → IsTreePart p bytes k → AreApart (parts ++ TreeProof k ∷ []) → IsClaimedElsewhere p parts bytes i e → ⊥
+tree_meets p is parts bytes k i e spelled apart told =
+    let same = (spelled_once p is bytes told.part.version k.version told.part.bound k.bound told.part.tree k.tree told.is.spelled spelled.spelled).1 in
+    let x = all_at (λ x. are_apart (claims_of x) (claimed_by k.tree)) (λ x. is_among (claims_of x) told.target ≡ true) parts (e - 1) (each_two-last (λ x y. are_apart (claims_of x) (claims_of y)) parts (TreeProof k) apart) told.earlier in
+    not_both (claims_of x.0) (claimed_by k.tree) x.1 told.target x.2
+    (subst (λ (t : Tree). is_among (claimed_by t) told.target ≡ true) same (claimed_in_tree told.part.tree told.before told.node told.more told.target told.nodes told.here))
+
+-- a fault of a tree proof that can be added is silent
+tree_silent : (p : Problem) → IsInstance p → (parts : List Part) (bytes : List ℕ) (k : TreePart) → IsTreePart p bytes k → AreApart (parts ++ TreeProof k ∷ []) → all_points (parts ++ TreeProof k ∷ []) < 2 ^ 64 → (e : SumFault) → OutOfMemoryIsOneFault e → TellsAdded p parts bytes e
+    → IsSilentSum e
+tree_silent p is parts bytes k spelled apart within (Proof n f) memory told =
+    elim (proved_silent p is bytes k.bound (k.version, k.tree, spelled.spelled, spelled.derives) f told.fault) [
+      | inl e ↦ absurd (memory.0 e)
+      | inr e ↦ e
+    ]
+tree_silent p is parts bytes k spelled apart within (Groups n f) memory told = absurd (both_ways (is_groups bytes) (proofs_are_trees p bytes k spelled.spelled) told.kind)
+tree_silent p is parts bytes k spelled apart within (ClaimedElsewhere n i e) memory told = tree_meets p is parts bytes k i e spelled apart told
+tree_silent p is parts bytes k spelled apart within (TooLarge n) memory told =
+    let same : told.0 ≡ TreeProof k = same_part p is bytes told.0 (TreeProof k) told.1 spelled in
+    let points_same : points (bound_of told.0) ≡ points k.bound = ap (λ (x : Part). points (bound_of x)) same in
+    absurd (omega (arith, told.2, points_same, within, all_points-push parts (TreeProof k)))
+tree_silent p is parts bytes k spelled apart within OutOfMemory memory told = tt
+
+-- a fault of a file of groups that can be added is silent
+groups_silent : (p : Problem) → IsInstance p → (parts : List Part) (bytes : List ℕ) (k : GroupsPart) → IsGroupsPart p bytes k → AreApart (parts ++ GroupsFile k ∷ []) → all_points (parts ++ GroupsFile k ∷ []) < 2 ^ 64 → (e : SumFault) → OutOfMemoryIsOneFault e → TellsAdded p parts bytes e
+    → IsSilentSum e
+groups_silent p is parts bytes k spelled apart within (Proof n f) memory told = read_or_tree p bytes k f spelled told
+groups_silent p is parts bytes k spelled apart within (Groups n f) memory told = left_open p is parts bytes k spelled (each_two-last (λ x y. are_apart (claims_of x) (claims_of y)) parts (GroupsFile k) apart) f told.fault
+groups_silent p is parts bytes k spelled apart within (ClaimedElsewhere n i e) memory told = both_ways (is_groups bytes) (proofs_are_trees p bytes told.part told.is.spelled) spelled.kind
+groups_silent p is parts bytes k spelled apart within (TooLarge n) memory told =
+    let same : told.0 ≡ GroupsFile k = same_part p is bytes told.0 (GroupsFile k) told.1 spelled in
+    let points_same : points (bound_of told.0) ≡ k.bound = ap (λ (x : Part). points (bound_of x)) same in
+    absurd (omega (arith, told.2, points_same, within, all_points-push parts (GroupsFile k)))
+groups_silent p is parts bytes k spelled apart within OutOfMemory memory told = tt
+
+pub tells_silent : (p : Problem) → IsInstance p → (parts : List Part) (bytes : List ℕ) (part : Part) → IsPart p bytes part → AreApart (parts ++ part ∷ []) → all_points (parts ++ part ∷ []) < 2 ^ 64 → (e : SumFault) → OutOfMemoryIsOneFault e → TellsAdded p parts bytes e
+    → IsSilentSum e
+tells_silent p is parts bytes (TreeProof k) spelled apart within e memory told = tree_silent p is parts bytes k spelled apart within e memory told
+tells_silent p is parts bytes (GroupsFile k) spelled apart within e memory told = groups_silent p is parts bytes k spelled apart within e memory told

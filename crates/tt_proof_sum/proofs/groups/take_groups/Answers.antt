@@ -1,0 +1,141 @@
+use Rattle.std.proofs.Common.{◌≡◌, ◌+◌, ◌<◌, Option, Some, None, Result, Ok, Err, is_some, true, refl, sym, ap, subst, ◌∙◌, arith}
+use Rattle.std.specs.Prelude.{IfOk, IfSome}
+use Rattle.std.proofs.lemmas.Result.{err_from_is_err_and}
+use Rattle.tt_text.specs.Feeds.{stream_at, room_of}
+use Rattle.tt_proof_read.specs.Faults.{TellsNoFailedRead}
+use Rattle.tt_proof_read.specs.declared.fault.TextFault.{TextFault}
+use Rattle.tt_groups_read.specs.Readers.{Reader, Goes, Says, GroupAgreesWhenCut, IsClaimAt}
+use Rattle.tt_groups_read.specs.declared.claim.GroupClaim.{GroupClaim}
+use Rattle.tt_groups_read.specs.declared.fault.GroupTextFault.TheVariants.{Text}
+use Rattle.tt_proof_sum.specs.Faults.{TellsAdded}
+use Rattle.tt_proof_sum.specs.declared.fault.SumFault.{SumFault}
+use Rattle.tt_proof_sum.proofs.Underway.{underway_start, underway_more, claim_is, says_claim, says_end, joins, cheap_fault, claim_fault, text_fault, claim_cut, header_cut, reached_ok, reached_err, told_failed}
+use Rattle.tt_proof_sum.proofs.groups.take_groups.Goals as goal
+
+pub returns-in-Err-clause-up_to_failed_read : goal.returns-in-Err-clause-up_to_failed_read
+returns-in-Err-clause-up_to_failed_read g c =
+    λ told bytes known.
+    let e = c.in-Err.ensures in
+    header_cut c.args.instance.now (g.R.Source.remaining c.args.source.now) (g.R.Source.remaining c.new.new.source) c.in-Err.fault
+    (told_failed c.fault_of_text.result c.proof-file.result c.args.table.now.proof c.in-Err.fault c.fault_of_text.ensures c.proof-file.ensures told) e.known e.cut_short bytes known
+
+pub loop-claim-init : goal.loop-claim-init
+loop-claim-init g c =
+    let e = c.in-Ok.ensures in
+    record {
+      under = underway_start c.args.instance.now (g.R.Source.remaining c.args.source.now) (g.R.Source.remaining c.new.new.source) c.args.table.now c.in-Ok.reader e.known e.read e.cut_short e.start e.sizes;
+      calm = e.unfailed tt;
+    }
+
+pub returns-in-Ok-None-clause-joins : goal.returns-in-Ok-None-clause-joins
+returns-in-Ok-None-clause-joins g c =
+    let p = c.args.instance.now in
+    let start = g.R.Source.remaining c.args.source.now in
+    let r = c.loop-claim.reader in
+    let now = g.R.Source.remaining c.loop-claim.source in
+    let u = c.loop-claim.invariant.under in
+    let after = c.next_group.new.self in
+    let later = g.R.Source.remaining c.next_group.new.source in
+    let e = c.next_group.ensures in
+    let is : c.next_group.result ≡ Ok None = c.in-Ok-None.is ∙ ap (λ (x : Option GroupClaim). Ok x) c.in-Ok-None.field-0-is in
+    let goes = subst (λ (x : Result (Option GroupClaim) TextFault). Goes r x after) is (e.goes u.sound) in
+    let bound_is : c.bound.result ≡ r.bound = c.bound.ensures ∙ ap (λ (x : Reader). x.bound) goes in
+    let finish = says_end p c.days.ensures.instance start c.args.table.now r now c.loop-claim.table c.loop-claim.number c.loop-claim.total u after later e.known
+    (λ k. subst (λ (x : Result (Option GroupClaim) TextFault). Says r (stream_at r.fed now) x (stream_at after.fed later)) is (e.says u.sound k)) in
+    reached_ok c.reached.result c.proof-file.result c.loop-claim.total c.bound.result _ c.reached.ensures
+    (λ enough before parts known of begins kept kind.
+    rw bound_is (joins p c.days.ensures.instance start c.args.table.now r now c.loop-claim.table c.loop-claim.number c.loop-claim.total u parts before of begins known kept kind later after finish (omega (arith, enough, bound_is))))
+
+pub returns-in-Ok-None-clause-fault : goal.returns-in-Ok-None-clause-fault
+returns-in-Ok-None-clause-fault g c =
+    let p = c.args.instance.now in
+    let start = g.R.Source.remaining c.args.source.now in
+    let r = c.loop-claim.reader in
+    let now = g.R.Source.remaining c.loop-claim.source in
+    let u = c.loop-claim.invariant.under in
+    let after = c.next_group.new.self in
+    let later = g.R.Source.remaining c.next_group.new.source in
+    let e = c.next_group.ensures in
+    let is : c.next_group.result ≡ Ok None = c.in-Ok-None.is ∙ ap (λ (x : Option GroupClaim). Ok x) c.in-Ok-None.field-0-is in
+    let goes = subst (λ (x : Result (Option GroupClaim) TextFault). Goes r x after) is (e.goes u.sound) in
+    let bound_is : c.bound.result ≡ r.bound = c.bound.ensures ∙ ap (λ (x : Reader). x.bound) goes in
+    let finish = says_end p c.days.ensures.instance start c.args.table.now r now c.loop-claim.table c.loop-claim.number c.loop-claim.total u after later e.known
+    (λ k. subst (λ (x : Result (Option GroupClaim) TextFault). Says r (stream_at r.fed now) x (stream_at after.fed later)) is (e.says u.sound k)) in
+    reached_err c.reached.result c.proof-file.result c.loop-claim.total c.bound.result _ c.reached.ensures
+    (λ below before parts bytes of begins known kind.
+    cheap_fault p c.days.ensures.instance start c.args.table.now r now c.loop-claim.table c.loop-claim.number c.loop-claim.total u parts before of begins bytes known kind later after finish (omega (arith, below, bound_is)) (let small = c.bound.type_inv in omega (arith, small, bound_is)))
+
+pub returns-in-Err-next_group-clause-fault : goal.returns-in-Err-next_group-clause-fault
+returns-in-Err-next_group-clause-fault g c =
+    λ before parts bytes of begins known kind.
+    let p = c.args.instance.now in
+    let start = g.R.Source.remaining c.args.source.now in
+    let r = c.loop-claim.reader in
+    let now = g.R.Source.remaining c.loop-claim.source in
+    let u = c.loop-claim.invariant.under in
+    let after = c.next_group.new.self in
+    let later = g.R.Source.remaining c.next_group.new.source in
+    let says : is_some now ≡ true → Says r (stream_at r.fed now) (Err c.in-Err-next_group.fault) (stream_at after.fed later) = λ k. subst (λ (x : Result (Option GroupClaim) TextFault). Says r (stream_at r.fed now) x (stream_at after.fed later)) c.in-Err-next_group.is (c.next_group.ensures.says u.sound k) in
+    subst (λ (x : SumFault). TellsAdded p parts bytes x) (sym c.fault_of_text-in-Err-next_group.ensures)
+    (text_fault p c.days.ensures.instance start c.args.table.now r now c.loop-claim.table c.loop-claim.number c.loop-claim.total u after later c.in-Err-next_group.fault parts before of begins says bytes known kind c.proof-file.result)
+
+pub returns-in-Err-next_group-clause-up_to_failed_read : goal.returns-in-Err-next_group-clause-up_to_failed_read
+returns-in-Err-next_group-clause-up_to_failed_read g c =
+    λ told bytes known.
+    let p = c.args.instance.now in
+    let start = g.R.Source.remaining c.args.source.now in
+    let r = c.loop-claim.reader in
+    let now = g.R.Source.remaining c.loop-claim.source in
+    let u = c.loop-claim.invariant.under in
+    let after = c.next_group.new.self in
+    let later = g.R.Source.remaining c.next_group.new.source in
+    let cut = subst (λ (x : Result (Option GroupClaim) TextFault). GroupAgreesWhenCut r now x after.fed later) c.in-Err-next_group.is (c.next_group.ensures.cut_short u.sound) in
+    claim_cut p c.days.ensures.instance start c.args.table.now r now c.loop-claim.table c.loop-claim.number c.loop-claim.total u after later c.in-Err-next_group.fault
+    (told_failed c.fault_of_text-in-Err-next_group.result c.proof-file.result c.args.table.now.proof (Text c.in-Err-next_group.fault) c.fault_of_text-in-Err-next_group.ensures c.proof-file.ensures told)
+    c.next_group.ensures.known cut bytes known
+
+pub returns-in_err-take_claim-clause-fault : goal.returns-in_err-take_claim-clause-fault
+returns-in_err-take_claim-clause-fault g c =
+    let p = c.args.instance.now in
+    let start = g.R.Source.remaining c.args.source.now in
+    let r = c.loop-claim.reader in
+    let now = g.R.Source.remaining c.loop-claim.source in
+    let u = c.loop-claim.invariant.under in
+    let after = c.next_group.new.self in
+    let later = g.R.Source.remaining c.next_group.new.source in
+    let e = c.next_group.ensures in
+    let k = c.in-Ok-Some.claim in
+    let is : c.next_group.result ≡ Ok (Some k) = c.in-Ok-Some.is ∙ ap (λ (x : Option GroupClaim). Ok x) c.in-Ok-Some.field-0-is in
+    let claim = subst (λ (x : Result (Option GroupClaim) TextFault). IfOk x (λ o. IfSome o (IsClaimAt r.sizes))) is e.claim in
+    let says : is_some now ≡ true → Says r (stream_at r.fed now) (Ok (Some k)) (stream_at after.fed later) = λ kn. subst (λ (x : Result (Option GroupClaim) TextFault). Says r (stream_at r.fed now) x (stream_at after.fed later)) is (e.says u.sound kn) in
+    let f = err_from_is_err_and c.from_residual.result c.from_residual.ensures.1 in
+    rw (f.1, f.2) (λ before parts bytes of begins known kind.
+    let kn : is_some start ≡ true = ap is_some known in
+    claim_fault p c.days.ensures.instance start c.args.table.now r now c.loop-claim.table c.loop-claim.number c.loop-claim.total u parts before of begins k
+    (claim_is p c.days.ensures.instance start c.args.table.now r now c.loop-claim.table c.loop-claim.number c.loop-claim.total u k claim) kn (stream_at after.fed later)
+    (says_claim p c.days.ensures.instance start c.args.table.now r now c.loop-claim.table c.loop-claim.number c.loop-claim.total u after later e.known k says kn) bytes known kind c.in_err-take_claim.field-0.0
+    c.in_err-take_claim.ensures.fault)
+
+pub loop-claim-preserved : goal.loop-claim-preserved
+loop-claim-preserved g c =
+    let p = c.args.instance.now in
+    let start = g.R.Source.remaining c.args.source.now in
+    let r = c.loop-claim.reader in
+    let now = g.R.Source.remaining c.loop-claim.source in
+    let u = c.loop-claim.invariant.under in
+    let after = c.next_group.new.self in
+    let later = g.R.Source.remaining c.next_group.new.source in
+    let e = c.next_group.ensures in
+    let k = c.in-Ok-Some.claim in
+    let taken = c.in_ok-take_claim.ensures in
+    let is : c.next_group.result ≡ Ok (Some k) = c.in-Ok-Some.is ∙ ap (λ (x : Option GroupClaim). Ok x) c.in-Ok-Some.field-0-is in
+    let goes = subst (λ (x : Result (Option GroupClaim) TextFault). Goes r x after) is (e.goes u.sound) in
+    let claim = subst (λ (x : Result (Option GroupClaim) TextFault). IfOk x (λ o. IfSome o (IsClaimAt r.sizes))) is e.claim in
+    let forward = subst (λ (x : Result (Option GroupClaim) TextFault). IfOk x (λ o. IfSome o (λ _. room_of after.fed < room_of r.fed))) is e.forward in
+    let says : is_some now ≡ true → Says r (stream_at r.fed now) (Ok (Some k)) (stream_at after.fed later) = λ kn. subst (λ (x : Result (Option GroupClaim) TextFault). Says r (stream_at r.fed now) x (stream_at after.fed later)) is (e.says u.sound kn) in
+    let cut = subst (λ (x : Result (Option GroupClaim) TextFault). GroupAgreesWhenCut r now x after.fed later) is (e.cut_short u.sound) in
+    record {
+      under = underway_more p c.days.ensures.instance start c.args.table.now r now c.loop-claim.table c.loop-claim.number c.loop-claim.total u after later e.known c.take_claim.new.table k (c.loop-claim.number + 1) c.saturating_add-total.result
+          goes forward says cut claim taken.free taken.marks taken.holds c.requires refl c.saturating_add-total.ensures;
+      calm = e.unfailed u.sound (subst (λ (x : Result (Option GroupClaim) TextFault). TellsNoFailedRead x) (sym is) tt) ∙ c.loop-claim.invariant.calm;
+    }

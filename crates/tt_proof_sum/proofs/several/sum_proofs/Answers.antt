@@ -1,0 +1,108 @@
+use Rattle.std.proofs.Common.{◌≡◌, ◌+◌, ◌≤◌, length, get_or, Err, sym, ap, subst, ◌∙◌, arith, length-set}
+use Rattle.std.proofs.lemmas.Result.{err_from_is_err_and}
+use Rattle.tt_proof_check.proofs.TextFaults.{err_same}
+use Rattle.tt_proof_check.specs.Derives.{HoldsOfAll}
+use Rattle.tt_proof_sum.specs.UpToFailedRead.{IsFileJudgedUpToFailedRead}
+use Rattle.tt_leaf_rules.specs.declared.leaf.Bound.{Bound}
+use Rattle.tt_proof_sum.specs.Added.{due}
+use Rattle.tt_proof_sum.specs.Faults.{IsNumbered, read_failed_at}
+use Rattle.tt_proof_sum.specs.Sums.{IsSum}
+use Rattle.tt_proof_sum.specs.declared.fault.SumFault.{SumFault}
+use Rattle.tt_proof_sum.proofs.Lists.{taken, sofar_next, sofar_found, sofar_holds, sofar_refused, sum_silent, same_sum, same_at, set_found, at_source, unfailed_at}
+use Rattle.tt_proof_sum.proofs.several.sum_proofs.Goals as goal
+
+pub add-requires : goal.add-requires
+add-requires g c =
+    let old = c.args.sources.now in
+    let now = c.loop-source.source-items in
+    let within : c.loop-source.source-index ≤ length old = omega arith in
+    let number = taken c.args.instance.now g.R.Source.remaining g.R.Source.has_failed old now c.loop-source.source-index c.loop-source.sum within c.loop-source.invariant.sofar in
+    record { room = omega (arith, number) }
+
+pub returns-in_err-sum-2-clause-fault : goal.returns-in_err-sum-2-clause-fault
+returns-in_err-sum-2-clause-fault g c =
+    let e = err_from_is_err_and c.from_residual-in_err-sum-2.result c.from_residual-in_err-sum-2.ensures.1 in
+    rw (e.1, e.2) (sofar_refused c.args.instance.now g.R.Source.remaining g.R.Source.has_failed c.args.sources.now c.loop-source.source-items c.loop-source.source-index c.loop-source.sum (get_or c.loop-source.source-items c.loop-source.source-index c.source-item.result)
+    c.in_err-sum-2.field-0.0 c.loop-source-test.true (ap (get_or c.loop-source.source-items c.loop-source.source-index) c.source-item.is) c.loop-source.invariant.sofar c.in_err-sum-2.ensures.numbered c.in_err-sum-2.ensures.fault)
+
+pub returns-in_err-sum-2-clause-only : goal.returns-in_err-sum-2-clause-only
+returns-in_err-sum-2-clause-only g c =
+    let e = err_from_is_err_and c.from_residual-in_err-sum-2.result c.from_residual-in_err-sum-2.ensures.1 in
+    λ proofs s given h within.
+    let told = sofar_refused c.args.instance.now g.R.Source.remaining g.R.Source.has_failed c.args.sources.now c.loop-source.source-items c.loop-source.source-index c.loop-source.sum (get_or c.loop-source.source-items c.loop-source.source-index c.source-item.result)
+    c.in_err-sum-2.field-0.0 c.loop-source-test.true (ap (get_or c.loop-source.source-items c.loop-source.source-index) c.source-item.is) c.loop-source.invariant.sofar c.in_err-sum-2.ensures.numbered c.in_err-sum-2.ensures.fault proofs given in
+    rw (e.1, e.2) (sum_silent c.args.instance.now c.days.ensures.instance proofs s h within c.in_err-sum-2.field-0.0 c.in_err-sum-2.ensures.memory told)
+
+pub returns-in_err-sum-2-clause-failed : goal.returns-in_err-sum-2-clause-failed
+returns-in_err-sum-2-clause-failed g c =
+    λ i r told found.
+    let s = c.loop-source.sum in
+    let f = c.in_err-sum-2.field-0.0 in
+    let is : f ≡ read_failed_at (i + 1) = err_same c.from_residual-in_err-sum-2.result f (read_failed_at (i + 1)) c.from_residual-in_err-sum-2.ensures.1 told in
+    let number : i + 1 ≡ due s = subst (λ (x : SumFault). IsNumbered (due s) x) is c.in_err-sum-2.ensures.numbered in
+    let within : c.loop-source.source-index ≤ length c.args.sources.now = omega arith in
+    let here = taken c.args.instance.now g.R.Source.remaining g.R.Source.has_failed c.args.sources.now c.loop-source.source-items c.loop-source.source-index s within c.loop-source.invariant.sofar in
+    let place : i ≡ c.loop-source.source-index = omega (arith, number, here) in
+    let same = set_found c.args.instance.now g.R.Source.remaining g.R.Source.has_failed c.loop-source.source-items c.loop-source.source-index i c.add.new.source r (omega (arith, c.loop-source.invariant.long)) place found in
+    ap g.R.Source.has_failed same ∙ c.in_err-sum-2.ensures.failed (ap (λ (x : SumFault). Err x) (is ∙ ap read_failed_at number))
+
+pub returns-in_err-sum-2-clause-unfailed : goal.returns-in_err-sum-2-clause-unfailed
+returns-in_err-sum-2-clause-unfailed g c =
+    let e = err_from_is_err_and c.from_residual-in_err-sum-2.result c.from_residual-in_err-sum-2.ensures.1 in
+    λ i r q told before after.
+    let s = c.loop-source.sum in
+    let within : c.loop-source.source-index ≤ length c.args.sources.now = omega arith in
+    let here = taken c.args.instance.now g.R.Source.remaining g.R.Source.has_failed c.args.sources.now c.loop-source.source-items c.loop-source.source-index s within c.loop-source.invariant.sofar in
+    unfailed_at c.args.instance.now g.R.Source.remaining g.R.Source.has_failed c.args.sources.now c.loop-source.source-items c.loop-source.source-index s (get_or c.loop-source.source-items c.loop-source.source-index c.source-item.result) c.add.new.source c.loop-source-test.true
+    c.loop-source.invariant.long (ap (get_or c.loop-source.source-items c.loop-source.source-index) c.source-item.is) c.loop-source.invariant.sofar i r q
+    (λ place. c.in_err-sum-2.ensures.unfailed (λ x.
+    let number : due s ≡ i + 1 = omega (arith, place, here) in
+    let same : c.in_err-sum-2.field-0.0 ≡ read_failed_at (due s) = cc in
+    told (e.1 ∙ ap (λ (y : SumFault). Err y) (e.2 ∙ same ∙ ap read_failed_at number)))) before after
+
+pub returns-in_err-sum-2-clause-up_to_failed_read : goal.returns-in_err-sum-2-clause-up_to_failed_read
+returns-in_err-sum-2-clause-up_to_failed_read g c =
+    λ i r q bytes told before after known.
+    let s = c.loop-source.sum in
+    let f = c.in_err-sum-2.field-0.0 in
+    let is : f ≡ read_failed_at (i + 1) = err_same c.from_residual-in_err-sum-2.result f (read_failed_at (i + 1)) c.from_residual-in_err-sum-2.ensures.1 told in
+    let number : i + 1 ≡ due s = subst (λ (x : SumFault). IsNumbered (due s) x) is c.in_err-sum-2.ensures.numbered in
+    let within : c.loop-source.source-index ≤ length c.args.sources.now = omega arith in
+    let here = taken c.args.instance.now g.R.Source.remaining g.R.Source.has_failed c.args.sources.now c.loop-source.source-items c.loop-source.source-index s within c.loop-source.invariant.sofar in
+    let place : i ≡ c.loop-source.source-index = omega (arith, number, here) in
+    let at = at_source c.args.instance.now g.R.Source.remaining g.R.Source.has_failed c.args.sources.now c.loop-source.source-items c.loop-source.source-index s (get_or c.loop-source.source-items c.loop-source.source-index c.source-item.result) c.add.new.source c.loop-source-test.true
+    c.loop-source.invariant.long (ap (get_or c.loop-source.source-items c.loop-source.source-index) c.source-item.is) c.loop-source.invariant.sofar i r q place before after in
+    subst (λ x. IsFileJudgedUpToFailedRead c.args.instance.now bytes (g.R.Source.remaining x)) (sym at.is)
+    (c.in_err-sum-2.ensures.up_to_failed_read (ap (λ (x : SumFault). Err x) (is ∙ ap read_failed_at number)) bytes (ap g.R.Source.remaining at.was ∙ known))
+
+pub loop-source-preserved : goal.loop-source-preserved
+loop-source-preserved g c = record {
+  sofar = sofar_next c.args.instance.now g.R.Source.remaining g.R.Source.has_failed c.args.sources.now c.loop-source.source-items c.loop-source.source-index c.loop-source.sum c.in_ok-sum-2.sum (get_or c.loop-source.source-items c.loop-source.source-index c.source-item.result) c.add.new.source
+      c.loop-source-test.true c.loop-source.invariant.long (ap (get_or c.loop-source.source-items c.loop-source.source-index) c.source-item.is) c.loop-source.invariant.sofar c.in_ok-sum-2.ensures.added (c.in_ok-sum-2.ensures.unfailed (λ x. cc));
+  long = simp length-set c.loop-source.invariant.long;
+}
+
+pub returns-clause-found : goal.returns-clause-found
+returns-clause-found g c =
+    λ proofs given.
+    let h = c.loop-source.invariant.sofar in
+    subst (λ (b : Bound). IsSum c.args.instance.now proofs b) (sym (c.bound.ensures h.parts h.of))
+    (sofar_found c.args.instance.now g.R.Source.remaining g.R.Source.has_failed c.args.sources.now c.loop-source.source-items c.loop-source.source-index c.loop-source.sum c.loop-source-test.false h proofs given)
+
+pub returns-clause-only : goal.returns-clause-only
+returns-clause-only g c =
+    λ proofs s given i within.
+    let h = c.loop-source.invariant.sofar in
+    let found = sofar_found c.args.instance.now g.R.Source.remaining g.R.Source.has_failed c.args.sources.now c.loop-source.source-items c.loop-source.source-index c.loop-source.sum c.loop-source-test.false h proofs given in
+    c.bound.ensures h.parts h.of ∙ same_sum c.args.instance.now c.days.ensures.instance proofs _ s found i
+
+pub returns-clause-holds : goal.returns-clause-holds
+returns-clause-holds g c =
+    let h = c.loop-source.invariant.sofar in
+    subst (λ (b : Bound). HoldsOfAll c.args.instance.now b) (sym (c.bound.ensures h.parts h.of))
+    (sofar_holds c.args.instance.now g.R.Source.remaining g.R.Source.has_failed c.args.sources.now c.loop-source.source-items c.loop-source.source-index c.loop-source.sum h)
+
+pub returns-clause-unfailed : goal.returns-clause-unfailed
+returns-clause-unfailed g c =
+    λ i r q told before after.
+    same_at c.args.instance.now g.R.Source.remaining g.R.Source.has_failed c.args.sources.now c.loop-source.source-items c.loop-source.source-index c.loop-source.sum c.loop-source.invariant.sofar i r q before after

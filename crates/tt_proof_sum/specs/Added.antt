@@ -1,0 +1,58 @@
+-- Files that have been added, and another file.
+use Rattle.std.specs.Prelude.{◌≡◌, ℕ, ◌+◌, Bool, true, List, [], ◌∷◌, ◌++◌, Option, Some, All}
+use Rattle.std.specs.List.{list_all, AllZip}
+use Rattle.tt_instance.specs.Problem.{Problem}
+use Rattle.tt_leaf_rules.specs.declared.leaf.Bound.{Bound}
+use Rattle.tt_proof_check.specs.Derives.{Derives}
+use Rattle.tt_proof_read.specs.Spelling.{SpellsProof}
+use Rattle.tt_proof_sum.specs.declared.summed.Sum.{Sum}
+use Rattle.tt_groups_read.specs.Spelling.{IsClaim, SpellsGroups}
+use Rattle.tt_text_peek.specs.Fronts.{is_groups}
+use Rattle.tt_proof_sum.specs.Sums.{are_apart, AreRight, TreePart, GroupsPart, Part, TreeProof, GroupsFile, bound_of, claims_of, AreApart, sum_of}
+use Rattle.tt_proof_sum.specs.Tables.{State, IsTableOf}
+
+-- If the bytes are known, they are a file of groups exactly if `kind` is true.
+abbrev pub IsOfKind : Bool → Option (List ℕ) → Type 0
+IsOfKind kind remaining = (bytes : List ℕ) → remaining ≡ Some bytes → is_groups bytes ≡ kind
+
+-- If the bytes are known, they spell the part, and it derives its bound.
+pub record IsTreeOf (p : Problem) (remaining : Option (List ℕ)) (k : TreePart) : Type 0 where
+  pub spelled : (bytes : List ℕ) → remaining ≡ Some bytes → SpellsProof p bytes k.version k.bound k.tree
+  pub derives : Derives p k.bound [] k.tree
+
+-- If the bytes are known, they begin with `CTTG` and spell the part, and its claims are right.
+pub record AreGroupsOf (p : Problem) (remaining : Option (List ℕ)) (k : GroupsPart) : Type 0 where
+  pub kind : IsOfKind true remaining
+  pub spelled : (bytes : List ℕ) → remaining ≡ Some bytes → SpellsGroups p bytes k.bound k.claims
+  pub claims : All (IsClaim p) k.claims
+  pub right : AreRight p k.bound k.claims
+
+abbrev pub IsPartOf : Problem → Option (List ℕ) → Part → Type 0
+IsPartOf p remaining (TreeProof k) = IsTreeOf p remaining k
+IsPartOf p remaining (GroupsFile k) = AreGroupsOf p remaining k
+
+-- A part with this bound claims no target that these parts claim, and the table is the one of these parts and that part.
+pub record Joins (p : Problem) (remaining : Option (List ℕ)) (parts : List Part) (a : State) (b : Bound) : Type 0 where
+  pub part : Part
+  pub is : IsPartOf p remaining part
+  pub bound : bound_of part ≡ b
+  pub apart : list_all (λ k. are_apart (claims_of k) (claims_of part)) parts ≡ true
+  pub table : IsTableOf a (parts ++ part ∷ [])
+
+-- The sum is the one of these parts.
+pub record IsSumOf (s : Sum) (parts : List Part) : Type 0 where
+  pub table : IsTableOf s.table parts
+  pub apart : AreApart parts
+  pub total : s.total ≡ sum_of parts
+
+-- The number of the next file, counted from 1.
+abbrev pub due : Sum → ℕ
+due s = s.table.proof + 1
+
+-- The sum is the one of these parts and another part.
+abbrev pub Adds : Problem → Option (List ℕ) → List Part → Sum → Type 0
+Adds p remaining parts s = (part : Part) × IsPartOf p remaining part × IsSumOf s (parts ++ part ∷ [])
+
+-- The bytes that each source gives, if all are known.
+abbrev pub Give : {R : Type 0} → (R → Option (List ℕ)) → List R → List (List ℕ) → Type 0
+Give remaining sources proofs = AllZip (λ r bytes. remaining r ≡ Some bytes) sources proofs

@@ -1,0 +1,158 @@
+-- The targets that the Cost leaves of trees and the groups of files claim, and files whose bounds add up.
+use Rattle.std.specs.Prelude.{◌≡◌, ℕ, ◌+◌, ◌≤◌, Bool, true, not, List, [], ◌∷◌, ◌++◌, map, flat_map, sum_by, All}
+use Rattle.std.specs.List.{list_any, list_all, AllZip}
+use Rattle.tt_lists.specs.Words.{each_two}
+use Rattle.tt_instance.specs.Problem.{Problem}
+use Rattle.tt_instance.specs.Cells.{all_courses, all_curricula}
+use Rattle.tt_instance.specs.declared.cell.Cell.{Cell}
+use Rattle.tt_rules.specs.Score.{IsFeasible, cost}
+use Rattle.tt_facts_path.specs.Facts.{Fits}
+use Rattle.tt_facts_path.specs.declared.facts.Fact.{Fact}
+use Rattle.tt_leaf_rules.specs.Bounds.{Respects}
+use Rattle.tt_leaf_rules.specs.Claims.{Target, RoomCapacity, WorkingDays, Compactness, Stability, part, claimed}
+use Rattle.tt_leaf_rules.specs.Tests.{same_target}
+use Rattle.tt_leaf_rules.specs.declared.leaf.Bound.{Bound}
+use Rattle.tt_leaf_rules.specs.declared.leaf.Bound.TheVariants.{AtLeast, Nothing}
+use Rattle.tt_leaf_rules.specs.declared.leaf.Leaf.{Leaf}
+use Rattle.tt_leaf_rules.specs.declared.leaf.Leaf.TheVariants.{Cost}
+use Rattle.tt_proof_read.specs.Spelling.{SpellsProof}
+use Rattle.tt_proof_read.specs.Trees.{Tree, Close, Branch}
+use Rattle.tt_proof_check.specs.Derives.{Derives}
+use Rattle.tt_groups.specs.Group.{Group, IsGroupBound}
+use Rattle.tt_groups_read.specs.Spelling.{IsClaim, SpellsGroups}
+use Rattle.tt_groups_read.specs.declared.claim.GroupClaim.{GroupClaim}
+use Rattle.tt_text_peek.specs.Fronts.{is_groups}
+
+-- ---- targets
+
+-- The targets that a leaf claims.
+abbrev pub claimed_in : Leaf → List Target
+claimed_in (Cost claims) = claimed claims
+claimed_in _ = []
+
+-- The targets that the leaves of a tree claim.
+abbrev pub claimed_by : Tree → List Target
+claimed_by (Close leaf) = claimed_in leaf
+claimed_by (Branch g first second) = claimed_by first ++ claimed_by second
+
+-- The target is one of these.
+abbrev pub is_among : List Target → Target → Bool
+is_among targets y = list_any (same_target y) targets
+
+-- Each of the others is one of these.
+abbrev pub are_among : List Target → List Target → Bool
+are_among targets others = list_all (is_among targets) others
+
+-- None of the others is one of these.
+abbrev pub are_apart : List Target → List Target → Bool
+are_apart targets others = list_all (λ y. not (is_among targets y)) others
+
+-- The part of the cost that belongs to the targets.
+abbrev pub cost_over : Problem → List Cell → List Target → ℕ
+cost_over p t targets = sum_by (part p t) targets
+
+-- All targets of the instance.
+abbrev pub every_target : Problem → List Target
+every_target p =
+    map RoomCapacity (all_courses p) ++ (map WorkingDays (all_courses p) ++ (map Compactness (all_curricula p) ++ map Stability (all_courses p)))
+
+-- ---- one tree
+
+-- Each feasible timetable that fits the path respects the bound by its cost over the targets.
+abbrev pub HoldsOver : Problem → Bound → List Fact → List Target → Type 0
+HoldsOver p b path targets = (t : List Cell) → IsFeasible p t → Fits p t path → Respects b (cost_over p t targets)
+
+-- The cost over all targets is at most the cost.
+abbrev pub IsWithinCost : Problem → List Cell → Type 0
+IsWithinCost p t = cost_over p t (every_target p) ≤ cost p t
+
+-- ---- groups
+
+-- The targets of a group are the compactness of its curricula and the working days of its courses.
+abbrev pub group_targets : Group → List Target
+group_targets g = map Compactness g.curricula ++ map WorkingDays g.courses
+
+-- The targets of all groups of the claims.
+abbrev pub targets_of_claims : List GroupClaim → List Target
+targets_of_claims claims = flat_map (λ k. group_targets k.group) claims
+
+-- No target is in two of the claims.
+abbrev pub AreClaimsApart : List GroupClaim → Type 0
+AreClaimsApart claims = each_two (λ a b. are_apart (group_targets a.group) (group_targets b.group)) claims ≡ true
+
+-- Each claim is a bound of its group, no target is in two of them, and the values add up to at least the bound.
+pub record AreRight (p : Problem) (b : ℕ) (claims : List GroupClaim) : Type 0 where
+  pub bounds : All (λ k. IsGroupBound p k.group k.value) claims
+  pub apart : AreClaimsApart claims
+  pub enough : b ≤ sum_by (λ k. k.value) claims
+
+-- ---- files
+
+-- The contents of a tree proof.
+pub record TreePart : Type 0 where
+  pub version : ℕ
+  pub bound : Bound
+  pub tree : Tree
+
+-- The contents of a file of groups.
+pub record GroupsPart : Type 0 where
+  pub bound : ℕ
+  pub claims : List GroupClaim
+
+-- The contents of a file.
+pub data Part : Type 0 where
+  TreeProof : TreePart → Part
+  GroupsFile : GroupsPart → Part
+
+-- The bytes spell a tree that derives its bound.
+pub record IsTreePart (p : Problem) (bytes : List ℕ) (k : TreePart) : Type 0 where
+  pub spelled : SpellsProof p bytes k.version k.bound k.tree
+  pub derives : Derives p k.bound [] k.tree
+
+-- The bytes, which begin with `CTTG`, spell claims that are right.
+pub record IsGroupsPart (p : Problem) (bytes : List ℕ) (k : GroupsPart) : Type 0 where
+  pub kind : is_groups bytes ≡ true
+  pub spelled : SpellsGroups p bytes k.bound k.claims
+  pub right : AreRight p k.bound k.claims
+
+-- The bytes spell the part, and it is right.
+abbrev pub IsPart : Problem → List ℕ → Part → Type 0
+IsPart p bytes (TreeProof k) = IsTreePart p bytes k
+IsPart p bytes (GroupsFile k) = IsGroupsPart p bytes k
+
+-- The part is right on a path: a tree that derives its bound there, or claims that are right on each path.
+abbrev pub ShowsOn : Problem → List Fact → Part → Type 0
+ShowsOn p path (TreeProof k) = Derives p k.bound path k.tree
+ShowsOn p path (GroupsFile k) = All (IsClaim p) k.claims × AreRight p k.bound k.claims
+
+-- The bound that a file gives.
+abbrev pub bound_of : Part → Bound
+bound_of (TreeProof k) = k.bound
+bound_of (GroupsFile k) = AtLeast k.bound
+
+-- The targets that a tree's leaves or the groups of a file claim.
+abbrev pub claims_of : Part → List Target
+claims_of (TreeProof k) = claimed_by k.tree
+claims_of (GroupsFile k) = targets_of_claims k.claims
+
+-- No target is claimed by two of the files.
+abbrev pub AreApart : List Part → Type 0
+AreApart parts = each_two (λ a b. are_apart (claims_of a) (claims_of b)) parts ≡ true
+
+-- The sum of two bounds; `Nothing` if one of the two says that no timetable exists.
+abbrev pub both_bounds : Bound → Bound → Bound
+both_bounds (AtLeast a) (AtLeast b) = AtLeast (a + b)
+both_bounds _ _ = Nothing
+
+-- The sum of the bounds; `Nothing` if one of them is.
+abbrev pub sum_of : List Part → Bound
+sum_of [] = AtLeast 0
+sum_of (k ∷ ks) = both_bounds (bound_of k) (sum_of ks)
+
+-- Each of the files spells a tree that derives its bound, or claims about groups that are right; no target is claimed by two of them, and s is
+-- the sum of the bounds.
+pub record IsSum (p : Problem) (files : List (List ℕ)) (s : Bound) : Type 0 where
+  pub parts : List Part
+  pub each : AllZip (IsPart p) files parts
+  pub apart : AreApart parts
+  pub total : sum_of parts ≡ s

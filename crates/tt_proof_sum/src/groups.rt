@@ -1,0 +1,125 @@
+//! Adding a file of groups, whose claims are added to the table of owners.
+
+ghost use Rattle.std.specs.Prelude.{◌≡◌, ◌<◌, ◌==◌, ℕ, List, Some, None, Ok, Err, true, IfOk, IfErr, OnOk, if◌then◌else◌, nat_lt};
+ghost use Rattle.std.specs.Io.KnownBytes.{Keeps};
+ghost use Rattle.std.specs.declared.option.Option.{Option};
+ghost use Rattle.tt_groups.specs.Group.{IsGroupBound};
+ghost use Rattle.tt_groups_check.specs.Limits.{IsGroupOf};
+ghost use Rattle.tt_leaf_rules.specs.declared.leaf.Bound.TheVariants.{AtLeast};
+ghost use Rattle.tt_text_peek.specs.Fronts.{is_groups};
+ghost use Rattle.tt_proof_check.specs.FailedReads.{HoldsOfGiven};
+ghost use Rattle.tt_proof_sum.specs.Added.{Joins, IsOfKind};
+ghost use Rattle.tt_proof_sum.specs.Claiming.{TellsClaim};
+ghost use Rattle.tt_proof_sum.specs.Faults.{TellsAdded, IsNumbered, OutOfMemoryIsOneFault, read_failed_at};
+ghost use Rattle.tt_proof_sum.specs.Sums.{Part};
+ghost use Rattle.tt_proof_sum.specs.Tables.{State, IsTableOf, begun, group_places, first_owner, Marks};
+ghost use Rattle.tt_proof_sum.specs.UpToFailedRead.{AreGroupsCutOff};
+ghost use Rattle.tt_proof_sum.specs.declared.fault.SumFault.TheVariants.{Groups};
+ghost use Rattle.tt_proof_sum.specs.declared.groups_fault.GroupsFault.TheVariants as groups;
+
+use crate::fault::{SumFault, fault_of_text};
+use crate::groups_fault::GroupsFault;
+use crate::table::Table;
+use std::alloc::Global;
+use tt_groups_check::{GroupFault, Work, check_group};
+use tt_groups_read::{GroupClaim, GroupReader, GroupTextFault};
+use tt_instance::Instance;
+use tt_leaf_rules::Bound;
+use tt_text::Source;
+
+/// Returns the fault of a group that has a target which this file or an earlier one claims.
+fn claimed_before(file: u64, group: u32, owner: u64) -> GroupsFault
+    ensures { result ≡ (if owner == file then groups.ClaimedTwice group else groups.ClaimedElsewhere group owner) }
+{
+    if owner == file {
+        GroupsFault::ClaimedTwice(group)
+    } else {
+        GroupsFault::ClaimedElsewhere {
+            group,
+            earlier: owner,
+        }
+    }
+}
+
+/// Takes one claim of the newest file, the claim with this number: adds its targets to the table and checks it.
+fn take_claim(
+    alloc: Global,
+    instance: &Instance<'_>,
+    table: &mut Table,
+    work: &mut Work,
+    number: u32,
+    claim: &GroupClaim,
+) -> Result<(), SumFault>
+    requires { IsGroupOf instance.now claim.now.group }
+    ensures free { OnOk result (first_owner table.old (group_places claim.now.group) ≡ None) }
+    ensures marks { OnOk result (Marks table.old (group_places claim.now.group) table.new) }
+    ensures holds { OnOk result (IsGroupBound instance.now claim.now.group claim.now.value) }
+    ensures fault { IfErr result (TellsClaim instance.now table.old number claim.now) }
+    ensures memory { IfErr result OutOfMemoryIsOneFault }
+{
+    let file = table.proof();
+    if let Some(owner) = table.owner_of_group(&claim.group) {
+        return Err(SumFault::Groups(file, claimed_before(file, number, owner)));
+    }
+    table.mark_group(&claim.group);
+    match check_group(alloc, instance, &claim.group, claim.value, work) {
+        Ok(()) => Ok(()),
+        Err(GroupFault::OutOfMemory) => Err(SumFault::OutOfMemory),
+        Err(fault) => Err(SumFault::Groups(file, GroupsFault::Group(number, fault))),
+    }
+}
+
+/// Returns the bound if the values of all groups reach it.
+fn reached(file: u64, bound: u64, total: u64) -> Result<Bound, SumFault>
+    ensures { result ≡ (if nat_lt total bound then Err (Groups file groups.TooCheap) else Ok (AtLeast bound)) }
+{
+    if total < bound {
+        Err(SumFault::Groups(file, GroupsFault::TooCheap))
+    } else {
+        Ok(Bound::AtLeast(bound))
+    }
+}
+
+/// Checks a file of groups, as the file that has begun, and returns its bound if it claims no target that an earlier file claims. It stores
+/// one group at a time, and stops at the first fault: for each group first that of its text, then the first of its targets that is claimed already,
+/// then that of its check; and last that all values together are below the bound.
+pub fn take_groups<R: Source>(
+    alloc: Global,
+    instance: &Instance<'_>,
+    table: &mut Table,
+    source: &mut R,
+) -> Result<Bound, SumFault>
+    requires { 0 < table.old.proof }
+    ensures joins { IfOk result (λ b. (before : State) (parts : List Part) (known : Option (List ℕ)) → IsTableOf before parts → table.old ≡ begun before →
+        Keeps known (R.remaining source.old) → IsOfKind true known → Joins instance.now known parts table.new b) }
+    ensures proof { OnOk result (table.new.proof ≡ table.old.proof) }
+    ensures fault { IfErr result (λ e. (before : State) (parts : List Part) (bytes : List ℕ) → IsTableOf before parts → table.old ≡ begun before →
+        R.remaining source.old ≡ Some bytes → is_groups bytes ≡ true → TellsAdded instance.now parts bytes e) }
+    ensures numbered { IfErr result (IsNumbered table.old.proof) }
+    ensures failed { result ≡ Err (read_failed_at table.old.proof) → R.has_failed source.new ≡ true }
+    ensures unfailed { ¬ (result ≡ Err (read_failed_at table.old.proof)) → R.has_failed source.new ≡ R.has_failed source.old }
+    ensures memory { IfErr result OutOfMemoryIsOneFault }
+    ensures up_to_failed_read { result ≡ Err (read_failed_at table.old.proof) → (bytes : List ℕ) → R.remaining source.old ≡ Some bytes →
+        HoldsOfGiven bytes (R.remaining source.new) (AreGroupsCutOff instance.now) }
+{
+    // In every instance, the numbers are small enough to be read.
+    prove!(instance.days() > 0);
+    let file = table.proof();
+    let mut reader = match GroupReader::new(alloc, instance, source) {
+        Ok(reader) => reader,
+        Err(fault) => return Err(fault_of_text(file, fault)),
+    };
+    let mut work = Work::new();
+    let mut number = 0;
+    let mut total: u64 = 0;
+    loop {
+        let claim = match reader.next_group(source) {
+            Ok(Some(claim)) => claim,
+            Ok(None) => return reached(file, reader.bound(), total),
+            Err(fault) => return Err(fault_of_text(file, GroupTextFault::Text(fault))),
+        };
+        take_claim(alloc, instance, table, &mut work, number, &claim)?;
+        total = total.saturating_add(claim.value);
+        number += 1;
+    }
+}

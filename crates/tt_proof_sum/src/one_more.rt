@@ -1,0 +1,85 @@
+//! Adding a file, whose claims are added to the table of owners.
+
+ghost use Rattle.std.specs.Prelude.{◌≡◌, ◌+◌, ◌<◌, ℕ, List, Some, Err, true, false, IfOk, IfErr, OnOk};
+ghost use Rattle.tt_text_peek.specs.Fronts.{is_groups};
+ghost use Rattle.tt_proof_check.specs.FailedReads.{IsJudgedUpToFailedRead};
+ghost use Rattle.tt_proof_sum.specs.Added.{Joins};
+ghost use Rattle.tt_proof_sum.specs.Faults.{TellsAdded, IsNumbered, OutOfMemoryIsOneFault, read_failed_at};
+ghost use Rattle.tt_proof_sum.specs.Sums.{Part};
+ghost use Rattle.tt_proof_sum.specs.Tables.{State, IsTableOf, begun};
+ghost use Rattle.tt_proof_sum.specs.UpToFailedRead.{IsFileJudgedUpToFailedRead};
+
+use crate::fault::{SumFault, fault_of_proof, read_failed};
+use crate::groups::take_groups;
+use crate::table::Table;
+use std::alloc::Global;
+use tt_instance::Instance;
+use tt_leaf_rules::Bound;
+use tt_proof_check::check_proof_with;
+use tt_text::Source;
+use tt_text_peek::{Peek, PeekFault};
+
+/// Checks a tree proof, as the file that has begun, and returns its bound if it claims no target that an earlier file claims.
+fn take_proof<R: Source>(
+    alloc: Global,
+    instance: &Instance<'_>,
+    table: &mut Table,
+    source: &mut R,
+) -> Result<Bound, SumFault>
+    requires { 0 < table.old.proof }
+    ensures joins { IfOk result (λ b. (before : State) (parts : List Part) → IsTableOf before parts → table.old ≡ begun before →
+        Joins instance.now (R.remaining source.old) parts table.new b) }
+    ensures proof { OnOk result (table.new.proof ≡ table.old.proof) }
+    ensures fault { IfErr result (λ e. (before : State) (parts : List Part) (bytes : List ℕ) → IsTableOf before parts → table.old ≡ begun before →
+        R.remaining source.old ≡ Some bytes → is_groups bytes ≡ false → TellsAdded instance.now parts bytes e) }
+    ensures numbered { IfErr result (IsNumbered table.old.proof) }
+    ensures failed { result ≡ Err (read_failed_at table.old.proof) → R.has_failed source.new ≡ true }
+    ensures unfailed { ¬ (result ≡ Err (read_failed_at table.old.proof)) → R.has_failed source.new ≡ R.has_failed source.old }
+    ensures memory { IfErr result OutOfMemoryIsOneFault }
+    ensures up_to_failed_read { result ≡ Err (read_failed_at table.old.proof) → (bytes : List ℕ) → R.remaining source.old ≡ Some bytes →
+        IsJudgedUpToFailedRead instance.now bytes (R.remaining source.new) }
+{
+    // In every instance, the numbers are small enough to be read.
+    prove!(instance.days() > 0);
+    let proof = table.proof();
+    let bound = match check_proof_with(alloc, instance, table, source) {
+        Ok(bound) => bound,
+        Err(fault) => return Err(fault_of_proof(proof, fault)),
+    };
+    if let Some(clash) = table.clash() {
+        return Err(SumFault::ClaimedElsewhere {
+            proof,
+            node: clash.node,
+            earlier: clash.earlier,
+        });
+    }
+    Ok(bound)
+}
+
+/// Checks another file, and returns its bound if it claims no target that an earlier file claims.
+pub fn take_file<R: Peek>(
+    alloc: Global,
+    instance: &Instance<'_>,
+    table: &mut Table,
+    source: &mut R,
+) -> Result<Bound, SumFault>
+    requires room { table.old.proof < u64.MAX }
+    ensures joins { IfOk result (λ b. (parts : List Part) → IsTableOf table.old parts → Joins instance.now (R.remaining source.old) parts table.new b) }
+    ensures next { OnOk result (table.new.proof ≡ table.old.proof + 1) }
+    ensures fault { IfErr result (λ e. (parts : List Part) (bytes : List ℕ) → IsTableOf table.old parts → R.remaining source.old ≡ Some bytes →
+        TellsAdded instance.now parts bytes e) }
+    ensures numbered { IfErr result (IsNumbered (table.old.proof + 1)) }
+    ensures failed { result ≡ Err (read_failed_at (table.old.proof + 1)) → R.has_failed source.new ≡ true }
+    ensures unfailed { ¬ (result ≡ Err (read_failed_at (table.old.proof + 1))) → R.has_failed source.new ≡ R.has_failed source.old }
+    ensures memory { IfErr result OutOfMemoryIsOneFault }
+    ensures up_to_failed_read { result ≡ Err (read_failed_at (table.old.proof + 1)) → (bytes : List ℕ) → R.remaining source.old ≡ Some bytes →
+        IsFileJudgedUpToFailedRead instance.now bytes (R.remaining source.new) }
+{
+    table.begin();
+    match source.peek_groups() {
+        Ok(true) => take_groups(alloc, instance, table, source),
+        Ok(false) => take_proof(alloc, instance, table, source),
+        Err(PeekFault::Read) => Err(read_failed(table.proof())),
+        Err(PeekFault::OutOfMemory) => Err(SumFault::OutOfMemory),
+    }
+}

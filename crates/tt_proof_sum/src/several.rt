@@ -1,0 +1,50 @@
+//! The sum of a list of files.
+
+ghost use Rattle.std.specs.Prelude.{◌≡◌, ◌+◌, ◌-◌, ◌<◌, ◌≤◌, ◌^◌, ℕ, List, Some, Err, true, IfOk, IfErr, MatchResult, slice_get};
+ghost use Rattle.tt_leaf_rules.specs.declared.leaf.Bound.{Bound};
+ghost use Rattle.tt_proof_check.specs.Derives.{HoldsOfAll};
+ghost use Rattle.tt_proof_sum.specs.Added.{Give};
+ghost use Rattle.tt_proof_sum.specs.Faults.{IsSumFault, OutOfMemoryIsOneFault, IsSilentSum, read_failed_at, all_points};
+ghost use Rattle.tt_proof_sum.specs.Sums.{IsSum};
+ghost use Rattle.tt_proof_sum.specs.UpToFailedRead.{IsFileJudgedUpToFailedRead};
+
+use crate::fault::SumFault;
+use crate::summed::Sum;
+use std::alloc::Global;
+use tt_instance::Instance;
+use tt_leaf_rules::Bound;
+use tt_text_peek::Peek;
+
+/// Returns the sum of the bounds of files that claim distinct targets, tree proofs and files of groups; `Nothing` if one of them says that
+/// no timetable exists, and 0 if there is no file. The files are read in turn.
+pub fn sum_proofs<R: Peek>(
+    alloc: Global,
+    instance: &Instance<'_>,
+    sources: &mut [R],
+) -> Result<Bound, SumFault>
+    // Each file spells a part that is right, no target is claimed by two of them, and the result is the sum.
+    ensures found { IfOk result (λ s. (files : List (List ℕ)) → Give R.remaining sources.old files → IsSum instance.now files s) }
+    // If the files have a sum below 2^64, the result is that sum, unless memory runs out, a read fails or a group's claim is left open.
+    ensures only { (files : List (List ℕ)) (s : Bound) → Give R.remaining sources.old files → (h : IsSum instance.now files s) →
+        all_points h.parts < 2 ^ 64 → MatchResult result (λ c. c ≡ s) IsSilentSum }
+    // This holds for any bytes that the sources give.
+    ensures holds { IfOk result (HoldsOfAll instance.now) }
+    // A refusal names the first file that can't be added to those before it, and its first fault.
+    ensures fault { IfErr result (λ e. (files : List (List ℕ)) → Give R.remaining sources.old files → IsSumFault instance.now files e) }
+    // A failed read is reported exactly if a read failed.
+    ensures failed { (i : ℕ) (r : R) → result ≡ Err (read_failed_at (i + 1)) → slice_get sources.new i ≡ Some r → R.has_failed r ≡ true }
+    ensures unfailed { (i : ℕ) (r q : R) → ¬ (result ≡ Err (read_failed_at (i + 1))) → slice_get sources.old i ≡ Some r → slice_get sources.new i ≡ Some q →
+        R.has_failed q ≡ R.has_failed r }
+    ensures memory { IfErr result OutOfMemoryIsOneFault }
+    // If a read failed, everything in the bytes before it has been checked.
+    ensures up_to_failed_read { (i : ℕ) (r q : R) (bytes : List ℕ) → result ≡ Err (read_failed_at (i + 1)) → slice_get sources.old i ≡ Some r → slice_get sources.new i ≡ Some q →
+        R.remaining r ≡ Some bytes → IsFileJudgedUpToFailedRead instance.now bytes (R.remaining q) }
+{
+    // In every instance, the numbers are small enough to be read.
+    prove!(instance.days() > 0);
+    let mut sum = Sum::new(alloc)?;
+    for source in sources {
+        sum = sum.add(alloc, instance, source)?;
+    }
+    Ok(sum.bound())
+}

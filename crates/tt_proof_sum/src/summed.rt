@@ -1,0 +1,89 @@
+//! A sum of files that are added in turn.
+
+ghost use Rattle.std.specs.Prelude.{◌≡◌, ◌+◌, ◌<◌, ◌≤◌, ◌^◌, ℕ, List, [], ◌++◌, ◌∷◌, Some, Err, true, IfOk, IfErr, MatchOption};
+ghost use Rattle.tt_proof_sum.specs.Added.{IsSumOf, Adds, due};
+ghost use Rattle.tt_proof_sum.specs.Faults.{TellsAdded, IsNumbered, OutOfMemoryIsOneFault, IsSilentSum, read_failed_at, points, all_points};
+ghost use Rattle.tt_proof_sum.specs.Sums.{Part, IsPart, AreApart, both_bounds, sum_of};
+ghost use Rattle.tt_proof_sum.specs.UpToFailedRead.{IsFileJudgedUpToFailedRead};
+
+use crate::fault::SumFault;
+use crate::one_more::take_file;
+use crate::table::Table;
+use std::alloc::{AllocError, Global};
+use tt_instance::Instance;
+use tt_leaf_rules::Bound;
+use tt_text_peek::Peek;
+
+/// Returns the sum of two bounds if it is below 2^64.
+fn both(a: Bound, b: Bound) -> Option<Bound>
+    ensures { MatchOption result (2 ^ 64 ≤ points a + points b) (λ c. c ≡ both_bounds a b) }
+{
+    match (a, b) {
+        (Bound::AtLeast(a), Bound::AtLeast(b)) => Some(Bound::AtLeast(a.checked_add(b)?)),
+        _ => Some(Bound::Nothing),
+    }
+}
+
+/// The sum of the bounds of files that claim distinct targets.
+#[derive(Drop)]
+pub struct Sum {
+    table: Table,
+    total: Bound,
+}
+
+impl Sum {
+    /// Creates the sum of no files.
+    pub fn new(alloc: Global) -> Result<Sum, AllocError>
+        ensures { IfOk result (λ s. IsSumOf s []) }
+    {
+        Ok(Sum {
+            table: Table::new(alloc)?,
+            total: Bound::AtLeast(0),
+        })
+    }
+
+    /// Returns the bound that the files added so far prove together.
+    pub fn bound(&self) -> Bound
+        ensures { (parts : List Part) → IsSumOf self.now parts → result ≡ sum_of parts }
+    {
+        self.total
+    }
+
+    /// Checks another file, and adds its bound if it claims no target that an earlier file claims.
+    pub fn add<R: Peek>(
+        mut self,
+        alloc: Global,
+        instance: &Instance<'_>,
+        source: &mut R,
+    ) -> Result<Sum, SumFault>
+        requires room { due self < 2 ^ 64 }
+        // The source's bytes spell a part that is right and apart from the others, and its bound is added.
+        ensures added { IfOk result (λ s. (parts : List Part) → IsSumOf self parts → Adds instance.now (R.remaining source.old) parts s) }
+        ensures next { IfOk result (λ s. due s ≡ due self + 1) }
+        // If the bytes spell such a part, it is added if the sum stays below 2^64, unless memory runs out, a read fails or a group's claim is left open.
+        ensures only { (parts : List Part) (bytes : List ℕ) (part : Part) → IsSumOf self parts → R.remaining source.old ≡ Some bytes →
+            IsPart instance.now bytes part → AreApart (parts ++ part ∷ []) → all_points (parts ++ part ∷ []) < 2 ^ 64 → IfErr result IsSilentSum }
+        // A refusal reports the first fault.
+        ensures fault { IfErr result (λ e. (parts : List Part) (bytes : List ℕ) → IsSumOf self parts → R.remaining source.old ≡ Some bytes →
+            TellsAdded instance.now parts bytes e) }
+        ensures numbered { IfErr result (IsNumbered (due self)) }
+        // A failed read is reported exactly if a read failed.
+        ensures failed { result ≡ Err (read_failed_at (due self)) → R.has_failed source.new ≡ true }
+        ensures unfailed { ¬ (result ≡ Err (read_failed_at (due self))) → R.has_failed source.new ≡ R.has_failed source.old }
+        ensures memory { IfErr result OutOfMemoryIsOneFault }
+        // If a read failed, everything in the bytes before it has been checked.
+        ensures up_to_failed_read { result ≡ Err (read_failed_at (due self)) → (bytes : List ℕ) → R.remaining source.old ≡ Some bytes →
+            IsFileJudgedUpToFailedRead instance.now bytes (R.remaining source.new) }
+    {
+        // In every instance, the numbers are small enough to be read.
+        prove!(instance.days() > 0);
+        let bound = take_file(alloc, instance, &mut self.table, source)?;
+        match both(self.total, bound) {
+            Some(total) => {
+                self.total = total;
+                Ok(self)
+            }
+            None => Err(SumFault::TooLarge(self.table.proof())),
+        }
+    }
+}

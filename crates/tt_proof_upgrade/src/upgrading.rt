@@ -1,0 +1,107 @@
+//! Proofs that are written again.
+
+ghost use Rattle.std.specs.Prelude.{◌≡◌, ◌≤◌, List, ℕ, length, All, true, Some, Err, IfOk, IfErr, OnOk, MatchResult};
+ghost use Rattle.tt_leaf_rules.specs.declared.leaf.Bound.{Bound};
+ghost use Rattle.tt_proof_read.specs.declared.format.TheConstants.{MAX_PROOF_NODES};
+ghost use Rattle.tt_proof_check.specs.Derives.{HoldsOfAll, Proves};
+ghost use Rattle.tt_proof_read.specs.Spelling.{IsNode, SpellsProof};
+ghost use Rattle.tt_proof_read.specs.Trees.{Tree, preorder, IsPreorder};
+ghost use Rattle.tt_proof_check.specs.Nodes.{IsNodeOf};
+ghost use Rattle.tt_proof_check.specs.Streams.{IsProved, stream_of};
+ghost use Rattle.tt_proof_text.specs.Within.{Writes};
+ghost use Rattle.tt_instance.specs.Problem.{Problem};
+ghost use Rattle.tt_proof_upgrade.specs.Faults.{read_failed, IsNodesFault, IsWriteFault, OutOfMemoryIsOneFault};
+ghost use Rattle.tt_proof_upgrade.specs.Texts.{IsReadUpToFailedRead};
+ghost use Rattle.tt_proof_upgrade.specs.Upgrades.{IsUpgraded, IsEnvironmental, IsUpgradeFault};
+
+use crate::fault::{UpgradeFault, node_fault};
+use crate::reading::parse_proof;
+use std::alloc::Global;
+use tt_instance::Instance;
+use tt_leaf_rules::Bound;
+use tt_proof_check::check_nodes;
+use tt_proof_read::Node;
+use tt_proof_text::{WriteFault, write_proof};
+use tt_text::Source;
+
+/// The bound that a proof derives, and the text of the same proof in version 2.
+#[derive(Debug, Drop)]
+pub struct Upgraded {
+    pub bound: Bound,
+    pub bytes: Vec<u8>,
+}
+
+/// Checks the nodes of a tree.
+fn judge(
+    alloc: Global,
+    instance: &Instance<'_>,
+    bound: Bound,
+    nodes: &[Node],
+) -> Result<(), UpgradeFault>
+    requires nodes { All (IsNodeOf instance.now) nodes.now }
+    requires tree { IsPreorder nodes.now }
+    requires few { length nodes.now ≤ MAX_PROOF_NODES }
+    ensures proves { OnOk result (Proves instance.now bound nodes.now) }
+    ensures fault { IfErr result (IsNodesFault instance.now bound nodes.now) }
+{
+    match check_nodes(alloc, instance, bound, nodes) {
+        Ok(()) => Ok(()),
+        Err(fault) => Err(node_fault(fault)),
+    }
+}
+
+/// Writes the text of a tree in version 2.
+fn write(
+    alloc: Global,
+    instance: &Instance<'_>,
+    bound: Bound,
+    nodes: &[Node],
+) -> Result<Vec<u8>, UpgradeFault>
+    requires { Proves instance.now bound nodes.now }
+    ensures text { IfOk result (λ out. Writes 2 bound nodes.now out.items) }
+    ensures again { (p : Problem) (tree : Tree) → preorder tree ≡ nodes.now → All (IsNode p 2) nodes.now → IfOk result (λ out. SpellsProof p out.items 2 bound tree) }
+    ensures fault { IfErr result (IsWriteFault bound nodes.now) }
+{
+    match write_proof(alloc, 2, bound, nodes) {
+        Ok(bytes) => Ok(bytes),
+        Err(WriteFault::OverLimit) => Err(UpgradeFault::TooLarge),
+        Err(WriteFault::OutOfMemory) => Err(UpgradeFault::OutOfMemory),
+        Err(WriteFault::NotATree) => unreachable!(),
+        Err(WriteFault::NotInVersion) => unreachable!(),
+    }
+}
+
+/// Reads a proof of either version as a whole, checks it, and writes its bound and its tree in version 2. Since it is read as a whole, a fault of
+/// the text is reported before one of its nodes.
+pub fn upgrade<R: Source>(
+    alloc: Global,
+    instance: &Instance<'_>,
+    source: &mut R,
+) -> Result<Upgraded, UpgradeFault>
+    // The bytes spell a tree that derives the bound, and the output spells the same tree.
+    ensures found { IfOk result (λ u. (bytes : List ℕ) → R.remaining source.old ≡ Some bytes → IsUpgraded instance.now bytes u.bound u.bytes.items) }
+    // If the bytes spell a tree that derives its bound, the proof is written, unless memory runs out, a read fails or the text grows too large.
+    ensures only { (bytes : List ℕ) (b : Bound) → R.remaining source.old ≡ Some bytes → IsProved instance.now bytes b →
+        MatchResult result (λ u. u.bound ≡ b) IsEnvironmental }
+    // This holds for any bytes that the source gives.
+    ensures holds { IfOk result (λ u. HoldsOfAll instance.now u.bound) }
+    // A failed read is reported exactly if a read failed.
+    ensures failed { result ≡ Err read_failed → R.has_failed source.new ≡ true }
+    ensures unfailed { ¬ (result ≡ Err read_failed) → R.has_failed source.new ≡ R.has_failed source.old }
+    ensures fault { IfErr result (λ f. (bytes : List ℕ) → R.remaining source.old ≡ Some bytes → IsUpgradeFault instance.now (stream_of bytes) f) }
+    // If a read fails, everything in the bytes before it has been read.
+    ensures up_to_failed_read { result ≡ Err read_failed → (bytes : List ℕ) → R.remaining source.old ≡ Some bytes →
+        IsReadUpToFailedRead instance.now bytes (R.remaining source.new) }
+    // Being out of memory is a single fault, wherever it comes from.
+    ensures memory { IfErr result OutOfMemoryIsOneFault }
+{
+    // In every instance, the numbers are small enough to be read.
+    prove!(instance.days() > 0);
+    let read = parse_proof(alloc, instance, source)?;
+    judge(alloc, instance, read.bound, &read.nodes)?;
+    let bytes = write(alloc, instance, read.bound, &read.nodes)?;
+    Ok(Upgraded {
+        bound: read.bound,
+        bytes,
+    })
+}

@@ -1,0 +1,36 @@
+//! Fields of a table in quotes.
+
+ghost use Rattle.std.specs.Prelude.{◌≡◌, ◌++◌, flat_map, OnOk};
+ghost use Rattle.tt_report_export.specs.Tables.{doubled, quoted};
+
+use std::alloc::AllocError;
+use tt_text::put_token;
+
+/// Appends a byte, a quote twice.
+fn put_doubled(out: &mut Vec<u8>, byte: u8) -> Result<(), AllocError>
+    ensures { OnOk result (out.new.items ≡ out.old.items ++ doubled byte) }
+{
+    if byte == b'"' {
+        return put_token(out, b"\"\"");
+    }
+    put_token(out, &[byte])
+}
+
+/// Appends the bytes of a name, each quote twice.
+fn put_all_doubled(out: &mut Vec<u8>, name: &[u8]) -> Result<(), AllocError>
+    ensures { OnOk result (out.new.items ≡ out.old.items ++ flat_map doubled name.now) }
+{
+    for byte in name {
+        put_doubled(out, *byte)?;
+    }
+    Ok(())
+}
+
+/// Appends a name in quotes.
+pub fn put_quoted(out: &mut Vec<u8>, name: &[u8]) -> Result<(), AllocError>
+    ensures { OnOk result (out.new.items ≡ out.old.items ++ quoted name.now) }
+{
+    put_token(out, b"\"")?;
+    put_all_doubled(out, name)?;
+    put_token(out, b"\"")
+}

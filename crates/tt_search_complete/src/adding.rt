@@ -1,0 +1,50 @@
+//! Adds the lectures of a course.
+
+ghost use Rattle.std.specs.Prelude.{◌≡◌, ◌+◌, ◌<◌, ◌≤◌, ◌++◌, ◌∷◌, [], length, OnOk};
+ghost use Rattle.tt_table.specs.declared.table.TheConstants.{MAX_ENTRIES};
+ghost use Rattle.tt_search_construct.specs.Filled.{HasMore};
+ghost use Rattle.tt_search_complete.specs.Progress.{Begins};
+
+use crate::board::Board;
+use std::alloc::AllocError;
+use tt_instance::Instance;
+use tt_table::{Entry, PushFault, Timetable};
+
+/// Adds an entry to a timetable that has room for it.
+fn push(table: &mut Timetable, entry: Entry) -> Result<(), AllocError>
+    requires { length table.old < MAX_ENTRIES }
+    ensures { OnOk result (table.new ≡ table.old ++ entry ∷ []) }
+{
+    match table.push(entry) {
+        Ok(()) => Ok(()),
+        Err(PushFault::OutOfMemory) => Err(AllocError),
+        Err(PushFault::Full) => unreachable!(),
+    }
+}
+
+/// Adds lectures of a course at the places that suit it best, in turn.
+pub fn add_lectures(
+    instance: &Instance<'_>,
+    table: &mut Timetable,
+    board: &mut Board,
+    course: u32,
+    count: u32,
+) -> Result<(), AllocError>
+    requires course { course < length instance.now.courses }
+    requires rooms { 0 < length instance.now.rooms }
+    requires few { length table.old + count ≤ MAX_ENTRIES }
+    ensures more { OnOk result (HasMore instance.now course count table.old table.new) }
+    ensures begins { OnOk result (Begins table.old table.new) }
+{
+    if count == 0 {
+        return Ok(());
+    }
+    board.turn_to(instance, table.entries(), course);
+    for _ in 0..count {
+        let entry = board.best_entry(instance, course);
+        push(table, entry)?;
+        board.take(entry);
+        board.add_conflict(entry);
+    }
+    Ok(())
+}

@@ -1,5 +1,0 @@
-use Rattle.tt_sum.proofs.Together.{sum_holds}
-use Rattle.tt_sum.proofs.laws.sums_hold.Goals as goal
-
-pub returns : goal.returns
-returns c = λ p files s h. sum_holds p files s h

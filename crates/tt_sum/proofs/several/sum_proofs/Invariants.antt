@@ -1,9 +1,0 @@
-use Rattle.std.proofs.Common.{◌≡◌, length}
-use Rattle.tt_sum.proofs.Lists.{Sofar}
-use Rattle.tt_sum.proofs.several.sum_proofs.Given as goal
-
-abbrev pub invariant-loop-source : goal.invariant-loop-source
-invariant-loop-source g l = record {
-  sofar : Sofar l.instance g.R.Source.remaining g.R.Source.has_failed l.fn.sources l.source-items l.source-index l.sum;
-  long : length l.source-items ≡ length l.fn.sources;
-}
