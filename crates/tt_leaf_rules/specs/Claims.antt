@@ -68,7 +68,7 @@ abbrev pub is_fair : Problem → List Fact → Claim → Bool
 is_fair p path (Prices courses rooms) = are_covered p path courses rooms
 is_fair p path _ = true
 
--- The number of periods in which a listed course has a live cell in the room.
+-- How many periods have a live cell of some listed course in the room.
 abbrev pub open_in : Problem → List Fact → List (ℕ × ℕ) → ℕ → ℕ
 open_in p path courses r = count_by (λ s. list_any (λ k. is_live p path (cell k.0 r s)) courses) (all_slots p)
 

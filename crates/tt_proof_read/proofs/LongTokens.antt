@@ -35,7 +35,7 @@ abbrev IsLong : Bool → ℕ → ℕ → ℕ → List ℕ → Type 0
 IsLong true n k a bs = ((a + k ≡ n) × (32 < k + prefix_len in_token bs)) ⊎ HasLong a (tokens_from true n bs)
 IsLong false n k a bs = HasLong a (tokens_from false n bs)
 
--- this fault is not told of bytes that are too many
+-- this fault is not the one of too many bytes
 not_many : (n a : ℕ) (f : Fault) → (let x : Fault = record { byte = n; told = TooManyBytes } in x) ≡ f → f.told ≡ TokenTooLong a → ⊥
 not_many n a f e told = cc
 

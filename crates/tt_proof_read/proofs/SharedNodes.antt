@@ -1,4 +1,4 @@
--- Each part of the reader of a proof, beside itself over another stream.
+-- Each part of the reader of a proof over one stream, compared with the same part over another stream.
 use Rattle.std.proofs.Common.{inr, ℕ, List, [], ◌∷◌, Option, Some, None, Result, Ok, Err, subst}
 use Rattle.std.specs.List.{push}
 use Rattle.tt_text.specs.Tokens.{Placed}

@@ -1,4 +1,4 @@
--- The verdicts on a single token, beside those on a token with the same text.
+-- The verdicts on a single token, compared with those on a token with the same text.
 use Rattle.std.proofs.Common.{◌≡◌, ◌≢◌, ℕ, Bool, true, false, cond, List, [], ◌∷◌, ◌==◌, Option, Some, None, Result, Ok, Err, refl, codes}
 use Rattle.std.specs.Prelude.{nat_lt, ◌&&◌}
 use Rattle.tt_lists.specs.Words.{has_number}

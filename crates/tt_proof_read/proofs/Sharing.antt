@@ -1,4 +1,4 @@
--- A reader of a proof over one stream, beside itself over another one: if it fails at a token that both share, it fails over both.
+-- A reader of a proof over two streams: if it fails at a token that both share, it fails over both.
 use Rattle.std.proofs.Common.{◌≡◌, ◌≢◌, ◌⊎◌, inl, inr, ℕ, zero, suc, Bool, true, false, cond, List, [], ◌∷◌, length, Option, Some, None, Result, Ok, Err, refl, subst}
 use Rattle.tt_text.specs.Tokens.{Placed}
 use Rattle.tt_text.specs.Feeds.{Stream}

@@ -15,7 +15,7 @@ ghost use Rattle.tt_proof_read.specs.declared.fault.TextFault.{TextFault};
 ghost use Rattle.tt_proof_read.specs.declared.sizes.Sizes.{Sizes};
 
 /// If reading a proof of an instance fails at a token, then that token is in the bytes, and no bytes whose tokens have the same texts up to it, and
-/// that one too, spell a proof of this instance, whatever else they hold.
+/// that one too, spell a proof of this instance, regardless of what follows.
 pub fn faulty_beginnings_spell_none()
     ensures token { (sizes : Sizes) (bytes : List ℕ) (e : TextFault) (at : ℕ) →
         ReadingFails sizes (stream_of_bytes bytes) e → token_offset e ≡ Some at → Any (λ t. t.at ≡ at) (tokens_of bytes) }
