@@ -17,6 +17,8 @@ PROOF_BYTES = 4_294_967_295
 HEADER = b"CTTP 1 bound 0\n"
 END = b"end\n"
 TIMER = shutil.which("time")
+# The status of a run that was stopped, by the command timeout.
+STOPPED = 124
 
 
 @dataclass
@@ -47,6 +49,7 @@ class Table:
 
     def run(self, words, pieces=(), seconds=1200):
         timer = [TIMER, "-q", "-f", "%M"] if TIMER else []
+        timer += ["timeout", f"{seconds:.0f}"]
         with tempfile.TemporaryFile() as out, tempfile.TemporaryFile() as err:
             start = time.perf_counter()
             child = subprocess.Popen([*timer, PROGRAM, *words.split()], cwd=self.folder, stdin=subprocess.PIPE, stdout=out, stderr=err)

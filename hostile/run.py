@@ -3,15 +3,17 @@
 
     python3 hostile/run.py [PART ..]
 
-The parts, all of them where none is named:
+The parts, all of them but the last if none is named:
 
 calls    each public call that takes memory, with its first growth refused, then its second, until none is met
 memory   the program, each command the same way
 disk     the program, each command with each call to the system failing in turn, in several ways
 inputs   cut files, endless files, numbers at their limits, files that aren't there
 largest  the largest inputs that are taken, and what is one above a limit; prints times and peak memory
+slow     files that hold the program long for their size; fails if a row takes twice what is aimed at, as some still do, so this part runs
+         only if it is named
 
-All of them take some eight minutes, the largest inputs less than a third of that; the last line but one says how long it took. It needs what `rt ci`, or
+The others take some eight minutes, the largest inputs less than a third of that; the last line but one says how long it took. It needs what `rt ci`, or
 `./tt` and `rt all test`, have built. The last line is `N passed, M failed`; the status is 1 where something failed.
 """
 
@@ -25,6 +27,7 @@ import calls
 import inputs
 import largest
 import program
+import slow
 from refusing import Refuser
 
 
@@ -81,11 +84,18 @@ def run_largest(tally, refuser, folder):
             tally.run(name, lambda: row(largest.Table(Path(room))))
 
 
-PARTS = {"calls": run_calls, "memory": run_memory, "disk": run_disk, "inputs": run_inputs, "largest": run_largest}
+def run_slow(tally, refuser, folder):
+    for name, row in slow.ROWS:
+        with tempfile.TemporaryDirectory(dir=folder) as room:
+            tally.run(name, lambda: row(largest.Table(Path(room))))
+
+
+PARTS = {"calls": run_calls, "memory": run_memory, "disk": run_disk, "inputs": run_inputs, "largest": run_largest, "slow": run_slow}
+BY_NAME_ALONE = {"slow"}
 
 
 def main():
-    asked = sys.argv[1:] or list(PARTS)
+    asked = sys.argv[1:] or [it for it in PARTS if it not in BY_NAME_ALONE]
     if not set(asked) <= set(PARTS):
         sys.exit(__doc__)
     if not program.PROGRAM.exists():

@@ -1,0 +1,113 @@
+"""The files that hold the program longest for their size, of those that were looked for: each with its seconds, and its seconds a MB.
+
+A row is slow if it takes twice what is aimed at: 20 seconds and a second for each MB of the file that is tried, beside what the same
+command takes on the same instance with a file of one line. A run that passes the row's limit is stopped and counts as slow."""
+
+from largest import ROOMS, STOPPED, course
+from samples import MINI
+
+AIM_SECONDS, AIM_SECONDS_A_MB, TIMES = 20, 1, 2
+MOST_COURSES = 2_048
+MB = 1_000_000
+EASY = b"CTTP 1 bound 0 B ; end\n"
+
+
+def instance_of(courses, rooms, days, periods, curricula, teachers=None):
+    """An instance whose courses have one lecture and one student each; each curriculum is a list of numbers of courses."""
+    lines = ["Name: Slow", f"Courses: {courses}", f"Rooms: {rooms}", f"Days: {days}", f"Periods_per_day: {periods}"]
+    lines += [f"Curricula: {len(curricula)}", "Constraints: 0", "COURSES:"]
+    lines += [f"{course(it)} t{it if teachers is None else it % teachers} 1 1 1" for it in range(courses)]
+    lines += ["ROOMS:", *(f"R{it} 1" for it in range(rooms)), "CURRICULA:"]
+    lines += [f"q{number} {len(members)} " + " ".join(course(it) for it in members) for number, members in enumerate(curricula)]
+    return "\n".join([*lines, "UNAVAILABILITY_CONSTRAINTS:", "END.\n"]).encode()
+
+
+def comb(patterns, version=1):
+    """A proof that splits by each pattern in turn; the second child of each split is a leaf that claims nothing."""
+    return b"CTTP %d bound 0 " % version + b" ".join(b"S " + it for it in patterns) + b" B ;" * (len(patterns) + 1) + b" end\n"
+
+
+def timed(table, words, size, wanted):
+    """What a command takes beside what it takes on an easy file, in words; a slow row is a failure."""
+    easy = table.run(words.replace("hard", "easy"))
+    most = TIMES * (AIM_SECONDS + AIM_SECONDS_A_MB * size / MB) + easy.seconds
+    hard = table.run(words, seconds=most)
+    taken = hard.seconds - easy.seconds
+    said = f"{size} bytes, {taken:.2f} s, {taken / size * MB:.1f} s a MB, {hard.peak:.0f} MiB"
+    assert hard.status != STOPPED, f"slow, stopped: {said}"
+    assert hard.status in wanted, f"{hard.told()}"
+    return said
+
+
+def proofs(table, instance, hard):
+    """What the checker takes for a proof beside one of a single leaf."""
+    table.put(instance=instance, hard=hard, easy=EASY)
+    return timed(table, "bound instance hard", len(hard), (0,))
+
+
+def splits_of_one_pattern(table):
+    """As many splits as a branch may have, all by one pattern."""
+    return proofs(table, MINI, comb([b"c0 * d0 p0"] * 65_536))
+
+
+def wide_facts_of_a_large_curriculum(table):
+    """A curriculum of all courses, and facts that it meets at all."""
+    return proofs(table, instance_of(MOST_COURSES, ROOMS, 64, 8, [range(MOST_COURSES)]), comb([b"q0 * * *"] * 128))
+
+
+def facts_of_a_period(table):
+    """A curriculum of all courses, and as many facts about it as about one course in the same period."""
+    patterns = [b"q0 * d0 p0"] * 128 + [b"c0 * d0 p0"] * 128
+    return proofs(table, instance_of(MOST_COURSES, 1, 1, 1, [range(MOST_COURSES)]), comb(patterns))
+
+
+def wide_facts(table):
+    """Facts about a room, a day or a period of each course of a week of a faculty's size."""
+    patterns = [b"c%d %s %s %s" % (it % 80, b"r%d" % (it % 18) if it % 3 == 0 else b"*", b"d%d" % (it % 5) if it % 3 == 1 else b"*",
+                                   b"p%d" % (it % 5) if it % 3 == 2 else b"*") for it in range(20_000)]
+    return proofs(table, instance_of(80, 18, 5, 5, [range(4 * it, 4 * it + 4) for it in range(20)]), comb(patterns))
+
+
+def prices_of_all(table):
+    """Claims about the seats of all courses with a price for each room."""
+    claim = b"P " + b" ".join(b"c%d 0" % it for it in range(MOST_COURSES)) + b" " + b" ".join(b"r%d 0" % it for it in range(512)) + b" / "
+    return proofs(table, instance_of(MOST_COURSES, 512, 32, 1, []), b"CTTP 2 bound 0 B " + claim + b"; end\n")
+
+
+def clique_of_all(table):
+    """A clique of all courses, eleven times."""
+    leaf = b" K " + b" ".join(b"c%d" % it for it in range(MOST_COURSES)) + b" ;"
+    hard = b"CTTP 1 bound none" + b" S c0 * d0 p0" * 10 + leaf * 11 + b" end\n"
+    return proofs(table, instance_of(MOST_COURSES, 1, 1, 8, [], teachers=1), hard)
+
+
+def weeks(table, words, curricula, entries):
+    """Each curriculum has one course, which has all entries, in one period."""
+    instance, entry = instance_of(1, 1, 1, 1, [[0]] * curricula), f"{course(0)} R0 0 0\n".encode()
+    table.put(instance=instance, hard=entry * entries, easy=entry)
+    return timed(table, words, len(instance) + len(entry) * entries, (0, 1))
+
+
+def validate_of_many_entries(table):
+    return weeks(table, "validate instance hard", 8_192, 16_384)
+
+
+def report_of_many_entries(table):
+    return weeks(table, "report instance hard --by curriculum", 8_192, 4_096)
+
+
+def page_of_many_entries(table):
+    return weeks(table, "page instance hard out", 1_024, 1_024)
+
+
+ROWS = [
+    ("65,536 splits of one pattern", splits_of_one_pattern),
+    ("128 facts about all cells of a curriculum of all courses", wide_facts_of_a_large_curriculum),
+    ("facts about one period of a curriculum of all courses", facts_of_a_period),
+    ("20,000 facts about rooms, days and periods", wide_facts),
+    ("prices of all courses and rooms", prices_of_all),
+    ("a clique of all courses, eleven times", clique_of_all),
+    ("validate: 8,192 curricula, 16,384 entries in one period", validate_of_many_entries),
+    ("report: 8,192 curricula, 4,096 entries in one period", report_of_many_entries),
+    ("page: 1,024 curricula, 1,024 entries in one period", page_of_many_entries),
+]
