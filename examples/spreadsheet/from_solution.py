@@ -159,7 +159,7 @@ def put_ics(out, instance, week, options):
     """Writes one event for each lecture of the first week."""
     name, _, _, courses, _, curricula = instance
     made, seen = stamp(), {}
-    lines = ["BEGIN:VCALENDAR", "VERSION:2.0", "PRODID:-//Dethukwe//from_solution//EN", "CALSCALE:GREGORIAN"]
+    lines = ["BEGIN:VCALENDAR", "VERSION:2.0", "PRODID:-//tt//from_solution//EN", "CALSCALE:GREGORIAN"]
     for day, period, number, course, room in week:
         place = (day, period, number, course, room, courses[course][0], curricula[course])
         lines += event_lines(name, options, made, place, seen.get(course, 0))
