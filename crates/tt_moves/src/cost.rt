@@ -1,12 +1,21 @@
 //! The cost of one entry.
 
-ghost use Rattle.std.specs.Prelude.{◌<◌, ◌^◌};
+ghost use Rattle.std.specs.Prelude.{◌<◌};
+
+/// The cost of a day below a course's minimum, in cost points.
+pub const DAY_PRICE: u32 = 5;
+
+/// The cost of an isolated entry, in cost points.
+pub const ISOLATED_PRICE: u32 = 2;
+
+/// What an entry adds to the cost, and what it removes from it, is below this, 2^30.
+pub const COST_LIMIT: u32 = 1_073_741_824;
 
 /// The cost that an entry adds next to the other entries, and the cost that it removes.
 #[derive(Clone, Copy)]
 pub struct EntryCost {
     pub rise: u32,
     pub fall: u32,
-    ghost small_rise: { rise < 2 ^ 30 },
-    ghost small_fall: { fall < 2 ^ 30 },
+    ghost small_rise: { rise < COST_LIMIT },
+    ghost small_fall: { fall < COST_LIMIT },
 }
