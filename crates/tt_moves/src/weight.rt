@@ -10,7 +10,8 @@ ghost use Rattle.tt_moves.specs.Rests.{IsRest};
 ghost use Rattle.tt_instance.specs.declared.limit.TheConstants.{MAX_MIN_DAYS, MAX_SLOTS};
 ghost use Rattle.tt_table.specs.declared.table.TheConstants.{MAX_ENTRIES};
 
-use crate::cost::{DAY_PRICE, EntryCost, ISOLATED_PRICE};
+use crate::cost::EntryCost;
+use crate::limit::{DAY_PRICE, ISOLATED_PRICE};
 use crate::rest::WithoutEntry;
 use tt_occupancy::one_if;
 use tt_table::Entry;

@@ -8,7 +8,6 @@ ghost use Rattle.tt_occupancy_change.specs.Standing.{standing};
 ghost use Rattle.tt_occupancy_tallies.specs.Tallies.{IsTally, of_curriculum};
 ghost use Rattle.tt_occupancy.specs.Around.{IsAround, AreGaps};
 ghost use Rattle.tt_instance.specs.declared.limit.TheConstants.{MAX_CURRICULA};
-ghost use Rattle.tt_occupancy.specs.declared.weight.TheConstants.{MAX_JOINED};
 
 use crate::around::Around;
 use crate::weighing::one_if;
@@ -102,7 +101,7 @@ pub fn gaps_round(week: &Week, rows: &[u32], day: u32, period: u32) -> Gaps
         → IsTally p (length p.curricula) (of_curriculum p) u week.now
         → AreGaps p u rows.now day period result }
     ensures few_alone { result.alone ≤ MAX_CURRICULA }
-    ensures few_joined { result.joined ≤ MAX_JOINED }
+    ensures few_joined { result.joined ≤ MAX_CURRICULA * (2 * 2 ^ 16) }
 {
     let mut gaps = Gaps {
         alone: 0,

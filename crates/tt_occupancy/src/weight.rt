@@ -1,10 +1,7 @@
 //! The weight of an entry.
 
-ghost use Rattle.std.specs.Prelude.{◌≤◌};
+ghost use Rattle.std.specs.Prelude.{◌*◌, ◌^◌, ◌≤◌};
 ghost use Rattle.tt_instance.specs.declared.limit.TheConstants.{MAX_CURRICULA};
-
-/// An entry joins at most this many isolated entries, 2^30: in each of at most `MAX_CURRICULA` curricula those of two periods.
-pub const MAX_JOINED: u32 = 1_073_741_824;
 
 /// The amounts that an entry adds to each count of a list, compared with another entry of its course.
 #[derive(Clone, Copy)]
@@ -28,5 +25,5 @@ pub struct Weight {
     /// The cost of its course's rooms with it.
     pub rooms: u32,
     ghost alone_few: { alone ≤ MAX_CURRICULA },
-    ghost joined_few: { joined ≤ MAX_JOINED },
+    ghost joined_few: { joined ≤ MAX_CURRICULA * (2 * 2 ^ 16) },
 }
