@@ -54,9 +54,7 @@ pub fn list_days(
         (x : DayEntry) → Contains entries.items x → IsReachedDay instance.now group.now courses.now day x) }
     ensures used_up { result ≡ Err fault.TooMuchWork → IsUsedUp work.new }
 {
-    let table = day_table(
-        alloc, instance, courses, sets, bound, day, places, work,
-    )?;
+    let table = day_table(alloc, instance, courses, sets, bound, day, places, work)?;
     let entries = list_entries(alloc, group, courses, sizes, weights, bound, &table)?;
     Ok(entries)
 }

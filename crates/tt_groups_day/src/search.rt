@@ -72,20 +72,8 @@ pub fn try_days(
     for set in sets {
         work.tries = work.tries.checked_sub(1).ok_or(DaysFault::TooMuchWork)?;
         if let Some(next) = more(bound, most, &periods[period].available, morning, set) {
-            work.sequences = work
-                .sequences
-                .checked_sub(1)
-                .ok_or(DaysFault::TooMuchWork)?;
-            try_days(
-                most,
-                periods,
-                sets,
-                bound,
-                period + 1,
-                &next,
-                table,
-                work,
-            )?;
+            work.sequences = work.sequences.checked_sub(1).ok_or(DaysFault::TooMuchWork)?;
+            try_days(most, periods, sets, bound, period + 1, &next, table, work)?;
         }
     }
     Ok(())

@@ -104,8 +104,6 @@ pub fn day_table(
         pending: 0,
     };
     let mut table = vec![in alloc; u8::MAX; places]?;
-    try_days(
-        &most, &periods, sets, bound, 0, &start, &mut table, work,
-    )?;
+    try_days(&most, &periods, sets, bound, 0, &start, &mut table, work)?;
     Ok(table)
 }

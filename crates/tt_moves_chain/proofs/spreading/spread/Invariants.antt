@@ -6,14 +6,14 @@ use Rattle.tt_moves_chain.specs.Marks.{marked, marks}
 use Rattle.tt_moves_chain.proofs.spreading.spread.Given as goal
 
 abbrev pub decreases-loop-from : goal.decreases-loop-from
-decreases-loop-from l = 2 * (length l.entries - marks l.flags.items) + length l.open.items
+decreases-loop-from l = 2 * (length l.entries - marks l.flags.items) + length l.waiting.items
 
 abbrev pub invariant-loop-from : goal.invariant-loop-from
 invariant-loop-from l = record {
   size : length l.flags.items ≡ length l.entries;
   starts : marked l.flags.items l.entry ≡ true;
-  inside : (i : ℕ) → Contains l.open.items i → marked l.flags.items i ≡ true;
-  followed : (i : ℕ) → marked l.flags.items i ≡ true → Contains l.open.items i ⊎
+  inside : (i : ℕ) → Contains l.waiting.items i → marked l.flags.items i ≡ true;
+  followed : (i : ℕ) → marked l.flags.items i ≡ true → Contains l.waiting.items i ⊎
       ((j : ℕ) (d : Cell) → j < length l.entries → linked l.instance l.a l.b (slice_index_or l.entries i d) (slice_index_or l.entries j d) ≡ true → marked l.flags.items j ≡ true);
   sound : (m : ℕ → Bool) → IsClosed l.instance l.entries l.a l.b m → m l.entry ≡ true → (i : ℕ) → marked l.flags.items i ≡ true → m i ≡ true;
 }
