@@ -59,7 +59,7 @@ returns c =
       size = inv.size;
       starts = inv.starts;
       closed = λ i j d h k e l. elim (inv.followed i e) [
-        | inl w ↦ absurd (omega (arith, w.1, (rw c.in_default.is at c.in_default.ensures.cases).0))
+        | inl w ↦ absurd (omega (arith, w.1, c.in_default.ensures.cases.0))
         | inr f ↦ f j d k l
       ];
       least = λ m closed starts i e. inv.sound m closed starts i e;
