@@ -6,6 +6,7 @@ use Rattle.tt_lists.specs.Words.{has_number}
 use Rattle.tt_facts_cell_set.specs.Rooms.{has_room}
 use Rattle.tt_facts_cell_set.specs.Tables.{has_cell, is_placed, is_open}
 use Rattle.tt_facts_cells.specs.Struck.{loses_room, is_beside}
+use Rattle.tt_facts_cells.proofs.Struck.{who-has}
 use Rattle.tt_facts_cells.proofs.Losing.{loses-same, placed_at, both_where}
 use Rattle.tt_facts_cells.proofs.killing.strike.Goals as goal
 
@@ -18,14 +19,14 @@ none_of : (h o l : Bool) → h ≡ false → l ≡ ((h && o) || (not h && l))
 none_of true o l e = cc
 none_of false o l e = refl
 
-pub returns-then-is_one-clause-ok : goal.returns-then-is_one-clause-ok
-returns-then-is_one-clause-ok c =
+pub returns-then-includes-clause-ok : goal.returns-then-includes-clause-ok
+returns-then-includes-clause-ok c =
     let a = c.args in
     let p = a.instance.now in
     let free = a.free.now.words in
     let g = a.pattern.now in
     let ks = a.courses.now in
-    let here : has_number ks a.course ≡ true = sym c.is_one.ensures ∙ c.if-is_one.true in
+    let here : has_number ks a.course ≡ true = ap (λ l. has_number l a.course) c.requires.courses ∙ who-has p g.who a.course ∙ sym c.includes.ensures ∙ c.if-includes.true in
     loses-same p a.live.now.words c.keep_rooms.new.table.words (λ x. is_placed a.course a.day a.period x && not (has_cell p free x && agrees g.room x.room))
     (λ x. is_placed a.course a.day a.period x && loses_room p free g a.day a.period ks x.course x.room) c.in_ok-keep_rooms.ensures.ok
     (λ x h. both_where (is_placed a.course a.day a.period x) (not (has_cell p free x && agrees g.room x.room)) (loses_room p free g a.day a.period ks x.course x.room) (λ e.
@@ -41,7 +42,7 @@ returns-clause-ok c =
     let free = a.free.now.words in
     let g = a.pattern.now in
     let ks = a.courses.now in
-    let none : has_number ks a.course ≡ false = sym c.is_one.ensures ∙ c.if-is_one.false in
+    let none : has_number ks a.course ≡ false = ap (λ l. has_number l a.course) c.requires.courses ∙ who-has p g.who a.course ∙ sym c.includes.ensures ∙ c.if-includes.false in
     loses-same p a.live.now.words c.remove_lost.new.live.words (λ x. is_placed a.course a.day a.period x && has_room c.lost_rooms-lost.result x.room)
     (λ x. is_placed a.course a.day a.period x && loses_room p free g a.day a.period ks x.course x.room) c.in_ok-remove_lost.ensures.ok
     (λ x h. both_where (is_placed a.course a.day a.period x) (has_room c.lost_rooms-lost.result x.room) (loses_room p free g a.day a.period ks x.course x.room) (λ e.
