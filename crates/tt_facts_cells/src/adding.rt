@@ -7,14 +7,17 @@ ghost use Rattle.tt_facts_cells.specs.Shown.{Adds};
 
 use crate::again::settle_again;
 use crate::barring::remove_matched;
+use crate::listing::is_listed;
 use crate::settling::settle;
 use std::alloc::AllocError;
+use tt_facts_cell_set::remove_all;
 use tt_facts_path::{Fact, Pattern};
 use tt_instance::Instance;
 use tt_instance_links::Conflicts;
 use tt_trail::Trail;
 
-/// Changes both tables for a no-fact, the last of the facts. `yes` has the patterns of the yes-facts.
+/// Changes both tables for a no-fact, the last of the facts. `yes` has the patterns of the yes-facts; if one of them is the
+/// no-fact's, no cell is live.
 fn deny(
     instance: &Instance<'_>,
     links: &Conflicts,
@@ -33,6 +36,10 @@ fn deny(
     ensures same_live { live.new.earlier ≡ live.old.earlier }
 {
     remove_matched(instance, free, &fact.pattern)?;
+    if is_listed(yes, &fact.pattern) {
+        remove_all(instance, live)?;
+        return Ok(());
+    }
     remove_matched(instance, live, &fact.pattern)?;
     settle_again(instance, links, free, live, yes, &fact.pattern)?;
     Ok(())

@@ -8,6 +8,7 @@ ghost use Rattle.tt_facts_cells.specs.Shown.{Renews};
 
 use crate::settling::settle;
 use std::alloc::AllocError;
+use tt_facts_cell_set::is_cleared;
 use tt_facts_path::{Pattern, Who};
 use tt_instance::Instance;
 use tt_instance_links::Conflicts;
@@ -63,6 +64,9 @@ pub fn settle_again(
     ensures same { live.new.earlier ≡ live.old.earlier }
 {
     for older in yes {
+        if is_cleared(instance, live) {
+            return Ok(());
+        }
         if !may_touch(instance, older, pattern) {
             continue;
         }

@@ -1,6 +1,8 @@
 //! The facts as a list, and the list of the yes-facts' patterns.
 
 ghost use Rattle.std.specs.Prelude.{◌≡◌, ◌<◌, [], ◌∷◌, ◌++◌, length, OnOk, OnErr};
+ghost use Rattle.std.specs.List.{list_any};
+ghost use Rattle.tt_facts_path.specs.Facts.{same_pattern};
 ghost use Rattle.tt_facts_cells.specs.Shown.{yes_facts};
 
 use std::alloc::AllocError;
@@ -42,4 +44,11 @@ pub fn unlist_fact(facts: &mut Vec<Fact>, yes: &mut Vec<Pattern>) -> Fact
         let _ = yes.pop();
     }
     fact
+}
+
+/// Returns whether a pattern is one of these.
+pub fn is_listed(yes: &[Pattern], pattern: &Pattern) -> bool
+    ensures { result ≡ list_any (λ g. same_pattern g pattern.now) yes.now }
+{
+    yes.iter().any(|listed| *listed == *pattern)
 }
