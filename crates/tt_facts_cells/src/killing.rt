@@ -12,7 +12,7 @@ ghost use Rattle.tt_facts_cells.specs.Struck.{is_beside, loses_room};
 ghost use Rattle.tt_facts_cells.specs.Shown.{is_struck};
 
 use std::alloc::AllocError;
-use tt_facts_cell_set::{Rooms, common_rooms, keep_rooms, remove_rooms};
+use tt_facts_cell_set::{Rooms, common_rooms, has_period, keep_rooms, remove_rooms};
 use tt_facts_path::Pattern;
 use tt_instance::Instance;
 use tt_instance_links::Conflicts;
@@ -120,6 +120,9 @@ fn strike(
         live.new.words) }
     ensures same { live.new.earlier ≡ live.old.earlier }
 {
+    if !has_period(instance, live, None, course, day, period) {
+        return Ok(());
+    }
     if pattern.who.includes(instance, course) {
         keep_rooms(instance, live, free, pattern.room, course, day, period)?;
         return Ok(());
