@@ -4,3 +4,4 @@ pub mod Slots
 pub mod Shown
 pub mod Touching
 pub mod Order
+pub mod Listing

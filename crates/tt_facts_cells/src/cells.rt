@@ -15,13 +15,14 @@ use tt_instance::Instance;
 use tt_instance_links::Conflicts;
 use tt_trail::Trail;
 
-/// The facts, the patterns of the yes-facts, the cells that are not barred, and the live ones.
+/// The facts, which of them are the first yes-facts of their patterns, these patterns, the cells that are not barred, and the live ones.
 #[derive(Drop)]
 pub struct Cells<'p, 'i> {
     instance: &'p Instance<'i>,
     links: Conflicts,
     order: RoomOrder,
     facts: Vec<Fact>,
+    firsts: Vec<bool>,
     yes: Vec<Pattern>,
     free: Trail,
     live: Trail,
@@ -33,7 +34,8 @@ impl<'p, 'i> Model for Cells<'p, 'i> {
     ghost use Rattle.tt_facts_path.specs.declared.path.TheConstants.{MAX_FACTS};
     ghost use Rattle.tt_instance_links.specs.Linked.{AreConflicts};
     ghost use Rattle.tt_facts_cells.specs.Order.{IsRoomOrder};
-    ghost use Rattle.tt_facts_cells.specs.Shown.{yes_facts, AreTables, AreEarlier};
+    ghost use Rattle.tt_facts_cells.specs.Listing.{IsListing};
+    ghost use Rattle.tt_facts_cells.specs.Shown.{AreTables, AreEarlier};
 
     ghost Value = { Facts };
 
@@ -43,7 +45,7 @@ impl<'p, 'i> Model for Cells<'p, 'i> {
       links : AreConflicts s.instance.now s.links;
       order : IsRoomOrder s.instance.now s.order;
       depth : length s.facts.items ≤ MAX_FACTS;
-      yes : s.yes.items ≡ yes_facts s.facts.items;
+      listing : IsListing s.facts.items s.firsts.items s.yes.items;
       tables : AreTables s.instance.now s.facts.items s.free.words s.live.words;
       earlier : AreEarlier s.instance.now s.facts.items s.free.earlier s.live.earlier;
     } };
@@ -66,6 +68,7 @@ impl<'p, 'i> Cells<'p, 'i> {
         let links = Conflicts::new(alloc, instance)?;
         let order = RoomOrder::new(alloc, instance)?;
         let facts = Vec::new(alloc);
+        let firsts = Vec::new(alloc);
         let yes = Vec::new(alloc);
         let free = first_table(alloc, instance)?;
         let live = first_table(alloc, instance)?;
@@ -74,6 +77,7 @@ impl<'p, 'i> Cells<'p, 'i> {
             links,
             order,
             facts,
+            firsts,
             yes,
             free,
             live,
@@ -111,7 +115,7 @@ impl<'p, 'i> Cells<'p, 'i> {
         ensures err { OnErr result (self.new.facts ≡ self.old.facts) }
         ensures same { self.new.problem ≡ self.old.problem }
     {
-        list_fact(&mut self.facts, &mut self.yes, fact)?;
+        list_fact(&mut self.facts, &mut self.firsts, &mut self.yes, fact)?;
         if let Err(fault) = add(
             self.instance,
             &self.links,
@@ -120,7 +124,7 @@ impl<'p, 'i> Cells<'p, 'i> {
             self.yes.as_slice(),
             &fact,
         ) {
-            let _ = unlist_fact(&mut self.facts, &mut self.yes);
+            let _ = unlist_fact(&mut self.facts, &mut self.firsts, &mut self.yes);
             return Err(fault);
         }
         Ok(())
@@ -135,7 +139,7 @@ impl<'p, 'i> Cells<'p, 'i> {
     {
         self.free.undo();
         self.live.undo();
-        unlist_fact(&mut self.facts, &mut self.yes)
+        unlist_fact(&mut self.facts, &mut self.firsts, &mut self.yes)
     }
 
     /// Returns whether exactly this fact is one of them; it goes through all facts.
