@@ -5,3 +5,4 @@ pub mod Shown
 pub mod Touching
 pub mod Order
 pub mod Listing
+pub mod Spread

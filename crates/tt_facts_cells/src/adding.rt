@@ -9,6 +9,7 @@ use crate::again::settle_again;
 use crate::barring::remove_matched;
 use crate::listing::is_listed;
 use crate::settling::settle;
+use crate::watching::{NO_WATCH, Watches};
 use std::alloc::AllocError;
 use tt_facts_cell_set::remove_all;
 use tt_facts_path::{Fact, Pattern};
@@ -24,6 +25,7 @@ fn deny(
     free: &mut Trail,
     live: &mut Trail,
     yes: &[Pattern],
+    watches: &mut Watches,
     fact: &Fact,
 ) -> Result<(), AllocError>
     requires links { AreConflicts instance.now links.now }
@@ -41,7 +43,7 @@ fn deny(
         return Ok(());
     }
     remove_matched(instance, live, &fact.pattern)?;
-    settle_again(instance, links, free, live, yes, &fact.pattern)?;
+    settle_again(instance, links, free, live, yes, watches, &fact.pattern)?;
     Ok(())
 }
 
@@ -52,6 +54,7 @@ fn change(
     free: &mut Trail,
     live: &mut Trail,
     yes: &[Pattern],
+    watches: &mut Watches,
     fact: &Fact,
 ) -> Result<(), AllocError>
     requires links { AreConflicts instance.now links.now }
@@ -63,10 +66,10 @@ fn change(
     ensures same_live { live.new.earlier ≡ live.old.earlier }
 {
     if fact.holds {
-        settle(instance, links, free, live, &fact.pattern)?;
+        settle(instance, links, free, live, &fact.pattern, NO_WATCH)?;
         Ok(())
     } else {
-        deny(instance, links, free, live, yes, fact)?;
+        deny(instance, links, free, live, yes, watches, fact)?;
         Ok(())
     }
 }
@@ -78,6 +81,7 @@ pub fn add(
     free: &mut Trail,
     live: &mut Trail,
     yes: &[Pattern],
+    watches: &mut Watches,
     fact: &Fact,
 ) -> Result<(), AllocError>
     requires links { AreConflicts instance.now links.now }
@@ -95,7 +99,7 @@ pub fn add(
         free.undo();
         return Err(fault);
     }
-    if let Err(fault) = change(instance, links, free, live, yes, fact) {
+    if let Err(fault) = change(instance, links, free, live, yes, watches, fact) {
         free.undo();
         live.undo();
         return Err(fault);

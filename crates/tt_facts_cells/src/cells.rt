@@ -6,6 +6,7 @@ ghost use Rattle.tt_facts_path.specs.declared.path.TheConstants.{MAX_FACTS};
 use crate::adding::add;
 use crate::listing::{list_fact, unlist_fact};
 use crate::order::{Ranked, RoomOrder};
+use crate::watching::Watches;
 use std::alloc::{AllocError, Global};
 use std::marker::Model;
 use tt_bits::is_empty;
@@ -24,6 +25,7 @@ pub struct Cells<'p, 'i> {
     facts: Vec<Fact>,
     firsts: Vec<bool>,
     yes: Vec<Pattern>,
+    watches: Watches,
     free: Trail,
     live: Trail,
 }
@@ -70,6 +72,7 @@ impl<'p, 'i> Cells<'p, 'i> {
         let facts = Vec::new(alloc);
         let firsts = Vec::new(alloc);
         let yes = Vec::new(alloc);
+        let watches = Watches::new(alloc);
         let free = first_table(alloc, instance)?;
         let live = first_table(alloc, instance)?;
         Ok(Cells {
@@ -79,6 +82,7 @@ impl<'p, 'i> Cells<'p, 'i> {
             facts,
             firsts,
             yes,
+            watches,
             free,
             live,
         })
@@ -115,6 +119,7 @@ impl<'p, 'i> Cells<'p, 'i> {
         ensures err { OnErr result (self.new.facts ≡ self.old.facts) }
         ensures same { self.new.problem ≡ self.old.problem }
     {
+        self.watches.grow(self.yes.len().saturating_add(1))?;
         list_fact(&mut self.facts, &mut self.firsts, &mut self.yes, fact)?;
         if let Err(fault) = add(
             self.instance,
@@ -122,6 +127,7 @@ impl<'p, 'i> Cells<'p, 'i> {
             &mut self.free,
             &mut self.live,
             self.yes.as_slice(),
+            &mut self.watches,
             &fact,
         ) {
             let _ = unlist_fact(&mut self.facts, &mut self.firsts, &mut self.yes);

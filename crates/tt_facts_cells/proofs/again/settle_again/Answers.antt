@@ -20,8 +20,8 @@ loop-older-preserved c =
     let i = c.loop-older.older-index in
     let here : i < length a.yes.now = omega arith in
     record {
-      table = c.in_ok-settle.ensures.ok.table;
-      shown = λ path f e denies same free old. next_settled a.instance.now a.yes.now path f i _ here c.loop-older.live.words (c.loop-older.invariant.shown path f e denies same free old) a.free.now.words c.settle.new.live.words free c.in_ok-settle.ensures.ok;
+      table = c.in_ok-watch.ensures.ok.table;
+      shown = λ path f e denies same free old. next_settled a.instance.now a.yes.now path f i _ here c.loop-older.live.words (c.loop-older.invariant.shown path f e denies same free old) a.free.now.words c.settle.new.live.words free c.in_ok-watch.ensures.ok;
       earlier = c.settle.ensures.same ∙ c.loop-older.invariant.earlier;
     }
 

@@ -1,4 +1,4 @@
-use Rattle.std.proofs.Common.{◌≡◌, [], ◌∷◌, ◌++◌, length, take, cond, ◌-◌, sym, ap, ◌∙◌, arith}
+use Rattle.std.proofs.Common.{◌≡◌, length, take, cond, ◌-◌, sym, ap, ◌∙◌, arith}
 use Rattle.std.specs.Vec.{vec_len}
 use Rattle.tt_facts_cells.proofs.Listed.{listing-popped}
 use Rattle.tt_facts_cells.proofs.listing.unlist_fact.Goals as goal

@@ -1,4 +1,4 @@
-use Rattle.std.proofs.Common.{◌≡◌, [], ◌∷◌, ◌++◌, length, ap, ◌∙◌, subst, sym, arith}
+use Rattle.std.proofs.Common.{◌≡◌, [], ◌∷◌, ◌++◌, length, ap, subst, sym, arith}
 use Rattle.std.proofs.Common.{length-append}
 use Rattle.tt_facts_path.specs.Paths.{Facts}
 use Rattle.tt_facts_cells.specs.Shown.{AreListed, AreTables}
