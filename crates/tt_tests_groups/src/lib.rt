@@ -9,3 +9,5 @@ mod claims;
 mod drawn;
 #[cfg(test)]
 mod finding;
+#[cfg(test)]
+mod work;

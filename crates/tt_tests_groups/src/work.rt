@@ -1,0 +1,38 @@
+//! The work that the checks of a file's groups may do.
+
+use std::alloc::Global;
+use std::test::Fail;
+use tt_groups_check::GroupFault;
+use tt_instance::read_instance;
+use tt_leaf_rules::Bound;
+use tt_proof_sum::{GroupsFault, SumFault, sum_proofs};
+use tt_text::Pieces;
+use tt_text_peek::Peeked;
+
+/// Twelve courses that never conflict, each alone in a curriculum: 4,096 sets of them are tried in each of eight periods.
+const APART: &str =
+    "Name: Apart\nCourses: 12\nRooms: 12\nDays: 1\nPeriods_per_day: 8\nCurricula: 12\nConstraints: 0\n\nCOURSES:\na ta 1 1 1\nb tb 1 1 1\nc tc 1 1 1\nd td 1 1 1\ne te 1 1 1\nf tf 1 1 1\ng tg 1 1 1\nh th 1 1 1\ni ti 1 1 1\nj tj 1 1 1\nk tk 1 1 1\nl tl 1 1 1\n\nROOMS:\nRa 1\nRb 1\nRc 1\nRd 1\nRe 1\nRf 1\nRg 1\nRh 1\nRi 1\nRj 1\nRk 1\nRl 1\n\nCURRICULA:\nqa 1 a\nqb 1 b\nqc 1 c\nqd 1 d\nqe 1 e\nqf 1 f\nqg 1 g\nqh 1 h\nqi 1 i\nqj 1 j\nqk 1 k\nql 1 l\n\nUNAVAILABILITY_CONSTRAINTS:\n\nEND.\n";
+
+/// All curricula together: each lecture is isolated.
+const ALL: &str = "CTTG 1 bound 24\nG 24 q0 q1 q2 q3 q4 q5 q6 q7 q8 q9 q10 q11 / ;\nend\n";
+
+fn sum_of(alloc: Global, file: &str) -> Result<Result<Bound, SumFault>, Fail> {
+    let instance = read_instance(alloc, APART.as_bytes())?;
+    let mut sources = Vec::new(alloc);
+    sources.push(Peeked::new(alloc, Pieces::new(file.as_bytes(), 64, 0)))?;
+    Ok(sum_proofs(alloc, &instance, sources.as_mut_slice()))
+}
+
+#[test]
+fn too_many_tries_end_soon(rt: HostRuntime) -> Result<(), Fail> {
+    let too_much = SumFault::Groups(1, GroupsFault::Group(0, GroupFault::TooMuchWork));
+    assert_eq!(rt; sum_of(rt.alloc(), ALL)?, Err(too_much));
+    Ok(())
+}
+
+#[test]
+fn few_courses_are_little_work(rt: HostRuntime) -> Result<(), Fail> {
+    let two = "CTTG 1 bound 4\nG 2 q0 / ;\nG 2 q1 / ;\nend\n";
+    assert_eq!(rt; sum_of(rt.alloc(), two)?, Ok(Bound::AtLeast(4)));
+    Ok(())
+}
