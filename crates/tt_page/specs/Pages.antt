@@ -1,7 +1,9 @@
 -- The text of a page.
-use Rattle.std.specs.Prelude.{ℕ, List, ◌++◌, codes}
+use Rattle.std.specs.Prelude.{ℕ, List, ◌++◌, codes, Option}
 use Rattle.tt_instance.specs.Problem.{Problem}
 use Rattle.tt_instance.specs.declared.cell.Cell.{Cell}
+use Rattle.tt_leaf_rules.specs.declared.leaf.Bound.{Bound}
+use Rattle.tt_page_text.specs.Labelled.{Labelled}
 use Rattle.tt_page.specs.Heading.{head_text, header_text, legend_text}
 use Rattle.tt_page.specs.Lists.{hard_table, cost_table, lists_text}
 use Rattle.tt_page.specs.Grids.{section_text}
@@ -17,5 +19,5 @@ unfoldable pub weeks_text : Problem → List Cell → List ℕ
 weeks_text p t = section_text p t Room ++ section_text p t Teacher ++ section_text p t Curriculum ++ courses_text p t
 
 -- One page of HTML, with its style in it.
-unfoldable pub page_text : Problem → List Cell → List ℕ → List ℕ
-page_text p t style = head_text p style ++ counts_text p t ++ weeks_text p t ++ codes "</main>\n</body>\n</html>\n"
+unfoldable pub page_text : Problem → List Cell → Labelled → Option Bound → List ℕ → List ℕ
+page_text p t labels proved style = head_text p style ++ counts_text p t labels proved ++ weeks_text p t labels ++ codes "</main>\n</body>\n</html>\n"

@@ -11,12 +11,10 @@ mod lectures;
 mod lists;
 mod marks;
 mod pages;
-mod part;
 mod plan;
 mod rule;
-mod shown;
 mod style;
 
 pub use pages::page;
-pub use shown::put_shown;
 pub use style::STYLE;
+pub use tt_page_text::{Labels, LabelsFault, put_shown};

@@ -16,6 +16,8 @@ use crate::lists::{put_cost_table, put_hard_table, put_lists};
 use crate::plan::Plan;
 use std::alloc::{AllocError, Global};
 use tt_instance::Instance;
+use tt_leaf_rules::Bound;
+use tt_page_text::Labels;
 use tt_report::ReportFault;
 use tt_rules::{Score, score};
 use tt_table::Timetable;
@@ -51,10 +53,12 @@ fn text_of(
     alloc: Global,
     instance: &Instance<'_>,
     table: &Timetable,
+    labels: &Labels,
+    proved: Option<Bound>,
     style: &str,
 ) -> Result<Vec<u8>, AllocError>
     requires { IsTimetable instance.now table.now }
-    ensures { IfOk result (λ v. v.items ≡ page_text instance.now table.now style.now) }
+    ensures { IfOk result (λ v. v.items ≡ page_text instance.now table.now labels.now proved style.now) }
 {
     let plan = Plan::new(instance, table);
     let score = score(instance, table);
@@ -66,24 +70,27 @@ fn text_of(
     Ok(out)
 }
 
-/// Writes the page of a timetable's week, with a style (`STYLE` is the program's). The text is made before its first byte is written.
+/// Writes the page of a timetable's week, with names of days and periods, and a style (`STYLE` is the program's). If a bound is proved, the
+/// header says so: the caller has to have checked its proof. The text is made before its first byte is written.
 pub fn page<W: Sink>(
     alloc: Global,
     instance: &Instance<'_>,
     table: &Timetable,
+    labels: &Labels,
+    proved: Option<Bound>,
     style: &str,
     sink: &mut W,
 ) -> Result<(), ReportFault>
     requires { IsTimetable instance.now table.now }
-    ensures written { OnOk result (Appends (W.contents sink.old) (W.contents sink.new) (page_text instance.now table.now style.now)) }
+    ensures written { OnOk result (Appends (W.contents sink.old) (W.contents sink.new) (page_text instance.now table.now labels.now proved style.now)) }
     // After a failed write, a part from the front of the text was taken.
-    ensures part { result ≡ Err fault.Write → TakesPart (W.contents sink.old) (W.contents sink.new) (page_text instance.now table.now style.now) }
+    ensures part { result ≡ Err fault.Write → TakesPart (W.contents sink.old) (W.contents sink.new) (page_text instance.now table.now labels.now proved style.now) }
     ensures failed { result ≡ Err fault.Write → W.has_failed sink.new ≡ true }
     ensures unfailed { ¬ (result ≡ Err fault.Write) → W.has_failed sink.new ≡ W.has_failed sink.old }
     // If memory ran out, nothing was written.
     ensures unwritten { result ≡ Err fault.OutOfMemory → sink.new ≡ sink.old }
 {
-    let text = text_of(alloc, instance, table, style)?;
+    let text = text_of(alloc, instance, table, labels, proved, style)?;
     write_all(sink, &text)?;
     Ok(())
 }

@@ -8,7 +8,7 @@ use Rattle.std.specs.Str.Lossy.{utf8_lossy}
 use Rattle.std.proofs.lemmas.Bool.{and_parts, ltb-true}
 use Rattle.std.proofs.lemmas.List.Folds.{flat_map-map}
 use Rattle.std.proofs.lemmas.Str.{chars-encodes, IsUtf8-append, IsUtf8-encode, IsUtf8-nil, IsUtf8-from_ascii}
-use Rattle.tt_page.specs.Shown.{is_markup, letter_text, shown, unshown, IsHarmlessPiece, AreHarmless, IsHarmless}
+use Rattle.tt_page_text.specs.Shown.{is_markup, letter_text, shown, unshown, IsHarmlessPiece, AreHarmless, IsHarmless}
 
 -- a property of the references and of each plain letter holds of the text of each letter
 module _ (P : List ℕ → Type 0)

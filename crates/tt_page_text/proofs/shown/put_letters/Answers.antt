@@ -1,8 +1,8 @@
 use Rattle.std.proofs.Common.{ℕ, List, ◌++◌, flat_map, sym, ap, ◌∙◌, map-id}
 use Rattle.std.proofs.lemmas.Iterator.{YieldsList-from_chars}
 use Rattle.std.proofs.lemmas.Iterator.Consumers.{YieldsList-end}
-use Rattle.tt_page.specs.Shown.{letter_text}
-use Rattle.tt_page.proofs.shown.put_letters.Goals as goal
+use Rattle.tt_page_text.specs.Shown.{letter_text}
+use Rattle.tt_page_text.proofs.shown.put_letters.Goals as goal
 
 pub returns : goal.returns
 returns c =

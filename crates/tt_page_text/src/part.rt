@@ -1,7 +1,7 @@
 //! Pieces of a page, in turn.
 
 ghost use Rattle.std.specs.Prelude.{◌≡◌, ◌++◌, OnOk};
-ghost use Rattle.tt_page.specs.Markup.{part_text, parts_text, counted};
+ghost use Rattle.tt_page_text.specs.Markup.{part_text, parts_text, counted};
 
 use crate::shown::put_shown;
 use std::alloc::AllocError;

@@ -3,8 +3,8 @@ use Rattle.std.specs.Str.{IsUtf8}
 use Rattle.std.specs.Str.Lossy.{utf8_lossy}
 use Rattle.std.proofs.lemmas.Result.{on_ok_weaker}
 use Rattle.std.proofs.lemmas.Str.{IsUtf8-string_bytes}
-use Rattle.tt_page.proofs.Harmless.{shown_harmless, shown_utf8}
-use Rattle.tt_page.proofs.shown.put_shown.Goals as goal
+use Rattle.tt_page_text.proofs.Harmless.{shown_harmless, shown_utf8}
+use Rattle.tt_page_text.proofs.shown.put_shown.Goals as goal
 
 pub returns-clause-harmless : goal.returns-clause-harmless
 returns-clause-harmless c =

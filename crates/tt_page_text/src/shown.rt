@@ -2,7 +2,7 @@
 
 ghost use Rattle.std.specs.Prelude.{◌≡◌, ◌++◌, flat_map, chars, encode_utf8, OnOk};
 ghost use Rattle.std.specs.Str.{IsUtf8};
-ghost use Rattle.tt_page.specs.Shown.{letter_text, shown, IsHarmless};
+ghost use Rattle.tt_page_text.specs.Shown.{letter_text, shown, IsHarmless};
 
 use std::alloc::AllocError;
 use tt_text::put_token;

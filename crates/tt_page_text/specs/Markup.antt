@@ -3,9 +3,9 @@ use Rattle.std.specs.Prelude.{ℕ, ◌==◌, List, [], ◌∷◌, flat_map, if�
 use Rattle.std.specs.Fmt.{decimal}
 use Rattle.tt_text.specs.Pieces.{Piece, Text, Number}
 use Rattle.tt_text.specs.Lines.{text_of}
-use Rattle.tt_page.specs.Shown.{shown}
-use Rattle.tt_page.specs.declared.part.Part.{Part}
-use Rattle.tt_page.specs.declared.part.Part.TheVariants as part
+use Rattle.tt_page_text.specs.Shown.{shown}
+use Rattle.tt_page_text.specs.declared.part.Part.{Part}
+use Rattle.tt_page_text.specs.declared.part.Part.TheVariants as part
 
 -- Texts and numbers without anything between them.
 abbrev pub markup : List Piece → List ℕ
