@@ -2,6 +2,7 @@
 use Rattle.std.proofs.Common.{◌≡◌, ℕ, List, Option, Some, Ok, refl, subst}
 use Rattle.std.specs.Io.KnownBytes.{Appends}
 use Rattle.tt_text.specs.Reading.{FailsUnless}
+use Rattle.tt_text.specs.Sinks.{TakesPart}
 use Rattle.tt_instance.specs.Problem.{Problem}
 use Rattle.tt_instance.specs.Spelling.{Spells}
 use Rattle.tt_instance.specs.declared.cell.Cell.{Cell}
@@ -12,11 +13,15 @@ use Rattle.tt_page_text.specs.Labelled.{Labelled}
 use Rattle.tt_page_text.specs.Labels.{is_environmental}
 use Rattle.tt_page_text.specs.declared.fault.LabelsFault.{LabelsFault}
 use Rattle.tt_page_text.specs.declared.fault.LabelsFault.TheVariants as labels
+use Rattle.tt_report.specs.declared.fault.ReportFault.{ReportFault}
+use Rattle.tt_report.specs.declared.fault.ReportFault.TheVariants as report
+use Rattle.tt_proof_check.specs.Derives.{HoldsOfAll}
 use Rattle.tt_proof_check.proofs.Files.{one_instance, one_table}
 use Rattle.tt_proof_sum.specs.Faults.{IsSumFault}
+use Rattle.tt_proof_sum.specs.Sums.{IsSum}
 use Rattle.tt_proof_sum.specs.declared.fault.SumFault.{SumFault}
 use Rattle.tt_proof_sum.specs.declared.fault.SumFault.TheVariants as sum
-use Rattle.tt_app.specs.FaultMaps.{fault_from_labels}
+use Rattle.tt_app.specs.FaultMaps.{fault_from_labels, fault_from_report}
 use Rattle.tt_app.specs.Paged.{labels_for, IsPageRefusal, IsProvedPageRefusal}
 use Rattle.tt_app.specs.Summed.{fault_from_sum}
 use Rattle.tt_app.specs.declared.calls.page.PageNames.{PageNames}
@@ -57,6 +62,17 @@ module _ (i s : List ℕ) (p : Problem) (t : List Cell) (names : PageNames) (spe
   sum_tells_page style l gives before after (sum.ClaimedElsewhere n k e) named h = record { problem = p; table = t; labels = l; both = both; named = named; fails = h }
   sum_tells_page style l gives before after (sum.TooLarge n) named h = record { problem = p; table = t; labels = l; both = both; named = named; fails = h }
   sum_tells_page style l gives before after sum.OutOfMemory named h = tt
+
+  -- an error of the page's output is reported
+  pub page_tells : (style : List ℕ) (l : Labelled) (b : Bound) (gives : List (List ℕ) → Type 0) (before after : Option (List ℕ)) (f : ReportFault) → labels_for p names ≡ Ok l
+      → ((proofs : List (List ℕ)) → gives proofs → IsSum p proofs b) → HoldsOfAll p b → (f ≡ report.Write → TakesPart before after (page_text p t l (Some b) style)) → IsProvedPageRefusal i s names style gives before after (fault_from_report f)
+  page_tells style l b gives before after report.Write named sum holds part = record {
+    bound = b;
+    paged = record { problem = p; table = t; labels = l; both = both; named = named; part = part refl };
+    sum = sum;
+    holds = holds;
+  }
+  page_tells style l b gives before after report.OutOfMemory named sum holds part = tt
 
 -- the page of what was read is the page of what the bytes spell
 pub page_same : (i s : List ℕ) (p read : Problem) (t found : List Cell) (names : PageNames) (l m : Labelled) (b c : Bound) (style : List ℕ) (before after : Option (List ℕ)) → SpellsBoth i s p t → Spells i read → SpellsTable read s found

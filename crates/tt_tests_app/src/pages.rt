@@ -3,12 +3,18 @@
 use crate::reports::Narrow;
 use std::alloc::Global;
 use std::test::Fail;
-use tt_app::{AppFault, page};
+use tt_app::{AppFault, PageNames, page};
 use tt_page::put_shown;
 use tt_tests_files::{MemoryFiles, Refusal};
 use tt_tests_runs::{Outcome, run_on};
-use tt_tests_samples::{MINI, MINI_SOLUTION, edited};
+use tt_tests_samples::{GAP, GAP_PROOF, MINI, MINI_SOLUTION, edited};
 use tt_text::{Sink, Writing};
+
+/// No names.
+const UNNAMED: PageNames<'static> = PageNames {
+    days: None,
+    periods: None,
+};
 
 /// Both courses of Mini in one period, and one of them again in another.
 const BROKEN: &str = "a R 0 0 b R 0 0 a R 0 2";
@@ -168,6 +174,7 @@ fn writes_that_stop(rt: HostRuntime) -> Result<(), Fail> {
             rt.alloc(),
             MINI.as_bytes(),
             MINI_SOLUTION.as_bytes(),
+            UNNAMED,
             tt_page::STYLE,
             &mut sink,
         );
@@ -175,6 +182,80 @@ fn writes_that_stop(rt: HostRuntime) -> Result<(), Fail> {
         assert!(rt; sink.failed());
         assert!(rt; whole.as_bytes().starts_with(narrow.bytes()));
         assert_eq!(rt; narrow.bytes().len(), stops_at - 1);
+    }
+    Ok(())
+}
+
+/// Runs `page` with options on Gap, a timetable of it, and proofs, and returns the outcome and the page.
+fn paged_with(alloc: Global, options: &[&str]) -> Result<(Outcome, Option<String>), Fail> {
+    let memory = filled(alloc, GAP, MINI_SOLUTION, Refusal::Nothing)?;
+    memory.put("a.proof", GAP_PROOF)?;
+    memory.put("bad.proof", "CTTP 1 bound 2 B C c1 1 ; end")?;
+    let mut words = Vec::from_slice(alloc, &["page", "a.ctt", "a.sol", "a.html"])?;
+    words.extend_from_slice(options)?;
+    let outcome = run_on(alloc, &words, &memory)?;
+    Ok((outcome, memory.text("a.html")?))
+}
+
+#[test]
+fn a_page_with_names_and_a_proof(rt: HostRuntime) -> Result<(), Fail> {
+    let options = [
+        "--days",
+        "Mon",
+        "--periods",
+        "8:00,9:00,10:00",
+        "--proof",
+        "a.proof",
+    ];
+    let (outcome, text) = paged_with(rt.alloc(), &options)?;
+    assert_eq!(rt; outcome.answer(), (0, "", ""));
+    let text = text.unwrap_or(String::new(rt.alloc()));
+    let lacks = missing(&text, &["Mon", "8:00", "10:00", "proved best"]);
+    assert_eq!(rt; lacks, None);
+    let (_, text) = paged_with(rt.alloc(), &["--days", "Mon"])?;
+    assert!(rt;
+        !text
+            .unwrap_or(String::new(rt.alloc()))
+            .contains("proved best")
+    );
+    Ok(())
+}
+
+#[test]
+fn options_that_are_refused(rt: HostRuntime) -> Result<(), Fail> {
+    for (options, err) in [
+        (
+            ["--days", "Mon,Tue"].as_slice(),
+            "refused: names of days: not one for each day\n",
+        ),
+        (
+            ["--periods", "8:00,9:00"].as_slice(),
+            "refused: names of periods: not one for each period of a day\n",
+        ),
+        (
+            ["--proof", "a.proof", "--proof", "bad.proof"].as_slice(),
+            "refused: proof 2: TooCheap at node 0\n",
+        ),
+        (
+            ["--proof", "a.proof", "--proof", "a.proof"].as_slice(),
+            "refused: proof 2: ClaimedElsewhere at node 2, by proof 1\n",
+        ),
+        (["--proof", "none"].as_slice(), "refused: proof 1: Read\n"),
+        (
+            // The names are refused before a proof is read.
+            ["--days", "Mon", "--periods", "x", "--proof", "none"].as_slice(),
+            "refused: names of periods: not one for each period of a day\n",
+        ),
+    ] {
+        let (outcome, text) = paged_with(rt.alloc(), options)?;
+        assert_eq!(rt; outcome.answer(), (2, "", err), "{options:?}");
+        assert_eq!(rt; text, None, "{options:?}");
+    }
+    for option in ["--days", "--periods", "--proof"] {
+        let (outcome, text) = paged_with(rt.alloc(), &[option])?;
+        assert_eq!(rt; (outcome.status, outcome.out.as_str()), (2, ""));
+        assert!(rt; outcome.err.starts_with("error: "), "{option}");
+        assert_eq!(rt; text, None);
     }
     Ok(())
 }

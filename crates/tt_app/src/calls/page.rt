@@ -42,7 +42,7 @@ fn labels_for(
     instance: &Instance<'_>,
     names: PageNames<'_>,
 ) -> Result<Labels, LabelsFault>
-    ensures { Gives (λ labels. labels) result (labels_for instance.now names) }
+    ensures { Gives (λ labels. labels) result (labels_for instance.now names.entry) }
 {
     let PageNames { days, periods } = names;
     Labels::read(alloc, instance.days(), instance.periods(), days, periods)
@@ -58,11 +58,11 @@ pub fn page<W: Sink>(
     sink: &mut W,
 ) -> Result<u8, AppFault>
     // The bytes written are the page.
-    ensures written { IfOk result (IsPaged instance.now solution.now names style.now (W.contents sink.old) (W.contents sink.new)) }
+    ensures written { IfOk result (IsPaged instance.now solution.now names.entry style.now (W.contents sink.old) (W.contents sink.new)) }
     // A refusal reports the first error.
-    ensures fault { IfErr result (IsPageRefusal instance.now solution.now names style.now (W.contents sink.old) (W.contents sink.new)) }
+    ensures fault { IfErr result (IsPageRefusal instance.now solution.now names.entry style.now (W.contents sink.old) (W.contents sink.new)) }
     // If both files are spelled and the names fit, the page is written, unless memory runs out or a write fails.
-    ensures only { (p : Problem) (t : List Cell) (labels : Labelled) → SpellsBoth instance.now solution.now p t → labels_for p names ≡ Ok labels →
+    ensures only { (p : Problem) (t : List Cell) (labels : Labelled) → SpellsBoth instance.now solution.now p t → labels_for p names.entry ≡ Ok labels →
         MatchResult result (λ _. ⊤) (λ f. (f ≡ fault.OutOfMemory) ⊎ (f ≡ fault.CannotWrite)) }
     // If any other error is reported, nothing is written.
     ensures unwritten { IfErr result (λ f. IsUnwritten f → sink.new ≡ sink.old) }
@@ -89,13 +89,13 @@ pub fn proved_page<R: Peek, W: Sink>(
     sink: &mut W,
 ) -> Result<u8, AppFault>
     // The bytes written are the page with the sum of the derived bounds, which holds.
-    ensures written { IfOk result (IsProvedPaged instance.now solution.now names style.now (Give R.remaining proofs.old) (W.contents sink.old) (W.contents sink.new)) }
+    ensures written { IfOk result (IsProvedPaged instance.now solution.now names.entry style.now (Give R.remaining proofs.old) (W.contents sink.old) (W.contents sink.new)) }
     // A refusal reports the first error.
-    ensures fault { IfErr result (IsProvedPageRefusal instance.now solution.now names style.now (Give R.remaining proofs.old) (W.contents sink.old) (W.contents sink.new)) }
+    ensures fault { IfErr result (IsProvedPageRefusal instance.now solution.now names.entry style.now (Give R.remaining proofs.old) (W.contents sink.old) (W.contents sink.new)) }
     // If both files are spelled, the names fit and the proofs have a sum below 2^64, the page with this sum is written, unless the refusal says
     // nothing about the bytes or a write fails.
     ensures only { (p : Problem) (t : List Cell) (labels : Labelled) (files : List (List ℕ)) (b : Bound) → SpellsBoth instance.now solution.now p t →
-        labels_for p names ≡ Ok labels → Give R.remaining proofs.old files → (h : IsSum p files b) → all_points h.parts < 2 ^ 64 →
+        labels_for p names.entry ≡ Ok labels → Give R.remaining proofs.old files → (h : IsSum p files b) → all_points h.parts < 2 ^ 64 →
         MatchResult result (λ _. Appends (W.contents sink.old) (W.contents sink.new) (page_text p t labels (Some b) style.now)) IsSilentOrUnwritable }
     // If the instance, the solution or the names are refused, no proof is read.
     ensures unread { IfErr result (λ f. IsBeforeProofs f → proofs.new ≡ proofs.old) }
@@ -118,14 +118,6 @@ pub fn proved_page<R: Peek, W: Sink>(
     let table = read_solution(alloc, &instance, solution)?;
     let labels = labels_for(alloc, &instance, names)?;
     let bound = sum_proofs(alloc, &instance, proofs)?;
-    tt_page::page(
-        alloc,
-        &instance,
-        &table,
-        &labels,
-        Some(bound),
-        style,
-        sink,
-    )?;
+    tt_page::page(alloc, &instance, &table, &labels, Some(bound), style, sink)?;
     Ok(0)
 }
