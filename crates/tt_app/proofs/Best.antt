@@ -8,6 +8,7 @@ use Rattle.tt_rules.specs.Score.{IsFeasible, cost}
 use Rattle.tt_leaf_rules.specs.declared.leaf.Bound.{Bound}
 use Rattle.tt_leaf_rules.specs.declared.leaf.Bound.TheVariants.{AtLeast}
 use Rattle.tt_page.specs.Pages.{page_text}
+use Rattle.tt_page_text.specs.Labelled.{Labelled}
 use Rattle.tt_page_text.specs.Labels.{no_labels}
 use Rattle.tt_proof_check.specs.Derives.{HoldsOfAll}
 use Rattle.tt_proof_check.specs.Headline.{BoundsAll}
@@ -23,9 +24,9 @@ pub record IsWhole (instance solution : List ℕ) (files : List (List ℕ)) (pag
   pub shown : page ≡ page_text certified.solves.problem certified.solves.table no_labels (Some (AtLeast b)) style
 
 -- they certify them if the solution spells a feasible timetable of this cost, and the bound is the sum
-pub whole : (i s : List ℕ) (p : Problem) (t : List Cell) (files : List (List ℕ)) (page style : List ℕ) (sum : Bound) (c b : ℕ) → Spells i p → SpellsTable p s t → IsFeasible p t → c ≡ cost p t → IsSum p files sum → HoldsOfAll p sum
-    → sum ≡ AtLeast b → page ≡ page_text p t no_labels (Some sum) style → IsWhole i s files page style c b
-whole i s p t files page style sum c b spells solved feasible costs is holds e shown =
+pub whole : (i s : List ℕ) (p : Problem) (t : List Cell) (files : List (List ℕ)) (labels : Labelled) (page style : List ℕ) (sum : Bound) (c b : ℕ) → Spells i p → SpellsTable p s t → IsFeasible p t → c ≡ cost p t → IsSum p files sum → HoldsOfAll p sum
+    → sum ≡ AtLeast b → labels ≡ no_labels → page ≡ page_text p t labels (Some (AtLeast b)) style → IsWhole i s files page style c b
+whole i s p t files labels page style sum c b spells solved feasible costs is holds e unnamed shown =
     let here : HoldsOfAll p (AtLeast b) = subst (λ (x : Bound). HoldsOfAll p x) e holds in
     record {
       certified = record {
@@ -34,5 +35,5 @@ whole i s p t files page style sum c b spells solved feasible costs is holds e s
       };
       bounds = λ other read. subst (λ (x : Problem). HoldsOfAll x (AtLeast b)) (one_instance i p other spells read) here;
       within = subst (λ (n : ℕ). b ≤ n) (sym costs) (here t feasible);
-      shown = subst (λ (x : Bound). page ≡ page_text p t no_labels (Some x) style) e shown;
+      shown = subst (λ (x : Labelled). page ≡ page_text p t x (Some (AtLeast b)) style) unnamed shown;
     }
