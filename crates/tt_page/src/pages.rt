@@ -9,15 +9,14 @@ ghost use Rattle.tt_report.specs.declared.fault.ReportFault.TheVariants as fault
 ghost use Rattle.tt_page.specs.Pages.{counts_text, weeks_text, page_text};
 
 use crate::courses::put_courses;
-use crate::grids::put_section;
 use crate::heading::{put_head, put_header, put_legend};
-use crate::kind::Kind;
-use crate::lists::{put_cost_table, put_hard_table, put_lists};
-use crate::plan::Plan;
 use std::alloc::{AllocError, Global};
 use tt_instance::Instance;
 use tt_leaf_rules::Bound;
+use tt_page_lists::{put_cost_table, put_hard_table, put_lists};
+use tt_page_plan::{Kind, Plan};
 use tt_page_text::Labels;
+use tt_page_weeks::{put_days, put_section};
 use tt_report::ReportFault;
 use tt_rules::{Score, score};
 use tt_table::Timetable;
@@ -25,25 +24,32 @@ use tt_text::{Sink, put_token, write_all};
 
 /// Appends the counts of the timetable, and the places where they arise.
 #[tactic(auto, unfolding(crate::specs::Pages::counts_text))]
-fn put_counts(out: &mut Vec<u8>, plan: &Plan<'_, '_>, score: &Score) -> Result<(), AllocError>
+fn put_counts(
+    out: &mut Vec<u8>,
+    plan: &Plan<'_, '_>,
+    labels: &Labels,
+    proved: Option<Bound>,
+    score: &Score,
+) -> Result<(), AllocError>
     requires { IsScore plan.now.problem plan.now.table score.now }
-    ensures { OnOk result (out.new.items ≡ out.old.items ++ counts_text plan.now.problem plan.now.table) }
+    ensures { OnOk result (out.new.items ≡ out.old.items ++ counts_text plan.now.problem plan.now.table labels.now proved) }
 {
-    put_header(out, plan, score)?;
+    put_header(out, plan, proved, score)?;
     put_hard_table(out, plan, score)?;
     put_cost_table(out, plan, score)?;
     put_legend(out)?;
-    put_lists(out, plan, score)
+    put_lists(out, plan, labels, score)
 }
 
-/// Appends the weeks, and the courses.
+/// Appends the weeks, the days, and the courses.
 #[tactic(auto, unfolding(crate::specs::Pages::weeks_text))]
-fn put_weeks(out: &mut Vec<u8>, plan: &Plan<'_, '_>) -> Result<(), AllocError>
-    ensures { OnOk result (out.new.items ≡ out.old.items ++ weeks_text plan.now.problem plan.now.table) }
+fn put_weeks(out: &mut Vec<u8>, plan: &Plan<'_, '_>, labels: &Labels) -> Result<(), AllocError>
+    ensures { OnOk result (out.new.items ≡ out.old.items ++ weeks_text plan.now.problem plan.now.table labels.now) }
 {
-    put_section(out, plan, Kind::Room)?;
-    put_section(out, plan, Kind::Teacher)?;
-    put_section(out, plan, Kind::Curriculum)?;
+    put_section(out, plan, labels, Kind::Room)?;
+    put_section(out, plan, labels, Kind::Teacher)?;
+    put_section(out, plan, labels, Kind::Curriculum)?;
+    put_days(out, plan, labels)?;
     put_courses(out, plan)
 }
 
@@ -64,8 +70,8 @@ fn text_of(
     let score = score(instance, table);
     let mut out = Vec::new(alloc);
     put_head(&mut out, instance, style)?;
-    put_counts(&mut out, &plan, &score)?;
-    put_weeks(&mut out, &plan)?;
+    put_counts(&mut out, &plan, labels, proved, &score)?;
+    put_weeks(&mut out, &plan, labels)?;
     put_token(&mut out, b"</main>\n</body>\n</html>\n")?;
     Ok(out)
 }

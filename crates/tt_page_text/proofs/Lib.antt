@@ -1,3 +1,2 @@
 pub mod Growing
 pub mod Harmless
-pub mod Naming

@@ -62,3 +62,7 @@ period_named s None = markup (Number (s + 1) ∷ [])
 -- The name of a period if it has one.
 unfoldable pub period_text : Labelled → ℕ → List ℕ
 period_text labels s = period_named s (slice_get labels.periods s)
+
+-- A day and a period of it.
+unfoldable pub when_text : Labelled → ℕ → ℕ → List ℕ
+when_text labels d s = day_text labels d ++ codes ", period " ++ period_text labels s

@@ -2,7 +2,7 @@
 
 ghost use Rattle.std.specs.Prelude.{◌≡◌, ◌++◌, OnOk, IfOk};
 ghost use Rattle.std.specs.Option.{option_copied};
-ghost use Rattle.tt_page_text.specs.Labels.{names_from, names_in, names_of, labels_of, no_labels, day_text, period_text, Gives};
+ghost use Rattle.tt_page_text.specs.Labels.{names_from, names_in, names_of, labels_of, no_labels, day_text, period_text, when_text, Gives};
 ghost use Rattle.tt_page_text.specs.Naming.{names_seen};
 
 use crate::fault::LabelsFault;
@@ -10,6 +10,7 @@ use crate::part::{Part, put};
 use crate::shown::put_shown;
 use std::alloc::{AllocError, Global};
 use std::marker::Model;
+use tt_text::put_token;
 
 /// The names of the days and of the periods of a day, or none.
 #[derive(Drop)]
@@ -115,4 +116,19 @@ pub fn put_period(out: &mut Vec<u8>, labels: &Labels, period: u32) -> Result<(),
         Some(name) => put_shown(out, name.as_slice()),
         None => put(out, &[Part::Count(u64::from(period) + 1)]),
     }
+}
+
+/// Appends a day and a period of it.
+#[tactic(auto, unfolding(crate::specs::Labels::when_text))]
+pub fn put_when(
+    out: &mut Vec<u8>,
+    labels: &Labels,
+    day: u32,
+    period: u32,
+) -> Result<(), AllocError>
+    ensures { OnOk result (out.new.items ≡ out.old.items ++ when_text labels.now day period) }
+{
+    put_day(out, labels, day)?;
+    put_token(out, b", period ")?;
+    put_period(out, labels, period)
 }

@@ -7,6 +7,6 @@ mod part;
 mod shown;
 
 pub use fault::LabelsFault;
-pub use labels::{Labels, put_day, put_period};
+pub use labels::{Labels, put_day, put_period, put_when};
 pub use part::{Part, put, put_counted};
 pub use shown::put_shown;
