@@ -15,6 +15,6 @@ mod plan;
 mod rule;
 mod style;
 
-pub use pages::page;
+pub use pages::{page, text_of};
 pub use style::STYLE;
 pub use tt_page_text::{Labels, LabelsFault, put_shown};

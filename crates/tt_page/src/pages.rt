@@ -55,7 +55,7 @@ fn put_weeks(out: &mut Vec<u8>, plan: &Plan<'_, '_>, labels: &Labels) -> Result<
 
 /// Returns the text of a page.
 #[tactic(auto, unfolding(crate::specs::Pages::page_text))]
-fn text_of(
+pub fn text_of(
     alloc: Global,
     instance: &Instance<'_>,
     table: &Timetable,
