@@ -1,7 +1,8 @@
 """The files that hold the program longest for their size, of those that were looked for: each with its seconds, and its seconds a MB.
 
 A row is slow if it takes twice what is aimed at: 20 seconds and a second for each MB of the file that is tried, beside what the same
-command takes on the same instance with a file of one line. A run that passes the row's limit is stopped and counts as slow."""
+command takes on the same instance with a file of one line. A file of groups that uses up all the work that is allowed may take two minutes.
+A run that passes the row's limit is stopped and counts as slow."""
 
 from largest import ROOMS, STOPPED, course
 from samples import MINI
@@ -10,6 +11,7 @@ AIM_SECONDS, AIM_SECONDS_A_MB, TIMES = 20, 1, 2
 MOST_COURSES = 2_048
 MB = 1_000_000
 EASY = b"CTTP 1 bound 0 B ; end\n"
+GROUPS_SECONDS = 120
 
 
 def instance_of(courses, rooms, days, periods, curricula, teachers=None):
@@ -27,10 +29,10 @@ def comb(patterns, version=1):
     return b"CTTP %d bound 0 " % version + b" ".join(b"S " + it for it in patterns) + b" B ;" * (len(patterns) + 1) + b" end\n"
 
 
-def timed(table, words, size, wanted):
+def timed(table, words, size, wanted, most=None):
     """What a command takes beside what it takes on an easy file, in words; a slow row is a failure."""
     easy = table.run(words.replace("hard", "easy"))
-    most = TIMES * (AIM_SECONDS + AIM_SECONDS_A_MB * size / MB) + easy.seconds
+    most = (most or TIMES * (AIM_SECONDS + AIM_SECONDS_A_MB * size / MB)) + easy.seconds
     hard = table.run(words, seconds=most)
     taken = hard.seconds - easy.seconds
     said = f"{size} bytes, {taken:.2f} s, {taken / size * MB:.1f} s a MB, {hard.peak:.0f} MiB"
@@ -81,6 +83,44 @@ def clique_of_all(table):
     return proofs(table, instance_of(MOST_COURSES, 1, 1, 8, [], teachers=1), hard)
 
 
+def groups(table, instance, value, count, targets=None):
+    """What the checker takes for groups of one curriculum each, which all pay the same, until the allowed work is used up or all are checked."""
+    lines = "".join(f"G {value} {it if targets is None else targets(it)} / ;\n" for it in (range(count) if targets else (f"q{n}" for n in range(count))))
+    hard = f"CTTG 1 bound {value * count}\n{lines}end\n".encode()
+    table.put(instance=instance, hard=hard, easy=b"CTTG 1 bound 0 end\n")
+    return timed(table, "sum instance hard", len(hard), (0, 2), GROUPS_SECONDS)
+
+
+def unavailable(instance, slots):
+    """The same instance, in which courses can't meet in some periods: pairs of a course's number and a day, of days with one period."""
+    lines = "".join(f"{course(it)} {day} 0\n" for it, day in slots)
+    return instance.replace(b"Constraints: 0", b"Constraints: %d" % len(slots)).replace(b"END.", lines.encode() + b"END.")
+
+
+def lectures_of(instance, lectures):
+    """The same instance, with this many lectures of each course."""
+    return instance.replace(b" 1 1 1\n", b" %d 1 1\n" % lectures)
+
+
+def large_tables(table):
+    """Ten courses of three lectures, one period a day: each week has 4^10 states, and all lectures are isolated, so each group pays 60."""
+    week = lectures_of(instance_of(10, 1, 64, 1, [range(10)] * 8_192), 3)
+    return groups(table, week, 60, 8_192)
+
+
+def large_tables_of_rare_days(table):
+    """The same, where each course can meet on three of the first 30 days only, so that the other days add nothing but the tables' size."""
+    week = lectures_of(instance_of(10, 1, 64, 1, [range(10)] * 8_192), 3)
+    closed = [(it, day) for it in range(10) for day in range(64) if day >= 30 or day % 10 != it]
+    return groups(table, unavailable(week, closed), 60, 8_192)
+
+
+def many_sets(table):
+    """Twelve courses that never conflict, each alone in a curriculum, and eight periods a day: 4,096 sets are tried in each period."""
+    week = instance_of(12, 12, 64, 8, [[it % 12] for it in range(8_184)])
+    return groups(table, week, 24, 682, lambda it: " ".join(f"q{12 * it + k}" for k in range(12)))
+
+
 def weeks(table, words, curricula, entries):
     """Each curriculum has one course, which has all entries, in one period."""
     instance, entry = instance_of(1, 1, 1, 1, [[0]] * curricula), f"{course(0)} R0 0 0\n".encode()
@@ -107,6 +147,9 @@ ROWS = [
     ("20,000 facts about rooms, days and periods", wide_facts),
     ("prices of all courses and rooms", prices_of_all),
     ("a clique of all courses, eleven times", clique_of_all),
+    ("groups: 8,192 tables of a million states", large_tables),
+    ("groups: 8,192 tables of a million states and days on which nothing meets", large_tables_of_rare_days),
+    ("groups: 682 with 4,096 sets of courses each", many_sets),
     ("validate: 8,192 curricula, 16,384 entries in one period", validate_of_many_entries),
     ("report: 8,192 curricula, 4,096 entries in one period", report_of_many_entries),
     ("page: 1,024 curricula, 1,024 entries in one period", page_of_many_entries),

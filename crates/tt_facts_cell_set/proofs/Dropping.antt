@@ -13,6 +13,11 @@ use Rattle.tt_facts_cell_set.specs.Words.{Bit, IsBit, width, place, size, bit_of
 use Rattle.tt_facts_cell_set.specs.Tables.{has_cell, IsTable, Loses, is_placed, is_open}
 use Rattle.tt_facts_cell_set.proofs.Grid.{word_within, same_word, bit_within, room_back, block_within}
 
+-- a table whose bits aren't in force has no cell
+pub cleared-cell : (p : Problem) (words : List ℕ) → in_force p words ≡ false → (x : Cell) → has_cell p words x ≡ false
+unfolding has_cell
+cleared-cell p words e x = ap (λ b. b && is_set p words (bit_of x)) e
+
 -- ---- truth values
 
 taken : (b h m : Bool) → h ≡ true → (b && not m) ≡ (b && not (h && m))

@@ -10,5 +10,5 @@ mod rooms;
 pub use asking::{common_rooms, has_cell, has_period, periods_of};
 pub use first::first_table;
 pub use places::cells_word;
-pub use removing::{keep_rooms, remove_all, remove_rooms};
+pub use removing::{is_cleared, keep_rooms, remove_all, remove_rooms};
 pub use rooms::Rooms;

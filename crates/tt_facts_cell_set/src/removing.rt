@@ -1,6 +1,7 @@
 //! Removing cells from a table.
 
-ghost use Rattle.std.specs.Prelude.{◌≡◌, ◌<◌, ◌&&◌, true, not, length, OnOk, OnErr};
+ghost use Rattle.std.specs.Prelude.{◌≡◌, ◌<◌, ◌&&◌, true, false, not, length, OnOk, OnErr};
+ghost use Rattle.tt_instance.specs.declared.cell.Cell.{Cell};
 ghost use Rattle.tt_facts_path.specs.Facts.{agrees};
 ghost use Rattle.tt_facts_cell_set.specs.Tables.{has_cell, is_placed, IsTable, Loses};
 
@@ -70,12 +71,23 @@ pub fn keep_rooms(
     Ok(())
 }
 
-/// Removes all cells, with a single write.
+/// Returns whether `remove_all` has removed all cells; then the table has none.
+pub fn is_cleared(instance: &Instance<'_>, table: &Trail) -> bool
+    requires table { IsTable instance.now table.now.words }
+    ensures { result ≡ true → (x : Cell) → has_cell instance.now table.now.words x ≡ false }
+{
+    table.word(table.len() - 1) != 0
+}
+
+/// Removes all cells, with a single write, or with none if it has done so before.
 pub fn remove_all(instance: &Instance<'_>, table: &mut Trail) -> Result<(), AllocError>
     requires table { IsTable instance.now table.old.words }
     ensures ok { OnOk result (Loses instance.now table.old.words (λ x. true) table.new.words) }
     ensures same { table.new.earlier ≡ table.old.earlier }
 {
+    if is_cleared(instance, table) {
+        return Ok(());
+    }
     let last = table.len() - 1;
     table.set(last, 1)?;
     Ok(())

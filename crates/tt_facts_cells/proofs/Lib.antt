@@ -6,6 +6,8 @@ pub mod Struck
 pub mod Settled
 pub mod Barred
 pub mod Renewed
+pub mod Contrary
+pub mod Listed
 pub mod Kept
 pub mod Asked
 pub mod Linked

@@ -1,9 +1,9 @@
 -- The live cells after another fact.
-use Rattle.std.proofs.Common.{◌≡◌, ℕ, ◌+◌, ◌<◌, Bool, true, false, not, ◌&&◌, ◌||◌, List, [], ◌∷◌, ◌++◌, length, take, map, cond, Option, Some, None, refl, sym, ap, ◌∙◌, subst, eq-eqb}
+use Rattle.std.proofs.Common.{◌≡◌, ℕ, ◌+◌, ◌<◌, Bool, true, false, not, ◌&&◌, ◌||◌, List, [], ◌∷◌, ◌++◌, length, take, drop, map, cond, Option, Some, None, refl, sym, ap, ◌∙◌, subst, eq-eqb}
 use Rattle.std.specs.Prelude.{Contains, filter, slice_index_or}
 use Rattle.std.specs.List.{list_any}
-use Rattle.std.proofs.lemmas.Bool.{and_parts, and_from, eqb-true, or_right, both_ways, false_from_ne_true}
-use Rattle.std.proofs.lemmas.List.{take_more, map-append}
+use Rattle.std.proofs.lemmas.Bool.{and_parts, and_from, eqb-true, or_left, or_right, both_ways, false_from_ne_true}
+use Rattle.std.proofs.lemmas.List.{take_more, map-append, take-append-drop}
 use Rattle.std.proofs.lemmas.List.Folds.{list_any-append}
 use Rattle.std.proofs.Math.Bool.{or-false}
 use Rattle.std.proofs.lemmas.List.Elements.{Contains-get_or}
@@ -24,9 +24,9 @@ use Rattle.tt_facts_path.specs.declared.facts.Pattern.{Pattern}
 use Rattle.tt_facts_path.specs.declared.facts.Fact.{Fact}
 use Rattle.tt_facts_cells.proofs.More.{is_barred-yes, is_barred-no, is_dead-yes}
 use Rattle.tt_facts_cells.proofs.Recomputed.{excludes-untouched, is_dead-no-more}
-use Rattle.tt_facts_cell_set.specs.Tables.{Shows, Loses}
+use Rattle.tt_facts_cell_set.specs.Tables.{has_cell, Shows, Loses}
 use Rattle.tt_facts_cells.specs.Touching.{may_agree, may_share, may_touch}
-use Rattle.tt_facts_cells.specs.Shown.{is_free_of, yes_facts, Settles, Renews, Adds}
+use Rattle.tt_facts_cells.specs.Shown.{is_free_of, yes_facts, AreListed, Settles, Renews, Adds}
 use Rattle.tt_facts_cells.proofs.Losing.{shows-less, shows-same}
 
 -- ---- patterns that touch
@@ -106,7 +106,7 @@ module _ (p : Problem) (path : List Fact) (f : Fact) (live : List ℕ) (some : L
       ∙ ap (λ b. (is_live p path x && not (matches p f.pattern x)) && not b) (sym (shut_next p (path ++ f ∷ []) some h x)))
 
   -- a yes-fact of the path that doesn't touch the no-fact: the cells that it excludes are dead already
-  pub skipped_apart : (wanted : List Pattern) → wanted ≡ yes_facts (path ++ f ∷ []) → Contains wanted h.pattern → f.holds ≡ false → may_touch p h.pattern f.pattern ≡ false → Shows p (so_far p path f (some ++ h ∷ [])) live
+  pub skipped_apart : (wanted : List Pattern) → AreListed (path ++ f ∷ []) wanted → Contains wanted h.pattern → f.holds ≡ false → may_touch p h.pattern f.pattern ≡ false → Shows p (so_far p path f (some ++ h ∷ [])) live
   skipped_apart wanted listed member it_denies apart = skip (λ x k e.
       let a = and_parts h.holds (excludes p (path ++ f ∷ []) h.pattern x) e in
       let u = excludes-untouched p path (path ++ f ∷ []) h.pattern x (λ y hy m.
@@ -114,7 +114,7 @@ module _ (p : Problem) (path : List Fact) (f : Fact) (live : List ℕ) (some : L
       ∙ ap (λ b. is_barred p path y || b) (false_from_ne_true (matches p f.pattern y) (λ q. both_ways (may_touch p h.pattern f.pattern) apart (touching p h.pattern f.pattern y m q)))
       ∙ or-false (is_barred p path y)) in
       let t = λ (j : Fact). j.holds && excludes p path j.pattern x in
-      let all = list_any_yes (λ g. excludes p path g x) (path ++ f ∷ []) ∙ ap (list_any (λ g. excludes p path g x)) (sym listed) ∙ any_member (λ g. excludes p path g x) wanted h.pattern member (sym u ∙ a.1) in
+      let all = list_any_yes (λ g. excludes p path g x) (path ++ f ∷ []) ∙ sym (listed.same (λ g. excludes p path g x)) ∙ any_member (λ g. excludes p path g x) wanted h.pattern member (sym u ∙ a.1) in
       let here : list_any t path ≡ true = sym (list_any-append t path (f ∷ []) ∙ ap (λ b. list_any t path || b) (or-false (t f) ∙ ap (λ b. b && excludes p path f.pattern x) it_denies) ∙ or-false (list_any t path)) ∙ all in
       ap not (or_right (is_barred p path x) (is_excluded p path x) here))
 
@@ -162,16 +162,32 @@ module _ (p : Problem) (wanted : List Pattern) (path : List Fact) (f : Fact) (i 
   pub next_settled : (free new : List ℕ) → Shows p (is_free_of p (path ++ f ∷ [])) free → Settles p free live (slice_index_or wanted i d) new → Shows p (so_far p path f (map as_yes (take (i + 1) wanted))) new
   next_settled free new open_cells s = one_more new (settled_one p path f live (map as_yes (take i wanted)) (as_yes (slice_index_or wanted i d)) shows free new refl open_cells s)
 
-  pub next_apart : wanted ≡ yes_facts (path ++ f ∷ []) → f.holds ≡ false → may_touch p (slice_index_or wanted i d) f.pattern ≡ false → Shows p (so_far p path f (map as_yes (take (i + 1) wanted))) live
+  pub next_apart : AreListed (path ++ f ∷ []) wanted → f.holds ≡ false → may_touch p (slice_index_or wanted i d) f.pattern ≡ false → Shows p (so_far p path f (map as_yes (take (i + 1) wanted))) live
   next_apart e denies apart = one_more live (skipped_apart p path f live (map as_yes (take i wanted)) (as_yes (slice_index_or wanted i d)) shows wanted e (Contains-get_or wanted i d hi) denies apart)
 
 -- after the last fact
-pub all_settled : (p : Problem) (wanted : List Pattern) (path : List Fact) (f : Fact) (live : List ℕ) → wanted ≡ yes_facts (path ++ f ∷ []) → f.holds ≡ false → Shows p (so_far p path f (map as_yes wanted)) live → Shows p (is_live p (path ++ f ∷ [])) live
+pub all_settled : (p : Problem) (wanted : List Pattern) (path : List Fact) (f : Fact) (live : List ℕ) → AreListed (path ++ f ∷ []) wanted → f.holds ≡ false → Shows p (so_far p path f (map as_yes wanted)) live → Shows p (is_live p (path ++ f ∷ [])) live
 all_settled p wanted path f live e denies shows = renewed_all p path f live denies (shows-same p live (so_far p path f (map as_yes wanted)) (so_far p path f (path ++ f ∷ [])) shows (λ x k.
     ap (λ b. (is_live p path x && not (matches p f.pattern x)) && not b)
     (list_any-of_map (λ h. h.holds && excludes p (path ++ f ∷ []) h.pattern x) as_yes wanted
-    ∙ ap (list_any (λ g. excludes p (path ++ f ∷ []) g x)) e
+    ∙ e.same (λ g. excludes p (path ++ f ∷ []) g x)
     ∙ sym (list_any_yes (λ g. excludes p (path ++ f ∷ []) g x) (path ++ f ∷ [])))))
+
+smaller : (a b c : Bool) → (a && not b) ≡ false → (b ≡ true → c ≡ true) → (a && not b) ≡ (a && not c)
+smaller true true c e h = ap not (sym (h refl))
+smaller true false c e h = cc
+smaller false b c e h = refl
+
+-- before the last fact, if no cell is left
+pub nothing_left : (p : Problem) (wanted : List Pattern) (path : List Fact) (f : Fact) (i : ℕ) (live : List ℕ) → AreListed (path ++ f ∷ []) wanted → f.holds ≡ false → ((x : Cell) → has_cell p live x ≡ false) → Shows p (so_far p path f (map as_yes (take i wanted))) live → Shows p (is_live p (path ++ f ∷ [])) live
+nothing_left p wanted path f i live e denies none shows = all_settled p wanted path f live e denies (shows-same p live (so_far p path f (map as_yes (take i wanted))) (so_far p path f (map as_yes wanted)) shows (λ x k.
+    let t = λ (h : Fact). h.holds && excludes p (path ++ f ∷ []) h.pattern x in
+    let u = λ (g : Pattern). t (as_yes g) in
+    smaller (is_live p path x && not (matches p f.pattern x)) (is_shut p (path ++ f ∷ []) (map as_yes (take i wanted)) x) (is_shut p (path ++ f ∷ []) (map as_yes wanted) x) (sym (shows.cells x k) ∙ none x) (λ s.
+    list_any-of_map t as_yes wanted
+    ∙ ap (list_any u) (sym (take-append-drop i wanted))
+    ∙ list_any-append u (take i wanted) (drop i wanted)
+    ∙ or_left (list_any u (take i wanted)) (list_any u (drop i wanted)) (sym (list_any-of_map t as_yes (take i wanted)) ∙ s))))
 
 -- before the first fact
 pub so_far_none : (p : Problem) (path : List Fact) (f : Fact) (g : Pattern) (live : List ℕ) → f.pattern ≡ g → Shows p (λ x. is_live p path x && not (matches p g x)) live → Shows p (so_far p path f []) live

@@ -4,3 +4,5 @@ pub mod Slots
 pub mod Shown
 pub mod Touching
 pub mod Order
+pub mod Listing
+pub mod Spread

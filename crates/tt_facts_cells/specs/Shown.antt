@@ -1,6 +1,7 @@
 -- Not part of the trusted statement: only proofs use this file.
 -- What the tables of a path show.
 use Rattle.std.specs.Prelude.{◌≡◌, ℕ, ◌<◌, ◌==◌, Bool, false, not, ◌&&◌, List, [], ◌∷◌, ◌++◌, length, take, map, filter, slice_index_or}
+use Rattle.std.specs.List.{list_any}
 use Rattle.tt_instance.specs.Problem.{Problem}
 use Rattle.tt_instance.specs.declared.cell.Cell.{Cell}
 use Rattle.tt_facts_path.specs.Facts.{matches}
@@ -37,12 +38,16 @@ pub record Settles (p : Problem) (free old : List ℕ) (g : Pattern) (new : List
 abbrev pub yes_facts : List Fact → List Pattern
 yes_facts facts = map (λ f. f.pattern) (filter (λ f. f.holds) facts)
 
+-- The list has the pattern of each yes-fact and no other: a test passes one of the list exactly if it passes one of theirs.
+pub record AreListed (facts : List Fact) (yes : List Pattern) : Type 0 where
+  pub same : (t : Pattern → Bool) → list_any t yes ≡ list_any t (yes_facts facts)
+
 -- The free cells and the live cells have lost those that a no-fact with pattern g, the last of the facts, matches; after this step the live
 -- cells are again those of the path.
 pub record Renews (p : Problem) (yes : List Pattern) (free old : List ℕ) (g : Pattern) (new : List ℕ) : Type 0 where
   pub table : IsTable p new
-  pub renewed : (path : List Fact) → (f : Fact) → yes ≡ yes_facts (path ++ f ∷ []) → f.holds ≡ false → f.pattern ≡ g → Shows p (is_free_of p (path ++ f ∷ [])) free → Shows p (λ x. is_live p path x && not (matches p g x)) old → Shows p (is_live p (path ++ f ∷ [])) new
+  pub renewed : (path : List Fact) → (f : Fact) → AreListed (path ++ f ∷ []) yes → f.holds ≡ false → f.pattern ≡ g → Shows p (is_free_of p (path ++ f ∷ [])) free → Shows p (λ x. is_live p path x && not (matches p g x)) old → Shows p (is_live p (path ++ f ∷ [])) new
 
 -- The tables of a path have become those of the path with another fact; `yes` has the patterns of the yes-facts of all.
 pub record Adds (p : Problem) (yes : List Pattern) (free live : List ℕ) (f : Fact) (free' live' : List ℕ) : Type 0 where
-  pub added : (path : List Fact) → yes ≡ yes_facts (path ++ f ∷ []) → AreTables p path free live → AreTables p (path ++ f ∷ []) free' live'
+  pub added : (path : List Fact) → AreListed (path ++ f ∷ []) yes → AreTables p path free live → AreTables p (path ++ f ∷ []) free' live'

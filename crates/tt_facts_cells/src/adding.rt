@@ -7,20 +7,25 @@ ghost use Rattle.tt_facts_cells.specs.Shown.{Adds};
 
 use crate::again::settle_again;
 use crate::barring::remove_matched;
+use crate::listing::is_listed;
 use crate::settling::settle;
+use crate::watching::{NO_WATCH, Watches};
 use std::alloc::AllocError;
+use tt_facts_cell_set::remove_all;
 use tt_facts_path::{Fact, Pattern};
 use tt_instance::Instance;
 use tt_instance_links::Conflicts;
 use tt_trail::Trail;
 
-/// Changes both tables for a no-fact, the last of the facts. `yes` has the patterns of the yes-facts.
+/// Changes both tables for a no-fact, the last of the facts. `yes` has the patterns of the yes-facts; if one of them is the
+/// no-fact's, no cell is live.
 fn deny(
     instance: &Instance<'_>,
     links: &Conflicts,
     free: &mut Trail,
     live: &mut Trail,
     yes: &[Pattern],
+    watches: &mut Watches,
     fact: &Fact,
 ) -> Result<(), AllocError>
     requires links { AreConflicts instance.now links.now }
@@ -33,8 +38,12 @@ fn deny(
     ensures same_live { live.new.earlier ≡ live.old.earlier }
 {
     remove_matched(instance, free, &fact.pattern)?;
+    if is_listed(yes, &fact.pattern) {
+        remove_all(instance, live)?;
+        return Ok(());
+    }
     remove_matched(instance, live, &fact.pattern)?;
-    settle_again(instance, links, free, live, yes, &fact.pattern)?;
+    settle_again(instance, links, free, live, yes, watches, &fact.pattern)?;
     Ok(())
 }
 
@@ -45,6 +54,7 @@ fn change(
     free: &mut Trail,
     live: &mut Trail,
     yes: &[Pattern],
+    watches: &mut Watches,
     fact: &Fact,
 ) -> Result<(), AllocError>
     requires links { AreConflicts instance.now links.now }
@@ -56,10 +66,10 @@ fn change(
     ensures same_live { live.new.earlier ≡ live.old.earlier }
 {
     if fact.holds {
-        settle(instance, links, free, live, &fact.pattern)?;
+        settle(instance, links, free, live, &fact.pattern, NO_WATCH)?;
         Ok(())
     } else {
-        deny(instance, links, free, live, yes, fact)?;
+        deny(instance, links, free, live, yes, watches, fact)?;
         Ok(())
     }
 }
@@ -71,6 +81,7 @@ pub fn add(
     free: &mut Trail,
     live: &mut Trail,
     yes: &[Pattern],
+    watches: &mut Watches,
     fact: &Fact,
 ) -> Result<(), AllocError>
     requires links { AreConflicts instance.now links.now }
@@ -88,7 +99,7 @@ pub fn add(
         free.undo();
         return Err(fault);
     }
-    if let Err(fault) = change(instance, links, free, live, yes, fact) {
+    if let Err(fault) = change(instance, links, free, live, yes, watches, fact) {
         free.undo();
         live.undo();
         return Err(fault);

@@ -7,7 +7,9 @@ ghost use Rattle.tt_facts_cells.specs.Touching.{may_agree, may_share, may_touch}
 ghost use Rattle.tt_facts_cells.specs.Shown.{Renews};
 
 use crate::settling::settle;
+use crate::watching::Watches;
 use std::alloc::AllocError;
+use tt_facts_cell_set::is_cleared;
 use tt_facts_path::{Pattern, Who};
 use tt_instance::Instance;
 use tt_instance_links::Conflicts;
@@ -54,6 +56,7 @@ pub fn settle_again(
     free: &Trail,
     live: &mut Trail,
     yes: &[Pattern],
+    watches: &mut Watches,
     pattern: &Pattern,
 ) -> Result<(), AllocError>
     requires links { AreConflicts instance.now links.now }
@@ -62,11 +65,18 @@ pub fn settle_again(
     ensures ok { OnOk result (Renews instance.now yes.now free.now.words live.old.words pattern.now live.new.words) }
     ensures same { live.new.earlier ≡ live.old.earlier }
 {
+    let mut next = 0_usize;
     for older in yes {
+        if is_cleared(instance, live) {
+            return Ok(());
+        }
+        let place = next;
+        next = next.saturating_add(1);
         if !may_touch(instance, older, pattern) {
             continue;
         }
-        settle(instance, links, free, live, older)?;
+        let watch = settle(instance, links, free, live, older, watches.at(place))?;
+        watches.set(place, watch);
     }
     Ok(())
 }

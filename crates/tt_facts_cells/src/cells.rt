@@ -6,6 +6,7 @@ ghost use Rattle.tt_facts_path.specs.declared.path.TheConstants.{MAX_FACTS};
 use crate::adding::add;
 use crate::listing::{list_fact, unlist_fact};
 use crate::order::{Ranked, RoomOrder};
+use crate::watching::Watches;
 use std::alloc::{AllocError, Global};
 use std::marker::Model;
 use tt_bits::is_empty;
@@ -15,14 +16,16 @@ use tt_instance::Instance;
 use tt_instance_links::Conflicts;
 use tt_trail::Trail;
 
-/// The facts, the patterns of the yes-facts, the cells that are not barred, and the live ones.
+/// The facts, which of them are the first yes-facts of their patterns, these patterns, the cells that are not barred, and the live ones.
 #[derive(Drop)]
 pub struct Cells<'p, 'i> {
     instance: &'p Instance<'i>,
     links: Conflicts,
     order: RoomOrder,
     facts: Vec<Fact>,
+    firsts: Vec<bool>,
     yes: Vec<Pattern>,
+    watches: Watches,
     free: Trail,
     live: Trail,
 }
@@ -33,7 +36,8 @@ impl<'p, 'i> Model for Cells<'p, 'i> {
     ghost use Rattle.tt_facts_path.specs.declared.path.TheConstants.{MAX_FACTS};
     ghost use Rattle.tt_instance_links.specs.Linked.{AreConflicts};
     ghost use Rattle.tt_facts_cells.specs.Order.{IsRoomOrder};
-    ghost use Rattle.tt_facts_cells.specs.Shown.{yes_facts, AreTables, AreEarlier};
+    ghost use Rattle.tt_facts_cells.specs.Listing.{IsListing};
+    ghost use Rattle.tt_facts_cells.specs.Shown.{AreTables, AreEarlier};
 
     ghost Value = { Facts };
 
@@ -43,7 +47,7 @@ impl<'p, 'i> Model for Cells<'p, 'i> {
       links : AreConflicts s.instance.now s.links;
       order : IsRoomOrder s.instance.now s.order;
       depth : length s.facts.items ≤ MAX_FACTS;
-      yes : s.yes.items ≡ yes_facts s.facts.items;
+      listing : IsListing s.facts.items s.firsts.items s.yes.items;
       tables : AreTables s.instance.now s.facts.items s.free.words s.live.words;
       earlier : AreEarlier s.instance.now s.facts.items s.free.earlier s.live.earlier;
     } };
@@ -66,7 +70,9 @@ impl<'p, 'i> Cells<'p, 'i> {
         let links = Conflicts::new(alloc, instance)?;
         let order = RoomOrder::new(alloc, instance)?;
         let facts = Vec::new(alloc);
+        let firsts = Vec::new(alloc);
         let yes = Vec::new(alloc);
+        let watches = Watches::new(alloc);
         let free = first_table(alloc, instance)?;
         let live = first_table(alloc, instance)?;
         Ok(Cells {
@@ -74,7 +80,9 @@ impl<'p, 'i> Cells<'p, 'i> {
             links,
             order,
             facts,
+            firsts,
             yes,
+            watches,
             free,
             live,
         })
@@ -111,16 +119,18 @@ impl<'p, 'i> Cells<'p, 'i> {
         ensures err { OnErr result (self.new.facts ≡ self.old.facts) }
         ensures same { self.new.problem ≡ self.old.problem }
     {
-        list_fact(&mut self.facts, &mut self.yes, fact)?;
+        self.watches.grow(self.yes.len().saturating_add(1))?;
+        list_fact(&mut self.facts, &mut self.firsts, &mut self.yes, fact)?;
         if let Err(fault) = add(
             self.instance,
             &self.links,
             &mut self.free,
             &mut self.live,
             self.yes.as_slice(),
+            &mut self.watches,
             &fact,
         ) {
-            let _ = unlist_fact(&mut self.facts, &mut self.yes);
+            let _ = unlist_fact(&mut self.facts, &mut self.firsts, &mut self.yes);
             return Err(fault);
         }
         Ok(())
@@ -135,7 +145,7 @@ impl<'p, 'i> Cells<'p, 'i> {
     {
         self.free.undo();
         self.live.undo();
-        unlist_fact(&mut self.facts, &mut self.yes)
+        unlist_fact(&mut self.facts, &mut self.firsts, &mut self.yes)
     }
 
     /// Returns whether exactly this fact is one of them; it goes through all facts.

@@ -1,7 +1,6 @@
 //! The courses whose cells a pattern matches.
 
 ghost use Rattle.std.specs.Prelude.{◌≡◌};
-ghost use Rattle.tt_lists.specs.Words.{has_number};
 ghost use Rattle.tt_facts_path.specs.Nested.{courses_of};
 
 use std::slice;
@@ -22,11 +21,4 @@ pub fn courses_of<'a>(instance: &'a Instance<'_>, who: &'a Who) -> &'a [u32]
             }
         }
     }
-}
-
-/// Returns whether a course is one of these.
-pub fn is_one(courses: &[u32], course: u32) -> bool
-    ensures { result ≡ has_number courses.now course }
-{
-    courses.iter().any(|one| *one == course)
 }

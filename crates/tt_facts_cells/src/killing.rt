@@ -3,6 +3,7 @@
 ghost use Rattle.std.specs.Prelude.{◌≡◌, ◌<◌, ◌==◌, ◌&&◌, ℕ, [], ◌∷◌, length, OnOk, not, ◌||◌};
 ghost use Rattle.std.specs.List.{list_all};
 ghost use Rattle.tt_lists.specs.Words.{has_number};
+ghost use Rattle.tt_facts_path.specs.Nested.{courses_of};
 ghost use Rattle.tt_instance_links.specs.Linked.{AreConflicts};
 ghost use Rattle.tt_facts_cell_set.specs.Rooms.{has_room};
 ghost use Rattle.tt_instance.specs.Cells.{all_rooms};
@@ -10,9 +11,8 @@ ghost use Rattle.tt_facts_cell_set.specs.Tables.{is_open, is_placed, IsTable, Lo
 ghost use Rattle.tt_facts_cells.specs.Struck.{is_beside, loses_room};
 ghost use Rattle.tt_facts_cells.specs.Shown.{is_struck};
 
-use crate::courses::is_one;
 use std::alloc::AllocError;
-use tt_facts_cell_set::{Rooms, common_rooms, keep_rooms, remove_rooms};
+use tt_facts_cell_set::{Rooms, common_rooms, has_period, keep_rooms, remove_rooms};
 use tt_facts_path::Pattern;
 use tt_instance::Instance;
 use tt_instance_links::Conflicts;
@@ -108,6 +108,7 @@ fn strike(
     courses: &[u32],
     course: u32,
 ) -> Result<(), AllocError>
+    requires courses { courses.now ≡ courses_of instance.now pattern.now.who }
     requires day { day < instance.now.days }
     requires period { period < instance.now.periods }
     requires free { IsTable instance.now free.now.words }
@@ -119,7 +120,10 @@ fn strike(
         live.new.words) }
     ensures same { live.new.earlier ≡ live.old.earlier }
 {
-    if is_one(courses, course) {
+    if !has_period(instance, live, None, course, day, period) {
+        return Ok(());
+    }
+    if pattern.who.includes(instance, course) {
         keep_rooms(instance, live, free, pattern.room, course, day, period)?;
         return Ok(());
     }
@@ -138,6 +142,7 @@ fn kill(
     period: u32,
     courses: &[u32],
 ) -> Result<(), AllocError>
+    requires courses { courses.now ≡ courses_of instance.now pattern.now.who }
     requires day { day < instance.now.days }
     requires period { period < instance.now.periods }
     requires free { IsTable instance.now free.now.words }
@@ -239,6 +244,7 @@ pub fn kill_one(
     course: u32,
     common: Rooms,
 ) -> Result<(), AllocError>
+    requires one { courses_of instance.now pattern.now.who ≡ course ∷ [] }
     requires links { AreConflicts instance.now links.now }
     requires day { day < instance.now.days }
     requires period { period < instance.now.periods }
@@ -281,6 +287,7 @@ pub fn kill_by_links(
     period: u32,
     courses: &[u32],
 ) -> Result<(), AllocError>
+    requires courses { courses.now ≡ courses_of instance.now pattern.now.who }
     requires links { AreConflicts instance.now links.now }
     requires day { day < instance.now.days }
     requires period { period < instance.now.periods }

@@ -11,5 +11,6 @@ mod listing;
 mod order;
 mod periods;
 mod settling;
+mod watching;
 
 pub use cells::Cells;

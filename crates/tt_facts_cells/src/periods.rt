@@ -78,7 +78,7 @@ pub fn is_left(
 }
 
 /// Returns whether the pattern allows the period with this number and one of the courses has a free room there.
-fn is_left_in(
+pub fn is_left_in(
     instance: &Instance<'_>,
     free: &Trail,
     pattern: &Pattern,

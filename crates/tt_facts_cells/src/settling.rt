@@ -10,6 +10,7 @@ ghost use Rattle.tt_facts_cells.specs.Shown.{Settles};
 use crate::courses::courses_of;
 use crate::killing::{kill_by_links, kill_one};
 use crate::periods::{first_left, is_left, slots_of};
+use crate::watching::{NO_WATCH, Watch, is_spread};
 use std::alloc::AllocError;
 use tt_facts_cell_set::{Rooms, common_rooms, remove_all};
 use tt_facts_path::Pattern;
@@ -17,7 +18,7 @@ use tt_instance::Instance;
 use tt_instance_links::Conflicts;
 use tt_trail::Trail;
 
-/// Removes the live cells that a pattern excludes, if its first free period is this one.
+/// Removes the live cells that a pattern excludes, if its first free period is this one. Returns this period and the next free one.
 fn settle_from(
     instance: &Instance<'_>,
     links: &Conflicts,
@@ -28,7 +29,7 @@ fn settle_from(
     from: u32,
     slot: u32,
     to: u32,
-) -> Result<(), AllocError>
+) -> Result<Watch, AllocError>
     requires links { AreConflicts instance.now links.now }
     requires courses { courses.now ≡ courses_of instance.now pattern.now.who }
     requires covers { Covers instance.now pattern.now from to }
@@ -40,7 +41,10 @@ fn settle_from(
 {
     let periods = instance.periods();
     match first_left(instance, free, pattern, courses, slot + 1, to) {
-        Some(_) => Ok(()),
+        Some(other) => Ok(Watch {
+            first: slot,
+            second: other,
+        }),
         None => {
             kill_by_links(
                 instance,
@@ -52,7 +56,7 @@ fn settle_from(
                 slot % periods,
                 courses,
             )?;
-            Ok(())
+            Ok(NO_WATCH)
         }
     }
 }
@@ -133,7 +137,8 @@ fn settle_at(
     Ok(())
 }
 
-/// Removes the live cells that a pattern excludes, whichever periods it allows.
+/// Removes the live cells that a pattern excludes, whichever periods it allows. Takes two of its free periods, if they are known,
+/// and returns those that are known afterwards.
 fn settle_within(
     instance: &Instance<'_>,
     links: &Conflicts,
@@ -141,7 +146,8 @@ fn settle_within(
     live: &mut Trail,
     pattern: &Pattern,
     courses: &[u32],
-) -> Result<(), AllocError>
+    watch: Watch,
+) -> Result<Watch, AllocError>
     requires links { AreConflicts instance.now links.now }
     requires courses { courses.now ≡ courses_of instance.now pattern.now.who }
     requires free { IsTable instance.now free.now.words }
@@ -149,29 +155,34 @@ fn settle_within(
     ensures ok { OnOk result (Settles instance.now free.now.words live.old.words pattern.now live.new.words) }
     ensures same { live.new.earlier ≡ live.old.earlier }
 {
+    if is_spread(instance, free, pattern, courses, watch) {
+        return Ok(watch);
+    }
     let (from, to) = slots_of(instance, pattern);
     match first_left(instance, free, pattern, courses, from, to) {
         None => {
             remove_all(instance, live)?;
-            Ok(())
+            Ok(NO_WATCH)
         }
         Some(slot) => {
-            settle_from(
+            let found = settle_from(
                 instance, links, free, live, pattern, courses, from, slot, to,
             )?;
-            Ok(())
+            Ok(found)
         }
     }
 }
 
-/// Removes the live cells that a pattern excludes.
+/// Removes the live cells that a pattern excludes. Takes two of its free periods, if they are known, and returns those that are
+/// known afterwards.
 pub fn settle(
     instance: &Instance<'_>,
     links: &Conflicts,
     free: &Trail,
     live: &mut Trail,
     pattern: &Pattern,
-) -> Result<(), AllocError>
+    watch: Watch,
+) -> Result<Watch, AllocError>
     requires links { AreConflicts instance.now links.now }
     requires free { IsTable instance.now free.now.words }
     requires live { IsTable instance.now live.old.words }
@@ -182,11 +193,11 @@ pub fn settle(
     match (pattern.day, pattern.period) {
         (Some(day), Some(period)) if day < instance.days() && period < instance.periods() => {
             settle_at(instance, links, free, live, pattern, courses, day, period)?;
-            Ok(())
+            Ok(watch)
         }
         _ => {
-            settle_within(instance, links, free, live, pattern, courses)?;
-            Ok(())
+            let found = settle_within(instance, links, free, live, pattern, courses, watch)?;
+            Ok(found)
         }
     }
 }

@@ -1,6 +1,7 @@
 //! The check of one group's claim.
 
-ghost use Rattle.std.specs.Prelude.{◌≡◌, ◌<◌, ◌≤◌, ◌⊎◌, ◌↔◌, List, false, true, Err, IsErrAnd, OnOk};
+ghost use Rattle.std.specs.Prelude.{◌≡◌, ◌<◌, ◌≤◌, ◌⊎◌, ◌↔◌, List, false, true, Err, IfErr, IsErrAnd, OnOk};
+ghost use Rattle.tt_groups_day.specs.Work.{IsUsedUp};
 ghost use Rattle.tt_groups.specs.Group.{group_cost, IsRelaxedTimetable, IsGroupBound};
 ghost use Rattle.tt_instance.specs.declared.cell.Cell.{Cell};
 ghost use Rattle.tt_groups_check.specs.Limits.{IsGroupOf, is_too_wide, states_of, sets_of, MakesTables};
@@ -12,32 +13,62 @@ use crate::fault::GroupFault;
 use crate::width::{base_cost, is_too_wide};
 use std::alloc::Global;
 use tt_groups::Group;
-use tt_groups_day::MAX_SETS;
+use tt_groups_day::{DayWork, MAX_SETS};
 use tt_groups_week::{Digits, MAX_PLACES, week_holds};
 use tt_instance::Instance;
 
 /// The maximum number of sequences of sets that the days of one group may try.
 pub const MAX_SEQUENCES: u64 = 16_777_216;
 
+/// The maximum number of sets that the days of all groups of a file may try, each in a period.
+pub const MAX_TRIES: u64 = 268_435_456;
+
 /// The maximum number of relaxations that all groups of a file may use.
 pub const MAX_RELAXATIONS: u64 = 4_294_967_296;
 
-/// The work that checks may still do: sequences for one group, relaxations for all groups of a file.
+/// The number of relaxations that take as long as a place of a day's table.
+const PLACE_PRICE: u64 = 8;
+
+/// The work that checks may still do.
 #[derive(Clone, Copy, Debug, PartialEq, Eq)]
 pub struct Work {
-    pub sequences: u64,
+    /// The sequences of the days of the last group, and the tries of all groups of a file.
+    pub days: DayWork,
+    /// The relaxations of all groups of a file. The tables of a group take some of them.
     pub relaxations: u64,
 }
 
 impl Work {
     /// Returns the work allowed for a whole file.
     pub fn new() -> Work
-        ensures sequences { result.sequences ≡ MAX_SEQUENCES }
+        ensures sequences { result.days.sequences ≡ MAX_SEQUENCES }
+        ensures tries { result.days.tries ≡ MAX_TRIES }
         ensures relaxations { result.relaxations ≡ MAX_RELAXATIONS }
     {
         Work {
-            sequences: MAX_SEQUENCES,
+            days: DayWork {
+                sequences: MAX_SEQUENCES,
+                tries: MAX_TRIES,
+            },
             relaxations: MAX_RELAXATIONS,
+        }
+    }
+}
+
+/// Subtracts the price of the tables from the relaxations that are left: each day has a table with a place for each state. If fewer are left,
+/// all are used up.
+fn pay_tables(days: u32, states: u32, relaxations: &mut u64) -> Result<(), GroupFault>
+    ensures used_up { IfErr result (λ e. (e ≡ fault.TooMuchWork) × (relaxations.new ≡ 0)) }
+{
+    let places = u64::from(days) * u64::from(states);
+    match relaxations.checked_sub(places.saturating_mul(PLACE_PRICE)) {
+        Some(left) => {
+            *relaxations = left;
+            Ok(())
+        }
+        None => {
+            *relaxations = 0;
+            Err(GroupFault::TooMuchWork)
         }
     }
 }
@@ -63,9 +94,9 @@ pub fn check_group(
     ensures sets_only { result ≡ Err fault.TooManySets → MakesTables instance.now group.now value × (MAX_SETS < sets_of instance.now group.now) }
     ensures sets { MakesTables instance.now group.now value → MAX_SETS < sets_of instance.now group.now →
         IsErrAnd result (λ e. (e ≡ fault.TooManySets) ⊎ (e ≡ fault.OutOfMemory)) }
-    // It is too much work only if all sequences of the group or all relaxations of the file are used up.
+    // It is too much work only if all sequences of the group, all tries of the file or all its relaxations are used up.
     ensures work_only { result ≡ Err fault.TooMuchWork → MakesTables instance.now group.now value × (sets_of instance.now group.now ≤ MAX_SETS) ×
-        ((work.new.sequences ≡ 0) ⊎ (work.new.relaxations ≡ 0)) }
+        (IsUsedUp work.new.days ⊎ (work.new.relaxations ≡ 0)) }
 {
     if is_too_wide(instance, group, value) {
         return Err(GroupFault::TooWide);
@@ -80,7 +111,7 @@ pub fn check_group(
         return Ok(());
     }
     let bound = (value - base) as u8;
-    work.sequences = MAX_SEQUENCES;
+    work.days.sequences = MAX_SEQUENCES;
     let lists = lists_of(
         alloc,
         instance,
@@ -88,8 +119,9 @@ pub fn check_group(
         &courses,
         &digits,
         bound,
-        &mut work.sequences,
+        &mut work.days,
     )?;
+    pay_tables(instance.days(), digits.count, &mut work.relaxations)?;
     let holds = week_holds(
         alloc,
         &digits,

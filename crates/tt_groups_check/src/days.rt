@@ -2,6 +2,7 @@
 
 ghost use Rattle.std.specs.Prelude.{◌≡◌, ℕ, ◌<◌, ◌≤◌, length, All, Err, IfErr, IfOk, OnOk, IsTrue, slice_index};
 ghost use Rattle.tt_groups_day.specs.Counting.{sets_count};
+ghost use Rattle.tt_groups_day.specs.Work.{IsUsedUp};
 ghost use Rattle.tt_groups_check.specs.Faults.{is_unfinished};
 ghost use Rattle.tt_groups_check.specs.Lists.{AreListed, AreOfDays};
 ghost use Rattle.tt_groups_check.specs.Setting.{IsSetting};
@@ -13,11 +14,11 @@ use crate::fault::GroupFault;
 use crate::lists::Lists;
 use std::alloc::Global;
 use tt_groups::Group;
-use tt_groups_day::{MAX_SETS, list_days, list_sets};
+use tt_groups_day::{DayWork, MAX_SETS, list_days, list_sets};
 use tt_groups_week::Digits;
 use tt_instance::Instance;
 
-/// Returns the moves of all days. The sequences that are left go down by 1 with each set that is tried.
+/// Returns the moves of all days. The work that is left goes down with each set that is tried.
 pub fn lists_of(
     alloc: Global,
     instance: &Instance<'_>,
@@ -25,7 +26,7 @@ pub fn lists_of(
     courses: &[u32],
     digits: &Digits,
     bound: u8,
-    sequences: &mut u64,
+    work: &mut DayWork,
 ) -> Result<Lists, GroupFault>
     requires { IsSetting instance.now group.now courses.now digits.now.sizes.items digits.now.courses }
     ensures listed { IfOk result (λ l. AreListed digits.now.sizes.items digits.now.weights.items digits.now.courses l.moves.items l.of_day.items) }
@@ -36,7 +37,7 @@ pub fn lists_of(
     ensures unfinished { IfErr result (λ e. IsTrue (is_unfinished e)) }
     ensures too_many { result ≡ Err fault.TooManySets → MAX_SETS < sets_count instance.now courses.now }
     ensures few_sets { OnOk result (sets_count instance.now courses.now ≤ MAX_SETS) }
-    ensures used_up { result ≡ Err fault.TooMuchWork → (sets_count instance.now courses.now ≤ MAX_SETS) × (sequences.new ≡ 0) }
+    ensures used_up { result ≡ Err fault.TooMuchWork → (sets_count instance.now courses.now ≤ MAX_SETS) × IsUsedUp work.new }
 {
     let sets = list_sets(alloc, instance, group, courses, &digits.weights)?;
     let places = digits.count as usize;
@@ -56,7 +57,7 @@ pub fn lists_of(
                     &sets,
                     bound,
                     day,
-                    sequences,
+                    work,
                 )?;
                 lists.add(alloc, digits, &entries)?;
             }

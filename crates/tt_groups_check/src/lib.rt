@@ -9,6 +9,6 @@ mod fault;
 mod lists;
 mod width;
 
-pub use check::{MAX_RELAXATIONS, MAX_SEQUENCES, Work, check_group};
+pub use check::{MAX_RELAXATIONS, MAX_SEQUENCES, MAX_TRIES, Work, check_group};
 pub use fault::GroupFault;
 pub use width::{GROUP_COURSES, GROUP_CURRICULA, GROUP_LECTURES, GROUP_VALUE};

@@ -4,3 +4,4 @@ pub mod Entries
 pub mod Found
 pub mod Running
 pub mod Sets
+pub mod Work

@@ -7,6 +7,7 @@ ghost use Rattle.tt_groups_day.specs.Choosing.{IsApart};
 ghost use Rattle.tt_groups_day.specs.Found.{AreDistinct};
 ghost use Rattle.tt_groups_day.specs.Entries.{AreLectureDigits};
 ghost use Rattle.tt_groups_day.specs.Sets.{IsComplete, IsCourseSet};
+ghost use Rattle.tt_groups_day.specs.Work.{IsUsedUp};
 ghost use Rattle.tt_groups_day.specs.declared.fault.DaysFault.TheVariants as fault;
 ghost use Rattle.tt_instance.specs.Courses.{lectures};
 ghost use Rattle.tt_groups_day.specs.declared.morning.TheConstants.{LECTURES, MAX_INDEX, PLACES};
@@ -16,12 +17,13 @@ use crate::entries::list_entries;
 use crate::fault::DaysFault;
 use crate::morning::{COURSES, CourseSet};
 use crate::table::day_table;
+use crate::work::DayWork;
 use std::alloc::Global;
 use tt_groups::{DayEntry, Group};
 use tt_instance::Instance;
 
 /// Lists the possible numbers of lectures of the courses on a day at a cost below the bound, each with a lower bound of the cost of such a
-/// day. The sets are those of `list_sets`; the sequences that are left go down by 1 with each set that is tried.
+/// day. The sets are those of `list_sets`; the work that is left goes down with each set that is tried.
 pub fn list_days(
     alloc: Global,
     instance: &Instance<'_>,
@@ -33,7 +35,7 @@ pub fn list_days(
     sets: &[CourseSet],
     bound: u8,
     day: u32,
-    sequences: &mut u64,
+    work: &mut DayWork,
 ) -> Result<Vec<DayEntry>, DaysFault>
     requires group { AreCourses instance.now group.now courses.now }
     requires few { length courses.now ≤ COURSES }
@@ -50,11 +52,9 @@ pub fn list_days(
     // Each entry is that of a possible day.
     ensures found { IfOk result (λ entries. AreDistinct courses.now → All (IsApart instance.now courses.now) sets.now →
         (x : DayEntry) → Contains entries.items x → IsReachedDay instance.now group.now courses.now day x) }
-    ensures used_up { result ≡ Err fault.TooMuchWork → sequences.new ≡ 0 }
+    ensures used_up { result ≡ Err fault.TooMuchWork → IsUsedUp work.new }
 {
-    let table = day_table(
-        alloc, instance, courses, sets, bound, day, places, sequences,
-    )?;
+    let table = day_table(alloc, instance, courses, sets, bound, day, places, work)?;
     let entries = list_entries(alloc, group, courses, sizes, weights, bound, &table)?;
     Ok(entries)
 }

@@ -8,8 +8,10 @@ mod morning;
 mod search;
 mod sets;
 mod table;
+mod work;
 
 pub use days::list_days;
 pub use fault::DaysFault;
 pub use morning::{COURSES, CourseSet};
 pub use sets::{MAX_SETS, SetsFault, list_sets};
+pub use work::DayWork;

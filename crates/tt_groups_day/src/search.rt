@@ -3,11 +3,13 @@
 ghost use Rattle.std.specs.Prelude.{◌≡◌, ◌⊎◌, ℕ, ◌+◌, ◌*◌, ◌<◌, ◌≤◌, length, slice_index, All, OnOk, OnErr, count_ones};
 ghost use Rattle.tt_groups_day.specs.Found.{IsFound};
 ghost use Rattle.tt_groups_day.specs.Sets.{Falls, IsTried};
+ghost use Rattle.tt_groups_day.specs.Work.{IsUsedUp};
 ghost use Rattle.tt_groups_day.specs.declared.morning.TheConstants.{COST_LIMIT, MAX_INDEX};
 ghost use Rattle.tt_instance.specs.declared.limit.TheConstants.{MAX_PERIODS};
 
 use crate::fault::DaysFault;
 use crate::morning::{COURSES, CourseSet, Morning, SINGLE_PRICE, more};
+use crate::work::DayWork;
 
 /// The courses that are available in a period, 1 for each.
 #[derive(Clone, Copy, Debug, PartialEq, Eq)]
@@ -40,7 +42,7 @@ fn end(bound: u8, morning: &Morning, table: &mut [u8])
     }
 }
 
-/// Lowers the entries of all days that begin like a morning. The sequences that are left go down by 1 with each set that is tried.
+/// Lowers the entries of all days that begin like a morning. The work that is left goes down with each set that is tried.
 pub fn try_days(
     most: &[u8; COURSES],
     periods: &[Period],
@@ -49,7 +51,7 @@ pub fn try_days(
     period: usize,
     morning: &Morning,
     table: &mut [u8],
-    sequences: &mut u64,
+    work: &mut DayWork,
 ) -> Result<(), DaysFault>
     requires few { length periods.now ≤ MAX_PERIODS }
     requires inside { period ≤ length periods.now }
@@ -61,25 +63,17 @@ pub fn try_days(
     ensures tried { OnOk result (IsTried most.now periods.now sets.now bound period morning.now table.new) }
     ensures found { OnOk result ((k : ℕ) → (slice_index table.new k ≡ slice_index table.old k) ⊎
         IsFound most.now periods.now sets.now period morning.now k (slice_index table.new k)) }
-    ensures used_up { OnErr result (sequences.new ≡ 0) }
+    ensures used_up { OnErr result (IsUsedUp work.new) }
 {
     if period == periods.len() {
         end(bound, morning, table);
         return Ok(());
     }
     for set in sets {
+        work.tries = work.tries.checked_sub(1).ok_or(DaysFault::TooMuchWork)?;
         if let Some(next) = more(bound, most, &periods[period].available, morning, set) {
-            *sequences = sequences.checked_sub(1).ok_or(DaysFault::TooMuchWork)?;
-            try_days(
-                most,
-                periods,
-                sets,
-                bound,
-                period + 1,
-                &next,
-                table,
-                sequences,
-            )?;
+            work.sequences = work.sequences.checked_sub(1).ok_or(DaysFault::TooMuchWork)?;
+            try_days(most, periods, sets, bound, period + 1, &next, table, work)?;
         }
     }
     Ok(())

@@ -6,6 +6,7 @@ ghost use Rattle.tt_groups_day.specs.Found.{AreDistinct, AreOpened, IsDayAt};
 ghost use Rattle.tt_groups.specs.Group as spec;
 ghost use Rattle.tt_groups.specs.Listed.{AreCourses};
 ghost use Rattle.tt_groups_day.specs.Sets.{Covers, IsComplete, IsCourseSet, AreAvailable};
+ghost use Rattle.tt_groups_day.specs.Work.{IsUsedUp};
 ghost use Rattle.tt_groups_day.specs.declared.fault.DaysFault.TheVariants as fault;
 ghost use Rattle.tt_instance.specs.Courses.{lectures, unavailable};
 ghost use Rattle.tt_groups_day.specs.declared.morning.TheConstants.{LECTURES, MAX_INDEX};
@@ -15,6 +16,7 @@ ghost use Rattle.tt_instance.specs.declared.limit.TheConstants.{MAX_PERIODS};
 use crate::fault::DaysFault;
 use crate::morning::{COURSES, CourseSet, Morning};
 use crate::search::{Period, try_days};
+use crate::work::DayWork;
 use std::alloc::{AllocError, Global};
 use tt_instance::Instance;
 
@@ -67,8 +69,8 @@ fn lectures_of(instance: &Instance<'_>, courses: &[u32]) -> [u8; COURSES]
     most
 }
 
-/// Returns a lower bound of the cost of a day of the group, by the place of its lectures; 255 if it is the bound or more. The sequences that
-/// are left go down by 1 with each set that is tried.
+/// Returns a lower bound of the cost of a day of the group, by the place of its lectures; 255 if it is the bound or more. The work that is
+/// left goes down with each set that is tried.
 pub fn day_table(
     alloc: Global,
     instance: &Instance<'_>,
@@ -77,7 +79,7 @@ pub fn day_table(
     bound: u8,
     day: u32,
     places: usize,
-    sequences: &mut u64,
+    work: &mut DayWork,
 ) -> Result<Vec<u8>, DaysFault>
     requires few { length courses.now ≤ COURSES }
     requires in_range { All (λ c. c < length instance.now.courses) courses.now }
@@ -90,7 +92,7 @@ pub fn day_table(
     ensures found { IfOk result (λ v. (g : spec.Group) (weights : List ℕ) → AreCourses instance.now g courses.now → length g.curricula ≤ CURRICULA → AreDistinct courses.now →
         All (IsCourseSet instance.now g courses.now weights) sets.now → All (IsApart instance.now courses.now) sets.now →
         (k : ℕ) → k < places → slice_index v.items k < bound → IsDayAt instance.now g courses.now day weights k (slice_index v.items k)) }
-    ensures used_up { result ≡ Err fault.TooMuchWork → sequences.new ≡ 0 }
+    ensures used_up { result ≡ Err fault.TooMuchWork → IsUsedUp work.new }
 {
     let most = lectures_of(instance, courses);
     let periods = periods_of(alloc, instance, courses, day)?;
@@ -102,8 +104,6 @@ pub fn day_table(
         pending: 0,
     };
     let mut table = vec![in alloc; u8::MAX; places]?;
-    try_days(
-        &most, &periods, sets, bound, 0, &start, &mut table, sequences,
-    )?;
+    try_days(&most, &periods, sets, bound, 0, &start, &mut table, work)?;
     Ok(table)
 }

@@ -1,9 +1,10 @@
 //! The change of the score when one entry replaces another.
 
-ghost use Rattle.std.specs.Prelude.{◌≡◌, List, pos, neg_ℤ, ◌+ℤ◌, ◌≤ℤ◌, ◌^◌};
+ghost use Rattle.std.specs.Prelude.{◌≡◌, List, pos, neg_ℤ, ◌+ℤ◌, ◌≤ℤ◌};
 ghost use Rattle.tt_instance.specs.Problem.{Problem};
 ghost use Rattle.tt_instance.specs.declared.cell.Cell.{Cell};
 ghost use Rattle.tt_rules.specs.Score.{hard, cost};
+ghost use Rattle.tt_rules.specs.declared.limit.TheConstants.{MAX_COUNT};
 ghost use Rattle.tt_moves.specs.Exchanges.{IsExchange, CanExchange};
 ghost use Rattle.tt_moves.specs.Pricing.{IsCost};
 
@@ -31,8 +32,8 @@ impl Exchange<'_, '_, '_> {
         requires { CanExchange self.now }
         ensures value { (p : Problem) (u s t : List Cell) → IsExchange p self.now u s t
             → pos (hard p s) +ℤ result ≡ pos (hard p t) }
-        ensures low { neg_ℤ (pos (2 ^ 40)) ≤ℤ result }
-        ensures high { result ≤ℤ pos (2 ^ 40) }
+        ensures low { neg_ℤ (pos MAX_COUNT) ≤ℤ result }
+        ensures high { result ≤ℤ pos MAX_COUNT }
     {
         let before = self.rest.hard_weight(self.rest.gone);
         let after = self.rest.hard_weight(self.to);
@@ -54,8 +55,8 @@ impl Exchange<'_, '_, '_> {
         ensures value { (p : Problem) (u s t : List Cell) → IsExchange p self.now u s t
             → IsCost p u self.now.rest.gone before
             → pos (cost p s) +ℤ result ≡ pos (cost p t) }
-        ensures low { neg_ℤ (pos (2 ^ 40)) ≤ℤ result }
-        ensures high { result ≤ℤ pos (2 ^ 40) }
+        ensures low { neg_ℤ (pos MAX_COUNT) ≤ℤ result }
+        ensures high { result ≤ℤ pos MAX_COUNT }
     {
         let after = self.rest.cost_weight(self.to);
         i64::from(after.rise) + i64::from(before.fall)

@@ -1,11 +1,12 @@
 //! The isolated entries that an entry would add and join.
 
-ghost use Rattle.std.specs.Prelude.{◌≡◌, ◌*◌, ◌<◌, ◌≤◌, true, List, length, filter, All};
+ghost use Rattle.std.specs.Prelude.{◌≡◌, ◌+◌, ◌*◌, ◌<◌, ◌≤◌, true, List, length, filter, All};
 ghost use Rattle.tt_instance.specs.Cells.{InRange, all_curricula};
 ghost use Rattle.tt_instance.specs.Courses.{in_curriculum};
 ghost use Rattle.tt_instance.specs.declared.cell.Cell.{Cell};
 ghost use Rattle.tt_occupancy_change.specs.Weight.{alone, all_joined};
 ghost use Rattle.tt_moves.specs.Rests.{IsRest};
+ghost use Rattle.tt_table.specs.declared.table.TheConstants.{MAX_ENTRIES};
 
 use crate::rest::WithoutEntry;
 use tt_instance::MAX_CURRICULA;
@@ -39,7 +40,7 @@ impl WithoutEntry<'_, '_, '_> {
         ensures joined { (u : List Cell) → IsRest self.now u
             → result.joined ≡ all_joined self.now.occupied.now.problem u entry }
         ensures few_alone { result.alone ≤ MAX_CURRICULA }
-        ensures few_joined { result.joined ≤ MAX_CURRICULA * 32770 }
+        ensures few_joined { result.joined ≤ MAX_CURRICULA * (2 * (MAX_ENTRIES + 1)) }
     {
         let is_still = self.is_still(entry.day);
         let mut gaps = Gaps {

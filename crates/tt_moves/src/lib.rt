@@ -7,6 +7,7 @@ mod cost;
 mod exchanges;
 mod exchanging;
 mod gaps;
+mod limit;
 mod pricing;
 mod rest;
 mod round;

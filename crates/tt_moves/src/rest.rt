@@ -55,7 +55,7 @@ fn adjusted(count: u32, to: bool, from: bool, gone: bool) -> u32
     requires few { count ≤ MAX_ENTRIES }
     requires enough { cond from 1 0 + cond gone 1 0 ≤ count + cond to 1 0 }
     ensures value { result + cond from 1 0 + cond gone 1 0 ≡ count + cond to 1 0 }
-    ensures few { result ≤ 16385 }
+    ensures few { result ≤ MAX_ENTRIES + 1 }
 {
     count + one_if(to) - one_if(from) - one_if(gone)
 }
@@ -100,7 +100,7 @@ impl WithoutEntry<'_, '_, '_> {
         requires rest { (u : List Cell) × IsRest self.now u }
         ensures value { (u : List Cell) → IsRest self.now u
             → result ≡ standing self.now.occupied.now.problem u curriculum day period }
-        ensures few { result ≤ 16385 }
+        ensures few { result ≤ MAX_ENTRIES + 1 }
     {
         if period >= self.occupied.instance().periods() {
             return 0;
@@ -147,7 +147,7 @@ impl WithoutEntry<'_, '_, '_> {
         requires rest { (u : List Cell) × IsRest self.now u }
         ensures value { (u : List Cell) → IsRest self.now u
             → result ≡ against self.now.occupied.now.problem u entry }
-        ensures few { result ≤ 16385 }
+        ensures few { result ≤ MAX_ENTRIES + 1 }
     {
         let instance = self.occupied.instance();
         let count = self

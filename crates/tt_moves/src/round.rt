@@ -1,6 +1,6 @@
 //! The periods of a day with an entry of a curriculum, and the changes that another entry would make.
 
-ghost use Rattle.std.specs.Prelude.{◌≡◌, ℕ, ◌+◌, ◌^◌, ◌<◌, ◌≤◌, ◌&&◌, nat_lt, cond, not, true, List, [], ◌∷◌, ◌++◌, length};
+ghost use Rattle.std.specs.Prelude.{◌≡◌, ℕ, ◌+◌, ◌*◌, ◌^◌, ◌<◌, ◌≤◌, ◌&&◌, nat_lt, cond, not, true, List, [], ◌∷◌, ◌++◌, length};
 ghost use Rattle.tt_bits.specs.Bits.{has_bit};
 ghost use Rattle.tt_instance.specs.Cells.{slot, is_at};
 ghost use Rattle.tt_instance.specs.Courses.{in_curriculum};
@@ -9,6 +9,7 @@ ghost use Rattle.tt_occupancy_change.specs.Standing.{standing, joined_before, jo
 ghost use Rattle.tt_occupancy.specs.Around.{AreGaps};
 ghost use Rattle.tt_moves.specs.Rests.{IsRest, IsStill};
 ghost use Rattle.tt_moves.specs.Rounds.{AreStanding, AreIsolated, OtherIsHandled};
+ghost use Rattle.tt_table.specs.declared.table.TheConstants.{MAX_ENTRIES};
 
 use crate::beside::beside;
 use crate::rest::WithoutEntry;
@@ -85,7 +86,7 @@ impl WithoutEntry<'_, '_, '_> {
         requires isolated { AreIsolated self.now curriculum day isolated }
         ensures value { (u : List Cell) → IsRest self.now u
             → result ≡ joined_before self.now.occupied.now.problem u curriculum day period }
-        ensures few { result ≤ 16385 }
+        ensures few { result ≤ MAX_ENTRIES + 1 }
     {
         // This holds for every instance: its periods fit a word.
         prove!(self.occupied.instance().periods() <= MAX_PERIODS);
@@ -114,7 +115,7 @@ impl WithoutEntry<'_, '_, '_> {
         requires isolated { AreIsolated self.now curriculum day isolated }
         ensures value { (u : List Cell) → IsRest self.now u
             → result ≡ joined_after self.now.occupied.now.problem u curriculum day period }
-        ensures few { result ≤ 16385 }
+        ensures few { result ≤ MAX_ENTRIES + 1 }
     {
         // This holds for every instance: its periods fit a word.
         prove!(self.occupied.instance().periods() <= MAX_PERIODS);
@@ -134,12 +135,12 @@ impl WithoutEntry<'_, '_, '_> {
         requires still { is_still ≡ true → IsStill self.now day }
         requires rest { (u : List Cell) × IsRest self.now u }
         requires alone { gaps.alone + 1 < 2 ^ 32 }
-        requires joined { gaps.joined + 32770 < 2 ^ 32 }
+        requires joined { gaps.joined + 2 * (MAX_ENTRIES + 1) < 2 ^ 32 }
         ensures gaps { (u : List Cell) (rows : List ℕ) → IsRest self.now u
             → AreGaps self.now.occupied.now.problem u rows day period gaps
             → AreGaps self.now.occupied.now.problem u (rows ++ curriculum ∷ []) day period result }
         ensures few_alone { result.alone ≤ gaps.alone + 1 }
-        ensures few_joined { result.joined ≤ gaps.joined + 32770 }
+        ensures few_joined { result.joined ≤ gaps.joined + 2 * (MAX_ENTRIES + 1) }
     {
         // This holds for every instance: its periods fit a word.
         prove!(self.occupied.instance().periods() <= MAX_PERIODS);

@@ -1,14 +1,17 @@
 //! The weight of an entry next to the others.
 
-ghost use Rattle.std.specs.Prelude.{◌≡◌, ◌+◌, ◌-◌, ◌*◌, ◌<◌, ◌≤◌, ◌^◌, List, ◌∷◌};
+ghost use Rattle.std.specs.Prelude.{◌≡◌, ◌+◌, ◌-◌, ◌*◌, ◌≤◌, List, ◌∷◌};
 ghost use Rattle.tt_instance.specs.Cells.{InRange};
 ghost use Rattle.tt_instance.specs.declared.cell.Cell.{Cell};
 ghost use Rattle.tt_rules.specs.Soft.{days_cost, stability_cost};
 ghost use Rattle.tt_occupancy_change.specs.Weight.{hard_weight};
 ghost use Rattle.tt_moves.specs.Pricing.{IsCost};
 ghost use Rattle.tt_moves.specs.Rests.{IsRest};
+ghost use Rattle.tt_instance.specs.declared.limit.TheConstants.{MAX_MIN_DAYS, MAX_SLOTS};
+ghost use Rattle.tt_table.specs.declared.table.TheConstants.{MAX_ENTRIES};
 
 use crate::cost::EntryCost;
+use crate::limit::{DAY_PRICE, ISOLATED_PRICE};
 use crate::rest::WithoutEntry;
 use tt_occupancy::one_if;
 use tt_table::Entry;
@@ -22,11 +25,11 @@ impl WithoutEntry<'_, '_, '_> {
         ensures value { (u : List Cell) → IsRest self.now u
             → result ≡ days_cost self.now.occupied.now.problem (entry ∷ u) entry.course
             + stability_cost self.now.occupied.now.problem (entry ∷ u) entry.course }
-        ensures few { result ≤ 4096 }
+        ensures few { result ≤ DAY_PRICE * MAX_MIN_DAYS + MAX_SLOTS }
     {
         let wanted = self.occupied.instance().min_days(entry.course);
         let days = wanted.saturating_sub(self.days_with(entry));
-        5 * days + self.rooms_with(entry).saturating_sub(1)
+        DAY_PRICE * days + self.rooms_with(entry).saturating_sub(1)
     }
 
     /// Returns the cost that an entry of the course left out adds, and the cost that it removes.
@@ -42,8 +45,8 @@ impl WithoutEntry<'_, '_, '_> {
         let excess = students.saturating_sub(instance.capacity(entry.room));
         let gaps = self.gaps(entry);
         EntryCost {
-            rise: excess + self.spread_cost(entry) + 2 * gaps.alone,
-            fall: 2 * gaps.joined,
+            rise: excess + self.spread_cost(entry) + ISOLATED_PRICE * gaps.alone,
+            fall: ISOLATED_PRICE * gaps.joined,
         }
     }
 
@@ -54,7 +57,7 @@ impl WithoutEntry<'_, '_, '_> {
         requires rest { (u : List Cell) × IsRest self.now u }
         ensures value { (u : List Cell) → IsRest self.now u
             → result ≡ hard_weight self.now.occupied.now.problem u entry }
-        ensures few { result < 2 ^ 30 }
+        ensures few { result ≤ MAX_ENTRIES + 4 }
     {
         let instance = self.occupied.instance();
         let barred = instance.unavailable(entry.course, entry.day, entry.period);

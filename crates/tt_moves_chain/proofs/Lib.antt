@@ -4,3 +4,4 @@ pub mod Holding
 pub mod Places
 pub mod Swapping
 pub mod Turned
+mod Marking

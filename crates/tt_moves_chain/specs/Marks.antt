@@ -1,5 +1,5 @@
 -- Marks of places.
-use Rattle.std.specs.Prelude.{◌≡◌, ℕ, ◌<◌, Bool, true, false, List, length, slice_index_or, count_by}
+use Rattle.std.specs.Prelude.{◌≡◌, ◌⊎◌, ℕ, ◌+◌, ◌<◌, ◌≤◌, Bool, true, false, List, length, slice_index_or, count_by, Contains}
 use Rattle.tt_instance.specs.Problem.{Problem}
 use Rattle.tt_instance.specs.declared.cell.Slot.{Slot}
 use Rattle.tt_instance.specs.declared.cell.Cell.{Cell}
@@ -10,6 +10,16 @@ marked fs i = slice_index_or fs i false
 
 abbrev pub marks : List Bool → ℕ
 marks fs = count_by (λ b. b) fs
+
+-- Whether more places are marked: each of those waits now, and a place that waits now waited before or is marked.
+pub record IsMarking (before : List Bool) (waited : List ℕ) (after : List Bool) (waiting : List ℕ) : Type 0 where
+  pub size : length after ≡ length before
+  pub stays : (i : ℕ) → marked before i ≡ true → marked after i ≡ true
+  pub new_waits : (i : ℕ) → marked after i ≡ true → (marked before i ≡ true) ⊎ Contains waiting i
+  pub still_waits : (i : ℕ) → Contains waited i → Contains waiting i
+  pub waits : (i : ℕ) → Contains waiting i → Contains waited i ⊎ (marked after i ≡ true)
+  pub grows : marks before ≤ marks after
+  pub counted : length waiting + marks before ≡ length waited + marks after
 
 -- the least set with the entry that is closed under links
 pub record IsSpread (p : Problem) (t : List Cell) (a b : Slot) (entry : ℕ) (fs : List Bool) : Type 0 where

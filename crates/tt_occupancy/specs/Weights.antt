@@ -1,6 +1,6 @@
 -- Not part of the trusted statement: only proofs use this file.
 -- The meaning of a weight, and the conditions for updating a score by weights.
-use Rattle.std.specs.Prelude.{◌≡◌, ℕ, ◌+◌, ◌^◌, ◌<◌, ◌≤◌, List, ◌∷◌, length, cond}
+use Rattle.std.specs.Prelude.{◌≡◌, ℕ, ◌+◌, ◌*◌, ◌<◌, ◌≤◌, List, ◌∷◌, length, cond}
 use Rattle.tt_instance.specs.Problem.{Problem}
 use Rattle.tt_instance.specs.Cells.{InRange}
 use Rattle.tt_instance.specs.Courses.{excess}
@@ -9,6 +9,7 @@ use Rattle.tt_instance.specs.declared.cell.Cell.{Cell}
 use Rattle.tt_rules.specs.Soft.{days_cost, stability_cost}
 use Rattle.tt_rules.specs.Score.{IsScore}
 use Rattle.tt_rules.specs.declared.counts.Score.{Score}
+use Rattle.tt_rules.specs.declared.limit.TheConstants.{MAX_COUNT}
 use Rattle.tt_occupancy_change.specs.Weight.{repeats, against, barred, shares, alone, all_joined}
 use Rattle.tt_occupancy.specs.declared.weight.Weight.{Weight}
 use Rattle.tt_table.specs.declared.table.TheConstants.{MAX_ENTRIES}
@@ -39,6 +40,6 @@ pub record IsExchange (p : Problem) (u : List Cell) (x y : Cell) (s : Score) (fr
 -- whether n is the count after one weight is subtracted and another one added, and none is large
 pub record IsExchanged (n total from to : ℕ) : Type 0 where
   pub sum : n + from ≡ total + to
-  pub few : n ≤ 2 ^ 40
-  pub total_few : total ≤ 2 ^ 40
-  pub to_few : to ≤ 2 ^ 42
+  pub few : n ≤ MAX_COUNT
+  pub total_few : total ≤ MAX_COUNT
+  pub to_few : to ≤ 4 * MAX_COUNT

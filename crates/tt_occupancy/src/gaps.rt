@@ -80,7 +80,7 @@ fn around(week: &Week, row: u32, day: u32, period: u32) -> Around
     ensures around { (p : Problem) (u : List Cell) → IsTimetable p u
         → IsTally p (length p.curricula) (of_curriculum p) u week.now
         → IsAround p u row day period result }
-    ensures few { result.before + result.after < 2 ^ 17 }
+    ensures few { result.before + result.after < 2 * 2 ^ 16 }
 {
     Around {
         two_before: standing_before(week, row, day, period, 2),
@@ -101,7 +101,7 @@ pub fn gaps_round(week: &Week, rows: &[u32], day: u32, period: u32) -> Gaps
         → IsTally p (length p.curricula) (of_curriculum p) u week.now
         → AreGaps p u rows.now day period result }
     ensures few_alone { result.alone ≤ MAX_CURRICULA }
-    ensures few_joined { result.joined ≤ 2 ^ 30 }
+    ensures few_joined { result.joined ≤ MAX_CURRICULA * (2 * 2 ^ 16) }
 {
     let mut gaps = Gaps {
         alone: 0,

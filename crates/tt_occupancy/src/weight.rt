@@ -1,6 +1,6 @@
 //! The weight of an entry.
 
-ghost use Rattle.std.specs.Prelude.{◌^◌, ◌≤◌};
+ghost use Rattle.std.specs.Prelude.{◌*◌, ◌^◌, ◌≤◌};
 ghost use Rattle.tt_instance.specs.declared.limit.TheConstants.{MAX_CURRICULA};
 
 /// The amounts that an entry adds to each count of a list, compared with another entry of its course.
@@ -25,5 +25,5 @@ pub struct Weight {
     /// The cost of its course's rooms with it.
     pub rooms: u32,
     ghost alone_few: { alone ≤ MAX_CURRICULA },
-    ghost joined_few: { joined ≤ 2 ^ 30 },
+    ghost joined_few: { joined ≤ MAX_CURRICULA * (2 * 2 ^ 16) },
 }

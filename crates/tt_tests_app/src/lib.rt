@@ -6,21 +6,13 @@ mod best;
 #[cfg(test)]
 mod completing;
 #[cfg(test)]
-mod exports;
-#[cfg(test)]
 mod files;
 #[cfg(test)]
 mod improving;
 #[cfg(test)]
-mod inspecting;
-#[cfg(test)]
 mod library;
 #[cfg(test)]
-mod pages;
-#[cfg(test)]
 mod parts;
-#[cfg(test)]
-mod reports;
 #[cfg(test)]
 mod solving;
 #[cfg(test)]

@@ -9,5 +9,3 @@ mod faults;
 mod refusing;
 #[cfg(test)]
 mod sums;
-#[cfg(test)]
-mod trees;

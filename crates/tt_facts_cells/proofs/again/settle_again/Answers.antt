@@ -2,7 +2,7 @@ use Rattle.std.proofs.Common.{◌≡◌, ◌<◌, length, take, map, refl, sym, 
 use Rattle.std.proofs.Math.Seq.{take-length}
 use Rattle.tt_facts_cell_set.specs.Tables.{Shows}
 use Rattle.tt_facts_cells.specs.Touching.{may_touch}
-use Rattle.tt_facts_cells.proofs.Renewed.{so_far, as_yes, next_settled, next_apart, all_settled, so_far_none}
+use Rattle.tt_facts_cells.proofs.Renewed.{so_far, as_yes, next_settled, next_apart, all_settled, nothing_left, so_far_none}
 use Rattle.tt_facts_cells.proofs.again.settle_again.Goals as goal
 
 pub loop-older-init : goal.loop-older-init
@@ -20,8 +20,8 @@ loop-older-preserved c =
     let i = c.loop-older.older-index in
     let here : i < length a.yes.now = omega arith in
     record {
-      table = c.in_ok-settle.ensures.ok.table;
-      shown = λ path f e denies same free old. next_settled a.instance.now a.yes.now path f i _ here c.loop-older.live.words (c.loop-older.invariant.shown path f e denies same free old) a.free.now.words c.settle.new.live.words free c.in_ok-settle.ensures.ok;
+      table = c.in_ok-watch.ensures.ok.table;
+      shown = λ path f e denies same free old. next_settled a.instance.now a.yes.now path f i _ here c.loop-older.live.words (c.loop-older.invariant.shown path f e denies same free old) a.free.now.words c.settle.new.live.words free c.in_ok-watch.ensures.ok;
       earlier = c.settle.ensures.same ∙ c.loop-older.invariant.earlier;
     }
 
@@ -35,6 +35,16 @@ loop-older-preserved-then-not-may_touch c =
       table = c.loop-older.invariant.table;
       shown = λ path f e denies same free old. next_apart p a.yes.now path f i _ here c.loop-older.live.words (c.loop-older.invariant.shown path f e denies same free old) e denies (ap (may_touch p _) same ∙ sym c.may_touch.ensures ∙ c.if-not-may_touch.true);
       earlier = c.loop-older.invariant.earlier;
+    }
+
+pub returns-then-is_cleared-clause-ok : goal.returns-then-is_cleared-clause-ok
+returns-then-is_cleared-clause-ok c =
+    let a = c.args in
+    let p = a.instance.now in
+    let live = c.loop-older.live.words in
+    record {
+      table = c.loop-older.invariant.table;
+      renewed = λ path f e denies same free old. nothing_left p a.yes.now path f c.loop-older.older-index live e denies (c.is_cleared.ensures c.if-is_cleared.true) (c.loop-older.invariant.shown path f e denies same free old);
     }
 
 pub returns-clause-ok : goal.returns-clause-ok

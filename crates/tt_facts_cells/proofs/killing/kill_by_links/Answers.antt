@@ -1,8 +1,14 @@
-use Rattle.std.proofs.Common.{◌≡◌, length, sym, subst, arith}
+use Rattle.std.proofs.Common.{◌≡◌, length, sym, ◌∙◌, subst, arith}
 use Rattle.tt_facts_cell_set.specs.Tables.{Loses}
 use Rattle.tt_facts_cells.specs.Shown.{is_struck}
 use Rattle.tt_facts_cells.proofs.Linked.{list_of_one}
 use Rattle.tt_facts_cells.proofs.killing.kill_by_links.Goals as goal
+
+pub kill_one-requires-clause-one : goal.kill_one-requires-clause-one
+kill_one-requires-clause-one c =
+    let ks = c.args.courses.now in
+    let one : length ks ≡ 1 = omega arith in
+    sym c.requires.courses ∙ list_of_one ks one
 
 pub returns-then-courses-clause-ok : goal.returns-then-courses-clause-ok
 returns-then-courses-clause-ok c =

@@ -13,11 +13,11 @@ returns-in-Some-clause-ok c =
     let free = a.free.now.words in
     let g = a.pattern.now in
     let first = subst (λ ks. IsFirst (is_left_in p free g ks) a.from a.to a.slot) r.courses r.first in
-    let other = subst (λ ks. IsFirst (is_left_in p free g ks) (a.slot + 1) a.to c.in-Some.field-0) r.courses c.in-Some.ensures in
+    let other = subst (λ ks. IsFirst (is_left_in p free g ks) (a.slot + 1) a.to c.in-Some.other) r.courses c.in-Some.ensures in
     let some : 0 < p.periods = omega (arith, c.periods-periods.ensures.some, c.periods-periods.ensures.value) in
-    let apart : a.slot < c.in-Some.field-0 = omega (arith, other.from_here) in
-    let within : c.in-Some.field-0 < p.days * p.periods = omega (arith, other.within, r.covers.within) in
-    settles-several p free a.live.now.words g a.slot c.in-Some.field-0 r.live some apart within first.passes other.passes
+    let apart : a.slot < c.in-Some.other = omega (arith, other.from_here) in
+    let within : c.in-Some.other < p.days * p.periods = omega (arith, other.within, r.covers.within) in
+    settles-several p free a.live.now.words g a.slot c.in-Some.other r.live some apart within first.passes other.passes
 
 pub returns-in_ok-kill_by_links-in-None-clause-ok : goal.returns-in_ok-kill_by_links-in-None-clause-ok
 returns-in_ok-kill_by_links-in-None-clause-ok c =

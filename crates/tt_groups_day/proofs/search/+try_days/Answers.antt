@@ -7,7 +7,7 @@ use Rattle.tt_groups_day.proofs.Finding.{found-end, found-next}
 use Rattle.tt_groups_day.specs.Sets.{Falls, IsTriedWith}
 use Rattle.tt_groups_day.proofs.Searching.{tried-end, tried-all, with-more, with-next, day_at, no_set, no_period}
 use Rattle.tt_groups_day.proofs.search.+try_days.Goals as goal
-use Rattle.tt_groups_day.proofs.search.+try_days.Goals.{in-Some+in_ok-sequences+in_ok-try_days, in_default}
+use Rattle.tt_groups_day.proofs.search.+try_days.Goals.{in-Some+in_ok-work-2+in_ok-try_days, in_default}
 
 pub loop-set-preserved : goal.loop-set-preserved
 loop-set-preserved t c =
@@ -22,7 +22,7 @@ loop-set-preserved t c =
     let before = c.loop-set.invariant in
     let Found : ℕ → ℕ → Type 0 = λ k v. IsFound most periods sets a.period m k v in
     elim c.match-more.branch [
-      | in-Some+in_ok-sequences+in_ok-try_days w ↦
+      | in-Some+in_ok-work-2+in_ok-try_days w ↦
           let falls : Falls c.loop-set.table now = λ k. omega (arith, w.in_ok-try_days.ensures.falls k, ap (λ (l : List ℕ). slice_index l k) w.table-is) in
           let tried = with-next most periods sets a.bound a.period m w.in-Some.next set w.try_days.new.table w.in-Some.ensures.leads w.in_ok-try_days.ensures.tried in
           record {

@@ -1,4 +1,3 @@
-use Rattle.std.proofs.Common.{ap}
 use Rattle.tt_moves_chain.specs.Marks.{marked}
 use Rattle.tt_moves_chain.proofs.Places.{filter_next, filter_skip}
 use Rattle.tt_moves_chain.proofs.seeking.places_of.Goals.{then-flags-i+in_ok-push, else-flags-i}

@@ -1,11 +1,12 @@
-use Rattle.std.proofs.Common.{◌≡◌, ◌<◌, true, ◌&&◌, length, get_or, sym, ap, ◌∙◌, subst, arith, inl, inr, eq-eqb, eqb-true}
-use Rattle.std.specs.Prelude.{◌==◌, slice_index_or}
+use Rattle.std.proofs.Common.{◌≡◌, ◌<◌, Bool, true, ℕ, List, length, get_or, sym, ap, ◌∙◌, subst, arith, inl, inr}
+use Rattle.std.specs.Prelude.{◌⊎◌, slice_index_or}
 use Rattle.std.proofs.lemmas.List.{get_or_default}
-use Rattle.std.proofs.lemmas.Bool.{cases_lt, cases_Bool, or_cases, or_left, or_right, and_from, and_parts, both_ways}
+use Rattle.std.proofs.lemmas.Bool.{cases_lt, both_ways}
 use Rattle.tt_instance.specs.declared.cell.Cell.{Cell}
 use Rattle.tt_moves_chain.specs.Chains.{linked}
-use Rattle.tt_moves_chain.specs.Marks.{marked, marks}
-use Rattle.tt_moves_chain.proofs.spreading.reach.Goals.{then-fresh, else-fresh}
+use Rattle.tt_moves_chain.specs.Marks.{marked, IsMarking}
+use Rattle.tt_moves_chain.proofs.Marking.{marking-none, marking-both}
+use Rattle.tt_moves_chain.proofs.spreading.reach.Goals.{then-is_linked+in_ok-mark, else-is_linked}
 use Rattle.tt_moves_chain.proofs.spreading.reach.Goals as goal
 
 pub loop-j-preserved : goal.loop-j-preserved
@@ -16,42 +17,44 @@ loop-j-preserved c =
     let j = c.loop-j.j in
     let inv = c.loop-j.invariant in
     let old = c.loop-j.flags.items in
-    let new = c.mark-fresh.new.flags.items in
-    let joins = c.is_linked-joins.result in
     let none : Cell = record { course = 0; room = 0; day = 0; period = 0 } in
     let x = slice_index_or t from none in
+    let here : (k : ℕ) (d : Cell) → j ≡ k → k < length t → linked p c.args.a c.args.b x (slice_index_or t k d) ≡ true → c.is_linked.result ≡ true = λ k d same short l.
+    c.is_linked.ensures ∙ subst (λ z. linked p c.args.a c.args.b x z ≡ true) (get_or_default t k d none short ∙ ap (λ n. get_or t n none) (sym same)) l in
+    let old = c.loop-j.flags.items in
+    let waited = c.loop-j.waiting.items in
+    let new = c.if-is_linked.flags.items in
+    let waiting = c.if-is_linked.waiting.items in
+    let step : IsMarking old waited new waiting = elim c.if-is_linked.branch [
+      | then-is_linked+in_ok-mark w ↦
+          subst (λ (l : List Bool). IsMarking old waited l waiting) (sym (ap (λ v. v.items) w.flags-is))
+          (subst (λ (l : List ℕ). IsMarking old waited w.mark.new.flags.items l) (sym (ap (λ v. v.items) w.waiting-is)) w.in_ok-mark.ensures.marking)
+      | else-is_linked w ↦
+          subst (λ (l : List Bool). IsMarking old waited l waiting) (sym (ap (λ v. v.items) w.flags-is))
+          (subst (λ (l : List ℕ). IsMarking old waited old l) (sym (ap (λ v. v.items) w.waiting-is)) (marking-none old waited))
+    ] in
+    let marks_here : c.is_linked.result ≡ true → marked new j ≡ true = elim c.if-is_linked.branch [
+      | then-is_linked+in_ok-mark w ↦ λ _. ap (λ v. marked v.items j) w.flags-is ∙ w.in_ok-mark.ensures.marked
+      | else-is_linked w ↦ λ e. absurd (both_ways c.is_linked.result w.if-is_linked.false e)
+    ] in
+    let only : (i : ℕ) → marked new i ≡ true → (marked old i ≡ true) ⊎ ((i ≡ j) × (c.is_linked.result ≡ true)) = elim c.if-is_linked.branch [
+      | then-is_linked+in_ok-mark w ↦ λ i e. elim (w.in_ok-mark.ensures.only i (sym (ap (λ v. marked v.items i) w.flags-is) ∙ e)) [
+        | inl m ↦ inl m
+        | inr m ↦ inr (m, w.if-is_linked.true)
+      ]
+      | else-is_linked w ↦ λ i e. inl (sym (ap (λ v. marked v.items i) w.flags-is) ∙ e)
+    ] in
     record {
-      size = c.mark-fresh.ensures.size ∙ inv.size;
-      kept = λ i e. c.mark-fresh.ensures.marks i ∙ or_left (marked old i) ((j == i) && joins) (inv.kept i e);
+      marking = marking-both c.args.flags.now.items old new c.args.waiting.now.items waited waiting inv.marking step;
       reached = λ k d h l. elim (cases_lt k j) [
-        | inl m ↦ c.mark-fresh.ensures.marks k ∙ or_left (marked old k) ((j == k) && joins) (inv.reached k d m l)
+        | inl m ↦ step.stays k (inv.reached k d m l)
         | inr m ↦
             let same : j ≡ k = omega arith in
             let short : k < length t = subst (λ z. z < length t) same c.loop-j-test.true in
-            let here = subst (λ z. linked p c.args.a c.args.b x z ≡ true) (get_or_default t k d none short ∙ ap (λ n. get_or t n none) (sym same)) l in
-            c.mark-fresh.ensures.marks k ∙ or_right (marked old k) ((j == k) && joins) (and_from (j == k) joins (eq-eqb j k same) (c.is_linked-joins.ensures ∙ here))
+            subst (λ z. marked new z ≡ true) same (marks_here (here k d same short l))
       ];
-      sound = λ m closed starts before i e. elim (or_cases (marked old i) ((j == i) && joins) (sym (c.mark-fresh.ensures.marks i) ∙ e)) [
+      sound = λ m closed starts before i e. elim (only i e) [
         | inl f ↦ inv.sound m closed starts before i f
-        | inr f ↦
-            let g = and_parts (j == i) joins f in
-            let linked_here = sym c.is_linked-joins.ensures ∙ g.1 in
-            sym (ap m (eqb-true j i g.0)) ∙ closed.links from j none c.requires.from c.loop-j-test.true starts linked_here
-      ];
-      grows = elim c.if-fresh.branch [
-        | then-fresh w ↦ λ e.
-            let more = c.mark-fresh.ensures.grows w.if-fresh.true in
-            elim (cases_Bool c.loop-j.changed) [
-              | inl f ↦ let g = inv.grows f in omega arith
-              | inr f ↦ let g = ap marks (inv.same f) in omega arith
-            ]
-        | else-fresh w ↦ λ e.
-            let g = inv.grows (sym w.changed-is ∙ e) in
-            let k = ap marks (c.mark-fresh.ensures.same w.if-fresh.false) in
-            omega arith
-      ];
-      same = elim c.if-fresh.branch [
-        | then-fresh w ↦ λ e. absurd (both_ways c.if-fresh.changed e (w.changed-is ∙ w.if-fresh.true))
-        | else-fresh w ↦ λ e. c.mark-fresh.ensures.same w.if-fresh.false ∙ inv.same (sym w.changed-is ∙ e)
+        | inr f ↦ ap m f.0 ∙ closed.links from j none c.requires.from c.loop-j-test.true starts (sym c.is_linked.ensures ∙ f.1)
       ];
     }

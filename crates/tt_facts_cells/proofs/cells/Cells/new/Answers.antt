@@ -1,5 +1,5 @@
-use Rattle.std.proofs.Common.{ap, ◌∙◌, sym, arith}
-use Rattle.tt_facts_cells.specs.Shown.{yes_facts}
+use Rattle.std.proofs.Common.{arith}
+use Rattle.tt_facts_cells.proofs.Listed.{listing-none}
 use Rattle.tt_facts_cells.proofs.Asked.{first_tables, none_earlier}
 use Rattle.tt_facts_cells.proofs.cells.Cells.new.Goals as goal
 
@@ -10,7 +10,7 @@ invariant_of-result c =
       links = c.in_ok-links.ensures;
       order = c.in_ok-order.ensures;
       depth = rw c.new-facts.ensures.items (omega arith);
-      yes = c.new-yes.ensures.items ∙ sym (ap yes_facts c.new-facts.ensures.items);
+      listing = rw (c.new-facts.ensures.items, c.new-firsts.ensures.items, c.new-yes.ensures.items) listing-none;
       tables = rw c.new-facts.ensures.items (first_tables p c.in_ok-free.free.words c.in_ok-live.live.words c.in_ok-free.ensures.shows c.in_ok-live.ensures.shows);
       earlier = rw (c.new-facts.ensures.items, c.in_ok-free.ensures.earlier, c.in_ok-live.ensures.earlier) (none_earlier p);
     }

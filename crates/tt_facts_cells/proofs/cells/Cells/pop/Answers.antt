@@ -16,7 +16,7 @@ invariant_of-self c =
       links = c.self.invariant.links;
       order = c.self.invariant.order;
       depth = omega (arith, c.self.invariant.depth, ap length e, length-append facts (f ∷ []));
-      yes = c.unlist_fact.ensures.yes;
+      listing = c.unlist_fact.ensures.listing;
       tables = popped.0;
       earlier = popped.1;
     }

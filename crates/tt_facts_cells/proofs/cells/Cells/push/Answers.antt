@@ -1,7 +1,8 @@
-use Rattle.std.proofs.Common.{◌≡◌, [], ◌∷◌, ◌++◌, length, ap, ◌∙◌, subst, sym, arith}
+use Rattle.std.proofs.Common.{◌≡◌, [], ◌∷◌, ◌++◌, length, ap, subst, sym, arith}
 use Rattle.std.proofs.Common.{length-append}
 use Rattle.tt_facts_path.specs.Paths.{Facts}
-use Rattle.tt_facts_cells.specs.Shown.{yes_facts, AreTables}
+use Rattle.tt_facts_cells.specs.Shown.{AreListed, AreTables}
+use Rattle.tt_facts_cells.proofs.Listed.{listing-now}
 use Rattle.tt_facts_cells.proofs.Kept.{earlier_pushed}
 use Rattle.tt_facts_cells.proofs.cells.Cells.push.Goals as goal
 
@@ -15,14 +16,15 @@ invariant_of-self-in_default c =
     let free = c.add.new.free.words in
     let live = c.add.new.live.words in
     let e : facts ≡ old ++ f ∷ [] = c.in_ok-list_fact.ensures.ok in
-    let listed : c.as_slice.result.now ≡ yes_facts (old ++ f ∷ []) = c.as_slice.ensures.value ∙ c.list_fact.ensures.yes ∙ ap yes_facts e in
+    let listing = c.list_fact.ensures.listing in
+    let listed : AreListed (old ++ f ∷ []) c.as_slice.result.now = subst (AreListed (old ++ f ∷ [])) (sym c.as_slice.ensures.value) (subst (λ l. AreListed l c.list_fact.new.yes.items) e (listing-now facts c.list_fact.new.firsts.items c.list_fact.new.yes.items listing)) in
     let before = c.self.invariant.tables in
     let kept = earlier_pushed p old f s.free.earlier s.live.earlier s.free.words s.live.words before c.self.invariant.earlier in
     record {
       links = c.self.invariant.links;
       order = c.self.invariant.order;
       depth = omega (arith, ap length e, length-append old (f ∷ []), ap (λ (v : Facts). length v.facts) c.self.view_is);
-      yes = c.list_fact.ensures.yes;
+      listing = listing;
       tables = subst (λ l. AreTables p l free live) (sym e) (c.in_default.ensures.ok.added old listed before);
       earlier = rw (e, c.in_default.ensures.kept_free, c.in_default.ensures.kept_live) kept;
     }

@@ -1,12 +1,13 @@
-use Rattle.std.proofs.Common.{◌*◌, ◌≤◌, List, take}
+use Rattle.std.proofs.Common.{◌+◌, ◌*◌, ◌≤◌, List, take}
 use Rattle.tt_instance.specs.declared.cell.Cell.{Cell}
 use Rattle.tt_occupancy.specs.Around.{AreGaps}
 use Rattle.tt_moves.specs.Rests.{IsRest}
+use Rattle.tt_table.specs.declared.table.TheConstants.{MAX_ENTRIES}
 use Rattle.tt_moves.proofs.rest.WithoutEntry.gaps.Given as goal
 
 abbrev pub invariant-loop-curriculum : goal.invariant-loop-curriculum
 invariant-loop-curriculum l = record {
   gaps : (u : List Cell) → IsRest l.self u → AreGaps l.self.occupied.now.problem u (take l.curriculum-index l.curriculum-items) l.entry.day l.entry.period l.gaps;
   few_alone : l.gaps.alone ≤ l.curriculum-index;
-  few_joined : l.gaps.joined ≤ l.curriculum-index * 32770;
+  few_joined : l.gaps.joined ≤ l.curriculum-index * (2 * (MAX_ENTRIES + 1));
 }

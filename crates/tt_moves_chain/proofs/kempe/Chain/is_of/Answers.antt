@@ -1,4 +1,4 @@
-use Rattle.std.proofs.Common.{◌≡◌, false, ◌≤◌, ◌<◌, ℕ, List, length, get_or, sym, ap, ◌∙◌, subst, below_more, refl, arith}
+use Rattle.std.proofs.Common.{◌≡◌, false, ◌<◌, ℕ, List, length, get_or, sym, subst, below_more, refl, arith}
 use Rattle.std.proofs.lemmas.Bool.{false≢true}
 use Rattle.tt_moves_chain.specs.Chains.{Kempe}
 use Rattle.tt_moves_chain.specs.Answers.{MayTurn, IsPeriod, same_slot}

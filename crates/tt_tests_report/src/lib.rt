@@ -1,0 +1,11 @@
+//! Tests of what the program shows about a timetable: reports, exports, pages and advice, through the commands and the library's calls.
+#![tactic(auto)]
+
+#[cfg(test)]
+mod exports;
+#[cfg(test)]
+mod inspecting;
+#[cfg(test)]
+mod pages;
+#[cfg(test)]
+mod reports;
