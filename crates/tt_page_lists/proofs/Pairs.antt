@@ -1,18 +1,13 @@
 -- Entries that break a rule together with later ones.
-use Rattle.std.proofs.Common.{◌≡◌, ℕ, ◌+◌, ◌<◌, ◌≤◌, ◌&&◌, List, ◌++◌, All, length, get_or, drop, refl, sym, ap, subst, ◌∙◌, append_assoc}
-use Rattle.std.specs.Prelude.{◌==◌, filter, slice_get, IfSome}
+use Rattle.std.proofs.Common.{◌≡◌, ℕ, ◌+◌, ◌<◌, ◌≤◌, ◌&&◌, List, ◌++◌, length, get_or, drop, refl, sym, ap, ◌∙◌, append_assoc}
+use Rattle.std.specs.Prelude.{◌==◌, filter}
 use Rattle.std.proofs.lemmas.List.{drop_more, drop_all, append-nil}
-use Rattle.std.proofs.lemmas.List.Elements.{All-drop, All-filter}
-use Rattle.std.proofs.lemmas.Option.{slice_get-get_or}
 use Rattle.tt_lists.proofs.Tests.{test_turned}
 use Rattle.tt_page_text.specs.Labelled.{Labelled}
 use Rattle.tt_instance.specs.Problem.{Problem}
-use Rattle.tt_instance.specs.Cells.{InRange, is_at, slot_of}
+use Rattle.tt_instance.specs.Cells.{is_at, slot_of}
 use Rattle.tt_instance.specs.Courses.{conflict}
 use Rattle.tt_instance.specs.declared.cell.Cell.{Cell}
-use Rattle.tt_table.specs.Groups.{Grouped, in_group, group_of, nobody}
-use Rattle.tt_table.specs.declared.groups.GroupBy.TheVariants as by
-use Rattle.tt_table.proofs.Numbering.{group_at}
 use Rattle.tt_page_lists.specs.Items.{is_odd, at_odds, entry_item, entry_items}
 use Rattle.tt_page_lists.specs.declared.rule.Rule.{Rule}
 use Rattle.tt_page_lists.specs.declared.rule.Rule.TheVariants as rule

@@ -1,13 +1,12 @@
 //! The items that are groups: the lectures of a course without seats, and the isolated lectures of a curriculum.
 
-ghost use Rattle.std.specs.Prelude.{◌≡◌, ◌<◌, ◌≤◌, ◌&&◌, ◌++◌, length, filter, flat_map, sum_by, All, OnOk, IfOk};
+ghost use Rattle.std.specs.Prelude.{◌≡◌, ◌<◌, ◌≤◌, ◌&&◌, ◌++◌, length, filter, flat_map, sum_by, count_by, All, OnOk, IfOk};
 ghost use Rattle.tt_lists.specs.Words.{range_below};
-ghost use Rattle.tt_instance.specs.Cells.{InRange};
+ghost use Rattle.tt_instance.specs.Cells.{InRange, is_of};
 ghost use Rattle.tt_instance.specs.Courses.{excess, in_curriculum};
 ghost use Rattle.tt_rules.specs.Soft.{is_isolated};
-ghost use Rattle.tt_instance.specs.declared.limit.TheConstants.{MAX_SEATS};
 ghost use Rattle.tt_table.specs.declared.table.TheConstants.{MAX_ENTRIES};
-ghost use Rattle.tt_page_lists.specs.Grouped.{lacks_seats, crowded, crowded_head, crowded_end, crowded_line, students_told, seats_told, seats_item, isolated_in, isolated_line, isolated_told, curriculum_item, items_text};
+ghost use Rattle.tt_page_lists.specs.Grouped.{crowded_head, crowded_end, crowded_line, students_told, seats_told, seats_item, isolated_line, isolated_item, isolated_told, curriculum_item, items_text};
 
 use crate::items::{
     put_course_and_teacher, put_course_items, put_entry_items, put_item_end, put_item_head,
@@ -22,22 +21,26 @@ use tt_text::put_token;
 
 // ---- lectures of a course with students without a seat
 
-/// Returns those of some entries with a student without a seat.
-fn crowded_ones(
-    alloc: Global,
-    instance: &Instance<'_>,
-    entries: Group<'_>,
-) -> Result<Vec<Entry>, AllocError>
-    requires { All (InRange instance.now) entries }
-    ensures { IfOk result (λ found. found.items ≡ filter (lacks_seats instance.now) entries.entry) }
+/// Returns some entries.
+fn collect(alloc: Global, entries: Group<'_>) -> Result<Vec<Entry>, AllocError>
+    ensures { IfOk result (λ found. found.items ≡ entries.entry) }
 {
     let mut found = Vec::new(alloc);
     for entry in entries {
-        if without_seat(instance, entry) != 0 {
-            found.push(*entry)?;
-        }
+        found.push(*entry)?;
     }
     Ok(found)
+}
+
+/// Returns the entries of a course.
+fn entries_of(plan: &Plan<'_, '_>, alloc: Global, course: u32) -> Result<Vec<Entry>, AllocError>
+    requires { course < length plan.now.problem.courses }
+    ensures entries { IfOk result (λ found. found.items ≡ filter (is_of course) plan.now.table) }
+    ensures in_range { IfOk result (λ found. All (InRange plan.now.problem) found.items) }
+    ensures few { IfOk result (λ found. length found.items ≤ MAX_ENTRIES) }
+{
+    let entries = plan.of_course(course);
+    collect(alloc, entries)
 }
 
 /// Counts the students without a seat, in all of some entries.
@@ -90,7 +93,7 @@ fn put_crowded_end(
     )
 }
 
-/// Appends a lecture: how many have no seat, when, and in which room.
+/// Appends a lecture if some student has no seat: how many, when, and in which room.
 #[tactic(auto, unfolding(crate::specs::Grouped::crowded_line))]
 fn put_crowded_line(
     out: &mut Vec<u8>,
@@ -101,6 +104,9 @@ fn put_crowded_line(
     requires { InRange instance.now entry.now }
     ensures { OnOk result (out.new.items ≡ out.old.items ++ crowded_line instance.now labels.now entry.now) }
 {
+    if without_seat(instance, entry) == 0 {
+        return Ok(());
+    }
     put_crowded_head(out, instance, entry)?;
     put_when_link(out, labels, Kind::Room, entry.room, entry)?;
     put_token(out, b", in ")?;
@@ -163,17 +169,6 @@ fn put_seats_told(
     put_token(out, b"</ul>\n")
 }
 
-/// Returns the lectures of a course with a student without a seat.
-fn crowded_of(plan: &Plan<'_, '_>, alloc: Global, course: u32) -> Result<Vec<Entry>, AllocError>
-    requires { course < length plan.now.problem.courses }
-    ensures crowded { IfOk result (λ found. found.items ≡ crowded plan.now.problem plan.now.table course) }
-    ensures in_range { IfOk result (λ found. All (InRange plan.now.problem) found.items) }
-    ensures few { IfOk result (λ found. length found.items ≤ MAX_ENTRIES) }
-{
-    let entries = plan.of_course(course);
-    crowded_ones(alloc, plan.instance(), entries)
-}
-
 /// Appends the item of a course.
 #[tactic(auto, unfolding(crate::specs::Grouped::seats_item))]
 fn put_seats_item(
@@ -186,13 +181,13 @@ fn put_seats_item(
     ensures { OnOk result (out.new.items ≡ out.old.items ++ seats_item plan.now.problem plan.now.table labels.now course) }
 {
     let instance = plan.instance();
-    let found = crowded_of(plan, *out.allocator(), course)?;
-    let adds = seats_of(instance, &found);
+    let entries = entries_of(plan, *out.allocator(), course)?;
+    let adds = seats_of(instance, &entries);
     if adds == 0 {
         return Ok(());
     }
     put_item_head(out, adds)?;
-    put_seats_told(out, instance, labels, course, &found)?;
+    put_seats_told(out, instance, labels, course, &entries)?;
     put_item_end(out)
 }
 
@@ -221,21 +216,19 @@ fn is_isolated_in(plan: &Plan<'_, '_>, curriculum: u32, entry: &Entry) -> bool
     plan.instance().in_curriculum(curriculum, entry.course) && is_isolated(plan, curriculum, entry)
 }
 
-/// Returns the isolated lectures of a curriculum.
-fn isolated_of(
-    plan: &Plan<'_, '_>,
-    alloc: Global,
-    curriculum: u32,
-) -> Result<Vec<Entry>, AllocError>
-    ensures { IfOk result (λ found. found.items ≡ isolated_in plan.now.problem plan.now.table curriculum) }
+/// Counts the isolated lectures of a curriculum.
+#[tactic(auto, using(std::proofs::lemmas::List::Sums::count_by_more_yes, std::proofs::lemmas::List::Sums::count_by_more_no))]
+fn isolated_count(plan: &Plan<'_, '_>, curriculum: u32) -> u64
+    ensures count { result ≡ count_by (λ e. in_curriculum plan.now.problem curriculum e.course && is_isolated plan.now.problem plan.now.table curriculum e) plan.now.table }
+    ensures few { result ≤ MAX_ENTRIES }
 {
-    let mut found = Vec::new(alloc);
+    let mut count: u64 = 0;
     for entry in plan.entries() {
         if is_isolated_in(plan, curriculum, entry) {
-            found.push(*entry)?;
+            count += 1;
         }
     }
-    Ok(found)
+    count
 }
 
 /// Appends a lecture: when, its course and teacher, and its room.
@@ -259,19 +252,36 @@ fn put_isolated_line(
     put_token(out, b"</li>\n")
 }
 
-#[tactic(auto, using(tt_page_text::proofs::Growing::taken_further))]
-fn put_isolated_lines(
+/// Appends an entry if it is an isolated one of the curriculum.
+#[tactic(auto, unfolding(crate::specs::Grouped::isolated_item))]
+fn put_isolated_item(
     out: &mut Vec<u8>,
-    instance: &Instance<'_>,
+    plan: &Plan<'_, '_>,
     labels: &Labels,
     curriculum: u32,
-    entries: &[Entry],
+    entry: &Entry,
 ) -> Result<(), AllocError>
-    requires { All (InRange instance.now) entries.now }
-    ensures { OnOk result (out.new.items ≡ out.old.items ++ flat_map (isolated_line instance.now labels.now curriculum) entries.now) }
+    requires { InRange plan.now.problem entry.now }
+    ensures { OnOk result (out.new.items ≡ out.old.items ++ isolated_item plan.now.problem plan.now.table labels.now curriculum entry.now) }
 {
-    for entry in entries {
-        put_isolated_line(out, instance, labels, curriculum, entry)?;
+    if !is_isolated_in(plan, curriculum, entry) {
+        return Ok(());
+    }
+    put_isolated_line(out, plan.instance(), labels, curriculum, entry)
+}
+
+#[tactic(auto, using(tt_page_text::proofs::Growing::taken_further))]
+fn put_isolated_items(
+    out: &mut Vec<u8>,
+    plan: &Plan<'_, '_>,
+    labels: &Labels,
+    curriculum: u32,
+) -> Result<(), AllocError>
+    ensures { OnOk result (out.new.items ≡ out.old.items
+        ++ flat_map (isolated_item plan.now.problem plan.now.table labels.now curriculum) plan.now.table) }
+{
+    for entry in plan.entries() {
+        put_isolated_item(out, plan, labels, curriculum, entry)?;
     }
     Ok(())
 }
@@ -280,18 +290,16 @@ fn put_isolated_lines(
 #[tactic(auto, unfolding(crate::specs::Grouped::isolated_told))]
 fn put_isolated_told(
     out: &mut Vec<u8>,
-    instance: &Instance<'_>,
+    plan: &Plan<'_, '_>,
     labels: &Labels,
     curriculum: u32,
-    entries: &[Entry],
 ) -> Result<(), AllocError>
-    requires curriculum { curriculum < length instance.now.curricula }
-    requires in_range { All (InRange instance.now) entries.now }
-    ensures { OnOk result (out.new.items ≡ out.old.items ++ isolated_told instance.now labels.now curriculum entries.now) }
+    requires { curriculum < length plan.now.problem.curricula }
+    ensures { OnOk result (out.new.items ≡ out.old.items ++ isolated_told plan.now.problem plan.now.table labels.now curriculum) }
 {
-    put_week_link(out, instance, Kind::Curriculum, curriculum)?;
+    put_week_link(out, plan.instance(), Kind::Curriculum, curriculum)?;
     put_token(out, b"\n<ul>\n")?;
-    put_isolated_lines(out, instance, labels, curriculum, entries)?;
+    put_isolated_items(out, plan, labels, curriculum)?;
     put_token(out, b"</ul>\n")
 }
 
@@ -306,14 +314,12 @@ fn put_curriculum_item(
     requires { curriculum < length plan.now.problem.curricula }
     ensures { OnOk result (out.new.items ≡ out.old.items ++ curriculum_item plan.now.problem plan.now.table labels.now curriculum) }
 {
-    let instance = plan.instance();
-    let found = isolated_of(plan, *out.allocator(), curriculum)?;
-    let adds = 2 * found.len() as u64;
+    let adds = 2 * isolated_count(plan, curriculum);
     if adds == 0 {
         return Ok(());
     }
     put_item_head(out, adds)?;
-    put_isolated_told(out, instance, labels, curriculum, &found)?;
+    put_isolated_told(out, plan, labels, curriculum)?;
     put_item_end(out)
 }
 

@@ -10,8 +10,8 @@ use crate::rule::Rule;
 use std::alloc::{AllocError, Global};
 use tt_instance::Instance;
 use tt_page_plan::{
-    Kind, Plan, days_of, entries_of, is_unavailable, lectures_off, missing_days, other_rooms, periods_of, put_cell_link,
-    put_course_link, put_teacher_link, put_week_link, teacher_of,
+    Kind, Plan, days_of, entries_of, is_unavailable, lectures_off, missing_days, other_rooms,
+    periods_of, put_cell_link, put_course_link, put_teacher_link, put_week_link, teacher_of,
 };
 use tt_page_text::{Labels, Part, put, put_when};
 use tt_table::{Entry, Group};
@@ -120,7 +120,11 @@ fn put_rooms_told(out: &mut Vec<u8>, plan: &Plan<'_, '_>, course: u32) -> Result
     let rooms = other_rooms(plan, course) + 1;
     put(
         out,
-        &[Part::Text(", in "), Part::Count(rooms), Part::Text(" rooms")],
+        &[
+            Part::Text(", in "),
+            Part::Count(rooms),
+            Part::Text(" rooms"),
+        ],
     )
 }
 
@@ -165,7 +169,11 @@ fn put_course_item(
 
 /// Appends the items of all courses.
 #[tactic(auto, using(tt_page_text::proofs::Growing::text_further))]
-pub fn put_course_items(out: &mut Vec<u8>, plan: &Plan<'_, '_>, rule: Rule) -> Result<(), AllocError>
+pub fn put_course_items(
+    out: &mut Vec<u8>,
+    plan: &Plan<'_, '_>,
+    rule: Rule,
+) -> Result<(), AllocError>
     ensures { OnOk result (out.new.items ≡ out.old.items
         ++ flat_map (course_item plan.now.problem plan.now.table rule) (range_below (length plan.now.problem.courses))) }
 {

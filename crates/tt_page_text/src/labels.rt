@@ -120,12 +120,7 @@ pub fn put_period(out: &mut Vec<u8>, labels: &Labels, period: u32) -> Result<(),
 
 /// Appends a day and a period of it.
 #[tactic(auto, unfolding(crate::specs::Labels::when_text))]
-pub fn put_when(
-    out: &mut Vec<u8>,
-    labels: &Labels,
-    day: u32,
-    period: u32,
-) -> Result<(), AllocError>
+pub fn put_when(out: &mut Vec<u8>, labels: &Labels, day: u32, period: u32) -> Result<(), AllocError>
     ensures { OnOk result (out.new.items ≡ out.old.items ++ when_text labels.now day period) }
 {
     put_day(out, labels, day)?;

@@ -187,11 +187,7 @@ fn put_day_grid(
 }
 
 #[tactic(auto, using(tt_page_text::proofs::Growing::text_further))]
-fn put_day_grids(
-    out: &mut Vec<u8>,
-    plan: &Plan<'_, '_>,
-    labels: &Labels,
-) -> Result<(), AllocError>
+fn put_day_grids(out: &mut Vec<u8>, plan: &Plan<'_, '_>, labels: &Labels) -> Result<(), AllocError>
     ensures { OnOk result (out.new.items ≡ out.old.items
         ++ flat_map (day_grid plan.now.problem plan.now.table labels.now) (range_below plan.now.problem.days)) }
 {

@@ -71,11 +71,7 @@ fn put_barred_course(
     let name = course_name(instance, course);
     put(
         out,
-        &[
-            Part::Text("not "),
-            Part::Name(name),
-            Part::Text("</div>\n"),
-        ],
+        &[Part::Text("not "), Part::Name(name), Part::Text("</div>\n")],
     )
 }
 

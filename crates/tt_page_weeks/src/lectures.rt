@@ -8,7 +8,8 @@ use crate::marks::{is_in_conflict, is_in_other_room, is_repeated, is_room_taken}
 use std::alloc::AllocError;
 use tt_instance::Instance;
 use tt_page_plan::{
-    Kind, Plan, course_name, is_isolated, is_unavailable, put_teacher_link, put_week_link, without_seat,
+    Kind, Plan, course_name, is_isolated, is_unavailable, put_teacher_link, put_week_link,
+    without_seat,
 };
 use tt_page_text::{Labels, Part, put, put_counted, put_when};
 use tt_table::Entry;
@@ -113,11 +114,7 @@ fn put_marks(
 
 /// Appends the beginning of a lecture: when it is.
 #[tactic(auto, unfolding(crate::specs::Lectures::lecture_when))]
-fn put_lecture_when(
-    out: &mut Vec<u8>,
-    labels: &Labels,
-    entry: &Entry,
-) -> Result<(), AllocError>
+fn put_lecture_when(out: &mut Vec<u8>, labels: &Labels, entry: &Entry) -> Result<(), AllocError>
     ensures { OnOk result (out.new.items ≡ out.old.items ++ lecture_when labels.now entry.now) }
 {
     put_token(out, b"<div class=\"lecture\"><span class=\"when\">")?;

@@ -18,4 +18,4 @@ pub returns : goal.returns
 returns c =
     let p = c.args.plan.now.problem in
     let t = c.args.plan.now.table in
-    items_done p c.args.rule t c.loop-index.index c.args.out.now.items c.loop-index.out.items (subst (λ (es : List Cell). length es ≤ c.loop-index.index) c.entries-entry-items.ensures.value (omega (arith, c.loop-index-test.false))) c.loop-index.invariant
+    items_done p c.args.labels.now c.args.rule t c.loop-index.index c.args.out.now.items c.loop-index.out.items (subst (λ (es : List Cell). length es ≤ c.loop-index.index) c.entries-entry-items.ensures.value (omega (arith, c.loop-index-test.false))) c.loop-index.invariant
