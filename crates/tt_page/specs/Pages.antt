@@ -7,7 +7,7 @@ use Rattle.tt_page_text.specs.Labelled.{Labelled}
 use Rattle.tt_page.specs.Heading.{head_text, header_text, legend_text}
 use Rattle.tt_page_lists.specs.Lists.{hard_table, cost_table, lists_text}
 use Rattle.tt_page_weeks.specs.Grids.{section_text}
-use Rattle.tt_page_weeks.specs.Days.{days_text}
+use Rattle.tt_page_days.specs.Days.{days_text}
 use Rattle.tt_page.specs.Courses.{courses_text}
 use Rattle.tt_page_plan.specs.declared.kind.Kind.TheVariants.{Room, Teacher, Curriculum}
 

@@ -6,7 +6,8 @@ ghost use Rattle.tt_page.specs.Courses.{rooms_text, room_text, course_marks, cou
 
 use std::alloc::AllocError;
 use tt_page_plan::{
-    Kind, Plan, course_name, days_of, entries_of, is_taught_in, lectures_off, missing_days, other_rooms, put_teacher_link, put_week_link,
+    Kind, Plan, course_name, days_of, entries_of, is_taught_in, lectures_off, missing_days,
+    other_rooms, put_teacher_link, put_week_link,
 };
 use tt_page_text::{Part, put, put_counted};
 use tt_text::put_token;

@@ -2,17 +2,8 @@
 #![tactic(auto)]
 
 mod courses;
-mod grids;
-mod groups;
 mod heading;
-mod items;
-mod kind;
-mod lectures;
-mod lists;
-mod marks;
 mod pages;
-mod plan;
-mod rule;
 mod style;
 
 pub use pages::{page, text_of};

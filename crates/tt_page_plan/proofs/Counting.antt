@@ -1,11 +1,10 @@
 -- Counts and tests over the entries that pass another test.
-use Rattle.std.proofs.Common.{◌≡◌, ℕ, Bool, true, false, ◌&&◌, ◌||◌, cond, List, [], ◌∷◌, map, refl, sym, ap, ◌∙◌}
-use Rattle.std.specs.Prelude.{◌==◌, filter, count_by, sum_by}
+use Rattle.std.proofs.Common.{◌≡◌, Bool, true, false, ◌&&◌, cond, List, [], ◌∷◌, refl, ap, ◌∙◌}
+use Rattle.std.specs.Prelude.{filter, count_by, sum_by}
 use Rattle.std.specs.List.{list_any}
 use Rattle.std.proofs.Math.Bool.{and_comm}
 use Rattle.tt_lists.specs.Words.{range_below}
-use Rattle.tt_lists.proofs.Tests.{same_test}
-use Rattle.tt_lists.proofs.Sums.{one_if, sum_by-same, sum_by-of_map, sum_by-of_flat_map}
+use Rattle.tt_lists.proofs.Sums.{one_if, sum_by-same}
 use Rattle.tt_lists.proofs.Filters.{list_any-of_filter, count_by-of_filter}
 use Rattle.tt_lists.proofs.Tested.{list_any-same}
 use Rattle.tt_instance.specs.Problem.{Problem}

@@ -1,18 +1,14 @@
 -- Later entries of an entry's period.
-use Rattle.std.proofs.Common.{◌≡◌, ℕ, ◌+◌, ◌<◌, ◌≤◌, ◌&&◌, List, ◌++◌, All, length, get_or, drop, refl, sym, ap, subst, ◌∙◌, append_assoc}
-use Rattle.std.specs.Prelude.{◌==◌, filter, slice_get, IfSome}
-use Rattle.std.proofs.lemmas.List.{drop_more, drop_all, append-nil}
+use Rattle.std.proofs.Common.{◌≡◌, ℕ, ◌+◌, ◌<◌, List, All, length, get_or, drop, sym, subst, ◌∙◌}
+use Rattle.std.specs.Prelude.{filter, slice_get, IfSome}
 use Rattle.std.proofs.lemmas.List.Elements.{All-drop, All-filter}
 use Rattle.std.proofs.lemmas.Option.{slice_get-get_or}
-use Rattle.tt_lists.proofs.Tests.{test_turned}
 use Rattle.tt_instance.specs.Problem.{Problem}
 use Rattle.tt_instance.specs.Cells.{InRange, is_at, slot_of}
-use Rattle.tt_instance.specs.Courses.{conflict}
 use Rattle.tt_instance.specs.declared.cell.Cell.{Cell}
 use Rattle.tt_table.specs.Groups.{Grouped, in_group, group_of, nobody}
 use Rattle.tt_table.specs.declared.groups.GroupBy.TheVariants as by
 use Rattle.tt_table.proofs.Numbering.{group_at}
-use Rattle.tt_page_plan.proofs.Counting.{filter-filter}
 
 by_slots : (p : Problem) (t : List Cell) → Grouped
 by_slots p t = record { by = by.Period p.periods; entries = t }

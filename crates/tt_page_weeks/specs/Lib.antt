@@ -1,4 +1,3 @@
-pub mod Days
 pub mod Grids
 pub mod Lectures
 pub mod Marks

@@ -1,11 +1,9 @@
-//! The weeks of the rooms, teachers and curricula, as grids, and the days, as tables of rooms.
+//! The weeks of the rooms, teachers and curricula, as grids.
 #![tactic(auto)]
 
-mod days;
 mod grids;
 mod groups;
 mod lectures;
 mod marks;
 
-pub use days::put_days;
-pub use grids::put_section;
+pub use grids::{put_lectures, put_paper_name, put_section};

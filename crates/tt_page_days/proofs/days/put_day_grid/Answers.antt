@@ -1,7 +1,7 @@
 use Rattle.std.proofs.lemmas.Result.{on_ok_weaker}
-use Rattle.tt_page_weeks.specs.Days.{day_grid}
+use Rattle.tt_page_days.specs.Days.{day_grid}
 use Rattle.tt_page_text.proofs.Growing.{then_more}
-use Rattle.tt_page_weeks.proofs.days.put_day_grid.Goals as goal
+use Rattle.tt_page_days.proofs.days.put_day_grid.Goals as goal
 
 pub returns : goal.returns
 unfolding day_grid
