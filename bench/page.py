@@ -93,10 +93,11 @@ def shown(name):
 
 
 class Page:
-    """The page of a timetable, as text."""
+    """The page of a timetable, as text, with names of days and periods, or none, and what was proved of its cost, or None."""
 
-    def __init__(self, instance, table, style):
+    def __init__(self, instance, table, style, days=(), periods=(), proved=None):
         self.instance, self.table, self.style = instance, table, style
+        self.day_names, self.period_names, self.proved = days, periods, proved
         self.names = {
             "course": [shown(it[0]) for it in instance.courses],
             "room": [shown(it[0]) for it in instance.rooms],
@@ -113,6 +114,21 @@ class Page:
 
     def cell_link(self, kind, number, entry):
         return f'<a href="#{kind}{number}-{entry[2]}-{entry[3]}">{self.names["course"][entry[0]]}</a>'
+
+    def day(self, day):
+        return shown(self.day_names[day].encode()) if day < len(self.day_names) else f"Day {day + 1}"
+
+    def period(self, period):
+        return shown(self.period_names[period].encode()) if period < len(self.period_names) else str(period + 1)
+
+    def when(self, day, period):
+        return f"{self.day(day)}, period {self.period(period)}"
+
+    def when_link(self, kind, number, entry):
+        return f'<a href="#{kind}{number}-{entry[2]}-{entry[3]}">{self.when(*entry[2:])}</a>'
+
+    def course_and_teacher(self, course):
+        return f"{self.link('course', course)}, {self.teacher_link(course)}"
 
     def teacher_link(self, course):
         return self.link("teacher", self.instance.teacher_of[course])
@@ -172,7 +188,7 @@ class Page:
         beside = {"room": teacher, "teacher": room, "curriculum": room + " " + teacher}[kind]
         name = self.names["course"][entry[0]]
         return (
-            f'<div class="lecture"><a class="course" href="#course{entry[0]}">{name}</a> '
+            f'<div class="lecture"><span class="when">{self.when(*entry[2:])}</span> <a class="course" href="#course{entry[0]}">{name}</a> '
             f"{beside}{self.marks(kind, number, entry)}</div>\n"
         )
 
@@ -188,23 +204,46 @@ class Page:
         if kind == "teacher":
             for course, name in enumerate(self.names["course"]):
                 if self.instance.teacher_of[course] == number and (course, day, period) in self.instance.bars:
-                    text += f'<div class="barred">not {name}</div>\n'
+                    text += f'<div class="barred"><span class="when">{self.when(day, period)}</span> not {name}</div>\n'
         for entry in self.at.get((day, period), []):
             if self.has(kind, number, entry):
                 text += self.lecture(kind, number, entry)
         return text + "</td>\n"
 
+    def paper_name(self):
+        return '<span class="paper">, timetable' + "".join(" " + shown(it) for it in self.instance.name) + "</span></h3>\n"
+
     def grid(self, kind, number):
         days, periods = range(self.instance.days), range(self.instance.periods)
         seats = f" {self.instance.rooms[number][1]} seats" if kind == "room" else ""
-        text = f'<div class="grid" id="{kind}{number}">\n<table>\n'
-        text += f"<caption>{kind.capitalize()} <b>{self.names[kind][number]}</b>{seats}</caption>\n"
-        text += '<thead>\n<tr>\n<th scope="col">Period</th>\n'
-        text += "".join(f'<th scope="col">Day {day}</th>\n' for day in days) + "</tr>\n</thead>\n<tbody>\n"
+        text = f'<div class="grid" id="{kind}{number}">\n<h3 id="{kind}{number}-name">'
+        text += f"{kind.capitalize()} <b>{self.names[kind][number]}</b>{seats}{self.paper_name()}"
+        text += f'<table aria-labelledby="{kind}{number}-name">\n<thead>\n<tr>\n<th scope="col">Period</th>\n'
+        text += "".join(f'<th scope="col">{self.day(day)}</th>\n' for day in days) + "</tr>\n</thead>\n<tbody>\n"
         for period in periods:
             cells = "".join(self.cell(kind, number, day, period) for day in days)
-            text += f'<tr>\n<th scope="row">{period}</th>\n{cells}</tr>\n'
+            text += f'<tr>\n<th scope="row">{self.period(period)}</th>\n{cells}</tr>\n'
         return text + "</tbody>\n</table>\n</div>\n"
+
+    def room_row(self, day, room):
+        text = f'<tr>\n<th scope="row">{self.link("room", room)}</th>\n'
+        for period in range(self.instance.periods):
+            here = [it for it in self.at.get((day, period), []) if it[1] == room]
+            text += "<td>\n" + "".join(self.lecture("room", room, it) for it in here) + "</td>\n"
+        return text + "</tr>\n"
+
+    def day_grid(self, day):
+        text = f'<div class="grid day" id="day{day}">\n<h3 id="day{day}-name"><b>{self.day(day)}</b>{self.paper_name()}'
+        text += f'<table aria-labelledby="day{day}-name">\n<thead>\n<tr>\n<th scope="col">Room</th>\n'
+        text += "".join(f'<th scope="col">{self.period(it)}</th>\n' for it in range(self.instance.periods))
+        text += "</tr>\n</thead>\n<tbody>\n" + "".join(self.room_row(day, it) for it in range(len(self.instance.rooms)))
+        return text + "</tbody>\n</table>\n</div>\n"
+
+    def days_text(self):
+        days = range(self.instance.days)
+        text = f'<details open id="daily">\n<summary><h2>Days <small>{len(days)}</small></h2></summary>\n<ul class="index">\n'
+        text += "".join(f'<li><a href="#day{it}">{self.day(it)}</a></li>\n' for it in days)
+        return text + '</ul>\n<div class="grids">\n' + "".join(self.day_grid(it) for it in days) + "</div>\n</details>\n"
 
     def section(self, ident, kind):
         numbers = range(len(self.names[kind]))
@@ -217,7 +256,7 @@ class Page:
 
     def course_items(self, adds, tells):
         numbers = range(len(self.instance.courses))
-        return [(adds(it), self.link("course", it) + " " + tells(it)) for it in numbers if adds(it)]
+        return [(adds(it), self.course_and_teacher(it) + ", " + tells(it)) for it in numbers if adds(it)]
 
     def pairs(self, at_odds, adds):
         for place, entry in enumerate(self.table):
@@ -225,29 +264,38 @@ class Page:
             if odds:
                 more = f" and {len(odds) - 1} more" if len(odds) > 1 else ""
                 yield adds(len(odds)), (
-                    f"{self.in_room(entry)}, in {self.link('room', entry[1])}, with {self.cell_link('room', odds[0][1], odds[0])}{more}"
+                    f"{self.with_teacher(entry)}, {self.when(*entry[2:])}, in {self.link('room', entry[1])}, "
+                    f"with {self.with_teacher(odds[0])}{more}"
                 )
 
-    def when(self, entry):
-        return f"day {entry[2]} period {entry[3]}"
-
-    def in_room(self, entry):
-        return f"{self.cell_link('room', entry[1], entry)} {self.when(entry)}"
-
-    def seats(self, entry):
-        students, seats = self.instance.courses[entry[0]][4], self.instance.rooms[entry[1]][1]
-        return f"{self.in_room(entry)}, in {self.link('room', entry[1])} {students} on {seats} seats"
+    def with_teacher(self, entry):
+        return f"{self.cell_link('room', entry[1], entry)}, {self.teacher_link(entry[0])}"
 
     def barred(self, entry):
         teacher = self.instance.teacher_of[entry[0]]
-        return f"{self.cell_link('teacher', teacher, entry)} {self.when(entry)}"
+        return f"{self.cell_link('teacher', teacher, entry)}, {self.teacher_link(entry[0])}, {self.when(*entry[2:])}"
+
+    def crowded(self):
+        for course, (*_, students) in enumerate(self.instance.courses):
+            entries = [it for it in self.of[course] if self.unseated(it)]
+            lines = "".join(
+                f"<li>{self.unseated(it)} {self.when_link('room', it[1], it)}, in {self.link('room', it[1])}, "
+                f"{self.instance.rooms[it[1]][1]} seats</li>\n"
+                for it in entries
+            )
+            if entries:
+                told = f"{self.course_and_teacher(course)}, {students} students\n<ul>\n{lines}</ul>\n"
+                yield sum(self.unseated(it) for it in entries), told
 
     def alone(self):
         for number, (_, members) in enumerate(self.instance.curricula):
-            for entry in self.table:
-                if entry[0] in members and self.is_isolated(members, entry):
-                    link = self.cell_link("curriculum", number, entry)
-                    yield 2, f"{link} {self.when(entry)}, in {self.link('curriculum', number)}"
+            entries = [it for it in self.table if it[0] in members and self.is_isolated(members, it)]
+            lines = "".join(
+                f"<li>{self.when_link('curriculum', number, it)}, {self.course_and_teacher(it[0])}, in {self.link('room', it[1])}</li>\n"
+                for it in entries
+            )
+            if entries:
+                yield 2 * len(entries), f"{self.link('curriculum', number)}\n<ul>\n{lines}</ul>\n"
 
     def lists(self):
         courses = self.instance.courses
@@ -260,8 +308,7 @@ class Page:
             ("availability", "Availability", "in a period unavailable for the course", [(1, self.barred(it)) for it in bars]),
             ("occupancy", "Room occupancy", "beside another lecture in a room and period",
              list(self.pairs(lambda one, other: one[1] == other[1], lambda odds: 1))),
-            ("capacity", "Room capacity", "students without a seat",
-             [(self.unseated(it), self.seats(it)) for it in self.table if self.unseated(it)]),
+            ("capacity", "Room capacity", "students without a seat", list(self.crowded())),
             ("days", "Working days", "5 for each day below a course's minimum",
              self.course_items(lambda it: 5 * self.missing_days(it), lambda it: f"on {self.days_of(it)} of {courses[it][3]} days")),
             ("compactness", "Compactness", "2 for each isolated lecture of a curriculum", list(self.alone())),
@@ -272,12 +319,28 @@ class Page:
     def counts_table(self, ident, title, lists, total):
         text = f'<table class="counts" id="{ident}">\n<caption>{title}</caption>\n<tbody>\n'
         for _, name, meaning, items in lists:
-            text += f'<tr><th scope="row">{name}</th><td>{sum(it[0] for it in items)}</td><td>{meaning}</td></tr>\n'
+            count = sum(it[0] for it in items)
+            row = "<tr>" if count else '<tr class="none">'
+            text += f'{row}<th scope="row">{name}</th><td>{count}</td><td>{meaning}</td></tr>\n'
         name, count, meaning = total
         text += f'</tbody>\n<tfoot>\n<tr><th scope="row">{name}</th><td>{count}</td><td>{meaning}</td></tr>\n'
         return text + "</tfoot>\n</table>\n"
 
     # -- the whole
+
+    def proved_text(self, hard, cost):
+        """What was proved: None for nothing, "none" if no feasible timetable exists, or a bound."""
+        if self.proved is None:
+            return ""
+        if self.proved == "none":
+            told = "no feasible timetable exists (proved)"
+        elif hard:
+            told = f"no feasible timetable costs less than {self.proved} (proved)"
+        elif cost == self.proved:
+            told = "proved best"
+        else:
+            told = f"no timetable costs less than {self.proved} (proved), gap {max(0, cost - self.proved)}"
+        return f'<p class="proved">{told}</p>\n'
 
     def course_row(self, course):
         _, _, lectures, days, students = self.instance.courses[course]
@@ -312,14 +375,15 @@ class Page:
             '<meta name="viewport" content="width=device-width, initial-scale=1">\n'
             '<meta name="color-scheme" content="light dark">\n'
             f"<title>Timetable{name}</title>\n<style>\n{self.style}</style>\n</head>\n<body>\n"
-            '<nav aria-label="Contents">\n<ul>\n'
+            '<a class="skip" href="#rooms">Skip to the weeks</a>\n<nav aria-label="Contents">\n<ul>\n'
         )
-        for part in ["summary", "rooms", "teachers", "curricula", "courses"]:
-            text += f'<li><a href="#{part}">{part.capitalize()}</a></li>\n'
+        for part in ["summary", "rooms", "teachers", "curricula", "days", "courses"]:
+            text += f'<li><a href="#{"daily" if part == "days" else part}">{part.capitalize()}</a></li>\n'
         text += f'</ul>\n</nav>\n<main>\n<header id="summary">\n<h1>Timetable<b>{name}</b></h1>\n<p class="verdict">'
         text += f"<strong>not feasible</strong> hard {hard}, cost {cost}" if hard else f"<b>feasible</b> cost {cost}"
+        text += "</p>\n" + self.proved_text(hard, cost)
         text += (
-            f'</p>\n<p class="size">courses {len(instance.courses)}, placed {len(self.table)}, rooms {len(instance.rooms)}, '
+            f'<p class="size">courses {len(instance.courses)}, placed {len(self.table)}, rooms {len(instance.rooms)}, '
             f"teachers {len(instance.teachers)}, curricula {len(instance.curricula)}, days {instance.days}, "
             f'periods a day {instance.periods}</p>\n</header>\n<div class="tables">\n'
         )
@@ -328,16 +392,16 @@ class Page:
         text += (
             '</div>\n<p class="legend">In the grids: <strong>broken</strong> breaks a hard rule, <mark>costs</mark> costs, '
             '<span class="barred">not c</span> a period that is unavailable for course c. '
-            "Days and periods count from 0, as in the files.</p>\n"
+            "A rule that is not in the tables counts 0. The files count days and periods from 0.</p>\n"
         )
         for at, (ident, title, _, items) in enumerate(lists):
             if counts[at]:
                 kind, mark = ("broken", "strong") if at < 4 else ("costs", "mark")
                 text += f'<details open class="{kind}" id="{ident}">\n'
                 text += f"<summary><h2>{title} <{mark}>{counts[at]}</{mark}></h2></summary>\n<ul>\n"
-                text += "".join(f"<li><b>{adds}</b> {told}</li>\n" for adds, told in items) + "</ul>\n</details>\n"
+                text += "".join(f'<li style="order:-{adds}"><b>{adds}</b> {told}</li>\n' for adds, told in items) + "</ul>\n</details>\n"
         text += self.section("rooms", "room") + self.section("teachers", "teacher") + self.section("curricula", "curriculum")
-        return text + self.courses_text() + "</main>\n</body>\n</html>\n"
+        return text + self.days_text() + self.courses_text() + "</main>\n</body>\n</html>\n"
 
 
 # ---- what any page must be
@@ -358,7 +422,7 @@ class Tags(html.parser.HTMLParser):
                 self.ids.append(value)
             elif name == "href":
                 self.links.append(value)
-            elif name in ("src", "style") or name.startswith("on"):
+            elif name == "src" or name.startswith("on") or (name == "style" and not re.fullmatch(r"order:-\d+", value)):
                 self.faults.append(f"attribute {name}")
 
     def handle_endtag(self, tag):
@@ -379,10 +443,10 @@ def faults_of(text):
     if re.search(r"url\(|@import|https?:", text):
         faults.append("something from outside")
     lists = re.findall(
-        r'<details open class="\w+" id="(\w+)">\n<summary><h2>[\w ]+ <\w+>(\d+)</\w+></h2></summary>\n<ul>\n(.*?)</ul>', text, re.S
+        r'<details open class="\w+" id="(\w+)">\n<summary><h2>[\w ]+ <\w+>(\d+)</\w+></h2></summary>\n<ul>\n(.*?)</ul>\n</details>', text, re.S
     )
     for ident, count, items in lists:
-        if sum(map(int, re.findall(r"^<li><b>(\d+)</b>", items, re.M))) != int(count):
+        if sum(map(int, re.findall(r"^<li style=\"order:-\d+\"><b>(\d+)</b>", items, re.M))) != int(count):
             faults.append(f"the items of {ident} don't add up")
     rooms = text[text.index('<details open id="rooms">') : text.index('<details open id="teachers">')]
     count = lambda title: int(re.search(rf"{title}</th><td>(\d+)", text).group(1))

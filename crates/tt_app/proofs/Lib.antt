@@ -5,6 +5,7 @@ pub mod Best
 pub mod DerivedBounds
 pub mod FailedReads
 pub mod Files
+pub mod Paging
 pub mod Rewriting
 pub mod Searching
 pub mod ToldMemory

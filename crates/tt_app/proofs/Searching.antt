@@ -55,6 +55,8 @@ text_refusal b nodes (fault.CannotRead f) h = absurd h
 text_refusal b nodes (fault.TooLong f) h = absurd h
 text_refusal b nodes fault.CannotWrite h = absurd h
 text_refusal b nodes fault.UnknownName h = absurd h
+text_refusal b nodes fault.DayNames h = absurd h
+text_refusal b nodes fault.PeriodNames h = absurd h
 text_refusal b nodes (fault.Term f) h = absurd h
 text_refusal b nodes (fault.Complete f) h = absurd h
 
@@ -91,5 +93,7 @@ text_refused i limit p best b proof nodes finished (fault.CannotRead f) spells f
 text_refused i limit p best b proof nodes finished (fault.TooLong f) spells found is h = absurd h
 text_refused i limit p best b proof nodes finished fault.CannotWrite spells found is h = absurd h
 text_refused i limit p best b proof nodes finished fault.UnknownName spells found is h = absurd h
+text_refused i limit p best b proof nodes finished fault.DayNames spells found is h = absurd h
+text_refused i limit p best b proof nodes finished fault.PeriodNames spells found is h = absurd h
 text_refused i limit p best b proof nodes finished (fault.Term f) spells found is h = absurd h
 text_refused i limit p best b proof nodes finished (fault.Complete f) spells found is h = absurd h

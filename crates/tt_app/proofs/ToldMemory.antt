@@ -1,6 +1,8 @@
 -- Being out of memory is reported as itself.
 use Rattle.tt_instance.specs.declared.fault.InstanceFault.{InstanceFault}
 use Rattle.tt_instance.specs.declared.fault.InstanceFault.TheVariants as instance
+use Rattle.tt_page_text.specs.declared.fault.LabelsFault.{LabelsFault}
+use Rattle.tt_page_text.specs.declared.fault.LabelsFault.TheVariants as labels
 use Rattle.tt_table.specs.declared.fault.SolutionFault.{SolutionFault}
 use Rattle.tt_table.specs.declared.fault.SolutionFault.TheVariants as solution
 use Rattle.tt_proof_check.specs.Faults.{OutOfMemoryIsNoTextFault}
@@ -12,7 +14,7 @@ use Rattle.tt_proof_check.specs.declared.fault.CertifyFault.TheVariants as certi
 use Rattle.tt_proof_upgrade.specs.Faults.{OutOfMemoryIsOneFault as OneFaultOfUpgrade}
 use Rattle.tt_proof_upgrade.specs.declared.fault.UpgradeFault.{UpgradeFault}
 use Rattle.tt_proof_upgrade.specs.declared.fault.UpgradeFault.TheVariants as upgrade
-use Rattle.tt_app.specs.FaultMaps.{fault_from_instance, fault_from_solution, fault_from_check, fault_from_certify, fault_from_upgrade, OutOfMemoryIsOneFault}
+use Rattle.tt_app.specs.FaultMaps.{fault_from_instance, fault_from_solution, fault_from_check, fault_from_certify, fault_from_upgrade, fault_from_labels, OutOfMemoryIsOneFault}
 
 pub memory_instance : (f : InstanceFault) → OutOfMemoryIsOneFault (fault_from_instance f)
 memory_instance instance.OutOfMemory = tt
@@ -38,3 +40,8 @@ pub memory_upgrade : (f : UpgradeFault) → OneFaultOfUpgrade f → OutOfMemoryI
 memory_upgrade (upgrade.Proof f) h = memory_check f h.1
 memory_upgrade upgrade.TooLarge h = tt
 memory_upgrade upgrade.OutOfMemory h = tt
+
+pub memory_labels : (f : LabelsFault) → OutOfMemoryIsOneFault (fault_from_labels f)
+memory_labels labels.Days = tt
+memory_labels labels.Periods = tt
+memory_labels labels.OutOfMemory = tt

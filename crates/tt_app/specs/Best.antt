@@ -1,8 +1,11 @@
 -- The answer of `best` for the bytes of an instance.
-use Rattle.std.specs.Prelude.{◌≡◌, ◌≤◌, ◌⊎◌, ℕ, List, None, IsSomeAnd}
+use Rattle.std.specs.Prelude.{◌≡◌, ◌≤◌, ◌⊎◌, ℕ, List, Some, None, IsSomeAnd}
 use Rattle.tt_instance.specs.Problem.{Problem}
 use Rattle.tt_instance.specs.Spelling.{Spells}
 use Rattle.tt_leaf_rules.specs.declared.leaf.Bound.{Bound}
+use Rattle.tt_leaf_rules.specs.declared.leaf.Bound.TheVariants.{AtLeast}
+use Rattle.tt_page.specs.Pages.{page_text}
+use Rattle.tt_page_text.specs.Labels.{no_labels}
 use Rattle.tt_proof_check.specs.Derives.{HoldsOfAll}
 use Rattle.tt_proof_check.specs.Headline.{BoundsAll}
 use Rattle.tt_proof_sum.specs.Sums.{IsSum}
@@ -12,8 +15,9 @@ use Rattle.tt_app.specs.Summed.{CertifiesSum}
 use Rattle.tt_app.specs.declared.calls.best.BestAnswer.{BestAnswer}
 
 -- The solution breaks no hard rule of the instance, its cost is the one in the line, and the proofs add up to the bound in the line, as a sum
--- with this solution would. Every timetable of the instance that breaks no hard rule costs at least the bound.
-pub record IsBestFound (instance : List ℕ) (a : BestAnswer) : Type 0 where
+-- with this solution would. Every timetable of the instance that breaks no hard rule costs at least the bound. The page shows the timetable and
+-- the bound, in this style.
+pub record IsBestFound (instance style : List ℕ) (a : BestAnswer) : Type 0 where
   pub solution : List ℕ
   pub cost : ℕ
   pub bound : ℕ
@@ -21,6 +25,7 @@ pub record IsBestFound (instance : List ℕ) (a : BestAnswer) : Type 0 where
   pub bounds : BoundsAll instance bound
   pub within : bound ≤ cost
   pub file : IsSomeAnd a.table (λ v. v.items ≡ solution)
+  pub page : IsSomeAnd a.page (λ v. v.items ≡ page_text certified.solves.problem certified.solves.table no_labels (Some (AtLeast bound)) style)
   pub text : a.out.items ≡ best_line cost bound
   pub status : a.status ≡ 0
 
@@ -32,8 +37,9 @@ pub record IsNoneFound (instance : List ℕ) (a : BestAnswer) : Type 0 where
   pub sum : IsSum problem (texts_of a.proofs.items) bound
   pub holds : HoldsOfAll problem bound
   pub no_file : a.table ≡ None
+  pub no_page : a.page ≡ None
   pub text : a.out.items ≡ none_line bound
   pub status : a.status ≡ 1
 
-abbrev pub IsBest : List ℕ → BestAnswer → Type 0
-IsBest i a = IsBestFound i a ⊎ IsNoneFound i a
+abbrev pub IsBest : List ℕ → List ℕ → BestAnswer → Type 0
+IsBest i style a = IsBestFound i style a ⊎ IsNoneFound i a

@@ -13,6 +13,8 @@ use Rattle.tt_proof_upgrade.specs.declared.fault.UpgradeFault.{UpgradeFault}
 use Rattle.tt_proof_upgrade.specs.declared.fault.UpgradeFault.TheVariants as upgrade
 use Rattle.tt_search_complete.specs.declared.fault.CompleteFault.{CompleteFault}
 use Rattle.tt_search_complete.specs.declared.fault.CompleteFault.TheVariants as completion
+use Rattle.tt_page_text.specs.declared.fault.LabelsFault.{LabelsFault}
+use Rattle.tt_page_text.specs.declared.fault.LabelsFault.TheVariants as labels
 use Rattle.tt_report.specs.declared.fault.ReportFault.{ReportFault}
 use Rattle.tt_proof_sum.specs.Faults.{OutOfMemoryIsOneFault as OneFaultOfSum}
 use Rattle.tt_proof_sum.specs.declared.fault.SumFault.TheVariants as sum
@@ -50,6 +52,11 @@ fault_from_upgrade upgrade.OutOfMemory = fault.OutOfMemory
 abbrev pub fault_from_completion : CompleteFault → AppFault
 fault_from_completion completion.OutOfMemory = fault.OutOfMemory
 fault_from_completion f = fault.Complete f
+
+abbrev pub fault_from_labels : LabelsFault → AppFault
+fault_from_labels labels.Days = fault.DayNames
+fault_from_labels labels.Periods = fault.PeriodNames
+fault_from_labels labels.OutOfMemory = fault.OutOfMemory
 
 -- Being out of memory is reported as itself, regardless of its source.
 abbrev pub OutOfMemoryIsOneFault : AppFault → Type 0

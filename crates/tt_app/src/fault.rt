@@ -4,6 +4,7 @@ use std::alloc::AllocError;
 use thiserror::Error;
 use tt_app_files::OutputFault;
 use tt_instance::InstanceFault;
+use tt_page_text::LabelsFault;
 use tt_proof_check::{CertifyFault, CheckFault};
 use tt_proof_sum::SumFault;
 use tt_proof_upgrade::UpgradeFault;
@@ -47,6 +48,12 @@ pub enum AppFault {
     /// No room, teacher or curriculum has the name.
     #[error("unknown name")]
     UnknownName,
+    /// There are more or fewer names than days.
+    #[error("names of days: not one for each day")]
+    DayNames,
+    /// There are more or fewer names than periods of a day.
+    #[error("names of periods: not one for each period of a day")]
+    PeriodNames,
     #[error("{0}")]
     Term(TermFault),
     #[error("{0}")]
@@ -87,6 +94,21 @@ impl From<TermFault> for AppFault {
         match fault {
             TermFault::OutOfMemory => AppFault::OutOfMemory,
             fault => AppFault::Term(fault),
+        }
+    }
+}
+
+impl From<LabelsFault> for AppFault {
+    ghost use Rattle.std.specs.Prelude.{◌≡◌};
+    ghost use Rattle.tt_app.specs.FaultMaps.{fault_from_labels};
+
+    ghost from_gives = { λ f e. e ≡ fault_from_labels f };
+
+    fn from(fault: LabelsFault) -> AppFault {
+        match fault {
+            LabelsFault::Days => AppFault::DayNames,
+            LabelsFault::Periods => AppFault::PeriodNames,
+            LabelsFault::OutOfMemory => AppFault::OutOfMemory,
         }
     }
 }

@@ -14,7 +14,7 @@ pub use calls::calendar::{WeekTimes, calendar};
 pub use calls::check::check;
 pub use calls::improve::{complete_and_improve, improve, improve_in_runs};
 pub use calls::inspect::inspect;
-pub use calls::page::page;
+pub use calls::page::{PageNames, page, proved_page};
 pub use calls::parts::{PartsAnswer, guided_parts_watched, parts, parts_watched};
 pub use calls::report::report;
 pub use calls::solve::{solve, solve_watched};

@@ -2,6 +2,7 @@
 
 use crate::best::{BestSearch, best_command, best_request};
 use crate::inspect::{inspect_command, inspect_request};
+use crate::pages::{NamesWish, page_command, page_request};
 use crate::parts::{PartSearch, parts_command, parts_request};
 use crate::reports::{CalendarWish, report_command, report_request};
 use crate::showing::{Showing, showing_of, with_showing};
@@ -54,6 +55,9 @@ pub enum Request<'a> {
         instance: &'a str,
         solution: &'a str,
         out: &'a str,
+        names: NamesWish<'a>,
+        proofs: Vec<&'a str>,
+        showing: Showing,
     },
     Check {
         instance: &'a str,
@@ -158,7 +162,8 @@ fn proof<'a>(alloc: Global) -> Arg<'a> {
     )
 }
 
-fn out<'a>(alloc: Global) -> Arg<'a> {
+/// Returns the argument of the file that is written.
+pub fn out<'a>(alloc: Global) -> Arg<'a> {
     file(
         alloc,
         "OUT",
@@ -172,15 +177,6 @@ fn validate_command<'a>(alloc: Global) -> Result<Command<'a>, AllocError> {
         .after_help("Example: tt validate week.ctt week.sol")
         .arg(instance(alloc))?
         .arg(solution(alloc))
-}
-
-fn page_command<'a>(alloc: Global) -> Result<Command<'a>, AllocError> {
-    Command::new(alloc, "page")
-        .about("Writes a page of HTML that shows the weeks of a solution, and what it costs where")
-        .after_help("Example: tt page week.ctt week.sol week.html")
-        .arg(instance(alloc))?
-        .arg(solution(alloc))?
-        .arg(out(alloc))
 }
 
 fn check_command<'a>(alloc: Global) -> Result<Command<'a>, AllocError> {
@@ -327,14 +323,6 @@ fn validate_request<'a>(found: &ArgMatches<'a>) -> Option<Request<'a>> {
     })
 }
 
-fn page_request<'a>(found: &ArgMatches<'a>) -> Option<Request<'a>> {
-    Some(Request::Page {
-        instance: found.get_str("INSTANCE")?,
-        solution: found.get_str("SOLUTION")?,
-        out: found.get_str("OUT")?,
-    })
-}
-
 fn check_request<'a>(found: &ArgMatches<'a>) -> Option<Request<'a>> {
     Some(Request::Check {
         instance: found.get_str("INSTANCE")?,
@@ -408,7 +396,7 @@ pub fn parse_arguments<'a>(
     Ok(match name {
         "validate" => validate_request(found),
         "inspect" => inspect_request(found),
-        "page" => page_request(found),
+        "page" => page_request(alloc, found)?,
         "check" => check_request(found),
         "bound" => bound_request(found),
         "sum" => sum_request(alloc, found)?,

@@ -2,7 +2,6 @@
 
 use crate::disk::read_file;
 use crate::folder_files::Folder;
-use crate::page_file::with_page;
 use crate::searches::saved_instance;
 use crate::showing::ticker_of;
 use std::io::Write;
@@ -11,6 +10,7 @@ use tt_app::{Answer, AppFault, BestAnswer, Input, Rounds, best_watched};
 use tt_app_arguments::{BestSearch, Showing};
 use tt_app_files::{Batch, Ready};
 use tt_app_watch::{Keeper, Ticker};
+use tt_page::STYLE;
 
 /// The name of the best timetable's file.
 const TABLE: &str = "best.sol";
@@ -33,36 +33,16 @@ fn name_of(proof: &[u8]) -> &'static str {
     }
 }
 
-/// Adds a timetable and its page to the new files.
-fn write_table<R: Files + Clock + AllocGlobal>(
+/// Adds a file of this name to the new files.
+fn write_file<R: Files + Clock + AllocGlobal>(
     rt: &R,
     folder: Folder<'_>,
     batch: Batch,
-    instance: &[u8],
-    table: &mut Ready<R::File>,
+    name: &str,
     text: &[u8],
 ) -> Result<Batch, AppFault> {
-    match folder.prepare(rt, PAGE) {
-        Ok(page) => {
-            let (_, batch) = with_page(rt, batch, page, instance, text)?;
-            Ok(batch.write(rt, table, text)?)
-        }
-        Err(fault) => {
-            batch.abandon(rt);
-            Err(fault)
-        }
-    }
-}
-
-/// Adds a proof to the new files.
-fn write_proof<R: Files + Clock + AllocGlobal>(
-    rt: &R,
-    folder: Folder<'_>,
-    batch: Batch,
-    proof: &[u8],
-) -> Result<Batch, AppFault> {
-    match folder.prepare(rt, name_of(proof)) {
-        Ok(mut ready) => Ok(batch.write(rt, &mut ready, proof)?),
+    match folder.prepare(rt, name) {
+        Ok(mut ready) => Ok(batch.write(rt, &mut ready, text)?),
         Err(fault) => {
             batch.abandon(rt);
             Err(fault)
@@ -74,17 +54,20 @@ fn write_proof<R: Files + Clock + AllocGlobal>(
 fn write_files<R: Files + Clock + AllocGlobal>(
     rt: &R,
     folder: Folder<'_>,
-    instance: &[u8],
     table: &mut Ready<R::File>,
     answer: &BestAnswer,
 ) -> Result<(), AppFault> {
     let batch = Batch::new(rt.alloc());
+    let batch = match &answer.page {
+        Some(text) => write_file(rt, folder, batch, PAGE, text)?,
+        None => batch,
+    };
     let mut batch = match &answer.table {
-        Some(text) => write_table(rt, folder, batch, instance, table, text)?,
+        Some(text) => batch.write(rt, table, text)?,
         None => batch,
     };
     for proof in &answer.proofs {
-        batch = write_proof(rt, folder, batch, proof)?;
+        batch = write_file(rt, folder, batch, name_of(proof), proof)?;
     }
     Ok(batch.put(rt)?)
 }
@@ -103,7 +86,7 @@ fn search_shown<R: Files + Clock + AllocGlobal, E: Write>(
         count: search.rounds,
         seed: search.seed,
     };
-    best_watched(rt.alloc(), instance, rounds, &mut keeper)
+    best_watched(rt.alloc(), instance, rounds, STYLE, &mut keeper)
 }
 
 /// Searches, and writes the results.
@@ -121,7 +104,7 @@ fn find_best<R: Files + Clock + AllocGlobal, E: Write>(
     let found = search_shown(rt, &mut ticker, instance, &mut table, search);
     ticker.clear();
     let found = found?;
-    write_files(rt, folder, instance, &mut table, &found)?;
+    write_files(rt, folder, &mut table, &found)?;
     let BestAnswer { status, out, .. } = found;
     Ok(Answer {
         status,

@@ -1,28 +1,64 @@
 //! The file of the command `page`.
 
 use crate::disk::read_file;
-use std::alloc::Global;
+use crate::showing::{Shown, clear, ticker_of};
+use crate::sums::proof_files;
+use std::alloc::{AllocError, Global};
+use std::cell::RefCell;
 use std::io::Write;
 use std::rt::{Clock, Files};
-use tt_app::{AppFault, Input, page};
+use tt_app::{AppFault, Input, PageNames, page, proved_page};
+use tt_app_arguments::{NamesWish, Showing};
 use tt_app_files::{Batch, Draft, Output, Place, Ready, finish};
 use tt_page::STYLE;
-use tt_text::Writing;
+use tt_text::{Sink, Writing};
+use tt_text_peek::Peek;
 
-/// Writes a page.
-fn write_page<F: Write>(
+/// The files of `page`, and the names of days and periods.
+#[derive(Clone, Copy)]
+pub struct PageFiles<'a> {
+    pub instance: &'a str,
+    pub solution: &'a str,
+    pub out: &'a str,
+    pub names: NamesWish<'a>,
+    pub proofs: &'a [&'a str],
+}
+
+/// The texts of the files of a page, and the names of days and periods.
+#[derive(Clone, Copy)]
+struct PageTexts<'a> {
+    instance: &'a [u8],
+    solution: &'a [u8],
+    names: PageNames<'a>,
+}
+
+/// Writes a page to a sink, with the bound of the proofs if there are any.
+fn fill_page<P: Peek, W: Sink>(
     alloc: Global,
-    instance: &[u8],
-    solution: &[u8],
-    file: &mut F,
+    texts: PageTexts<'_>,
+    proofs: &mut [P],
+    sink: &mut W,
 ) -> Result<u8, AppFault> {
-    let status = page(
-        alloc,
+    let PageTexts {
         instance,
         solution,
-        STYLE,
-        &mut Writing::new(&mut *file),
-    )?;
+        names,
+    } = texts;
+    if proofs.is_empty() {
+        page(alloc, instance, solution, names, STYLE, sink)
+    } else {
+        proved_page(alloc, instance, solution, names, proofs, STYLE, sink)
+    }
+}
+
+/// Writes a page.
+fn write_page<P: Peek, F: Write>(
+    alloc: Global,
+    texts: PageTexts<'_>,
+    proofs: &mut [P],
+    file: &mut F,
+) -> Result<u8, AppFault> {
+    let status = fill_page(alloc, texts, proofs, &mut Writing::new(&mut *file))?;
     match file.flush() {
         Ok(()) => Ok(status),
         Err(_) => Err(AppFault::CannotWrite),
@@ -30,14 +66,14 @@ fn write_page<F: Write>(
 }
 
 /// Writes a page to a new file next to its place.
-fn draft_page<R: Files + Clock + AllocGlobal>(
+fn draft_page<R: Files + Clock + AllocGlobal, P: Peek>(
     rt: &R,
-    instance: &[u8],
-    solution: &[u8],
+    texts: PageTexts<'_>,
+    proofs: &mut [P],
     place: &Place,
 ) -> Result<(u8, Draft), AppFault> {
     let (draft, mut file) = Draft::create(rt, place)?;
-    let written = match write_page(rt.alloc(), instance, solution, &mut file) {
+    let written = match write_page(rt.alloc(), texts, proofs, &mut file) {
         Ok(status) => finish(file).map(|()| status).map_err(AppFault::from),
         Err(fault) => Err(fault),
     };
@@ -50,45 +86,64 @@ fn draft_page<R: Files + Clock + AllocGlobal>(
     }
 }
 
-/// Adds a page to the new files of a batch, or writes it to a device or a pipe.
-pub fn with_page<R: Files + Clock + AllocGlobal>(
+/// Writes a page to its file, or to a device or a pipe.
+fn put_page<R: Files + Clock + AllocGlobal, P: Peek>(
     rt: &R,
-    batch: Batch,
     ready: Ready<R::File>,
-    instance: &[u8],
-    solution: &[u8],
-) -> Result<(u8, Batch), AppFault> {
-    let written = match ready {
+    texts: PageTexts<'_>,
+    proofs: &mut [P],
+) -> Result<u8, AppFault> {
+    match ready {
         Ready::Place(place) => {
-            draft_page(rt, instance, solution, &place).map(|(status, draft)| (status, Some(draft)))
+            let (status, draft) = draft_page(rt, texts, proofs, &place)?;
+            Batch::new(rt.alloc()).with(rt, draft)?.put(rt)?;
+            Ok(status)
         }
-        Ready::Stream(mut file) => {
-            write_page(rt.alloc(), instance, solution, &mut file).map(|status| (status, None))
-        }
-    };
-    match written {
-        Ok((status, Some(draft))) => Ok((status, batch.with(rt, draft)?)),
-        Ok((status, None)) => Ok((status, batch)),
-        Err(fault) => {
-            batch.abandon(rt);
-            Err(fault)
-        }
+        Ready::Stream(mut file) => write_page(rt.alloc(), texts, proofs, &mut file),
     }
 }
 
-/// Writes a page to its file, and returns the status.
-pub fn page_to<R: Files + Clock + AllocGlobal>(
+/// Writes a page to its file, and shows the progress of reading the proofs.
+fn write_shown<R: Files + Clock + AllocGlobal, E: Write>(
     rt: &R,
-    instance: &str,
-    solution: &str,
-    out: &str,
+    ready: Ready<R::File>,
+    texts: PageTexts<'_>,
+    proofs: &[&str],
+    shown: &Shown<'_, R, E>,
 ) -> Result<u8, AppFault> {
-    let out = Output::apart_from(rt, out, &[instance, solution])?;
-    let instance = read_file(rt, instance, Input::Instance)?;
-    let solution = read_file(rt, solution, Input::Solution)?;
+    let mut proofs = proof_files(rt, proofs, shown)?;
+    put_page(rt, ready, texts, &mut proofs)
+}
+
+/// Finds the output of a page; refuses a file that is read.
+fn find_output<R: Files + AllocGlobal>(rt: &R, files: PageFiles<'_>) -> Result<Output, AppFault> {
+    let mut inputs = Vec::from_slice(rt.alloc(), files.proofs)?;
+    inputs.push(files.instance).map_err(AllocError::from)?;
+    inputs.push(files.solution).map_err(AllocError::from)?;
+    Ok(Output::apart_from(rt, files.out, &inputs)?)
+}
+
+/// Writes a page to its file, and returns the status.
+pub fn page_to<R: Files + Clock + AllocGlobal, E: Write>(
+    rt: &R,
+    err: &mut E,
+    files: PageFiles<'_>,
+    showing: Showing,
+) -> Result<u8, AppFault> {
+    let out = find_output(rt, files)?;
+    let instance = read_file(rt, files.instance, Input::Instance)?;
+    let solution = read_file(rt, files.solution, Input::Solution)?;
     let ready = out.prepare(rt)?;
-    let batch = Batch::new(rt.alloc());
-    let (status, batch) = with_page(rt, batch, ready, &instance, &solution)?;
-    batch.put(rt)?;
-    Ok(status)
+    let texts = PageTexts {
+        instance: &instance,
+        solution: &solution,
+        names: PageNames {
+            days: files.names.days,
+            periods: files.names.periods,
+        },
+    };
+    let shown = RefCell::new(ticker_of(rt, err, "page", showing));
+    let written = write_shown(rt, ready, texts, files.proofs, &shown);
+    clear(&shown);
+    written
 }

@@ -3,7 +3,7 @@
 use crate::best_files::answer_best;
 use crate::exports::{answer_calendar, answer_table};
 use crate::inspecting::answer_inspect;
-use crate::page_file::page_to;
+use crate::page_file::{PageFiles, page_to};
 use crate::parts_files::{PartsPaths, answer_parts};
 use crate::requests::{
     answer_bound, answer_check, answer_stored, answer_upgrade, answer_validate, report_to,
@@ -57,7 +57,20 @@ fn run_request<R: Files + Clock + AllocGlobal, O: Write, E: Write>(
             instance,
             solution,
             out,
-        } => return print_status(page_to(rt, instance, solution, out), err),
+            names,
+            proofs,
+            showing,
+        } => {
+            let files = PageFiles {
+                instance,
+                solution,
+                out,
+                names: *names,
+                proofs,
+            };
+            let written = page_to(rt, err, files, *showing);
+            return print_status(written, err);
+        }
         Request::Report {
             instance,
             solution,

@@ -11,7 +11,8 @@ use tt_app::{Answer, AppFault, Input, check_sum, sum};
 use tt_app_arguments::Showing;
 use tt_text_peek::Peeked;
 
-fn proof_files<'r, 't, R: Files + Clock + AllocGlobal, E: Write>(
+/// Returns the files of proofs, each opened by its first read.
+pub fn proof_files<'r, 't, R: Files + Clock + AllocGlobal, E: Write>(
     rt: &'r R,
     paths: &[&'r str],
     shown: &'r Shown<'t, R, E>,

@@ -1,22 +1,18 @@
 -- The row of a course: it shows all that belongs to no single cell.
-use Rattle.std.specs.Prelude.{ℕ, ◌-◌, Bool, ◌&&◌, List, [], ◌∷◌, ◌++◌, length, flat_map, codes, if◌then◌else◌}
-use Rattle.std.specs.List.{list_any}
+use Rattle.std.specs.Prelude.{ℕ, ◌-◌, List, [], ◌∷◌, ◌++◌, length, flat_map, codes, if◌then◌else◌}
 use Rattle.tt_text.specs.Pieces.{Text, Number}
 use Rattle.tt_instance.specs.Problem.{Problem}
-use Rattle.tt_instance.specs.Cells.{all_courses, all_rooms, is_of, is_in}
+use Rattle.tt_instance.specs.Cells.{all_courses, all_rooms}
 use Rattle.tt_instance.specs.Courses.{lectures, min_days, students}
 use Rattle.tt_instance.specs.declared.cell.Cell.{Cell}
 use Rattle.tt_rules.specs.Hard.{entries_of, lectures_off}
 use Rattle.tt_rules.specs.Soft.{days_of, stability_cost}
-use Rattle.tt_page.specs.Shown.{shown}
-use Rattle.tt_page.specs.Markup.{markup, counted}
-use Rattle.tt_page.specs.Kinds.{course_name, teacher_of}
-use Rattle.tt_page.specs.Lectures.{week_link}
-use Rattle.tt_page.specs.declared.kind.Kind.TheVariants.{Room, Teacher}
-
--- Whether a course is taught in a room.
-abbrev pub is_taught_in : List Cell → ℕ → ℕ → Bool
-is_taught_in t c r = list_any (λ e. is_of c e && is_in r e) t
+use Rattle.tt_page_text.specs.Shown.{shown}
+use Rattle.tt_page_text.specs.Markup.{markup, counted}
+use Rattle.tt_page_plan.specs.Kinds.{course_name, teacher_of}
+use Rattle.tt_page_plan.specs.Counts.{is_taught_in}
+use Rattle.tt_page_plan.specs.Links.{week_link}
+use Rattle.tt_page_plan.specs.declared.kind.Kind.TheVariants.{Room, Teacher}
 
 -- A room, if the course is taught in it.
 unfoldable pub room_text : Problem → List Cell → ℕ → ℕ → List ℕ

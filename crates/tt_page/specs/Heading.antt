@@ -1,20 +1,14 @@
 -- The head of a page, and its header: the instance's name, whether the timetable breaks a hard rule, its cost, and the sizes.
-use Rattle.std.specs.Prelude.{ℕ, ◌==◌, List, [], ◌∷◌, ◌++◌, length, flat_map, codes, if◌then◌else◌}
+use Rattle.std.specs.Prelude.{ℕ, ◌-◌, ◌==◌, List, [], ◌∷◌, ◌++◌, length, codes, Option, Some, None, if◌then◌else◌}
 use Rattle.tt_text.specs.Pieces.{Text, Number}
 use Rattle.tt_instance.specs.Problem.{Problem}
 use Rattle.tt_instance.specs.Courses.{teachers}
 use Rattle.tt_instance.specs.declared.cell.Cell.{Cell}
 use Rattle.tt_rules.specs.Score.{hard, cost}
-use Rattle.tt_page.specs.Shown.{shown}
-use Rattle.tt_page.specs.Markup.{markup}
-
--- A space and a token of the name.
-unfoldable pub next_shown : List ℕ → List ℕ
-next_shown token = 32 ∷ shown token
-
--- The name of the instance, each of its tokens after a space.
-unfoldable pub name_text : Problem → List ℕ
-name_text p = flat_map next_shown p.name
+use Rattle.tt_leaf_rules.specs.declared.leaf.Bound.{Bound}
+use Rattle.tt_leaf_rules.specs.declared.leaf.Bound.TheVariants.{AtLeast, Nothing}
+use Rattle.tt_page_text.specs.Markup.{markup}
+use Rattle.tt_page_plan.specs.Names.{name_text}
 
 -- The head, with the page's style.
 unfoldable pub before_title : List ℕ
@@ -23,15 +17,37 @@ before_title = codes "<!DOCTYPE html>\n<html lang=\"en\">\n<head>\n<meta charset
 unfoldable pub head_text : Problem → List ℕ → List ℕ
 head_text p style = before_title ++ name_text p ++ codes "</title>\n<style>\n" ++ style ++ codes "</style>\n</head>\n<body>\n"
 
--- Links to the parts of the page.
+-- A link past the counts, and links to the parts of the page.
 unfoldable pub contents_text : List ℕ
-contents_text = codes "<nav aria-label=\"Contents\">\n<ul>\n<li><a href=\"#summary\">Summary</a></li>\n<li><a href=\"#rooms\">Rooms</a></li>\n<li><a href=\"#teachers\">Teachers</a></li>\n<li><a href=\"#curricula\">Curricula</a></li>\n<li><a href=\"#courses\">Courses</a></li>\n</ul>\n</nav>\n<main>\n<header id=\"summary\">\n<h1>Timetable<b>"
+contents_text = codes "<a class=\"skip\" href=\"#rooms\">Skip to the weeks</a>\n<nav aria-label=\"Contents\">\n<ul>\n<li><a href=\"#summary\">Summary</a></li>\n<li><a href=\"#rooms\">Rooms</a></li>\n<li><a href=\"#teachers\">Teachers</a></li>\n<li><a href=\"#curricula\">Curricula</a></li>\n<li><a href=\"#daily\">Days</a></li>\n<li><a href=\"#courses\">Courses</a></li>\n</ul>\n</nav>\n<main>\n<header id=\"summary\">\n<h1>Timetable<b>"
 
 unfoldable pub verdict_text : ℕ → ℕ → List ℕ
 verdict_text h c =
     if h == 0
     then markup (Text (codes "</b></h1>\n<p class=\"verdict\"><b>feasible</b> cost ") ∷ Number c ∷ Text (codes "</p>\n") ∷ [])
     else markup (Text (codes "</b></h1>\n<p class=\"verdict\"><strong>not feasible</strong> hard ") ∷ Number h ∷ Text (codes ", cost ") ∷ Number c ∷ Text (codes "</p>\n") ∷ [])
+
+-- What a proved bound says about a timetable that breaks hard rules this often and has this cost.
+unfoldable pub best_text : List ℕ
+best_text = codes "<p class=\"proved\">proved best</p>\n"
+
+unfoldable pub gap_text : ℕ → ℕ → List ℕ
+gap_text b gap = markup (
+    Text (codes "<p class=\"proved\">no timetable costs less than ") ∷ Number b ∷ Text (codes " (proved), gap ") ∷ Number gap ∷ Text (codes "</p>\n") ∷ [])
+
+unfoldable pub least_text : ℕ → List ℕ
+least_text b = markup (Text (codes "<p class=\"proved\">no feasible timetable costs less than ") ∷ Number b ∷ Text (codes " (proved)</p>\n") ∷ [])
+
+unfoldable pub nothing_text : List ℕ
+nothing_text = codes "<p class=\"proved\">no feasible timetable exists (proved)</p>\n"
+
+abbrev pub bound_text : ℕ → ℕ → ℕ → List ℕ
+bound_text h c b = if h == 0 then (if c == b then best_text else gap_text b (c - b)) else least_text b
+
+unfoldable pub proved_text : Option Bound → ℕ → ℕ → List ℕ
+proved_text None h c = []
+proved_text (Some Nothing) h c = nothing_text
+proved_text (Some (AtLeast b)) h c = bound_text h c b
 
 unfoldable pub sizes_text : Problem → List Cell → List ℕ
 sizes_text p t = markup (
@@ -40,9 +56,10 @@ sizes_text p t = markup (
     ∷ Text (codes ", curricula ") ∷ Number (length p.curricula) ∷ Text (codes ", days ") ∷ Number p.days
     ∷ Text (codes ", periods a day ") ∷ Number p.periods ∷ Text (codes "</p>\n</header>\n<div class=\"tables\">\n") ∷ [])
 
-unfoldable pub header_text : Problem → List Cell → List ℕ
-header_text p t = contents_text ++ name_text p ++ verdict_text (hard p t) (cost p t) ++ sizes_text p t
+unfoldable pub header_text : Problem → List Cell → Option Bound → List ℕ
+header_text p t proved =
+    contents_text ++ name_text p ++ verdict_text (hard p t) (cost p t) ++ proved_text proved (hard p t) (cost p t) ++ sizes_text p t
 
--- The legend of the marks in the grids.
+-- The legend: the marks in the grids, the rules that are not shown, and how the files count.
 unfoldable pub legend_text : List ℕ
-legend_text = codes "</div>\n<p class=\"legend\">In the grids: <strong>broken</strong> breaks a hard rule, <mark>costs</mark> costs, <span class=\"barred\">not c</span> a period that is unavailable for course c. Days and periods count from 0, as in the files.</p>\n"
+legend_text = codes "</div>\n<p class=\"legend\">In the grids: <strong>broken</strong> breaks a hard rule, <mark>costs</mark> costs, <span class=\"barred\">not c</span> a period that is unavailable for course c. A rule that is not in the tables counts 0. The files count days and periods from 0.</p>\n"

@@ -1,14 +1,3 @@
 pub mod Courses
-pub mod Grids
 pub mod Heading
-pub mod Items
-pub mod Kinds
-pub mod Lectures
-pub mod Lists
-pub mod Marks
-pub mod Markup
 pub mod Pages
-pub mod Planned
-pub mod Plans
-pub mod Rules
-pub mod Shown

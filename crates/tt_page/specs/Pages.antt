@@ -1,21 +1,25 @@
 -- The text of a page.
-use Rattle.std.specs.Prelude.{ℕ, List, ◌++◌, codes}
+use Rattle.std.specs.Prelude.{ℕ, List, ◌++◌, codes, Option}
 use Rattle.tt_instance.specs.Problem.{Problem}
 use Rattle.tt_instance.specs.declared.cell.Cell.{Cell}
+use Rattle.tt_leaf_rules.specs.declared.leaf.Bound.{Bound}
+use Rattle.tt_page_text.specs.Labelled.{Labelled}
 use Rattle.tt_page.specs.Heading.{head_text, header_text, legend_text}
-use Rattle.tt_page.specs.Lists.{hard_table, cost_table, lists_text}
-use Rattle.tt_page.specs.Grids.{section_text}
+use Rattle.tt_page_lists.specs.Lists.{hard_table, cost_table, lists_text}
+use Rattle.tt_page_weeks.specs.Grids.{section_text}
+use Rattle.tt_page_days.specs.Days.{days_text}
 use Rattle.tt_page.specs.Courses.{courses_text}
-use Rattle.tt_page.specs.declared.kind.Kind.TheVariants.{Room, Teacher, Curriculum}
+use Rattle.tt_page_plan.specs.declared.kind.Kind.TheVariants.{Room, Teacher, Curriculum}
 
 -- The counts of the timetable, and a list for each count above 0.
-unfoldable pub counts_text : Problem → List Cell → List ℕ
-counts_text p t = header_text p t ++ hard_table p t ++ cost_table p t ++ legend_text ++ lists_text p t
+unfoldable pub counts_text : Problem → List Cell → Labelled → Option Bound → List ℕ
+counts_text p t labels proved = header_text p t proved ++ hard_table p t ++ cost_table p t ++ legend_text ++ lists_text p t labels
 
--- A grid for each room, teacher and curriculum, and a row for each course.
-unfoldable pub weeks_text : Problem → List Cell → List ℕ
-weeks_text p t = section_text p t Room ++ section_text p t Teacher ++ section_text p t Curriculum ++ courses_text p t
+-- A grid for each room, teacher and curriculum, a table for each day, and a row for each course.
+unfoldable pub weeks_text : Problem → List Cell → Labelled → List ℕ
+weeks_text p t labels =
+    section_text p t labels Room ++ section_text p t labels Teacher ++ section_text p t labels Curriculum ++ days_text p t labels ++ courses_text p t
 
--- One page of HTML, with its style in it.
-unfoldable pub page_text : Problem → List Cell → List ℕ → List ℕ
-page_text p t style = head_text p style ++ counts_text p t ++ weeks_text p t ++ codes "</main>\n</body>\n</html>\n"
+-- One page of HTML, with its style in it: for a timetable, names of days and periods, and what was proved about its cost.
+unfoldable pub page_text : Problem → List Cell → Labelled → Option Bound → List ℕ → List ℕ
+page_text p t labels proved style = head_text p style ++ counts_text p t labels proved ++ weeks_text p t labels ++ codes "</main>\n</body>\n</html>\n"

@@ -2,34 +2,15 @@
 
 ghost use Rattle.std.specs.Prelude.{◌≡◌, ◌++◌, OnOk};
 ghost use Rattle.tt_rules.specs.Score.{IsScore};
-ghost use Rattle.tt_page.specs.Heading.{name_text, next_shown, head_text, contents_text, verdict_text, sizes_text, header_text, legend_text};
+ghost use Rattle.tt_page.specs.Heading.{head_text, contents_text, verdict_text, best_text, gap_text, least_text, nothing_text, bound_text, proved_text, sizes_text, header_text, legend_text};
 
-use crate::part::{Part, put};
-use crate::plan::Plan;
-use crate::shown::put_shown;
 use std::alloc::AllocError;
 use tt_instance::Instance;
+use tt_leaf_rules::Bound;
+use tt_page_plan::{Plan, put_name};
+use tt_page_text::{Part, put};
 use tt_rules::Score;
 use tt_text::put_token;
-
-#[tactic(auto, unfolding(crate::specs::Heading::next_shown))]
-fn put_next_shown(out: &mut Vec<u8>, token: &[u8]) -> Result<(), AllocError>
-    ensures { OnOk result (out.new.items ≡ out.old.items ++ next_shown token.now) }
-{
-    put_token(out, b" ")?;
-    put_shown(out, token)
-}
-
-/// Appends the name of the instance, each of its tokens after a space.
-#[tactic(auto, using(crate::proofs::Growing::taken_further), unfolding(crate::specs::Heading::name_text))]
-fn put_name(out: &mut Vec<u8>, instance: &Instance<'_>) -> Result<(), AllocError>
-    ensures { OnOk result (out.new.items ≡ out.old.items ++ name_text instance.now) }
-{
-    for index in 0..instance.name_len() {
-        put_next_shown(out, instance.name_token(index))?;
-    }
-    Ok(())
-}
 
 /// The text before the title.
 const BEFORE_TITLE: &str =
@@ -47,9 +28,9 @@ pub fn put_head(out: &mut Vec<u8>, instance: &Instance<'_>, style: &str) -> Resu
     put_token(out, b"</style>\n</head>\n<body>\n")
 }
 
-/// The links to the parts of the page.
+/// A link past the counts, and the links to the parts of the page.
 const CONTENTS: &str =
-    "<nav aria-label=\"Contents\">\n<ul>\n<li><a href=\"#summary\">Summary</a></li>\n<li><a href=\"#rooms\">Rooms</a></li>\n<li><a href=\"#teachers\">Teachers</a></li>\n<li><a href=\"#curricula\">Curricula</a></li>\n<li><a href=\"#courses\">Courses</a></li>\n</ul>\n</nav>\n<main>\n<header id=\"summary\">\n<h1>Timetable<b>";
+    "<a class=\"skip\" href=\"#rooms\">Skip to the weeks</a>\n<nav aria-label=\"Contents\">\n<ul>\n<li><a href=\"#summary\">Summary</a></li>\n<li><a href=\"#rooms\">Rooms</a></li>\n<li><a href=\"#teachers\">Teachers</a></li>\n<li><a href=\"#curricula\">Curricula</a></li>\n<li><a href=\"#daily\">Days</a></li>\n<li><a href=\"#courses\">Courses</a></li>\n</ul>\n</nav>\n<main>\n<header id=\"summary\">\n<h1>Timetable<b>";
 
 #[tactic(auto, unfolding(crate::specs::Heading::contents_text))]
 fn put_contents(out: &mut Vec<u8>) -> Result<(), AllocError>
@@ -83,6 +64,70 @@ fn put_verdict(out: &mut Vec<u8>, hard: u64, cost: u64) -> Result<(), AllocError
             Part::Text("</p>\n"),
         ],
     )
+}
+
+#[tactic(auto, unfolding(crate::specs::Heading::gap_text))]
+fn put_gap(out: &mut Vec<u8>, bound: u64, gap: u64) -> Result<(), AllocError>
+    ensures { OnOk result (out.new.items ≡ out.old.items ++ gap_text bound gap) }
+{
+    put(
+        out,
+        &[
+            Part::Text("<p class=\"proved\">no timetable costs less than "),
+            Part::Count(bound),
+            Part::Text(" (proved), gap "),
+            Part::Count(gap),
+            Part::Text("</p>\n"),
+        ],
+    )
+}
+
+#[tactic(auto, unfolding(crate::specs::Heading::least_text))]
+fn put_least(out: &mut Vec<u8>, bound: u64) -> Result<(), AllocError>
+    ensures { OnOk result (out.new.items ≡ out.old.items ++ least_text bound) }
+{
+    put(
+        out,
+        &[
+            Part::Text("<p class=\"proved\">no feasible timetable costs less than "),
+            Part::Count(bound),
+            Part::Text(" (proved)</p>\n"),
+        ],
+    )
+}
+
+/// Appends what a proved bound on costs says about the timetable.
+#[tactic(auto, unfolding(crate::specs::Heading::best_text))]
+fn put_bound(out: &mut Vec<u8>, hard: u64, cost: u64, bound: u64) -> Result<(), AllocError>
+    ensures { OnOk result (out.new.items ≡ out.old.items ++ bound_text hard cost bound) }
+{
+    if hard != 0 {
+        put_least(out, bound)
+    } else if cost == bound {
+        put_token(out, b"<p class=\"proved\">proved best</p>\n")
+    } else {
+        put_gap(out, bound, cost.saturating_sub(bound))
+    }
+}
+
+/// Appends what was proved about the timetable.
+#[tactic(auto, unfolding(crate::specs::Heading::proved_text, crate::specs::Heading::nothing_text))]
+fn put_proved(
+    out: &mut Vec<u8>,
+    proved: Option<Bound>,
+    hard: u64,
+    cost: u64,
+) -> Result<(), AllocError>
+    ensures { OnOk result (out.new.items ≡ out.old.items ++ proved_text proved hard cost) }
+{
+    match proved {
+        None => Ok(()),
+        Some(Bound::Nothing) => put_token(
+            out,
+            b"<p class=\"proved\">no feasible timetable exists (proved)</p>\n",
+        ),
+        Some(Bound::AtLeast(bound)) => put_bound(out, hard, cost, bound),
+    }
 }
 
 /// Appends the numbers of all things.
@@ -120,22 +165,31 @@ fn put_sizes(out: &mut Vec<u8>, plan: &Plan<'_, '_>) -> Result<(), AllocError>
     )
 }
 
-/// Appends the header: name, verdict, cost and sizes.
+/// Appends the header: name, verdict, what was proved, and sizes.
 #[tactic(auto, unfolding(crate::specs::Heading::header_text))]
-pub fn put_header(out: &mut Vec<u8>, plan: &Plan<'_, '_>, score: &Score) -> Result<(), AllocError>
+pub fn put_header(
+    out: &mut Vec<u8>,
+    plan: &Plan<'_, '_>,
+    proved: Option<Bound>,
+    score: &Score,
+) -> Result<(), AllocError>
     requires { IsScore plan.now.problem plan.now.table score.now }
-    ensures { OnOk result (out.new.items ≡ out.old.items ++ header_text plan.now.problem plan.now.table) }
+    ensures { OnOk result (out.new.items ≡ out.old.items ++ header_text plan.now.problem plan.now.table proved) }
 {
+    let hard = score.hard();
+    let cost = score.cost();
     put_contents(out)?;
     put_name(out, plan.instance())?;
-    put_verdict(out, score.hard(), score.cost())?;
+    put_verdict(out, hard, cost)?;
+    put_proved(out, proved, hard, cost)?;
     put_sizes(out, plan)
 }
 
-/// The legend of the marks in the grids.
+/// The legend: the marks in the grids, the rules that are not shown, and how the files count.
 const LEGEND: &str =
-    "</div>\n<p class=\"legend\">In the grids: <strong>broken</strong> breaks a hard rule, <mark>costs</mark> costs, <span class=\"barred\">not c</span> a period that is unavailable for course c. Days and periods count from 0, as in the files.</p>\n";
+    "</div>\n<p class=\"legend\">In the grids: <strong>broken</strong> breaks a hard rule, <mark>costs</mark> costs, <span class=\"barred\">not c</span> a period that is unavailable for course c. A rule that is not in the tables counts 0. The files count days and periods from 0.</p>\n";
 
+/// Appends the legend.
 #[tactic(auto, unfolding(crate::specs::Heading::legend_text))]
 pub fn put_legend(out: &mut Vec<u8>) -> Result<(), AllocError>
     ensures { OnOk result (out.new.items ≡ out.old.items ++ legend_text) }

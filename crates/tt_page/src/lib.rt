@@ -2,21 +2,10 @@
 #![tactic(auto)]
 
 mod courses;
-mod grids;
-mod groups;
 mod heading;
-mod items;
-mod kind;
-mod lectures;
-mod lists;
-mod marks;
 mod pages;
-mod part;
-mod plan;
-mod rule;
-mod shown;
 mod style;
 
-pub use pages::page;
-pub use shown::put_shown;
+pub use pages::{page, text_of};
 pub use style::STYLE;
+pub use tt_page_text::{Labels, LabelsFault, put_shown};

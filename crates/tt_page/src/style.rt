@@ -14,7 +14,7 @@ pub const STYLE: &str = r#":root {
   }
 }
 * { box-sizing: border-box; }
-html { scroll-padding-top: 3.5rem; -webkit-text-size-adjust: 100%; }
+html { scroll-padding-top: 3.5rem; }
 body { margin: 0; background: var(--ground); color: var(--ink); font: .9375rem/1.45 system-ui, -apple-system, "Segoe UI", Roboto, "Liberation Sans", Arial, sans-serif; }
 a { color: var(--link); text-decoration: none; unicode-bidi: isolate; }
 a:hover, a:focus { text-decoration: underline; }
@@ -24,6 +24,8 @@ ul { list-style: none; margin: 0; padding: 0; }
 table { border-collapse: collapse; font-variant-numeric: tabular-nums; }
 th, td { text-align: left; vertical-align: top; }
 
+.skip { position: absolute; left: -100rem; top: .5rem; z-index: 4; padding: .5rem 1rem; background: var(--paper); border: 2px solid var(--link); }
+.skip:focus { left: .5rem; }
 nav { position: sticky; top: 0; z-index: 3; background: var(--paper); border-bottom: 1px solid var(--line); overflow-x: auto; }
 nav ul { display: flex; gap: 1.4rem; max-width: 92rem; margin: 0 auto; padding: 0 1.25rem; }
 nav a { display: block; padding: .65rem 0; font-weight: 600; }
@@ -33,12 +35,16 @@ h1 { margin: 0; font-size: 1.7rem; line-height: 1.2; font-weight: 400; color: va
 h1 b { color: var(--ink); font-weight: 650; }
 h2 { display: inline; font-size: 1.25rem; font-weight: 650; }
 h2 small { font-size: 1rem; font-weight: 400; color: var(--soft); }
+h3 { margin: 0 0 .3rem; font-size: .9rem; font-weight: 400; color: var(--soft); overflow-wrap: anywhere; }
+h3 b { color: var(--ink); font-size: 1.05rem; font-weight: 650; }
+.paper, .when { display: none; }
 .broken h2, .costs h2 { font-size: 1rem; font-weight: 600; }
 .verdict { margin: .5rem 0 .25rem; font-size: 1.15rem; }
 .verdict b { color: var(--goodink); }
 .verdict b::before { content: "\2713\a0"; }
 .verdict strong { font-size: 1rem; }
 h2 strong, h2 mark { font-size: .9rem; }
+.proved { margin: 0 0 .25rem; color: var(--goodink); font-weight: 650; }
 .size { margin: 0; color: var(--soft); }
 
 strong, mark { display: inline-block; padding: 0 .35em; font-size: .75rem; line-height: 1.35; }
@@ -55,15 +61,17 @@ mark::before { content: "+\a0"; }
 .counts th { border-top: 1px solid var(--line); }
 .counts td:nth-child(2) { text-align: right; font-weight: 650; }
 .counts td:last-child { color: var(--soft); font-size: .87rem; width: 100%; }
+.counts .none { display: none; }
 .counts tfoot th, .counts tfoot td { border-top: 2px solid var(--soft); }
 .counts tfoot th { font-weight: 650; }
 
 .broken, .costs { background: var(--paper); border: 1px solid var(--line); border-left: .35rem solid var(--badline); margin: .6rem 0; }
 .costs { border-left: .35rem dashed var(--costline); }
 summary { cursor: pointer; padding: .4rem .75rem; }
-.broken ul, .costs ul { display: grid; grid-template-columns: repeat(auto-fill, minmax(min(100%, 22rem), 1fr)); gap: .1rem 1.5rem; padding: .1rem .75rem .6rem; max-height: 20rem; overflow-y: auto; font-size: .9rem; }
-.broken li, .costs li { padding-left: 2.4rem; text-indent: -2.4rem; overflow-wrap: anywhere; }
-.broken li b, .costs li b { display: inline-block; min-width: 2rem; padding-right: .4rem; text-align: right; text-indent: 0; font-variant-numeric: tabular-nums; }
+.broken > ul, .costs > ul { display: grid; grid-template-columns: repeat(auto-fill, minmax(min(100%, 24rem), 1fr)); gap: .25rem 1.5rem; align-items: start; padding: .1rem .75rem .6rem; font-size: .9rem; }
+.broken > ul > li, .costs > ul > li { padding-left: 2.9rem; text-indent: -2.9rem; overflow-wrap: anywhere; }
+.broken li b, .costs li b { display: inline-block; min-width: 2.5rem; padding-right: .4rem; text-align: right; text-indent: 0; font-variant-numeric: tabular-nums; }
+li li { text-indent: 0; color: var(--soft); font-size: .87rem; }
 .legend { color: var(--soft); font-size: .87rem; margin: 1rem 0; }
 
 main > details:not([class]) { margin-top: 2.25rem; border-top: 2px solid var(--line); }
@@ -76,13 +84,11 @@ main > details:not([class]) > summary { padding: .7rem 0; }
 .grid, .list { overflow-x: auto; position: relative; min-width: 0; }
 .grid table, .list table { min-width: 100%; background: var(--paper); border: 1px solid var(--line); }
 .grid table { border-collapse: separate; border-spacing: 0; border-width: 0 0 1px 1px; }
-.grid caption { text-align: left; color: var(--soft); padding: 0 0 .3rem; font-size: .9rem; overflow-wrap: anywhere; }
-.grid caption b { color: var(--ink); font-size: 1.05rem; }
 .grid th, .grid td { overflow-wrap: anywhere; }
 .grid th { font-size: .78rem; font-weight: 500; color: var(--soft); background: var(--paper); padding: .25rem .4rem; }
 .grid th, .grid td { border: solid var(--line); border-width: 1px 1px 0 0; }
 .grid thead th { overflow-wrap: normal; }
-.grid tbody th { position: sticky; left: 0; z-index: 1; text-align: center; width: 3.4rem; }
+.grid tbody th { position: sticky; left: 0; z-index: 1; text-align: center; min-width: 3.4rem; }
 .grid td { min-width: 6.7rem; height: 2.9rem; padding: 2px; }
 .grid td { scroll-margin: 12rem 4.5rem 2rem; }
 .lecture { contain: inline-size; padding: .15rem .35rem .2rem; margin-bottom: 2px; background: var(--tile); border: 1px solid transparent; font-size: .78rem; line-height: 1.3; }
@@ -104,28 +110,52 @@ td:target, .grid:target, tr:target { outline: 3px solid var(--link); outline-off
 .list tbody th { font-weight: 650; }
 .list td:last-child { width: 100%; }
 
-@media (max-width: 40rem) {
+@page { margin: 12mm; }
+@media screen and (max-width: 40rem) {
   main { padding: 1rem .75rem 3rem; }
   nav ul { gap: .8rem; padding: 0 .75rem; font-size: .85rem; }
   .counts th { white-space: normal; }
+  .grid { flex: 1 1 100%; }
+  .grid:not(.day) table { display: block; border: 0; }
+  .grid:not(.day) thead, .grid:not(.day) tbody th { display: none; }
+  .grid:not(.day) tbody { display: flex; flex-direction: column; }
+  .grid:not(.day) tr { display: contents; }
+  .grid:not(.day) td { display: block; order: 15; height: auto; border-width: 1px; }
+  .grid:not(.day) td:not(:has(div)) { display: none; }
+  .grid:not(.day) td:nth-child(2) { order: 1; }
+  .grid:not(.day) td:nth-child(3) { order: 2; }
+  .grid:not(.day) td:nth-child(4) { order: 3; }
+  .grid:not(.day) td:nth-child(5) { order: 4; }
+  .grid:not(.day) td:nth-child(6) { order: 5; }
+  .grid:not(.day) td:nth-child(7) { order: 6; }
+  .grid:not(.day) td:nth-child(8) { order: 7; }
+  .grid:not(.day) td:nth-child(9) { order: 8; }
+  .grid:not(.day) td:nth-child(10) { order: 9; }
+  .grid:not(.day) td:nth-child(11) { order: 10; }
+  .grid:not(.day) td:nth-child(12) { order: 11; }
+  .grid:not(.day) td:nth-child(13) { order: 12; }
+  .grid:not(.day) td:nth-child(14) { order: 13; }
+  .grid:not(.day) td:nth-child(15) { order: 14; }
+  .grid:not(.day) .when { display: block; color: var(--soft); font-weight: 600; }
 }
 @media print {
   :root { --ground: #fff; --paper: #fff; --ink: #000; --soft: #333; --line: #888; --tile: #fff; --link: #000; --costink: #000; --costfill: #fff; --costline: #000; --badink: #000; --badfill: #000; --badtint: #fff; --badline: #000; --hatch: #aaa; --goodink: #000; }
-  @page { margin: 12mm; }
   html { font-size: 75%; }
-  nav, .index { display: none; }
+  nav, .skip, .index { display: none; }
   main { max-width: none; padding: 0 2px; }
   strong { background: none; border: 2px solid #000; }
+  .paper { display: inline; }
   .grids { display: block; }
   .grids::after { content: none; }
-  .grid { break-inside: avoid; overflow: visible; margin-bottom: 8mm; }
+  .grid { break-before: page; overflow: visible; margin-bottom: 8mm; }
+  .grid:first-child { break-before: auto; }
   .list { overflow: visible; }
-  .broken ul, .costs ul { max-height: none; overflow: visible; grid-template-columns: repeat(auto-fill, minmax(17rem, 1fr)); }
+  .broken > ul, .costs > ul { grid-template-columns: repeat(auto-fill, minmax(17rem, 1fr)); }
   .tables { grid-template-columns: 1fr 1fr; }
   tr, li { break-inside: avoid; }
   main > details:not([class]) { break-before: page; border-top: 0; margin-top: 0; }
-  summary { break-after: avoid; }
+  summary, h3 { break-after: avoid; }
   .lecture { border: 1px solid #888; }
-  td:has(.barred) { print-color-adjust: exact; -webkit-print-color-adjust: exact; }
+  td:has(.barred) { print-color-adjust: exact; }
 }
 "#;

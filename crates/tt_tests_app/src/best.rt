@@ -26,10 +26,22 @@ fn a_best_timetable_with_its_proof(rt: HostRuntime) -> Result<(), Fail> {
     ];
     let sum = run_on(rt.alloc(), &words, &memory)?;
     assert_eq!(rt; sum.answer(), (0, "yes cost 5 bound 5 optimal\n", ""));
-    let words = ["page", "a.ctt", "found/best.sol", "a.html"];
+    let words = [
+        "page",
+        "a.ctt",
+        "found/best.sol",
+        "a.html",
+        "--proof",
+        "found/tree.proof",
+    ];
     let page = run_on(rt.alloc(), &words, &memory)?;
     assert_eq!(rt; page.status, 0);
-    assert_eq!(rt; memory.text("found/page.html")?, memory.text("a.html")?);
+    let best = memory.text("found/page.html")?;
+    assert!(rt;
+        best.as_deref()
+            .is_some_and(|text| text.contains("proved best"))
+    );
+    assert_eq!(rt; best, memory.text("a.html")?);
     Ok(())
 }
 

@@ -143,6 +143,7 @@ fn outputs_are_apart(rt: HostRuntime) -> Result<(), Fail> {
         ["improve", "a.ctt", "a.sol", "a.sol"].as_slice(),
         ["page", "a.ctt", "a.sol", "a.ctt"].as_slice(),
         ["page", "a.ctt", "a.sol", "a.sol"].as_slice(),
+        ["page", "a.ctt", "a.sol", "a.proof", "--proof", "a.proof"].as_slice(),
         ["upgrade", "a.ctt", "a.proof", "a.ctt"].as_slice(),
         ["upgrade", "a.ctt", "a.proof", "a.proof"].as_slice(),
         ["solve", "a.ctt", "a.ctt", "b.proof"].as_slice(),

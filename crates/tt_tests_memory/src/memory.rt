@@ -3,7 +3,7 @@
 
 use std::alloc::{AllocError, Global};
 use std::test::Fail;
-use tt_app::{Answer, check, improve, page, report, solve, upgrade, validate};
+use tt_app::{Answer, PageNames, check, improve, page, report, solve, upgrade, validate};
 use tt_facts::TrailPath;
 use tt_facts_path::{Pattern, PlainPath, Who};
 use tt_instance::{Instance, read_instance};
@@ -310,10 +310,15 @@ fn the_command_solve(rt: HostRuntime) -> Result<(), Fail> {
 fn the_command_page(rt: HostRuntime) -> Result<(), Fail> {
     let mut text = Vec::with_capacity(rt.alloc(), 20000)?;
     println!(rt; "{MARK}")?;
+    let names = PageNames {
+        days: Some("Mon"),
+        periods: Some("8:00,9:00,10:00"),
+    };
     let status = page(
         rt.alloc(),
         MINI.as_bytes(),
         MINI_SOLUTION.as_bytes(),
+        names,
         "",
         &mut Writing::new(&mut text),
     );

@@ -3,12 +3,18 @@
 use crate::reports::Narrow;
 use std::alloc::Global;
 use std::test::Fail;
-use tt_app::{AppFault, page};
+use tt_app::{AppFault, PageNames, page};
 use tt_page::put_shown;
 use tt_tests_files::{MemoryFiles, Refusal};
 use tt_tests_runs::{Outcome, run_on};
-use tt_tests_samples::{MINI, MINI_SOLUTION, edited};
+use tt_tests_samples::{GAP, GAP_PROOF, MINI, MINI_SOLUTION, edited};
 use tt_text::{Sink, Writing};
+
+/// No names.
+const UNNAMED: PageNames<'static> = PageNames {
+    days: None,
+    periods: None,
+};
 
 /// Both courses of Mini in one period, and one of them again in another.
 const BROKEN: &str = "a R 0 0 b R 0 0 a R 0 2";
@@ -57,10 +63,10 @@ fn a_week_with_its_costs(rt: HostRuntime) -> Result<(), Fail> {
         &text,
         &[
             "<p class=\"verdict\"><b>feasible</b> cost 5</p>\n",
-            "<td id=\"room0-0-0\">\n<div class=\"lecture\"><a class=\"course\" href=\"#course0\">a</a> <a href=\"#teacher0\">t1</a></div>\n</td>\n</tr>\n",
+            "<td id=\"room0-0-0\">\n<div class=\"lecture\"><span class=\"when\">Day 1, period 1</span> <a class=\"course\" href=\"#course0\">a</a> <a href=\"#teacher0\">t1</a></div>\n</td>\n</tr>\n",
             "<a class=\"course\" href=\"#course1\">b</a> <a href=\"#room0\">R</a> <a href=\"#teacher1\">t2</a> <mark>isolated</mark> <mark>no seat: 1</mark></div>\n",
-            "<li><b>2</b> <a href=\"#curriculum0-0-2\">b</a> day 0 period 2, in <a href=\"#curriculum0\">q</a></li>\n",
-            "<li><b>1</b> <a href=\"#room0-0-2\">b</a> day 0 period 2, in <a href=\"#room0\">R</a> 12 on 11 seats</li>\n",
+            "<li style=\"order:-4\"><b>4</b> <a href=\"#curriculum0\">q</a>\n<ul>\n<li><a href=\"#curriculum0-0-0\">Day 1, period 1</a>, <a href=\"#course0\">a</a>, <a href=\"#teacher0\">t1</a>, in <a href=\"#room0\">R</a></li>\n",
+            "<li style=\"order:-1\"><b>1</b> <a href=\"#course1\">b</a>, <a href=\"#teacher1\">t2</a>, 12 students\n<ul>\n<li>1 <a href=\"#room0-0-2\">Day 1, period 3</a>, in <a href=\"#room0\">R</a>, 11 seats</li>\n</ul>\n</li>\n",
         ],
     );
     assert_eq!(rt; lacks, None);
@@ -75,8 +81,8 @@ fn a_week_with_broken_rules(rt: HostRuntime) -> Result<(), Fail> {
         &text,
         &[
             "<strong>not feasible</strong> hard 3, cost 7</p>\n",
-            "<li><b>1</b> <a href=\"#course0\">a</a> wanted 1, placed 2, periods 2</li>\n",
-            "<li><b>1</b> <a href=\"#room0-0-0\">a</a> day 0 period 0, in <a href=\"#room0\">R</a>, with <a href=\"#room0-0-0\">b</a></li>\n",
+            "<li style=\"order:-1\"><b>1</b> <a href=\"#course0\">a</a>, <a href=\"#teacher0\">t1</a>, wanted 1, placed 2, periods 2</li>\n",
+            "<li style=\"order:-1\"><b>1</b> <a href=\"#room0-0-0\">a</a>, <a href=\"#teacher0\">t1</a>, Day 1, period 1, in <a href=\"#room0\">R</a>, with <a href=\"#room0-0-0\">b</a>, <a href=\"#teacher1\">t2</a></li>\n",
             "</a> <a href=\"#teacher0\">t1</a> <strong>conflict</strong> <strong>room taken</strong></div>\n",
             "<td> <strong>lectures: 1</strong></td>\n",
         ],
@@ -98,9 +104,9 @@ fn unavailable_periods(rt: HostRuntime) -> Result<(), Fail> {
     let lacks = missing(
         &text,
         &[
-            "<td id=\"teacher0-0-0\">\n<div class=\"barred\">not a</div>\n<div class=\"lecture\"><a class=\"course\" href=\"#course0\">a</a> <a href=\"#room0\">R</a> <strong>unavailable</strong></div>\n</td>\n",
-            "<td id=\"teacher1-0-1\">\n<div class=\"barred\">not b</div>\n</td>\n",
-            "<li><b>1</b> <a href=\"#teacher0-0-0\">a</a> day 0 period 0</li>\n",
+            "<td id=\"teacher0-0-0\">\n<div class=\"barred\"><span class=\"when\">Day 1, period 1</span> not a</div>\n<div class=\"lecture\"><span class=\"when\">Day 1, period 1</span> <a class=\"course\" href=\"#course0\">a</a> <a href=\"#room0\">R</a> <strong>unavailable</strong></div>\n</td>\n",
+            "<td id=\"teacher1-0-1\">\n<div class=\"barred\"><span class=\"when\">Day 1, period 2</span> not b</div>\n</td>\n",
+            "<li style=\"order:-1\"><b>1</b> <a href=\"#teacher0-0-0\">a</a>, <a href=\"#teacher0\">t1</a>, Day 1, period 1</li>\n",
         ],
     );
     assert_eq!(rt; lacks, None);
@@ -168,6 +174,7 @@ fn writes_that_stop(rt: HostRuntime) -> Result<(), Fail> {
             rt.alloc(),
             MINI.as_bytes(),
             MINI_SOLUTION.as_bytes(),
+            UNNAMED,
             tt_page::STYLE,
             &mut sink,
         );
@@ -175,6 +182,80 @@ fn writes_that_stop(rt: HostRuntime) -> Result<(), Fail> {
         assert!(rt; sink.failed());
         assert!(rt; whole.as_bytes().starts_with(narrow.bytes()));
         assert_eq!(rt; narrow.bytes().len(), stops_at - 1);
+    }
+    Ok(())
+}
+
+/// Runs `page` with options on Gap, a timetable of it, and proofs, and returns the outcome and the page.
+fn paged_with(alloc: Global, options: &[&str]) -> Result<(Outcome, Option<String>), Fail> {
+    let memory = filled(alloc, GAP, MINI_SOLUTION, Refusal::Nothing)?;
+    memory.put("a.proof", GAP_PROOF)?;
+    memory.put("bad.proof", "CTTP 1 bound 2 B C c1 1 ; end")?;
+    let mut words = Vec::from_slice(alloc, &["page", "a.ctt", "a.sol", "a.html"])?;
+    words.extend_from_slice(options)?;
+    let outcome = run_on(alloc, &words, &memory)?;
+    Ok((outcome, memory.text("a.html")?))
+}
+
+#[test]
+fn a_page_with_names_and_a_proof(rt: HostRuntime) -> Result<(), Fail> {
+    let options = [
+        "--days",
+        "Mon",
+        "--periods",
+        "8:00,9:00,10:00",
+        "--proof",
+        "a.proof",
+    ];
+    let (outcome, text) = paged_with(rt.alloc(), &options)?;
+    assert_eq!(rt; outcome.answer(), (0, "", ""));
+    let text = text.unwrap_or(String::new(rt.alloc()));
+    let lacks = missing(&text, &["Mon", "8:00", "10:00", "proved best"]);
+    assert_eq!(rt; lacks, None);
+    let (_, text) = paged_with(rt.alloc(), &["--days", "Mon"])?;
+    assert!(rt;
+        !text
+            .unwrap_or(String::new(rt.alloc()))
+            .contains("proved best")
+    );
+    Ok(())
+}
+
+#[test]
+fn options_that_are_refused(rt: HostRuntime) -> Result<(), Fail> {
+    for (options, err) in [
+        (
+            ["--days", "Mon,Tue"].as_slice(),
+            "refused: names of days: not one for each day\n",
+        ),
+        (
+            ["--periods", "8:00,9:00"].as_slice(),
+            "refused: names of periods: not one for each period of a day\n",
+        ),
+        (
+            ["--proof", "a.proof", "--proof", "bad.proof"].as_slice(),
+            "refused: proof 2: TooCheap at node 0\n",
+        ),
+        (
+            ["--proof", "a.proof", "--proof", "a.proof"].as_slice(),
+            "refused: proof 2: ClaimedElsewhere at node 2, by proof 1\n",
+        ),
+        (["--proof", "none"].as_slice(), "refused: proof 1: Read\n"),
+        (
+            // The names are refused before a proof is read.
+            ["--days", "Mon", "--periods", "x", "--proof", "none"].as_slice(),
+            "refused: names of periods: not one for each period of a day\n",
+        ),
+    ] {
+        let (outcome, text) = paged_with(rt.alloc(), options)?;
+        assert_eq!(rt; outcome.answer(), (2, "", err), "{options:?}");
+        assert_eq!(rt; text, None, "{options:?}");
+    }
+    for option in ["--days", "--periods", "--proof"] {
+        let (outcome, text) = paged_with(rt.alloc(), &[option])?;
+        assert_eq!(rt; (outcome.status, outcome.out.as_str()), (2, ""));
+        assert!(rt; outcome.err.starts_with("error: "), "{option}");
+        assert_eq!(rt; text, None);
     }
     Ok(())
 }

@@ -20,6 +20,7 @@ use std::alloc::{AllocError, Global};
 use tt_best::{Rounds, Week, find_best_watched};
 use tt_instance::{Instance, read_instance};
 use tt_leaf_rules::Bound;
+use tt_page_text::Labels;
 use tt_parts::Parts;
 use tt_rules::score;
 use tt_search::Watch;
@@ -35,6 +36,8 @@ pub struct BestAnswer {
     pub out: Vec<u8>,
     /// The text of the best timetable's file.
     pub table: Option<Vec<u8>>,
+    /// The text of the page that shows it with the bound of the proofs.
+    pub page: Option<Vec<u8>>,
     /// The texts of the proofs. A file of groups comes first, if there is one; the others are tree proofs.
     pub proofs: Vec<Vec<u8>>,
 }
@@ -66,18 +69,19 @@ fn missing_line(alloc: Global, bound: Bound) -> Result<Vec<u8>, AllocError>
     Ok(out)
 }
 
-/// Returns the answer with a timetable that breaks no hard rule, and proofs.
+/// Returns the answer with a timetable that breaks no hard rule, its page, and proofs.
 fn found_answer(
     alloc: Global,
     instance: &Instance<'_>,
     table: &Timetable,
     cost: u64,
     parts: Parts,
+    style: &str,
 ) -> Result<BestAnswer, AllocError>
     requires feasible { IsFeasible instance.now table.now }
     requires cost { cost ≡ score.cost instance.now table.now }
     requires parts { AreFound instance.now parts }
-    ensures { IfOk result (λ a. (i : List ℕ) → Spells i instance.now → IsBestFound i a) }
+    ensures { IfOk result (λ a. (i : List ℕ) → Spells i instance.now → IsBestFound i style.now a) }
 {
     let Parts { proofs, bound } = parts;
     let Bound::AtLeast(points) = bound else {
@@ -87,6 +91,14 @@ fn found_answer(
         status: 0,
         out: found_line(alloc, cost, points)?,
         table: Some(write_solution(alloc, instance, table)?),
+        page: Some(tt_page::text_of(
+            alloc,
+            instance,
+            table,
+            &Labels::none(alloc),
+            Some(bound),
+            style,
+        )?),
         proofs,
     })
 }
@@ -105,34 +117,42 @@ fn missing_answer(
         status: 1,
         out: missing_line(alloc, bound)?,
         table: None,
+        page: None,
         proofs,
     })
 }
 
 /// Returns the answer for what a search found.
-fn answer_of(alloc: Global, instance: &Instance<'_>, week: Week) -> Result<BestAnswer, AllocError>
+fn answer_of(
+    alloc: Global,
+    instance: &Instance<'_>,
+    week: Week,
+    style: &str,
+) -> Result<BestAnswer, AllocError>
     requires { IsWeek instance.now week }
-    ensures { IfOk result (λ a. (i : List ℕ) → Spells i instance.now → IsBest i a) }
+    ensures { IfOk result (λ a. (i : List ℕ) → Spells i instance.now → IsBest i style.now a) }
 {
     let Week { table, parts } = week;
     let score = score(instance, &table);
     if score.feasible() {
-        found_answer(alloc, instance, &table, score.cost(), parts)
+        found_answer(alloc, instance, &table, score.cost(), parts, style)
     } else {
         missing_answer(alloc, instance, parts)
     }
 }
 
-/// Searches for a best timetable and for proofs of a lower bound, in rounds, until they meet, and shows the searches to a watch. Nothing is
-/// promised about how good they are.
+/// Searches for a best timetable and for proofs of a lower bound, in rounds, until they meet, and shows the searches to a watch. The page that
+/// shows them has a style. Nothing is promised about how good they are.
 pub fn best_watched<W: Watch>(
     alloc: Global,
     instance: &[u8],
     rounds: Rounds,
+    style: &str,
     watch: &mut W,
 ) -> Result<BestAnswer, AppFault>
-    // The timetable breaks no hard rule and its cost is the one in the line; the proofs add up to the bound, which holds for every such timetable.
-    ensures found { IfOk result (IsBest instance.now) }
+    // The timetable breaks no hard rule and its cost is the one in the line; the proofs add up to the bound, which holds for every such
+    // timetable. The page shows this timetable and this bound.
+    ensures found { IfOk result (IsBest instance.now style.now) }
     // A refusal reports the first error.
     ensures fault { IfErr result (IsPartsRefusal instance.now) }
     // If the bytes spell an instance, there is an answer, unless memory runs out.
@@ -140,5 +160,5 @@ pub fn best_watched<W: Watch>(
 {
     let instance = read_instance(alloc, instance)?;
     let week = find_best_watched(alloc, &instance, rounds, watch)?;
-    Ok(answer_of(alloc, &instance, week)?)
+    Ok(answer_of(alloc, &instance, week, style)?)
 }

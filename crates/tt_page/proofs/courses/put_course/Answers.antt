@@ -1,7 +1,7 @@
 use Rattle.std.proofs.Common.{◌≡◌, ◌++◌}
 use Rattle.std.proofs.lemmas.Result.{on_ok_weaker}
 use Rattle.tt_page.specs.Courses.{course_head, course_row}
-use Rattle.tt_page.proofs.Growing.{then_more}
+use Rattle.tt_page_text.proofs.Growing.{then_more}
 use Rattle.tt_page.proofs.courses.put_course.Goals as goal
 
 -- the head was written

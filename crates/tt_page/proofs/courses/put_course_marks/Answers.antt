@@ -1,6 +1,6 @@
 use Rattle.std.proofs.lemmas.Result.{on_ok_weaker}
 use Rattle.tt_page.specs.Courses.{course_marks}
-use Rattle.tt_page.proofs.Growing.{then_more}
+use Rattle.tt_page_text.proofs.Growing.{then_more}
 use Rattle.tt_page.proofs.courses.put_course_marks.Goals as goal
 
 pub returns : goal.returns

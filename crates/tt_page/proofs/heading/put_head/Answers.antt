@@ -1,7 +1,7 @@
 use Rattle.std.proofs.Common.{◌≡◌, ◌++◌}
 use Rattle.std.proofs.lemmas.Result.{on_ok_weaker}
 use Rattle.tt_page.specs.Heading.{before_title, head_text}
-use Rattle.tt_page.proofs.Growing.{then_more}
+use Rattle.tt_page_text.proofs.Growing.{then_more}
 use Rattle.tt_page.proofs.heading.put_head.Goals as goal
 
 -- the text before the title was written

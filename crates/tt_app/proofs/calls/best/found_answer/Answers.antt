@@ -8,8 +8,9 @@ returns c =
     λ i spells.
     let a = c.args in
     let solution = c.in_ok-write_solution in
-    let is = whole i solution.field-0.items a.instance.now a.table.now (texts_of a.parts.proofs.items) a.parts.bound a.cost c.in-AtLeast.points
-    spells solution.ensures.again c.requires.feasible c.requires.cost c.requires.parts.sum c.requires.parts.holds c.in-AtLeast.is in
+    let page = c.in_ok-text_of in
+    let is = whole i solution.field-0.items a.instance.now a.table.now (texts_of a.parts.proofs.items) c.none.result page.field-0.items a.style.now a.parts.bound a.cost
+    c.in-AtLeast.points spells solution.ensures.again c.requires.feasible c.requires.cost c.requires.parts.sum c.requires.parts.holds c.in-AtLeast.is c.none.ensures page.ensures in
     record {
       solution = solution.field-0.items;
       cost = a.cost;
@@ -18,6 +19,7 @@ returns c =
       bounds = is.bounds;
       within = is.within;
       file = refl;
+      page = is.shown;
       text = c.in_ok-found_line.ensures;
       status = refl;
     }

@@ -1,5 +1,0 @@
-pub mod Counting
-pub mod Growing
-pub mod Harmless
-pub mod Later
-pub mod Neighbours

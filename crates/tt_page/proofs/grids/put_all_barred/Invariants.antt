@@ -1,7 +1,0 @@
-use Rattle.std.proofs.Common.{◌≡◌, ◌++◌, take}
-use Rattle.std.specs.Prelude.{flat_map}
-use Rattle.tt_page.specs.Grids.{barred_text}
-use Rattle.tt_page.proofs.grids.put_all_barred.Given as goal
-
-abbrev pub invariant-loop-course : goal.invariant-loop-course
-invariant-loop-course l = l.out.items ≡ l.initial.out.items ++ flat_map (barred_text l.instance l.day l.period) (take l.course-index l.courses)

@@ -1,6 +1,0 @@
-use Rattle.tt_page.specs.Grids.{section_head}
-use Rattle.tt_page.proofs.grids.put_section_head.Goals as goal
-
-pub returns : goal.returns
-unfolding section_head
-returns c = rw (← c.section.ensures, ← c.title.ensures, ← c.count-count.ensures) c.put.ensures

@@ -1,7 +1,0 @@
-use Rattle.std.proofs.Common.{◌≡◌, ◌++◌, take}
-use Rattle.std.specs.Prelude.{flat_map}
-use Rattle.tt_page.specs.Heading.{next_shown}
-use Rattle.tt_page.proofs.heading.put_name.Given as goal
-
-abbrev pub invariant-loop-index : goal.invariant-loop-index
-invariant-loop-index l = l.out.items ≡ l.initial.out.items ++ flat_map next_shown (take l.index l.instance.name)

@@ -1,7 +1,0 @@
-use Rattle.std.proofs.Common.{◌≡◌, ◌++◌, take}
-use Rattle.std.specs.Prelude.{flat_map}
-use Rattle.tt_page.specs.Items.{isolated_item}
-use Rattle.tt_page.proofs.items.put_curriculum_items.Given as goal
-
-abbrev pub invariant-loop-entry : goal.invariant-loop-entry
-invariant-loop-entry l = l.out.items ≡ l.initial.out.items ++ flat_map (isolated_item l.plan.problem l.plan.table l.curriculum) (take l.entry-index l.entry-items)

@@ -1,6 +1,0 @@
-use Rattle.std.proofs.Common.{◌≡◌, ◌++◌, drop}
-use Rattle.tt_page.specs.Items.{entry_items}
-use Rattle.tt_page.proofs.items.put_entry_items.Given as goal
-
-abbrev pub invariant-loop-index : goal.invariant-loop-index
-invariant-loop-index l = l.out.items ++ entry_items l.plan.problem l.rule (drop l.index l.plan.table) ≡ l.initial.out.items ++ entry_items l.plan.problem l.rule l.plan.table

@@ -1,7 +1,0 @@
-use Rattle.std.proofs.Common.{◌≡◌, ◌++◌}
-use Rattle.std.specs.Prelude.{flat_map}
-use Rattle.tt_page.specs.Shown.{letter_text}
-use Rattle.tt_page.proofs.shown.put_letters.Given as goal
-
-abbrev pub invariant-loop-letter : goal.invariant-loop-letter
-invariant-loop-letter l = l.out.items ≡ l.initial.out.items ++ flat_map letter_text l.yielded

@@ -1,0 +1,63 @@
+-- The days of a page: a table for each, with a row for each room and a column for each period.
+use Rattle.std.specs.Prelude.{ℕ, List, [], ◌∷◌, ◌++◌, flat_map, codes}
+use Rattle.tt_lists.specs.Words.{range_below}
+use Rattle.tt_text.specs.Pieces.{Text, Number}
+use Rattle.tt_instance.specs.Problem.{Problem}
+use Rattle.tt_instance.specs.Cells.{all_days, all_rooms}
+use Rattle.tt_instance.specs.declared.cell.Cell.{Cell}
+use Rattle.tt_page_text.specs.Markup.{markup}
+use Rattle.tt_page_text.specs.Labelled.{Labelled}
+use Rattle.tt_page_text.specs.Labels.{day_text, period_text}
+use Rattle.tt_page_plan.specs.Links.{week_link}
+use Rattle.tt_page_plan.specs.declared.kind.Kind.TheVariants.{Room}
+use Rattle.tt_page_weeks.specs.Lectures.{lecture_text}
+use Rattle.tt_page_weeks.specs.Grids.{entries_at, paper_name}
+
+-- ---- a day
+
+-- The lectures in a room in a period of a day, as in the room's week.
+unfoldable pub room_cell : Problem → List Cell → Labelled → ℕ → ℕ → ℕ → List ℕ
+room_cell p t labels d r s = codes "<td>\n" ++ flat_map (lecture_text p t labels Room r) (entries_at p t Room r d s) ++ codes "</td>\n"
+
+unfoldable pub room_row_head : Problem → ℕ → List ℕ
+room_row_head p r = codes "<tr>\n<th scope=\"row\">" ++ week_link p Room r ++ codes "</th>\n"
+
+unfoldable pub room_row : Problem → List Cell → Labelled → ℕ → ℕ → List ℕ
+room_row p t labels d r = room_row_head p r ++ flat_map (room_cell p t labels d r) (range_below p.periods) ++ codes "</tr>\n"
+
+unfoldable pub day_grid_head : ℕ → List ℕ
+day_grid_head d = markup (
+    Text (codes "<div class=\"grid day\" id=\"day") ∷ Number d ∷ Text (codes "\">\n<h3 id=\"day") ∷ Number d ∷ Text (codes "-name\"><b>") ∷ [])
+
+unfoldable pub day_table_head : ℕ → List ℕ
+day_table_head d = markup (
+    Text (codes "<table aria-labelledby=\"day") ∷ Number d ∷ Text (codes "-name\">\n<thead>\n<tr>\n<th scope=\"col\">Room</th>\n") ∷ [])
+
+unfoldable pub day_title : Problem → Labelled → ℕ → List ℕ
+day_title p labels d = day_grid_head d ++ day_text labels d ++ codes "</b>" ++ paper_name p ++ day_table_head d
+
+unfoldable pub period_head : Labelled → ℕ → List ℕ
+period_head labels s = codes "<th scope=\"col\">" ++ period_text labels s ++ codes "</th>\n"
+
+unfoldable pub day_grid : Problem → List Cell → Labelled → ℕ → List ℕ
+day_grid p t labels d =
+    day_title p labels d ++ flat_map (period_head labels) (range_below p.periods)
+    ++ codes "</tr>\n</thead>\n<tbody>\n" ++ flat_map (room_row p t labels d) (all_rooms p) ++ codes "</tbody>\n</table>\n</div>\n"
+
+-- ---- the section
+
+unfoldable pub day_link_head : ℕ → List ℕ
+day_link_head d = markup (Text (codes "<li><a href=\"#day") ∷ Number d ∷ Text (codes "\">") ∷ [])
+
+-- A line of the section's index.
+unfoldable pub day_index_item : Labelled → ℕ → List ℕ
+day_index_item labels d = day_link_head d ++ day_text labels d ++ codes "</a></li>\n"
+
+unfoldable pub days_head : ℕ → List ℕ
+days_head n = markup (
+    Text (codes "<details open id=\"daily\">\n<summary><h2>Days <small>") ∷ Number n ∷ Text (codes "</small></h2></summary>\n<ul class=\"index\">\n") ∷ [])
+
+unfoldable pub days_text : Problem → List Cell → Labelled → List ℕ
+days_text p t labels =
+    days_head p.days ++ flat_map (day_index_item labels) (all_days p) ++ codes "</ul>\n<div class=\"grids\">\n"
+    ++ flat_map (day_grid p t labels) (all_days p) ++ codes "</div>\n</details>\n"

@@ -1,0 +1,262 @@
+//! The days of a page: a table for each, with a row for each room and a column for each period.
+
+ghost use Rattle.std.specs.Prelude.{◌≡◌, ◌<◌, ◌++◌, length, flat_map, OnOk};
+ghost use Rattle.tt_lists.specs.Words.{range_below};
+ghost use Rattle.tt_page_days.specs.Days.{room_cell, room_row_head, room_row, day_grid_head, day_table_head, day_title, period_head, day_grid, day_link_head, day_index_item, days_head, days_text};
+
+use std::alloc::AllocError;
+use tt_instance::Instance;
+use tt_page_plan::{Kind, Plan, put_week_link};
+use tt_page_text::{Labels, Part, put, put_day, put_period};
+use tt_page_weeks::{put_lectures, put_paper_name};
+use tt_text::put_token;
+
+/// Appends the lectures in a room in a period of a day.
+#[tactic(auto, unfolding(crate::specs::Days::room_cell))]
+fn put_room_cell(
+    out: &mut Vec<u8>,
+    plan: &Plan<'_, '_>,
+    labels: &Labels,
+    day: u32,
+    room: u32,
+    period: u32,
+) -> Result<(), AllocError>
+    requires day { day < plan.now.problem.days }
+    requires period { period < plan.now.problem.periods }
+    ensures { OnOk result (out.new.items ≡ out.old.items ++ room_cell plan.now.problem plan.now.table labels.now day room period) }
+{
+    put_token(out, b"<td>\n")?;
+    let entries = plan.in_period(day, period);
+    put_lectures(out, plan, labels, Kind::Room, room, entries)?;
+    put_token(out, b"</td>\n")
+}
+
+#[tactic(auto, using(tt_page_text::proofs::Growing::text_further))]
+fn put_room_cells(
+    out: &mut Vec<u8>,
+    plan: &Plan<'_, '_>,
+    labels: &Labels,
+    day: u32,
+    room: u32,
+) -> Result<(), AllocError>
+    requires day { day < plan.now.problem.days }
+    ensures { OnOk result (out.new.items ≡ out.old.items
+        ++ flat_map (room_cell plan.now.problem plan.now.table labels.now day room) (range_below plan.now.problem.periods)) }
+{
+    for period in 0..plan.instance().periods() {
+        put_room_cell(out, plan, labels, day, room, period)?;
+    }
+    Ok(())
+}
+
+#[tactic(auto, unfolding(crate::specs::Days::room_row_head))]
+fn put_room_row_head(
+    out: &mut Vec<u8>,
+    instance: &Instance<'_>,
+    room: u32,
+) -> Result<(), AllocError>
+    requires { room < length instance.now.rooms }
+    ensures { OnOk result (out.new.items ≡ out.old.items ++ room_row_head instance.now room) }
+{
+    put_token(out, b"<tr>\n<th scope=\"row\">")?;
+    put_week_link(out, instance, Kind::Room, room)?;
+    put_token(out, b"</th>\n")
+}
+
+/// Appends the row of a room.
+#[tactic(auto, unfolding(crate::specs::Days::room_row))]
+fn put_room_row(
+    out: &mut Vec<u8>,
+    plan: &Plan<'_, '_>,
+    labels: &Labels,
+    day: u32,
+    room: u32,
+) -> Result<(), AllocError>
+    requires day { day < plan.now.problem.days }
+    requires room { room < length plan.now.problem.rooms }
+    ensures { OnOk result (out.new.items ≡ out.old.items ++ room_row plan.now.problem plan.now.table labels.now day room) }
+{
+    put_room_row_head(out, plan.instance(), room)?;
+    put_room_cells(out, plan, labels, day, room)?;
+    put_token(out, b"</tr>\n")
+}
+
+#[tactic(auto, using(tt_page_text::proofs::Growing::text_further))]
+fn put_room_rows(
+    out: &mut Vec<u8>,
+    plan: &Plan<'_, '_>,
+    labels: &Labels,
+    day: u32,
+) -> Result<(), AllocError>
+    requires { day < plan.now.problem.days }
+    ensures { OnOk result (out.new.items ≡ out.old.items
+        ++ flat_map (room_row plan.now.problem plan.now.table labels.now day) (range_below (length plan.now.problem.rooms))) }
+{
+    for room in 0..plan.instance().rooms() {
+        put_room_row(out, plan, labels, day, room)?;
+    }
+    Ok(())
+}
+
+#[tactic(auto, unfolding(crate::specs::Days::day_grid_head))]
+fn put_day_grid_head(out: &mut Vec<u8>, day: u32) -> Result<(), AllocError>
+    ensures { OnOk result (out.new.items ≡ out.old.items ++ day_grid_head day) }
+{
+    put(
+        out,
+        &[
+            Part::Text("<div class=\"grid day\" id=\"day"),
+            Part::Number(day),
+            Part::Text("\">\n<h3 id=\"day"),
+            Part::Number(day),
+            Part::Text("-name\"><b>"),
+        ],
+    )
+}
+
+#[tactic(auto, unfolding(crate::specs::Days::day_table_head))]
+fn put_day_table_head(out: &mut Vec<u8>, day: u32) -> Result<(), AllocError>
+    ensures { OnOk result (out.new.items ≡ out.old.items ++ day_table_head day) }
+{
+    put(
+        out,
+        &[
+            Part::Text("<table aria-labelledby=\"day"),
+            Part::Number(day),
+            Part::Text("-name\">\n<thead>\n<tr>\n<th scope=\"col\">Room</th>\n"),
+        ],
+    )
+}
+
+/// Appends the heading of a day, and the beginning of its table.
+#[tactic(auto, unfolding(crate::specs::Days::day_title))]
+fn put_day_title(
+    out: &mut Vec<u8>,
+    instance: &Instance<'_>,
+    labels: &Labels,
+    day: u32,
+) -> Result<(), AllocError>
+    ensures { OnOk result (out.new.items ≡ out.old.items ++ day_title instance.now labels.now day) }
+{
+    put_day_grid_head(out, day)?;
+    put_day(out, labels, day)?;
+    put_token(out, b"</b>")?;
+    put_paper_name(out, instance)?;
+    put_day_table_head(out, day)
+}
+
+#[tactic(auto, unfolding(crate::specs::Days::period_head))]
+fn put_period_head(out: &mut Vec<u8>, labels: &Labels, period: u32) -> Result<(), AllocError>
+    ensures { OnOk result (out.new.items ≡ out.old.items ++ period_head labels.now period) }
+{
+    put_token(out, b"<th scope=\"col\">")?;
+    put_period(out, labels, period)?;
+    put_token(out, b"</th>\n")
+}
+
+#[tactic(auto, using(tt_page_text::proofs::Growing::text_further))]
+fn put_period_heads(
+    out: &mut Vec<u8>,
+    instance: &Instance<'_>,
+    labels: &Labels,
+) -> Result<(), AllocError>
+    ensures { OnOk result (out.new.items ≡ out.old.items ++ flat_map (period_head labels.now) (range_below instance.now.periods)) }
+{
+    for period in 0..instance.periods() {
+        put_period_head(out, labels, period)?;
+    }
+    Ok(())
+}
+
+/// Appends the table of a day.
+#[tactic(auto, unfolding(crate::specs::Days::day_grid))]
+fn put_day_grid(
+    out: &mut Vec<u8>,
+    plan: &Plan<'_, '_>,
+    labels: &Labels,
+    day: u32,
+) -> Result<(), AllocError>
+    requires { day < plan.now.problem.days }
+    ensures { OnOk result (out.new.items ≡ out.old.items ++ day_grid plan.now.problem plan.now.table labels.now day) }
+{
+    put_day_title(out, plan.instance(), labels, day)?;
+    put_period_heads(out, plan.instance(), labels)?;
+    put_token(out, b"</tr>\n</thead>\n<tbody>\n")?;
+    put_room_rows(out, plan, labels, day)?;
+    put_token(out, b"</tbody>\n</table>\n</div>\n")
+}
+
+#[tactic(auto, using(tt_page_text::proofs::Growing::text_further))]
+fn put_day_grids(out: &mut Vec<u8>, plan: &Plan<'_, '_>, labels: &Labels) -> Result<(), AllocError>
+    ensures { OnOk result (out.new.items ≡ out.old.items
+        ++ flat_map (day_grid plan.now.problem plan.now.table labels.now) (range_below plan.now.problem.days)) }
+{
+    for day in 0..plan.instance().days() {
+        put_day_grid(out, plan, labels, day)?;
+    }
+    Ok(())
+}
+
+#[tactic(auto, unfolding(crate::specs::Days::day_link_head))]
+fn put_day_link_head(out: &mut Vec<u8>, day: u32) -> Result<(), AllocError>
+    ensures { OnOk result (out.new.items ≡ out.old.items ++ day_link_head day) }
+{
+    put(
+        out,
+        &[
+            Part::Text("<li><a href=\"#day"),
+            Part::Number(day),
+            Part::Text("\">"),
+        ],
+    )
+}
+
+#[tactic(auto, unfolding(crate::specs::Days::day_index_item))]
+fn put_day_index_item(out: &mut Vec<u8>, labels: &Labels, day: u32) -> Result<(), AllocError>
+    ensures { OnOk result (out.new.items ≡ out.old.items ++ day_index_item labels.now day) }
+{
+    put_day_link_head(out, day)?;
+    put_day(out, labels, day)?;
+    put_token(out, b"</a></li>\n")
+}
+
+/// Appends the links to the days.
+#[tactic(auto, using(tt_page_text::proofs::Growing::text_further))]
+fn put_day_index(
+    out: &mut Vec<u8>,
+    instance: &Instance<'_>,
+    labels: &Labels,
+) -> Result<(), AllocError>
+    ensures { OnOk result (out.new.items ≡ out.old.items ++ flat_map (day_index_item labels.now) (range_below instance.now.days)) }
+{
+    for day in 0..instance.days() {
+        put_day_index_item(out, labels, day)?;
+    }
+    Ok(())
+}
+
+#[tactic(auto, unfolding(crate::specs::Days::days_head))]
+fn put_days_head(out: &mut Vec<u8>, days: u32) -> Result<(), AllocError>
+    ensures { OnOk result (out.new.items ≡ out.old.items ++ days_head days) }
+{
+    put(
+        out,
+        &[
+            Part::Text("<details open id=\"daily\">\n<summary><h2>Days <small>"),
+            Part::Number(days),
+            Part::Text("</small></h2></summary>\n<ul class=\"index\">\n"),
+        ],
+    )
+}
+
+/// Appends the section of all days.
+#[tactic(auto, unfolding(crate::specs::Days::days_text))]
+pub fn put_days(out: &mut Vec<u8>, plan: &Plan<'_, '_>, labels: &Labels) -> Result<(), AllocError>
+    ensures { OnOk result (out.new.items ≡ out.old.items ++ days_text plan.now.problem plan.now.table labels.now) }
+{
+    put_days_head(out, plan.instance().days())?;
+    put_day_index(out, plan.instance(), labels)?;
+    put_token(out, b"</ul>\n<div class=\"grids\">\n")?;
+    put_day_grids(out, plan, labels)?;
+    put_token(out, b"</div>\n</details>\n")
+}

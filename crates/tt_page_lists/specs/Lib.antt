@@ -1,0 +1,4 @@
+pub mod Grouped
+pub mod Items
+pub mod Lists
+pub mod Rules

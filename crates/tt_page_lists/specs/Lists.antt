@@ -1,0 +1,78 @@
+-- The two tables of counts, and a list for each count above 0.
+use Rattle.std.specs.Prelude.{ℕ, ◌==◌, List, [], ◌∷◌, ◌++◌, codes, if◌then◌else◌}
+use Rattle.tt_text.specs.Pieces.{Text, Number}
+use Rattle.tt_instance.specs.Problem.{Problem}
+use Rattle.tt_instance.specs.declared.cell.Cell.{Cell}
+use Rattle.tt_rules.specs.Score.{hard, cost}
+use Rattle.tt_page_text.specs.Labelled.{Labelled}
+use Rattle.tt_page_text.specs.Markup.{markup}
+use Rattle.tt_page_lists.specs.Rules.{rule_count, is_hard, rule_word, rule_title, rule_meaning}
+use Rattle.tt_page_lists.specs.Grouped.{items_text}
+use Rattle.tt_page_lists.specs.declared.rule.Rule.{Rule}
+use Rattle.tt_page_lists.specs.declared.rule.Rule.TheVariants as rule
+
+-- ---- tables
+
+-- A row of a count of 0 has a class of its own, which the style hides.
+abbrev pub row_begin : ℕ → List ℕ
+row_begin n = if n == 0 then codes "<tr class=\"none\"><th scope=\"row\">" else codes "<tr><th scope=\"row\">"
+
+unfoldable pub count_row : List ℕ → ℕ → List ℕ → List ℕ
+count_row title n meaning = markup (
+    Text (row_begin n) ∷ Text title ∷ Text (codes "</th><td>") ∷ Number n ∷ Text (codes "</td><td>") ∷ Text meaning ∷ Text (codes "</td></tr>\n") ∷ [])
+
+-- The row of a total.
+unfoldable pub total_row : List ℕ → ℕ → List ℕ → List ℕ
+total_row title n meaning = markup (
+    Text (codes "<tr><th scope=\"row\">") ∷ Text title ∷ Text (codes "</th><td>") ∷ Number n ∷ Text (codes "</td><td>") ∷ Text meaning ∷ Text (codes "</td></tr>\n") ∷ [])
+
+unfoldable pub rule_row : Problem → List Cell → Rule → List ℕ
+rule_row p t r = count_row (rule_title r) (rule_count p t r) (rule_meaning r)
+
+unfoldable pub table_foot : List ℕ
+table_foot = codes "</tbody>\n<tfoot>\n"
+
+unfoldable pub table_end : List ℕ
+table_end = codes "</tfoot>\n</table>\n"
+
+unfoldable pub hard_head : List ℕ
+hard_head = codes "<table class=\"counts\" id=\"hard\">\n<caption>Hard rules</caption>\n<tbody>\n"
+
+unfoldable pub hard_table : Problem → List Cell → List ℕ
+hard_table p t =
+    hard_head ++ rule_row p t rule.Lectures ++ rule_row p t rule.Conflicts ++ rule_row p t rule.Availability ++ rule_row p t rule.RoomOccupancy
+    ++ table_foot ++ total_row (codes "Hard") (hard p t) (codes "0 in a feasible timetable") ++ table_end
+
+unfoldable pub cost_head : List ℕ
+cost_head = codes "<table class=\"counts\" id=\"cost\">\n<caption>Costs</caption>\n<tbody>\n"
+
+unfoldable pub cost_table : Problem → List Cell → List ℕ
+cost_table p t =
+    cost_head ++ rule_row p t rule.RoomCapacity ++ rule_row p t rule.WorkingDays ++ rule_row p t rule.Compactness ++ rule_row p t rule.RoomStability
+    ++ table_foot ++ total_row (codes "Cost") (cost p t) (codes "less is better") ++ table_end
+
+-- ---- lists
+
+-- The head of a list: a broken hard rule is `strong`, and a cost is `mark`.
+unfoldable pub broken_head : Rule → ℕ → List ℕ
+broken_head r n = markup (
+    Text (codes "<details open class=\"broken\" id=\"") ∷ Text (rule_word r) ∷ Text (codes "\">\n<summary><h2>") ∷ Text (rule_title r)
+    ∷ Text (codes " <strong>") ∷ Number n ∷ Text (codes "</strong></h2></summary>\n<ul>\n") ∷ [])
+
+unfoldable pub costs_head : Rule → ℕ → List ℕ
+costs_head r n = markup (
+    Text (codes "<details open class=\"costs\" id=\"") ∷ Text (rule_word r) ∷ Text (codes "\">\n<summary><h2>") ∷ Text (rule_title r)
+    ∷ Text (codes " <mark>") ∷ Number n ∷ Text (codes "</mark></h2></summary>\n<ul>\n") ∷ [])
+
+unfoldable pub list_head : Rule → ℕ → List ℕ
+list_head r n = if is_hard r then broken_head r n else costs_head r n
+
+unfoldable pub list_text : Problem → List Cell → Labelled → Rule → List ℕ
+list_text p t labels r =
+    if rule_count p t r == 0 then []
+    else list_head r (rule_count p t r) ++ items_text p t labels r ++ codes "</ul>\n</details>\n"
+
+unfoldable pub lists_text : Problem → List Cell → Labelled → List ℕ
+lists_text p t labels =
+    list_text p t labels rule.Lectures ++ list_text p t labels rule.Conflicts ++ list_text p t labels rule.Availability ++ list_text p t labels rule.RoomOccupancy
+    ++ list_text p t labels rule.RoomCapacity ++ list_text p t labels rule.WorkingDays ++ list_text p t labels rule.Compactness ++ list_text p t labels rule.RoomStability

@@ -1,0 +1,363 @@
+//! The items that are groups: the lectures of a course without seats, and the isolated lectures of a curriculum.
+
+ghost use Rattle.std.specs.Prelude.{◌≡◌, ◌<◌, ◌≤◌, ◌&&◌, ◌++◌, length, filter, flat_map, sum_by, count_by, All, OnOk, IfOk};
+ghost use Rattle.tt_lists.specs.Words.{range_below};
+ghost use Rattle.tt_instance.specs.Cells.{InRange, is_of};
+ghost use Rattle.tt_instance.specs.Courses.{excess, in_curriculum};
+ghost use Rattle.tt_rules.specs.Soft.{is_isolated};
+ghost use Rattle.tt_table.specs.declared.table.TheConstants.{MAX_ENTRIES};
+ghost use Rattle.tt_page_lists.specs.Grouped.{crowded_head, crowded_end, crowded_line, students_told, seats_told, seats_item, isolated_line, isolated_item, isolated_told, curriculum_item, items_text};
+
+use crate::items::{
+    put_course_and_teacher, put_course_items, put_entry_items, put_item_end, put_item_head,
+};
+use crate::rule::Rule;
+use std::alloc::{AllocError, Global};
+use tt_instance::Instance;
+use tt_page_plan::{Kind, Plan, is_isolated, put_week_link, put_when_link, without_seat};
+use tt_page_text::{Labels, Part, put};
+use tt_table::{Entry, Group};
+use tt_text::put_token;
+
+// ---- lectures of a course with students without a seat
+
+/// Returns some entries.
+fn collect(alloc: Global, entries: Group<'_>) -> Result<Vec<Entry>, AllocError>
+    ensures { IfOk result (λ found. found.items ≡ entries.entry) }
+{
+    let mut found = Vec::new(alloc);
+    for entry in entries {
+        found.push(*entry)?;
+    }
+    Ok(found)
+}
+
+/// Returns the entries of a course.
+fn entries_of(plan: &Plan<'_, '_>, alloc: Global, course: u32) -> Result<Vec<Entry>, AllocError>
+    requires { course < length plan.now.problem.courses }
+    ensures entries { IfOk result (λ found. found.items ≡ filter (is_of course) plan.now.table) }
+    ensures in_range { IfOk result (λ found. All (InRange plan.now.problem) found.items) }
+    ensures few { IfOk result (λ found. length found.items ≤ MAX_ENTRIES) }
+{
+    let entries = plan.of_course(course);
+    collect(alloc, entries)
+}
+
+/// Counts the students without a seat, in all of some entries.
+#[tactic(auto, using(std::proofs::lemmas::List::Sums::sum_by_more))]
+fn seats_of(instance: &Instance<'_>, entries: &[Entry]) -> u64
+    requires in_range { All (InRange instance.now) entries.now }
+    requires few { length entries.now ≤ MAX_ENTRIES }
+    ensures { result ≡ sum_by (λ e. excess instance.now e.course e.room) entries.now }
+{
+    let mut total: u64 = 0;
+    for entry in entries {
+        total += without_seat(instance, entry);
+    }
+    total
+}
+
+#[tactic(auto, unfolding(crate::specs::Grouped::crowded_head))]
+fn put_crowded_head(
+    out: &mut Vec<u8>,
+    instance: &Instance<'_>,
+    entry: &Entry,
+) -> Result<(), AllocError>
+    requires { InRange instance.now entry.now }
+    ensures { OnOk result (out.new.items ≡ out.old.items ++ crowded_head instance.now entry.now) }
+{
+    let lacking = without_seat(instance, entry);
+    put(
+        out,
+        &[Part::Text("<li>"), Part::Count(lacking), Part::Text(" ")],
+    )
+}
+
+#[tactic(auto, unfolding(crate::specs::Grouped::crowded_end))]
+fn put_crowded_end(
+    out: &mut Vec<u8>,
+    instance: &Instance<'_>,
+    entry: &Entry,
+) -> Result<(), AllocError>
+    requires { InRange instance.now entry.now }
+    ensures { OnOk result (out.new.items ≡ out.old.items ++ crowded_end instance.now entry.now) }
+{
+    let seats = instance.capacity(entry.room);
+    put(
+        out,
+        &[
+            Part::Text(", "),
+            Part::Number(seats),
+            Part::Text(" seats</li>\n"),
+        ],
+    )
+}
+
+/// Appends a lecture if some student has no seat: how many, when, and in which room.
+#[tactic(auto, unfolding(crate::specs::Grouped::crowded_line))]
+fn put_crowded_line(
+    out: &mut Vec<u8>,
+    instance: &Instance<'_>,
+    labels: &Labels,
+    entry: &Entry,
+) -> Result<(), AllocError>
+    requires { InRange instance.now entry.now }
+    ensures { OnOk result (out.new.items ≡ out.old.items ++ crowded_line instance.now labels.now entry.now) }
+{
+    if without_seat(instance, entry) == 0 {
+        return Ok(());
+    }
+    put_crowded_head(out, instance, entry)?;
+    put_when_link(out, labels, Kind::Room, entry.room, entry)?;
+    put_token(out, b", in ")?;
+    put_week_link(out, instance, Kind::Room, entry.room)?;
+    put_crowded_end(out, instance, entry)
+}
+
+#[tactic(auto, using(tt_page_text::proofs::Growing::taken_further))]
+fn put_crowded_lines(
+    out: &mut Vec<u8>,
+    instance: &Instance<'_>,
+    labels: &Labels,
+    entries: &[Entry],
+) -> Result<(), AllocError>
+    requires { All (InRange instance.now) entries.now }
+    ensures { OnOk result (out.new.items ≡ out.old.items ++ flat_map (crowded_line instance.now labels.now) entries.now) }
+{
+    for entry in entries {
+        put_crowded_line(out, instance, labels, entry)?;
+    }
+    Ok(())
+}
+
+#[tactic(auto, unfolding(crate::specs::Grouped::students_told))]
+fn put_students_told(
+    out: &mut Vec<u8>,
+    instance: &Instance<'_>,
+    course: u32,
+) -> Result<(), AllocError>
+    requires { course < length instance.now.courses }
+    ensures { OnOk result (out.new.items ≡ out.old.items ++ students_told instance.now course) }
+{
+    let students = instance.students(course);
+    put(
+        out,
+        &[
+            Part::Text(", "),
+            Part::Number(students),
+            Part::Text(" students\n<ul>\n"),
+        ],
+    )
+}
+
+/// Appends a course and its lectures without seats.
+#[tactic(auto, unfolding(crate::specs::Grouped::seats_told))]
+fn put_seats_told(
+    out: &mut Vec<u8>,
+    instance: &Instance<'_>,
+    labels: &Labels,
+    course: u32,
+    entries: &[Entry],
+) -> Result<(), AllocError>
+    requires course { course < length instance.now.courses }
+    requires in_range { All (InRange instance.now) entries.now }
+    ensures { OnOk result (out.new.items ≡ out.old.items ++ seats_told instance.now labels.now course entries.now) }
+{
+    put_course_and_teacher(out, instance, course)?;
+    put_students_told(out, instance, course)?;
+    put_crowded_lines(out, instance, labels, entries)?;
+    put_token(out, b"</ul>\n")
+}
+
+/// Appends the item of a course.
+#[tactic(auto, unfolding(crate::specs::Grouped::seats_item))]
+fn put_seats_item(
+    out: &mut Vec<u8>,
+    plan: &Plan<'_, '_>,
+    labels: &Labels,
+    course: u32,
+) -> Result<(), AllocError>
+    requires { course < length plan.now.problem.courses }
+    ensures { OnOk result (out.new.items ≡ out.old.items ++ seats_item plan.now.problem plan.now.table labels.now course) }
+{
+    let instance = plan.instance();
+    let entries = entries_of(plan, *out.allocator(), course)?;
+    let adds = seats_of(instance, &entries);
+    if adds == 0 {
+        return Ok(());
+    }
+    put_item_head(out, adds)?;
+    put_seats_told(out, instance, labels, course, &entries)?;
+    put_item_end(out)
+}
+
+#[tactic(auto, using(tt_page_text::proofs::Growing::text_further))]
+fn put_seats_items(
+    out: &mut Vec<u8>,
+    plan: &Plan<'_, '_>,
+    labels: &Labels,
+) -> Result<(), AllocError>
+    ensures { OnOk result (out.new.items ≡ out.old.items
+        ++ flat_map (seats_item plan.now.problem plan.now.table labels.now) (range_below (length plan.now.problem.courses))) }
+{
+    for course in 0..plan.instance().courses() {
+        put_seats_item(out, plan, labels, course)?;
+    }
+    Ok(())
+}
+
+// ---- isolated lectures of a curriculum
+
+/// Returns whether an entry is an isolated one of a curriculum.
+fn is_isolated_in(plan: &Plan<'_, '_>, curriculum: u32, entry: &Entry) -> bool
+    requires { InRange plan.now.problem entry.now }
+    ensures { result ≡ (in_curriculum plan.now.problem curriculum entry.now.course && is_isolated plan.now.problem plan.now.table curriculum entry.now) }
+{
+    plan.instance().in_curriculum(curriculum, entry.course) && is_isolated(plan, curriculum, entry)
+}
+
+/// Counts the isolated lectures of a curriculum.
+#[tactic(auto, using(std::proofs::lemmas::List::Sums::count_by_more_yes, std::proofs::lemmas::List::Sums::count_by_more_no))]
+fn isolated_count(plan: &Plan<'_, '_>, curriculum: u32) -> u64
+    ensures count { result ≡ count_by (λ e. in_curriculum plan.now.problem curriculum e.course && is_isolated plan.now.problem plan.now.table curriculum e) plan.now.table }
+    ensures few { result ≤ MAX_ENTRIES }
+{
+    let mut count: u64 = 0;
+    for entry in plan.entries() {
+        if is_isolated_in(plan, curriculum, entry) {
+            count += 1;
+        }
+    }
+    count
+}
+
+/// Appends a lecture: when, its course and teacher, and its room.
+#[tactic(auto, unfolding(crate::specs::Grouped::isolated_line))]
+fn put_isolated_line(
+    out: &mut Vec<u8>,
+    instance: &Instance<'_>,
+    labels: &Labels,
+    curriculum: u32,
+    entry: &Entry,
+) -> Result<(), AllocError>
+    requires { InRange instance.now entry.now }
+    ensures { OnOk result (out.new.items ≡ out.old.items ++ isolated_line instance.now labels.now curriculum entry.now) }
+{
+    put_token(out, b"<li>")?;
+    put_when_link(out, labels, Kind::Curriculum, curriculum, entry)?;
+    put_token(out, b", ")?;
+    put_course_and_teacher(out, instance, entry.course)?;
+    put_token(out, b", in ")?;
+    put_week_link(out, instance, Kind::Room, entry.room)?;
+    put_token(out, b"</li>\n")
+}
+
+/// Appends an entry if it is an isolated one of the curriculum.
+#[tactic(auto, unfolding(crate::specs::Grouped::isolated_item))]
+fn put_isolated_item(
+    out: &mut Vec<u8>,
+    plan: &Plan<'_, '_>,
+    labels: &Labels,
+    curriculum: u32,
+    entry: &Entry,
+) -> Result<(), AllocError>
+    requires { InRange plan.now.problem entry.now }
+    ensures { OnOk result (out.new.items ≡ out.old.items ++ isolated_item plan.now.problem plan.now.table labels.now curriculum entry.now) }
+{
+    if !is_isolated_in(plan, curriculum, entry) {
+        return Ok(());
+    }
+    put_isolated_line(out, plan.instance(), labels, curriculum, entry)
+}
+
+#[tactic(auto, using(tt_page_text::proofs::Growing::taken_further))]
+fn put_isolated_items(
+    out: &mut Vec<u8>,
+    plan: &Plan<'_, '_>,
+    labels: &Labels,
+    curriculum: u32,
+) -> Result<(), AllocError>
+    ensures { OnOk result (out.new.items ≡ out.old.items
+        ++ flat_map (isolated_item plan.now.problem plan.now.table labels.now curriculum) plan.now.table) }
+{
+    for entry in plan.entries() {
+        put_isolated_item(out, plan, labels, curriculum, entry)?;
+    }
+    Ok(())
+}
+
+/// Appends a curriculum and its isolated lectures.
+#[tactic(auto, unfolding(crate::specs::Grouped::isolated_told))]
+fn put_isolated_told(
+    out: &mut Vec<u8>,
+    plan: &Plan<'_, '_>,
+    labels: &Labels,
+    curriculum: u32,
+) -> Result<(), AllocError>
+    requires { curriculum < length plan.now.problem.curricula }
+    ensures { OnOk result (out.new.items ≡ out.old.items ++ isolated_told plan.now.problem plan.now.table labels.now curriculum) }
+{
+    put_week_link(out, plan.instance(), Kind::Curriculum, curriculum)?;
+    put_token(out, b"\n<ul>\n")?;
+    put_isolated_items(out, plan, labels, curriculum)?;
+    put_token(out, b"</ul>\n")
+}
+
+/// Appends the item of a curriculum.
+#[tactic(auto, unfolding(crate::specs::Grouped::curriculum_item))]
+fn put_curriculum_item(
+    out: &mut Vec<u8>,
+    plan: &Plan<'_, '_>,
+    labels: &Labels,
+    curriculum: u32,
+) -> Result<(), AllocError>
+    requires { curriculum < length plan.now.problem.curricula }
+    ensures { OnOk result (out.new.items ≡ out.old.items ++ curriculum_item plan.now.problem plan.now.table labels.now curriculum) }
+{
+    let adds = 2 * isolated_count(plan, curriculum);
+    if adds == 0 {
+        return Ok(());
+    }
+    put_item_head(out, adds)?;
+    put_isolated_told(out, plan, labels, curriculum)?;
+    put_item_end(out)
+}
+
+#[tactic(auto, using(tt_page_text::proofs::Growing::text_further))]
+fn put_curriculum_items(
+    out: &mut Vec<u8>,
+    plan: &Plan<'_, '_>,
+    labels: &Labels,
+) -> Result<(), AllocError>
+    ensures { OnOk result (out.new.items ≡ out.old.items
+        ++ flat_map (curriculum_item plan.now.problem plan.now.table labels.now) (range_below (length plan.now.problem.curricula))) }
+{
+    for curriculum in 0..plan.instance().curricula() {
+        put_curriculum_item(out, plan, labels, curriculum)?;
+    }
+    Ok(())
+}
+
+// ---- all items of a list
+
+/// Appends all items of a list.
+#[tactic(auto, unfolding(crate::specs::Grouped::items_text))]
+pub fn put_items(
+    out: &mut Vec<u8>,
+    plan: &Plan<'_, '_>,
+    labels: &Labels,
+    rule: Rule,
+) -> Result<(), AllocError>
+    ensures { OnOk result (out.new.items ≡ out.old.items ++ items_text plan.now.problem plan.now.table labels.now rule) }
+{
+    match rule {
+        Rule::Lectures | Rule::WorkingDays | Rule::RoomStability => {
+            put_course_items(out, plan, rule)
+        }
+        Rule::RoomCapacity => put_seats_items(out, plan, labels),
+        Rule::Compactness => put_curriculum_items(out, plan, labels),
+        Rule::Conflicts | Rule::RoomOccupancy | Rule::Availability => {
+            put_entry_items(out, plan, labels, rule)
+        }
+    }
+}

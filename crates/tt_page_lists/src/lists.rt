@@ -1,0 +1,222 @@
+//! The two tables of counts, and a list for each count above 0.
+
+ghost use Rattle.std.specs.Prelude.{◌≡◌, ◌++◌, OnOk};
+ghost use Rattle.tt_rules.specs.Score.{IsScore};
+ghost use Rattle.tt_page_lists.specs.Lists.{row_begin, count_row, total_row, rule_row, hard_table, cost_table, list_head, broken_head, costs_head, list_text, lists_text};
+
+use crate::grouped::put_items;
+use crate::rule::Rule;
+use std::alloc::AllocError;
+use tt_page_plan::Plan;
+use tt_page_text::{Labels, Part, put};
+use tt_rules::Score;
+use tt_text::put_token;
+
+/// Returns the beginning of a row: a row of a count of 0 has a class of its own.
+fn row_begin(count: u64) -> &'static str
+    ensures { result.now ≡ row_begin count }
+{
+    if count == 0 {
+        "<tr class=\"none\"><th scope=\"row\">"
+    } else {
+        "<tr><th scope=\"row\">"
+    }
+}
+
+/// Appends a row of a table of counts.
+#[tactic(auto, unfolding(crate::specs::Lists::count_row))]
+fn put_count_row<'x>(
+    out: &mut Vec<u8>,
+    title: &'x str,
+    count: u64,
+    meaning: &'x str,
+) -> Result<(), AllocError>
+    ensures { OnOk result (out.new.items ≡ out.old.items ++ count_row title.now count meaning.now) }
+{
+    put(
+        out,
+        &[
+            Part::Text(row_begin(count)),
+            Part::Text(title),
+            Part::Text("</th><td>"),
+            Part::Count(count),
+            Part::Text("</td><td>"),
+            Part::Text(meaning),
+            Part::Text("</td></tr>\n"),
+        ],
+    )
+}
+
+/// Appends the row of a total.
+#[tactic(auto, unfolding(crate::specs::Lists::total_row))]
+fn put_total_row<'x>(
+    out: &mut Vec<u8>,
+    title: &'x str,
+    count: u64,
+    meaning: &'x str,
+) -> Result<(), AllocError>
+    ensures { OnOk result (out.new.items ≡ out.old.items ++ total_row title.now count meaning.now) }
+{
+    put(
+        out,
+        &[
+            Part::Text("<tr><th scope=\"row\">"),
+            Part::Text(title),
+            Part::Text("</th><td>"),
+            Part::Count(count),
+            Part::Text("</td><td>"),
+            Part::Text(meaning),
+            Part::Text("</td></tr>\n"),
+        ],
+    )
+}
+
+#[tactic(auto, unfolding(crate::specs::Lists::rule_row))]
+fn put_rule_row(
+    out: &mut Vec<u8>,
+    plan: &Plan<'_, '_>,
+    score: &Score,
+    rule: Rule,
+) -> Result<(), AllocError>
+    requires { IsScore plan.now.problem plan.now.table score.now }
+    ensures { OnOk result (out.new.items ≡ out.old.items ++ rule_row plan.now.problem plan.now.table rule) }
+{
+    let count = rule.count(plan, score);
+    put_count_row(out, rule.title(), count, rule.meaning())
+}
+
+/// Appends the table of the hard rules.
+#[tactic(auto, unfolding(crate::specs::Lists::hard_table, crate::specs::Lists::table_foot, crate::specs::Lists::table_end))]
+pub fn put_hard_table(
+    out: &mut Vec<u8>,
+    plan: &Plan<'_, '_>,
+    score: &Score,
+) -> Result<(), AllocError>
+    requires { IsScore plan.now.problem plan.now.table score.now }
+    ensures { OnOk result (out.new.items ≡ out.old.items ++ hard_table plan.now.problem plan.now.table) }
+{
+    put_token(
+        out,
+        b"<table class=\"counts\" id=\"hard\">\n<caption>Hard rules</caption>\n<tbody>\n",
+    )?;
+    put_rule_row(out, plan, score, Rule::Lectures)?;
+    put_rule_row(out, plan, score, Rule::Conflicts)?;
+    put_rule_row(out, plan, score, Rule::Availability)?;
+    put_rule_row(out, plan, score, Rule::RoomOccupancy)?;
+    put_token(out, b"</tbody>\n<tfoot>\n")?;
+    put_total_row(out, "Hard", score.hard(), "0 in a feasible timetable")?;
+    put_token(out, b"</tfoot>\n</table>\n")
+}
+
+/// Appends the table of the costs.
+#[tactic(auto, unfolding(crate::specs::Lists::cost_table, crate::specs::Lists::table_foot, crate::specs::Lists::table_end))]
+pub fn put_cost_table(
+    out: &mut Vec<u8>,
+    plan: &Plan<'_, '_>,
+    score: &Score,
+) -> Result<(), AllocError>
+    requires { IsScore plan.now.problem plan.now.table score.now }
+    ensures { OnOk result (out.new.items ≡ out.old.items ++ cost_table plan.now.problem plan.now.table) }
+{
+    put_token(
+        out,
+        b"<table class=\"counts\" id=\"cost\">\n<caption>Costs</caption>\n<tbody>\n",
+    )?;
+    put_rule_row(out, plan, score, Rule::RoomCapacity)?;
+    put_rule_row(out, plan, score, Rule::WorkingDays)?;
+    put_rule_row(out, plan, score, Rule::Compactness)?;
+    put_rule_row(out, plan, score, Rule::RoomStability)?;
+    put_token(out, b"</tbody>\n<tfoot>\n")?;
+    put_total_row(out, "Cost", score.cost(), "less is better")?;
+    put_token(out, b"</tfoot>\n</table>\n")
+}
+
+/// Appends the beginning of a list.
+#[tactic(auto, unfolding(crate::specs::Lists::list_head))]
+fn put_list_head(out: &mut Vec<u8>, rule: Rule, count: u64) -> Result<(), AllocError>
+    ensures { OnOk result (out.new.items ≡ out.old.items ++ list_head rule count) }
+{
+    if rule.is_hard() {
+        put_broken_head(out, rule, count)
+    } else {
+        put_costs_head(out, rule, count)
+    }
+}
+
+#[tactic(auto, unfolding(crate::specs::Lists::broken_head))]
+fn put_broken_head(out: &mut Vec<u8>, rule: Rule, count: u64) -> Result<(), AllocError>
+    ensures { OnOk result (out.new.items ≡ out.old.items ++ broken_head rule count) }
+{
+    put(
+        out,
+        &[
+            Part::Text("<details open class=\"broken\" id=\""),
+            Part::Text(rule.word()),
+            Part::Text("\">\n<summary><h2>"),
+            Part::Text(rule.title()),
+            Part::Text(" <strong>"),
+            Part::Count(count),
+            Part::Text("</strong></h2></summary>\n<ul>\n"),
+        ],
+    )
+}
+
+#[tactic(auto, unfolding(crate::specs::Lists::costs_head))]
+fn put_costs_head(out: &mut Vec<u8>, rule: Rule, count: u64) -> Result<(), AllocError>
+    ensures { OnOk result (out.new.items ≡ out.old.items ++ costs_head rule count) }
+{
+    put(
+        out,
+        &[
+            Part::Text("<details open class=\"costs\" id=\""),
+            Part::Text(rule.word()),
+            Part::Text("\">\n<summary><h2>"),
+            Part::Text(rule.title()),
+            Part::Text(" <mark>"),
+            Part::Count(count),
+            Part::Text("</mark></h2></summary>\n<ul>\n"),
+        ],
+    )
+}
+
+/// Appends a list if its count is above 0.
+#[tactic(auto, unfolding(crate::specs::Lists::list_text))]
+fn put_list(
+    out: &mut Vec<u8>,
+    plan: &Plan<'_, '_>,
+    labels: &Labels,
+    score: &Score,
+    rule: Rule,
+) -> Result<(), AllocError>
+    requires { IsScore plan.now.problem plan.now.table score.now }
+    ensures { OnOk result (out.new.items ≡ out.old.items ++ list_text plan.now.problem plan.now.table labels.now rule) }
+{
+    let count = rule.count(plan, score);
+    if count == 0 {
+        return Ok(());
+    }
+    put_list_head(out, rule, count)?;
+    put_items(out, plan, labels, rule)?;
+    put_token(out, b"</ul>\n</details>\n")
+}
+
+/// Appends the lists of all counts above 0.
+#[tactic(auto, unfolding(crate::specs::Lists::lists_text))]
+pub fn put_lists(
+    out: &mut Vec<u8>,
+    plan: &Plan<'_, '_>,
+    labels: &Labels,
+    score: &Score,
+) -> Result<(), AllocError>
+    requires { IsScore plan.now.problem plan.now.table score.now }
+    ensures { OnOk result (out.new.items ≡ out.old.items ++ lists_text plan.now.problem plan.now.table labels.now) }
+{
+    put_list(out, plan, labels, score, Rule::Lectures)?;
+    put_list(out, plan, labels, score, Rule::Conflicts)?;
+    put_list(out, plan, labels, score, Rule::Availability)?;
+    put_list(out, plan, labels, score, Rule::RoomOccupancy)?;
+    put_list(out, plan, labels, score, Rule::RoomCapacity)?;
+    put_list(out, plan, labels, score, Rule::WorkingDays)?;
+    put_list(out, plan, labels, score, Rule::Compactness)?;
+    put_list(out, plan, labels, score, Rule::RoomStability)
+}

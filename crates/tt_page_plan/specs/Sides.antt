@@ -1,0 +1,10 @@
+-- The periods immediately before and after an entry's.
+use Rattle.std.specs.Prelude.{◌+◌, Bool, ◌&&◌, ◌==◌}
+use Rattle.tt_instance.specs.declared.cell.Cell.{Cell}
+
+-- On the same day, in the period immediately before or immediately after an entry's.
+abbrev pub is_right_before : Cell → Cell → Bool
+is_right_before e x = (x.day == e.day) && (x.period + 1 == e.period)
+
+abbrev pub is_right_after : Cell → Cell → Bool
+is_right_after e x = (x.day == e.day) && (x.period == e.period + 1)

@@ -1,0 +1,146 @@
+//! Links to the parts of a page.
+
+ghost use Rattle.std.specs.Prelude.{◌≡◌, ◌<◌, ◌++◌, length, OnOk};
+ghost use Rattle.tt_instance.specs.Cells.{InRange};
+ghost use Rattle.tt_page_plan.specs.Kinds.{count_of, teacher_of};
+ghost use Rattle.tt_page_plan.specs.declared.kind.Kind.TheVariants as kinds;
+ghost use Rattle.tt_page_plan.specs.Links.{course_link, week_link, cell_link, cell_anchor, when_link};
+
+use crate::kind::{Kind, course_name, teacher_of};
+use std::alloc::AllocError;
+use tt_instance::Instance;
+use tt_page_text::{Labels, Part, put, put_when};
+use tt_table::Entry;
+use tt_text::put_token;
+
+/// Appends a link to the row of a course.
+#[tactic(auto, unfolding(crate::specs::Links::course_link))]
+pub fn put_course_link(
+    out: &mut Vec<u8>,
+    instance: &Instance<'_>,
+    course: u32,
+) -> Result<(), AllocError>
+    requires { course < length instance.now.courses }
+    ensures { OnOk result (out.new.items ≡ out.old.items ++ course_link instance.now course) }
+{
+    let name = course_name(instance, course);
+    put(
+        out,
+        &[
+            Part::Text("<a href=\"#course"),
+            Part::Number(course),
+            Part::Text("\">"),
+            Part::Name(name),
+            Part::Text("</a>"),
+        ],
+    )
+}
+
+/// Appends a link to a week.
+#[tactic(auto, unfolding(crate::specs::Links::week_link))]
+pub fn put_week_link(
+    out: &mut Vec<u8>,
+    instance: &Instance<'_>,
+    kind: Kind,
+    number: u32,
+) -> Result<(), AllocError>
+    requires { number < count_of instance.now kind }
+    ensures { OnOk result (out.new.items ≡ out.old.items ++ week_link instance.now kind number) }
+{
+    let name = kind.name(instance, number);
+    put(
+        out,
+        &[
+            Part::Text("<a href=\"#"),
+            Part::Text(kind.word()),
+            Part::Number(number),
+            Part::Text("\">"),
+            Part::Name(name),
+            Part::Text("</a>"),
+        ],
+    )
+}
+
+/// Appends a link from an entry to its cell in a week.
+#[tactic(auto, unfolding(crate::specs::Links::cell_link))]
+pub fn put_cell_link(
+    out: &mut Vec<u8>,
+    instance: &Instance<'_>,
+    kind: Kind,
+    number: u32,
+    entry: &Entry,
+) -> Result<(), AllocError>
+    requires { InRange instance.now entry.now }
+    ensures { OnOk result (out.new.items ≡ out.old.items ++ cell_link instance.now kind number entry.now) }
+{
+    let name = course_name(instance, entry.course);
+    put(
+        out,
+        &[
+            Part::Text("<a href=\"#"),
+            Part::Text(kind.word()),
+            Part::Number(number),
+            Part::Text("-"),
+            Part::Number(entry.day),
+            Part::Text("-"),
+            Part::Number(entry.period),
+            Part::Text("\">"),
+            Part::Name(name),
+            Part::Text("</a>"),
+        ],
+    )
+}
+
+/// Appends the name of a course's teacher, as a link to the teacher's week.
+pub fn put_teacher_link(
+    out: &mut Vec<u8>,
+    instance: &Instance<'_>,
+    course: u32,
+) -> Result<(), AllocError>
+    requires { course < length instance.now.courses }
+    ensures { OnOk result (out.new.items ≡ out.old.items ++ week_link instance.now kinds.Teacher (teacher_of instance.now course)) }
+{
+    let teacher = teacher_of(instance, course);
+    put_week_link(out, instance, Kind::Teacher, teacher)
+}
+
+/// Appends the beginning of a link from an entry to its cell in a week.
+#[tactic(auto, unfolding(crate::specs::Links::cell_anchor))]
+fn put_cell_anchor(
+    out: &mut Vec<u8>,
+    kind: Kind,
+    number: u32,
+    entry: &Entry,
+) -> Result<(), AllocError>
+    ensures { OnOk result (out.new.items ≡ out.old.items ++ cell_anchor kind number entry.now) }
+{
+    put(
+        out,
+        &[
+            Part::Text("<a href=\"#"),
+            Part::Text(kind.word()),
+            Part::Number(number),
+            Part::Text("-"),
+            Part::Number(entry.day),
+            Part::Text("-"),
+            Part::Number(entry.period),
+            Part::Text("\">"),
+        ],
+    )
+}
+
+/// Appends a link from the day and the period of an entry to its cell in a week.
+#[tactic(auto, unfolding(crate::specs::Links::when_link))]
+pub fn put_when_link(
+    out: &mut Vec<u8>,
+    labels: &Labels,
+    kind: Kind,
+    number: u32,
+    entry: &Entry,
+) -> Result<(), AllocError>
+    ensures { OnOk result (out.new.items ≡ out.old.items ++ when_link labels.now kind number entry.now) }
+{
+    put_cell_anchor(out, kind, number, entry)?;
+    put_when(out, labels, entry.day, entry.period)?;
+    put_token(out, b"</a>")
+}

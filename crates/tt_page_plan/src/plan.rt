@@ -1,0 +1,120 @@
+//! A timetable of an instance, its entries by period and by course.
+
+ghost use Rattle.std.specs.Prelude.{◌≡◌, ◌+◌, ◌<◌, ◌≤◌, length, filter, drop, All, Some, slice_get, IfSome};
+ghost use Rattle.tt_instance.specs.Cells.{InRange, is_of, is_at, slot, slot_of};
+ghost use Rattle.tt_table.specs.Table.{IsTimetable};
+ghost use Rattle.tt_table.specs.declared.table.TheConstants.{MAX_ENTRIES};
+ghost use Rattle.tt_table.specs.declared.groups.GroupBy.TheVariants as by;
+ghost use Rattle.tt_page_plan.specs.Planned.{Planned};
+
+use std::marker::Model;
+use tt_instance::{Instance, MAX_COURSES};
+use tt_table::{Entry, Group, GroupBy, Groups, Timetable};
+
+/// A timetable of an instance, its entries by period and by course.
+#[derive(Drop)]
+pub struct Plan<'w, 'i> {
+    instance: &'w Instance<'i>,
+    entries: &'w [Entry],
+    by_period: Groups<'w>,
+    by_course: Groups<'w>,
+}
+
+impl<'w, 'i> Model for Plan<'w, 'i> {
+    ghost use Rattle.tt_page_plan.specs.Planned.{Planned};
+
+    ghost Value = { Planned };
+
+    ghost view = { λ s. record { problem = s.instance.now; table = s.entries.now } };
+
+    ghost use Rattle.tt_page_plan.specs.Plans.{IsPlan};
+
+    ghost invariant = { IsPlan };
+}
+
+/// Groups the entries by the period of the week.
+fn by_period<'t>(instance: &Instance<'_>, entries: &'t [Entry]) -> Groups<'t>
+    requires in_range { All (InRange instance.now) entries.now }
+    requires few { length entries.now ≤ MAX_ENTRIES }
+    ensures { result ≡ record { by = by.Period instance.now.periods; entries = entries.now } }
+{
+    Groups::new(entries, GroupBy::Period(instance.periods()))
+}
+
+/// Groups the entries by course.
+fn by_course<'t>(instance: &Instance<'_>, entries: &'t [Entry]) -> Groups<'t>
+    requires in_range { All (InRange instance.now) entries.now }
+    requires few { length entries.now ≤ MAX_ENTRIES }
+    ensures { result ≡ record { by = by.Course; entries = entries.now } }
+{
+    // This holds for every instance: each course is a group.
+    prove!(instance.courses() <= MAX_COURSES);
+    Groups::new(entries, GroupBy::Course)
+}
+
+impl<'w, 'i> Plan<'w, 'i> {
+    /// Returns the plan of a timetable, whose entries are all in the instance's range.
+    pub fn new(instance: &'w Instance<'i>, table: &'w Timetable) -> Plan<'w, 'i>
+        requires { IsTimetable instance.now table.now }
+        ensures { result ≡ record { problem = instance.now; table = table.now } }
+    {
+        let entries = table.entries();
+        let by_period = by_period(instance, entries);
+        let by_course = by_course(instance, entries);
+        Plan {
+            instance,
+            entries,
+            by_period,
+            by_course,
+        }
+    }
+
+    /// Returns the instance.
+    pub fn instance(&self) -> &'w Instance<'i>
+        ensures { result.now ≡ self.now.problem }
+    {
+        self.instance
+    }
+
+    /// Returns the entries in order.
+    pub fn entries(&self) -> &'w [Entry]
+        ensures value { result.now ≡ self.now.table }
+        ensures in_range { All (InRange self.now.problem) result.now }
+        ensures few { length result.now ≤ MAX_ENTRIES }
+    {
+        self.entries
+    }
+
+    /// Returns the entries of a period.
+    pub fn in_period(&self, day: u32, period: u32) -> Group<'_>
+        requires day { day < self.now.problem.days }
+        requires period { period < self.now.problem.periods }
+        ensures group { result ≡ filter (is_at (slot day period)) self.now.table }
+        ensures in_range { All (InRange self.now.problem) result }
+        ensures few { length result ≤ MAX_ENTRIES }
+    {
+        self.by_period.in_period(self.instance, day, period)
+    }
+
+    /// Returns the entries of a course.
+    pub fn of_course(&self, course: u32) -> Group<'_>
+        requires { course < length self.now.problem.courses }
+        ensures group { result ≡ filter (is_of course) self.now.table }
+        ensures in_range { All (InRange self.now.problem) result }
+        ensures few { length result ≤ MAX_ENTRIES }
+    {
+        let _courses = self.instance.courses();
+        self.by_course.of_course(course)
+    }
+
+    /// Returns the later entries of an entry's period.
+    pub fn later(&self, index: u32) -> Group<'_>
+        requires { index < length self.now.table }
+        ensures group { IfSome (slice_get self.now.table index)
+            (λ e. result ≡ filter (is_at (slot_of e)) (drop (index + 1) self.now.table)) }
+        ensures in_range { All (InRange self.now.problem) result }
+        ensures few { length result ≤ MAX_ENTRIES }
+    {
+        self.by_period.after(index)
+    }
+}

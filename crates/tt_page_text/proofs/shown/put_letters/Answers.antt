@@ -1,0 +1,10 @@
+use Rattle.std.proofs.Common.{ℕ, List, ◌++◌, flat_map, sym, ap, ◌∙◌, map-id}
+use Rattle.std.proofs.lemmas.Iterator.{YieldsList-from_chars}
+use Rattle.std.proofs.lemmas.Iterator.Consumers.{YieldsList-end}
+use Rattle.tt_page_text.specs.Shown.{letter_text}
+use Rattle.tt_page_text.proofs.shown.put_letters.Goals as goal
+
+pub returns : goal.returns
+returns c =
+    let end = YieldsList-end (YieldsList-from_chars c.args.text.now c.utf8.text cc) c.loop-letter.yielded _ c.loop-letter.yielded_by _ _ c.in-None.is c.next.ensures.steps in
+    c.loop-letter.invariant ∙ ap (λ (cs : List ℕ). c.args.out.now.items ++ flat_map letter_text cs) (sym (map-id c.loop-letter.yielded) ∙ end.0)

@@ -1,0 +1,5 @@
+pub mod Labelled
+pub mod Labels
+pub mod Markup
+pub mod Naming
+pub mod Shown

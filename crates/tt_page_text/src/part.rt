@@ -1,0 +1,59 @@
+//! Pieces of a page, in turn.
+
+ghost use Rattle.std.specs.Prelude.{◌≡◌, ◌++◌, OnOk};
+ghost use Rattle.tt_page_text.specs.Markup.{part_text, parts_text, counted};
+
+use crate::shown::put_shown;
+use std::alloc::AllocError;
+use tt_text::{put_number, put_token};
+
+/// A piece of a page.
+#[derive(Clone, Copy)]
+pub enum Part<'a> {
+    /// Markup and words of the program's own.
+    Text(&'a str),
+    Number(u32),
+    Count(u64),
+    /// A name of the instance, which is never taken for markup.
+    Name(&'a [u8]),
+}
+
+fn put_part(out: &mut Vec<u8>, part: Part<'_>) -> Result<(), AllocError>
+    ensures { OnOk result (out.new.items ≡ out.old.items ++ part_text part.entry) }
+{
+    match part {
+        Part::Text(text) => put_token(out, text.as_bytes()),
+        Part::Number(number) => put_number(out, u64::from(number)),
+        Part::Count(count) => put_number(out, count),
+        Part::Name(name) => put_shown(out, name),
+    }
+}
+
+/// Appends pieces.
+#[tactic(auto, using(crate::proofs::Growing::taken_further))]
+pub fn put(out: &mut Vec<u8>, parts: &[Part<'_>]) -> Result<(), AllocError>
+    ensures { OnOk result (out.new.items ≡ out.old.items ++ parts_text parts.now) }
+{
+    for part in parts {
+        put_part(out, *part)?;
+    }
+    Ok(())
+}
+
+/// Appends a number between two texts, unless it is 0.
+pub fn put_counted<'x>(
+    out: &mut Vec<u8>,
+    before: &'x str,
+    number: u64,
+    behind: &'x str,
+) -> Result<(), AllocError>
+    ensures { OnOk result (out.new.items ≡ out.old.items ++ counted before.now number behind.now) }
+{
+    if number == 0 {
+        return Ok(());
+    }
+    put(
+        out,
+        &[Part::Text(before), Part::Count(number), Part::Text(behind)],
+    )
+}

@@ -1,0 +1,8 @@
+use Rattle.std.proofs.Common.{◌≡◌, ◌++◌}
+use Rattle.std.specs.Prelude.{flat_map}
+use Rattle.tt_lists.specs.Words.{range_below}
+use Rattle.tt_page_weeks.specs.Grids.{day_head}
+use Rattle.tt_page_weeks.proofs.grids.put_day_heads.Given as goal
+
+abbrev pub invariant-loop-day : goal.invariant-loop-day
+invariant-loop-day l = l.out.items ≡ l.initial.out.items ++ flat_map (day_head l.labels) (range_below l.day)

@@ -1,0 +1,32 @@
+use Rattle.std.proofs.Common.{◌≡◌, true, false, All, subst, sym, ap, ◌∙◌}
+use Rattle.std.proofs.lemmas.List.Elements.{All-tail}
+use Rattle.tt_instance.specs.Problem.{Problem}
+use Rattle.tt_instance.specs.Cells.{InRange}
+use Rattle.tt_page_plan.specs.Kinds.{belongs_to}
+use Rattle.tt_page_weeks.specs.Lectures.{lecture_text}
+use Rattle.tt_page_weeks.proofs.Passing.{shown_one, passed_one}
+use Rattle.tt_page_weeks.proofs.grids.put_lectures.Goals as goal
+
+pub loop-entry-preserved-in-Continue-1 : goal.loop-entry-preserved-in-Continue-1
+loop-entry-preserved-in-Continue-1 c =
+    let p = c.args.plan.now.problem in
+    let t = c.args.plan.now.table in
+    let e = c.in-Some.entry.now in
+    let first = c.in-Some.ensures.steps in
+    let own : belongs_to p c.args.kind c.args.number e ≡ true = ap (λ (q : Problem). belongs_to q c.args.kind c.args.number e) (sym c.instance.ensures) ∙ sym c.has.ensures ∙ c.if-has.true in
+    record {
+      text = shown_one (belongs_to p c.args.kind c.args.number) (lecture_text p t c.args.labels.now c.args.kind c.args.number) e c.next.new.self c.loop-entry.entry-iterator _ c.loop-entry.out.items c.put_lecture.new.out.items first own c.in_ok-put_lecture.ensures c.loop-entry.invariant.text;
+      left = All-tail (InRange p) e c.next.new.self (subst (All (InRange p)) first c.loop-entry.invariant.left);
+    }
+
+pub loop-entry-preserved : goal.loop-entry-preserved
+loop-entry-preserved c =
+    let p = c.args.plan.now.problem in
+    let t = c.args.plan.now.table in
+    let e = c.in-Some.entry.now in
+    let first = c.in-Some.ensures.steps in
+    let other : belongs_to p c.args.kind c.args.number e ≡ false = ap (λ (q : Problem). belongs_to q c.args.kind c.args.number e) (sym c.instance.ensures) ∙ sym c.has.ensures ∙ c.if-has.false in
+    record {
+      text = passed_one (belongs_to p c.args.kind c.args.number) (lecture_text p t c.args.labels.now c.args.kind c.args.number) e c.next.new.self c.loop-entry.entry-iterator _ c.loop-entry.out.items first other c.loop-entry.invariant.text;
+      left = All-tail (InRange p) e c.next.new.self (subst (All (InRange p)) first c.loop-entry.invariant.left);
+    }

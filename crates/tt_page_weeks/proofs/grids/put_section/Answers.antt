@@ -1,0 +1,13 @@
+use Rattle.std.proofs.lemmas.Result.{on_ok_weaker}
+use Rattle.tt_page_weeks.specs.Grids.{section_text}
+use Rattle.tt_page_text.proofs.Growing.{then_more}
+use Rattle.tt_page_weeks.proofs.grids.put_section.Goals as goal
+
+pub returns : goal.returns
+unfolding section_text
+returns c =
+    let head = rw c.instance.ensures at c.in_ok-put_section_head.ensures in
+    let index = rw c.instance-2.ensures at c.in_ok-put_index.ensures in
+    on_ok_weaker c.put_token-2.result
+    (λ last. then_more _ _ _ _ _ (then_more _ _ _ _ _ (then_more _ _ _ _ _ (then_more _ _ _ _ _ head index) c.in_ok-put_token.ensures.ok) c.in_ok-put_grids.ensures) last)
+    c.put_token-2.ensures.ok

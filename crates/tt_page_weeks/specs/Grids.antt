@@ -1,0 +1,103 @@
+-- The grids of a page: one for each room, teacher and curriculum, with a column for each day and a row for each period of a day.
+use Rattle.std.specs.Prelude.{ℕ, ◌==◌, List, [], ◌∷◌, ◌++◌, filter, flat_map, codes, if◌then◌else◌}
+use Rattle.tt_lists.specs.Words.{range_below}
+use Rattle.tt_text.specs.Pieces.{Text, Number}
+use Rattle.tt_instance.specs.Problem.{Problem}
+use Rattle.tt_instance.specs.Cells.{all_courses, all_days, slot, is_at}
+use Rattle.tt_instance.specs.Courses.{capacity, unavailable}
+use Rattle.tt_instance.specs.declared.cell.Cell.{Cell}
+use Rattle.tt_page_text.specs.Shown.{shown}
+use Rattle.tt_page_text.specs.Markup.{markup}
+use Rattle.tt_page_text.specs.Labelled.{Labelled}
+use Rattle.tt_page_text.specs.Labels.{day_text, period_text, when_text}
+use Rattle.tt_page_plan.specs.Names.{name_text}
+use Rattle.tt_page_plan.specs.Kinds.{count_of, name_of, course_name, teacher_of, belongs_to, word_of, caption_of, section_of, title_of}
+use Rattle.tt_page_plan.specs.Links.{week_link}
+use Rattle.tt_page_weeks.specs.Lectures.{lecture_text}
+use Rattle.tt_page_plan.specs.declared.kind.Kind.{Kind}
+use Rattle.tt_page_plan.specs.declared.kind.Kind.TheVariants.{Room, Teacher}
+
+-- ---- cells
+
+-- The courses whose unavailable periods a week shows: those of a teacher.
+abbrev pub own_courses : Problem → Kind → ℕ → List ℕ
+own_courses p Teacher k = filter (λ c. teacher_of p c == k) (all_courses p)
+own_courses p _ n = []
+
+-- The text for a course to which a period is unavailable.
+unfoldable pub barred_when : Labelled → ℕ → ℕ → List ℕ
+barred_when labels d s = codes "<div class=\"barred\"><span class=\"when\">" ++ when_text labels d s ++ codes "</span> "
+
+unfoldable pub barred_course : Problem → ℕ → List ℕ
+barred_course p c = markup (Text (codes "not ") ∷ Text (shown (course_name p c)) ∷ Text (codes "</div>\n") ∷ [])
+
+unfoldable pub barred_text : Problem → Labelled → ℕ → ℕ → ℕ → List ℕ
+barred_text p labels d s c = if unavailable p c d s then barred_when labels d s ++ barred_course p c else []
+
+-- The entries of a period that belong to a week, in the order of the list.
+abbrev pub entries_at : Problem → List Cell → Kind → ℕ → ℕ → ℕ → List Cell
+entries_at p t kind n d s = filter (belongs_to p kind n) (filter (is_at (slot d s)) t)
+
+unfoldable pub cell_head : Kind → ℕ → ℕ → ℕ → List ℕ
+cell_head kind n d s = markup (Text (codes "<td id=\"") ∷ Text (word_of kind) ∷ Number n ∷ Text (codes "-") ∷ Number d ∷ Text (codes "-") ∷ Number s ∷ Text (codes "\">\n") ∷ [])
+
+unfoldable pub cell_text : Problem → List Cell → Labelled → Kind → ℕ → List ℕ → ℕ → ℕ → List ℕ
+cell_text p t labels kind n own s d =
+    cell_head kind n d s ++ flat_map (barred_text p labels d s) own
+    ++ flat_map (lecture_text p t labels kind n) (entries_at p t kind n d s) ++ codes "</td>\n"
+
+-- ---- a grid
+
+unfoldable pub row_head : Labelled → ℕ → List ℕ
+row_head labels s = codes "<tr>\n<th scope=\"row\">" ++ period_text labels s ++ codes "</th>\n"
+
+unfoldable pub row_text : Problem → List Cell → Labelled → Kind → ℕ → List ℕ → ℕ → List ℕ
+row_text p t labels kind n own s =
+    row_head labels s ++ flat_map (cell_text p t labels kind n own s) (all_days p) ++ codes "</tr>\n"
+
+-- The seats of a room, in the heading of its week.
+unfoldable pub seats_text : Problem → Kind → ℕ → List ℕ
+seats_text p Room r = markup (Text (codes " ") ∷ Number (capacity p r) ∷ Text (codes " seats") ∷ [])
+seats_text p _ n = []
+
+unfoldable pub grid_head : Problem → Kind → ℕ → List ℕ
+grid_head p kind n = markup (
+    Text (codes "<div class=\"grid\" id=\"") ∷ Text (word_of kind) ∷ Number n ∷ Text (codes "\">\n<h3 id=\"") ∷ Text (word_of kind) ∷ Number n
+    ∷ Text (codes "-name\">") ∷ Text (caption_of kind) ∷ Text (codes " <b>") ∷ Text (shown (name_of p kind n)) ∷ Text (codes "</b>") ∷ [])
+
+-- The end of a heading: the name of the instance, for the sheets of paper.
+unfoldable pub paper_name : Problem → List ℕ
+paper_name p = codes "<span class=\"paper\">, timetable" ++ name_text p ++ codes "</span></h3>\n"
+
+unfoldable pub table_head : Kind → ℕ → List ℕ
+table_head kind n = markup (
+    Text (codes "<table aria-labelledby=\"") ∷ Text (word_of kind) ∷ Number n ∷ Text (codes "-name\">\n<thead>\n<tr>\n<th scope=\"col\">Period</th>\n") ∷ [])
+
+unfoldable pub grid_title : Problem → Kind → ℕ → List ℕ
+grid_title p kind n = grid_head p kind n ++ seats_text p kind n ++ paper_name p ++ table_head kind n
+
+unfoldable pub day_head : Labelled → ℕ → List ℕ
+day_head labels d = codes "<th scope=\"col\">" ++ day_text labels d ++ codes "</th>\n"
+
+unfoldable pub grid_text : Problem → List Cell → Labelled → Kind → ℕ → List ℕ
+grid_text p t labels kind n =
+    grid_title p kind n ++ flat_map (day_head labels) (all_days p)
+    ++ codes "</tr>\n</thead>\n<tbody>\n" ++ flat_map (row_text p t labels kind n (own_courses p kind n)) (range_below p.periods)
+    ++ codes "</tbody>\n</table>\n</div>\n"
+
+-- ---- a section
+
+-- A line of the section's index.
+unfoldable pub index_item : Problem → Kind → ℕ → List ℕ
+index_item p kind n = codes "<li>" ++ week_link p kind n ++ codes "</li>\n"
+
+unfoldable pub section_head : Problem → Kind → List ℕ
+section_head p kind = markup (
+    Text (codes "<details open id=\"") ∷ Text (section_of kind) ∷ Text (codes "\">\n<summary><h2>") ∷ Text (title_of kind)
+    ∷ Text (codes " <small>") ∷ Number (count_of p kind) ∷ Text (codes "</small></h2></summary>\n<ul class=\"index\">\n") ∷ [])
+
+unfoldable pub section_text : Problem → List Cell → Labelled → Kind → List ℕ
+section_text p t labels kind =
+    section_head p kind ++ flat_map (index_item p kind) (range_below (count_of p kind))
+    ++ codes "</ul>\n<div class=\"grids\">\n" ++ flat_map (grid_text p t labels kind) (range_below (count_of p kind))
+    ++ codes "</div>\n</details>\n"

@@ -1,0 +1,53 @@
+-- A lecture in a week: its course, its place or its teacher, and its marks.
+use Rattle.std.specs.Prelude.{ℕ, Bool, List, [], ◌∷◌, ◌++◌, codes, if◌then◌else◌}
+use Rattle.tt_text.specs.Pieces.{Text, Number}
+use Rattle.tt_instance.specs.Problem.{Problem}
+use Rattle.tt_instance.specs.Courses.{unavailable, excess}
+use Rattle.tt_instance.specs.declared.cell.Cell.{Cell}
+use Rattle.tt_rules.specs.Soft.{is_isolated}
+use Rattle.tt_page_text.specs.Shown.{shown}
+use Rattle.tt_page_text.specs.Labelled.{Labelled}
+use Rattle.tt_page_text.specs.Labels.{when_text}
+use Rattle.tt_page_text.specs.Markup.{markup, counted}
+use Rattle.tt_page_plan.specs.Kinds.{course_name, teacher_of}
+use Rattle.tt_page_plan.specs.Links.{week_link}
+use Rattle.tt_page_weeks.specs.Marks.{in_conflict, room_taken, repeated, in_other_room}
+use Rattle.tt_page_plan.specs.declared.kind.Kind.{Kind}
+use Rattle.tt_page_plan.specs.declared.kind.Kind.TheVariants.{Room, Teacher, Curriculum}
+
+-- The part of a lecture that its week doesn't determine: a room's week shows teachers, a teacher's shows rooms, a curriculum's both.
+unfoldable pub beside_text : Problem → Kind → Cell → List ℕ
+beside_text p Room e = week_link p Teacher (teacher_of p e.course)
+beside_text p Teacher e = week_link p Room e.room
+beside_text p Curriculum e = week_link p Room e.room ++ codes " " ++ week_link p Teacher (teacher_of p e.course)
+
+-- A mark, if it applies.
+abbrev pub mark : Bool → List ℕ → List ℕ
+mark holds text = if holds then text else []
+
+-- The mark `isolated`: it is about a curriculum and appears in its own week.
+unfoldable pub isolated_mark : Problem → List Cell → Kind → ℕ → Cell → List ℕ
+isolated_mark p t Curriculum q e = mark (is_isolated p t q e) (codes " <mark>isolated</mark>")
+isolated_mark p t _ n e = []
+
+unfoldable pub marks_text : Problem → List Cell → Kind → ℕ → Cell → List ℕ
+marks_text p t kind n e =
+    mark (in_conflict p t e) (codes " <strong>conflict</strong>")
+    ++ mark (unavailable p e.course e.day e.period) (codes " <strong>unavailable</strong>")
+    ++ mark (room_taken t e) (codes " <strong>room taken</strong>")
+    ++ mark (repeated t e) (codes " <strong>repeated</strong>")
+    ++ isolated_mark p t kind n e
+    ++ counted (codes " <mark>no seat: ") (excess p e.course e.room) (codes "</mark>")
+    ++ mark (in_other_room t e) (codes " <mark>other room</mark>")
+
+-- The beginning of a lecture: when it is.
+unfoldable pub lecture_when : Labelled → Cell → List ℕ
+lecture_when labels e = codes "<div class=\"lecture\"><span class=\"when\">" ++ when_text labels e.day e.period ++ codes "</span> "
+
+unfoldable pub lecture_course : Problem → ℕ → List ℕ
+lecture_course p c = markup (
+    Text (codes "<a class=\"course\" href=\"#course") ∷ Number c ∷ Text (codes "\">") ∷ Text (shown (course_name p c)) ∷ Text (codes "</a> ") ∷ [])
+
+unfoldable pub lecture_text : Problem → List Cell → Labelled → Kind → ℕ → Cell → List ℕ
+lecture_text p t labels kind n e =
+    lecture_when labels e ++ lecture_course p e.course ++ beside_text p kind e ++ marks_text p t kind n e ++ codes "</div>\n"

@@ -1,0 +1,3 @@
+pub mod Grids
+pub mod Lectures
+pub mod Marks

@@ -1,0 +1,483 @@
+//! The grids of a page: one for each room, teacher and curriculum.
+
+ghost use Rattle.std.specs.Prelude.{◌≡◌, ◌<◌, ◌==◌, ◌++◌, length, filter, flat_map, All, OnOk, IfOk};
+ghost use Rattle.tt_lists.specs.Words.{range_below};
+ghost use Rattle.tt_instance.specs.Cells.{InRange, all_courses};
+ghost use Rattle.tt_page_plan.specs.Kinds.{count_of, belongs_to, teacher_of};
+ghost use Rattle.tt_page_weeks.specs.Lectures.{lecture_text};
+ghost use Rattle.tt_page_weeks.specs.Grids.{own_courses, barred_when, barred_course, barred_text, cell_head, cell_text, row_head, row_text, seats_text, grid_head, paper_name, table_head, grid_title, day_head, grid_text, index_item, section_head, section_text};
+
+use crate::lectures::put_lecture;
+use std::alloc::{AllocError, Global};
+use tt_instance::Instance;
+use tt_page_plan::{Kind, Plan, course_name, put_name, put_week_link, teacher_of};
+use tt_page_text::{Labels, Part, put, put_day, put_period, put_when};
+use tt_table::Group;
+use tt_text::put_token;
+
+/// Returns the courses of a teacher.
+fn courses_of(alloc: Global, instance: &Instance<'_>, teacher: u32) -> Result<Vec<u32>, AllocError>
+    ensures { IfOk result (λ own. own.items ≡ filter (λ c. teacher_of instance.now c == teacher) (all_courses instance.now)) }
+{
+    let mut own = Vec::new(alloc);
+    for course in 0..instance.courses() {
+        if teacher_of(instance, course) != teacher {
+            continue;
+        }
+        own.push(course)?;
+    }
+    Ok(own)
+}
+
+/// Returns the courses whose unavailable periods a week shows.
+fn own_courses(
+    alloc: Global,
+    instance: &Instance<'_>,
+    kind: Kind,
+    number: u32,
+) -> Result<Vec<u32>, AllocError>
+    ensures { IfOk result (λ own. own.items ≡ own_courses instance.now kind number) }
+{
+    match kind {
+        Kind::Teacher => courses_of(alloc, instance, number),
+        Kind::Room | Kind::Curriculum => Ok(Vec::new(alloc)),
+    }
+}
+
+/// Appends the beginning of the text for a course to which a period is unavailable.
+#[tactic(auto, unfolding(crate::specs::Grids::barred_when))]
+fn put_barred_when(
+    out: &mut Vec<u8>,
+    labels: &Labels,
+    day: u32,
+    period: u32,
+) -> Result<(), AllocError>
+    ensures { OnOk result (out.new.items ≡ out.old.items ++ barred_when labels.now day period) }
+{
+    put_token(out, b"<div class=\"barred\"><span class=\"when\">")?;
+    put_when(out, labels, day, period)?;
+    put_token(out, b"</span> ")
+}
+
+#[tactic(auto, unfolding(crate::specs::Grids::barred_course))]
+fn put_barred_course(
+    out: &mut Vec<u8>,
+    instance: &Instance<'_>,
+    course: u32,
+) -> Result<(), AllocError>
+    requires { course < length instance.now.courses }
+    ensures { OnOk result (out.new.items ≡ out.old.items ++ barred_course instance.now course) }
+{
+    let name = course_name(instance, course);
+    put(
+        out,
+        &[Part::Text("not "), Part::Name(name), Part::Text("</div>\n")],
+    )
+}
+
+/// Appends the text for a course to which a period is unavailable.
+#[tactic(auto, unfolding(crate::specs::Grids::barred_text))]
+fn put_barred(
+    out: &mut Vec<u8>,
+    instance: &Instance<'_>,
+    labels: &Labels,
+    day: u32,
+    period: u32,
+    course: u32,
+) -> Result<(), AllocError>
+    requires { course < length instance.now.courses }
+    ensures { OnOk result (out.new.items ≡ out.old.items ++ barred_text instance.now labels.now day period course) }
+{
+    if !instance.unavailable(course, day, period) {
+        return Ok(());
+    }
+    put_barred_when(out, labels, day, period)?;
+    put_barred_course(out, instance, course)
+}
+
+/// Appends the texts for those of some courses to which a period is unavailable.
+#[tactic(auto, using(tt_page_text::proofs::Growing::taken_further))]
+fn put_all_barred(
+    out: &mut Vec<u8>,
+    instance: &Instance<'_>,
+    labels: &Labels,
+    courses: &[u32],
+    day: u32,
+    period: u32,
+) -> Result<(), AllocError>
+    requires { All (λ c. c < length instance.now.courses) courses.now }
+    ensures { OnOk result (out.new.items ≡ out.old.items ++ flat_map (barred_text instance.now labels.now day period) courses.now) }
+{
+    for course in courses {
+        put_barred(out, instance, labels, day, period, *course)?;
+    }
+    Ok(())
+}
+
+/// Appends the lectures of those of some entries that belong to a week.
+pub fn put_lectures(
+    out: &mut Vec<u8>,
+    plan: &Plan<'_, '_>,
+    labels: &Labels,
+    kind: Kind,
+    number: u32,
+    entries: Group<'_>,
+) -> Result<(), AllocError>
+    requires { All (InRange plan.now.problem) entries }
+    ensures { OnOk result (out.new.items ≡ out.old.items
+        ++ flat_map (lecture_text plan.now.problem plan.now.table labels.now kind number) (filter (belongs_to plan.now.problem kind number) entries.entry)) }
+{
+    for entry in entries {
+        if kind.has(plan.instance(), number, entry) {
+            put_lecture(out, plan, labels, kind, number, entry)?;
+        }
+    }
+    Ok(())
+}
+
+/// Appends the beginning of a cell.
+#[tactic(auto, unfolding(crate::specs::Grids::cell_head))]
+fn put_cell_head(
+    out: &mut Vec<u8>,
+    kind: Kind,
+    number: u32,
+    day: u32,
+    period: u32,
+) -> Result<(), AllocError>
+    ensures { OnOk result (out.new.items ≡ out.old.items ++ cell_head kind number day period) }
+{
+    put(
+        out,
+        &[
+            Part::Text("<td id=\""),
+            Part::Text(kind.word()),
+            Part::Number(number),
+            Part::Text("-"),
+            Part::Number(day),
+            Part::Text("-"),
+            Part::Number(period),
+            Part::Text("\">\n"),
+        ],
+    )
+}
+
+/// Appends a cell: a period of a day.
+#[tactic(auto, unfolding(crate::specs::Grids::cell_text))]
+fn put_cell(
+    out: &mut Vec<u8>,
+    plan: &Plan<'_, '_>,
+    labels: &Labels,
+    kind: Kind,
+    number: u32,
+    own: &[u32],
+    period: u32,
+    day: u32,
+) -> Result<(), AllocError>
+    requires own { All (λ c. c < length plan.now.problem.courses) own.now }
+    requires period { period < plan.now.problem.periods }
+    requires day { day < plan.now.problem.days }
+    ensures { OnOk result (out.new.items ≡ out.old.items ++ cell_text plan.now.problem plan.now.table labels.now kind number own.now period day) }
+{
+    put_cell_head(out, kind, number, day, period)?;
+    put_all_barred(out, plan.instance(), labels, own, day, period)?;
+    let entries = plan.in_period(day, period);
+    put_lectures(out, plan, labels, kind, number, entries)?;
+    put_token(out, b"</td>\n")
+}
+
+/// Appends the cells of a period.
+#[tactic(auto, using(tt_page_text::proofs::Growing::text_further))]
+fn put_cells(
+    out: &mut Vec<u8>,
+    plan: &Plan<'_, '_>,
+    labels: &Labels,
+    kind: Kind,
+    number: u32,
+    own: &[u32],
+    period: u32,
+) -> Result<(), AllocError>
+    requires own { All (λ c. c < length plan.now.problem.courses) own.now }
+    requires period { period < plan.now.problem.periods }
+    ensures { OnOk result (out.new.items ≡ out.old.items
+        ++ flat_map (cell_text plan.now.problem plan.now.table labels.now kind number own.now period) (range_below plan.now.problem.days)) }
+{
+    for day in 0..plan.instance().days() {
+        put_cell(out, plan, labels, kind, number, own, period, day)?;
+    }
+    Ok(())
+}
+
+/// Appends the beginning of a row: its period.
+#[tactic(auto, unfolding(crate::specs::Grids::row_head))]
+fn put_row_head(out: &mut Vec<u8>, labels: &Labels, period: u32) -> Result<(), AllocError>
+    ensures { OnOk result (out.new.items ≡ out.old.items ++ row_head labels.now period) }
+{
+    put_token(out, b"<tr>\n<th scope=\"row\">")?;
+    put_period(out, labels, period)?;
+    put_token(out, b"</th>\n")
+}
+
+/// Appends a row: a period of each day.
+#[tactic(auto, unfolding(crate::specs::Grids::row_text))]
+fn put_row(
+    out: &mut Vec<u8>,
+    plan: &Plan<'_, '_>,
+    labels: &Labels,
+    kind: Kind,
+    number: u32,
+    own: &[u32],
+    period: u32,
+) -> Result<(), AllocError>
+    requires own { All (λ c. c < length plan.now.problem.courses) own.now }
+    requires period { period < plan.now.problem.periods }
+    ensures { OnOk result (out.new.items ≡ out.old.items ++ row_text plan.now.problem plan.now.table labels.now kind number own.now period) }
+{
+    put_row_head(out, labels, period)?;
+    put_cells(out, plan, labels, kind, number, own, period)?;
+    put_token(out, b"</tr>\n")
+}
+
+/// Appends the rows of a grid.
+#[tactic(auto, using(tt_page_text::proofs::Growing::text_further))]
+fn put_rows(
+    out: &mut Vec<u8>,
+    plan: &Plan<'_, '_>,
+    labels: &Labels,
+    kind: Kind,
+    number: u32,
+    own: &[u32],
+) -> Result<(), AllocError>
+    requires { All (λ c. c < length plan.now.problem.courses) own.now }
+    ensures { OnOk result (out.new.items ≡ out.old.items
+        ++ flat_map (row_text plan.now.problem plan.now.table labels.now kind number own.now) (range_below plan.now.problem.periods)) }
+{
+    for period in 0..plan.instance().periods() {
+        put_row(out, plan, labels, kind, number, own, period)?;
+    }
+    Ok(())
+}
+
+/// Appends the beginning of a grid, with its room, teacher or curriculum.
+#[tactic(auto, unfolding(crate::specs::Grids::grid_head))]
+fn put_grid_head(
+    out: &mut Vec<u8>,
+    instance: &Instance<'_>,
+    kind: Kind,
+    number: u32,
+) -> Result<(), AllocError>
+    requires { number < count_of instance.now kind }
+    ensures { OnOk result (out.new.items ≡ out.old.items ++ grid_head instance.now kind number) }
+{
+    let name = kind.name(instance, number);
+    let word = kind.word();
+    put(
+        out,
+        &[
+            Part::Text("<div class=\"grid\" id=\""),
+            Part::Text(word),
+            Part::Number(number),
+            Part::Text("\">\n<h3 id=\""),
+            Part::Text(word),
+            Part::Number(number),
+            Part::Text("-name\">"),
+            Part::Text(kind.caption()),
+            Part::Text(" <b>"),
+            Part::Name(name),
+            Part::Text("</b>"),
+        ],
+    )
+}
+
+/// Appends the seats of a room, in its heading.
+#[tactic(auto, unfolding(crate::specs::Grids::seats_text))]
+fn put_seats(
+    out: &mut Vec<u8>,
+    instance: &Instance<'_>,
+    kind: Kind,
+    number: u32,
+) -> Result<(), AllocError>
+    requires { number < count_of instance.now kind }
+    ensures { OnOk result (out.new.items ≡ out.old.items ++ seats_text instance.now kind number) }
+{
+    match kind {
+        Kind::Room => {
+            let seats = instance.capacity(number);
+            put(
+                out,
+                &[Part::Text(" "), Part::Number(seats), Part::Text(" seats")],
+            )
+        }
+        Kind::Teacher | Kind::Curriculum => Ok(()),
+    }
+}
+
+/// Appends the end of a heading: the name of the instance, for the sheets of paper.
+#[tactic(auto, unfolding(crate::specs::Grids::paper_name))]
+pub fn put_paper_name(out: &mut Vec<u8>, instance: &Instance<'_>) -> Result<(), AllocError>
+    ensures { OnOk result (out.new.items ≡ out.old.items ++ paper_name instance.now) }
+{
+    put_token(out, b"<span class=\"paper\">, timetable")?;
+    put_name(out, instance)?;
+    put_token(out, b"</span></h3>\n")
+}
+
+#[tactic(auto, unfolding(crate::specs::Grids::table_head))]
+fn put_table_head(out: &mut Vec<u8>, kind: Kind, number: u32) -> Result<(), AllocError>
+    ensures { OnOk result (out.new.items ≡ out.old.items ++ table_head kind number) }
+{
+    put(
+        out,
+        &[
+            Part::Text("<table aria-labelledby=\""),
+            Part::Text(kind.word()),
+            Part::Number(number),
+            Part::Text("-name\">\n<thead>\n<tr>\n<th scope=\"col\">Period</th>\n"),
+        ],
+    )
+}
+
+/// Appends the heading of a grid, and the beginning of its table.
+#[tactic(auto, unfolding(crate::specs::Grids::grid_title))]
+fn put_grid_title(
+    out: &mut Vec<u8>,
+    instance: &Instance<'_>,
+    kind: Kind,
+    number: u32,
+) -> Result<(), AllocError>
+    requires { number < count_of instance.now kind }
+    ensures { OnOk result (out.new.items ≡ out.old.items ++ grid_title instance.now kind number) }
+{
+    put_grid_head(out, instance, kind, number)?;
+    put_seats(out, instance, kind, number)?;
+    put_paper_name(out, instance)?;
+    put_table_head(out, kind, number)
+}
+
+/// Appends the heads of the columns.
+#[tactic(auto, using(tt_page_text::proofs::Growing::text_further), unfolding(crate::specs::Grids::day_head))]
+fn put_day_heads(
+    out: &mut Vec<u8>,
+    instance: &Instance<'_>,
+    labels: &Labels,
+) -> Result<(), AllocError>
+    ensures { OnOk result (out.new.items ≡ out.old.items ++ flat_map (day_head labels.now) (range_below instance.now.days)) }
+{
+    for day in 0..instance.days() {
+        put_day_head(out, labels, day)?;
+    }
+    Ok(())
+}
+
+#[tactic(auto, unfolding(crate::specs::Grids::day_head))]
+fn put_day_head(out: &mut Vec<u8>, labels: &Labels, day: u32) -> Result<(), AllocError>
+    ensures { OnOk result (out.new.items ≡ out.old.items ++ day_head labels.now day) }
+{
+    put_token(out, b"<th scope=\"col\">")?;
+    put_day(out, labels, day)?;
+    put_token(out, b"</th>\n")
+}
+
+/// Appends the grid of a room, teacher or curriculum.
+#[tactic(auto, unfolding(crate::specs::Grids::grid_text))]
+fn put_grid(
+    out: &mut Vec<u8>,
+    plan: &Plan<'_, '_>,
+    labels: &Labels,
+    kind: Kind,
+    number: u32,
+) -> Result<(), AllocError>
+    requires { number < count_of plan.now.problem kind }
+    ensures { OnOk result (out.new.items ≡ out.old.items ++ grid_text plan.now.problem plan.now.table labels.now kind number) }
+{
+    let instance = plan.instance();
+    let own = own_courses(*out.allocator(), instance, kind, number)?;
+    put_grid_title(out, instance, kind, number)?;
+    put_day_heads(out, instance, labels)?;
+    put_token(out, b"</tr>\n</thead>\n<tbody>\n")?;
+    put_rows(out, plan, labels, kind, number, &own)?;
+    put_token(out, b"</tbody>\n</table>\n</div>\n")
+}
+
+/// Appends the grids of a section.
+#[tactic(auto, using(tt_page_text::proofs::Growing::text_further))]
+fn put_grids(
+    out: &mut Vec<u8>,
+    plan: &Plan<'_, '_>,
+    labels: &Labels,
+    kind: Kind,
+) -> Result<(), AllocError>
+    ensures { OnOk result (out.new.items ≡ out.old.items
+        ++ flat_map (grid_text plan.now.problem plan.now.table labels.now kind) (range_below (count_of plan.now.problem kind))) }
+{
+    for number in 0..kind.count(plan.instance()) {
+        put_grid(out, plan, labels, kind, number)?;
+    }
+    Ok(())
+}
+
+#[tactic(auto, unfolding(crate::specs::Grids::index_item))]
+fn put_index_item(
+    out: &mut Vec<u8>,
+    instance: &Instance<'_>,
+    kind: Kind,
+    number: u32,
+) -> Result<(), AllocError>
+    requires { number < count_of instance.now kind }
+    ensures { OnOk result (out.new.items ≡ out.old.items ++ index_item instance.now kind number) }
+{
+    put_token(out, b"<li>")?;
+    put_week_link(out, instance, kind, number)?;
+    put_token(out, b"</li>\n")
+}
+
+/// Appends the links to the grids of a section.
+#[tactic(auto, using(tt_page_text::proofs::Growing::text_further))]
+fn put_index(out: &mut Vec<u8>, instance: &Instance<'_>, kind: Kind) -> Result<(), AllocError>
+    ensures { OnOk result (out.new.items ≡ out.old.items
+        ++ flat_map (index_item instance.now kind) (range_below (count_of instance.now kind))) }
+{
+    for number in 0..kind.count(instance) {
+        put_index_item(out, instance, kind, number)?;
+    }
+    Ok(())
+}
+
+#[tactic(auto, unfolding(crate::specs::Grids::section_head))]
+fn put_section_head(
+    out: &mut Vec<u8>,
+    instance: &Instance<'_>,
+    kind: Kind,
+) -> Result<(), AllocError>
+    ensures { OnOk result (out.new.items ≡ out.old.items ++ section_head instance.now kind) }
+{
+    let count = kind.count(instance);
+    put(
+        out,
+        &[
+            Part::Text("<details open id=\""),
+            Part::Text(kind.section()),
+            Part::Text("\">\n<summary><h2>"),
+            Part::Text(kind.title()),
+            Part::Text(" <small>"),
+            Part::Number(count),
+            Part::Text("</small></h2></summary>\n<ul class=\"index\">\n"),
+        ],
+    )
+}
+
+/// Appends the section of all rooms, teachers or curricula.
+#[tactic(auto, unfolding(crate::specs::Grids::section_text))]
+pub fn put_section(
+    out: &mut Vec<u8>,
+    plan: &Plan<'_, '_>,
+    labels: &Labels,
+    kind: Kind,
+) -> Result<(), AllocError>
+    ensures { OnOk result (out.new.items ≡ out.old.items ++ section_text plan.now.problem plan.now.table labels.now kind) }
+{
+    put_section_head(out, plan.instance(), kind)?;
+    put_index(out, plan.instance(), kind)?;
+    put_token(out, b"</ul>\n<div class=\"grids\">\n")?;
+    put_grids(out, plan, labels, kind)?;
+    put_token(out, b"</div>\n</details>\n")
+}

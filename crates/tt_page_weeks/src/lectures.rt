@@ -1,0 +1,167 @@
+//! A lecture as it appears in a week.
+
+ghost use Rattle.std.specs.Prelude.{◌≡◌, ◌<◌, ◌++◌, length, OnOk};
+ghost use Rattle.tt_instance.specs.Cells.{InRange};
+ghost use Rattle.tt_page_weeks.specs.Lectures.{beside_text, mark, isolated_mark, marks_text, lecture_when, lecture_course, lecture_text};
+
+use crate::marks::{is_in_conflict, is_in_other_room, is_repeated, is_room_taken};
+use std::alloc::AllocError;
+use tt_instance::Instance;
+use tt_page_plan::{
+    Kind, Plan, course_name, is_isolated, is_unavailable, put_teacher_link, put_week_link,
+    without_seat,
+};
+use tt_page_text::{Labels, Part, put, put_counted, put_when};
+use tt_table::Entry;
+use tt_text::put_token;
+
+/// Appends the information about a lecture that its week doesn't already show.
+#[tactic(auto, unfolding(crate::specs::Lectures::beside_text))]
+fn put_beside(
+    out: &mut Vec<u8>,
+    instance: &Instance<'_>,
+    kind: Kind,
+    entry: &Entry,
+) -> Result<(), AllocError>
+    requires { InRange instance.now entry.now }
+    ensures { OnOk result (out.new.items ≡ out.old.items ++ beside_text instance.now kind entry.now) }
+{
+    match kind {
+        Kind::Room => put_teacher_link(out, instance, entry.course),
+        Kind::Teacher => put_week_link(out, instance, Kind::Room, entry.room),
+        Kind::Curriculum => {
+            put_week_link(out, instance, Kind::Room, entry.room)?;
+            put_token(out, b" ")?;
+            put_teacher_link(out, instance, entry.course)
+        }
+    }
+}
+
+/// Appends a mark if it holds.
+fn put_mark(out: &mut Vec<u8>, holds: bool, text: &str) -> Result<(), AllocError>
+    ensures { OnOk result (out.new.items ≡ out.old.items ++ mark holds text.now) }
+{
+    if holds {
+        put_token(out, text.as_bytes())
+    } else {
+        Ok(())
+    }
+}
+
+/// Appends the mark of an isolated lecture, only in the week of the curriculum.
+#[tactic(auto, unfolding(crate::specs::Lectures::isolated_mark))]
+fn put_isolated(
+    out: &mut Vec<u8>,
+    plan: &Plan<'_, '_>,
+    kind: Kind,
+    number: u32,
+    entry: &Entry,
+) -> Result<(), AllocError>
+    requires { InRange plan.now.problem entry.now }
+    ensures { OnOk result (out.new.items ≡ out.old.items ++ isolated_mark plan.now.problem plan.now.table kind number entry.now) }
+{
+    match kind {
+        Kind::Room | Kind::Teacher => Ok(()),
+        Kind::Curriculum => {
+            let isolated = is_isolated(plan, number, entry);
+            put_mark(out, isolated, " <mark>isolated</mark>")
+        }
+    }
+}
+
+/// Appends the marks of a lecture.
+#[tactic(auto, unfolding(crate::specs::Lectures::marks_text))]
+fn put_marks(
+    out: &mut Vec<u8>,
+    plan: &Plan<'_, '_>,
+    kind: Kind,
+    number: u32,
+    entry: &Entry,
+) -> Result<(), AllocError>
+    requires { InRange plan.now.problem entry.now }
+    ensures { OnOk result (out.new.items ≡ out.old.items ++ marks_text plan.now.problem plan.now.table kind number entry.now) }
+{
+    let instance = plan.instance();
+    put_mark(
+        out,
+        is_in_conflict(plan, entry),
+        " <strong>conflict</strong>",
+    )?;
+    put_mark(
+        out,
+        is_unavailable(instance, entry),
+        " <strong>unavailable</strong>",
+    )?;
+    put_mark(
+        out,
+        is_room_taken(plan, entry),
+        " <strong>room taken</strong>",
+    )?;
+    put_mark(out, is_repeated(plan, entry), " <strong>repeated</strong>")?;
+    put_isolated(out, plan, kind, number, entry)?;
+    put_counted(
+        out,
+        " <mark>no seat: ",
+        without_seat(instance, entry),
+        "</mark>",
+    )?;
+    put_mark(
+        out,
+        is_in_other_room(plan, entry),
+        " <mark>other room</mark>",
+    )
+}
+
+/// Appends the beginning of a lecture: when it is.
+#[tactic(auto, unfolding(crate::specs::Lectures::lecture_when))]
+fn put_lecture_when(out: &mut Vec<u8>, labels: &Labels, entry: &Entry) -> Result<(), AllocError>
+    ensures { OnOk result (out.new.items ≡ out.old.items ++ lecture_when labels.now entry.now) }
+{
+    put_token(out, b"<div class=\"lecture\"><span class=\"when\">")?;
+    put_when(out, labels, entry.day, entry.period)?;
+    put_token(out, b"</span> ")
+}
+
+/// Appends the link from a lecture to its course.
+#[tactic(auto, unfolding(crate::specs::Lectures::lecture_course))]
+fn put_lecture_course(
+    out: &mut Vec<u8>,
+    instance: &Instance<'_>,
+    course: u32,
+) -> Result<(), AllocError>
+    requires { course < length instance.now.courses }
+    ensures { OnOk result (out.new.items ≡ out.old.items ++ lecture_course instance.now course) }
+{
+    let name = course_name(instance, course);
+    put(
+        out,
+        &[
+            Part::Text("<a class=\"course\" href=\"#course"),
+            Part::Number(course),
+            Part::Text("\">"),
+            Part::Name(name),
+            Part::Text("</a> "),
+        ],
+    )
+}
+
+/// Appends a lecture in a week.
+#[tactic(auto, unfolding(crate::specs::Lectures::lecture_text))]
+pub fn put_lecture(
+    out: &mut Vec<u8>,
+    plan: &Plan<'_, '_>,
+    labels: &Labels,
+    kind: Kind,
+    number: u32,
+    entry: &Entry,
+) -> Result<(), AllocError>
+    requires { InRange plan.now.problem entry.now }
+    ensures { OnOk result (out.new.items ≡ out.old.items ++ lecture_text plan.now.problem plan.now.table labels.now kind number entry.now) }
+{
+    let instance = plan.instance();
+    put_lecture_when(out, labels, entry)?;
+    put_lecture_course(out, instance, entry.course)?;
+    put_beside(out, instance, kind, entry)?;
+    put_marks(out, plan, kind, number, entry)?;
+    put_token(out, b"</div>\n")
+}

@@ -1,0 +1,9 @@
+//! The weeks of the rooms, teachers and curricula, as grids.
+#![tactic(auto)]
+
+mod grids;
+mod groups;
+mod lectures;
+mod marks;
+
+pub use grids::{put_lectures, put_paper_name, put_section};
