@@ -1,5 +1,5 @@
 -- The answers of `page` and `proved_page`, from the results of their steps.
-use Rattle.std.proofs.Common.{◌≡◌, ℕ, List, Option, Some, Ok, refl, subst}
+use Rattle.std.proofs.Common.{◌≡◌, ◌⊎◌, ℕ, List, Option, Some, Ok, refl, subst, inl, inr}
 use Rattle.std.specs.Io.KnownBytes.{Appends}
 use Rattle.tt_text.specs.Reading.{FailsUnless}
 use Rattle.tt_text.specs.Sinks.{TakesPart}
@@ -22,10 +22,19 @@ use Rattle.tt_proof_sum.specs.Sums.{IsSum}
 use Rattle.tt_proof_sum.specs.declared.fault.SumFault.{SumFault}
 use Rattle.tt_proof_sum.specs.declared.fault.SumFault.TheVariants as sum
 use Rattle.tt_app.specs.FaultMaps.{fault_from_labels, fault_from_report}
-use Rattle.tt_app.specs.Paged.{labels_for, IsPageRefusal, IsProvedPageRefusal}
+use Rattle.tt_app.specs.Paged.{labels_for, IsPageRefusal, IsProvedPageRefusal, IsSilentOrUnwritable}
 use Rattle.tt_app.specs.Summed.{fault_from_sum}
 use Rattle.tt_app.specs.declared.calls.page.PageNames.{PageNames}
 use Rattle.tt_app.specs.declared.fault.AppFault.TheVariants as fault
+
+-- an error of the page's output is being out of memory or a failed write
+pub output_fails : (f : ReportFault) → (fault_from_report f ≡ fault.OutOfMemory) ⊎ (fault_from_report f ≡ fault.CannotWrite)
+output_fails report.Write = inr refl
+output_fails report.OutOfMemory = inl refl
+
+pub output_says_nothing : (f : ReportFault) → IsSilentOrUnwritable (fault_from_report f)
+output_says_nothing report.Write = inr refl
+output_says_nothing report.OutOfMemory = inl (inl refl)
 
 -- if the names fit the instance that the bytes spell, they are refused only for being out of memory
 pub names_memory : (i : List ℕ) (p read : Problem) (names : PageNames) (l : Labelled) (f : LabelsFault) → Spells i p → Spells i read → labels_for p names ≡ Ok l → FailsUnless is_environmental f (labels_for read names)

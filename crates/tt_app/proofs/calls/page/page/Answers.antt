@@ -1,7 +1,7 @@
 use Rattle.std.proofs.Common.{inl}
 use Rattle.std.proofs.lemmas.Result.{err_from_is_err_and}
 use Rattle.tt_app.proofs.Files.{tells_instance, tells_solution, only_memory}
-use Rattle.tt_app.proofs.Paging.{names_memory, names_tell}
+use Rattle.tt_app.proofs.Paging.{names_memory, names_tell, output_fails}
 use Rattle.tt_app.proofs.calls.page.page.Goals as goal
 
 pub returns-in_err-instance-clause-only : goal.returns-in_err-instance-clause-only
@@ -23,3 +23,8 @@ pub returns-in_err-labels-clause-only : goal.returns-in_err-labels-clause-only
 returns-in_err-labels-clause-only g c =
     let e = err_from_is_err_and c.from_residual-in_err-labels.result c.from_residual-in_err-labels.ensures.1 in
     λ p t l both named. rw (e.1, e.2) (inl (names_memory c.args.instance.now p c.in_ok-instance.instance c.args.names l c.in_err-labels.field-0.0 both.spelled c.in_ok-instance.ensures.found named c.in_err-labels.ensures))
+
+pub returns-in_err-page-clause-only : goal.returns-in_err-page-clause-only
+returns-in_err-page-clause-only g c =
+    let e = err_from_is_err_and c.from_residual-in_err-page.result c.from_residual-in_err-page.ensures.1 in
+    λ p t l both named. rw (e.1, e.2) (output_fails c.in_err-page.field-0.0)

@@ -5,7 +5,7 @@ use Rattle.tt_proof_sum.specs.Added.{Give}
 use Rattle.tt_app.specs.Summed.{read_failed_at}
 use Rattle.tt_app.proofs.Adding.{silent_sum, memory_sum, read_summed, summed_read, sum_here}
 use Rattle.tt_app.proofs.Files.{tells_instance, tells_solution, only_memory}
-use Rattle.tt_app.proofs.Paging.{names_memory, names_tell_proved, sum_tells_page, page_tells, page_same}
+use Rattle.tt_app.proofs.Paging.{names_memory, names_tell_proved, sum_tells_page, page_tells, page_same, output_says_nothing}
 use Rattle.tt_app.proofs.ToldMemory.{memory_instance, memory_solution, memory_labels}
 use Rattle.tt_app.proofs.calls.page.proved_page.Goals as goal
 
@@ -84,6 +84,11 @@ pub returns-in_err-page-clause-fault : goal.returns-in_err-page-clause-fault
 returns-in_err-page-clause-fault g c =
     let e = err_from_is_err_and c.from_residual-in_err-page.result c.from_residual-in_err-page.ensures.1 in
     rw (e.1, e.2) (page_tells c.args.instance.now c.args.solution.now c.in_ok-instance.instance c.in_ok-table.table c.args.names c.in_ok-instance.ensures.found c.in_ok-table.ensures.found c.args.style.now _ c.in_ok-bound.bound (Give g.R.Source.remaining c.args.proofs.now) _ _ c.in_err-page.field-0.0 c.in_ok-labels.ensures c.in_ok-bound.ensures.found c.in_ok-bound.ensures.holds (λ is. c.in_err-page.ensures.part (ap (λ f. Err f) is)))
+
+pub returns-in_err-page-clause-only : goal.returns-in_err-page-clause-only
+returns-in_err-page-clause-only g c =
+    let e = err_from_is_err_and c.from_residual-in_err-page.result c.from_residual-in_err-page.ensures.1 in
+    λ p t l files b both named given h within. rw (e.1, e.2) (output_says_nothing c.in_err-page.field-0.0)
 
 pub returns-clause-written : goal.returns-clause-written
 returns-clause-written g c = record {
