@@ -11,6 +11,8 @@ PROGRAM = ROOT / "crates" / "tt" / "out" / "tt"
 OLDER = b"an older file\n"
 # How a call fails, and whether the later ones fail too. What goes on being interrupted goes on being tried.
 FAILURES = [(READ_ERROR, 0), (READ_ERROR, 1), (INTERRUPTED, 0), (TAKES_NOTHING, 0), (ENDS_THERE, 0)]
+# Of more calls than this, as those that write a page byte by byte, the first, the last and some between fail.
+MOST_CALLS, FIRST_CALLS = 400, 100
 OUT_OF_MEMORY = (2, b"", b"refused: out of memory\n")
 # `inspect` names the file and the system's reason first.
 CANNOT = re.compile(rb"([^\n]*: [^\n]*\n)?refused: ((instance|solution|proof): cannot read|proof( \d+)?: Read|cannot write)\n")
@@ -100,6 +102,15 @@ COMMANDS = [
 WRITTEN = ["out", "out.proof", "groups.proof", "rooms.proof", "tree.proof", "best.sol", "page.html"]
 
 
+def calls_to_fail(count):
+    """The numbers of the calls that fail in turn, of this many."""
+    if count <= MOST_CALLS:
+        return range(1, count + 1)
+    step = (count - 2 * FIRST_CALLS) // (MOST_CALLS - 2 * FIRST_CALLS)
+    ends = {*range(1, FIRST_CALLS + 1), *range(count - FIRST_CALLS + 1, count + 1)}
+    return sorted(ends | set(range(FIRST_CALLS + 1, count - FIRST_CALLS + 1, step)))
+
+
 class Shelf:
     """A folder with the files of the commands, and with older files where they write."""
 
@@ -165,12 +176,12 @@ class Runs:
             answers["out of memory"] += 1
 
     def calls(self):
-        """Has each call to the system fail in turn, in each way; answers how many runs that took."""
+        """Has the calls to the system fail in turn, in each way; answers how many runs that took."""
         runs = 0
         for narrow in (0, 1):
             outcome, files = self.run(Refusal(narrow=narrow))
             assert self.is_own(outcome, files), f"with {narrow=}: {outcome.told()}"
-            for call in range(1, outcome.counted.calls + 1):
+            for call in calls_to_fail(outcome.counted.calls):
                 for fault, from_there in FAILURES:
                     refusal = Refusal(call=call, from_there=from_there, fault=fault, narrow=narrow)
                     self.judge(refusal, *self.run(refusal))
