@@ -191,8 +191,13 @@ fn paged_with(alloc: Global, options: &[&str]) -> Result<(Outcome, Option<String
     let memory = filled(alloc, GAP, MINI_SOLUTION, Refusal::Nothing)?;
     memory.put("a.proof", GAP_PROOF)?;
     memory.put("bad.proof", "CTTP 1 bound 2 B C c1 1 ; end")?;
-    let mut words = Vec::from_slice(alloc, &["page", "a.ctt", "a.sol", "a.html"])?;
-    words.extend_from_slice(options)?;
+    let mut words = Vec::new(alloc);
+    for word in ["page", "a.ctt", "a.sol", "a.html"] {
+        words.push(word)?;
+    }
+    for option in options {
+        words.push(*option)?;
+    }
     let outcome = run_on(alloc, &words, &memory)?;
     Ok((outcome, memory.text("a.html")?))
 }
