@@ -12,7 +12,7 @@ OLDER = b"an older file\n"
 # How a call fails, and whether the later ones fail too. What goes on being interrupted goes on being tried.
 FAILURES = [(READ_ERROR, 0), (READ_ERROR, 1), (INTERRUPTED, 0), (TAKES_NOTHING, 0), (ENDS_THERE, 0)]
 # Of more calls than this, as those that write a page byte by byte, the first, the last and some between fail.
-MOST_CALLS, FIRST_CALLS = 400, 100
+MOST_CALLS, FIRST_CALLS = 150, 50
 OUT_OF_MEMORY = (2, b"", b"refused: out of memory\n")
 # `inspect` names the file and the system's reason first.
 CANNOT = re.compile(rb"([^\n]*: [^\n]*\n)?refused: ((instance|solution|proof): cannot read|proof( \d+)?: Read|cannot write)\n")

@@ -7,8 +7,8 @@ The parts, all of them but the last if none is named:
 
 calls    each public call that takes memory, with its first growth refused, then its second, until none is met
 memory   the program, each command the same way
-disk     the program, each command with each call to the system failing in turn, in several ways; of more than 400 calls, as those that
-         write a page byte by byte, the first and the last hundred and some 200 between
+disk     the program, each command with each call to the system failing in turn, in several ways; of more than 150 calls, as those that
+         write a page byte by byte, the first and the last 50 and some 50 between
 inputs   cut files, endless files, numbers at their limits, files that aren't there
 largest  the largest inputs that are taken, and what is one above a limit; prints times and peak memory
 slow     files that hold the program long for their size; fails if a row takes twice what is aimed at, as some still do, so this part runs
