@@ -45,12 +45,12 @@ pub fn page_command<'a>(alloc: Global) -> Result<Command<'a>, AllocError> {
         .arg(names(
             alloc,
             "days",
-            "The names of the days, as Mon,Tue,Wed,Thu,Fri; else they are numbered from 0",
+            "The names of the days, as Mon,Tue,Wed,Thu,Fri; else Day 1, Day 2 and so on",
         ))?
         .arg(names(
             alloc,
             "periods",
-            "The names of the periods of a day, as 8:00,9:00; else they are numbered from 0",
+            "The names of the periods of a day, as 8:00,9:00; else numbers from 1",
         ))?
         .arg(proofs(alloc))?;
     with_showing(alloc, command)
