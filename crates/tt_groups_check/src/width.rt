@@ -12,6 +12,7 @@ ghost use Rattle.tt_instance.specs.declared.limit.TheConstants.{MAX_MIN_DAYS};
 
 use tt_groups::Group;
 use tt_instance::Instance;
+use tt_rules::DAY_PRICE;
 
 /// The maximum number of curricula of a group.
 pub const GROUP_CURRICULA: usize = 64;
@@ -24,9 +25,6 @@ pub const GROUP_LECTURES: u32 = 255;
 
 /// The maximum distance of a group's value above its base cost.
 pub const GROUP_VALUE: u64 = 127;
-
-/// The cost of a day below a course's minimum, in cost points.
-const DAY_PRICE: u64 = 5;
 
 /// Checks whether a course is one of the group's own.
 fn is_own(group: &Group, course: u32) -> bool

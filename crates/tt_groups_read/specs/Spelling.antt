@@ -1,6 +1,6 @@
 -- The claims about groups that the bytes of a CTTG file spell.
-use Rattle.std.specs.Prelude.{◌≡◌, ℕ, ◌≤◌, ◌==◌, true, not, List, [], ◌∷◌, ◌++◌, length, map, flat_map, codes, All}
-use Rattle.tt_lists.specs.Words.{each_two}
+use Rattle.std.specs.Prelude.{◌≡◌, ℕ, ◌≤◌, true, List, [], ◌∷◌, ◌++◌, length, map, flat_map, codes, All}
+use Rattle.tt_lists.specs.Words.{are_distinct}
 use Rattle.tt_text.specs.Tokens.{tokens_of}
 use Rattle.tt_text.specs.declared.feed.TheConstants.{MAX_BYTES, MAX_TOKEN_BYTES}
 use Rattle.tt_text.specs.Pieces.{Piece, Text, Number, Index, Begins}
@@ -29,7 +29,7 @@ header_pieces bound = Text (codes "CTTG") ∷ Text (codes "1") ∷ Text (codes "
 
 -- Whether the curricula are the instance's, none of them twice.
 abbrev pub AreCurricula : Problem → List ℕ → Type 0
-AreCurricula p qs = AreBelow (length p.curricula) qs × (each_two (λ a b. not (a == b)) qs ≡ true)
+AreCurricula p qs = AreBelow (length p.curricula) qs × (are_distinct qs ≡ true)
 
 -- Whether a claim has a value within the limit, and curricula and courses of the instance, none of them twice.
 pub record IsClaim (p : Problem) (k : GroupClaim) : Type 0 where

@@ -1,6 +1,6 @@
 -- The limits of an instance, and the properties of every instance that was read.
 use Rattle.std.specs.Prelude.{◌≡◌, ◌≢◌, ℕ, ◌*◌, ◌≤◌, ◌<◌, ◌==◌, Bool, true, not, ◌&&◌, length, sum_by, All, AllPairs, codes}
-use Rattle.tt_lists.specs.Words.{each_two}
+use Rattle.tt_lists.specs.Words.{each_two, are_distinct}
 use Rattle.tt_text.specs.Tokens.{IsToken}
 use Rattle.tt_instance.specs.declared.limit.TheConstants.{MAX_COURSES, MAX_ROOMS, MAX_DAYS, MAX_PERIODS, MAX_SLOTS, MAX_CELLS, MAX_CURRICULA, MAX_MEMBERS, MAX_UNAVAILABILITIES, MAX_LECTURES, MAX_MIN_DAYS, MAX_SEATS}
 use Rattle.tt_instance.specs.Problem.{Unavailability, Problem}
@@ -34,7 +34,7 @@ same_unavailability a b = (a.course == b.course) && (a.day == b.day) && (a.perio
 -- The properties of every instance that was read: it is within the limits, has each member and each unavailability once, and each name is a token.
 pub record IsInstance (p : Problem) : Type 0 where
   pub within : IsWithinLimits p
-  pub members_once : All (λ q. each_two (λ a b. not (a == b)) q.members ≡ true) p.curricula
+  pub members_once : All (λ q. are_distinct q.members ≡ true) p.curricula
   pub unavailabilities_once : each_two (λ a b. not (same_unavailability a b)) p.unavailabilities ≡ true
   pub name_tokens : All IsToken p.name
   pub course_tokens : All (λ c. IsToken c.id × IsToken c.teacher) p.courses

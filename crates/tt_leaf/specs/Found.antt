@@ -1,7 +1,7 @@
 -- The properties of a leaf that was found.
 use Rattle.tt_instance.specs.Problem.{Problem}
-use Rattle.std.specs.Prelude.{◌≡◌, ◌==◌, ℕ, true, not, List, All}
-use Rattle.tt_lists.specs.Words.{each_two}
+use Rattle.std.specs.Prelude.{◌≡◌, ℕ, true, List, All}
+use Rattle.tt_lists.specs.Words.{are_distinct}
 use Rattle.tt_facts_path.specs.Facts.{IsPattern}
 use Rattle.tt_facts_path.specs.declared.facts.Fact.{Fact}
 use Rattle.tt_leaf_rules.specs.Leaves.{IsRight}
@@ -33,4 +33,4 @@ pub record IsFitClaim (p : Problem) (claim : Claim) : Type 0 where
 -- Distinct numbers below a bound.
 pub record AreNumbers (count : ℕ) (ns : List ℕ) : Type 0 where
   pub within : AreBelow count ns
-  pub once : each_two (λ a b. not (a == b)) ns ≡ true
+  pub once : are_distinct ns ≡ true

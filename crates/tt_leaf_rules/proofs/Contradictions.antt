@@ -3,7 +3,7 @@ use Rattle.std.proofs.Common.{◌≡◌, ℕ, ◌≤◌, ◌<◌, true, false, n
 use Rattle.std.specs.Prelude.{Contains, ◌==◌, sum_by, count_by}
 use Rattle.std.specs.List.{list_any, AllByRecursion}
 use Rattle.std.proofs.lemmas.Bool.{and_parts, and_from, or_cases, not-true, both_ways}
-use Rattle.tt_lists.specs.Words.{each_two}
+use Rattle.tt_lists.specs.Words.{each_two, are_distinct}
 use Rattle.tt_instance.specs.Problem.{Problem}
 use Rattle.tt_instance.specs.Cells.{slot_of, cell, all_slots, all_rooms, is_of, is_at, is_in}
 use Rattle.tt_instance.specs.Courses.{lectures, conflict}
@@ -13,7 +13,6 @@ use Rattle.tt_rules.specs.Score.{IsFeasible}
 use Rattle.tt_facts_path.specs.Facts.{matches, Fits}
 use Rattle.tt_facts_path.specs.Live.{is_dead, is_live, live_period, pinned, pinned_periods}
 use Rattle.tt_leaf_rules.specs.Leaves.{all_dead, open_periods, open_rooms, all_lectures}
-use Rattle.tt_leaf_rules.specs.Tests.{are_distinct}
 use Rattle.tt_instance.specs.declared.cell.Cell.{Cell}
 use Rattle.tt_facts_path.specs.declared.facts.Who.TheVariants.{Course}
 use Rattle.tt_facts_path.specs.declared.facts.Pattern.{Pattern}

@@ -4,7 +4,7 @@ use Rattle.std.specs.Prelude.{Contains, ◌==◌, nat_le, sum_by, count_by}
 use Rattle.std.specs.List.{list_any, list_all}
 use Rattle.std.proofs.lemmas.List.Sums.{sum_by-cons}
 use Rattle.std.proofs.lemmas.Bool.{and_parts, and_from, or_cases, not-true, not_from_false, both_ways, cases_Bool, or_left, or_right, cond-true, cond-false}
-use Rattle.tt_lists.specs.Words.{each_two}
+use Rattle.tt_lists.specs.Words.{each_two, are_distinct}
 use Rattle.tt_instance.specs.Problem.{Problem}
 use Rattle.tt_instance.specs.Cells.{slot, slot_of, cell, all_slots, all_rooms, all_days, is_of, is_at, is_in, is_on}
 use Rattle.tt_instance.specs.Courses.{lectures, excess}
@@ -15,7 +15,7 @@ use Rattle.tt_facts_path.specs.Facts.{Fits}
 use Rattle.tt_facts_path.specs.Live.{is_live, pinned, pinned_periods}
 use Rattle.tt_leaf_rules.specs.Claims.{RoomCapacity}
 use Rattle.tt_leaf_rules.specs.Claims.{part, price_in, are_covered, open_in, pinned_day, targets_of, value_of}
-use Rattle.tt_leaf_rules.specs.Tests.{are_distinct, same_target}
+use Rattle.tt_leaf_rules.specs.Tests.{same_target}
 use Rattle.tt_instance.specs.declared.cell.Cell.{Cell}
 use Rattle.tt_facts_path.specs.declared.facts.Who.TheVariants.{Course}
 use Rattle.tt_facts_path.specs.declared.facts.Fact.{Fact}

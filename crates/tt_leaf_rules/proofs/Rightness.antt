@@ -3,7 +3,7 @@ use Rattle.std.proofs.Common.{◌≡◌, ℕ, ◌<◌, Bool, true, false, List, 
 use Rattle.std.specs.Prelude.{nat_lt, nat_le, ◌==◌, ◌↔◌, IsTrue, is_ok, Contains}
 use Rattle.std.specs.List.{list_all}
 use Rattle.std.proofs.lemmas.Bool.{and_parts, and_from}
-use Rattle.tt_lists.specs.Words.{each_two}
+use Rattle.tt_lists.specs.Words.{each_two, are_distinct}
 use Rattle.tt_instance.specs.Problem.{Problem}
 use Rattle.tt_instance.specs.Courses.{lectures, conflict}
 use Rattle.tt_facts_path.specs.Facts.{has_fact}
@@ -16,7 +16,7 @@ use Rattle.tt_leaf_rules.specs.Claims.{claimed, is_fair, total_of}
 use Rattle.tt_leaf_rules.specs.Faults.{demand, fault_of}
 use Rattle.tt_leaf_rules.specs.Leaves.{all_dead, open_periods, all_lectures, open_rooms, IsRight}
 use Rattle.tt_leaf_rules.specs.Outcomes.{outcome}
-use Rattle.tt_leaf_rules.specs.Tests.{are_distinct, claims_once, has_member, is_clique, same_target}
+use Rattle.tt_leaf_rules.specs.Tests.{claims_once, has_member, is_clique, same_target}
 use Rattle.tt_leaf_rules.specs.declared.leaf.Bound.{Bound}
 use Rattle.tt_leaf_rules.specs.declared.leaf.Bound.TheVariants.{AtLeast, Nothing}
 use Rattle.tt_leaf_rules.specs.declared.leaf.Claim.{Claim}

@@ -59,10 +59,14 @@ abbrev pub price_in : List (ℕ × ℕ) → ℕ → ℕ
 price_in [] r = 0
 price_in (x ∷ xs) r = if r == x.0 then x.1 else price_in xs r
 
--- For each live cell of a listed course, the excess and the room's price cover the course's price.
+-- The cell of course c is dead, or its excess and its room's price cover the course's price u.
+abbrev pub is_covered : Problem → List Fact → List (ℕ × ℕ) → ℕ → ℕ → ℕ → Slot → Bool
+is_covered p path rooms c u r s = not (is_live p path (cell c r s)) || nat_le u (excess p c r + price_in rooms r)
+
+-- Each cell of each listed course is covered.
 abbrev pub are_covered : Problem → List Fact → List (ℕ × ℕ) → List (ℕ × ℕ) → Bool
 are_covered p path courses rooms =
-    list_all (λ k. list_all (λ r. list_all (λ s. not (is_live p path (cell k.0 r s)) || nat_le k.1 (excess p k.0 r + price_in rooms r)) (all_slots p)) (all_rooms p)) courses
+    list_all (λ k. list_all (λ r. list_all (λ s. is_covered p path rooms k.0 k.1 r s) (all_slots p)) (all_rooms p)) courses
 
 abbrev pub is_fair : Problem → List Fact → Claim → Bool
 is_fair p path (Prices courses rooms) = are_covered p path courses rooms
@@ -76,19 +80,26 @@ open_in p path courses r = count_by (λ s. list_any (λ k. is_live p path (cell 
 abbrev pub pinned_day : Problem → List Fact → ℕ → ℕ → Bool
 pinned_day p path c d = list_any (λ s. pinned p path (Course c) (slot d s)) (range_below p.periods)
 
+-- The number of days that have a live period of the course.
+abbrev pub live_days : Problem → List Fact → ℕ → ℕ
+live_days p path c = count_by (live_day p path c) (all_days p)
+
+-- The number of days that have a pinned period of the course.
+abbrev pub pinned_days : Problem → List Fact → ℕ → ℕ
+pinned_days p path c = count_by (pinned_day p path c) (all_days p)
+
 abbrev pub value_of : Problem → List Fact → Claim → ℕ
 value_of p path (Capacity c u) =
     lectures p c * u - sum_by (discount p path c u) (all_slots p)
 value_of p path (Days c) =
-    5 * (min_days p c - min (lectures p c) (count_by (live_day p path c) (all_days p)))
+    5 * (min_days p c - min (lectures p c) (live_days p path c))
 value_of p path (Compact q) =
     2 * count_by (λ s. pinned p path (Curriculum q) s && is_alone p path q s) (all_slots p)
 value_of p path (Stable c) = count_by (pinned_room p path c) (all_rooms p) - 1
 value_of p path (Prices courses rooms) =
     sum_by (λ k. lectures p k.0 * k.1) courses - sum_by (λ k. k.1 * open_in p path courses k.0) rooms
 value_of p path (Stacked c) =
-    5 * (min_days p c - min (count_by (live_day p path c) (all_days p))
-    (count_by (pinned_day p path c) (all_days p) + (lectures p c - pinned_periods p path (Course c))))
+    5 * (min_days p c - min (live_days p path c) (pinned_days p path c + (lectures p c - pinned_periods p path (Course c))))
 
 abbrev pub claimed : List Claim → List Target
 claimed claims = flat_map targets_of claims

@@ -1,7 +1,7 @@
 -- When a leaf closes a node.
-use Rattle.std.specs.Prelude.{◌≡◌, ◌≢◌, ℕ, ◌<◌, ◌≤◌, Bool, true, not, ◌||◌, List, length, AllPairs, Contains, sum_by, count_by}
+use Rattle.std.specs.Prelude.{◌≡◌, ℕ, ◌<◌, ◌≤◌, Bool, true, not, ◌||◌, List, length, Contains, sum_by, count_by}
 use Rattle.std.specs.List.{list_any, list_all}
-use Rattle.tt_lists.specs.Words.{each_two}
+use Rattle.tt_lists.specs.Words.{each_two, AreDistinct}
 use Rattle.tt_instance.specs.Problem.{Problem}
 use Rattle.tt_instance.specs.Cells.{cell, all_rooms, all_slots, all_cells}
 use Rattle.tt_instance.specs.Courses.{lectures, conflict}
@@ -44,7 +44,7 @@ IsRight p path b (Empty g) = Contains path (record { pattern = g; holds = true }
 IsRight p path b (Many c) = lectures p c < pinned_periods p path (Course c)
 IsRight p path b (Clique cs) =
     (0 < length cs) × (each_two (conflict p) cs ≡ true) × (open_periods p path cs < all_lectures p cs)
-IsRight p path b (Slots cs) = AllPairs (λ a b. a ≢ b) cs × (open_rooms p path cs < all_lectures p cs)
+IsRight p path b (Slots cs) = AreDistinct cs × (open_rooms p path cs < all_lectures p cs)
 IsRight p path (AtLeast b) (Cost claims) =
-    AllPairs (λ a b. a ≢ b) (claimed claims) × (list_all (is_fair p path) claims ≡ true) × (b ≤ total_of p path claims)
+    AreDistinct (claimed claims) × (list_all (is_fair p path) claims ≡ true) × (b ≤ total_of p path claims)
 IsRight p path Nothing (Cost claims) = ⊥

@@ -4,15 +4,15 @@ use Rattle.std.specs.Prelude.{◌≡◌, ℕ, ◌+◌, ◌-◌, ◌*◌, ◌<◌
 use Rattle.std.specs.List.{list_any, list_all}
 use Rattle.tt_lists.specs.Words.{each_two}
 use Rattle.tt_instance.specs.Problem.{Problem}
-use Rattle.tt_instance.specs.Cells.{slot, cell, all_rooms, all_days, all_slots}
-use Rattle.tt_instance.specs.Courses.{lectures, excess}
+use Rattle.tt_instance.specs.Cells.{slot, cell, all_rooms, all_slots}
+use Rattle.tt_instance.specs.Courses.{lectures}
 use Rattle.tt_instance.specs.declared.cell.Slot.{Slot}
 use Rattle.tt_facts_path.specs.Facts.{agrees}
-use Rattle.tt_facts_path.specs.Live.{is_dead, is_live, live_period, live_day, least_excess, pinned, pinned_room}
+use Rattle.tt_facts_path.specs.Live.{is_dead, is_live, live_period, least_excess, pinned, pinned_room}
 use Rattle.tt_facts_path.specs.declared.facts.Who.TheVariants.{Curriculum}
 use Rattle.tt_facts_path.specs.declared.facts.Pattern.{Pattern}
 use Rattle.tt_facts_path.specs.declared.facts.Fact.{Fact}
-use Rattle.tt_leaf_rules.specs.Claims.{Target, targets_of, is_alone, price_in, open_in, pinned_day}
+use Rattle.tt_leaf_rules.specs.Claims.{Target, targets_of, is_alone, open_in, is_covered}
 use Rattle.tt_leaf_rules.specs.Tests.{same_target}
 use Rattle.tt_leaf_rules.specs.declared.leaf.Claim.{Claim}
 
@@ -50,14 +50,6 @@ abbrev pub open_in_period : Problem → List Fact → List ℕ → Slot → ℕ
 open_in_period p path cs s = count_by (λ r. live_in p path cs r s) (all_rooms p)
 
 -- ---- days, rooms and periods of one course or curriculum
-
--- The number of days that have a live period of the course.
-abbrev pub live_days : Problem → List Fact → ℕ → ℕ
-live_days p path c = count_by (live_day p path c) (all_days p)
-
--- The number of days that have a pinned period of the course.
-abbrev pub pinned_days : Problem → List Fact → ℕ → ℕ
-pinned_days p path c = count_by (pinned_day p path c) (all_days p)
 
 -- The number of rooms that are pinned for the course.
 abbrev pub pinned_rooms : Problem → List Fact → ℕ → ℕ
@@ -113,7 +105,7 @@ room_prices p path courses rooms = sum_by (λ k. k.1 * open_in p path courses k.
 -- For each live cell of the course in the room, the excess and the room's price cover the course's price.
 abbrev pub covered_in : Problem → List Fact → List (ℕ × ℕ) → ℕ × ℕ → ℕ → Bool
 covered_in p path rooms k r =
-    list_all (λ s. not (is_live p path (cell k.0 r s)) || nat_le k.1 (excess p k.0 r + price_in rooms r)) (all_slots p)
+    list_all (λ s. is_covered p path rooms k.0 k.1 r s) (all_slots p)
 
 -- For each live cell of the course in any room, the excess and the room's price cover the course's price.
 abbrev pub covered : Problem → List Fact → List (ℕ × ℕ) → ℕ × ℕ → Bool

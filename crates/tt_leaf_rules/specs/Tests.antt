@@ -14,10 +14,6 @@ has_member (c ∷ cs) = true
 abbrev pub is_clique : Problem → List ℕ → Bool
 is_clique p cs = has_member cs && each_two (conflict p) cs
 
--- No course occurs twice.
-abbrev pub are_distinct : List ℕ → Bool
-are_distinct cs = each_two (λ a b. not (a == b)) cs
-
 abbrev pub same_target : Target → Target → Bool
 same_target (RoomCapacity a) (RoomCapacity b) = a == b
 same_target (WorkingDays a) (WorkingDays b) = a == b

@@ -1,8 +1,7 @@
 //! The working days that a course lacks.
 
 ghost use Rattle.std.specs.Prelude.{◌≡◌, ◌<◌, ◌≤◌, ◌*◌, length};
-ghost use Rattle.tt_leaf_rules.specs.Claims.{pinned_day, value_of};
-ghost use Rattle.tt_leaf_rules.specs.Nested.{live_days, pinned_days};
+ghost use Rattle.tt_leaf_rules.specs.Claims.{live_days, pinned_day, pinned_days, value_of};
 ghost use Rattle.tt_leaf_rules.specs.declared.leaf.Claim.TheVariants.{Days, Stacked};
 ghost use Rattle.tt_instance.specs.declared.limit.TheConstants.{MAX_DAYS, MAX_MIN_DAYS};
 
@@ -10,9 +9,7 @@ use crate::pinned::pinned_periods;
 use tt_bits::is_empty;
 use tt_facts_path::{Path, Who};
 use tt_instance::MAX_PERIODS;
-
-/// The cost of a missing day, in cost points.
-const DAY_PRICE: u64 = 5;
+use tt_rules::DAY_PRICE;
 
 #[tactic(auto, using(tt_lists::proofs::Numbers::count_more))]
 fn live_days<'i, P: Path<'i>>(path: &P, course: u32) -> u32

@@ -2,17 +2,17 @@
 
 ghost use Rattle.std.specs.Prelude.{◌≡◌, ◌<◌, ◌≤◌, ◌+◌, ◌-◌, ◌*◌, ◌^◌, ◌==◌, ◌&&◌, ℕ, not, min, nat_lt, length};
 ghost use Rattle.std.specs.List.{list_all};
-ghost use Rattle.tt_lists.specs.Words.{each_two};
+ghost use Rattle.tt_lists.specs.Words.{each_two, are_distinct};
 ghost use Rattle.tt_bits.specs.Bits.{has_bit};
 ghost use Rattle.tt_instance.specs.Cells.{slot};
 ghost use Rattle.tt_instance.specs.Courses.{conflict};
 ghost use Rattle.tt_leaf_rules.specs.Leaves.{all_lectures, open_periods, open_rooms};
 ghost use Rattle.tt_leaf_rules.specs.Nested.{live_for, live_in, open_in_period};
 ghost use Rattle.tt_leaf_rules.specs.Ranges.{AreBelow};
-ghost use Rattle.tt_leaf_rules.specs.Tests.{are_distinct, is_clique};
+ghost use Rattle.tt_leaf_rules.specs.Tests.{is_clique};
 ghost use Rattle.tt_instance.specs.declared.limit.TheConstants.{MAX_COURSES, MAX_ROOMS, MAX_SLOTS};
 
-use crate::met::{FEW, NumberSet};
+use crate::number_set::{MAX_COMPARED, NumberSet};
 use crate::slots::{slot_at, slot_count};
 use tt_bits::{below, count, either};
 use tt_facts_path::Path;
@@ -69,10 +69,10 @@ fn each_is_new(courses: &[u32]) -> bool
     requires { AreBelow MAX_COURSES courses.now }
     ensures { result ≡ are_distinct courses.now }
 {
-    let mut met = NumberSet::none();
+    let mut taken = NumberSet::none();
     let mut rest = courses;
     while let Some((first, others)) = rest.split_first() {
-        if !met.insert(*first as usize) {
+        if !taken.insert(*first as usize) {
             return false;
         }
         rest = others;
@@ -85,7 +85,7 @@ pub fn are_distinct(courses: &[u32]) -> bool
     requires { AreBelow MAX_COURSES courses.now }
     ensures { result ≡ are_distinct courses.now }
 {
-    if courses.len() <= FEW {
+    if courses.len() <= MAX_COMPARED {
         each_two_differ(courses)
     } else {
         each_is_new(courses)

@@ -14,9 +14,7 @@ use crate::groups::open_on;
 use tt_bits::{count, next, previous, without};
 use tt_facts_path::{Path, Who};
 use tt_instance::{MAX_DAYS, MAX_PERIODS};
-
-/// The cost of an isolated entry, in cost points.
-const ISOLATED_PRICE: u64 = 2;
+use tt_rules::ISOLATED_PRICE;
 
 /// Returns the pinned periods of a curriculum on a day that have no live neighbour period, as a set.
 fn isolated_on<'i, P: Path<'i>>(path: &P, curriculum: u32, day: u32) -> u64

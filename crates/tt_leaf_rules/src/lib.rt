@@ -12,7 +12,7 @@ mod laws;
 mod leaf;
 mod limit;
 mod lists;
-mod met;
+mod number_set;
 mod pinned;
 mod prices;
 mod slots;

@@ -6,10 +6,10 @@ ghost use Rattle.tt_leaf_rules.specs.Claims.{RoomCapacity, WorkingDays, Compactn
 ghost use Rattle.tt_leaf_rules.specs.NumberSet.{are_new, places_of, IsPlaced};
 ghost use Rattle.tt_leaf_rules.specs.Nested.{claims_target, are_apart, IsOnce};
 ghost use Rattle.tt_leaf_rules.specs.Tests.{claims_once};
-ghost use Rattle.tt_leaf_rules.specs.declared.met.TheConstants.{PLACES};
+ghost use Rattle.tt_leaf_rules.specs.declared.number_set.TheConstants.{PLACES};
 
 use crate::leaf::Claim;
-use crate::met::{FEW, NumberSet};
+use crate::number_set::{MAX_COMPARED, NumberSet};
 
 fn is_priced(courses: &[(u32, u32)], course: u32) -> bool
     ensures { result ≡ list_any (λ k. course == k.0) courses.now }
@@ -97,14 +97,14 @@ fn each_two_apart(claims: &[Claim]) -> bool
     true
 }
 
-/// Meets the room capacity of each course in turn, up to the first that had been met before; returns whether none had been.
-fn insert_capacities(met: &mut NumberSet, courses: &[(u32, u32)]) -> bool
+/// Inserts the room capacity of each course in turn, up to the first that was taken already; returns whether none was.
+fn insert_capacities(taken: &mut NumberSet, courses: &[(u32, u32)]) -> bool
     requires { All (λ n. n < PLACES) (map (λ k. 4 * k.0) courses.now) }
-    ensures { (behind : List ℕ) → are_new met.old (map (λ k. 4 * k.0) courses.now ++ behind) ≡ (result && are_new met.new behind) }
+    ensures { (behind : List ℕ) → are_new taken.old (map (λ k. 4 * k.0) courses.now ++ behind) ≡ (result && are_new taken.new behind) }
 {
     let mut rest = courses;
     while let Some((first, others)) = rest.split_first() {
-        if !met.insert(4 * first.0 as usize) {
+        if !taken.insert(4 * first.0 as usize) {
             return false;
         }
         rest = others;
@@ -112,17 +112,17 @@ fn insert_capacities(met: &mut NumberSet, courses: &[(u32, u32)]) -> bool
     true
 }
 
-/// Meets the targets of a claim in turn, up to the first that had been met before; returns whether none had been.
-fn insert_targets(met: &mut NumberSet, claim: &Claim) -> bool
+/// Inserts the targets of a claim in turn, up to the first that was taken already; returns whether none was.
+fn insert_targets(taken: &mut NumberSet, claim: &Claim) -> bool
     requires { IsPlaced claim.now }
-    ensures { (behind : List ℕ) → are_new met.old (places_of claim.now ++ behind) ≡ (result && are_new met.new behind) }
+    ensures { (behind : List ℕ) → are_new taken.old (places_of claim.now ++ behind) ≡ (result && are_new taken.new behind) }
 {
     match claim {
-        Claim::Capacity { course, .. } => met.insert(4 * *course as usize),
-        Claim::Days(course) | Claim::Stacked(course) => met.insert(4 * *course as usize + 1),
-        Claim::Compact(curriculum) => met.insert(4 * *curriculum as usize + 2),
-        Claim::Stable(course) => met.insert(4 * *course as usize + 3),
-        Claim::Prices { courses, .. } => insert_capacities(met, courses.as_slice()),
+        Claim::Capacity { course, .. } => taken.insert(4 * *course as usize),
+        Claim::Days(course) | Claim::Stacked(course) => taken.insert(4 * *course as usize + 1),
+        Claim::Compact(curriculum) => taken.insert(4 * *curriculum as usize + 2),
+        Claim::Stable(course) => taken.insert(4 * *course as usize + 3),
+        Claim::Prices { courses, .. } => insert_capacities(taken, courses.as_slice()),
     }
 }
 
@@ -132,10 +132,10 @@ fn each_is_new(claims: &[Claim]) -> bool
     requires { All IsPlaced claims.now }
     ensures { result ≡ claims_once claims.now }
 {
-    let mut met = NumberSet::none();
+    let mut taken = NumberSet::none();
     let mut rest = claims;
     while let Some((first, others)) = rest.split_first() {
-        if !insert_targets(&mut met, first) {
+        if !insert_targets(&mut taken, first) {
             return false;
         }
         rest = others;
@@ -146,7 +146,7 @@ fn each_is_new(claims: &[Claim]) -> bool
 /// Returns whether the claims have so few targets that comparing each two is fast.
 fn are_few(claims: &[Claim]) -> bool {
     claims.len() <= 1
-        || claims.len() <= FEW
+        || claims.len() <= MAX_COMPARED
             && claims
                 .iter()
                 .all(|claim| !matches!(claim, Claim::Prices { .. }))

@@ -1,5 +1,5 @@
 -- Definitions on lists.
-use Rattle.std.specs.Prelude.{ℕ, ◌+◌, ◌==◌, Bool, true, ◌&&◌, List, [], ◌∷◌, ◌++◌, count_by, fold, if◌then◌else◌}
+use Rattle.std.specs.Prelude.{ℕ, ◌+◌, ◌==◌, ◌≢◌, Bool, true, not, ◌&&◌, List, [], ◌∷◌, ◌++◌, AllPairs, count_by, fold, if◌then◌else◌}
 use Rattle.std.specs.List.{range_with_len, list_all, list_any}
 
 -- The n numbers 0, 1 and so on, up to n - 1.
@@ -14,6 +14,14 @@ has_number ns n = list_any (λ m. m == n) ns
 abbrev pub each_two : {X : Type 0} → (X → X → Bool) → List X → Bool
 each_two related [] = true
 each_two related (x ∷ xs) = list_all (related x) xs && each_two related xs
+
+-- No element is in the list twice.
+abbrev pub AreDistinct : {X : Type 0} → List X → Type 0
+AreDistinct xs = AllPairs (λ a b. a ≢ b) xs
+
+-- Whether no number is in the list twice.
+abbrev pub are_distinct : List ℕ → Bool
+are_distinct ns = each_two (λ a b. not (a == b)) ns
 
 -- How many pairs of an element and a later one are related.
 abbrev pub count_pairs : {X : Type 0} → (X → X → Bool) → List X → ℕ

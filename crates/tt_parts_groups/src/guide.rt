@@ -2,13 +2,8 @@
 
 use std::alloc::{AllocError, Global};
 use tt_instance::Instance;
+use tt_rules::{DAY_PRICE, ISOLATED_PRICE};
 use tt_table::Entry;
-
-/// The cost of a single period of a curriculum, in cost points.
-const SINGLE_PRICE: u64 = 2;
-
-/// The cost of a day below a course's minimum, in cost points.
-const DAY_PRICE: u64 = 5;
 
 /// The cost of each curriculum and each course in the timetable; without a timetable nothing is known.
 #[derive(Drop)]
@@ -27,7 +22,7 @@ fn day_cost(instance: &Instance<'_>, entries: &[Entry], curriculum: u32, day: u3
         }
     }
     let singles = taught & !(taught << 1) & !(taught >> 1);
-    SINGLE_PRICE * u64::from(singles.count_ones())
+    ISOLATED_PRICE * u64::from(singles.count_ones())
 }
 
 /// Returns the cost of a curriculum in a timetable.

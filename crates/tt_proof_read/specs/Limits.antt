@@ -1,6 +1,6 @@
 -- The limits of a leaf, and the claims of a version, for users who need only these.
-use Rattle.std.specs.Prelude.{◌≡◌, ℕ, ◌≤◌, ◌==◌, true, not, All, ⊤}
-use Rattle.tt_lists.specs.Words.{each_two}
+use Rattle.std.specs.Prelude.{◌≡◌, ℕ, ◌≤◌, true, All, ⊤}
+use Rattle.tt_lists.specs.Words.{are_distinct}
 use Rattle.tt_leaf_rules.specs.declared.leaf.Claim.{Claim}
 use Rattle.tt_leaf_rules.specs.declared.leaf.Claim.TheVariants.{Capacity, Prices, Stacked}
 use Rattle.tt_leaf_rules.specs.declared.leaf.Leaf.{Leaf}
@@ -14,8 +14,8 @@ IsShortClaim (Prices courses rooms) = All (λ k. k.1 ≤ MAX_PRICE) courses × A
 IsShortClaim _ = ⊤
 
 abbrev pub IsShortLeaf : Leaf → Type 0
-IsShortLeaf (Clique cs) = each_two (λ a b. not (a == b)) cs ≡ true
-IsShortLeaf (Slots cs) = each_two (λ a b. not (a == b)) cs ≡ true
+IsShortLeaf (Clique cs) = are_distinct cs ≡ true
+IsShortLeaf (Slots cs) = are_distinct cs ≡ true
 IsShortLeaf (Cost claims) = All IsShortClaim claims
 IsShortLeaf _ = ⊤
 

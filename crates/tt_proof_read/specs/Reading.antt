@@ -27,7 +27,7 @@ use Rattle.tt_proof_read.specs.declared.fault.TextFault.{TextFault}
 use Rattle.tt_proof_read.specs.declared.fault.TextFault.TheVariants as fault
 use Rattle.tt_proof_read.specs.declared.claims.ClaimWord.{ClaimWord}
 use Rattle.tt_proof_read.specs.declared.claims.ClaimWord.TheVariants as claim_word
-use Rattle.tt_proof_read.specs.declared.format.TheConstants.{COURSE_LETTER, CURRICULUM_LETTER, DAY_LETTER, MAX_PROOF_NODES, MAX_POINTS, MAX_PRICE, PERIOD_LETTER, ROOM_LETTER}
+use Rattle.tt_proof_read.specs.declared.format.TheConstants.{COURSE_LETTER, CURRICULUM_LETTER, DAY_LETTER, MAX_INDEX, MAX_PROOF_NODES, MAX_POINTS, MAX_PRICE, PERIOD_LETTER, ROOM_LETTER}
 use Rattle.tt_proof_read.specs.declared.node.Node.{Node}
 use Rattle.tt_proof_read.specs.declared.node.Node.TheVariants as node
 use Rattle.tt_proof_read.specs.declared.nodes.NodeWord.{NodeWord}
@@ -75,7 +75,7 @@ below at count n = if nat_lt n count then Ok n else Err (fault.UnknownIndex at)
 
 -- The number after a letter, below a count.
 unfoldable pub numbered_below : ℕ → ℕ → List ℕ → Result ℕ TextFault
-numbered_below at count digits = numbered at (number_of 4294967295 digits) >>= below at count
+numbered_below at count digits = numbered at (number_of MAX_INDEX digits) >>= below at count
 
 abbrev pub index_in : ℕ → ℕ → ℕ → List ℕ → Result ℕ TextFault
 index_in at letter count [] = Err (fault.UnknownWord at)

@@ -1,6 +1,6 @@
 -- Which proofs the bytes of a `CTTP` file spell.
-use Rattle.std.specs.Prelude.{◌≡◌, ℕ, ◌<◌, ◌≤◌, ◌==◌, true, not, List, [], ◌∷◌, ◌++◌, length, map, flat_map, codes, All, if◌then◌else◌, Option, Some, None, ⊤}
-use Rattle.tt_lists.specs.Words.{each_two}
+use Rattle.std.specs.Prelude.{◌≡◌, ℕ, ◌<◌, ◌≤◌, ◌==◌, true, List, [], ◌∷◌, ◌++◌, length, map, flat_map, codes, All, if◌then◌else◌, Option, Some, None, ⊤}
+use Rattle.tt_lists.specs.Words.{are_distinct}
 use Rattle.tt_text.specs.Tokens.{tokens_of}
 use Rattle.tt_text.specs.declared.feed.TheConstants.{MAX_BYTES, MAX_TOKEN_BYTES}
 use Rattle.tt_text.specs.Pieces.{Piece, Text, Number, Index, Begins}
@@ -104,7 +104,7 @@ IsClaim p v (Stacked c) = (v ≡ 2) × (c < length p.courses)
 
 -- Courses of the instance, none of them twice.
 abbrev pub AreCourses : Problem → List ℕ → Type 0
-AreCourses p cs = AreBelow (length p.courses) cs × (each_two (λ a b. not (a == b)) cs ≡ true)
+AreCourses p cs = AreBelow (length p.courses) cs × (are_distinct cs ≡ true)
 
 abbrev pub IsLeaf : Problem → ℕ → Leaf → Type 0
 IsLeaf p v (Empty g) = IsPattern p g

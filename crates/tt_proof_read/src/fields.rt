@@ -8,7 +8,7 @@ ghost use Rattle.tt_proof_read.specs.Faults.{TellsNoFailedRead, TellsNoOutOfMemo
 ghost use Rattle.tt_proof_read.specs.Reading.{token_at, word_at, numbered_below, index_of, course_at, curriculum_at, priced_as, price_at};
 
 use crate::fault::{TextFault, Word};
-use crate::format::{COURSE_LETTER, CURRICULUM_LETTER, MAX_PRICE};
+use crate::format::{COURSE_LETTER, CURRICULUM_LETTER, MAX_INDEX, MAX_PRICE};
 use crate::sizes::Sizes;
 use tt_text::{Feed, NumberFault, Source, Token, number};
 
@@ -52,7 +52,7 @@ pub fn number_below(digits: &[u8], at: usize, count: u32) -> Result<u32, TextFau
     ensures within { IfOk result (λ n. n < count) }
     ensures unread { TellsNoFailedRead result }
 {
-    match number(&Token { bytes: digits, at }, 4_294_967_295) {
+    match number(&Token { bytes: digits, at }, MAX_INDEX) {
         Ok(n) => {
             if n < u64::from(count) {
                 Ok(n as u32)

@@ -9,6 +9,9 @@ pub const MAX_POINTS: u64 = 1_000_000_000_000;
 /// The maximum number of nodes of a proof.
 pub const MAX_PROOF_NODES: u32 = 16_777_216;
 
+/// The maximum number after a letter: the text of a larger one says nothing that exists.
+pub const MAX_INDEX: u64 = 4_294_967_295;
+
 /// The letter before the number of a course.
 pub const COURSE_LETTER: u8 = b'c';
 

@@ -17,4 +17,5 @@ mod stability;
 mod working_days;
 
 pub use counts::Score;
+pub use limit::{DAY_PRICE, ISOLATED_PRICE};
 pub use scoring::score;

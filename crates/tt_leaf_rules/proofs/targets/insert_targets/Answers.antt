@@ -23,4 +23,4 @@ insert_capacities-requires c =
 pub returns-in-Prices : goal.returns-in-Prices
 returns-in-Prices c = λ behind.
     let are = ap (map (λ k. 4 * k.0)) c.as_slice.ensures ∙ priced_places c.in-Prices.courses c.in-Prices.rooms ∙ ap places_of (sym c.in-Prices.is) in
-    ap (λ l. are_new c.args.met.now (l ++ behind)) (sym are) ∙ c.insert_capacities.ensures behind
+    ap (λ l. are_new c.args.taken.now (l ++ behind)) (sym are) ∙ c.insert_capacities.ensures behind

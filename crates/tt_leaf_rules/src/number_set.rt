@@ -1,17 +1,17 @@
-//! Numbers that have been met.
+//! Sets of the numbers of targets.
 
 ghost use Rattle.std.specs.Prelude.{◌≡◌, ℕ, ◌<◌, ◌==◌, ◌||◌, ◌&&◌, ◌∷◌, not, false, List, slice_index_or};
 ghost use Rattle.tt_leaf_rules.specs.NumberSet.{marked, are_new};
 
 use std::marker::Model;
 
-/// All numbers are below this limit: four for each curriculum.
-const PLACES: usize = 32_768;
+/// The number of a target is below this: a curriculum and a course have four numbers each.
+pub const PLACES: usize = 32_768;
 
 /// Up to this many numbers, comparing each two is faster than clearing the marks.
-pub const FEW: usize = 32;
+pub const MAX_COMPARED: usize = 32;
 
-/// For each number, whether it has been met.
+/// A set of numbers, with a mark for each number.
 #[derive(Drop)]
 pub struct NumberSet {
     marks: [bool; PLACES],
@@ -26,7 +26,7 @@ impl Model for NumberSet {
 }
 
 impl NumberSet {
-    /// Creates marks that say that no number has been met.
+    /// Creates an empty set.
     pub fn none() -> Self
         ensures { (k : ℕ) → marked result k ≡ false }
     {
@@ -49,7 +49,7 @@ impl NumberSet {
         self.marks[number] = true;
     }
 
-    /// Meets a number, and returns whether it had not been met before.
+    /// Inserts a number, and returns whether it is new.
     pub fn insert(&mut self, number: usize) -> bool
         requires { number < PLACES }
         ensures { (behind : List ℕ) → are_new self.old (number ∷ behind) ≡ (result && are_new self.new behind) }

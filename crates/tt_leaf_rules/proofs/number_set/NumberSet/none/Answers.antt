@@ -1,7 +1,7 @@
 use Rattle.std.proofs.Common.{◌≡◌, ℕ, false, get_or, replicate, inl, inr, arith}
 use Rattle.std.proofs.lemmas.Bool.{cases_lt}
 use Rattle.std.proofs.lemmas.List.{get_or-replicate, get_or_past, length-replicate}
-use Rattle.tt_leaf_rules.proofs.met.NumberSet.none.Goals as goal
+use Rattle.tt_leaf_rules.proofs.number_set.NumberSet.none.Goals as goal
 
 -- in a list that repeats one element, each place has it, if it is the default, too
 read_default : {X : Type 0} (n k : ℕ) (x : X) → get_or (replicate n x) k x ≡ x

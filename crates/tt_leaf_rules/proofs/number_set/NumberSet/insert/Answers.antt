@@ -1,7 +1,7 @@
 use Rattle.std.proofs.Common.{not, ◌&&◌, sym, ap, ◌∙◌}
 use Rattle.tt_leaf_rules.specs.NumberSet.{are_new}
 use Rattle.tt_leaf_rules.proofs.Meeting.{new_then}
-use Rattle.tt_leaf_rules.proofs.met.NumberSet.insert.Goals as goal
+use Rattle.tt_leaf_rules.proofs.number_set.NumberSet.insert.Goals as goal
 
 pub returns : goal.returns
 returns c = λ behind.
