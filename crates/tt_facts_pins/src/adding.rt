@@ -8,10 +8,10 @@ ghost use Rattle.tt_facts_pins.specs.Standing.{standing_size, Stands};
 use crate::pinning::{pin_period, pin_room};
 use crate::standing::stand;
 use std::alloc::AllocError;
+use tt_bits::Trail;
 use tt_facts_path::Fact;
 use tt_instance::Instance;
 use tt_instance_links::Curricula;
-use tt_trail::Trail;
 
 /// Writes the period and the room that a fact pins.
 fn pin(

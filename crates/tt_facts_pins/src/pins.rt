@@ -13,11 +13,10 @@ use crate::places::{block_place, day_place, room_place, size};
 use crate::spots::{find_spot, standing_size};
 use std::alloc::{AllocError, Global};
 use std::marker::Model;
-use tt_bits::has_bit;
+use tt_bits::{Trail, has_bit};
 use tt_facts_path::{Fact, Pattern, Who};
 use tt_instance::Instance;
 use tt_instance_links::Curricula;
-use tt_trail::Trail;
 
 /// The facts, with a table of the periods and rooms that they pin and a table of the facts themselves.
 #[derive(Drop)]

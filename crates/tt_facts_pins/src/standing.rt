@@ -6,9 +6,9 @@ ghost use Rattle.tt_facts_pins.specs.Standing.{standing_size, Stands};
 use crate::sets::put;
 use crate::spots::find_spot;
 use std::alloc::AllocError;
+use tt_bits::Trail;
 use tt_facts_path::Fact;
 use tt_instance::Instance;
-use tt_trail::Trail;
 
 /// Writes a fact into the table, if the table has a place for it.
 pub fn stand(instance: &Instance<'_>, standing: &mut Trail, fact: &Fact) -> Result<(), AllocError>

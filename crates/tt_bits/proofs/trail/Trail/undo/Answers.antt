@@ -1,8 +1,8 @@
 use Rattle.std.proofs.Common.{◌≡◌, ◌+◌, ◌≤◌, ◌++◌, [], ◌∷◌, refl, length, arith, ◌∙◌, ap, sym, length-append}
 use Rattle.std.proofs.lemmas.List.{length-set}
-use Rattle.tt_trail.specs.Undone.{table_at, tables_at}
-use Rattle.tt_trail.proofs.Undoing.{climb_parts, last_taken, table_at-back, tables_at-back, within_parts, climb_at_most, at_most_all}
-use Rattle.tt_trail.proofs.trail.Trail.undo.Goals as goal
+use Rattle.tt_bits.specs.Undone.{table_at, tables_at}
+use Rattle.tt_bits.proofs.Undoing.{climb_parts, last_taken, table_at-back, tables_at-back, within_parts, climb_at_most, at_most_all}
+use Rattle.tt_bits.proofs.trail.Trail.undo.Goals as goal
 
 pub loop-self-init : goal.loop-self-init
 loop-self-init c =

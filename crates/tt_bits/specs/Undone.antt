@@ -2,7 +2,7 @@
 -- Tables as they were before some writes.
 use Rattle.std.specs.Prelude.{ℕ, ◌≤◌, ◌<◌, List, [], ◌∷◌, ◌++◌, drop, map, slice_set}
 use Rattle.std.specs.List.{AllByRecursion}
-use Rattle.tt_trail.specs.declared.trail.Old.{Old}
+use Rattle.tt_bits.specs.declared.trail.Old.{Old}
 
 -- The table before some writes. The log has, for each write, its place and the number at that place before it, the oldest first.
 abbrev pub undone : List ℕ → List Old → List ℕ

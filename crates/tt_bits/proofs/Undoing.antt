@@ -4,8 +4,8 @@ use Rattle.std.specs.Prelude.{slice_set, option_to_list}
 use Rattle.std.specs.List.{AllByRecursion}
 use Rattle.std.proofs.Math.ListN.{set}
 use Rattle.std.proofs.lemmas.List.{drop-append-le, set-get_or}
-use Rattle.tt_trail.specs.Undone.{undone, table_at, tables_at, IsClimb, AreWithin}
-use Rattle.tt_trail.specs.declared.trail.Old.{Old}
+use Rattle.tt_bits.specs.Undone.{undone, table_at, tables_at, IsClimb, AreWithin}
+use Rattle.tt_bits.specs.declared.trail.Old.{Old}
 
 -- ---- lists of numbers
 

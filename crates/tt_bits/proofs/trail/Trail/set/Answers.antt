@@ -1,9 +1,9 @@
 use Rattle.std.proofs.Common.{◌<◌, ◌≤◌, length, ◌∙◌, arith, length-append, ap}
 use Rattle.std.proofs.lemmas.List.{length-set}
 use Rattle.std.proofs.lemmas.Grind.{get_or_default_zero}
-use Rattle.tt_trail.specs.Kept.{Kept}
-use Rattle.tt_trail.proofs.Undoing.{climb_further, climb_at_most, tables_at-write, within_more}
-use Rattle.tt_trail.proofs.trail.Trail.set.Goals as goal
+use Rattle.tt_bits.specs.Kept.{Kept}
+use Rattle.tt_bits.proofs.Undoing.{climb_further, climb_at_most, tables_at-write, within_more}
+use Rattle.tt_bits.proofs.trail.Trail.set.Goals as goal
 
 pub invariant_of-self-2 : goal.invariant_of-self-2
 invariant_of-self-2 c =

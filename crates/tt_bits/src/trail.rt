@@ -21,12 +21,12 @@ pub struct Trail {
 }
 
 impl Model for Trail {
-    ghost use Rattle.tt_trail.specs.Kept.{Kept};
+    ghost use Rattle.tt_bits.specs.Kept.{Kept};
 
     ghost Value = { Kept };
 
     ghost use Rattle.std.specs.Prelude.{length};
-    ghost use Rattle.tt_trail.specs.Undone.{tables_at, IsClimb, AreWithin};
+    ghost use Rattle.tt_bits.specs.Undone.{tables_at, IsClimb, AreWithin};
 
     ghost view = { λ t. record {
       words = t.words.items;
