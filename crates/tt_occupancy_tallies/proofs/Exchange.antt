@@ -10,11 +10,11 @@ use Rattle.tt_rules.specs.Hard.{entries_of, periods_of, lectures_off, lectures_c
 use Rattle.tt_rules.specs.Soft.{days_cost, days_count, stability_cost, stability_count}
 use Rattle.tt_rules.specs.Score.{hard, cost}
 use Rattle.tt_lists.proofs.Sums.{one_if}
-use Rattle.tt_occupancy_change.specs.Weight.{repeats, hard_weight, cost_rise, cost_fall}
-use Rattle.tt_occupancy_change.proofs.Bags.{bag_front, bag_set}
-use Rattle.tt_occupancy_change.proofs.Adding.{lectures_added, conflicts_added, availability_added, occupancy_added, capacity_added, days_added, stability_added}
-use Rattle.tt_occupancy_change.proofs.Compact.{compactness_added}
-use Rattle.tt_occupancy_change.proofs.Same.{hard_same, cost_same}
+use Rattle.tt_occupancy_tallies.specs.Weight.{repeats, hard_weight, cost_rise, cost_fall}
+use Rattle.tt_occupancy_tallies.proofs.Bags.{bag_front, bag_set}
+use Rattle.tt_occupancy_tallies.proofs.Adding.{lectures_added, conflicts_added, availability_added, occupancy_added, capacity_added, days_added, stability_added}
+use Rattle.tt_occupancy_tallies.proofs.Compact.{compactness_added}
+use Rattle.tt_occupancy_tallies.proofs.Same.{hard_same, cost_same}
 
 module _ (p : Problem) (u : List Cell) (x y : Cell) (okx : InRange p x) (oky : InRange p y) (e : x.course ≡ y.course) where
   pub lectures_exchanged : lectures_count p (y ∷ u) + one_if (repeats u x) ≡ lectures_count p (x ∷ u) + one_if (repeats u y)

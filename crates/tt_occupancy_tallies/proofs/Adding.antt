@@ -13,8 +13,8 @@ use Rattle.tt_rules.specs.Hard.{entries_of, periods_of, lectures_off, lectures_c
 use Rattle.tt_rules.specs.Soft.{capacity_count, days_of, days_cost, days_count, stability_cost, stability_count}
 use Rattle.tt_lists.proofs.Sums.{one_if, one_if_true, one_if_false, count_by-cons, sum_by-same, sum_by-le, count_if_any, any_if_count, one_if_any, spread_down, once_at_most, each}
 use Rattle.tt_instance.proofs.Places.{count_slots}
-use Rattle.tt_occupancy_change.specs.Weight.{repeats, shares, barred, against}
-use Rattle.tt_occupancy_change.proofs.Differ.{sum_by-differ, differ_below, once_below, once_slot}
+use Rattle.tt_occupancy_tallies.specs.Weight.{repeats, shares, barred, against}
+use Rattle.tt_occupancy_tallies.proofs.Differ.{sum_by-differ, differ_below, once_below, once_slot}
 
 -- -- counts of places that have an entry
 

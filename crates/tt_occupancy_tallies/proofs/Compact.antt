@@ -11,7 +11,7 @@ use Rattle.tt_instance.specs.declared.cell.Cell.{Cell}
 use Rattle.tt_rules.specs.Soft.{is_isolated, compactness_cost, compactness_count}
 use Rattle.tt_lists.proofs.Sums.{one_if, one_if_false, count_by-cons, sum_by-plus, sum_by-same, sum_by-times}
 use Rattle.tt_lists.proofs.Members.{count_by-split}
-use Rattle.tt_occupancy_change.specs.Weight.{joined, alone, all_joined}
+use Rattle.tt_occupancy_tallies.specs.Weight.{joined, alone, all_joined}
 
 -- no period is next to itself
 not_next : (s : Slot) → next_to s s ≡ false

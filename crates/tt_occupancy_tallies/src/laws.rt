@@ -1,13 +1,12 @@
-//! The contribution of one entry to each count of a timetable.
-#![tactic(auto)]
+//! Laws: the contribution of one entry to each count of a timetable.
 
 ghost use Rattle.std.specs.Prelude.{◌≡◌, ◌+◌, List, ◌∷◌};
 ghost use Rattle.tt_instance.specs.Problem.{Problem};
 ghost use Rattle.tt_instance.specs.Cells.{InRange};
 ghost use Rattle.tt_instance.specs.declared.cell.Cell.{Cell};
 ghost use Rattle.tt_rules.specs.Score.{hard, cost};
-ghost use Rattle.tt_occupancy_change.specs.Bag.{SameBag};
-ghost use Rattle.tt_occupancy_change.specs.Weight.{hard_weight, cost_rise, cost_fall};
+ghost use Rattle.tt_occupancy_tallies.specs.Bag.{SameBag};
+ghost use Rattle.tt_occupancy_tallies.specs.Weight.{hard_weight, cost_rise, cost_fall};
 
 /// The order of the entries does not count.
 pub fn order_does_not_count()

@@ -5,7 +5,7 @@ use Rattle.std.specs.List.{list_any}
 use Rattle.std.proofs.lemmas.List.Sums.{sum_by-cons, sum_by-remove, sum_by-set}
 use Rattle.std.proofs.lemmas.Bool.{cases_Bool, false_from_ne_true}
 use Rattle.tt_lists.specs.Words.{count_pairs}
-use Rattle.tt_occupancy_change.specs.Bag.{SameBag}
+use Rattle.tt_occupancy_tallies.specs.Bag.{SameBag}
 use Rattle.tt_lists.proofs.Sums.{one_if, count_by-cons, sum_by-plus, sum_by-same, count_if_any, any_if_count}
 
 module _ {X : Type 0} where

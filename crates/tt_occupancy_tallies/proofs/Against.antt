@@ -8,7 +8,7 @@ use Rattle.tt_instance.specs.Cells.{slot, is_at}
 use Rattle.tt_instance.specs.Courses.{conflict}
 use Rattle.tt_instance.specs.declared.cell.Cell.{Cell}
 use Rattle.tt_rules.specs.Hard.{collide}
-use Rattle.tt_occupancy_change.specs.Weight.{against}
+use Rattle.tt_occupancy_tallies.specs.Weight.{against}
 
 -- the entries that collide with x are those of its period whose courses conflict with its own
 pub against_is : (p : Problem) (u : List Cell) (x : Cell) → count_by (λ e. conflict p x.course e.course && is_at (slot x.day x.period) e) u ≡ against p u x

@@ -12,8 +12,8 @@ use Rattle.tt_rules.specs.Soft.{capacity_count, days_cost, days_count, is_isolat
 use Rattle.tt_rules.specs.Score.{hard, cost}
 use Rattle.tt_lists.proofs.Sums.{one_if, sum_by-same}
 use Rattle.tt_rules.proofs.Feasible.{collide-turn}
-use Rattle.tt_occupancy_change.specs.Bag.{SameBag}
-use Rattle.tt_occupancy_change.proofs.Bags.{bag_any, bag_pairs}
+use Rattle.tt_occupancy_tallies.specs.Bag.{SameBag}
+use Rattle.tt_occupancy_tallies.proofs.Bags.{bag_any, bag_pairs}
 
 same_if : (a b : Bool) → (a ≡ true → b ≡ true) → (b ≡ true → a ≡ true) → a ≡ b
 same_if a b f g = elim (cases_Bool a) [
