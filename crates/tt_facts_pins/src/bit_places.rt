@@ -1,7 +1,7 @@
 //! The places of facts in their table.
 
 ghost use Rattle.std.specs.Prelude.{◌≡◌, ◌<◌, ◌≤◌, ◌*◌, ℕ, not, length, IfSome, Bool};
-ghost use Rattle.tt_facts_pins.specs.Standing.{fact_row, fact_rows, open_place, open_size, closed_place, standing_size, spot_in, spot_at, is_nowhere};
+ghost use Rattle.tt_facts_pins.specs.FactTable.{fact_row, fact_rows, open_place, open_size, closed_place, fact_table_size, bit_place_in, bit_place_at, is_nowhere};
 ghost use Rattle.tt_instance.specs.declared.limit.TheConstants.{MAX_COURSES, MAX_DAYS};
 
 use tt_facts_path::{Fact, Pattern, Who};
@@ -9,7 +9,7 @@ use tt_instance::Instance;
 
 /// A place of the table and a number of the set there.
 #[derive(Clone, Copy)]
-pub struct Spot {
+pub struct BitPlace {
     pub place: usize,
     pub number: u32,
 }
@@ -56,7 +56,7 @@ fn closed_place(
     requires period { period < instance.now.periods }
     requires room { room < length instance.now.rooms }
     ensures value { result ≡ closed_place instance.now holds course day period room }
-    ensures within { result < standing_size instance.now }
+    ensures within { result < fact_table_size instance.now }
 {
     let unroomed = open_size(instance);
     let periods = instance.periods() as usize;
@@ -75,8 +75,8 @@ fn open_size(instance: &Instance<'_>) -> usize
 }
 
 /// Returns the number of words of the table.
-pub fn standing_size(instance: &Instance<'_>) -> usize
-    ensures { result ≡ standing_size instance.now }
+pub fn fact_table_size(instance: &Instance<'_>) -> usize
+    ensures { result ≡ fact_table_size instance.now }
 {
     let unroomed = open_size(instance);
     let width = (instance.rooms() as usize + 63) / 64;
@@ -84,25 +84,25 @@ pub fn standing_size(instance: &Instance<'_>) -> usize
 }
 
 /// Returns the place of a fact about a course, a day and a period.
-fn spot_in(
+fn bit_place_in(
     instance: &Instance<'_>,
     holds: bool,
     course: u32,
     day: u32,
     period: u32,
     room: Option<u32>,
-) -> Option<Spot>
+) -> Option<BitPlace>
     requires course { course < length instance.now.courses }
     requires day { day < instance.now.days }
     requires period { period < instance.now.periods }
-    ensures value { result ≡ spot_in instance.now holds course day period room }
-    ensures place { IfSome result (λ x. x.place < standing_size instance.now) }
+    ensures value { result ≡ bit_place_in instance.now holds course day period room }
+    ensures place { IfSome result (λ x. x.place < fact_table_size instance.now) }
     ensures number { IfSome result (λ x. x.number < 64) }
 {
     let Some(given) = room else {
         let periods = instance.periods();
         prove!(period < periods);
-        return Some(Spot {
+        return Some(BitPlace {
             place: open_place(instance, holds, course, day),
             number: period,
         });
@@ -110,7 +110,7 @@ fn spot_in(
     if given >= instance.rooms() {
         return None;
     }
-    Some(Spot {
+    Some(BitPlace {
         place: closed_place(instance, holds, course, day, period, given),
         number: given % 64,
     })
@@ -118,7 +118,7 @@ fn spot_in(
 
 /// Returns whether the given room is in range; true if no room is given.
 fn is_room_there(instance: &Instance<'_>, room: Option<u32>) -> bool
-    ensures { (holds : Bool) (c d s : ℕ) → result ≡ not (is_nowhere (spot_in instance.now holds c d s room)) }
+    ensures { (holds : Bool) (c d s : ℕ) → result ≡ not (is_nowhere (bit_place_in instance.now holds c d s room)) }
 {
     match room {
         None => true,
@@ -129,8 +129,8 @@ fn is_room_there(instance: &Instance<'_>, room: Option<u32>) -> bool
 /// Returns whether a fact has a place. The place itself isn't computed, as that takes longer. Not inlined, like the call that lists
 /// the fact.
 #[inline(never)]
-pub fn has_spot(instance: &Instance<'_>, fact: &Fact) -> bool
-    ensures { result ≡ not (is_nowhere (spot_at instance.now fact.now.pattern fact.now.holds)) }
+pub fn has_bit_place(instance: &Instance<'_>, fact: &Fact) -> bool
+    ensures { result ≡ not (is_nowhere (bit_place_at instance.now fact.now.pattern fact.now.holds)) }
 {
     let pattern = fact.pattern;
     let Who::Course(course) = pattern.who else {
@@ -150,9 +150,9 @@ pub fn has_spot(instance: &Instance<'_>, fact: &Fact) -> bool
 }
 
 /// Returns the place of a fact; `None` if it doesn't give a course, a day and a period, or if a number that it gives is out of range.
-pub fn find_spot(instance: &Instance<'_>, pattern: &Pattern, holds: bool) -> Option<Spot>
-    ensures value { result ≡ spot_at instance.now pattern.now holds }
-    ensures place { IfSome result (λ x. x.place < standing_size instance.now) }
+pub fn find_bit_place(instance: &Instance<'_>, pattern: &Pattern, holds: bool) -> Option<BitPlace>
+    ensures value { result ≡ bit_place_at instance.now pattern.now holds }
+    ensures place { IfSome result (λ x. x.place < fact_table_size instance.now) }
     ensures number { IfSome result (λ x. x.number < 64) }
 {
     let Who::Course(course) = pattern.who else {
@@ -165,7 +165,7 @@ pub fn find_spot(instance: &Instance<'_>, pattern: &Pattern, holds: bool) -> Opt
         return None;
     };
     if course < instance.courses() && day < instance.days() && period < instance.periods() {
-        spot_in(instance, holds, course, day, period, pattern.room)
+        bit_place_in(instance, holds, course, day, period, pattern.room)
     } else {
         None
     }

@@ -7,7 +7,7 @@ use Rattle.tt_facts_path.specs.declared.facts.Who.{Who}
 use Rattle.tt_facts_path.specs.declared.facts.Who.TheVariants.{Course, Curriculum}
 use Rattle.tt_facts_path.specs.declared.facts.Pattern.{Pattern}
 use Rattle.tt_facts_path.specs.declared.facts.Fact.{Fact}
-use Rattle.tt_facts_pins.specs.declared.spots.Spot.{Spot}
+use Rattle.tt_facts_pins.specs.declared.bit_places.BitPlace.{BitPlace}
 use Rattle.tt_facts_pins.specs.Sets.{has_at}
 use Rattle.tt_facts_pins.specs.Tables.{width}
 
@@ -37,37 +37,37 @@ slot_rows p = open_size p * p.periods
 abbrev pub closed_place : Problem → Bool → ℕ → ℕ → ℕ → ℕ → ℕ
 closed_place p holds c d s r = open_size p + (slot_row p holds c d s * width p + r / 64)
 
-abbrev pub standing_size : Problem → ℕ
-standing_size p = open_size p + slot_rows p * width p
+abbrev pub fact_table_size : Problem → ℕ
+fact_table_size p = open_size p + slot_rows p * width p
 
-abbrev pub spot_in : Problem → Bool → ℕ → ℕ → ℕ → Option ℕ → Option Spot
-spot_in p holds c d s None = Some (record { place = open_place p holds c d; number = s })
-spot_in p holds c d s (Some r) =
+abbrev pub bit_place_in : Problem → Bool → ℕ → ℕ → ℕ → Option ℕ → Option BitPlace
+bit_place_in p holds c d s None = Some (record { place = open_place p holds c d; number = s })
+bit_place_in p holds c d s (Some r) =
     if nat_lt r (length p.rooms) then Some (record { place = closed_place p holds c d s r; number = r % 64 }) else None
 
-abbrev pub spot_of : Problem → Bool → Who → Option ℕ → Option ℕ → Option ℕ → Option Spot
-spot_of p holds (Curriculum q) room day period = None
-spot_of p holds (Course c) room None period = None
-spot_of p holds (Course c) room (Some d) None = None
-spot_of p holds (Course c) room (Some d) (Some s) =
-    if nat_lt c (length p.courses) && nat_lt d p.days && nat_lt s p.periods then spot_in p holds c d s room else None
+abbrev pub bit_place_of : Problem → Bool → Who → Option ℕ → Option ℕ → Option ℕ → Option BitPlace
+bit_place_of p holds (Curriculum q) room day period = None
+bit_place_of p holds (Course c) room None period = None
+bit_place_of p holds (Course c) room (Some d) None = None
+bit_place_of p holds (Course c) room (Some d) (Some s) =
+    if nat_lt c (length p.courses) && nat_lt d p.days && nat_lt s p.periods then bit_place_in p holds c d s room else None
 
-abbrev pub spot_at : Problem → Pattern → Bool → Option Spot
-spot_at p g holds = spot_of p holds g.who g.room g.day g.period
+abbrev pub bit_place_at : Problem → Pattern → Bool → Option BitPlace
+bit_place_at p g holds = bit_place_of p holds g.who g.room g.day g.period
 
-abbrev pub is_nowhere : Option Spot → Bool
+abbrev pub is_nowhere : Option BitPlace → Bool
 is_nowhere None = true
 is_nowhere (Some x) = false
 
 -- The facts that have no place in the table.
-abbrev pub others_of : Problem → List Fact → List Fact
-others_of p facts = filter (λ f. is_nowhere (spot_at p f.pattern f.holds)) facts
+abbrev pub unplaced_of : Problem → List Fact → List Fact
+unplaced_of p facts = filter (λ f. is_nowhere (bit_place_at p f.pattern f.holds)) facts
 
 -- -- the meaning of the words
 
-pub record ShowsStanding (p : Problem) (facts : List Fact) (words : List ℕ) : Type 0 where
-  pub len : length words ≡ standing_size p
-  pub each : (g : Pattern) (holds : Bool) (x : Spot) → spot_at p g holds ≡ Some x →
+pub record ShowsFacts (p : Problem) (facts : List Fact) (words : List ℕ) : Type 0 where
+  pub len : length words ≡ fact_table_size p
+  pub each : (g : Pattern) (holds : Bool) (x : BitPlace) → bit_place_at p g holds ≡ Some x →
       has_at words x.place x.number ≡ has_fact facts g holds
 
 -- The fact is this one.
@@ -75,7 +75,7 @@ abbrev pub is_fact : Pattern → Bool → Fact → Bool
 is_fact g holds f = same_answer f.holds holds && same_pattern f.pattern g
 
 -- Another fact has been added.
-pub record Stands (p : Problem) (f : Fact) (old new : List ℕ) : Type 0 where
+pub record AddsFact (p : Problem) (f : Fact) (old new : List ℕ) : Type 0 where
   pub len : length new ≡ length old
-  pub each : (g : Pattern) (holds : Bool) (x : Spot) → spot_at p g holds ≡ Some x →
+  pub each : (g : Pattern) (holds : Bool) (x : BitPlace) → bit_place_at p g holds ≡ Some x →
       has_at new x.place x.number ≡ (has_at old x.place x.number || is_fact g holds f)
