@@ -20,7 +20,7 @@ use Rattle.tt_leaf_rules.specs.Claims.{total_of}
 use Rattle.tt_leaf_rules.specs.declared.leaf.Bound.{Bound}
 use Rattle.tt_leaf_rules.specs.declared.leaf.Bound.TheVariants.{AtLeast}
 use Rattle.tt_leaf_rules.specs.declared.leaf.Leaf.{Leaf}
-use Rattle.tt_proof_read.specs.Trees.{Tree, Close, Branch, OnPath, on_paths, preorder, with_fact}
+use Rattle.tt_proof_read.specs.Trees.{Tree, Tip, Fork, OnPath, on_paths, preorder, with_fact}
 use Rattle.tt_proof_read.specs.declared.node.Node.TheVariants as node
 use Rattle.tt_proof_check.specs.Derives.{Derives, IsShallow}
 use Rattle.tt_proof_check.specs.Explains.{IsRightOn, Passes}
@@ -38,12 +38,12 @@ use Rattle.tt_branch.proofs.Searching.{right_for, best_right, no_worth, worth_re
 -- ---- the shape of a tree
 
 abbrev splits : Tree → ℕ
-splits (Close leaf) = 0
-splits (Branch g a b) = splits a + splits b + 1
+splits (Tip leaf) = 0
+splits (Fork g a b) = splits a + splits b + 1
 
 pub length-on_paths : (root : List Fact) (tree : Tree) → length (on_paths root tree) ≡ 2 * splits tree + 1
-length-on_paths root (Close leaf) = refl
-length-on_paths root (Branch g a b) =
+length-on_paths root (Tip leaf) = refl
+length-on_paths root (Fork g a b) =
     omega (
       arith,
       length-append (on_paths (with_fact root g true) a) (on_paths (with_fact root g false) b),
@@ -52,17 +52,17 @@ length-on_paths root (Branch g a b) =
     )
 
 depth-le : (root : List Fact) (tree : Tree) → AllByRecursion (λ x. length x.path ≤ length root + splits tree) (on_paths root tree)
-depth-le root (Close leaf) = (omega arith, tt)
-depth-le root (Branch g a b) =
-    let P : OnPath → Type 0 = λ x. length x.path ≤ length root + splits (Branch g a b) in
+depth-le root (Tip leaf) = (omega arith, tt)
+depth-le root (Fork g a b) =
+    let P : OnPath → Type 0 = λ x. length x.path ≤ length root + splits (Fork g a b) in
     let one = λ (holds : Bool). length-append root (record { pattern = g; holds = holds } ∷ []) in
     let first = each_weaker (λ x. length x.path ≤ length (with_fact root g true) + splits a) P (λ x h. omega (arith, one true)) (on_paths (with_fact root g true) a) (depth-le (with_fact root g true) a) in
     let second = each_weaker (λ x. length x.path ≤ length (with_fact root g false) + splits b) P (λ x h. omega (arith, one false)) (on_paths (with_fact root g false) b) (depth-le (with_fact root g false) b) in
     (omega arith, each_append P (on_paths (with_fact root g true) a) (on_paths (with_fact root g false) b) first second)
 
 pub preorder-on_paths : (root : List Fact) (tree : Tree) → map (λ x. x.node) (on_paths root tree) ≡ preorder tree
-preorder-on_paths root (Close leaf) = refl
-preorder-on_paths root (Branch g a b) =
+preorder-on_paths root (Tip leaf) = refl
+preorder-on_paths root (Fork g a b) =
     ap (λ l. node.Split g ∷ l) (map-append (λ x. x.node) (on_paths (with_fact root g true) a) (on_paths (with_fact root g false) b)
     ∙ ap (λ l. l ++ map (λ x. x.node) (on_paths (with_fact root g false) b)) (preorder-on_paths (with_fact root g true) a)
     ∙ ap (λ l. preorder a ++ l) (preorder-on_paths (with_fact root g false) b))

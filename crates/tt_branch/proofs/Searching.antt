@@ -18,7 +18,7 @@ use Rattle.tt_leaf_rules.specs.declared.leaf.Bound.TheVariants.{AtLeast, Nothing
 use Rattle.tt_leaf_rules.specs.declared.leaf.Claim.TheVariants.{Days}
 use Rattle.tt_leaf_rules.specs.declared.leaf.Leaf.{Leaf}
 use Rattle.tt_leaf_rules.specs.declared.leaf.Leaf.TheVariants.{Empty, Many, Clique, Slots, Cost}
-use Rattle.tt_proof_read.specs.Trees.{Close, Branch, OnPath, on_paths, with_fact}
+use Rattle.tt_proof_read.specs.Trees.{Tip, Fork, OnPath, on_paths, with_fact}
 use Rattle.tt_proof_read.specs.declared.node.Node.TheVariants as node
 use Rattle.tt_leaf.specs.Best.{best_claims, best_leaf}
 use Rattle.tt_leaf.proofs.Claims.{all_different, all_fair}
@@ -123,7 +123,7 @@ module _ (p : Problem) where
         let k = subst (λ q. IsKnown p best q new.mark) s.path known in
         let l = subst (λ q. node_of p q new.mark ≡ node.Leaf leaf) s.path shown in
         let here = w.3 ∙ ap (λ n. w.0 ++ on_path x.path n ∷ w.2) (s.node ∙ open_leaf p e.mark x.path o) in
-        let r = graft [] grown.tree w.0 x.path (best_leaf p x.path) w.2 here (Close leaf) in
+        let r = graft [] grown.tree w.0 x.path (best_leaf p x.path) w.2 here (Tip leaf) in
         record {
           tree = r.0;
           together =
@@ -154,7 +154,7 @@ module _ (p : Problem) where
         let known : IsSplitOn p x.path g = subst (IsKnown p best x.path) opened s.known in
         let yes' = best_leaf p (with_fact x.path g true) in
         let no' = best_leaf p (with_fact x.path g false) in
-        let r = graft [] grown2.tree w.0 x.path (best_leaf p x.path) w.2 here (Branch g (Close yes') (Close no')) in
+        let r = graft [] grown2.tree w.0 x.path (best_leaf p x.path) w.2 here (Fork g (Tip yes') (Tip no')) in
         let at1 = ap (λ q. q ++ record { pattern = g; holds = true } ∷ []) s.path in
         let at2 = ap (λ q. q ++ record { pattern = g; holds = false } ∷ []) s.path in
         let get1 : slice_get links2 (length links) ≡ Some yes = at_first links1 (no ∷ []) (length links) (omega arith) ∙ at_next links yes [] in
@@ -194,7 +194,7 @@ module _ (p : Problem) where
   -- the tree that consists of the root
   pub grow_root : (best : Option (List Cell)) (e : Entry) → e.mark ≡ Waiting → e.link ≡ 0 → IsGrown p best [] (e ∷ [])
   grow_root best e m l = record {
-    tree = Close (best_leaf p []);
+    tree = Tip (best_leaf p []);
     together = (
       record {
         node = sym (ap (node_of p []) m);
