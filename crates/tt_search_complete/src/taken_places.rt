@@ -48,7 +48,7 @@ fn entry_at(instance: &Instance<'_>, course: u32, place: Option<Place>) -> Entry
 
 /// The places of the week that are taken, and the conflicts in each period for one course.
 #[derive(Drop)]
-pub struct Board {
+pub struct TakenPlaces {
     rooms: usize,
     periods: usize,
     /// Whether a room is taken in a period, period by period.
@@ -57,13 +57,13 @@ pub struct Board {
     conflicts: Vec<u32>,
 }
 
-impl Board {
+impl TakenPlaces {
     /// Returns the places of an instance, none of which is taken.
-    pub fn new(alloc: Global, instance: &Instance<'_>) -> Result<Board, AllocError> {
+    pub fn new(alloc: Global, instance: &Instance<'_>) -> Result<TakenPlaces, AllocError> {
         let rooms = instance.rooms() as usize;
         let periods = instance.periods() as usize;
         let slots = periods.saturating_mul(instance.days() as usize);
-        Ok(Board {
+        Ok(TakenPlaces {
             rooms,
             periods,
             taken: vec![in alloc; false; slots.saturating_mul(rooms)]?,

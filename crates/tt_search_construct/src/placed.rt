@@ -1,14 +1,14 @@
 //! The lectures placed so far, as counts.
 
 use crate::counts::Counts;
+use crate::instance_data::{Course, InstanceData};
 use crate::place::Place;
-use crate::setting::{Course, Setting};
 use std::alloc::{AllocError, Global};
 use tt_instance::Instance;
 
 /// The state of a course whose lectures are being placed.
 #[derive(Clone, Copy)]
-pub struct Waiting {
+pub struct CourseState {
     /// The number of lectures still to place.
     pub left: u32,
     /// The number of periods in which another lecture would break no rule, not counting its room.
@@ -17,8 +17,8 @@ pub struct Waiting {
     pub days: u32,
 }
 
-impl Waiting {
-    const NONE: Waiting = Waiting {
+impl CourseState {
+    const NONE: CourseState = CourseState {
         left: 0,
         open: 0,
         days: 0,
@@ -27,8 +27,8 @@ impl Waiting {
 
 /// The counts of the placed lectures.
 #[derive(Drop)]
-pub struct Board {
-    waiting: Vec<Waiting>,
+pub struct PlacedLectures {
+    states: Vec<CourseState>,
     /// The number of rules that a lecture of each course would break in each period, not counting its room.
     broken: Counts,
     /// The lectures in each room and period.
@@ -41,54 +41,54 @@ pub struct Board {
     pub course_rooms: Counts,
 }
 
-/// Returns the courses, with none of their lectures placed.
-fn all_waiting(alloc: Global, setting: &Setting) -> Result<Vec<Waiting>, AllocError> {
-    let mut waiting = Vec::new(alloc);
-    for course in &setting.courses {
-        waiting.push(Waiting {
+/// Returns the states of the courses, with none of their lectures placed.
+fn first_states(alloc: Global, data: &InstanceData) -> Result<Vec<CourseState>, AllocError> {
+    let mut states = Vec::new(alloc);
+    for course in &data.courses {
+        states.push(CourseState {
             left: course.lectures,
-            open: setting.slots,
+            open: data.slots,
             days: 0,
         })?;
     }
-    Ok(waiting)
+    Ok(states)
 }
 
-impl Board {
-    /// Returns a board on which no lecture is placed, and no period is barred.
-    fn empty(alloc: Global, setting: &Setting) -> Result<Board, AllocError> {
-        let (courses, rooms) = (setting.course_count, setting.room_count);
-        Ok(Board {
-            waiting: all_waiting(alloc, setting)?,
-            broken: Counts::new(alloc, courses, setting.slots)?,
-            rooms: Counts::new(alloc, rooms, setting.slots)?,
-            curricula: Counts::new(alloc, setting.curriculum_count, setting.slots)?,
-            days: Counts::new(alloc, courses, setting.days)?,
+impl PlacedLectures {
+    /// Returns counts for no placed lecture, and no period is barred.
+    fn empty(alloc: Global, data: &InstanceData) -> Result<PlacedLectures, AllocError> {
+        let (courses, rooms) = (data.course_count, data.room_count);
+        Ok(PlacedLectures {
+            states: first_states(alloc, data)?,
+            broken: Counts::new(alloc, courses, data.slots)?,
+            rooms: Counts::new(alloc, rooms, data.slots)?,
+            curricula: Counts::new(alloc, data.curriculum_count, data.slots)?,
+            days: Counts::new(alloc, courses, data.days)?,
             course_rooms: Counts::new(alloc, courses, rooms)?,
         })
     }
 
-    /// Returns a board on which no lecture is placed.
+    /// Returns counts for no placed lecture.
     pub fn new(
         alloc: Global,
         instance: &Instance<'_>,
-        setting: &Setting,
-    ) -> Result<Board, AllocError> {
+        data: &InstanceData,
+    ) -> Result<PlacedLectures, AllocError> {
         let periods = instance.periods();
-        let mut board = Board::empty(alloc, setting)?;
+        let mut placed = PlacedLectures::empty(alloc, data)?;
         for index in 0..instance.unavailabilities() {
             let (course, day, period) = instance.unavailability(index);
-            board.close(course, day.saturating_mul(periods).saturating_add(period));
+            placed.close(course, day.saturating_mul(periods).saturating_add(period));
         }
-        Ok(board)
+        Ok(placed)
     }
 
     /// Returns the state of a course; a course that doesn't exist has no lecture left.
-    pub fn waiting_of(&self, course: u32) -> Waiting {
-        self.waiting
+    pub fn state_of(&self, course: u32) -> CourseState {
+        self.states
             .get(course as usize)
             .copied()
-            .unwrap_or(Waiting::NONE)
+            .unwrap_or(CourseState::NONE)
     }
 
     /// Returns the number of rules that a lecture of a course would break in a period, not counting its room.
@@ -101,11 +101,11 @@ impl Board {
         if self.broken(course, slot) > 0 {
             return 0;
         }
-        let waiting = self.waiting_of(course);
-        waiting
+        let state = self.state_of(course);
+        state
             .left
             .saturating_mul(256)
-            .checked_div(waiting.open)
+            .checked_div(state.open)
             .unwrap_or(0)
     }
 
@@ -121,9 +121,9 @@ impl Board {
     /// Notes that a lecture of the course would break another rule in the period.
     fn close(&mut self, course: u32, slot: u32) {
         if self.broken.add(course, slot)
-            && let Some(waiting) = self.waiting.get_mut(course as usize)
+            && let Some(state) = self.states.get_mut(course as usize)
         {
-            waiting.open = waiting.open.saturating_sub(1);
+            state.open = state.open.saturating_sub(1);
         }
     }
 
@@ -138,17 +138,17 @@ impl Board {
     /// Notes that a lecture of the course is placed on a day.
     fn take(&mut self, course: u32, day: u32) {
         let is_new = self.days.add(course, day);
-        if let Some(waiting) = self.waiting.get_mut(course as usize) {
-            waiting.left = waiting.left.saturating_sub(1);
+        if let Some(state) = self.states.get_mut(course as usize) {
+            state.left = state.left.saturating_sub(1);
             if is_new {
-                waiting.days = waiting.days.saturating_add(1);
+                state.days = state.days.saturating_add(1);
             }
         }
     }
 
     /// Counts a lecture of a course at a place.
-    pub fn put(&mut self, setting: &Setting, number: u32, course: &Course, place: Place) {
-        let day = place.slot.checked_div(setting.periods).unwrap_or(0);
+    pub fn put(&mut self, data: &InstanceData, number: u32, course: &Course, place: Place) {
+        let day = place.slot.checked_div(data.periods).unwrap_or(0);
         self.take(number, day);
         self.close_round(number, course, place.slot);
         let _ = self.rooms.add(place.room, place.slot);

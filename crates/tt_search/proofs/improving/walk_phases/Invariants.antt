@@ -2,10 +2,10 @@ use Rattle.std.proofs.Common.{◌≡◌, ◌<◌, ◌≤◌, List, length}
 use Rattle.tt_instance.specs.declared.cell.Cell.{Cell}
 use Rattle.tt_search.specs.Improved.{LeadsWithin}
 use Rattle.tt_search.specs.Pairs.{IsBest}
-use Rattle.tt_search.proofs.improving.go_rounds.Given as goal
+use Rattle.tt_search.proofs.improving.walk_phases.Given as goal
 
-abbrev pub invariant-loop-part : goal.invariant-loop-part
-invariant-loop-part g l = record {
+abbrev pub invariant-loop-phase : goal.invariant-loop-phase
+invariant-loop-phase g l = record {
   problem : l.occupied.problem ≡ l.initial.occupied.problem;
   some : 0 < length l.occupied.entries;
   here : l.best.entries.items ≡ l.occupied.entries;

@@ -1,10 +1,10 @@
-//! The rounds of a walk.
+//! The phases of a walk.
 
 ghost use Rattle.std.specs.Prelude.{◌+◌, ◌≤◌};
 
-/// A round of a walk: its end, and its temperatures.
+/// A phase of a walk: its end, and its temperatures.
 #[derive(Clone, Copy)]
-pub struct Part {
+pub struct Phase {
     /// The number of sixteenths of all draws that are made by its end.
     pub end: u64,
     /// The temperature at its beginning, in thousandths of the usual one.
@@ -13,46 +13,46 @@ pub struct Part {
     pub coldest: u64,
 }
 
-/// The rounds from a timetable that is far from the best.
-const UNSETTLED: [Part; 3] = [
-    Part {
+/// The phases from a timetable that is far from the best.
+const UNSETTLED: [Phase; 3] = [
+    Phase {
         end: 2,
         start: 1_000,
         coldest: 100,
     },
-    Part {
+    Phase {
         end: 10,
         start: 700,
         coldest: 100,
     },
-    Part {
+    Phase {
         end: 16,
         start: 500,
         coldest: 90,
     },
 ];
 
-/// The rounds from a timetable that seems to be near the best.
-const SETTLED: [Part; 2] = [
-    Part {
+/// The phases from a timetable that seems to be near the best.
+const SETTLED: [Phase; 2] = [
+    Phase {
         end: 2,
         start: 500,
         coldest: 90,
     },
-    Part {
+    Phase {
         end: 16,
         start: 500,
         coldest: 90,
     },
 ];
 
-/// Returns the rounds from a timetable.
-pub fn parts(is_settled: bool) -> &'static [Part] {
+/// Returns the phases from a timetable.
+pub fn phases(is_settled: bool) -> &'static [Phase] {
     if is_settled { &SETTLED } else { &UNSETTLED }
 }
 
-impl Part {
-    /// Returns the number of draws of the round, out of `all` draws, after `made` draws were made.
+impl Phase {
+    /// Returns the number of draws of the phase, out of `all` draws, after `made` draws were made.
     pub fn draws(self, all: u64, made: u64) -> u64
         requires { made ≤ all }
         ensures { made + result ≤ all }

@@ -18,7 +18,7 @@ pub struct Course {
 
 /// The data of an instance that the choices use.
 #[derive(Drop)]
-pub struct Setting {
+pub struct InstanceData {
     pub courses: Vec<Course>,
     /// The seats of each room.
     pub seats: Vec<u32>,
@@ -65,12 +65,12 @@ fn seats_of(alloc: Global, instance: &Instance<'_>) -> Result<Vec<u32>, AllocErr
     Ok(seats)
 }
 
-impl Setting {
+impl InstanceData {
     /// Returns the data of an instance, without its courses.
-    fn empty(alloc: Global, instance: &Instance<'_>) -> Result<Setting, AllocError> {
+    fn empty(alloc: Global, instance: &Instance<'_>) -> Result<InstanceData, AllocError> {
         let days = instance.days();
         let periods = instance.periods();
-        Ok(Setting {
+        Ok(InstanceData {
             courses: Vec::new(alloc),
             seats: seats_of(alloc, instance)?,
             course_count: instance.courses(),
@@ -84,20 +84,20 @@ impl Setting {
     }
 
     /// Returns the data of the instance that the choices use.
-    pub fn new(alloc: Global, instance: &Instance<'_>) -> Result<Setting, AllocError> {
-        let mut setting = Setting::empty(alloc, instance)?;
+    pub fn new(alloc: Global, instance: &Instance<'_>) -> Result<InstanceData, AllocError> {
+        let mut data = InstanceData::empty(alloc, instance)?;
         for course in 0..instance.courses() {
             let lectures = instance.lectures(course);
-            setting.courses.push(Course {
+            data.courses.push(Course {
                 lectures,
                 students: instance.students(course),
                 min_days: instance.min_days(course),
-                first: setting.lectures,
+                first: data.lectures,
                 curricula: curricula_of(alloc, instance, course)?,
                 opponents: opponents_of(alloc, instance, course)?,
             })?;
-            setting.lectures = setting.lectures.saturating_add(lectures as usize);
+            data.lectures = data.lectures.saturating_add(lectures as usize);
         }
-        Ok(setting)
+        Ok(data)
     }
 }

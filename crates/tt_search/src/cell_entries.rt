@@ -10,7 +10,7 @@ const NOBODY: u32 = u32::MAX;
 
 /// The entry in each room and period. If several are in one cell, it has the one that was added last.
 #[derive(Drop)]
-pub struct Board {
+pub struct CellEntries {
     days: usize,
     periods: usize,
     entries: Vec<u32>,
@@ -24,16 +24,16 @@ fn moved_by(step: Step) -> [u32; 2] {
     }
 }
 
-impl Board {
+impl CellEntries {
     /// Returns the cells of an instance, all empty.
-    pub fn new(alloc: Global, occupied: &Occupied<'_, '_>) -> Result<Board, AllocError> {
+    pub fn new(alloc: Global, occupied: &Occupied<'_, '_>) -> Result<CellEntries, AllocError> {
         let instance = occupied.instance();
         let (rooms, days, periods) = (
             instance.rooms() as usize,
             instance.days() as usize,
             instance.periods() as usize,
         );
-        Ok(Board {
+        Ok(CellEntries {
             days,
             periods,
             entries: vec![in alloc; NOBODY; rooms * days * periods]?,
