@@ -8,7 +8,7 @@ use Rattle.tt_groups.specs.Places.{group_sizes}
 use Rattle.tt_groups_day.specs.Found.{AreDistinct}
 
 -- Whether the courses and the sizes of the digits are those of a group that is not too wide.
-pub record IsSetting (p : Problem) (g : Group) (cs sizes : List ℕ) (courses : ℕ) : Type 0 where
+pub record AreCoursesAndSizes (p : Problem) (g : Group) (cs sizes : List ℕ) (courses : ℕ) : Type 0 where
   pub group : AreCourses p g cs
   pub distinct : AreDistinct cs
   pub few : length cs ≤ 16
