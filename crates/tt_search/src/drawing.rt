@@ -18,7 +18,7 @@ pub const SAMPLES_AN_ENTRY: u64 = 8;
 
 /// Returns the changes that a step would make, unless it would break more hard rules. If the timetable breaks none, a sample is assumed
 /// to break none either.
-fn judge(
+fn allowed_change(
     occupied: &Occupied<'_, '_>,
     step: Step,
     before: EntryCost,
@@ -55,7 +55,7 @@ fn draw_of(
     for _ in 0..cooling.max_samples().min(SAMPLES_AN_ENTRY) {
         cooling.sample();
         if let Some(step) = sample(occupied, cells, open, rng, entry) {
-            if let Some(change) = judge(occupied, step, before, is_feasible) {
+            if let Some(change) = allowed_change(occupied, step, before, is_feasible) {
                 if admits(rng, temperature, level, change) {
                     return Some(step);
                 }

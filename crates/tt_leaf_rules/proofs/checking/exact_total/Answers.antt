@@ -1,6 +1,6 @@
 use Rattle.std.proofs.Common.{length, ap, arith}
 use Rattle.tt_leaf_rules.proofs.Sizes.{claimed-le}
-use Rattle.tt_leaf_rules.proofs.judging.exact_total.Goals as goal
+use Rattle.tt_leaf_rules.proofs.checking.exact_total.Goals as goal
 
 pub returns : goal.returns
 returns g c =

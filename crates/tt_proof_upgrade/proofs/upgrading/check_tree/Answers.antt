@@ -1,5 +1,5 @@
 use Rattle.tt_proof_upgrade.proofs.Faults.{is_of_node, fault_of_node}
-use Rattle.tt_proof_upgrade.proofs.upgrading.judge.Goals as goal
+use Rattle.tt_proof_upgrade.proofs.upgrading.check_tree.Goals as goal
 
 pub node_fault-requires : goal.node_fault-requires
 node_fault-requires c =

@@ -1,6 +1,6 @@
 use Rattle.std.proofs.Common.{None, Some, sym, ◌∙◌}
 use Rattle.tt_leaf_rules.proofs.Rightness.{answer_right}
-use Rattle.tt_leaf_rules.proofs.judging.holds.Goals as goal
+use Rattle.tt_leaf_rules.proofs.checking.holds.Goals as goal
 
 pub returns-in-None-clause-right : goal.returns-in-None-clause-right
 returns-in-None-clause-right g c =

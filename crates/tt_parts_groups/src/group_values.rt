@@ -12,7 +12,7 @@ const GROUP_WORK: u64 = 2_147_483_648;
 
 /// Computes the values of groups, within the work that is left.
 #[derive(Drop)]
-pub struct Judge<'s, 'i> {
+pub struct GroupValues<'s, 'i> {
     pub alloc: Global,
     pub instance: &'s Instance<'i>,
     pub guide: Guide,
@@ -42,15 +42,15 @@ fn word_of(curricula: &[u32], courses: &[u32]) -> u64 {
     word
 }
 
-impl<'s, 'i> Judge<'s, 'i> {
-    /// Returns a `Judge` that knows no values.
+impl<'s, 'i> GroupValues<'s, 'i> {
+    /// Returns group values, none of which is known.
     pub fn new(
         alloc: Global,
         instance: &'s Instance<'i>,
         guide: Guide,
         work: u64,
-    ) -> Judge<'s, 'i> {
-        Judge {
+    ) -> GroupValues<'s, 'i> {
+        GroupValues {
             alloc,
             instance,
             guide,

@@ -1,7 +1,7 @@
 use Rattle.std.proofs.Common.{length, ap, arith}
 use Rattle.tt_leaf_rules.proofs.Meeting.{each_placed}
 use Rattle.tt_leaf_rules.proofs.Sizes.{each_once}
-use Rattle.tt_leaf_rules.proofs.judging.fault_of_sum.Goals as goal
+use Rattle.tt_leaf_rules.proofs.checking.fault_of_sum.Goals as goal
 
 pub claims_once-requires-clause-once : goal.claims_once-requires-clause-once
 claims_once-requires-clause-once g c = each_once (g.P.Path.problem c.args.path.now) c.args.claims.now c.requires
