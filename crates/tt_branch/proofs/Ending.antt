@@ -26,9 +26,9 @@ use Rattle.tt_proof_check.specs.Derives.{Derives, IsShallow}
 use Rattle.tt_proof_check.specs.Explains.{IsRightOn, Passes}
 use Rattle.tt_proof_check.proofs.Walking.{passed_tree}
 use Rattle.tt_leaf.specs.Best.{best_claims, best_leaf}
-use Rattle.tt_branch.specs.declared.entry.NodeState.{NodeState}
-use Rattle.tt_branch.specs.declared.entry.NodeState.TheVariants.{Divided, Closed, Opened, Waiting}
-use Rattle.tt_branch.specs.declared.entry.Entry.{Entry}
+use Rattle.tt_branch.specs.declared.tree_node.NodeState.{NodeState}
+use Rattle.tt_branch.specs.declared.tree_node.NodeState.TheVariants.{Split, Closed, Opened, Waiting}
+use Rattle.tt_branch.specs.declared.tree_node.TreeNode.{TreeNode}
 use Rattle.tt_branch.specs.declared.links.Link.{Link}
 use Rattle.tt_branch.specs.Growing.{node_of, IsKnown, Stands, IsGrown, is_open}
 use Rattle.tt_branch.specs.Outcomes.{final_bound}
@@ -69,7 +69,7 @@ preorder-on_paths root (Fork g a b) =
 
 -- ---- the end
 
-module _ (p : Problem) (best : Option (List Cell)) (links : List Link) (entries : List Entry) (grown : IsGrown p best links entries) where
+module _ (p : Problem) (best : Option (List Cell)) (links : List Link) (entries : List TreeNode) (grown : IsGrown p best links entries) where
   abbrev xs : List OnPath
   xs = on_paths [] grown.tree
 
@@ -90,12 +90,12 @@ module _ (p : Problem) (best : Option (List Cell)) (links : List Link) (entries 
   -- ---- each node is closed
 
   closed_right : (x : OnPath) (m : NodeState) → x.node ≡ node_of p x.path m → IsKnown p best x.path m → is_open m ≡ false → IsRightOn p (final_bound p best) x.path x.node
-  closed_right x (Divided g) n k e = subst (IsRightOn p (final_bound p best) x.path) (sym n) tt
+  closed_right x (Split g) n k e = subst (IsRightOn p (final_bound p best) x.path) (sym n) tt
   closed_right x (Closed leaf) n k e = subst (IsRightOn p (final_bound p best) x.path) (sym n) k.right
   closed_right x (Opened g) n k e = cc
   closed_right x Waiting n k e = cc
 
-  all_closed : (ys : List OnPath) (es : List Entry) → AllZip (Stands p best links) ys es → list_any (λ e. is_open e.mark) es ≡ false → AllByRecursion (λ x. IsRightOn p (final_bound p best) x.path x.node) ys
+  all_closed : (ys : List OnPath) (es : List TreeNode) → AllZip (Stands p best links) ys es → list_any (λ e. is_open e.mark) es ≡ false → AllByRecursion (λ x. IsRightOn p (final_bound p best) x.path x.node) ys
   all_closed [] [] h e = tt
   all_closed [] (m ∷ es) h e = absurd h
   all_closed (y ∷ ys) [] h e = absurd h
@@ -120,7 +120,7 @@ module _ (p : Problem) (best : Option (List Cell)) (links : List Link) (entries 
         by_best e = subst (IsRightOn p (AtLeast v) x.path) (sym e) (best_right p x.path v (below (total_of p x.path (best_claims p x.path)) (ap (node_worth p x.path) e)))
 
         by_mark : (n : NodeState) → x.node ≡ node_of p x.path n → IsKnown p best x.path n → IsRightOn p (AtLeast v) x.path x.node
-        by_mark (Divided g) e k = subst (IsRightOn p (AtLeast v) x.path) (sym e) tt
+        by_mark (Split g) e k = subst (IsRightOn p (AtLeast v) x.path) (sym e) tt
         by_mark (Closed leaf) e k =
             subst (IsRightOn p (AtLeast v) x.path) (sym e) (right_for p x.path (final_bound p best) leaf v k.right (λ n w. below n (ap (node_worth p x.path) e ∙ w)))
         by_mark (Opened g) e k = by_best e
@@ -128,7 +128,7 @@ module _ (p : Problem) (best : Option (List Cell)) (links : List Link) (entries 
 
     all_known : AllByRecursion (λ x. IsRightOn p (AtLeast v) x.path x.node) xs
     all_known = each_member (λ x. IsRightOn p (AtLeast v) x.path x.node) xs (λ x i.
-        let w = at_member (λ y. (e : Entry) × Stands p best links y e) xs x (zip_each (Stands p best links) (λ y. (e : Entry) × Stands p best links y e) (λ y e s. (e, s)) xs entries grown.together) i in
+        let w = at_member (λ y. (e : TreeNode) × Stands p best links y e) xs x (zip_each (Stands p best links) (λ y. (e : TreeNode) × Stands p best links y e) (λ y e s. (e, s)) xs entries grown.together) i in
         known_right x w.0.mark w.1.node w.1.known i)
 
     -- the tree derives the least value of a Cost leaf
@@ -137,7 +137,7 @@ module _ (p : Problem) (best : Option (List Cell)) (links : List Link) (entries 
 
   -- -- leaves of a value below the best cost are those of the best claims
 
-  greedy_at : (x : OnPath) (e : Entry) → Stands p best links x e → IsGreedy p best x
+  greedy_at : (x : OnPath) (e : TreeNode) → Stands p best links x e → IsGreedy p best x
   greedy_at x e s n k c = by_mark e.mark s.node s.known
     where
       dear : (o : Option (List Cell)) (leaf : Leaf) → x.node ≡ node.Leaf leaf → IsCheaper p o n → (right : IsRightOn p (final_bound p o) x.path (node.Leaf leaf)) → ⊥
@@ -145,7 +145,7 @@ module _ (p : Problem) (best : Option (List Cell)) (links : List Link) (entries 
       dear (Some t) leaf e d right = let l = worth_reaches p x.path (cost p t) leaf n right (sym (ap (node_worth p x.path) e) ∙ k) in omega arith
 
       by_mark : (j : NodeState) → x.node ≡ node_of p x.path j → IsKnown p best x.path j → x.node ≡ node.Leaf (best_leaf p x.path)
-      by_mark (Divided g) e j = let a = sym (ap (node_worth p x.path) e) ∙ k in cc
+      by_mark (Split g) e j = let a = sym (ap (node_worth p x.path) e) ∙ k in cc
       by_mark (Closed leaf) e j = absurd (dear best leaf e c j.right)
       by_mark (Opened g) e j = e
       by_mark Waiting e j = e

@@ -10,7 +10,7 @@ use tt_leaf_rules::Leaf;
 #[derive(Drop)]
 pub enum NodeState {
     /// The node is split, and its children follow it.
-    Divided(Pattern),
+    Split(Pattern),
     /// A leaf closes the node.
     Closed(Leaf),
     /// The node was opened but not closed; it will be split by this pattern.
@@ -48,9 +48,9 @@ impl ChildGains {
     }
 }
 
-/// A node.
+/// A node of the tree.
 #[derive(Drop)]
-pub struct Entry {
+pub struct TreeNode {
     pub mark: NodeState,
     /// The place of its facts, by the links.
     pub link: usize,
@@ -59,13 +59,13 @@ pub struct Entry {
     pub rises: ChildGains,
 }
 
-impl Entry {
+impl TreeNode {
     /// Creates a node that waits.
-    pub fn waiting(link: usize, key: u64) -> Entry
+    pub fn waiting(link: usize, key: u64) -> TreeNode
         ensures mark { result.mark ≡ NodeState.Waiting }
         ensures link { result.link ≡ link }
     {
-        Entry {
+        TreeNode {
             mark: NodeState::Waiting,
             link,
             key,
@@ -79,7 +79,7 @@ impl Entry {
     {
         match self.mark {
             NodeState::Opened(_) | NodeState::Waiting => true,
-            NodeState::Divided(_) | NodeState::Closed(_) => false,
+            NodeState::Split(_) | NodeState::Closed(_) => false,
         }
     }
 }
