@@ -49,10 +49,10 @@ IsCheckRefusal i s proof fault.OutOfMemory = ⊤
 IsCheckRefusal i s proof _ = ⊥
 
 -- whether the instance or the solution is refused
-abbrev pub IsOfFiles : AppFault → Type 0
-IsOfFiles (fault.Instance f) = ⊤
-IsOfFiles (fault.Solution f) = ⊤
-IsOfFiles _ = ⊥
+abbrev pub IsFileFault : AppFault → Type 0
+IsFileFault (fault.Instance f) = ⊤
+IsFileFault (fault.Solution f) = ⊤
+IsFileFault _ = ⊥
 
 -- the error that a read of the proof failed
 abbrev pub read_failed : AppFault

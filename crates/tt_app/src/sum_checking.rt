@@ -10,7 +10,7 @@ ghost use Rattle.tt_proof_sum.specs.Added.{Give};
 ghost use Rattle.tt_proof_sum.specs.Faults as below;
 ghost use Rattle.tt_proof_sum.specs.Faults.{IsSumFault, IsSilentSum, all_points};
 ghost use Rattle.tt_proof_sum.specs.Sums.{IsSum};
-ghost use Rattle.tt_app.specs.Checked.{IsOfFiles, AnswersBroken};
+ghost use Rattle.tt_app.specs.Checked.{IsFileFault, AnswersBroken};
 ghost use Rattle.tt_app.specs.Summed.{IsSpelledAndFileJudgedUpToFailedRead, read_failed_at, CertifiesSum, IsSumChecked, IsSumCheckFault, AnswersSumYes};
 ghost use Rattle.tt_app.specs.FaultMaps.{OutOfMemoryIsOneFault};
 
@@ -69,7 +69,7 @@ pub fn check_sum<R: Peek>(
     // If the timetable breaks a hard rule, the answer says so, unless memory runs out, and no proof is read.
     ensures broken { BreaksARule instance.now solution.now → AnswersBroken result × (proofs.new ≡ proofs.old) }
     // If the instance or the solution is refused, no proof is read.
-    ensures unread { IfErr result (λ f. IsOfFiles f → proofs.new ≡ proofs.old) }
+    ensures unread { IfErr result (λ f. IsFileFault f → proofs.new ≡ proofs.old) }
     // A failed read is reported exactly if a read failed.
     ensures failed { (i : ℕ) (r : R) → result ≡ Err (read_failed_at (i + 1)) → slice_get proofs.new i ≡ Some r → R.has_failed r ≡ true }
     ensures unfailed { (i : ℕ) (r q : R) → ¬ (result ≡ Err (read_failed_at (i + 1))) → slice_get proofs.old i ≡ Some r → slice_get proofs.new i ≡ Some q →

@@ -4,8 +4,8 @@ ghost use Rattle.std.specs.Prelude.{◌≡◌, ◌<◌, ◌≤◌, ◌+◌, ◌-
 ghost use Rattle.std.specs.List.{list_any};
 ghost use Rattle.tt_bits.specs.Bits.{has_bit, bits, Clears};
 
+use crate::trail::Trail;
 use std::alloc::AllocError;
-use tt_trail::Trail;
 
 /// Returns whether a number is in the set.
 pub fn has_bit(word: u64, number: u32) -> bool

@@ -22,9 +22,9 @@ use Rattle.tt_proof_read.specs.Trees.{on_paths}
 use Rattle.tt_proof_read.specs.declared.node.Node.TheVariants as node
 use Rattle.tt_leaf.specs.Best.{best_leaf}
 use Rattle.tt_branch.specs.declared.best.Best.{Best}
-use Rattle.tt_branch.specs.declared.entry.NodeState.{NodeState}
-use Rattle.tt_branch.specs.declared.entry.NodeState.TheVariants.{Divided, Closed, Opened, Waiting}
-use Rattle.tt_branch.specs.declared.entry.Entry.{Entry}
+use Rattle.tt_branch.specs.declared.tree_node.NodeState.{NodeState}
+use Rattle.tt_branch.specs.declared.tree_node.NodeState.TheVariants.{Split, Closed, Opened, Waiting}
+use Rattle.tt_branch.specs.declared.tree_node.TreeNode.{TreeNode}
 use Rattle.tt_branch.specs.declared.links.Link.{Link}
 use Rattle.tt_branch.specs.declared.search.Search.{Search}
 use Rattle.tt_branch.specs.Growing.{node_of, IsKnown, Stands, IsGrown, was_opened, is_open, IsSingle, HasMark, IsOpenAt, opened_in}
@@ -60,11 +60,11 @@ advance_to p old new better feasible costs = record {
 -- ---- nodes that are reached
 
 -- the facts of a node fit on a path, and their numbers are in the range of the instance
-pub record IsThere (p : Problem) (links : List Link) (e : Entry) : Type 0 where
+pub record IsThere (p : Problem) (links : List Link) (e : TreeNode) : Type 0 where
   pub reached : IsReached links e.link
   pub patterns : ArePatterns p (path_at links e.link)
 
-pub each_there : (p : Problem) (best : Option (List Cell)) (links : List Link) (entries : List Entry) → IsGrown p best links entries → length entries ≤ 131073 → AllByRecursion (IsThere p links) entries
+pub each_there : (p : Problem) (best : Option (List Cell)) (links : List Link) (entries : List TreeNode) → IsGrown p best links entries → length entries ≤ 131073 → AllByRecursion (IsThere p links) entries
 each_there p best links entries grown few =
     zip_other (λ x e. Stands p best links x e × (length x.path ≤ 65536)) (IsThere p links) (λ x e h. record {
       reached = record { within = h.0.link; depth = subst (λ q. length q ≤ 65536) (sym h.0.path) h.1 };
@@ -74,25 +74,25 @@ each_there p best links entries grown few =
 
 -- ---- opened nodes
 
-count_cut : (before : List Entry) (e : Entry) (after : List Entry) → opened_in (before ++ e ∷ after) ≡ opened_in before + (one_if (was_opened e.mark) + opened_in after)
-count_cut before e after = omega (arith, sum_by-append (λ (k : Entry). one_if (was_opened k.mark)) before (e ∷ after), count_by-cons (λ (k : Entry). was_opened k.mark) e after)
+count_cut : (before : List TreeNode) (e : TreeNode) (after : List TreeNode) → opened_in (before ++ e ∷ after) ≡ opened_in before + (one_if (was_opened e.mark) + opened_in after)
+count_cut before e after = omega (arith, sum_by-append (λ (k : TreeNode). one_if (was_opened k.mark)) before (e ∷ after), count_by-cons (λ (k : TreeNode). was_opened k.mark) e after)
 
 one_opened : (m : NodeState) → was_opened m ≡ true → one_if (was_opened m) ≡ 1
 one_opened m e = ap one_if e
 
 -- a new mark replaces the mark of a node that waits
-pub record IsOpening (p : Problem) (old new : Option Best) (links : List Link) (entries more : List Entry) : Type 0 where
+pub record IsOpening (p : Problem) (old new : Option Best) (links : List Link) (entries more : List TreeNode) : Type 0 where
   pub grown : IsGrown p (table_of new) links more
   pub opened : opened_in more ≡ opened_in entries + 1
   pub many : length more ≡ length entries
 
-shown_leaf : (p : Problem) (links : List Link) (e : Entry) (m : NodeState) → IsSingle m → (leaf : Leaf) × (node_of p (path_at links e.link) m ≡ node.Leaf leaf)
-shown_leaf p links e (Divided g) s = absurd s
+shown_leaf : (p : Problem) (links : List Link) (e : TreeNode) (m : NodeState) → IsSingle m → (leaf : Leaf) × (node_of p (path_at links e.link) m ≡ node.Leaf leaf)
+shown_leaf p links e (Split g) s = absurd s
 shown_leaf p links e (Closed leaf) s = (leaf, refl)
 shown_leaf p links e (Opened g) s = (best_leaf p (path_at links e.link), refl)
 shown_leaf p links e Waiting s = (best_leaf p (path_at links e.link), refl)
 
-pub opening : (p : Problem) (old new : Option Best) (links : List Link) (entries more : List Entry) (place : ℕ) (e put : Entry) → IsGrown p (table_of old) links entries → Advances p old new → slice_get entries place ≡ Some e → e.mark ≡ Waiting → put.link ≡ e.link
+pub opening : (p : Problem) (old new : Option Best) (links : List Link) (entries more : List TreeNode) (place : ℕ) (e put : TreeNode) → IsGrown p (table_of old) links entries → Advances p old new → slice_get entries place ≡ Some e → e.mark ≡ Waiting → put.link ≡ e.link
     → IsKnown p (table_of new) (path_at links e.link) put.mark → was_opened put.mark ≡ true → IsSingle put.mark → more ≡ slice_set entries place put → IsOpening p old new links entries more
 opening p old new links entries more place e put grown better at waits same known opened single is =
     let cut = cut_at entries place e at in
@@ -129,7 +129,7 @@ waits_split place g old new s =
                 (grow_split p (table_of old.best) links s.before s.was s.after g s.divided s.first s.second u.links here s.opened s.division)));
           };
       waiting =
-          (s.first, ap (λ (l : List Entry). slice_get l (place + 1)) s.entries ∙ ap (slice_get (s.before ++ s.divided ∷ s.first ∷ s.second ∷ s.after)) (omega (arith, s.place_is)) ∙ get_next s.before s.divided s.first (s.second ∷ s.after), s.division.first);
+          (s.first, ap (λ (l : List TreeNode). slice_get l (place + 1)) s.entries ∙ ap (slice_get (s.before ++ s.divided ∷ s.first ∷ s.second ∷ s.after)) (omega (arith, s.place_is)) ∙ get_next s.before s.divided s.first (s.second ∷ s.after), s.division.first);
       opened =
           omega (
             arith,
@@ -137,8 +137,8 @@ waits_split place g old new s =
             ap opened_in s.old_entries,
             count_cut s.before s.divided (s.first ∷ s.second ∷ s.after),
             count_cut s.before s.was s.after,
-            count_by-cons (λ (k : Entry). was_opened k.mark) s.first (s.second ∷ s.after),
-            count_by-cons (λ (k : Entry). was_opened k.mark) s.second s.after,
+            count_by-cons (λ (k : TreeNode). was_opened k.mark) s.first (s.second ∷ s.after),
+            count_by-cons (λ (k : TreeNode). was_opened k.mark) s.second s.after,
             ap (λ m. one_if (was_opened m)) s.division.divided,
             ap (λ m. one_if (was_opened m)) s.opened,
             ap (λ m. one_if (was_opened m)) s.division.first,
@@ -155,7 +155,7 @@ waits_second place g old new s =
     record {
       under_way = first.under_way;
       waiting =
-          (s.second, ap (λ (l : List Entry). slice_get l (place + 2)) s.entries ∙ ap (slice_get (s.before ++ s.divided ∷ s.first ∷ s.second ∷ s.after)) (omega (arith, s.place_is)) ∙ get_after s.before s.divided s.first s.second s.after, s.division.second);
+          (s.second, ap (λ (l : List TreeNode). slice_get l (place + 2)) s.entries ∙ ap (slice_get (s.before ++ s.divided ∷ s.first ∷ s.second ∷ s.after)) (omega (arith, s.place_is)) ∙ get_after s.before s.divided s.first s.second s.after, s.division.second);
       opened = first.opened;
       many = first.many;
       best = first.best;
@@ -167,41 +167,41 @@ waits_same place old h = record { under_way = λ p u. u; waiting = h; opened = r
 -- ---- the end of the rounds
 
 opened_unless : (m : NodeState) → is_open m ≡ false → was_opened m ≡ true
-opened_unless (Divided g) e = refl
+opened_unless (Split g) e = refl
 opened_unless (Closed leaf) e = refl
 opened_unless (Opened g) e = refl
 opened_unless Waiting e = cc
 
 -- if no node is open, each was opened
-all_opened : (entries : List Entry) → list_any (λ e. is_open e.mark) entries ≡ false → opened_in entries ≡ length entries
+all_opened : (entries : List TreeNode) → list_any (λ e. is_open e.mark) entries ≡ false → opened_in entries ≡ length entries
 all_opened [] h = refl
 all_opened (e ∷ es) h =
     let a = or_parts (is_open e.mark) (list_any (λ k. is_open k.mark) es) h in
-    omega (arith, count_by-cons (λ (k : Entry). was_opened k.mark) e es, one_opened e.mark (opened_unless e.mark a.0), all_opened es a.1)
+    omega (arith, count_by-cons (λ (k : TreeNode). was_opened k.mark) e es, one_opened e.mark (opened_unless e.mark a.0), all_opened es a.1)
 
-pub ends_closed : (limit opened : ℕ) (entries : List Entry) → opened_in entries ≡ opened → opened ≤ limit → list_any (λ e. is_open e.mark) entries ≡ false → EndsAt limit entries true
+pub ends_closed : (limit opened : ℕ) (entries : List TreeNode) → opened_in entries ≡ opened → opened ≤ limit → list_any (λ e. is_open e.mark) entries ≡ false → EndsAt limit entries true
 ends_closed limit opened entries e h none = (none, omega (arith, all_opened entries none))
 
-pub ends_open : (limit : ℕ) (entries : List Entry) → list_any (λ e. is_open e.mark) entries ≡ true → opened_in entries ≡ limit → length entries + 1 ≤ 2 * limit → EndsAt limit entries false
-ends_open limit entries some e h = (some, omega (arith, count_by-le-length (λ (k : Entry). was_opened k.mark) entries), h)
+pub ends_open : (limit : ℕ) (entries : List TreeNode) → list_any (λ e. is_open e.mark) entries ≡ true → opened_in entries ≡ limit → length entries + 1 ≤ 2 * limit → EndsAt limit entries false
+ends_open limit entries some e h = (some, omega (arith, count_by-le-length (λ (k : TreeNode). was_opened k.mark) entries), h)
 
 -- an opening in the form in which the code reads the entry and moves the path
-pub opening_there : (p q : Problem) (facts : List Fact) (old new : Option Best) (links : List Link) (entries more : List Entry) (place : ℕ) (read put : Entry) → q ≡ p → facts ≡ path_at links read.link → read ≡ get_or entries place read → HasMark entries place Waiting → IsGrown p (table_of old) links entries
+pub opening_there : (p q : Problem) (facts : List Fact) (old new : Option Best) (links : List Link) (entries more : List TreeNode) (place : ℕ) (read put : TreeNode) → q ≡ p → facts ≡ path_at links read.link → read ≡ get_or entries place read → HasMark entries place Waiting → IsGrown p (table_of old) links entries
     → Advances q old new → IsKnown q (table_of new) facts put.mark → was_opened put.mark ≡ true → IsSingle put.mark → put.link ≡ read.link → more ≡ slice_set entries place put → IsOpening p old new links entries more
 opening_there p q facts old new links entries more place read put same there is waits grown better known opened single link made =
     let e = waits.0 in
-    let met : read.link ≡ e.link = ap (λ (x : Entry). x.link) (is ∙ get_or_from_slice_get entries place e read waits.1) in
+    let met : read.link ≡ e.link = ap (λ (x : TreeNode). x.link) (is ∙ get_or_from_slice_get entries place e read waits.1) in
     opening p old new links entries more place e put grown (subst (λ (r : Problem). Advances r old new) same better) waits.1 waits.2 (link ∙ met)
     (subst (λ (l : List Fact). IsKnown p (table_of new) l put.mark) (there ∙ ap (path_at links) met) (subst (λ (r : Problem). IsKnown r (table_of new) facts put.mark) same known))
     opened single made
 
-open_any : (q : Entry → Bool) (entries : List Entry) (k : ℕ) (e : Entry) → slice_get entries k ≡ Some e → q e ≡ true → list_any q entries ≡ true
+open_any : (q : TreeNode → Bool) (entries : List TreeNode) (k : ℕ) (e : TreeNode) → slice_get entries k ≡ Some e → q e ≡ true → list_any q entries ≡ true
 open_any q [] k e at o = cc
 open_any q (x ∷ xs) zero e at o = let same : x ≡ e = cc in or_left (q x) (list_any q xs) (ap q same ∙ o)
 open_any q (x ∷ xs) (suc k) e at o = or_right (q x) (list_any q xs) (open_any q xs k e at o)
 
 -- the end of the rounds, by the next open node
-pub ends_by : (limit : ℕ) (entries : List Entry) (o : Option ℕ) (r : Bool) → is_some o ≡ not r → IfSome o (IsOpenAt entries) → (IsNone o → list_any (λ e. is_open e.mark) entries ≡ false) → opened_in entries ≡ limit → length entries + 1 ≤ 2 * limit → EndsAt limit entries r
+pub ends_by : (limit : ℕ) (entries : List TreeNode) (o : Option ℕ) (r : Bool) → is_some o ≡ not r → IfSome o (IsOpenAt entries) → (IsNone o → list_any (λ e. is_open e.mark) entries ≡ false) → opened_in entries ≡ limit → length entries + 1 ≤ 2 * limit → EndsAt limit entries r
 ends_by limit entries None true d some none e h = ends_closed limit limit entries e (omega arith) (none refl)
 ends_by limit entries None false d some none e h = cc
 ends_by limit entries (Some k) true d some none e h = cc

@@ -38,9 +38,9 @@ use Rattle.tt_leaf.specs.Best.{best_claims}
 use Rattle.tt_leaf.proofs.Answering.{best_answer}
 use Rattle.tt_leaf.proofs.Claims.{once}
 use Rattle.tt_branch.specs.declared.best.Best.{Best}
-use Rattle.tt_branch.specs.declared.entry.NodeState.{NodeState}
-use Rattle.tt_branch.specs.declared.entry.NodeState.TheVariants.{Divided, Closed, Opened, Waiting}
-use Rattle.tt_branch.specs.declared.entry.Entry.{Entry}
+use Rattle.tt_branch.specs.declared.tree_node.NodeState.{NodeState}
+use Rattle.tt_branch.specs.declared.tree_node.NodeState.TheVariants.{Split, Closed, Opened, Waiting}
+use Rattle.tt_branch.specs.declared.tree_node.TreeNode.{TreeNode}
 use Rattle.tt_branch.specs.declared.links.Link.{Link}
 use Rattle.tt_branch.specs.declared.search.Search.{Search}
 use Rattle.tt_branch.specs.Growing.{node_of, IsKnown, Stands, IsGrown, is_open, node_at, worth_at, nodes_of, worths_of}
@@ -72,16 +72,16 @@ pub record IsFit (p : Problem) (n : Node) : Type 0 where
 
 module _ (p : Problem) (ok : IsInstance p) where
   pub fit_mark : (best : Option (List Cell)) (path : List Fact) (m : NodeState) → IsKnown p best path m → IsFit p (node_of p path m)
-  fit_mark best path (Divided g) k = record { numbers = k.numbers; once = tt; short = tt }
+  fit_mark best path (Split g) k = record { numbers = k.numbers; once = tt; short = tt }
   fit_mark best path (Closed leaf) k = record { numbers = k.answer.numbers; once = once_closed p path (final_bound p best) leaf k.right; short = k.answer.short }
   fit_mark best path (Opened g) k = let a = best_answer p path ok in record { numbers = a.numbers; once = once Days (λ c. refl) p path; short = a.short }
   fit_mark best path Waiting k = let a = best_answer p path ok in record { numbers = a.numbers; once = once Days (λ c. refl) p path; short = a.short }
 
-  module _ (best : Option (List Cell)) (links : List Link) (entries : List Entry) (grown : IsGrown p best links entries) where
+  module _ (best : Option (List Cell)) (links : List Link) (entries : List TreeNode) (grown : IsGrown p best links entries) where
     abbrev xs : List OnPath
     xs = on_paths [] grown.tree
 
-    fit_entry : (x : OnPath) (e : Entry) → Stands p best links x e → IsFit p (node_at p links e)
+    fit_entry : (x : OnPath) (e : TreeNode) → Stands p best links x e → IsFit p (node_at p links e)
     fit_entry x e s = subst (λ q. IsFit p (node_of p q e.mark)) (sym s.path) (fit_mark best x.path e.mark s.known)
 
     each_fit : AllByRecursion (λ e. IsFit p (node_at p links e)) entries
@@ -93,7 +93,7 @@ module _ (p : Problem) (ok : IsInstance p) where
         (each_both (IsThere p links) (λ e. IsFit p (node_at p links e)) entries (each_there p best links entries grown few) each_fit))
 
     -- the nodes written are those of the tree
-    same_nodes : (ys : List OnPath) (es : List Entry) → AllZip (Stands p best links) ys es → nodes_of p links es ≡ map (λ x. x.node) ys
+    same_nodes : (ys : List OnPath) (es : List TreeNode) → AllZip (Stands p best links) ys es → nodes_of p links es ≡ map (λ x. x.node) ys
     same_nodes [] [] h = refl
     same_nodes [] (e ∷ es) h = absurd h
     same_nodes (y ∷ ys) [] h = absurd h
@@ -104,7 +104,7 @@ module _ (p : Problem) (ok : IsInstance p) where
     pub nodes_are : preorder grown.tree ≡ nodes_of p links entries
     nodes_are = sym (preorder-on_paths [] grown.tree) ∙ sym (same_nodes xs entries grown.together)
 
-    same_worths : (ys : List OnPath) (es : List Entry) → AllZip (Stands p best links) ys es → worths_of p links es ≡ worths p ys
+    same_worths : (ys : List OnPath) (es : List TreeNode) → AllZip (Stands p best links) ys es → worths_of p links es ≡ worths p ys
     same_worths [] [] h = refl
     same_worths [] (e ∷ es) h = absurd h
     same_worths (y ∷ ys) [] h = absurd h
@@ -122,14 +122,14 @@ module _ (p : Problem) (ok : IsInstance p) where
   -- -- the least value
 
   -- an open node has a value, and it is at most the maximum bound
-  worth_open : (links : List Link) (e : Entry) → is_open e.mark ≡ true → (n : ℕ) × (worth_at p links e ≡ Some n) × (n ≤ 1000000000000)
+  worth_open : (links : List Link) (e : TreeNode) → is_open e.mark ≡ true → (n : ℕ) × (worth_at p links e ≡ Some n) × (n ≤ 1000000000000)
   worth_open links e o = by_mark e.mark o
     where
       path : List Fact
       path = path_at links e.link
 
       by_mark : (m : NodeState) → is_open m ≡ true → (n : ℕ) × (node_worth p (path_at links e.link) (node_of p (path_at links e.link) m) ≡ Some n) × (n ≤ 1000000000000)
-      by_mark (Divided g) k = cc
+      by_mark (Split g) k = cc
       by_mark (Closed leaf) k = cc
       by_mark (Opened g) k = (total_of p (path_at links e.link) (best_claims p (path_at links e.link)), refl, total_limit p ok (path_at links e.link))
       by_mark Waiting k = (total_of p (path_at links e.link) (best_claims p (path_at links e.link)), refl, total_limit p ok (path_at links e.link))
@@ -139,7 +139,7 @@ module _ (p : Problem) (ok : IsInstance p) where
   least_of (Some n) ns v e h = let k = ap (least_with n) e in (least_with n (least ns), refl, omega arith)
 
   -- if a node is open, some leaf has the least value
-  pub least_worth : (links : List Link) (entries : List Entry) → list_any (λ e. is_open e.mark) entries ≡ true → (v : ℕ) × (least (worths_of p links entries) ≡ Some v) × (v ≤ 1000000000000)
+  pub least_worth : (links : List Link) (entries : List TreeNode) → list_any (λ e. is_open e.mark) entries ≡ true → (v : ℕ) × (least (worths_of p links entries) ≡ Some v) × (v ≤ 1000000000000)
   least_worth links [] e = cc
   least_worth links (x ∷ es) e = by_mark (is_open x.mark) refl e (least_worth links es)
     where
@@ -174,7 +174,7 @@ module _ (p : Problem) (ok : IsInstance p) where
     abbrev links : List Link
     links = s.links.items
 
-    abbrev entries : List Entry
+    abbrev entries : List TreeNode
     entries = s.entries.items
 
     abbrev best : Option (List Cell)
@@ -258,7 +258,7 @@ module _ (p : Problem) (ok : IsInstance p) where
         }
 
 -- a search that has ended has at most 131,073 nodes
-pub few_ended : (limit : ℕ) (entries : List Entry) (finished : Bool) → limit ≤ 65536 → EndsAt limit entries finished → length entries ≤ 131073
+pub few_ended : (limit : ℕ) (entries : List TreeNode) (finished : Bool) → limit ≤ 65536 → EndsAt limit entries finished → length entries ≤ 131073
 few_ended limit entries true small ends = omega (arith, ends.1)
 few_ended limit entries false small ends = omega (arith, ends.2)
 

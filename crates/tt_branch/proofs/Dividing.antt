@@ -6,15 +6,15 @@ use Rattle.std.proofs.Common.{zero, ◌<◌}
 use Rattle.std.proofs.lemmas.Option.{get_or_from_slice_get}
 use Rattle.tt_lists.proofs.Cuts.{IsCut, cut_at, set_cut, insert_cut}
 use Rattle.tt_facts_path.specs.declared.facts.Pattern.{Pattern}
-use Rattle.tt_branch.specs.declared.entry.NodeState.TheVariants.{Divided, Opened, Waiting}
-use Rattle.tt_branch.specs.declared.entry.Entry.{Entry}
+use Rattle.tt_branch.specs.declared.tree_node.NodeState.TheVariants.{Split, Opened, Waiting}
+use Rattle.tt_branch.specs.declared.tree_node.TreeNode.{TreeNode}
 use Rattle.tt_branch.specs.declared.links.Link.{Link}
 use Rattle.tt_branch.specs.declared.search.Search.{Search}
 use Rattle.tt_branch.specs.Growing.{HasMark}
 use Rattle.tt_branch.specs.Links.{link_of, divided_links}
 use Rattle.tt_branch.specs.State.{IsSplitAt}
 
-split_items : (items one two three : List Entry) (k : ℕ) (e d a b : Entry) (cut : IsCut items k e) → one ≡ insert items (k + 1) b → two ≡ insert one (k + 1) a → three ≡ slice_set two k d → three ≡ cut.before ++ d ∷ a ∷ b ∷ cut.after
+split_items : (items one two three : List TreeNode) (k : ℕ) (e d a b : TreeNode) (cut : IsCut items k e) → one ≡ insert items (k + 1) b → two ≡ insert one (k + 1) a → three ≡ slice_set two k d → three ≡ cut.before ++ d ∷ a ∷ b ∷ cut.after
 split_items items one two three k e d a b cut h i j =
     let at : k + 1 ≡ suc (length cut.before) = omega (arith, cut.place) in
     let first : one ≡ cut.before ++ e ∷ b ∷ cut.after = h ∙ ap (λ l. insert l (k + 1) b) cut.whole ∙ ap (λ n. insert (cut.before ++ e ∷ cut.after) n b) at ∙ insert_cut cut.before e cut.after b in
@@ -23,7 +23,7 @@ split_items items one two three k e d a b cut h i j =
 
 -- the steps of the code
 pub record AreSteps (place : ℕ) (g : Pattern) (old new : Search) : Type 0 where
-  pub read : Entry
+  pub read : TreeNode
   pub read_is : read ≡ get_or old.entries.items place read
   pub one : List Link
   pub yes : ℕ
@@ -32,17 +32,17 @@ pub record AreSteps (place : ℕ) (g : Pattern) (old new : Search) : Type 0 wher
   pub yes_is : yes ≡ length old.links.items + 1
   pub second_link : new.links.items ≡ one ++ link_of read.link g false ∷ []
   pub no_is : no ≡ length one + 1
-  pub a : Entry
-  pub b : Entry
+  pub a : TreeNode
+  pub b : TreeNode
   pub a_mark : a.mark ≡ Waiting
   pub a_link : a.link ≡ yes
   pub b_mark : b.mark ≡ Waiting
   pub b_link : b.link ≡ no
-  pub d : Entry
-  pub d_mark : d.mark ≡ Divided g
+  pub d : TreeNode
+  pub d_mark : d.mark ≡ Split g
   pub d_link : d.link ≡ read.link
-  pub more : List Entry
-  pub most : List Entry
+  pub more : List TreeNode
+  pub most : List TreeNode
   pub put_b : more ≡ insert old.entries.items (place + 1) b
   pub put_a : most ≡ insert more (place + 1) a
   pub put_d : new.entries.items ≡ slice_set most place d
@@ -52,7 +52,7 @@ pub split_by_steps : (place : ℕ) (g : Pattern) (old new : Search) → HasMark 
 split_by_steps place g old new h s =
     let cut = cut_at old.entries.items place h.0 h.1 in
     let same : s.read ≡ h.0 = s.read_is ∙ get_or_from_slice_get old.entries.items place h.0 s.read h.1 in
-    let link = ap (λ (e : Entry). e.link) same in
+    let link = ap (λ (e : TreeNode). e.link) same in
     record {
       before = cut.before;
       after = cut.after;

@@ -20,15 +20,15 @@ use Rattle.tt_leaf_rules.specs.Claims.{total_of}
 use Rattle.tt_leaf_rules.specs.declared.leaf.Bound.{Bound}
 use Rattle.tt_leaf_rules.specs.declared.leaf.Bound.TheVariants.{AtLeast}
 use Rattle.tt_leaf_rules.specs.declared.leaf.Leaf.{Leaf}
-use Rattle.tt_proof_read.specs.Trees.{Tree, Close, Branch, OnPath, on_paths, preorder, with_fact}
+use Rattle.tt_proof_read.specs.Trees.{Tree, Tip, Fork, OnPath, on_paths, preorder, with_fact}
 use Rattle.tt_proof_read.specs.declared.node.Node.TheVariants as node
 use Rattle.tt_proof_check.specs.Derives.{Derives, IsShallow}
 use Rattle.tt_proof_check.specs.Explains.{IsRightOn, Passes}
 use Rattle.tt_proof_check.proofs.Walking.{passed_tree}
 use Rattle.tt_leaf.specs.Best.{best_claims, best_leaf}
-use Rattle.tt_branch.specs.declared.entry.NodeState.{NodeState}
-use Rattle.tt_branch.specs.declared.entry.NodeState.TheVariants.{Divided, Closed, Opened, Waiting}
-use Rattle.tt_branch.specs.declared.entry.Entry.{Entry}
+use Rattle.tt_branch.specs.declared.tree_node.NodeState.{NodeState}
+use Rattle.tt_branch.specs.declared.tree_node.NodeState.TheVariants.{Split, Closed, Opened, Waiting}
+use Rattle.tt_branch.specs.declared.tree_node.TreeNode.{TreeNode}
 use Rattle.tt_branch.specs.declared.links.Link.{Link}
 use Rattle.tt_branch.specs.Growing.{node_of, IsKnown, Stands, IsGrown, is_open}
 use Rattle.tt_branch.specs.Outcomes.{final_bound}
@@ -38,12 +38,12 @@ use Rattle.tt_branch.proofs.Searching.{right_for, best_right, no_worth, worth_re
 -- ---- the shape of a tree
 
 abbrev splits : Tree → ℕ
-splits (Close leaf) = 0
-splits (Branch g a b) = splits a + splits b + 1
+splits (Tip leaf) = 0
+splits (Fork g a b) = splits a + splits b + 1
 
 pub length-on_paths : (root : List Fact) (tree : Tree) → length (on_paths root tree) ≡ 2 * splits tree + 1
-length-on_paths root (Close leaf) = refl
-length-on_paths root (Branch g a b) =
+length-on_paths root (Tip leaf) = refl
+length-on_paths root (Fork g a b) =
     omega (
       arith,
       length-append (on_paths (with_fact root g true) a) (on_paths (with_fact root g false) b),
@@ -52,24 +52,24 @@ length-on_paths root (Branch g a b) =
     )
 
 depth-le : (root : List Fact) (tree : Tree) → AllByRecursion (λ x. length x.path ≤ length root + splits tree) (on_paths root tree)
-depth-le root (Close leaf) = (omega arith, tt)
-depth-le root (Branch g a b) =
-    let P : OnPath → Type 0 = λ x. length x.path ≤ length root + splits (Branch g a b) in
+depth-le root (Tip leaf) = (omega arith, tt)
+depth-le root (Fork g a b) =
+    let P : OnPath → Type 0 = λ x. length x.path ≤ length root + splits (Fork g a b) in
     let one = λ (holds : Bool). length-append root (record { pattern = g; holds = holds } ∷ []) in
     let first = each_weaker (λ x. length x.path ≤ length (with_fact root g true) + splits a) P (λ x h. omega (arith, one true)) (on_paths (with_fact root g true) a) (depth-le (with_fact root g true) a) in
     let second = each_weaker (λ x. length x.path ≤ length (with_fact root g false) + splits b) P (λ x h. omega (arith, one false)) (on_paths (with_fact root g false) b) (depth-le (with_fact root g false) b) in
     (omega arith, each_append P (on_paths (with_fact root g true) a) (on_paths (with_fact root g false) b) first second)
 
 pub preorder-on_paths : (root : List Fact) (tree : Tree) → map (λ x. x.node) (on_paths root tree) ≡ preorder tree
-preorder-on_paths root (Close leaf) = refl
-preorder-on_paths root (Branch g a b) =
+preorder-on_paths root (Tip leaf) = refl
+preorder-on_paths root (Fork g a b) =
     ap (λ l. node.Split g ∷ l) (map-append (λ x. x.node) (on_paths (with_fact root g true) a) (on_paths (with_fact root g false) b)
     ∙ ap (λ l. l ++ map (λ x. x.node) (on_paths (with_fact root g false) b)) (preorder-on_paths (with_fact root g true) a)
     ∙ ap (λ l. preorder a ++ l) (preorder-on_paths (with_fact root g false) b))
 
 -- ---- the end
 
-module _ (p : Problem) (best : Option (List Cell)) (links : List Link) (entries : List Entry) (grown : IsGrown p best links entries) where
+module _ (p : Problem) (best : Option (List Cell)) (links : List Link) (entries : List TreeNode) (grown : IsGrown p best links entries) where
   abbrev xs : List OnPath
   xs = on_paths [] grown.tree
 
@@ -90,12 +90,12 @@ module _ (p : Problem) (best : Option (List Cell)) (links : List Link) (entries 
   -- ---- each node is closed
 
   closed_right : (x : OnPath) (m : NodeState) → x.node ≡ node_of p x.path m → IsKnown p best x.path m → is_open m ≡ false → IsRightOn p (final_bound p best) x.path x.node
-  closed_right x (Divided g) n k e = subst (IsRightOn p (final_bound p best) x.path) (sym n) tt
+  closed_right x (Split g) n k e = subst (IsRightOn p (final_bound p best) x.path) (sym n) tt
   closed_right x (Closed leaf) n k e = subst (IsRightOn p (final_bound p best) x.path) (sym n) k.right
   closed_right x (Opened g) n k e = cc
   closed_right x Waiting n k e = cc
 
-  all_closed : (ys : List OnPath) (es : List Entry) → AllZip (Stands p best links) ys es → list_any (λ e. is_open e.mark) es ≡ false → AllByRecursion (λ x. IsRightOn p (final_bound p best) x.path x.node) ys
+  all_closed : (ys : List OnPath) (es : List TreeNode) → AllZip (Stands p best links) ys es → list_any (λ e. is_open e.mark) es ≡ false → AllByRecursion (λ x. IsRightOn p (final_bound p best) x.path x.node) ys
   all_closed [] [] h e = tt
   all_closed [] (m ∷ es) h e = absurd h
   all_closed (y ∷ ys) [] h e = absurd h
@@ -120,7 +120,7 @@ module _ (p : Problem) (best : Option (List Cell)) (links : List Link) (entries 
         by_best e = subst (IsRightOn p (AtLeast v) x.path) (sym e) (best_right p x.path v (below (total_of p x.path (best_claims p x.path)) (ap (node_worth p x.path) e)))
 
         by_mark : (n : NodeState) → x.node ≡ node_of p x.path n → IsKnown p best x.path n → IsRightOn p (AtLeast v) x.path x.node
-        by_mark (Divided g) e k = subst (IsRightOn p (AtLeast v) x.path) (sym e) tt
+        by_mark (Split g) e k = subst (IsRightOn p (AtLeast v) x.path) (sym e) tt
         by_mark (Closed leaf) e k =
             subst (IsRightOn p (AtLeast v) x.path) (sym e) (right_for p x.path (final_bound p best) leaf v k.right (λ n w. below n (ap (node_worth p x.path) e ∙ w)))
         by_mark (Opened g) e k = by_best e
@@ -128,7 +128,7 @@ module _ (p : Problem) (best : Option (List Cell)) (links : List Link) (entries 
 
     all_known : AllByRecursion (λ x. IsRightOn p (AtLeast v) x.path x.node) xs
     all_known = each_member (λ x. IsRightOn p (AtLeast v) x.path x.node) xs (λ x i.
-        let w = at_member (λ y. (e : Entry) × Stands p best links y e) xs x (zip_each (Stands p best links) (λ y. (e : Entry) × Stands p best links y e) (λ y e s. (e, s)) xs entries grown.together) i in
+        let w = at_member (λ y. (e : TreeNode) × Stands p best links y e) xs x (zip_each (Stands p best links) (λ y. (e : TreeNode) × Stands p best links y e) (λ y e s. (e, s)) xs entries grown.together) i in
         known_right x w.0.mark w.1.node w.1.known i)
 
     -- the tree derives the least value of a Cost leaf
@@ -137,7 +137,7 @@ module _ (p : Problem) (best : Option (List Cell)) (links : List Link) (entries 
 
   -- -- leaves of a value below the best cost are those of the best claims
 
-  greedy_at : (x : OnPath) (e : Entry) → Stands p best links x e → IsGreedy p best x
+  greedy_at : (x : OnPath) (e : TreeNode) → Stands p best links x e → IsGreedy p best x
   greedy_at x e s n k c = by_mark e.mark s.node s.known
     where
       dear : (o : Option (List Cell)) (leaf : Leaf) → x.node ≡ node.Leaf leaf → IsCheaper p o n → (right : IsRightOn p (final_bound p o) x.path (node.Leaf leaf)) → ⊥
@@ -145,7 +145,7 @@ module _ (p : Problem) (best : Option (List Cell)) (links : List Link) (entries 
       dear (Some t) leaf e d right = let l = worth_reaches p x.path (cost p t) leaf n right (sym (ap (node_worth p x.path) e) ∙ k) in omega arith
 
       by_mark : (j : NodeState) → x.node ≡ node_of p x.path j → IsKnown p best x.path j → x.node ≡ node.Leaf (best_leaf p x.path)
-      by_mark (Divided g) e j = let a = sym (ap (node_worth p x.path) e) ∙ k in cc
+      by_mark (Split g) e j = let a = sym (ap (node_worth p x.path) e) ∙ k in cc
       by_mark (Closed leaf) e j = absurd (dear best leaf e c j.right)
       by_mark (Opened g) e j = e
       by_mark Waiting e j = e

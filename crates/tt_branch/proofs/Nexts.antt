@@ -5,13 +5,13 @@ use Rattle.std.specs.List.{list_any}
 use Rattle.std.proofs.lemmas.List.{take_more}
 use Rattle.std.proofs.lemmas.List.Folds.{list_any-append}
 use Rattle.std.proofs.lemmas.Option.{slice_get-get_or}
-use Rattle.tt_branch.specs.declared.entry.Entry.{Entry}
+use Rattle.tt_branch.specs.declared.tree_node.TreeNode.{TreeNode}
 use Rattle.tt_branch.specs.Growing.{is_open, IsOpenAt}
 
-pub open_here : (entries : List Entry) (place : ℕ) (e : Entry) → place < length entries → e ≡ get_or entries place e → is_open e.mark ≡ true → IsOpenAt entries place
+pub open_here : (entries : List TreeNode) (place : ℕ) (e : TreeNode) → place < length entries → e ≡ get_or entries place e → is_open e.mark ≡ true → IsOpenAt entries place
 open_here entries place e h is o = (e, slice_get-get_or entries place e h ∙ ap Some (sym is), o)
 
-pub none_more : (q : Entry → Bool) (entries : List Entry) (place : ℕ) (e : Entry) → place < length entries → e ≡ get_or entries place e → list_any q (take place entries) ≡ false → q e ≡ false → list_any q (take (place + 1) entries) ≡ false
+pub none_more : (q : TreeNode → Bool) (entries : List TreeNode) (place : ℕ) (e : TreeNode) → place < length entries → e ≡ get_or entries place e → list_any q (take place entries) ≡ false → q e ≡ false → list_any q (take (place + 1) entries) ≡ false
 none_more q entries place e h is none off =
     ap (list_any q) (take_more entries place e h ∙ ap (λ x. take place entries ++ x ∷ []) (sym is))
     ∙ list_any-append q (take place entries) (e ∷ []) ∙ ap (λ b. b || (q e || false)) none ∙ ap (λ b. b || false) off

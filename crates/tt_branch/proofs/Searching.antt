@@ -18,13 +18,13 @@ use Rattle.tt_leaf_rules.specs.declared.leaf.Bound.TheVariants.{AtLeast, Nothing
 use Rattle.tt_leaf_rules.specs.declared.leaf.Claim.TheVariants.{Days}
 use Rattle.tt_leaf_rules.specs.declared.leaf.Leaf.{Leaf}
 use Rattle.tt_leaf_rules.specs.declared.leaf.Leaf.TheVariants.{Empty, Many, Clique, Slots, Cost}
-use Rattle.tt_proof_read.specs.Trees.{Close, Branch, OnPath, on_paths, with_fact}
+use Rattle.tt_proof_read.specs.Trees.{Tip, Fork, OnPath, on_paths, with_fact}
 use Rattle.tt_proof_read.specs.declared.node.Node.TheVariants as node
 use Rattle.tt_leaf.specs.Best.{best_claims, best_leaf}
 use Rattle.tt_leaf.proofs.Claims.{all_different, all_fair}
-use Rattle.tt_branch.specs.declared.entry.NodeState.{NodeState}
-use Rattle.tt_branch.specs.declared.entry.NodeState.TheVariants.{Divided, Closed, Opened, Waiting}
-use Rattle.tt_branch.specs.declared.entry.Entry.{Entry}
+use Rattle.tt_branch.specs.declared.tree_node.NodeState.{NodeState}
+use Rattle.tt_branch.specs.declared.tree_node.NodeState.TheVariants.{Split, Closed, Opened, Waiting}
+use Rattle.tt_branch.specs.declared.tree_node.TreeNode.{TreeNode}
 use Rattle.tt_branch.specs.declared.links.Link.{Link}
 use Rattle.tt_branch.specs.Links.{path_at, AreLinks, link_of, divided_links}
 use Rattle.tt_branch.specs.Growing.{node_of, IsKnown, Stands, IsGrown, is_open}
@@ -80,28 +80,28 @@ closes_better p path (Some u) t leaf h e = right_for p path (AtLeast (cost p u))
 
 -- an open node has the leaf of the best claims
 pub open_leaf : (p : Problem) (m : NodeState) (path : List Fact) → is_open m ≡ true → node_of p path m ≡ node.Leaf (best_leaf p path)
-open_leaf p (Divided g) path e = cc
+open_leaf p (Split g) path e = cc
 open_leaf p (Closed leaf) path e = cc
 open_leaf p (Opened g) path e = refl
 open_leaf p Waiting path e = refl
 
 module _ (p : Problem) where
   -- a better timetable was found
-  pub grow_better : (best : Option (List Cell)) (t : List Cell) (links : List Link) (entries : List Entry) → IsBetter p best t → IsGrown p best links entries → IsGrown p (Some t) links entries
+  pub grow_better : (best : Option (List Cell)) (t : List Cell) (links : List Link) (entries : List TreeNode) → IsBetter p best t → IsGrown p best links entries → IsGrown p (Some t) links entries
   grow_better best t links entries h grown = record {
     tree = grown.tree;
     together = zip_weaker (Stands p best links) (Stands p (Some t) links) (λ x e s. record { node = s.node; known = by_mark x.path e.mark s.known; link = s.link; path = s.path; patterns = s.patterns }) (on_paths [] grown.tree) entries grown.together;
   }
     where
       by_mark : (path : List Fact) (m : NodeState) → IsKnown p best path m → IsKnown p (Some t) path m
-      by_mark path (Divided g) k = k
+      by_mark path (Split g) k = k
       by_mark path (Closed leaf) k = record { right = closes_better p path best t leaf h k.right; answer = k.answer }
       by_mark path (Opened g) k = k
       by_mark path Waiting k = tt
 
   module _ (best : Option (List Cell)) where
     -- further links change nothing
-    pub grow_links : (links : List Link) (l : Link) (entries : List Entry) → AreLinks links → IsGrown p best links entries → IsGrown p best (links ++ l ∷ []) entries
+    pub grow_links : (links : List Link) (l : Link) (entries : List TreeNode) → AreLinks links → IsGrown p best links entries → IsGrown p best (links ++ l ∷ []) entries
     grow_links links l entries ok grown = record {
       tree = grown.tree;
       together = zip_weaker (Stands p best links) (Stands p best (links ++ l ∷ [])) (λ x e s. record {
@@ -114,7 +114,7 @@ module _ (p : Problem) where
     }
 
     -- more is known about an open node, on its path
-    pub grow_mark : (links : List Link) (before : List Entry) (e new : Entry) (after : List Entry) → IsGrown p best links (before ++ e ∷ after) → is_open e.mark ≡ true → new.link ≡ e.link → IsKnown p best (path_at links e.link) new.mark → (leaf : Leaf) → node_of p (path_at links e.link) new.mark ≡ node.Leaf leaf → IsGrown p best links (before ++ new ∷ after)
+    pub grow_mark : (links : List Link) (before : List TreeNode) (e new : TreeNode) (after : List TreeNode) → IsGrown p best links (before ++ e ∷ after) → is_open e.mark ≡ true → new.link ≡ e.link → IsKnown p best (path_at links e.link) new.mark → (leaf : Leaf) → node_of p (path_at links e.link) new.mark ≡ node.Leaf leaf → IsGrown p best links (before ++ new ∷ after)
     grow_mark links before e new after grown o same known leaf shown =
         let R = Stands p best links in
         let w = zip_cut R (on_paths [] grown.tree) before e after grown.together in
@@ -123,7 +123,7 @@ module _ (p : Problem) where
         let k = subst (λ q. IsKnown p best q new.mark) s.path known in
         let l = subst (λ q. node_of p q new.mark ≡ node.Leaf leaf) s.path shown in
         let here = w.3 ∙ ap (λ n. w.0 ++ on_path x.path n ∷ w.2) (s.node ∙ open_leaf p e.mark x.path o) in
-        let r = graft [] grown.tree w.0 x.path (best_leaf p x.path) w.2 here (Close leaf) in
+        let r = graft [] grown.tree w.0 x.path (best_leaf p x.path) w.2 here (Tip leaf) in
         record {
           tree = r.0;
           together =
@@ -133,7 +133,7 @@ module _ (p : Problem) where
         }
 
     -- a node that was opened is split
-    pub grow_split : (links : List Link) (before : List Entry) (e : Entry) (after : List Entry) (g : Pattern) (d a b : Entry) → AreLinks links → IsGrown p best links (before ++ e ∷ after) → e.mark ≡ Opened g → IsDivision links e g d a b → IsGrown p best (divided_links links e.link g) (before ++ d ∷ a ∷ b ∷ after)
+    pub grow_split : (links : List Link) (before : List TreeNode) (e : TreeNode) (after : List TreeNode) (g : Pattern) (d a b : TreeNode) → AreLinks links → IsGrown p best links (before ++ e ∷ after) → e.mark ≡ Opened g → IsDivision links e g d a b → IsGrown p best (divided_links links e.link g) (before ++ d ∷ a ∷ b ∷ after)
     grow_split links before e after g d a b ok grown opened new =
         let yes = link_of e.link g true in
         let no = link_of e.link g false in
@@ -154,7 +154,7 @@ module _ (p : Problem) where
         let known : IsSplitOn p x.path g = subst (IsKnown p best x.path) opened s.known in
         let yes' = best_leaf p (with_fact x.path g true) in
         let no' = best_leaf p (with_fact x.path g false) in
-        let r = graft [] grown2.tree w.0 x.path (best_leaf p x.path) w.2 here (Branch g (Close yes') (Close no')) in
+        let r = graft [] grown2.tree w.0 x.path (best_leaf p x.path) w.2 here (Fork g (Tip yes') (Tip no')) in
         let at1 = ap (λ q. q ++ record { pattern = g; holds = true } ∷ []) s.path in
         let at2 = ap (λ q. q ++ record { pattern = g; holds = false } ∷ []) s.path in
         let get1 : slice_get links2 (length links) ≡ Some yes = at_first links1 (no ∷ []) (length links) (omega arith) ∙ at_next links yes [] in
@@ -192,9 +192,9 @@ module _ (p : Problem) where
         }
 
   -- the tree that consists of the root
-  pub grow_root : (best : Option (List Cell)) (e : Entry) → e.mark ≡ Waiting → e.link ≡ 0 → IsGrown p best [] (e ∷ [])
+  pub grow_root : (best : Option (List Cell)) (e : TreeNode) → e.mark ≡ Waiting → e.link ≡ 0 → IsGrown p best [] (e ∷ [])
   grow_root best e m l = record {
-    tree = Close (best_leaf p []);
+    tree = Tip (best_leaf p []);
     together = (
       record {
         node = sym (ap (node_of p []) m);
@@ -210,11 +210,11 @@ module _ (p : Problem) where
   -- ---- the end
 
   -- each split satisfies its condition
-  pub splits_well : (best : Option (List Cell)) (links : List Link) (x : OnPath) (e : Entry) → Stands p best links x e → SplitsWell p x
+  pub splits_well : (best : Option (List Cell)) (links : List Link) (x : OnPath) (e : TreeNode) → Stands p best links x e → SplitsWell p x
   splits_well best links x e s k is = by_mark e.mark s.node s.known
     where
       by_mark : (m : NodeState) → x.node ≡ node_of p x.path m → IsKnown p best x.path m → IsSplitOn p x.path k
-      by_mark (Divided g) n known = let same : g ≡ k = cc (n, is) in subst (λ q. IsSplitOn p x.path q) same known
+      by_mark (Split g) n known = let same : g ≡ k = cc (n, is) in subst (λ q. IsSplitOn p x.path q) same known
       by_mark (Closed leaf) n known = cc
       by_mark (Opened g) n known = cc
       by_mark Waiting n known = cc

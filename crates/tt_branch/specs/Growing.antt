@@ -10,9 +10,9 @@ use Rattle.tt_proof_read.specs.declared.node.Node.{Node}
 use Rattle.tt_proof_read.specs.declared.node.Node.TheVariants as node
 use Rattle.tt_leaf.specs.Best.{best_leaf}
 use Rattle.tt_leaf.specs.Found.{Closes, ArePatterns}
-use Rattle.tt_branch.specs.declared.entry.NodeState.{NodeState}
-use Rattle.tt_branch.specs.declared.entry.NodeState.TheVariants.{Divided, Closed, Opened, Waiting}
-use Rattle.tt_branch.specs.declared.entry.Entry.{Entry}
+use Rattle.tt_branch.specs.declared.tree_node.NodeState.{NodeState}
+use Rattle.tt_branch.specs.declared.tree_node.NodeState.TheVariants.{Split, Closed, Opened, Waiting}
+use Rattle.tt_branch.specs.declared.tree_node.TreeNode.{TreeNode}
 use Rattle.tt_branch.specs.declared.links.Link.{Link}
 use Rattle.tt_branch.specs.Links.{path_at}
 use Rattle.tt_branch.specs.Outcomes.{final_bound}
@@ -20,20 +20,20 @@ use Rattle.tt_branch.specs.Proofs.{IsSplitOn, node_worth}
 
 -- The node of the tree for a mark; an open node has the leaf of the best claims.
 abbrev pub node_of : Problem → List Fact → NodeState → Node
-node_of p path (Divided g) = node.Split g
+node_of p path (Split g) = node.Split g
 node_of p path (Closed leaf) = node.Leaf leaf
 node_of p path (Opened g) = node.Leaf (best_leaf p path)
 node_of p path Waiting = node.Leaf (best_leaf p path)
 
 -- What is known about a node by its mark.
 abbrev pub IsKnown : Problem → Option (List Cell) → List Fact → NodeState → Type 0
-IsKnown p best path (Divided g) = IsSplitOn p path g
+IsKnown p best path (Split g) = IsSplitOn p path g
 IsKnown p best path (Closed leaf) = Closes p path (final_bound p best) leaf
 IsKnown p best path (Opened g) = IsSplitOn p path g
 IsKnown p best path Waiting = ⊤
 
 -- A node of the tree and its entry.
-pub record Stands (p : Problem) (best : Option (List Cell)) (links : List Link) (x : OnPath) (e : Entry) : Type 0 where
+pub record Stands (p : Problem) (best : Option (List Cell)) (links : List Link) (x : OnPath) (e : TreeNode) : Type 0 where
   pub node : x.node ≡ node_of p x.path e.mark
   pub known : IsKnown p best x.path e.mark
   pub link : e.link ≤ length links
@@ -41,7 +41,7 @@ pub record Stands (p : Problem) (best : Option (List Cell)) (links : List Link) 
   pub patterns : ArePatterns p x.path
 
 -- The entries are those of a tree.
-pub record IsGrown (p : Problem) (best : Option (List Cell)) (links : List Link) (entries : List Entry) : Type 0 where
+pub record IsGrown (p : Problem) (best : Option (List Cell)) (links : List Link) (entries : List TreeNode) : Type 0 where
   pub tree : Tree
   pub together : AllZip (Stands p best links) (on_paths [] tree) entries
 
@@ -58,33 +58,33 @@ is_open _ = false
 
 -- The mark is not that of a split.
 abbrev pub IsSingle : NodeState → Type 0
-IsSingle (Divided g) = ⊥
+IsSingle (Split g) = ⊥
 IsSingle _ = ⊤
 
 -- How many of the nodes were opened.
-abbrev pub opened_in : List Entry → ℕ
+abbrev pub opened_in : List TreeNode → ℕ
 opened_in entries = count_by (λ e. was_opened e.mark) entries
 
 -- The entry at the place is open.
-abbrev pub IsOpenAt : List Entry → ℕ → Type 0
-IsOpenAt entries k = (e : Entry) × (slice_get entries k ≡ Some e) × (is_open e.mark ≡ true)
+abbrev pub IsOpenAt : List TreeNode → ℕ → Type 0
+IsOpenAt entries k = (e : TreeNode) × (slice_get entries k ≡ Some e) × (is_open e.mark ≡ true)
 
 -- The entry at the place has the mark.
-abbrev pub HasMark : List Entry → ℕ → NodeState → Type 0
-HasMark entries k m = (e : Entry) × (slice_get entries k ≡ Some e) × (e.mark ≡ m)
+abbrev pub HasMark : List TreeNode → ℕ → NodeState → Type 0
+HasMark entries k m = (e : TreeNode) × (slice_get entries k ≡ Some e) × (e.mark ≡ m)
 
 -- -- the proof made of the tree
 
 -- The node of an entry, on its path.
-abbrev pub node_at : Problem → List Link → Entry → Node
+abbrev pub node_at : Problem → List Link → TreeNode → Node
 node_at p links e = node_of p (path_at links e.link) e.mark
 
 -- The value of an entry's node, if it is a Cost leaf.
-abbrev pub worth_at : Problem → List Link → Entry → Option ℕ
+abbrev pub worth_at : Problem → List Link → TreeNode → Option ℕ
 worth_at p links e = node_worth p (path_at links e.link) (node_at p links e)
 
-abbrev pub nodes_of : Problem → List Link → List Entry → List Node
+abbrev pub nodes_of : Problem → List Link → List TreeNode → List Node
 nodes_of p links entries = map (node_at p links) entries
 
-abbrev pub worths_of : Problem → List Link → List Entry → List ℕ
+abbrev pub worths_of : Problem → List Link → List TreeNode → List ℕ
 worths_of p links entries = filter_map (worth_at p links) entries

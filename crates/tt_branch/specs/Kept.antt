@@ -5,7 +5,7 @@ use Rattle.tt_instance.specs.Problem.{Problem}
 use Rattle.tt_instance.specs.declared.cell.Cell.{Cell}
 use Rattle.tt_rules.specs.Score.{IsFeasible, cost}
 use Rattle.tt_branch.specs.declared.best.Best.{Best}
-use Rattle.tt_branch.specs.declared.entry.Entry.{Entry}
+use Rattle.tt_branch.specs.declared.tree_node.TreeNode.{TreeNode}
 use Rattle.tt_branch.specs.declared.links.Link.{Link}
 use Rattle.tt_branch.specs.Growing.{IsGrown}
 use Rattle.tt_branch.specs.Outcomes.{IsNoDearer}
@@ -24,5 +24,5 @@ table_of best = option_map (λ b. b.table) best
 -- Everything that was known about the nodes for the old best timetable is true for the new one, and the new one is at most as expensive.
 pub record Advances (p : Problem) (old new : Option Best) : Type 0 where
   pub kept : IsKept p new
-  pub grown : (links : List Link) (entries : List Entry) → IsGrown p (table_of old) links entries → IsGrown p (table_of new) links entries
+  pub grown : (links : List Link) (entries : List TreeNode) → IsGrown p (table_of old) links entries → IsGrown p (table_of new) links entries
   pub no_dearer : (t : List Cell) → IsNoDearer p (table_of old) t → IsNoDearer p (table_of new) t

@@ -4,8 +4,8 @@ use Rattle.std.specs.Prelude.{◌≡◌, ℕ, ◌+◌, ◌*◌, ◌≤◌, Bool,
 use Rattle.std.specs.List.{list_any}
 use Rattle.tt_instance.specs.Problem.{Problem}
 use Rattle.tt_facts_path.specs.declared.facts.Pattern.{Pattern}
-use Rattle.tt_branch.specs.declared.entry.NodeState.TheVariants.{Opened, Waiting}
-use Rattle.tt_branch.specs.declared.entry.Entry.{Entry}
+use Rattle.tt_branch.specs.declared.tree_node.NodeState.TheVariants.{Opened, Waiting}
+use Rattle.tt_branch.specs.declared.tree_node.TreeNode.{TreeNode}
 use Rattle.tt_branch.specs.declared.search.Search.{Search}
 use Rattle.tt_branch.specs.Growing.{IsGrown, HasMark, is_open, opened_in}
 use Rattle.tt_branch.specs.Kept.{IsKept, table_of}
@@ -20,12 +20,12 @@ pub record IsUnderWay (p : Problem) (s : Search) : Type 0 where
 
 -- The opened node at the place is split: its two children follow it.
 pub record IsSplitAt (place : ℕ) (g : Pattern) (old new : Search) : Type 0 where
-  pub before : List Entry
-  pub after : List Entry
-  pub was : Entry
-  pub divided : Entry
-  pub first : Entry
-  pub second : Entry
+  pub before : List TreeNode
+  pub after : List TreeNode
+  pub was : TreeNode
+  pub divided : TreeNode
+  pub first : TreeNode
+  pub second : TreeNode
   pub old_entries : old.entries.items ≡ before ++ was ∷ after
   pub place_is : length before ≡ place
   pub opened : was.mark ≡ Opened g
@@ -43,6 +43,6 @@ pub record MakesWait (place : ℕ) (old : Search) (next : ℕ) (new : Search) : 
   pub best : new.best ≡ old.best
 
 -- No node is open, and at most `limit` nodes were made; or some node is open, at least `limit` nodes were made, and fewer than `2 * limit`.
-abbrev pub EndsAt : ℕ → List Entry → Bool → Type 0
+abbrev pub EndsAt : ℕ → List TreeNode → Bool → Type 0
 EndsAt limit entries true = (list_any (λ e. is_open e.mark) entries ≡ false) × (length entries ≤ limit)
 EndsAt limit entries false = (list_any (λ e. is_open e.mark) entries ≡ true) × (limit ≤ length entries) × (length entries + 1 ≤ 2 * limit)

@@ -7,13 +7,13 @@ use Rattle.tt_instance.specs.Cells.{slot, cell, all_days, all_rooms}
 use Rattle.tt_instance.specs.declared.cell.Cell.{Cell}
 use Rattle.tt_facts_path.specs.Live.{least_with}
 use Rattle.tt_facts_path.specs.declared.facts.Pattern.{Pattern}
-use Rattle.tt_branch.specs.declared.entry.NodeState.TheVariants.{Divided, Waiting}
-use Rattle.tt_branch.specs.declared.entry.Entry.{Entry}
+use Rattle.tt_branch.specs.declared.tree_node.NodeState.TheVariants.{Split, Waiting}
+use Rattle.tt_branch.specs.declared.tree_node.TreeNode.{TreeNode}
 use Rattle.tt_branch.specs.declared.links.Link.{Link}
 
 -- The entries of a node that is split and of its children, which wait.
-pub record IsDivision (links : List Link) (e : Entry) (g : Pattern) (d a b : Entry) : Type 0 where
-  pub divided : d.mark ≡ Divided g
+pub record IsDivision (links : List Link) (e : TreeNode) (g : Pattern) (d a b : TreeNode) : Type 0 where
+  pub divided : d.mark ≡ Split g
   pub same_link : d.link ≡ e.link
   pub first : a.mark ≡ Waiting
   pub first_link : a.link ≡ length links + 1

@@ -7,7 +7,7 @@ use Rattle.tt_leaf_rules.specs.Outcomes.{IsClaimedOnce}
 use Rattle.tt_proof_read.specs.declared.node.Node.{Node}
 use Rattle.tt_proof_read.specs.declared.node.Node.TheVariants as node
 use Rattle.tt_proof_check.specs.Nodes.{IsNodeOf}
-use Rattle.tt_branch.specs.declared.entry.Entry.{Entry}
+use Rattle.tt_branch.specs.declared.tree_node.TreeNode.{TreeNode}
 use Rattle.tt_branch.specs.declared.links.Link.{Link}
 use Rattle.tt_branch.specs.Growing.{node_at, nodes_of, worths_of}
 use Rattle.tt_branch.specs.Links.{path_at}
@@ -23,14 +23,14 @@ abbrev pub IsOnceNode : Node → Type 0
 IsOnceNode (node.Split g) = ⊤
 IsOnceNode (node.Leaf leaf) = IsClaimedOnce leaf
 
-pub record IsWritable (p : Problem) (links : List Link) (e : Entry) : Type 0 where
+pub record IsWritable (p : Problem) (links : List Link) (e : TreeNode) : Type 0 where
   pub reached : IsReached links e.link
   pub numbers : IsNodeOf p (node_at p links e)
   pub once : IsOnceNode (node_at p links e)
 
 -- The entries after those left have been written, the last one first.
-pub record IsTaken (p : Problem) (links : List Link) (valued : Bool) (all left : List Entry) (nodes : List Node) (lowest : Option ℕ) : Type 0 where
-  pub done : List Entry
+pub record IsTaken (p : Problem) (links : List Link) (valued : Bool) (all left : List TreeNode) (nodes : List Node) (lowest : Option ℕ) : Type 0 where
+  pub done : List TreeNode
   pub split : all ≡ left ++ done
   pub written : nodes ≡ reverse (nodes_of p links done)
   pub lowest_is : valued ≡ true → lowest ≡ least (worths_of p links done)

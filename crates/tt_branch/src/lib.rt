@@ -2,7 +2,6 @@
 #![tactic(auto)]
 
 mod best;
-mod entry;
 mod laws;
 mod limit;
 mod links;
@@ -12,6 +11,7 @@ mod nodes;
 mod rounds;
 mod search;
 mod solving;
+mod tree_node;
 mod visit;
 mod watching;
 

@@ -9,8 +9,8 @@ ghost use Rattle.tt_branch.specs.Proofs.{node_worth};
 ghost use Rattle.tt_branch.specs.Steps.{lower};
 ghost use Rattle.tt_branch.specs.Written.{IsReached, IsWritable, IsOnceNode};
 
-use crate::entry::{Entry, NodeState};
 use crate::links::Link;
+use crate::tree_node::{NodeState, TreeNode};
 use crate::visit::go_to;
 use std::alloc::{AllocError, Global};
 use tt_facts_path::Path;
@@ -30,16 +30,16 @@ fn node_for<'i, P: Path<'i>>(
     alloc: Global,
     path: &mut P,
     links: &[Link],
-    entry: Entry,
+    entry: TreeNode,
 ) -> Result<Node, AllocError>
     requires links { AreLinks links.now }
     requires reached { IsReached links.now entry.link }
     ensures node { IfOk result (λ n. n ≡ node_at (P.problem path.old) links.now entry) }
     ensures same { P.problem path.new ≡ P.problem path.old }
 {
-    let Entry { mark, link, .. } = entry;
+    let TreeNode { mark, link, .. } = entry;
     match mark {
-        NodeState::Divided(pattern) => Ok(Node::Split(pattern)),
+        NodeState::Split(pattern) => Ok(Node::Split(pattern)),
         NodeState::Closed(leaf) => Ok(Node::Leaf(leaf)),
         NodeState::Opened(_) | NodeState::Waiting => {
             go_to(alloc, path, links, link)?;
@@ -90,7 +90,7 @@ pub fn write_nodes<'i, P: Path<'i>>(
     alloc: Global,
     path: &mut P,
     links: &[Link],
-    entries: Vec<Entry>,
+    entries: Vec<TreeNode>,
     valued: bool,
 ) -> Result<Written, AllocError>
     requires links { AreLinks links.now }

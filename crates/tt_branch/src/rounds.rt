@@ -6,8 +6,8 @@ ghost use Rattle.tt_branch.specs.Kept.{Advances};
 ghost use Rattle.tt_branch.specs.State.{IsUnderWay, MakesWait, EndsAt};
 ghost use Rattle.tt_branch.specs.declared.limit.TheConstants.{MAX_OPENED, MAX_TREE};
 
-use crate::entry::NodeState;
 use crate::search::{Search, next_open, split};
+use crate::tree_node::NodeState;
 use crate::visit::open_at;
 use crate::watching::show;
 use std::alloc::{AllocError, Global};

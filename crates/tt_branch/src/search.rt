@@ -9,15 +9,15 @@ ghost use Rattle.tt_branch.specs.Links.{link_of};
 ghost use Rattle.tt_branch.specs.State.{IsUnderWay, IsSplitAt};
 
 use crate::best::Best;
-use crate::entry::{ChildGains, Entry, NodeState};
 use crate::links::Link;
+use crate::tree_node::{ChildGains, NodeState, TreeNode};
 use std::alloc::{AllocError, Global};
 use tt_facts_path::{Fact, Pattern};
 
 /// A tree that grows, in preorder, the links to the facts of its nodes, and the best timetable so far.
 #[derive(Drop)]
 pub struct Search {
-    pub entries: Vec<Entry>,
+    pub entries: Vec<TreeNode>,
     pub links: Vec<Link>,
     pub best: Option<Best>,
 }
@@ -32,7 +32,7 @@ impl Search {
         ensures waiting { IfOk result (λ s. HasMark s.entries.items 0 NodeState.Waiting) }
     {
         let mut entries = Vec::new(alloc);
-        entries.push(Entry {
+        entries.push(TreeNode {
             mark: NodeState::Waiting,
             link: 0,
             key: 0,
@@ -47,7 +47,7 @@ impl Search {
 }
 
 /// Returns whether an entry is open and either no open one was met before or its key is below the least.
-fn is_next(entry: &Entry, first: bool, least: u64) -> bool
+fn is_next(entry: &TreeNode, first: bool, least: u64) -> bool
     ensures open { result ≡ true → is_open entry.now.mark ≡ true }
     ensures first { first ≡ true → result ≡ false → is_open entry.now.mark ≡ false }
 {
@@ -55,7 +55,7 @@ fn is_next(entry: &Entry, first: bool, least: u64) -> bool
 }
 
 /// Returns the open node with the least key, the first of several.
-pub fn next_open(entries: &[Entry]) -> Option<usize>
+pub fn next_open(entries: &[TreeNode]) -> Option<usize>
     ensures some { IfSome result (λ place. IsOpenAt entries.now place) }
     ensures none { IsNone result → list_any (λ e. is_open e.mark) entries.now ≡ false }
 {
@@ -88,7 +88,7 @@ fn push_link(
 }
 
 /// Replaces the entry at a place.
-pub fn put(entries: &mut Vec<Entry>, place: usize, entry: Entry)
+pub fn put(entries: &mut Vec<TreeNode>, place: usize, entry: TreeNode)
     requires { place < vec_len entries.old }
     ensures { entries.new.items ≡ slice_set entries.old.items place entry }
 {
@@ -100,7 +100,7 @@ pub fn split(search: &mut Search, place: usize, pattern: Pattern) -> Result<(), 
     requires { HasMark search.old.entries.items place (NodeState.Opened pattern) }
     ensures { OnOk result (IsSplitAt place pattern search.old search.new) }
 {
-    let Entry {
+    let TreeNode {
         link,
         key,
         rises,
@@ -109,15 +109,15 @@ pub fn split(search: &mut Search, place: usize, pattern: Pattern) -> Result<(), 
     let (link, key, rises) = (*link, *key, *rises);
     let yes = push_link(&mut search.links, link, pattern, true)?;
     let no = push_link(&mut search.links, link, pattern, false)?;
-    let second = Entry::waiting(no, key.saturating_add(rises.no));
-    let first = Entry::waiting(yes, key.saturating_add(rises.yes));
+    let second = TreeNode::waiting(no, key.saturating_add(rises.no));
+    let first = TreeNode::waiting(yes, key.saturating_add(rises.yes));
     search.entries.insert(place + 1, second)?;
     search.entries.insert(place + 1, first)?;
     put(
         &mut search.entries,
         place,
-        Entry {
-            mark: NodeState::Divided(pattern),
+        TreeNode {
+            mark: NodeState::Split(pattern),
             link,
             key,
             rises,

@@ -13,11 +13,11 @@ ghost use Rattle.tt_branch.specs.State.{IsUnderWay};
 ghost use Rattle.tt_branch.specs.declared.limit.TheConstants.{MAX_TREE};
 
 use crate::best::{Best, bound_of};
-use crate::entry::{ChildGains, Entry, NodeState};
 use crate::links::{Link, facts_to};
 use crate::live::live_table;
 use crate::moves::move_to;
 use crate::search::{Search, put};
+use crate::tree_node::{ChildGains, NodeState, TreeNode};
 use std::alloc::{AllocError, Global};
 use tt_branch_split::choose_split;
 use tt_facts_path::{Fact, Path, PathFault, Pattern};
@@ -182,7 +182,7 @@ pub fn open_at<'i, P: Path<'i>>(
     go_to(alloc, path, search.links.as_slice(), link)?;
     let Opening { mark, key } = open(alloc, path, &mut search.best)?;
     let rises = rises_of(alloc, path, mark.pattern(), key)?;
-    let entry = Entry {
+    let entry = TreeNode {
         mark,
         link,
         key,

@@ -11,9 +11,8 @@ ghost use Rattle.tt_facts_cell_set.specs.Tables.{has_cell, is_open, IsTable};
 
 use crate::places::{cells_word, open_word, width};
 use crate::rooms::{Rooms, common_of};
-use tt_bits::{has_bit, is_empty, with_if};
+use tt_bits::{Trail, has_bit, is_empty, with_if};
 use tt_instance::{Cell, Instance};
-use tt_trail::Trail;
 
 /// Returns whether the table has a cell.
 pub fn has_cell(instance: &Instance<'_>, table: &Trail, cell: Cell) -> bool

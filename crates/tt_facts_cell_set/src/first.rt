@@ -9,9 +9,8 @@ ghost use Rattle.tt_facts_cell_set.specs.First.{AreFull};
 use crate::places::width;
 use crate::removing::remove_rooms;
 use std::alloc::{AllocError, Global};
-use tt_bits::below;
+use tt_bits::{Trail, below};
 use tt_instance::Instance;
-use tt_trail::Trail;
 
 /// Creates the words of a table that has all cells.
 fn full_words(alloc: Global, instance: &Instance<'_>) -> Result<Vec<u64>, AllocError>

@@ -7,9 +7,8 @@ ghost use Rattle.tt_bits.specs.Bits.{has_bit};
 ghost use Rattle.tt_facts_cell_set.specs.Words.{width, place, size};
 ghost use Rattle.tt_facts_cell_set.specs.Tables.{has_cell, is_open, IsTable};
 
-use tt_bits::{both, one};
+use tt_bits::{Trail, both, one};
 use tt_instance::Instance;
-use tt_trail::Trail;
 
 /// Returns how many words the rooms take.
 pub fn width(instance: &Instance<'_>) -> u32

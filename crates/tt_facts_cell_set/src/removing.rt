@@ -7,9 +7,8 @@ ghost use Rattle.tt_facts_cell_set.specs.Tables.{has_cell, is_placed, IsTable, L
 
 use crate::places::{allowed, open_word, place, width};
 use std::alloc::AllocError;
-use tt_bits::{clear, others};
+use tt_bits::{Trail, clear, others};
 use tt_instance::Instance;
-use tt_trail::Trail;
 
 /// Removes the course's cells in a period, in the given room if one is given.
 #[inline(always)]

@@ -11,11 +11,11 @@ use crate::listing::is_listed;
 use crate::settling::settle;
 use crate::watching::{NO_WATCH, Watches};
 use std::alloc::AllocError;
+use tt_bits::Trail;
 use tt_facts_cell_set::remove_all;
 use tt_facts_path::{Fact, Pattern};
 use tt_instance::Instance;
 use tt_instance_links::Conflicts;
-use tt_trail::Trail;
 
 /// Changes both tables for a no-fact, the last of the facts. `yes` has the patterns of the yes-facts; if one of them is the
 /// no-fact's, no cell is live.

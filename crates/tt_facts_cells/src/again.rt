@@ -9,11 +9,11 @@ ghost use Rattle.tt_facts_cells.specs.Shown.{Renews};
 use crate::settling::settle;
 use crate::watching::Watches;
 use std::alloc::AllocError;
+use tt_bits::Trail;
 use tt_facts_cell_set::is_cleared;
 use tt_facts_path::{Pattern, Who};
 use tt_instance::Instance;
 use tt_instance_links::Conflicts;
-use tt_trail::Trail;
 
 /// Returns whether some number agrees with both, as far as they are given.
 fn may_agree(first: Option<u32>, second: Option<u32>) -> bool

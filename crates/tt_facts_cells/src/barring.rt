@@ -8,10 +8,10 @@ ghost use Rattle.tt_facts_cell_set.specs.Tables.{IsTable, Loses};
 use crate::courses::courses_of;
 use crate::periods::{allows, slots_of};
 use std::alloc::AllocError;
+use tt_bits::Trail;
 use tt_facts_cell_set::remove_rooms;
 use tt_facts_path::Pattern;
 use tt_instance::Instance;
-use tt_trail::Trail;
 
 /// Removes a course's cells that agree with a pattern which gives this day and this period.
 fn remove_at(

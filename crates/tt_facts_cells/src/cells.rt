@@ -9,12 +9,11 @@ use crate::order::{Ranked, RoomOrder};
 use crate::watching::Watches;
 use std::alloc::{AllocError, Global};
 use std::marker::Model;
-use tt_bits::is_empty;
+use tt_bits::{Trail, is_empty};
 use tt_facts_cell_set::{cells_word, first_table, has_cell, has_period, periods_of};
 use tt_facts_path::{Cell, Fact, Pattern};
 use tt_instance::Instance;
 use tt_instance_links::Conflicts;
-use tt_trail::Trail;
 
 /// The facts, which of them are the first yes-facts of their patterns, these patterns, the cells that are not barred, and the live ones.
 #[derive(Drop)]

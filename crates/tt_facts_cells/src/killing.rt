@@ -12,11 +12,11 @@ ghost use Rattle.tt_facts_cells.specs.Struck.{is_beside, loses_room};
 ghost use Rattle.tt_facts_cells.specs.Shown.{is_struck};
 
 use std::alloc::AllocError;
+use tt_bits::Trail;
 use tt_facts_cell_set::{Rooms, common_rooms, has_period, keep_rooms, remove_rooms};
 use tt_facts_path::Pattern;
 use tt_instance::Instance;
 use tt_instance_links::Conflicts;
-use tt_trail::Trail;
 
 /// Returns the rooms that a course loses in the period if another course must have one of its free rooms.
 fn rooms_beside(

@@ -6,10 +6,10 @@ ghost use Rattle.tt_facts_cell_set.specs.Tables.{IsTable};
 ghost use Rattle.tt_facts_cells.specs.Struck.{is_left_to, is_left};
 ghost use Rattle.tt_facts_cells.specs.Slots.{allows, is_left_in, Covers, IsNone, IsFirst};
 
+use tt_bits::Trail;
 use tt_facts_cell_set::has_period;
 use tt_facts_path::Pattern;
 use tt_instance::Instance;
-use tt_trail::Trail;
 
 /// Returns whether a number agrees with the one given; if none is given, each number agrees.
 fn agrees(given: Option<u32>, number: u32) -> bool

@@ -12,11 +12,11 @@ use crate::killing::{kill_by_links, kill_one};
 use crate::periods::{first_left, is_left, slots_of};
 use crate::watching::{NO_WATCH, Watch, is_spread};
 use std::alloc::AllocError;
+use tt_bits::Trail;
 use tt_facts_cell_set::{Rooms, common_rooms, remove_all};
 use tt_facts_path::Pattern;
 use tt_instance::Instance;
 use tt_instance_links::Conflicts;
-use tt_trail::Trail;
 
 /// Removes the live cells that a pattern excludes, if its first free period is this one. Returns this period and the next free one.
 fn settle_from(

@@ -6,9 +6,9 @@ ghost use Rattle.tt_facts_cells.specs.Spread.{IsSpread};
 
 use crate::periods::is_left_in;
 use std::alloc::{AllocError, Global};
+use tt_bits::Trail;
 use tt_facts_path::Pattern;
 use tt_instance::Instance;
-use tt_trail::Trail;
 
 /// The numbers of two periods, the first below the second; other numbers say that none are known.
 #[derive(Clone, Copy)]

@@ -3,15 +3,15 @@
 ghost use Rattle.std.specs.Prelude.{◌≡◌, [], ◌∷◌, ◌++◌, length, OnOk, OnErr};
 ghost use Rattle.tt_instance_links.specs.Linked.{AreCurricula};
 ghost use Rattle.tt_facts_pins.specs.Tables.{size, Pins};
-ghost use Rattle.tt_facts_pins.specs.Standing.{standing_size, Stands};
+ghost use Rattle.tt_facts_pins.specs.FactTable.{fact_table_size, AddsFact};
 
+use crate::fact_table::add_fact;
 use crate::pinning::{pin_period, pin_room};
-use crate::standing::stand;
 use std::alloc::AllocError;
+use tt_bits::Trail;
 use tt_facts_path::Fact;
 use tt_instance::Instance;
 use tt_instance_links::Curricula;
-use tt_trail::Trail;
 
 /// Writes the period and the room that a fact pins.
 fn pin(
@@ -46,19 +46,19 @@ fn write(
     instance: &Instance<'_>,
     links: &Curricula,
     pinned: &mut Trail,
-    standing: &mut Trail,
+    fact_table: &mut Trail,
     fact: &Fact,
 ) -> Result<(), AllocError>
     requires pinned { length pinned.old.words ≡ size instance.now }
-    requires standing { length standing.old.words ≡ standing_size instance.now }
+    requires fact_table { length fact_table.old.words ≡ fact_table_size instance.now }
     requires links { AreCurricula instance.now links.now }
     ensures pins { OnOk result (Pins instance.now fact.now pinned.old.words pinned.new.words) }
-    ensures stands { OnOk result (Stands instance.now fact.now standing.old.words standing.new.words) }
+    ensures adds { OnOk result (AddsFact instance.now fact.now fact_table.old.words fact_table.new.words) }
     ensures same_pinned { pinned.new.earlier ≡ pinned.old.earlier }
-    ensures same_standing { standing.new.earlier ≡ standing.old.earlier }
+    ensures same_fact_table { fact_table.new.earlier ≡ fact_table.old.earlier }
 {
     pin(instance, links, pinned, fact)?;
-    stand(instance, standing, fact)?;
+    add_fact(instance, fact_table, fact)?;
     Ok(())
 }
 
@@ -68,27 +68,27 @@ pub fn add(
     instance: &Instance<'_>,
     links: &Curricula,
     pinned: &mut Trail,
-    standing: &mut Trail,
+    fact_table: &mut Trail,
     fact: &Fact,
 ) -> Result<(), AllocError>
     requires pinned { length pinned.old.words ≡ size instance.now }
-    requires standing { length standing.old.words ≡ standing_size instance.now }
+    requires fact_table { length fact_table.old.words ≡ fact_table_size instance.now }
     requires links { AreCurricula instance.now links.now }
     ensures pins { OnOk result (Pins instance.now fact.now pinned.old.words pinned.new.words) }
-    ensures stands { OnOk result (Stands instance.now fact.now standing.old.words standing.new.words) }
+    ensures adds { OnOk result (AddsFact instance.now fact.now fact_table.old.words fact_table.new.words) }
     ensures kept_pinned { OnOk result (pinned.new.earlier ≡ pinned.old.earlier ++ pinned.old.words ∷ []) }
-    ensures kept_standing { OnOk result (standing.new.earlier ≡ standing.old.earlier ++ standing.old.words ∷ []) }
+    ensures kept_fact_table { OnOk result (fact_table.new.earlier ≡ fact_table.old.earlier ++ fact_table.old.words ∷ []) }
     ensures err_pinned { OnErr result (pinned.new ≡ pinned.old) }
-    ensures err_standing { OnErr result (standing.new ≡ standing.old) }
+    ensures err_fact_table { OnErr result (fact_table.new ≡ fact_table.old) }
 {
     pinned.mark()?;
-    if let Err(fault) = standing.mark() {
+    if let Err(fault) = fact_table.mark() {
         pinned.undo();
         return Err(fault);
     }
-    if let Err(fault) = write(instance, links, pinned, standing, fact) {
+    if let Err(fault) = write(instance, links, pinned, fact_table, fact) {
         pinned.undo();
-        standing.undo();
+        fact_table.undo();
         return Err(fault);
     }
     Ok(())

@@ -2,12 +2,12 @@
 #![tactic(auto)]
 
 mod adding;
+mod bit_places;
+mod fact_table;
 mod listing;
 mod pinning;
 mod pins;
 mod places;
 mod sets;
-mod spots;
-mod standing;
 
 pub use pins::Pins;

@@ -2,9 +2,9 @@
 
 ghost use Rattle.std.specs.Prelude.{◌≡◌, ◌<◌, [], ◌∷◌, ◌++◌, length, OnOk, OnErr};
 ghost use Rattle.tt_facts_path.specs.Facts.{has_fact};
-ghost use Rattle.tt_facts_pins.specs.Standing.{others_of};
+ghost use Rattle.tt_facts_pins.specs.FactTable.{unplaced_of};
 
-use crate::spots::has_spot;
+use crate::bit_places::has_bit_place;
 use std::alloc::AllocError;
 use tt_facts_path::{Fact, Pattern};
 use tt_instance::Instance;
@@ -14,19 +14,19 @@ use tt_instance::Instance;
 pub fn list_fact(
     instance: &Instance<'_>,
     facts: &mut Vec<Fact>,
-    others: &mut Vec<Fact>,
+    unplaced: &mut Vec<Fact>,
     fact: Fact,
 ) -> Result<(), AllocError>
-    requires { others.old.items ≡ others_of instance.now facts.old.items }
+    requires { unplaced.old.items ≡ unplaced_of instance.now facts.old.items }
     ensures ok { OnOk result (facts.new.items ≡ facts.old.items ++ fact ∷ []) }
     ensures err { OnErr result (facts.new.items ≡ facts.old.items) }
-    ensures others { others.new.items ≡ others_of instance.now facts.new.items }
+    ensures unplaced { unplaced.new.items ≡ unplaced_of instance.now facts.new.items }
 {
     facts.push(fact)?;
-    if has_spot(instance, &fact) {
+    if has_bit_place(instance, &fact) {
         return Ok(());
     }
-    if let Err(fault) = others.push(fact) {
+    if let Err(fault) = unplaced.push(fact) {
         let _ = facts.pop();
         return Err(fault.into());
     }
@@ -35,24 +35,24 @@ pub fn list_fact(
 
 /// Removes the newest fact from the lists and returns it.
 #[inline(always)]
-pub fn unlist_fact(instance: &Instance<'_>, facts: &mut Vec<Fact>, others: &mut Vec<Fact>) -> Fact
+pub fn unlist_fact(instance: &Instance<'_>, facts: &mut Vec<Fact>, unplaced: &mut Vec<Fact>) -> Fact
     requires some { 0 < length facts.old.items }
-    requires others { others.old.items ≡ others_of instance.now facts.old.items }
+    requires unplaced { unplaced.old.items ≡ unplaced_of instance.now facts.old.items }
     ensures fact { facts.old.items ≡ facts.new.items ++ result ∷ [] }
-    ensures others { others.new.items ≡ others_of instance.now facts.new.items }
+    ensures unplaced { unplaced.new.items ≡ unplaced_of instance.now facts.new.items }
 {
     let fact = facts.take_last();
-    if !has_spot(instance, &fact) {
-        let _ = others.pop();
+    if !has_bit_place(instance, &fact) {
+        let _ = unplaced.pop();
     }
     fact
 }
 
-/// Returns whether a fact that has no place in the table is one of the others.
-pub fn is_other(others: &[Fact], pattern: &Pattern, holds: bool) -> bool
-    ensures { result ≡ has_fact others.now pattern.now holds }
+/// Returns whether a fact that has no place in the table is one of these facts.
+pub fn is_listed(unplaced: &[Fact], pattern: &Pattern, holds: bool) -> bool
+    ensures { result ≡ has_fact unplaced.now pattern.now holds }
 {
-    others
+    unplaced
         .iter()
         .any(|fact| fact.holds == holds && fact.pattern == *pattern)
 }

@@ -9,10 +9,10 @@ ghost use Rattle.tt_facts_pins.specs.Tables.{size, row_of, day_place, is_day_of,
 use crate::places::{day_place, room_place};
 use crate::sets::put;
 use std::alloc::AllocError;
+use tt_bits::Trail;
 use tt_facts_path::Who;
 use tt_instance::Instance;
 use tt_instance_links::Curricula;
-use tt_trail::Trail;
 
 /// Adds a period to the set of a course or a curriculum on a day.
 #[inline(always)]

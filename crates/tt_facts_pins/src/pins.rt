@@ -8,16 +8,15 @@ ghost use Rattle.tt_facts_path.specs.Live.{pinned, pinned_room};
 ghost use Rattle.tt_facts_path.specs.declared.path.TheConstants.{MAX_FACTS};
 
 use crate::adding::add;
-use crate::listing::{is_other, list_fact, unlist_fact};
+use crate::bit_places::{fact_table_size, find_bit_place};
+use crate::listing::{is_listed, list_fact, unlist_fact};
 use crate::places::{block_place, day_place, room_place, size};
-use crate::spots::{find_spot, standing_size};
 use std::alloc::{AllocError, Global};
 use std::marker::Model;
-use tt_bits::has_bit;
+use tt_bits::{Trail, has_bit};
 use tt_facts_path::{Fact, Pattern, Who};
 use tt_instance::Instance;
 use tt_instance_links::Curricula;
-use tt_trail::Trail;
 
 /// The facts, with a table of the periods and rooms that they pin and a table of the facts themselves.
 #[derive(Drop)]
@@ -25,9 +24,9 @@ pub struct Pins<'p, 'i> {
     instance: &'p Instance<'i>,
     links: Curricula,
     facts: Vec<Fact>,
-    others: Vec<Fact>,
+    unplaced: Vec<Fact>,
     pinned: Trail,
-    standing: Trail,
+    fact_table: Trail,
 }
 
 impl<'p, 'i> Model for Pins<'p, 'i> {
@@ -36,7 +35,7 @@ impl<'p, 'i> Model for Pins<'p, 'i> {
     ghost use Rattle.tt_facts_path.specs.Paths.{Facts};
     ghost use Rattle.tt_facts_path.specs.declared.path.TheConstants.{MAX_FACTS};
     ghost use Rattle.tt_facts_pins.specs.Tables.{ShowsPins};
-    ghost use Rattle.tt_facts_pins.specs.Standing.{ShowsStanding, others_of};
+    ghost use Rattle.tt_facts_pins.specs.FactTable.{ShowsFacts, unplaced_of};
     ghost use Rattle.tt_facts_pins.specs.Kept.{AreEarlier};
 
     ghost Value = { Facts };
@@ -45,12 +44,12 @@ impl<'p, 'i> Model for Pins<'p, 'i> {
 
     ghost invariant = { λ s. record {
       depth : length s.facts.items ≤ MAX_FACTS;
-      others : s.others.items ≡ others_of s.instance.now s.facts.items;
+      unplaced : s.unplaced.items ≡ unplaced_of s.instance.now s.facts.items;
       links : AreCurricula s.instance.now s.links;
       shown : ShowsPins s.instance.now s.facts.items s.pinned.words;
       earlier : AreEarlier (ShowsPins s.instance.now) s.facts.items s.pinned.earlier;
-      stands : ShowsStanding s.instance.now s.facts.items s.standing.words;
-      stood : AreEarlier (ShowsStanding s.instance.now) s.facts.items s.standing.earlier;
+      facts_shown : ShowsFacts s.instance.now s.facts.items s.fact_table.words;
+      facts_earlier : AreEarlier (ShowsFacts s.instance.now) s.facts.items s.fact_table.earlier;
     } };
 }
 
@@ -64,14 +63,14 @@ impl<'p, 'i> Pins<'p, 'i> {
     {
         let links = Curricula::new(alloc, instance)?;
         let pinned = Vec::from_elem(alloc, 0, size(instance))?;
-        let standing = Vec::from_elem(alloc, 0, standing_size(instance))?;
+        let fact_table = Vec::from_elem(alloc, 0, fact_table_size(instance))?;
         Ok(Pins {
             instance,
             links,
             facts: Vec::new(alloc),
-            others: Vec::new(alloc),
+            unplaced: Vec::new(alloc),
             pinned: Trail::new(alloc, pinned),
-            standing: Trail::new(alloc, standing),
+            fact_table: Trail::new(alloc, fact_table),
         })
     }
 
@@ -106,15 +105,15 @@ impl<'p, 'i> Pins<'p, 'i> {
         ensures err { OnErr result (self.new.facts ≡ self.old.facts) }
         ensures same { self.new.problem ≡ self.old.problem }
     {
-        list_fact(self.instance, &mut self.facts, &mut self.others, fact)?;
+        list_fact(self.instance, &mut self.facts, &mut self.unplaced, fact)?;
         if let Err(fault) = add(
             self.instance,
             &self.links,
             &mut self.pinned,
-            &mut self.standing,
+            &mut self.fact_table,
             &fact,
         ) {
-            let _ = unlist_fact(self.instance, &mut self.facts, &mut self.others);
+            let _ = unlist_fact(self.instance, &mut self.facts, &mut self.unplaced);
             return Err(fault);
         }
         Ok(())
@@ -128,17 +127,17 @@ impl<'p, 'i> Pins<'p, 'i> {
         ensures same { self.new.problem ≡ self.old.problem }
     {
         self.pinned.undo();
-        self.standing.undo();
-        unlist_fact(self.instance, &mut self.facts, &mut self.others)
+        self.fact_table.undo();
+        unlist_fact(self.instance, &mut self.facts, &mut self.unplaced)
     }
 
     /// Returns whether exactly this fact is one of them.
     pub fn has(&self, pattern: &Pattern, holds: bool) -> bool
         ensures { result ≡ has_fact self.now.facts pattern.now holds }
     {
-        match find_spot(self.instance, pattern, holds) {
-            Some(spot) => has_bit(self.standing.word(spot.place), spot.number),
-            None => is_other(self.others.as_slice(), pattern, holds),
+        match find_bit_place(self.instance, pattern, holds) {
+            Some(bit_place) => has_bit(self.fact_table.word(bit_place.place), bit_place.number),
+            None => is_listed(self.unplaced.as_slice(), pattern, holds),
         }
     }
 

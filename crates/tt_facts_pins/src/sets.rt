@@ -5,7 +5,7 @@ ghost use Rattle.tt_bits.specs.Bits.{has_bit};
 ghost use Rattle.tt_facts_pins.specs.Sets.{Puts};
 
 use std::alloc::AllocError;
-use tt_trail::Trail;
+use tt_bits::Trail;
 
 /// Returns the set with the number added.
 fn with(word: u64, number: u32) -> u64

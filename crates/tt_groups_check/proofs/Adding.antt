@@ -14,7 +14,7 @@ use Rattle.tt_groups_week.specs.declared.moves.Move.{Move}
 use Rattle.tt_groups_check.specs.Availability.{IsSameAvailability}
 use Rattle.tt_groups_week.specs.Fold.{AreReady}
 use Rattle.tt_groups_check.specs.Lists.{AreListed, AreOfDays}
-use Rattle.tt_groups_check.proofs.Setting.{same_list, same_days}
+use Rattle.tt_groups_check.proofs.CoursesAndSizes.{same_list, same_days}
 
 module _ (p : Problem) (g : Group) (cs ns ws : List ℕ) (courses b : ℕ) (lists : List (Vec Move Global)) (of_day : List ℕ) (before : AreOfDays p g cs ns ws courses b lists of_day) where
   -- a day with a list of its own

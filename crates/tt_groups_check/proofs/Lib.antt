@@ -1,3 +1,3 @@
 pub mod Adding
+pub mod CoursesAndSizes
 pub mod Places
-pub mod Setting

@@ -5,7 +5,7 @@ ghost use Rattle.tt_groups_day.specs.Counting.{sets_count};
 ghost use Rattle.tt_groups_day.specs.Work.{IsUsedUp};
 ghost use Rattle.tt_groups_check.specs.Faults.{is_unfinished};
 ghost use Rattle.tt_groups_check.specs.Lists.{AreListed, AreOfDays};
-ghost use Rattle.tt_groups_check.specs.Setting.{IsSetting};
+ghost use Rattle.tt_groups_check.specs.CoursesAndSizes.{AreCoursesAndSizes};
 ghost use Rattle.tt_groups_check.specs.declared.fault.GroupFault.TheVariants as fault;
 ghost use Rattle.tt_groups_week.specs.WeekLists.{AreReached};
 
@@ -28,7 +28,7 @@ pub fn lists_of(
     bound: u8,
     work: &mut DayWork,
 ) -> Result<Lists, GroupFault>
-    requires { IsSetting instance.now group.now courses.now digits.now.sizes.items digits.now.courses }
+    requires { AreCoursesAndSizes instance.now group.now courses.now digits.now.sizes.items digits.now.courses }
     ensures listed { IfOk result (λ l. AreListed digits.now.sizes.items digits.now.weights.items digits.now.courses l.moves.items l.of_day.items) }
     ensures all { IfOk result (λ l. length l.of_day.items ≡ instance.now.days) }
     ensures of_days { IfOk result (λ l. AreOfDays instance.now group.now courses.now

@@ -28,20 +28,20 @@ pub record Reader : Type 0 where
   pub fault : Option TextFault
 
 -- The reader returns `None` once the file has ended, and otherwise a group, the end, or an error, which is permanent.
-abbrev pub Goes : Reader → Result (Option GroupClaim) TextFault → Reader → Type 0
-Goes old (Ok None) new = new ≡ record old { fed = new.fed; over = true }
-Goes old (Ok (Some claim)) new = (old.over ≡ false) × (new ≡ record old { fed = new.fed })
-Goes old (Err f) new = (old.over ≡ false) × (new ≡ record old { fed = new.fed; fault = Some f })
+abbrev pub IsReaderAfter : Reader → Result (Option GroupClaim) TextFault → Reader → Type 0
+IsReaderAfter old (Ok None) new = new ≡ record old { fed = new.fed; over = true }
+IsReaderAfter old (Ok (Some claim)) new = (old.over ≡ false) × (new ≡ record old { fed = new.fed })
+IsReaderAfter old (Err f) new = (old.over ≡ false) × (new ≡ record old { fed = new.fed; fault = Some f })
 
 -- The result is what the stream gives, unless the file has ended before.
-abbrev pub Says : Reader → Stream → Result (Option GroupClaim) TextFault → Stream → Type 0
-Says old s (Ok o) after = old.over ≡ false → group_at old.sizes s ≡ Ok (o, after)
-Says old s (Err f) after = FailsUnless proof.is_environmental f (group_at old.sizes s)
+abbrev pub IsReadingOf : Reader → Stream → Result (Option GroupClaim) TextFault → Stream → Type 0
+IsReadingOf old s (Ok o) after = old.over ≡ false → group_at old.sizes s ≡ Ok (o, after)
+IsReadingOf old s (Err f) after = FailsUnless proof.is_environmental f (group_at old.sizes s)
 
 -- The result for a header is what the stream gives.
-abbrev pub HeaderSays : Stream → Result Reader GroupTextFault → Option (List ℕ) → Type 0
-HeaderSays s (Ok r) after = header_at s ≡ Ok (r.bound, stream_at r.fed after)
-HeaderSays s (Err f) after = FailsUnless is_environmental f (header_at s)
+abbrev pub IsHeaderReadingOf : Stream → Result Reader GroupTextFault → Option (List ℕ) → Type 0
+IsHeaderReadingOf s (Ok r) after = header_at s ≡ Ok (r.bound, stream_at r.fed after)
+IsHeaderReadingOf s (Err f) after = FailsUnless is_environmental f (header_at s)
 
 -- The result of a reader for its header agrees with the stream when a read fails, whether or not the header was read.
 abbrev pub HeaderAgreesWhenCut : Option (List ℕ) → Result Reader GroupTextFault → Option (List ℕ) → Type 0

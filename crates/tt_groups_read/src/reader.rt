@@ -6,7 +6,7 @@ ghost use Rattle.tt_proof_read.specs.Answers.{StaysKnown};
 ghost use Rattle.tt_proof_read.specs.Faults.{read_failed, TellsNoFailedRead};
 ghost use Rattle.tt_proof_read.specs.Sizes.{AreSizes};
 ghost use Rattle.tt_groups_read.specs.Faults.{HeaderIsUnfailed};
-ghost use Rattle.tt_groups_read.specs.Readers.{IsClaimAt, Goes, Says, HeaderSays, HeaderAgreesWhenCut, GroupAgreesWhenCut};
+ghost use Rattle.tt_groups_read.specs.Readers.{IsClaimAt, IsReaderAfter, IsReadingOf, IsHeaderReadingOf, HeaderAgreesWhenCut, GroupAgreesWhenCut};
 ghost use Rattle.tt_groups_read.specs.declared.fault.GroupTextFault.TheVariants.{Text};
 
 use crate::claim::GroupClaim;
@@ -52,7 +52,7 @@ impl GroupReader {
         ensures failed { result ≡ Err (Text read_failed) → R.has_failed source.new ≡ true }
         ensures unfailed { HeaderIsUnfailed result → R.has_failed source.new ≡ R.has_failed source.old }
         ensures read { is_some (R.remaining source.old) ≡ true →
-            HeaderSays (stream_at fresh (R.remaining source.old)) result (R.remaining source.new) }
+            IsHeaderReadingOf (stream_at fresh (R.remaining source.old)) result (R.remaining source.new) }
         // A failed read is reported if the bytes before it give a part of the header and no error.
         ensures cut_short { HeaderAgreesWhenCut (R.remaining source.old) result (R.remaining source.new) }
         ensures start { IfOk result (λ r. (r.over ≡ false) × (r.fault ≡ None)) }
@@ -89,10 +89,10 @@ impl GroupReader {
         ensures unfailed { self.old.fault ≡ None → TellsNoFailedRead result → R.has_failed source.new ≡ R.has_failed source.old }
         ensures again { IfSome self.old.fault (λ f. (result ≡ Err f) × (self.new ≡ self.old)) }
         ensures still { IfSome self.old.fault (λ _. source.new ≡ source.old) }
-        ensures goes { self.old.fault ≡ None → Goes self.old result self.new }
+        ensures goes { self.old.fault ≡ None → IsReaderAfter self.old result self.new }
         ensures forward { IfOk result (λ o. IfSome o (λ _. room_of self.new.fed < room_of self.old.fed)) }
         ensures says { self.old.fault ≡ None → is_some (R.remaining source.old) ≡ true →
-            Says self.old (stream_at self.old.fed (R.remaining source.old)) result (stream_at self.new.fed (R.remaining source.new)) }
+            IsReadingOf self.old (stream_at self.old.fed (R.remaining source.old)) result (stream_at self.new.fed (R.remaining source.new)) }
         // A failed read is reported if the bytes before it give a part of the group and no error.
         ensures cut_short { self.old.fault ≡ None → GroupAgreesWhenCut self.old (R.remaining source.old) result self.new.fed (R.remaining source.new) }
         // The claim's curricula and courses are the instance's, none of them twice.

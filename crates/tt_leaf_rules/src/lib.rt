@@ -2,12 +2,12 @@
 #![tactic(auto)]
 
 mod capacity;
+mod checking;
 mod claims;
 mod days;
 mod empty;
 mod groups;
 mod isolated;
-mod judging;
 mod laws;
 mod leaf;
 mod limit;
@@ -19,8 +19,8 @@ mod slots;
 mod stable;
 mod targets;
 
+pub use checking::{holds, leaf_value};
 pub use claims::claim_value;
-pub use judging::{holds, leaf_value};
 pub use laws::right_leaves_hold;
 pub use leaf::{Bound, Claim, ClaimList, Leaf, RuleFault};
 pub use lists::{CourseList, PriceList};

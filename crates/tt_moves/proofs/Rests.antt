@@ -8,8 +8,8 @@ use Rattle.tt_lists.proofs.Sums.{one_if, count_by-cons, sum_by-same}
 use Rattle.tt_lists.proofs.Tests.{same_test}
 use Rattle.tt_instance.specs.Cells.{slot_of, is_of, is_at}
 use Rattle.tt_instance.specs.declared.cell.Cell.{Cell}
-use Rattle.tt_occupancy_change.specs.Weight.{repeats}
-use Rattle.tt_occupancy_change.proofs.Chosen.{any_counted}
+use Rattle.tt_occupancy_tallies.specs.Weight.{repeats}
+use Rattle.tt_occupancy_tallies.proofs.Chosen.{any_counted}
 use Rattle.tt_occupancy_tallies.proofs.Spreads.{used_more}
 use Rattle.tt_moves.specs.Rests.{IsRest}
 use Rattle.tt_moves.specs.declared.rest.WithoutEntry.{WithoutEntry}

@@ -10,8 +10,8 @@ use Rattle.tt_instance.specs.Cells.{slot, is_at}
 use Rattle.tt_instance.specs.Courses.{in_curriculum}
 use Rattle.tt_instance.specs.declared.cell.Cell.{Cell}
 use Rattle.tt_table.specs.Table.{IsTimetable}
-use Rattle.tt_occupancy_change.specs.Standing.{standing, stands, stands_beside, joined_before, joined_after}
-use Rattle.tt_occupancy_change.proofs.Chosen.{any_counted}
+use Rattle.tt_occupancy_tallies.specs.Standing.{standing, stands, stands_beside, joined_before, joined_after}
+use Rattle.tt_occupancy_tallies.proofs.Chosen.{any_counted}
 use Rattle.tt_occupancy.proofs.Standings.{none_standing}
 use Rattle.tt_moves.specs.Rests.{IsRest, IsStill}
 use Rattle.tt_moves.specs.Rounds.{is_beside, OtherIsHandled}

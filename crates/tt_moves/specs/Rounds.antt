@@ -5,7 +5,7 @@ use Rattle.tt_instance.specs.Cells.{slot, is_at}
 use Rattle.tt_instance.specs.Courses.{in_curriculum}
 use Rattle.tt_instance.specs.declared.cell.Cell.{Cell}
 use Rattle.tt_bits.specs.Bits.{has_bit}
-use Rattle.tt_occupancy_change.specs.Standing.{standing, stands_beside}
+use Rattle.tt_occupancy_tallies.specs.Standing.{standing, stands_beside}
 use Rattle.tt_moves.specs.Rests.{IsRest}
 use Rattle.tt_moves.specs.declared.rest.WithoutEntry.{WithoutEntry}
 

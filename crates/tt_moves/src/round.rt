@@ -5,7 +5,7 @@ ghost use Rattle.tt_bits.specs.Bits.{has_bit};
 ghost use Rattle.tt_instance.specs.Cells.{slot, is_at};
 ghost use Rattle.tt_instance.specs.Courses.{in_curriculum};
 ghost use Rattle.tt_instance.specs.declared.cell.Cell.{Cell};
-ghost use Rattle.tt_occupancy_change.specs.Standing.{standing, joined_before, joined_after};
+ghost use Rattle.tt_occupancy_tallies.specs.Standing.{standing, joined_before, joined_after};
 ghost use Rattle.tt_occupancy.specs.Around.{AreGaps};
 ghost use Rattle.tt_moves.specs.Rests.{IsRest, IsStill};
 ghost use Rattle.tt_moves.specs.Rounds.{AreStanding, AreIsolated, OtherIsHandled};

@@ -17,9 +17,9 @@ use Rattle.tt_instance.specs.declared.cell.Cell.{Cell}
 use Rattle.tt_table.specs.Table.{IsTimetable}
 use Rattle.tt_rules.specs.Score.{IsScore}
 use Rattle.tt_rules.specs.declared.counts.Score.{Score}
-use Rattle.tt_occupancy_change.specs.Bag.{SameBag}
-use Rattle.tt_occupancy_change.proofs.Bags.{bag_any, bag_front, bag_set}
-use Rattle.tt_occupancy_change.proofs.Same.{lectures_same, conflicts_same, availability_same, occupancy_same, capacity_same, days_same, compactness_same, stability_same}
+use Rattle.tt_occupancy_tallies.specs.Bag.{SameBag}
+use Rattle.tt_occupancy_tallies.proofs.Bags.{bag_any, bag_front, bag_set}
+use Rattle.tt_occupancy_tallies.proofs.Same.{lectures_same, conflicts_same, availability_same, occupancy_same, capacity_same, days_same, compactness_same, stability_same}
 use Rattle.tt_occupancy_tallies.specs.Tables.{AreTables}
 use Rattle.tt_occupancy_tallies.specs.Tallies.{IsTally, IsSpread, of_curriculum, of_teacher, opposes}
 use Rattle.tt_occupancy_tallies.specs.declared.spread.Spread.{Spread}

@@ -11,10 +11,10 @@ use Rattle.tt_instance.specs.Courses.{in_curriculum}
 use Rattle.tt_instance.specs.declared.cell.Cell.{Cell}
 use Rattle.tt_table.specs.Table.{IsTimetable}
 use Rattle.tt_rules.specs.Soft.{is_isolated}
-use Rattle.tt_occupancy_change.specs.Standing.{standing, stands, stands_beside, joined_before, joined_after}
-use Rattle.tt_occupancy_change.specs.Weight.{alone, joined, all_joined}
-use Rattle.tt_occupancy_change.proofs.Chosen.{sum_by-filter, any_counted}
-use Rattle.tt_occupancy_change.proofs.Neighbours.{isolated_by_periods, joined_by_periods}
+use Rattle.tt_occupancy_tallies.specs.Standing.{standing, stands, stands_beside, joined_before, joined_after}
+use Rattle.tt_occupancy_tallies.specs.Weight.{alone, joined, all_joined}
+use Rattle.tt_occupancy_tallies.proofs.Chosen.{sum_by-filter, any_counted}
+use Rattle.tt_occupancy_tallies.proofs.Neighbours.{isolated_by_periods, joined_by_periods}
 use Rattle.tt_occupancy_tallies.specs.Counts.{in_period}
 use Rattle.tt_occupancy_tallies.specs.Tallies.{IsTally, of_curriculum}
 use Rattle.tt_occupancy_tallies.specs.declared.week.Week.{Week}

@@ -3,7 +3,7 @@
 use Rattle.std.specs.Prelude.{◌≡◌, ℕ, ◌+◌, ◌-◌, cond, not, List, sum_by, count_by, nat_le}
 use Rattle.tt_instance.specs.Problem.{Problem}
 use Rattle.tt_instance.specs.declared.cell.Cell.{Cell}
-use Rattle.tt_occupancy_change.specs.Standing.{standing, stands_beside, joined_before, joined_after}
+use Rattle.tt_occupancy_tallies.specs.Standing.{standing, stands_beside, joined_before, joined_after}
 use Rattle.tt_occupancy.specs.declared.around.Around.{Around}
 use Rattle.tt_occupancy.specs.declared.gaps.Gaps.{Gaps}
 

@@ -4,7 +4,7 @@ ghost use Rattle.std.specs.Prelude.{◌≡◌, ℕ, ◌+◌, ◌-◌, ◌*◌, �
 ghost use Rattle.tt_instance.specs.Problem.{Problem};
 ghost use Rattle.tt_instance.specs.declared.cell.Cell.{Cell};
 ghost use Rattle.tt_table.specs.Table.{IsTimetable};
-ghost use Rattle.tt_occupancy_change.specs.Standing.{standing};
+ghost use Rattle.tt_occupancy_tallies.specs.Standing.{standing};
 ghost use Rattle.tt_occupancy_tallies.specs.Tallies.{IsTally, of_curriculum};
 ghost use Rattle.tt_occupancy.specs.Around.{IsAround, AreGaps};
 ghost use Rattle.tt_instance.specs.declared.limit.TheConstants.{MAX_CURRICULA};

@@ -1,6 +1,16 @@
+pub mod Adding
+pub mod Against
+pub mod Bags
+pub mod Chosen
+pub mod Compact
+pub mod Differ
 pub mod Examples
+pub mod Exchange
 pub mod Marks
+pub mod Neighbours
 pub mod Places
 pub mod Rows
+pub mod Same
+pub mod Sizes
 pub mod Spreads
 pub mod Tallies

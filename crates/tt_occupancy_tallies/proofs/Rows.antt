@@ -10,8 +10,8 @@ use Rattle.tt_lists.proofs.Sums.{one_if, one_if-le, sum_by-same, sum_by-at_place
 use Rattle.tt_instance.specs.Problem.{Problem}
 use Rattle.tt_instance.specs.Cells.{InRange, slot, is_at}
 use Rattle.tt_instance.specs.declared.cell.Cell.{Cell}
-use Rattle.tt_occupancy_change.proofs.Differ.{once_below}
-use Rattle.tt_occupancy_change.proofs.Chosen.{sum_by-filter}
+use Rattle.tt_occupancy_tallies.proofs.Differ.{once_below}
+use Rattle.tt_occupancy_tallies.proofs.Chosen.{sum_by-filter}
 use Rattle.tt_occupancy_tallies.specs.Counts.{in_period}
 use Rattle.tt_occupancy_tallies.specs.Tallies.{IsTally}
 use Rattle.tt_occupancy_tallies.specs.declared.week.Week.{Week}

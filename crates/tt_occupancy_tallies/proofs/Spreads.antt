@@ -11,8 +11,8 @@ use Rattle.tt_lists.proofs.Sums.{one_if, one_if_true, one_if_false, count_by-con
 use Rattle.tt_instance.specs.Problem.{Problem}
 use Rattle.tt_instance.specs.Cells.{InRange, is_of}
 use Rattle.tt_instance.specs.declared.cell.Cell.{Cell}
-use Rattle.tt_occupancy_change.proofs.Differ.{once_below}
-use Rattle.tt_occupancy_change.proofs.Adding.{places_added, places_kept}
+use Rattle.tt_occupancy_tallies.proofs.Differ.{once_below}
+use Rattle.tt_occupancy_tallies.proofs.Adding.{places_added, places_kept}
 use Rattle.tt_occupancy_tallies.specs.Counts.{at, used_at, IsOneMore}
 use Rattle.tt_occupancy_tallies.specs.Tallies.{IsSpread}
 use Rattle.tt_occupancy_tallies.specs.declared.spread.Spread.{Spread}

@@ -4,8 +4,8 @@ use crate::claims::claims_of;
 use crate::cores::reduce;
 use crate::draft::Draft;
 use crate::free::Free;
+use crate::group_values::GroupValues;
 use crate::guide::Guide;
-use crate::judge::Judge;
 use crate::merging::{merge_best, pairs_of};
 use crate::packing::{pack_best, seeds_of};
 use rand_core::SeedableRng;
@@ -31,7 +31,7 @@ const QUIET_ROUNDS: u32 = 2;
 /// The search: the groups so far, and the targets that none of them has.
 #[derive(Drop)]
 struct Finder<'s, 'i> {
-    judge: Judge<'s, 'i>,
+    values: GroupValues<'s, 'i>,
     free: Free,
     drafts: Vec<Draft>,
     rng: Pcg32,
@@ -50,13 +50,13 @@ impl<'s, 'i> Finder<'s, 'i> {
 
     /// Checks whether the search is over.
     fn is_over(&self) -> bool {
-        self.judge.work == 0 || self.judge.guide.is_met(self.value())
+        self.values.work == 0 || self.values.guide.is_met(self.value())
     }
 
     /// Adds a group of a target, if its value is at least `least`.
     fn add(&mut self, curricula: &[u32], courses: &[u32], least: u64) -> Result<(), AllocError> {
-        let courses = Vec::from_slice(self.judge.alloc, courses)?;
-        if let Some(draft) = self.judge.draft(curricula, courses, 0)? {
+        let courses = Vec::from_slice(self.values.alloc, courses)?;
+        if let Some(draft) = self.values.draft(curricula, courses, 0)? {
             if least <= draft.value {
                 self.free.take(&draft);
                 self.drafts.push(draft)?;
@@ -67,7 +67,7 @@ impl<'s, 'i> Finder<'s, 'i> {
 
     /// Adds a group of each course that has a value above 0 alone.
     fn add_courses(&mut self) -> Result<(), AllocError> {
-        for course in 0..self.judge.instance.courses() {
+        for course in 0..self.values.instance.courses() {
             self.add(&[], &[course], 1)?;
         }
         Ok(())
@@ -75,7 +75,7 @@ impl<'s, 'i> Finder<'s, 'i> {
 
     /// Adds a group of each free curriculum.
     fn add_curricula(&mut self) -> Result<(), AllocError> {
-        let curricula = self.free.curricula(self.judge.alloc)?;
+        let curricula = self.free.curricula(self.values.alloc)?;
         for curriculum in &curricula {
             self.add(&[*curriculum], &[], 0)?;
         }
@@ -85,7 +85,7 @@ impl<'s, 'i> Finder<'s, 'i> {
     /// Removes from all groups the targets without which they have the same value.
     fn reduce_all(&mut self) -> Result<(), AllocError> {
         for draft in self.drafts.iter_mut() {
-            reduce(&mut self.judge, &mut self.free, draft, &mut self.rng)?;
+            reduce(&mut self.values, &mut self.free, draft, &mut self.rng)?;
         }
         self.drafts.retain(|draft| !draft.is_empty());
         Ok(())
@@ -96,7 +96,7 @@ impl<'s, 'i> Finder<'s, 'i> {
         watch.see(
             Progress {
                 unit: Unit::Steps,
-                done: self.effort.saturating_sub(self.judge.work),
+                done: self.effort.saturating_sub(self.values.work),
                 limit: self.effort,
                 best: None,
                 bound: Some(self.value()),
@@ -108,9 +108,9 @@ impl<'s, 'i> Finder<'s, 'i> {
 
     /// Packs groups as long as one has a value above 0.
     fn pack<W: Watch>(&mut self, watch: &mut W) -> Result<(), AllocError> {
-        let mut seeds = seeds_of(self.judge.alloc, &self.free)?;
+        let mut seeds = seeds_of(self.values.alloc, &self.free)?;
         for _ in 0..seeds.len() {
-            let packed = pack_best(&mut self.judge, &mut self.free, &mut seeds, &mut self.rng)?;
+            let packed = pack_best(&mut self.values, &mut self.free, &mut seeds, &mut self.rng)?;
             let Some(draft) = packed else {
                 break;
             };
@@ -122,10 +122,10 @@ impl<'s, 'i> Finder<'s, 'i> {
 
     /// Merges groups as long as that gains value.
     fn merge<W: Watch>(&mut self, watch: &mut W) -> Result<(), AllocError> {
-        let mut pairs = pairs_of(self.judge.alloc, &self.drafts)?;
+        let mut pairs = pairs_of(self.values.alloc, &self.drafts)?;
         for _ in 0..MERGERS {
             let is_merged = merge_best(
-                &mut self.judge,
+                &mut self.values,
                 &mut self.free,
                 &mut self.drafts,
                 &mut pairs,
@@ -164,14 +164,14 @@ impl<'s, 'i> Finder<'s, 'i> {
 
     /// Runs all stages.
     fn go<W: Watch>(&mut self, watch: &mut W) -> Result<(), AllocError> {
-        self.judge.states = STATES[0];
+        self.values.states = STATES[0];
         self.add_courses()?;
         self.pack(watch)?;
         for states in STATES {
             if self.is_over() {
                 break;
             }
-            self.judge.states = states;
+            self.values.states = states;
             self.improve(watch)?;
         }
         self.reduce_all()
@@ -191,7 +191,7 @@ pub fn find_groups<W: Watch>(
 ) -> Result<Vec<GroupClaim>, AllocError> {
     let guide = Guide::new(alloc, instance, guide)?;
     let mut finder = Finder {
-        judge: Judge::new(alloc, instance, guide, effort),
+        values: GroupValues::new(alloc, instance, guide, effort),
         free: Free::all(alloc, instance)?,
         drafts: Vec::new(alloc),
         rng: Pcg32::seed_from_u64(seed),

@@ -2,7 +2,7 @@
 
 use crate::draft::{Draft, union_of};
 use crate::free::Free;
-use crate::judge::Judge;
+use crate::group_values::GroupValues;
 use std::alloc::{AllocError, Global};
 use tt_instance::Instance;
 use tt_parts_least::{courses_of, lectures_of, members_of};
@@ -95,9 +95,13 @@ fn has_days(instance: &Instance<'_>, course: u32) -> bool {
 }
 
 /// Returns the free courses among some whose days can cost anything, those with the least slack first.
-fn free_days(judge: &Judge<'_, '_>, free: &Free, courses: &[u32]) -> Result<Vec<u32>, AllocError> {
-    let instance = judge.instance;
-    let mut days = Vec::new(judge.alloc);
+fn free_days(
+    values: &GroupValues<'_, '_>,
+    free: &Free,
+    courses: &[u32],
+) -> Result<Vec<u32>, AllocError> {
+    let instance = values.instance;
+    let mut days = Vec::new(values.alloc);
     for course in courses {
         if free.has_course(*course) && has_days(instance, *course) {
             days.push(*course)?;
@@ -109,12 +113,12 @@ fn free_days(judge: &Judge<'_, '_>, free: &Free, courses: &[u32]) -> Result<Vec<
 
 /// Returns the curricula of a group around a seed, as many as the states allow.
 fn grown_curricula(
-    judge: &Judge<'_, '_>,
+    values: &GroupValues<'_, '_>,
     free: &Free,
     seed: u32,
     among: &[u32],
 ) -> Result<Vec<u32>, AllocError> {
-    let (alloc, instance) = (judge.alloc, judge.instance);
+    let (alloc, instance) = (values.alloc, values.instance);
     let mut curricula = Vec::new(alloc);
     let mut good = Vec::new(alloc);
     let mut next = Some(seed);
@@ -125,9 +129,9 @@ fn grown_curricula(
         curricula.push(curriculum)?;
         let courses = courses_of(alloc, instance, &curricula, &[])?;
         take_inner(instance, &mut curricula, &courses, among)?;
-        let mut days = free_days(judge, free, &courses)?;
+        let mut days = free_days(values, free, &courses)?;
         days.retain(|course| slack_of(instance, *course) == 0);
-        if judge.states_of(&curricula, &days)?.is_none() {
+        if values.states_of(&curricula, &days)?.is_none() {
             break;
         }
         good = Vec::from_slice(alloc, &curricula)?;
@@ -139,20 +143,20 @@ fn grown_curricula(
 
 /// Returns a draft of these curricula with the days of its own courses and as many free ones as the states allow.
 pub fn with_days(
-    judge: &mut Judge<'_, '_>,
+    values: &mut GroupValues<'_, '_>,
     free: &Free,
     curricula: &[u32],
     own: &[u32],
     enough: u64,
 ) -> Result<Option<Draft>, AllocError> {
-    let courses = courses_of(judge.alloc, judge.instance, curricula, own)?;
-    let mut days = free_days(judge, free, &courses)?;
+    let courses = courses_of(values.alloc, values.instance, curricula, own)?;
+    let mut days = free_days(values, free, &courses)?;
     for _ in 0..=days.len() {
-        let all = union_of(judge.alloc, own, &days)?;
-        if let Some(draft) = judge.draft(curricula, all, enough)? {
+        let all = union_of(values.alloc, own, &days)?;
+        if let Some(draft) = values.draft(curricula, all, enough)? {
             return Ok(Some(draft));
         }
-        if judge.work == 0 {
+        if values.work == 0 {
             break;
         }
         let _ = days.pop();
@@ -172,21 +176,21 @@ fn rarest(instance: &Instance<'_>, courses: &[u32], curricula: &[u32]) -> Option
 
 /// Returns a draft grown from a seed. If it is too much work, the rarest courses are left out.
 pub fn grow(
-    judge: &mut Judge<'_, '_>,
+    values: &mut GroupValues<'_, '_>,
     free: &Free,
     seed: u32,
     among: &[u32],
 ) -> Result<Option<Draft>, AllocError> {
-    let instance = judge.instance;
-    let mut curricula = grown_curricula(judge, free, seed, among)?;
+    let instance = values.instance;
+    let mut curricula = grown_curricula(values, free, seed, among)?;
     for _ in 0..CUTS {
         if curricula.is_empty() {
             break;
         }
-        if let Some(draft) = with_days(judge, free, &curricula, &[], 0)? {
+        if let Some(draft) = with_days(values, free, &curricula, &[], 0)? {
             return Ok(Some(draft));
         }
-        let courses = courses_of(judge.alloc, instance, &curricula, &[])?;
+        let courses = courses_of(values.alloc, instance, &curricula, &[])?;
         if let Some(course) = rarest(instance, &courses, &curricula) {
             curricula.retain(|curriculum| !instance.in_curriculum(*curriculum, course));
         }

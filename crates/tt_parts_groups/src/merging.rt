@@ -5,8 +5,8 @@ ghost use Rattle.std.specs.Prelude.{◌<◌, length, IfSome};
 use crate::cores::reduce_courses;
 use crate::draft::{Draft, have_common, union_of};
 use crate::free::Free;
+use crate::group_values::GroupValues;
 use crate::growing::with_days;
-use crate::judge::Judge;
 use rand_pcg::Pcg32;
 use std::alloc::{AllocError, Global};
 
@@ -62,7 +62,7 @@ pub fn pairs_of(alloc: Global, drafts: &[Draft]) -> Result<Vec<Pair>, AllocError
 
 /// Computes the merger of two drafts.
 fn try_pair(
-    judge: &mut Judge<'_, '_>,
+    values: &mut GroupValues<'_, '_>,
     free: &Free,
     drafts: &[Draft],
     pair: &mut Pair,
@@ -76,9 +76,9 @@ fn try_pair(
     if pair.first != pair.second {
         old = old.saturating_add(second.value);
     }
-    let curricula = union_of(judge.alloc, &first.curricula, &second.curricula)?;
-    let own = union_of(judge.alloc, &first.courses, &second.courses)?;
-    let merged = with_days(judge, free, &curricula, &own, old)?;
+    let curricula = union_of(values.alloc, &first.curricula, &second.curricula)?;
+    let own = union_of(values.alloc, &first.courses, &second.courses)?;
+    let merged = with_days(values, free, &curricula, &own, old)?;
     pair.merged = merged.filter(|draft| old < draft.value);
     if let Some(draft) = &pair.merged {
         pair.gain = draft.value.saturating_sub(old);
@@ -132,7 +132,7 @@ fn renew(
 
 /// Merges the best pair of drafts. Returns `false` if no pair gains anything.
 pub fn merge_best(
-    judge: &mut Judge<'_, '_>,
+    values: &mut GroupValues<'_, '_>,
     free: &mut Free,
     drafts: &mut Vec<Draft>,
     pairs: &mut Vec<Pair>,
@@ -140,7 +140,7 @@ pub fn merge_best(
 ) -> Result<bool, AllocError> {
     for pair in pairs.iter_mut() {
         if !pair.is_tried {
-            try_pair(judge, free, drafts, pair)?;
+            try_pair(values, free, drafts, pair)?;
         }
     }
     let Some(best) = best_of(pairs) else {
@@ -155,9 +155,9 @@ pub fn merge_best(
     let Some(mut merged) = merged else {
         return Ok(false);
     };
-    reduce_courses(judge, free, &mut merged, rng)?;
+    reduce_courses(values, free, &mut merged, rng)?;
     if let Some(draft) = drafts.get_mut(second) {
-        *draft = Draft::empty(judge.alloc);
+        *draft = Draft::empty(values.alloc);
     }
     if let Some(draft) = drafts.get_mut(first) {
         *draft = merged;

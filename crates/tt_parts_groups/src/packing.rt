@@ -5,8 +5,8 @@ ghost use Rattle.std.specs.Prelude.{◌<◌, length, IfSome};
 use crate::cores::reduce;
 use crate::draft::Draft;
 use crate::free::Free;
+use crate::group_values::GroupValues;
 use crate::growing::grow;
-use crate::judge::Judge;
 use rand_pcg::Pcg32;
 use std::alloc::{AllocError, Global};
 
@@ -36,11 +36,15 @@ fn best_of(seeds: &[Seed]) -> Option<usize>
 }
 
 /// Grows a group from each seed that has none.
-fn grow_all(judge: &mut Judge<'_, '_>, free: &Free, seeds: &mut [Seed]) -> Result<(), AllocError> {
-    let among = free.curricula(judge.alloc)?;
+fn grow_all(
+    values: &mut GroupValues<'_, '_>,
+    free: &Free,
+    seeds: &mut [Seed],
+) -> Result<(), AllocError> {
+    let among = free.curricula(values.alloc)?;
     for seed in seeds {
         if !seed.is_grown {
-            seed.grown = grow(judge, free, seed.curriculum, &among)?;
+            seed.grown = grow(values, free, seed.curriculum, &among)?;
             seed.is_grown = true;
         }
     }
@@ -74,12 +78,12 @@ pub fn seeds_of(alloc: Global, free: &Free) -> Result<Vec<Seed>, AllocError> {
 /// Returns the group of free targets with the highest value among those that have grown, without the targets that it doesn't need. Returns
 /// `None` if no value is above 0.
 pub fn pack_best(
-    judge: &mut Judge<'_, '_>,
+    values: &mut GroupValues<'_, '_>,
     free: &mut Free,
     seeds: &mut Vec<Seed>,
     rng: &mut Pcg32,
 ) -> Result<Option<Draft>, AllocError> {
-    grow_all(judge, free, seeds)?;
+    grow_all(values, free, seeds)?;
     let Some(best) = best_of(seeds) else {
         return Ok(None);
     };
@@ -87,7 +91,7 @@ pub fn pack_best(
     let Some(mut draft) = grown else {
         return Ok(None);
     };
-    reduce(judge, free, &mut draft, rng)?;
+    reduce(values, free, &mut draft, rng)?;
     forget(free, seeds, &draft);
     Ok(Some(draft))
 }

@@ -19,23 +19,23 @@ use Rattle.tt_proof_check.specs.Derives.{HoldsOfAll}
 use Rattle.tt_proof_check.specs.Faults.{OutOfMemoryIsNoTextFault}
 use Rattle.tt_proof_check.specs.Headline.{Solves, BreaksARule, Certifies, BoundsAll}
 use Rattle.tt_proof_check.specs.Streams.{IsProved, IsEnvironmental, stream_of, IsProofFault}
-use Rattle.tt_proof_check.specs.Verdicts.{IsYes, IsBroken, IsVerdict, IsFirstFault, IsOfFiles, AnswersYes, AnswersBroken, GivesBound, IsBoundFault, OutOfMemoryIsOneFault, fault_from_instance, fault_from_solution, fault_from_check, read_failed}
+use Rattle.tt_proof_check.specs.Verdicts.{IsYes, IsBroken, IsVerdict, IsFirstFault, IsFileFault, AnswersYes, AnswersBroken, GivesBound, IsBoundFault, OutOfMemoryIsOneFault, fault_from_instance, fault_from_solution, fault_from_check, read_failed}
 use Rattle.tt_proof_check.specs.declared.fault.CheckFault.{CheckFault}
 use Rattle.tt_proof_check.specs.declared.fault.CheckFault.TheVariants as check
 use Rattle.tt_proof_check.specs.declared.fault.Verdict.{Verdict}
 use Rattle.tt_proof_check.specs.declared.fault.Verdict.TheVariants.{Yes, Breaks}
 use Rattle.tt_proof_check.specs.declared.fault.CertifyFault.{CertifyFault}
 use Rattle.tt_proof_check.specs.declared.fault.CertifyFault.TheVariants as fault
-use Rattle.tt_proof_check.proofs.Files.{IsFileFault, one_instance, one_table, only_memory}
+use Rattle.tt_proof_check.proofs.Files.{FailsFiles, one_instance, one_table, only_memory}
 
 -- ---- before the score is known
 
 -- files that are certified are refused only for being out of memory
-pub certified_memory : (i s bytes : List ℕ) (c b : ℕ) (f : CertifyFault) → Certifies i s bytes c b → IsFileFault i s f → AnswersYes (Err f) c b
+pub certified_memory : (i s bytes : List ℕ) (c b : ℕ) (f : CertifyFault) → Certifies i s bytes c b → FailsFiles i s f → AnswersYes (Err f) c b
 certified_memory i s bytes c b f h tells = inl (only_memory i s h.solves.problem h.solves.table f h.solves.both tells)
 
 -- files of a timetable that breaks a hard rule are refused only for being out of memory
-pub broken_memory : (i s : List ℕ) (f : CertifyFault) → BreaksARule i s → IsFileFault i s f → AnswersBroken (Err f)
+pub broken_memory : (i s : List ℕ) (f : CertifyFault) → BreaksARule i s → FailsFiles i s f → AnswersBroken (Err f)
 broken_memory i s f k tells = only_memory i s k.problem k.table f k.both tells
 
 -- a test for no points
@@ -60,7 +60,7 @@ silent_told f b (inl e) = subst (λ g. GivesBound (Err (fault_from_check g)) b) 
 silent_told f b (inr e) = subst (λ g. GivesBound (Err (fault_from_check g)) b) (sym e) (inr refl)
 
 -- an error of the proof is not an error of the instance or the solution
-pub bound_not_files : (f : CheckFault) → IsOfFiles (fault_from_check f) → ⊥
+pub bound_not_files : (f : CheckFault) → IsFileFault (fault_from_check f) → ⊥
 bound_not_files check.OutOfMemory of = of
 bound_not_files (check.Text f) of = of
 bound_not_files (check.Rule n f) of = of
@@ -146,7 +146,7 @@ module _ (i s : List ℕ) (p : Problem) (t : List Cell) (spelled : Spells i p) (
     not_broken e k = omega (arith, e, hard_is p t score is, broken_here k)
 
     -- an error of the proof is the first error
-    pub bound_tells : (q : Option (List ℕ)) (f : CertifyFault) → broken_by score ≡ 0 → (IsOfFiles f → ⊥) → ((bytes : List ℕ) → q ≡ Some bytes → IsBoundFault p bytes f) → IsFirstFault i s q f
+    pub bound_tells : (q : Option (List ℕ)) (f : CertifyFault) → broken_by score ≡ 0 → (IsFileFault f → ⊥) → ((bytes : List ℕ) → q ≡ Some bytes → IsBoundFault p bytes f) → IsFirstFault i s q f
     bound_tells q (fault.Proof f) e own h = record { problem = p; table = t; both = both; feasible = is_feasible e; fails = told q h }
       where
         told : (k : Option (List ℕ)) → ((bytes : List ℕ) → k ≡ Some bytes → IsProofFault p (stream_of bytes) f) → IfSome k (λ bytes. IsProofFault p (stream_of bytes) f)

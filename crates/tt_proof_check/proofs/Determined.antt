@@ -4,7 +4,7 @@ use Rattle.std.specs.Prelude.{slice_get}
 use Rattle.tt_text.specs.Feeds.{Stream}
 use Rattle.tt_leaf_rules.specs.declared.leaf.Bound.{Bound}
 use Rattle.tt_proof_read.specs.Reads.{ReadsNodes}
-use Rattle.tt_proof_read.specs.Trees.{Tree, Close, Branch, preorder, on_paths}
+use Rattle.tt_proof_read.specs.Trees.{Tree, Tip, Fork, preorder, on_paths}
 use Rattle.tt_proof_read.specs.declared.fault.TextFault.{TextFault}
 use Rattle.tt_proof_read.specs.declared.node.Node.{Node}
 use Rattle.tt_proof_read.specs.declared.sizes.Sizes.{Sizes}
@@ -12,15 +12,15 @@ use Rattle.tt_proof_check.proofs.Reading.{Stack, root, next_stack, places_of, wh
 
 -- no tree is a proper prefix of another
 pub prefix_free : (x y : Tree) (xs ys : List Node) → preorder x ++ xs ≡ preorder y ++ ys → (x ≡ y) × (xs ≡ ys)
-prefix_free (Close l) (Close m) xs ys e = let a : l ≡ m = cc in let b : xs ≡ ys = cc in (ap Close a, b)
-prefix_free (Close l) (Branch g x y) xs ys e = cc
-prefix_free (Branch g x y) (Close l) xs ys e = cc
-prefix_free (Branch g a b) (Branch h c d) xs ys e =
+prefix_free (Tip l) (Tip m) xs ys e = let a : l ≡ m = cc in let b : xs ≡ ys = cc in (ap Tip a, b)
+prefix_free (Tip l) (Fork g x y) xs ys e = cc
+prefix_free (Fork g x y) (Tip l) xs ys e = cc
+prefix_free (Fork g a b) (Fork h c d) xs ys e =
     let root : g ≡ h = cc in
     let behind : (preorder a ++ preorder b) ++ xs ≡ (preorder c ++ preorder d) ++ ys = cc in
     let first = prefix_free a c (preorder b ++ xs) (preorder d ++ ys) (sym (append_assoc (preorder a) (preorder b) xs) ∙ behind ∙ append_assoc (preorder c) (preorder d) ys) in
     let second = prefix_free b d xs ys first.1 in
-    (ap (λ q. Branch q a b) root ∙ ap (λ t. Branch h t b) first.0 ∙ ap (Branch h c) second.0, second.1)
+    (ap (λ q. Fork q a b) root ∙ ap (λ t. Fork h t b) first.0 ∙ ap (Fork h c) second.0, second.1)
 
 -- a tree that begins with a whole tree is that tree, and nothing follows
 pub begins_whole : (x y : Tree) (more : List Node) → preorder x ≡ preorder y ++ more → (x ≡ y) × ([] ≡ more)

@@ -19,7 +19,7 @@ use Rattle.tt_leaf_rules.proofs.Rightness.{right_of}
 use Rattle.tt_proof_read.specs.Faults.{read_failed}
 use Rattle.tt_proof_read.specs.Reading.{token_at, word_at, numbered_below, index_of, who_at, given_of, given_at, pattern_at, node_after_word, node_at, version_at, bound_of, bound_at, header_at}
 use Rattle.tt_proof_read.specs.declared.node.Node.TheVariants as node
-use Rattle.tt_proof_read.specs.Trees.{Tree, Close, Branch, with_fact, on_paths}
+use Rattle.tt_proof_read.specs.Trees.{Tree, Tip, Fork, with_fact, on_paths}
 use Rattle.tt_proof_check.specs.Derives.{Derives}
 use Rattle.tt_proof_check.specs.FailedReads.{IsCutOff}
 use Rattle.tt_proof_check.specs.Pending.{pending}
@@ -33,8 +33,8 @@ five = Cost (Capacity 1 1 ∷ Compact 0 ∷ [])
 -- a in the first period and b in the third, or vice versa; every other choice leaves one of them without a period
 abbrev gap_tree : Tree
 gap_tree =
-    Branch (when 0 0) (Branch (when 1 2) (Close five) (Close (Clique (1 ∷ []))))
-    (Branch (when 0 2) (Branch (when 1 0) (Close five) (Close (Clique (1 ∷ [])))) (Close (Clique (0 ∷ []))))
+    Fork (when 0 0) (Fork (when 1 2) (Tip five) (Tip (Clique (1 ∷ []))))
+    (Fork (when 0 2) (Fork (when 1 0) (Tip five) (Tip (Clique (1 ∷ [])))) (Tip (Clique (0 ∷ []))))
 
 gap_costs_five : Derives gap (AtLeast 5) [] gap_tree
 gap_costs_five =

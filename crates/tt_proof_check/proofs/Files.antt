@@ -31,25 +31,25 @@ one_table bytes i p t u s a b =
     let f = solution_read p bytes u limits b in
     cc
 
--- whether the error is one of the instance or of the solution
-abbrev pub IsFileFault : List ℕ → List ℕ → CertifyFault → Type 0
-IsFileFault i s (fault.Instance f) = instance_of i ≡ Err f
-IsFileFault i s (fault.Solution f) = FailsSolution i s f
-IsFileFault i s (fault.Proof f) = ⊥
-IsFileFault i s fault.OutOfMemory = Unit {0}
+-- whether the error is that of the instance or of the solution, or that of memory
+abbrev pub FailsFiles : List ℕ → List ℕ → CertifyFault → Type 0
+FailsFiles i s (fault.Instance f) = instance_of i ≡ Err f
+FailsFiles i s (fault.Solution f) = FailsSolution i s f
+FailsFiles i s (fault.Proof f) = ⊥
+FailsFiles i s fault.OutOfMemory = Unit {0}
 
 -- an error of the instance is reported
-pub tells_instance : (i s : List ℕ) (f : InstanceFault) → Fails f (instance_of i) → IsFileFault i s (fault_from_instance f)
+pub tells_instance : (i s : List ℕ) (f : InstanceFault) → Fails f (instance_of i) → FailsFiles i s (fault_from_instance f)
 tells_instance i s instance.OutOfMemory h = tt
 tells_instance i s f h = h
 
 -- an error of the solution is reported
-pub tells_solution : (i s : List ℕ) (p : Problem) (f : SolutionFault) → Spells i p → FailsTable f (solution_of p s) → IsFileFault i s (fault_from_solution f)
+pub tells_solution : (i s : List ℕ) (p : Problem) (f : SolutionFault) → Spells i p → FailsTable f (solution_of p s) → FailsFiles i s (fault_from_solution f)
 tells_solution i s p solution.OutOfMemory spelled h = tt
 tells_solution i s p f spelled h = record { problem = p; spelled = spelled; fails = h }
 
 -- if both are spelled, the only error is being out of memory
-pub only_memory : (i s : List ℕ) (p : Problem) (t : List Cell) (f : CertifyFault) → SpellsBoth i s p t → IsFileFault i s f → f ≡ fault.OutOfMemory
+pub only_memory : (i s : List ℕ) (p : Problem) (t : List Cell) (f : CertifyFault) → SpellsBoth i s p t → FailsFiles i s f → f ≡ fault.OutOfMemory
 only_memory i s p t (fault.Instance f) both h = let e = is_read i p both.spelled in absurd cc
 only_memory i s p t (fault.Solution f) both h =
     let same : h.problem ≡ p = one_instance i h.problem p h.spelled both.spelled in

@@ -10,7 +10,7 @@ use Rattle.tt_facts_path.specs.declared.path.TheConstants.{MAX_FACTS}
 use Rattle.tt_leaf_rules.specs.declared.leaf.Bound.{Bound}
 use Rattle.tt_leaf_rules.specs.declared.leaf.RuleFault.{RuleFault}
 use Rattle.tt_leaf_rules.proofs.Rightness.{faultless}
-use Rattle.tt_proof_read.specs.Trees.{Tree, Close, Branch, with_fact, preorder, OnPath, on_paths, IsPreorder}
+use Rattle.tt_proof_read.specs.Trees.{Tree, Tip, Fork, with_fact, preorder, OnPath, on_paths, IsPreorder}
 use Rattle.tt_proof_read.specs.declared.node.Node.{Node}
 use Rattle.tt_proof_read.proofs.Depth.{nodes_low}
 use Rattle.tt_proof_check.specs.declared.fault.NodesFault.{NodesFault}
@@ -66,8 +66,8 @@ join_parts P [] ys a b = b
 join_parts P (x ∷ xs) ys a b = (a.0, join_parts P xs ys a.1 b)
 
 right_on : (p : Problem) (b : Bound) (tree : Tree) (path : List Fact) → Derives p b path tree → AllByRecursion (λ x. IsRightOn p b x.path x.node) (on_paths path tree)
-right_on p b (Close leaf) path d = (d, tt)
-right_on p b (Branch g x y) path d =
+right_on p b (Tip leaf) path d = (d, tt)
+right_on p b (Fork g x y) path d =
     (tt, join_parts (λ z. IsRightOn p b z.path z.node) (on_paths (with_fact path g true) x) (on_paths (with_fact path g false) y) (right_on p b x (with_fact path g true) d.0) (right_on p b y (with_fact path g false) d.1))
 
 pub tree_passes : (p : Problem) (b : Bound) (tree : Tree) → IsShallow tree → Derives p b [] tree → All (Passes p b) (on_paths [] tree)

@@ -3,7 +3,7 @@ use Rattle.std.proofs.Common.{◌≡◌, ℕ, zero, suc, ◌≤◌, ◌<◌, tru
 use Rattle.std.specs.Prelude.{slice_get}
 use Rattle.tt_facts_path.specs.declared.facts.Fact.{Fact}
 use Rattle.tt_leaf_rules.specs.declared.leaf.Leaf.TheVariants.{Many}
-use Rattle.tt_proof_read.specs.Trees.{Tree, Close, Branch, with_fact, preorder, OnPath, on_paths, IsPreorder}
+use Rattle.tt_proof_read.specs.Trees.{Tree, Tip, Fork, with_fact, preorder, OnPath, on_paths, IsPreorder}
 use Rattle.tt_proof_read.specs.declared.node.Node.{Node}
 use Rattle.tt_proof_read.specs.declared.node.Node.TheVariants.{Split, Leaf}
 
@@ -68,16 +68,16 @@ places_of-push path rest nodes n e =
 -- ---- a whole tree
 
 stack_after-tree : (tree : Tree) (path : List Fact) (rest : Stack) (ns : List Node) → stack_after (path ∷ rest) (preorder tree ++ ns) ≡ stack_after rest ns
-stack_after-tree (Close leaf) path rest ns = refl
-stack_after-tree (Branch g x y) path rest ns =
+stack_after-tree (Tip leaf) path rest ns = refl
+stack_after-tree (Fork g x y) path rest ns =
     let a = with_fact path g true in
     let b = with_fact path g false in
     ap (λ l. stack_after (a ∷ b ∷ rest) l) (append_assoc (preorder x) (preorder y) ns)
     ∙ stack_after-tree x a (b ∷ rest) (preorder y ++ ns) ∙ stack_after-tree y b rest ns
 
 places_of-tree : (tree : Tree) (path : List Fact) (rest : Stack) (ns : List Node) → places_of (path ∷ rest) (preorder tree ++ ns) ≡ on_paths path tree ++ places_of rest ns
-places_of-tree (Close leaf) path rest ns = refl
-places_of-tree (Branch g x y) path rest ns =
+places_of-tree (Tip leaf) path rest ns = refl
+places_of-tree (Fork g x y) path rest ns =
     let a = with_fact path g true in
     let b = with_fact path g false in
     ap (λ l. at path (Split g) ∷ places_of (a ∷ b ∷ rest) l) (append_assoc (preorder x) (preorder y) ns)
@@ -103,12 +103,12 @@ first_tree : (n : ℕ) (nodes : List Node) (path : List Fact) (rest : Stack) →
 first_tree n [] path rest h e = cc
 first_tree zero (x ∷ xs) path rest h e = absurd (omega arith)
 first_tree (suc n) (Leaf leaf ∷ ns) path rest h e =
-    record { tree = Close leaf; behind = ns; split = refl; others = e; shorter = omega arith }
+    record { tree = Tip leaf; behind = ns; split = refl; others = e; shorter = omega arith }
 first_tree (suc n) (Split g ∷ ns) path rest h e =
     let a = first_tree n ns (with_fact path g true) (with_fact path g false ∷ rest) (le_of_suc-le-suc h) e in
     let b = first_tree n a.behind (with_fact path g false) rest (omega (arith, a.shorter)) a.others in
     record {
-      tree = Branch g a.tree b.tree;
+      tree = Fork g a.tree b.tree;
       behind = b.behind;
       split = ap (λ l. Split g ∷ l) (append_assoc (preorder a.tree) (preorder b.tree) b.behind ∙ ap (λ l. preorder a.tree ++ l) b.split ∙ a.split);
       others = b.others;

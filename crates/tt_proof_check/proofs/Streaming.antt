@@ -8,7 +8,7 @@ use Rattle.tt_leaf_rules.specs.declared.leaf.Bound.{Bound}
 use Rattle.tt_leaf_rules.specs.declared.leaf.RuleFault.{RuleFault}
 use Rattle.tt_proof_read.specs.Faults.{read_failed}
 use Rattle.tt_proof_read.specs.Reading.{node_at}
-use Rattle.tt_proof_read.specs.Readers.{Reader, Goes, Says}
+use Rattle.tt_proof_read.specs.Readers.{Reader, IsReaderAfter, IsReadingOf}
 use Rattle.tt_proof_read.specs.Sizes.{AreSizes}
 use Rattle.tt_proof_read.specs.Reads.{ReadsNodes}
 use Rattle.tt_proof_read.specs.Trees.{preorder, OnPath}
@@ -154,7 +154,7 @@ module _ (p : Problem) (v : ℕ) (b : Bound) (known : Bool) (H : List Node → T
   same_sizes = sizes_are p old.sizes m.sizes
 
   -- a node was read, which is checked next
-  module _ (new : Reader) (u : Stream) (n : Node) (goes : Goes old (Ok (Some n)) new) (says : known ≡ true → Says old t (Ok (Some n)) u) where
+  module _ (new : Reader) (u : Stream) (n : Node) (goes : IsReaderAfter old (Ok (Some n)) new) (says : known ≡ true → IsReadingOf old t (Ok (Some n)) u) where
     read_one : known ≡ true → ReadsNodes (sizes_of p) v 0 s (m.nodes ++ n ∷ []) u
     read_one k =
         let here : 0 + length m.nodes ≡ old.count = omega (arith, m.count) in
@@ -213,7 +213,7 @@ module _ (p : Problem) (v : ℕ) (b : Bound) (known : Bool) (H : List Node → T
         node_breaks p v b s u (m.nodes ++ n ∷ []) d.path d.others d.stack d.passed (read_one k) (ap (λ (i : ℕ). node_at (sizes_of p) v i u) count ∙ fails)
 
   -- the tree is whole: it derives the bound
-  pub sofar_end : (new : Reader) (u : Stream) → Goes old (Ok None) new → (known ≡ true → Says old t (Ok None) u) → Judged p v b known H s u
+  pub sofar_end : (new : Reader) (u : Stream) → IsReaderAfter old (Ok None) new → (known ≡ true → IsReadingOf old t (Ok None) u) → Judged p v b known H s u
   sofar_end new u goes says = on m.due m.walked m.places
     where
       on : (due : Bool) → Walked p b m.nodes path due → length (stack_of due path) ≡ old.places → Judged p v b known H s u
@@ -229,7 +229,7 @@ module _ (p : Problem) (v : ℕ) (b : Bound) (known : Bool) (H : List Node → T
           }
 
   -- the text of the due node fails
-  pub sofar_unread : (new : Reader) (u : Stream) (f : TextFault) → Goes old (Err f) new → known ≡ true → Says old t (Err f) u → TellsNodes p v b s (fault_from_text f)
+  pub sofar_unread : (new : Reader) (u : Stream) (f : TextFault) → IsReaderAfter old (Err f) new → known ≡ true → IsReadingOf old t (Err f) u → TellsNodes p v b s (fault_from_text f)
   sofar_unread new u f goes k says =
       let w = (is_due goes.0).0 in
       let fails = node_as old.sizes (sizes_of p) old.version v old.count t (Fails f) same_sizes m.version says in

@@ -8,7 +8,7 @@ use Rattle.tt_facts_path.specs.declared.facts.Fact.{Fact}
 use Rattle.tt_facts_path.specs.declared.path.TheConstants.{MAX_FACTS}
 use Rattle.tt_leaf_rules.specs.declared.leaf.Bound.{Bound}
 use Rattle.tt_leaf_rules.specs.declared.leaf.RuleFault.{RuleFault}
-use Rattle.tt_proof_read.specs.Trees.{Tree, Close, Branch, with_fact, preorder, OnPath, on_paths}
+use Rattle.tt_proof_read.specs.Trees.{Tree, Tip, Fork, with_fact, preorder, OnPath, on_paths}
 use Rattle.tt_proof_read.specs.declared.node.Node.{Node}
 use Rattle.tt_proof_read.specs.declared.node.Node.TheVariants.{Split, Leaf}
 use Rattle.tt_proof_read.proofs.Depth.{leaves_low}
@@ -84,8 +84,8 @@ each_part P [] ys a = (tt, a)
 each_part P (x ∷ xs) ys a = let b = each_part P xs ys a.1 in ((a.0, b.0), b.1)
 
 derives_on : (p : Problem) (b : Bound) (tree : Tree) (path : List Fact) → AllByRecursion (Passes p b) (on_paths path tree) → Derives p b path tree
-derives_on p b (Close leaf) path a = a.0.1
-derives_on p b (Branch g x y) path a =
+derives_on p b (Tip leaf) path a = a.0.1
+derives_on p b (Fork g x y) path a =
     let h = each_part (Passes p b) (on_paths (with_fact path g true) x) (on_paths (with_fact path g false) y) a.1 in
     (derives_on p b x (with_fact path g true) h.0, derives_on p b y (with_fact path g false) h.1)
 

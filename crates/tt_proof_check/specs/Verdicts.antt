@@ -73,11 +73,11 @@ IsEnvironmentalRefusal (fault.Proof f) = IsEnvironmental f
 IsEnvironmentalRefusal fault.OutOfMemory = ⊤
 
 -- whether the error is one of the instance or the solution
-abbrev pub IsOfFiles : CertifyFault → Type 0
-IsOfFiles (fault.Instance f) = ⊤
-IsOfFiles (fault.Solution f) = ⊤
-IsOfFiles (fault.Proof f) = ⊥
-IsOfFiles fault.OutOfMemory = ⊥
+abbrev pub IsFileFault : CertifyFault → Type 0
+IsFileFault (fault.Instance f) = ⊤
+IsFileFault (fault.Solution f) = ⊤
+IsFileFault (fault.Proof f) = ⊥
+IsFileFault fault.OutOfMemory = ⊥
 
 -- -- required results
 

@@ -9,7 +9,7 @@ ghost use Rattle.tt_proof_check.specs.Headline.{BoundsAll, BreaksARule, Certifie
 ghost use Rattle.tt_proof_check.specs.Streams.{IsProved};
 ghost use Rattle.tt_proof_check.specs.declared.fault.CertifyFault.TheVariants.{OutOfMemory};
 ghost use Rattle.tt_proof_check.specs.declared.fault.Verdict.TheVariants.{Yes};
-ghost use Rattle.tt_proof_check.specs.Verdicts.{IsVerdict, IsFirstFault, IsOfFiles, AnswersYes, AnswersBroken, GivesBound, IsBoundFault, OutOfMemoryIsOneFault, read_failed};
+ghost use Rattle.tt_proof_check.specs.Verdicts.{IsVerdict, IsFirstFault, IsFileFault, AnswersYes, AnswersBroken, GivesBound, IsBoundFault, OutOfMemoryIsOneFault, read_failed};
 
 use crate::fault::{CertifyFault, Verdict};
 use crate::stream::check_proof;
@@ -32,7 +32,7 @@ fn proved_bound<R: Source>(
     ensures only { (bytes : List ℕ) (b : ℕ) → R.remaining proof.old ≡ Some bytes → IsProved instance.now bytes (AtLeast b) → GivesBound result b }
     ensures holds { IfOk result (λ b. HoldsOfAll instance.now (AtLeast b)) }
     ensures fault { IfErr result (λ e. (bytes : List ℕ) → R.remaining proof.old ≡ Some bytes → IsBoundFault instance.now bytes e) }
-    ensures own { IfErr result (λ e. IsOfFiles e → ⊥) }
+    ensures own { IfErr result (λ e. IsFileFault e → ⊥) }
     ensures failed { result ≡ Err read_failed → R.has_failed proof.new ≡ true }
     ensures unfailed { ¬ (result ≡ Err read_failed) → R.has_failed proof.new ≡ R.has_failed proof.old }
     ensures memory { IfErr result OutOfMemoryIsOneFault }
@@ -68,7 +68,7 @@ pub fn certify<R: Source>(
     // An error is the first one.
     ensures fault { IfErr result (IsFirstFault instance.now solution.now (R.remaining proof.old)) }
     // If the instance or the solution is refused, the proof isn't read.
-    ensures unread { IfErr result (λ f. IsOfFiles f → proof.new ≡ proof.old) }
+    ensures unread { IfErr result (λ f. IsFileFault f → proof.new ≡ proof.old) }
     // A failed read is reported only if a read failed.
     ensures failed { result ≡ Err read_failed → R.has_failed proof.new ≡ true }
     ensures unfailed { ¬ (result ≡ Err read_failed) → R.has_failed proof.new ≡ R.has_failed proof.old }

@@ -7,7 +7,7 @@ use Rattle.tt_lists.proofs.Members.{each_of_append}
 use Rattle.tt_lists.proofs.Tested.{each_append}
 use Rattle.tt_facts_path.specs.declared.facts.Fact.{Fact}
 use Rattle.tt_leaf_rules.specs.declared.leaf.Leaf.{Leaf}
-use Rattle.tt_proof_read.specs.Trees.{Tree, Close, Branch, OnPath, AllLeaves, on_paths, with_fact}
+use Rattle.tt_proof_read.specs.Trees.{Tree, Tip, Fork, OnPath, AllLeaves, on_paths, with_fact}
 
 module _ (n : ℕ) where
   abbrev IsLow : List Fact → Leaf → Type 0
@@ -17,22 +17,22 @@ module _ (n : ℕ) where
   IsLowNode x = length x.path ≤ n
 
   low_leaves : (tree : Tree) (path : List Fact) → AllByRecursion IsLowNode (on_paths path tree) → AllLeaves IsLow path tree
-  low_leaves (Close leaf) path h = h.0
-  low_leaves (Branch g first second) path h =
+  low_leaves (Tip leaf) path h = h.0
+  low_leaves (Fork g first second) path h =
       let parts = each_of_append IsLowNode (on_paths (with_fact path g true) first) (on_paths (with_fact path g false) second) h.1 in
       (low_leaves first (with_fact path g true) parts.0, low_leaves second (with_fact path g false) parts.1)
 
   -- if no leaf below a node is too deep, the node isn't
   pub root_low : (tree : Tree) (path : List Fact) → AllLeaves IsLow path tree → length path ≤ n
-  root_low (Close leaf) path h = h
-  root_low (Branch g first second) path h =
+  root_low (Tip leaf) path h = h
+  root_low (Fork g first second) path h =
       let longer : length (with_fact path g true) ≡ length path + 1 = length-append path _ in
       omega (arith, longer, root_low first (with_fact path g true) h.0)
 
   low_nodes : (tree : Tree) (path : List Fact) → AllLeaves IsLow path tree → AllByRecursion IsLowNode (on_paths path tree)
-  low_nodes (Close leaf) path h = (h, tt)
-  low_nodes (Branch g first second) path h = (
-    root_low (Branch g first second) path h,
+  low_nodes (Tip leaf) path h = (h, tt)
+  low_nodes (Fork g first second) path h = (
+    root_low (Fork g first second) path h,
     each_append IsLowNode (on_paths (with_fact path g true) first) (on_paths (with_fact path g false) second) (low_nodes first (with_fact path g true) h.0) (low_nodes second (with_fact path g false) h.1),
   )
 

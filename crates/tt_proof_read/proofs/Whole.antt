@@ -3,14 +3,14 @@ use Rattle.std.proofs.Common.{◌≡◌, ℕ, zero, suc, ◌+◌, ◌-◌, ◌�
 use Rattle.std.proofs.lemmas.List.{at_drop_more, at_drop_all}
 use Rattle.tt_proof_read.specs.Reads.{open_after}
 use Rattle.tt_proof_read.specs.Readers.{places_after}
-use Rattle.tt_proof_read.specs.Trees.{Tree, Close, Branch, preorder, IsPreorder}
+use Rattle.tt_proof_read.specs.Trees.{Tree, Tip, Fork, preorder, IsPreorder}
 use Rattle.tt_proof_read.specs.declared.node.Node.{Node}
 use Rattle.tt_proof_read.specs.declared.node.Node.TheVariants.{Split, Leaf}
 
 -- the nodes of a tree fill one place
 tree_fills : (tree : Tree) (places : ℕ) (nodes : List Node) → open_after (suc places) (preorder tree ++ nodes) ≡ open_after places nodes
-tree_fills (Close leaf) places nodes = refl
-tree_fills (Branch g x y) places nodes =
+tree_fills (Tip leaf) places nodes = refl
+tree_fills (Fork g x y) places nodes =
     ap (λ l. open_after (suc (suc places)) l) (append_assoc (preorder x) (preorder y) nodes)
     ∙ tree_fills x (suc places) (preorder y ++ nodes) ∙ tree_fills y places nodes
 
@@ -25,12 +25,12 @@ record Begins (places : ℕ) (nodes : List Node) : Type 0 where
 first_tree : (n : ℕ) (nodes : List Node) (places : ℕ) → length nodes ≤ n → open_after (suc places) nodes ≡ Some 0 → Begins places nodes
 first_tree n [] places h e = cc
 first_tree zero (x ∷ xs) places h e = absurd (omega arith)
-first_tree (suc n) (Leaf leaf ∷ nodes) places h e = record { tree = Close leaf; more = nodes; split = refl; others = e; shorter = omega arith }
+first_tree (suc n) (Leaf leaf ∷ nodes) places h e = record { tree = Tip leaf; more = nodes; split = refl; others = e; shorter = omega arith }
 first_tree (suc n) (Split g ∷ nodes) places h e =
     let a = first_tree n nodes (suc places) (le_of_suc-le-suc h) e in
     let b = first_tree n a.more places (omega (arith, a.shorter)) a.others in
     record {
-      tree = Branch g a.tree b.tree;
+      tree = Fork g a.tree b.tree;
       more = b.more;
       split = ap (λ l. Split g ∷ l) (append_assoc (preorder a.tree) (preorder b.tree) b.more ∙ ap (λ l. preorder a.tree ++ l) b.split ∙ a.split);
       others = b.others;

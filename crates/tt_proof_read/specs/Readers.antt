@@ -51,16 +51,16 @@ places_after (Split g) n = n + 1
 places_after (Leaf leaf) n = n - 1
 
 -- `None` if the tree is complete; otherwise a node, which fills a place, or a fault, which the reader stores.
-abbrev pub Goes : Reader → Result (Option Node) TextFault → Reader → Type 0
-Goes old (Ok None) new = (old.places ≡ 0) × (new ≡ old)
-Goes old (Ok (Some node)) new = (0 < old.places) × (new ≡ record old { fed = new.fed; count = old.count + 1; places = places_after node old.places })
-Goes old (Err f) new = (0 < old.places) × (new ≡ record old { fed = new.fed; fault = Some f })
+abbrev pub IsReaderAfter : Reader → Result (Option Node) TextFault → Reader → Type 0
+IsReaderAfter old (Ok None) new = (old.places ≡ 0) × (new ≡ old)
+IsReaderAfter old (Ok (Some node)) new = (0 < old.places) × (new ≡ record old { fed = new.fed; count = old.count + 1; places = places_after node old.places })
+IsReaderAfter old (Err f) new = (0 < old.places) × (new ≡ record old { fed = new.fed; fault = Some f })
 
 -- The result is what the stream gives.
-abbrev pub Says : Reader → Stream → Result (Option Node) TextFault → Stream → Type 0
-Says old s (Ok None) after = after ≡ s
-Says old s (Ok (Some node)) after = node_at old.sizes old.version old.count s ≡ Ok (node, after)
-Says old s (Err f) after = FailsUnless is_environmental f (node_at old.sizes old.version old.count s)
+abbrev pub IsReadingOf : Reader → Stream → Result (Option Node) TextFault → Stream → Type 0
+IsReadingOf old s (Ok None) after = after ≡ s
+IsReadingOf old s (Ok (Some node)) after = node_at old.sizes old.version old.count s ≡ Ok (node, after)
+IsReadingOf old s (Err f) after = FailsUnless is_environmental f (node_at old.sizes old.version old.count s)
 
 -- What a reader says about a failed read, after it has read its header or failed to.
 abbrev pub HeaderAgreesWhenCut : Option (List ℕ) → Result Reader TextFault → Option (List ℕ) → Type 0

@@ -8,8 +8,8 @@ use Rattle.tt_proof_read.specs.declared.node.Node.TheVariants as node
 
 -- A leaf, or a split with its two children.
 pub data Tree : Type 0 where
-  Close : Leaf → Tree
-  Branch : Pattern → Tree → Tree → Tree
+  Tip : Leaf → Tree
+  Fork : Pattern → Tree → Tree → Tree
 
 -- The path with another fact.
 abbrev pub with_fact : List Fact → Pattern → Bool → List Fact
@@ -17,14 +17,14 @@ with_fact path g holds = path ++ record { pattern = g; holds = holds } ∷ []
 
 -- A property of each leaf on its path: the facts of the splits above it, the first child under "yes", the second under "no".
 abbrev pub AllLeaves : (List Fact → Leaf → Type 0) → List Fact → Tree → Type 0
-AllLeaves P path (Close leaf) = P path leaf
-AllLeaves P path (Branch g first second) =
+AllLeaves P path (Tip leaf) = P path leaf
+AllLeaves P path (Fork g first second) =
     AllLeaves P (with_fact path g true) first × AllLeaves P (with_fact path g false) second
 
 -- Each node before its children, the first child before the second.
 abbrev pub preorder : Tree → List Node
-preorder (Close leaf) = node.Leaf leaf ∷ []
-preorder (Branch g first second) = node.Split g ∷ (preorder first ++ preorder second)
+preorder (Tip leaf) = node.Leaf leaf ∷ []
+preorder (Fork g first second) = node.Split g ∷ (preorder first ++ preorder second)
 
 -- The nodes are those of one tree, in preorder.
 abbrev pub IsPreorder : List Node → Type 0
@@ -37,6 +37,6 @@ pub record OnPath : Type 0 where
 
 -- The nodes in preorder, each on its path.
 abbrev pub on_paths : List Fact → Tree → List OnPath
-on_paths path (Close leaf) = record { path = path; node = node.Leaf leaf } ∷ []
-on_paths path (Branch g first second) =
+on_paths path (Tip leaf) = record { path = path; node = node.Leaf leaf } ∷ []
+on_paths path (Fork g first second) =
     record { path = path; node = node.Split g } ∷ (on_paths (with_fact path g true) first ++ on_paths (with_fact path g false) second)

@@ -5,7 +5,7 @@ ghost use Rattle.tt_text.specs.Feeds.{stream_at, fresh};
 ghost use Rattle.tt_proof_read.specs.Answers.{StaysKnown, AgreesWhenCut};
 ghost use Rattle.tt_proof_read.specs.Faults.{read_failed, TellsNoFailedRead, TellsNoOutOfMemory, Gives};
 ghost use Rattle.tt_proof_read.specs.Reading.{header_at, end_at};
-ghost use Rattle.tt_proof_read.specs.Readers.{IsNodeAt, Goes, Says, HeaderAgreesWhenCut, NodeAgreesWhenCut};
+ghost use Rattle.tt_proof_read.specs.Readers.{IsNodeAt, IsReaderAfter, IsReadingOf, HeaderAgreesWhenCut, NodeAgreesWhenCut};
 ghost use Rattle.tt_proof_read.specs.Sizes.{AreSizes};
 
 use crate::fault::TextFault;
@@ -113,10 +113,10 @@ impl NodeReader {
         ensures unfailed { self.old.fault ≡ None → TellsNoFailedRead result → R.has_failed source.new ≡ R.has_failed source.old }
         ensures again { IfSome self.old.fault (λ f. (result ≡ Err f) × (self.new ≡ self.old)) }
         ensures still { IfSome self.old.fault (λ _. source.new ≡ source.old) }
-        ensures goes { self.old.fault ≡ None → Goes self.old result self.new }
+        ensures goes { self.old.fault ≡ None → IsReaderAfter self.old result self.new }
         ensures room { IfOk result (λ o. IfSome o (λ _. self.old.count < MAX_PROOF_NODES)) }
         ensures says { self.old.fault ≡ None → is_some (R.remaining source.old) ≡ true →
-            Says self.old (stream_at self.old.fed (R.remaining source.old)) result (stream_at self.new.fed (R.remaining source.new)) }
+            IsReadingOf self.old (stream_at self.old.fed (R.remaining source.old)) result (stream_at self.new.fed (R.remaining source.new)) }
         // A failed read is reported if the bytes before it give a part of the node and no fault.
         ensures cut_short { self.old.fault ≡ None → NodeAgreesWhenCut self.old (R.remaining source.old) result self.new.fed (R.remaining source.new) }
         // The numbers of the node are in the range of the instance, and its claims belong to the version.

@@ -11,7 +11,7 @@ use Rattle.tt_leaf_rules.specs.declared.leaf.Claim.TheVariants.{Capacity, Days, 
 use Rattle.tt_leaf_rules.specs.declared.leaf.Leaf.{Leaf}
 use Rattle.tt_leaf_rules.specs.declared.leaf.Leaf.TheVariants.{Clique, Cost}
 use Rattle.tt_leaf_rules.proofs.Examples.{when}
-use Rattle.tt_proof_read.specs.Trees.{Tree, Close, Branch}
+use Rattle.tt_proof_read.specs.Trees.{Tree, Tip, Fork}
 use Rattle.tt_groups_read.specs.declared.claim.GroupClaim.{GroupClaim}
 use Rattle.tt_proof_sum.specs.Sums.{are_apart, cost_over, every_target, group_targets, AreClaimsApart, Part, TreeProof, GroupsFile, claims_of, AreApart, sum_of}
 
@@ -20,27 +20,27 @@ proof b tree = TreeProof (record { version = 2; bound = b; tree = tree })
 
 -- the seat that the second course lacks, claimed directly and by a price
 abbrev seat : Part
-seat = proof (AtLeast 1) (Close (Cost (Capacity 1 1 ∷ [])))
+seat = proof (AtLeast 1) (Tip (Cost (Capacity 1 1 ∷ [])))
 
 abbrev priced : Part
-priced = proof (AtLeast 1) (Close (Cost (Prices ((1, 1) ∷ []) [] ∷ [])))
+priced = proof (AtLeast 1) (Tip (Cost (Prices ((1, 1) ∷ []) [] ∷ [])))
 
 -- two isolated entries, in whichever of two periods the first course is; if it is in neither, nothing is claimed
 abbrev alone : Leaf
 alone = Cost (Compact 0 ∷ [])
 
 abbrev isolated : Part
-isolated = proof (AtLeast 4) (Branch (when 0 0) (Close alone) (Branch (when 0 2) (Close alone) (Close (Clique (0 ∷ [])))))
+isolated = proof (AtLeast 4) (Fork (when 0 0) (Tip alone) (Fork (when 0 2) (Tip alone) (Tip (Clique (0 ∷ [])))))
 
 -- the days of the first course, claimed by live days and by pinned periods
 abbrev days : Part
-days = proof (AtLeast 5) (Close (Cost (Days 0 ∷ [])))
+days = proof (AtLeast 5) (Tip (Cost (Days 0 ∷ [])))
 
 abbrev stacked : Part
-stacked = proof (AtLeast 5) (Close (Cost (Stacked 0 ∷ [])))
+stacked = proof (AtLeast 5) (Tip (Cost (Stacked 0 ∷ [])))
 
 abbrev impossible : Part
-impossible = proof Nothing (Close (Clique (0 ∷ 1 ∷ [])))
+impossible = proof Nothing (Tip (Clique (0 ∷ 1 ∷ [])))
 
 -- claims about groups: curricula, courses and a value
 abbrev group : ℕ → List ℕ → List ℕ → GroupClaim
@@ -98,7 +98,7 @@ stacked_claims_days : are_apart (claims_of stacked) (claims_of days) ≡ false
 stacked_claims_days = refl
 
 -- the seats and the days of one course are two targets
-seats_are_no_days : are_apart (claims_of (proof (AtLeast 0) (Close (Cost (Capacity 0 0 ∷ []))))) (claims_of days) ≡ true
+seats_are_no_days : are_apart (claims_of (proof (AtLeast 0) (Tip (Cost (Capacity 0 0 ∷ []))))) (claims_of days) ≡ true
 seats_are_no_days = refl
 
 targets_of_gap : every_target gap

@@ -23,7 +23,7 @@ use Rattle.tt_leaf_rules.specs.declared.leaf.Leaf.TheVariants.{Empty, Many, Cliq
 use Rattle.tt_leaf_rules.proofs.Totals.{same_target-true, same_target-itself}
 use Rattle.tt_leaf_rules.proofs.Meeting.{same_place, each_placed}
 use Rattle.tt_proof_read.specs.Spelling.{IsNode}
-use Rattle.tt_proof_read.specs.Trees.{Tree, Close, Branch, preorder}
+use Rattle.tt_proof_read.specs.Trees.{Tree, Tip, Fork, preorder}
 use Rattle.tt_proof_read.specs.declared.node.Node.{Node}
 use Rattle.tt_proof_read.specs.declared.node.Node.TheVariants.{Split, Leaf}
 use Rattle.tt_proof_read.proofs.LeafParts.{claim_parts}
@@ -128,8 +128,8 @@ places_claims [] = refl
 places_claims (n ∷ ns) = ap (λ l. places_in n ++ l) (places_claims ns) ∙ sym (map-append place (claims_at n) (flat_map claims_at ns))
 
 pub tree_claims : (tree : Tree) → flat_map claims_at (preorder tree) ≡ claimed_by tree
-tree_claims (Close leaf) = append-nil (claimed_in leaf)
-tree_claims (Branch g x y) =
+tree_claims (Tip leaf) = append-nil (claimed_in leaf)
+tree_claims (Fork g x y) =
     flat_map-append claims_at (preorder x) (preorder y) ∙ ap (λ l. l ++ flat_map claims_at (preorder y)) (tree_claims x) ∙ ap (λ l. claimed_by x ++ l) (tree_claims y)
 
 module _ (before_it : State) (parts : List Part) (of : IsTableOf before_it parts) where

@@ -26,7 +26,7 @@ use Rattle.tt_leaf_rules.specs.declared.leaf.Leaf.TheVariants.{Empty, Many, Cliq
 use Rattle.tt_leaf_rules.proofs.Rightness.{targets_once}
 use Rattle.tt_leaf_rules.proofs.Soundness.{leaf_sound}
 use Rattle.tt_leaf_rules.proofs.Totals.{same_target-true, same_target-itself, each_claim_sound, parts_of_cost, target_there}
-use Rattle.tt_proof_read.specs.Trees.{Tree, Close, Branch, with_fact}
+use Rattle.tt_proof_read.specs.Trees.{Tree, Tip, Fork, with_fact}
 use Rattle.tt_proof_check.specs.Derives.{Derives}
 use Rattle.tt_proof_sum.specs.Sums.{claimed_in, claimed_by, is_among, are_among, cost_over, every_target}
 
@@ -54,8 +54,8 @@ module _ (p : Problem) (t : List Cell) (ok : IsFeasible p t) where
         omega (arith, values, joined, most (claimed claims) once in_test)
 
     pub tree_by : (b : Bound) (path : List Fact) (tree : Tree) → list_all test (claimed_by tree) ≡ true → Derives p b path tree → Fits p t path → Respects b n
-    tree_by b path (Close leaf) in_test d fits = leaf_by path fits b leaf in_test d
-    tree_by b path (Branch g first second) in_test d fits =
+    tree_by b path (Tip leaf) in_test d fits = leaf_by path fits b leaf in_test d
+    tree_by b path (Fork g first second) in_test d fits =
         let k = and_parts (list_all test (claimed_by first)) (list_all test (claimed_by second)) (sym (list_all-append test (claimed_by first) (claimed_by second)) ∙ in_test) in
         elim (cases_Bool (list_any (matches p g) t)) [
           | inl h ↦ tree_by b (with_fact path g true) first k.0 d.0 (All-push (Holds p t) path (record { pattern = g; holds = true }) fits h)

@@ -26,7 +26,7 @@ use Rattle.tt_proof_check.proofs.FailedReads.{of_given}
 use Rattle.tt_proof_check.proofs.Sizes.{are_sizes_of, sizes_are}
 use Rattle.tt_groups.specs.Group.{IsGroupBound}
 use Rattle.tt_groups_read.specs.Faults.{is_environmental, is_failed_read}
-use Rattle.tt_groups_read.specs.Readers.{Reader, Goes, Says, HeaderSays, HeaderAgreesWhenCut, GroupAgreesWhenCut, IsClaimAt}
+use Rattle.tt_groups_read.specs.Readers.{Reader, IsReaderAfter, IsReadingOf, IsHeaderReadingOf, HeaderAgreesWhenCut, GroupAgreesWhenCut, IsClaimAt}
 use Rattle.tt_groups_read.specs.Reading.{header_at, group_at}
 use Rattle.tt_groups_read.specs.Reads.{ReadsClaims, ReadsFile}
 use Rattle.tt_groups_read.specs.Spelling.{IsClaim}
@@ -65,7 +65,7 @@ unclaimed_owner false q o = refl
 
 -- ---- the header
 
-pub underway_start : (p : Problem) (before now : Option (List ℕ)) (a : State) (r : Reader) → StaysKnown before now → (is_some before ≡ true → HeaderSays (stream_at fresh before) (Ok r) now) → HeaderAgreesWhenCut before (Ok r) now
+pub underway_start : (p : Problem) (before now : Option (List ℕ)) (a : State) (r : Reader) → StaysKnown before now → (is_some before ≡ true → IsHeaderReadingOf (stream_at fresh before) (Ok r) now) → HeaderAgreesWhenCut before (Ok r) now
     → (r.over ≡ false) × (r.fault ≡ None) → AreSizes p r.sizes → Underway p before a r now a 0 0
 underway_start p before now a r known says cut start sizes = record {
   claims = [];
@@ -89,14 +89,14 @@ module _ (p : Problem) (is : IsInstance p) (before : Option (List ℕ)) (a : Sta
   claim_is k claim = claim p (subst (AreSizes p) (sym u.sizes) (are_sizes_of p))
 
   module _ (after : Reader) (later : Option (List ℕ)) (known : StaysKnown now later) where
-    pub says_claim : (k : GroupClaim) → (is_some now ≡ true → Says r (stream_at r.fed now) (Ok (Some k)) (stream_at after.fed later)) → is_some before ≡ true → group_at (sizes_of p) (stream_at r.fed now) ≡ Ok (Some k, stream_at after.fed later)
-    says_claim k says known_before = subst (λ (z : Sizes). group_at z (stream_at r.fed now) ≡ Ok (Some k, stream_at after.fed later)) u.sizes (says (u.known known_before) u.goes_on)
+    pub reading_claim : (k : GroupClaim) → (is_some now ≡ true → IsReadingOf r (stream_at r.fed now) (Ok (Some k)) (stream_at after.fed later)) → is_some before ≡ true → group_at (sizes_of p) (stream_at r.fed now) ≡ Ok (Some k, stream_at after.fed later)
+    reading_claim k says known_before = subst (λ (z : Sizes). group_at z (stream_at r.fed now) ≡ Ok (Some k, stream_at after.fed later)) u.sizes (says (u.known known_before) u.goes_on)
 
-    pub says_end : (is_some now ≡ true → Says r (stream_at r.fed now) (Ok None) (stream_at after.fed later)) → is_some before ≡ true → group_at (sizes_of p) (stream_at r.fed now) ≡ Ok (None, stream_at after.fed later)
-    says_end says known_before = subst (λ (z : Sizes). group_at z (stream_at r.fed now) ≡ Ok (None, stream_at after.fed later)) u.sizes (says (u.known known_before) u.goes_on)
+    pub reading_end : (is_some now ≡ true → IsReadingOf r (stream_at r.fed now) (Ok None) (stream_at after.fed later)) → is_some before ≡ true → group_at (sizes_of p) (stream_at r.fed now) ≡ Ok (None, stream_at after.fed later)
+    reading_end says known_before = subst (λ (z : Sizes). group_at z (stream_at r.fed now) ≡ Ok (None, stream_at after.fed later)) u.sizes (says (u.known known_before) u.goes_on)
 
-    pub underway_more : (c : State) (k : GroupClaim) (number' sum' : ℕ) → Goes r (Ok (Some k)) after → room_of after.fed < room_of r.fed
-        → (is_some now ≡ true → Says r (stream_at r.fed now) (Ok (Some k)) (stream_at after.fed later)) → GroupAgreesWhenCut r now (Ok (Some k)) after.fed later → IsClaimAt r.sizes k
+    pub underway_more : (c : State) (k : GroupClaim) (number' sum' : ℕ) → IsReaderAfter r (Ok (Some k)) after → room_of after.fed < room_of r.fed
+        → (is_some now ≡ true → IsReadingOf r (stream_at r.fed now) (Ok (Some k)) (stream_at after.fed later)) → GroupAgreesWhenCut r now (Ok (Some k)) after.fed later → IsClaimAt r.sizes k
         → first_owner b (group_places k.group) ≡ None → Marks b (group_places k.group) c → IsGroupBound p k.group k.value → 0 < a.proof → number' ≡ number + 1 → sum' ≡ min (sum + k.value) (2 ^ 64 - 1)
         → Underway p before a after later c number' sum'
     underway_more c k number' sum' goes forward says cut claim none marks bound some one more =
@@ -106,7 +106,7 @@ module _ (p : Problem) (is : IsInstance p) (before : Option (List ℕ)) (a : Sta
           known = λ e. known (u.known e);
           reads = λ e.
               subst (λ n. ReadsTo p (stream_at fresh before) n (u.claims ++ k ∷ []) (stream_at after.fed later)) bound_same
-              (to_more p (stream_at fresh before) r.bound u.claims (stream_at r.fed now) (stream_at after.fed later) k (u.reads e) (says_claim k says e));
+              (to_more p (stream_at fresh before) r.bound u.claims (stream_at r.fed now) (stream_at after.fed later) k (u.reads e) (reading_claim k says e));
           cut = λ e rest may.
               let here = cut u.goes_on (u.known e) rest may in
               let first = u.cut e rest here.0 in (
@@ -274,7 +274,7 @@ loud false P h e = h
 
 -- the header fails
 pub header_fault : (p : Problem) (parts : List Part) (bytes : List ℕ) (before now : Option (List ℕ)) → before ≡ Some bytes → is_groups bytes ≡ true → (n : ℕ) (f : GroupTextFault)
-    → (is_some before ≡ true → HeaderSays (stream_at fresh before) (Err f) now) → TellsAdded p parts bytes (told_text n f)
+    → (is_some before ≡ true → IsHeaderReadingOf (stream_at fresh before) (Err f) now) → TellsAdded p parts bytes (told_text n f)
 header_fault p parts bytes before now e kind n f says =
     told_added p parts bytes kind n f
     (λ l. inl (subst (λ (z : Option (List ℕ)). header_at (stream_at fresh z) ≡ Err f) e (loud (is_environmental f) (header_at (stream_at fresh before) ≡ Err f) (says (ap is_some e)) l)))
@@ -287,7 +287,7 @@ header_cut p before now f is known cut =
 -- reading the next claim fails
 module _ (p : Problem) (is : IsInstance p) (before : Option (List ℕ)) (a : State) (r : Reader) (now : Option (List ℕ)) (b : State) (number sum : ℕ) (u : Underway p before a r now b number sum)
     (after : Reader) (later : Option (List ℕ)) (t : TextFault) where
-  pub text_fault : (parts : List Part) (old : State) → IsTableOf old parts → a ≡ begun old → (is_some now ≡ true → Says r (stream_at r.fed now) (Err t) (stream_at after.fed later)) → (bytes : List ℕ) → before ≡ Some bytes
+  pub text_fault : (parts : List Part) (old : State) → IsTableOf old parts → a ≡ begun old → (is_some now ≡ true → IsReadingOf r (stream_at r.fed now) (Err t) (stream_at after.fed later)) → (bytes : List ℕ) → before ≡ Some bytes
       → is_groups bytes ≡ true → (n : ℕ) → TellsAdded p parts bytes (told_text n (group_text.Text t))
   text_fault parts old of begins says bytes e kind n =
       let k : is_some before ≡ true = ap is_some e in

@@ -16,7 +16,7 @@ use Rattle.tt_leaf_rules.specs.declared.leaf.Bound.TheVariants.{AtLeast, Nothing
 use Rattle.tt_leaf_rules.specs.declared.leaf.Leaf.{Leaf}
 use Rattle.tt_leaf_rules.specs.declared.leaf.Leaf.TheVariants.{Cost}
 use Rattle.tt_proof_read.specs.Spelling.{SpellsProof}
-use Rattle.tt_proof_read.specs.Trees.{Tree, Close, Branch}
+use Rattle.tt_proof_read.specs.Trees.{Tree, Tip, Fork}
 use Rattle.tt_proof_check.specs.Derives.{Derives}
 use Rattle.tt_groups.specs.Group.{Group, IsGroupBound}
 use Rattle.tt_groups_read.specs.Spelling.{IsClaim, SpellsGroups}
@@ -32,8 +32,8 @@ claimed_in _ = []
 
 -- The targets that the leaves of a tree claim.
 abbrev pub claimed_by : Tree → List Target
-claimed_by (Close leaf) = claimed_in leaf
-claimed_by (Branch g first second) = claimed_by first ++ claimed_by second
+claimed_by (Tip leaf) = claimed_in leaf
+claimed_by (Fork g first second) = claimed_by first ++ claimed_by second
 
 -- The target is one of these.
 abbrev pub is_among : List Target → Target → Bool

@@ -10,7 +10,7 @@ use Rattle.tt_facts_path.specs.declared.path.TheConstants.{MAX_FACTS}
 use Rattle.tt_leaf_rules.specs.declared.leaf.Leaf.{Leaf as Closed}
 use Rattle.tt_proof_read.specs.declared.node.Node.{Node}
 use Rattle.tt_proof_read.specs.declared.node.Node.TheVariants.{Split, Leaf}
-use Rattle.tt_proof_read.specs.Trees.{Tree, Close, Branch, AllLeaves, preorder, with_fact, IsPreorder}
+use Rattle.tt_proof_read.specs.Trees.{Tree, Tip, Fork, AllLeaves, preorder, with_fact, IsPreorder}
 use Rattle.tt_proof_read.proofs.Depth.{root_low}
 use Rattle.tt_proof_text.specs.Within.{IsShallow}
 
@@ -31,8 +31,8 @@ are_shallow d ds (Leaf leaf ∷ nodes) = are_shallow (next_depth ds) (later_dept
 
 -- whether no node of a tree that starts at depth d is too deep
 abbrev is_shallow_tree : ℕ → Tree → Bool
-is_shallow_tree d (Close leaf) = true
-is_shallow_tree d (Branch g first second) = nat_lt d MAX_FACTS && (is_shallow_tree (d + 1) first && is_shallow_tree (d + 1) second)
+is_shallow_tree d (Tip leaf) = true
+is_shallow_tree d (Fork g first second) = nat_lt d MAX_FACTS && (is_shallow_tree (d + 1) first && is_shallow_tree (d + 1) second)
 
 regrouped : (a b c d : Bool) → (a && (b && (c && d))) ≡ ((a && (b && c)) && d)
 regrouped true true c d = refl
@@ -45,8 +45,8 @@ and_true false = refl
 
 -- a tree followed by other nodes: the tree starts at the first depth, and the other nodes at the next ones
 shallow-tree : (tree : Tree) (d : ℕ) (ds : List ℕ) (rest : List Node) → are_shallow d ds (preorder tree ++ rest) ≡ (is_shallow_tree d tree && are_shallow (next_depth ds) (later_depths ds) rest)
-shallow-tree (Close leaf) d ds rest = refl
-shallow-tree (Branch g first second) d ds rest =
+shallow-tree (Tip leaf) d ds rest = refl
+shallow-tree (Fork g first second) d ds rest =
     let firsts = ap (are_shallow (d + 1) ((d + 1) ∷ ds)) (append_assoc (preorder first) (preorder second) rest) ∙ shallow-tree first (d + 1) ((d + 1) ∷ ds) (preorder second ++ rest) in
     let seconds = ap (λ (b : Bool). is_shallow_tree (d + 1) first && b) (shallow-tree second (d + 1) ds rest) in
     ap (λ (b : Bool). nat_lt d MAX_FACTS && b) (firsts ∙ seconds)
@@ -60,8 +60,8 @@ longer path g holds d e = length-append path _ ∙ omega arith
 
 -- the paths of a shallow tree are short
 shallow_paths : (tree : Tree) (path : List Fact) (d : ℕ) → length path ≡ d → d ≤ MAX_FACTS → is_shallow_tree d tree ≡ true → AllLeaves IsLow path tree
-shallow_paths (Close leaf) path d e low h = omega arith
-shallow_paths (Branch g first second) path d e low h =
+shallow_paths (Tip leaf) path d e low h = omega arith
+shallow_paths (Fork g first second) path d e low h =
     let here = and_parts (nat_lt d MAX_FACTS) _ h in
     let both = and_parts (is_shallow_tree (d + 1) first) (is_shallow_tree (d + 1) second) here.1 in
     let lower : d + 1 ≤ MAX_FACTS = grind (arith, nat_tests) in
@@ -69,8 +69,8 @@ shallow_paths (Branch g first second) path d e low h =
 
 -- a tree with short paths is shallow
 paths_shallow : (tree : Tree) (path : List Fact) (d : ℕ) → length path ≡ d → AllLeaves IsLow path tree → is_shallow_tree d tree ≡ true
-paths_shallow (Close leaf) path d e h = refl
-paths_shallow (Branch g first second) path d e h =
+paths_shallow (Tip leaf) path d e h = refl
+paths_shallow (Fork g first second) path d e h =
     let low = root_low MAX_FACTS first (with_fact path g true) h.0 in
     and_from (nat_lt d MAX_FACTS) _ (lt-ltb d MAX_FACTS (omega (arith, low, longer path g true d e)))
     (and_from _ _ (paths_shallow first (with_fact path g true) (d + 1) (longer path g true d e) h.0) (paths_shallow second (with_fact path g false) (d + 1) (longer path g false d e) h.1))

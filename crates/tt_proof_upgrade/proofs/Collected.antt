@@ -6,7 +6,7 @@ use Rattle.tt_text.specs.Feeds.{Stream}
 use Rattle.tt_leaf_rules.specs.declared.leaf.Leaf.TheVariants.{Many}
 use Rattle.tt_proof_read.specs.Faults.{read_failed}
 use Rattle.tt_proof_read.specs.Reading.{node_at}
-use Rattle.tt_proof_read.specs.Readers.{Reader, IsNodeAt, Goes, Says}
+use Rattle.tt_proof_read.specs.Readers.{Reader, IsNodeAt, IsReaderAfter, IsReadingOf}
 use Rattle.tt_proof_read.specs.Reads.{ReadsNodes}
 use Rattle.tt_proof_read.specs.Trees.{Tree, preorder}
 use Rattle.tt_proof_read.specs.declared.fault.TextFault.{TextFault}
@@ -51,7 +51,7 @@ module _ (sizes : Sizes) (v : ℕ) (known : Bool) (s : Stream) (old : Reader) (t
       subst (λ (k : ℕ). node_at sizes v k t ≡ Ok (n, u)) (sym here)
       (subst (λ (k : ℕ). node_at sizes k old.count t ≡ Ok (n, u)) m.version (subst (λ (x : Sizes). node_at x old.version old.count t ≡ Ok (n, u)) m.sizes_are e))
 
-  pub collected_next : (new : Reader) (u : Stream) (n : Node) → Goes old (Ok (Some n)) new → (known ≡ true → Says old t (Ok (Some n)) u) → IsNodeAt old.sizes old.version n → Collected sizes v known s new u (nodes ++ n ∷ [])
+  pub collected_next : (new : Reader) (u : Stream) (n : Node) → IsReaderAfter old (Ok (Some n)) new → (known ≡ true → IsReadingOf old t (Ok (Some n)) u) → IsNodeAt old.sizes old.version n → Collected sizes v known s new u (nodes ++ n ∷ [])
   collected_next new u n goes says is = on m.stack m.after m.places
     where
       on : (stack : Stack) → stack_after root nodes ≡ Some stack → length stack ≡ old.places → Collected sizes v known s new u (nodes ++ n ∷ [])

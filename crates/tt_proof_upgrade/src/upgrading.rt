@@ -32,7 +32,7 @@ pub struct Upgraded {
 }
 
 /// Checks the nodes of a tree.
-fn judge(
+fn check_tree(
     alloc: Global,
     instance: &Instance<'_>,
     bound: Bound,
@@ -98,7 +98,7 @@ pub fn upgrade<R: Source>(
     // In every instance, the numbers are small enough to be read.
     prove!(instance.days() > 0);
     let read = parse_proof(alloc, instance, source)?;
-    judge(alloc, instance, read.bound, &read.nodes)?;
+    check_tree(alloc, instance, read.bound, &read.nodes)?;
     let bytes = write(alloc, instance, read.bound, &read.nodes)?;
     Ok(Upgraded {
         bound: read.bound,

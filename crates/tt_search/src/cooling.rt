@@ -1,7 +1,7 @@
 //! The progress of a walk, and its temperature.
 
 use crate::logarithm::{STEPS, logarithm, power};
-use crate::rounds::Part;
+use crate::phases::Phase;
 
 /// The maximum cost that a first draw accepts half of the time, in thousandths of a point.
 const HOTTEST: u64 = 5_600;
@@ -30,7 +30,7 @@ const MOST_LEVELS: u64 = 64;
 /// The share that is the whole.
 pub const WHOLE: u64 = 65_536;
 
-/// The cooling of a round: the remaining number of its draws and its samples.
+/// The cooling of a phase: the remaining number of its draws and its samples.
 #[derive(Clone, Copy)]
 pub struct Cooling {
     draws: u64,
@@ -41,7 +41,7 @@ pub struct Cooling {
     level: u32,
     /// The cost that the last draws accept half of the time, in thousandths of a point.
     coldest: u64,
-    /// The logarithm of the ratio of the temperatures at the round's beginning and at its end.
+    /// The logarithm of the ratio of the temperatures at the phase's beginning and at its end.
     height: u64,
 }
 
@@ -62,11 +62,11 @@ fn first(cost: u64, entries: u64) -> u64 {
 }
 
 impl Cooling {
-    /// Returns the cooling of a round of `draws` draws, with `samples` samples each on average, from a timetable of this cost
+    /// Returns the cooling of a phase of `draws` draws, with `samples` samples each on average, from a timetable of this cost
     /// and this many entries.
-    pub fn new(part: Part, draws: u64, samples: u64, cost: u64, entries: u64) -> Cooling {
-        let coldest = part.coldest.max(1);
-        let warmest = first(cost, entries).saturating_mul(part.start) / 1_000;
+    pub fn new(phase: Phase, draws: u64, samples: u64, cost: u64, entries: u64) -> Cooling {
+        let coldest = phase.coldest.max(1);
+        let warmest = first(cost, entries).saturating_mul(phase.start) / 1_000;
         let warmer = warmest.saturating_mul(STEPS) / coldest;
         Cooling {
             draws,

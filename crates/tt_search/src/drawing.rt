@@ -5,7 +5,7 @@ ghost use Rattle.tt_moves.specs.Pricing.{IsEntryCost};
 ghost use Rattle.tt_moves.specs.Steps.{CanStep, first_of};
 
 use crate::acceptance::admits;
-use crate::board::Board;
+use crate::cell_entries::CellEntries;
 use crate::cooling::Cooling;
 use crate::open::Open;
 use crate::sampling::{entry_to_move, sample};
@@ -18,7 +18,7 @@ pub const SAMPLES_AN_ENTRY: u64 = 8;
 
 /// Returns the changes that a step would make, unless it would break more hard rules. If the timetable breaks none, a sample is assumed
 /// to break none either.
-fn judge(
+fn allowed_change(
     occupied: &Occupied<'_, '_>,
     step: Step,
     before: EntryCost,
@@ -40,7 +40,7 @@ fn judge(
 /// Returns the first of some steps of an entry that is accepted, if there is one.
 fn draw_of(
     occupied: &Occupied<'_, '_>,
-    board: &Board,
+    cells: &CellEntries,
     open: &Open,
     rng: &mut Pcg32,
     cooling: &mut Cooling,
@@ -54,8 +54,8 @@ fn draw_of(
     let before = entry_cost(occupied, entry);
     for _ in 0..cooling.max_samples().min(SAMPLES_AN_ENTRY) {
         cooling.sample();
-        if let Some(step) = sample(occupied, board, open, rng, entry) {
-            if let Some(change) = judge(occupied, step, before, is_feasible) {
+        if let Some(step) = sample(occupied, cells, open, rng, entry) {
+            if let Some(change) = allowed_change(occupied, step, before, is_feasible) {
                 if admits(rng, temperature, level, change) {
                     return Some(step);
                 }
@@ -68,7 +68,7 @@ fn draw_of(
 /// Returns the first of some steps that is accepted, if there is one.
 pub fn draw(
     occupied: &Occupied<'_, '_>,
-    board: &Board,
+    cells: &CellEntries,
     open: &mut Open,
     rng: &mut Pcg32,
     cooling: &mut Cooling,
@@ -80,7 +80,7 @@ pub fn draw(
     for _ in 0..cooling.max_samples().div_ceil(SAMPLES_AN_ENTRY) {
         let entry = entry_to_move(occupied, rng);
         open.find(occupied, occupied.entry(entry));
-        if let Some(step) = draw_of(occupied, board, open, rng, cooling, entry) {
+        if let Some(step) = draw_of(occupied, cells, open, rng, cooling, entry) {
             return Some(step);
         }
     }

@@ -8,9 +8,9 @@ ghost use Rattle.tt_search.specs.Pairs.{IsBest};
 
 use crate::best::Best;
 use crate::cooling::{Cooling, samples};
+use crate::phases::{Phase, phases};
 use crate::planning::walk_by_plans;
 use crate::restoring::restore;
-use crate::rounds::{Part, parts};
 use crate::schedule::Schedule;
 use crate::settled::seems_settled;
 use crate::walking::{Walker, walk};
@@ -24,11 +24,11 @@ use tt_search_replan::{Replanner, can_replan};
 use tt_table::Timetable;
 
 /// Walks from the best timetable, and then returns to the best one so far. No memory is allocated.
-fn go_round<W: Watch>(
+fn walk_phase<W: Watch>(
     occupied: &mut Occupied<'_, '_>,
     best: &mut Best,
     walker: &mut Walker,
-    part: Part,
+    phase: Phase,
     draws: u64,
     samples: u64,
     span: Span,
@@ -46,7 +46,7 @@ fn go_round<W: Watch>(
 {
     walker.begin(occupied);
     let entries = occupied.table().len() as u64;
-    let cooling = Cooling::new(part, draws, samples, best.pair.cost, entries);
+    let cooling = Cooling::new(phase, draws, samples, best.pair.cost, entries);
     walk(occupied, best, walker, cooling, draws, span, watch);
     restore(occupied, &best.entries);
 }
@@ -56,9 +56,9 @@ fn can_plan(occupied: &Occupied<'_, '_>) -> bool {
     occupied.score().feasible() && can_replan(occupied.instance())
 }
 
-/// Walks in rounds, each from the best timetable so far, and then returns to the best one. Only the first round is walked if
+/// Walks in phases, each from the best timetable so far, and then returns to the best one. Only the first phase is walked if
 /// plans can be made. Returns the number of draws made. No memory is allocated.
-fn go_rounds<W: Watch>(
+fn walk_phases<W: Watch>(
     occupied: &mut Occupied<'_, '_>,
     best: &mut Best,
     walker: &mut Walker,
@@ -78,19 +78,19 @@ fn go_rounds<W: Watch>(
     ensures within { result ≤ draws }
     ensures reached { LeadsWithin occupied.old.problem occupied.old.entries result occupied.new.entries }
 {
-    let parts = parts(is_settled);
+    let phases = phases(is_settled);
     let samples = samples(draws);
     let mut made = 0;
-    for part in parts {
+    for phase in phases {
         if made > 0 && can_plan(occupied) {
             break;
         }
-        let next = part.draws(draws, made);
+        let next = phase.draws(draws, made);
         let span = Span {
             before: made,
             limit,
         };
-        go_round(occupied, best, walker, *part, next, samples, span, watch);
+        walk_phase(occupied, best, walker, *phase, next, samples, span, watch);
         made += next;
     }
     made
@@ -144,7 +144,7 @@ fn walk_to_best<W: Watch>(
     let mut replanner = Replanner::new(alloc, occupied)?;
     walker.begin(occupied);
     let is_settled = seems_settled(occupied, &mut walker);
-    let made = go_rounds(
+    let made = walk_phases(
         occupied,
         &mut best,
         &mut walker,

@@ -3,18 +3,18 @@
 
 mod acceptance;
 mod best;
-mod board;
+mod cell_entries;
 mod cooling;
 mod drawing;
 mod improving;
 mod logarithm;
 mod open;
 mod pair;
+mod phases;
 mod places;
 mod planning;
 mod random;
 mod restoring;
-mod rounds;
 mod runs;
 mod sampling;
 mod schedule;

@@ -4,7 +4,7 @@ ghost use Rattle.std.specs.Prelude.{◌≡◌, ◌<◌, length, IfSome};
 ghost use Rattle.tt_instance.specs.Cells.{InRange};
 ghost use Rattle.tt_moves.specs.Steps.{CanStep, first_of};
 
-use crate::board::Board;
+use crate::cell_entries::CellEntries;
 use crate::open::Open;
 use crate::places::{any_slot, may_change_places, slot_of};
 use crate::random::below;
@@ -60,7 +60,13 @@ pub fn entry_to_move(occupied: &Occupied<'_, '_>, rng: &mut Pcg32) -> u32
 }
 
 /// Returns the step of an entry to a cell: if another entry is known to be in it, the two change places.
-fn step_to(occupied: &Occupied<'_, '_>, board: &Board, entry: u32, room: u32, slot: Slot) -> Step
+fn step_to(
+    occupied: &Occupied<'_, '_>,
+    cells: &CellEntries,
+    entry: u32,
+    room: u32,
+    slot: Slot,
+) -> Step
     requires entry { entry < length occupied.now.entries }
     requires room { room < length occupied.now.problem.rooms }
     requires day { slot.day < occupied.now.problem.days }
@@ -68,7 +74,7 @@ fn step_to(occupied: &Occupied<'_, '_>, board: &Board, entry: u32, room: u32, sl
     ensures possible { CanStep occupied.now.problem occupied.now.entries result }
     ensures first { first_of result ≡ entry }
 {
-    match board.entry_in(room, slot) {
+    match cells.entry_in(room, slot) {
         Some(second) if (second as usize) < occupied.table().len() => Step::Swap {
             first: entry,
             second,
@@ -101,7 +107,7 @@ fn is_open(occupied: &Occupied<'_, '_>, step: Step, is_free: bool) -> bool
 /// already breaks one, it may be any step of this kind.
 fn sample_period(
     occupied: &Occupied<'_, '_>,
-    board: &Board,
+    cells: &CellEntries,
     open: &Open,
     rng: &mut Pcg32,
     entry: u32,
@@ -114,7 +120,7 @@ fn sample_period(
 {
     for _ in 0..TRIES {
         if let Some(place) = open.draw(occupied.instance(), rng) {
-            let step = step_to(occupied, board, entry, room, place.slot);
+            let step = step_to(occupied, cells, entry, room, place.slot);
             if is_open(occupied, step, place.is_free) {
                 return Some(step);
             }
@@ -125,7 +131,7 @@ fn sample_period(
     }
     Some(step_to(
         occupied,
-        board,
+        cells,
         entry,
         room,
         any_slot(occupied.instance(), rng),
@@ -135,7 +141,7 @@ fn sample_period(
 /// Returns a step of an entry that mostly breaks no hard rule, from the periods that are open for it.
 pub fn sample(
     occupied: &Occupied<'_, '_>,
-    board: &Board,
+    cells: &CellEntries,
     open: &Open,
     rng: &mut Pcg32,
     entry: u32,
@@ -151,12 +157,12 @@ pub fn sample(
         if room == from.room {
             return None;
         }
-        return Some(step_to(occupied, board, entry, room, slot_of(from)));
+        return Some(step_to(occupied, cells, entry, room, slot_of(from)));
     }
     let room = if kind < ROOMS_OF_TEN + PERIODS_OF_TEN {
         from.room
     } else {
         room
     };
-    sample_period(occupied, board, open, rng, entry, room)
+    sample_period(occupied, cells, open, rng, entry, room)
 }

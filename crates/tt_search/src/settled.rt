@@ -4,7 +4,7 @@ ghost use Rattle.std.specs.Prelude.{◌≡◌, ◌<◌, ◌⊎◌, true, false, 
 ghost use Rattle.tt_rules.specs.Score.{hard};
 ghost use Rattle.tt_search.specs.Settled.{CanFall};
 
-use crate::board::Board;
+use crate::cell_entries::CellEntries;
 use crate::drawing::SAMPLES_AN_ENTRY;
 use crate::open::Open;
 use crate::sampling::{entry_to_move, sample};
@@ -19,7 +19,7 @@ const ENTRIES_LOOKED_AT: u32 = 200;
 /// Checks whether one of some samples of an entry lowers a timetable that breaks no hard rule.
 fn falls_by(
     occupied: &Occupied<'_, '_>,
-    board: &Board,
+    cells: &CellEntries,
     open: &Open,
     rng: &mut Pcg32,
     entry: u32,
@@ -29,7 +29,7 @@ fn falls_by(
 {
     let before = entry_cost(occupied, entry);
     for _ in 0..SAMPLES_AN_ENTRY {
-        if let Some(step) = sample(occupied, board, open, rng, entry) {
+        if let Some(step) = sample(occupied, cells, open, rng, entry) {
             if cost_change(occupied, step, before) < 0 && lowers(occupied, step) {
                 return true;
             }
@@ -54,7 +54,7 @@ pub fn seems_settled(occupied: &Occupied<'_, '_>, walker: &mut Walker) -> bool
         walker.open.find(occupied, occupied.entry(entry));
         if falls_by(
             occupied,
-            &walker.board,
+            &walker.cells,
             &walker.open,
             &mut walker.rng,
             entry,

@@ -6,7 +6,7 @@ ghost use Rattle.tt_search.specs.Improved.{courses_of, LeadsWithin};
 ghost use Rattle.tt_search.specs.Pairs.{IsBest};
 
 use crate::best::Best;
-use crate::board::Board;
+use crate::cell_entries::CellEntries;
 use crate::cooling::Cooling;
 use crate::drawing::draw;
 use crate::open::Open;
@@ -20,7 +20,7 @@ use tt_occupancy::Occupied;
 /// The state for drawing steps.
 #[derive(Drop)]
 pub struct Walker {
-    pub board: Board,
+    pub cells: CellEntries,
     pub open: Open,
     pub rng: Pcg32,
 }
@@ -33,7 +33,7 @@ impl Walker {
         seed: u64,
     ) -> Result<Walker, AllocError> {
         Ok(Walker {
-            board: Board::new(alloc, occupied)?,
+            cells: CellEntries::new(alloc, occupied)?,
             open: Open::new(alloc, occupied.instance())?,
             rng: Pcg32::seed_from_u64(seed),
         })
@@ -41,7 +41,7 @@ impl Walker {
 
     /// Begins with this timetable. No memory is allocated.
     pub fn begin(&mut self, occupied: &Occupied<'_, '_>) {
-        self.board.fill(occupied);
+        self.cells.fill(occupied);
     }
 }
 
@@ -55,14 +55,14 @@ fn try_draw(occupied: &mut Occupied<'_, '_>, walker: &mut Walker, cooling: &mut 
 {
     if let Some(step) = draw(
         occupied,
-        &walker.board,
+        &walker.cells,
         &mut walker.open,
         &mut walker.rng,
         cooling,
     ) {
-        walker.board.take(occupied, step);
+        walker.cells.take(occupied, step);
         apply(occupied, step);
-        walker.board.put(occupied, step);
+        walker.cells.put(occupied, step);
     }
 }
 

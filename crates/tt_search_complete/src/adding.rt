@@ -5,7 +5,7 @@ ghost use Rattle.tt_table.specs.declared.table.TheConstants.{MAX_ENTRIES};
 ghost use Rattle.tt_search_construct.specs.Filled.{HasMore};
 ghost use Rattle.tt_search_complete.specs.Progress.{Begins};
 
-use crate::board::Board;
+use crate::taken_places::TakenPlaces;
 use std::alloc::AllocError;
 use tt_instance::Instance;
 use tt_table::{Entry, PushFault, Timetable};
@@ -26,7 +26,7 @@ fn push(table: &mut Timetable, entry: Entry) -> Result<(), AllocError>
 pub fn add_lectures(
     instance: &Instance<'_>,
     table: &mut Timetable,
-    board: &mut Board,
+    places: &mut TakenPlaces,
     course: u32,
     count: u32,
 ) -> Result<(), AllocError>
@@ -39,12 +39,12 @@ pub fn add_lectures(
     if count == 0 {
         return Ok(());
     }
-    board.turn_to(instance, table.entries(), course);
+    places.turn_to(instance, table.entries(), course);
     for _ in 0..count {
-        let entry = board.best_entry(instance, course);
+        let entry = places.best_entry(instance, course);
         push(table, entry)?;
-        board.take(entry);
-        board.add_conflict(entry);
+        places.take(entry);
+        places.add_conflict(entry);
     }
     Ok(())
 }

@@ -9,9 +9,9 @@ ghost use Rattle.tt_search_complete.specs.declared.completing.TheConstants.{MOST
 ghost use Rattle.tt_search_complete.specs.declared.fault.CompleteFault.TheVariants as fault;
 
 use crate::adding::add_lectures;
-use crate::board::Board;
 use crate::fault::CompleteFault;
 use crate::missing::{count_missing, missing_at};
+use crate::taken_places::TakenPlaces;
 use std::alloc::{AllocError, Global};
 use tt_instance::{Instance, MAX_LECTURES};
 use tt_table::{MAX_ENTRIES, Timetable};
@@ -20,23 +20,23 @@ use tt_table::{MAX_ENTRIES, Timetable};
 pub const MOST_ENTRIES: usize = MAX_ENTRIES - MAX_LECTURES as usize;
 
 /// Marks the places of the entries as taken.
-fn fill_board(
+fn take_places(
     alloc: Global,
     instance: &Instance<'_>,
     table: &Timetable,
-) -> Result<Board, AllocError> {
-    let mut board = Board::new(alloc, instance)?;
+) -> Result<TakenPlaces, AllocError> {
+    let mut places = TakenPlaces::new(alloc, instance)?;
     for entry in table.entries() {
-        board.take(*entry);
+        places.take(*entry);
     }
-    Ok(board)
+    Ok(places)
 }
 
 /// Adds the lectures that are missing, course by course.
 fn add_all(
     instance: &Instance<'_>,
     table: &mut Timetable,
-    board: &mut Board,
+    places: &mut TakenPlaces,
     missing: &[u32],
 ) -> Result<(), AllocError>
     requires rooms { 0 < length instance.now.rooms }
@@ -49,7 +49,7 @@ fn add_all(
     prove!(instance.days() > 0);
     for course in 0..instance.courses() {
         let count = missing_at(missing, course);
-        add_lectures(instance, table, board, course, count)?;
+        add_lectures(instance, table, places, course, count)?;
     }
     Ok(())
 }
@@ -73,8 +73,8 @@ pub fn complete(
         return Err(CompleteFault::NoRoom);
     }
     let missing = count_missing(alloc, instance, &table)?;
-    let mut board = fill_board(alloc, instance, &table)?;
+    let mut places = take_places(alloc, instance, &table)?;
     let mut table = table;
-    add_all(instance, &mut table, &mut board, &missing)?;
+    add_all(instance, &mut table, &mut places, &missing)?;
     Ok(table)
 }

@@ -2,10 +2,10 @@
 #![tactic(auto)]
 
 mod adding;
-mod board;
 mod completing;
 mod fault;
 mod missing;
+mod taken_places;
 
 pub use completing::complete;
 pub use fault::CompleteFault;

@@ -1,9 +1,9 @@
 //! The choice of a place for a lecture.
 
-use crate::board::Board;
+use crate::instance_data::InstanceData;
 use crate::place::Place;
+use crate::placed::PlacedLectures;
 use crate::ranking::{Lecture, Rank, period_rank, place_rank};
-use crate::setting::Setting;
 use rand_core::Rng;
 use rand_pcg::Pcg32;
 
@@ -24,17 +24,17 @@ impl Choice {
 
 /// Returns the best room in a period.
 fn best_room(
-    setting: &Setting,
-    board: &Board,
+    data: &InstanceData,
+    placed: &PlacedLectures,
     lecture: Lecture<'_>,
     slot: u32,
     rng: &mut Pcg32,
 ) -> Choice {
-    let period = period_rank(setting, board, lecture, slot);
+    let period = period_rank(data, placed, lecture, slot);
     let mut best = Choice::WORST;
-    for room in 0..setting.room_count {
+    for room in 0..data.room_count {
         let place = Place { room, slot };
-        let rank = place_rank(setting, board, lecture, place, period, rng.next_u32());
+        let rank = place_rank(data, placed, lecture, place, period, rng.next_u32());
         if rank < best.rank {
             best = Choice { place, rank };
         }
@@ -44,15 +44,15 @@ fn best_room(
 
 /// Returns the best place for a lecture.
 pub fn best_place(
-    setting: &Setting,
-    board: &Board,
+    data: &InstanceData,
+    placed: &PlacedLectures,
     lecture: Lecture<'_>,
     rng: &mut Pcg32,
 ) -> Choice {
     let mut best = Choice::WORST;
-    for slot in 0..setting.slots {
-        if board.broken(lecture.number, slot) <= best.rank.broken {
-            let here = best_room(setting, board, lecture, slot, rng);
+    for slot in 0..data.slots {
+        if placed.broken(lecture.number, slot) <= best.rank.broken {
+            let here = best_room(data, placed, lecture, slot, rng);
             if here.rank < best.rank {
                 best = here;
             }

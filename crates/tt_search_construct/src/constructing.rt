@@ -4,8 +4,8 @@ ghost use Rattle.std.specs.Prelude.{◌<◌, length, IfOk};
 ghost use Rattle.tt_search_construct.specs.Constructed.{IsConstructed};
 
 use crate::filling::fill;
+use crate::instance_data::InstanceData;
 use crate::planning::Plan;
-use crate::setting::Setting;
 use rand_core::SeedableRng;
 use rand_pcg::Pcg32;
 use std::alloc::{AllocError, Global};
@@ -23,8 +23,8 @@ const LEAST_ROUNDS: usize = 3;
 const WORK: usize = 6_000_000;
 
 /// Returns the maximum number of rounds for this instance.
-fn rounds(setting: &Setting) -> usize {
-    let round = setting.lectures.saturating_mul(setting.slots as usize);
+fn rounds(data: &InstanceData) -> usize {
+    let round = data.lectures.saturating_mul(data.slots as usize);
     match WORK.checked_div(round) {
         None => MOST_ROUNDS,
         Some(rounds) => rounds.clamp(LEAST_ROUNDS, MOST_ROUNDS),
@@ -41,15 +41,15 @@ fn best_of_rounds(
     ensures { IfOk result (IsConstructed instance.now) }
 {
     let mut rng = Pcg32::seed_from_u64(seed);
-    let setting = Setting::new(alloc, instance)?;
-    let mut plan = Plan::new(alloc, &setting)?;
+    let data = InstanceData::new(alloc, instance)?;
+    let mut plan = Plan::new(alloc, &data)?;
     let mut best = fill(alloc, instance, &plan.places)?;
     let mut least = score(instance, &best).hard();
-    for _ in 0..rounds(&setting) {
+    for _ in 0..rounds(&data) {
         if least == 0 {
             break;
         }
-        plan.renew(alloc, instance, &setting, &mut rng)?;
+        plan.renew(alloc, instance, &data, &mut rng)?;
         let table = fill(alloc, instance, &plan.places)?;
         let hard = score(instance, &table).hard();
         if hard < least {

@@ -1,15 +1,15 @@
 //! A first timetable of an instance.
 #![tactic(auto)]
 
-mod board;
 mod choosing;
 mod constructing;
 mod counts;
 mod filling;
+mod instance_data;
 mod order;
 mod place;
+mod placed;
 mod planning;
 mod ranking;
-mod setting;
 
 pub use constructing::construct;

@@ -1,11 +1,11 @@
 //! A place for each lecture.
 
-use crate::board::Board;
 use crate::choosing::best_place;
+use crate::instance_data::{Course, InstanceData};
 use crate::order::next_course;
 use crate::place::Place;
+use crate::placed::PlacedLectures;
 use crate::ranking::Lecture;
-use crate::setting::{Course, Setting};
 use rand_pcg::Pcg32;
 use std::alloc::{AllocError, Global};
 use tt_instance::Instance;
@@ -25,11 +25,11 @@ pub struct Plan {
 
 impl Plan {
     /// Returns a plan with all lectures at one place.
-    pub fn new(alloc: Global, setting: &Setting) -> Result<Plan, AllocError> {
+    pub fn new(alloc: Global, data: &InstanceData) -> Result<Plan, AllocError> {
         let nowhere = Place { room: 0, slot: 0 };
         Ok(Plan {
-            places: vec![in alloc; nowhere; setting.lectures]?,
-            failures: vec![in alloc; 0u32; setting.courses.len()]?,
+            places: vec![in alloc; nowhere; data.lectures]?,
+            failures: vec![in alloc; 0u32; data.courses.len()]?,
             rounds: 0,
         })
     }
@@ -43,21 +43,27 @@ impl Plan {
     }
 
     /// Places a lecture of a course.
-    fn place(&mut self, setting: &Setting, board: &mut Board, number: u32, rng: &mut Pcg32) {
-        let Some(course) = setting.courses.get(number as usize) else {
+    fn place(
+        &mut self,
+        data: &InstanceData,
+        placed: &mut PlacedLectures,
+        number: u32,
+        rng: &mut Pcg32,
+    ) {
+        let Some(course) = data.courses.get(number as usize) else {
             return;
         };
-        let waiting = board.waiting_of(number);
+        let state = placed.state_of(number);
         let looks_ahead = self.rounds >= AHEAD;
-        let lecture = Lecture::new(number, course, waiting.days, looks_ahead);
-        let choice = best_place(setting, board, lecture, rng);
+        let lecture = Lecture::new(number, course, state.days, looks_ahead);
+        let choice = best_place(data, placed, lecture, rng);
         if choice.rank.broken > 0
             && let Some(failures) = self.failures.get_mut(number as usize)
         {
             *failures = failures.saturating_add(1);
         }
-        self.note(course, waiting.left, choice.place);
-        board.put(setting, number, course, choice.place);
+        self.note(course, state.left, choice.place);
+        placed.put(data, number, course, choice.place);
     }
 
     /// Places all lectures again; courses that broke rules before are placed sooner.
@@ -65,15 +71,15 @@ impl Plan {
         &mut self,
         alloc: Global,
         instance: &Instance<'_>,
-        setting: &Setting,
+        data: &InstanceData,
         rng: &mut Pcg32,
     ) -> Result<(), AllocError> {
-        let mut board = Board::new(alloc, instance, setting)?;
-        for _ in 0..setting.lectures {
-            let Some(number) = next_course(setting, &board, &self.failures, rng) else {
+        let mut placed = PlacedLectures::new(alloc, instance, data)?;
+        for _ in 0..data.lectures {
+            let Some(number) = next_course(data, &placed, &self.failures, rng) else {
                 break;
             };
-            self.place(setting, &mut board, number, rng);
+            self.place(data, &mut placed, number, rng);
         }
         self.rounds = self.rounds.saturating_add(1);
         Ok(())

@@ -1,9 +1,9 @@
 //! The cost of a lecture at a place.
 
-use crate::board::Board;
 use crate::counts::Counts;
+use crate::instance_data::{Course, InstanceData};
 use crate::place::Place;
-use crate::setting::{Course, Setting};
+use crate::placed::PlacedLectures;
 
 /// A lecture to place.
 #[derive(Clone, Copy)]
@@ -90,27 +90,37 @@ fn isolation(curricula: &Counts, curriculum: u32, slot: u32, periods: u32) -> u3
 }
 
 /// Returns the cost of a lecture in a period in any room: isolated lectures of its curricula, and its course's working days.
-fn period_cost(setting: &Setting, board: &Board, lecture: Lecture<'_>, slot: u32) -> u32 {
-    let day = slot.checked_div(setting.periods).unwrap_or(0);
-    let is_new = board.days.get(lecture.number, day) == 0;
+fn period_cost(
+    data: &InstanceData,
+    placed: &PlacedLectures,
+    lecture: Lecture<'_>,
+    slot: u32,
+) -> u32 {
+    let day = slot.checked_div(data.periods).unwrap_or(0);
+    let is_new = placed.days.get(lecture.number, day) == 0;
     let mut cost: u32 = if lecture.is_spread || is_new { 0 } else { 5 };
     for curriculum in &lecture.course.curricula {
-        let added = isolation(&board.curricula, *curriculum, slot, setting.periods);
+        let added = isolation(&placed.curricula, *curriculum, slot, data.periods);
         cost = cost.saturating_add(added);
     }
     cost
 }
 
 /// Returns the rank of a lecture in a period, in any room.
-pub fn period_rank(setting: &Setting, board: &Board, lecture: Lecture<'_>, slot: u32) -> Rank {
+pub fn period_rank(
+    data: &InstanceData,
+    placed: &PlacedLectures,
+    lecture: Lecture<'_>,
+    slot: u32,
+) -> Rank {
     Rank {
-        broken: board.broken(lecture.number, slot),
+        broken: placed.broken(lecture.number, slot),
         wanted: if lecture.looks_ahead {
-            board.wanted(lecture.course, slot)
+            placed.wanted(lecture.course, slot)
         } else {
             0
         },
-        cost: period_cost(setting, board, lecture, slot),
+        cost: period_cost(data, placed, lecture, slot),
         spare: 0,
         lot: 0,
     }
@@ -118,16 +128,16 @@ pub fn period_rank(setting: &Setting, board: &Board, lecture: Lecture<'_>, slot:
 
 /// Returns the rank of a lecture at a place in a period of this rank, with this random number.
 pub fn place_rank(
-    setting: &Setting,
-    board: &Board,
+    data: &InstanceData,
+    placed: &PlacedLectures,
     lecture: Lecture<'_>,
     place: Place,
     period: Rank,
     lot: u32,
 ) -> Rank {
-    let seats = setting.seats.get(place.room as usize).copied().unwrap_or(0);
-    let taken = u32::from(board.rooms.get(place.room, place.slot));
-    let is_new = board.course_rooms.get(lecture.number, place.room) == 0;
+    let seats = data.seats.get(place.room as usize).copied().unwrap_or(0);
+    let taken = u32::from(placed.rooms.get(place.room, place.slot));
+    let is_new = placed.course_rooms.get(lecture.number, place.room) == 0;
     let excess = lecture.course.students.saturating_sub(seats);
     let room_cost = excess.saturating_add(u32::from(is_new));
     Rank {

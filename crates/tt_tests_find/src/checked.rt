@@ -73,16 +73,16 @@ pub enum Found {
 pub fn find<'i, P: Path<'i>, Q: Path<'i>>(
     alloc: Global,
     path: &P,
-    judge: &Q,
+    other: &Q,
     bound: Bound,
 ) -> Result<Found, AllocError>
     requires patterns { ArePatterns (P.problem path.now) (P.facts path.now) }
-    requires same { Q.problem judge.now ≡ P.problem path.now }
+    requires same { Q.problem other.now ≡ P.problem path.now }
 {
     match find_leaf(alloc, path, bound)? {
         None => Ok(Found::Nothing),
         Some(leaf) => {
-            if is_right(judge, &leaf, bound) {
+            if is_right(other, &leaf, bound) {
                 Ok(Found::Right)
             } else {
                 Ok(Found::Wrong)

@@ -4,7 +4,7 @@ ghost use Rattle.std.specs.Prelude.{◌≡◌, []};
 ghost use Rattle.tt_leaf.specs.Found.{ArePatterns};
 
 use crate::checked::{Found, find, push};
-use crate::judged::is_closed;
+use crate::each_leaf::is_closed;
 use std::alloc::{AllocError, Global};
 use std::test::Fail;
 use tt_facts::TrailPath;

@@ -6,6 +6,6 @@ mod checked;
 #[cfg(test)]
 mod drawn;
 #[cfg(test)]
-mod finding;
+mod each_leaf;
 #[cfg(test)]
-mod judged;
+mod finding;

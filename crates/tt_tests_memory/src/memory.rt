@@ -138,7 +138,7 @@ fn the_call_check_proof(rt: HostRuntime) -> Result<(), Fail> {
 }
 
 /// Returns the result of checking a split and two leaves without claims for the bound 0; `None` if there is no course.
-fn split_judged(alloc: Global, instance: &Instance<'_>) -> Option<Result<(), NodesFault>> {
+fn split_checked(alloc: Global, instance: &Instance<'_>) -> Option<Result<(), NodesFault>> {
     if instance.courses() == 0 {
         return None;
     }
@@ -159,10 +159,10 @@ fn split_judged(alloc: Global, instance: &Instance<'_>) -> Option<Result<(), Nod
 fn the_call_check_nodes(rt: HostRuntime) -> Result<(), Fail> {
     let instance = read_instance(rt.alloc(), GAP.as_bytes())?;
     println!(rt; "{MARK}")?;
-    let judged = split_judged(rt.alloc(), &instance);
+    let checked = split_checked(rt.alloc(), &instance);
     println!(rt; "{MARK}")?;
-    match judged {
-        Some(judged) => Ok(judged?),
+    match checked {
+        Some(checked) => Ok(checked?),
         None => Err(Fail::new(format_args!("no course"))),
     }
 }

@@ -3,7 +3,7 @@
 ghost use Rattle.std.specs.Prelude.{◌≡◌, ◌+◌, ℕ, List, Some, Err, true, IfOk, IfErr};
 ghost use Rattle.tt_proof_check.specs.FailedReads.{IsSpelledAndJudgedUpToFailedRead};
 ghost use Rattle.tt_proof_check.specs.Headline.{BreaksARule, Certifies};
-ghost use Rattle.tt_app.specs.Checked.{IsChecked, IsCheckRefusal, IsOfFiles, AnswersYes, AnswersBroken, IsYesAnswer, IsBrokenAnswer, read_failed};
+ghost use Rattle.tt_app.specs.Checked.{IsChecked, IsCheckRefusal, IsFileFault, AnswersYes, AnswersBroken, IsYesAnswer, IsBrokenAnswer, read_failed};
 ghost use Rattle.tt_app.specs.FaultMaps.{OutOfMemoryIsOneFault};
 
 use crate::answer::Answer;
@@ -58,7 +58,7 @@ pub fn check<R: Source>(
     // If the timetable breaks a hard rule, the answer says so, unless memory runs out, and the proof isn't read.
     ensures broken { BreaksARule instance.now solution.now → AnswersBroken result × (proof.new ≡ proof.old) }
     // If the instance or the solution is refused, the proof isn't read.
-    ensures unread { IfErr result (λ f. IsOfFiles f → proof.new ≡ proof.old) }
+    ensures unread { IfErr result (λ f. IsFileFault f → proof.new ≡ proof.old) }
     // A failed read is reported exactly if a read failed.
     ensures failed { result ≡ Err read_failed → R.has_failed proof.new ≡ true }
     ensures unfailed { ¬ (result ≡ Err read_failed) → R.has_failed proof.new ≡ R.has_failed proof.old }

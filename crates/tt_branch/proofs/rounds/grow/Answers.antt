@@ -2,7 +2,7 @@ use Rattle.std.proofs.Common.{◌≡◌, false, List, rules, subst, ◌∙◌, a
 use Rattle.std.specs.Prelude.{IfSome, IsNone}
 use Rattle.std.specs.List.{list_any}
 use Rattle.tt_instance.specs.Problem.{Problem}
-use Rattle.tt_branch.specs.declared.entry.Entry.{Entry}
+use Rattle.tt_branch.specs.declared.tree_node.TreeNode.{TreeNode}
 use Rattle.tt_branch.specs.Growing.{is_open, IsOpenAt}
 use Rattle.tt_branch.specs.Kept.{Advances}
 use Rattle.tt_branch.specs.State.{IsUnderWay}
@@ -13,7 +13,7 @@ pub returns-in_default-clause-ends : goal.returns-in_default-clause-ends
 returns-in_default-clause-ends g c =
     let entries = c.loop-opened.search.entries.items in
     let none : IsNone c.next_open.result = search rules in
-    let closed = subst (λ (l : List Entry). list_any (λ e. is_open e.mark) l ≡ false) c.as_slice.ensures.value (c.next_open.ensures.none none) in
+    let closed = subst (λ (l : List TreeNode). list_any (λ e. is_open e.mark) l ≡ false) c.as_slice.ensures.value (c.next_open.ensures.none none) in
     ends_closed c.args.limit c.loop-opened._opened entries c.loop-opened.invariant.opened (omega arith) closed
 
 pub loop-opened-preserved : goal.loop-opened-preserved
@@ -35,6 +35,6 @@ returns-clause-ends g c =
     let entries = c.loop-opened.search.entries.items in
     let value = c.as_slice-2.ensures.value in
     ends_by c.args.limit entries c.next_open-2.result c.is_none.result c.is_none.ensures
-    (subst (λ (l : List Entry). IfSome c.next_open-2.result (IsOpenAt l)) value c.next_open-2.ensures.some)
-    (subst (λ (l : List Entry). IsNone c.next_open-2.result → list_any (λ e. is_open e.mark) l ≡ false) value c.next_open-2.ensures.none)
+    (subst (λ (l : List TreeNode). IfSome c.next_open-2.result (IsOpenAt l)) value c.next_open-2.ensures.some)
+    (subst (λ (l : List TreeNode). IsNone c.next_open-2.result → list_any (λ e. is_open e.mark) l ≡ false) value c.next_open-2.ensures.none)
     (omega (arith, c.loop-opened.invariant.opened)) (omega (arith, c.loop-opened.invariant.few))

@@ -1,5 +1,5 @@
 use Rattle.std.proofs.Common.{refl}
-use Rattle.tt_branch.specs.declared.entry.NodeState.TheVariants.{Divided}
+use Rattle.tt_branch.specs.declared.tree_node.NodeState.TheVariants.{Split}
 use Rattle.tt_branch.proofs.Dividing.{split_by_steps}
 use Rattle.tt_branch.proofs.search.split.Goals as goal
 
@@ -20,7 +20,7 @@ returns c = split_by_steps c.args.place c.args.pattern _ _ c.requires (record {
   a_link = c.waiting-first.ensures.link;
   b_mark = c.waiting-second.ensures.mark;
   b_link = c.waiting-second.ensures.link;
-  d = record { mark = Divided c.args.pattern; link = c.index.result.now.link; key = c.index.result.now.key; rises = c.index.result.now.rises };
+  d = record { mark = Split c.args.pattern; link = c.index.result.now.link; key = c.index.result.now.key; rises = c.index.result.now.rises };
   d_mark = refl;
   d_link = refl;
   more = c.insert.new.self.items;

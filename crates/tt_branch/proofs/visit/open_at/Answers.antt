@@ -4,7 +4,7 @@ use Rattle.tt_lists.proofs.Tested.{each_at}
 use Rattle.tt_instance.specs.Problem.{Problem}
 use Rattle.tt_facts_path.specs.declared.facts.Fact.{Fact}
 use Rattle.tt_leaf.specs.Found.{ArePatterns}
-use Rattle.tt_branch.specs.declared.entry.Entry.{Entry}
+use Rattle.tt_branch.specs.declared.tree_node.TreeNode.{TreeNode}
 use Rattle.tt_branch.specs.declared.links.Link.{Link}
 use Rattle.tt_branch.specs.Kept.{IsKept, table_of}
 use Rattle.tt_branch.specs.Links.{path_at, AreLinks}
@@ -18,7 +18,7 @@ go_to-requires g c = λ κs.
     let e = c.requires.waiting.0 in
     let there = each_at (IsThere p s.links.items) s.entries.items c.args.place e (each_there p (table_of s.best) s.links.items s.entries.items c.requires.under_way.grown c.requires.few) c.requires.waiting.1 in
     let read = c.index.result.now in
-    let link = ap (λ (x : Entry). x.link) (c.index.ensures ∙ get_or_from_slice_get s.entries.items c.args.place e read c.requires.waiting.1) in
+    let link = ap (λ (x : TreeNode). x.link) (c.index.ensures ∙ get_or_from_slice_get s.entries.items c.args.place e read c.requires.waiting.1) in
     let links = sym c.as_slice.ensures.value in (
       (refl, tt),
       (
@@ -37,7 +37,7 @@ open-requires g c = λ κs.
     let e = c.requires.waiting.0 in
     let there = each_at (IsThere p s.links.items) s.entries.items c.args.place e (each_there p (table_of s.best) s.links.items s.entries.items c.requires.under_way.grown c.requires.few) c.requires.waiting.1 in
     let read = c.index.result.now in
-    let link = ap (λ (x : Entry). x.link) (c.index.ensures ∙ get_or_from_slice_get s.entries.items c.args.place e read c.requires.waiting.1) in
+    let link = ap (λ (x : TreeNode). x.link) (c.index.ensures ∙ get_or_from_slice_get s.entries.items c.args.place e read c.requires.waiting.1) in
     let same = sym c.in_ok-go_to.ensures.same in
     let facts : path_at s.links.items e.link ≡ g.P.Path.facts c.go_to.new.path =
     sym (c.in_ok-go_to.ensures.there ∙ ap (λ (l : List Link). path_at l read.link) c.as_slice.ensures.value ∙ ap (path_at s.links.items) link) in (
@@ -58,7 +58,7 @@ returns-clause-under_way g c =
     let p = g.P.Path.problem c.args.path.now in
     let s = c.args.search.now in
     let read = c.index.result.now in
-    let put : Entry = record { mark = c.in_ok-mark.field-0.mark; link = read.link; key = c.in_ok-mark.field-0.key; rises = c.in_ok-rises.rises } in
+    let put : TreeNode = record { mark = c.in_ok-mark.field-0.mark; link = read.link; key = c.in_ok-mark.field-0.key; rises = c.in_ok-rises.rises } in
     let there = c.in_ok-go_to.ensures.there ∙ ap (λ (l : List Link). path_at l read.link) c.as_slice.ensures.value in
     let made = opening_there p (g.P.Path.problem c.go_to.new.path) (g.P.Path.facts c.go_to.new.path) s.best c.open.new.best s.links.items s.entries.items c.put.new.entries.items c.args.place read put
     c.in_ok-go_to.ensures.same there c.index.ensures c.requires.waiting c.requires.under_way.grown c.in_ok-mark.ensures.better c.in_ok-mark.ensures.known c.in_ok-mark.ensures.opened c.in_ok-mark.ensures.single refl c.put.ensures in
@@ -73,7 +73,7 @@ returns-clause-opened g c =
     let p = g.P.Path.problem c.args.path.now in
     let s = c.args.search.now in
     let read = c.index.result.now in
-    let put : Entry = record { mark = c.in_ok-mark.field-0.mark; link = read.link; key = c.in_ok-mark.field-0.key; rises = c.in_ok-rises.rises } in
+    let put : TreeNode = record { mark = c.in_ok-mark.field-0.mark; link = read.link; key = c.in_ok-mark.field-0.key; rises = c.in_ok-rises.rises } in
     let there = c.in_ok-go_to.ensures.there ∙ ap (λ (l : List Link). path_at l read.link) c.as_slice.ensures.value in
     let made = opening_there p (g.P.Path.problem c.go_to.new.path) (g.P.Path.facts c.go_to.new.path) s.best c.open.new.best s.links.items s.entries.items c.put.new.entries.items c.args.place read put
     c.in_ok-go_to.ensures.same there c.index.ensures c.requires.waiting c.requires.under_way.grown c.in_ok-mark.ensures.better c.in_ok-mark.ensures.known c.in_ok-mark.ensures.opened c.in_ok-mark.ensures.single refl c.put.ensures in

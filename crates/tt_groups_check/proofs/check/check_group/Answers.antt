@@ -7,10 +7,10 @@ use Rattle.tt_groups_week.specs.Fold.{AreReady}
 use Rattle.tt_groups_week.specs.WeekLists.{Suits, AreReached}
 use Rattle.std.proofs.lemmas.List.Elements.{Contains-get_or}
 use Rattle.tt_instance.specs.Courses.{lectures}
-use Rattle.tt_groups_check.specs.Setting.{IsSetting}
+use Rattle.tt_groups_check.specs.CoursesAndSizes.{AreCoursesAndSizes}
 use Rattle.tt_groups_check.specs.Lists.{AreOfDays}
 use Rattle.tt_groups_week.specs.declared.moves.Move.{Move}
-use Rattle.tt_groups_check.proofs.Setting.{narrow_from, courses_below, digits_between, digits_few, base_bound}
+use Rattle.tt_groups_check.proofs.CoursesAndSizes.{narrow_from, courses_below, digits_between, digits_few, base_bound}
 use Rattle.tt_groups.proofs.Built.{built, is_relaxed, built_cost}
 use Rattle.tt_groups_check.proofs.check.check_group.Goals as goal
 
@@ -86,7 +86,7 @@ lists_of-requires c =
     let narrow = narrow_from p g c.args.value (sym c.is_too_wide.ensures ∙ c.if-is_too_wide.false) in
     let is = c.in_ok-courses.ensures.value in
     let made = rw c.in-Some.is at c.in_ok-digits.ensures.made in
-    let there : IsSetting p g cs d.sizes.items d.courses = record {
+    let there : AreCoursesAndSizes p g cs d.sizes.items d.courses = record {
       group = c.in_ok-courses.ensures.courses;
       distinct = c.in_ok-courses.ensures.distinct;
       few = omega (arith, narrow.concerned, ap length is);
@@ -97,7 +97,7 @@ lists_of-requires c =
       sizes_are = made.0 ∙ c.in_ok-sizes.ensures ∙ ap (group_sizes p g) c.deref.ensures.value;
       courses_are = omega (arith, made.1, c.len.ensures);
     } in
-    subst (λ (l : List ℕ). IsSetting p g l d.sizes.items d.courses) (sym c.deref-2.ensures.value) there
+    subst (λ (l : List ℕ). AreCoursesAndSizes p g l d.sizes.items d.courses) (sym c.deref-2.ensures.value) there
 
 pub returns-clause-too_cheap : goal.returns-clause-too_cheap
 returns-clause-too_cheap c = λ is.

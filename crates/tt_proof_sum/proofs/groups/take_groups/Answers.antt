@@ -4,12 +4,12 @@ use Rattle.std.proofs.lemmas.Result.{err_from_is_err_and}
 use Rattle.tt_text.specs.Feeds.{stream_at, room_of}
 use Rattle.tt_proof_read.specs.Faults.{TellsNoFailedRead}
 use Rattle.tt_proof_read.specs.declared.fault.TextFault.{TextFault}
-use Rattle.tt_groups_read.specs.Readers.{Reader, Goes, Says, GroupAgreesWhenCut, IsClaimAt}
+use Rattle.tt_groups_read.specs.Readers.{Reader, IsReaderAfter, IsReadingOf, GroupAgreesWhenCut, IsClaimAt}
 use Rattle.tt_groups_read.specs.declared.claim.GroupClaim.{GroupClaim}
 use Rattle.tt_groups_read.specs.declared.fault.GroupTextFault.TheVariants.{Text}
 use Rattle.tt_proof_sum.specs.Faults.{TellsAdded}
 use Rattle.tt_proof_sum.specs.declared.fault.SumFault.{SumFault}
-use Rattle.tt_proof_sum.proofs.Underway.{underway_start, underway_more, claim_is, says_claim, says_end, joins, cheap_fault, claim_fault, text_fault, claim_cut, header_cut, reached_ok, reached_err, told_failed}
+use Rattle.tt_proof_sum.proofs.Underway.{underway_start, underway_more, claim_is, reading_claim, reading_end, joins, cheap_fault, claim_fault, text_fault, claim_cut, header_cut, reached_ok, reached_err, told_failed}
 use Rattle.tt_proof_sum.proofs.groups.take_groups.Goals as goal
 
 pub returns-in-Err-clause-up_to_failed_read : goal.returns-in-Err-clause-up_to_failed_read
@@ -38,10 +38,10 @@ returns-in-Ok-None-clause-joins g c =
     let later = g.R.Source.remaining c.next_group.new.source in
     let e = c.next_group.ensures in
     let is : c.next_group.result ≡ Ok None = c.in-Ok-None.is ∙ ap (λ (x : Option GroupClaim). Ok x) c.in-Ok-None.field-0-is in
-    let goes = subst (λ (x : Result (Option GroupClaim) TextFault). Goes r x after) is (e.goes u.sound) in
+    let goes = subst (λ (x : Result (Option GroupClaim) TextFault). IsReaderAfter r x after) is (e.goes u.sound) in
     let bound_is : c.bound.result ≡ r.bound = c.bound.ensures ∙ ap (λ (x : Reader). x.bound) goes in
-    let finish = says_end p c.days.ensures.instance start c.args.table.now r now c.loop-claim.table c.loop-claim.number c.loop-claim.total u after later e.known
-    (λ k. subst (λ (x : Result (Option GroupClaim) TextFault). Says r (stream_at r.fed now) x (stream_at after.fed later)) is (e.says u.sound k)) in
+    let finish = reading_end p c.days.ensures.instance start c.args.table.now r now c.loop-claim.table c.loop-claim.number c.loop-claim.total u after later e.known
+    (λ k. subst (λ (x : Result (Option GroupClaim) TextFault). IsReadingOf r (stream_at r.fed now) x (stream_at after.fed later)) is (e.says u.sound k)) in
     reached_ok c.reached.result c.proof-file.result c.loop-claim.total c.bound.result _ c.reached.ensures
     (λ enough before parts known of begins kept kind.
     rw bound_is (joins p c.days.ensures.instance start c.args.table.now r now c.loop-claim.table c.loop-claim.number c.loop-claim.total u parts before of begins known kept kind later after finish (omega (arith, enough, bound_is))))
@@ -57,10 +57,10 @@ returns-in-Ok-None-clause-fault g c =
     let later = g.R.Source.remaining c.next_group.new.source in
     let e = c.next_group.ensures in
     let is : c.next_group.result ≡ Ok None = c.in-Ok-None.is ∙ ap (λ (x : Option GroupClaim). Ok x) c.in-Ok-None.field-0-is in
-    let goes = subst (λ (x : Result (Option GroupClaim) TextFault). Goes r x after) is (e.goes u.sound) in
+    let goes = subst (λ (x : Result (Option GroupClaim) TextFault). IsReaderAfter r x after) is (e.goes u.sound) in
     let bound_is : c.bound.result ≡ r.bound = c.bound.ensures ∙ ap (λ (x : Reader). x.bound) goes in
-    let finish = says_end p c.days.ensures.instance start c.args.table.now r now c.loop-claim.table c.loop-claim.number c.loop-claim.total u after later e.known
-    (λ k. subst (λ (x : Result (Option GroupClaim) TextFault). Says r (stream_at r.fed now) x (stream_at after.fed later)) is (e.says u.sound k)) in
+    let finish = reading_end p c.days.ensures.instance start c.args.table.now r now c.loop-claim.table c.loop-claim.number c.loop-claim.total u after later e.known
+    (λ k. subst (λ (x : Result (Option GroupClaim) TextFault). IsReadingOf r (stream_at r.fed now) x (stream_at after.fed later)) is (e.says u.sound k)) in
     reached_err c.reached.result c.proof-file.result c.loop-claim.total c.bound.result _ c.reached.ensures
     (λ below before parts bytes of begins known kind.
     cheap_fault p c.days.ensures.instance start c.args.table.now r now c.loop-claim.table c.loop-claim.number c.loop-claim.total u parts before of begins bytes known kind later after finish (omega (arith, below, bound_is)) (let small = c.bound.type_inv in omega (arith, small, bound_is)))
@@ -75,7 +75,7 @@ returns-in-Err-next_group-clause-fault g c =
     let u = c.loop-claim.invariant.under in
     let after = c.next_group.new.self in
     let later = g.R.Source.remaining c.next_group.new.source in
-    let says : is_some now ≡ true → Says r (stream_at r.fed now) (Err c.in-Err-next_group.fault) (stream_at after.fed later) = λ k. subst (λ (x : Result (Option GroupClaim) TextFault). Says r (stream_at r.fed now) x (stream_at after.fed later)) c.in-Err-next_group.is (c.next_group.ensures.says u.sound k) in
+    let says : is_some now ≡ true → IsReadingOf r (stream_at r.fed now) (Err c.in-Err-next_group.fault) (stream_at after.fed later) = λ k. subst (λ (x : Result (Option GroupClaim) TextFault). IsReadingOf r (stream_at r.fed now) x (stream_at after.fed later)) c.in-Err-next_group.is (c.next_group.ensures.says u.sound k) in
     subst (λ (x : SumFault). TellsAdded p parts bytes x) (sym c.fault_of_text-in-Err-next_group.ensures)
     (text_fault p c.days.ensures.instance start c.args.table.now r now c.loop-claim.table c.loop-claim.number c.loop-claim.total u after later c.in-Err-next_group.fault parts before of begins says bytes known kind c.proof-file.result)
 
@@ -107,13 +107,13 @@ returns-in_err-take_claim-clause-fault g c =
     let k = c.in-Ok-Some.claim in
     let is : c.next_group.result ≡ Ok (Some k) = c.in-Ok-Some.is ∙ ap (λ (x : Option GroupClaim). Ok x) c.in-Ok-Some.field-0-is in
     let claim = subst (λ (x : Result (Option GroupClaim) TextFault). IfOk x (λ o. IfSome o (IsClaimAt r.sizes))) is e.claim in
-    let says : is_some now ≡ true → Says r (stream_at r.fed now) (Ok (Some k)) (stream_at after.fed later) = λ kn. subst (λ (x : Result (Option GroupClaim) TextFault). Says r (stream_at r.fed now) x (stream_at after.fed later)) is (e.says u.sound kn) in
+    let says : is_some now ≡ true → IsReadingOf r (stream_at r.fed now) (Ok (Some k)) (stream_at after.fed later) = λ kn. subst (λ (x : Result (Option GroupClaim) TextFault). IsReadingOf r (stream_at r.fed now) x (stream_at after.fed later)) is (e.says u.sound kn) in
     let f = err_from_is_err_and c.from_residual.result c.from_residual.ensures.1 in
     rw (f.1, f.2) (λ before parts bytes of begins known kind.
     let kn : is_some start ≡ true = ap is_some known in
     claim_fault p c.days.ensures.instance start c.args.table.now r now c.loop-claim.table c.loop-claim.number c.loop-claim.total u parts before of begins k
     (claim_is p c.days.ensures.instance start c.args.table.now r now c.loop-claim.table c.loop-claim.number c.loop-claim.total u k claim) kn (stream_at after.fed later)
-    (says_claim p c.days.ensures.instance start c.args.table.now r now c.loop-claim.table c.loop-claim.number c.loop-claim.total u after later e.known k says kn) bytes known kind c.in_err-take_claim.field-0.0
+    (reading_claim p c.days.ensures.instance start c.args.table.now r now c.loop-claim.table c.loop-claim.number c.loop-claim.total u after later e.known k says kn) bytes known kind c.in_err-take_claim.field-0.0
     c.in_err-take_claim.ensures.fault)
 
 pub loop-claim-preserved : goal.loop-claim-preserved
@@ -129,10 +129,10 @@ loop-claim-preserved g c =
     let k = c.in-Ok-Some.claim in
     let taken = c.in_ok-take_claim.ensures in
     let is : c.next_group.result ≡ Ok (Some k) = c.in-Ok-Some.is ∙ ap (λ (x : Option GroupClaim). Ok x) c.in-Ok-Some.field-0-is in
-    let goes = subst (λ (x : Result (Option GroupClaim) TextFault). Goes r x after) is (e.goes u.sound) in
+    let goes = subst (λ (x : Result (Option GroupClaim) TextFault). IsReaderAfter r x after) is (e.goes u.sound) in
     let claim = subst (λ (x : Result (Option GroupClaim) TextFault). IfOk x (λ o. IfSome o (IsClaimAt r.sizes))) is e.claim in
     let forward = subst (λ (x : Result (Option GroupClaim) TextFault). IfOk x (λ o. IfSome o (λ _. room_of after.fed < room_of r.fed))) is e.forward in
-    let says : is_some now ≡ true → Says r (stream_at r.fed now) (Ok (Some k)) (stream_at after.fed later) = λ kn. subst (λ (x : Result (Option GroupClaim) TextFault). Says r (stream_at r.fed now) x (stream_at after.fed later)) is (e.says u.sound kn) in
+    let says : is_some now ≡ true → IsReadingOf r (stream_at r.fed now) (Ok (Some k)) (stream_at after.fed later) = λ kn. subst (λ (x : Result (Option GroupClaim) TextFault). IsReadingOf r (stream_at r.fed now) x (stream_at after.fed later)) is (e.says u.sound kn) in
     let cut = subst (λ (x : Result (Option GroupClaim) TextFault). GroupAgreesWhenCut r now x after.fed later) is (e.cut_short u.sound) in
     record {
       under = underway_more p c.days.ensures.instance start c.args.table.now r now c.loop-claim.table c.loop-claim.number c.loop-claim.total u after later e.known c.take_claim.new.table k (c.loop-claim.number + 1) c.saturating_add-total.result

@@ -10,17 +10,17 @@ returns-then-is_empty-clause-reached g c = leads_here _ _ _
 pub returns-clause-best : goal.returns-clause-best
 returns-clause-best g c =
     let first = c.args.occupied.now in
-    let rounds = c.go_rounds-made in
+    let phases = c.walk_phases-made in
     let plans = c.go_plans in
-    let same = rounds.ensures.problem in
-    let walked = subst (λ p. IsBest p first.entries rounds.new.best) (sym same) (rounds.ensures.best first.entries c.in_ok-best.ensures.best) in
+    let same = phases.ensures.problem in
+    let walked = subst (λ p. IsBest p first.entries phases.new.best) (sym same) (phases.ensures.best first.entries c.in_ok-best.ensures.best) in
     let planned = subst (λ p. IsBest p first.entries plans.new.best) same (plans.ensures.best first.entries walked) in
     subst (IsNoWorse first.problem first.entries) plans.ensures.here planned.found
 
 pub returns-clause-reached : goal.returns-clause-reached
 returns-clause-reached g c =
-    let rounds = c.go_rounds-made in
+    let phases = c.walk_phases-made in
     let plans = c.go_plans in
-    let left = c.args.draws - rounds.result in
-    let planned = subst (λ p. LeadsWithin p rounds.new.occupied.entries c.new-schedule.result.draws plans.new.occupied.entries) rounds.ensures.problem plans.ensures.reached in
-    leads_then rounds.ensures.reached planned (omega (arith, rounds.ensures.within, c.new-schedule.ensures))
+    let left = c.args.draws - phases.result in
+    let planned = subst (λ p. LeadsWithin p phases.new.occupied.entries c.new-schedule.result.draws plans.new.occupied.entries) phases.ensures.problem plans.ensures.reached in
+    leads_then phases.ensures.reached planned (omega (arith, phases.ensures.within, c.new-schedule.ensures))

@@ -1,7 +1,7 @@
 use Rattle.std.proofs.Common.{◌∷◌, ◌++◌, [], sym, ap, ◌∙◌, subst, refl, List}
 use Rattle.std.specs.Prelude.{slice_get}
-use Rattle.tt_branch.specs.declared.entry.Entry.{Entry}
-use Rattle.tt_branch.specs.declared.entry.NodeState.TheVariants.{Waiting}
+use Rattle.tt_branch.specs.declared.tree_node.TreeNode.{TreeNode}
+use Rattle.tt_branch.specs.declared.tree_node.NodeState.TheVariants.{Waiting}
 use Rattle.tt_branch.specs.Growing.{IsGrown}
 use Rattle.tt_branch.specs.Kept.{table_of}
 use Rattle.tt_branch.specs.Links.{AreLinks}
@@ -9,7 +9,7 @@ use Rattle.tt_branch.proofs.Chains.{no_links}
 use Rattle.tt_branch.proofs.Searching.{grow_root}
 use Rattle.tt_branch.proofs.search.Search.new.Goals as goal
 
-abbrev root : Entry
+abbrev root : TreeNode
 root = record { mark = Waiting; link = 0; key = 0; rises = record { yes = 0; no = 0 } }
 
 pub returns-clause-under_way : goal.returns-clause-under_way
@@ -25,4 +25,4 @@ returns-clause-under_way c = λ p k.
 pub returns-clause-waiting : goal.returns-clause-waiting
 returns-clause-waiting c =
     let items = c.in_ok-push.ensures.items ∙ ap (λ l. l ++ root ∷ []) c.new-entries.ensures.items in
-    (root, ap (λ (l : List Entry). slice_get l 0) items, refl)
+    (root, ap (λ (l : List TreeNode). slice_get l 0) items, refl)

@@ -1,6 +1,6 @@
 use Rattle.std.proofs.Common.{◌≡◌, ◌++◌, [], ◌∷◌, length, length-append, ap, arith}
 use Rattle.tt_facts_pins.specs.Tables.{ShowsPins}
-use Rattle.tt_facts_pins.specs.Standing.{ShowsStanding}
+use Rattle.tt_facts_pins.specs.FactTable.{ShowsFacts}
 use Rattle.tt_facts_pins.proofs.Kept.{earlier_popped}
 use Rattle.tt_facts_pins.proofs.pins.Pins.pop.Goals as goal
 
@@ -11,16 +11,16 @@ invariant_of-self c =
     let facts = c.unlist_fact.new.facts.items in
     let f = c.unlist_fact.result in
     let pinned = c.undo.new.self in
-    let standing = c.undo-2.new.self in
+    let fact_table = c.undo-2.new.self in
     let e : s.facts.items ≡ facts ++ f ∷ [] = c.unlist_fact.ensures.fact in
     let pins = earlier_popped (ShowsPins p) facts f pinned.earlier pinned.words (rw (e, c.undo.ensures) at c.self.invariant.earlier) in
-    let stands = earlier_popped (ShowsStanding p) facts f standing.earlier standing.words (rw (e, c.undo-2.ensures) at c.self.invariant.stood) in
+    let facts_shown = earlier_popped (ShowsFacts p) facts f fact_table.earlier fact_table.words (rw (e, c.undo-2.ensures) at c.self.invariant.facts_earlier) in
     record {
       depth = omega (arith, c.self.invariant.depth, ap length e, length-append facts (f ∷ []));
-      others = c.unlist_fact.ensures.others;
+      unplaced = c.unlist_fact.ensures.unplaced;
       links = c.self.invariant.links;
       shown = pins.0;
       earlier = pins.1;
-      stands = stands.0;
-      stood = stands.1;
+      facts_shown = facts_shown.0;
+      facts_earlier = facts_shown.1;
     }

@@ -1,10 +1,10 @@
 use Rattle.std.proofs.Common.{◌≡◌, ◌++◌, [], ◌∷◌, length, length-append, ap, arith}
 use Rattle.tt_facts_path.specs.Paths.{Facts}
 use Rattle.tt_facts_pins.specs.Tables.{ShowsPins}
-use Rattle.tt_facts_pins.specs.Standing.{ShowsStanding}
+use Rattle.tt_facts_pins.specs.FactTable.{ShowsFacts}
 use Rattle.tt_facts_pins.proofs.Kept.{earlier_pushed}
 use Rattle.tt_facts_pins.proofs.Shown.{shown_more}
-use Rattle.tt_facts_pins.proofs.Stood.{standing_more}
+use Rattle.tt_facts_pins.proofs.FactTable.{fact_table_more}
 use Rattle.tt_facts_pins.proofs.pins.Pins.push.Goals as goal
 
 pub invariant_of-self-in_default : goal.invariant_of-self-in_default
@@ -17,10 +17,10 @@ invariant_of-self-in_default c =
     let before = c.self.invariant in
     record {
       depth = omega (arith, ap length e, length-append s.facts.items (f ∷ []), ap (λ (v : Facts). length v.facts) c.self.view_is);
-      others = c.in_ok-list_fact.ensures.others;
+      unplaced = c.in_ok-list_fact.ensures.unplaced;
       links = before.links;
       shown = rw e (shown_more p s.facts.items f s.pinned.words c.add.new.pinned.words before.shown added.pins);
       earlier = rw (e, added.kept_pinned) (earlier_pushed (ShowsPins p) s.facts.items f s.pinned.earlier s.pinned.words before.shown before.earlier);
-      stands = rw e (standing_more p s.facts.items f s.standing.words c.add.new.standing.words before.stands added.stands);
-      stood = rw (e, added.kept_standing) (earlier_pushed (ShowsStanding p) s.facts.items f s.standing.earlier s.standing.words before.stands before.stood);
+      facts_shown = rw e (fact_table_more p s.facts.items f s.fact_table.words c.add.new.fact_table.words before.facts_shown added.adds);
+      facts_earlier = rw (e, added.kept_fact_table) (earlier_pushed (ShowsFacts p) s.facts.items f s.fact_table.earlier s.fact_table.words before.facts_shown before.facts_earlier);
     }

@@ -1,7 +1,7 @@
 use Rattle.std.proofs.Common.{◌+◌, not, ap, arith}
 use Rattle.std.proofs.lemmas.List.Sums.{sum_by_push}
 use Rattle.tt_lists.proofs.Sums.{one_if}
-use Rattle.tt_occupancy_change.specs.Standing.{stands_beside, joined_before, joined_after}
+use Rattle.tt_occupancy_tallies.specs.Standing.{stands_beside, joined_before, joined_after}
 use Rattle.tt_occupancy.proofs.gaps.Gaps.with.Goals as goal
 
 pub returns-clause-gaps : goal.returns-clause-gaps

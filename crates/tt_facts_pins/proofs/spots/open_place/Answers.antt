@@ -1,8 +1,0 @@
-use Rattle.tt_facts_pins.specs.Standing.{fact_rows}
-use Rattle.tt_facts_pins.proofs.Grid.{within_row}
-use Rattle.tt_facts_pins.proofs.spots.open_place.Goals as goal
-
-pub returns-clause-within : goal.returns-clause-within
-returns-clause-within c =
-    let p = c.args.instance.now in
-    rw c.days-days.ensures.value (within_row c.fact_row.result p.days c.args.day (fact_rows p) c.fact_row.ensures.within c.requires.day)

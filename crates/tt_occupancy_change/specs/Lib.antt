@@ -1,3 +1,0 @@
-pub mod Bag
-pub mod Standing
-pub mod Weight
