@@ -20,9 +20,9 @@ use Rattle.tt_leaf_rules.specs.Claims.{total_of}
 use Rattle.tt_leaf_rules.specs.declared.leaf.Bound.{Bound}
 use Rattle.tt_leaf_rules.specs.declared.leaf.Bound.TheVariants.{AtLeast}
 use Rattle.tt_leaf_rules.specs.declared.leaf.Leaf.{Leaf}
-use Rattle.tt_proof_read.specs.Trees.{Tree, Tip, Fork, OnPath, on_paths, preorder, with_fact}
+use Rattle.tt_proof_read.specs.Trees.{Tree, Tip, Fork, OnPath, on_paths, preorder, with_fact, IsShallow}
 use Rattle.tt_proof_read.specs.declared.node.Node.TheVariants as node
-use Rattle.tt_proof_check.specs.Derives.{Derives, IsShallow}
+use Rattle.tt_proof_check.specs.Derives.{Derives}
 use Rattle.tt_proof_check.specs.Explains.{IsRightOn, Passes}
 use Rattle.tt_proof_check.proofs.Walking.{passed_tree}
 use Rattle.tt_leaf.specs.Best.{best_claims, best_leaf}

@@ -8,7 +8,7 @@ use Rattle.tt_leaf_rules.specs.declared.leaf.Bound.{Bound}
 use Rattle.tt_proof_read.specs.Reading.{header_at, node_at, end_at}
 use Rattle.tt_proof_read.specs.Reads.{ReadsNodes, Reads}
 use Rattle.tt_proof_read.specs.Spelling.{SpellsProof}
-use Rattle.tt_proof_read.specs.Trees.{Tree, preorder, on_paths}
+use Rattle.tt_proof_read.specs.Trees.{Tree, preorder, on_paths, IsShallow}
 use Rattle.tt_proof_read.specs.declared.fault.TextFault.{TextFault}
 use Rattle.tt_proof_read.specs.declared.fault.TextFault.TheVariants as text
 use Rattle.tt_proof_read.specs.declared.node.Node.{Node}
@@ -16,7 +16,7 @@ use Rattle.tt_proof_read.proofs.ProofLaws.{reads_spelled, spelled_reads}
 use Rattle.tt_proof_read.proofs.Small.{are_small}
 use Rattle.tt_proof_check.specs.declared.fault.CheckFault.{CheckFault}
 use Rattle.tt_proof_check.specs.declared.fault.CheckFault.TheVariants as told
-use Rattle.tt_proof_check.specs.Derives.{Derives, IsShallow, HoldsOfAll}
+use Rattle.tt_proof_check.specs.Derives.{Derives, HoldsOfAll}
 use Rattle.tt_proof_check.specs.Visited.{IsVisitedProof}
 use Rattle.tt_proof_check.specs.Judged.{Proved}
 use Rattle.tt_proof_check.specs.Streams.{IsProved, IsEnvironmental, stream_of, sizes_of, Fails, NodeFails, EndFails, IsReadTo, HasHeader, IsProofFault}

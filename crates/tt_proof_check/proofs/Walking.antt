@@ -8,13 +8,13 @@ use Rattle.tt_facts_path.specs.declared.facts.Fact.{Fact}
 use Rattle.tt_facts_path.specs.declared.path.TheConstants.{MAX_FACTS}
 use Rattle.tt_leaf_rules.specs.declared.leaf.Bound.{Bound}
 use Rattle.tt_leaf_rules.specs.declared.leaf.RuleFault.{RuleFault}
-use Rattle.tt_proof_read.specs.Trees.{Tree, Tip, Fork, with_fact, preorder, OnPath, on_paths}
+use Rattle.tt_proof_read.specs.Trees.{Tree, Tip, Fork, with_fact, preorder, OnPath, on_paths, IsShallow}
 use Rattle.tt_proof_read.specs.declared.node.Node.{Node}
 use Rattle.tt_proof_read.specs.declared.node.Node.TheVariants.{Split, Leaf}
 use Rattle.tt_proof_read.proofs.Depth.{leaves_low}
 use Rattle.tt_proof_check.specs.declared.walk.Stop.{Stop}
 use Rattle.tt_proof_check.specs.declared.walk.Stop.TheVariants.{Rule, TooDeep}
-use Rattle.tt_proof_check.specs.Derives.{Derives, IsShallow, Proves}
+use Rattle.tt_proof_check.specs.Derives.{Derives, Proves}
 use Rattle.tt_proof_check.specs.Pending.{pending}
 use Rattle.tt_proof_check.specs.Steps.{Steps, Stops}
 use Rattle.tt_proof_check.specs.Explains.{Passes, FailsAt, IsDeepAt}

@@ -1,5 +1,5 @@
 -- The bound that a tree derives, and its meaning.
-use Rattle.std.specs.Prelude.{◌≡◌, ◌≤◌, List, [], length}
+use Rattle.std.specs.Prelude.{◌≡◌, List, []}
 use Rattle.tt_instance.specs.Problem.{Problem}
 use Rattle.tt_instance.specs.declared.cell.Cell.{Cell}
 use Rattle.tt_rules.specs.Score.{IsFeasible, cost}
@@ -8,9 +8,8 @@ use Rattle.tt_facts_path.specs.declared.facts.Fact.{Fact}
 use Rattle.tt_leaf_rules.specs.Bounds.{Respects}
 use Rattle.tt_leaf_rules.specs.Leaves.{IsRight}
 use Rattle.tt_leaf_rules.specs.declared.leaf.Bound.{Bound}
-use Rattle.tt_proof_read.specs.Trees.{Tree, AllLeaves, preorder}
+use Rattle.tt_proof_read.specs.Trees.{Tree, AllLeaves, preorder, IsShallow}
 use Rattle.tt_proof_read.specs.declared.node.Node.{Node}
-use Rattle.tt_facts_path.specs.declared.path.TheConstants.{MAX_FACTS}
 
 -- whether each leaf is right on its path
 abbrev pub Derives : Problem → Bound → List Fact → Tree → Type 0
@@ -23,10 +22,6 @@ HoldsOn p b path = (t : List Cell) → IsFeasible p t → Fits p t path → Resp
 -- whether each feasible timetable respects the bound
 abbrev pub HoldsOfAll : Problem → Bound → Type 0
 HoldsOfAll p b = (t : List Cell) → IsFeasible p t → Respects b (cost p t)
-
--- whether no leaf is below more than 65,536 splits
-abbrev pub IsShallow : Tree → Type 0
-IsShallow tree = AllLeaves (λ path _. length path ≤ MAX_FACTS) [] tree
 
 -- whether the nodes are those of a tree that is not too deep and derives the bound
 abbrev pub Proves : Problem → Bound → List Node → Type 0

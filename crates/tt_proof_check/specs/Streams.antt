@@ -10,14 +10,14 @@ use Rattle.tt_proof_read.specs.Faults.{is_environmental}
 use Rattle.tt_proof_read.specs.Reading.{header_at, node_at, end_at}
 use Rattle.tt_proof_read.specs.Reads.{ReadsNodes}
 use Rattle.tt_proof_read.specs.Spelling.{SpellsProof}
-use Rattle.tt_proof_read.specs.Trees.{Tree, preorder, on_paths}
+use Rattle.tt_proof_read.specs.Trees.{Tree, preorder, on_paths, IsShallow}
 use Rattle.tt_proof_read.specs.declared.fault.TextFault.{TextFault}
 use Rattle.tt_proof_read.specs.declared.fault.TextFault.TheVariants as text
 use Rattle.tt_proof_read.specs.declared.node.Node.{Node}
 use Rattle.tt_proof_read.specs.declared.sizes.Sizes.{Sizes}
 use Rattle.tt_proof_check.specs.declared.fault.CheckFault.{CheckFault}
 use Rattle.tt_proof_check.specs.declared.fault.CheckFault.TheVariants.{Text, Rule, TooDeep, OutOfMemory}
-use Rattle.tt_proof_check.specs.Derives.{Derives, IsShallow}
+use Rattle.tt_proof_check.specs.Derives.{Derives}
 use Rattle.tt_proof_check.specs.Explains.{Passes, FailsAt, IsDeepAt}
 
 -- whether the bytes spell a tree that derives the bound

@@ -10,7 +10,7 @@ use Rattle.tt_text.specs.Reading.{◌>>=◌}
 use Rattle.tt_text.proofs.Steps.{ok_is, bind_ok}
 use Rattle.tt_text.proofs.Fields.{text_is, is_text_of}
 use Rattle.tt_proof_read.specs.Pricing.{IsUnseen, AreKept}
-use Rattle.tt_proof_read.specs.Spelling.{Price, OfCourse, OfRoom, price_pieces, by_kind, course_piece, SpellsEach}
+use Rattle.tt_proof_read.specs.Spelling.{Price, OfCourse, OfRoom, price_pieces, course_prices, room_prices, by_kind, course_piece, SpellsEach}
 use Rattle.tt_proof_read.specs.Reading.{token_at, numbered_below, new_number, Kept, Seen, seen_in, priced_in, priced_of, with_price, price_at, pair_at, next_pair_at, with_priced, with_pair, prices_at}
 use Rattle.tt_proof_read.specs.declared.fault.TextFault.{TextFault}
 use Rattle.tt_proof_read.specs.declared.fault.TextFault.TheVariants as fault
@@ -24,14 +24,6 @@ use Rattle.tt_proof_read.proofs.SeriesLaws.{EachNext, PartTook, series_took, ser
 use Rattle.tt_proof_read.proofs.Small.{AreSmall}
 use Rattle.tt_proof_read.proofs.Taking.{Took, first_of_pieces, took_piece, took_then, took_same}
 use Rattle.tt_proof_read.proofs.TokenLaws.{choice, new_number_ok, number_took, number_reads, not_single, price_took, price_reads}
-
--- the prices of courses
-abbrev pub course_prices : List Price → List (ℕ × ℕ)
-course_prices prices = (by_kind prices).0
-
--- the prices of rooms
-abbrev pub room_prices : List Price → List (ℕ × ℕ)
-room_prices prices = (by_kind prices).1
 
 -- the end of prices
 abbrev last : Piece

@@ -9,7 +9,6 @@ use Rattle.tt_facts_path.specs.declared.facts.Who.{Who}
 use Rattle.tt_facts_path.specs.declared.facts.Who.TheVariants.{Course, Curriculum}
 use Rattle.tt_facts_path.specs.declared.facts.Pattern.{Pattern}
 use Rattle.tt_facts_path.specs.Facts.{IsPattern}
-use Rattle.tt_facts_path.specs.declared.path.TheConstants.{MAX_FACTS}
 use Rattle.tt_leaf_rules.specs.Ranges.{AreBelow, ArePrices}
 use Rattle.tt_leaf_rules.specs.declared.leaf.Bound.{Bound}
 use Rattle.tt_leaf_rules.specs.declared.leaf.Bound.TheVariants.{AtLeast, Nothing}
@@ -20,7 +19,7 @@ use Rattle.tt_leaf_rules.specs.declared.leaf.Leaf.TheVariants.{Empty, Many, Cliq
 use Rattle.tt_proof_read.specs.declared.format.TheConstants.{COURSE_LETTER, CURRICULUM_LETTER, DAY_LETTER, MAX_PROOF_NODES, MAX_POINTS, MAX_PRICE, PERIOD_LETTER, ROOM_LETTER}
 use Rattle.tt_proof_read.specs.declared.node.Node.{Node}
 use Rattle.tt_proof_read.specs.declared.node.Node.TheVariants as node
-use Rattle.tt_proof_read.specs.Trees.{Tree, AllLeaves, preorder}
+use Rattle.tt_proof_read.specs.Trees.{Tree, preorder, IsShallow}
 
 -- -- the spelling of each part
 
@@ -54,11 +53,21 @@ abbrev pub price_pieces : Price → List Piece
 price_pieces (OfCourse c u) = course_piece c ∷ Number u ∷ []
 price_pieces (OfRoom r u) = Index ROOM_LETTER r ∷ Number u ∷ []
 
+-- The prices of courses.
+abbrev pub course_prices : List Price → List (ℕ × ℕ)
+course_prices [] = []
+course_prices (OfCourse c u ∷ xs) = (c, u) ∷ course_prices xs
+course_prices (OfRoom r u ∷ xs) = course_prices xs
+
+-- The prices of rooms.
+abbrev pub room_prices : List Price → List (ℕ × ℕ)
+room_prices [] = []
+room_prices (OfCourse c u ∷ xs) = room_prices xs
+room_prices (OfRoom r u ∷ xs) = (r, u) ∷ room_prices xs
+
 -- The prices of courses and the prices of rooms; in a file they may be in any order.
 abbrev pub by_kind : List Price → List (ℕ × ℕ) × List (ℕ × ℕ)
-by_kind [] = ([], [])
-by_kind (OfCourse c u ∷ xs) = ((c, u) ∷ (by_kind xs).0, (by_kind xs).1)
-by_kind (OfRoom r u ∷ xs) = ((by_kind xs).0, (r, u) ∷ (by_kind xs).1)
+by_kind prices = (course_prices prices, room_prices prices)
 
 abbrev pub SpellsClaim : Claim → List Piece → Type 0
 SpellsClaim (Capacity c u) ps = ps ≡ Text (codes "C") ∷ course_piece c ∷ Number u ∷ []
@@ -126,7 +135,7 @@ pub record IsWithinLimits (bytes : List ℕ) (tree : Tree) : Type 0 where
   pub size : length bytes ≤ MAX_BYTES
   pub tokens : All (λ t. length t.text ≤ MAX_TOKEN_BYTES) (tokens_of bytes)
   pub nodes : length (preorder tree) ≤ MAX_PROOF_NODES
-  pub depth : AllLeaves (λ path _. length path ≤ MAX_FACTS) [] tree
+  pub depth : IsShallow tree
 
 -- The tokens of the bytes are exactly `CTTP`, the version, `bound`, the bound, the tree in preorder and `end`.
 pub record SpellsProof (p : Problem) (bytes : List ℕ) (v : ℕ) (b : Bound) (tree : Tree) : Type 0 where

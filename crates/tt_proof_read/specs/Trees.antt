@@ -1,7 +1,8 @@
 -- Trees of splits and leaves, and the nodes of a tree with their paths.
-use Rattle.std.specs.Prelude.{◌≡◌, Bool, true, false, List, [], ◌∷◌, ◌++◌}
+use Rattle.std.specs.Prelude.{◌≡◌, ◌≤◌, Bool, true, false, List, [], ◌∷◌, ◌++◌, length}
 use Rattle.tt_facts_path.specs.declared.facts.Pattern.{Pattern}
 use Rattle.tt_facts_path.specs.declared.facts.Fact.{Fact}
+use Rattle.tt_facts_path.specs.declared.path.TheConstants.{MAX_FACTS}
 use Rattle.tt_leaf_rules.specs.declared.leaf.Leaf.{Leaf}
 use Rattle.tt_proof_read.specs.declared.node.Node.{Node}
 use Rattle.tt_proof_read.specs.declared.node.Node.TheVariants as node
@@ -20,6 +21,10 @@ abbrev pub AllLeaves : (List Fact → Leaf → Type 0) → List Fact → Tree �
 AllLeaves P path (Tip leaf) = P path leaf
 AllLeaves P path (Fork g first second) =
     AllLeaves P (with_fact path g true) first × AllLeaves P (with_fact path g false) second
+
+-- No leaf is below more than 65,536 splits.
+abbrev pub IsShallow : Tree → Type 0
+IsShallow tree = AllLeaves (λ path _. length path ≤ MAX_FACTS) [] tree
 
 -- Each node before its children, the first child before the second.
 abbrev pub preorder : Tree → List Node

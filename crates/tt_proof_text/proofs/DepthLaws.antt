@@ -12,7 +12,7 @@ use Rattle.tt_proof_read.specs.declared.node.Node.{Node}
 use Rattle.tt_proof_read.specs.declared.node.Node.TheVariants.{Split, Leaf}
 use Rattle.tt_proof_read.specs.Trees.{Tree, Tip, Fork, AllLeaves, preorder, with_fact, IsPreorder}
 use Rattle.tt_proof_read.proofs.Depth.{root_low}
-use Rattle.tt_proof_text.specs.Within.{IsShallow}
+use Rattle.tt_proof_text.specs.Within.{AreShallow}
 
 -- the depth after a leaf
 abbrev pub next_depth : List ℕ → ℕ
@@ -78,14 +78,14 @@ paths_shallow (Fork g first second) path d e h =
 whole : (tree : Tree) → are_shallow 0 [] (preorder tree) ≡ is_shallow_tree 0 tree
 whole tree = ap (are_shallow 0 []) (sym (append-nil (preorder tree))) ∙ shallow-tree tree 0 [] [] ∙ and_true (is_shallow_tree 0 tree)
 
-shallow_from : (nodes : List Node) → are_shallow 0 [] nodes ≡ true → IsShallow nodes
+shallow_from : (nodes : List Node) → are_shallow 0 [] nodes ≡ true → AreShallow nodes
 shallow_from nodes h = λ tree e. shallow_paths tree [] 0 refl (lit≤ tt) (sym (whole tree) ∙ ap (are_shallow 0 []) e ∙ h)
 
-shallow_to : (nodes : List Node) → IsPreorder nodes → IsShallow nodes → are_shallow 0 [] nodes ≡ true
+shallow_to : (nodes : List Node) → IsPreorder nodes → AreShallow nodes → are_shallow 0 [] nodes ≡ true
 shallow_to nodes is h = ap (are_shallow 0 []) (sym is.1) ∙ whole is.0 ∙ paths_shallow is.0 [] 0 refl (h is.0 is.1)
 
 -- the test returns whether the nodes of a tree are not too deep
-pub depth_told : (nodes : List Node) (answer : Bool) → IsPreorder nodes → answer ≡ are_shallow 0 [] nodes → IsTrue answer ↔ IsShallow nodes
+pub depth_told : (nodes : List Node) (answer : Bool) → IsPreorder nodes → answer ≡ are_shallow 0 [] nodes → IsTrue answer ↔ AreShallow nodes
 depth_told nodes answer tree is = (λ t. shallow_from nodes (sym is ∙ t), λ h. is ∙ shallow_to nodes tree h)
 
 -- -- the second children that are not read yet
@@ -177,11 +177,11 @@ walk_leaf nodes i d e old new node leaf popped below is closed next split_off so
     })
 
 -- a split at the greatest depth has children that are too deep
-pub walk_too_deep : (nodes : List Node) (i d : ℕ) (ds : List ℕ) (node : Node) (g : Pattern) → IsPreorder nodes → KeepsDepths nodes i d ds → i < length nodes → node ≡ get_or nodes i node → node ≡ Split g → d ≡ MAX_FACTS → IsTrue false ↔ IsShallow nodes
+pub walk_too_deep : (nodes : List Node) (i d : ℕ) (ds : List ℕ) (node : Node) (g : Pattern) → IsPreorder nodes → KeepsDepths nodes i d ds → i < length nodes → node ≡ get_or nodes i node → node ≡ Split g → d ≡ MAX_FACTS → IsTrue false ↔ AreShallow nodes
 walk_too_deep nodes i d ds node g tree keeps below is split deep =
     let here : are_shallow d ds (Split g ∷ drop (i + 1) nodes) ≡ false = rw deep refl in
     depth_told nodes false tree (sym here ∙ sym (node_read d ds nodes i node (Split g) below is split) ∙ keeps.told)
 
 -- at the end of the walk, no node is too deep
-pub walk_done : (nodes : List Node) (i d : ℕ) (ds : List ℕ) → IsPreorder nodes → KeepsDepths nodes i d ds → length nodes ≤ i → IsTrue true ↔ IsShallow nodes
+pub walk_done : (nodes : List Node) (i d : ℕ) (ds : List ℕ) → IsPreorder nodes → KeepsDepths nodes i d ds → length nodes ≤ i → IsTrue true ↔ AreShallow nodes
 walk_done nodes i d ds tree keeps end = depth_told nodes true tree (sym (at_drop_all (are_shallow d ds) nodes i end) ∙ keeps.told)

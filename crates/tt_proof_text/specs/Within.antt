@@ -9,11 +9,10 @@ use Rattle.tt_proof_read.specs.declared.node.Node.{Node}
 use Rattle.tt_proof_read.specs.declared.node.Node.TheVariants as node
 use Rattle.tt_proof_read.specs.Limits.{IsShortClaim, IsLeafIn}
 use Rattle.tt_proof_read.specs.Spelling.{IsBound}
-use Rattle.tt_proof_read.specs.Trees.{Tree, AllLeaves, preorder, IsPreorder}
+use Rattle.tt_proof_read.specs.Trees.{Tree, preorder, IsPreorder, IsShallow}
 use Rattle.tt_proof_text.specs.declared.fault.WriteFault.{WriteFault}
 use Rattle.tt_proof_text.specs.declared.fault.WriteFault.TheVariants.{NotATree, OverLimit, NotInVersion, OutOfMemory}
 use Rattle.tt_proof_text.specs.Written.{proof_text}
-use Rattle.tt_facts_path.specs.declared.path.TheConstants.{MAX_FACTS}
 
 abbrev pub HasShortClaims : Leaf → Type 0
 HasShortClaims (Cost claims) = All IsShortClaim claims
@@ -24,16 +23,16 @@ abbrev pub HasShortPrices : Node → Type 0
 HasShortPrices (node.Split g) = ⊤
 HasShortPrices (node.Leaf leaf) = HasShortClaims leaf
 
--- whether no leaf is below more than 65,536 splits
-abbrev pub IsShallow : List Node → Type 0
-IsShallow nodes = (tree : Tree) → preorder tree ≡ nodes → AllLeaves (λ path _. length path ≤ MAX_FACTS) [] tree
+-- whether the tree of these nodes is shallow
+abbrev pub AreShallow : List Node → Type 0
+AreShallow nodes = (tree : Tree) → preorder tree ≡ nodes → IsShallow tree
 
 -- the limits of a file, except the limit on its bytes
 pub record AreWithin (b : Bound) (nodes : List Node) : Type 0 where
   pub bound : IsBound b
   pub count : length nodes ≤ MAX_PROOF_NODES
   pub prices : All HasShortPrices nodes
-  pub depth : IsShallow nodes
+  pub depth : AreShallow nodes
 
 -- the limits of a file
 pub record FitsFile (v : ℕ) (b : Bound) (nodes : List Node) : Type 0 where

@@ -2,7 +2,7 @@
 
 ghost use Rattle.std.specs.Prelude.{◌↔◌, IsTrue};
 ghost use Rattle.tt_proof_read.specs.Trees.{IsPreorder};
-ghost use Rattle.tt_proof_text.specs.Within.{IsShallow};
+ghost use Rattle.tt_proof_text.specs.Within.{AreShallow};
 
 use arrayvec::ArrayVec;
 use tt_facts_path::MAX_FACTS;
@@ -14,7 +14,7 @@ const MAX_PENDING: usize = MAX_FACTS as usize;
 /// Checks that no node of a tree is below more splits than a file may have.
 pub fn is_shallow(nodes: &[Node]) -> bool
     requires { IsPreorder nodes.now }
-    ensures { IsTrue result ↔ IsShallow nodes.now }
+    ensures { IsTrue result ↔ AreShallow nodes.now }
 {
     let mut depth: u32 = 0;
     // The depths of the second children that are not read yet.
