@@ -77,20 +77,20 @@ module _ (p : Problem) (ok : IsInstance p) where
   fit_mark best path (Opened g) k = let a = best_answer p path ok in record { numbers = a.numbers; once = once Days (λ c. refl) p path; short = a.short }
   fit_mark best path Waiting k = let a = best_answer p path ok in record { numbers = a.numbers; once = once Days (λ c. refl) p path; short = a.short }
 
-  module _ (best : Option (List Cell)) (links : List Link) (entries : List TreeNode) (grown : IsGrown p best links entries) where
+  module _ (best : Option (List Cell)) (links : List Link) (tree_nodes : List TreeNode) (grown : IsGrown p best links tree_nodes) where
     abbrev xs : List OnPath
     xs = on_paths [] grown.tree
 
-    fit_entry : (x : OnPath) (e : TreeNode) → Stands p best links x e → IsFit p (node_at p links e)
-    fit_entry x e s = subst (λ q. IsFit p (node_of p q e.mark)) (sym s.path) (fit_mark best x.path e.mark s.known)
+    fit_tree_node : (x : OnPath) (e : TreeNode) → Stands p best links x e → IsFit p (node_at p links e)
+    fit_tree_node x e s = subst (λ q. IsFit p (node_of p q e.mark)) (sym s.path) (fit_mark best x.path e.mark s.known)
 
-    each_fit : AllByRecursion (λ e. IsFit p (node_at p links e)) entries
-    each_fit = zip_other (Stands p best links) (λ e. IsFit p (node_at p links e)) fit_entry xs entries grown.together
+    each_fit : AllByRecursion (λ e. IsFit p (node_at p links e)) tree_nodes
+    each_fit = zip_other (Stands p best links) (λ e. IsFit p (node_at p links e)) fit_tree_node xs tree_nodes grown.together
 
-    pub writable : length entries ≤ 131073 → All (IsWritable p links) entries
-    writable few = All-from_recursion (IsWritable p links) entries
-        (each_weaker (λ e. IsThere p links e × IsFit p (node_at p links e)) (IsWritable p links) (λ e h. record { reached = h.0.reached; numbers = h.1.numbers; once = h.1.once }) entries
-        (each_both (IsThere p links) (λ e. IsFit p (node_at p links e)) entries (each_there p best links entries grown few) each_fit))
+    pub writable : length tree_nodes ≤ 131073 → All (IsWritable p links) tree_nodes
+    writable few = All-from_recursion (IsWritable p links) tree_nodes
+        (each_weaker (λ e. IsThere p links e × IsFit p (node_at p links e)) (IsWritable p links) (λ e h. record { reached = h.0.reached; numbers = h.1.numbers; once = h.1.once }) tree_nodes
+        (each_both (IsThere p links) (λ e. IsFit p (node_at p links e)) tree_nodes (each_there p best links tree_nodes grown few) each_fit))
 
     -- the nodes written are those of the tree
     same_nodes : (ys : List OnPath) (es : List TreeNode) → AllZip (Stands p best links) ys es → nodes_of p links es ≡ map (λ x. x.node) ys
@@ -101,8 +101,8 @@ module _ (p : Problem) (ok : IsInstance p) where
         let a = ap (λ q. node_of p q e.mark) h.0.path ∙ sym h.0.node in
         ap (λ n. n ∷ nodes_of p links es) a ∙ ap (λ l. y.node ∷ l) (same_nodes ys es h.1)
 
-    pub nodes_are : preorder grown.tree ≡ nodes_of p links entries
-    nodes_are = sym (preorder-on_paths [] grown.tree) ∙ sym (same_nodes xs entries grown.together)
+    pub nodes_are : preorder grown.tree ≡ nodes_of p links tree_nodes
+    nodes_are = sym (preorder-on_paths [] grown.tree) ∙ sym (same_nodes xs tree_nodes grown.together)
 
     same_worths : (ys : List OnPath) (es : List TreeNode) → AllZip (Stands p best links) ys es → worths_of p links es ≡ worths p ys
     same_worths [] [] h = refl
@@ -113,11 +113,11 @@ module _ (p : Problem) (ok : IsInstance p) where
         let b : worth_at p links e ≡ node_worth p y.path y.node = ap (λ q. node_worth p q (node_at p links e)) h.0.path ∙ ap (node_worth p y.path) a in
         ap (λ o. cons_option o (worths_of p links es)) b ∙ ap (cons_option (node_worth p y.path y.node)) (same_worths ys es h.1)
 
-    pub worths_are : worths_of p links entries ≡ worths p xs
-    worths_are = same_worths xs entries grown.together
+    pub worths_are : worths_of p links tree_nodes ≡ worths p xs
+    worths_are = same_worths xs tree_nodes grown.together
 
-    pub fit_nodes : AllByRecursion (IsFit p) (nodes_of p links entries)
-    fit_nodes = each_map (IsFit p) (node_at p links) entries each_fit
+    pub fit_nodes : AllByRecursion (IsFit p) (nodes_of p links tree_nodes)
+    fit_nodes = each_map (IsFit p) (node_at p links) tree_nodes each_fit
 
   -- -- the least value
 
@@ -139,7 +139,7 @@ module _ (p : Problem) (ok : IsInstance p) where
   least_of (Some n) ns v e h = let k = ap (least_with n) e in (least_with n (least ns), refl, omega arith)
 
   -- if a node is open, some leaf has the least value
-  pub least_worth : (links : List Link) (entries : List TreeNode) → list_any (λ e. is_open e.mark) entries ≡ true → (v : ℕ) × (least (worths_of p links entries) ≡ Some v) × (v ≤ 1000000000000)
+  pub least_worth : (links : List Link) (tree_nodes : List TreeNode) → list_any (λ e. is_open e.mark) tree_nodes ≡ true → (v : ℕ) × (least (worths_of p links tree_nodes) ≡ Some v) × (v ≤ 1000000000000)
   least_worth links [] e = cc
   least_worth links (x ∷ es) e = by_mark (is_open x.mark) refl e (least_worth links es)
     where
@@ -170,33 +170,33 @@ module _ (p : Problem) (ok : IsInstance p) where
   best_feasible None k = tt
   best_feasible (Some b) k = k.feasible
 
-  module _ (s : Search) (u : IsUnderWay p s) (limit : ℕ) (small : limit ≤ 65536) (nodes : List Node) (is : nodes ≡ nodes_of p s.links.items s.entries.items) where
+  module _ (s : Search) (u : IsUnderWay p s) (limit : ℕ) (small : limit ≤ 65536) (nodes : List Node) (is : nodes ≡ nodes_of p s.links.items s.tree_nodes.items) where
     abbrev links : List Link
     links = s.links.items
 
-    abbrev entries : List TreeNode
-    entries = s.entries.items
+    abbrev tree_nodes : List TreeNode
+    tree_nodes = s.tree_nodes.items
 
     abbrev best : Option (List Cell)
     best = table_of s.best
 
     spelled : preorder u.grown.tree ≡ nodes
-    spelled = nodes_are best links entries u.grown ∙ sym is
+    spelled = nodes_are best links tree_nodes u.grown ∙ sym is
 
-    as_long : length nodes ≡ length entries
-    as_long = ap length is ∙ length-map entries (node_at p links)
+    as_long : length nodes ≡ length tree_nodes
+    as_long = ap length is ∙ length-map tree_nodes (node_at p links)
 
     fits : AllByRecursion (IsFit p) nodes
-    fits = subst (AllByRecursion (IsFit p)) (sym is) (fit_nodes best links entries u.grown)
+    fits = subst (AllByRecursion (IsFit p)) (sym is) (fit_nodes best links tree_nodes u.grown)
 
     pub each_numbers : All (IsNodeOf p) nodes
     each_numbers = All-from_recursion (IsNodeOf p) nodes (each_weaker (IsFit p) (IsNodeOf p) (λ n f. f.numbers) nodes fits)
 
-    searched : (b : Bound) → length entries ≤ 131071 → IsBound b → Derives p b [] u.grown.tree → IsSearched p b u.grown.tree nodes
+    searched : (b : Bound) → length tree_nodes ≤ 131071 → IsBound b → Derives p b [] u.grown.tree → IsSearched p b u.grown.tree nodes
     searched b few bound derives = record {
       spelled = spelled;
       derives = derives;
-      splits = well_split p best links entries u.grown;
+      splits = well_split p best links tree_nodes u.grown;
       numbers = each_numbers;
       short = All-from_recursion IsShortNode nodes (each_weaker (IsFit p) IsShortNode (λ n f. f.short) nodes fits);
       within = record {
@@ -205,40 +205,40 @@ module _ (p : Problem) (ok : IsInstance p) where
         prices = All-from_recursion HasShortPrices nodes (each_weaker (IsFit p) HasShortPrices (λ n f. short_prices n f.short) nodes fits);
         depth = λ tree e.
             leaves_low 65536 tree (subst (λ l. All (λ x. length x.path ≤ 65536) l) (sym (whole_places u.grown.tree nodes spelled) ∙ whole_places tree nodes e)
-            (All-from_recursion (λ x. length x.path ≤ 65536) (on_paths [] u.grown.tree) (shallow p best links entries u.grown (omega arith))));
+            (All-from_recursion (λ x. length x.path ≤ 65536) (on_paths [] u.grown.tree) (shallow p best links tree_nodes u.grown (omega arith))));
       };
     }
 
     -- the nodes prove the bound reported
-    pub proves : (finished : Bool) (lowest : Option ℕ) → EndsAt limit entries finished → (finished ≡ false → lowest ≡ least (worths_of p links entries)) → Proves p (shown_bound (final_bound p best) lowest finished) nodes
-    proves true lowest ends same = let d = finished_proves p best links entries u.grown (omega (arith, ends.1)) ends.0 in (u.grown.tree, spelled, d.0, d.1)
+    pub proves : (finished : Bool) (lowest : Option ℕ) → EndsAt limit tree_nodes finished → (finished ≡ false → lowest ≡ least (worths_of p links tree_nodes)) → Proves p (shown_bound (final_bound p best) lowest finished) nodes
+    proves true lowest ends same = let d = finished_proves p best links tree_nodes u.grown (omega (arith, ends.1)) ends.0 in (u.grown.tree, spelled, d.0, d.1)
     proves false lowest ends same =
-        let w = least_worth links entries ends.0 in
+        let w = least_worth links tree_nodes ends.0 in
         let told : lowest ≡ Some w.0 = same refl ∙ w.1 in
         let shown : shown_bound (final_bound p best) lowest false ≡ AtLeast w.0 = ap (λ o. shown_bound (final_bound p best) o false) told in
-        let found : least (worths p (on_paths [] u.grown.tree)) ≡ Some w.0 = sym (ap least (worths_are best links entries u.grown)) ∙ w.1 in
-        let d = unfinished_proves p best links entries u.grown w.0 found (omega (arith, ends.2)) in
+        let found : least (worths p (on_paths [] u.grown.tree)) ≡ Some w.0 = sym (ap least (worths_are best links tree_nodes u.grown)) ∙ w.1 in
+        let d = unfinished_proves p best links tree_nodes u.grown w.0 found (omega (arith, ends.2)) in
         (u.grown.tree, spelled, d.0, subst (λ b. Derives p b [] u.grown.tree) (sym shown) d.1)
 
     -- the end of a search whose proof was checked
-    pub concluded : (finished : Bool) (lowest : Option ℕ) → BeginsWell p best → EndsAt limit entries finished → (finished ≡ false → lowest ≡ least (worths_of p links entries)) → HoldsOfAll p (shown_bound (final_bound p best) lowest finished) → IsOutcome p limit best (shown_bound (final_bound p best) lowest finished) (Some nodes) finished
+    pub concluded : (finished : Bool) (lowest : Option ℕ) → BeginsWell p best → EndsAt limit tree_nodes finished → (finished ≡ false → lowest ≡ least (worths_of p links tree_nodes)) → HoldsOfAll p (shown_bound (final_bound p best) lowest finished) → IsOutcome p limit best (shown_bound (final_bound p best) lowest finished) (Some nodes) finished
     concluded true lowest begun ends same holds = record {
       feasible = best_feasible s.best u.kept;
       begun = begun;
       nodes = nodes;
       answered = refl;
       tree = u.grown.tree;
-      searched = searched (final_bound p best) (omega (arith, ends.1)) (bound_final s.best u.kept) (finished_proves p best links entries u.grown (omega (arith, ends.1)) ends.0).1;
+      searched = searched (final_bound p best) (omega (arith, ends.1)) (bound_final s.best u.kept) (finished_proves p best links tree_nodes u.grown (omega (arith, ends.1)) ends.0).1;
       ends = record { few = omega (arith, as_long, ends.1); bound = refl };
       holds = holds;
     }
     concluded false lowest begun ends same holds =
-        let w = least_worth links entries ends.0 in
+        let w = least_worth links tree_nodes ends.0 in
         let told : lowest ≡ Some w.0 = same refl ∙ w.1 in
         let shown : shown_bound (final_bound p best) lowest false ≡ AtLeast w.0 = ap (λ o. shown_bound (final_bound p best) o false) told in
-        let found : least (worths p (on_paths [] u.grown.tree)) ≡ Some w.0 = sym (ap least (worths_are best links entries u.grown)) ∙ w.1 in
+        let found : least (worths p (on_paths [] u.grown.tree)) ≡ Some w.0 = sym (ap least (worths_are best links tree_nodes u.grown)) ∙ w.1 in
         let bound : IsBound (shown_bound (final_bound p best) lowest false) = subst IsBound (sym shown) w.2 in
-        let derives = (unfinished_proves p best links entries u.grown w.0 found (omega (arith, ends.2))).1 in
+        let derives = (unfinished_proves p best links tree_nodes u.grown w.0 found (omega (arith, ends.2))).1 in
         record {
           feasible = best_feasible s.best u.kept;
           begun = begun;
@@ -252,15 +252,15 @@ module _ (p : Problem) (ok : IsInstance p) where
             least_worth = w.0;
             some_cost_leaf = found;
             bound = shown;
-            greedy = greedy p best links entries u.grown;
+            greedy = greedy p best links tree_nodes u.grown;
           };
           holds = holds;
         }
 
 -- a search that has ended has at most 131,073 nodes
-pub few_ended : (limit : ℕ) (entries : List TreeNode) (finished : Bool) → limit ≤ 65536 → EndsAt limit entries finished → length entries ≤ 131073
-few_ended limit entries true small ends = omega (arith, ends.1)
-few_ended limit entries false small ends = omega (arith, ends.2)
+pub few_ended : (limit : ℕ) (tree_nodes : List TreeNode) (finished : Bool) → limit ≤ 65536 → EndsAt limit tree_nodes finished → length tree_nodes ≤ 131073
+few_ended limit tree_nodes true small ends = omega (arith, ends.1)
+few_ended limit tree_nodes false small ends = omega (arith, ends.2)
 
 -- if a search began well, a better timetable preserves this
 pub begun_still : (p : Problem) (old new : Option Best) → BeginsWell p (table_of old) → Advances p old new → BeginsWell p (table_of new)

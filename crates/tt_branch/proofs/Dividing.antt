@@ -1,4 +1,4 @@
--- The entries and links of a node that is split, in the order in which the code inserts them.
+-- The nodes and links of a node that is split, in the order in which the code inserts them.
 use Rattle.std.proofs.Common.{◌≡◌, ℕ, suc, ◌+◌, List, [], ◌∷◌, ◌++◌, length, length-append, Some, sym, ap, ◌∙◌, arith, get_or}
 use Rattle.std.specs.Prelude.{slice_get, slice_set, true, false}
 use Rattle.std.specs.List.{insert}
@@ -24,7 +24,7 @@ split_items items one two three k e d a b cut h i j =
 -- the steps of the code
 pub record AreSteps (place : ℕ) (g : Pattern) (old new : Search) : Type 0 where
   pub read : TreeNode
-  pub read_is : read ≡ get_or old.entries.items place read
+  pub read_is : read ≡ get_or old.tree_nodes.items place read
   pub one : List Link
   pub yes : ℕ
   pub no : ℕ
@@ -43,15 +43,15 @@ pub record AreSteps (place : ℕ) (g : Pattern) (old new : Search) : Type 0 wher
   pub d_link : d.link ≡ read.link
   pub more : List TreeNode
   pub most : List TreeNode
-  pub put_b : more ≡ insert old.entries.items (place + 1) b
+  pub put_b : more ≡ insert old.tree_nodes.items (place + 1) b
   pub put_a : most ≡ insert more (place + 1) a
-  pub put_d : new.entries.items ≡ slice_set most place d
+  pub put_d : new.tree_nodes.items ≡ slice_set most place d
   pub best : new.best ≡ old.best
 
-pub split_by_steps : (place : ℕ) (g : Pattern) (old new : Search) → HasMark old.entries.items place (Opened g) → AreSteps place g old new → IsSplitAt place g old new
+pub split_by_steps : (place : ℕ) (g : Pattern) (old new : Search) → HasMark old.tree_nodes.items place (Opened g) → AreSteps place g old new → IsSplitAt place g old new
 split_by_steps place g old new h s =
-    let cut = cut_at old.entries.items place h.0 h.1 in
-    let same : s.read ≡ h.0 = s.read_is ∙ get_or_from_slice_get old.entries.items place h.0 s.read h.1 in
+    let cut = cut_at old.tree_nodes.items place h.0 h.1 in
+    let same : s.read ≡ h.0 = s.read_is ∙ get_or_from_slice_get old.tree_nodes.items place h.0 s.read h.1 in
     let link = ap (λ (e : TreeNode). e.link) same in
     record {
       before = cut.before;
@@ -60,7 +60,7 @@ split_by_steps place g old new h s =
       divided = s.d;
       first = s.a;
       second = s.b;
-      old_entries = cut.whole;
+      old_tree_nodes = cut.whole;
       place_is = cut.place;
       opened = h.2;
       division = record {
@@ -71,7 +71,7 @@ split_by_steps place g old new h s =
         second = s.b_mark;
         second_link = s.b_link ∙ s.no_is ∙ omega (arith, ap length s.first_link, length-append old.links.items (link_of s.read.link g true ∷ []));
       };
-      entries = split_items old.entries.items s.more s.most new.entries.items place h.0 s.d s.a s.b cut s.put_b s.put_a s.put_d;
+      tree_nodes = split_items old.tree_nodes.items s.more s.most new.tree_nodes.items place h.0 s.d s.a s.b cut s.put_b s.put_a s.put_d;
       links = s.second_link ∙ ap (λ l. l ++ link_of s.read.link g false ∷ []) s.first_link ∙ ap (λ n. divided_links old.links.items n g) link;
       best = s.best;
     }

@@ -69,21 +69,21 @@ preorder-on_paths root (Fork g a b) =
 
 -- ---- the end
 
-module _ (p : Problem) (best : Option (List Cell)) (links : List Link) (entries : List TreeNode) (grown : IsGrown p best links entries) where
+module _ (p : Problem) (best : Option (List Cell)) (links : List Link) (tree_nodes : List TreeNode) (grown : IsGrown p best links tree_nodes) where
   abbrev xs : List OnPath
   xs = on_paths [] grown.tree
 
-  pub as_many : length xs ≡ length entries
-  as_many = zip_length (Stands p best links) xs entries grown.together
+  pub as_many : length xs ≡ length tree_nodes
+  as_many = zip_length (Stands p best links) xs tree_nodes grown.together
 
   -- no node is too deep, if the tree has at most as many nodes as a search can make
-  pub shallow : length entries ≤ 131073 → AllByRecursion (λ x. length x.path ≤ 65536) xs
+  pub shallow : length tree_nodes ≤ 131073 → AllByRecursion (λ x. length x.path ≤ 65536) xs
   shallow h = each_weaker (λ x. length x.path ≤ 0 + splits grown.tree) (λ x. length x.path ≤ 65536) (λ x k. omega (arith, as_many, length-on_paths [] grown.tree)) xs (depth-le [] grown.tree)
 
   pub well_split : All (SplitsWell p) xs
-  well_split = All-from_recursion (SplitsWell p) xs (zip_each (Stands p best links) (SplitsWell p) (splits_well p best links) xs entries grown.together)
+  well_split = All-from_recursion (SplitsWell p) xs (zip_each (Stands p best links) (SplitsWell p) (splits_well p best links) xs tree_nodes grown.together)
 
-  proved_by : (b : Bound) → length entries ≤ 131073 → AllByRecursion (λ x. IsRightOn p b x.path x.node) xs → IsShallow grown.tree × Derives p b [] grown.tree
+  proved_by : (b : Bound) → length tree_nodes ≤ 131073 → AllByRecursion (λ x. IsRightOn p b x.path x.node) xs → IsShallow grown.tree × Derives p b [] grown.tree
   proved_by b h right =
       passed_tree p b grown.tree (All-from_recursion (Passes p b) xs (each_both (λ x. length x.path ≤ 65536) (λ x. IsRightOn p b x.path x.node) xs (shallow h) right))
 
@@ -104,8 +104,8 @@ module _ (p : Problem) (best : Option (List Cell)) (links : List Link) (entries 
       (closed_right y m.mark h.0.node h.0.known a.0, all_closed ys es h.1 a.1)
 
   -- if no node is open, the tree derives the cost of the best timetable, or that no timetable exists
-  pub finished_proves : length entries ≤ 131073 → list_any (λ e. is_open e.mark) entries ≡ false → IsShallow grown.tree × Derives p (final_bound p best) [] grown.tree
-  finished_proves h e = proved_by (final_bound p best) h (all_closed xs entries grown.together e)
+  pub finished_proves : length tree_nodes ≤ 131073 → list_any (λ e. is_open e.mark) tree_nodes ≡ false → IsShallow grown.tree × Derives p (final_bound p best) [] grown.tree
+  finished_proves h e = proved_by (final_bound p best) h (all_closed xs tree_nodes grown.together e)
 
   -- ---- some nodes are open
 
@@ -128,11 +128,11 @@ module _ (p : Problem) (best : Option (List Cell)) (links : List Link) (entries 
 
     all_known : AllByRecursion (λ x. IsRightOn p (AtLeast v) x.path x.node) xs
     all_known = each_member (λ x. IsRightOn p (AtLeast v) x.path x.node) xs (λ x i.
-        let w = at_member (λ y. (e : TreeNode) × Stands p best links y e) xs x (zip_each (Stands p best links) (λ y. (e : TreeNode) × Stands p best links y e) (λ y e s. (e, s)) xs entries grown.together) i in
+        let w = at_member (λ y. (e : TreeNode) × Stands p best links y e) xs x (zip_each (Stands p best links) (λ y. (e : TreeNode) × Stands p best links y e) (λ y e s. (e, s)) xs tree_nodes grown.together) i in
         known_right x w.0.mark w.1.node w.1.known i)
 
     -- the tree derives the least value of a Cost leaf
-    pub unfinished_proves : length entries ≤ 131073 → IsShallow grown.tree × Derives p (AtLeast v) [] grown.tree
+    pub unfinished_proves : length tree_nodes ≤ 131073 → IsShallow grown.tree × Derives p (AtLeast v) [] grown.tree
     unfinished_proves h = proved_by (AtLeast v) h all_known
 
   -- -- leaves of a value below the best cost are those of the best claims
@@ -151,4 +151,4 @@ module _ (p : Problem) (best : Option (List Cell)) (links : List Link) (entries 
       by_mark Waiting e j = e
 
   pub greedy : All (IsGreedy p best) xs
-  greedy = All-from_recursion (IsGreedy p best) xs (zip_each (Stands p best links) (IsGreedy p best) greedy_at xs entries grown.together)
+  greedy = All-from_recursion (IsGreedy p best) xs (zip_each (Stands p best links) (IsGreedy p best) greedy_at xs tree_nodes grown.together)

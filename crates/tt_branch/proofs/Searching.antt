@@ -87,10 +87,10 @@ open_leaf p Waiting path e = refl
 
 module _ (p : Problem) where
   -- a better timetable was found
-  pub grow_better : (best : Option (List Cell)) (t : List Cell) (links : List Link) (entries : List TreeNode) → IsBetter p best t → IsGrown p best links entries → IsGrown p (Some t) links entries
-  grow_better best t links entries h grown = record {
+  pub grow_better : (best : Option (List Cell)) (t : List Cell) (links : List Link) (tree_nodes : List TreeNode) → IsBetter p best t → IsGrown p best links tree_nodes → IsGrown p (Some t) links tree_nodes
+  grow_better best t links tree_nodes h grown = record {
     tree = grown.tree;
-    together = zip_weaker (Stands p best links) (Stands p (Some t) links) (λ x e s. record { node = s.node; known = by_mark x.path e.mark s.known; link = s.link; path = s.path; patterns = s.patterns }) (on_paths [] grown.tree) entries grown.together;
+    together = zip_weaker (Stands p best links) (Stands p (Some t) links) (λ x e s. record { node = s.node; known = by_mark x.path e.mark s.known; link = s.link; path = s.path; patterns = s.patterns }) (on_paths [] grown.tree) tree_nodes grown.together;
   }
     where
       by_mark : (path : List Fact) (m : NodeState) → IsKnown p best path m → IsKnown p (Some t) path m
@@ -101,8 +101,8 @@ module _ (p : Problem) where
 
   module _ (best : Option (List Cell)) where
     -- further links change nothing
-    pub grow_links : (links : List Link) (l : Link) (entries : List TreeNode) → AreLinks links → IsGrown p best links entries → IsGrown p best (links ++ l ∷ []) entries
-    grow_links links l entries ok grown = record {
+    pub grow_links : (links : List Link) (l : Link) (tree_nodes : List TreeNode) → AreLinks links → IsGrown p best links tree_nodes → IsGrown p best (links ++ l ∷ []) tree_nodes
+    grow_links links l tree_nodes ok grown = record {
       tree = grown.tree;
       together = zip_weaker (Stands p best links) (Stands p best (links ++ l ∷ [])) (λ x e s. record {
         node = s.node;
@@ -110,7 +110,7 @@ module _ (p : Problem) where
         link = omega (arith, s.link, length-append links (l ∷ []));
         path = path_at-more links (l ∷ []) ok e.link s.link ∙ s.path;
         patterns = s.patterns;
-      }) (on_paths [] grown.tree) entries grown.together;
+      }) (on_paths [] grown.tree) tree_nodes grown.together;
     }
 
     -- more is known about an open node, on its path

@@ -32,7 +32,7 @@ IsKnown p best path (Closed leaf) = Closes p path (final_bound p best) leaf
 IsKnown p best path (Opened g) = IsSplitOn p path g
 IsKnown p best path Waiting = ⊤
 
--- A node of the tree and its entry.
+-- A node of a tree on its path, and the same node of the tree that grows.
 pub record Stands (p : Problem) (best : Option (List Cell)) (links : List Link) (x : OnPath) (e : TreeNode) : Type 0 where
   pub node : x.node ≡ node_of p x.path e.mark
   pub known : IsKnown p best x.path e.mark
@@ -40,10 +40,10 @@ pub record Stands (p : Problem) (best : Option (List Cell)) (links : List Link) 
   pub path : path_at links e.link ≡ x.path
   pub patterns : ArePatterns p x.path
 
--- The entries are those of a tree.
-pub record IsGrown (p : Problem) (best : Option (List Cell)) (links : List Link) (entries : List TreeNode) : Type 0 where
+-- The nodes are those of a tree.
+pub record IsGrown (p : Problem) (best : Option (List Cell)) (links : List Link) (tree_nodes : List TreeNode) : Type 0 where
   pub tree : Tree
-  pub together : AllZip (Stands p best links) (on_paths [] tree) entries
+  pub together : AllZip (Stands p best links) (on_paths [] tree) tree_nodes
 
 -- ---- marks
 
@@ -63,28 +63,28 @@ IsSingle _ = ⊤
 
 -- How many of the nodes were opened.
 abbrev pub opened_in : List TreeNode → ℕ
-opened_in entries = count_by (λ e. was_opened e.mark) entries
+opened_in tree_nodes = count_by (λ e. was_opened e.mark) tree_nodes
 
--- The entry at the place is open.
+-- The node at the place is open.
 abbrev pub IsOpenAt : List TreeNode → ℕ → Type 0
-IsOpenAt entries k = (e : TreeNode) × (slice_get entries k ≡ Some e) × (is_open e.mark ≡ true)
+IsOpenAt tree_nodes k = (e : TreeNode) × (slice_get tree_nodes k ≡ Some e) × (is_open e.mark ≡ true)
 
--- The entry at the place has the mark.
+-- The node at the place has the mark.
 abbrev pub HasMark : List TreeNode → ℕ → NodeState → Type 0
-HasMark entries k m = (e : TreeNode) × (slice_get entries k ≡ Some e) × (e.mark ≡ m)
+HasMark tree_nodes k m = (e : TreeNode) × (slice_get tree_nodes k ≡ Some e) × (e.mark ≡ m)
 
 -- -- the proof made of the tree
 
--- The node of an entry, on its path.
+-- The node of the proof for a node of the tree.
 abbrev pub node_at : Problem → List Link → TreeNode → Node
 node_at p links e = node_of p (path_at links e.link) e.mark
 
--- The value of an entry's node, if it is a Cost leaf.
+-- The value of a node of the tree, if it is a Cost leaf.
 abbrev pub worth_at : Problem → List Link → TreeNode → Option ℕ
 worth_at p links e = node_worth p (path_at links e.link) (node_at p links e)
 
 abbrev pub nodes_of : Problem → List Link → List TreeNode → List Node
-nodes_of p links entries = map (node_at p links) entries
+nodes_of p links tree_nodes = map (node_at p links) tree_nodes
 
 abbrev pub worths_of : Problem → List Link → List TreeNode → List ℕ
-worths_of p links entries = filter_map (worth_at p links) entries
+worths_of p links tree_nodes = filter_map (worth_at p links) tree_nodes

@@ -12,11 +12,11 @@ use Rattle.tt_branch.specs.Kept.{IsKept, table_of}
 use Rattle.tt_branch.specs.Links.{AreLinks, divided_links}
 use Rattle.tt_branch.specs.Steps.{IsDivision}
 
--- The best timetable breaks no hard rule and has the cost stored, the links lead to parents, and the entries are those of a tree.
+-- The best timetable breaks no hard rule and has the cost stored, the links lead to parents, and the nodes are those of a tree.
 pub record IsUnderWay (p : Problem) (s : Search) : Type 0 where
   pub kept : IsKept p s.best
   pub links : AreLinks s.links.items
-  pub grown : IsGrown p (table_of s.best) s.links.items s.entries.items
+  pub grown : IsGrown p (table_of s.best) s.links.items s.tree_nodes.items
 
 -- The opened node at the place is split: its two children follow it.
 pub record IsSplitAt (place : ℕ) (g : Pattern) (old new : Search) : Type 0 where
@@ -26,23 +26,23 @@ pub record IsSplitAt (place : ℕ) (g : Pattern) (old new : Search) : Type 0 whe
   pub divided : TreeNode
   pub first : TreeNode
   pub second : TreeNode
-  pub old_entries : old.entries.items ≡ before ++ was ∷ after
+  pub old_tree_nodes : old.tree_nodes.items ≡ before ++ was ∷ after
   pub place_is : length before ≡ place
   pub opened : was.mark ≡ Opened g
   pub division : IsDivision old.links.items was g divided first second
-  pub entries : new.entries.items ≡ before ++ divided ∷ first ∷ second ∷ after
+  pub tree_nodes : new.tree_nodes.items ≡ before ++ divided ∷ first ∷ second ∷ after
   pub links : new.links.items ≡ divided_links old.links.items was.link g
   pub best : new.best ≡ old.best
 
 -- The open node at the place waits, or it was split and the child at the place `next` waits; nothing else has changed.
 pub record MakesWait (place : ℕ) (old : Search) (next : ℕ) (new : Search) : Type 0 where
   pub under_way : (p : Problem) → IsUnderWay p old → IsUnderWay p new
-  pub waiting : HasMark new.entries.items next Waiting
-  pub opened : opened_in new.entries.items ≡ opened_in old.entries.items
-  pub many : length new.entries.items ≤ length old.entries.items + 2
+  pub waiting : HasMark new.tree_nodes.items next Waiting
+  pub opened : opened_in new.tree_nodes.items ≡ opened_in old.tree_nodes.items
+  pub many : length new.tree_nodes.items ≤ length old.tree_nodes.items + 2
   pub best : new.best ≡ old.best
 
 -- No node is open, and at most `limit` nodes were made; or some node is open, at least `limit` nodes were made, and fewer than `2 * limit`.
 abbrev pub EndsAt : ℕ → List TreeNode → Bool → Type 0
-EndsAt limit entries true = (list_any (λ e. is_open e.mark) entries ≡ false) × (length entries ≤ limit)
-EndsAt limit entries false = (list_any (λ e. is_open e.mark) entries ≡ true) × (limit ≤ length entries) × (length entries + 1 ≤ 2 * limit)
+EndsAt limit tree_nodes true = (list_any (λ e. is_open e.mark) tree_nodes ≡ false) × (length tree_nodes ≤ limit)
+EndsAt limit tree_nodes false = (list_any (λ e. is_open e.mark) tree_nodes ≡ true) × (limit ≤ length tree_nodes) × (length tree_nodes + 1 ≤ 2 * limit)

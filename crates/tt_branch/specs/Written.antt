@@ -1,5 +1,5 @@
 -- Not part of the trusted statement: only proofs use this file.
--- Entries that can be written as nodes of a proof.
+-- Nodes of the tree that can be written as nodes of a proof.
 use Rattle.std.specs.Prelude.{◌≡◌, ℕ, ◌≤◌, Bool, true, List, ◌++◌, length, reverse, Option, ⊤}
 use Rattle.tt_facts_path.specs.Live.{least}
 use Rattle.tt_instance.specs.Problem.{Problem}
@@ -28,7 +28,7 @@ pub record IsWritable (p : Problem) (links : List Link) (e : TreeNode) : Type 0 
   pub numbers : IsNodeOf p (node_at p links e)
   pub once : IsOnceNode (node_at p links e)
 
--- The entries after those left have been written, the last one first.
+-- The nodes of the tree after those left have been written, the last one first.
 pub record IsTaken (p : Problem) (links : List Link) (valued : Bool) (all left : List TreeNode) (nodes : List Node) (lowest : Option ℕ) : Type 0 where
   pub done : List TreeNode
   pub split : all ≡ left ++ done

@@ -25,19 +25,19 @@ pub struct Written {
     pub least: Option<u64>,
 }
 
-/// Returns the node of an entry; an open one is closed by the best claims.
+/// Returns the node of the proof for a node of the tree; an open one is closed by the best claims.
 fn node_for<'i, P: Path<'i>>(
     alloc: Global,
     path: &mut P,
     links: &[Link],
-    entry: TreeNode,
+    tree_node: TreeNode,
 ) -> Result<Node, AllocError>
     requires links { AreLinks links.now }
-    requires reached { IsReached links.now entry.link }
-    ensures node { IfOk result (λ n. n ≡ node_at (P.problem path.old) links.now entry) }
+    requires reached { IsReached links.now tree_node.link }
+    ensures node { IfOk result (λ n. n ≡ node_at (P.problem path.old) links.now tree_node) }
     ensures same { P.problem path.new ≡ P.problem path.old }
 {
-    let TreeNode { mark, link, .. } = entry;
+    let TreeNode { mark, link, .. } = tree_node;
     match mark {
         NodeState::Split(pattern) => Ok(Node::Split(pattern)),
         NodeState::Closed(leaf) => Ok(Node::Leaf(leaf)),
@@ -85,26 +85,26 @@ fn lower(worth: Option<u64>, least: Option<u64>) -> Option<u64>
     }
 }
 
-/// Returns the proof made of the entries, and the least value of its Cost leaves, if that is asked for.
+/// Returns the proof made of the tree's nodes, and the least value of its Cost leaves, if that is asked for.
 pub fn write_nodes<'i, P: Path<'i>>(
     alloc: Global,
     path: &mut P,
     links: &[Link],
-    entries: Vec<TreeNode>,
+    tree_nodes: Vec<TreeNode>,
     valued: bool,
 ) -> Result<Written, AllocError>
     requires links { AreLinks links.now }
-    requires each { All (IsWritable (P.problem path.old) links.now) entries.items }
-    ensures nodes { IfOk result (λ w. w.nodes.items ≡ nodes_of (P.problem path.old) links.now entries.items) }
-    ensures least { IfOk result (λ w. valued ≡ true → w.least ≡ least (worths_of (P.problem path.old) links.now entries.items)) }
+    requires each { All (IsWritable (P.problem path.old) links.now) tree_nodes.items }
+    ensures nodes { IfOk result (λ w. w.nodes.items ≡ nodes_of (P.problem path.old) links.now tree_nodes.items) }
+    ensures least { IfOk result (λ w. valued ≡ true → w.least ≡ least (worths_of (P.problem path.old) links.now tree_nodes.items)) }
     ensures same { P.problem path.new ≡ P.problem path.old }
 {
-    let mut entries = entries;
+    let mut tree_nodes = tree_nodes;
     let mut nodes = Vec::new(alloc);
     let mut least = None;
-    while let Some(entry) = entries.pop() {
-        let link = entry.link;
-        let node = node_for(alloc, path, links, entry)?;
+    while let Some(tree_node) = tree_nodes.pop() {
+        let link = tree_node.link;
+        let node = node_for(alloc, path, links, tree_node)?;
         if valued {
             least = lower(worth_of(alloc, path, links, link, &node)?, least);
         }

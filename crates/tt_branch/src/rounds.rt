@@ -16,12 +16,12 @@ use tt_search::Watch;
 
 /// Splits a node if it was opened; returns the place of the node to open next: of two children, the one expected to have the lower value.
 fn make_wait(search: &mut Search, place: usize) -> Result<usize, AllocError>
-    requires { IsOpenAt search.old.entries.items place }
+    requires { IsOpenAt search.old.tree_nodes.items place }
     ensures made { IfOk result (λ next. MakesWait place search.old next search.new) }
 {
-    match search.entries[place].mark.pattern() {
+    match search.tree_nodes[place].mark.pattern() {
         Some(pattern) => {
-            let second_first = search.entries[place].rises.is_second_better();
+            let second_first = search.tree_nodes[place].rises.is_second_better();
             split(search, place, pattern)?;
             Ok(if second_first { place + 2 } else { place + 1 })
         }
@@ -37,12 +37,12 @@ fn open_next<'i, P: Path<'i>>(
     place: usize,
 ) -> Result<(), AllocError>
     requires under_way { IsUnderWay (P.problem path.old) search.old }
-    requires place { IsOpenAt search.old.entries.items place }
-    requires few { length search.old.entries.items ≤ MAX_TREE }
+    requires place { IsOpenAt search.old.tree_nodes.items place }
+    requires few { length search.old.tree_nodes.items ≤ MAX_TREE }
     ensures under_way { OnOk result (IsUnderWay (P.problem path.old) search.new) }
     ensures better { OnOk result (Advances (P.problem path.old) search.old.best search.new.best) }
-    ensures opened { OnOk result (opened_in search.new.entries.items ≡ opened_in search.old.entries.items + 1) }
-    ensures many { OnOk result (length search.new.entries.items ≤ length search.old.entries.items + 2) }
+    ensures opened { OnOk result (opened_in search.new.tree_nodes.items ≡ opened_in search.old.tree_nodes.items + 1) }
+    ensures many { OnOk result (length search.new.tree_nodes.items ≤ length search.old.tree_nodes.items + 2) }
     ensures same { P.problem path.new ≡ P.problem path.old }
 {
     let next = make_wait(search, place)?;
@@ -58,21 +58,21 @@ pub fn grow<'i, P: Path<'i>, W: Watch>(
     watch: &mut W,
 ) -> Result<bool, AllocError>
     requires under_way { IsUnderWay (P.problem path.old) search.old }
-    requires root { opened_in search.old.entries.items ≡ 1 }
-    requires alone { length search.old.entries.items ≡ 1 }
+    requires root { opened_in search.old.tree_nodes.items ≡ 1 }
+    requires alone { length search.old.tree_nodes.items ≡ 1 }
     requires some { 1 ≤ limit }
     requires few { limit ≤ MAX_OPENED }
     ensures under_way { OnOk result (IsUnderWay (P.problem path.old) search.new) }
     ensures better { OnOk result (Advances (P.problem path.old) search.old.best search.new.best) }
-    ensures ends { IfOk result (EndsAt limit search.new.entries.items) }
+    ensures ends { IfOk result (EndsAt limit search.new.tree_nodes.items) }
     ensures same { P.problem path.new ≡ P.problem path.old }
 {
     for _opened in 1..limit {
-        let Some(place) = next_open(search.entries.as_slice()) else {
+        let Some(place) = next_open(search.tree_nodes.as_slice()) else {
             return Ok(true);
         };
         show(watch, search, place, _opened, limit);
         open_next(alloc, path, search, place)?;
     }
-    Ok(next_open(search.entries.as_slice()).is_none())
+    Ok(next_open(search.tree_nodes.as_slice()).is_none())
 }

@@ -17,7 +17,7 @@ use tt_facts_path::{Fact, Pattern};
 /// A tree that grows, in preorder, the links to the facts of its nodes, and the best timetable so far.
 #[derive(Drop)]
 pub struct Search {
-    pub entries: Vec<TreeNode>,
+    pub tree_nodes: Vec<TreeNode>,
     pub links: Vec<Link>,
     pub best: Option<Best>,
 }
@@ -27,44 +27,44 @@ impl Search {
     pub fn new(alloc: Global, best: Option<Best>) -> Result<Search, AllocError>
         ensures under_way { IfOk result (λ s. (p : Problem) → IsKept p best → IsUnderWay p s) }
         ensures best { IfOk result (λ s. s.best ≡ best) }
-        ensures alone { IfOk result (λ s. length s.entries.items ≡ 1) }
-        ensures unopened { IfOk result (λ s. opened_in s.entries.items ≡ 0) }
-        ensures waiting { IfOk result (λ s. HasMark s.entries.items 0 NodeState.Waiting) }
+        ensures alone { IfOk result (λ s. length s.tree_nodes.items ≡ 1) }
+        ensures unopened { IfOk result (λ s. opened_in s.tree_nodes.items ≡ 0) }
+        ensures waiting { IfOk result (λ s. HasMark s.tree_nodes.items 0 NodeState.Waiting) }
     {
-        let mut entries = Vec::new(alloc);
-        entries.push(TreeNode {
+        let mut tree_nodes = Vec::new(alloc);
+        tree_nodes.push(TreeNode {
             mark: NodeState::Waiting,
             link: 0,
             key: 0,
             rises: ChildGains::NONE,
         })?;
         Ok(Search {
-            entries,
+            tree_nodes,
             links: Vec::new(alloc),
             best,
         })
     }
 }
 
-/// Returns whether an entry is open and either no open one was met before or its key is below the least.
-fn is_next(entry: &TreeNode, first: bool, least: u64) -> bool
-    ensures open { result ≡ true → is_open entry.now.mark ≡ true }
-    ensures first { first ≡ true → result ≡ false → is_open entry.now.mark ≡ false }
+/// Returns whether a node is open and either no open one was met before or its key is below the least.
+fn is_next(tree_node: &TreeNode, first: bool, least: u64) -> bool
+    ensures open { result ≡ true → is_open tree_node.now.mark ≡ true }
+    ensures first { first ≡ true → result ≡ false → is_open tree_node.now.mark ≡ false }
 {
-    entry.is_open() && (first || entry.key < least)
+    tree_node.is_open() && (first || tree_node.key < least)
 }
 
 /// Returns the open node with the least key, the first of several.
-pub fn next_open(entries: &[TreeNode]) -> Option<usize>
-    ensures some { IfSome result (λ place. IsOpenAt entries.now place) }
-    ensures none { IsNone result → list_any (λ e. is_open e.mark) entries.now ≡ false }
+pub fn next_open(tree_nodes: &[TreeNode]) -> Option<usize>
+    ensures some { IfSome result (λ place. IsOpenAt tree_nodes.now place) }
+    ensures none { IsNone result → list_any (λ e. is_open e.mark) tree_nodes.now ≡ false }
 {
     let mut found = None;
     let mut least = u64::MAX;
-    for (place, entry) in entries.iter().enumerate() {
-        if is_next(entry, found.is_none(), least) {
+    for (place, tree_node) in tree_nodes.iter().enumerate() {
+        if is_next(tree_node, found.is_none(), least) {
             found = Some(place);
-            least = entry.key;
+            least = tree_node.key;
         }
     }
     found
@@ -87,17 +87,17 @@ fn push_link(
     Ok(links.len())
 }
 
-/// Replaces the entry at a place.
-pub fn put(entries: &mut Vec<TreeNode>, place: usize, entry: TreeNode)
-    requires { place < vec_len entries.old }
-    ensures { entries.new.items ≡ slice_set entries.old.items place entry }
+/// Replaces the node at a place.
+pub fn put(tree_nodes: &mut Vec<TreeNode>, place: usize, tree_node: TreeNode)
+    requires { place < vec_len tree_nodes.old }
+    ensures { tree_nodes.new.items ≡ slice_set tree_nodes.old.items place tree_node }
 {
-    entries[place] = entry;
+    tree_nodes[place] = tree_node;
 }
 
 /// Splits an opened node by its pattern: its children follow it, and wait.
 pub fn split(search: &mut Search, place: usize, pattern: Pattern) -> Result<(), AllocError>
-    requires { HasMark search.old.entries.items place (NodeState.Opened pattern) }
+    requires { HasMark search.old.tree_nodes.items place (NodeState.Opened pattern) }
     ensures { OnOk result (IsSplitAt place pattern search.old search.new) }
 {
     let TreeNode {
@@ -105,16 +105,16 @@ pub fn split(search: &mut Search, place: usize, pattern: Pattern) -> Result<(), 
         key,
         rises,
         ..
-    } = &search.entries[place];
+    } = &search.tree_nodes[place];
     let (link, key, rises) = (*link, *key, *rises);
     let yes = push_link(&mut search.links, link, pattern, true)?;
     let no = push_link(&mut search.links, link, pattern, false)?;
     let second = TreeNode::waiting(no, key.saturating_add(rises.no));
     let first = TreeNode::waiting(yes, key.saturating_add(rises.yes));
-    search.entries.insert(place + 1, second)?;
-    search.entries.insert(place + 1, first)?;
+    search.tree_nodes.insert(place + 1, second)?;
+    search.tree_nodes.insert(place + 1, first)?;
     put(
-        &mut search.entries,
+        &mut search.tree_nodes,
         place,
         TreeNode {
             mark: NodeState::Split(pattern),

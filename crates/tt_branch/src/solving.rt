@@ -77,18 +77,24 @@ fn conclude<'i, P: Path<'i>>(
 ) -> Result<Outcome, AllocError>
     requires under_way { IsUnderWay (P.problem path.old) search }
     requires begun { BeginsWell (P.problem path.old) (table_of search.best) }
-    requires ends { EndsAt limit search.entries.items finished }
+    requires ends { EndsAt limit search.tree_nodes.items finished }
     requires few { limit ≤ MAX_OPENED }
     ensures { IfOk result (λ o. IsOutcome (P.problem path.old) limit o.best o.bound (option_map (λ v. v.items) o.proof) o.finished) }
 {
     // In every instance, the numbers are within the limits.
     prove!(path.instance().days() <= 64);
     let Search {
-        entries,
+        tree_nodes,
         links,
         best,
     } = search;
-    let Written { nodes, least } = write_nodes(alloc, path, links.as_slice(), entries, !finished)?;
+    let Written { nodes, least } = write_nodes(
+        alloc,
+        path,
+        links.as_slice(),
+        tree_nodes,
+        !finished,
+    )?;
     let bound = shown(&best, least, finished);
     prove_bound(alloc, path, bound, nodes.as_slice())?;
     Ok(Outcome {

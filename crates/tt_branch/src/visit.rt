@@ -170,24 +170,24 @@ pub fn open_at<'i, P: Path<'i>>(
     place: usize,
 ) -> Result<(), AllocError>
     requires under_way { IsUnderWay (P.problem path.old) search.old }
-    requires waiting { HasMark search.old.entries.items place NodeState.Waiting }
-    requires few { length search.old.entries.items ≤ MAX_TREE + 2 }
+    requires waiting { HasMark search.old.tree_nodes.items place NodeState.Waiting }
+    requires few { length search.old.tree_nodes.items ≤ MAX_TREE + 2 }
     ensures under_way { OnOk result (IsUnderWay (P.problem path.old) search.new) }
     ensures better { OnOk result (Advances (P.problem path.old) search.old.best search.new.best) }
-    ensures opened { OnOk result (opened_in search.new.entries.items ≡ opened_in search.old.entries.items + 1) }
-    ensures many { OnOk result (length search.new.entries.items ≡ length search.old.entries.items) }
+    ensures opened { OnOk result (opened_in search.new.tree_nodes.items ≡ opened_in search.old.tree_nodes.items + 1) }
+    ensures many { OnOk result (length search.new.tree_nodes.items ≡ length search.old.tree_nodes.items) }
     ensures same { P.problem path.new ≡ P.problem path.old }
 {
-    let link = search.entries[place].link;
+    let link = search.tree_nodes[place].link;
     go_to(alloc, path, search.links.as_slice(), link)?;
     let Opening { mark, key } = open(alloc, path, &mut search.best)?;
     let rises = rises_of(alloc, path, mark.pattern(), key)?;
-    let entry = TreeNode {
+    let tree_node = TreeNode {
         mark,
         link,
         key,
         rises,
     };
-    put(&mut search.entries, place, entry);
+    put(&mut search.tree_nodes, place, tree_node);
     Ok(())
 }

@@ -7,7 +7,7 @@ use tt_table::Entry;
 /// Reports a search that has opened this many nodes, with the place of the open node of the least value: that value is a lower bound for every
 /// timetable that costs less than the best.
 pub fn show<W: Watch>(watch: &mut W, search: &Search, place: usize, opened: u32, limit: u32) {
-    let bound = search.entries.get(place).map(|entry| entry.key);
+    let bound = search.tree_nodes.get(place).map(|node| node.key);
     let best = search.best.as_ref();
     let entries: &[Entry] = match best {
         Some(best) => best.table.entries(),

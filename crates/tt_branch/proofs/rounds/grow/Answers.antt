@@ -11,10 +11,10 @@ use Rattle.tt_branch.proofs.rounds.grow.Goals as goal
 
 pub returns-in_default-clause-ends : goal.returns-in_default-clause-ends
 returns-in_default-clause-ends g c =
-    let entries = c.loop-opened.search.entries.items in
+    let tree_nodes = c.loop-opened.search.tree_nodes.items in
     let none : IsNone c.next_open.result = search rules in
     let closed = subst (λ (l : List TreeNode). list_any (λ e. is_open e.mark) l ≡ false) c.as_slice.ensures.value (c.next_open.ensures.none none) in
-    ends_closed c.args.limit c.loop-opened._opened entries c.loop-opened.invariant.opened (omega arith) closed
+    ends_closed c.args.limit c.loop-opened._opened tree_nodes c.loop-opened.invariant.opened (omega arith) closed
 
 pub loop-opened-preserved : goal.loop-opened-preserved
 loop-opened-preserved g c =
@@ -32,9 +32,9 @@ loop-opened-preserved g c =
 
 pub returns-clause-ends : goal.returns-clause-ends
 returns-clause-ends g c =
-    let entries = c.loop-opened.search.entries.items in
+    let tree_nodes = c.loop-opened.search.tree_nodes.items in
     let value = c.as_slice-2.ensures.value in
-    ends_by c.args.limit entries c.next_open-2.result c.is_none.result c.is_none.ensures
+    ends_by c.args.limit tree_nodes c.next_open-2.result c.is_none.result c.is_none.ensures
     (subst (λ (l : List TreeNode). IfSome c.next_open-2.result (IsOpenAt l)) value c.next_open-2.ensures.some)
     (subst (λ (l : List TreeNode). IsNone c.next_open-2.result → list_any (λ e. is_open e.mark) l ≡ false) value c.next_open-2.ensures.none)
     (omega (arith, c.loop-opened.invariant.opened)) (omega (arith, c.loop-opened.invariant.few))

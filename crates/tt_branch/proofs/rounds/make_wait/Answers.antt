@@ -15,6 +15,6 @@ pub returns-in-None : goal.returns-in-None
 returns-in-None c =
     let e = c.requires.0 in
     let read = c.index.result.now in
-    let same = ap (λ (x : TreeNode). x.mark) (c.index.ensures ∙ get_or_from_slice_get c.args.search.now.entries.items c.args.place e read c.requires.1) in
+    let same = ap (λ (x : TreeNode). x.mark) (c.index.ensures ∙ get_or_from_slice_get c.args.search.now.tree_nodes.items c.args.place e read c.requires.1) in
     let waits = c.in-None.ensures.none refl (ap is_open same ∙ c.requires.2) in
     record { made = waits_same c.args.place c.args.search.now (e, c.requires.1, sym same ∙ waits) }

@@ -6,6 +6,6 @@ use Rattle.tt_branch.proofs.search.next_open.Given as goal
 
 abbrev pub invariant-loop-place : goal.invariant-loop-place
 invariant-loop-place l = record {
-  some : IfSome l.found (IsOpenAt l.entries);
-  none : IsNone l.found → list_any (λ e. is_open e.mark) (take l.place l.entries) ≡ false;
+  some : IfSome l.found (IsOpenAt l.tree_nodes);
+  none : IsNone l.found → list_any (λ e. is_open e.mark) (take l.place l.tree_nodes) ≡ false;
 }

@@ -14,7 +14,7 @@ root = record { mark = Waiting; link = 0; key = 0; rises = record { yes = 0; no 
 
 pub returns-clause-under_way : goal.returns-clause-under_way
 returns-clause-under_way c = λ p k.
-    let items = c.in_ok-push.ensures.items ∙ ap (λ l. l ++ root ∷ []) c.new-entries.ensures.items in
+    let items = c.in_ok-push.ensures.items ∙ ap (λ l. l ++ root ∷ []) c.new-tree_nodes.ensures.items in
     let links = c.new.ensures.items in
     record {
       kept = k;
@@ -24,5 +24,5 @@ returns-clause-under_way c = λ p k.
 
 pub returns-clause-waiting : goal.returns-clause-waiting
 returns-clause-waiting c =
-    let items = c.in_ok-push.ensures.items ∙ ap (λ l. l ++ root ∷ []) c.new-entries.ensures.items in
+    let items = c.in_ok-push.ensures.items ∙ ap (λ l. l ++ root ∷ []) c.new-tree_nodes.ensures.items in
     (root, ap (λ (l : List TreeNode). slice_get l 0) items, refl)
