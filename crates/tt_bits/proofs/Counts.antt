@@ -79,7 +79,7 @@ pub count-bits : (f g : ℕ → Bool) → ((r : ℕ) → r < 64 → f r ≡ g r)
 unfolding bits
 count-bits f g h = count-same f g 64 h
 
-module _ (w n : ℕ) (t : ℕ → Bool) (few : n ≤ 64) (set : (s : ℕ) → s < 64 → has_bit w s ≡ (nat_lt s n && t s)) where
+module _ (w n : ℕ) (t : ℕ → Bool) (at_most : n ≤ 64) (set : (s : ℕ) → s < 64 → has_bit w s ≡ (nat_lt s n && t s)) where
   pub count-set : count_by (has_bit w) bits ≡ count_by t (range_below n)
   unfolding bits
   count-set =

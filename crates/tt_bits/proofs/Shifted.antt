@@ -21,10 +21,10 @@ has_bit-next w r h =
     ]
 
 pub has_bit-previous : (w r : ℕ) → w < 2 ^ 64 → r < 64 → has_bit (w / 2 ^ 1) r ≡ (nat_lt (r + 1) 64 && has_bit w (r + 1))
-has_bit-previous w r few h =
+has_bit-previous w r at_most h =
     let e : w / 2 ^ 1 ≡ w / 2 = omega arith in
     let all : has_bit (w / 2) r ≡ has_bit w (r + 1) = sym (ap (has_bit w) (add-one r) ∙ ap (λ n. n == 1) (bit_at-suc w r)) in
     ap (λ n. has_bit n r) e ∙ elim (cases_lt (r + 1) 64) [
       | inl l ↦ all ∙ sym (ap (λ b. b && has_bit w (r + 1)) (lt-ltb (r + 1) 64 l))
-      | inr l ↦ all ∙ ap (λ n. n == 1) (bit_at_above w 64 (r + 1) few l) ∙ sym (ap (λ b. b && has_bit w (r + 1)) (le-ltb (r + 1) 64 l))
+      | inr l ↦ all ∙ ap (λ n. n == 1) (bit_at_above w 64 (r + 1) at_most l) ∙ sym (ap (λ b. b && has_bit w (r + 1)) (le-ltb (r + 1) 64 l))
     ]

@@ -115,7 +115,7 @@ pub fn clear(table: &mut Trail, place: usize, mask: u64) -> Result<(), AllocErro
     requires { place < length table.old.words }
     ensures ok { OnOk result (Clears table.old.words place mask table.new.words) }
     ensures err { OnErr result (table.new.words ≡ table.old.words) }
-    ensures same { table.new.earlier ≡ table.old.earlier }
+    ensures unchanged { table.new.earlier ≡ table.old.earlier }
 {
     let old = table.word(place);
     let new = without(old, mask);

@@ -71,7 +71,7 @@ impl Trail {
     pub fn mark(&mut self) -> Result<(), AllocError>
         ensures ok { OnOk result (self.new.earlier ≡ self.old.earlier ++ self.old.words ∷ []) }
         ensures err { OnErr result (self.new.earlier ≡ self.old.earlier) }
-        ensures same { self.new.words ≡ self.old.words }
+        ensures unchanged { self.new.words ≡ self.old.words }
     {
         let len = self.log.len();
         self.marks.push(len)?;
@@ -83,7 +83,7 @@ impl Trail {
         requires { place < length self.old.words }
         ensures ok { OnOk result (self.new.words ≡ slice_set self.old.words place word) }
         ensures err { OnErr result (self.new.words ≡ self.old.words) }
-        ensures same { self.new.earlier ≡ self.old.earlier }
+        ensures unchanged { self.new.earlier ≡ self.old.earlier }
     {
         if self.marks.is_empty() {
             self.words[place] = word;

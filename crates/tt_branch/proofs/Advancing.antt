@@ -65,12 +65,12 @@ pub record IsThere (p : Problem) (links : List Link) (e : TreeNode) : Type 0 whe
   pub patterns : ArePatterns p (path_at links e.link)
 
 pub each_there : (p : Problem) (best : Option (List Cell)) (links : List Link) (tree_nodes : List TreeNode) → IsGrown p best links tree_nodes → length tree_nodes ≤ 131073 → AllByRecursion (IsThere p links) tree_nodes
-each_there p best links tree_nodes grown few =
+each_there p best links tree_nodes grown at_most =
     zip_other (λ x e. Stands p best links x e × (length x.path ≤ 65536)) (IsThere p links) (λ x e h. record {
       reached = record { within = h.0.link; depth = subst (λ q. length q ≤ 65536) (sym h.0.path) h.1 };
       patterns = subst (ArePatterns p) (sym h.0.path) h.0.patterns;
     }) (on_paths [] grown.tree) tree_nodes
-    (zip_and (Stands p best links) (λ x. length x.path ≤ 65536) (on_paths [] grown.tree) tree_nodes (shallow p best links tree_nodes grown few) grown.together)
+    (zip_and (Stands p best links) (λ x. length x.path ≤ 65536) (on_paths [] grown.tree) tree_nodes (shallow p best links tree_nodes grown at_most) grown.together)
 
 -- ---- opened nodes
 

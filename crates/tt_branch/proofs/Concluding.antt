@@ -88,9 +88,9 @@ module _ (p : Problem) (ok : IsInstance p) where
     each_fit = zip_other (Stands p best links) (λ e. IsFit p (node_at p links e)) fit_tree_node xs tree_nodes grown.together
 
     pub writable : length tree_nodes ≤ 131073 → All (IsWritable p links) tree_nodes
-    writable few = All-from_recursion (IsWritable p links) tree_nodes
+    writable at_most = All-from_recursion (IsWritable p links) tree_nodes
         (each_weaker (λ e. IsThere p links e × IsFit p (node_at p links e)) (IsWritable p links) (λ e h. record { reached = h.0.reached; numbers = h.1.numbers; once = h.1.once }) tree_nodes
-        (each_both (IsThere p links) (λ e. IsFit p (node_at p links e)) tree_nodes (each_there p best links tree_nodes grown few) each_fit))
+        (each_both (IsThere p links) (λ e. IsFit p (node_at p links e)) tree_nodes (each_there p best links tree_nodes grown at_most) each_fit))
 
     -- the nodes written are those of the tree
     same_nodes : (ys : List OnPath) (es : List TreeNode) → AllZip (Stands p best links) ys es → nodes_of p links es ≡ map (λ x. x.node) ys
@@ -193,7 +193,7 @@ module _ (p : Problem) (ok : IsInstance p) where
     each_numbers = All-from_recursion (IsNodeOf p) nodes (each_weaker (IsFit p) (IsNodeOf p) (λ n f. f.numbers) nodes fits)
 
     searched : (b : Bound) → length tree_nodes ≤ 131071 → IsBound b → Derives p b [] u.grown.tree → IsSearched p b u.grown.tree nodes
-    searched b few bound derives = record {
+    searched b at_most bound derives = record {
       spelled = spelled;
       derives = derives;
       splits = well_split p best links tree_nodes u.grown;
@@ -229,7 +229,7 @@ module _ (p : Problem) (ok : IsInstance p) where
       answered = refl;
       tree = u.grown.tree;
       searched = searched (final_bound p best) (omega (arith, ends.1)) (bound_final s.best u.kept) (finished_proves p best links tree_nodes u.grown (omega (arith, ends.1)) ends.0).1;
-      ends = record { few = omega (arith, as_long, ends.1); bound = refl };
+      ends = record { at_most = omega (arith, as_long, ends.1); bound = refl };
       holds = holds;
     }
     concluded false lowest begun ends same holds =
@@ -248,7 +248,7 @@ module _ (p : Problem) (ok : IsInstance p) where
           searched = searched (shown_bound (final_bound p best) lowest false) (omega (arith, ends.2)) bound (subst (λ b. Derives p b [] u.grown.tree) (sym shown) derives);
           ends = record {
             enough = omega (arith, as_long, ends.1);
-            few = omega (arith, as_long, ends.2);
+            at_most = omega (arith, as_long, ends.2);
             least_worth = w.0;
             some_cost_leaf = found;
             bound = shown;

@@ -60,7 +60,7 @@ module _ (p : Problem) (ok : IsInstance p) where
   -- the cost of a timetable that breaks no hard rule is at most the maximum bound
   pub cost_limit : (t : List Cell) → IsFeasible p t → cost p t ≤ 1000000000000
   cost_limit t whole =
-      let few : length t ≤ 4096 = omega (
+      let at_most : length t ≤ 4096 = omega (
         arith,
         entries_up p t (in_range p t whole),
         sum_by-le (entries_of t) (lectures p) (all_courses p) (each (λ c. entries_of t c ≤ lectures p c) (λ c. let e = lectures_met p t whole c in omega arith) (all_courses p)),

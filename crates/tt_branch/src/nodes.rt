@@ -35,7 +35,7 @@ fn node_for<'i, P: Path<'i>>(
     requires links { AreLinks links.now }
     requires reached { IsReached links.now tree_node.link }
     ensures node { IfOk result (λ n. n ≡ node_at (P.problem path.old) links.now tree_node) }
-    ensures same { P.problem path.new ≡ P.problem path.old }
+    ensures unchanged { P.problem path.new ≡ P.problem path.old }
 {
     let TreeNode { mark, link, .. } = tree_node;
     match mark {
@@ -61,7 +61,7 @@ fn worth_of<'i, P: Path<'i>>(
     requires numbers { IsNodeOf (P.problem path.old) node.now }
     requires once { IsOnceNode node.now }
     ensures worth { IfOk result (λ w. w ≡ node_worth (P.problem path.old) (path_at links.now link) node.now) }
-    ensures same { P.problem path.new ≡ P.problem path.old }
+    ensures unchanged { P.problem path.new ≡ P.problem path.old }
 {
     match node {
         Node::Leaf(leaf) => {
@@ -97,7 +97,7 @@ pub fn write_nodes<'i, P: Path<'i>>(
     requires each { All (IsWritable (P.problem path.old) links.now) tree_nodes.items }
     ensures nodes { IfOk result (λ w. w.nodes.items ≡ nodes_of (P.problem path.old) links.now tree_nodes.items) }
     ensures least { IfOk result (λ w. valued ≡ true → w.least ≡ least (worths_of (P.problem path.old) links.now tree_nodes.items)) }
-    ensures same { P.problem path.new ≡ P.problem path.old }
+    ensures unchanged { P.problem path.new ≡ P.problem path.old }
 {
     let mut tree_nodes = tree_nodes;
     let mut nodes = Vec::new(alloc);

@@ -38,12 +38,12 @@ fn open_next<'i, P: Path<'i>>(
 ) -> Result<(), AllocError>
     requires under_way { IsUnderWay (P.problem path.old) search.old }
     requires place { IsOpenAt search.old.tree_nodes.items place }
-    requires few { length search.old.tree_nodes.items ≤ MAX_TREE }
+    requires at_most { length search.old.tree_nodes.items ≤ MAX_TREE }
     ensures under_way { OnOk result (IsUnderWay (P.problem path.old) search.new) }
     ensures better { OnOk result (Advances (P.problem path.old) search.old.best search.new.best) }
     ensures opened { OnOk result (opened_in search.new.tree_nodes.items ≡ opened_in search.old.tree_nodes.items + 1) }
     ensures many { OnOk result (length search.new.tree_nodes.items ≤ length search.old.tree_nodes.items + 2) }
-    ensures same { P.problem path.new ≡ P.problem path.old }
+    ensures unchanged { P.problem path.new ≡ P.problem path.old }
 {
     let next = make_wait(search, place)?;
     open_at(alloc, path, search, next)
@@ -60,12 +60,12 @@ pub fn grow<'i, P: Path<'i>, W: Watch>(
     requires under_way { IsUnderWay (P.problem path.old) search.old }
     requires root { opened_in search.old.tree_nodes.items ≡ 1 }
     requires alone { length search.old.tree_nodes.items ≡ 1 }
-    requires some { 1 ≤ limit }
-    requires few { limit ≤ MAX_OPENED }
+    requires positive { 1 ≤ limit }
+    requires at_most { limit ≤ MAX_OPENED }
     ensures under_way { OnOk result (IsUnderWay (P.problem path.old) search.new) }
     ensures better { OnOk result (Advances (P.problem path.old) search.old.best search.new.best) }
     ensures ends { IfOk result (EndsAt limit search.new.tree_nodes.items) }
-    ensures same { P.problem path.new ≡ P.problem path.old }
+    ensures unchanged { P.problem path.new ≡ P.problem path.old }
 {
     for _opened in 1..limit {
         let Some(place) = next_open(search.tree_nodes.as_slice()) else {

@@ -78,7 +78,7 @@ fn conclude<'i, P: Path<'i>>(
     requires under_way { IsUnderWay (P.problem path.old) search }
     requires begun { BeginsWell (P.problem path.old) (table_of search.best) }
     requires ends { EndsAt limit search.tree_nodes.items finished }
-    requires few { limit ≤ MAX_OPENED }
+    requires at_most { limit ≤ MAX_OPENED }
     ensures { IfOk result (λ o. IsOutcome (P.problem path.old) limit o.best o.bound (option_map (λ v. v.items) o.proof) o.finished) }
 {
     // In every instance, the numbers are within the limits.
@@ -124,8 +124,8 @@ fn solve_over<'i, P: Path<'i>, W: Watch>(
 ) -> Result<Outcome, AllocError>
     requires kept { IsKept (P.problem path.old) best }
     requires begun { BeginsWell (P.problem path.old) (table_of best) }
-    requires some { 1 ≤ limit }
-    requires few { limit ≤ MAX_OPENED }
+    requires positive { 1 ≤ limit }
+    requires at_most { limit ≤ MAX_OPENED }
     ensures { IfOk result (λ o. IsOutcome (P.problem path.old) limit o.best o.bound (option_map (λ v. v.items) o.proof) o.finished) }
 {
     let mut search = Search::new(alloc, best)?;
@@ -142,8 +142,8 @@ pub fn solve_watched<W: Watch>(
     seed: u64,
     watch: &mut W,
 ) -> Result<Outcome, AllocError>
-    requires some { 1 ≤ nodes }
-    requires few { nodes ≤ MAX_OPENED }
+    requires positive { 1 ≤ nodes }
+    requires at_most { nodes ≤ MAX_OPENED }
     ensures { IfOk result (λ o. IsOutcome instance.now nodes o.best o.bound (option_map (λ v. v.items) o.proof) o.finished) }
 {
     let mut path = TrailPath::new(alloc, instance)?;
@@ -161,8 +161,8 @@ pub fn solve(
     nodes: u32,
     seed: u64,
 ) -> Result<Outcome, AllocError>
-    requires some { 1 ≤ nodes }
-    requires few { nodes ≤ MAX_OPENED }
+    requires positive { 1 ≤ nodes }
+    requires at_most { nodes ≤ MAX_OPENED }
     ensures { IfOk result (λ o. IsOutcome instance.now nodes o.best o.bound (option_map (λ v. v.items) o.proof) o.finished) }
 {
     solve_watched(alloc, instance, nodes, seed, &mut Unwatched)

@@ -36,7 +36,7 @@ pub fn go_to<'i, P: Path<'i>>(
     requires place { place ≤ length links.now }
     requires depth { length (path_at links.now place) ≤ MAX_FACTS }
     ensures there { OnOk result (P.facts path.new ≡ path_at links.now place) }
-    ensures same { P.problem path.new ≡ P.problem path.old }
+    ensures unchanged { P.problem path.new ≡ P.problem path.old }
 {
     let facts = facts_to(alloc, links, place)?;
     match move_to(path, facts.as_slice()) {
@@ -171,12 +171,12 @@ pub fn open_at<'i, P: Path<'i>>(
 ) -> Result<(), AllocError>
     requires under_way { IsUnderWay (P.problem path.old) search.old }
     requires waiting { HasMark search.old.tree_nodes.items place NodeState.Waiting }
-    requires few { length search.old.tree_nodes.items ≤ MAX_TREE + 2 }
+    requires at_most { length search.old.tree_nodes.items ≤ MAX_TREE + 2 }
     ensures under_way { OnOk result (IsUnderWay (P.problem path.old) search.new) }
     ensures better { OnOk result (Advances (P.problem path.old) search.old.best search.new.best) }
     ensures opened { OnOk result (opened_in search.new.tree_nodes.items ≡ opened_in search.old.tree_nodes.items + 1) }
     ensures many { OnOk result (length search.new.tree_nodes.items ≡ length search.old.tree_nodes.items) }
-    ensures same { P.problem path.new ≡ P.problem path.old }
+    ensures unchanged { P.problem path.new ≡ P.problem path.old }
 {
     let link = search.tree_nodes[place].link;
     go_to(alloc, path, search.links.as_slice(), link)?;

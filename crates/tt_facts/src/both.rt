@@ -20,7 +20,7 @@ pub fn push_both(
     requires halves { AreHalves cells.old pins.old }
     ensures ok { OnOk result (cells.new.facts ≡ cells.old.facts ++ fact ∷ []) }
     ensures err { OnErr result (cells.new.facts ≡ cells.old.facts) }
-    ensures same { cells.new.problem ≡ cells.old.problem }
+    ensures unchanged { cells.new.problem ≡ cells.old.problem }
     ensures halves { AreHalves cells.new pins.new }
 {
     cells.push(fact)?;
@@ -37,10 +37,10 @@ pub fn push_both(
 /// Removes the newest fact and returns it.
 #[inline(always)]
 pub fn pop_both(cells: &mut Cells<'_, '_>, pins: &mut Pins<'_, '_>) -> Fact
-    requires some { 0 < length cells.old.facts }
+    requires positive { 0 < length cells.old.facts }
     requires halves { AreHalves cells.old pins.old }
     ensures fact { cells.old.facts ≡ cells.new.facts ++ result ∷ [] }
-    ensures same { cells.new.problem ≡ cells.old.problem }
+    ensures unchanged { cells.new.problem ≡ cells.old.problem }
     ensures halves { AreHalves cells.new pins.new }
 {
     let fact = cells.pop();

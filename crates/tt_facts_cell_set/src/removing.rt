@@ -26,7 +26,7 @@ pub fn remove_rooms(
     requires table { IsTable instance.now table.old.words }
     ensures ok { OnOk result (Loses instance.now table.old.words
         (λ x. is_placed course day period x && agrees room x.room) table.new.words) }
-    ensures same { table.new.earlier ≡ table.old.earlier }
+    ensures unchanged { table.new.earlier ≡ table.old.earlier }
 {
     for block in 0..width(instance) {
         clear(
@@ -57,7 +57,7 @@ pub fn keep_rooms(
     ensures ok { OnOk result (Loses instance.now table.old.words
         (λ x. is_placed course day period x && not (has_cell instance.now kept.now.words x && agrees room x.room))
         table.new.words) }
-    ensures same { table.new.earlier ≡ table.old.earlier }
+    ensures unchanged { table.new.earlier ≡ table.old.earlier }
 {
     for block in 0..width(instance) {
         let word = open_word(instance, kept, room, course, day, period, block);
@@ -82,7 +82,7 @@ pub fn is_cleared(instance: &Instance<'_>, table: &Trail) -> bool
 pub fn remove_all(instance: &Instance<'_>, table: &mut Trail) -> Result<(), AllocError>
     requires table { IsTable instance.now table.old.words }
     ensures ok { OnOk result (Loses instance.now table.old.words (λ x. true) table.new.words) }
-    ensures same { table.new.earlier ≡ table.old.earlier }
+    ensures unchanged { table.new.earlier ≡ table.old.earlier }
 {
     if is_cleared(instance, table) {
         return Ok(());

@@ -128,7 +128,7 @@ module _ (p : Problem) (path : List Fact) (c : ℕ) (s : Slot) where
             | inr more ↦
                 let falls = order.falling i m.0 d more m.1 in
                 let seats : (get_or rooms m.0 d).seats ≡ capacity p r = ap (λ (x : Ranked). x.seats) m.2 in
-                omega (arith, falls, seats, order.few r l)
+                omega (arith, falls, seats, order.at_most r l)
           ];
     }
 

@@ -21,7 +21,7 @@ rank x = 2 ^ 32 - 1 - x.seats
 pub record IsRoomOrder (p : Problem) (rooms : List Ranked) : Type 0 where
   pub same : IsPermutation (map (ranked p) (all_rooms p)) rooms
   pub falling : IsNonDecreasingBy rank rooms
-  pub few : (r : ℕ) → r < length p.rooms → capacity p r < 2 ^ 32
+  pub at_most : (r : ℕ) → r < length p.rooms → capacity p r < 2 ^ 32
 
 -- The room has a live cell of the course in the period, and no room with a live cell has more seats.
 pub record IsRoomiest (p : Problem) (path : List Fact) (c : ℕ) (s : Slot) (x : Ranked) : Type 0 where

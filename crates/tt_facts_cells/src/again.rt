@@ -63,7 +63,7 @@ pub fn settle_again(
     requires free { IsTable instance.now free.now.words }
     requires live { IsTable instance.now live.old.words }
     ensures ok { OnOk result (Renews instance.now yes.now free.now.words live.old.words pattern.now live.new.words) }
-    ensures same { live.new.earlier ≡ live.old.earlier }
+    ensures unchanged { live.new.earlier ≡ live.old.earlier }
 {
     let mut next = 0_usize;
     for older in yes {

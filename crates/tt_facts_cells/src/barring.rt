@@ -28,7 +28,7 @@ fn remove_at(
     requires table { IsTable instance.now table.old.words }
     ensures ok { OnOk result (Loses instance.now table.old.words
         (λ x. (x.course == course) && agrees_at pattern.now x) table.new.words) }
-    ensures same { table.new.earlier ≡ table.old.earlier }
+    ensures unchanged { table.new.earlier ≡ table.old.earlier }
 {
     if day >= instance.days() || period >= instance.periods() {
         return Ok(());
@@ -50,7 +50,7 @@ fn remove_within(
     requires table { IsTable instance.now table.old.words }
     ensures ok { OnOk result (Loses instance.now table.old.words
         (λ x. (x.course == course) && agrees_at pattern.now x) table.new.words) }
-    ensures same { table.new.earlier ≡ table.old.earlier }
+    ensures unchanged { table.new.earlier ≡ table.old.earlier }
 {
     let periods = instance.periods();
     let (from, to) = slots_of(instance, pattern);
@@ -81,7 +81,7 @@ fn remove_of(
     requires table { IsTable instance.now table.old.words }
     ensures ok { OnOk result (Loses instance.now table.old.words
         (λ x. (x.course == course) && agrees_at pattern.now x) table.new.words) }
-    ensures same { table.new.earlier ≡ table.old.earlier }
+    ensures unchanged { table.new.earlier ≡ table.old.earlier }
 {
     if let (Some(day), Some(period)) = (pattern.day, pattern.period) {
         remove_at(instance, table, pattern, course, day, period)?;
@@ -99,7 +99,7 @@ pub fn remove_matched(
 ) -> Result<(), AllocError>
     requires table { IsTable instance.now table.old.words }
     ensures ok { OnOk result (Loses instance.now table.old.words (matches instance.now pattern.now) table.new.words) }
-    ensures same { table.new.earlier ≡ table.old.earlier }
+    ensures unchanged { table.new.earlier ≡ table.old.earlier }
 {
     for course in courses_of(instance, &pattern.who) {
         if *course >= instance.courses() {

@@ -116,7 +116,7 @@ impl<'p, 'i> Cells<'p, 'i> {
         requires { length self.old.facts < MAX_FACTS }
         ensures ok { OnOk result (self.new.facts ≡ self.old.facts ++ fact ∷ []) }
         ensures err { OnErr result (self.new.facts ≡ self.old.facts) }
-        ensures same { self.new.problem ≡ self.old.problem }
+        ensures unchanged { self.new.problem ≡ self.old.problem }
     {
         self.watches.grow(self.yes.len().saturating_add(1))?;
         list_fact(&mut self.facts, &mut self.firsts, &mut self.yes, fact)?;
@@ -140,7 +140,7 @@ impl<'p, 'i> Cells<'p, 'i> {
     pub fn pop(&mut self) -> Fact
         requires { 0 < length self.old.facts }
         ensures fact { self.old.facts ≡ self.new.facts ++ result ∷ [] }
-        ensures same { self.new.problem ≡ self.old.problem }
+        ensures unchanged { self.new.problem ≡ self.old.problem }
     {
         self.free.undo();
         self.live.undo();

@@ -82,7 +82,7 @@ fn remove_lost(
     requires live { IsTable instance.now live.old.words }
     ensures ok { OnOk result (Loses instance.now live.old.words
         (λ x. is_placed course day period x && has_room lost x.room) live.new.words) }
-    ensures same { live.new.earlier ≡ live.old.earlier }
+    ensures unchanged { live.new.earlier ≡ live.old.earlier }
 {
     match lost {
         Rooms::All => {
@@ -118,7 +118,7 @@ fn strike(
         (λ x. is_placed course day period x
         && loses_room instance.now free.now.words pattern.now day period courses.now x.course x.room)
         live.new.words) }
-    ensures same { live.new.earlier ≡ live.old.earlier }
+    ensures unchanged { live.new.earlier ≡ live.old.earlier }
 {
     if !has_period(instance, live, None, course, day, period) {
         return Ok(());
@@ -149,7 +149,7 @@ fn kill(
     requires live { IsTable instance.now live.old.words }
     ensures ok { OnOk result (Loses instance.now live.old.words
         (is_struck instance.now free.now.words pattern.now day period courses.now) live.new.words) }
-    ensures same { live.new.earlier ≡ live.old.earlier }
+    ensures unchanged { live.new.earlier ≡ live.old.earlier }
 {
     for course in 0..instance.courses() {
         strike(instance, free, live, pattern, day, period, courses, course)?;
@@ -171,7 +171,7 @@ fn strike_period(
     requires live { IsTable instance.now live.old.words }
     ensures ok { OnOk result (Loses instance.now live.old.words
         (λ x. has_number courses.now x.course && ((x.day == day) && (x.period == period))) live.new.words) }
-    ensures same { live.new.earlier ≡ live.old.earlier }
+    ensures unchanged { live.new.earlier ≡ live.old.earlier }
 {
     for course in courses {
         if *course >= instance.courses() {
@@ -198,7 +198,7 @@ fn strike_room_of(
     requires live { IsTable instance.now live.old.words }
     ensures ok { OnOk result (Loses instance.now live.old.words
         (λ x. is_placed other day period x && (not (x.course == course) && (room == x.room))) live.new.words) }
-    ensures same { live.new.earlier ≡ live.old.earlier }
+    ensures unchanged { live.new.earlier ≡ live.old.earlier }
 {
     if other == course {
         return Ok(());
@@ -222,7 +222,7 @@ fn strike_room(
     requires live { IsTable instance.now live.old.words }
     ensures ok { OnOk result (Loses instance.now live.old.words
         (λ x. (x.day == day) && (x.period == period) && (not (x.course == course) && (room == x.room))) live.new.words) }
-    ensures same { live.new.earlier ≡ live.old.earlier }
+    ensures unchanged { live.new.earlier ≡ live.old.earlier }
 {
     for other in 0..instance.courses() {
         strike_room_of(instance, live, room, day, period, course, other)?;
@@ -255,7 +255,7 @@ pub fn kill_one(
     requires live { IsTable instance.now live.old.words }
     ensures ok { OnOk result (Loses instance.now live.old.words
         (is_struck instance.now free.now.words pattern.now day period (course ∷ [])) live.new.words) }
-    ensures same { live.new.earlier ≡ live.old.earlier }
+    ensures unchanged { live.new.earlier ≡ live.old.earlier }
 {
     match common {
         Rooms::Nothing => {
@@ -295,7 +295,7 @@ pub fn kill_by_links(
     requires live { IsTable instance.now live.old.words }
     ensures ok { OnOk result (Loses instance.now live.old.words
         (is_struck instance.now free.now.words pattern.now day period courses.now) live.new.words) }
-    ensures same { live.new.earlier ≡ live.old.earlier }
+    ensures unchanged { live.new.earlier ≡ live.old.earlier }
 {
     if courses.len() == 1 && courses[0] < instance.courses() {
         let course = courses[0];

@@ -56,7 +56,7 @@ pub fn list_fact(
 /// Removes the newest fact from the lists and returns it.
 #[inline(always)]
 pub fn unlist_fact(facts: &mut Vec<Fact>, firsts: &mut Vec<bool>, yes: &mut Vec<Pattern>) -> Fact
-    requires some { 0 < length facts.old.items }
+    requires positive { 0 < length facts.old.items }
     requires listing { IsListing facts.old.items firsts.old.items yes.old.items }
     ensures fact { facts.old.items ≡ facts.new.items ++ result ∷ [] }
     ensures listing { IsListing facts.new.items firsts.new.items yes.new.items }

@@ -34,7 +34,7 @@ impl Model for RoomOrder {
 /// Returns the rooms with their seats, in the order of the instance.
 fn ranked_rooms(alloc: Global, instance: &Instance<'_>) -> Result<Vec<Ranked>, AllocError>
     ensures rooms { IfOk result (λ v. v.items ≡ map (ranked instance.now) (all_rooms instance.now)) }
-    ensures few { IfOk result (λ v. (r : ℕ) → r < length instance.now.rooms → capacity instance.now r < 2 ^ 32) }
+    ensures at_most { IfOk result (λ v. (r : ℕ) → r < length instance.now.rooms → capacity instance.now r < 2 ^ 32) }
 {
     let mut rooms = Vec::new(alloc);
     for room in 0..instance.rooms() {

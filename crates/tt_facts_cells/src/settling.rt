@@ -37,7 +37,7 @@ fn settle_from(
     requires free { IsTable instance.now free.now.words }
     requires live { IsTable instance.now live.old.words }
     ensures ok { OnOk result (Settles instance.now free.now.words live.old.words pattern.now live.new.words) }
-    ensures same { live.new.earlier ≡ live.old.earlier }
+    ensures unchanged { live.new.earlier ≡ live.old.earlier }
 {
     let periods = instance.periods();
     match first_left(instance, free, pattern, courses, slot + 1, to) {
@@ -83,7 +83,7 @@ fn settle_one(
     requires free { IsTable instance.now free.now.words }
     requires live { IsTable instance.now live.old.words }
     ensures ok { OnOk result (Settles instance.now free.now.words live.old.words pattern.now live.new.words) }
-    ensures same { live.new.earlier ≡ live.old.earlier }
+    ensures unchanged { live.new.earlier ≡ live.old.earlier }
 {
     let common = common_rooms(instance, free, pattern.room, course, day, period);
     match common {
@@ -121,7 +121,7 @@ fn settle_at(
     requires free { IsTable instance.now free.now.words }
     requires live { IsTable instance.now live.old.words }
     ensures ok { OnOk result (Settles instance.now free.now.words live.old.words pattern.now live.new.words) }
-    ensures same { live.new.earlier ≡ live.old.earlier }
+    ensures unchanged { live.new.earlier ≡ live.old.earlier }
 {
     if courses.len() == 1 && courses[0] < instance.courses() {
         settle_one(
@@ -153,7 +153,7 @@ fn settle_within(
     requires free { IsTable instance.now free.now.words }
     requires live { IsTable instance.now live.old.words }
     ensures ok { OnOk result (Settles instance.now free.now.words live.old.words pattern.now live.new.words) }
-    ensures same { live.new.earlier ≡ live.old.earlier }
+    ensures unchanged { live.new.earlier ≡ live.old.earlier }
 {
     if is_spread(instance, free, pattern, courses, watch) {
         return Ok(watch);
@@ -187,7 +187,7 @@ pub fn settle(
     requires free { IsTable instance.now free.now.words }
     requires live { IsTable instance.now live.old.words }
     ensures ok { OnOk result (Settles instance.now free.now.words live.old.words pattern.now live.new.words) }
-    ensures same { live.new.earlier ≡ live.old.earlier }
+    ensures unchanged { live.new.earlier ≡ live.old.earlier }
 {
     let courses = courses_of(instance, &pattern.who);
     match (pattern.day, pattern.period) {

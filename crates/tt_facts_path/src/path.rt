@@ -54,13 +54,13 @@ pub trait Path<'i> {
         ensures deep { length (facts self.old) ≡ MAX_FACTS → IsErrOf result PathFault.TooDeep }
         ensures room { length (facts self.old) < MAX_FACTS → IsOkUnless result PathFault.OutOfMemory }
         ensures err { OnErr result (facts self.new ≡ facts self.old) }
-        ensures same { problem self.new ≡ problem self.old };
+        ensures unchanged { problem self.new ≡ problem self.old };
 
     /// Removes the newest fact and returns it.
     fn pop(&mut self) -> Fact
         requires { 0 < length (facts self.old) }
         ensures fact { facts self.old ≡ facts self.new ++ result ∷ [] }
-        ensures same { problem self.new ≡ problem self.old };
+        ensures unchanged { problem self.new ≡ problem self.old };
 
     /// Returns whether exactly this fact is on the path.
     fn has(&self, pattern: &Pattern, holds: bool) -> bool

@@ -23,7 +23,7 @@ fn pin(
     requires size { length table.old.words ≡ size instance.now }
     requires links { AreCurricula instance.now links.now }
     ensures ok { OnOk result (Pins instance.now fact.now table.old.words table.new.words) }
-    ensures same { table.new.earlier ≡ table.old.earlier }
+    ensures unchanged { table.new.earlier ≡ table.old.earlier }
 {
     if !fact.holds {
         return Ok(());

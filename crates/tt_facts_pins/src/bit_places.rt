@@ -19,7 +19,7 @@ fn fact_row(instance: &Instance<'_>, holds: bool, course: u32) -> usize
     requires { course < length instance.now.courses }
     ensures value { result ≡ fact_row instance.now holds course }
     ensures within { result < fact_rows instance.now }
-    ensures few { fact_rows instance.now ≤ 2 * MAX_COURSES }
+    ensures at_most { fact_rows instance.now ≤ 2 * MAX_COURSES }
 {
     let courses = instance.courses();
     prove!(course < courses);
@@ -36,7 +36,7 @@ fn open_place(instance: &Instance<'_>, holds: bool, course: u32, day: u32) -> us
     requires day { day < instance.now.days }
     ensures value { result ≡ open_place instance.now holds course day }
     ensures within { result < open_size instance.now }
-    ensures few { open_size instance.now ≤ 2 * MAX_COURSES * MAX_DAYS }
+    ensures at_most { open_size instance.now ≤ 2 * MAX_COURSES * MAX_DAYS }
 {
     let days = instance.days() as usize;
     fact_row(instance, holds, course) * days + day as usize
@@ -68,7 +68,7 @@ fn closed_place(
 /// Returns the number of words for facts without a room.
 fn open_size(instance: &Instance<'_>) -> usize
     ensures value { result ≡ open_size instance.now }
-    ensures few { result ≤ 2 * MAX_COURSES * MAX_DAYS }
+    ensures at_most { result ≤ 2 * MAX_COURSES * MAX_DAYS }
 {
     let courses = instance.courses() as usize;
     (courses + courses) * instance.days() as usize

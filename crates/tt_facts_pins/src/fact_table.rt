@@ -18,7 +18,7 @@ pub fn add_fact(
 ) -> Result<(), AllocError>
     requires size { length fact_table.old.words ≡ fact_table_size instance.now }
     ensures ok { OnOk result (AddsFact instance.now fact.now fact_table.old.words fact_table.new.words) }
-    ensures same { fact_table.new.earlier ≡ fact_table.old.earlier }
+    ensures unchanged { fact_table.new.earlier ≡ fact_table.old.earlier }
 {
     let periods = instance.periods();
     prove!(periods <= 64);

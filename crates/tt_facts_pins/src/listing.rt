@@ -36,7 +36,7 @@ pub fn list_fact(
 /// Removes the newest fact from the lists and returns it.
 #[inline(always)]
 pub fn unlist_fact(instance: &Instance<'_>, facts: &mut Vec<Fact>, unplaced: &mut Vec<Fact>) -> Fact
-    requires some { 0 < length facts.old.items }
+    requires positive { 0 < length facts.old.items }
     requires unplaced { unplaced.old.items ≡ unplaced_of instance.now facts.old.items }
     ensures fact { facts.old.items ≡ facts.new.items ++ result ∷ [] }
     ensures unplaced { unplaced.new.items ≡ unplaced_of instance.now facts.new.items }

@@ -29,7 +29,7 @@ fn pin_one(
     requires period { period < 64 }
     ensures ok { OnOk result (Adds table.old.words
         (λ i. i == day_place instance.now (row_of instance.now who) day) period table.new.words) }
-    ensures same { table.new.earlier ≡ table.old.earlier }
+    ensures unchanged { table.new.earlier ≡ table.old.earlier }
 {
     put(table, day_place(instance, who, day), period)?;
     Ok(())
@@ -49,7 +49,7 @@ fn pin_each(
     requires period { period < 64 }
     ensures ok { OnOk result (Adds table.old.words
         (is_day_of instance.now curricula.now day) period table.new.words) }
-    ensures same { table.new.earlier ≡ table.old.earlier }
+    ensures unchanged { table.new.earlier ≡ table.old.earlier }
 {
     for curriculum in curricula {
         pin_one(instance, table, Who::Curriculum(*curriculum), day, period)?;
@@ -73,7 +73,7 @@ fn pin_course(
     requires period { period < instance.now.periods }
     ensures ok { OnOk result (PinsPeriods instance.now (Who.Course course) (Some day) (Some period)
         table.old.words table.new.words) }
-    ensures same { table.new.earlier ≡ table.old.earlier }
+    ensures unchanged { table.new.earlier ≡ table.old.earlier }
 {
     let periods = instance.periods();
     prove!(period < periods);
@@ -96,7 +96,7 @@ fn pin_curriculum(
     requires period { period < instance.now.periods }
     ensures ok { OnOk result (PinsPeriods instance.now (Who.Curriculum curriculum) (Some day) (Some period)
         table.old.words table.new.words) }
-    ensures same { table.new.earlier ≡ table.old.earlier }
+    ensures unchanged { table.new.earlier ≡ table.old.earlier }
 {
     let periods = instance.periods();
     prove!(period < periods);
@@ -119,7 +119,7 @@ fn pin_at(
     requires day { day < instance.now.days }
     requires period { period < instance.now.periods }
     ensures ok { OnOk result (PinsPeriods instance.now who (Some day) (Some period) table.old.words table.new.words) }
-    ensures same { table.new.earlier ≡ table.old.earlier }
+    ensures unchanged { table.new.earlier ≡ table.old.earlier }
 {
     match who {
         Who::Course(course) => {
@@ -149,7 +149,7 @@ pub fn pin_period(
     requires size { length table.old.words ≡ size instance.now }
     requires links { AreCurricula instance.now links.now }
     ensures ok { OnOk result (PinsPeriods instance.now who day period table.old.words table.new.words) }
-    ensures same { table.new.earlier ≡ table.old.earlier }
+    ensures unchanged { table.new.earlier ≡ table.old.earlier }
 {
     let Some(on) = day else {
         return Ok(());
@@ -176,7 +176,7 @@ fn pin_room_of(
     requires room { room < length instance.now.rooms }
     ensures ok { OnOk result (PinsRooms instance.now (Who.Course course) (Some room)
         table.old.words table.new.words) }
-    ensures same { table.new.earlier ≡ table.old.earlier }
+    ensures unchanged { table.new.earlier ≡ table.old.earlier }
 {
     put(table, room_place(instance, course, room), room % 64)?;
     Ok(())
@@ -191,7 +191,7 @@ pub fn pin_room(
 ) -> Result<(), AllocError>
     requires size { length table.old.words ≡ size instance.now }
     ensures ok { OnOk result (PinsRooms instance.now who room table.old.words table.new.words) }
-    ensures same { table.new.earlier ≡ table.old.earlier }
+    ensures unchanged { table.new.earlier ≡ table.old.earlier }
 {
     let Who::Course(course) = who else {
         return Ok(());

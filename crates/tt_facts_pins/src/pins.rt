@@ -103,7 +103,7 @@ impl<'p, 'i> Pins<'p, 'i> {
         requires { length self.old.facts < MAX_FACTS }
         ensures ok { OnOk result (self.new.facts ≡ self.old.facts ++ fact ∷ []) }
         ensures err { OnErr result (self.new.facts ≡ self.old.facts) }
-        ensures same { self.new.problem ≡ self.old.problem }
+        ensures unchanged { self.new.problem ≡ self.old.problem }
     {
         list_fact(self.instance, &mut self.facts, &mut self.unplaced, fact)?;
         if let Err(fault) = add(
@@ -124,7 +124,7 @@ impl<'p, 'i> Pins<'p, 'i> {
     pub fn pop(&mut self) -> Fact
         requires { 0 < length self.old.facts }
         ensures fact { self.old.facts ≡ self.new.facts ++ result ∷ [] }
-        ensures same { self.new.problem ≡ self.old.problem }
+        ensures unchanged { self.new.problem ≡ self.old.problem }
     {
         self.pinned.undo();
         self.fact_table.undo();

@@ -13,7 +13,7 @@ pub fn row_of(instance: &Instance<'_>, who: Who) -> usize
     requires { IsWho instance.now who }
     ensures value { result ≡ row_of instance.now who }
     ensures within { result < rows instance.now }
-    ensures few { rows instance.now ≤ MAX_COURSES + MAX_CURRICULA }
+    ensures at_most { rows instance.now ≤ MAX_COURSES + MAX_CURRICULA }
 {
     let courses = instance.courses() as usize;
     let curricula = instance.curricula() as usize;

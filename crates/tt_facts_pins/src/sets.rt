@@ -22,7 +22,7 @@ pub fn put(table: &mut Trail, place: usize, number: u32) -> Result<(), AllocErro
     requires number { number < 64 }
     ensures ok { OnOk result (Puts table.old.words place number table.new.words) }
     ensures err { OnErr result (table.new.words ≡ table.old.words) }
-    ensures same { table.new.earlier ≡ table.old.earlier }
+    ensures unchanged { table.new.earlier ≡ table.old.earlier }
 {
     let old = table.word(place);
     let new = with(old, number);

@@ -148,7 +148,7 @@ narrow_from p g value e =
 
 -- -- the sizes of a group's digits
 
-module _ (p : Problem) (g : Group) (cs : List ℕ) (few : (c : ℕ) → Contains cs c → lectures p c ≤ 255) (own : (c : ℕ) → Contains g.courses c → Contains cs c) where
+module _ (p : Problem) (g : Group) (cs : List ℕ) (at_most : (c : ℕ) → Contains cs c → lectures p c ≤ 255) (own : (c : ℕ) → Contains g.courses c → Contains cs c) where
   -- each size is between 1 and 256
   pub sizes_between : (j : ℕ) → j < length (group_sizes p g cs) → (0 < slice_index (group_sizes p g cs) j) × (slice_index (group_sizes p g cs) j ≤ 256)
   sizes_between j h =
@@ -156,14 +156,14 @@ module _ (p : Problem) (g : Group) (cs : List ℕ) (few : (c : ℕ) → Contains
       elim (cases_lt j (length cs)) [
         | inl l ↦
             let e = at_left (λ c. lectures p c + 1) (λ c. slack p c + 1) cs g.courses j l in
-            let k = few (slice_index cs j) (Contains-get_or cs j 0 l) in
+            let k = at_most (slice_index cs j) (Contains-get_or cs j 0 l) in
             (omega (arith, e), omega (arith, e, k))
         | inr l ↦
             let i = j - length cs in
             let z : length cs + i ≡ j = omega arith in
             let inside : i < length g.courses = omega (arith, both, h) in
             let e = ap (slice_index (group_sizes p g cs)) (sym z) ∙ at_right (λ c. lectures p c + 1) (λ c. slack p c + 1) cs g.courses i inside in
-            let k = few (slice_index g.courses i) (own (slice_index g.courses i) (Contains-get_or g.courses i 0 inside)) in
+            let k = at_most (slice_index g.courses i) (own (slice_index g.courses i) (Contains-get_or g.courses i 0 inside)) in
             (omega (arith, e), omega (arith, e, k))
       ]
 
@@ -193,10 +193,10 @@ base_bound p g value h t relaxed = omega (arith, h, plan-le_cost p g t relaxed)
 pub digits_between : (p : Problem) (g : Group) (value : ℕ) (cs sizes : List ℕ) → cs ≡ courses_of p g → AreCourses p g cs → IsNarrow p g value → sizes ≡ group_sizes p g cs
     → (j : ℕ) → j < length sizes → (0 < slice_index sizes j) × (slice_index sizes j ≤ 256)
 digits_between p g value cs sizes is are narrow sized j h =
-    let few = λ (c : ℕ) (m : Contains cs c). narrow.lectures_few c (subst (λ (l : List ℕ). Contains l c) is m) in
+    let at_most = λ (c : ℕ) (m : Contains cs c). narrow.lectures_few c (subst (λ (l : List ℕ). Contains l c) is m) in
     let own = λ (c : ℕ) (m : Contains g.courses c). are.all c (course_own p g c m) in
     subst (λ (l : List ℕ). (0 < slice_index l j) × (slice_index l j ≤ 256)) (sym sized)
-    (sizes_between p g cs few own j (omega (arith, h, ap length sized)))
+    (sizes_between p g cs at_most own j (omega (arith, h, ap length sized)))
 
 pub digits_few : (p : Problem) (g : Group) (value : ℕ) (cs sizes : List ℕ) → cs ≡ courses_of p g → IsNarrow p g value → sizes ≡ group_sizes p g cs → length sizes ≤ 32
 digits_few p g value cs sizes is narrow sized =

@@ -11,7 +11,7 @@ use Rattle.tt_groups_day.specs.Found.{AreDistinct}
 pub record AreCoursesAndSizes (p : Problem) (g : Group) (cs sizes : List ℕ) (courses : ℕ) : Type 0 where
   pub group : AreCourses p g cs
   pub distinct : AreDistinct cs
-  pub few : length cs ≤ 16
+  pub at_most : length cs ≤ 16
   pub own : length g.courses ≤ 16
   pub curricula : length g.curricula ≤ 64
   pub in_range : All (λ c. c < length p.courses) cs

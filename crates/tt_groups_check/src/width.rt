@@ -77,7 +77,7 @@ fn has_long_course(instance: &Instance<'_>, group: &Group) -> bool
 
 /// Returns the base cost: the group costs at least this in each relaxed timetable, since a course has no more days than lectures.
 pub fn base_cost(instance: &Instance<'_>, group: &Group) -> u64
-    requires few { length group.now.courses ≤ GROUP_COURSES }
+    requires at_most { length group.now.courses ≤ GROUP_COURSES }
     requires in_range { IsGroupOf instance.now group.now }
     ensures value { result ≡ base_cost instance.now group.now }
     ensures small { result ≤ DAY_PRICE * MAX_MIN_DAYS * GROUP_COURSES }

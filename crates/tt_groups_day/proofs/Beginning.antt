@@ -42,7 +42,7 @@ word-without a b qs f h small wa wb k l = has_bit-without a b k small l ∙ ap (
 
 -- a word has as many bits as there are curricula that pass the test
 pub ones-of_word : (w : ℕ) (qs : List ℕ) (f : ℕ → Bool) → w < 2 ^ 64 → length qs ≤ 64 → IsWordOf w qs f → count_ones w ≡ count_by f qs
-ones-of_word w qs f small few word =
+ones-of_word w qs f small at_most word =
     let n = length qs in
     let t : ℕ → Bool = λ k. f (slice_index qs k) in
     let all = count_ones-bits w small ∙ count-bits (has_bit w) (λ k. nat_lt k n && t k) word in
@@ -133,19 +133,19 @@ module _ (p : Problem) (g : Group) (cs weights : List ℕ) (before : List Course
     -- the cost that the set settles
     pub settled-now : AreCourses p g cs → length g.curricula ≤ 64 → now < p.periods → m.pending < 2 ^ 64 → x.curricula < 2 ^ 64 → (day : Day) → Begins p g cs day (before ++ x ∷ [])
         → m.cost + 2 * count_ones (bit_and m.pending (bit_not w64 x.curricula)) ≡ settled_cost p g day (now + 1)
-    settled-now are few inside small_a small_b day begins =
+    settled-now are at_most inside small_a small_b day begins =
         let here = begins-now day begins in
         let earlier = begins-before day begins in
         let taught = word-same x.curricula g.curricula (λ q. list_any (λ i. has_course x i && in_curriculum p q (slice_index cs i)) (range_below (length cs))) (λ q. is_taught p day q now)
         (λ k l. met-taught are inside day here (slice_index g.curricula k) (Contains-get_or g.curricula k 0 l)) set.met in
         let word = word-without m.pending x.curricula g.curricula (λ q. is_pending p day q now) (λ q. is_taught p day q now) small_b (morning.pending day earlier) taught in
-        let ones = ones-of_word (bit_and m.pending (bit_not w64 x.curricula)) g.curricula (λ q. is_settled p day q now) (omega (arith, small_a, and_le_l m.pending (bit_not w64 x.curricula))) few word in
+        let ones = ones-of_word (bit_and m.pending (bit_not w64 x.curricula)) g.curricula (λ q. is_settled p day q now) (omega (arith, small_a, and_le_l m.pending (bit_not w64 x.curricula))) at_most word in
         omega (arith, ones, morning.paid day earlier, sum_more (λ i. 2 * count_by (λ q. is_settled p day q i) g.curricula) now)
 
     pub morning-more : AreCourses p g cs → length g.curricula ≤ 64 → now < p.periods → m.pending < 2 ^ 64 → m.occupied < 2 ^ 64 → x.curricula < 2 ^ 64 → (counts : List ℕ) → ((i : ℕ) → slice_index counts i ≡ slice_index m.counts i + slice_index x.courses i) → (cost : ℕ)
         → cost ≡ m.cost + 2 * count_ones (bit_and m.pending (bit_not w64 x.curricula))
         → IsMorningOf p g cs weights (before ++ x ∷ []) (record { counts = counts; place = m.place + x.index; cost = cost; occupied = x.curricula; pending = bit_and x.curricula (bit_not w64 m.occupied) })
-    morning-more are few inside small_p small_o small_x counts sums cost cost_is = record {
+    morning-more are at_most inside small_p small_o small_x counts sums cost cost_is = record {
       counts = λ i. omega (arith, sums i, morning.counts i, count_one_more (λ y. has_course y i) before x, one_if_course x i (set.digits i));
       own = λ i h. omega (arith, sums i, morning.own i h, set.own i h);
       placed =
@@ -153,7 +153,7 @@ module _ (p : Problem) (g : Group) (cs weights : List ℕ) (before : List Course
           (λ i. ap (λ z. z * slice_index weights i) (sums i) ∙ omega arith) in
           omega (arith, morning.placed, set.placed, both, sum_by-plus (λ i. slice_index m.counts i * slice_index weights i) (λ i. slice_index x.courses i * slice_index weights i) (range_below (length cs)));
       paid = λ day begins. let z : length (before ++ x ∷ []) ≡ now + 1 = length-append before (x ∷ []) in
-          ap (settled_cost p g day) z ∙ sym (settled-now are few inside small_p small_x day begins) ∙ sym cost_is;
+          ap (settled_cost p g day) z ∙ sym (settled-now are at_most inside small_p small_x day begins) ∙ sym cost_is;
       occupied = λ day begins.
           let here = begins-now day begins in
           let z : now + 1 ≡ length (before ++ x ∷ []) = sym (length-append before (x ∷ [])) in
@@ -179,7 +179,7 @@ module _ (p : Problem) (g : Group) (cs weights : List ℕ) (before : List Course
       -- the cost has reached the bound
       pub barred-costly : m.pending < 2 ^ 64 → x.curricula < 2 ^ 64 → b ≤ m.cost + 2 * count_ones (bit_and m.pending (bit_not w64 x.curricula)) → Covers p g cs b d weights table (before ++ x ∷ [])
       barred-costly small_p small_x full = record {
-        low = λ day is fits begins less. absurd (omega (arith, full, less, settled-now day_of.group day_of.few day_of.inside small_p small_x day begins, settled-le p g day (now + 1) (omega (arith, day_of.inside))));
+        low = λ day is fits begins less. absurd (omega (arith, full, less, settled-now day_of.group day_of.at_most day_of.inside small_p small_x day begins, settled-le p g day (now + 1) (omega (arith, day_of.inside))));
       }
 
       -- a course of the set is closed

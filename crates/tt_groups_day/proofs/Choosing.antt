@@ -74,17 +74,17 @@ cut_right false b e = refl
 
 -- an upper bound of the index of courses, each of a weight up to m
 pub index-le : (weights amounts : List ℕ) (m n : ℕ) → ((i : ℕ) → slice_index weights i ≤ m) → ((i : ℕ) → slice_index amounts i ≤ 1) → index_by weights amounts n ≤ n * m
-index-le weights amounts m zero few digits = omega arith
-index-le weights amounts m (suc n) few digits =
+index-le weights amounts m zero at_most digits = omega arith
+index-le weights amounts m (suc n) at_most digits =
     let e : suc n ≡ n + 1 = omega arith in
     let more : index_by weights amounts (suc n) ≡ index_by weights amounts n + slice_index amounts n * slice_index weights n =
     ap (index_by weights amounts) e ∙ sum_more (λ i. slice_index amounts i * slice_index weights i) n in
-    omega (arith, more, index-le weights amounts m n few digits, at_most (slice_index amounts n) (slice_index weights n) (digits n), few n)
+    omega (arith, more, index-le weights amounts m n at_most digits, is_at_most (slice_index amounts n) (slice_index weights n) (digits n), at_most n)
   where
-    at_most : (a w : ℕ) → a ≤ 1 → a * w ≤ w
-    at_most zero w h = omega arith
-    at_most (suc zero) w h = omega arith
-    at_most (suc (suc a)) w h = absurd (omega arith)
+    is_at_most : (a w : ℕ) → a ≤ 1 → a * w ≤ w
+    is_at_most zero w h = omega arith
+    is_at_most (suc zero) w h = omega arith
+    is_at_most (suc (suc a)) w h = absurd (omega arith)
 
 module _ (p : Problem) (g : Group) (cs weights : List ℕ) (n met : ℕ) (below : n < 16) (word : IsWordOf met g.curricula (λ q. in_curriculum p q (slice_index cs n))) where
   abbrev meets : CourseSet → ℕ → ℕ → Bool
@@ -261,7 +261,7 @@ module _ (p : Problem) (g : Group) (cs weights : List ℕ) where
 module _ (p : Problem) (g : Group) (cs weights : List ℕ) (xs : List CourseSet) where
   -- an upper bound of the index after another course
   pub room_left : (m n : ℕ) (x : CourseSet) → IsChoice p g cs weights n x → ((i : ℕ) → slice_index weights i ≤ m) → x.index + slice_index weights n ≤ n * m + m
-  room_left m n x is few = omega (arith, is.placed, index-le weights x.courses m n few is.digits, few n)
+  room_left m n x is at_most = omega (arith, is.placed, index-le weights x.courses m n at_most is.digits, at_most n)
 
   pub complete_sets : AreCourses p g cs → HasChoices p cs (length cs) xs → IsComplete p g cs xs
   complete_sets are all = record {
@@ -276,9 +276,9 @@ module _ (p : Problem) (g : Group) (cs weights : List ℕ) (xs : List CourseSet)
 
   -- the index of a set is small if all weights are small
   pub small_sets : (m : ℕ) → length cs ≤ 16 → ((i : ℕ) → slice_index weights i ≤ m) → All (IsChoice p g cs weights (length cs)) xs → All (λ x. x.index ≤ 16 * m) xs
-  small_sets m few small each = λ k d h.
+  small_sets m at_most small each = λ k d h.
       let is = each k d h in
-      omega (arith, is.placed, index-le weights (get_or xs k d).courses m (length cs) small is.digits, mul-le-mul_right m few)
+      omega (arith, is.placed, index-le weights (get_or xs k d).courses m (length cs) small is.digits, mul-le-mul_right m at_most)
 
   pub apart_sets : All (IsChoice p g cs weights (length cs)) xs → All (IsApart p cs) xs
   apart_sets each = λ k d h. (each k d h).apart

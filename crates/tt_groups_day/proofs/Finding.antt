@@ -68,11 +68,11 @@ module _ (p : Problem) (g : Group) (cs : List ℕ) (before : List CourseSet) whe
 
 -- at the end of the day
 pub found-end : (most : List ℕ) (periods : List Period) (sets : List CourseSet) (s : ℕ) (m : Morning) → s ≡ length periods → m.pending < 2 ^ 64 → IsFound most periods sets s m m.place (m.cost + 2 * count_ones m.pending)
-found-end most periods sets s m end small p g cs weights d before few distinct days opened len sets_are apart morning are_open fitting =
+found-end most periods sets s m end small p g cs weights d before at_most distinct days opened len sets_are apart morning are_open fitting =
     let day = day_of cs before in
     let begins = begins_day p g cs before distinct in
     let e : length before ≡ p.periods = len ∙ end ∙ days.whole in
-    let ones = ones-of_word m.pending g.curricula (λ q. is_pending p day q (length before)) small days.few (morning.pending day begins) in
+    let ones = ones-of_word m.pending g.curricula (λ q. is_pending p day q (length before)) small days.at_most (morning.pending day begins) in
     let whole = subst (λ n. settled_cost p g day n + 2 * count_by (λ q. is_pending p day q n) g.curricula ≡ day_cost p g day) (sym e) (day_cost-pending p g day) in
     let tried : (i : ℕ) → i < length cs → lectures_on p day (slice_index cs i) ≡ slice_index m.counts i = λ i l.
     ap (λ n. count_by (λ t. day t (slice_index cs i)) (range_below n)) (sym e) ∙ count_prefix (λ t. day t (slice_index cs i)) (λ x. has_course x i) before (λ t x h. begins t x h i l) ∙ sym (morning.counts i) in
@@ -93,7 +93,7 @@ found-end most periods sets s m end small p g cs weights d before few distinct d
           let at = days.group.all c own in
           let i = at.0 in
           let is : slice_index cs i ≡ c = get_or_default cs i 0 c at.1 ∙ at.2 in
-          subst (λ (z : ℕ). lectures_on p day z ≤ lectures p z) is (omega (arith, tried i at.1, fitting i (omega (arith, at.1, few)), days.most_are i at.1));
+          subst (λ (z : ℕ). lectures_on p day z ≤ lectures p z) is (omega (arith, tried i at.1, fitting i (omega (arith, at.1, at_most)), days.most_are i at.1));
       placed = sum_by-same_below (λ i. lectures_on p day (slice_index cs i) * slice_index weights i) (λ i. slice_index m.counts i * slice_index weights i) (length cs) (λ i l. ap (λ z. z * slice_index weights i) (tried i l)) ∙ sym morning.placed;
       paid = omega (arith, ones, whole, morning.paid day begins);
     }
@@ -131,11 +131,11 @@ pub found-next : (most : List ℕ) (periods : List Period) (sets : List CourseSe
     → ((p : Problem) (g : Group) (cs weights : List ℕ) (before : List CourseSet) → AreCourses p g cs → length g.curricula ≤ 64 → length before < p.periods → IsCourseSet p g cs weights x → IsMorningOf p g cs weights before m
     → IsMorningOf p g cs weights (before ++ x ∷ []) next) → ((i : ℕ) → i < 16 → slice_index x.courses i ≤ slice_index (get_or periods s no_period).available i) → ((i : ℕ) → i < 16 → slice_index next.counts i ≤ slice_index most i)
     → (k v : ℕ) → IsFound most periods sets (s + 1) next k v → IsFound most periods sets s m k v
-found-next most periods sets s m next x inside there leads available fitting k v found p g cs weights d before few distinct days opened len sets_are apart morning are_open old =
+found-next most periods sets s m next x inside there leads available fitting k v found p g cs weights d before at_most distinct days opened len sets_are apart morning are_open old =
     let set = All-contains (IsCourseSet p g cs weights) sets x sets_are there in
     let here : (i : ℕ) → i < length cs → has_course x i ≡ true → unavailable p (slice_index cs i) d (length before) ≡ false = λ i l h.
     let one = eqb-true (slice_index x.courses i) 1 h in
-    ap (unavailable p (slice_index cs i) d) len ∙ opened s no_period i inside l (omega (arith, one, available i (omega (arith, l, few)))) in
-    found p g cs weights d (before ++ x ∷ []) few distinct days opened (length-append before (x ∷ []) ∙ ap (λ n. n + 1) len) sets_are apart
-    (leads p g cs weights before days.group days.few (omega (arith, len, inside, days.whole)) set morning)
+    ap (unavailable p (slice_index cs i) d) len ∙ opened s no_period i inside l (omega (arith, one, available i (omega (arith, l, at_most)))) in
+    found p g cs weights d (before ++ x ∷ []) at_most distinct days opened (length-append before (x ∷ []) ∙ ap (λ n. n + 1) len) sets_are apart
+    (leads p g cs weights before days.group days.at_most (omega (arith, len, inside, days.whole)) set morning)
     (open_more p g cs d before x are_open (All-contains (IsApart p cs) sets x apart there) here) fitting

@@ -138,7 +138,7 @@ module _ (p : Problem) (cs sizes weights : List ℕ) (count : ℕ) (are : AreLec
   sizes_some i h = omega (arith, size_is i h)
 
   pub sizes_small : All (λ c. lectures p c ≤ 255) cs → (i : ℕ) → i < length cs → slice_index sizes i ≤ 256
-  sizes_small few i h = omega (arith, size_is i h, few i 0 h)
+  sizes_small at_most i h = omega (arith, size_is i h, at_most i 0 h)
 
   pub weights_placed : (i : ℕ) → i < length cs → 0 < slice_index weights i
   weights_placed i h =

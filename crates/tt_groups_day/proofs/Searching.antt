@@ -32,7 +32,7 @@ pub tried-end : (most : List ℕ) (periods : List Period) (sets : List CourseSet
 tried-end most periods sets b s m table end small low p g cs weights d before days len sets_are complete morning = record {
   low = λ day is fits begins less.
       let e : length before ≡ p.periods = len ∙ end ∙ days.whole in
-      let ones = ones-of_word m.pending g.curricula (λ q. is_pending p day q (length before)) small days.few (morning.pending day begins) in
+      let ones = ones-of_word m.pending g.curricula (λ q. is_pending p day q (length before)) small days.at_most (morning.pending day begins) in
       let whole = subst (λ n. settled_cost p g day n + 2 * count_by (λ q. is_pending p day q n) g.curricula ≡ day_cost p g day) (sym e) (day_cost-pending p g day) in
       let total : m.cost + 2 * count_ones m.pending ≡ day_cost p g day = omega (arith, ones, whole, morning.paid day begins) in
       let place = sum_by-same_below (λ i. lectures_on p day (slice_index cs i) * slice_index weights i) (λ i. slice_index m.counts i * slice_index weights i) (length cs)
@@ -92,7 +92,7 @@ pub day_at : (p : Problem) (g : Group) (cs : List ℕ) (d s : ℕ) (most : List 
     → IsDayOf p g cs d most (length before) (get_or periods s x).available
 day_at p g cs d s most periods x before days len inside = record {
   group = days.group;
-  few = days.few;
+  at_most = days.at_most;
   most_are = days.most_are;
   inside = omega (arith, len, inside);
   closed = λ i l z. ap (unavailable p (slice_index cs i) d) len ∙ days.closed s x i (omega (arith, inside, days.whole)) l z;
@@ -103,4 +103,4 @@ pub with-next : (most : List ℕ) (periods : List Period) (sets : List CourseSet
     → ((p : Problem) (g : Group) (cs weights : List ℕ) (before : List CourseSet) → AreCourses p g cs → length g.curricula ≤ 64 → length before < p.periods → IsCourseSet p g cs weights x → IsMorningOf p g cs weights before m
     → IsMorningOf p g cs weights (before ++ x ∷ []) next) → IsTried most periods sets b (s + 1) next table → IsTriedWith most periods sets b s m table x
 with-next most periods sets b s m next x table leads tried p g cs weights d before days len inside sets_are complete morning set =
-    tried p g cs weights d (before ++ x ∷ []) days (length-append before (x ∷ []) ∙ ap (λ n. n + 1) len) sets_are complete (leads p g cs weights before days.group days.few (omega (arith, len, inside)) set morning)
+    tried p g cs weights d (before ++ x ∷ []) days (length-append before (x ∷ []) ∙ ap (λ n. n + 1) len) sets_are complete (leads p g cs weights before days.group days.at_most (omega (arith, len, inside)) set morning)

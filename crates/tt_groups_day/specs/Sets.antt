@@ -64,7 +64,7 @@ pub record IsMorningOf (p : Problem) (g : Group) (cs weights : List ℕ) (before
 -- Whether the maximum numbers are the courses' lectures, and a course that is closed in the period is unavailable in it.
 pub record IsDayOf (p : Problem) (g : Group) (cs : List ℕ) (d : ℕ) (most : List ℕ) (s : ℕ) (open_at : List ℕ) : Type 0 where
   pub group : AreCourses p g cs
-  pub few : length g.curricula ≤ 64
+  pub at_most : length g.curricula ≤ 64
   pub most_are : (i : ℕ) → i < length cs → slice_index most i ≡ lectures p (slice_index cs i)
   pub inside : s < p.periods
   pub closed : (i : ℕ) → i < length cs → slice_index open_at i ≡ 0 → unavailable p (slice_index cs i) d s ≡ true
@@ -77,7 +77,7 @@ AreAvailable p cs d periods =
 -- The periods of the day d, with the courses that are available in each, and the maximum number of lectures of each course.
 pub record ArePeriodsOf (p : Problem) (g : Group) (cs : List ℕ) (d : ℕ) (most : List ℕ) (periods : List Period) : Type 0 where
   pub group : AreCourses p g cs
-  pub few : length g.curricula ≤ 64
+  pub at_most : length g.curricula ≤ 64
   pub most_are : (i : ℕ) → i < length cs → slice_index most i ≡ lectures p (slice_index cs i)
   pub whole : length periods ≡ p.periods
   pub closed : AreAvailable p cs d periods

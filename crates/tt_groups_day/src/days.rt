@@ -38,7 +38,7 @@ pub fn list_days(
     work: &mut DayWork,
 ) -> Result<Vec<DayEntry>, DaysFault>
     requires group { AreCourses instance.now group.now courses.now }
-    requires few { length courses.now ≤ COURSES }
+    requires at_most { length courses.now ≤ COURSES }
     requires own { length group.now.courses ≤ COURSES }
     requires curricula { length group.now.curricula ≤ CURRICULA }
     requires in_range { All (λ c. c < length instance.now.courses) courses.now }

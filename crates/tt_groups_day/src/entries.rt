@@ -18,7 +18,7 @@ fn lectures_at(count: usize, sizes: &[u32], weights: &[u32], place: u32) -> [u8;
     requires count { count ≤ DIGITS }
     requires sized { count ≤ length sizes.now }
     requires weighed { count ≤ length weights.now }
-    requires some { (i : ℕ) → i < count → 0 < slice_index sizes.now i }
+    requires positive { (i : ℕ) → i < count → 0 < slice_index sizes.now i }
     requires placed { (i : ℕ) → i < count → 0 < slice_index weights.now i }
     requires small { (i : ℕ) → i < count → slice_index sizes.now i ≤ LECTURES + 1 }
     ensures { (i : ℕ) → i < count → slice_index result i ≡ place / slice_index weights.now i % slice_index sizes.now i }
@@ -56,7 +56,7 @@ fn entry_at(
     requires count { length courses.now + length group.now.courses ≤ DIGITS }
     requires sized { length courses.now ≤ length sizes.now }
     requires weighed { length courses.now ≤ length weights.now }
-    requires some { (i : ℕ) → i < length courses.now → 0 < slice_index sizes.now i }
+    requires positive { (i : ℕ) → i < length courses.now → 0 < slice_index sizes.now i }
     requires placed { (i : ℕ) → i < length courses.now → 0 < slice_index weights.now i }
     requires small { (i : ℕ) → i < length courses.now → slice_index sizes.now i ≤ LECTURES + 1 }
     ensures amounts { IsEntryAt group.now courses.now sizes.now weights.now place result }
@@ -85,7 +85,7 @@ pub fn list_entries(
     requires count { length courses.now + length group.now.courses ≤ DIGITS }
     requires sized { length courses.now ≤ length sizes.now }
     requires weighed { length courses.now ≤ length weights.now }
-    requires some { (i : ℕ) → i < length courses.now → 0 < slice_index sizes.now i }
+    requires positive { (i : ℕ) → i < length courses.now → 0 < slice_index sizes.now i }
     requires placed { (i : ℕ) → i < length courses.now → 0 < slice_index weights.now i }
     requires small { (i : ℕ) → i < length courses.now → slice_index sizes.now i ≤ LECTURES + 1 }
     requires places { length table.now ≤ PLACES }

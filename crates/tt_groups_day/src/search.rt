@@ -53,7 +53,7 @@ pub fn try_days(
     table: &mut [u8],
     work: &mut DayWork,
 ) -> Result<(), DaysFault>
-    requires few { length periods.now ≤ MAX_PERIODS }
+    requires at_most { length periods.now ≤ MAX_PERIODS }
     requires inside { period ≤ length periods.now }
     requires sets { All (λ x. (x.index ≤ MAX_INDEX) × ((i : ℕ) → slice_index x.courses i ≤ 1)) sets.now }
     requires small { (i : ℕ) → slice_index morning.now.counts i ≤ period }

@@ -52,7 +52,7 @@ fn curricula_with(instance: &Instance<'_>, group: &Group, course: u32) -> u64
 /// Checks whether a course conflicts with one of a set's courses before it.
 fn clashes(instance: &Instance<'_>, courses: &[u32], number: usize, set: &CourseSet) -> bool
     requires there { number < length courses.now }
-    requires few { length courses.now ≤ COURSES }
+    requires at_most { length courses.now ≤ COURSES }
     ensures { result ≡ clashes instance.now courses.now number set.now }
 {
     for other in 0..number {
@@ -102,7 +102,7 @@ fn add_course(
     sets: &mut Vec<CourseSet>,
 ) -> Result<(), SetsFault>
     requires there { number < length courses.now }
-    requires few { length courses.now ≤ COURSES }
+    requires at_most { length courses.now ≤ COURSES }
     requires room { All (λ x. x.index + weight < 2 ^ 32) sets.old.items }
     requires listed { length sets.old.items ≤ MAX_SETS }
     ensures next { OnOk result (sets.new.items ≡ with_next instance.now courses.now number weight met sets.old.items) }
@@ -129,7 +129,7 @@ pub fn list_sets(
     weights: &[u32],
 ) -> Result<Vec<CourseSet>, SetsFault>
     requires courses { AreCourses instance.now group.now courses.now }
-    requires few { length courses.now ≤ COURSES }
+    requires at_most { length courses.now ≤ COURSES }
     requires curricula { length group.now.curricula ≤ CURRICULA }
     requires weighed { length courses.now ≤ length weights.now }
     requires small { (i : ℕ) → slice_index weights.now i ≤ PLACES }

@@ -44,7 +44,7 @@ fn periods_of(
 ) -> Result<Vec<Period>, AllocError>
     requires { length courses.now ≤ COURSES }
     ensures whole { IfOk result (λ v. length v.items ≡ instance.now.periods) }
-    ensures few { IfOk result (λ v. length v.items ≤ MAX_PERIODS) }
+    ensures at_most { IfOk result (λ v. length v.items ≤ MAX_PERIODS) }
     ensures closed { IfOk result (λ v. AreAvailable instance.now courses.now day v.items) }
     ensures opened { IfOk result (λ v. AreOpened instance.now courses.now day v.items) }
 {
@@ -57,7 +57,7 @@ fn periods_of(
 
 /// Returns the lectures of the courses.
 fn lectures_of(instance: &Instance<'_>, courses: &[u32]) -> [u8; COURSES]
-    requires few { length courses.now ≤ COURSES }
+    requires at_most { length courses.now ≤ COURSES }
     requires in_range { All (λ c. c < length instance.now.courses) courses.now }
     requires small { All (λ c. lectures instance.now c ≤ LECTURES) courses.now }
     ensures { (i : ℕ) → i < length courses.now → slice_index result i ≡ lectures instance.now (slice_index courses.now i) }
@@ -81,7 +81,7 @@ pub fn day_table(
     places: usize,
     work: &mut DayWork,
 ) -> Result<Vec<u8>, DaysFault>
-    requires few { length courses.now ≤ COURSES }
+    requires at_most { length courses.now ≤ COURSES }
     requires in_range { All (λ c. c < length instance.now.courses) courses.now }
     requires lectures { All (λ c. lectures instance.now c ≤ LECTURES) courses.now }
     requires sets { All (λ x. (x.index ≤ MAX_INDEX) × ((i : ℕ) → slice_index x.courses i ≤ 1)) sets.now }

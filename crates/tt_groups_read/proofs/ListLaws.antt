@@ -83,8 +83,8 @@ module _ (form : ListForm) where
   -- a number that is spelled can be read
   number_reads_next : form.count ≤ 4294967295 → (before : List ℕ) (n : ℕ) (ps : List Piece) (s after : Stream) → Spell n ps → IsNext before n → Took s ps after → listed_at form before s ≡ Ok (Some n, after)
   unfolding listed_at
-  number_reads_next few before n ps s after spell next took =
-      one_reads (listed_of form before) (numbered n) (Some n) s after (λ t piece. let new = next.1 in rw (not_single form.end form.letter n t.text piece, index_reads form.letter form.count n t few next.0 piece, new) refl)
+  number_reads_next at_most before n ps s after spell next took =
+      one_reads (listed_of form before) (numbered n) (Some n) s after (λ t piece. let new = next.1 in rw (not_single form.end form.letter n t.text piece, index_reads form.letter form.count n t at_most next.0 piece, new) refl)
       (subst (λ qs. Took s qs after) spell took)
 
   -- the end can be read if it is spelled
@@ -146,7 +146,7 @@ module _ (form : ListForm) where
   pub list_reads : (ns : List ℕ) (s after : Stream) → form.count ≤ 4294967295 → AreBelow form.count ns → each_two (λ a b. not (a == b)) ns ≡ true → Took s (list_pieces ns) after
       → list_at form s ≡ Ok (ns, after)
   unfolding list_at
-  list_reads ns s after few below once took =
-      series_reads push (listed_at form) Spell IsNext last (listed_takes form) (number_reads_next few) last_reads (suc (length s.tokens)) [] ns (map numbered ns) s after
+  list_reads ns s after at_most below once took =
+      series_reads push (listed_at form) Spell IsNext last (listed_takes form) (number_reads_next at_most) last_reads (suc (length s.tokens)) [] ns (map numbered ns) s after
       (omega arith) (next_each [] ns below once) (body_spells ns) took
       ∙ ap (λ l. let r : Result (List ℕ × Stream) TextFault = Ok (l, after) in r) (fold_push [] ns)

@@ -55,17 +55,17 @@ module _ (sizes weights : List ℕ) (courses : ℕ) (amounts : List ℕ) (s : St
   under = is_under amounts s.left
 
   pub under-fitting : courses ≤ 32 → list_all under (range_below 32) ≡ true → (j : ℕ) → j < courses → raised sizes weights courses amounts s.place j < slice_index sizes j
-  under-fitting few e j h =
+  under-fitting at_most e j h =
       let k : slice_index amounts j ≤ slice_index s.left j = leb-true (slice_index amounts j) (slice_index s.left j) (at_below under 32 j e (omega arith)) in
       omega (arith, k, state.left j h)
 
   -- the amounts are within what is left exactly if there is room for all of them
   pub under-room : courses ≤ length sizes → courses ≤ 32 → ((j : ℕ) → slice_index amounts j ≤ 255) → list_all under (range_below 32) ≡ list_all (has_room sizes weights courses amounts s.place) (range_below (length sizes))
-  under-room own few bytes = same_truth (list_all under (range_below 32)) (list_all (has_room sizes weights courses amounts s.place) (range_below (length sizes))) there back
+  under-room own at_most bytes = same_truth (list_all under (range_below 32)) (list_all (has_room sizes weights courses amounts s.place) (range_below (length sizes))) there back
     where
       there : list_all under (range_below 32) ≡ true → list_all (has_room sizes weights courses amounts s.place) (range_below (length sizes)) ≡ true
       there e = all_below (has_room sizes weights courses amounts s.place) (length sizes) (λ j h. elim (cases_lt j courses) [
-        | inl l ↦ room_of_fitting sizes weights courses amounts s.place j (under-fitting few e j l)
+        | inl l ↦ room_of_fitting sizes weights courses amounts s.place j (under-fitting at_most e j l)
         | inr l ↦ room_of_further sizes weights courses amounts s.place j l
       ])
 

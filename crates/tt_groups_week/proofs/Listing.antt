@@ -71,10 +71,10 @@ module _ (p : Problem) (g : Group) (cs : List ℕ) (are : AreCourses p g cs) (b 
   weights = weights_from 1 sizes
 
   pub digits_below : (u e : Vector) → Fits p g u → ((c : ℕ) → e c ≤ slack p c) → AreBelow sizes (group_digits g cs u e)
-  digits_below u e fits few =
+  digits_below u e fits at_most =
       zip_append (λ n d. d < n) (map (λ c. lectures p c + 1) cs) (map u cs) (map (λ c. slack p c + 1) g.courses) (map e g.courses)
       (zip_maps (λ c. lectures p c + 1) u cs (λ c m. omega (arith, fits c (are.own c m))))
-      (zip_maps (λ c. slack p c + 1) e g.courses (λ c m. omega (arith, few c)))
+      (zip_maps (λ c. slack p c + 1) e g.courses (λ c m. omega (arith, at_most c)))
 
   -- a list that begins with 0 is a list before the first day
   pub list_start : (table : List ℕ) → slice_index table 0 ≡ 0 → IsWeekList p g cs b 0 table
@@ -112,8 +112,8 @@ module _ (p : Problem) (g : Group) (cs : List ℕ) (are : AreCourses p g cs) (b 
   -- if the list of the whole week is high, the group pays at least b beyond its base cost
   pub list_end : (table : List ℕ) → places sizes ≤ length table → IsWeekList p g cs b p.days table → IsHighList sizes weights (length cs) b table → IsGroupBound p g (base_cost p g + b)
   list_end table long last high = week_end p g b (entry p g cs table) last (record {
-    high = λ u e full few.
-        let below = digits_below u e (λ c own. omega (arith, full c own)) few in
+    high = λ u e full at_most.
+        let below = digits_below u e (λ c own. omega (arith, full c own)) at_most in
         let place = place_of weights (group_digits g cs u e) in
         let z : place ≡ 0 + place = omega arith in
         high.high place (omega (arith, place_below 1 sizes (group_digits g cs u e) below 0 (omega arith)))

@@ -56,8 +56,8 @@ places-take (suc i) (n ∷ ns) some = omega (arith, mul-le-mul_right n (places-t
 
 pub are_digits : (sizes weights : List ℕ) (courses count : ℕ) → length sizes ≤ 32 → courses ≤ length sizes → courses ≤ 16 → AreSome sizes → ((j : ℕ) → j < length sizes → slice_index sizes j ≤ 256)
     → weights ≡ weights_from 1 sizes → count ≡ places sizes → count ≤ 1048576 → AreDigits sizes weights courses count
-are_digits sizes weights courses count few own narrow some small weighed counted limited = record {
-  few = few;
+are_digits sizes weights courses count at_most own narrow some small weighed counted limited = record {
+  at_most = at_most;
   own = own;
   narrow = narrow;
   some = some;

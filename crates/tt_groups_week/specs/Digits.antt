@@ -4,7 +4,7 @@ use Rattle.tt_groups.specs.Places.{weights_from, places}
 
 -- The sizes of the digits, those of lectures first, the weight of each digit, and the number of places.
 pub record AreDigits (sizes weights : List ℕ) (courses count : ℕ) : Type 0 where
-  pub few : length sizes ≤ 32
+  pub at_most : length sizes ≤ 32
   pub own : courses ≤ length sizes
   pub narrow : courses ≤ 16
   pub some : (j : ℕ) → j < length sizes → 0 < slice_index sizes j

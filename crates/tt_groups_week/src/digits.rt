@@ -29,10 +29,10 @@ pub struct Digits {
 impl Digits {
     /// Returns digits of these sizes, or `None` if they have more than `MAX_PLACES` places.
     pub fn new(alloc: Global, sizes: Vec<u32>, courses: usize) -> Result<Option<Digits>, AllocError>
-        requires few { length sizes.items ≤ DIGITS }
+        requires at_most { length sizes.items ≤ DIGITS }
         requires own { courses ≤ length sizes.items }
         requires narrow { courses ≤ COURSES }
-        requires some { (j : ℕ) → j < length sizes.items → 0 < slice_index sizes.items j }
+        requires positive { (j : ℕ) → j < length sizes.items → 0 < slice_index sizes.items j }
         requires small { (j : ℕ) → j < length sizes.items → slice_index sizes.items j ≤ MAX_AMOUNT + 1 }
         ensures made { IfOk result (λ found. IfSome found (λ d. (d.sizes.items ≡ sizes.items) × (d.courses ≡ courses))) }
         ensures exact { IfOk result (λ found. IsNone found ↔ (MAX_PLACES < place_count sizes.items)) }
@@ -58,7 +58,7 @@ impl Digits {
     pub fn size(&self, j: usize) -> u32
         requires { j < length self.now.sizes.items }
         ensures value { result ≡ slice_index self.now.sizes.items j }
-        ensures some { 0 < result }
+        ensures positive { 0 < result }
         ensures small { result ≤ MAX_AMOUNT + 1 }
     {
         self.sizes[j]
@@ -68,7 +68,7 @@ impl Digits {
     pub fn weight(&self, j: usize) -> u32
         requires { j < length self.now.sizes.items }
         ensures value { result ≡ slice_index self.now.weights.items j }
-        ensures some { 0 < result }
+        ensures positive { 0 < result }
         ensures within { slice_index self.now.sizes.items j * result ≤ MAX_PLACES }
     {
         self.weights[j]

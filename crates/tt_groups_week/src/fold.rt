@@ -81,7 +81,7 @@ pub fn extend(
     relaxations: &mut u64,
 ) -> Result<(), WeekFault>
     requires ready { AreReady digits.now.sizes.items digits.now.weights.items digits.now.courses moves.now }
-    requires few { length table.now ≤ MAX_PLACES }
+    requires at_most { length table.now ≤ MAX_PLACES }
     ensures falls { Falls next.old next.new }
     ensures extended { OnOk result ((place : ℕ) → place < length table.now → slice_index table.now place < bound →
         All (λ m. IsRelaxed digits.now.sizes.items digits.now.weights.items digits.now.courses

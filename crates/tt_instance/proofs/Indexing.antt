@@ -34,7 +34,7 @@ one_more old new row was rows_are is_new ids_are teachers_are number_is total wi
           ∙ sym (ap teachers_of seen ∙ ap (λ (ns : List (List ℕ)). fold with_name [] ns) (map_push teacher (courses_seen old.rows.items) (course_seen row)) ∙ fold_push with_name [] (map teacher (courses_seen old.rows.items)) row.teacher_name.now);
       total = total ∙ ap (λ (n : ℕ). n + row.lectures) was.total ∙ sym (ap lectures_of seen ∙ sum_by_push (λ (c : Course). c.lectures) (courses_seen old.rows.items) (course_seen row));
       within = within;
-      few = omega (arith, was.few, length-with_name old.teachers row.teacher_name.now, ap length teachers_are, ap length rows_are, length-append old.rows.items (row ∷ []));
+      at_most = omega (arith, was.at_most, length-with_name old.teachers row.teacher_name.now, ap length teachers_are, ap length rows_are, length-append old.rows.items (row ∷ []));
       numbers = rw rows_are (All-push (IsTeacher new.teachers) old.rows.items row
           (All-weaker (IsTeacher old.teachers) (IsTeacher new.teachers) (λ r at. rw teachers_are (index_of_name-with_name old.teachers r.teacher_name.now row.teacher_name.now r.teacher at)) old.rows.items was.numbers)
           number_is);

@@ -34,8 +34,8 @@ courses_next cs are = EachAfter-from_at IsNextCourse [] cs (λ i d l. record {
 
 -- the lectures of all courses, if those before have at most 4,096 lectures
 lectures_after : (before cs : List Course) → EachAfter IsNextCourse before cs → lectures_of before ≤ 4096 → lectures_of before + lectures_of cs ≤ 4096
-lectures_after before [] next few = omega (arith, few)
-lectures_after before (c ∷ cs) next few =
+lectures_after before [] next at_most = omega (arith, at_most)
+lectures_after before (c ∷ cs) next at_most =
     let pushed = sum_by-append (λ (c : Course). c.lectures) before (c ∷ []) in
     let one = sum_by-cons (λ (c : Course). c.lectures) c [] in
     let all = sum_by-cons (λ (c : Course). c.lectures) c cs in

@@ -30,7 +30,7 @@ pub record IsIndexed (l : CourseList) : Type 0 where
   pub teachers_are : l.teachers ≡ teachers_of (courses_seen l.rows.items)
   pub total : l.lectures ≡ lectures_of (courses_seen l.rows.items)
   pub within : l.lectures ≤ MAX_LECTURES
-  pub few : length l.teachers ≤ length l.rows.items
+  pub at_most : length l.teachers ≤ length l.rows.items
   pub numbers : All (IsTeacher l.teachers) l.rows.items
 
 pub record IsRoomsIndexed (l : RoomList) : Type 0 where

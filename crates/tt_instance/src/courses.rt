@@ -21,7 +21,7 @@ fn read_course<'a>(
     list: &mut CourseList<'a>,
 ) -> Result<(), InstanceFault>
     requires indexed { IsIndexed list.old }
-    requires few { length list.old.rows.items < 2 ^ 31 }
+    requires at_most { length list.old.rows.items < 2 ^ 31 }
     ensures read { Gives (λ _. (courses_seen list.new.rows.items, tokens.new)) result
         (course_at end (courses_seen list.old.rows.items) tokens.old) }
     ensures indexed { OnOk result (IsIndexed list.new) }

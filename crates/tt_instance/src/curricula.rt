@@ -23,7 +23,7 @@ fn read_member(
     list: &mut MemberList,
 ) -> Result<(), InstanceFault>
     requires marked { IsMarked (length ids.now) list.old }
-    requires few { length ids.now < 2 ^ 32 }
+    requires at_most { length ids.now < 2 ^ 32 }
     ensures read { Gives (λ _. (list.new.courses.items, tokens.new)) result
         (member_at end ids.now list.old.courses.items tokens.old) }
     ensures marked { OnOk result (IsMarked (length ids.now) list.new) }
@@ -69,7 +69,7 @@ fn read_curriculum<'a>(
     list: &mut CurriculumList<'a>,
 ) -> Result<(), InstanceFault>
     requires indexed { IsCurriculaIndexed (length ids.now) list.old }
-    requires few { length ids.now < 2 ^ 32 }
+    requires at_most { length ids.now < 2 ^ 32 }
     ensures read { Gives (λ _. (curricula_seen list.new.rows.items, tokens.new)) result
         (curriculum_at end ids.now (curricula_seen list.old.rows.items) tokens.old) }
     ensures indexed { OnOk result (IsCurriculaIndexed (length ids.now) list.new) }

@@ -45,7 +45,7 @@ pub fn read_name<'a>(
 #[tactic(auto, unfolding(crate::specs::Reading::days_at))]
 fn read_days(tokens: &mut Tokens<'_>, end: usize) -> Result<u32, InstanceFault>
     ensures read { Gives (λ n. (n, tokens.new)) result (days_at end tokens.old) }
-    ensures some { IfOk result (λ n. 0 < n) }
+    ensures positive { IfOk result (λ n. 0 < n) }
     ensures within { IfOk result (λ n. n ≤ MAX_DAYS) }
 {
     read_word(tokens, end, Word::Days)?;
@@ -67,7 +67,7 @@ fn read_periods(
     requires pairs { pairs ≤ MAX_COURSES * MAX_ROOMS }
     requires days { days ≤ MAX_DAYS }
     ensures read { Gives (λ n. (n, tokens.new)) result (periods_at end pairs days tokens.old) }
-    ensures some { IfOk result (λ n. 0 < n) }
+    ensures positive { IfOk result (λ n. 0 < n) }
     ensures within { IfOk result (λ n. n ≤ MAX_PERIODS) }
 {
     read_word(tokens, end, Word::PeriodsPerDay)?;

@@ -100,7 +100,7 @@ impl<'a> Instance<'a> {
     /// Returns the days of the week, 1 to 64.
     pub fn days(&self) -> u32
         ensures value { result ≡ self.now.days }
-        ensures some { 0 < result }
+        ensures positive { 0 < result }
         ensures within { result ≤ MAX_DAYS }
         // The properties of every instance.
         ensures instance { IsInstance self.now }
@@ -111,7 +111,7 @@ impl<'a> Instance<'a> {
     /// Returns the periods of a day, 1 to 64; the week has at most 512.
     pub fn periods(&self) -> u32
         ensures value { result ≡ self.now.periods }
-        ensures some { 0 < result }
+        ensures positive { 0 < result }
         ensures within { result ≤ MAX_PERIODS }
         ensures week { self.now.days * result ≤ MAX_SLOTS }
     {

@@ -44,7 +44,7 @@ fn read_places<'a>(
         result (places_at end (counts_seen header) tokens.old) }
     ensures courses { IfOk result (λ s. IsIndexed s.0) }
     ensures rooms { IfOk result (λ s. IsRoomsIndexed s.1) }
-    ensures few { IfOk result (λ s. length s.0.ids ≤ MAX_COURSES) }
+    ensures at_most { IfOk result (λ s. length s.0.ids ≤ MAX_COURSES) }
 {
     read_word(tokens, end, Word::CoursesPart)?;
     let courses = read_courses(alloc, tokens, end, header.courses)?;
@@ -62,9 +62,9 @@ fn read_groups<'a>(
     ids: &Names<'_>,
     header: Header,
 ) -> Result<(CurriculumList<'a>, UnavailabilityList), InstanceFault>
-    requires few { length ids.now < 2 ^ 32 }
+    requires at_most { length ids.now < 2 ^ 32 }
     requires days { 0 < header.days }
-    requires some { 0 < header.periods }
+    requires positive { 0 < header.periods }
     requires periods { header.periods ≤ MAX_PERIODS }
     ensures read { Gives
         (λ s. ((curricula_seen s.0.rows.items, unavailabilities_seen s.1.rows.items), tokens.new))

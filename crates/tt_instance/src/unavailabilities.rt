@@ -53,9 +53,9 @@ fn read_unavailability(
     list: &mut UnavailabilityList,
 ) -> Result<(), InstanceFault>
     requires barred { IsBarred (length ids.now) header.days list.old }
-    requires few { length ids.now < 2 ^ 32 }
+    requires at_most { length ids.now < 2 ^ 32 }
     requires days { 0 < header.days }
-    requires some { 0 < header.periods }
+    requires positive { 0 < header.periods }
     requires periods { header.periods ≤ MAX_PERIODS }
     ensures read { Gives (λ _. (unavailabilities_seen list.new.rows.items, tokens.new)) result
         (unavailability_at end ids.now header.days header.periods (unavailabilities_seen list.old.rows.items) tokens.old) }
@@ -84,9 +84,9 @@ pub fn read_unavailabilities(
     ids: &Names<'_>,
     header: Header,
 ) -> Result<UnavailabilityList, InstanceFault>
-    requires few { length ids.now < 2 ^ 32 }
+    requires at_most { length ids.now < 2 ^ 32 }
     requires days { 0 < header.days }
-    requires some { 0 < header.periods }
+    requires positive { 0 < header.periods }
     requires periods { header.periods ≤ MAX_PERIODS }
     ensures read { Gives (λ l. (unavailabilities_seen l.rows.items, tokens.new)) result
         (unavailabilities_at end ids.now header.days header.periods header.unavailabilities [] tokens.old) }

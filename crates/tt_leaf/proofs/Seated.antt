@@ -42,8 +42,8 @@ module _ (p : Problem) (path : List Fact) (c : ℕ) where
         let ns = least_excesses p path c in
         let k = min (lectures p c) (length ns) in
         let a = and_parts (nat_lt (count_by (λ m. nat_lt m u) ns) k) (nat_le k (count_by (λ m. nat_le m u) ns)) (find_passes (is_kth ns k) ns u e) in
-        let few = ltb-true (count_by (λ m. nat_lt m u) ns) k a.0 in
-        absurd (omega (arith, few, seated-le u l))
+        let at_most = ltb-true (count_by (λ m. nat_lt m u) ns) k a.0 in
+        absurd (omega (arith, at_most, seated-le u l))
     | inr l ↦ omega arith
   ]
 

@@ -23,7 +23,7 @@ kth_only : (ns : List ℕ) (n u v : ℕ) → is_kth ns n u ≡ true → is_kth n
 kth_only ns n u v eu ev h =
     let a = and_parts (nat_lt (count_by (λ m. nat_lt m u) ns) n) (nat_le n (count_by (λ m. nat_le m u) ns)) eu in
     let b = and_parts (nat_lt (count_by (λ m. nat_lt m v) ns) n) (nat_le n (count_by (λ m. nat_le m v) ns)) ev in
-    let few = ltb-true (count_by (λ m. nat_lt m u) ns) n a.0 in
+    let at_most = ltb-true (count_by (λ m. nat_lt m u) ns) n a.0 in
     let many = leb-true n (count_by (λ m. nat_le m v) ns) b.1 in
     let k = sum_by-le (λ m. one_if (nat_le m v)) (λ m. one_if (nat_lt m u)) ns
     (each (λ m. one_if (nat_le m v) ≤ one_if (nat_lt m u)) (λ m. cond-le (nat_le m v) (nat_lt m u) (λ e. let l = leb-true m v e in lt-ltb m u (omega arith))) ns) in
@@ -73,11 +73,11 @@ module _ (k : ℕ) (xs ys : List ℕ) (least : IsKLeast (by_cmp nat_cmp) k xs ys
       let l = ge_from_not_lt z u (All-contains (λ r. by_cmp nat_cmp z r ≡ false) ys u (All-contains (λ w. All (λ r. by_cmp nat_cmp w r ≡ false) ys) rest z least.5 m) inside) in
       both_ways (nat_lt z u) (le-ltb z u l) t) in
       let front_only : count_by below ys ≡ count_by below front = ap (count_by below) e ∙ sum_by-append (λ m. one_if (below m)) front (u ∷ []) ∙ omega (arith, count_by-cons below u [], one_if_false (nat_lt u u) (le-ltb u u (omega arith))) in
-      let few : count_by below xs < n = omega (arith, counted below, as_long, count_by-le-length below front) in
+      let at_most : count_by below xs < n = omega (arith, counted below, as_long, count_by-le-length below front) in
       let all : count_by upto ys ≡ length ys =
       ap (count_by upto) e ∙ count_all upto (front ++ u ∷ []) (each_weaker (λ m. m ≤ u) (λ m. nat_le m u ≡ true) (λ m l. le-leb m u l) (front ++ u ∷ []) (rising front u (subst (IsSortedBy (by_cmp nat_cmp)) e least.0))) ∙ sym (ap length e) in
       let many : n ≤ count_by upto xs = omega (arith, counted upto, as_long) in
-      let here : is_kth xs n u ≡ true = and_from (nat_lt (count_by below xs) n) (nat_le n (count_by upto xs)) (lt-ltb (count_by below xs) n few) (le-leb n (count_by upto xs) many) in
+      let here : is_kth xs n u ≡ true = and_from (nat_lt (count_by below xs) n) (nat_le n (count_by upto xs)) (lt-ltb (count_by below xs) n at_most) (le-leb n (count_by upto xs) many) in
       sym (find_only (is_kth xs n) xs u member here (λ v t. elim (cases_order v u) [
         | inl same ↦ same
         | inr o ↦ elim o [ inl l ↦ absurd (kth_only xs n u v here t l) | inr l ↦ absurd (kth_only xs n v u t here l) ]

@@ -14,7 +14,7 @@ use Rattle.tt_leaf_rules.specs.Claims.{is_alone}
 use Rattle.tt_leaf_rules.specs.Nested.{live_for, live_before, live_after}
 use Rattle.tt_leaf_rules.proofs.Nested.{by_sides}
 
-module _ (p : Problem) (path : List Fact) (q d : ℕ) (hd : d < p.days) (few : p.periods ≤ 64) (pin : ℕ) (pins : (s : ℕ) → s < 64 → has_bit pin s ≡ (nat_lt s p.periods && pinned p path (Curriculum q) (slot d s))) where
+module _ (p : Problem) (path : List Fact) (q d : ℕ) (hd : d < p.days) (at_most : p.periods ≤ 64) (pin : ℕ) (pins : (s : ℕ) → s < 64 → has_bit pin s ≡ (nat_lt s p.periods && pinned p path (Curriculum q) (slot d s))) where
   abbrev isolated_at : ℕ → Bool
   isolated_at s = nat_lt s p.periods && (pinned p path (Curriculum q) (slot d s) && is_alone p path q (slot d s))
 

@@ -122,4 +122,4 @@ module _ (p : Problem) (few_courses : length p.courses ≤ 2048) (few_curricula 
 
 -- the courses of an instance have marks
 pub courses_placed : (n : ℕ) (courses : List ℕ) → n ≤ 2048 → AreBelow n courses → AreBelow 2048 courses
-courses_placed n courses few h = All-weaker (λ c. c < n) (λ c. c < 2048) (λ c is. omega (arith, is, few)) courses h
+courses_placed n courses at_most h = All-weaker (λ c. c < n) (λ c. c < 2048) (λ c is. omega (arith, is, at_most)) courses h

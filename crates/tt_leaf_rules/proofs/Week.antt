@@ -25,7 +25,7 @@ module _ (p : Problem) (t : Slot → Bool) where
 
   -- the count over the days before one, plus the count of that day by the word of its periods that pass
   pub week_next : (d w total more : ℕ) → p.periods ≤ 64 → ((s : ℕ) → s < 64 → has_bit w s ≡ (nat_lt s p.periods && t (slot d s))) → total ≡ sum_by (on_day p t) (range_below d) → more ≡ count_by (has_bit w) bits → total + more ≡ sum_by (on_day p t) (range_below (d + 1))
-  week_next d w total more few set e is = omega (arith, e, is, count-set w p.periods (λ s. t (slot d s)) few set, sum_more (on_day p t) d)
+  week_next d w total more at_most set e is = omega (arith, e, is, count-set w p.periods (λ s. t (slot d s)) at_most set, sum_more (on_day p t) d)
 
   pub week_whole : (d total : ℕ) → total ≡ sum_by (on_day p t) (range_below d) → d ≡ p.days → total ≡ count_by t (all_slots p)
   week_whole d total e is = e ∙ ap (λ n. sum_by (on_day p t) (range_below n)) is ∙ week_by_days

@@ -11,7 +11,7 @@ use tt_facts_path::Path;
 
 fn above_least(price: u64, least: Option<u64>) -> u64
     ensures value { result ≡ above_least price least }
-    ensures few { result ≤ price }
+    ensures at_most { result ≤ price }
 {
     match least {
         Some(excess) => price.saturating_sub(excess),

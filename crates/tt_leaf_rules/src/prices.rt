@@ -151,7 +151,7 @@ fn course_price(instance: &Instance<'_>, course: u32, price: u32) -> u64
 
 fn course_prices(instance: &Instance<'_>, courses: &[(u32, u32)]) -> u64
     requires below { PricesBelow (length instance.now.courses) courses.now }
-    requires few { length courses.now ≤ MAX_COURSES }
+    requires at_most { length courses.now ≤ MAX_COURSES }
     ensures value { result ≡ course_prices instance.now courses.now }
     ensures within { result ≤ length courses.now * MAX_TARGET_VALUE }
 {
@@ -174,7 +174,7 @@ fn room_price<'i, P: Path<'i>>(path: &P, courses: &[(u32, u32)], room: u32, pric
 fn room_prices<'i, P: Path<'i>>(path: &P, courses: &[(u32, u32)], rooms: &[(u32, u32)]) -> u64
     requires courses { PricesBelow (length (P.problem path.now).courses) courses.now }
     requires rooms { PricesBelow (length (P.problem path.now).rooms) rooms.now }
-    requires few { length rooms.now ≤ MAX_ROOMS }
+    requires at_most { length rooms.now ≤ MAX_ROOMS }
     ensures { result ≡ room_prices (P.problem path.now) (P.facts path.now) courses.now rooms.now }
 {
     let mut total: u64 = 0;

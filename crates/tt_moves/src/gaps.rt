@@ -23,7 +23,7 @@ impl WithoutEntry<'_, '_, '_> {
         ensures below { All (λ q. q < length self.now.occupied.now.problem.curricula) result.now }
         ensures members { All (λ q. in_curriculum self.now.occupied.now.problem q self.now.gone.course ≡ true)
             result.now }
-        ensures few { length result.now ≤ MAX_CURRICULA }
+        ensures at_most { length result.now ≤ MAX_CURRICULA }
     {
         // This holds for every instance: the number of its curricula is limited.
         prove!(self.occupied.instance().curricula() <= MAX_CURRICULA);

@@ -52,22 +52,22 @@ fn collides(instance: &Instance<'_>, entry: Entry, place: Entry) -> bool
 
 /// Returns a count over the rest, from the count over the timetable.
 fn adjusted(count: u32, to: bool, from: bool, gone: bool) -> u32
-    requires few { count ≤ MAX_ENTRIES }
+    requires at_most { count ≤ MAX_ENTRIES }
     requires enough { cond from 1 0 + cond gone 1 0 ≤ count + cond to 1 0 }
     ensures value { result + cond from 1 0 + cond gone 1 0 ≡ count + cond to 1 0 }
-    ensures few { result ≤ MAX_ENTRIES + 1 }
+    ensures at_most { result ≤ MAX_ENTRIES + 1 }
 {
     count + one_if(to) - one_if(from) - one_if(gone)
 }
 
 /// Returns the number of places used after an entry moves from one place to another.
 fn used_anew(used: u32, at_old: u32, at_new: u32, is_same: bool) -> u32
-    requires few { used ≤ MAX_SLOTS }
-    requires some { cond (at_old == 1) 1 0 ≤ used }
+    requires at_most { used ≤ MAX_SLOTS }
+    requires enough { cond (at_old == 1) 1 0 ≤ used }
     requires counted { cond is_same 1 0 ≤ at_new }
     ensures value { result ≡ (used - cond (at_old == 1) 1 0)
         + cond ((at_new - cond is_same 1 0) == 0) 1 0 }
-    ensures few { result ≤ MAX_SLOTS + 1 }
+    ensures at_most { result ≤ MAX_SLOTS + 1 }
 {
     used - one_if(at_old == 1) + one_if(at_new - one_if(is_same) == 0)
 }
@@ -100,7 +100,7 @@ impl WithoutEntry<'_, '_, '_> {
         requires rest { (u : List Cell) × IsRest self.now u }
         ensures value { (u : List Cell) → IsRest self.now u
             → result ≡ standing self.now.occupied.now.problem u curriculum day period }
-        ensures few { result ≤ MAX_ENTRIES + 1 }
+        ensures at_most { result ≤ MAX_ENTRIES + 1 }
     {
         if period >= self.occupied.instance().periods() {
             return 0;
@@ -147,7 +147,7 @@ impl WithoutEntry<'_, '_, '_> {
         requires rest { (u : List Cell) × IsRest self.now u }
         ensures value { (u : List Cell) → IsRest self.now u
             → result ≡ against self.now.occupied.now.problem u entry }
-        ensures few { result ≤ MAX_ENTRIES + 1 }
+        ensures at_most { result ≤ MAX_ENTRIES + 1 }
     {
         let instance = self.occupied.instance();
         let count = self
@@ -168,7 +168,7 @@ impl WithoutEntry<'_, '_, '_> {
         requires rest { (u : List Cell) × IsRest self.now u }
         ensures value { (u : List Cell) → IsRest self.now u
             → result ≡ days_of self.now.occupied.now.problem (entry ∷ u) entry.course }
-        ensures few { result ≤ MAX_SLOTS + 1 }
+        ensures at_most { result ≤ MAX_SLOTS + 1 }
     {
         used_anew(
             self.occupied.days_used(entry.course),
@@ -185,7 +185,7 @@ impl WithoutEntry<'_, '_, '_> {
         requires rest { (u : List Cell) × IsRest self.now u }
         ensures value { (u : List Cell) → IsRest self.now u
             → result ≡ rooms_of self.now.occupied.now.problem (entry ∷ u) entry.course }
-        ensures few { result ≤ MAX_SLOTS + 1 }
+        ensures at_most { result ≤ MAX_SLOTS + 1 }
     {
         used_anew(
             self.occupied.rooms_used(entry.course),

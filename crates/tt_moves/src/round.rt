@@ -86,7 +86,7 @@ impl WithoutEntry<'_, '_, '_> {
         requires isolated { AreIsolated self.now curriculum day isolated }
         ensures value { (u : List Cell) → IsRest self.now u
             → result ≡ joined_before self.now.occupied.now.problem u curriculum day period }
-        ensures few { result ≤ MAX_ENTRIES + 1 }
+        ensures at_most { result ≤ MAX_ENTRIES + 1 }
     {
         // This holds for every instance: its periods fit a word.
         prove!(self.occupied.instance().periods() <= MAX_PERIODS);
@@ -115,7 +115,7 @@ impl WithoutEntry<'_, '_, '_> {
         requires isolated { AreIsolated self.now curriculum day isolated }
         ensures value { (u : List Cell) → IsRest self.now u
             → result ≡ joined_after self.now.occupied.now.problem u curriculum day period }
-        ensures few { result ≤ MAX_ENTRIES + 1 }
+        ensures at_most { result ≤ MAX_ENTRIES + 1 }
     {
         // This holds for every instance: its periods fit a word.
         prove!(self.occupied.instance().periods() <= MAX_PERIODS);

@@ -25,7 +25,7 @@ impl WithoutEntry<'_, '_, '_> {
         ensures value { (u : List Cell) → IsRest self.now u
             → result ≡ days_cost self.now.occupied.now.problem (entry ∷ u) entry.course
             + stability_cost self.now.occupied.now.problem (entry ∷ u) entry.course }
-        ensures few { result ≤ DAY_PRICE * MAX_MIN_DAYS + MAX_SLOTS }
+        ensures at_most { result ≤ DAY_PRICE * MAX_MIN_DAYS + MAX_SLOTS }
     {
         let wanted = self.occupied.instance().min_days(entry.course);
         let days = wanted.saturating_sub(self.days_with(entry));
@@ -57,7 +57,7 @@ impl WithoutEntry<'_, '_, '_> {
         requires rest { (u : List Cell) × IsRest self.now u }
         ensures value { (u : List Cell) → IsRest self.now u
             → result ≡ hard_weight self.now.occupied.now.problem u entry }
-        ensures few { result ≤ MAX_ENTRIES + 4 }
+        ensures at_most { result ≤ MAX_ENTRIES + 4 }
     {
         let instance = self.occupied.instance();
         let barred = instance.unavailable(entry.course, entry.day, entry.period);

@@ -140,7 +140,7 @@ module _ (p : Problem) (t : List Cell) (ok : IsTimetable p t) (free : IsFree p t
       let e = get_or t k d in
       let r = ok k d h in
       once_at_least (is_of c e) (λ s. is_at s e) 1 (all_slots p) (any_slot p (λ s. is_at s e) e.day e.period r.day r.period (at_own e)))) in
-      let few = sum_by-le many (λ s. one_if (list_any (λ e. is_of c e && is_at s e) t)) (all_slots p) (each (λ s. many s ≤ one_if (list_any (λ e. is_of c e && is_at s e) t)) (λ s. count_if (λ e. is_of c e && is_at s e) (once c s)) (all_slots p)) in
+      let at_most = sum_by-le many (λ s. one_if (list_any (λ e. is_of c e && is_at s e) t)) (all_slots p) (each (λ s. many s ≤ one_if (list_any (λ e. is_of c e && is_at s e) t)) (λ s. count_if (λ e. is_of c e && is_at s e) (once c s)) (all_slots p)) in
       omega arith
 
   -- a timetable without conflicting entries, with each course's lectures in available periods, is feasible

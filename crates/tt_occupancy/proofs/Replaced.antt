@@ -108,7 +108,7 @@ module _ (p : Problem) (t : List Cell) (i : ℕ) (inside : i < length t) where
       record {
         instance = ok.instance;
         in_range = All-cons (InRange p) from (remove t i) (subst (InRange p) (sym is) (ok.in_range i from inside)) (others_in_range ok.in_range);
-        few = omega (arith, ok.few);
+        at_most = omega (arith, ok.at_most);
         tables = tables_same p t (from ∷ remove t i) same x ok.tables;
         score = score_same p t (from ∷ remove t i) same s ok.score;
       }
@@ -121,7 +121,7 @@ module _ (p : Problem) (t : List Cell) (i : ℕ) (inside : i < length t) where
       subst (λ z. IsCounted p z x s) (sym is) (record {
         instance = ok.instance;
         in_range = All-set (InRange p) t i e (All-head (InRange p) e (remove t i) ok.in_range) in_range;
-        few = omega (arith, ok.few, length-set t i e);
+        at_most = omega (arith, ok.at_most, length-set t i e);
         tables = tables_same p (e ∷ remove t i) (set t i e) same x ok.tables;
         score = score_same p (e ∷ remove t i) (set t i e) same s ok.score;
       })

@@ -15,6 +15,6 @@ use Rattle.tt_table.specs.declared.table.TheConstants.{MAX_ENTRIES}
 pub record IsCounted (p : Problem) (t : List Cell) (x : Tables) (s : Score) : Type 0 where
   pub instance : IsInstance p
   pub in_range : IsTimetable p t
-  pub few : length t ≤ MAX_ENTRIES
+  pub at_most : length t ≤ MAX_ENTRIES
   pub tables : AreTables p t x
   pub score : IsScore p t s

@@ -29,7 +29,7 @@ pub record IsWeight (p : Problem) (u : List Cell) (x : Cell) (w : Weight) : Type
 -- the score and the weights of an entry x and of another entry y of its course, both next to u
 pub record IsExchange (p : Problem) (u : List Cell) (x y : Cell) (s : Score) (from to : Weight) : Type 0 where
   pub instance : IsInstance p
-  pub few : length u < MAX_ENTRIES
+  pub at_most : length u < MAX_ENTRIES
   pub from_in_range : InRange p x
   pub to_in_range : InRange p y
   pub course : x.course ≡ y.course
@@ -40,6 +40,6 @@ pub record IsExchange (p : Problem) (u : List Cell) (x y : Cell) (s : Score) (fr
 -- whether n is the count after one weight is subtracted and another one added, and none is large
 pub record IsExchanged (n total from to : ℕ) : Type 0 where
   pub sum : n + from ≡ total + to
-  pub few : n ≤ MAX_COUNT
+  pub at_most : n ≤ MAX_COUNT
   pub total_few : total ≤ MAX_COUNT
   pub to_few : to ≤ 4 * MAX_COUNT

@@ -30,7 +30,7 @@ impl Around {
         requires { self.before + self.after < 2 ^ 32 }
         ensures value { (p : Problem) (u : List Cell) (q d s : ℕ) → IsAround p u q d s self
             → result ≡ joined_before p u q d s + joined_after p u q d s }
-        ensures few { result ≤ self.before + self.after }
+        ensures at_most { result ≤ self.before + self.after }
     {
         if self.here > 0 {
             return 0;

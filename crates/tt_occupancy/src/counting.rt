@@ -18,7 +18,7 @@ pub fn tables_of(
     entries: &[Entry],
 ) -> Result<Tables, AllocError>
     requires in_range { IsTimetable instance.now entries.now }
-    requires few { length entries.now ≤ MAX_ENTRIES }
+    requires at_most { length entries.now ≤ MAX_ENTRIES }
     ensures tables { IfOk result (AreTables instance.now entries.now) }
     // This holds for every instance.
     ensures instance { IsInstance instance.now }

@@ -37,7 +37,7 @@ impl<'a, 'i> Occupied<'a, 'i> {
         ensures count { result
             ≡ count_by (λ e. is_in room e && is_at (slot day period) e)
             self.now.entries }
-        ensures few { result ≤ MAX_ENTRIES }
+        ensures at_most { result ≤ MAX_ENTRIES }
     {
         u32::from(self.tables.rooms.get(room, day, period))
     }
@@ -50,7 +50,7 @@ impl<'a, 'i> Occupied<'a, 'i> {
         ensures count { result
             ≡ count_by (λ e. teaches self.now.problem teacher e.course && is_at (slot day period) e)
             self.now.entries }
-        ensures few { result ≤ MAX_ENTRIES }
+        ensures at_most { result ≤ MAX_ENTRIES }
     {
         u32::from(self.tables.teachers.get(teacher, day, period))
     }
@@ -63,7 +63,7 @@ impl<'a, 'i> Occupied<'a, 'i> {
         ensures count { result
             ≡ count_by (λ e. in_curriculum self.now.problem curriculum e.course && is_at (slot day period) e)
             self.now.entries }
-        ensures few { result ≤ MAX_ENTRIES }
+        ensures at_most { result ≤ MAX_ENTRIES }
     {
         u32::from(self.tables.curricula.week.get(curriculum, day, period))
     }
@@ -87,7 +87,7 @@ impl<'a, 'i> Occupied<'a, 'i> {
         ensures count { result
             ≡ count_by (λ e. is_of course e && is_at (slot day period) e)
             self.now.entries }
-        ensures few { result ≤ MAX_ENTRIES }
+        ensures at_most { result ≤ MAX_ENTRIES }
     {
         u32::from(self.tables.courses.get(course, day, period))
     }
@@ -100,7 +100,7 @@ impl<'a, 'i> Occupied<'a, 'i> {
         ensures count { result
             ≡ count_by (λ e. conflict self.now.problem course e.course && is_at (slot day period) e)
             self.now.entries }
-        ensures few { result ≤ MAX_ENTRIES }
+        ensures at_most { result ≤ MAX_ENTRIES }
     {
         u32::from(self.tables.opponents.get(course, day, period))
     }
@@ -110,7 +110,7 @@ impl<'a, 'i> Occupied<'a, 'i> {
         requires course { course < length self.now.problem.courses }
         requires day { day < self.now.problem.days }
         ensures count { result ≡ count_by (λ e. is_of course e && is_on day e) self.now.entries }
-        ensures few { result ≤ MAX_ENTRIES }
+        ensures at_most { result ≤ MAX_ENTRIES }
     {
         u32::from(self.tables.days.get(course, day))
     }
@@ -120,7 +120,7 @@ impl<'a, 'i> Occupied<'a, 'i> {
         requires course { course < length self.now.problem.courses }
         requires room { room < length self.now.problem.rooms }
         ensures count { result ≡ count_by (λ e. is_of course e && is_in room e) self.now.entries }
-        ensures few { result ≤ MAX_ENTRIES }
+        ensures at_most { result ≤ MAX_ENTRIES }
     {
         u32::from(self.tables.course_rooms.get(course, room))
     }
@@ -129,7 +129,7 @@ impl<'a, 'i> Occupied<'a, 'i> {
     pub fn days_used(&self, course: u32) -> u32
         requires { course < length self.now.problem.courses }
         ensures count { result ≡ days_of self.now.problem self.now.entries course }
-        ensures few { result ≤ MAX_DAYS }
+        ensures at_most { result ≤ MAX_DAYS }
     {
         u32::from(self.tables.days.used(course))
     }
@@ -138,7 +138,7 @@ impl<'a, 'i> Occupied<'a, 'i> {
     pub fn rooms_used(&self, course: u32) -> u32
         requires { course < length self.now.problem.courses }
         ensures count { result ≡ rooms_of self.now.problem self.now.entries course }
-        ensures few { result ≤ MAX_ROOMS }
+        ensures at_most { result ≤ MAX_ROOMS }
     {
         u32::from(self.tables.course_rooms.used(course))
     }

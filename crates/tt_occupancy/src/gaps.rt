@@ -47,7 +47,7 @@ fn standing(week: &Week, row: u32, day: u32, period: u32) -> u32
     ensures value { (p : Problem) (u : List Cell) → IsTimetable p u
         → IsTally p (length p.curricula) (of_curriculum p) u week.now
         → result ≡ standing p u row day period }
-    ensures few { result < 2 ^ 16 }
+    ensures at_most { result < 2 ^ 16 }
 {
     if period < week.periods {
         u32::from(week.get(row, day, period))
@@ -63,7 +63,7 @@ fn standing_before(week: &Week, row: u32, day: u32, period: u32, by: u32) -> u32
     ensures value { (p : Problem) (u : List Cell) → IsTimetable p u
         → IsTally p (length p.curricula) (of_curriculum p) u week.now
         → result ≡ cond (nat_le by period) (standing p u row day (period - by)) 0 }
-    ensures few { result < 2 ^ 16 }
+    ensures at_most { result < 2 ^ 16 }
 {
     if by <= period {
         standing(week, row, day, period - by)
@@ -80,7 +80,7 @@ fn around(week: &Week, row: u32, day: u32, period: u32) -> Around
     ensures around { (p : Problem) (u : List Cell) → IsTimetable p u
         → IsTally p (length p.curricula) (of_curriculum p) u week.now
         → IsAround p u row day period result }
-    ensures few { result.before + result.after < 2 * 2 ^ 16 }
+    ensures at_most { result.before + result.after < 2 * 2 ^ 16 }
 {
     Around {
         two_before: standing_before(week, row, day, period, 2),
@@ -96,7 +96,7 @@ pub fn gaps_round(week: &Week, rows: &[u32], day: u32, period: u32) -> Gaps
     requires rows { All (λ q. q < week.now.grid.rows) rows.now }
     requires day { day < week.now.days }
     requires period { period < week.now.periods }
-    requires few { length rows.now ≤ MAX_CURRICULA }
+    requires at_most { length rows.now ≤ MAX_CURRICULA }
     ensures gaps { (p : Problem) (u : List Cell) → IsTimetable p u
         → IsTally p (length p.curricula) (of_curriculum p) u week.now
         → AreGaps p u rows.now day period result }

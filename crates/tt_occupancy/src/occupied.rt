@@ -145,7 +145,7 @@ impl<'a, 'i> Occupied<'a, 'i> {
           problem = self.old.problem;
           entries = swapped self.old.entries first second;
         } }
-        ensures same { first ≡ second → self.new ≡ self.old }
+        ensures unchanged { first ≡ second → self.new ≡ self.old }
     {
         if first == second {
             return;

@@ -82,10 +82,10 @@ module _ (p : Problem) (u : List Cell) (x : Cell) (ok : InRange p x) where
   lectures_off_added : lectures_off p (x ∷ u) x.course ≡ (max (lectures p x.course) (entries_of u x.course + 1) - min (lectures p x.course) (entries_of u x.course + 1)) + (entries_of u x.course - periods_of p u x.course) + one_if (repeats u x)
   lectures_off_added =
       let k = periods_added in
-      let few = periods-le-entries p u x.course in
+      let at_most = periods-le-entries p u x.course in
       let c = x.course in
       ap (λ i. (max (lectures p c) i - min (lectures p c) i) + (i - periods_of p (x ∷ u) c)) entries_added
-      ∙ omega (arith, k, few, by_test (repeats u x))
+      ∙ omega (arith, k, at_most, by_test (repeats u x))
     where
       by_test : (b : Bool) → one_if b + one_if (not b) ≡ 1
       by_test true = refl

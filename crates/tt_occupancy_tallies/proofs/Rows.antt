@@ -78,9 +78,9 @@ module _ (p : Problem) (n : ℕ) (chooses : ℕ → Cell → Bool) (e : Cell) (r
 
     -- each count of these rows has room for another entry
     pub rows_room : IsTally p n chooses t w → length t < 16384 → All (λ i. in_period w i e.day e.period + count_by (λ k. k == i) rows < 2 ^ 16) rows
-    rows_room ok few =
+    rows_room ok at_most =
         All-weaker (λ i. i < n) (λ i. in_period w i e.day e.period + count_by (λ k. k == i) rows < 2 ^ 16)
-        (λ i h. omega (arith, few, tally_room p n chooses t w ok i e.day e.period h r.day r.period, passing_once (λ i. chooses i e) n rows are i h, one_if-le (chooses i e))) rows (passing_below (λ i. chooses i e) n rows are)
+        (λ i h. omega (arith, at_most, tally_room p n chooses t w ok i e.day e.period h r.day r.period, passing_once (λ i. chooses i e) n rows are i h, one_if-le (chooses i e))) rows (passing_below (λ i. chooses i e) n rows are)
 
     -- if the entry is in the list, each count of these rows is above 0
     pub rows_some : IsTally p n chooses (e ∷ t) w → All (λ i. count_by (λ k. k == i) rows ≤ in_period w i e.day e.period) rows

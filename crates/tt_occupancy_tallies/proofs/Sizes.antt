@@ -23,18 +23,18 @@ sum_at_most f m xs h = sum_by-le f m xs (λ k d l. h (get_or xs k d))
 
 -- a sum of at most n terms that are at most m
 sum_few : {X : Type 0} (f : X → ℕ) (m n : ℕ) (xs : List X) → length xs ≤ n → ((x : X) → f x ≤ m) → sum_by f xs ≤ n * m
-sum_few f m n xs few h = let a = mul-le-mul_right m few in omega (arith, sum_at_most f m xs h)
+sum_few f m n xs at_most h = let a = mul-le-mul_right m at_most in omega (arith, sum_at_most f m xs h)
 
 -- a sum over numbers below at most n
 sum_below : (f : ℕ → ℕ) (m n k : ℕ) → k ≤ n → ((i : ℕ) → f i ≤ m) → sum_by f (range_below k) ≤ n * m
-sum_below f m n k few h = sum_few f m n (range_below k) (omega (arith, length-range_with_len 0 k)) h
+sum_below f m n k at_most h = sum_few f m n (range_below k) (omega (arith, length-range_with_len 0 k)) h
 
 pairs_few : {X : Type 0} (related : X → X → Bool) (m : ℕ) (xs : List X) → length xs ≤ m → count_pairs related xs ≤ length xs * m
 pairs_few related m [] h = zero-le
 pairs_few related m (x ∷ xs) h = omega (arith, pairs_few related m xs (omega arith), count_by-le-length (related x) xs)
 
 -- an instance and at most 16384 entries of it
-module _ (p : Problem) (ok : IsInstance p) (t : List Cell) (few : length t ≤ 16384) where
+module _ (p : Problem) (ok : IsInstance p) (t : List Cell) (at_most : length t ≤ 16384) where
   course_few : (c : ℕ) → IsFewCourse (get_or p.courses c no_course)
   course_few c = elim (cases_lt c (length p.courses)) [
     | inl h ↦ each_few p ok.within c no_course h
@@ -50,7 +50,7 @@ module _ (p : Problem) (ok : IsInstance p) (t : List Cell) (few : length t ≤ 1
       omega arith
 
   pub conflicts_few : conflicts_count p t ≤ 2 ^ 40
-  conflicts_few = let a = pairs_few (collide p) 16384 t few in let b = mul-le-mul_right 16384 few in omega arith
+  conflicts_few = let a = pairs_few (collide p) 16384 t at_most in let b = mul-le-mul_right 16384 at_most in omega arith
 
   pub availability_few : availability_count p t ≤ 2 ^ 40
   availability_few = omega (arith, count_few (λ e. unavailable p e.course e.day e.period))
@@ -64,7 +64,7 @@ module _ (p : Problem) (ok : IsInstance p) (t : List Cell) (few : length t ≤ 1
 
   pub capacity_few : capacity_count p t ≤ 2 ^ 40
   capacity_few =
-      let a = sum_few (λ (e : Cell). excess p e.course e.room) 1000000 16384 t few (λ e. omega (arith, (course_few e.course).2)) in
+      let a = sum_few (λ (e : Cell). excess p e.course e.room) 1000000 16384 t at_most (λ e. omega (arith, (course_few e.course).2)) in
       omega arith
 
   pub days_few : days_count p t ≤ 2 ^ 40

@@ -56,7 +56,7 @@ impl Grid {
     pub fn take(&mut self, row: usize, column: usize)
         requires row { row < self.old.rows }
         requires column { column < self.old.columns }
-        requires some { 1 ≤ at self.old row column }
+        requires positive { 1 ≤ at self.old row column }
         ensures rows { self.new.rows ≡ self.old.rows }
         ensures columns { self.new.columns ≡ self.old.columns }
         ensures counts { (i j : ℕ) → j < self.old.columns

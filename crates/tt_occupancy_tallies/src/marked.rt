@@ -98,7 +98,7 @@ impl Marked {
         requires row { row < self.old.week.grid.rows }
         requires day { day < self.old.week.days }
         requires period { period < self.old.week.periods }
-        requires some { 1 ≤ in_period self.old.week row day period }
+        requires positive { 1 ≤ in_period self.old.week row day period }
         ensures { IsMore self.new.week self.old.week
             (λ i d s. cond ((row == i) && ((day == d) && (period == s))) 1 0) }
     {
@@ -128,7 +128,7 @@ impl Marked {
         requires rows { All (λ r. r < self.old.week.grid.rows) rows.now }
         requires day { day < self.old.week.days }
         requires period { period < self.old.week.periods }
-        requires some { All (λ i. count_by (λ r. r == i) rows.now
+        requires enough { All (λ i. count_by (λ r. r == i) rows.now
             ≤ in_period self.old.week i day period) rows.now }
         ensures { IsMore self.new.week self.old.week
             (λ i d s. cond ((day == d) && (period == s)) (count_by (λ r. r == i) rows.now) 0) }

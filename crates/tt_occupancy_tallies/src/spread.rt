@@ -12,7 +12,7 @@ pub struct Spread {
     pub counts: Grid,
     pub used: Vec<u16>,
     ghost covers: { length used.items ≡ counts.rows },
-    ghost few: { counts.columns ≤ MAX_SLOTS },
+    ghost at_most: { counts.columns ≤ MAX_SLOTS },
 }
 
 impl Spread {
@@ -69,7 +69,7 @@ impl Spread {
     pub fn take(&mut self, row: u32, place: u32)
         requires row { row < self.old.counts.rows }
         requires place { place < self.old.counts.columns }
-        requires some { 1 ≤ at self.old.counts row place }
+        requires positive { 1 ≤ at self.old.counts row place }
         requires used { 1 ≤ used_at self.old row }
         ensures { IsOneMore self.new self.old row place }
     {

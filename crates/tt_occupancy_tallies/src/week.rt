@@ -13,7 +13,7 @@ pub struct Week {
     pub periods: u32,
     pub grid: Grid,
     ghost covers: { grid.columns ≡ days * periods },
-    ghost few: { grid.rows ≤ MAX_CURRICULA },
+    ghost at_most: { grid.rows ≤ MAX_CURRICULA },
     ghost short: { periods ≤ MAX_PERIODS },
 }
 
@@ -76,7 +76,7 @@ impl Week {
         requires row { row < self.old.grid.rows }
         requires day { day < self.old.days }
         requires period { period < self.old.periods }
-        requires some { 1 ≤ in_period self.old row day period }
+        requires positive { 1 ≤ in_period self.old row day period }
         ensures { IsMore self.new self.old
             (λ i d s. cond ((row == i) && ((day == d) && (period == s))) 1 0) }
     {
@@ -104,7 +104,7 @@ impl Week {
         requires rows { All (λ r. r < self.old.grid.rows) rows.now }
         requires day { day < self.old.days }
         requires period { period < self.old.periods }
-        requires some { All (λ i. count_by (λ r. r == i) rows.now
+        requires enough { All (λ i. count_by (λ r. r == i) rows.now
             ≤ in_period self.old i day period) rows.now }
         ensures { IsMore self.new self.old
             (λ i d s. cond ((day == d) && (period == s)) (count_by (λ r. r == i) rows.now) 0) }

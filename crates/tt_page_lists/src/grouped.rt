@@ -37,7 +37,7 @@ fn entries_of(plan: &Plan<'_, '_>, alloc: Global, course: u32) -> Result<Vec<Ent
     requires { course < length plan.now.problem.courses }
     ensures entries { IfOk result (λ found. found.items ≡ filter (is_of course) plan.now.table) }
     ensures in_range { IfOk result (λ found. All (InRange plan.now.problem) found.items) }
-    ensures few { IfOk result (λ found. length found.items ≤ MAX_ENTRIES) }
+    ensures at_most { IfOk result (λ found. length found.items ≤ MAX_ENTRIES) }
 {
     let entries = plan.of_course(course);
     collect(alloc, entries)
@@ -47,7 +47,7 @@ fn entries_of(plan: &Plan<'_, '_>, alloc: Global, course: u32) -> Result<Vec<Ent
 #[tactic(auto, using(std::proofs::lemmas::List::Sums::sum_by_more))]
 fn seats_of(instance: &Instance<'_>, entries: &[Entry]) -> u64
     requires in_range { All (InRange instance.now) entries.now }
-    requires few { length entries.now ≤ MAX_ENTRIES }
+    requires at_most { length entries.now ≤ MAX_ENTRIES }
     ensures { result ≡ sum_by (λ e. excess instance.now e.course e.room) entries.now }
 {
     let mut total: u64 = 0;
@@ -220,7 +220,7 @@ fn is_isolated_in(plan: &Plan<'_, '_>, curriculum: u32, entry: &Entry) -> bool
 #[tactic(auto, using(std::proofs::lemmas::List::Sums::count_by_more_yes, std::proofs::lemmas::List::Sums::count_by_more_no))]
 fn isolated_count(plan: &Plan<'_, '_>, curriculum: u32) -> u64
     ensures count { result ≡ count_by (λ e. in_curriculum plan.now.problem curriculum e.course && is_isolated plan.now.problem plan.now.table curriculum e) plan.now.table }
-    ensures few { result ≤ MAX_ENTRIES }
+    ensures at_most { result ≤ MAX_ENTRIES }
 {
     let mut count: u64 = 0;
     for entry in plan.entries() {

@@ -340,7 +340,7 @@ fn put_odds(
 ) -> Result<(), AllocError>
     requires entry { InRange instance.now entry.now }
     requires odds { All (InRange instance.now) odds.now }
-    requires few { length odds.now ≤ MAX_ENTRIES }
+    requires at_most { length odds.now ≤ MAX_ENTRIES }
     ensures { OnOk result (out.new.items ≡ out.old.items ++ odds_item instance.now labels.now rule entry.now odds.now) }
 {
     let Some((first, more)) = odds.split_first() else {

@@ -7,6 +7,6 @@ use Rattle.tt_table.specs.declared.table.TheConstants.{MAX_ENTRIES}
 
 pub record IsPlan (s : Inside) : Type 0 where
   pub in_range : All (InRange s.instance.now) s.entries.now
-  pub few : length s.entries.now ≤ MAX_ENTRIES
+  pub at_most : length s.entries.now ≤ MAX_ENTRIES
   pub by_period : s.by_period ≡ record { by = by.Period s.instance.now.periods; entries = s.entries.now }
   pub by_course : s.by_course ≡ record { by = by.Course; entries = s.entries.now }

@@ -18,7 +18,7 @@ use crate::plan::Plan;
 pub fn entries_of(plan: &Plan<'_, '_>, course: u32) -> u64
     requires { course < length plan.now.problem.courses }
     ensures count { result ≡ entries_of plan.now.table course }
-    ensures few { result ≤ MAX_ENTRIES }
+    ensures at_most { result ≤ MAX_ENTRIES }
 {
     plan.of_course(course).len()
 }
@@ -53,7 +53,7 @@ pub fn is_taught_in(plan: &Plan<'_, '_>, course: u32, room: u32) -> bool
 pub fn days_of(plan: &Plan<'_, '_>, course: u32) -> u64
     requires { course < length plan.now.problem.courses }
     ensures count { result ≡ days_of plan.now.problem plan.now.table course }
-    ensures few { result ≤ 64 }
+    ensures at_most { result ≤ 64 }
 {
     let mut days: u64 = 0;
     for day in 0..plan.instance().days() {
@@ -70,7 +70,7 @@ fn periods_on(plan: &Plan<'_, '_>, course: u32, day: u32) -> u64
     requires { course < length plan.now.problem.courses }
     ensures count { result ≡ count_by (λ s. list_any (λ e. is_of course e && is_at (slot day s) e) plan.now.table)
         (range_below plan.now.problem.periods) }
-    ensures few { result ≤ 64 }
+    ensures at_most { result ≤ 64 }
 {
     let mut periods: u64 = 0;
     for period in 0..plan.instance().periods() {
@@ -86,7 +86,7 @@ fn periods_on(plan: &Plan<'_, '_>, course: u32, day: u32) -> u64
 pub fn periods_of(plan: &Plan<'_, '_>, course: u32) -> u64
     requires { course < length plan.now.problem.courses }
     ensures count { result ≡ periods_of plan.now.problem plan.now.table course }
-    ensures few { result ≤ 4096 }
+    ensures at_most { result ≤ 4096 }
 {
     let mut periods: u64 = 0;
     for day in 0..plan.instance().days() {
@@ -110,7 +110,7 @@ pub fn lectures_off(plan: &Plan<'_, '_>, course: u32) -> u64
 pub fn missing_days(plan: &Plan<'_, '_>, course: u32) -> u64
     requires { course < length plan.now.problem.courses }
     ensures days { result ≡ min_days plan.now.problem course - days_of plan.now.problem plan.now.table course }
-    ensures few { result ≤ MAX_MIN_DAYS }
+    ensures at_most { result ≤ MAX_MIN_DAYS }
 {
     u64::from(plan.instance().min_days(course)).saturating_sub(days_of(plan, course))
 }
@@ -120,7 +120,7 @@ pub fn missing_days(plan: &Plan<'_, '_>, course: u32) -> u64
 fn rooms_of(plan: &Plan<'_, '_>, course: u32) -> u64
     requires { course < length plan.now.problem.courses }
     ensures count { result ≡ count_by (λ r. is_taught_in plan.now.table course r) (range_below (length plan.now.problem.rooms)) }
-    ensures few { result ≤ MAX_ROOMS }
+    ensures at_most { result ≤ MAX_ROOMS }
 {
     let mut rooms: u64 = 0;
     for room in 0..plan.instance().rooms() {
@@ -135,7 +135,7 @@ fn rooms_of(plan: &Plan<'_, '_>, course: u32) -> u64
 pub fn other_rooms(plan: &Plan<'_, '_>, course: u32) -> u64
     requires { course < length plan.now.problem.courses }
     ensures rooms { result ≡ stability_cost plan.now.problem plan.now.table course }
-    ensures few { result ≤ MAX_ROOMS }
+    ensures at_most { result ≤ MAX_ROOMS }
 {
     rooms_of(plan, course).saturating_sub(1)
 }

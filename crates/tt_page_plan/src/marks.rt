@@ -69,7 +69,7 @@ pub fn is_isolated(plan: &Plan<'_, '_>, curriculum: u32, entry: &Entry) -> bool
 pub fn without_seat(instance: &Instance<'_>, entry: &Entry) -> u64
     requires { InRange instance.now entry.now }
     ensures value { result ≡ excess instance.now entry.now.course entry.now.room }
-    ensures few { result ≤ MAX_SEATS }
+    ensures at_most { result ≤ MAX_SEATS }
 {
     let seats = instance.capacity(entry.room);
     u64::from(instance.students(entry.course).saturating_sub(seats))

@@ -35,7 +35,7 @@ impl<'w, 'i> Model for Plan<'w, 'i> {
 /// Groups the entries by the period of the week.
 fn by_period<'t>(instance: &Instance<'_>, entries: &'t [Entry]) -> Groups<'t>
     requires in_range { All (InRange instance.now) entries.now }
-    requires few { length entries.now ≤ MAX_ENTRIES }
+    requires at_most { length entries.now ≤ MAX_ENTRIES }
     ensures { result ≡ record { by = by.Period instance.now.periods; entries = entries.now } }
 {
     Groups::new(entries, GroupBy::Period(instance.periods()))
@@ -44,7 +44,7 @@ fn by_period<'t>(instance: &Instance<'_>, entries: &'t [Entry]) -> Groups<'t>
 /// Groups the entries by course.
 fn by_course<'t>(instance: &Instance<'_>, entries: &'t [Entry]) -> Groups<'t>
     requires in_range { All (InRange instance.now) entries.now }
-    requires few { length entries.now ≤ MAX_ENTRIES }
+    requires at_most { length entries.now ≤ MAX_ENTRIES }
     ensures { result ≡ record { by = by.Course; entries = entries.now } }
 {
     // This holds for every instance: each course is a group.
@@ -80,7 +80,7 @@ impl<'w, 'i> Plan<'w, 'i> {
     pub fn entries(&self) -> &'w [Entry]
         ensures value { result.now ≡ self.now.table }
         ensures in_range { All (InRange self.now.problem) result.now }
-        ensures few { length result.now ≤ MAX_ENTRIES }
+        ensures at_most { length result.now ≤ MAX_ENTRIES }
     {
         self.entries
     }
@@ -91,7 +91,7 @@ impl<'w, 'i> Plan<'w, 'i> {
         requires period { period < self.now.problem.periods }
         ensures group { result ≡ filter (is_at (slot day period)) self.now.table }
         ensures in_range { All (InRange self.now.problem) result }
-        ensures few { length result ≤ MAX_ENTRIES }
+        ensures at_most { length result ≤ MAX_ENTRIES }
     {
         self.by_period.in_period(self.instance, day, period)
     }
@@ -101,7 +101,7 @@ impl<'w, 'i> Plan<'w, 'i> {
         requires { course < length self.now.problem.courses }
         ensures group { result ≡ filter (is_of course) self.now.table }
         ensures in_range { All (InRange self.now.problem) result }
-        ensures few { length result ≤ MAX_ENTRIES }
+        ensures at_most { length result ≤ MAX_ENTRIES }
     {
         let _courses = self.instance.courses();
         self.by_course.of_course(course)
@@ -113,7 +113,7 @@ impl<'w, 'i> Plan<'w, 'i> {
         ensures group { IfSome (slice_get self.now.table index)
             (λ e. result ≡ filter (is_at (slot_of e)) (drop (index + 1) self.now.table)) }
         ensures in_range { All (InRange self.now.problem) result }
-        ensures few { length result ≤ MAX_ENTRIES }
+        ensures at_most { length result ≤ MAX_ENTRIES }
     {
         self.by_period.after(index)
     }

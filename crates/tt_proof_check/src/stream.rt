@@ -36,7 +36,7 @@ fn take<'i, P: Path<'i>>(path: &mut P, bound: Bound, node: Node) -> Result<(), S
     ensures steps { OnOk result (Steps (P.problem path.old) bound (P.facts path.old) node (P.facts path.new)) }
     ensures within { OnOk result (length (P.facts path.new) ≤ MAX_FACTS) }
     ensures stops { IfErr result (λ stop. Stops (P.problem path.old) bound (P.facts path.old) node stop) }
-    ensures same { P.problem path.new ≡ P.problem path.old }
+    ensures unchanged { P.problem path.new ≡ P.problem path.old }
 {
     check_node(path, bound, &node)
 }

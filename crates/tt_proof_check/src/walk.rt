@@ -52,7 +52,7 @@ fn advance<'i, P: Path<'i>>(path: &mut P) -> Result<(), PathFault>
     ensures next { OnOk result (GoesOn (P.facts path.old) (P.facts path.new)) }
     ensures within { length (P.facts path.new) ≤ MAX_FACTS }
     ensures memory { IsOkUnless result PathFault.OutOfMemory }
-    ensures same { P.problem path.new ≡ P.problem path.old }
+    ensures unchanged { P.problem path.new ≡ P.problem path.old }
 {
     while path.depth() > 0 {
         let fact = path.pop();
@@ -74,7 +74,7 @@ pub fn check_node<'i, P: Path<'i>>(path: &mut P, bound: Bound, node: &Node) -> R
     ensures steps { OnOk result (Steps (P.problem path.old) bound (P.facts path.old) node.now (P.facts path.new)) }
     ensures within { OnOk result (length (P.facts path.new) ≤ MAX_FACTS) }
     ensures stops { IfErr result (λ stop. Stops (P.problem path.old) bound (P.facts path.old) node.now stop) }
-    ensures same { P.problem path.new ≡ P.problem path.old }
+    ensures unchanged { P.problem path.new ≡ P.problem path.old }
 {
     match node {
         Node::Split(pattern) => path.push(Fact {

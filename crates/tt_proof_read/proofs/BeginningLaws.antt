@@ -102,16 +102,16 @@ module _ (at : ℕ) (sizes : Sizes) (version : ℕ) (e : TextFault) (there : tok
   both_not : (nodes : List Node) (places count k : ℕ) (s rest u : Stream) → count + length nodes ≡ k → SharedIn at s u → ReadsNodes sizes version count s nodes rest
       → FailsNext sizes version (open_after places nodes) k rest e → (others : List Node) (after ended : Stream) → ReadsNodes sizes version count u others after
       → open_after places others ≡ Some 0 → end_at after ≡ Ok ended → ⊥
-  both_not [] places count k s rest u few shared reads fails others after ended other fills finish =
-      let same : k ≡ count = omega (arith, few) in
+  both_not [] places count k s rest u at_most shared reads fails others after ended other fills finish =
+      let same : k ≡ count = omega (arith, at_most) in
       here_not places count s u shared (subst (λ (x : Stream). FailsNext sizes version (Some places) count x e) (sym reads) (subst (λ (c : ℕ). FailsNext sizes version (Some places) c rest e) same fails))
       others after ended other fills finish
-  both_not (n ∷ ns) zero count k s rest u few shared reads fails others after ended other fills finish = fails
-  both_not (n ∷ ns) (suc places) count k s rest u few shared reads fails [] after ended other fills finish = cc
-  both_not (n ∷ ns) (suc places) count k s rest u few shared reads fails (m ∷ ms) after ended other fills finish =
+  both_not (n ∷ ns) zero count k s rest u at_most shared reads fails others after ended other fills finish = fails
+  both_not (n ∷ ns) (suc places) count k s rest u at_most shared reads fails [] after ended other fills finish = cc
+  both_not (n ∷ ns) (suc places) count k s rest u at_most shared reads fails (m ∷ ms) after ended other fills finish =
       node_step n m ns ms places (count + 1) k reads.0 rest other.0 reads.2
       (values_meet at (NoneLeft at) (SharedLeft at) (node_at sizes version count s) (node_at sizes version count u) (n, reads.0) (m, other.0) ((node_alike at sizes version count).meets s u shared) reads.1 other.1)
-      fails fills (λ filled more f g. both_not ns filled (count + 1) k reads.0 rest other.0 (omega (arith, few)) more reads.2 f ms after ended other.2 g finish)
+      fails fills (λ filled more f g. both_not ns filled (count + 1) k reads.0 rest other.0 (omega (arith, at_most)) more reads.2 f ms after ended other.2 g finish)
 
 -- ---- the whole
 

@@ -173,13 +173,13 @@ module _ (p : Problem) (sizes : Sizes) (are : AreSizes p sizes) where
         let u = bind_ok (counted t.0.0.at count) (λ (_ : Unit {0}). node_word_of t.0.0 >>= λ w. node_after_word sizes version w t.0.1) x t.2 in
         let w = bind_ok (node_word_of t.0.0) (λ w. node_after_word sizes version w t.0.1) x u.2 in
         let b = behind_took w.0 t.0.1 x w.2 in
-        let few = test_ok (nat_lt count MAX_PROOF_NODES) (fault.TooManyNodes t.0.0.at) (Ok tt) u.0 u.1 in
+        let at_most = test_ok (nat_lt count MAX_PROOF_NODES) (fault.TooManyNodes t.0.0.at) (Ok tt) u.0 u.1 in
         record {
           pieces = Text (code_of w.0) ∷ b.rest;
           spells = b.spells;
           took = took_then s t.0.1 x.1 (Text (code_of w.0) ∷ []) b.rest (took_piece s t.0 (Text (code_of w.0)) t.1 (word_took t.0.0 w.0 w.1)) b.took;
           is = b.is;
-          room = omega (arith, leb-true _ _ few.0);
+          room = omega (arith, leb-true _ _ at_most.0);
         }
 
     by_word : (w : NodeWord) (n : Node) (rest : List Piece) (count : ℕ) (s after : Stream) → count < MAX_PROOF_NODES → ((mid : Stream) → Took mid rest after → node_after_word sizes version w mid ≡ Ok (n, after))
@@ -187,8 +187,8 @@ module _ (p : Problem) (sizes : Sizes) (are : AreSizes p sizes) where
     unfolding node_at
     by_word w n rest count s after room more took =
         let f = first_of_pieces (Text (code_of w)) rest s after took in
-        let few : nat_lt count MAX_PROOF_NODES ≡ true = le-leb _ _ (omega arith) in
-        rw (f.is, few, word_reads w f.token f.piece, more f.mid f.rest) refl
+        let at_most : nat_lt count MAX_PROOF_NODES ≡ true = le-leb _ _ (omega arith) in
+        rw (f.is, at_most, word_reads w f.token f.piece, more f.mid f.rest) refl
 
     -- a node that is spelled is read
     pub node_reads : AreSmall sizes → (count : ℕ) (n : Node) (ps : List Piece) (s after : Stream) → count < MAX_PROOF_NODES → SpellsNode n ps → IsNode p version n → Took s ps after

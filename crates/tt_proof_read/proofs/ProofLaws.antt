@@ -98,18 +98,18 @@ module _ (p : Problem) (sizes : Sizes) (are : AreSizes p sizes) (version : ℕ) 
     pub spells : SpellsEach SpellsNode nodes body
     pub took : Took s body after
     pub each : All (IsNode p version) nodes
-    pub few : count + length nodes ≤ MAX_PROOF_NODES
+    pub at_most : count + length nodes ≤ MAX_PROOF_NODES
 
   -- nodes that were read are spelled
   pub nodes_took : (count : ℕ) (s : Stream) (nodes : List Node) (after : Stream) → count ≤ MAX_PROOF_NODES → ReadsNodes sizes version count s nodes after → NodesTook count s nodes after
-  nodes_took count s [] after few reads = record {
+  nodes_took count s [] after at_most reads = record {
     body = [];
     spells = refl;
     took = subst (Took s []) reads (took_nothing s);
     each = All-nil (IsNode p version);
-    few = omega arith;
+    at_most = omega arith;
   }
-  nodes_took count s (n ∷ ns) after few reads =
+  nodes_took count s (n ∷ ns) after at_most reads =
       let a = node_took p sizes are version count s (n, reads.0) reads.1 in
       let more = nodes_took (count + 1) reads.0 ns after (omega (arith, a.room)) reads.2 in
       record {
@@ -117,14 +117,14 @@ module _ (p : Problem) (sizes : Sizes) (are : AreSizes p sizes) (version : ℕ) 
         spells = (a.pieces, more.body, a.spells, more.spells, refl);
         took = took_then s reads.0 after a.pieces more.body a.took more.took;
         each = All-cons (IsNode p version) n ns a.is more.each;
-        few = omega (arith, more.few);
+        at_most = omega (arith, more.at_most);
       }
 
   -- nodes that are spelled are read
   pub nodes_read : AreSmall sizes → (count : ℕ) (nodes : List Node) (body : List Piece) (s after : Stream) → count + length nodes ≤ MAX_PROOF_NODES → SpellsEach SpellsNode nodes body → All (IsNode p version) nodes
       → Took s body after → ReadsNodes sizes version count s nodes after
-  nodes_read small count [] body s after few spells each took = took_same s after (subst (λ ps. Took s ps after) spells took)
-  nodes_read small count (n ∷ ns) body s after few spells each took =
+  nodes_read small count [] body s after at_most spells each took = took_same s after (subst (λ ps. Took s ps after) spells took)
+  nodes_read small count (n ∷ ns) body s after at_most spells each took =
       let parts = took_split spells.0 spells.1 s after (subst (λ ps. Took s ps after) spells.4 took) in (
         parts.0,
         node_reads p sizes are version small count n spells.0 s parts.0 (omega arith) spells.2 (All-head (IsNode p version) n ns each) parts.1,
@@ -153,7 +153,7 @@ module _ (p : Problem) (sizes : Sizes) (are : AreSizes p sizes) where
         nodes = nodes.spells;
         tokens = tokens;
         each = nodes.each;
-        within = record { size = within.0; tokens = All-from_recursion (λ t. length t.text ≤ 32) (tokens_of bytes) within.1; nodes = omega (arith, nodes.few); depth = depth };
+        within = record { size = within.0; tokens = All-from_recursion (λ t. length t.text ≤ 32) (tokens_of bytes) within.1; nodes = omega (arith, nodes.at_most); depth = depth };
       }
 
   -- a proof that is spelled is read

@@ -72,7 +72,7 @@ number_took at count digits n e =
 -- a number below a count that is spelled is read
 pub number_reads : (at count : ℕ) (digits : List ℕ) (n : ℕ) → count ≤ 4294967295 → n < count → SpellsNumber digits n → numbered_below at count digits ≡ Ok n
 unfolding numbered_below
-number_reads at count digits n few less s =
+number_reads at count digits n at_most less s =
     let small : nat_lt n count ≡ true = le-leb _ _ (omega arith) in
     rw (number_read 4294967295 digits n s (omega arith), small) refl
 
@@ -90,7 +90,7 @@ same_letter b = grind arith
 
 -- the piece of a letter and a number is read as that number
 in_reads : (at letter count : ℕ) (text : List ℕ) (n : ℕ) → count ≤ 4294967295 → n < count → IsPiece (Index letter n) text → index_in at letter count text ≡ Ok n
-in_reads at letter count text n few less piece = rw (piece.1, same_letter letter) (number_reads at count piece.0 n few less piece.2)
+in_reads at letter count text n at_most less piece = rw (piece.1, same_letter letter) (number_reads at count piece.0 n at_most less piece.2)
 
 -- a token that was read as a letter and a number is its piece
 pub index_took : (letter count : ℕ) (t : Placed) (n : ℕ) → index_of letter count t ≡ Ok n → IsPiece (Index letter n) t.text × (n < count)
@@ -100,7 +100,7 @@ index_took letter count t n e = in_took t.at letter count t.text n e
 -- a token that is the piece of a letter and a number is read as that number
 pub index_reads : (letter count n : ℕ) (t : Placed) → count ≤ 4294967295 → n < count → IsPiece (Index letter n) t.text → index_of letter count t ≡ Ok n
 unfolding index_of
-index_reads letter count n t few less piece = in_reads t.at letter count t.text n few less piece
+index_reads letter count n t at_most less piece = in_reads t.at letter count t.text n at_most less piece
 
 -- a course that was read is spelled
 pub course_took : (sizes : Sizes) (s : Stream) (x : ℕ × Stream) → course_at sizes s ≡ Ok x → Took s (course_piece x.0 ∷ []) x.1 × (x.0 < sizes.courses)
@@ -110,7 +110,7 @@ course_took sizes s x e = one_took (index_of COURSE_LETTER sizes.courses) course
 -- a course that is spelled is read
 pub course_reads : (sizes : Sizes) (c : ℕ) (s after : Stream) → sizes.courses ≤ 4294967295 → c < sizes.courses → Took s (course_piece c ∷ []) after → course_at sizes s ≡ Ok (c, after)
 unfolding course_at
-course_reads sizes c s after few less took = one_reads (index_of COURSE_LETTER sizes.courses) (course_piece c) c s after (λ t piece. index_reads COURSE_LETTER sizes.courses c t few less piece) took
+course_reads sizes c s after at_most less took = one_reads (index_of COURSE_LETTER sizes.courses) (course_piece c) c s after (λ t piece. index_reads COURSE_LETTER sizes.courses c t at_most less piece) took
 
 -- a curriculum that was read is spelled
 pub curriculum_took : (sizes : Sizes) (s : Stream) (x : ℕ × Stream) → curriculum_at sizes s ≡ Ok x → Took s (Index CURRICULUM_LETTER x.0 ∷ []) x.1 × (x.0 < sizes.curricula)
@@ -120,7 +120,7 @@ curriculum_took sizes s x e = one_took (index_of CURRICULUM_LETTER sizes.curricu
 -- a curriculum that is spelled is read
 pub curriculum_reads : (sizes : Sizes) (q : ℕ) (s after : Stream) → sizes.curricula ≤ 4294967295 → q < sizes.curricula → Took s (Index CURRICULUM_LETTER q ∷ []) after → curriculum_at sizes s ≡ Ok (q, after)
 unfolding curriculum_at
-curriculum_reads sizes q s after few less took = one_reads (index_of CURRICULUM_LETTER sizes.curricula) (Index CURRICULUM_LETTER q) q s after (λ t piece. index_reads CURRICULUM_LETTER sizes.curricula q t few less piece) took
+curriculum_reads sizes q s after at_most less took = one_reads (index_of CURRICULUM_LETTER sizes.curricula) (Index CURRICULUM_LETTER q) q s after (λ t piece. index_reads CURRICULUM_LETTER sizes.curricula q t at_most less piece) took
 
 -- a number that was taken differs from those before it
 pub new_number_ok : (at : ℕ) (before : List ℕ) (n m : ℕ) → new_number at before n ≡ Ok m → (has_number before n ≡ false) × (n ≡ m)
@@ -197,8 +197,8 @@ not_single byte letter n text piece = false_from_ne_true (is_text (byte ∷ []) 
 -- the piece of a given number or `*` is read as that number or `*`
 given_reads_of : (letter count : ℕ) (o : Option ℕ) (t : Placed) → count ≤ 4294967295 → IfSome o (λ n. n < count) → IsPiece (given_piece letter o) t.text → given_of letter count t ≡ Ok o
 unfolding given_of
-given_reads_of letter count None t few less piece = rw (is_text_of t.text (codes "*") piece) refl
-given_reads_of letter count (Some n) t few less piece = rw (not_single 42 letter n t.text piece, index_reads letter count n t few less piece) refl
+given_reads_of letter count None t at_most less piece = rw (is_text_of t.text (codes "*") piece) refl
+given_reads_of letter count (Some n) t at_most less piece = rw (not_single 42 letter n t.text piece, index_reads letter count n t at_most less piece) refl
 
 -- a given number or `*` that was read is spelled
 pub given_took : (letter count : ℕ) (s : Stream) (x : Option ℕ × Stream) → given_at letter count s ≡ Ok x → Took s (given_piece letter x.0 ∷ []) x.1 × IfSome x.0 (λ n. n < count)
@@ -208,7 +208,7 @@ given_took letter count s x e = one_took (given_of letter count) (given_piece le
 -- a given number or `*` that is spelled is read
 pub given_reads : (letter count : ℕ) (o : Option ℕ) (s after : Stream) → count ≤ 4294967295 → IfSome o (λ n. n < count) → Took s (given_piece letter o ∷ []) after → given_at letter count s ≡ Ok (o, after)
 unfolding given_at
-given_reads letter count o s after few less took = one_reads (given_of letter count) (given_piece letter o) o s after (λ t piece. given_reads_of letter count o t few less piece) took
+given_reads letter count o s after at_most less took = one_reads (given_of letter count) (given_piece letter o) o s after (λ t piece. given_reads_of letter count o t at_most less piece) took
 
 -- ---- the version
 

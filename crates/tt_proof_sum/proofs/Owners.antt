@@ -98,17 +98,17 @@ group_marks a b c g h k = subst (λ (l : List ℕ). Marks a l c) (sym (places_of
 -- ---- places of a group's targets are within the table
 
 placed_courses : (n : ℕ) (cs : List ℕ) → n ≤ 8192 → AllByRecursion (λ c. c < n) cs → AllByRecursion (λ y. place y < 32768) (map WorkingDays cs)
-placed_courses n [] few h = tt
-placed_courses n (c ∷ cs) few h = (omega (arith, h.0, few), placed_courses n cs few h.1)
+placed_courses n [] at_most h = tt
+placed_courses n (c ∷ cs) at_most h = (omega (arith, h.0, at_most), placed_courses n cs at_most h.1)
 
 placed_curricula : (n : ℕ) (qs : List ℕ) (rest : List Target) → n ≤ 8192 → AllByRecursion (λ q. q < n) qs → AllByRecursion (λ y. place y < 32768) rest → AllByRecursion (λ y. place y < 32768) (map Compactness qs ++ rest)
-placed_curricula n [] rest few h r = r
-placed_curricula n (q ∷ qs) rest few h r = (omega (arith, h.0, few), placed_curricula n qs rest few h.1 r)
+placed_curricula n [] rest at_most h r = r
+placed_curricula n (q ∷ qs) rest at_most h r = (omega (arith, h.0, at_most), placed_curricula n qs rest at_most h.1 r)
 
 pub group_placed : (p : Problem) → IsInstance p → (k : GroupClaim) → IsClaim p k → AllByRecursion (λ y. place y < 32768) (group_targets k.group)
 group_placed p is k claim =
     placed_curricula (length p.curricula) k.group.curricula (map WorkingDays k.group.courses) is.within.curricula (recursion_from_All (λ q. q < length p.curricula) k.group.curricula claim.curricula.0)
-    (placed_courses (length p.courses) k.group.courses (let few = is.within.courses in omega (arith, few)) (recursion_from_All (λ c. c < length p.courses) k.group.courses claim.courses.0))
+    (placed_courses (length p.courses) k.group.courses (let at_most = is.within.courses in omega (arith, at_most)) (recursion_from_All (λ c. c < length p.courses) k.group.courses claim.courses.0))
 
 -- -- the meaning of an owner
 

@@ -24,7 +24,7 @@ pub record IsRead (p : Problem) (s : Stream) (v : ℕ) (b : Bound) (nodes : List
 -- The nodes are one tree, of at most 16,777,216 nodes; the numbers of each are in the range of the instance, and each belongs to the version.
 pub record AreNodesOf (p : Problem) (v : ℕ) (nodes : List Node) : Type 0 where
   pub tree : IsPreorder nodes
-  pub few : length nodes ≤ MAX_PROOF_NODES
+  pub at_most : length nodes ≤ MAX_PROOF_NODES
   pub each : All (IsNode p v) nodes
 
 -- The nodes are one tree, and if the bytes are known, the nodes were read from the stream.

@@ -38,7 +38,7 @@ fn collect<R: Source>(
     ensures whole { OnOk result (reader.new.places ≡ 0) }
     ensures sound { OnOk result (reader.new.fault ≡ None) }
     ensures nodes { IfOk result (λ nodes. All (IsNodeAt reader.old.sizes reader.old.version) nodes.items) }
-    ensures few { IfOk result (λ nodes. length nodes.items ≤ MAX_PROOF_NODES) }
+    ensures at_most { IfOk result (λ nodes. length nodes.items ≤ MAX_PROOF_NODES) }
     ensures collected { IfOk result (λ nodes. IsCollected reader.old.sizes reader.old.version (is_some (R.remaining source.old))
         (stream_at reader.old.fed (R.remaining source.old)) (stream_at reader.new.fed (R.remaining source.new)) nodes.items) }
     ensures failed { result ≡ Err read_failed → R.has_failed source.new ≡ true }

@@ -40,7 +40,7 @@ fn check_tree(
 ) -> Result<(), UpgradeFault>
     requires nodes { All (IsNodeOf instance.now) nodes.now }
     requires tree { IsPreorder nodes.now }
-    requires few { length nodes.now ≤ MAX_PROOF_NODES }
+    requires at_most { length nodes.now ≤ MAX_PROOF_NODES }
     ensures proves { OnOk result (Proves instance.now bound nodes.now) }
     ensures fault { IfErr result (IsNodesFault instance.now bound nodes.now) }
 {

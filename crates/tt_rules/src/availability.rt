@@ -9,7 +9,7 @@ use tt_table::Entry;
 /// Counts the entries in a period that is unavailable for their course.
 pub fn count(instance: &Instance<'_>, entries: &[Entry]) -> u64
     ensures count { result ≡ availability_count instance.now entries.now }
-    ensures few { result ≤ length entries.now }
+    ensures at_most { result ≤ length entries.now }
 {
     entries
         .iter()

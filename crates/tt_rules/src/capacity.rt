@@ -15,7 +15,7 @@ use tt_table::Entry;
 fn without_seat(instance: &Instance<'_>, entry: &Entry) -> u64
     requires { InRange instance.now entry.now }
     ensures value { result ≡ excess instance.now entry.now.course entry.now.room }
-    ensures few { result ≤ MAX_SEATS }
+    ensures at_most { result ≤ MAX_SEATS }
 {
     let seats = instance.capacity(entry.room);
     u64::from(instance.students(entry.course).saturating_sub(seats))
@@ -25,7 +25,7 @@ fn without_seat(instance: &Instance<'_>, entry: &Entry) -> u64
 #[tactic(auto, using(std::proofs::lemmas::List::Sums::sum_by_more))]
 pub fn cost(instance: &Instance<'_>, entries: &[Entry]) -> u64
     requires in_range { All (InRange instance.now) entries.now }
-    requires few { length entries.now ≤ MAX_ENTRIES }
+    requires at_most { length entries.now ≤ MAX_ENTRIES }
     ensures cost { result ≡ capacity_count instance.now entries.now }
     ensures within { result ≤ MAX_COUNT }
 {

@@ -23,7 +23,7 @@ use tt_table::{Entry, Group, Groups};
 fn place(instance: &Instance<'_>, entry: &Entry) -> usize
     ensures value { result ≡ place_of instance.now entry.now }
     ensures within { result < MAX_PLACE }
-    ensures few { InRange instance.now entry.now → result < PLACES }
+    ensures at_most { InRange instance.now entry.now → result < PLACES }
 {
     entry.day as usize * (instance.periods() as usize + 1) + entry.period as usize + 1
 }
@@ -56,9 +56,9 @@ fn taught(instance: &Instance<'_>, by_course: &Groups<'_>, courses: &[u32]) -> M
 
 /// Counts the entries of a group with no mark immediately before or after their place.
 fn alone(instance: &Instance<'_>, group: Group<'_>, taught: &Marks) -> u64
-    requires few { length group ≤ MAX_ENTRIES }
+    requires at_most { length group ≤ MAX_ENTRIES }
     ensures count { result ≡ count_by (is_alone instance.now taught.now) group.entry }
-    ensures few { result ≤ length group.entry }
+    ensures at_most { result ≤ length group.entry }
 {
     group
         .filter(|entry| {
@@ -73,7 +73,7 @@ fn alone_of(instance: &Instance<'_>, by_course: &Groups<'_>, courses: &[u32], ta
     requires by { by_course.now.by ≡ by.Course }
     requires courses { All (λ c. c < MAX_COURSES) courses.now }
     requires listed { length courses.now ≤ MAX_MEMBERS }
-    requires few { length by_course.now.entries ≤ MAX_ENTRIES }
+    requires at_most { length by_course.now.entries ≤ MAX_ENTRIES }
     ensures count { result
         ≡ sum_by (λ c. count_by (λ e. is_of c e && is_alone instance.now taught.now e) by_course.now.entries) courses.now }
 {
@@ -89,10 +89,10 @@ fn isolated(instance: &Instance<'_>, by_course: &Groups<'_>, curriculum: u32) ->
     requires by { by_course.now.by ≡ by.Course }
     requires curriculum { curriculum < length instance.now.curricula }
     requires in_range { All (InRange instance.now) by_course.now.entries }
-    requires few { length by_course.now.entries ≤ MAX_ENTRIES }
+    requires at_most { length by_course.now.entries ≤ MAX_ENTRIES }
     ensures count { result ≡ count_by (λ e. in_curriculum instance.now curriculum e.course
         && is_isolated instance.now by_course.now.entries curriculum e) by_course.now.entries }
-    ensures few { result ≤ length by_course.now.entries }
+    ensures at_most { result ≤ length by_course.now.entries }
 {
     // In every instance, the members of a curriculum are courses.
     prove!(instance.days() > 0);
@@ -106,7 +106,7 @@ fn isolated(instance: &Instance<'_>, by_course: &Groups<'_>, curriculum: u32) ->
 pub fn cost(instance: &Instance<'_>, by_course: &Groups<'_>) -> u64
     requires by { by_course.now.by ≡ by.Course }
     requires in_range { All (InRange instance.now) by_course.now.entries }
-    requires few { length by_course.now.entries ≤ MAX_ENTRIES }
+    requires at_most { length by_course.now.entries ≤ MAX_ENTRIES }
     ensures cost { result ≡ compactness_count instance.now by_course.now.entries }
     ensures within { result ≤ MAX_COUNT }
 {

@@ -13,10 +13,10 @@ use tt_table::{Entry, Group, Groups};
 
 /// Counts the entries of a group whose courses conflict with an entry's.
 fn excluded(instance: &Instance<'_>, entry: &Entry, group: Group<'_>) -> u64
-    requires few { length group ≤ MAX_ENTRIES }
+    requires at_most { length group ≤ MAX_ENTRIES }
     ensures count { result
         ≡ count_by (λ other. conflict instance.now entry.now.course other.course) group.entry }
-    ensures few { result ≤ length group.entry }
+    ensures at_most { result ≤ length group.entry }
 {
     group
         .filter(|other| instance.conflict(entry.course, other.course))
@@ -27,10 +27,10 @@ fn excluded(instance: &Instance<'_>, entry: &Entry, group: Group<'_>) -> u64
 fn against(instance: &Instance<'_>, by_period: &Groups<'_>, entry: &Entry, index: u32) -> u64
     requires by { by_period.now.by ≡ by.Period instance.now.periods }
     requires in_range { All (InRange instance.now) by_period.now.entries }
-    requires few { length by_period.now.entries ≤ MAX_ENTRIES }
+    requires at_most { length by_period.now.entries ≤ MAX_ENTRIES }
     requires there { slice_get by_period.now.entries index ≡ Some entry.now }
     ensures count { result ≡ count_by (collide instance.now entry.now) (drop (index + 1) by_period.now.entries) }
-    ensures few { result ≤ length by_period.now.entries }
+    ensures at_most { result ≤ length by_period.now.entries }
 {
     excluded(instance, entry, by_period.after(index))
 }
@@ -40,7 +40,7 @@ pub fn count(instance: &Instance<'_>, entries: &[Entry], by_period: &Groups<'_>)
     requires by { by_period.now.by ≡ by.Period instance.now.periods }
     requires same { by_period.now.entries ≡ entries.now }
     requires in_range { All (InRange instance.now) entries.now }
-    requires few { length entries.now ≤ MAX_ENTRIES }
+    requires at_most { length entries.now ≤ MAX_ENTRIES }
     ensures count { result ≡ conflicts_count instance.now entries.now }
     ensures within { result ≤ MAX_COUNT }
 {

@@ -42,7 +42,7 @@ pub fn days(instance: &Instance<'_>, group: Group<'_>) -> u64
 pub fn rooms(instance: &Instance<'_>, group: Group<'_>) -> u64
     requires { All (InRange instance.now) group }
     ensures count { result ≡ count_by (λ r. list_any (is_in r) group.entry) (all_rooms instance.now) }
-    ensures few { result ≤ MAX_ROOMS }
+    ensures at_most { result ≤ MAX_ROOMS }
 {
     let rooms = instance.rooms();
     let mut marks = Marks::none();

@@ -15,9 +15,9 @@ use tt_table::Groups;
 fn entries_of(by_course: &Groups<'_>, course: u32) -> u64
     requires by { by_course.now.by ≡ by.Course }
     requires course { course < MAX_COURSES }
-    requires few { length by_course.now.entries ≤ MAX_ENTRIES }
+    requires at_most { length by_course.now.entries ≤ MAX_ENTRIES }
     ensures count { result ≡ entries_of by_course.now.entries course }
-    ensures few { result ≤ length by_course.now.entries }
+    ensures at_most { result ≤ length by_course.now.entries }
 {
     by_course.of_course(course).len()
 }
@@ -37,7 +37,7 @@ fn lectures_off(instance: &Instance<'_>, by_course: &Groups<'_>, course: u32) ->
     requires by { by_course.now.by ≡ by.Course }
     requires course { course < length instance.now.courses }
     requires in_range { All (InRange instance.now) by_course.now.entries }
-    requires few { length by_course.now.entries ≤ MAX_ENTRIES }
+    requires at_most { length by_course.now.entries ≤ MAX_ENTRIES }
     ensures value { result ≡ lectures_off instance.now by_course.now.entries course }
     ensures within { result ≤ 4 * MAX_ENTRIES }
 {
@@ -54,7 +54,7 @@ fn lectures_off(instance: &Instance<'_>, by_course: &Groups<'_>, course: u32) ->
 pub fn count(instance: &Instance<'_>, by_course: &Groups<'_>) -> u64
     requires by { by_course.now.by ≡ by.Course }
     requires in_range { All (InRange instance.now) by_course.now.entries }
-    requires few { length by_course.now.entries ≤ MAX_ENTRIES }
+    requires at_most { length by_course.now.entries ≤ MAX_ENTRIES }
     ensures count { result ≡ lectures_count instance.now by_course.now.entries }
     ensures within { result ≤ MAX_COUNT }
 {

@@ -54,7 +54,7 @@ impl Marks {
         requires { bound ≤ PLACES }
         ensures count { result
             ≡ count_by (λ k. slice_index_or self.now k false) (range_below bound) }
-        ensures few { result ≤ bound }
+        ensures at_most { result ≤ bound }
     {
         let mut total: u64 = 0;
         for place in 0..bound {

@@ -17,9 +17,9 @@ use tt_table::Groups;
 fn entries_in(by_room: &Groups<'_>, room: u32) -> u64
     requires by { by_room.now.by ≡ by.Room }
     requires room { room < GROUPS }
-    requires few { length by_room.now.entries ≤ MAX_ENTRIES }
+    requires at_most { length by_room.now.entries ≤ MAX_ENTRIES }
     ensures count { result ≡ count_by (is_in room) by_room.now.entries }
-    ensures few { result ≤ length by_room.now.entries }
+    ensures at_most { result ≤ length by_room.now.entries }
 {
     by_room.in_room(room).len()
 }
@@ -41,10 +41,10 @@ fn doubled(instance: &Instance<'_>, by_room: &Groups<'_>, room: u32) -> u64
     requires by { by_room.now.by ≡ by.Room }
     requires room { room < GROUPS }
     requires in_range { All (InRange instance.now) by_room.now.entries }
-    requires few { length by_room.now.entries ≤ MAX_ENTRIES }
+    requires at_most { length by_room.now.entries ≤ MAX_ENTRIES }
     ensures count { result
         ≡ sum_by (λ s. entries_in by_room.now.entries room s - 1) (all_slots instance.now) }
-    ensures few { result ≤ MAX_ENTRIES }
+    ensures at_most { result ≤ MAX_ENTRIES }
 {
     entries_in(by_room, room).saturating_sub(periods_of(instance, by_room, room))
 }
@@ -54,7 +54,7 @@ fn doubled(instance: &Instance<'_>, by_room: &Groups<'_>, room: u32) -> u64
 pub fn count(instance: &Instance<'_>, by_room: &Groups<'_>) -> u64
     requires by { by_room.now.by ≡ by.Room }
     requires in_range { All (InRange instance.now) by_room.now.entries }
-    requires few { length by_room.now.entries ≤ MAX_ENTRIES }
+    requires at_most { length by_room.now.entries ≤ MAX_ENTRIES }
     ensures count { result ≡ occupancy_count instance.now by_room.now.entries }
     ensures within { result ≤ MAX_COUNT }
 {

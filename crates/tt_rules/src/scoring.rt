@@ -17,7 +17,7 @@ use tt_table::{Entry, GroupBy, Groups, Timetable};
 /// Groups the entries by course.
 fn by_course<'t>(instance: &Instance<'_>, entries: &'t [Entry]) -> Groups<'t>
     requires in_range { All (InRange instance.now) entries.now }
-    requires few { length entries.now ≤ MAX_ENTRIES }
+    requires at_most { length entries.now ≤ MAX_ENTRIES }
     ensures { result ≡ record { by = by.Course; entries = entries.now } }
 {
     // In every instance, each course is a group.
@@ -28,7 +28,7 @@ fn by_course<'t>(instance: &Instance<'_>, entries: &'t [Entry]) -> Groups<'t>
 /// Groups the entries by room.
 fn by_room<'t>(instance: &Instance<'_>, entries: &'t [Entry]) -> Groups<'t>
     requires in_range { All (InRange instance.now) entries.now }
-    requires few { length entries.now ≤ MAX_ENTRIES }
+    requires at_most { length entries.now ≤ MAX_ENTRIES }
     ensures { result ≡ record { by = by.Room; entries = entries.now } }
 {
     // In every instance, each room is a group.
@@ -39,7 +39,7 @@ fn by_room<'t>(instance: &Instance<'_>, entries: &'t [Entry]) -> Groups<'t>
 /// Groups the entries by period of the week.
 fn by_period<'t>(instance: &Instance<'_>, entries: &'t [Entry]) -> Groups<'t>
     requires in_range { All (InRange instance.now) entries.now }
-    requires few { length entries.now ≤ MAX_ENTRIES }
+    requires at_most { length entries.now ≤ MAX_ENTRIES }
     ensures { result ≡ record { by = by.Period instance.now.periods; entries = entries.now } }
 {
     Groups::new(entries, GroupBy::Period(instance.periods()))

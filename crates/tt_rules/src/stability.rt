@@ -21,7 +21,7 @@ fn rooms_of(instance: &Instance<'_>, by_course: &Groups<'_>, course: u32) -> u64
     ensures count { result
         ≡ count_by (λ r. list_any (λ e. is_of course e && is_in r e) by_course.now.entries)
         (all_rooms instance.now) }
-    ensures few { result ≤ MAX_ROOMS }
+    ensures at_most { result ≤ MAX_ROOMS }
 {
     distinct::rooms(instance, by_course.of_course(course))
 }
@@ -32,7 +32,7 @@ fn cost_of(instance: &Instance<'_>, by_course: &Groups<'_>, course: u32) -> u64
     requires course { course < GROUPS }
     requires in_range { All (InRange instance.now) by_course.now.entries }
     ensures cost { result ≡ stability_cost instance.now by_course.now.entries course }
-    ensures few { result ≤ MAX_ROOMS }
+    ensures at_most { result ≤ MAX_ROOMS }
 {
     rooms_of(instance, by_course, course).saturating_sub(1)
 }

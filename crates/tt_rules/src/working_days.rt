@@ -28,7 +28,7 @@ fn cost_of(instance: &Instance<'_>, by_course: &Groups<'_>, course: u32) -> u64
     requires course { course < length instance.now.courses }
     requires in_range { All (InRange instance.now) by_course.now.entries }
     ensures cost { result ≡ days_cost instance.now by_course.now.entries course }
-    ensures few { result ≤ DAY_PRICE * MAX_MIN_DAYS }
+    ensures at_most { result ≤ DAY_PRICE * MAX_MIN_DAYS }
 {
     // In every instance, each course is a group.
     prove!(instance.courses() <= MAX_COURSES);

@@ -34,11 +34,11 @@ fn walk_phase<W: Watch>(
     span: Span,
     watch: &mut W,
 )
-    requires some { 0 < length occupied.old.entries }
+    requires positive { 0 < length occupied.old.entries }
     requires here { best.old.entries.items ≡ occupied.old.entries }
     requires best { (t : List Cell) × IsBest occupied.old.problem t best.old }
     ensures problem { occupied.new.problem ≡ occupied.old.problem }
-    ensures some { 0 < length occupied.new.entries }
+    ensures positive { 0 < length occupied.new.entries }
     ensures here { best.new.entries.items ≡ occupied.new.entries }
     ensures best { (t : List Cell) → IsBest occupied.old.problem t best.old
         → IsBest occupied.old.problem t best.new }
@@ -67,11 +67,11 @@ fn walk_phases<W: Watch>(
     limit: u64,
     watch: &mut W,
 ) -> u64
-    requires some { 0 < length occupied.old.entries }
+    requires positive { 0 < length occupied.old.entries }
     requires here { best.old.entries.items ≡ occupied.old.entries }
     requires best { (t : List Cell) × IsBest occupied.old.problem t best.old }
     ensures problem { occupied.new.problem ≡ occupied.old.problem }
-    ensures some { 0 < length occupied.new.entries }
+    ensures positive { 0 < length occupied.new.entries }
     ensures here { best.new.entries.items ≡ occupied.new.entries }
     ensures best { (t : List Cell) → IsBest occupied.old.problem t best.old
         → IsBest occupied.old.problem t best.new }
@@ -106,7 +106,7 @@ fn go_plans<W: Watch>(
     span: Span,
     watch: &mut W,
 )
-    requires some { 0 < length occupied.old.entries }
+    requires positive { 0 < length occupied.old.entries }
     requires here { best.old.entries.items ≡ occupied.old.entries }
     requires best { (t : List Cell) × IsBest occupied.old.problem t best.old }
     ensures problem { occupied.new.problem ≡ occupied.old.problem }

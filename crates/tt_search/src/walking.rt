@@ -76,7 +76,7 @@ pub fn walk<W: Watch>(
     span: Span,
     watch: &mut W,
 )
-    requires some { 0 < length occupied.old.entries }
+    requires positive { 0 < length occupied.old.entries }
     requires best { (t : List Cell) × (courses_of occupied.old.entries ≡ courses_of t)
         × IsBest occupied.old.problem t best.old }
     ensures problem { occupied.new.problem ≡ occupied.old.problem }

@@ -34,7 +34,7 @@ completed_none p t inside = record {
 
 -- there is room for the lectures of all courses so far
 pub few_more : (p : Problem) (n m : ℕ) (t u : List Cell) → IsInstance p → IsCompletedTo p n t u → n < length p.courses → m ≤ lectures p n → length t ≤ 12288 → length u + m ≤ 16384
-few_more p n m t u ok done h few small = omega (arith, done.size, sum_by_more_le (λ (c : Course). c.lectures) p.courses n no_course h, ok.within.lectures)
+few_more p n m t u ok done h at_most small = omega (arith, done.size, sum_by_more_le (λ (c : Course). c.lectures) p.courses n no_course h, ok.within.lectures)
 
 max_sum : (a l : ℕ) → a + (l - a) ≡ max a l
 max_sum a l = omega arith

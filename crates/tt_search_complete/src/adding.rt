@@ -32,7 +32,7 @@ pub fn add_lectures(
 ) -> Result<(), AllocError>
     requires course { course < length instance.now.courses }
     requires rooms { 0 < length instance.now.rooms }
-    requires few { length table.old + count ≤ MAX_ENTRIES }
+    requires at_most { length table.old + count ≤ MAX_ENTRIES }
     ensures more { OnOk result (HasMore instance.now course count table.old table.new) }
     ensures begins { OnOk result (Begins table.old table.new) }
 {

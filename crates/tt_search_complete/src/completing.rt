@@ -41,7 +41,7 @@ fn add_all(
 ) -> Result<(), AllocError>
     requires rooms { 0 < length instance.now.rooms }
     requires table { IsTimetable instance.now table.old }
-    requires few { length table.old ≤ MOST_ENTRIES }
+    requires at_most { length table.old ≤ MOST_ENTRIES }
     requires missing { AreMissing instance.now table.old (length instance.now.courses) missing.now }
     ensures { OnOk result (IsCompletedTo instance.now (length instance.now.courses) table.old table.new) }
 {

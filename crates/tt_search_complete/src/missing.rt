@@ -17,7 +17,7 @@ use tt_table::{GroupBy, Groups, Timetable};
 fn count_entries(by_course: &Groups<'_>, course: u32) -> u64
     requires by { by_course.now.by ≡ by.Course }
     requires course { course < MAX_COURSES }
-    requires few { length by_course.now.entries ≤ MAX_ENTRIES }
+    requires at_most { length by_course.now.entries ≤ MAX_ENTRIES }
     ensures { result ≡ entries_of by_course.now.entries course }
 {
     by_course.of_course(course).len()
@@ -27,7 +27,7 @@ fn count_entries(by_course: &Groups<'_>, course: u32) -> u64
 fn missing_of(instance: &Instance<'_>, by_course: &Groups<'_>, course: u32) -> u32
     requires by { by_course.now.by ≡ by.Course }
     requires course { course < length instance.now.courses }
-    requires few { length by_course.now.entries ≤ MAX_ENTRIES }
+    requires at_most { length by_course.now.entries ≤ MAX_ENTRIES }
     ensures { result ≡ lectures instance.now course - entries_of by_course.now.entries course }
 {
     // This holds for every instance: each course is a group.
@@ -45,7 +45,7 @@ fn push_missing(
 ) -> Result<(), AllocError>
     requires by { by_course.now.by ≡ by.Course }
     requires course { course < length instance.now.courses }
-    requires few { length by_course.now.entries ≤ MAX_ENTRIES }
+    requires at_most { length by_course.now.entries ≤ MAX_ENTRIES }
     requires missing { AreMissing instance.now by_course.now.entries course missing.old.items }
     ensures { OnOk result (AreMissing instance.now by_course.now.entries (course + 1) missing.new.items) }
 {

@@ -61,7 +61,7 @@ fn add_course(
 ) -> Result<(), AllocError>
     requires course { course < length instance.now.courses }
     requires rooms { 0 < length instance.now.rooms }
-    requires few { length table.old + lectures instance.now course ≤ MAX_LECTURES }
+    requires at_most { length table.old + lectures instance.now course ≤ MAX_LECTURES }
     ensures { OnOk result (HasMore instance.now course (lectures instance.now course) table.old table.new) }
 {
     for _ in 0..instance.lectures(course) {

@@ -108,14 +108,14 @@ entry_reads end p e (first ∷ more) qs rest limits inside h =
 record EntriesTaken (p : Problem) (n : ℕ) (before : List Cell) (ts : List Placed) (all : List Cell) : Type 0 where
   entries : List Cell
   list : all ≡ before ++ entries
-  few : length entries ≤ n
+  at_most : length entries ≤ n
   spelled : Begins (flat_map (entry_pieces p) entries) ts []
   in_range : All (InRange p) entries
 
 entries_take : (end : ℕ) (p : Problem) (n : ℕ) (before : List Cell) (ts : List Placed) (all : List Cell) → IsWithinLimits p → entries_at end p n before ts ≡ Ok all → EntriesTaken p n before ts all
 unfolding entries_at
 entries_take end p n before [] all limits e =
-    record { entries = []; list = sym (ok_is before all e) ∙ sym (append-nil before); few = omega arith; spelled = refl; in_range = All-nil (InRange p) }
+    record { entries = []; list = sym (ok_is before all e) ∙ sym (append-nil before); at_most = omega arith; spelled = refl; in_range = All-nil (InRange p) }
 entries_take end p zero before (t ∷ ts) all limits e = absurd cc
 entries_take end p (suc n) before (t ∷ ts) all limits e =
     let one = bind_ok (entry_at end p t ts) (λ x. entries_at end p n (before ++ x.0 ∷ []) x.1) all e in
@@ -124,19 +124,19 @@ entries_take end p (suc n) before (t ∷ ts) all limits e =
     record {
       entries = one.0.0 ∷ more.entries;
       list = more.list ∙ append_assoc before (one.0.0 ∷ []) more.entries;
-      few = omega (arith, more.few);
+      at_most = omega (arith, more.at_most);
       spelled = taken.takes.take (flat_map (entry_pieces p) more.entries) [] more.spelled;
       in_range = All-cons (InRange p) one.0.0 more.entries taken.in_range more.in_range;
     }
 
 entries_read : (end : ℕ) (p : Problem) (n : ℕ) (before es : List Cell) (ts : List Placed) → IsWithinLimits p → All (InRange p) es → length es ≤ n → Begins (flat_map (entry_pieces p) es) ts [] → entries_at end p n before ts ≡ Ok (before ++ es)
 unfolding entries_at
-entries_read end p n before [] ts limits inside few h =
+entries_read end p n before [] ts limits inside at_most h =
     entries_none end p n before ts h ∙ ap (λ (l : List Cell). done l) (sym (append-nil before))
-entries_read end p zero before (e ∷ es) ts limits inside few h = absurd (omega arith)
-entries_read end p (suc n) before (e ∷ es) ts limits inside few h =
+entries_read end p zero before (e ∷ es) ts limits inside at_most h = absurd (omega arith)
+entries_read end p (suc n) before (e ∷ es) ts limits inside at_most h =
     let one = entry_reads end p e ts (flat_map (entry_pieces p) es) [] limits (All-head (InRange p) e es inside) h in
-    let more = entries_read end p n (before ++ e ∷ []) es one.mid limits (All-tail (InRange p) e es inside) (le_of_suc-le-suc few) one.left in
+    let more = entries_read end p n (before ++ e ∷ []) es one.mid limits (All-tail (InRange p) e es inside) (le_of_suc-le-suc at_most) one.left in
     let step = entries_step end p n before one.first one.more ts one.mid e one.split one.is in
     step ∙ more ∙ ap (λ (l : List Cell). done l) (append_assoc before (e ∷ []) es)
 
@@ -147,12 +147,12 @@ pub solution_spelled : (p : Problem) (bytes : List ℕ) (t : List Cell) → IsWi
 unfolding solution_of
 solution_spelled p bytes t limits e =
     let taken = entries_take (length bytes) p 16384 [] (tokens_of bytes) t limits e in
-    subst (SpellsTable p bytes) (sym taken.list) (record { tokens = taken.spelled; few = taken.few; in_range = taken.in_range })
+    subst (SpellsTable p bytes) (sym taken.list) (record { tokens = taken.spelled; at_most = taken.at_most; in_range = taken.in_range })
 
 -- a solution that is spelled is read
 pub solution_read : (p : Problem) (bytes : List ℕ) (t : List Cell) → IsWithinLimits p → SpellsTable p bytes t → solution_of p bytes ≡ Ok t
 unfolding solution_of
-solution_read p bytes t limits spelled = entries_read (length bytes) p 16384 [] t (tokens_of bytes) limits spelled.in_range spelled.few spelled.tokens
+solution_read p bytes t limits spelled = entries_read (length bytes) p 16384 [] t (tokens_of bytes) limits spelled.in_range spelled.at_most spelled.tokens
 
 -- bytes spell at most one timetable
 pub solution_once : (p : Problem) (bytes : List ℕ) (t u : List Cell) → IsWithinLimits p → SpellsTable p bytes t → SpellsTable p bytes u → t ≡ u

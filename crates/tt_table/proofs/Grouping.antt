@@ -79,8 +79,8 @@ led_here by t next i chained h =
 
 -- a group from a place on has at most as many entries as the timetable
 pub led_few : (by : GroupBy) (t : List Cell) (i : ℕ) → length (led_group by (drop i t)) ≤ length t
-led_few by t i = few (drop i t) (omega (arith, length-drop i t))
+led_few by t i = at_most (drop i t) (omega (arith, length-drop i t))
   where
-    few : (es : List Cell) → length es ≤ length t → length (led_group by es) ≤ length t
-    few [] h = h
-    few (e ∷ es) h = omega (arith, h, length-filter (in_group by (group_of by e)) es, count_by-le-length (in_group by (group_of by e)) es)
+    at_most : (es : List Cell) → length es ≤ length t → length (led_group by es) ≤ length t
+    at_most [] h = h
+    at_most (e ∷ es) h = omega (arith, h, length-filter (in_group by (group_of by e)) es, count_by-le-length (in_group by (group_of by e)) es)

@@ -47,13 +47,13 @@ entry_text p e old a b c d course room day period inside course_at room_at ea eb
     rw (ed, ec, eb, ea, day_is, period_is, ← course_is, ← room_is) (simp append_assoc)
 
 pub solution_again : (p : Problem) (t : List Cell) → IsInstance p → IsTimetable p t → length t ≤ 16384 → SpellsTable p (solution_text p t) t
-solution_again p t is inside few = record {
+solution_again p t is inside at_most = record {
   tokens = subst (λ (ps : List Piece). Begins ps (tokens_of (solution_text p t)) []) (one_line_each p t) (lines_begin (map (entry_pieces p) t) 0 (writable p is t inside));
-  few = few;
+  at_most = at_most;
   in_range = inside;
 }
 
 pub again_in : {X F : Type 0} (items : X → List ℕ) (p : Problem) (t : List Cell) (r : Result X F) → IsInstance p → IsTimetable p t → length t ≤ 16384 → IfOk r (λ out. items out ≡ solution_text p t)
     → IfOk r (λ out. SpellsTable p (items out) t)
-again_in items p t (Ok out) is inside few text = subst (λ (bytes : List ℕ). SpellsTable p bytes t) (sym text) (solution_again p t is inside few)
-again_in items p t (Err e) is inside few text = tt
+again_in items p t (Ok out) is inside at_most text = subst (λ (bytes : List ℕ). SpellsTable p bytes t) (sym text) (solution_again p t is inside at_most)
+again_in items p t (Err e) is inside at_most text = tt

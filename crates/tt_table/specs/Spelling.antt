@@ -17,7 +17,7 @@ entry_pieces p e =
 -- The tokens of the bytes are exactly those of the entries.
 pub record SpellsTable (p : Problem) (bytes : List ℕ) (t : List Cell) : Type 0 where
   pub tokens : Begins (flat_map (entry_pieces p) t) (tokens_of bytes) []
-  pub few : length t ≤ MAX_ENTRIES
+  pub at_most : length t ≤ MAX_ENTRIES
   pub in_range : IsTimetable p t
 
 -- whether the bytes spell an instance and a timetable of it

@@ -45,7 +45,7 @@ struct Links {
 
 /// Links the entries from the last to the first.
 fn link(entries: &[Entry], by: GroupBy) -> Links
-    requires few { length entries.now ≤ MAX_ENTRIES }
+    requires at_most { length entries.now ≤ MAX_ENTRIES }
     requires inside { All (λ e. group_of by e < GROUPS) entries.now }
     ensures { IsLinked by entries.now result.first result.next }
 {
@@ -84,7 +84,7 @@ impl<'t> Model for Groups<'t> {
 impl<'t> Groups<'t> {
     /// Groups the entries in one pass, without allocating memory.
     pub fn new(entries: &'t [Entry], by: GroupBy) -> Groups<'t>
-        requires few { length entries.now ≤ MAX_ENTRIES }
+        requires at_most { length entries.now ≤ MAX_ENTRIES }
         requires inside { All (λ e. group_of by e < GROUPS) entries.now }
         ensures { result ≡ record { by = by; entries = entries.now } }
     {
@@ -97,7 +97,7 @@ impl<'t> Groups<'t> {
         requires by { self.now.by ≡ by.Course }
         requires course { course < GROUPS }
         ensures group { result ≡ filter (is_of course) self.now.entries }
-        ensures few { length result ≤ length self.now.entries }
+        ensures at_most { length result ≤ length self.now.entries }
     {
         self.of(course as usize)
     }
@@ -107,7 +107,7 @@ impl<'t> Groups<'t> {
         requires by { self.now.by ≡ by.Room }
         requires room { room < GROUPS }
         ensures group { result ≡ filter (is_in room) self.now.entries }
-        ensures few { length result ≤ length self.now.entries }
+        ensures at_most { length result ≤ length self.now.entries }
     {
         self.of(room as usize)
     }
@@ -119,7 +119,7 @@ impl<'t> Groups<'t> {
         requires day { day < instance.now.days }
         requires period { period < instance.now.periods }
         ensures group { result ≡ filter (is_at (slot day period)) self.now.entries }
-        ensures few { length result ≤ length self.now.entries }
+        ensures at_most { length result ≤ length self.now.entries }
     {
         let periods = instance.periods();
         self.of((day * periods + period) as usize)
@@ -130,7 +130,7 @@ impl<'t> Groups<'t> {
     fn of(&self, group: usize) -> Group<'_>
         requires { group < GROUPS }
         ensures group { result ≡ filter (in_group self.now.by group) self.now.entries }
-        ensures few { length result ≤ length self.now.entries }
+        ensures at_most { length result ≤ length self.now.entries }
     {
         Group {
             entries: self.entries,
@@ -146,7 +146,7 @@ impl<'t> Groups<'t> {
         requires { index < length self.now.entries }
         ensures group { IfSome (slice_get self.now.entries index)
             (λ e. result ≡ filter (in_group self.now.by (group_of self.now.by e)) (drop (index + 1) self.now.entries)) }
-        ensures few { length result ≤ length self.now.entries }
+        ensures at_most { length result ≤ length self.now.entries }
     {
         Group {
             entries: self.entries,

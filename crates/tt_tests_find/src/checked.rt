@@ -43,7 +43,7 @@ fn is_pattern(instance: &Instance<'_>, pattern: Pattern) -> bool
 pub fn push<'i, P: Path<'i>>(path: &mut P, fact: Fact) -> bool
     requires { ArePatterns (P.problem path.old) (P.facts path.old) }
     ensures patterns { ArePatterns (P.problem path.new) (P.facts path.new) }
-    ensures same { P.problem path.new ≡ P.problem path.old }
+    ensures unchanged { P.problem path.new ≡ P.problem path.old }
 {
     if !is_pattern(path.instance(), fact.pattern) {
         return false;

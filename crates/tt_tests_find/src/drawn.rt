@@ -68,7 +68,7 @@ impl Dice {
 fn push_drawn<'i, P: Path<'i>>(path: &mut P, seed: u64)
     requires { ArePatterns (P.problem path.old) (P.facts path.old) }
     ensures patterns { ArePatterns (P.problem path.new) (P.facts path.new) }
-    ensures same { P.problem path.new ≡ P.problem path.old }
+    ensures unchanged { P.problem path.new ≡ P.problem path.old }
 {
     let mut dice = Dice { state: seed };
     for _number in 0..MOST_FACTS {

@@ -293,7 +293,7 @@ scan_is bytes begun front gap most len gap_is gap_le begun_is most_is front_is l
     let whole : list_all in_token (take len (take 33 begun)) ≡ true = rw run (all_prefix_of in_token (take 33 begun)) in
     record {
       within = omega arith;
-      few = omega arith;
+      at_most = omega arith;
       separators = rw gap_is (all_prefix_of is_separator bytes);
       token = ap (λ (l : List ℕ). list_all in_token (take len l)) (sym begun_is) ∙ ap (list_all in_token) within_front ∙ whole;
       stops = λ (s : len ≤ 32). subst AtGap (drop-drop len gap bytes) (subst (λ (l : List ℕ). AtGap (drop len l)) begun_is (subst (λ (m : ℕ). AtGap (drop m begun)) (sym run) (run_stops 33 begun (omega (arith, s, run)))));
@@ -343,7 +343,7 @@ plain_scan_is bytes gap end gap_is end_is more short after =
     let at_gap : AtGap (drop (gap + (end - gap)) bytes) = subst (λ (m : ℕ). AtGap (drop m bytes)) (sym stop) here in
     record {
       within = omega arith;
-      few = omega arith;
+      at_most = omega arith;
       separators = rw gap_is (all_prefix_of is_separator bytes);
       token = rw len_is (plain_run (drop gap bytes));
       stops = λ (s : end - gap ≤ 32). at_gap;

@@ -108,7 +108,7 @@ found_long most at gap len w more scan long below =
     let t : List ℕ = take len (drop gap w) in
     let n : length t ≡ len = token_len_is w gap len scan in
     after_gap most at gap len w more scan below
-    ∙ stream-long most (at + gap) t (drop (gap + len) w ++ more) scan.token (omega (arith, scan.few)) (omega (arith, scan.within, scan.few))
+    ∙ stream-long most (at + gap) t (drop (gap + len) w ++ more) scan.token (omega (arith, scan.at_most)) (omega (arith, scan.within, scan.at_most))
 
 -- a byte past the limit
 pub found_past : (most at gap len b : ℕ) (w more : List ℕ) → IsScan w gap len → len ≤ 32 → length w ≤ gap + len → at + length w ≡ most
@@ -185,7 +185,7 @@ pub finds_more : (at gap len : ℕ) (ended : Bool) (w : List ℕ) → IsScan w g
 finds_more at gap len ended w scan short h e below =
     record {
       within = omega (arith, scan.within);
-      few = omega arith;
+      at_most = omega arith;
       below = below;
       partial = partial_of w gap len scan h;
       goes_on = e;

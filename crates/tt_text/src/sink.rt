@@ -23,7 +23,7 @@ pub trait Sink {
     /// Takes bytes from the front, at least one if there are any, and returns how many.
     fn write(&mut self, bytes: &[u8]) -> Result<usize, WriteFailed>
         ensures within { IfOk result (λ n. n ≤ length bytes.now) }
-        ensures some { IfOk result (λ n. 0 < length bytes.now → 0 < n) }
+        ensures positive { IfOk result (λ n. 0 < length bytes.now → 0 < n) }
         ensures bytes { WriteAppends (contents self.old) (contents self.new) result bytes.now }
         ensures failed { has_failed self.new ≡ (if is_ok result then has_failed self.old else true) };
 

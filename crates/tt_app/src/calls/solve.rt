@@ -156,8 +156,8 @@ pub fn solve_watched<W: Watch>(
     nodes: u32,
     watch: &mut W,
 ) -> Result<Answer, AppFault>
-    requires some { 1 ≤ nodes }
-    requires few { nodes ≤ MAX_OPENED }
+    requires positive { 1 ≤ nodes }
+    requires at_most { nodes ≤ MAX_OPENED }
     // The timetable in the answer is feasible, and the proof derives its bound.
     ensures found { IfOk result (IsSolved instance.now nodes) }
     // A refusal reports the first error.
@@ -183,8 +183,8 @@ pub fn solve_watched<W: Watch>(
 /// Searches for a best timetable by a tree, and returns it with a proof of a lower bound, of at most `nodes` nodes if each is closed, and of
 /// fewer than twice as many if not; the status is 1 if it found no timetable. Nothing is promised about which nodes are opened.
 pub fn solve(alloc: Global, instance: &[u8], seed: u64, nodes: u32) -> Result<Answer, AppFault>
-    requires some { 1 ≤ nodes }
-    requires few { nodes ≤ MAX_OPENED }
+    requires positive { 1 ≤ nodes }
+    requires at_most { nodes ≤ MAX_OPENED }
     // The timetable in the answer is feasible, and the proof derives its bound.
     ensures found { IfOk result (IsSolved instance.now nodes) }
     // A refusal reports the first error.

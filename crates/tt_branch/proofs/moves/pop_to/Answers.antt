@@ -8,7 +8,7 @@ loop-path-preserved g c =
     let facts = g.P.Path.facts c.loop-path.path in
     let less = g.P.Path.facts c.pop.new.self in
     record {
-      problem = c.pop.ensures.same ∙ i.problem;
+      problem = c.pop.ensures.unchanged ∙ i.problem;
       kept = one_fewer (g.P.Path.facts c.args.path.now) facts less c.pop.result i.kept c.pop.ensures.fact;
       deep = omega (arith, shorter facts less c.pop.result c.pop.ensures.fact, c.depth.ensures.value, c.loop-path-test.true);
     }

@@ -11,7 +11,7 @@ worth_of-requires g c = λ κs.
     let p = g.P.Path.problem c.args.path.now in
     let links = c.args.links.now in
     let e = c.in-Some.tree_node in
-    let same = c.in_ok-node.ensures.same ∙ c.loop-tree_node.invariant.same in
+    let same = c.in_ok-node.ensures.unchanged ∙ c.loop-tree_node.invariant.same in
     let w = writable_last p links c.args.tree_nodes.items c.loop-tree_node.tree_nodes.items c.pop.new.self.items c.loop-tree_node.invariant.taken.done e c.requires.each c.loop-tree_node.invariant.taken.split c.in-Some.ensures.items in
     let node = c.in_ok-node.ensures.node ∙ ap (λ (q : Problem). node_at q links e) c.loop-tree_node.invariant.same in (
       (refl, tt),

@@ -27,7 +27,7 @@ loop-opened-preserved g c =
       under_way = subst (λ (q : Problem). IsUnderWay q new) i.same e.under_way;
       better = advance_twice p c.args.search.now.best c.loop-opened.search.best new.best i.better (subst (λ (q : Problem). Advances q c.loop-opened.search.best new.best) i.same e.better);
       opened = omega (arith, e.opened, i.opened);
-      few = omega (arith, e.many, i.few);
+      at_most = omega (arith, e.many, i.at_most);
     }
 
 pub returns-clause-ends : goal.returns-clause-ends
@@ -37,4 +37,4 @@ returns-clause-ends g c =
     ends_by c.args.limit tree_nodes c.next_open-2.result c.is_none.result c.is_none.ensures
     (subst (λ (l : List TreeNode). IfSome c.next_open-2.result (IsOpenAt l)) value c.next_open-2.ensures.some)
     (subst (λ (l : List TreeNode). IsNone c.next_open-2.result → list_any (λ e. is_open e.mark) l ≡ false) value c.next_open-2.ensures.none)
-    (omega (arith, c.loop-opened.invariant.opened)) (omega (arith, c.loop-opened.invariant.few))
+    (omega (arith, c.loop-opened.invariant.opened)) (omega (arith, c.loop-opened.invariant.at_most))

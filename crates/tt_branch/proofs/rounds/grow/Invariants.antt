@@ -12,5 +12,5 @@ invariant-loop-opened g l =
       under_way : IsUnderWay p l.search;
       better : Advances p l.fn.search.best l.search.best;
       opened : opened_in l.search.tree_nodes.items ≡ l._opened;
-      few : length l.search.tree_nodes.items + 1 ≤ 2 * l._opened;
+      at_most : length l.search.tree_nodes.items + 1 ≤ 2 * l._opened;
     }

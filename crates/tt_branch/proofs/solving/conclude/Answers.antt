@@ -22,12 +22,12 @@ write_nodes-requires g c = λ κs.
     let p = g.P.Path.problem c.args.path.now in
     let s = c.args.search in
     let ok = subst IsInstance c.instance.ensures c.days.ensures.instance in
-    let few = few_ended c.args.limit s.tree_nodes.items c.args.finished c.requires.few c.requires.ends in
+    let at_most = few_ended c.args.limit s.tree_nodes.items c.args.finished c.requires.at_most c.requires.ends in
     let links = sym c.as_slice.ensures.value in (
       (refl, tt),
       (
         subst AreLinks links c.requires.under_way.links,
-        subst (λ (l : List Link). All (IsWritable p l) s.tree_nodes.items) links (writable p ok (table_of s.best) s.links.items s.tree_nodes.items c.requires.under_way.grown few),
+        subst (λ (l : List Link). All (IsWritable p l) s.tree_nodes.items) links (writable p ok (table_of s.best) s.links.items s.tree_nodes.items c.requires.under_way.grown at_most),
       ),
     )
 
@@ -38,14 +38,14 @@ prove_bound-requires g c = λ κs.
     let ok = subst IsInstance c.instance.ensures c.days.ensures.instance in
     let nodes = c.in_ok-nodes.field-0.nodes.items in
     let is = c.in_ok-nodes.ensures.nodes ∙ ap (λ (l : List Link). nodes_of p l s.tree_nodes.items) c.as_slice.ensures.value in
-    let all = each_numbers p ok s c.requires.under_way c.args.limit c.requires.few nodes is in
+    let all = each_numbers p ok s c.requires.under_way c.args.limit c.requires.at_most nodes is in
     let shown = c.shown-bound.ensures p c.requires.under_way.kept in
-    let proved = proves p ok s c.requires.under_way c.args.limit c.requires.few nodes is c.args.finished c.in_ok-nodes.field-0.least c.requires.ends
+    let proved = proves p ok s c.requires.under_way c.args.limit c.requires.at_most nodes is c.args.finished c.in_ok-nodes.field-0.least c.requires.ends
     (λ e. c.in_ok-nodes.ensures.least (not_from_false c.args.finished e) ∙ ap (λ (l : List Link). least (worths_of p l s.tree_nodes.items)) c.as_slice.ensures.value) in (
       (refl, tt),
       (
-        subst (λ (q : Problem). All (IsNodeOf q) c.as_slice-2.result.now) (sym c.in_ok-nodes.ensures.same) (subst (All (IsNodeOf p)) (sym c.as_slice-2.ensures.value) all),
-        subst (λ (q : Problem). Proves q c.shown-bound.result c.as_slice-2.result.now) (sym c.in_ok-nodes.ensures.same)
+        subst (λ (q : Problem). All (IsNodeOf q) c.as_slice-2.result.now) (sym c.in_ok-nodes.ensures.unchanged) (subst (All (IsNodeOf p)) (sym c.as_slice-2.ensures.value) all),
+        subst (λ (q : Problem). Proves q c.shown-bound.result c.as_slice-2.result.now) (sym c.in_ok-nodes.ensures.unchanged)
             (subst (Proves p c.shown-bound.result) (sym c.as_slice-2.ensures.value) (subst (λ (b : Bound). Proves p b nodes) (sym shown) proved)),
       ),
     )
@@ -59,8 +59,8 @@ returns g c =
     let is = c.in_ok-nodes.ensures.nodes ∙ ap (λ (l : List Link). nodes_of p l s.tree_nodes.items) c.as_slice.ensures.value in
     let lowest = c.in_ok-nodes.field-0.least in
     let shown = c.shown-bound.ensures p c.requires.under_way.kept in
-    let holds = subst (λ (q : Problem). HoldsOfAll q c.shown-bound.result) c.in_ok-nodes.ensures.same c.in_ok-prove_bound.ensures in
-    let done = concluded p ok s c.requires.under_way c.args.limit c.requires.few nodes is c.args.finished lowest c.requires.begun c.requires.ends
+    let holds = subst (λ (q : Problem). HoldsOfAll q c.shown-bound.result) c.in_ok-nodes.ensures.unchanged c.in_ok-prove_bound.ensures in
+    let done = concluded p ok s c.requires.under_way c.args.limit c.requires.at_most nodes is c.args.finished lowest c.requires.begun c.requires.ends
     (λ e. c.in_ok-nodes.ensures.least (not_from_false c.args.finished e) ∙ ap (λ (l : List Link). least (worths_of p l s.tree_nodes.items)) c.as_slice.ensures.value)
     (subst (HoldsOfAll p) shown holds) in
     subst (λ (t : Option (List Cell)). IsOutcome p c.args.limit t c.shown-bound.result (Some nodes) c.args.finished) (sym c.table_in.ensures)

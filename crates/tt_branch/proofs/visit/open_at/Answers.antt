@@ -16,7 +16,7 @@ go_to-requires g c = λ κs.
     let p = g.P.Path.problem c.args.path.now in
     let s = c.args.search.now in
     let e = c.requires.waiting.0 in
-    let there = each_at (IsThere p s.links.items) s.tree_nodes.items c.args.place e (each_there p (table_of s.best) s.links.items s.tree_nodes.items c.requires.under_way.grown c.requires.few) c.requires.waiting.1 in
+    let there = each_at (IsThere p s.links.items) s.tree_nodes.items c.args.place e (each_there p (table_of s.best) s.links.items s.tree_nodes.items c.requires.under_way.grown c.requires.at_most) c.requires.waiting.1 in
     let read = c.index.result.now in
     let link = ap (λ (x : TreeNode). x.link) (c.index.ensures ∙ get_or_from_slice_get s.tree_nodes.items c.args.place e read c.requires.waiting.1) in
     let links = sym c.as_slice.ensures.value in (
@@ -35,10 +35,10 @@ open-requires g c = λ κs.
     let p = g.P.Path.problem c.args.path.now in
     let s = c.args.search.now in
     let e = c.requires.waiting.0 in
-    let there = each_at (IsThere p s.links.items) s.tree_nodes.items c.args.place e (each_there p (table_of s.best) s.links.items s.tree_nodes.items c.requires.under_way.grown c.requires.few) c.requires.waiting.1 in
+    let there = each_at (IsThere p s.links.items) s.tree_nodes.items c.args.place e (each_there p (table_of s.best) s.links.items s.tree_nodes.items c.requires.under_way.grown c.requires.at_most) c.requires.waiting.1 in
     let read = c.index.result.now in
     let link = ap (λ (x : TreeNode). x.link) (c.index.ensures ∙ get_or_from_slice_get s.tree_nodes.items c.args.place e read c.requires.waiting.1) in
-    let same = sym c.in_ok-go_to.ensures.same in
+    let same = sym c.in_ok-go_to.ensures.unchanged in
     let facts : path_at s.links.items e.link ≡ g.P.Path.facts c.go_to.new.path =
     sym (c.in_ok-go_to.ensures.there ∙ ap (λ (l : List Link). path_at l read.link) c.as_slice.ensures.value ∙ ap (path_at s.links.items) link) in (
       (refl, tt),
@@ -61,9 +61,9 @@ returns-clause-under_way g c =
     let put : TreeNode = record { mark = c.in_ok-mark.field-0.mark; link = read.link; key = c.in_ok-mark.field-0.key; rises = c.in_ok-rises.rises } in
     let there = c.in_ok-go_to.ensures.there ∙ ap (λ (l : List Link). path_at l read.link) c.as_slice.ensures.value in
     let made = opening_there p (g.P.Path.problem c.go_to.new.path) (g.P.Path.facts c.go_to.new.path) s.best c.open.new.best s.links.items s.tree_nodes.items c.put.new.tree_nodes.items c.args.place read put
-    c.in_ok-go_to.ensures.same there c.index.ensures c.requires.waiting c.requires.under_way.grown c.in_ok-mark.ensures.better c.in_ok-mark.ensures.known c.in_ok-mark.ensures.opened c.in_ok-mark.ensures.single refl c.put.ensures in
+    c.in_ok-go_to.ensures.unchanged there c.index.ensures c.requires.waiting c.requires.under_way.grown c.in_ok-mark.ensures.better c.in_ok-mark.ensures.known c.in_ok-mark.ensures.opened c.in_ok-mark.ensures.single refl c.put.ensures in
     record {
-      kept = subst (λ (q : Problem). IsKept q c.open.new.best) c.in_ok-go_to.ensures.same c.in_ok-mark.ensures.better.kept;
+      kept = subst (λ (q : Problem). IsKept q c.open.new.best) c.in_ok-go_to.ensures.unchanged c.in_ok-mark.ensures.better.kept;
       links = c.requires.under_way.links;
       grown = made.grown;
     }
@@ -76,5 +76,5 @@ returns-clause-opened g c =
     let put : TreeNode = record { mark = c.in_ok-mark.field-0.mark; link = read.link; key = c.in_ok-mark.field-0.key; rises = c.in_ok-rises.rises } in
     let there = c.in_ok-go_to.ensures.there ∙ ap (λ (l : List Link). path_at l read.link) c.as_slice.ensures.value in
     let made = opening_there p (g.P.Path.problem c.go_to.new.path) (g.P.Path.facts c.go_to.new.path) s.best c.open.new.best s.links.items s.tree_nodes.items c.put.new.tree_nodes.items c.args.place read put
-    c.in_ok-go_to.ensures.same there c.index.ensures c.requires.waiting c.requires.under_way.grown c.in_ok-mark.ensures.better c.in_ok-mark.ensures.known c.in_ok-mark.ensures.opened c.in_ok-mark.ensures.single refl c.put.ensures in
+    c.in_ok-go_to.ensures.unchanged there c.index.ensures c.requires.waiting c.requires.under_way.grown c.in_ok-mark.ensures.better c.in_ok-mark.ensures.known c.in_ok-mark.ensures.opened c.in_ok-mark.ensures.single refl c.put.ensures in
     made.opened

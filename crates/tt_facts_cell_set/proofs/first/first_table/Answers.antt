@@ -30,7 +30,7 @@ loop-index-preserved c =
     let h : i < length p.unavailabilities = omega (arith, c.unavailabilities-index-end.ensures.value) in
     record {
       shows = up_to_more p i b new h c.unavailability-course.ensures (unavailability_in p (take i p.unavailabilities) b words c.loop-index.invariant.shows new c.in_ok-remove_rooms.ensures.ok);
-      earlier = c.remove_rooms.ensures.same ∙ c.loop-index.invariant.earlier;
+      earlier = c.remove_rooms.ensures.unchanged ∙ c.loop-index.invariant.earlier;
     }
 
 pub loop-index-preserved-then-course-courses : goal.loop-index-preserved-then-course-courses

@@ -20,7 +20,7 @@ loop-block-preserved c =
     let cleared = subst (λ i. Clears mid i mask new) c.place.ensures.value c.in_ok-clear.ensures.ok in
     record {
       drops = block_dropped p a.table.now.words a.course a.day a.period n mask lost mid new r.course r.day r.period here c.loop-block.invariant.drops (word_dropped p mid a.course a.day a.period n mask new r.course r.day r.period here cleared) (λ k h. c.others.ensures k h ∙ ap not (c.open_word-word.ensures k h));
-      earlier = c.clear.ensures.same ∙ c.loop-block.invariant.earlier;
+      earlier = c.clear.ensures.unchanged ∙ c.loop-block.invariant.earlier;
     }
 
 pub returns-clause-ok : goal.returns-clause-ok

@@ -19,7 +19,7 @@ loop-block-preserved c =
     let cleared = subst (λ i. Clears mid i mask new) c.place.ensures.value c.in_ok-clear.ensures.ok in
     record {
       drops = block_dropped p a.table.now.words a.course a.day a.period n mask (λ w i. agrees a.room (w * 64 + i)) mid new r.course r.day r.period here c.loop-block.invariant.drops (word_dropped p mid a.course a.day a.period n mask new r.course r.day r.period here cleared) c.allowed.ensures;
-      earlier = c.clear.ensures.same ∙ c.loop-block.invariant.earlier;
+      earlier = c.clear.ensures.unchanged ∙ c.loop-block.invariant.earlier;
     }
 
 pub returns-clause-ok : goal.returns-clause-ok

@@ -22,7 +22,7 @@ loop-older-preserved c =
     record {
       table = c.in_ok-watch.ensures.ok.table;
       shown = λ path f e denies same free old. next_settled a.instance.now a.yes.now path f i _ here c.loop-older.live.words (c.loop-older.invariant.shown path f e denies same free old) a.free.now.words c.settle.new.live.words free c.in_ok-watch.ensures.ok;
-      earlier = c.settle.ensures.same ∙ c.loop-older.invariant.earlier;
+      earlier = c.settle.ensures.unchanged ∙ c.loop-older.invariant.earlier;
     }
 
 pub loop-older-preserved-then-not-may_touch : goal.loop-older-preserved-then-not-may_touch

@@ -22,7 +22,7 @@ loop-course-preserved c =
     record {
       loses = loses-more p a.table.now.words mid new (λ x. has_number (take i ks) x.course && agrees_at g x) (λ x. (x.course == slice_index_or ks i 0) && agrees_at g x) (λ x. has_number (take (i + 1) ks) x.course && agrees_at g x) c.loop-course.invariant.loses c.in_ok-remove_of.ensures.ok
           (λ x h. course_at p g ks i here x);
-      earlier = c.remove_of.ensures.same ∙ c.loop-course.invariant.earlier;
+      earlier = c.remove_of.ensures.unchanged ∙ c.loop-course.invariant.earlier;
     }
 
 pub returns-clause-ok : goal.returns-clause-ok

@@ -47,7 +47,7 @@ loop-slot-preserved c =
       loses = loses-more p a.table.now.words mid new (is_gone p g a.course n) (gone p.periods) (is_gone p g a.course (n + 1)) c.loop-slot.invariant.loses
           (subst (λ i. Loses p mid (gone i) new) c.periods-periods.ensures.value c.in_ok-remove_rooms.ensures.ok)
           (λ x h. slot_gone p g a.course n x h (sym c.allows.ensures ∙ c.if-not-allows.false));
-      earlier = c.remove_rooms.ensures.same ∙ c.loop-slot.invariant.earlier;
+      earlier = c.remove_rooms.ensures.unchanged ∙ c.loop-slot.invariant.earlier;
     }
 
 pub returns-clause-ok : goal.returns-clause-ok

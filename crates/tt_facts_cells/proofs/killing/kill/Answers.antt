@@ -31,7 +31,7 @@ loop-course-preserved c =
     record {
       loses = loses-more p a.live.now.words c.loop-course.live.words c.strike.new.live.words (λ x. nat_lt x.course n && struck x) (λ x. is_placed n a.day a.period x && room x) (λ x. nat_lt x.course (n + 1) && struck x) c.loop-course.invariant.loses c.in_ok-strike.ensures.ok
           (λ x h. course_next n x.course (x.day == a.day) (x.period == a.period) (room x));
-      earlier = c.strike.ensures.same ∙ c.loop-course.invariant.earlier;
+      earlier = c.strike.ensures.unchanged ∙ c.loop-course.invariant.earlier;
     }
 
 pub returns-clause-ok : goal.returns-clause-ok

@@ -20,7 +20,7 @@ loop-course-preserved c =
     record {
       loses = loses-more p a.live.now.words c.loop-course.live.words c.remove_rooms.new.table.words (λ x. has_number (take i ks) x.course && at x) (λ x. is_placed (slice_index_or ks i 0) a.day a.period x && true) (λ x. has_number (take (i + 1) ks) x.course && at x) c.loop-course.invariant.loses c.in_ok-remove_rooms.ensures.ok
           (λ x h. course_next_at ks i here x.course (x.day == a.day) (x.period == a.period));
-      earlier = c.remove_rooms.ensures.same ∙ c.loop-course.invariant.earlier;
+      earlier = c.remove_rooms.ensures.unchanged ∙ c.loop-course.invariant.earlier;
     }
 
 pub returns-clause-ok : goal.returns-clause-ok

@@ -29,7 +29,7 @@ loop-other-preserved c =
     record {
       loses = loses-more p a.live.now.words c.loop-other.live.words c.strike_room_of.new.live.words (λ x. nat_lt x.course n && gone x) (λ x. is_placed n a.day a.period x && room x) (λ x. nat_lt x.course (n + 1) && gone x) c.loop-other.invariant.loses c.in_ok-strike_room_of.ensures.ok
           (λ x h. course_next n x.course (x.day == a.day) (x.period == a.period) (room x));
-      earlier = c.strike_room_of.ensures.same ∙ c.loop-other.invariant.earlier;
+      earlier = c.strike_room_of.ensures.unchanged ∙ c.loop-other.invariant.earlier;
     }
 
 pub returns-clause-ok : goal.returns-clause-ok

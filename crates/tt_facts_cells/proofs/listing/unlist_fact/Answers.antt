@@ -4,7 +4,7 @@ use Rattle.tt_facts_cells.proofs.Listed.{listing-popped}
 use Rattle.tt_facts_cells.proofs.listing.unlist_fact.Goals as goal
 
 pub take_last-is_new-requires : goal.take_last-is_new-requires
-take_last-is_new-requires c = omega (arith, c.requires.some, c.requires.listing.len)
+take_last-is_new-requires c = omega (arith, c.requires.positive, c.requires.listing.len)
 
 pub returns-then-not-is_new-clause-listing : goal.returns-then-not-is_new-clause-listing
 returns-then-not-is_new-clause-listing c =

@@ -15,5 +15,5 @@ loop-room-preserved c =
           ∙ ap (λ l. l ++ record { room = r; seats = c.capacity-seats.result } ∷ []) c.loop-room.invariant.rooms
           ∙ ap (λ n. map (ranked p) (range_below r) ++ record { room = r; seats = n } ∷ []) seats.value
           ∙ sym (ap (map (ranked p)) (range_below_more r) ∙ map-append (ranked p) (range_below r) (r ∷ []));
-      few = below_more _ _ c.loop-room.invariant.few (omega (arith, seats.value, seats.within));
+      at_most = below_more _ _ c.loop-room.invariant.at_most (omega (arith, seats.value, seats.within));
     }

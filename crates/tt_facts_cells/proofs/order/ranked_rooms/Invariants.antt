@@ -7,5 +7,5 @@ use Rattle.tt_facts_cells.proofs.order.ranked_rooms.Given as goal
 abbrev pub invariant-loop-room : goal.invariant-loop-room
 invariant-loop-room l = record {
   rooms : l.rooms.items ≡ map (ranked l.instance) (range_below l.room);
-  few : (r : ℕ) → r < l.room → capacity l.instance r < 2 ^ 32;
+  at_most : (r : ℕ) → r < l.room → capacity l.instance r < 2 ^ 32;
 }

@@ -19,8 +19,8 @@ sizes_of-requires-clause-courses c =
     let p = c.args.instance.now in
     subst (λ (l : List ℕ). All (λ n. n < length p.courses) l) (sym (c.deref.ensures.value ∙ c.in_ok-courses.ensures.value)) (courses_below p c.args.group.now)
 
-pub new-requires-clause-few : goal.new-requires-clause-few
-new-requires-clause-few c =
+pub new-requires-clause-at_most : goal.new-requires-clause-at_most
+new-requires-clause-at_most c =
     let p = c.args.instance.now in
     let g = c.args.group.now in
     let narrow = narrow_from p g c.args.value (sym c.is_too_wide.ensures ∙ c.if-is_too_wide.false) in
@@ -31,8 +31,8 @@ new-requires-clause-narrow c =
     let narrow = narrow_from c.args.instance.now c.args.group.now c.args.value (sym c.is_too_wide.ensures ∙ c.if-is_too_wide.false) in
     omega (arith, narrow.concerned, ap length c.in_ok-courses.ensures.value, c.len.ensures)
 
-pub new-requires-clause-some : goal.new-requires-clause-some
-new-requires-clause-some c = λ j h.
+pub new-requires-clause-positive : goal.new-requires-clause-positive
+new-requires-clause-positive c = λ j h.
     let p = c.args.instance.now in
     let g = c.args.group.now in
     let narrow = narrow_from p g c.args.value (sym c.is_too_wide.ensures ∙ c.if-is_too_wide.false) in
@@ -89,7 +89,7 @@ lists_of-requires c =
     let there : AreCoursesAndSizes p g cs d.sizes.items d.courses = record {
       group = c.in_ok-courses.ensures.courses;
       distinct = c.in_ok-courses.ensures.distinct;
-      few = omega (arith, narrow.concerned, ap length is);
+      at_most = omega (arith, narrow.concerned, ap length is);
       own = narrow.courses;
       curricula = narrow.curricula;
       in_range = subst (λ (l : List ℕ). All (λ n. n < length p.courses) l) (sym is) (courses_below p g);

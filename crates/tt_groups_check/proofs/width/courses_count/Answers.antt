@@ -12,10 +12,10 @@ loop-course-preserved c =
     elim c.if-concerns.branch [
       | then-concerns w ↦ record {
         count = omega (arith, w.count-is, c.loop-course.invariant.count, count_more q i, one_if_true (q i) (sym c.concerns.ensures ∙ w.if-concerns.true));
-        few = omega (arith, w.count-is, c.loop-course.invariant.few);
+        at_most = omega (arith, w.count-is, c.loop-course.invariant.at_most);
       }
       | else-concerns w ↦ record {
         count = omega (arith, w.count-is, c.loop-course.invariant.count, count_more q i, one_if_false (q i) (sym c.concerns.ensures ∙ w.if-concerns.false));
-        few = omega (arith, w.count-is, c.loop-course.invariant.few);
+        at_most = omega (arith, w.count-is, c.loop-course.invariant.at_most);
       }
     ]

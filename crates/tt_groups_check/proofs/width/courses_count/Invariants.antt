@@ -7,5 +7,5 @@ use Rattle.tt_groups_check.proofs.width.courses_count.Given as goal
 abbrev pub invariant-loop-course : goal.invariant-loop-course
 invariant-loop-course l = record {
   count : l.count ≡ count_by (concerns l.instance l.group) (range_below l.course);
-  few : l.count ≤ l.course;
+  at_most : l.count ≤ l.course;
 }

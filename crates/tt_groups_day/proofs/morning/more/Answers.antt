@@ -17,5 +17,5 @@ returns-then-not-fits-2-clause-barred c = λ p g cs weights table d before day_o
     barred-full p g cs weights before c.args.set.now c.args.morning.now set morning c.args.bound d table c.args.most.now c.args.available.now day_of i.0 (omega (arith, i.2, c.sums-counts.ensures i.0))
 
 pub returns-clause-leads : goal.returns-clause-leads
-returns-clause-leads c = λ p g cs weights before are few inside set morning.
-    morning-more p g cs weights before c.args.set.now c.args.morning.now set morning are few inside (omega arith) (omega arith) (omega arith) c.sums-counts.result c.sums-counts.ensures _ refl
+returns-clause-leads c = λ p g cs weights before are at_most inside set morning.
+    morning-more p g cs weights before c.args.set.now c.args.morning.now set morning are at_most inside (omega arith) (omega arith) (omega arith) c.sums-counts.result c.sums-counts.ensures _ refl

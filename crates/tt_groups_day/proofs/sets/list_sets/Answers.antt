@@ -65,7 +65,7 @@ returns-clause-small c =
     let ws = c.args.weights.now in
     let e : c.loop-i.i ≡ length cs = omega arith in
     let m : 2 ^ 20 ≡ 1048576 = omega arith in
-    small_sets p g cs ws c.loop-i.sets.items 1048576 c.requires.few (λ i. omega (arith, c.requires.small i, m))
+    small_sets p g cs ws c.loop-i.sets.items 1048576 c.requires.at_most (λ i. omega (arith, c.requires.small i, m))
     (subst (λ n. All (IsChoice p g cs ws n) c.loop-i.sets.items) e c.loop-i.invariant.each)
 
 pub returns-clause-few_sets : goal.returns-clause-few_sets

@@ -8,11 +8,11 @@ use Rattle.tt_groups_day.specs.declared.search.Period.{Period}
 use Rattle.tt_groups_day.proofs.Starting.{zeros, morning-start, take_written}
 use Rattle.tt_groups_day.proofs.table.day_table.Goals as goal
 
-pub try_days-requires-clause-few : goal.try_days-requires-clause-few
-try_days-requires-clause-few c = omega (arith, ap length c.deref.ensures.value, c.in_ok-periods.ensures.few)
+pub try_days-requires-clause-at_most : goal.try_days-requires-clause-at_most
+try_days-requires-clause-at_most c = omega (arith, ap length c.deref.ensures.value, c.in_ok-periods.ensures.at_most)
 
 pub returns-clause-low : goal.returns-clause-low
-returns-clause-low c = λ g weights are few sets complete.
+returns-clause-low c = λ g weights are at_most sets complete.
     let p = c.args.instance.now in
     let cs = c.args.courses.now in
     let items = c.in_ok-table.table.items in
@@ -22,7 +22,7 @@ returns-clause-low c = λ g weights are few sets complete.
     let written = take_written new (drop (length new) items) c.in_ok-table.table.len (c.in_ok-table.ensures.len ∙ sym same) in
     let there : ArePeriodsOf p g cs c.args.day c.lectures_of-most.result c.in_ok-periods.periods.items = record {
       group = are;
-      few = few;
+      at_most = at_most;
       most_are = c.lectures_of-most.ensures;
       whole = c.in_ok-periods.ensures.whole;
       closed = c.in_ok-periods.ensures.closed;
@@ -32,7 +32,7 @@ returns-clause-low c = λ g weights are few sets complete.
     rw written (c.in_ok-try_days.ensures.tried p g cs weights c.args.day [] days refl sets complete start)
 
 pub returns-clause-found : goal.returns-clause-found
-returns-clause-found c = λ g weights are few distinct sets aparts.
+returns-clause-found c = λ g weights are at_most distinct sets aparts.
     let p = c.args.instance.now in
     let cs = c.args.courses.now in
     let items = c.in_ok-table.table.items in
@@ -43,7 +43,7 @@ returns-clause-found c = λ g weights are few distinct sets aparts.
     let written = take_written new (drop (length new) items) c.in_ok-table.table.len (c.in_ok-table.ensures.len ∙ sym same) in
     let there : ArePeriodsOf p g cs c.args.day c.lectures_of-most.result c.in_ok-periods.periods.items = record {
       group = are;
-      few = few;
+      at_most = at_most;
       most_are = c.lectures_of-most.ensures;
       whole = c.in_ok-periods.ensures.whole;
       closed = c.in_ok-periods.ensures.closed;
@@ -55,5 +55,5 @@ returns-clause-found c = λ g weights are few distinct sets aparts.
       | inl e ↦
           let old = ap (λ (l : List ℕ). slice_index l k) (c.deref_mut.ensures.value ∙ table) in
           absurd (omega (arith, less, e, old, c.ranges.bound.fits, get_or-replicate {A = ℕ} c.args.places k 255 0 inside))
-      | inr f ↦ f p g cs weights c.args.day [] c.requires.few distinct days opened refl sets aparts (morning-start p g cs weights _ (zeros 16) refl refl refl refl) (open_first p cs c.args.day) (λ i l. omega (arith, none i))
+      | inr f ↦ f p g cs weights c.args.day [] c.requires.at_most distinct days opened refl sets aparts (morning-start p g cs weights _ (zeros 16) refl refl refl refl) (open_first p cs c.args.day) (λ i l. omega (arith, none i))
     ])

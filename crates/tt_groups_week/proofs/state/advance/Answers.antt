@@ -31,8 +31,8 @@ loop-j-init c =
     record {
       placed = omega (arith, moved_first, c.requires.index);
       paid = omega (arith, paid_first, floor_first);
-      place_fits = omega (arith, c.requires.state.small, d.are.few);
-      pay_fits = omega (arith, c.requires.floor, floor-below d.sizes.items xs c.fits.ensures.bytes (length d.sizes.items), d.are.few);
+      place_fits = omega (arith, c.requires.state.small, d.are.at_most);
+      pay_fits = omega (arith, c.requires.floor, floor-below d.sizes.items xs c.fits.ensures.bytes (length d.sizes.items), d.are.at_most);
     }
 
 pub overflow_add-further : goal.overflow_add-further
@@ -73,7 +73,7 @@ overflow_add-pay-in-loop-j c =
     let read = c.requires.state.read j (omega arith) in
     let byte = c.fits.ensures.bytes j in
     let some = c.args.digits.now.are.some j (omega arith) in
-    omega (arith, c.size-top.ensures.value, c.size-top.ensures.small, c.from-amount.ensures, c.loop-j.invariant.pay_fits, c.args.digits.now.are.few)
+    omega (arith, c.size-top.ensures.value, c.size-top.ensures.small, c.from-amount.ensures, c.loop-j.invariant.pay_fits, c.args.digits.now.are.at_most)
 
 pub loop-j-preserved-then-min-eq0 : goal.loop-j-preserved-then-min-eq0
 loop-j-preserved-then-min-eq0 c =

@@ -16,7 +16,7 @@ loop-j-preserved c =
     let more = ap (λ z. z * c.weight.result) value ∙ ap (λ z. d j * z) c.weight.ensures.value in
     let below : c.digit-digit.result ≤ slice_index ns j = omega (arith, c.digit-digit.ensures.below) in
     let long = c.loop-j.invariant.long in
-    let inside : j < length c.loop-j.read = omega (arith, c.args.digits.now.are.few) in
+    let inside : j < length c.loop-j.read = omega (arith, c.args.digits.now.are.at_most) in
     record {
       long = rw length-set long;
       read = set-more (λ i x. x ≡ d i) c.loop-j.read j c.digit-digit.result inside c.loop-j.invariant.read value;

@@ -10,5 +10,5 @@ invariant-loop-place g l =
     let p = g.P.Path.problem l.path in
     record {
       summed : l.total ≡ sum_by (λ s. above_least l.price (least_excess p (g.P.Path.facts l.path) l.course s)) (take l.place (all_slots p));
-      few : l.total ≤ l.place * 2 ^ 32;
+      at_most : l.total ≤ l.place * 2 ^ 32;
     }

@@ -14,6 +14,6 @@ not_not false = refl
 pub returns : goal.returns
 returns g c =
     let p = g.P.Path.problem c.args.path.now in
-    let few : p.periods ≤ 64 = omega (arith, c.periods.ensures.value, c.periods.ensures.within, ap (λ q. q.periods) c.instance.ensures) in
+    let at_most : p.periods ≤ 64 = omega (arith, c.periods.ensures.value, c.periods.ensures.within, ap (λ q. q.periods) c.instance.ensures) in
     ap not c.is_empty.ensures ∙ not_not (list_any (has_bit c.pinned_periods.result) bits)
-    ∙ any-set c.pinned_periods.result p.periods (λ s. pinned p (g.P.Path.facts c.args.path.now) (Course c.args.course) (slot c.args.day s)) few c.pinned_periods.ensures
+    ∙ any-set c.pinned_periods.result p.periods (λ s. pinned p (g.P.Path.facts c.args.path.now) (Course c.args.course) (slot c.args.day s)) at_most c.pinned_periods.ensures

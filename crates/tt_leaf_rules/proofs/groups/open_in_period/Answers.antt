@@ -10,7 +10,7 @@ loop-block-preserved g c =
     let p = g.P.Path.problem a.path.now in
     record {
       counted = block_next (length p.rooms) (λ r. live_in p (g.P.Path.facts a.path.now) a.courses.now r (slot a.day a.period)) c.loop-block.block c.open_block.result c.loop-block.total c.count-total.result c.open_block.ensures c.loop-block.invariant.counted c.count-total.ensures.value;
-      few = omega (arith, c.loop-block.invariant.few, c.count-total.ensures.within);
+      at_most = omega (arith, c.loop-block.invariant.at_most, c.count-total.ensures.within);
     }
 
 pub returns-clause-value : goal.returns-clause-value

@@ -9,5 +9,5 @@ invariant-loop-place g l =
     let p = g.P.Path.problem l.path in
     record {
       summed : l.total ≡ sum_by (open_in_period p (g.P.Path.facts l.path) l.courses) (take l.place (all_slots p));
-      few : l.total ≤ l.place * 512;
+      at_most : l.total ≤ l.place * 512;
     }

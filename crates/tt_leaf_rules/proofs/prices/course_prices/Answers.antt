@@ -8,4 +8,4 @@ loop-course-preserved c =
     let i = c.loop-course.course-index in
     let there : i < length c.args.courses.now = omega arith in
     let more = sum_by_more (λ (k : ℕ × ℕ). lectures c.args.instance.now k.0 * k.1) c.args.courses.now i (0, 0) there in
-    record { summed = omega (arith, more); few = omega arith }
+    record { summed = omega (arith, more); at_most = omega arith }

@@ -6,5 +6,5 @@ use Rattle.tt_leaf_rules.proofs.prices.course_prices.Given as goal
 abbrev pub invariant-loop-course : goal.invariant-loop-course
 invariant-loop-course l = record {
   summed : l.total ≡ sum_by (λ k. lectures l.instance k.0 * k.1) (take l.course-index l.courses);
-  few : l.total ≤ l.course-index * 2 ^ 44;
+  at_most : l.total ≤ l.course-index * 2 ^ 44;
 }

@@ -18,10 +18,10 @@ loop-place-preserved g c =
     elim c.if-is_room_open.branch [
       | then-is_room_open w ↦ record {
         counted = slots_count_yes p q test i c.loop-place.total c.if-is_room_open.total s c.instance-instance.ensures there c.slot_at-slot.ensures.value c.loop-place.invariant.counted w.if-is_room_open.ensures w.total-is;
-        few = omega arith;
+        at_most = omega arith;
       }
       | else-is_room_open w ↦ record {
         counted = slots_count_no p q test i c.loop-place.total c.if-is_room_open.total s c.instance-instance.ensures there c.slot_at-slot.ensures.value c.loop-place.invariant.counted w.if-is_room_open.ensures w.total-is;
-        few = omega arith;
+        at_most = omega arith;
       }
     ]

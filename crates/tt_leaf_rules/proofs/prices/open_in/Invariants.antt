@@ -10,5 +10,5 @@ invariant-loop-place g l =
     let p = g.P.Path.problem l.path in
     record {
       counted : l.total ≡ count_by (λ s. list_any (λ k. is_live p (g.P.Path.facts l.path) (cell k.0 l.room s)) l.courses) (take l.place (all_slots p));
-      few : l.total ≤ l.place;
+      at_most : l.total ≤ l.place;
     }

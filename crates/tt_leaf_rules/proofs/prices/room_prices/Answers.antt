@@ -9,4 +9,4 @@ loop-room-preserved g c =
     let i = c.loop-room.room-index in
     let there : i < length c.args.rooms.now = omega arith in
     let more = sum_by_more (λ (k : ℕ × ℕ). k.1 * open_in p (g.P.Path.facts c.args.path.now) c.args.courses.now k.0) c.args.rooms.now i (0, 0) there in
-    record { summed = omega (arith, more); few = omega arith }
+    record { summed = omega (arith, more); at_most = omega arith }

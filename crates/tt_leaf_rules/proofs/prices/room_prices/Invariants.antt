@@ -6,5 +6,5 @@ use Rattle.tt_leaf_rules.proofs.prices.room_prices.Given as goal
 abbrev pub invariant-loop-room : goal.invariant-loop-room
 invariant-loop-room g l = record {
   summed : l.total ≡ sum_by (λ k. k.1 * open_in (g.P.Path.problem l.path) (g.P.Path.facts l.path) l.courses k.0) (take l.room-index l.rooms);
-  few : l.total ≤ l.room-index * 2 ^ 44;
+  at_most : l.total ≤ l.room-index * 2 ^ 44;
 }

@@ -8,7 +8,7 @@ loop-block-preserved g c =
     let p = g.P.Path.problem c.args.path.now in
     record {
       counted = block_next (length p.rooms) (pinned_room p (g.P.Path.facts c.args.path.now) c.args.course) c.loop-block.block c.pinned_rooms.result c.loop-block.total c.count-total.result c.pinned_rooms.ensures c.loop-block.invariant.counted c.count-total.ensures.value;
-      few = omega (arith, c.loop-block.invariant.few, c.count-total.ensures.within);
+      at_most = omega (arith, c.loop-block.invariant.at_most, c.count-total.ensures.within);
     }
 
 pub returns-clause-value : goal.returns-clause-value

@@ -20,7 +20,7 @@ pub weigh-after-requires-clause-counted : goal.weigh-after-requires-clause-count
 weigh-after-requires-clause-counted c = let h = c.requires.counted in (h.0, c.take.ensures h.0 h.1.tables)
 
 pub add-requires-clause-counted : goal.add-requires-clause-counted
-add-requires-clause-counted c = let h = c.requires.counted in let few = h.1.few in (h.0, c.take.ensures h.0 h.1.tables, omega arith)
+add-requires-clause-counted c = let h = c.requires.counted in let at_most = h.1.at_most in (h.0, c.take.ensures h.0 h.1.tables, omega arith)
 
 pub rescored-requires : goal.rescored-requires
 rescored-requires c =
@@ -36,11 +36,11 @@ returns c = λ u h.
     let p = c.args.instance.now in
     let rest = All-tail (InRange p) c.args.from u h.in_range in
     let taken = c.take.ensures u h.tables in
-    let few = h.few in
+    let at_most = h.at_most in
     record {
       instance = h.instance;
       in_range = All-cons (InRange p) c.args.to u c.requires.in_range rest;
-      few = omega arith;
+      at_most = omega arith;
       tables = c.add.ensures u taken;
       score = c.rescored.ensures p u c.args.from c.args.to (exchange p u c.args.from c.args.to c.args.tables.now c.args.score c.weigh-before.result c.weigh-after.result h c.requires.in_range c.requires.course (c.weigh-before.ensures u rest taken) (c.weigh-after.ensures u rest taken));
     }

@@ -35,7 +35,7 @@ invariant_of-result-clause-hard_fits c =
     let conflicts = conflicts_kept r.0 r.1 r.2 r.3 c.args.score c.args.from c.args.to r.4 in
     let availability = availability_kept r.0 r.1 r.2 r.3 c.args.score c.args.from c.args.to r.4 in
     let room_occupancy = occupancy_kept r.0 r.1 r.2 r.3 c.args.score c.args.from c.args.to r.4 in
-    omega (arith, c.exchanged-lectures.ensures (lectures_count r.0 (r.3 ∷ r.1)) lectures, lectures.few, c.exchanged-conflicts.ensures (conflicts_count r.0 (r.3 ∷ r.1)) conflicts, conflicts.few, c.exchanged-availability.ensures (availability_count r.0 (r.3 ∷ r.1)) availability, availability.few, c.exchanged-room_occupancy.ensures (occupancy_count r.0 (r.3 ∷ r.1)) room_occupancy, room_occupancy.few)
+    omega (arith, c.exchanged-lectures.ensures (lectures_count r.0 (r.3 ∷ r.1)) lectures, lectures.at_most, c.exchanged-conflicts.ensures (conflicts_count r.0 (r.3 ∷ r.1)) conflicts, conflicts.at_most, c.exchanged-availability.ensures (availability_count r.0 (r.3 ∷ r.1)) availability, availability.at_most, c.exchanged-room_occupancy.ensures (occupancy_count r.0 (r.3 ∷ r.1)) room_occupancy, room_occupancy.at_most)
 
 pub invariant_of-result-clause-cost_fits : goal.invariant_of-result-clause-cost_fits
 invariant_of-result-clause-cost_fits c =
@@ -44,7 +44,7 @@ invariant_of-result-clause-cost_fits c =
     let min_working_days = days_kept r.0 r.1 r.2 r.3 c.args.score c.args.from c.args.to r.4 in
     let compactness = compactness_kept r.0 r.1 r.2 r.3 c.args.score c.args.from c.args.to r.4 in
     let room_stability = stability_kept r.0 r.1 r.2 r.3 c.args.score c.args.from c.args.to r.4 in
-    omega (arith, c.exchanged-room_capacity.ensures (capacity_count r.0 (r.3 ∷ r.1)) room_capacity, room_capacity.few, c.exchanged-min_working_days.ensures (days_count r.0 (r.3 ∷ r.1)) min_working_days, min_working_days.few, c.exchanged-compactness.ensures (compactness_count r.0 (r.3 ∷ r.1)) compactness, compactness.few, c.exchanged-room_stability.ensures (stability_count r.0 (r.3 ∷ r.1)) room_stability, room_stability.few)
+    omega (arith, c.exchanged-room_capacity.ensures (capacity_count r.0 (r.3 ∷ r.1)) room_capacity, room_capacity.at_most, c.exchanged-min_working_days.ensures (days_count r.0 (r.3 ∷ r.1)) min_working_days, min_working_days.at_most, c.exchanged-compactness.ensures (compactness_count r.0 (r.3 ∷ r.1)) compactness, compactness.at_most, c.exchanged-room_stability.ensures (stability_count r.0 (r.3 ∷ r.1)) room_stability, room_stability.at_most)
 
 pub returns : goal.returns
 returns c = λ p u x y h. record {

@@ -19,14 +19,14 @@ gaps_round-gaps-requires-clause-rows c =
     let rows = c.curricula_of-curricula in
     rows_below p (length p.curricula) (of_curriculum p) e rows.result.now (rows.ensures ∙ ok.links.curricula e.course r.course) r c.requires.counted.0 c.args.tables.now.curricula.week ok.curricula
 
-pub gaps_round-gaps-requires-clause-few : goal.gaps_round-gaps-requires-clause-few
-gaps_round-gaps-requires-clause-few c =
+pub gaps_round-gaps-requires-clause-at_most : goal.gaps_round-gaps-requires-clause-at_most
+gaps_round-gaps-requires-clause-at_most c =
     let p = c.args.instance.now in
     let e = c.args.entry in
     let ok = c.requires.counted.1 in
     let rows = c.curricula_of-curricula in
     let w = c.args.tables.now.curricula.week in
-    omega (arith, w.few, ok.curricula.rows, passing_few (λ q. in_curriculum p q e.course) (length p.curricula) rows.result.now (rows.ensures ∙ ok.links.curricula e.course c.requires.in_range.course))
+    omega (arith, w.at_most, ok.curricula.rows, passing_few (λ q. in_curriculum p q e.course) (length p.curricula) rows.result.now (rows.ensures ∙ ok.links.curricula e.course c.requires.in_range.course))
 
 pub returns : goal.returns
 returns c = λ t timetable ok.

@@ -6,5 +6,5 @@ use Rattle.tt_page_lists.proofs.grouped.seats_of.Given as goal
 abbrev pub invariant-loop-entry : goal.invariant-loop-entry
 invariant-loop-entry l = record {
   summed : l.total ≡ sum_by (λ e. excess l.instance e.course e.room) (take l.entry-index l.entries);
-  few : l.total ≤ l.entry-index * 1000000;
+  at_most : l.total ≤ l.entry-index * 1000000;
 }

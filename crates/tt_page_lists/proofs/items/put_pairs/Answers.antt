@@ -16,11 +16,11 @@ put_odds-requires-clause-odds c =
     let found = c.deref.ensures.value ∙ c.in_ok-odds.ensures in
     rw c.instance-2.ensures (subst (All (InRange p)) (sym found) (All-filter odd (InRange p) c.later.result c.later.ensures.in_range))
 
-pub put_odds-requires-clause-few : goal.put_odds-requires-clause-few
-put_odds-requires-clause-few c =
+pub put_odds-requires-clause-at_most : goal.put_odds-requires-clause-at_most
+put_odds-requires-clause-at_most c =
     let odd : Cell → Bool = is_odd c.instance.result.now c.args.rule c.args.entry.now in
     let found = ap length (c.deref.ensures.value ∙ c.in_ok-odds.ensures) in
-    omega (arith, found, length-filter odd c.later.result, count_by-le-length odd c.later.result, c.later.ensures.few)
+    omega (arith, found, length-filter odd c.later.result, count_by-le-length odd c.later.result, c.later.ensures.at_most)
 
 pub returns : goal.returns
 unfolding pairs_item

@@ -8,5 +8,5 @@ use Rattle.tt_page_plan.proofs.counts.days_of.Given as goal
 abbrev pub invariant-loop-day : goal.invariant-loop-day
 invariant-loop-day l = record {
   counted : l.days ≡ count_by (λ d. list_any (λ e. is_of l.course e && is_on d e) l.plan.table) (range_below l.day);
-  few : l.days ≤ l.day;
+  at_most : l.days ≤ l.day;
 }

@@ -8,5 +8,5 @@ use Rattle.tt_page_plan.proofs.counts.periods_of.Given as goal
 abbrev pub invariant-loop-day : goal.invariant-loop-day
 invariant-loop-day l = record {
   summed : l.periods ≡ sum_by (λ d. count_by (λ s. list_any (λ e. is_of l.course e && is_at (slot d s) e) l.plan.table) (range_below l.plan.problem.periods)) (range_below l.day);
-  few : l.periods ≤ l.day * 64;
+  at_most : l.periods ≤ l.day * 64;
 }

@@ -7,5 +7,5 @@ use Rattle.tt_page_plan.proofs.counts.rooms_of.Given as goal
 abbrev pub invariant-loop-room : goal.invariant-loop-room
 invariant-loop-room l = record {
   counted : l.rooms ≡ count_by (λ r. is_taught_in l.plan.table l.course r) (range_below l.room);
-  few : l.rooms ≤ l.room;
+  at_most : l.rooms ≤ l.room;
 }

@@ -40,7 +40,7 @@ loop-i-preserved g c =
     record {
       walked = midway_next p c.args.bound nodes c.requires.tree i n inside c.index-nodes-i.is path c.loop-i.invariant.walked next
           (subst (λ q. Steps q c.args.bound path n next) c.loop-i.invariant.same_problem c.in-Ok.ensures.steps) c.in-Ok.ensures.within;
-      same_problem = c.in-Ok.ensures.same ∙ c.loop-i.invariant.same_problem;
+      same_problem = c.in-Ok.ensures.unchanged ∙ c.loop-i.invariant.same_problem;
     }
 
 pub returns-clause-derived : goal.returns-clause-derived

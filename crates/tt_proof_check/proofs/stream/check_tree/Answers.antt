@@ -28,7 +28,7 @@ loop-node-init g c =
       );
       problem = refl;
       count = sym r.unread;
-      few = omega (arith, r.unread);
+      at_most = omega (arith, r.unread);
       known = λ k. k;
       unfailed = refl;
     }
@@ -68,9 +68,9 @@ loop-node-preserved g c =
             first.0,
             sofar_next p v b true Unvisited _ old _ path first.1 new _ n goes (λ _. here.1) Unvisited (λ nodes long h. tt) next (steps_as _ p c.bound-bound.result b path n next inv.problem c.bound-bound.ensures c.in-Ok.ensures.steps) c.in-Ok.ensures.within,
           );
-      problem = c.in-Ok.ensures.same ∙ inv.problem;
+      problem = c.in-Ok.ensures.unchanged ∙ inv.problem;
       count = omega (arith, count, inv.count);
-      few = omega (arith, count, e.room);
+      at_most = omega (arith, count, e.room);
       known = λ k. e.known (inv.known k);
       unfailed = e.unfailed inv.sofar.sound tt ∙ inv.unfailed;
     }

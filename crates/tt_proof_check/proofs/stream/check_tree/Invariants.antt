@@ -13,7 +13,7 @@ invariant-loop-node g l = record {
       (λ s t. Sofar (g.P.Path.problem l.fn.path) l.fn.reader.version l.fn.reader.bound true Unvisited s l.reader t (g.P.Path.facts l.path));
   problem : g.P.Path.problem l.path ≡ g.P.Path.problem l.fn.path;
   count : l.count ≡ l.reader.count;
-  few : l.reader.count ≤ 16777216;
+  at_most : l.reader.count ≤ 16777216;
   known : is_some (g.R.Source.remaining l.fn.source) ≡ true → is_some (g.R.Source.remaining l.source) ≡ true;
   unfailed : g.R.Source.has_failed l.source ≡ g.R.Source.has_failed l.fn.source;
 }

@@ -16,7 +16,7 @@ pub loop-path-preserved : goal.loop-path-preserved
 loop-path-preserved g c = record {
   same_pending = sym (pending-dropped (g.P.Path.facts c.loop-path.path) (g.P.Path.facts c.pop-fact.new.self) c.pop-fact.result c.pop-fact.ensures.fact c.if-fact.false)
       ∙ c.loop-path.invariant.same_pending;
-  same_problem = c.pop-fact.ensures.same ∙ c.loop-path.invariant.same_problem;
+  same_problem = c.pop-fact.ensures.unchanged ∙ c.loop-path.invariant.same_problem;
   within =
       let len : length (g.P.Path.facts c.loop-path.path) ≡ length (g.P.Path.facts c.pop-fact.new.self) + 1 = ap length c.pop-fact.ensures.fact ∙ length-append (g.P.Path.facts c.pop-fact.new.self) (c.pop-fact.result ∷ []) in
       omega (arith, len, c.loop-path.invariant.within);

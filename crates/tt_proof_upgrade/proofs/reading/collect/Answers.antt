@@ -17,7 +17,7 @@ loop-nodes-init g c =
         m,
         rw c.new-nodes.ensures.items (collected_start true (cut_at rest c.args.reader.now.fed (g.R.Source.remaining c.args.source.now)) c.args.reader.now r.unread r.place r.sound),
       );
-      few = omega (arith, r.unread);
+      at_most = omega (arith, r.unread);
       known = λ k. k;
       unfailed = refl;
     }
@@ -50,7 +50,7 @@ loop-nodes-preserved g c =
             first.0,
             rw c.in_ok-push.ensures.items (collected_next c.args.reader.now.sizes c.args.reader.now.version true _ old _ c.loop-nodes.nodes.items first.1 new _ c.in-Some.node goes (λ _. here.1) e.node),
           );
-      few = omega (arith, count, e.room);
+      at_most = omega (arith, count, e.room);
       known = λ k. e.known (inv.known k);
       unfailed = e.unfailed inv.sofar.sound tt ∙ inv.unfailed;
     }

@@ -10,7 +10,7 @@ invariant-loop-nodes g l = record {
       (stream_at l.fn.reader.fed (g.R.Source.remaining l.fn.source)) l.reader (stream_at l.reader.fed (g.R.Source.remaining l.source)) l.nodes.items;
   failing : BeforeFailure l.fn.reader.fed (g.R.Source.remaining l.fn.source) l.reader.fed (g.R.Source.remaining l.source)
       (λ s t. Collected l.fn.reader.sizes l.fn.reader.version true s l.reader t l.nodes.items);
-  few : l.reader.count ≤ 16777216;
+  at_most : l.reader.count ≤ 16777216;
   known : is_some (g.R.Source.remaining l.fn.source) ≡ true → is_some (g.R.Source.remaining l.source) ≡ true;
   unfailed : g.R.Source.has_failed l.source ≡ g.R.Source.has_failed l.fn.source;
 }

@@ -3,7 +3,7 @@ use Rattle.tt_proof_upgrade.proofs.upgrading.check_tree.Goals as goal
 
 pub node_fault-requires : goal.node_fault-requires
 node_fault-requires c =
-    is_of_node c.args.instance.now c.args.bound c.args.nodes.now c.requires.tree c.requires.few c.in-Err.fault c.in-Err.ensures.fault
+    is_of_node c.args.instance.now c.args.bound c.args.nodes.now c.requires.tree c.requires.at_most c.in-Err.fault c.in-Err.ensures.fault
 
 pub returns-in-Err-clause-fault : goal.returns-in-Err-clause-fault
 returns-in-Err-clause-fault c =

@@ -18,5 +18,5 @@ loop-course-preserved c =
     let more = sum_by_more of cs i 0 c.loop-course-test.true in
     record {
       summed = omega (arith, here, more, c.loop-course.invariant.summed);
-      few = omega (arith, c.loop-course.invariant.few, c.alone-total.ensures.few, c.of_course.ensures.few, c.requires.few);
+      at_most = omega (arith, c.loop-course.invariant.at_most, c.alone-total.ensures.at_most, c.of_course.ensures.at_most, c.requires.at_most);
     }

@@ -7,5 +7,5 @@ use Rattle.tt_rules.proofs.compactness.cost.Given as goal
 abbrev pub invariant-loop-curriculum : goal.invariant-loop-curriculum
 invariant-loop-curriculum l = record {
   summed : l.total ≡ sum_by (compactness_cost l.instance l.by_course.entries) (range_below l.curriculum);
-  few : l.total ≤ l.curriculum * 32768;
+  at_most : l.total ≤ l.curriculum * 32768;
 }

@@ -25,8 +25,8 @@ returns-clause-count c =
     (subst (λ cs. (k : ℕ) → slice_index_or c.taught-taught.result k false ≡ list_any (λ a. list_any (λ e. is_of a e && (place_of p e == k)) t) cs) c.members-members.ensures.value c.taught-taught.ensures)
     (subst (λ cs. c.alone_of.result ≡ sum_by (λ a. count_by (λ e. is_of a e && is_alone p c.taught-taught.result e) t) cs) c.members-members.ensures.value c.alone_of.ensures.count)
 
-pub returns-clause-few : goal.returns-clause-few
-returns-clause-few c =
+pub returns-clause-at_most : goal.returns-clause-at_most
+returns-clause-at_most c =
     let p = c.args.instance.now in
     let t = c.args.by_course.now.entries in
     few_counted (λ e. in_curriculum p c.args.curriculum e.course && is_isolated p t c.args.curriculum e) t c.alone_of.result (returns-clause-count c)

@@ -11,7 +11,7 @@ use Rattle.tt_rules.proofs.compactness.mark_places.Goals as goal
 pub add-requires : goal.add-requires
 add-requires c =
     let p = c.args.instance.now in
-    c.place.ensures.few (All-head (InRange p) c.in-Some.entry.now c.next.new.self (subst (All (InRange p)) c.in-Some.ensures.steps c.loop-entry.invariant.left))
+    c.place.ensures.at_most (All-head (InRange p) c.in-Some.entry.now c.next.new.self (subst (All (InRange p)) c.in-Some.ensures.steps c.loop-entry.invariant.left))
 
 pub loop-entry-preserved : goal.loop-entry-preserved
 loop-entry-preserved c =

@@ -6,5 +6,5 @@ use Rattle.tt_rules.proofs.conflicts.count.Given as goal
 abbrev pub invariant-loop-index : goal.invariant-loop-index
 invariant-loop-index l = record {
   counted : l.total + count_pairs (collide l.instance) (drop l.index l.entries) ≡ count_pairs (collide l.instance) l.entries;
-  few : l.total ≤ l.index * 16384;
+  at_most : l.total ≤ l.index * 16384;
 }

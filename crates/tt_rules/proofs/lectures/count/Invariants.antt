@@ -7,5 +7,5 @@ use Rattle.tt_rules.proofs.lectures.count.Given as goal
 abbrev pub invariant-loop-course : goal.invariant-loop-course
 invariant-loop-course l = record {
   summed : l.total ≡ sum_by (lectures_off l.instance l.by_course.entries) (range_below l.course);
-  few : l.total ≤ l.course * 65536;
+  at_most : l.total ≤ l.course * 65536;
 }

@@ -8,5 +8,5 @@ use Rattle.tt_rules.proofs.occupancy.count.Given as goal
 abbrev pub invariant-loop-room : goal.invariant-loop-room
 invariant-loop-room l = record {
   summed : l.total ≡ sum_by (λ r. sum_by (λ s. entries_in l.by_room.entries r s - 1) (all_slots l.instance)) (range_below l.room);
-  few : l.total ≤ l.room * 16384;
+  at_most : l.total ≤ l.room * 16384;
 }

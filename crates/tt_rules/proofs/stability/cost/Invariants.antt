@@ -7,5 +7,5 @@ use Rattle.tt_rules.proofs.stability.cost.Given as goal
 abbrev pub invariant-loop-course : goal.invariant-loop-course
 invariant-loop-course l = record {
   summed : l.total ≡ sum_by (stability_cost l.instance l.by_course.entries) (range_below l.course);
-  few : l.total ≤ l.course * 512;
+  at_most : l.total ≤ l.course * 512;
 }

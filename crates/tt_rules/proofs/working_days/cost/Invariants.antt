@@ -7,5 +7,5 @@ use Rattle.tt_rules.proofs.working_days.cost.Given as goal
 abbrev pub invariant-loop-course : goal.invariant-loop-course
 invariant-loop-course l = record {
   summed : l.total ≡ sum_by (days_cost l.instance l.by_course.entries) (range_below l.course);
-  few : l.total ≤ l.course * 2560;
+  at_most : l.total ≤ l.course * 2560;
 }

@@ -7,7 +7,7 @@ use Rattle.tt_search.proofs.improving.walk_phases.Goals as goal
 pub loop-phase-init : goal.loop-phase-init
 loop-phase-init g c = record {
   problem = refl;
-  some = c.requires.some;
+  some = c.requires.positive;
   here = c.requires.here;
   best = λ t best. best;
   within = omega arith;

@@ -2,10 +2,10 @@ use Rattle.std.proofs.Common.{arith}
 use Rattle.tt_search_complete.proofs.Filled.{few_more, completed_more}
 use Rattle.tt_search_complete.proofs.completing.add_all.Goals as goal
 
-pub add_lectures-requires-clause-few : goal.add_lectures-requires-clause-few
-add_lectures-requires-clause-few c =
+pub add_lectures-requires-clause-at_most : goal.add_lectures-requires-clause-at_most
+add_lectures-requires-clause-at_most c =
     let each = c.requires.missing.each c.loop-course.course (omega arith) in
-    few_more c.args.instance.now c.loop-course.course c.missing_at-count.result c.args.table.now c.loop-course.table c.days.ensures.instance c.loop-course.invariant (omega arith) (omega (arith, each, c.missing_at-count.ensures)) c.requires.few
+    few_more c.args.instance.now c.loop-course.course c.missing_at-count.result c.args.table.now c.loop-course.table c.days.ensures.instance c.loop-course.invariant (omega arith) (omega (arith, each, c.missing_at-count.ensures)) c.requires.at_most
 
 pub loop-course-preserved : goal.loop-course-preserved
 loop-course-preserved c =

@@ -2,8 +2,8 @@ use Rattle.std.proofs.Common.{arith}
 use Rattle.tt_search_construct.proofs.Filled.{few_more, filled_more}
 use Rattle.tt_search_construct.proofs.filling.fill.Goals as goal
 
-pub add_course-requires-clause-few : goal.add_course-requires-clause-few
-add_course-requires-clause-few c =
+pub add_course-requires-clause-at_most : goal.add_course-requires-clause-at_most
+add_course-requires-clause-at_most c =
     few_more c.args.instance.now c.loop-course.course c.loop-course.table c.days.ensures.instance c.loop-course.invariant (omega arith)
 
 pub loop-course-preserved : goal.loop-course-preserved

@@ -30,5 +30,5 @@ loop-behind-preserved c =
       groups = length-set first g i ∙ c.loop-behind.invariant.groups;
       room = length-set next i (get_or first g 0) ∙ c.loop-behind.invariant.room;
       begins = subst (NamesFirst c.args.by t (set first g i)) (sym after) (begins_more c.args.by t g i own within first (omega (arith, small, c.loop-behind.invariant.groups)) begins);
-      named = subst (NamesNext c.args.by t (set next i (get_or first g 0))) (sym after) (named_more c.args.by t g i own within first next small (omega (arith, within, c.requires.few, c.loop-behind.invariant.room)) begins named);
+      named = subst (NamesNext c.args.by t (set next i (get_or first g 0))) (sym after) (named_more c.args.by t g i own within first next small (omega (arith, within, c.requires.at_most, c.loop-behind.invariant.room)) begins named);
     }

@@ -16,8 +16,8 @@ invariant_of-self-2 c =
       places = rw (length-set t.words.items c.args.place c.args.word, c.in_ok-push.ensures.items) (within_more (length t.words.items) t.log.items _ c.self.invariant.places k);
     }
 
-pub returns-clause-same : goal.returns-clause-same
-returns-clause-same c =
+pub returns-clause-unchanged : goal.returns-clause-unchanged
+returns-clause-unchanged c =
     let t = c.self.inside in
     let k : c.args.place < length t.words.items = omega (arith, ap (λ (v : Kept). length v.words) c.self.view_is) in
     let h = c.index.ensures ∙ get_or_default_zero t.words.items c.args.place c.index.result.now k in

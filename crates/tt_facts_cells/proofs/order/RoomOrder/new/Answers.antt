@@ -8,5 +8,5 @@ pub returns : goal.returns
 returns c = record {
   same = subst (λ l. IsPermutation l c.sort_by_key.new.self.items) c.in_ok-rooms.ensures.rooms c.in_ok-sort_by_key.ensures.permutation;
   falling = IsNonDecreasingBy-from_sort_by_key rank _ c.in_ok-sort_by_key.ensures.sorted (λ a r q k. search rules);
-  few = c.in_ok-rooms.ensures.few;
+  at_most = c.in_ok-rooms.ensures.at_most;
 }

@@ -4,8 +4,8 @@ use Rattle.tt_lists.proofs.Sums.{one_if}
 use Rattle.tt_moves.proofs.Rests.{some_used, some_standing, used_anew_is}
 use Rattle.tt_moves.proofs.rest.WithoutEntry.rooms_with.Goals as goal
 
-pub used_anew-requires-clause-some : goal.used_anew-requires-clause-some
-used_anew-requires-clause-some c =
+pub used_anew-requires-clause-enough : goal.used_anew-requires-clause-enough
+used_anew-requires-clause-enough c =
     let r = c.args.self.now in
     let p = r.occupied.now.problem in
     let x = c.args.entry in

@@ -10,8 +10,8 @@ returns-clause-count c =
     c.from.ensures ∙ c.used.ensures ∙ c.self.invariant.tables.days.used c.args.course course
     ∙ ap (λ (z : Filled). days_of z.problem z.entries c.args.course) c.self.view_is
 
-pub returns-clause-few : goal.returns-clause-few
-returns-clause-few c =
+pub returns-clause-at_most : goal.returns-clause-at_most
+returns-clause-at_most c =
     let s = c.self.inside in
     let p = s.instance.now in
     let course = subst (λ (z : Filled). c.args.course < length z.problem.courses) (sym c.self.view_is) c.requires in

@@ -9,5 +9,5 @@ returns-clause-counts c =
     let inside = mul-add-lt c.args.row g.columns c.args.column g.rows c.requires.row c.requires.column in
     let value = c.index_mut.ensures.value in
     let stands = there g.counts.items c.args.row c.args.column g.columns c.index_mut.result.now (omega (arith, g.covers)) c.requires.column value in
-    let some = c.requires.some in
+    let some = c.requires.positive in
     taken_at g.counts.items c.args.row c.args.column g.columns c.index_mut.result.now (omega (arith, g.covers)) c.requires.column value (omega (arith, some, stands))

@@ -50,7 +50,7 @@ add-requires-4-clause-free c =
     let r = c.requires.in_range in
     let ok = c.requires.counted.1 in
     let x = c.args.self.now.days in
-    omega (arith, x.few, ok.days.places, spread_free p.days (λ z. z.day) p c.requires.counted.0 x ok.days c.args.entry.course r.course)
+    omega (arith, x.at_most, ok.days.places, spread_free p.days (λ z. z.day) p c.requires.counted.0 x ok.days c.args.entry.course r.course)
 
 pub add-requires-5-clause-free : goal.add-requires-5-clause-free
 add-requires-5-clause-free c =
@@ -58,7 +58,7 @@ add-requires-5-clause-free c =
     let r = c.requires.in_range in
     let ok = c.requires.counted.1 in
     let x = c.args.self.now.course_rooms in
-    omega (arith, x.few, ok.course_rooms.places, spread_free (length p.rooms) (λ z. z.room) p c.requires.counted.0 x ok.course_rooms c.args.entry.course r.course)
+    omega (arith, x.at_most, ok.course_rooms.places, spread_free (length p.rooms) (λ z. z.room) p c.requires.counted.0 x ok.course_rooms c.args.entry.course r.course)
 
 pub returns : goal.returns
 returns c = λ t ok.

@@ -17,8 +17,8 @@ take_rows-requires-clause-rows c =
     let rows = c.curricula_of-curricula in
     rows_below p (length p.curricula) (of_curriculum p) e rows.result.now (rows.ensures ∙ ok.links.curricula e.course r.course) r (e ∷ c.requires.counted.0) c.args.self.now.curricula.week ok.curricula
 
-pub take_rows-requires-clause-some : goal.take_rows-requires-clause-some
-take_rows-requires-clause-some c =
+pub take_rows-requires-clause-enough : goal.take_rows-requires-clause-enough
+take_rows-requires-clause-enough c =
     let p = c.args.instance.now in
     let e = c.args.entry in
     let r = c.requires.in_range in
@@ -35,8 +35,8 @@ take_rows-requires-2-clause-rows c =
     let rows = c.opponents_of-opponents in
     rows_below p (length p.courses) (opposes p) e rows.result.now (rows.ensures ∙ ok.links.opponents e.course r.course) r (e ∷ c.requires.counted.0) c.args.self.now.opponents ok.opponents
 
-pub take_rows-requires-2-clause-some : goal.take_rows-requires-2-clause-some
-take_rows-requires-2-clause-some c =
+pub take_rows-requires-2-clause-enough : goal.take_rows-requires-2-clause-enough
+take_rows-requires-2-clause-enough c =
     let p = c.args.instance.now in
     let e = c.args.entry in
     let r = c.requires.in_range in

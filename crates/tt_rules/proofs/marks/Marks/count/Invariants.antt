@@ -6,5 +6,5 @@ use Rattle.tt_rules.proofs.marks.Marks.count.Given as goal
 abbrev pub invariant-loop-place : goal.invariant-loop-place
 invariant-loop-place l = record {
   counted : l.total ≡ count_by (λ k. slice_index_or l.self-inside.places k false) (range_below l.place);
-  few : l.total ≤ l.place;
+  at_most : l.total ≤ l.place;
 }
