@@ -1,5 +1,5 @@
 #!/usr/bin/env python3
-"""Prints how fast `tt bound` judges proofs that are as searches write them: trees over random paths of an instance of realistic shape,
+"""Prints how fast `tt bound` checks proofs that are as searches write them: trees over random paths of an instance of realistic shape,
 which split on cells that are live as far as this script can see, and whose leaves are right for the bound 0.
 
 Run by hand, after ./tt has built the program:  python3 bench/facts.py [NODES]

@@ -1,5 +1,5 @@
 #!/usr/bin/env python3
-"""Prints how many steps a second `tt_moves::change` judges, moves and swaps apart, in the order of the tables and drawn at random,
+"""Prints how many steps a second `tt_moves::change` prices, moves and swaps apart, in the order of the tables and drawn at random,
 and how many drawn ones `tt_moves::change_within`, which prices only those that break no more hard rules than the timetable, on a
 timetable of 300 lectures that it makes and on the examples like02 and like05, whose curricula are many; and beside it what steps.rs,
 plain Rust over the same tables of counts, does.

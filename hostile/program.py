@@ -137,14 +137,14 @@ class Runs:
     def __init__(self, refuser, shelf, command):
         self.refuser, self.shelf, self.command = refuser, shelf, command
         self.own, self.own_files = self.run(NOTHING)
-        self.judge_own()
+        self.check_own()
 
     def run(self, refusal):
         self.shelf.fill()
         words = [PROGRAM, *self.command.words.split()]
         return self.refuser.run(words, refusal, self.shelf.folder), self.shelf.texts()
 
-    def judge_own(self):
+    def check_own(self):
         """Without a refusal the command gives its own answer."""
         command, own = self.command, self.own
         assert own.status == command.status, f"answers {own.told()}"
@@ -184,11 +184,11 @@ class Runs:
             for call in calls_to_fail(outcome.counted.calls):
                 for fault, from_there in FAILURES:
                     refusal = Refusal(call=call, from_there=from_there, fault=fault, narrow=narrow)
-                    self.judge(refusal, *self.run(refusal))
+                    self.check_outcome(refusal, *self.run(refusal))
                     runs += 1
         return runs
 
-    def judge(self, refusal, outcome, files):
+    def check_outcome(self, refusal, outcome, files):
         """After a failed call the answer is the command's own, or a refusal of the file that failed; each file that it writes is the
         older one or the new one, whole, and of several all are new or none. A file that can't be removed stays."""
         where = f"with {refusal}: {outcome.told()}, files {sorted(files)}"
