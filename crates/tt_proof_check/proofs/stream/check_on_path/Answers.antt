@@ -3,11 +3,11 @@ use Rattle.tt_text.specs.Feeds.{stream_at, fresh}
 use Rattle.tt_proof_read.specs.Faults.{read_failed, is_failed_read}
 use Rattle.tt_leaf_rules.specs.declared.leaf.Bound.{Bound}
 use Rattle.tt_proof_check.specs.declared.fault.CheckFault.TheVariants.{Text}
-use Rattle.tt_proof_check.specs.Faults.{OutOfMemoryIsNoTextFault}
+use Rattle.tt_proof_check.specs.Faults.{OutOfMemoryIsNoTextFault, is_failed_read as is_failed}
 use Rattle.tt_proof_check.specs.Visited.{Visited}
 use Rattle.tt_proof_check.specs.Judged.{Proved}
 use Rattle.tt_proof_check.specs.Streams.{IsProofFault}
-use Rattle.tt_proof_check.proofs.TextFaults.{memory_text, text_cases, err_gives, err_read, err_same}
+use Rattle.tt_proof_check.proofs.TextFaults.{memory_text, text_cases, err_gives, err_read, err_reads, err_same, same_reads}
 use Rattle.tt_proof_check.proofs.stream.check_on_path.Goals as goal
 
 pub returns-in_err-finish-clause-fault : goal.returns-in_err-finish-clause-fault
@@ -105,3 +105,19 @@ pub returns-in_err-finish-clause-memory : goal.returns-in_err-finish-clause-memo
 returns-in_err-finish-clause-memory g c =
     let f = c.in_err-finish.field-0.0 in
     err_gives c.from_residual-in_err-finish.result f OutOfMemoryIsNoTextFault c.from_residual-in_err-finish.ensures.1 (memory_text f)
+
+pub returns-in_err-reader-clause-failed : goal.returns-in_err-reader-clause-failed
+returns-in_err-reader-clause-failed g c =
+    let e = c.in_err-reader.ensures in
+    err_reads c.from_residual.result c.in_err-reader.field-0.0 _ _ c.from_residual.ensures.1 (λ is. e.failed (ap (λ x. Err x) is)) e.unfailed
+
+pub returns-in_err-check_tree-clause-failed : goal.returns-in_err-check_tree-clause-failed
+returns-in_err-check_tree-clause-failed g c =
+    same_reads c.from_residual-in_err-check_tree.result c.in_err-check_tree.field-0.0 is_failed _ _ _ c.from_residual-in_err-check_tree.ensures.1 c.in_err-check_tree.ensures.failed (c.in_ok-reader.ensures.unfailed tt)
+
+pub returns-in_err-finish-clause-failed : goal.returns-in_err-finish-clause-failed
+returns-in_err-finish-clause-failed g c =
+    let judged = c.in_ok-check_tree.ensures in
+    let e = c.in_err-finish.ensures in
+    err_reads c.from_residual-in_err-finish.result c.in_err-finish.field-0.0 _ _ c.from_residual-in_err-finish.ensures.1 (λ is. e.failed judged.sound (ap (λ x. Err x) is))
+    (λ no. e.unfailed judged.sound no ∙ judged.failed ∙ c.in_ok-reader.ensures.unfailed tt)
