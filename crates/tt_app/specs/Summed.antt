@@ -16,7 +16,7 @@ use Rattle.tt_proof_sum.specs.Faults.{IsSumFault}
 use Rattle.tt_proof_sum.specs.Faults as below
 use Rattle.tt_proof_sum.specs.GroupsFaults.{IsLeftOpen}
 use Rattle.tt_proof_sum.specs.Sums.{IsSum}
-use Rattle.tt_proof_sum.specs.UpToFailedRead.{IsFileJudgedUpToFailedRead}
+use Rattle.tt_proof_sum.specs.UpToFailedRead.{IsFileCheckedUpToFailedRead}
 use Rattle.tt_proof_sum.specs.declared.groups_fault.GroupsFault.{GroupsFault}
 use Rattle.tt_proof_sum.specs.declared.fault.SumFault.{SumFault}
 use Rattle.tt_proof_sum.specs.declared.fault.SumFault.TheVariants as sum
@@ -75,10 +75,10 @@ AnswersSum (Ok a) b = IsBoundAnswer a b
 AnswersSum (Err f) b = IsSilentRefusal f
 
 -- The bytes spell an instance, and the bytes that the file's source gave before the failed read have been checked for it.
-pub record IsSpelledAndFileJudgedUpToFailedRead (instance proof : List ℕ) (left : Option (List ℕ)) : Type 0 where
+pub record IsSpelledAndFileCheckedUpToFailedRead (instance proof : List ℕ) (left : Option (List ℕ)) : Type 0 where
   pub problem : Problem
   pub spelled : Spells instance problem
-  pub tells : IsFileJudgedUpToFailedRead problem proof left
+  pub tells : IsFileCheckedUpToFailedRead problem proof left
 
 -- -- with a solution
 

@@ -4,14 +4,14 @@ ghost use Rattle.std.specs.Prelude.{◌≡◌, ◌+◌, ◌<◌, ◌^◌, ℕ, L
 ghost use Rattle.tt_rules.specs.Score.{IsFeasible};
 ghost use Rattle.tt_leaf_rules.specs.declared.leaf.Bound.TheVariants.{AtLeast};
 ghost use Rattle.tt_proof_check.specs.Derives.{HoldsOfAll};
-ghost use Rattle.tt_proof_sum.specs.UpToFailedRead.{IsFileJudgedUpToFailedRead};
+ghost use Rattle.tt_proof_sum.specs.UpToFailedRead.{IsFileCheckedUpToFailedRead};
 ghost use Rattle.tt_proof_check.specs.Headline.{BreaksARule};
 ghost use Rattle.tt_proof_sum.specs.Added.{Give};
 ghost use Rattle.tt_proof_sum.specs.Faults as below;
 ghost use Rattle.tt_proof_sum.specs.Faults.{IsSumFault, IsSilentSum, all_points};
 ghost use Rattle.tt_proof_sum.specs.Sums.{IsSum};
 ghost use Rattle.tt_app.specs.Checked.{IsFileFault, AnswersBroken};
-ghost use Rattle.tt_app.specs.Summed.{IsSpelledAndFileJudgedUpToFailedRead, read_failed_at, CertifiesSum, IsSumChecked, IsSumCheckFault, AnswersSumYes};
+ghost use Rattle.tt_app.specs.Summed.{IsSpelledAndFileCheckedUpToFailedRead, read_failed_at, CertifiesSum, IsSumChecked, IsSumCheckFault, AnswersSumYes};
 ghost use Rattle.tt_app.specs.FaultMaps.{OutOfMemoryIsOneFault};
 
 use crate::answer::Answer;
@@ -42,7 +42,7 @@ fn summed_bound<R: Peek>(
     ensures unfailed { (i : ℕ) (r q : R) → ¬ (result ≡ Err (below.read_failed_at (i + 1))) → slice_get proofs.old i ≡ Some r → slice_get proofs.new i ≡ Some q →
         R.has_failed q ≡ R.has_failed r }
     ensures up_to_failed_read { (i : ℕ) (r q : R) (bytes : List ℕ) → result ≡ Err (below.read_failed_at (i + 1)) → slice_get proofs.old i ≡ Some r →
-        slice_get proofs.new i ≡ Some q → R.remaining r ≡ Some bytes → IsFileJudgedUpToFailedRead instance.now bytes (R.remaining q) }
+        slice_get proofs.new i ≡ Some q → R.remaining r ≡ Some bytes → IsFileCheckedUpToFailedRead instance.now bytes (R.remaining q) }
     ensures memory { IfErr result below.OutOfMemoryIsOneFault }
 {
     match sum_proofs(alloc, instance, proofs)? {
@@ -76,7 +76,7 @@ pub fn check_sum<R: Peek>(
         R.has_failed q ≡ R.has_failed r }
     // If a failed read is reported, all the bytes of its proof before it have been checked.
     ensures up_to_failed_read { (i : ℕ) (r q : R) (bytes : List ℕ) → result ≡ Err (read_failed_at (i + 1)) → slice_get proofs.old i ≡ Some r →
-        slice_get proofs.new i ≡ Some q → R.remaining r ≡ Some bytes → IsSpelledAndFileJudgedUpToFailedRead instance.now bytes (R.remaining q) }
+        slice_get proofs.new i ≡ Some q → R.remaining r ≡ Some bytes → IsSpelledAndFileCheckedUpToFailedRead instance.now bytes (R.remaining q) }
     // Being out of memory is always the same error, regardless of its source.
     ensures memory { IfErr result OutOfMemoryIsOneFault }
 {

@@ -1,5 +1,5 @@
 -- The result of `certify`, from the results of its steps.
-use Rattle.std.proofs.Common.{◌≡◌, ℕ, zero, suc, ◌+◌, ◌<◌, ◌≤◌, Bool, true, false, List, Option, Some, None, Result, Ok, Err, IfOk, refl, sym, ap, subst, ◌∙◌, arith, inl, inr}
+use Rattle.std.proofs.Common.{◌≡◌, ℕ, zero, suc, ◌+◌, ◌<◌, ◌≤◌, Bool, true, false, if◌then◌else◌, List, Option, Some, None, Result, Ok, Err, IfOk, refl, sym, ap, subst, ◌∙◌, arith, inl, inr}
 use Rattle.std.specs.Prelude.{IfSome, ◌↔◌, IsTrue, ◌⊎◌}
 use Rattle.tt_text.specs.declared.feed.FeedFault.TheVariants as feed
 use Rattle.tt_instance.specs.Problem.{Problem}
@@ -16,10 +16,11 @@ use Rattle.tt_rules.proofs.Scores.{hard_is, cost_is, feasible_is}
 use Rattle.tt_leaf_rules.specs.declared.leaf.Bound.TheVariants.{AtLeast}
 use Rattle.tt_proof_read.specs.declared.fault.TextFault.TheVariants as text
 use Rattle.tt_proof_check.specs.Derives.{HoldsOfAll}
+use Rattle.tt_proof_check.specs.Faults as checks
 use Rattle.tt_proof_check.specs.Faults.{OutOfMemoryIsNoTextFault}
 use Rattle.tt_proof_check.specs.Headline.{Solves, BreaksARule, Certifies, BoundsAll}
 use Rattle.tt_proof_check.specs.Streams.{IsProved, IsEnvironmental, stream_of, IsProofFault}
-use Rattle.tt_proof_check.specs.Verdicts.{IsYes, IsBroken, IsVerdict, IsFirstFault, IsFileFault, AnswersYes, AnswersBroken, GivesBound, IsBoundFault, OutOfMemoryIsOneFault, fault_from_instance, fault_from_solution, fault_from_check, read_failed}
+use Rattle.tt_proof_check.specs.Verdicts.{IsYes, IsBroken, IsVerdict, IsFirstFault, IsFileFault, AnswersYes, AnswersBroken, GivesBound, IsBoundFault, OutOfMemoryIsOneFault, fault_from_instance, fault_from_solution, fault_from_check, read_failed, is_failed_read}
 use Rattle.tt_proof_check.specs.declared.fault.CheckFault.{CheckFault}
 use Rattle.tt_proof_check.specs.declared.fault.CheckFault.TheVariants as check
 use Rattle.tt_proof_check.specs.declared.fault.Verdict.{Verdict}
@@ -87,6 +88,22 @@ read_checked check.OutOfMemory e = cc
 read_checked (check.Text f) e = cc
 read_checked (check.Rule n f) e = cc
 read_checked (check.TooDeep n) e = cc
+
+-- whether a read has failed after an error of the check, said of the error that it becomes
+pub check_reads : (f : CheckFault) (before after : Bool) → after ≡ (if checks.is_failed_read f then true else before) → after ≡ (if is_failed_read (fault_from_check f) then true else before)
+check_reads check.OutOfMemory before after h = h
+check_reads (check.Text f) before after h = h
+check_reads (check.Rule n f) before after h = h
+check_reads (check.TooDeep n) before after h = h
+
+-- an error of the instance or of the solution is no failed read
+pub instance_reads : (f : InstanceFault) (before : Bool) → before ≡ (if is_failed_read (fault_from_instance f) then true else before)
+instance_reads instance.OutOfMemory before = refl
+instance_reads f before = refl
+
+pub solution_reads : (f : SolutionFault) (before : Bool) → before ≡ (if is_failed_read (fault_from_solution f) then true else before)
+solution_reads solution.OutOfMemory before = refl
+solution_reads f before = refl
 
 abbrev broken_by : Score → ℕ
 broken_by s = s.lectures + s.conflicts + s.availability + s.room_occupancy

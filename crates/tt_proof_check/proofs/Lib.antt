@@ -4,7 +4,7 @@ pub mod Determined
 pub mod Examples
 pub mod FailedReads
 pub mod Files
-pub mod Judging
+pub mod InOrder
 pub mod Nodes
 pub mod OneFault
 pub mod Places

@@ -1,5 +1,5 @@
 -- Two errors of the same text are equal, or one of them is silent.
-use Rattle.std.proofs.Common.{◌≡◌, ℕ, zero, suc, ◌+◌, ◌≤◌, ◌<◌, List, [], ◌∷◌, ◌++◌, length, take, Option, Some, None, Result, Ok, Err, refl, sym, ap, subst, ◌∙◌, arith, append_assoc, append-nil, ◌⊎◌, inl, inr}
+use Rattle.std.proofs.Common.{◌≡◌, ℕ, zero, suc, ◌+◌, ◌<◌, List, [], ◌∷◌, ◌++◌, length, take, Option, Some, None, Result, Err, refl, sym, ap, subst, ◌∙◌, arith, append_assoc, append-nil, ◌⊎◌, inl, inr}
 use Rattle.std.specs.Prelude.{All, slice_get}
 use Rattle.std.specs.List.{AllByRecursion}
 use Rattle.std.proofs.lemmas.Bool.{cases_order}
@@ -36,7 +36,7 @@ use Rattle.tt_proof_check.specs.Explains.{Passes, FailsAt, IsDeepAt}
 use Rattle.tt_proof_check.specs.Verdicts.{FailsSolution, FailsProof, IsFirstFault, IsEnvironmentalRefusal}
 use Rattle.tt_proof_check.proofs.Determined.{begins_whole, same_header, compare, same_place}
 use Rattle.tt_proof_check.proofs.Files.{one_instance, only_memory}
-use Rattle.tt_proof_check.proofs.Judging.{at_place, tree_passes}
+use Rattle.tt_proof_check.proofs.InOrder.{at_place, tree_passes}
 use Rattle.tt_proof_check.proofs.TextFaults.{on_false, silent_is, fails_silently}
 use Rattle.tt_proof_check.proofs.Texts.{node_silent, place_read}
 

@@ -25,7 +25,7 @@ use Rattle.tt_proof_check.specs.Faults.{fault_from_text}
 use Rattle.tt_proof_check.specs.Visited.{Visited}
 use Rattle.tt_proof_check.specs.Pending.{pending}
 use Rattle.tt_proof_check.specs.Steps.{Steps, Stops}
-use Rattle.tt_proof_check.specs.Judged.{Judged, TellsNodes, ExplainsChild}
+use Rattle.tt_proof_check.specs.CheckedPart.{CheckedPart, TellsNodes, ExplainsChild}
 use Rattle.tt_proof_check.specs.Streams.{sizes_of, Fails, NodeFails}
 use Rattle.tt_proof_check.specs.Explains.{Passes, FailsAt, IsDeepAt}
 use Rattle.tt_proof_check.proofs.Counting.{next_places}
@@ -213,10 +213,10 @@ module _ (p : Problem) (v : ℕ) (b : Bound) (known : Bool) (H : List Node → T
         node_breaks p v b s u (m.nodes ++ n ∷ []) d.path d.others d.stack d.passed (read_one k) (ap (λ (i : ℕ). node_at (sizes_of p) v i u) count ∙ fails)
 
   -- the tree is whole: it derives the bound
-  pub sofar_end : (new : Reader) (u : Stream) → IsReaderAfter old (Ok None) new → (known ≡ true → IsReadingOf old t (Ok None) u) → Judged p v b known H s u
+  pub sofar_end : (new : Reader) (u : Stream) → IsReaderAfter old (Ok None) new → (known ≡ true → IsReadingOf old t (Ok None) u) → CheckedPart p v b known H s u
   sofar_end new u goes says = on m.due m.walked m.places
     where
-      on : (due : Bool) → Walked p b m.nodes path due → length (stack_of due path) ≡ old.places → Judged p v b known H s u
+      on : (due : Bool) → Walked p b m.nodes path due → length (stack_of due path) ≡ old.places → CheckedPart p v b known H s u
       on true w e = absurd (omega (arith, e, goes.0))
       on false w e =
           let h = walked_end p b m.nodes path w in

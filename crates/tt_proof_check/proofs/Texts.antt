@@ -18,11 +18,11 @@ use Rattle.tt_proof_check.specs.declared.fault.CheckFault.{CheckFault}
 use Rattle.tt_proof_check.specs.declared.fault.CheckFault.TheVariants as told
 use Rattle.tt_proof_check.specs.Derives.{Derives, HoldsOfAll}
 use Rattle.tt_proof_check.specs.Visited.{IsVisitedProof}
-use Rattle.tt_proof_check.specs.Judged.{Proved}
+use Rattle.tt_proof_check.specs.CheckedPart.{Proved}
 use Rattle.tt_proof_check.specs.Streams.{IsProved, IsEnvironmental, stream_of, sizes_of, Fails, NodeFails, EndFails, IsReadTo, HasHeader, IsProofFault}
 use Rattle.tt_proof_check.specs.Explains.{FailsAt, IsDeepAt}
 use Rattle.tt_proof_check.proofs.Determined.{begins_whole, same_header, compare, same_place}
-use Rattle.tt_proof_check.proofs.Judging.{tree_passes, never_fails, never_deep}
+use Rattle.tt_proof_check.proofs.InOrder.{tree_passes, never_fails, never_deep}
 use Rattle.tt_proof_check.proofs.Sizes.{are_sizes_of}
 use Rattle.tt_proof_check.proofs.Soundness.{root_sound}
 use Rattle.tt_proof_check.proofs.TextFaults.{fails_silently}

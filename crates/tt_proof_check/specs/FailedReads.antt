@@ -27,14 +27,14 @@ abbrev pub HoldsOfGiven : List ℕ → Option (List ℕ) → (Stream → Type 0)
 HoldsOfGiven bytes left P = (given : List ℕ) × Consumes (Some bytes) left given × P (cut_short (stream_of given))
 
 -- All the bytes that the source gave have been read and checked.
-abbrev pub IsJudgedUpToFailedRead : Problem → List ℕ → Option (List ℕ) → Type 0
-IsJudgedUpToFailedRead p bytes left = HoldsOfGiven bytes left (IsCutOff p)
+abbrev pub IsCheckedUpToFailedRead : Problem → List ℕ → Option (List ℕ) → Type 0
+IsCheckedUpToFailedRead p bytes left = HoldsOfGiven bytes left (IsCutOff p)
 
 -- The bytes spell an instance, and all the bytes that the source gave have been read and checked for it.
-pub record IsSpelledAndJudgedUpToFailedRead (instance proof : List ℕ) (left : Option (List ℕ)) : Type 0 where
+pub record IsSpelledAndCheckedUpToFailedRead (instance proof : List ℕ) (left : Option (List ℕ)) : Type 0 where
   pub problem : Problem
   pub spelled : Spells instance problem
-  pub tells : IsJudgedUpToFailedRead problem proof left
+  pub tells : IsCheckedUpToFailedRead problem proof left
 
 -- P holds for the stream that a feed gives, if the read fails before the bytes that are left now
 abbrev pub UpToFailure : Fed → Option (List ℕ) → Option (List ℕ) → (Stream → Type 0) → Type 0

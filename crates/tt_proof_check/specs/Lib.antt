@@ -3,7 +3,7 @@ pub mod FailedReads
 pub mod Faults
 pub mod Headline
 pub mod Visited
-pub mod Judged
+pub mod CheckedPart
 pub mod Nodes
 pub mod Pending
 pub mod Steps

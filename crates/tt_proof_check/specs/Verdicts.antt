@@ -1,5 +1,5 @@
 -- The results of `certify`, and the results that are required.
-use Rattle.std.specs.Prelude.{◌≡◌, ℕ, ◌≤◌, ◌⊎◌, List, Option, Result, Ok, Err, IfSome, ⊤}
+use Rattle.std.specs.Prelude.{◌≡◌, ℕ, ◌≤◌, ◌⊎◌, Bool, false, List, Option, Result, Ok, Err, IfSome, ⊤}
 use Rattle.tt_text.specs.declared.feed.FeedFault.TheVariants as feed
 use Rattle.tt_instance.specs.Problem.{Problem}
 use Rattle.tt_instance.specs.Reading.{instance_of}
@@ -13,6 +13,7 @@ use Rattle.tt_table.specs.declared.fault.SolutionFault.TheVariants as solution
 use Rattle.tt_rules.specs.Score.{IsScore, IsFeasible}
 use Rattle.tt_rules.specs.declared.counts.Score.{Score}
 use Rattle.tt_proof_read.specs.declared.fault.TextFault.TheVariants as text
+use Rattle.tt_proof_check.specs.Faults as faults
 use Rattle.tt_proof_check.specs.Faults.{OutOfMemoryIsNoTextFault}
 use Rattle.tt_table.specs.Spelling.{SpellsBoth}
 use Rattle.tt_proof_check.specs.Headline.{Solves, BreaksARule, Certifies, BoundsAll}
@@ -84,6 +85,11 @@ IsFileFault fault.OutOfMemory = ⊥
 -- a read of the proof failed
 abbrev pub read_failed : CertifyFault
 read_failed = fault.Proof (check.Text (text.Feed feed.Read))
+
+-- whether an error is a failed read of the proof
+abbrev pub is_failed_read : CertifyFault → Bool
+is_failed_read (fault.Proof f) = faults.is_failed_read f
+is_failed_read _ = false
 
 -- the result is `Yes` with c and b, unless memory runs out or a read of the proof fails
 abbrev pub AnswersYes : Result Verdict CertifyFault → ℕ → ℕ → Type 0

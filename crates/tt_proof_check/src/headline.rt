@@ -1,15 +1,16 @@
 //! The headline: a cost and a lower bound, from the bytes of an instance, a solution and a proof.
 
-ghost use Rattle.std.specs.Prelude.{◌≡◌, ◌↔◌, ℕ, List, Some, Ok, Err, true, false, IfOk, IfErr};
+ghost use Rattle.std.specs.Prelude.{◌≡◌, ◌↔◌, ℕ, List, Some, Ok, Err, true, false, if◌then◌else◌, IfOk, IfErr};
 ghost use Rattle.tt_rules.specs.Score.{IsFeasible};
 ghost use Rattle.tt_leaf_rules.specs.declared.leaf.Bound.TheVariants.{AtLeast};
 ghost use Rattle.tt_proof_check.specs.Derives.{HoldsOfAll};
-ghost use Rattle.tt_proof_check.specs.FailedReads.{IsJudgedUpToFailedRead, IsSpelledAndJudgedUpToFailedRead};
+ghost use Rattle.tt_proof_check.specs.FailedReads.{IsCheckedUpToFailedRead, IsSpelledAndCheckedUpToFailedRead};
+ghost use Rattle.tt_proof_check.specs.Faults.{is_err_and};
 ghost use Rattle.tt_proof_check.specs.Headline.{BoundsAll, BreaksARule, Certifies};
 ghost use Rattle.tt_proof_check.specs.Streams.{IsProved};
 ghost use Rattle.tt_proof_check.specs.declared.fault.CertifyFault.TheVariants.{OutOfMemory};
 ghost use Rattle.tt_proof_check.specs.declared.fault.Verdict.TheVariants.{Yes};
-ghost use Rattle.tt_proof_check.specs.Verdicts.{IsVerdict, IsFirstFault, IsFileFault, AnswersYes, AnswersBroken, GivesBound, IsBoundFault, OutOfMemoryIsOneFault, read_failed};
+ghost use Rattle.tt_proof_check.specs.Verdicts.{IsVerdict, IsFirstFault, IsFileFault, AnswersYes, AnswersBroken, GivesBound, IsBoundFault, OutOfMemoryIsOneFault, read_failed, is_failed_read};
 
 use crate::fault::{CertifyFault, Verdict};
 use crate::stream::check_proof;
@@ -33,11 +34,10 @@ fn proved_bound<R: Source>(
     ensures holds { IfOk result (λ b. HoldsOfAll instance.now (AtLeast b)) }
     ensures fault { IfErr result (λ e. (bytes : List ℕ) → R.remaining proof.old ≡ Some bytes → IsBoundFault instance.now bytes e) }
     ensures own { IfErr result (λ e. IsFileFault e → ⊥) }
-    ensures failed { result ≡ Err read_failed → R.has_failed proof.new ≡ true }
-    ensures unfailed { ¬ (result ≡ Err read_failed) → R.has_failed proof.new ≡ R.has_failed proof.old }
+    ensures failed { R.has_failed proof.new ≡ (if is_err_and result is_failed_read then true else R.has_failed proof.old) }
     ensures memory { IfErr result OutOfMemoryIsOneFault }
     ensures up_to_failed_read { result ≡ Err read_failed → (bytes : List ℕ) → R.remaining proof.old ≡ Some bytes →
-        IsJudgedUpToFailedRead instance.now bytes (R.remaining proof.new) }
+        IsCheckedUpToFailedRead instance.now bytes (R.remaining proof.new) }
 {
     match check_proof(alloc, instance, proof)? {
         Bound::AtLeast(bound) => Ok(bound),
@@ -69,12 +69,11 @@ pub fn certify<R: Source>(
     ensures fault { IfErr result (IsFirstFault instance.now solution.now (R.remaining proof.old)) }
     // If the instance or the solution is refused, the proof isn't read.
     ensures unread { IfErr result (λ f. IsFileFault f → proof.new ≡ proof.old) }
-    // A failed read is reported only if a read failed.
-    ensures failed { result ≡ Err read_failed → R.has_failed proof.new ≡ true }
-    ensures unfailed { ¬ (result ≡ Err read_failed) → R.has_failed proof.new ≡ R.has_failed proof.old }
+    // A failed read is reported exactly if a read failed.
+    ensures failed { R.has_failed proof.new ≡ (if is_err_and result is_failed_read then true else R.has_failed proof.old) }
     // If a failed read is reported, all the bytes of the proof before it have been checked.
     ensures up_to_failed_read { result ≡ Err read_failed → (bytes : List ℕ) → R.remaining proof.old ≡ Some bytes →
-        IsSpelledAndJudgedUpToFailedRead instance.now bytes (R.remaining proof.new) }
+        IsSpelledAndCheckedUpToFailedRead instance.now bytes (R.remaining proof.new) }
     // Being out of memory is always the same error, regardless of its source.
     ensures memory { IfErr result OutOfMemoryIsOneFault }
 {

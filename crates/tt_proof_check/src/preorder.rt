@@ -16,7 +16,7 @@ use tt_leaf_rules::Bound;
 use tt_proof_read::{Node, is_tree};
 
 /// Checks the nodes of a tree, each on its path.
-fn judge_tree<'i, P: Path<'i>>(path: &mut P, bound: Bound, nodes: &[Node]) -> Result<(), NodesFault>
+fn check_each<'i, P: Path<'i>>(path: &mut P, bound: Bound, nodes: &[Node]) -> Result<(), NodesFault>
     requires root { P.facts path.old ≡ [] }
     requires tree { IsPreorder nodes.now }
     requires nodes { All (IsNodeOf (P.problem path.old)) nodes.now }
@@ -55,5 +55,5 @@ pub fn check_nodes(
         return Err(NodesFault::NotATree);
     }
     let mut path = TrailPath::new(alloc, instance)?;
-    judge_tree(&mut path, bound, nodes)
+    check_each(&mut path, bound, nodes)
 }

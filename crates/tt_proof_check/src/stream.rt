@@ -1,6 +1,6 @@
 //! Proofs that are checked as they are read.
 
-ghost use Rattle.std.specs.Prelude.{◌≡◌, ◌<◌, ◌≤◌, ℕ, List, [], length, true, is_some, Some, None, Err, OnOk, IfOk, IfErr, MatchResult};
+ghost use Rattle.std.specs.Prelude.{◌≡◌, ◌<◌, ◌≤◌, ℕ, List, [], length, true, if◌then◌else◌, is_some, Some, None, Err, OnOk, IfOk, IfErr, MatchResult};
 ghost use Rattle.tt_facts_path.specs.declared.path.TheConstants.{MAX_FACTS};
 ghost use Rattle.tt_leaf_rules.specs.declared.leaf.Bound.{Bound};
 ghost use Rattle.tt_text.specs.Feeds.{stream_at, fresh};
@@ -9,12 +9,12 @@ ghost use Rattle.tt_proof_read.specs.Faults.{read_failed};
 ghost use Rattle.tt_proof_read.specs.Reading.{node_at};
 ghost use Rattle.tt_proof_read.specs.Sizes.{AreSizes};
 ghost use Rattle.tt_proof_check.specs.Derives.{HoldsOfAll};
-ghost use Rattle.tt_proof_check.specs.FailedReads.{NodeIsCutOff, IsCutOff, IsJudgedUpToFailedRead, UpToFailure, BeforeFailure};
-ghost use Rattle.tt_proof_check.specs.Faults.{OutOfMemoryIsNoTextFault};
+ghost use Rattle.tt_proof_check.specs.FailedReads.{NodeIsCutOff, IsCutOff, IsCheckedUpToFailedRead, UpToFailure, BeforeFailure};
+ghost use Rattle.tt_proof_check.specs.Faults.{OutOfMemoryIsNoTextFault, is_err_and, is_failed_read};
 ghost use Rattle.tt_proof_check.specs.Visited.{Visited, Unvisited, IsVisitedProof};
 ghost use Rattle.tt_proof_check.specs.Nodes.{IsNodeOf};
 ghost use Rattle.tt_proof_check.specs.Steps.{Steps, Stops};
-ghost use Rattle.tt_proof_check.specs.Judged.{Judged, Proved, TellsNodes, ExplainsChild};
+ghost use Rattle.tt_proof_check.specs.CheckedPart.{CheckedPart, Proved, TellsNodes, ExplainsChild};
 ghost use Rattle.tt_proof_check.specs.Streams.{stream_of, IsProved, IsEnvironmental, IsProofFault};
 
 use crate::fault::CheckFault;
@@ -48,8 +48,7 @@ fn deep_fault<R: Source>(reader: &mut NodeReader, source: &mut R, node: u32) -> 
     requires sound { reader.old.fault ≡ None }
     requires room { 0 < reader.old.places }
     ensures known { StaysKnown (R.remaining source.old) (R.remaining source.new) }
-    ensures failed { result ≡ CheckFault.Text read_failed → R.has_failed source.new ≡ true }
-    ensures unfailed { ¬ (result ≡ CheckFault.Text read_failed) → R.has_failed source.new ≡ R.has_failed source.old }
+    ensures failed { R.has_failed source.new ≡ (if is_failed_read result then true else R.has_failed source.old) }
     ensures memory { OutOfMemoryIsNoTextFault result }
     ensures fault { is_some (R.remaining source.old) ≡ true →
         ExplainsChild reader.old.sizes reader.old.version reader.old.count (stream_at reader.old.fed (R.remaining source.old)) node result }
@@ -75,17 +74,16 @@ fn check_tree<'i, P: Path<'i>, R: Source, L: NodeVisitor>(
     requires place { reader.old.places ≡ 1 }
     requires sound { reader.old.fault ≡ None }
     ensures known { StaysKnown (R.remaining source.old) (R.remaining source.new) }
-    ensures judged { OnOk result (Judged (P.problem path.old) reader.old.version reader.old.bound (is_some (R.remaining source.old)) (Visited L.visits 0 visitor.old visitor.new)
+    ensures checked { OnOk result (CheckedPart (P.problem path.old) reader.old.version reader.old.bound (is_some (R.remaining source.old)) (Visited L.visits 0 visitor.old visitor.new)
         (stream_at reader.old.fed (R.remaining source.old)) (stream_at reader.new.fed (R.remaining source.new))) }
     ensures whole { OnOk result (reader.new.places ≡ 0) }
     ensures sound { OnOk result (reader.new.fault ≡ None) }
-    ensures failed { result ≡ Err (CheckFault.Text read_failed) → R.has_failed source.new ≡ true }
-    ensures unfailed { ¬ (result ≡ Err (CheckFault.Text read_failed)) → R.has_failed source.new ≡ R.has_failed source.old }
+    ensures failed { R.has_failed source.new ≡ (if is_err_and result is_failed_read then true else R.has_failed source.old) }
     ensures memory { IfErr result OutOfMemoryIsNoTextFault }
     ensures fault { is_some (R.remaining source.old) ≡ true →
         IfErr result (λ e. TellsNodes (P.problem path.old) reader.old.version reader.old.bound (stream_at reader.old.fed (R.remaining source.old)) e) }
     ensures cut_short { OnOk result (BeforeFailure reader.old.fed (R.remaining source.old) reader.new.fed (R.remaining source.new)
-        (Judged (P.problem path.old) reader.old.version reader.old.bound true Unvisited)) }
+        (CheckedPart (P.problem path.old) reader.old.version reader.old.bound true Unvisited)) }
     ensures up_to_failed_read { result ≡ Err (CheckFault.Text read_failed) → UpToFailure reader.old.fed (R.remaining source.old) (R.remaining source.new)
         (NodeIsCutOff (P.problem path.old) reader.old.version reader.old.bound) }
 {
@@ -113,8 +111,7 @@ fn check_on_path<'i, P: Path<'i>, R: Source, L: NodeVisitor>(
     requires { P.facts path.old ≡ [] }
     ensures known { StaysKnown (R.remaining source.old) (R.remaining source.new) }
     ensures proved { IfOk result (λ b. Proved (P.problem path.old) (is_some (R.remaining source.old)) (Visited L.visits 0 visitor.old visitor.new) (stream_at fresh (R.remaining source.old)) b) }
-    ensures failed { result ≡ Err (CheckFault.Text read_failed) → R.has_failed source.new ≡ true }
-    ensures unfailed { ¬ (result ≡ Err (CheckFault.Text read_failed)) → R.has_failed source.new ≡ R.has_failed source.old }
+    ensures failed { R.has_failed source.new ≡ (if is_err_and result is_failed_read then true else R.has_failed source.old) }
     ensures memory { IfErr result OutOfMemoryIsNoTextFault }
     ensures fault { is_some (R.remaining source.old) ≡ true →
         IfErr result (λ e. IsProofFault (P.problem path.old) (stream_at fresh (R.remaining source.old)) e) }
@@ -145,13 +142,12 @@ pub fn check_proof_with<R: Source, L: NodeVisitor>(
 
     // This holds for any source.
     ensures holds { IfOk result (HoldsOfAll instance.now) }
-    ensures failed { result ≡ Err (CheckFault.Text read_failed) → R.has_failed source.new ≡ true }
-    ensures unfailed { ¬ (result ≡ Err (CheckFault.Text read_failed)) → R.has_failed source.new ≡ R.has_failed source.old }
+    ensures failed { R.has_failed source.new ≡ (if is_err_and result is_failed_read then true else R.has_failed source.old) }
     ensures memory { IfErr result OutOfMemoryIsNoTextFault }
     ensures fault { IfErr result (λ e. (bytes : List ℕ) → R.remaining source.old ≡ Some bytes → IsProofFault instance.now (stream_of bytes) e) }
     // If a read fails, all the bytes before it have been checked.
     ensures up_to_failed_read { result ≡ Err (CheckFault.Text read_failed) → (bytes : List ℕ) → R.remaining source.old ≡ Some bytes →
-        IsJudgedUpToFailedRead instance.now bytes (R.remaining source.new) }
+        IsCheckedUpToFailedRead instance.now bytes (R.remaining source.new) }
 {
     // This holds for every instance: its numbers are small enough to be read.
     prove!(instance.days() > 0);
@@ -174,13 +170,12 @@ pub fn check_proof<R: Source>(
 
     // This holds for any source.
     ensures holds { IfOk result (HoldsOfAll instance.now) }
-    ensures failed { result ≡ Err (CheckFault.Text read_failed) → R.has_failed source.new ≡ true }
-    ensures unfailed { ¬ (result ≡ Err (CheckFault.Text read_failed)) → R.has_failed source.new ≡ R.has_failed source.old }
+    ensures failed { R.has_failed source.new ≡ (if is_err_and result is_failed_read then true else R.has_failed source.old) }
     ensures memory { IfErr result OutOfMemoryIsNoTextFault }
     ensures fault { IfErr result (λ e. (bytes : List ℕ) → R.remaining source.old ≡ Some bytes → IsProofFault instance.now (stream_of bytes) e) }
     // If a read fails, all the bytes before it have been checked.
     ensures up_to_failed_read { result ≡ Err (CheckFault.Text read_failed) → (bytes : List ℕ) → R.remaining source.old ≡ Some bytes →
-        IsJudgedUpToFailedRead instance.now bytes (R.remaining source.new) }
+        IsCheckedUpToFailedRead instance.now bytes (R.remaining source.new) }
 {
     check_proof_with(alloc, instance, &mut NoVisitor, source)
 }

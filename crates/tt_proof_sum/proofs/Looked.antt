@@ -16,7 +16,7 @@ use Rattle.tt_proof_sum.specs.Added.{IsPartOf, IsOfKind, Joins}
 use Rattle.tt_proof_sum.specs.Faults.{TellsAdded}
 use Rattle.tt_proof_sum.specs.Sums.{Part, TreeProof, GroupsFile}
 use Rattle.tt_proof_sum.specs.Tables.{State, begun, IsTableOf}
-use Rattle.tt_proof_sum.specs.UpToFailedRead.{IsFileJudgedUpToFailedRead}
+use Rattle.tt_proof_sum.specs.UpToFailedRead.{IsFileCheckedUpToFailedRead}
 
 -- known bytes are preserved
 pub keeps_known : (old mid : Option (List ℕ)) (bytes : List ℕ) → Keeps old mid → old ≡ Some bytes → mid ≡ Some bytes
@@ -62,6 +62,6 @@ header_broken : (s : Stream) → s ≡ stopped (Err Read) → header_at s ≡ Er
 unfolding header_at word_at token_at
 header_broken s e = rw e refl
 
-pub broken_off : (p : Problem) (before after : Option (List ℕ)) → BreaksOff before after → (bytes : List ℕ) → before ≡ Some bytes → IsFileJudgedUpToFailedRead p bytes after
+pub broken_off : (p : Problem) (before after : Option (List ℕ)) → BreaksOff before after → (bytes : List ℕ) → before ≡ Some bytes → IsFileCheckedUpToFailedRead p bytes after
 broken_off p before after b bytes e =
     inl (b.given, subst (λ (z : Option (List ℕ)). Consumes z after b.given) e b.consumed, inl (header_broken (cut_short (stream_of b.given)) b.no_token))

@@ -2,7 +2,7 @@
 use Rattle.std.specs.Prelude.{◌≡◌, ℕ, true, List, [], Option, Err, ◌⊎◌}
 use Rattle.tt_text.specs.Feeds.{Stream}
 use Rattle.tt_instance.specs.Problem.{Problem}
-use Rattle.tt_proof_check.specs.FailedReads.{HoldsOfGiven, IsJudgedUpToFailedRead}
+use Rattle.tt_proof_check.specs.FailedReads.{HoldsOfGiven, IsCheckedUpToFailedRead}
 use Rattle.tt_proof_check.specs.Streams.{sizes_of}
 use Rattle.tt_proof_read.specs.Faults.{read_failed}
 use Rattle.tt_groups_read.specs.Reading.{header_at, group_at}
@@ -15,5 +15,5 @@ abbrev pub AreGroupsCutOff : Problem → Stream → Type 0
 AreGroupsCutOff p s = (header_at s ≡ Err (Text read_failed)) ⊎ AfterClaims p [] s (λ b claims rest. group_at (sizes_of p) rest ≡ Err read_failed)
 
 -- Everything in the bytes that the source gave has been read and checked, as a tree proof or as a file of groups.
-abbrev pub IsFileJudgedUpToFailedRead : Problem → List ℕ → Option (List ℕ) → Type 0
-IsFileJudgedUpToFailedRead p bytes left = IsJudgedUpToFailedRead p bytes left ⊎ ((is_groups bytes ≡ true) × HoldsOfGiven bytes left (AreGroupsCutOff p))
+abbrev pub IsFileCheckedUpToFailedRead : Problem → List ℕ → Option (List ℕ) → Type 0
+IsFileCheckedUpToFailedRead p bytes left = IsCheckedUpToFailedRead p bytes left ⊎ ((is_groups bytes ≡ true) × HoldsOfGiven bytes left (AreGroupsCutOff p))

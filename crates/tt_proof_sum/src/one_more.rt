@@ -2,12 +2,12 @@
 
 ghost use Rattle.std.specs.Prelude.{◌≡◌, ◌+◌, ◌<◌, ℕ, List, Some, Err, true, false, IfOk, IfErr, OnOk};
 ghost use Rattle.tt_text_peek.specs.Fronts.{is_groups};
-ghost use Rattle.tt_proof_check.specs.FailedReads.{IsJudgedUpToFailedRead};
+ghost use Rattle.tt_proof_check.specs.FailedReads.{IsCheckedUpToFailedRead};
 ghost use Rattle.tt_proof_sum.specs.Added.{Joins};
 ghost use Rattle.tt_proof_sum.specs.Faults.{TellsAdded, IsNumbered, OutOfMemoryIsOneFault, read_failed_at};
 ghost use Rattle.tt_proof_sum.specs.Sums.{Part};
 ghost use Rattle.tt_proof_sum.specs.Tables.{State, IsTableOf, begun};
-ghost use Rattle.tt_proof_sum.specs.UpToFailedRead.{IsFileJudgedUpToFailedRead};
+ghost use Rattle.tt_proof_sum.specs.UpToFailedRead.{IsFileCheckedUpToFailedRead};
 
 use crate::fault::{SumFault, fault_of_proof, read_failed};
 use crate::groups::take_groups;
@@ -37,7 +37,7 @@ fn take_proof<R: Source>(
     ensures unfailed { ¬ (result ≡ Err (read_failed_at table.old.proof)) → R.has_failed source.new ≡ R.has_failed source.old }
     ensures memory { IfErr result OutOfMemoryIsOneFault }
     ensures up_to_failed_read { result ≡ Err (read_failed_at table.old.proof) → (bytes : List ℕ) → R.remaining source.old ≡ Some bytes →
-        IsJudgedUpToFailedRead instance.now bytes (R.remaining source.new) }
+        IsCheckedUpToFailedRead instance.now bytes (R.remaining source.new) }
 {
     // In every instance, the numbers are small enough to be read.
     prove!(instance.days() > 0);
@@ -73,7 +73,7 @@ pub fn take_file<R: Peek>(
     ensures unfailed { ¬ (result ≡ Err (read_failed_at (table.old.proof + 1))) → R.has_failed source.new ≡ R.has_failed source.old }
     ensures memory { IfErr result OutOfMemoryIsOneFault }
     ensures up_to_failed_read { result ≡ Err (read_failed_at (table.old.proof + 1)) → (bytes : List ℕ) → R.remaining source.old ≡ Some bytes →
-        IsFileJudgedUpToFailedRead instance.now bytes (R.remaining source.new) }
+        IsFileCheckedUpToFailedRead instance.now bytes (R.remaining source.new) }
 {
     table.begin();
     match source.peek_groups() {

@@ -6,7 +6,7 @@ ghost use Rattle.tt_proof_check.specs.Derives.{HoldsOfAll};
 ghost use Rattle.tt_proof_sum.specs.Added.{Give};
 ghost use Rattle.tt_proof_sum.specs.Faults.{IsSumFault, OutOfMemoryIsOneFault, IsSilentSum, read_failed_at, all_points};
 ghost use Rattle.tt_proof_sum.specs.Sums.{IsSum};
-ghost use Rattle.tt_proof_sum.specs.UpToFailedRead.{IsFileJudgedUpToFailedRead};
+ghost use Rattle.tt_proof_sum.specs.UpToFailedRead.{IsFileCheckedUpToFailedRead};
 
 use crate::fault::SumFault;
 use crate::summed::Sum;
@@ -38,7 +38,7 @@ pub fn sum_proofs<R: Peek>(
     ensures memory { IfErr result OutOfMemoryIsOneFault }
     // If a read failed, everything in the bytes before it has been checked.
     ensures up_to_failed_read { (i : ℕ) (r q : R) (bytes : List ℕ) → result ≡ Err (read_failed_at (i + 1)) → slice_get sources.old i ≡ Some r → slice_get sources.new i ≡ Some q →
-        R.remaining r ≡ Some bytes → IsFileJudgedUpToFailedRead instance.now bytes (R.remaining q) }
+        R.remaining r ≡ Some bytes → IsFileCheckedUpToFailedRead instance.now bytes (R.remaining q) }
 {
     // In every instance, the numbers are small enough to be read.
     prove!(instance.days() > 0);

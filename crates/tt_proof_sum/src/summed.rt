@@ -4,7 +4,7 @@ ghost use Rattle.std.specs.Prelude.{◌≡◌, ◌+◌, ◌<◌, ◌≤◌, ◌^
 ghost use Rattle.tt_proof_sum.specs.Added.{IsSumOf, Adds, due};
 ghost use Rattle.tt_proof_sum.specs.Faults.{TellsAdded, IsNumbered, OutOfMemoryIsOneFault, IsSilentSum, read_failed_at, points, all_points};
 ghost use Rattle.tt_proof_sum.specs.Sums.{Part, IsPart, AreApart, both_bounds, sum_of};
-ghost use Rattle.tt_proof_sum.specs.UpToFailedRead.{IsFileJudgedUpToFailedRead};
+ghost use Rattle.tt_proof_sum.specs.UpToFailedRead.{IsFileCheckedUpToFailedRead};
 
 use crate::fault::SumFault;
 use crate::one_more::take_file;
@@ -73,7 +73,7 @@ impl Sum {
         ensures memory { IfErr result OutOfMemoryIsOneFault }
         // If a read failed, everything in the bytes before it has been checked.
         ensures up_to_failed_read { result ≡ Err (read_failed_at (due self)) → (bytes : List ℕ) → R.remaining source.old ≡ Some bytes →
-            IsFileJudgedUpToFailedRead instance.now bytes (R.remaining source.new) }
+            IsFileCheckedUpToFailedRead instance.now bytes (R.remaining source.new) }
     {
         // In every instance, the numbers are small enough to be read.
         prove!(instance.days() > 0);

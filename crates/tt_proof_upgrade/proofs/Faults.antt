@@ -1,10 +1,11 @@
 -- The faults of the nodes of a tree.
-use Rattle.std.proofs.Common.{◌≡◌, ℕ, ◌≤◌, ◌<◌, List, [], length, Some, sym, ap, ◌∙◌, subst, arith}
+use Rattle.std.proofs.Common.{◌≡◌, refl, Bool, false, ℕ, ◌≤◌, ◌<◌, List, [], length, Some, sym, ap, ◌∙◌, subst, arith}
 use Rattle.std.specs.Prelude.{slice_get}
 use Rattle.std.proofs.lemmas.Option.{slice_get_within}
 use Rattle.tt_text.specs.declared.feed.FeedFault.TheVariants as feed
 use Rattle.tt_instance.specs.Problem.{Problem}
 use Rattle.tt_leaf_rules.specs.declared.leaf.Bound.{Bound}
+use Rattle.tt_proof_read.specs.Faults as read
 use Rattle.tt_proof_read.specs.Trees.{Tree, preorder, OnPath, on_paths, IsPreorder}
 use Rattle.tt_proof_read.specs.declared.fault.TextFault.{TextFault}
 use Rattle.tt_proof_read.specs.declared.fault.TextFault.TheVariants as text
@@ -14,7 +15,7 @@ use Rattle.tt_proof_check.specs.declared.fault.CheckFault.TheVariants as check
 use Rattle.tt_proof_check.specs.declared.fault.NodesFault.{NodesFault}
 use Rattle.tt_proof_check.specs.declared.fault.NodesFault.TheVariants.{NotATree, Rule, TooDeep, OutOfMemory}
 use Rattle.tt_proof_check.proofs.Reading.{root, length-places_of, whole_places, whole_stack}
-use Rattle.tt_proof_upgrade.specs.Faults.{fault_from_text, read_failed, IsOfNode, IsFaultOfNode, IsNodesFault, IsWriteFault, OutOfMemoryIsOneFault}
+use Rattle.tt_proof_upgrade.specs.Faults.{fault_from_text, read_failed, is_failed_read, IsOfNode, IsFaultOfNode, IsNodesFault, IsWriteFault, OutOfMemoryIsOneFault}
 use Rattle.tt_proof_upgrade.specs.declared.fault.UpgradeFault.{UpgradeFault}
 use Rattle.tt_proof_upgrade.specs.declared.fault.UpgradeFault.TheVariants as upgrade
 
@@ -53,6 +54,25 @@ read_told (text.TrailingToken at) e = cc
 read_told (text.TooManyNodes at) e = cc
 read_told (text.Feed f) e = cc
 read_told text.OutOfMemory e = cc
+
+-- a fault made from a fault of the text is a failed read exactly if that fault is one
+pub text_read : (f : TextFault) → is_failed_read (fault_from_text f) ≡ read.is_failed_read f
+text_read text.OutOfMemory = refl
+text_read f = refl
+
+-- a fault of a node, or one of writing, is no failed read
+pub nodes_read : (p : Problem) (b : Bound) (nodes : List Node) (f : UpgradeFault) → IsNodesFault p b nodes f → is_failed_read f ≡ false
+nodes_read p b nodes (upgrade.Proof (check.Text f)) t = absurd t
+nodes_read p b nodes (upgrade.Proof (check.Rule i f)) t = refl
+nodes_read p b nodes (upgrade.Proof (check.TooDeep i)) t = refl
+nodes_read p b nodes (upgrade.Proof check.OutOfMemory) t = absurd t
+nodes_read p b nodes upgrade.TooLarge t = absurd t
+nodes_read p b nodes upgrade.OutOfMemory t = refl
+
+pub write_read : (b : Bound) (nodes : List Node) (f : UpgradeFault) → IsWriteFault b nodes f → is_failed_read f ≡ false
+write_read b nodes (upgrade.Proof f) t = absurd t
+write_read b nodes upgrade.TooLarge t = refl
+write_read b nodes upgrade.OutOfMemory t = refl
 
 -- being out of memory is reported as such
 pub memory_text : (f : TextFault) → OutOfMemoryIsOneFault (fault_from_text f)

@@ -28,7 +28,7 @@ use Rattle.tt_proof_check.specs.Streams as checked
 use Rattle.tt_proof_check.specs.Explains.{FailsAt, IsDeepAt}
 use Rattle.tt_proof_check.specs.declared.fault.CheckFault.TheVariants as check
 use Rattle.tt_proof_check.proofs.Determined.{begins_whole, same_header, compare}
-use Rattle.tt_proof_check.proofs.Judging.{tree_passes, never_fails, never_deep}
+use Rattle.tt_proof_check.proofs.InOrder.{tree_passes, never_fails, never_deep}
 use Rattle.tt_proof_check.proofs.Sizes.{are_sizes_of}
 use Rattle.tt_proof_check.proofs.TextFaults.{fails_silently}
 use Rattle.tt_proof_check.proofs.Texts.{node_silent, end_silent}

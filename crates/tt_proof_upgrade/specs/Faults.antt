@@ -1,5 +1,5 @@
 -- How the faults of the layers are reported.
-use Rattle.std.specs.Prelude.{◌≡◌, ◌<◌, ◌^◌, List, ⊤}
+use Rattle.std.specs.Prelude.{◌≡◌, ◌<◌, ◌^◌, Bool, false, List, ⊤}
 use Rattle.tt_text.specs.declared.feed.FeedFault.TheVariants as feed
 use Rattle.tt_instance.specs.Problem.{Problem}
 use Rattle.tt_leaf_rules.specs.declared.leaf.Bound.{Bound}
@@ -7,6 +7,7 @@ use Rattle.tt_proof_read.specs.Trees.{Tree, preorder}
 use Rattle.tt_proof_read.specs.declared.fault.TextFault.{TextFault}
 use Rattle.tt_proof_read.specs.declared.fault.TextFault.TheVariants as text
 use Rattle.tt_proof_read.specs.declared.node.Node.{Node}
+use Rattle.tt_proof_check.specs.Faults as checks
 use Rattle.tt_proof_check.specs.Faults.{OutOfMemoryIsNoTextFault}
 use Rattle.tt_proof_check.specs.Explains.{FailsAt, IsDeepAt}
 use Rattle.tt_proof_check.specs.declared.fault.CheckFault.TheVariants as check
@@ -43,6 +44,11 @@ IsWriteFault b nodes OutOfMemory = ⊤
 -- A read of the proof failed.
 abbrev pub read_failed : UpgradeFault
 read_failed = Proof (check.Text (text.Feed feed.Read))
+
+-- Whether the fault is a failed read of the proof.
+abbrev pub is_failed_read : UpgradeFault → Bool
+is_failed_read (Proof f) = checks.is_failed_read f
+is_failed_read _ = false
 
 -- The first node that doesn't pass is reported.
 abbrev pub IsNodesFault : Problem → Bound → List Node → UpgradeFault → Type 0

@@ -1,16 +1,17 @@
 //! Proofs that are written again.
 
-ghost use Rattle.std.specs.Prelude.{◌≡◌, ◌≤◌, List, ℕ, length, All, true, Some, Err, IfOk, IfErr, OnOk, MatchResult};
+ghost use Rattle.std.specs.Prelude.{◌≡◌, ◌≤◌, List, ℕ, length, All, true, if◌then◌else◌, Some, Err, IfOk, IfErr, OnOk, MatchResult};
 ghost use Rattle.tt_leaf_rules.specs.declared.leaf.Bound.{Bound};
 ghost use Rattle.tt_proof_read.specs.declared.format.TheConstants.{MAX_PROOF_NODES};
 ghost use Rattle.tt_proof_check.specs.Derives.{HoldsOfAll, Proves};
+ghost use Rattle.tt_proof_check.specs.Faults.{is_err_and};
 ghost use Rattle.tt_proof_read.specs.Spelling.{IsNode, SpellsProof};
 ghost use Rattle.tt_proof_read.specs.Trees.{Tree, preorder, IsPreorder};
 ghost use Rattle.tt_proof_check.specs.Nodes.{IsNodeOf};
 ghost use Rattle.tt_proof_check.specs.Streams.{IsProved, stream_of};
 ghost use Rattle.tt_proof_text.specs.Within.{Writes};
 ghost use Rattle.tt_instance.specs.Problem.{Problem};
-ghost use Rattle.tt_proof_upgrade.specs.Faults.{read_failed, IsNodesFault, IsWriteFault, OutOfMemoryIsOneFault};
+ghost use Rattle.tt_proof_upgrade.specs.Faults.{read_failed, is_failed_read, IsNodesFault, IsWriteFault, OutOfMemoryIsOneFault};
 ghost use Rattle.tt_proof_upgrade.specs.Texts.{IsReadUpToFailedRead};
 ghost use Rattle.tt_proof_upgrade.specs.Upgrades.{IsUpgraded, IsEnvironmental, IsUpgradeFault};
 
@@ -86,8 +87,7 @@ pub fn upgrade<R: Source>(
     // This holds for any bytes that the source gives.
     ensures holds { IfOk result (λ u. HoldsOfAll instance.now u.bound) }
     // A failed read is reported exactly if a read failed.
-    ensures failed { result ≡ Err read_failed → R.has_failed source.new ≡ true }
-    ensures unfailed { ¬ (result ≡ Err read_failed) → R.has_failed source.new ≡ R.has_failed source.old }
+    ensures failed { R.has_failed source.new ≡ (if is_err_and result is_failed_read then true else R.has_failed source.old) }
     ensures fault { IfErr result (λ f. (bytes : List ℕ) → R.remaining source.old ≡ Some bytes → IsUpgradeFault instance.now (stream_of bytes) f) }
     // If a read fails, everything in the bytes before it has been read.
     ensures up_to_failed_read { result ≡ Err read_failed → (bytes : List ℕ) → R.remaining source.old ≡ Some bytes →

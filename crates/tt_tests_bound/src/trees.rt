@@ -333,7 +333,7 @@ fn numbers_and_ends_that_are_wrong(rt: HostRuntime) -> Result<(), Fail> {
 }
 
 #[test]
-fn a_leaf_is_judged_before_the_next_read(rt: HostRuntime) -> Result<(), Fail> {
+fn a_leaf_is_checked_before_the_next_read(rt: HostRuntime) -> Result<(), Fail> {
     let file = StoredFile {
         path: "a.cttp",
         bytes: b"CTTP 1 bound 1 E c0 * d0 p0 ",

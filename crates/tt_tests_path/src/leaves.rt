@@ -54,7 +54,7 @@ fn both_claims(alloc: Global) -> Result<Leaf, AllocError>
 }
 
 /// Returns the result of checking the leaf of both claims; `None` if the instance has no such course or curriculum.
-fn both_judged<'i, P: Path<'i>>(
+fn both_checked<'i, P: Path<'i>>(
     alloc: Global,
     path: &P,
     bound: Bound,
@@ -95,14 +95,14 @@ fn pinned_verdicts<'i, P: Path<'i>>(
     let value = both_value(alloc, path)?;
     Ok(Some(Verdicts {
         values: (seats_value(path), gaps_value(path), value),
-        at_five: both_judged(alloc, path, Bound::AtLeast(5))?,
-        at_six: both_judged(alloc, path, Bound::AtLeast(6))?,
-        at_nothing: both_judged(alloc, path, Bound::Nothing)?,
+        at_five: both_checked(alloc, path, Bound::AtLeast(5))?,
+        at_six: both_checked(alloc, path, Bound::AtLeast(6))?,
+        at_nothing: both_checked(alloc, path, Bound::Nothing)?,
     }))
 }
 
 /// Returns the result of checking a leaf that has the claim of seats of the second course twice; `None` if there is no such course.
-fn twice_judged<'i, P: Path<'i>>(
+fn twice_checked<'i, P: Path<'i>>(
     alloc: Global,
     path: &P,
     bound: Bound,
@@ -139,7 +139,7 @@ fn days_alone(alloc: Global) -> Result<Leaf, AllocError>
 }
 
 /// Returns the result of checking the leaf of working days; `None` if there is no course.
-fn days_judged<'i, P: Path<'i>>(
+fn days_checked<'i, P: Path<'i>>(
     alloc: Global,
     path: &P,
     bound: Bound,
@@ -152,7 +152,7 @@ fn days_judged<'i, P: Path<'i>>(
 }
 
 /// Returns the result of checking a Many leaf of the first course; `None` if there is no course.
-fn many_judged<'i, P: Path<'i>>(path: &P) -> Option<Result<(), RuleFault>> {
+fn many_checked<'i, P: Path<'i>>(path: &P) -> Option<Result<(), RuleFault>> {
     if path.instance().courses() == 0 {
         return None;
     }
@@ -160,7 +160,7 @@ fn many_judged<'i, P: Path<'i>>(path: &P) -> Option<Result<(), RuleFault>> {
 }
 
 /// Returns the result of checking an Empty leaf of the first course in the first period; `None` if the instance has no such cell.
-fn empty_judged<'i, P: Path<'i>>(path: &P) -> Option<Result<(), RuleFault>> {
+fn empty_checked<'i, P: Path<'i>>(path: &P) -> Option<Result<(), RuleFault>> {
     let instance = path.instance();
     if instance.courses() == 0 || instance.days() == 0 || instance.periods() == 0 {
         return None;
@@ -178,9 +178,9 @@ fn empty_judged<'i, P: Path<'i>>(path: &P) -> Option<Result<(), RuleFault>> {
 fn emptied<'i, P: Path<'i>>(
     path: &mut P,
 ) -> (Option<Result<(), RuleFault>>, Option<Result<(), RuleFault>>) {
-    let before = empty_judged(path);
+    let before = empty_checked(path);
     let _pinned = pushed(path, fact_in_period(Who::Course(0), 0, true));
-    (before, empty_judged(path))
+    (before, empty_checked(path))
 }
 
 /// A leaf of a list of courses.
@@ -191,7 +191,7 @@ enum List {
 }
 
 /// Returns the result of checking a leaf of some courses; `None` if one of them doesn't exist.
-fn list_judged<'i, P: Path<'i>>(
+fn list_checked<'i, P: Path<'i>>(
     alloc: Global,
     path: &P,
     list: List,
@@ -210,14 +210,14 @@ fn list_judged<'i, P: Path<'i>>(
 }
 
 /// Returns the results of checking a Clique of the second course on an empty path, and after a no-fact and a yes-fact have left it no period.
-fn clique_judged<'i, P: Path<'i>>(
+fn clique_checked<'i, P: Path<'i>>(
     alloc: Global,
     path: &mut P,
 ) -> Result<(Option<Result<(), RuleFault>>, Option<Result<(), RuleFault>>), AllocError> {
-    let before = list_judged(alloc, path, List::Clique, &[1])?;
+    let before = list_checked(alloc, path, List::Clique, &[1])?;
     let _barred = pushed(path, fact_in_period(Who::Curriculum(0), 0, false));
     let _taken = pushed(path, fact_of(Who::Course(0), true));
-    let after = list_judged(alloc, path, List::Clique, &[1])?;
+    let after = list_checked(alloc, path, List::Clique, &[1])?;
     Ok((before, after))
 }
 
@@ -249,15 +249,15 @@ fn ask<'i, P: Path<'i>>(
     match question {
         Question::Pinned => Ok(Told::Pinned(pinned_verdicts(alloc, path)?)),
         Question::Courses(list, courses) => {
-            Ok(Told::Courses(list_judged(alloc, path, list, courses)?))
+            Ok(Told::Courses(list_checked(alloc, path, list, courses)?))
         }
         Question::OneCourse => {
-            let (before, after) = clique_judged(alloc, path)?;
+            let (before, after) = clique_checked(alloc, path)?;
             Ok(Told::Before(before, after))
         }
-        Question::Twice => Ok(Told::Courses(twice_judged(alloc, path, Bound::AtLeast(2))?)),
-        Question::Days(bound) => Ok(Told::Courses(days_judged(alloc, path, bound)?)),
-        Question::Many => Ok(Told::Courses(many_judged(path))),
+        Question::Twice => Ok(Told::Courses(twice_checked(alloc, path, Bound::AtLeast(2))?)),
+        Question::Days(bound) => Ok(Told::Courses(days_checked(alloc, path, bound)?)),
+        Question::Many => Ok(Told::Courses(many_checked(path))),
         Question::Emptied => {
             let (before, after) = emptied(path);
             Ok(Told::Before(before, after))

@@ -4,7 +4,7 @@ ghost use Rattle.std.specs.Prelude.{◌≡◌, ℕ, List, Some, Err, true, IfOk,
 ghost use Rattle.tt_instance.specs.Problem.{Problem};
 ghost use Rattle.tt_instance.specs.Spelling.{Spells};
 ghost use Rattle.tt_leaf_rules.specs.declared.leaf.Bound.{Bound};
-ghost use Rattle.tt_proof_check.specs.FailedReads.{IsSpelledAndJudgedUpToFailedRead};
+ghost use Rattle.tt_proof_check.specs.FailedReads.{IsSpelledAndCheckedUpToFailedRead};
 ghost use Rattle.tt_proof_check.specs.Streams.{IsProved};
 ghost use Rattle.tt_app.specs.Checked.{read_failed};
 ghost use Rattle.tt_app.specs.Bounded.{IsBounded, IsBoundAnswer, IsBoundRefusal, AnswersBound, IsOfInstance};
@@ -47,7 +47,7 @@ pub fn bound<R: Source>(alloc: Global, instance: &[u8], proof: &mut R) -> Result
     ensures unfailed { ¬ (result ≡ Err read_failed) → R.has_failed proof.new ≡ R.has_failed proof.old }
     // If a failed read is reported, all the bytes of the proof before it have been checked.
     ensures up_to_failed_read { result ≡ Err read_failed → (bytes : List ℕ) → R.remaining proof.old ≡ Some bytes →
-        IsSpelledAndJudgedUpToFailedRead instance.now bytes (R.remaining proof.new) }
+        IsSpelledAndCheckedUpToFailedRead instance.now bytes (R.remaining proof.new) }
     // Being out of memory is always the same error, regardless of its source.
     ensures memory { IfErr result OutOfMemoryIsOneFault }
 {

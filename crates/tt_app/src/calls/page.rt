@@ -15,7 +15,7 @@ ghost use Rattle.tt_table.specs.Spelling.{SpellsBoth};
 ghost use Rattle.tt_app.specs.FaultMaps.{OutOfMemoryIsOneFault};
 ghost use Rattle.tt_app.specs.Paged.{labels_for, IsBeforeProofs, IsPaged, IsPageRefusal, IsProvedPaged, IsProvedPageRefusal, IsSilentOrUnwritable};
 ghost use Rattle.tt_app.specs.Reported.{IsUnwritten};
-ghost use Rattle.tt_app.specs.Summed.{IsSpelledAndFileJudgedUpToFailedRead, read_failed_at};
+ghost use Rattle.tt_app.specs.Summed.{IsSpelledAndFileCheckedUpToFailedRead, read_failed_at};
 ghost use Rattle.tt_app.specs.declared.fault.AppFault.TheVariants as fault;
 
 use crate::fault::AppFault;
@@ -110,7 +110,7 @@ pub fn proved_page<R: Peek, W: Sink>(
         slice_get proofs.new i ≡ Some q → R.has_failed q ≡ R.has_failed r }
     // If a failed read is reported, all the bytes of its proof before it have been checked.
     ensures up_to_failed_read { (i : ℕ) (r q : R) (bytes : List ℕ) → result ≡ Err (read_failed_at (i + 1)) → slice_get proofs.old i ≡ Some r →
-        slice_get proofs.new i ≡ Some q → R.remaining r ≡ Some bytes → IsSpelledAndFileJudgedUpToFailedRead instance.now bytes (R.remaining q) }
+        slice_get proofs.new i ≡ Some q → R.remaining r ≡ Some bytes → IsSpelledAndFileCheckedUpToFailedRead instance.now bytes (R.remaining q) }
     // Being out of memory is always the same error, regardless of its source.
     ensures memory { IfErr result OutOfMemoryIsOneFault }
 {

@@ -8,7 +8,7 @@ ghost use Rattle.tt_proof_sum.specs.Added.{Give};
 ghost use Rattle.tt_proof_sum.specs.Faults.{IsSumFault, all_points};
 ghost use Rattle.tt_proof_sum.specs.Sums.{IsSum};
 ghost use Rattle.tt_app.specs.Bounded.{IsOfInstance};
-ghost use Rattle.tt_app.specs.Summed.{IsSpelledAndFileJudgedUpToFailedRead, IsSummed, IsSumRefusal, AnswersSum, read_failed_at};
+ghost use Rattle.tt_app.specs.Summed.{IsSpelledAndFileCheckedUpToFailedRead, IsSummed, IsSumRefusal, AnswersSum, read_failed_at};
 ghost use Rattle.tt_app.specs.FaultMaps.{OutOfMemoryIsOneFault};
 
 use crate::answer::Answer;
@@ -50,7 +50,7 @@ pub fn sum<R: Peek>(alloc: Global, instance: &[u8], proofs: &mut [R]) -> Result<
         R.has_failed q ≡ R.has_failed r }
     // If a failed read is reported, all the bytes of its proof before it have been checked.
     ensures up_to_failed_read { (i : ℕ) (r q : R) (bytes : List ℕ) → result ≡ Err (read_failed_at (i + 1)) → slice_get proofs.old i ≡ Some r →
-        slice_get proofs.new i ≡ Some q → R.remaining r ≡ Some bytes → IsSpelledAndFileJudgedUpToFailedRead instance.now bytes (R.remaining q) }
+        slice_get proofs.new i ≡ Some q → R.remaining r ≡ Some bytes → IsSpelledAndFileCheckedUpToFailedRead instance.now bytes (R.remaining q) }
     // Being out of memory is always the same error, regardless of its source.
     ensures memory { IfErr result OutOfMemoryIsOneFault }
 {

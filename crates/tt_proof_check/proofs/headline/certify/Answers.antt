@@ -1,9 +1,9 @@
-use Rattle.std.proofs.Common.{◌≡◌, Err, refl, sym, ap, subst, ◌∙◌}
+use Rattle.std.proofs.Common.{◌≡◌, true, if◌then◌else◌, Err, refl, sym, ap, subst, ◌∙◌}
 use Rattle.std.proofs.lemmas.Result.{err_from_is_err_and}
-use Rattle.tt_proof_check.specs.Verdicts.{IsYes, read_failed, fault_from_instance, fault_from_solution}
-use Rattle.tt_proof_check.proofs.TextFaults.{err_same}
+use Rattle.tt_proof_check.specs.Verdicts.{IsYes, read_failed, is_failed_read, fault_from_instance, fault_from_solution}
+use Rattle.tt_proof_check.proofs.TextFaults.{err_same, same_reads}
 use Rattle.tt_proof_check.proofs.Files.{tells_instance, tells_solution}
-use Rattle.tt_proof_check.proofs.Certifying.{memory_instance, memory_solution, certified_memory, broken_memory, points, no_points, not_certified, broken_found, is_feasible, not_broken, bound_tells, certified_proof, certified_cost, yes_found, not_read_instance, not_read_solution, exactly_certified, certified_bounds}
+use Rattle.tt_proof_check.proofs.Certifying.{memory_instance, memory_solution, instance_reads, solution_reads, certified_memory, broken_memory, points, no_points, not_certified, broken_found, is_feasible, not_broken, bound_tells, certified_proof, certified_cost, yes_found, not_read_instance, not_read_solution, exactly_certified, certified_bounds}
 use Rattle.tt_proof_check.proofs.headline.certify.Goals as goal
 
 pub returns-in_err-instance-clause-yes : goal.returns-in_err-instance-clause-yes
@@ -107,7 +107,7 @@ pub returns-in_err-bound-clause-exactly : goal.returns-in_err-bound-clause-exact
 returns-in_err-bound-clause-exactly g c =
     let e = err_from_is_err_and c.from_residual-in_err-bound.result c.from_residual-in_err-bound.ensures.1 in
     rw (e.1, e.2) (λ n b bytes known reads memory.
-    exactly_certified c.args.instance.now c.args.solution.now (g.R.Source.remaining c.args.proof.now) (Err c.in_err-bound.field-0.0) _ bytes known (λ is. c.in_err-bound.ensures.failed (let same : c.in_err-bound.field-0.0 ≡ read_failed = cc in ap (λ f. Err f) same)) tt
+    exactly_certified c.args.instance.now c.args.solution.now (g.R.Source.remaining c.args.proof.now) (Err c.in_err-bound.field-0.0) _ bytes known (λ is. c.in_err-bound.ensures.failed ∙ (let same : c.in_err-bound.field-0.0 ≡ read_failed = cc in ap (λ f. if is_failed_read f then true else g.R.Source.has_failed c.args.proof.now) same)) tt
     (λ m k h. c.in_err-bound.ensures.only bytes k known (certified_proof c.args.instance.now c.args.solution.now c.in_ok-instance.instance c.in_ok-table.table c.in_ok-instance.ensures.found c.in_ok-table.ensures.found c.score-score.result c.score-score.ensures bytes m k h)) n b reads memory)
 
 pub returns-clause-exactly : goal.returns-clause-exactly
@@ -118,3 +118,17 @@ returns-clause-exactly g c =
 pub returns-clause-bounds : goal.returns-clause-bounds
 returns-clause-bounds g c =
     λ n b is. certified_bounds c.args.instance.now c.args.solution.now (g.R.Source.remaining c.args.proof.now) _ (returns-clause-found g c) n b is
+
+pub returns-in_err-instance-clause-failed : goal.returns-in_err-instance-clause-failed
+returns-in_err-instance-clause-failed g c =
+    let e = err_from_is_err_and c.from_residual.result c.from_residual.ensures.1 in
+    rw (e.1, e.2) (instance_reads c.in_err-instance.field-0.0 _)
+
+pub returns-in_err-table-clause-failed : goal.returns-in_err-table-clause-failed
+returns-in_err-table-clause-failed g c =
+    let e = err_from_is_err_and c.from_residual-in_err-table.result c.from_residual-in_err-table.ensures.1 in
+    rw (e.1, e.2) (solution_reads c.in_err-table.field-0.0 _)
+
+pub returns-in_err-bound-clause-failed : goal.returns-in_err-bound-clause-failed
+returns-in_err-bound-clause-failed g c =
+    same_reads c.from_residual-in_err-bound.result c.in_err-bound.field-0.0 is_failed_read _ _ _ c.from_residual-in_err-bound.ensures.1 c.in_err-bound.ensures.failed refl

@@ -3,7 +3,7 @@ use Rattle.std.proofs.lemmas.Result.{err_from_is_err_and}
 use Rattle.tt_leaf_rules.specs.declared.leaf.Bound.TheVariants.{AtLeast}
 use Rattle.tt_proof_check.specs.Verdicts.{read_failed}
 use Rattle.tt_proof_check.proofs.TextFaults.{err_same}
-use Rattle.tt_proof_check.proofs.Certifying.{silent_told, memory_check, read_checked}
+use Rattle.tt_proof_check.proofs.Certifying.{silent_told, memory_check, read_checked, check_reads}
 use Rattle.tt_proof_check.proofs.headline.proved_bound.Goals as goal
 
 pub returns-in_err-bound-clause-only : goal.returns-in_err-bound-clause-only
@@ -19,3 +19,8 @@ pub returns-in_err-bound-clause-memory : goal.returns-in_err-bound-clause-memory
 returns-in_err-bound-clause-memory g c =
     let e = err_from_is_err_and c.from_residual.result c.from_residual.ensures.1 in
     rw (e.1, e.2) (memory_check c.in_err-bound.field-0.0 c.in_err-bound.ensures.memory)
+
+pub returns-in_err-bound-clause-failed : goal.returns-in_err-bound-clause-failed
+returns-in_err-bound-clause-failed g c =
+    let e = err_from_is_err_and c.from_residual.result c.from_residual.ensures.1 in
+    rw (e.1, e.2) (check_reads c.in_err-bound.field-0.0 _ _ c.in_err-bound.ensures.failed)

@@ -8,11 +8,11 @@ use Rattle.tt_proof_check.specs.declared.fault.CheckFault.TheVariants.{Text}
 use Rattle.tt_proof_check.specs.declared.walk.Stop.TheVariants.{Rule, TooDeep}
 use Rattle.tt_proof_check.specs.Faults.{OutOfMemoryIsNoTextFault}
 use Rattle.tt_proof_check.specs.Visited.{Visited, Unvisited}
-use Rattle.tt_proof_check.specs.Judged.{TellsNodes}
+use Rattle.tt_proof_check.specs.CheckedPart.{TellsNodes}
 use Rattle.tt_proof_check.specs.Nodes.{IsNodeOf}
 use Rattle.tt_proof_check.proofs.Nodes.{node_numbers}
 use Rattle.tt_proof_check.proofs.Streaming.{sofar_start, sofar_next, sofar_wrong, sofar_deep, sofar_end, sofar_unread, sofar_breaks, sofar_deep_breaks, visited_push}
-use Rattle.tt_proof_check.proofs.TextFaults.{memory_text, err_gives, err_read}
+use Rattle.tt_proof_check.proofs.TextFaults.{memory_text, err_gives, err_read, err_reads}
 use Rattle.tt_proof_check.proofs.Walking.{steps_as, stops_as}
 use Rattle.tt_proof_check.proofs.stream.check_tree.Goals as goal
 
@@ -140,8 +140,8 @@ returns-in-Err-TooDeep-clause-fault g c =
     sofar_deep p v b known _ s old t path inv.sofar new u n (e.goes inv.sofar.sound) (λ j. e.says inv.sofar.sound (inv.known j)) c.loop-node.count c.deep_fault.result inv.count
     (stops_as _ p c.bound-bound.result b path n TooDeep inv.problem c.bound-bound.ensures taken.stops) k (c.deep_fault.ensures.fault (e.known (inv.known k)))
 
-pub returns-clause-judged : goal.returns-clause-judged
-returns-clause-judged g c =
+pub returns-clause-checked : goal.returns-clause-checked
+returns-clause-checked g c =
     let e = rw c.in_default.is at c.in_ok-node.ensures in
     let inv = c.loop-node.invariant in
     let p = g.P.Path.problem c.args.path.now in
@@ -205,3 +205,9 @@ pub returns-in_err-node-clause-memory : goal.returns-in_err-node-clause-memory
 returns-in_err-node-clause-memory g c =
     let f = c.in_err-node.field-0.0 in
     err_gives c.from_residual.result f OutOfMemoryIsNoTextFault c.from_residual.ensures.1 (memory_text f)
+
+pub returns-in_err-node-clause-failed : goal.returns-in_err-node-clause-failed
+returns-in_err-node-clause-failed g c =
+    let e = c.in_err-node.ensures in
+    let inv = c.loop-node.invariant in
+    err_reads c.from_residual.result c.in_err-node.field-0.0 _ _ c.from_residual.ensures.1 (λ is. e.failed inv.sofar.sound (ap (λ x. Err x) is)) (λ no. e.unfailed inv.sofar.sound no ∙ inv.unfailed)

@@ -2,7 +2,7 @@ use Rattle.std.proofs.Common.{◌≡◌, ◌+◌, ◌≤◌, length, get_or, Err
 use Rattle.std.proofs.lemmas.Result.{err_from_is_err_and}
 use Rattle.tt_proof_check.proofs.TextFaults.{err_same}
 use Rattle.tt_proof_check.specs.Derives.{HoldsOfAll}
-use Rattle.tt_proof_sum.specs.UpToFailedRead.{IsFileJudgedUpToFailedRead}
+use Rattle.tt_proof_sum.specs.UpToFailedRead.{IsFileCheckedUpToFailedRead}
 use Rattle.tt_leaf_rules.specs.declared.leaf.Bound.{Bound}
 use Rattle.tt_proof_sum.specs.Added.{due}
 use Rattle.tt_proof_sum.specs.Faults.{IsNumbered, read_failed_at}
@@ -72,7 +72,7 @@ returns-in_err-sum-2-clause-up_to_failed_read g c =
     let place : i ≡ c.loop-source.source-index = omega (arith, number, here) in
     let at = at_source c.args.instance.now g.R.Source.remaining g.R.Source.has_failed c.args.sources.now c.loop-source.source-items c.loop-source.source-index s (get_or c.loop-source.source-items c.loop-source.source-index c.source-item.result) c.add.new.source c.loop-source-test.true
     c.loop-source.invariant.long (ap (get_or c.loop-source.source-items c.loop-source.source-index) c.source-item.is) c.loop-source.invariant.sofar i r q place before after in
-    subst (λ x. IsFileJudgedUpToFailedRead c.args.instance.now bytes (g.R.Source.remaining x)) (sym at.is)
+    subst (λ x. IsFileCheckedUpToFailedRead c.args.instance.now bytes (g.R.Source.remaining x)) (sym at.is)
     (c.in_err-sum-2.ensures.up_to_failed_read (ap (λ (x : SumFault). Err x) (is ∙ ap read_failed_at number)) bytes (ap g.R.Source.remaining at.was ∙ known))
 
 pub loop-source-preserved : goal.loop-source-preserved

@@ -4,7 +4,7 @@ use Rattle.tt_text.specs.Feeds.{stream_at}
 use Rattle.tt_text.specs.CutShort.{cut_at}
 use Rattle.tt_proof_read.specs.Faults.{read_failed, is_failed_read}
 use Rattle.tt_proof_read.specs.Readers.{Reader}
-use Rattle.tt_proof_check.proofs.TextFaults.{err_same}
+use Rattle.tt_proof_check.proofs.TextFaults.{err_same, text_reads, same_reads}
 use Rattle.tt_proof_upgrade.proofs.Collected.{collected_start, collected_next, collected_end, collected_breaks, collected_breaks_off}
 use Rattle.tt_proof_upgrade.proofs.reading.collect.Goals as goal
 
@@ -90,3 +90,10 @@ returns-in_err-node-clause-up_to_failed_read g c =
     let here = e.cut_short inv.sofar.sound (inv.known k) (ap is_failed_read is) in
     let first = inv.failing k _ here.0 in
     (first.0, collected_breaks_off _ _ true _ c.loop-nodes.reader _ c.loop-nodes.nodes.items first.1 (e.goes inv.sofar.sound).0 refl (here.1 ∙ ap (λ x. Err x) is))
+
+pub returns-in_err-node-clause-failed : goal.returns-in_err-node-clause-failed
+returns-in_err-node-clause-failed g c =
+    let e = c.in_err-node.ensures in
+    let f = c.in_err-node.field-0.0 in
+    let inv = c.loop-nodes.invariant in
+    same_reads c.from_residual.result f is_failed_read _ _ _ c.from_residual.ensures.1 (text_reads f _ _ (λ is. e.failed inv.sofar.sound (ap (λ x. Err x) is)) (e.unfailed inv.sofar.sound)) inv.unfailed

@@ -1,4 +1,4 @@
-use Rattle.std.proofs.Common.{Err, ap, subst, sym, ◌∙◌}
+use Rattle.std.proofs.Common.{true, if◌then◌else◌, Err, refl, ap, subst, sym, ◌∙◌}
 use Rattle.std.proofs.lemmas.Result.{err_from_is_err_and}
 use Rattle.std.specs.Prelude.{All}
 use Rattle.tt_proof_read.specs.Spelling.{IsNode}
@@ -7,9 +7,9 @@ use Rattle.tt_proof_check.specs.Nodes.{IsNodeOf}
 use Rattle.tt_proof_check.specs.Streams.{stream_of}
 use Rattle.tt_proof_check.proofs.Nodes.{node_numbers}
 use Rattle.tt_proof_check.proofs.Soundness.{proof_sound}
-use Rattle.tt_proof_check.proofs.TextFaults.{err_same}
-use Rattle.tt_proof_upgrade.specs.Faults.{read_failed}
-use Rattle.tt_proof_upgrade.proofs.Faults.{read_told, memory_text, memory_nodes, memory_write}
+use Rattle.tt_proof_check.proofs.TextFaults.{err_same, same_reads}
+use Rattle.tt_proof_upgrade.specs.Faults.{fault_from_text, read_failed, is_failed_read}
+use Rattle.tt_proof_upgrade.proofs.Faults.{read_told, text_read, nodes_read, write_read, memory_text, memory_nodes, memory_write}
 use Rattle.tt_proof_upgrade.proofs.Written.{nodes_tell, write_tells, upgraded, text_tells, bound_read, silent}
 use Rattle.tt_proof_upgrade.proofs.upgrading.upgrade.Goals as goal
 
@@ -85,3 +85,23 @@ pub returns-in_err-bytes-clause-memory : goal.returns-in_err-bytes-clause-memory
 returns-in_err-bytes-clause-memory g c =
     let e = err_from_is_err_and c.from_residual-in_err-bytes.result c.from_residual-in_err-bytes.ensures.1 in
     rw (e.1, e.2) (memory_write _ _ c.in_err-bytes.field-0.0 c.in_err-bytes.ensures.fault)
+
+pub returns-in_err-read-clause-failed : goal.returns-in_err-read-clause-failed
+returns-in_err-read-clause-failed g c =
+    let f = c.in_err-read.field-0.0 in
+    same_reads c.from_residual.result (fault_from_text f) is_failed_read _ _ _ c.from_residual.ensures.1
+    (c.in_err-read.ensures.failed ∙ ap (λ b. if b then true else g.R.Source.has_failed c.args.source.now) (sym (text_read f))) refl
+
+pub returns-in_err-judge-clause-failed : goal.returns-in_err-judge-clause-failed
+returns-in_err-judge-clause-failed g c =
+    let f = c.in_err-judge.field-0.0 in
+    let before = g.R.Source.has_failed c.args.source.now in
+    same_reads c.from_residual-in_err-judge.result f is_failed_read before before _ c.from_residual-in_err-judge.ensures.1
+    (c.in_ok-read.ensures.failed ∙ ap (λ b. if b then true else before) (sym (nodes_read _ _ _ f c.in_err-judge.ensures.fault))) refl
+
+pub returns-in_err-bytes-clause-failed : goal.returns-in_err-bytes-clause-failed
+returns-in_err-bytes-clause-failed g c =
+    let f = c.in_err-bytes.field-0.0 in
+    let before = g.R.Source.has_failed c.args.source.now in
+    same_reads c.from_residual-in_err-bytes.result f is_failed_read before before _ c.from_residual-in_err-bytes.ensures.1
+    (c.in_ok-read.ensures.failed ∙ ap (λ b. if b then true else before) (sym (write_read _ _ f c.in_err-bytes.ensures.fault))) refl

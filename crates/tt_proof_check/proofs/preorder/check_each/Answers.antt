@@ -1,8 +1,8 @@
 use Rattle.std.proofs.Common.{◌<◌, ◌≤◌, length, ◌∙◌, subst, arith}
 use Rattle.tt_proof_check.specs.Steps.{Steps, Stops}
 use Rattle.tt_proof_check.specs.declared.walk.Stop.TheVariants.{Rule, TooDeep}
-use Rattle.tt_proof_check.proofs.Judging.{midway_next, midway_fails, midway_deep, midway_end}
-use Rattle.tt_proof_check.proofs.preorder.judge_tree.Goals as goal
+use Rattle.tt_proof_check.proofs.InOrder.{midway_next, midway_fails, midway_deep, midway_end}
+use Rattle.tt_proof_check.proofs.preorder.check_each.Goals as goal
 
 pub returns-in-Err-Rule-clause-fault : goal.returns-in-Err-Rule-clause-fault
 returns-in-Err-Rule-clause-fault g c =

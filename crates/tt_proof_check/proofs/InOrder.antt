@@ -105,10 +105,10 @@ proves_only p b nodes (told.Rule i f) t h = absurd (never_fails p b h.0 t.0 i f 
 proves_only p b nodes (told.TooDeep i) t h = absurd (never_deep p b h.0 t.0 i (tree_passes p b h.0 h.2 h.3) (same_at nodes h.0 t.0 i h.1 t.1) t.2)
 proves_only p b nodes told.OutOfMemory t h = refl
 
-pub judged_only : (p : Problem) (b : Bound) (nodes : List Node) (r : Result (Unit {0}) NodesFault) → IfErr r (λ e. Explains p b nodes e) → Proves p b nodes → IsOkUnless r told.OutOfMemory
-judged_only p b nodes (Ok x) t h = tt
-judged_only p b nodes (Err e) t h = proves_only p b nodes e t h
+pub checked_only : (p : Problem) (b : Bound) (nodes : List Node) (r : Result (Unit {0}) NodesFault) → IfErr r (λ e. Explains p b nodes e) → Proves p b nodes → IsOkUnless r told.OutOfMemory
+checked_only p b nodes (Ok x) t h = tt
+checked_only p b nodes (Err e) t h = proves_only p b nodes e t h
 
-pub judged_holds : (p : Problem) (b : Bound) (nodes : List Node) (r : Result (Unit {0}) NodesFault) → OnOk r (Proves p b nodes) → OnOk r (HoldsOfAll p b)
-judged_holds p b nodes (Ok x) h = proof_sound p b nodes h
-judged_holds p b nodes (Err e) h = tt
+pub checked_holds : (p : Problem) (b : Bound) (nodes : List Node) (r : Result (Unit {0}) NodesFault) → OnOk r (Proves p b nodes) → OnOk r (HoldsOfAll p b)
+checked_holds p b nodes (Ok x) h = proof_sound p b nodes h
+checked_holds p b nodes (Err e) h = tt

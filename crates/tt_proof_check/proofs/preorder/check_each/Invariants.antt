@@ -1,6 +1,6 @@
 use Rattle.std.proofs.Common.{◌≡◌, Bool, take}
 use Rattle.tt_proof_check.proofs.Walking.{Walked}
-use Rattle.tt_proof_check.proofs.preorder.judge_tree.Given as goal
+use Rattle.tt_proof_check.proofs.preorder.check_each.Given as goal
 
 abbrev pub invariant-loop-i : goal.invariant-loop-i
 invariant-loop-i g l = record {

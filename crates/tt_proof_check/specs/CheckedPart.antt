@@ -17,7 +17,7 @@ use Rattle.tt_proof_check.specs.Streams.{sizes_of, Fails, NodeFails, IsReadTo}
 use Rattle.tt_proof_check.specs.Explains.{FailsAt, IsDeepAt}
 
 -- a tree was read whole, if the bytes are known, and derives the bound; its nodes were visited
-pub record Judged (p : Problem) (v : ℕ) (b : Bound) (known : Bool) (H : List Node → Type 0) (s after : Stream) : Type 0 where
+pub record CheckedPart (p : Problem) (v : ℕ) (b : Bound) (known : Bool) (H : List Node → Type 0) (s after : Stream) : Type 0 where
   pub tree : Tree
   pub reads : known ≡ true → ReadsNodes (sizes_of p) v 0 s (preorder tree) after
   pub shallow : IsShallow tree
