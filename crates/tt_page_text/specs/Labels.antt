@@ -27,7 +27,7 @@ unfoldable pub names_of : LabelsFault → ℕ → Option (List ℕ) → Result (
 names_of f n None = Ok []
 names_of f n (Some text) = if length (names_in text) == n then Ok (names_in text) else Err f
 
--- The names of this many days and of this many periods of a day; the days' names are judged first.
+-- The names of this many days and of this many periods of a day; the days' names are checked first.
 unfoldable pub labels_of : ℕ → ℕ → Option (List ℕ) → Option (List ℕ) → Result Labelled LabelsFault
 labels_of days periods day_names period_names =
     names_of fault.Days days day_names >>= (λ ds. names_of fault.Periods periods period_names >>= (λ ps. Ok (record { days = ds; periods = ps })))
