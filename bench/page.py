@@ -30,6 +30,7 @@ CASES = [
     ("long", INPUT + "/long.ctt", INPUT + "/long.sol"),
 ]
 MOST_BYTES = 2_000_000
+HUES = 12
 SEPARATORS = b" \t\n\r\x0b\x0c"
 
 
@@ -108,6 +109,10 @@ class Page:
         for entry in table:
             self.at.setdefault(entry[2:], []).append(entry)
         self.of = [[it for it in table if it[0] == course] for course in range(len(instance.courses))]
+        self.curriculum_of = {}
+        for number, (_, members) in enumerate(instance.curricula):
+            for course in members:
+                self.curriculum_of.setdefault(course, number)
 
     def link(self, kind, number):
         return f'<a href="#{kind}{number}">{self.names[kind][number]}</a>'
@@ -183,12 +188,16 @@ class Page:
             marks += " <mark>other room</mark>"
         return marks
 
+    def hue(self, curriculum):
+        return "" if curriculum is None else f" hue{curriculum % HUES}"
+
     def lecture(self, kind, number, entry):
         room, teacher = self.link("room", entry[1]), self.teacher_link(entry[0])
         beside = {"room": teacher, "teacher": room, "curriculum": room + " " + teacher}[kind]
         name = self.names["course"][entry[0]]
         return (
-            f'<div class="lecture"><span class="when">{self.when(*entry[2:])}</span> <a class="course" href="#course{entry[0]}">{name}</a> '
+            f'<div class="lecture{self.hue(self.curriculum_of.get(entry[0]))}"><span class="when">{self.when(*entry[2:])}</span> '
+            f'<a class="course" href="#course{entry[0]}">{name}</a> '
             f"{beside}{self.marks(kind, number, entry)}</div>\n"
         )
 
@@ -248,7 +257,8 @@ class Page:
     def section(self, ident, kind):
         numbers = range(len(self.names[kind]))
         text = f'<details open id="{ident}">\n<summary><h2>{ident.capitalize()} <small>{len(numbers)}</small></h2></summary>\n'
-        text += '<ul class="index">\n' + "".join(f"<li>{self.link(kind, it)}</li>\n" for it in numbers)
+        hues = [self.hue(it if kind == "curriculum" else None) for it in numbers]
+        text += '<ul class="index">\n' + "".join(f'<li class="week{hues[it]}">{self.link(kind, it)}</li>\n' for it in numbers)
         text += '</ul>\n<div class="grids">\n' + "".join(self.grid(kind, it) for it in numbers)
         return text + "</div>\n</details>\n"
 
@@ -392,6 +402,7 @@ class Page:
         text += (
             '</div>\n<p class="legend">In the grids: <strong>broken</strong> breaks a hard rule, <mark>costs</mark> costs, '
             '<span class="barred">not c</span> a period that is unavailable for course c. '
+            "A lecture's bar has the colour of the first curriculum that has its course. "
             "A rule that is not in the tables counts 0. The files count days and periods from 0.</p>\n"
         )
         for at, (ident, title, _, items) in enumerate(lists):
@@ -448,6 +459,8 @@ def faults_of(text):
     for ident, count, items in lists:
         if sum(map(int, re.findall(r"^<li style=\"order:-\d+\"><b>(\d+)</b>", items, re.M))) != int(count):
             faults.append(f"the items of {ident} don't add up")
+    style = text[text.index("<style>") : text.index("</style>")]
+    faults += [f"no colour of hue{it}" for it in range(HUES) if style.count(f".hue{it} {{") != 2]
     rooms = text[text.index('<details open id="rooms">') : text.index('<details open id="teachers">')]
     count = lambda title: int(re.search(rf"{title}</th><td>(\d+)", text).group(1))
     if sum(map(int, re.findall(r"<mark>no seat: (\d+)</mark>", rooms))) != count("Room capacity"):

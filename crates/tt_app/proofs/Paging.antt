@@ -83,7 +83,7 @@ module _ (i s : List ℕ) (p : Problem) (t : List Cell) (names : PageNames) (spe
   }
   page_tells style l b gives before after report.OutOfMemory named sum holds part = tt
 
--- the page of what was read is the page of what the bytes spell
+-- the text that was written for the instance and the timetable that were read is the page of those that the bytes spell
 pub page_same : (i s : List ℕ) (p read : Problem) (t found : List Cell) (names : PageNames) (l m : Labelled) (b c : Bound) (style : List ℕ) (before after : Option (List ℕ)) → SpellsBoth i s p t → Spells i read → SpellsTable read s found
     → labels_for p names ≡ Ok l → labels_for read names ≡ Ok m → c ≡ b → Appends before after (page_text read found m (Some c) style) → Appends before after (page_text p t l (Some b) style)
 page_same i s p read t found names l m b c style before after both spells solved named given e written =

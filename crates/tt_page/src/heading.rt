@@ -187,7 +187,7 @@ pub fn put_header(
 
 /// The legend: the marks in the grids, the rules that are not shown, and how the files count.
 const LEGEND: &str =
-    "</div>\n<p class=\"legend\">In the grids: <strong>broken</strong> breaks a hard rule, <mark>costs</mark> costs, <span class=\"barred\">not c</span> a period that is unavailable for course c. A rule that is not in the tables counts 0. The files count days and periods from 0.</p>\n";
+    "</div>\n<p class=\"legend\">In the grids: <strong>broken</strong> breaks a hard rule, <mark>costs</mark> costs, <span class=\"barred\">not c</span> a period that is unavailable for course c. A lecture's bar has the colour of the first curriculum that has its course. A rule that is not in the tables counts 0. The files count days and periods from 0.</p>\n";
 
 /// Appends the legend.
 #[tactic(auto, unfolding(crate::specs::Heading::legend_text))]

@@ -67,7 +67,7 @@ pub fn text_of(
     requires { IsTimetable instance.now table.now }
     ensures { IfOk result (λ v. v.items ≡ page_text instance.now table.now labels.now proved style.now) }
 {
-    let plan = Plan::new(instance, table);
+    let plan = Plan::new(alloc, instance, table)?;
     let score = score(instance, table);
     let mut out = Vec::new(alloc);
     put_head(&mut out, instance, style)?;

@@ -6,12 +6,18 @@ pub const STYLE: &str = r#":root {
   --costink: #6b4300; --costfill: #fff2d1; --costline: #a56a00;
   --badink: #ffffff; --badfill: #a3231c; --badtint: #fde8e6; --badline: #a3231c; --goodink: #1a5c33; --hatch: #c3c8ce;
 }
+.hue0 { --hue: #0961bb; } .hue1 { --hue: #279936; } .hue2 { --hue: #953490; } .hue3 { --hue: #0d9298; }
+.hue4 { --hue: #964d09; } .hue5 { --hue: #8169dd; } .hue6 { --hue: #67680b; } .hue7 { --hue: #cc4a7c; }
+.hue8 { --hue: #116d8a; } .hue9 { --hue: #139676; } .hue10 { --hue: #813faa; } .hue11 { --hue: #a1790c; }
 @media (prefers-color-scheme: dark) {
   :root {
     --ground: #121519; --paper: #1a1e23; --ink: #e5e8eb; --soft: #a7b0ba; --line: #363d45; --tile: #25303c; --link: #93bfef;
     --costink: #f5ce7d; --costfill: #362a10; --costline: #c0912f;
     --badink: #ffffff; --badfill: #b32d25; --badtint: #43191a; --badline: #f08078; --goodink: #83d0a0; --hatch: #434b54;
   }
+  .hue0 { --hue: #92c1fd; } .hue1 { --hue: #5bae5f; } .hue2 { --hue: #f09be8; } .hue3 { --hue: #05adb4; }
+  .hue4 { --hue: #fea668; } .hue5 { --hue: #9887e8; } .hue6 { --hue: #c3c54f; } .hue7 { --hue: #dc7095; }
+  .hue8 { --hue: #40cfff; } .hue9 { --hue: #1ab28c; } .hue10 { --hue: #d8a4ff; } .hue11 { --hue: #be9014; }
 }
 * { box-sizing: border-box; }
 html { scroll-padding-top: 3.5rem; }
@@ -78,6 +84,7 @@ main > details:not([class]) { margin-top: 2.25rem; border-top: 2px solid var(--l
 main > details:not([class]) > summary { padding: .7rem 0; }
 .index li { overflow-wrap: anywhere; }
 .index { display: flex; flex-wrap: wrap; gap: .15rem .9rem; margin-bottom: 1rem; font-size: .87rem; font-variant-numeric: tabular-nums; }
+.index [class*=hue]::before { content: ""; display: inline-block; height: .7em; margin-right: .3em; border-left: .25rem solid var(--hue); }
 .grids { display: flex; flex-wrap: wrap; gap: 1.5rem 1.25rem; align-items: flex-start; }
 .grids::after { content: ""; flex: 1 1 36rem; }
 .grid { flex: 1 1 auto; max-width: 100%; }
@@ -91,7 +98,8 @@ main > details:not([class]) > summary { padding: .7rem 0; }
 .grid tbody th { position: sticky; left: 0; z-index: 1; text-align: center; min-width: 3.4rem; }
 .grid td { min-width: 6.7rem; height: 2.9rem; padding: 2px; }
 .grid td { scroll-margin: 12rem 4.5rem 2rem; }
-.lecture { contain: inline-size; padding: .15rem .35rem .2rem; margin-bottom: 2px; background: var(--tile); border: 1px solid transparent; font-size: .78rem; line-height: 1.3; }
+.lecture { position: relative; contain: inline-size; padding: .15rem .35rem .2rem .6rem; margin-bottom: 2px; background: var(--tile); border: 1px solid transparent; font-size: .78rem; line-height: 1.3; }
+.lecture::before { content: ""; position: absolute; inset: 0 auto 0 0; border-left: .25rem solid var(--hue, transparent); }
 .lecture:last-child { margin-bottom: 0; }
 .lecture a { color: var(--soft); }
 .lecture .course { display: block; color: var(--ink); font-weight: 650; font-size: .87rem; }

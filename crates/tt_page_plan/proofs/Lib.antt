@@ -1,3 +1,4 @@
 pub mod Counting
+pub mod First
 pub mod Later
 pub mod Neighbours

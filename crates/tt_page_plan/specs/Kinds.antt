@@ -1,8 +1,8 @@
 -- The kinds of weeks that a page shows: those of all rooms, of all teachers and of all curricula.
-use Rattle.std.specs.Prelude.{ℕ, ◌==◌, Bool, List, [], length, codes, slice_index_or, unwrap_or}
+use Rattle.std.specs.Prelude.{ℕ, ◌==◌, Bool, List, [], length, codes, slice_index_or, unwrap_or, Option, find}
 use Rattle.tt_text.specs.Texts.{index_of_name}
 use Rattle.tt_instance.specs.Problem.{Problem}
-use Rattle.tt_instance.specs.Cells.{is_in}
+use Rattle.tt_instance.specs.Cells.{is_in, all_curricula}
 use Rattle.tt_instance.specs.Courses.{no_course, no_room, no_curriculum, teachers, in_curriculum}
 use Rattle.tt_instance.specs.declared.cell.Cell.{Cell}
 use Rattle.tt_page_plan.specs.declared.kind.Kind.{Kind}
@@ -26,6 +26,10 @@ course_name p c = (slice_index_or p.courses c no_course).id
 -- The number of a course's teacher, in the order of first mention.
 abbrev pub teacher_of : Problem → ℕ → ℕ
 teacher_of p c = unwrap_or (index_of_name (teachers p) (slice_index_or p.courses c no_course).teacher) 0
+
+-- The first curriculum that has a course, in the order of the instance.
+abbrev pub first_curriculum : Problem → ℕ → Option ℕ
+first_curriculum p c = find (λ q. in_curriculum p q c) (all_curricula p)
 
 -- Whether an entry belongs to a week.
 abbrev pub belongs_to : Problem → Kind → ℕ → Cell → Bool

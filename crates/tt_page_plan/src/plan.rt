@@ -1,23 +1,27 @@
-//! A timetable of an instance, its entries by period and by course.
+//! A timetable of an instance, its entries by period and by course, and the curricula of each course.
 
-ghost use Rattle.std.specs.Prelude.{◌≡◌, ◌+◌, ◌<◌, ◌≤◌, length, filter, drop, All, Some, slice_get, IfSome};
+ghost use Rattle.std.specs.Prelude.{◌≡◌, ◌+◌, ◌<◌, ◌≤◌, length, filter, drop, All, Some, slice_get, IfOk, IfSome};
 ghost use Rattle.tt_instance.specs.Cells.{InRange, is_of, is_at, slot, slot_of};
 ghost use Rattle.tt_table.specs.Table.{IsTimetable};
 ghost use Rattle.tt_table.specs.declared.table.TheConstants.{MAX_ENTRIES};
 ghost use Rattle.tt_table.specs.declared.groups.GroupBy.TheVariants as by;
 ghost use Rattle.tt_page_plan.specs.Planned.{Planned};
+ghost use Rattle.tt_page_plan.specs.Kinds.{first_curriculum};
 
+use std::alloc::{AllocError, Global};
 use std::marker::Model;
 use tt_instance::{Instance, MAX_COURSES};
+use tt_instance_links::Curricula;
 use tt_table::{Entry, Group, GroupBy, Groups, Timetable};
 
-/// A timetable of an instance, its entries by period and by course.
+/// A timetable of an instance, its entries by period and by course, and the curricula of each course.
 #[derive(Drop)]
 pub struct Plan<'w, 'i> {
     instance: &'w Instance<'i>,
     entries: &'w [Entry],
     by_period: Groups<'w>,
     by_course: Groups<'w>,
+    curricula: Curricula,
 }
 
 impl<'w, 'i> Model for Plan<'w, 'i> {
@@ -54,19 +58,25 @@ fn by_course<'t>(instance: &Instance<'_>, entries: &'t [Entry]) -> Groups<'t>
 
 impl<'w, 'i> Plan<'w, 'i> {
     /// Returns the plan of a timetable, whose entries are all in the instance's range.
-    pub fn new(instance: &'w Instance<'i>, table: &'w Timetable) -> Plan<'w, 'i>
+    pub fn new(
+        alloc: Global,
+        instance: &'w Instance<'i>,
+        table: &'w Timetable,
+    ) -> Result<Plan<'w, 'i>, AllocError>
         requires { IsTimetable instance.now table.now }
-        ensures { result ≡ record { problem = instance.now; table = table.now } }
+        ensures { IfOk result (λ plan. plan ≡ record { problem = instance.now; table = table.now }) }
     {
+        let curricula = Curricula::new(alloc, instance)?;
         let entries = table.entries();
         let by_period = by_period(instance, entries);
         let by_course = by_course(instance, entries);
-        Plan {
+        Ok(Plan {
             instance,
             entries,
             by_period,
             by_course,
-        }
+            curricula,
+        })
     }
 
     /// Returns the instance.
@@ -105,6 +115,14 @@ impl<'w, 'i> Plan<'w, 'i> {
     {
         let _courses = self.instance.courses();
         self.by_course.of_course(course)
+    }
+
+    /// Returns the first curriculum that has a course.
+    pub fn first_curriculum(&self, course: u32) -> Option<u32>
+        requires { course < length self.now.problem.courses }
+        ensures { result ≡ first_curriculum self.now.problem course }
+    {
+        self.curricula.curricula_of(course).first().copied()
     }
 
     /// Returns the later entries of an entry's period.

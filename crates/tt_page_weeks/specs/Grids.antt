@@ -1,5 +1,5 @@
 -- The grids of a page: one for each room, teacher and curriculum, with a column for each day and a row for each period of a day.
-use Rattle.std.specs.Prelude.{ℕ, ◌==◌, List, [], ◌∷◌, ◌++◌, filter, flat_map, codes, if◌then◌else◌}
+use Rattle.std.specs.Prelude.{ℕ, ◌==◌, List, [], ◌∷◌, ◌++◌, filter, flat_map, codes, Option, Some, None, if◌then◌else◌}
 use Rattle.tt_lists.specs.Words.{range_below}
 use Rattle.tt_text.specs.Pieces.{Text, Number}
 use Rattle.tt_instance.specs.Problem.{Problem}
@@ -13,9 +13,9 @@ use Rattle.tt_page_text.specs.Labels.{day_text, period_text, when_text}
 use Rattle.tt_page_plan.specs.Names.{name_text}
 use Rattle.tt_page_plan.specs.Kinds.{count_of, name_of, course_name, teacher_of, belongs_to, word_of, caption_of, section_of, title_of}
 use Rattle.tt_page_plan.specs.Links.{week_link}
-use Rattle.tt_page_weeks.specs.Lectures.{lecture_text}
+use Rattle.tt_page_weeks.specs.Lectures.{hue_class, lecture_text}
 use Rattle.tt_page_plan.specs.declared.kind.Kind.{Kind}
-use Rattle.tt_page_plan.specs.declared.kind.Kind.TheVariants.{Room, Teacher}
+use Rattle.tt_page_plan.specs.declared.kind.Kind.TheVariants.{Room, Teacher, Curriculum}
 
 -- ---- cells
 
@@ -87,9 +87,14 @@ grid_text p t labels kind n =
 
 -- ---- a section
 
--- A line of the section's index.
+-- The curriculum of a week: only weeks of curricula have one.
+abbrev pub curriculum_of : Kind → ℕ → Option ℕ
+curriculum_of Curriculum q = Some q
+curriculum_of _ n = None
+
+-- A line of the section's index. A curriculum's line shows the curriculum's colour.
 unfoldable pub index_item : Problem → Kind → ℕ → List ℕ
-index_item p kind n = codes "<li>" ++ week_link p kind n ++ codes "</li>\n"
+index_item p kind n = codes "<li class=\"week" ++ hue_class (curriculum_of kind n) ++ codes "\">" ++ week_link p kind n ++ codes "</li>\n"
 
 unfoldable pub section_head : Problem → Kind → List ℕ
 section_head p kind = markup (

@@ -1,5 +1,5 @@
--- A lecture in a week: its course, its place or its teacher, and its marks.
-use Rattle.std.specs.Prelude.{ℕ, Bool, List, [], ◌∷◌, ◌++◌, codes, if◌then◌else◌}
+-- A lecture in a week: its colour, its course, its place or its teacher, and its marks.
+use Rattle.std.specs.Prelude.{ℕ, ◌%◌, Bool, List, [], ◌∷◌, ◌++◌, codes, Option, Some, None, if◌then◌else◌}
 use Rattle.tt_text.specs.Pieces.{Text, Number}
 use Rattle.tt_instance.specs.Problem.{Problem}
 use Rattle.tt_instance.specs.Courses.{unavailable, excess}
@@ -9,9 +9,10 @@ use Rattle.tt_page_text.specs.Shown.{shown}
 use Rattle.tt_page_text.specs.Labelled.{Labelled}
 use Rattle.tt_page_text.specs.Labels.{when_text}
 use Rattle.tt_page_text.specs.Markup.{markup, counted}
-use Rattle.tt_page_plan.specs.Kinds.{course_name, teacher_of}
+use Rattle.tt_page_plan.specs.Kinds.{course_name, teacher_of, first_curriculum}
 use Rattle.tt_page_plan.specs.Links.{week_link}
 use Rattle.tt_page_weeks.specs.Marks.{in_conflict, room_taken, repeated, in_other_room}
+use Rattle.tt_page_weeks.specs.declared.hues.TheConstants.{HUES}
 use Rattle.tt_page_plan.specs.declared.kind.Kind.{Kind}
 use Rattle.tt_page_plan.specs.declared.kind.Kind.TheVariants.{Room, Teacher, Curriculum}
 
@@ -40,9 +41,18 @@ marks_text p t kind n e =
     ++ counted (codes " <mark>no seat: ") (excess p e.course e.room) (codes "</mark>")
     ++ mark (in_other_room t e) (codes " <mark>other room</mark>")
 
--- The beginning of a lecture: when it is.
+-- The class of a curriculum's hue, or nothing if there is no curriculum. The curricula have the hues in turn.
+unfoldable pub hue_class : Option ℕ → List ℕ
+hue_class None = []
+hue_class (Some q) = markup (Text (codes " hue") ∷ Number (q % HUES) ∷ [])
+
+-- The beginning of a lecture: its colour, which is that of the first curriculum that has its course.
+unfoldable pub lecture_head : Problem → ℕ → List ℕ
+lecture_head p c = codes "<div class=\"lecture" ++ hue_class (first_curriculum p c)
+
+-- The day and the period of a lecture.
 unfoldable pub lecture_when : Labelled → Cell → List ℕ
-lecture_when labels e = codes "<div class=\"lecture\"><span class=\"when\">" ++ when_text labels e.day e.period ++ codes "</span> "
+lecture_when labels e = codes "\"><span class=\"when\">" ++ when_text labels e.day e.period ++ codes "</span> "
 
 unfoldable pub lecture_course : Problem → ℕ → List ℕ
 lecture_course p c = markup (
@@ -50,4 +60,4 @@ lecture_course p c = markup (
 
 unfoldable pub lecture_text : Problem → List Cell → Labelled → Kind → ℕ → Cell → List ℕ
 lecture_text p t labels kind n e =
-    lecture_when labels e ++ lecture_course p e.course ++ beside_text p kind e ++ marks_text p t kind n e ++ codes "</div>\n"
+    lecture_head p e.course ++ lecture_when labels e ++ lecture_course p e.course ++ beside_text p kind e ++ marks_text p t kind n e ++ codes "</div>\n"

@@ -1,6 +1,6 @@
 -- Which marks a lecture has. Isolated lectures and students without a seat are those of the counts (`is_isolated`, `excess`), like
 -- lectures in an unavailable period (`unavailable`).
-use Rattle.std.specs.Prelude.{◌+◌, Bool, false, not, ◌&&◌, nat_lt, ◌==◌, List, [], ◌∷◌, count_by, filter}
+use Rattle.std.specs.Prelude.{Bool, false, not, ◌&&◌, nat_lt, ◌==◌, List, [], ◌∷◌, count_by, filter}
 use Rattle.std.specs.List.{list_any}
 use Rattle.tt_instance.specs.Problem.{Problem}
 use Rattle.tt_instance.specs.Cells.{slot_of, is_of, is_at}

@@ -5,8 +5,9 @@ ghost use Rattle.tt_lists.specs.Words.{range_below};
 ghost use Rattle.tt_instance.specs.Cells.{InRange, all_courses};
 ghost use Rattle.tt_page_plan.specs.Kinds.{count_of, belongs_to, teacher_of};
 ghost use Rattle.tt_page_weeks.specs.Lectures.{lecture_text};
-ghost use Rattle.tt_page_weeks.specs.Grids.{own_courses, barred_when, barred_course, barred_text, cell_head, cell_text, row_head, row_text, seats_text, grid_head, paper_name, table_head, grid_title, day_head, grid_text, index_item, section_head, section_text};
+ghost use Rattle.tt_page_weeks.specs.Grids.{own_courses, barred_when, barred_course, barred_text, cell_head, cell_text, row_head, row_text, seats_text, grid_head, paper_name, table_head, grid_title, day_head, grid_text, curriculum_of, index_item, section_head, section_text};
 
+use crate::hues::put_hue;
 use crate::lectures::put_lecture;
 use std::alloc::{AllocError, Global};
 use tt_instance::Instance;
@@ -415,6 +416,16 @@ fn put_grids(
     Ok(())
 }
 
+/// Returns the curriculum of a week, if it is the week of one.
+fn curriculum_of(kind: Kind, number: u32) -> Option<u32>
+    ensures { result ≡ curriculum_of kind number }
+{
+    match kind {
+        Kind::Room | Kind::Teacher => None,
+        Kind::Curriculum => Some(number),
+    }
+}
+
 #[tactic(auto, unfolding(crate::specs::Grids::index_item))]
 fn put_index_item(
     out: &mut Vec<u8>,
@@ -425,7 +436,9 @@ fn put_index_item(
     requires { number < count_of instance.now kind }
     ensures { OnOk result (out.new.items ≡ out.old.items ++ index_item instance.now kind number) }
 {
-    put_token(out, b"<li>")?;
+    put_token(out, b"<li class=\"week")?;
+    put_hue(out, curriculum_of(kind, number))?;
+    put_token(out, b"\">")?;
     put_week_link(out, instance, kind, number)?;
     put_token(out, b"</li>\n")
 }

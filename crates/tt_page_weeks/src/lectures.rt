@@ -2,8 +2,9 @@
 
 ghost use Rattle.std.specs.Prelude.{◌≡◌, ◌<◌, ◌++◌, length, OnOk};
 ghost use Rattle.tt_instance.specs.Cells.{InRange};
-ghost use Rattle.tt_page_weeks.specs.Lectures.{beside_text, mark, isolated_mark, marks_text, lecture_when, lecture_course, lecture_text};
+ghost use Rattle.tt_page_weeks.specs.Lectures.{beside_text, mark, isolated_mark, marks_text, lecture_head, lecture_when, lecture_course, lecture_text};
 
+use crate::hues::put_hue;
 use crate::marks::{is_in_conflict, is_in_other_room, is_repeated, is_room_taken};
 use std::alloc::AllocError;
 use tt_instance::Instance;
@@ -112,12 +113,22 @@ fn put_marks(
     )
 }
 
-/// Appends the beginning of a lecture: when it is.
+/// Appends the beginning of a lecture: its colour.
+#[tactic(auto, unfolding(crate::specs::Lectures::lecture_head))]
+fn put_lecture_head(out: &mut Vec<u8>, plan: &Plan<'_, '_>, course: u32) -> Result<(), AllocError>
+    requires { course < length plan.now.problem.courses }
+    ensures { OnOk result (out.new.items ≡ out.old.items ++ lecture_head plan.now.problem course) }
+{
+    put_token(out, b"<div class=\"lecture")?;
+    put_hue(out, plan.first_curriculum(course))
+}
+
+/// Appends the day and the period of a lecture.
 #[tactic(auto, unfolding(crate::specs::Lectures::lecture_when))]
 fn put_lecture_when(out: &mut Vec<u8>, labels: &Labels, entry: &Entry) -> Result<(), AllocError>
     ensures { OnOk result (out.new.items ≡ out.old.items ++ lecture_when labels.now entry.now) }
 {
-    put_token(out, b"<div class=\"lecture\"><span class=\"when\">")?;
+    put_token(out, b"\"><span class=\"when\">")?;
     put_when(out, labels, entry.day, entry.period)?;
     put_token(out, b"</span> ")
 }
@@ -159,6 +170,7 @@ pub fn put_lecture(
     ensures { OnOk result (out.new.items ≡ out.old.items ++ lecture_text plan.now.problem plan.now.table labels.now kind number entry.now) }
 {
     let instance = plan.instance();
+    put_lecture_head(out, plan, entry.course)?;
     put_lecture_when(out, labels, entry)?;
     put_lecture_course(out, instance, entry.course)?;
     put_beside(out, instance, kind, entry)?;

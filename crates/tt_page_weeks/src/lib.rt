@@ -3,7 +3,9 @@
 
 mod grids;
 mod groups;
+mod hues;
 mod lectures;
 mod marks;
 
 pub use grids::{put_lectures, put_paper_name, put_section};
+pub use hues::HUES;

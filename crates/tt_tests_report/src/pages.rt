@@ -63,7 +63,7 @@ fn a_week_with_its_costs(rt: HostRuntime) -> Result<(), Fail> {
         &text,
         &[
             "<p class=\"verdict\"><b>feasible</b> cost 5</p>\n",
-            "<td id=\"room0-0-0\">\n<div class=\"lecture\"><span class=\"when\">Day 1, period 1</span> <a class=\"course\" href=\"#course0\">a</a> <a href=\"#teacher0\">t1</a></div>\n</td>\n</tr>\n",
+            "<td id=\"room0-0-0\">\n<div class=\"lecture hue0\"><span class=\"when\">Day 1, period 1</span> <a class=\"course\" href=\"#course0\">a</a> <a href=\"#teacher0\">t1</a></div>\n</td>\n</tr>\n",
             "<a class=\"course\" href=\"#course1\">b</a> <a href=\"#room0\">R</a> <a href=\"#teacher1\">t2</a> <mark>isolated</mark> <mark>no seat: 1</mark></div>\n",
             "<li style=\"order:-4\"><b>4</b> <a href=\"#curriculum0\">q</a>\n<ul>\n<li><a href=\"#curriculum0-0-0\">Day 1, period 1</a>, <a href=\"#course0\">a</a>, <a href=\"#teacher0\">t1</a>, in <a href=\"#room0\">R</a></li>\n",
             "<li style=\"order:-1\"><b>1</b> <a href=\"#course1\">b</a>, <a href=\"#teacher1\">t2</a>, 12 students\n<ul>\n<li>1 <a href=\"#room0-0-2\">Day 1, period 3</a>, in <a href=\"#room0\">R</a>, 11 seats</li>\n</ul>\n</li>\n",
@@ -104,7 +104,7 @@ fn unavailable_periods(rt: HostRuntime) -> Result<(), Fail> {
     let lacks = missing(
         &text,
         &[
-            "<td id=\"teacher0-0-0\">\n<div class=\"barred\"><span class=\"when\">Day 1, period 1</span> not a</div>\n<div class=\"lecture\"><span class=\"when\">Day 1, period 1</span> <a class=\"course\" href=\"#course0\">a</a> <a href=\"#room0\">R</a> <strong>unavailable</strong></div>\n</td>\n",
+            "<td id=\"teacher0-0-0\">\n<div class=\"barred\"><span class=\"when\">Day 1, period 1</span> not a</div>\n<div class=\"lecture hue0\"><span class=\"when\">Day 1, period 1</span> <a class=\"course\" href=\"#course0\">a</a> <a href=\"#room0\">R</a> <strong>unavailable</strong></div>\n</td>\n",
             "<td id=\"teacher1-0-1\">\n<div class=\"barred\"><span class=\"when\">Day 1, period 2</span> not b</div>\n</td>\n",
             "<li style=\"order:-1\"><b>1</b> <a href=\"#teacher0-0-0\">a</a>, <a href=\"#teacher0\">t1</a>, Day 1, period 1</li>\n",
         ],

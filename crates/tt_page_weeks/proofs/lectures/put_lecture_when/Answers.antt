@@ -6,7 +6,7 @@ use Rattle.tt_page_text.proofs.Growing.{then_more}
 use Rattle.tt_page_weeks.proofs.lectures.put_lecture_when.Goals as goal
 
 -- the head was written
-head_put : (c : goal.After-put_token-2) → c.put_token.new.out.items ≡ c.args.out.now.items ++ codes "<div class=\"lecture\"><span class=\"when\">"
+head_put : (c : goal.After-put_token-2) → c.put_token.new.out.items ≡ c.args.out.now.items ++ codes "\"><span class=\"when\">"
 head_put c = c.in_ok-put_token.ensures.ok
 
 pub returns : goal.returns
@@ -15,5 +15,5 @@ returns c =
     let first = c.args.out.now.items in
     let middle = c.put_when.new.out.items in
     on_ok_weaker c.put_token-2.result
-    (λ last. then_more first middle _ _ _ (then_more first c.put_token.new.out.items middle (codes "<div class=\"lecture\"><span class=\"when\">") _ (head_put c) c.in_ok-put_when.ensures) last)
+    (λ last. then_more first middle _ _ _ (then_more first c.put_token.new.out.items middle (codes "\"><span class=\"when\">") _ (head_put c) c.in_ok-put_when.ensures) last)
     c.put_token-2.ensures.ok
