@@ -366,6 +366,7 @@ fn put_pairs(
     ensures { OnOk result (out.new.items ≡ out.old.items
         ++ pairs_item plan.now.problem labels.now rule entry.now (drop (index + 1) plan.now.table)) }
 {
+    // Brings into the proof that the plan's entries are in range.
     let _entries = plan.entries();
     let odds = odd_ones(
         *out.allocator(),

@@ -47,6 +47,7 @@ fn is_taught_after(plan: &Plan<'_, '_>, curriculum: u32, entry: &Entry) -> bool
     requires { InRange plan.now.problem entry.now }
     ensures { result ≡ list_any (λ x. in_curriculum plan.now.problem curriculum x.course && is_right_after entry.now x) plan.now.table }
 {
+    // Brings into the proof that the plan's entries are in range.
     let _entries = plan.entries();
     let last = plan.instance().periods() - 1;
     if entry.period == last {

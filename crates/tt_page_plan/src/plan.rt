@@ -113,6 +113,7 @@ impl<'w, 'i> Plan<'w, 'i> {
         ensures in_range { All (InRange self.now.problem) result }
         ensures at_most { length result ≤ MAX_ENTRIES }
     {
+        // Brings the instance's limits into the proof.
         let _courses = self.instance.courses();
         self.by_course.of_course(course)
     }
