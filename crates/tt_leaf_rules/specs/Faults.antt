@@ -1,6 +1,7 @@
 -- The first fault of a leaf, or none if it is right.
 use Rattle.std.specs.Prelude.{nat_lt, nat_le, Bool, true, List, Option, Some, None, if◌then◌else◌}
 use Rattle.std.specs.List.{list_all}
+use Rattle.tt_lists.specs.Words.{are_distinct}
 use Rattle.tt_instance.specs.Problem.{Problem}
 use Rattle.tt_instance.specs.Courses.{lectures}
 use Rattle.tt_facts_path.specs.Facts.{has_fact}
@@ -9,7 +10,7 @@ use Rattle.tt_facts_path.specs.declared.facts.Who.TheVariants.{Course}
 use Rattle.tt_facts_path.specs.declared.facts.Fact.{Fact}
 use Rattle.tt_leaf_rules.specs.Claims.{is_fair, total_of}
 use Rattle.tt_leaf_rules.specs.Leaves.{all_dead, all_lectures, open_periods, open_rooms}
-use Rattle.tt_leaf_rules.specs.Tests.{are_distinct, claims_once, is_clique}
+use Rattle.tt_leaf_rules.specs.Tests.{claims_once, is_clique}
 use Rattle.tt_leaf_rules.specs.declared.leaf.Bound.{Bound}
 use Rattle.tt_leaf_rules.specs.declared.leaf.Bound.TheVariants.{AtLeast, Nothing}
 use Rattle.tt_leaf_rules.specs.declared.leaf.Claim.{Claim}
