@@ -23,7 +23,7 @@ loop-opened-preserved g c =
     let e = c.in_ok-open_next.ensures in
     let new = c.open_next.new.search in
     record {
-      same = e.same ∙ i.same;
+      same = e.unchanged ∙ i.same;
       under_way = subst (λ (q : Problem). IsUnderWay q new) i.same e.under_way;
       better = advance_twice p c.args.search.now.best c.loop-opened.search.best new.best i.better (subst (λ (q : Problem). Advances q c.loop-opened.search.best new.best) i.same e.better);
       opened = omega (arith, e.opened, i.opened);

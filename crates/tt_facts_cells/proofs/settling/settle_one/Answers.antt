@@ -31,5 +31,5 @@ returns-in_ok-kill_one-in_default c =
           (subst (λ ks. is_left p free g a.day a.period ks ≡ true) (sym r.one)
           (left_unless_all p free g a.day a.period a.course c.common_rooms-common.result c.in_default.not-All r.course c.common_rooms-common.ensures))
           (subst (λ ks. Loses p old (is_struck p free g a.day a.period ks) new) (sym r.one) c.in_ok-kill_one-in_default.ensures.ok);
-      same = c.in_ok-kill_one-in_default.ensures.unchanged;
+      unchanged = c.in_ok-kill_one-in_default.ensures.unchanged;
     }

@@ -21,7 +21,7 @@ loop-phase-preserved g c =
     let same = l.invariant.problem in
     record {
       problem = phase.ensures.problem ∙ same;
-      some = phase.ensures.some;
+      some = phase.ensures.positive;
       here = phase.ensures.here;
       best = λ t best. subst (λ p. IsBest p t phase.new.best) same (phase.ensures.best t (subst (λ p. IsBest p t l.best) (sym same) (l.invariant.best t best)));
       within = c.draws-next.ensures;
