@@ -96,7 +96,7 @@ main > details:not([class]) > summary { padding: .7rem 0; }
 .grid th, .grid td { border: solid var(--line); border-width: 1px 1px 0 0; }
 .grid thead th { overflow-wrap: normal; }
 .grid tbody th { position: sticky; left: 0; z-index: 1; text-align: center; min-width: 3.4rem; }
-.grid td { min-width: 6.7rem; height: 2.9rem; padding: 2px; }
+.grid td { min-width: 6.3rem; height: 2.9rem; padding: 2px; }
 .grid td { scroll-margin: 12rem 4.5rem 2rem; }
 .lecture { position: relative; contain: inline-size; padding: .15rem .35rem .2rem .6rem; margin-bottom: 2px; background: var(--tile); border: 1px solid transparent; font-size: .78rem; line-height: 1.3; }
 .lecture::before { content: ""; position: absolute; inset: 0 auto 0 0; border-left: .25rem solid var(--hue, transparent); }
@@ -121,9 +121,15 @@ td:target, .grid:target, tr:target { outline: 3px solid var(--link); outline-off
 @page { margin: 12mm; }
 @media screen and (max-width: 40rem) {
   main { padding: 1rem .75rem 3rem; }
-  nav ul { gap: .8rem; padding: 0 .75rem; font-size: .85rem; }
+  html { scroll-padding-top: 4.5rem; }
+  nav ul { flex-wrap: wrap; gap: 0 1rem; padding: .2rem .75rem; font-size: .85rem; }
+  nav a { padding: .25rem 0; }
   .counts th { white-space: normal; }
   .grid { flex: 1 1 100%; }
+  .day th, .day tbody th { min-width: 2rem; padding: .25rem .2rem; }
+  .day td { min-width: 3.7rem; padding: 1px; }
+  .day .lecture { padding: .1rem .1rem .1rem .4rem; }
+  .day .lecture .course { font-size: .78rem; }
   .grid:not(.day) table { display: block; border: 0; }
   .grid:not(.day) thead, .grid:not(.day) tbody th { display: none; }
   .grid:not(.day) tbody { display: flex; flex-direction: column; }
