@@ -1,5 +1,6 @@
 pub mod Added
 pub mod Examples
+pub mod FailedReads
 pub mod Joining
 pub mod Lists
 pub mod Looked

@@ -1,9 +1,9 @@
 -- Lists of files.
-use Rattle.std.proofs.Common.{◌≡◌, ℕ, ◌+◌, ◌<◌, ◌≤◌, ◌^◌, zero, suc, Bool, ◌≢◌, List, [], ◌∷◌, ◌++◌, length, take, get_or, Option, Some, refl, sym, ap, subst, ◌∙◌, arith, append_assoc, inl, inr}
+use Rattle.std.proofs.Common.{◌≡◌, ℕ, ◌+◌, ◌<◌, ◌≤◌, ◌^◌, zero, suc, Bool, true, if◌then◌else◌, ◌≢◌, List, [], ◌∷◌, ◌++◌, length, take, get_or, Option, Some, refl, sym, ap, subst, ◌∙◌, arith, append_assoc, inl, inr}
 use Rattle.std.specs.Prelude.{slice_get}
 use Rattle.std.specs.List.{AllZip}
 use Rattle.std.proofs.lemmas.Bool.{cases_eq}
-use Rattle.std.proofs.lemmas.List.{take_more, take_all, length-take-le, get_or_read, get_or-set_same, get_or-set_other}
+use Rattle.std.proofs.lemmas.List.{take_more, take_all, length-take-le, get_or_read, get_or-set_same, get_or-set_other, length-set}
 use Rattle.std.proofs.lemmas.Option.{slice_get_read, slice_get_within, get_or_from_slice_get}
 use Rattle.std.proofs.lemmas.Slice.Zip.{AllZip-long, all_zipped_more}
 use Rattle.std.proofs.Math.ListN.{set}
@@ -17,9 +17,10 @@ use Rattle.tt_proof_sum.specs.declared.fault.SumFault.{SumFault}
 use Rattle.tt_proof_sum.specs.declared.fault.SumFault.TheVariants.{Proof, Groups, ClaimedElsewhere, TooLarge, OutOfMemory}
 use Rattle.tt_proof_sum.specs.declared.summed.Sum.{Sum}
 use Rattle.tt_proof_sum.specs.Added.{IsPartOf, IsSumOf, Adds, due, Give}
-use Rattle.tt_proof_sum.specs.Faults.{points, all_points, IsNumbered, IsRefused, TellsAdded, IsSumFault, OutOfMemoryIsOneFault, IsSilentSum}
+use Rattle.tt_proof_sum.specs.Faults.{points, all_points, is_failed_read_at, IsNumbered, IsRefused, TellsAdded, IsSumFault, OutOfMemoryIsOneFault, IsSilentSum}
 use Rattle.tt_proof_sum.specs.Sums.{are_apart, Part, IsPart, bound_of, claims_of, AreApart, sum_of, IsSum}
 use Rattle.tt_proof_sum.proofs.Added.{spelled_part, tells_silent}
+use Rattle.tt_proof_sum.proofs.FailedReads.{other_read}
 use Rattle.tt_proof_sum.proofs.SpelledOnce.{same_part}
 use Rattle.tt_proof_sum.proofs.Together.{parts_hold, part_of_shows}
 
@@ -207,13 +208,33 @@ module _ {R : Type 0} (p : Problem) (remaining : R → Option (List ℕ)) (faile
     is = set_found now i k q x (omega (arith, l, long)) e after;
   }
 
-  pub same_at : (old now : List R) (i : ℕ) (s : Sum) → Sofar old now i s → (k : ℕ) (r x : R) → slice_get old k ≡ Some r → slice_get now k ≡ Some x → failed x ≡ failed r
-  same_at old now i s h k r x before after =
-      ap failed (sym (get_or_from_slice_get now k x r after)) ∙ h.same k r (slice_get_within old k r before) ∙ ap failed (get_or_from_slice_get old k r r before)
+  -- a source after files were taken
+  pub same_at : (old now : List R) (i : ℕ) (s : Sum) → length now ≡ length old → Sofar old now i s → (k : ℕ) (x : R) → slice_get now k ≡ Some x → failed x ≡ failed (get_or old k x)
+  same_at old now i s long h k x found =
+      let inside = slice_get_within now k x found in
+      ap failed (sym (get_or_from_slice_get now k x x found)) ∙ h.same k x (omega (arith, inside, long))
 
-  pub unfailed_at : (old now : List R) (i : ℕ) (s : Sum) (item q : R) → i < length old → length now ≡ length old → item ≡ get_or now i item → Sofar old now i s
-      → (k : ℕ) (r x : R) → (k ≡ i → failed q ≡ failed item) → slice_get old k ≡ Some r → slice_get (set now i q) k ≡ Some x → failed x ≡ failed r
-  unfailed_at old now i s item q l long is h k r x same before after = elim (cases_eq k i) [
-    | inl e ↦ let at = at_source old now i s item q l long is h k r x e before after in ap failed at.is ∙ same e ∙ ap failed at.was
-    | inr ne ↦ ap failed (sym (get_or_from_slice_get (set now i q) k x r after)) ∙ ap failed (get_or-set_other now i k q r ne) ∙ h.same k r (slice_get_within old k r before) ∙ ap failed (get_or_from_slice_get old k r r before)
+  -- a source after the file at i was refused
+  pub failed_at : (old now : List R) (i : ℕ) (s : Sum) (item q : R) (e : SumFault) → i < length old → length now ≡ length old → item ≡ get_or now i item → Sofar old now i s → due s ≡ i + 1 → IsNumbered (due s) e
+      → failed q ≡ (if is_failed_read_at (due s) e then true else failed item)
+      → (k : ℕ) (x : R) → slice_get (set now i q) k ≡ Some x → failed x ≡ (if is_failed_read_at (k + 1) e then true else failed (get_or old k x))
+  failed_at old now i s item q e l long is h number numbered reads k x found = elim (cases_eq k i) [
+    | inl at ↦ here at
+    | inr ne ↦ there ne
   ]
+    where
+      here : k ≡ i → failed x ≡ (if is_failed_read_at (k + 1) e then true else failed (get_or old k x))
+      here at =
+          let was : item ≡ get_or old k x = get_or_read old i item l (is ∙ h.rest i item (omega arith)) x ∙ ap (λ j. get_or old j x) (sym at) in
+          let due_is : due s ≡ k + 1 = omega (arith, number, at) in
+          ap failed (set_found now i k q x (omega (arith, l, long)) at found) ∙ reads ∙ ap (λ n. if is_failed_read_at n e then true else failed item) due_is
+          ∙ ap (λ (y : R). if is_failed_read_at (k + 1) e then true else failed y) was
+
+      there : k ≢ i → failed x ≡ (if is_failed_read_at (k + 1) e then true else failed (get_or old k x))
+      there ne =
+          let inside = slice_get_within (set now i q) k x found in
+          let set_long = length-set now i q in
+          let within : k < length old = omega (arith, inside, set_long, long) in
+          let other : due s ≢ k + 1 = omega (arith, number, ne) in
+          ap failed (sym (get_or_from_slice_get (set now i q) k x x found)) ∙ ap failed (get_or-set_other now i k q x ne) ∙ h.same k x within
+          ∙ ap (λ (b : Bool). if b then true else failed (get_or old k x)) (sym (other_read (due s) (k + 1) e numbered other))

@@ -254,14 +254,6 @@ told_number n f = told_cases (IsNumbered n) n f (λ e. refl) tt (λ e. refl)
 pub told_read : (n : ℕ) (f : GroupTextFault) → told_text n f ≡ read_failed_at n → f ≡ group_text.Text read_failed
 told_read n f = told_cases (λ x. x ≡ read_failed_at n → f ≡ group_text.Text read_failed) n f (λ e h. read_is f e) (λ h. absurd cc) (λ e h. absurd cc)
 
--- each failed read is reported as one
-pub told_unread : (n : ℕ) (f : GroupTextFault) → (told_text n f ≡ read_failed_at n → ⊥) → is_failed_read f ≡ false
-told_unread n f other = on (is_failed_read f) refl
-  where
-    on : (x : Bool) → is_failed_read f ≡ x → is_failed_read f ≡ false
-    on true e = absurd (other (ap (λ (x : Bool). cond x (read_failed_at n) (cond (is_environmental f) fault.OutOfMemory (fault.Groups n (groups.Text f)))) e))
-    on false e = e
-
 pub told_added : (p : Problem) (parts : List Part) (bytes : List ℕ) → is_groups bytes ≡ true → (n : ℕ) (f : GroupTextFault)
     → (is_environmental f ≡ false → (header_at (stream_of bytes) ≡ Err f) ⊎ AfterClaims p parts (stream_of bytes) (λ b claims rest. (t : TextFault) × (f ≡ group_text.Text t) × (group_at (sizes_of p) rest ≡ Err t)))
     → TellsAdded p parts bytes (told_text n f)

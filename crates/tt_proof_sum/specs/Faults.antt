@@ -1,5 +1,5 @@
 -- The meaning of the refusals of files that are added up.
-use Rattle.std.specs.Prelude.{◌≡◌, ℕ, ◌+◌, ◌-◌, ◌≤◌, ◌^◌, true, false, if◌then◌else◌, List, ◌∷◌, ◌++◌, length, sum_by, slice_get, IsSomeAnd, ⊤, ◌⊎◌}
+use Rattle.std.specs.Prelude.{◌≡◌, ℕ, ◌+◌, ◌-◌, ◌≤◌, ◌^◌, Bool, true, false, ◌&&◌, ◌==◌, if◌then◌else◌, List, ◌∷◌, ◌++◌, length, sum_by, slice_get, IsSomeAnd, ⊤, ◌⊎◌}
 use Rattle.std.specs.List.{list_all, AllZip}
 use Rattle.tt_text.specs.declared.feed.FeedFault.TheVariants as feed
 use Rattle.tt_instance.specs.Problem.{Problem}
@@ -12,6 +12,7 @@ use Rattle.tt_proof_read.specs.declared.node.Node.{Node}
 use Rattle.tt_groups_read.specs.Faults.{is_environmental, is_failed_read}
 use Rattle.tt_groups_read.specs.declared.fault.GroupTextFault.{GroupTextFault}
 use Rattle.tt_text_peek.specs.Fronts.{is_groups}
+use Rattle.tt_proof_check.specs.Faults as checks
 use Rattle.tt_proof_check.specs.Faults.{OutOfMemoryIsNoTextFault}
 use Rattle.tt_proof_check.specs.Streams.{IsProofFault, stream_of}
 use Rattle.tt_proof_check.specs.declared.fault.CheckFault.{CheckFault}
@@ -108,6 +109,11 @@ told_proof n f = Proof n f
 -- A read of this file failed, of whichever kind the file is.
 abbrev pub read_failed_at : ℕ → SumFault
 read_failed_at n = Proof n (check.Text (text.Feed feed.Read))
+
+-- Whether the fault is a failed read of this file.
+abbrev pub is_failed_read_at : ℕ → SumFault → Bool
+is_failed_read_at n (Proof m f) = (m == n) && checks.is_failed_read f
+is_failed_read_at n _ = false
 
 -- The fault of a file of groups for a fault of its text.
 abbrev pub told_text : ℕ → GroupTextFault → SumFault

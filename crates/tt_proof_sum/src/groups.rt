@@ -10,7 +10,8 @@ ghost use Rattle.tt_text_peek.specs.Fronts.{is_groups};
 ghost use Rattle.tt_proof_check.specs.FailedReads.{HoldsOfGiven};
 ghost use Rattle.tt_proof_sum.specs.Added.{Joins, IsOfKind};
 ghost use Rattle.tt_proof_sum.specs.Claiming.{TellsClaim};
-ghost use Rattle.tt_proof_sum.specs.Faults.{TellsAdded, IsNumbered, OutOfMemoryIsOneFault, read_failed_at};
+ghost use Rattle.tt_proof_check.specs.Faults.{is_err_and};
+ghost use Rattle.tt_proof_sum.specs.Faults.{TellsAdded, IsNumbered, OutOfMemoryIsOneFault, read_failed_at, is_failed_read_at};
 ghost use Rattle.tt_proof_sum.specs.Sums.{Part};
 ghost use Rattle.tt_proof_sum.specs.Tables.{State, IsTableOf, begun, group_places, first_owner, Marks};
 ghost use Rattle.tt_proof_sum.specs.UpToFailedRead.{AreGroupsCutOff};
@@ -96,8 +97,7 @@ pub fn take_groups<R: Source>(
     ensures fault { IfErr result (λ e. (before : State) (parts : List Part) (bytes : List ℕ) → IsTableOf before parts → table.old ≡ begun before →
         R.remaining source.old ≡ Some bytes → is_groups bytes ≡ true → TellsAdded instance.now parts bytes e) }
     ensures numbered { IfErr result (IsNumbered table.old.proof) }
-    ensures failed { result ≡ Err (read_failed_at table.old.proof) → R.has_failed source.new ≡ true }
-    ensures unfailed { ¬ (result ≡ Err (read_failed_at table.old.proof)) → R.has_failed source.new ≡ R.has_failed source.old }
+    ensures failed { R.has_failed source.new ≡ (if is_err_and result (is_failed_read_at table.old.proof) then true else R.has_failed source.old) }
     ensures memory { IfErr result OutOfMemoryIsOneFault }
     ensures up_to_failed_read { result ≡ Err (read_failed_at table.old.proof) → (bytes : List ℕ) → R.remaining source.old ≡ Some bytes →
         HoldsOfGiven bytes (R.remaining source.new) (AreGroupsCutOff instance.now) }

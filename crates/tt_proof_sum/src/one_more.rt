@@ -1,10 +1,11 @@
 //! Adding a file, whose claims are added to the table of owners.
 
-ghost use Rattle.std.specs.Prelude.{◌≡◌, ◌+◌, ◌<◌, ℕ, List, Some, Err, true, false, IfOk, IfErr, OnOk};
+ghost use Rattle.std.specs.Prelude.{◌≡◌, ◌+◌, ◌<◌, ℕ, List, Some, Err, true, false, if◌then◌else◌, IfOk, IfErr, OnOk};
 ghost use Rattle.tt_text_peek.specs.Fronts.{is_groups};
+ghost use Rattle.tt_proof_check.specs.Faults.{is_err_and};
 ghost use Rattle.tt_proof_check.specs.FailedReads.{IsCheckedUpToFailedRead};
 ghost use Rattle.tt_proof_sum.specs.Added.{Joins};
-ghost use Rattle.tt_proof_sum.specs.Faults.{TellsAdded, IsNumbered, OutOfMemoryIsOneFault, read_failed_at};
+ghost use Rattle.tt_proof_sum.specs.Faults.{TellsAdded, IsNumbered, OutOfMemoryIsOneFault, read_failed_at, is_failed_read_at};
 ghost use Rattle.tt_proof_sum.specs.Sums.{Part};
 ghost use Rattle.tt_proof_sum.specs.Tables.{State, IsTableOf, begun};
 ghost use Rattle.tt_proof_sum.specs.UpToFailedRead.{IsFileCheckedUpToFailedRead};
@@ -33,8 +34,7 @@ fn take_proof<R: Source>(
     ensures fault { IfErr result (λ e. (before : State) (parts : List Part) (bytes : List ℕ) → IsTableOf before parts → table.old ≡ begun before →
         R.remaining source.old ≡ Some bytes → is_groups bytes ≡ false → TellsAdded instance.now parts bytes e) }
     ensures numbered { IfErr result (IsNumbered table.old.proof) }
-    ensures failed { result ≡ Err (read_failed_at table.old.proof) → R.has_failed source.new ≡ true }
-    ensures unfailed { ¬ (result ≡ Err (read_failed_at table.old.proof)) → R.has_failed source.new ≡ R.has_failed source.old }
+    ensures failed { R.has_failed source.new ≡ (if is_err_and result (is_failed_read_at table.old.proof) then true else R.has_failed source.old) }
     ensures memory { IfErr result OutOfMemoryIsOneFault }
     ensures up_to_failed_read { result ≡ Err (read_failed_at table.old.proof) → (bytes : List ℕ) → R.remaining source.old ≡ Some bytes →
         IsCheckedUpToFailedRead instance.now bytes (R.remaining source.new) }
@@ -69,8 +69,7 @@ pub fn take_file<R: Peek>(
     ensures fault { IfErr result (λ e. (parts : List Part) (bytes : List ℕ) → IsTableOf table.old parts → R.remaining source.old ≡ Some bytes →
         TellsAdded instance.now parts bytes e) }
     ensures numbered { IfErr result (IsNumbered (table.old.proof + 1)) }
-    ensures failed { result ≡ Err (read_failed_at (table.old.proof + 1)) → R.has_failed source.new ≡ true }
-    ensures unfailed { ¬ (result ≡ Err (read_failed_at (table.old.proof + 1))) → R.has_failed source.new ≡ R.has_failed source.old }
+    ensures failed { R.has_failed source.new ≡ (if is_err_and result (is_failed_read_at (table.old.proof + 1)) then true else R.has_failed source.old) }
     ensures memory { IfErr result OutOfMemoryIsOneFault }
     ensures up_to_failed_read { result ≡ Err (read_failed_at (table.old.proof + 1)) → (bytes : List ℕ) → R.remaining source.old ≡ Some bytes →
         IsFileCheckedUpToFailedRead instance.now bytes (R.remaining source.new) }

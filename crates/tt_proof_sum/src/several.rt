@@ -1,10 +1,11 @@
 //! The sum of a list of files.
 
-ghost use Rattle.std.specs.Prelude.{◌≡◌, ◌+◌, ◌-◌, ◌<◌, ◌≤◌, ◌^◌, ℕ, List, Some, Err, true, IfOk, IfErr, MatchResult, slice_get};
+ghost use Rattle.std.specs.Prelude.{◌≡◌, ◌+◌, ◌-◌, ◌<◌, ◌≤◌, ◌^◌, ℕ, List, Some, Err, true, if◌then◌else◌, IfOk, IfErr, MatchResult, slice_get, slice_index_or};
 ghost use Rattle.tt_leaf_rules.specs.declared.leaf.Bound.{Bound};
 ghost use Rattle.tt_proof_check.specs.Derives.{HoldsOfAll};
+ghost use Rattle.tt_proof_check.specs.Faults.{is_err_and};
 ghost use Rattle.tt_proof_sum.specs.Added.{Give};
-ghost use Rattle.tt_proof_sum.specs.Faults.{IsSumFault, OutOfMemoryIsOneFault, IsSilentSum, read_failed_at, all_points};
+ghost use Rattle.tt_proof_sum.specs.Faults.{IsSumFault, OutOfMemoryIsOneFault, IsSilentSum, read_failed_at, is_failed_read_at, all_points};
 ghost use Rattle.tt_proof_sum.specs.Sums.{IsSum};
 ghost use Rattle.tt_proof_sum.specs.UpToFailedRead.{IsFileCheckedUpToFailedRead};
 
@@ -32,9 +33,8 @@ pub fn sum_proofs<R: Peek>(
     // A refusal names the first file that can't be added to those before it, and its first fault.
     ensures fault { IfErr result (λ e. (files : List (List ℕ)) → Give R.remaining sources.old files → IsSumFault instance.now files e) }
     // A failed read is reported exactly if a read failed.
-    ensures failed { (i : ℕ) (r : R) → result ≡ Err (read_failed_at (i + 1)) → slice_get sources.new i ≡ Some r → R.has_failed r ≡ true }
-    ensures unfailed { (i : ℕ) (r q : R) → ¬ (result ≡ Err (read_failed_at (i + 1))) → slice_get sources.old i ≡ Some r → slice_get sources.new i ≡ Some q →
-        R.has_failed q ≡ R.has_failed r }
+    ensures failed { (i : ℕ) (r : R) → slice_get sources.new i ≡ Some r →
+        R.has_failed r ≡ (if is_err_and result (is_failed_read_at (i + 1)) then true else R.has_failed (slice_index_or sources.old i r)) }
     ensures memory { IfErr result OutOfMemoryIsOneFault }
     // If a read failed, everything in the bytes before it has been checked.
     ensures up_to_failed_read { (i : ℕ) (r q : R) (bytes : List ℕ) → result ≡ Err (read_failed_at (i + 1)) → slice_get sources.old i ≡ Some r → slice_get sources.new i ≡ Some q →

@@ -1,8 +1,9 @@
 //! A sum of files that are added in turn.
 
-ghost use Rattle.std.specs.Prelude.{◌≡◌, ◌+◌, ◌<◌, ◌≤◌, ◌^◌, ℕ, List, [], ◌++◌, ◌∷◌, Some, Err, true, IfOk, IfErr, MatchOption};
+ghost use Rattle.std.specs.Prelude.{◌≡◌, ◌+◌, ◌<◌, ◌≤◌, ◌^◌, ℕ, List, [], ◌++◌, ◌∷◌, Some, Err, true, if◌then◌else◌, IfOk, IfErr, MatchOption};
 ghost use Rattle.tt_proof_sum.specs.Added.{IsSumOf, Adds, due};
-ghost use Rattle.tt_proof_sum.specs.Faults.{TellsAdded, IsNumbered, OutOfMemoryIsOneFault, IsSilentSum, read_failed_at, points, all_points};
+ghost use Rattle.tt_proof_check.specs.Faults.{is_err_and};
+ghost use Rattle.tt_proof_sum.specs.Faults.{TellsAdded, IsNumbered, OutOfMemoryIsOneFault, IsSilentSum, read_failed_at, is_failed_read_at, points, all_points};
 ghost use Rattle.tt_proof_sum.specs.Sums.{Part, IsPart, AreApart, both_bounds, sum_of};
 ghost use Rattle.tt_proof_sum.specs.UpToFailedRead.{IsFileCheckedUpToFailedRead};
 
@@ -68,8 +69,7 @@ impl Sum {
             TellsAdded instance.now parts bytes e) }
         ensures numbered { IfErr result (IsNumbered (due self)) }
         // A failed read is reported exactly if a read failed.
-        ensures failed { result ≡ Err (read_failed_at (due self)) → R.has_failed source.new ≡ true }
-        ensures unfailed { ¬ (result ≡ Err (read_failed_at (due self))) → R.has_failed source.new ≡ R.has_failed source.old }
+        ensures failed { R.has_failed source.new ≡ (if is_err_and result (is_failed_read_at (due self)) then true else R.has_failed source.old) }
         ensures memory { IfErr result OutOfMemoryIsOneFault }
         // If a read failed, everything in the bytes before it has been checked.
         ensures up_to_failed_read { result ≡ Err (read_failed_at (due self)) → (bytes : List ℕ) → R.remaining source.old ≡ Some bytes →

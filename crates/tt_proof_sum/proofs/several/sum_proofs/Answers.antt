@@ -1,4 +1,5 @@
 use Rattle.std.proofs.Common.{◌≡◌, ◌+◌, ◌≤◌, length, get_or, Err, sym, ap, subst, ◌∙◌, arith, length-set}
+use Rattle.std.proofs.lemmas.Option.{get_or_from_slice_get}
 use Rattle.std.proofs.lemmas.Result.{err_from_is_err_and}
 use Rattle.tt_proof_check.proofs.TextFaults.{err_same}
 use Rattle.tt_proof_check.specs.Derives.{HoldsOfAll}
@@ -8,7 +9,7 @@ use Rattle.tt_proof_sum.specs.Added.{due}
 use Rattle.tt_proof_sum.specs.Faults.{IsNumbered, read_failed_at}
 use Rattle.tt_proof_sum.specs.Sums.{IsSum}
 use Rattle.tt_proof_sum.specs.declared.fault.SumFault.{SumFault}
-use Rattle.tt_proof_sum.proofs.Lists.{taken, sofar_next, sofar_found, sofar_holds, sofar_refused, sum_silent, same_sum, same_at, set_found, at_source, unfailed_at}
+use Rattle.tt_proof_sum.proofs.Lists.{taken, sofar_next, sofar_found, sofar_holds, sofar_refused, sum_silent, same_sum, same_at, at_source, failed_at}
 use Rattle.tt_proof_sum.proofs.several.sum_proofs.Goals as goal
 
 pub add-requires : goal.add-requires
@@ -33,32 +34,19 @@ returns-in_err-sum-2-clause-only g c =
     c.in_err-sum-2.field-0.0 c.loop-source-test.true (ap (get_or c.loop-source.source-items c.loop-source.source-index) c.source-item.is) c.loop-source.invariant.sofar c.in_err-sum-2.ensures.numbered c.in_err-sum-2.ensures.fault proofs given in
     rw (e.1, e.2) (sum_silent c.args.instance.now c.days.ensures.instance proofs s h within c.in_err-sum-2.field-0.0 c.in_err-sum-2.ensures.memory told)
 
+pub returns-in_err-sum-clause-failed : goal.returns-in_err-sum-clause-failed
+returns-in_err-sum-clause-failed g c =
+    let e = err_from_is_err_and c.from_residual.result c.from_residual.ensures.1 in
+    rw (e.1, e.2) (λ i r found. ap g.R.Source.has_failed (sym (get_or_from_slice_get c.args.sources.now i r r found)))
+
 pub returns-in_err-sum-2-clause-failed : goal.returns-in_err-sum-2-clause-failed
 returns-in_err-sum-2-clause-failed g c =
-    λ i r told found.
-    let s = c.loop-source.sum in
-    let f = c.in_err-sum-2.field-0.0 in
-    let is : f ≡ read_failed_at (i + 1) = err_same c.from_residual-in_err-sum-2.result f (read_failed_at (i + 1)) c.from_residual-in_err-sum-2.ensures.1 told in
-    let number : i + 1 ≡ due s = subst (λ (x : SumFault). IsNumbered (due s) x) is c.in_err-sum-2.ensures.numbered in
-    let within : c.loop-source.source-index ≤ length c.args.sources.now = omega arith in
-    let here = taken c.args.instance.now g.R.Source.remaining g.R.Source.has_failed c.args.sources.now c.loop-source.source-items c.loop-source.source-index s within c.loop-source.invariant.sofar in
-    let place : i ≡ c.loop-source.source-index = omega (arith, number, here) in
-    let same = set_found c.args.instance.now g.R.Source.remaining g.R.Source.has_failed c.loop-source.source-items c.loop-source.source-index i c.add.new.source r (omega (arith, c.loop-source.invariant.long)) place found in
-    ap g.R.Source.has_failed same ∙ c.in_err-sum-2.ensures.failed (ap (λ (x : SumFault). Err x) (is ∙ ap read_failed_at number))
-
-pub returns-in_err-sum-2-clause-unfailed : goal.returns-in_err-sum-2-clause-unfailed
-returns-in_err-sum-2-clause-unfailed g c =
     let e = err_from_is_err_and c.from_residual-in_err-sum-2.result c.from_residual-in_err-sum-2.ensures.1 in
-    λ i r q told before after.
     let s = c.loop-source.sum in
     let within : c.loop-source.source-index ≤ length c.args.sources.now = omega arith in
     let here = taken c.args.instance.now g.R.Source.remaining g.R.Source.has_failed c.args.sources.now c.loop-source.source-items c.loop-source.source-index s within c.loop-source.invariant.sofar in
-    unfailed_at c.args.instance.now g.R.Source.remaining g.R.Source.has_failed c.args.sources.now c.loop-source.source-items c.loop-source.source-index s (get_or c.loop-source.source-items c.loop-source.source-index c.source-item.result) c.add.new.source c.loop-source-test.true
-    c.loop-source.invariant.long (ap (get_or c.loop-source.source-items c.loop-source.source-index) c.source-item.is) c.loop-source.invariant.sofar i r q
-    (λ place. c.in_err-sum-2.ensures.unfailed (λ x.
-    let number : due s ≡ i + 1 = omega (arith, place, here) in
-    let same : c.in_err-sum-2.field-0.0 ≡ read_failed_at (due s) = cc in
-    told (e.1 ∙ ap (λ (y : SumFault). Err y) (e.2 ∙ same ∙ ap read_failed_at number)))) before after
+    rw (e.1, e.2) (failed_at c.args.instance.now g.R.Source.remaining g.R.Source.has_failed c.args.sources.now c.loop-source.source-items c.loop-source.source-index s (get_or c.loop-source.source-items c.loop-source.source-index c.source-item.result) c.add.new.source
+    c.in_err-sum-2.field-0.0 c.loop-source-test.true c.loop-source.invariant.long (ap (get_or c.loop-source.source-items c.loop-source.source-index) c.source-item.is) c.loop-source.invariant.sofar here c.in_err-sum-2.ensures.numbered c.in_err-sum-2.ensures.failed)
 
 pub returns-in_err-sum-2-clause-up_to_failed_read : goal.returns-in_err-sum-2-clause-up_to_failed_read
 returns-in_err-sum-2-clause-up_to_failed_read g c =
@@ -78,7 +66,7 @@ returns-in_err-sum-2-clause-up_to_failed_read g c =
 pub loop-source-preserved : goal.loop-source-preserved
 loop-source-preserved g c = record {
   sofar = sofar_next c.args.instance.now g.R.Source.remaining g.R.Source.has_failed c.args.sources.now c.loop-source.source-items c.loop-source.source-index c.loop-source.sum c.in_ok-sum-2.sum (get_or c.loop-source.source-items c.loop-source.source-index c.source-item.result) c.add.new.source
-      c.loop-source-test.true c.loop-source.invariant.long (ap (get_or c.loop-source.source-items c.loop-source.source-index) c.source-item.is) c.loop-source.invariant.sofar c.in_ok-sum-2.ensures.added (c.in_ok-sum-2.ensures.unfailed (λ x. cc));
+      c.loop-source-test.true c.loop-source.invariant.long (ap (get_or c.loop-source.source-items c.loop-source.source-index) c.source-item.is) c.loop-source.invariant.sofar c.in_ok-sum-2.ensures.added c.in_ok-sum-2.ensures.failed;
   long = simp length-set c.loop-source.invariant.long;
 }
 
@@ -102,7 +90,6 @@ returns-clause-holds g c =
     subst (λ (b : Bound). HoldsOfAll c.args.instance.now b) (sym (c.bound.ensures h.parts h.of))
     (sofar_holds c.args.instance.now g.R.Source.remaining g.R.Source.has_failed c.args.sources.now c.loop-source.source-items c.loop-source.source-index c.loop-source.sum h)
 
-pub returns-clause-unfailed : goal.returns-clause-unfailed
-returns-clause-unfailed g c =
-    λ i r q told before after.
-    same_at c.args.instance.now g.R.Source.remaining g.R.Source.has_failed c.args.sources.now c.loop-source.source-items c.loop-source.source-index c.loop-source.sum c.loop-source.invariant.sofar i r q before after
+pub returns-clause-failed : goal.returns-clause-failed
+returns-clause-failed g c =
+    λ i r found. same_at c.args.instance.now g.R.Source.remaining g.R.Source.has_failed c.args.sources.now c.loop-source.source-items c.loop-source.source-index c.loop-source.sum c.loop-source.invariant.long c.loop-source.invariant.sofar i r found
