@@ -57,10 +57,6 @@ read_summed (sum.ClaimedElsewhere m k x) n e = cc
 read_summed (sum.TooLarge m) n e = cc
 read_summed sum.OutOfMemory n e = cc
 
--- a failed read is reported as one
-pub summed_read : (f : SumFault) (n : ℕ) → f ≡ read_failed_below n → fault_from_sum f ≡ read_failed_at n
-summed_read f n e = ap fault_from_sum e
-
 -- a sum for the instance that the bytes spell is a sum for the instance that was read
 pub record SumHere (p : Problem) (proofs : List (List ℕ)) (b : Bound) : Type 0 where
   pub is : IsSum p proofs b

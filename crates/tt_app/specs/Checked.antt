@@ -1,7 +1,8 @@
 -- The answer of `check` for the bytes of an instance, of a solution and of a proof.
-use Rattle.std.specs.Prelude.{◌≡◌, ℕ, ◌+◌, ◌⊎◌, List, Option, None, Result, Ok, Err, ⊤}
+use Rattle.std.specs.Prelude.{◌≡◌, ℕ, ◌+◌, ◌⊎◌, Bool, false, List, Option, None, Result, Ok, Err, ⊤}
 use Rattle.tt_text.specs.declared.feed.FeedFault.TheVariants as feed
 use Rattle.tt_proof_read.specs.declared.fault.TextFault.TheVariants as text
+use Rattle.tt_proof_check.specs.Faults as checks
 use Rattle.tt_proof_check.specs.Verdicts.{IsVerdict, IsFirstFault}
 use Rattle.tt_proof_check.specs.declared.fault.CheckFault.TheVariants as check
 use Rattle.tt_proof_check.specs.declared.fault.CertifyFault.TheVariants as certify
@@ -57,6 +58,11 @@ IsFileFault _ = ⊥
 -- the error that a read of the proof failed
 abbrev pub read_failed : AppFault
 read_failed = fault.Proof (check.Text (text.Feed feed.Read))
+
+-- whether an error is a failed read of the proof
+abbrev pub is_failed_read : AppFault → Bool
+is_failed_read (fault.Proof f) = checks.is_failed_read f
+is_failed_read _ = false
 
 -- -- required answers
 

@@ -1,5 +1,5 @@
 -- The bytes that `report` writes for the bytes of an instance and of a solution.
-use Rattle.std.specs.Prelude.{◌≡◌, ℕ, List, Option, Err, ⊤}
+use Rattle.std.specs.Prelude.{◌≡◌, ℕ, Bool, true, false, List, Option, Err, ⊤}
 use Rattle.std.specs.Io.KnownBytes.{Appends}
 use Rattle.tt_instance.specs.Problem.{Problem}
 use Rattle.tt_instance.specs.Reading.{instance_of}
@@ -34,6 +34,11 @@ IsReportRefusal instance solution by before after (fault.Solution f) = FailsSolu
 IsReportRefusal instance solution by before after fault.OutOfMemory = ⊤
 IsReportRefusal instance solution by before after fault.CannotWrite = IsReportedPartly instance solution by before after
 IsReportRefusal instance solution by before after _ = ⊥
+
+-- whether an error is a failed write
+abbrev pub is_failed_write : AppFault → Bool
+is_failed_write fault.CannotWrite = true
+is_failed_write _ = false
 
 -- whether no write was tried, or memory ran out before the first write
 abbrev pub IsUnwritten : AppFault → Type 0

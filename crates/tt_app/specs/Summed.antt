@@ -1,5 +1,5 @@
 -- The answer of `sum` for the bytes of an instance, of proofs, and of a solution if one is given.
-use Rattle.std.specs.Prelude.{◌≡◌, ℕ, ◌+◌, ◌≤◌, ◌⊎◌, List, Option, Result, Ok, Err, ⊤}
+use Rattle.std.specs.Prelude.{◌≡◌, ℕ, ◌+◌, ◌≤◌, ◌⊎◌, Bool, false, List, Option, Result, Ok, Err, ⊤}
 use Rattle.tt_instance.specs.Problem.{Problem}
 use Rattle.tt_instance.specs.Reading.{instance_of}
 use Rattle.tt_instance.specs.Spelling.{Spells}
@@ -57,6 +57,11 @@ fault_from_sum f = fault.Sum f
 -- the error that a read of this proof failed
 abbrev pub read_failed_at : ℕ → AppFault
 read_failed_at n = fault.Sum (below.read_failed_at n)
+
+-- whether an error is a failed read of this proof
+abbrev pub is_failed_read_at : ℕ → AppFault → Bool
+is_failed_read_at n (fault.Sum f) = below.is_failed_read_at n f
+is_failed_read_at n _ = false
 
 -- The check of a group's claim, in this file of groups, was not finished.
 pub record IsGivenUp (f : AppFault) : Type 0 where

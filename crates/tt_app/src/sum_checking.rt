@@ -1,17 +1,18 @@
 //! The call `check_sum`.
 
-ghost use Rattle.std.specs.Prelude.{◌≡◌, ◌+◌, ◌<◌, ◌^◌, ℕ, List, Some, Err, true, IfOk, IfErr, MatchResult, slice_get};
+ghost use Rattle.std.specs.Prelude.{◌≡◌, ◌+◌, ◌<◌, ◌^◌, ℕ, List, Some, Err, true, if◌then◌else◌, IfOk, IfErr, MatchResult, slice_get, slice_index_or};
 ghost use Rattle.tt_rules.specs.Score.{IsFeasible};
 ghost use Rattle.tt_leaf_rules.specs.declared.leaf.Bound.TheVariants.{AtLeast};
 ghost use Rattle.tt_proof_check.specs.Derives.{HoldsOfAll};
 ghost use Rattle.tt_proof_sum.specs.UpToFailedRead.{IsFileCheckedUpToFailedRead};
+ghost use Rattle.tt_proof_check.specs.Faults.{is_err_and};
 ghost use Rattle.tt_proof_check.specs.Headline.{BreaksARule};
 ghost use Rattle.tt_proof_sum.specs.Added.{Give};
 ghost use Rattle.tt_proof_sum.specs.Faults as below;
 ghost use Rattle.tt_proof_sum.specs.Faults.{IsSumFault, IsSilentSum, all_points};
 ghost use Rattle.tt_proof_sum.specs.Sums.{IsSum};
 ghost use Rattle.tt_app.specs.Checked.{IsFileFault, AnswersBroken};
-ghost use Rattle.tt_app.specs.Summed.{IsSpelledAndFileCheckedUpToFailedRead, read_failed_at, CertifiesSum, IsSumChecked, IsSumCheckFault, AnswersSumYes};
+ghost use Rattle.tt_app.specs.Summed.{IsSpelledAndFileCheckedUpToFailedRead, read_failed_at, is_failed_read_at, CertifiesSum, IsSumChecked, IsSumCheckFault, AnswersSumYes};
 ghost use Rattle.tt_app.specs.FaultMaps.{OutOfMemoryIsOneFault};
 
 use crate::answer::Answer;
@@ -38,9 +39,8 @@ fn summed_bound<R: Peek>(
         all_points h.parts < 2 ^ 64 → MatchResult result (λ c. c ≡ b) IsSilentSum }
     ensures holds { IfOk result (λ b. HoldsOfAll instance.now (AtLeast b)) }
     ensures fault { IfErr result (λ e. (files : List (List ℕ)) → Give R.remaining proofs.old files → IsSumFault instance.now files e) }
-    ensures failed { (i : ℕ) (r : R) → result ≡ Err (below.read_failed_at (i + 1)) → slice_get proofs.new i ≡ Some r → R.has_failed r ≡ true }
-    ensures unfailed { (i : ℕ) (r q : R) → ¬ (result ≡ Err (below.read_failed_at (i + 1))) → slice_get proofs.old i ≡ Some r → slice_get proofs.new i ≡ Some q →
-        R.has_failed q ≡ R.has_failed r }
+    ensures failed { (i : ℕ) (r : R) → slice_get proofs.new i ≡ Some r →
+        R.has_failed r ≡ (if is_err_and result (below.is_failed_read_at (i + 1)) then true else R.has_failed (slice_index_or proofs.old i r)) }
     ensures up_to_failed_read { (i : ℕ) (r q : R) (bytes : List ℕ) → result ≡ Err (below.read_failed_at (i + 1)) → slice_get proofs.old i ≡ Some r →
         slice_get proofs.new i ≡ Some q → R.remaining r ≡ Some bytes → IsFileCheckedUpToFailedRead instance.now bytes (R.remaining q) }
     ensures memory { IfErr result below.OutOfMemoryIsOneFault }
@@ -71,9 +71,8 @@ pub fn check_sum<R: Peek>(
     // If the instance or the solution is refused, no proof is read.
     ensures unread { IfErr result (λ f. IsFileFault f → proofs.new ≡ proofs.old) }
     // A failed read is reported exactly if a read failed.
-    ensures failed { (i : ℕ) (r : R) → result ≡ Err (read_failed_at (i + 1)) → slice_get proofs.new i ≡ Some r → R.has_failed r ≡ true }
-    ensures unfailed { (i : ℕ) (r q : R) → ¬ (result ≡ Err (read_failed_at (i + 1))) → slice_get proofs.old i ≡ Some r → slice_get proofs.new i ≡ Some q →
-        R.has_failed q ≡ R.has_failed r }
+    ensures failed { (i : ℕ) (r : R) → slice_get proofs.new i ≡ Some r →
+        R.has_failed r ≡ (if is_err_and result (is_failed_read_at (i + 1)) then true else R.has_failed (slice_index_or proofs.old i r)) }
     // If a failed read is reported, all the bytes of its proof before it have been checked.
     ensures up_to_failed_read { (i : ℕ) (r q : R) (bytes : List ℕ) → result ≡ Err (read_failed_at (i + 1)) → slice_get proofs.old i ≡ Some r →
         slice_get proofs.new i ≡ Some q → R.remaining r ≡ Some bytes → IsSpelledAndFileCheckedUpToFailedRead instance.now bytes (R.remaining q) }

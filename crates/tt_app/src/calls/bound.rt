@@ -1,12 +1,13 @@
 //! The call `bound`.
 
-ghost use Rattle.std.specs.Prelude.{◌≡◌, ℕ, List, Some, Err, true, IfOk, IfErr};
+ghost use Rattle.std.specs.Prelude.{◌≡◌, ℕ, List, Some, Err, true, if◌then◌else◌, IfOk, IfErr};
 ghost use Rattle.tt_instance.specs.Problem.{Problem};
 ghost use Rattle.tt_instance.specs.Spelling.{Spells};
 ghost use Rattle.tt_leaf_rules.specs.declared.leaf.Bound.{Bound};
 ghost use Rattle.tt_proof_check.specs.FailedReads.{IsSpelledAndCheckedUpToFailedRead};
+ghost use Rattle.tt_proof_check.specs.Faults.{is_err_and};
 ghost use Rattle.tt_proof_check.specs.Streams.{IsProved};
-ghost use Rattle.tt_app.specs.Checked.{read_failed};
+ghost use Rattle.tt_app.specs.Checked.{read_failed, is_failed_read};
 ghost use Rattle.tt_app.specs.Bounded.{IsBounded, IsBoundAnswer, IsBoundRefusal, AnswersBound, IsOfInstance};
 ghost use Rattle.tt_app.specs.FaultMaps.{OutOfMemoryIsOneFault};
 
@@ -43,8 +44,7 @@ pub fn bound<R: Source>(alloc: Global, instance: &[u8], proof: &mut R) -> Result
     // If the instance is refused, the proof isn't read.
     ensures unread { IfErr result (λ f. IsOfInstance f → proof.new ≡ proof.old) }
     // A failed read is reported exactly if a read failed.
-    ensures failed { result ≡ Err read_failed → R.has_failed proof.new ≡ true }
-    ensures unfailed { ¬ (result ≡ Err read_failed) → R.has_failed proof.new ≡ R.has_failed proof.old }
+    ensures failed { R.has_failed proof.new ≡ (if is_err_and result is_failed_read then true else R.has_failed proof.old) }
     // If a failed read is reported, all the bytes of the proof before it have been checked.
     ensures up_to_failed_read { result ≡ Err read_failed → (bytes : List ℕ) → R.remaining proof.old ≡ Some bytes →
         IsSpelledAndCheckedUpToFailedRead instance.now bytes (R.remaining proof.new) }

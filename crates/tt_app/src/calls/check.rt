@@ -1,9 +1,10 @@
 //! The call `check`.
 
-ghost use Rattle.std.specs.Prelude.{◌≡◌, ◌+◌, ℕ, List, Some, Err, true, IfOk, IfErr};
+ghost use Rattle.std.specs.Prelude.{◌≡◌, ◌+◌, ℕ, List, Some, Err, true, if◌then◌else◌, IfOk, IfErr};
 ghost use Rattle.tt_proof_check.specs.FailedReads.{IsSpelledAndCheckedUpToFailedRead};
+ghost use Rattle.tt_proof_check.specs.Faults.{is_err_and};
 ghost use Rattle.tt_proof_check.specs.Headline.{BreaksARule, Certifies};
-ghost use Rattle.tt_app.specs.Checked.{IsChecked, IsCheckRefusal, IsFileFault, AnswersYes, AnswersBroken, IsYesAnswer, IsBrokenAnswer, read_failed};
+ghost use Rattle.tt_app.specs.Checked.{IsChecked, IsCheckRefusal, IsFileFault, AnswersYes, AnswersBroken, IsYesAnswer, IsBrokenAnswer, read_failed, is_failed_read};
 ghost use Rattle.tt_app.specs.FaultMaps.{OutOfMemoryIsOneFault};
 
 use crate::answer::Answer;
@@ -60,8 +61,7 @@ pub fn check<R: Source>(
     // If the instance or the solution is refused, the proof isn't read.
     ensures unread { IfErr result (λ f. IsFileFault f → proof.new ≡ proof.old) }
     // A failed read is reported exactly if a read failed.
-    ensures failed { result ≡ Err read_failed → R.has_failed proof.new ≡ true }
-    ensures unfailed { ¬ (result ≡ Err read_failed) → R.has_failed proof.new ≡ R.has_failed proof.old }
+    ensures failed { R.has_failed proof.new ≡ (if is_err_and result is_failed_read then true else R.has_failed proof.old) }
     // If a failed read is reported, all the bytes of the proof before it have been checked.
     ensures up_to_failed_read { result ≡ Err read_failed → (bytes : List ℕ) → R.remaining proof.old ≡ Some bytes →
         IsSpelledAndCheckedUpToFailedRead instance.now bytes (R.remaining proof.new) }

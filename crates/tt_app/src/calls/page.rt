@@ -1,6 +1,6 @@
 //! The calls `page` and `proved_page`.
 
-ghost use Rattle.std.specs.Prelude.{◌≡◌, ◌⊎◌, ◌+◌, ◌<◌, ◌^◌, ℕ, List, Some, Ok, Err, true, IfOk, IfErr, MatchResult, ⊤, slice_get};
+ghost use Rattle.std.specs.Prelude.{◌≡◌, ◌⊎◌, ◌+◌, ◌<◌, ◌^◌, ℕ, List, Some, Ok, Err, true, if◌then◌else◌, IfOk, IfErr, MatchResult, ⊤, slice_get, slice_index_or};
 ghost use Rattle.std.specs.Io.KnownBytes.{Appends};
 ghost use Rattle.tt_instance.specs.Problem.{Problem};
 ghost use Rattle.tt_instance.specs.declared.cell.Cell.{Cell};
@@ -8,14 +8,15 @@ ghost use Rattle.tt_leaf_rules.specs.declared.leaf.Bound.{Bound};
 ghost use Rattle.tt_page.specs.Pages.{page_text};
 ghost use Rattle.tt_page_text.specs.Labelled.{Labelled};
 ghost use Rattle.tt_page_text.specs.Labels.{Gives};
+ghost use Rattle.tt_proof_check.specs.Faults.{is_err_and};
 ghost use Rattle.tt_proof_sum.specs.Added.{Give};
 ghost use Rattle.tt_proof_sum.specs.Faults.{all_points};
 ghost use Rattle.tt_proof_sum.specs.Sums.{IsSum};
 ghost use Rattle.tt_table.specs.Spelling.{SpellsBoth};
 ghost use Rattle.tt_app.specs.FaultMaps.{OutOfMemoryIsOneFault};
 ghost use Rattle.tt_app.specs.Paged.{labels_for, IsBeforeProofs, IsPaged, IsPageRefusal, IsProvedPaged, IsProvedPageRefusal, IsSilentOrUnwritable};
-ghost use Rattle.tt_app.specs.Reported.{IsUnwritten};
-ghost use Rattle.tt_app.specs.Summed.{IsSpelledAndFileCheckedUpToFailedRead, read_failed_at};
+ghost use Rattle.tt_app.specs.Reported.{IsUnwritten, is_failed_write};
+ghost use Rattle.tt_app.specs.Summed.{IsSpelledAndFileCheckedUpToFailedRead, read_failed_at, is_failed_read_at};
 ghost use Rattle.tt_app.specs.declared.fault.AppFault.TheVariants as fault;
 
 use crate::fault::AppFault;
@@ -67,8 +68,7 @@ pub fn page<W: Sink>(
     // If any other error is reported, nothing is written.
     ensures unwritten { IfErr result (λ f. IsUnwritten f → sink.new ≡ sink.old) }
     // A failed write is reported exactly if a write failed.
-    ensures failed { result ≡ Err fault.CannotWrite → W.has_failed sink.new ≡ true }
-    ensures unfailed { ¬ (result ≡ Err fault.CannotWrite) → W.has_failed sink.new ≡ W.has_failed sink.old }
+    ensures failed { W.has_failed sink.new ≡ (if is_err_and result is_failed_write then true else W.has_failed sink.old) }
 {
     let instance = read_instance(alloc, instance)?;
     let table = read_solution(alloc, &instance, solution)?;
@@ -102,12 +102,10 @@ pub fn proved_page<R: Peek, W: Sink>(
     // If any other error than a failed write is reported, nothing is written.
     ensures unwritten { IfErr result (λ f. IsUnwritten f → sink.new ≡ sink.old) }
     // A failed write is reported exactly if a write failed.
-    ensures failed { result ≡ Err fault.CannotWrite → W.has_failed sink.new ≡ true }
-    ensures unfailed { ¬ (result ≡ Err fault.CannotWrite) → W.has_failed sink.new ≡ W.has_failed sink.old }
+    ensures failed { W.has_failed sink.new ≡ (if is_err_and result is_failed_write then true else W.has_failed sink.old) }
     // A failed read is reported exactly if a read failed.
-    ensures failed_read { (i : ℕ) (r : R) → result ≡ Err (read_failed_at (i + 1)) → slice_get proofs.new i ≡ Some r → R.has_failed r ≡ true }
-    ensures unfailed_read { (i : ℕ) (r q : R) → ¬ (result ≡ Err (read_failed_at (i + 1))) → slice_get proofs.old i ≡ Some r →
-        slice_get proofs.new i ≡ Some q → R.has_failed q ≡ R.has_failed r }
+    ensures failed_read { (i : ℕ) (r : R) → slice_get proofs.new i ≡ Some r →
+        R.has_failed r ≡ (if is_err_and result (is_failed_read_at (i + 1)) then true else R.has_failed (slice_index_or proofs.old i r)) }
     // If a failed read is reported, all the bytes of its proof before it have been checked.
     ensures up_to_failed_read { (i : ℕ) (r q : R) (bytes : List ℕ) → result ≡ Err (read_failed_at (i + 1)) → slice_get proofs.old i ≡ Some r →
         slice_get proofs.new i ≡ Some q → R.remaining r ≡ Some bytes → IsSpelledAndFileCheckedUpToFailedRead instance.now bytes (R.remaining q) }

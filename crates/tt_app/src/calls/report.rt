@@ -1,9 +1,10 @@
 //! The call `report`.
 
-ghost use Rattle.std.specs.Prelude.{◌≡◌, ◌⊎◌, List, Err, true, IfOk, IfErr, MatchResult, ⊤};
+ghost use Rattle.std.specs.Prelude.{◌≡◌, ◌⊎◌, List, Err, true, if◌then◌else◌, IfOk, IfErr, MatchResult, ⊤};
 ghost use Rattle.tt_instance.specs.Problem.{Problem};
 ghost use Rattle.tt_instance.specs.declared.cell.Cell.{Cell};
-ghost use Rattle.tt_app.specs.Reported.{IsReported, IsReportRefusal, IsUnwritten};
+ghost use Rattle.tt_proof_check.specs.Faults.{is_err_and};
+ghost use Rattle.tt_app.specs.Reported.{IsReported, IsReportRefusal, IsUnwritten, is_failed_write};
 ghost use Rattle.tt_table.specs.Spelling.{SpellsBoth};
 ghost use Rattle.tt_app.specs.declared.fault.AppFault.TheVariants as fault;
 
@@ -32,8 +33,7 @@ pub fn report<W: Sink>(
     // If any other error is reported, nothing is written.
     ensures unwritten { IfErr result (λ f. IsUnwritten f → sink.new ≡ sink.old) }
     // A failed write is reported exactly if a write failed.
-    ensures failed { result ≡ Err fault.CannotWrite → W.has_failed sink.new ≡ true }
-    ensures unfailed { ¬ (result ≡ Err fault.CannotWrite) → W.has_failed sink.new ≡ W.has_failed sink.old }
+    ensures failed { W.has_failed sink.new ≡ (if is_err_and result is_failed_write then true else W.has_failed sink.old) }
 {
     let instance = read_instance(alloc, instance)?;
     let table = read_solution(alloc, &instance, solution)?;

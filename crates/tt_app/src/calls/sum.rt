@@ -1,14 +1,15 @@
 //! The call `sum`.
 
-ghost use Rattle.std.specs.Prelude.{◌≡◌, ◌+◌, ◌<◌, ◌^◌, ℕ, List, Some, Err, true, IfOk, IfErr, slice_get};
+ghost use Rattle.std.specs.Prelude.{◌≡◌, ◌+◌, ◌<◌, ◌^◌, ℕ, List, Some, Err, true, if◌then◌else◌, IfOk, IfErr, slice_get, slice_index_or};
 ghost use Rattle.tt_instance.specs.Problem.{Problem};
 ghost use Rattle.tt_instance.specs.Spelling.{Spells};
 ghost use Rattle.tt_leaf_rules.specs.declared.leaf.Bound.{Bound};
+ghost use Rattle.tt_proof_check.specs.Faults.{is_err_and};
 ghost use Rattle.tt_proof_sum.specs.Added.{Give};
 ghost use Rattle.tt_proof_sum.specs.Faults.{IsSumFault, all_points};
 ghost use Rattle.tt_proof_sum.specs.Sums.{IsSum};
 ghost use Rattle.tt_app.specs.Bounded.{IsOfInstance};
-ghost use Rattle.tt_app.specs.Summed.{IsSpelledAndFileCheckedUpToFailedRead, IsSummed, IsSumRefusal, AnswersSum, read_failed_at};
+ghost use Rattle.tt_app.specs.Summed.{IsSpelledAndFileCheckedUpToFailedRead, IsSummed, IsSumRefusal, AnswersSum, read_failed_at, is_failed_read_at};
 ghost use Rattle.tt_app.specs.FaultMaps.{OutOfMemoryIsOneFault};
 
 use crate::answer::Answer;
@@ -45,9 +46,8 @@ pub fn sum<R: Peek>(alloc: Global, instance: &[u8], proofs: &mut [R]) -> Result<
     // If the instance is refused, no proof is read.
     ensures unread { IfErr result (λ f. IsOfInstance f → proofs.new ≡ proofs.old) }
     // A failed read is reported exactly if a read failed.
-    ensures failed { (i : ℕ) (r : R) → result ≡ Err (read_failed_at (i + 1)) → slice_get proofs.new i ≡ Some r → R.has_failed r ≡ true }
-    ensures unfailed { (i : ℕ) (r q : R) → ¬ (result ≡ Err (read_failed_at (i + 1))) → slice_get proofs.old i ≡ Some r → slice_get proofs.new i ≡ Some q →
-        R.has_failed q ≡ R.has_failed r }
+    ensures failed { (i : ℕ) (r : R) → slice_get proofs.new i ≡ Some r →
+        R.has_failed r ≡ (if is_err_and result (is_failed_read_at (i + 1)) then true else R.has_failed (slice_index_or proofs.old i r)) }
     // If a failed read is reported, all the bytes of its proof before it have been checked.
     ensures up_to_failed_read { (i : ℕ) (r q : R) (bytes : List ℕ) → result ≡ Err (read_failed_at (i + 1)) → slice_get proofs.old i ≡ Some r →
         slice_get proofs.new i ≡ Some q → R.remaining r ≡ Some bytes → IsSpelledAndFileCheckedUpToFailedRead instance.now bytes (R.remaining q) }

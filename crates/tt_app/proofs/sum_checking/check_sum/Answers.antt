@@ -76,24 +76,11 @@ returns-in_err-bound-clause-memory g c =
     let e = err_from_is_err_and c.from_residual-in_err-bound.result c.from_residual-in_err-bound.ensures.1 in
     rw (e.1, e.2) (memory_sum c.in_err-bound.field-0.0 c.in_err-bound.ensures.memory)
 
-pub returns-in_err-bound-clause-failed : goal.returns-in_err-bound-clause-failed
-returns-in_err-bound-clause-failed g c =
-    λ i r told.
-    let is = read_summed c.in_err-bound.field-0.0 _ (err_same c.from_residual-in_err-bound.result _ (read_failed_at _) c.from_residual-in_err-bound.ensures.1 told) in
-    c.in_err-bound.ensures.failed i r (ap (λ f. Err f) is)
-
 pub returns-in_err-bound-clause-up_to_failed_read : goal.returns-in_err-bound-clause-up_to_failed_read
 returns-in_err-bound-clause-up_to_failed_read g c =
     λ i r q bytes told was now known.
     let is = read_summed c.in_err-bound.field-0.0 _ (err_same c.from_residual-in_err-bound.result _ (read_failed_at _) c.from_residual-in_err-bound.ensures.1 told) in
     record { problem = c.in_ok-instance.instance; spelled = c.in_ok-instance.ensures.found; tells = c.in_err-bound.ensures.up_to_failed_read i r q bytes (ap (λ f. Err f) is) was now known }
-
-pub returns-in_err-bound-clause-unfailed : goal.returns-in_err-bound-clause-unfailed
-returns-in_err-bound-clause-unfailed g c =
-    let e = err_from_is_err_and c.from_residual-in_err-bound.result c.from_residual-in_err-bound.ensures.1 in
-    λ i r q told. c.in_err-bound.ensures.unfailed i r q (λ failed.
-    let is : c.in_err-bound.field-0.0 ≡ _ = cc in
-    told (rw (e.1, e.2) (ap (λ f. Err f) (summed_read c.in_err-bound.field-0.0 _ is))))
 
 pub returns-in_err-yes_answer-clause-broken : goal.returns-in_err-yes_answer-clause-broken
 returns-in_err-yes_answer-clause-broken g c = λ k. absurd (not_broken c.args.instance.now c.args.solution.now c.in_ok-instance.instance c.in_ok-table.table c.in_ok-instance.ensures.found c.in_ok-table.ensures.found c.score-score.result c.score-score.ensures (no_points c.feasible.result _ c.feasible.ensures c.if-not-feasible.false) k)
@@ -117,3 +104,24 @@ returns-clause-yes g c =
 
 pub returns-clause-broken : goal.returns-clause-broken
 returns-clause-broken g c = λ k. absurd (not_broken c.args.instance.now c.args.solution.now c.in_ok-instance.instance c.in_ok-table.table c.in_ok-instance.ensures.found c.in_ok-table.ensures.found c.score-score.result c.score-score.ensures (no_points c.feasible.result _ c.feasible.ensures c.if-not-feasible.false) k)
+
+pub returns-in_err-instance-clause-failed : goal.returns-in_err-instance-clause-failed
+returns-in_err-instance-clause-failed g c =
+    λ i r found.
+    let f = c.in_err-instance.field-0.0 in
+    calm c.from_residual.result (fault_from_instance f) (is_failed_read_at (i + 1)) _ _ c.from_residual.ensures.1 (instance_read_at (i + 1) f) (unread g.R.Source.has_failed c.args.proofs.now i r found)
+
+pub returns-in_err-table-clause-failed : goal.returns-in_err-table-clause-failed
+returns-in_err-table-clause-failed g c =
+    λ i r found.
+    let f = c.in_err-table.field-0.0 in
+    calm c.from_residual-in_err-table.result (fault_from_solution f) (is_failed_read_at (i + 1)) _ _ c.from_residual-in_err-table.ensures.1 (solution_read_at (i + 1) f) (unread g.R.Source.has_failed c.args.proofs.now i r found)
+
+pub returns-in_err-bound-clause-failed : goal.returns-in_err-bound-clause-failed
+returns-in_err-bound-clause-failed g c =
+    λ i r found.
+    let f = c.in_err-bound.field-0.0 in
+    passed c.from_residual-in_err-bound.result (fault_from_sum f) (is_failed_read_at (i + 1)) _ _ _ c.from_residual-in_err-bound.ensures.1 (sum_read (i + 1) f) (c.in_err-bound.ensures.failed i r found)
+
+pub returns-then-not-feasible-clause-failed : goal.returns-then-not-feasible-clause-failed
+returns-then-not-feasible-clause-failed g c = λ i r found. unread g.R.Source.has_failed c.args.proofs.now i r found

@@ -1,8 +1,9 @@
-use Rattle.std.proofs.Common.{Err, ap}
+use Rattle.std.proofs.Common.{Err, refl, ap}
 use Rattle.std.proofs.lemmas.Result.{err_from_is_err_and}
 use Rattle.tt_proof_check.proofs.TextFaults.{err_same}
-use Rattle.tt_app.specs.Checked.{read_failed}
-use Rattle.tt_app.proofs.FailedReads.{read_checked}
+use Rattle.tt_app.specs.Checked.{read_failed, is_failed_read}
+use Rattle.tt_app.specs.FaultMaps.{fault_from_instance, fault_from_check}
+use Rattle.tt_app.proofs.FailedReads.{read_checked, passed, calm, instance_read, check_read}
 use Rattle.tt_app.proofs.ToldMemory.{memory_instance, memory_check}
 use Rattle.tt_app.proofs.DerivedBounds.{spelled_memory, proof_tells, silent_bound, proved_here, bounded}
 use Rattle.tt_app.proofs.calls.bound.bound.Goals as goal
@@ -41,3 +42,13 @@ pub returns-in_err-bound-clause-memory : goal.returns-in_err-bound-clause-memory
 returns-in_err-bound-clause-memory g c =
     let e = err_from_is_err_and c.from_residual-in_err-bound.result c.from_residual-in_err-bound.ensures.1 in
     rw (e.1, e.2) (memory_check c.in_err-bound.field-0.0 c.in_err-bound.ensures.memory)
+
+pub returns-in_err-instance-clause-failed : goal.returns-in_err-instance-clause-failed
+returns-in_err-instance-clause-failed g c =
+    let f = c.in_err-instance.field-0.0 in
+    calm c.from_residual.result (fault_from_instance f) is_failed_read _ _ c.from_residual.ensures.1 (instance_read f) refl
+
+pub returns-in_err-bound-clause-failed : goal.returns-in_err-bound-clause-failed
+returns-in_err-bound-clause-failed g c =
+    let f = c.in_err-bound.field-0.0 in
+    passed c.from_residual-in_err-bound.result (fault_from_check f) is_failed_read _ _ _ c.from_residual-in_err-bound.ensures.1 (check_read f) c.in_err-bound.ensures.failed

@@ -1,10 +1,10 @@
-use Rattle.std.proofs.Common.{◌≡◌, Ok, Err, ap, subst}
+use Rattle.std.proofs.Common.{Ok, Err, ap, subst}
 use Rattle.tt_proof_check.specs.Verdicts.{AnswersYes as AnswersYesBelow}
 use Rattle.std.proofs.lemmas.Result.{err_from_is_err_and}
 use Rattle.tt_proof_check.proofs.TextFaults.{err_same}
-use Rattle.tt_app.specs.Checked.{read_failed}
-use Rattle.tt_proof_check.specs.declared.fault.CertifyFault.TheVariants as certify
-use Rattle.tt_app.proofs.FailedReads.{failed_text, read_certified, certified_read}
+use Rattle.tt_app.specs.Checked.{read_failed, is_failed_read}
+use Rattle.tt_app.specs.FaultMaps.{fault_from_certify}
+use Rattle.tt_app.proofs.FailedReads.{read_certified, passed, certify_read}
 use Rattle.tt_app.proofs.ToldMemory.{memory_certify}
 use Rattle.tt_app.proofs.Answering.{tells, yes_told, yes_same}
 use Rattle.tt_app.proofs.calls.check.check.Goals as goal
@@ -37,9 +37,7 @@ returns-in_err-cost-clause-memory g c =
     let e = err_from_is_err_and c.from_residual.result c.from_residual.ensures.1 in
     rw (e.1, e.2) (memory_certify c.in_err-cost.field-0.0 c.in_err-cost.ensures.memory)
 
-pub returns-in_err-cost-clause-unfailed : goal.returns-in_err-cost-clause-unfailed
-returns-in_err-cost-clause-unfailed g c =
-    let e = err_from_is_err_and c.from_residual.result c.from_residual.ensures.1 in
-    rw (e.1, e.2) (λ told. c.in_err-cost.ensures.unfailed (λ failed.
-    let is : c.in_err-cost.field-0.0 ≡ certify.Proof failed_text = cc in
-    told (ap (λ f. Err f) (certified_read c.in_err-cost.field-0.0 is))))
+pub returns-in_err-cost-clause-failed : goal.returns-in_err-cost-clause-failed
+returns-in_err-cost-clause-failed g c =
+    let f = c.in_err-cost.field-0.0 in
+    passed c.from_residual.result (fault_from_certify f) is_failed_read _ _ _ c.from_residual.ensures.1 (certify_read f) c.in_err-cost.ensures.failed

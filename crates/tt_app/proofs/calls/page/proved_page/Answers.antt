@@ -1,9 +1,13 @@
-use Rattle.std.proofs.Common.{◌≡◌, Err, refl, ap, inl}
+use Rattle.std.proofs.Common.{◌≡◌, ◌+◌, Err, refl, ap, inl}
 use Rattle.std.proofs.lemmas.Result.{err_from_is_err_and}
-use Rattle.tt_proof_check.proofs.TextFaults.{err_same}
+use Rattle.tt_proof_check.proofs.TextFaults.{err_same, same_reads}
 use Rattle.tt_proof_sum.specs.Added.{Give}
-use Rattle.tt_app.specs.Summed.{read_failed_at}
-use Rattle.tt_app.proofs.Adding.{silent_sum, memory_sum, read_summed, summed_read, sum_here}
+use Rattle.tt_report.specs.declared.fault.ReportFault.TheVariants.{Write}
+use Rattle.tt_app.specs.FaultMaps.{fault_from_instance, fault_from_solution, fault_from_labels, fault_from_report}
+use Rattle.tt_app.specs.Reported.{is_failed_write}
+use Rattle.tt_app.specs.Summed.{fault_from_sum, read_failed_at, is_failed_read_at}
+use Rattle.tt_app.proofs.Adding.{silent_sum, memory_sum, read_summed, sum_here}
+use Rattle.tt_app.proofs.FailedReads.{passed, calm, unread, sum_read, instance_read_at, solution_read_at, labels_read_at, report_read_at, instance_write, solution_write, labels_write, sum_write, report_writes}
 use Rattle.tt_app.proofs.Files.{tells_instance, tells_solution, only_memory}
 use Rattle.tt_app.proofs.Paging.{names_memory, names_tell_proved, sum_tells_page, page_tells, page_same, output_says_nothing}
 use Rattle.tt_app.proofs.ToldMemory.{memory_instance, memory_solution, memory_labels}
@@ -61,24 +65,11 @@ returns-in_err-bound-clause-memory g c =
     let e = err_from_is_err_and c.from_residual-in_err-bound.result c.from_residual-in_err-bound.ensures.1 in
     rw (e.1, e.2) (memory_sum c.in_err-bound.field-0.0 c.in_err-bound.ensures.memory)
 
-pub returns-in_err-bound-clause-failed_read : goal.returns-in_err-bound-clause-failed_read
-returns-in_err-bound-clause-failed_read g c =
-    λ i r told.
-    let is = read_summed c.in_err-bound.field-0.0 _ (err_same c.from_residual-in_err-bound.result _ (read_failed_at _) c.from_residual-in_err-bound.ensures.1 told) in
-    c.in_err-bound.ensures.failed i r (ap (λ f. Err f) is)
-
 pub returns-in_err-bound-clause-up_to_failed_read : goal.returns-in_err-bound-clause-up_to_failed_read
 returns-in_err-bound-clause-up_to_failed_read g c =
     λ i r q bytes told was now known.
     let is = read_summed c.in_err-bound.field-0.0 _ (err_same c.from_residual-in_err-bound.result _ (read_failed_at _) c.from_residual-in_err-bound.ensures.1 told) in
     record { problem = c.in_ok-instance.instance; spelled = c.in_ok-instance.ensures.found; tells = c.in_err-bound.ensures.up_to_failed_read i r q bytes (ap (λ f. Err f) is) was now known }
-
-pub returns-in_err-bound-clause-unfailed_read : goal.returns-in_err-bound-clause-unfailed_read
-returns-in_err-bound-clause-unfailed_read g c =
-    let e = err_from_is_err_and c.from_residual-in_err-bound.result c.from_residual-in_err-bound.ensures.1 in
-    λ i r q told. c.in_err-bound.ensures.unfailed i r q (λ failed.
-    let is : c.in_err-bound.field-0.0 ≡ _ = cc in
-    told (rw (e.1, e.2) (ap (λ f. Err f) (summed_read c.in_err-bound.field-0.0 _ is))))
 
 pub returns-in_err-page-clause-fault : goal.returns-in_err-page-clause-fault
 returns-in_err-page-clause-fault g c =
@@ -112,3 +103,60 @@ returns-clause-only g c =
     let here = sum_here c.args.instance.now files p c.in_ok-instance.instance b both.spelled c.in_ok-instance.ensures.found h within in
     page_same c.args.instance.now c.args.solution.now p c.in_ok-instance.instance t c.in_ok-table.table c.args.names l _ b c.in_ok-bound.bound c.args.style.now _ _ both c.in_ok-instance.ensures.found c.in_ok-table.ensures.found named c.in_ok-labels.ensures
     (c.in_ok-bound.ensures.only files b given here.is here.within) c.in_ok-page.ensures.written
+
+pub returns-in_err-instance-clause-failed_read : goal.returns-in_err-instance-clause-failed_read
+returns-in_err-instance-clause-failed_read g c =
+    λ i r found.
+    let f = c.in_err-instance.field-0.0 in
+    calm c.from_residual.result (fault_from_instance f) (is_failed_read_at (i + 1)) _ _ c.from_residual.ensures.1 (instance_read_at (i + 1) f) (unread g.R.Source.has_failed c.args.proofs.now i r found)
+
+pub returns-in_err-table-clause-failed_read : goal.returns-in_err-table-clause-failed_read
+returns-in_err-table-clause-failed_read g c =
+    λ i r found.
+    let f = c.in_err-table.field-0.0 in
+    calm c.from_residual-in_err-table.result (fault_from_solution f) (is_failed_read_at (i + 1)) _ _ c.from_residual-in_err-table.ensures.1 (solution_read_at (i + 1) f) (unread g.R.Source.has_failed c.args.proofs.now i r found)
+
+pub returns-in_err-bound-clause-failed_read : goal.returns-in_err-bound-clause-failed_read
+returns-in_err-bound-clause-failed_read g c =
+    λ i r found.
+    let f = c.in_err-bound.field-0.0 in
+    passed c.from_residual-in_err-bound.result (fault_from_sum f) (is_failed_read_at (i + 1)) _ _ _ c.from_residual-in_err-bound.ensures.1 (sum_read (i + 1) f) (c.in_err-bound.ensures.failed i r found)
+
+pub returns-in_err-labels-clause-failed_read : goal.returns-in_err-labels-clause-failed_read
+returns-in_err-labels-clause-failed_read g c =
+    λ i r found.
+    let f = c.in_err-labels.field-0.0 in
+    calm c.from_residual-in_err-labels.result (fault_from_labels f) (is_failed_read_at (i + 1)) _ _ c.from_residual-in_err-labels.ensures.1 (labels_read_at (i + 1) f) (unread g.R.Source.has_failed c.args.proofs.now i r found)
+
+pub returns-in_err-page-clause-failed_read : goal.returns-in_err-page-clause-failed_read
+returns-in_err-page-clause-failed_read g c =
+    λ i r found.
+    let f = c.in_err-page.field-0.0 in
+    calm c.from_residual-in_err-page.result (fault_from_report f) (is_failed_read_at (i + 1)) _ _ c.from_residual-in_err-page.ensures.1 (report_read_at (i + 1) f) (c.in_ok-bound.ensures.failed i r found)
+
+pub returns-in_err-instance-clause-failed : goal.returns-in_err-instance-clause-failed
+returns-in_err-instance-clause-failed g c =
+    let f = c.in_err-instance.field-0.0 in
+    calm c.from_residual.result (fault_from_instance f) is_failed_write _ _ c.from_residual.ensures.1 (instance_write f) refl
+
+pub returns-in_err-table-clause-failed : goal.returns-in_err-table-clause-failed
+returns-in_err-table-clause-failed g c =
+    let f = c.in_err-table.field-0.0 in
+    calm c.from_residual-in_err-table.result (fault_from_solution f) is_failed_write _ _ c.from_residual-in_err-table.ensures.1 (solution_write f) refl
+
+pub returns-in_err-labels-clause-failed : goal.returns-in_err-labels-clause-failed
+returns-in_err-labels-clause-failed g c =
+    let f = c.in_err-labels.field-0.0 in
+    calm c.from_residual-in_err-labels.result (fault_from_labels f) is_failed_write _ _ c.from_residual-in_err-labels.ensures.1 (labels_write f) refl
+
+pub returns-in_err-bound-clause-failed : goal.returns-in_err-bound-clause-failed
+returns-in_err-bound-clause-failed g c =
+    let f = c.in_err-bound.field-0.0 in
+    calm c.from_residual-in_err-bound.result (fault_from_sum f) is_failed_write _ _ c.from_residual-in_err-bound.ensures.1 (sum_write f) refl
+
+pub returns-in_err-page-clause-failed : goal.returns-in_err-page-clause-failed
+returns-in_err-page-clause-failed g c =
+    let f = c.in_err-page.field-0.0 in
+    let e = c.in_err-page.ensures in
+    same_reads c.from_residual-in_err-page.result (fault_from_report f) is_failed_write _ _ _ c.from_residual-in_err-page.ensures.1
+    (report_writes f _ _ (λ is. e.failed (ap (λ x. Err x) is)) (λ other. e.unfailed (λ is. other (let same : f ≡ Write = cc in same)))) refl

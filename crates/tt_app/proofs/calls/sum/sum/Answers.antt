@@ -1,11 +1,13 @@
-use Rattle.std.proofs.Common.{◌≡◌, Err, ap, subst}
+use Rattle.std.proofs.Common.{◌+◌, Err, ap, subst}
 use Rattle.std.proofs.lemmas.Result.{err_from_is_err_and}
 use Rattle.tt_proof_check.proofs.TextFaults.{err_same}
 use Rattle.tt_proof_sum.specs.Added.{Give}
 use Rattle.tt_app.specs.Bounded.{IsBoundAnswer}
-use Rattle.tt_app.specs.Summed.{read_failed_at}
+use Rattle.tt_app.specs.FaultMaps.{fault_from_instance}
+use Rattle.tt_app.specs.Summed.{fault_from_sum, read_failed_at, is_failed_read_at}
+use Rattle.tt_app.proofs.FailedReads.{passed, calm, unread, instance_read_at, sum_read}
 use Rattle.tt_app.proofs.ToldMemory.{memory_instance}
-use Rattle.tt_app.proofs.Adding.{spelled_memory, sum_tells, silent_sum, memory_sum, read_summed, summed_read, sum_here}
+use Rattle.tt_app.proofs.Adding.{spelled_memory, sum_tells, silent_sum, memory_sum, read_summed, sum_here}
 use Rattle.tt_app.proofs.calls.sum.sum.Goals as goal
 
 pub returns-in_err-instance-clause-only : goal.returns-in_err-instance-clause-only
@@ -35,24 +37,11 @@ returns-in_err-bound-clause-memory g c =
     let e = err_from_is_err_and c.from_residual-in_err-bound.result c.from_residual-in_err-bound.ensures.1 in
     rw (e.1, e.2) (memory_sum c.in_err-bound.field-0.0 c.in_err-bound.ensures.memory)
 
-pub returns-in_err-bound-clause-failed : goal.returns-in_err-bound-clause-failed
-returns-in_err-bound-clause-failed g c =
-    λ i r told.
-    let is = read_summed c.in_err-bound.field-0.0 _ (err_same c.from_residual-in_err-bound.result _ (read_failed_at _) c.from_residual-in_err-bound.ensures.1 told) in
-    c.in_err-bound.ensures.failed i r (ap (λ f. Err f) is)
-
 pub returns-in_err-bound-clause-up_to_failed_read : goal.returns-in_err-bound-clause-up_to_failed_read
 returns-in_err-bound-clause-up_to_failed_read g c =
     λ i r q bytes told was now known.
     let is = read_summed c.in_err-bound.field-0.0 _ (err_same c.from_residual-in_err-bound.result _ (read_failed_at _) c.from_residual-in_err-bound.ensures.1 told) in
     record { problem = c.in_ok-instance.instance; spelled = c.in_ok-instance.ensures.found; tells = c.in_err-bound.ensures.up_to_failed_read i r q bytes (ap (λ f. Err f) is) was now known }
-
-pub returns-in_err-bound-clause-unfailed : goal.returns-in_err-bound-clause-unfailed
-returns-in_err-bound-clause-unfailed g c =
-    let e = err_from_is_err_and c.from_residual-in_err-bound.result c.from_residual-in_err-bound.ensures.1 in
-    λ i r q told. c.in_err-bound.ensures.unfailed i r q (λ failed.
-    let is : c.in_err-bound.field-0.0 ≡ _ = cc in
-    told (rw (e.1, e.2) (ap (λ f. Err f) (summed_read c.in_err-bound.field-0.0 _ is))))
 
 pub returns-clause-found : goal.returns-clause-found
 returns-clause-found g c = record {
@@ -69,3 +58,15 @@ returns-clause-only g c =
     λ p files b spells given h within.
     let here = sum_here c.args.instance.now files p c.in_ok-instance.instance b spells c.in_ok-instance.ensures.found h within in
     subst (λ s. IsBoundAnswer c.in_ok-bound_answer.field-0 s) (c.in_ok-bound.ensures.only files b given here.is here.within) c.in_ok-bound_answer.ensures
+
+pub returns-in_err-instance-clause-failed : goal.returns-in_err-instance-clause-failed
+returns-in_err-instance-clause-failed g c =
+    λ i r found.
+    let f = c.in_err-instance.field-0.0 in
+    calm c.from_residual.result (fault_from_instance f) (is_failed_read_at (i + 1)) _ _ c.from_residual.ensures.1 (instance_read_at (i + 1) f) (unread g.R.Source.has_failed c.args.proofs.now i r found)
+
+pub returns-in_err-bound-clause-failed : goal.returns-in_err-bound-clause-failed
+returns-in_err-bound-clause-failed g c =
+    λ i r found.
+    let f = c.in_err-bound.field-0.0 in
+    passed c.from_residual-in_err-bound.result (fault_from_sum f) (is_failed_read_at (i + 1)) _ _ _ c.from_residual-in_err-bound.ensures.1 (sum_read (i + 1) f) (c.in_err-bound.ensures.failed i r found)

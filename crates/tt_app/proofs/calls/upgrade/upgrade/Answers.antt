@@ -1,9 +1,10 @@
-use Rattle.std.proofs.Common.{Err, ap, ◌∙◌}
+use Rattle.std.proofs.Common.{Err, refl, ap, ◌∙◌}
 use Rattle.std.proofs.lemmas.Result.{err_from_is_err_and}
 use Rattle.tt_proof_check.proofs.TextFaults.{err_same}
-use Rattle.tt_app.specs.Checked.{read_failed}
+use Rattle.tt_app.specs.Checked.{read_failed, is_failed_read}
 use Rattle.tt_app.specs.Lines.{bound_line}
-use Rattle.tt_app.proofs.FailedReads.{read_upgraded}
+use Rattle.tt_app.specs.FaultMaps.{fault_from_instance, fault_from_upgrade}
+use Rattle.tt_app.proofs.FailedReads.{read_upgraded, passed, calm, instance_read, upgrade_read}
 use Rattle.tt_app.proofs.ToldMemory.{memory_instance, memory_upgrade}
 use Rattle.tt_app.proofs.DerivedBounds.{spelled_memory, proved_here}
 use Rattle.tt_app.proofs.Rewriting.{as_bound, upgrade_tells, rewritten, silent_upgrade}
@@ -48,3 +49,13 @@ pub returns-in_err-upgraded-clause-memory : goal.returns-in_err-upgraded-clause-
 returns-in_err-upgraded-clause-memory g c =
     let e = err_from_is_err_and c.from_residual-in_err-upgraded.result c.from_residual-in_err-upgraded.ensures.1 in
     rw (e.1, e.2) (memory_upgrade c.in_err-upgraded.field-0.0 c.in_err-upgraded.ensures.memory)
+
+pub returns-in_err-instance-clause-failed : goal.returns-in_err-instance-clause-failed
+returns-in_err-instance-clause-failed g c =
+    let f = c.in_err-instance.field-0.0 in
+    calm c.from_residual.result (fault_from_instance f) is_failed_read _ _ c.from_residual.ensures.1 (instance_read f) refl
+
+pub returns-in_err-upgraded-clause-failed : goal.returns-in_err-upgraded-clause-failed
+returns-in_err-upgraded-clause-failed g c =
+    let f = c.in_err-upgraded.field-0.0 in
+    passed c.from_residual-in_err-upgraded.result (fault_from_upgrade f) is_failed_read _ _ _ c.from_residual-in_err-upgraded.ensures.1 (upgrade_read f) c.in_err-upgraded.ensures.failed
