@@ -62,7 +62,7 @@ passed r f passes below before after e is h = same_reads r f passes before befor
 
 -- the error is no failure, and there was none
 pub calm : {A E : Type 0} (r : Result A E) (f : E) (passes : E → Bool) (before after : Bool) → IsErrAnd r (λ e. e ≡ f) → passes f ≡ false → after ≡ before → after ≡ (if is_err_and r passes then true else before)
-calm r f passes before after e no h = passed r f passes false before after e no h
+calm r f passes before after e quiet h = passed r f passes false before after e quiet h
 
 -- a source that isn't read is as it was
 pub unread : {R : Type 0} (failed : R → Bool) (all : List R) (i : ℕ) (r : R) → slice_get all i ≡ Some r → failed r ≡ failed (slice_index_or all i r)

@@ -1,13 +1,15 @@
-use Rattle.std.proofs.Common.{◌≡◌, ℕ, Err, refl, sym, ap, subst, ◌∙◌, inl, inr}
+use Rattle.std.proofs.Common.{◌≡◌, ◌+◌, ℕ, Err, refl, sym, ap, subst, ◌∙◌, inl, inr}
 use Rattle.std.proofs.lemmas.Result.{err_from_is_err_and}
 use Rattle.tt_proof_check.proofs.TextFaults.{err_same}
 use Rattle.tt_proof_check.proofs.Certifying.{points, no_points, is_feasible, not_broken, broken_found}
 use Rattle.tt_proof_sum.specs.Added.{Give}
-use Rattle.tt_app.specs.Summed.{IsSumYes, read_failed_at}
+use Rattle.tt_app.specs.FaultMaps.{fault_from_instance, fault_from_solution}
+use Rattle.tt_app.specs.Summed.{IsSumYes, fault_from_sum, read_failed_at, is_failed_read_at}
 use Rattle.tt_app.proofs.Answering.{yes_same}
+use Rattle.tt_app.proofs.FailedReads.{passed, calm, unread, instance_read_at, solution_read_at, sum_read}
 use Rattle.tt_app.proofs.Files.{tells_instance, tells_solution, only_memory}
 use Rattle.tt_app.proofs.ToldMemory.{memory_instance, memory_solution}
-use Rattle.tt_app.proofs.Adding.{memory_sum, read_summed, summed_read}
+use Rattle.tt_app.proofs.Adding.{memory_sum, read_summed}
 use Rattle.tt_app.proofs.AddingBoth.{silent_yes, sum_certified, sum_not_certified, sum_cost, sum_fails, sum_yes}
 use Rattle.tt_app.proofs.sum_checking.check_sum.Goals as goal
 
