@@ -92,12 +92,12 @@ returns-in_err-read-clause-failed g c =
     same_reads c.from_residual.result (fault_from_text f) is_failed_read _ _ _ c.from_residual.ensures.1
     (c.in_err-read.ensures.failed ∙ ap (λ b. if b then true else g.R.Source.has_failed c.args.source.now) (sym (text_read f))) refl
 
-pub returns-in_err-judge-clause-failed : goal.returns-in_err-judge-clause-failed
-returns-in_err-judge-clause-failed g c =
-    let f = c.in_err-judge.field-0.0 in
+pub returns-in_err-check_tree-clause-failed : goal.returns-in_err-check_tree-clause-failed
+returns-in_err-check_tree-clause-failed g c =
+    let f = c.in_err-check_tree.field-0.0 in
     let before = g.R.Source.has_failed c.args.source.now in
-    same_reads c.from_residual-in_err-judge.result f is_failed_read before before _ c.from_residual-in_err-judge.ensures.1
-    (c.in_ok-read.ensures.failed ∙ ap (λ b. if b then true else before) (sym (nodes_read _ _ _ f c.in_err-judge.ensures.fault))) refl
+    same_reads c.from_residual-in_err-check_tree.result f is_failed_read before before _ c.from_residual-in_err-check_tree.ensures.1
+    (c.in_ok-read.ensures.failed ∙ ap (λ b. if b then true else before) (sym (nodes_read _ _ _ f c.in_err-check_tree.ensures.fault))) refl
 
 pub returns-in_err-bytes-clause-failed : goal.returns-in_err-bytes-clause-failed
 returns-in_err-bytes-clause-failed g c =
