@@ -1,11 +1,8 @@
 //! The work that the checks of a file's groups may do.
 
-ghost use Rattle.std.specs.Prelude.{◌<◌, All, IsTrue};
-
 use std::alloc::Global;
 use std::test::Fail;
-use tt_groups::Group;
-use tt_groups_check::{GroupFault, Work, check_group};
+use tt_groups_check::GroupFault;
 use tt_instance::read_instance;
 use tt_leaf_rules::Bound;
 use tt_proof_sum::{GroupsFault, SumFault, sum_proofs};
@@ -24,46 +21,6 @@ fn sum_of(alloc: Global, file: &str) -> Result<Result<Bound, SumFault>, Fail> {
     let mut sources = Vec::new(alloc);
     sources.push(Peeked::new(alloc, Pieces::new(file.as_bytes(), 64, 0)))?;
     Ok(sum_proofs(alloc, &instance, sources.as_mut_slice()))
-}
-
-/// Checks that all numbers are below a count.
-fn are_below(numbers: &[u32], count: u32) -> bool
-    ensures { IsTrue result → All (λ n. n < count) numbers.now }
-{
-    numbers.iter().all(|number| *number < count)
-}
-
-/// Returns the result for the first curriculum, whose lecture is isolated, within some work.
-fn checked_within(
-    alloc: Global,
-    tries: u64,
-    relaxations: u64,
-) -> Result<Result<(), GroupFault>, Fail> {
-    let instance = read_instance(alloc, APART.as_bytes())?;
-    let curricula = vec![in alloc; 0; 1]?;
-    let courses = Vec::new(alloc);
-    if !are_below(&curricula, instance.curricula()) {
-        return Err(Fail::new(format_args!("no curriculum")));
-    }
-    if !are_below(&courses, instance.courses()) {
-        return Err(Fail::new(format_args!("no course")));
-    }
-    let group = Group::new(curricula, courses);
-    let mut work = Work::new();
-    work.days.tries = tries;
-    work.relaxations = relaxations;
-    Ok(check_group(alloc, &instance, &group, 2, &mut work))
-}
-
-#[test]
-fn earlier_groups_leave_less_work(rt: HostRuntime) -> Result<(), Fail> {
-    let too_much = Err(GroupFault::TooMuchWork);
-    assert_eq!(rt; checked_within(rt.alloc(), 1_000, 1_000)?, Ok(()));
-    // What is left isn't enough for the tries of a day.
-    assert_eq!(rt; checked_within(rt.alloc(), 3, 1_000)?, too_much);
-    // A table of two states takes 16 relaxations.
-    assert_eq!(rt; checked_within(rt.alloc(), 1_000, 15)?, too_much);
-    Ok(())
 }
 
 #[test]
