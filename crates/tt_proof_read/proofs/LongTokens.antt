@@ -36,10 +36,10 @@ IsLong true n k a bs = ((a + k ≡ n) × (32 < k + prefix_len in_token bs)) ⊎ 
 IsLong false n k a bs = HasLong a (tokens_from false n bs)
 
 -- this fault is not the one of too many bytes
-not_many : (n a : ℕ) (f : Fault) → (let x : Fault = record { byte = n; told = TooManyBytes } in x) ≡ f → f.told ≡ TokenTooLong a → ⊥
+not_many : (n a : ℕ) (f : Fault) → (let x : Fault = record { byte = n; fault = TooManyBytes } in x) ≡ f → f.fault ≡ TokenTooLong a → ⊥
 not_many n a f e told = cc
 
-long_at : (n m a : ℕ) (f : Fault) → (let x : Fault = record { byte = n; told = TokenTooLong m } in x) ≡ f → f.told ≡ TokenTooLong a → m ≡ a
+long_at : (n m a : ℕ) (f : Fault) → (let x : Fault = record { byte = n; fault = TokenTooLong m } in x) ≡ f → f.fault ≡ TokenTooLong a → m ≡ a
 long_at n m a f e told = cc
 
 -- a separator, and then the others
@@ -81,7 +81,7 @@ Carries true n k = k ≤ n
 Carries false n k = k ≡ 0
 
 -- one byte, and then the others
-long_step : (most n k a b : ℕ) (inside : Bool) (bs : List ℕ) (f : Fault) (v : Bool) → is_separator b ≡ v → Carries inside n k → fault_from most n k (b ∷ bs) ≡ Some f → f.told ≡ TokenTooLong a
+long_step : (most n k a b : ℕ) (inside : Bool) (bs : List ℕ) (f : Fault) (v : Bool) → is_separator b ≡ v → Carries inside n k → fault_from most n k (b ∷ bs) ≡ Some f → f.fault ≡ TokenTooLong a
     → (fault_from most (n + 1) 0 bs ≡ Some f → HasLong a (tokens_from false (n + 1) bs))
     → (k ≤ n → fault_from most (n + 1) (k + 1) bs ≡ Some f → IsLong true (n + 1) (k + 1) a bs) → IsLong inside n k a (b ∷ bs)
 unfolding fault_from
@@ -103,7 +103,7 @@ long_step most n k a b false bs f false e carries fails told gap more =
       | inr (inr later) ↦ long_first n a b bs e (subst (λ (m : ℕ). IsLong true (n + 1) (m + 1) a bs) carries (more (omega (arith, carries)) later))
     ]
 
-long_from : (most n k a : ℕ) (inside : Bool) (bs : List ℕ) (f : Fault) → Carries inside n k → fault_from most n k bs ≡ Some f → f.told ≡ TokenTooLong a → IsLong inside n k a bs
+long_from : (most n k a : ℕ) (inside : Bool) (bs : List ℕ) (f : Fault) → Carries inside n k → fault_from most n k bs ≡ Some f → f.fault ≡ TokenTooLong a → IsLong inside n k a bs
 unfolding fault_from
 long_from most n k a inside [] f carries fails told = absurd cc
 long_from most n k a inside (b ∷ bs) f carries fails told =
@@ -112,7 +112,7 @@ long_from most n k a inside (b ∷ bs) f carries fails told =
 
 -- ---- streams
 
-stop_fault : (fault : Option Fault) (n a : ℕ) → stop_of fault n ≡ Err (TokenTooLong a) → (f : Fault) × (fault ≡ Some f) × (f.told ≡ TokenTooLong a)
+stop_fault : (fault : Option Fault) (n a : ℕ) → stop_of fault n ≡ Err (TokenTooLong a) → (f : Fault) × (fault ≡ Some f) × (f.fault ≡ TokenTooLong a)
 stop_fault None n a e = absurd cc
 stop_fault (Some f) n a e = (f, refl, cc)
 

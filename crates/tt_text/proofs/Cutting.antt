@@ -42,7 +42,7 @@ broken_fault rest fed known f e = rw e refl
 -- a token that ends before the end of the bytes
 first_stays : (t : Placed) (ts : List Placed) (stop : Result ℕ FeedFault) → ((n : ℕ) → stop ≡ Ok n → t.at + length t.text < n) → cut_short_by (t ∷ ts) stop ≡ with_token t (cut_short_by ts stop)
 first_stays t ts (Ok n) h =
-    ap (λ (l : List Placed). record { tokens = l; stop = Err Read }) (while-yes (ends_before (Some (record { byte = n; told = Read }))) t ts (lt-ltb _ _ (h n refl)))
+    ap (λ (l : List Placed). record { tokens = l; stop = Err Read }) (while-yes (ends_before (Some (record { byte = n; fault = Read }))) t ts (lt-ltb _ _ (h n refl)))
 first_stays t ts (Err f) h = refl
 
 stop_end : (fault : Option Fault) (n m : ℕ) → stop_of fault n ≡ Ok m → n ≡ m

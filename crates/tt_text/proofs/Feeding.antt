@@ -27,11 +27,11 @@ pub fault-inside : (most n k b : ℕ) (xs : List ℕ) → is_separator b ≡ fal
 unfolding fault_from
 fault-inside most n k b xs e h s = let no : leb most n ≡ false = lt-leb _ _ h in let short : leb 32 k ≡ false = lt-leb _ _ s in rw (no, e, short) refl
 
-fault-long : (most n b : ℕ) (xs : List ℕ) → is_separator b ≡ false → n < most → fault_from most n 32 (b ∷ xs) ≡ Some (record { byte = n; told = TokenTooLong (n - 32) })
+fault-long : (most n b : ℕ) (xs : List ℕ) → is_separator b ≡ false → n < most → fault_from most n 32 (b ∷ xs) ≡ Some (record { byte = n; fault = TokenTooLong (n - 32) })
 unfolding fault_from
 fault-long most n b xs e h = let no : leb most n ≡ false = lt-leb _ _ h in rw (no, e) refl
 
-fault-past : (most n k b : ℕ) (xs : List ℕ) → most ≤ n → fault_from most n k (b ∷ xs) ≡ Some (record { byte = n; told = TooManyBytes })
+fault-past : (most n k b : ℕ) (xs : List ℕ) → most ≤ n → fault_from most n k (b ∷ xs) ≡ Some (record { byte = n; fault = TooManyBytes })
 unfolding fault_from
 fault-past most n k b xs h = let yes : leb most n ≡ true = le-leb _ _ h in rw yes refl
 
@@ -79,7 +79,7 @@ later m n None h p = tt
 later m n (Some f) h p = omega arith
 
 late_step : (most n k b : ℕ) (xs : List ℕ) (past separator long : Bool) → NotBefore (n + 1) (fault_from most (n + 1) 0 xs) → NotBefore (n + 1) (fault_from most (n + 1) (k + 1) xs)
-    → NotBefore n (cond past (Some (record { byte = n; told = TooManyBytes })) (cond separator (fault_from most (n + 1) 0 xs) (cond long (Some (record { byte = n; told = TokenTooLong (n - k) })) (fault_from most (n + 1) (k + 1) xs))))
+    → NotBefore n (cond past (Some (record { byte = n; fault = TooManyBytes })) (cond separator (fault_from most (n + 1) 0 xs) (cond long (Some (record { byte = n; fault = TokenTooLong (n - k) })) (fault_from most (n + 1) (k + 1) xs))))
 late_step most n k b xs true separator long p q = omega arith
 late_step most n k b xs false true long p q = later n (n + 1) (fault_from most (n + 1) 0 xs) (omega arith) p
 late_step most n k b xs false false true p q = omega arith
@@ -202,14 +202,14 @@ stream-last most n t all some short h =
     append_nil [] = refl
     append_nil (x ∷ xs) = ap (λ l. x ∷ l) (append_nil xs)
 
-fault_stops : (most n : ℕ) (xs : List ℕ) (f : Fault) → fault_from most n 0 xs ≡ Some f → f.byte ≤ n + prefix_len in_token xs → stream_from most n xs ≡ stopped (Err f.told)
+fault_stops : (most n : ℕ) (xs : List ℕ) (f : Fault) → fault_from most n 0 xs ≡ Some f → f.byte ≤ n + prefix_len in_token xs → stream_from most n xs ≡ stopped (Err f.fault)
 fault_stops most n xs f e h =
     stream_is most n xs (Some f) (n + length xs) (tokens_from false n xs) e refl refl
-    ∙ ap (λ (ts : List Placed). record { tokens = ts; stop = Err f.told }) (no_tokens f n xs h)
+    ∙ ap (λ (ts : List Placed). record { tokens = ts; stop = Err f.fault }) (no_tokens f n xs h)
 
 -- the 33rd byte of a token
 long_run : (most n k : ℕ) (t xs : List ℕ) → list_all in_token t ≡ true → n + length t ≤ most → k + length t ≡ 33 → 0 < length t
-    → fault_from most n k (t ++ xs) ≡ Some (record { byte = n + length t - 1; told = TokenTooLong (n - k) })
+    → fault_from most n k (t ++ xs) ≡ Some (record { byte = n + length t - 1; fault = TokenTooLong (n - k) })
 long_run most n k [] xs all h len some = absurd (omega (arith, some))
 long_run most n k (b ∷ []) xs all h len some =
     let parts = and_parts (in_token b) true all in
@@ -217,14 +217,14 @@ long_run most n k (b ∷ []) xs all h len some =
     let byte : n ≡ n + length (b ∷ []) - 1 = omega arith in
     let is : n - 32 ≡ n - k = omega arith in
     ap (λ (m : ℕ). fault_from most n m (b ∷ xs)) here ∙ fault-long most n b xs (not_false (is_separator b) parts.0) (omega arith)
-    ∙ ap (λ (m : ℕ). Some (record { byte = n; told = TokenTooLong m })) is ∙ ap (λ (m : ℕ). Some (record { byte = m; told = TokenTooLong (n - k) })) byte
+    ∙ ap (λ (m : ℕ). Some (record { byte = n; fault = TokenTooLong m })) is ∙ ap (λ (m : ℕ). Some (record { byte = m; fault = TokenTooLong (n - k) })) byte
 long_run most n k (b ∷ c ∷ t) xs all h len some =
     let parts = and_parts (in_token b) (list_all in_token (c ∷ t)) all in
     let first = fault-inside most n k b ((c ∷ t) ++ xs) (not_false (is_separator b) parts.0) (omega arith) (omega arith) in
     let more = long_run most (n + 1) (k + 1) (c ∷ t) xs parts.1 (omega arith) (omega arith) (omega arith) in
     let byte : (n + 1) + length (c ∷ t) - 1 ≡ n + length (b ∷ c ∷ t) - 1 = omega arith in
     let is : (n + 1) - (k + 1) ≡ n - k = omega arith in
-    first ∙ more ∙ ap (λ (m : ℕ). Some (record { byte = (n + 1) + length (c ∷ t) - 1; told = TokenTooLong m })) is ∙ ap (λ (m : ℕ). Some (record { byte = m; told = TokenTooLong (n - k) })) byte
+    first ∙ more ∙ ap (λ (m : ℕ). Some (record { byte = (n + 1) + length (c ∷ t) - 1; fault = TokenTooLong m })) is ∙ ap (λ (m : ℕ). Some (record { byte = m; fault = TokenTooLong (n - k) })) byte
 
 -- a token of 33 bytes or more
 pub stream-long : (most n : ℕ) (t xs : List ℕ) → list_all in_token t ≡ true → length t ≡ 33 → n + 33 ≤ most
@@ -232,9 +232,9 @@ pub stream-long : (most n : ℕ) (t xs : List ℕ) → list_all in_token t ≡ t
 stream-long most n t xs all len h =
     let run = length-run t xs all in
     let is : n - 0 ≡ n = omega arith in
-    let f : Fault = record { byte = n + length t - 1; told = TokenTooLong n } in
-    let told : fault_from most n 0 (t ++ xs) ≡ Some f = long_run most n 0 t xs all (omega arith) (omega arith) (omega arith) ∙ ap (λ (m : ℕ). Some (record { byte = n + length t - 1; told = TokenTooLong m })) is in
-    fault_stops most n (t ++ xs) f told (omega arith)
+    let f : Fault = record { byte = n + length t - 1; fault = TokenTooLong n } in
+    let here : fault_from most n 0 (t ++ xs) ≡ Some f = long_run most n 0 t xs all (omega arith) (omega arith) (omega arith) ∙ ap (λ (m : ℕ). Some (record { byte = n + length t - 1; fault = TokenTooLong m })) is in
+    fault_stops most n (t ++ xs) f here (omega arith)
 
 -- a byte past the limit
 pub stream-past : (most n b : ℕ) (t xs : List ℕ) → list_all in_token t ≡ true → length t ≤ 32 → n + length t ≡ most
@@ -243,7 +243,7 @@ stream-past most n b t xs all short here =
     let first = token_fault most n 0 t (b ∷ xs) all (omega arith) (omega arith) in
     let second = fault-past most (n + length t) (0 + length t) b xs (omega arith) in
     let run = length-run t (b ∷ xs) all in
-    fault_stops most n (t ++ b ∷ xs) (record { byte = n + length t; told = TooManyBytes }) (first ∙ second) (omega arith)
+    fault_stops most n (t ++ b ∷ xs) (record { byte = n + length t; fault = TooManyBytes }) (first ∙ second) (omega arith)
 
 -- ---- a scan
 

@@ -179,7 +179,7 @@ found_open at gap (suc len) w scan short h below =
     let last = found_last 4294967295 at gap (suc len) w scan short h (omega arith) below ∙ ap (with_token (record { text = t; at = at + gap })) (stream-nothing 4294967295 (at + gap + suc len)) in
     let open_end : ltb ((at + gap) + length t) (at + gap + suc len) ≡ false = le-ltb _ _ (omega arith) in
     ap cut_short last
-    ∙ ap (λ (ts : List Placed). record { tokens = ts; stop = Err Read }) (while-no (ends_before (Some (record { byte = at + gap + suc len; told = Read }))) (record { text = t; at = at + gap }) [] open_end)
+    ∙ ap (λ (ts : List Placed). record { tokens = ts; stop = Err Read }) (while-no (ends_before (Some (record { byte = at + gap + suc len; fault = Read }))) (record { text = t; at = at + gap }) [] open_end)
 
 pub finds_more : (at gap len : ℕ) (ended : Bool) (w : List ℕ) → IsScan w gap len → len ≤ 32 → length w ≤ gap + len → ended ≡ false → at + length w ≤ 4294967295 → FindsMore at w ended gap
 finds_more at gap len ended w scan short h e below =

@@ -8,7 +8,7 @@ pub mod Giving
 pub mod Lines
 pub mod Parts
 pub mod Runs
-pub mod Standing
+pub mod Places
 pub mod Steps
 pub mod Texts
 pub mod Unlimited

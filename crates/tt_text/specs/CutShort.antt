@@ -7,7 +7,7 @@ use Rattle.tt_text.specs.declared.feed.FeedFault.{FeedFault}
 use Rattle.tt_text.specs.declared.feed.FeedFault.TheVariants.{Read}
 
 abbrev pub cut_short_by : List Placed → Result ℕ FeedFault → Stream
-cut_short_by ts (Ok n) = stream_with (Some (record { byte = n; told = Read })) n ts
+cut_short_by ts (Ok n) = stream_with (Some (record { byte = n; fault = Read })) n ts
 cut_short_by ts (Err f) = record { tokens = ts; stop = Err f }
 
 -- The stream of bytes after which a read fails. It ends in that failure, and a token that no byte follows counts as incomplete. If a limit is

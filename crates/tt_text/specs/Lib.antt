@@ -1,4 +1,5 @@
 pub mod CutShort
+pub mod Failures
 pub mod Fed
 pub mod Feeds
 pub mod Found
@@ -8,7 +9,7 @@ pub mod Pieces
 pub mod Plain
 pub mod Reading
 pub mod Sources
-pub mod Standing
+pub mod Places
 pub mod Texts
 pub mod Tokens
 pub mod Sinks

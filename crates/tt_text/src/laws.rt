@@ -1,7 +1,7 @@
 //! What tokens are, defined without a reader.
 
 ghost use Rattle.std.specs.Prelude.{◌≡◌, ℕ, List};
-ghost use Rattle.tt_text.specs.Standing.{HasTokens};
+ghost use Rattle.tt_text.specs.Places.{HasTokens};
 ghost use Rattle.tt_text.specs.Tokens.{Placed, tokens_of};
 
 /// The tokens read from a text, from left to right, are exactly its tokens: runs of bytes that are not separators, each at

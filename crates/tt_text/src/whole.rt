@@ -1,6 +1,7 @@
 //! The whole of a source.
 
-ghost use Rattle.std.specs.Prelude.{◌≡◌, ◌<◌, ◌≤◌, true, length, IfOk, IfSome, IsErrOf};
+ghost use Rattle.std.specs.Prelude.{◌≡◌, ◌<◌, ◌≤◌, true, if◌then◌else◌, length, IfOk, IfSome, IsErrOf};
+ghost use Rattle.tt_text.specs.Failures.{is_err_and, is_failed_read};
 
 use crate::source::Source;
 use std::alloc::Global;
@@ -30,8 +31,7 @@ pub fn read_whole<R: Source>(
     ensures whole { IfOk result (λ v. IfSome (R.remaining source.old) (λ bytes. v.items ≡ bytes)) }
     ensures within { IfOk result (λ v. length v.items ≤ limit) }
     ensures too_long { IsErrOf result WholeFault.TooLong → IfSome (R.remaining source.old) (λ bytes. limit < length bytes) }
-    ensures failed { IsErrOf result WholeFault.Read → R.has_failed source.new ≡ true }
-    ensures unfailed { ¬ (IsErrOf result WholeFault.Read) → R.has_failed source.new ≡ R.has_failed source.old }
+    ensures failed { R.has_failed source.new ≡ (if is_err_and result is_failed_read then true else R.has_failed source.old) }
 {
     let mut bytes = Vec::new(alloc);
     let mut piece = [0u8; PIECE];

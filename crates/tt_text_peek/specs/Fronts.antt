@@ -1,5 +1,5 @@
 -- What the first bytes of a text say about its kind.
-use Rattle.std.specs.Prelude.{◌≡◌, ℕ, ◌-◌, nat_lt, Bool, true, false, ◌||◌, List, length, take, drop, Option, Result, Err, codes}
+use Rattle.std.specs.Prelude.{◌≡◌, ℕ, ◌-◌, nat_lt, Bool, true, false, ◌||◌, List, length, take, drop, Option, Err, codes}
 use Rattle.std.specs.List.{prefix_len}
 use Rattle.std.specs.Io.KnownBytes.{Consumes}
 use Rattle.tt_text.specs.CutShort.{cut_short}
@@ -39,7 +39,7 @@ pub record BreaksOff (before after : Option (List ℕ)) : Type 0 where
   pub consumed : Consumes before after given
   pub no_token : cut_short (stream_from MAX_BYTES 0 given) ≡ stopped (Err Read)
 
--- A read failed.
-abbrev pub is_failed_read : {A : Type 0} → Result A PeekFault → Bool
-is_failed_read (Err fault.Read) = true
+-- Whether the fault is a failed read.
+abbrev pub is_failed_read : PeekFault → Bool
+is_failed_read fault.Read = true
 is_failed_read _ = false

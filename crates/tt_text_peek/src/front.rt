@@ -3,6 +3,7 @@
 ghost use Rattle.std.specs.Prelude.{◌≡◌, ◌≤◌, ℕ, List, true, Some, Err, length, drop, take, OnOk, if◌then◌else◌};
 ghost use Rattle.std.specs.Io.KnownBytes.{prepend_known, Keeps};
 ghost use Rattle.tt_text.specs.CutShort.{cut_short};
+ghost use Rattle.tt_text.specs.Failures.{is_err_and};
 ghost use Rattle.tt_text.specs.Feeds.{stream_from, stopped};
 ghost use Rattle.tt_text.specs.declared.feed.FeedFault.TheVariants.{Read};
 ghost use Rattle.tt_text.specs.declared.feed.TheConstants.{MAX_BYTES};
@@ -40,7 +41,7 @@ pub fn read_front<R: Source>(front: &mut Vec<u8>, source: &mut R) -> Result<(), 
         Keeps (prepend_known front.old.items (R.remaining source.old)) (prepend_known front.new.items (R.remaining source.new)) }
     ensures groups { OnOk result ((bytes : List ℕ) → prepend_known front.old.items (R.remaining source.old) ≡ Some bytes →
         begins_with_groups (take PEEKED_BYTES front.new.items) ≡ is_groups bytes) }
-    ensures failed { R.has_failed source.new ≡ (if is_failed_read result then true else R.has_failed source.old) }
+    ensures failed { R.has_failed source.new ≡ (if is_err_and result is_failed_read then true else R.has_failed source.old) }
     ensures no_token { result ≡ Err PeekFault.Read → cut_short (stream_from MAX_BYTES 0 front.new.items) ≡ stopped (Err Read) }
 {
     let mut piece = [0u8; PEEKED_BYTES];

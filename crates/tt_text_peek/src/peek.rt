@@ -2,6 +2,7 @@
 
 ghost use Rattle.std.specs.Prelude.{◌≡◌, ℕ, List, Bool, true, Some, Err, IfOk, OnOk, if◌then◌else◌};
 ghost use Rattle.std.specs.Io.KnownBytes.{Keeps};
+ghost use Rattle.tt_text.specs.Failures.{is_err_and};
 ghost use Rattle.tt_text_peek.specs.Fronts.{is_groups, is_failed_read, BreaksOff};
 
 use thiserror::Error;
@@ -27,6 +28,6 @@ pub trait Peek: Source {
     fn peek_groups(&mut self) -> Result<bool, PeekFault>
         ensures groups { IfOk result (λ b. (bytes : List ℕ) → Self.remaining self.old ≡ Some bytes → b ≡ is_groups bytes) }
         ensures kept { OnOk result (Keeps (Self.remaining self.old) (Self.remaining self.new)) }
-        ensures failed { Self.has_failed self.new ≡ (if is_failed_read result then true else Self.has_failed self.old) }
+        ensures failed { Self.has_failed self.new ≡ (if is_err_and result is_failed_read then true else Self.has_failed self.old) }
         ensures breaks_off { result ≡ Err PeekFault.Read → BreaksOff (Self.remaining self.old) (Self.remaining self.new) };
 }

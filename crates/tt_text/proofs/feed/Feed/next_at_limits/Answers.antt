@@ -44,7 +44,7 @@ returns-then-is_err-clause-cut_short g c =
     λ k failure.
     let inv = c.loop-gap.invariant in
     let after = g.R.Source.remaining c.fill.new.source in
-    let keeps = was_err c.fill.result _ (sym c.is_err.ensures.value ∙ c.if-is_err.true) c.fill.ensures.kept in
+    let keeps = was_err c.fill.result _ (sym c.is_err.ensures.value ∙ c.if-is_err.true) c.fill.ensures.unread in
     let here = fed_cut_off c.loop-gap.self c.in-More.gap (g.R.Source.remaining c.loop-gap.source) after (inv.known k) inv.sound c.in-More.ensures keeps in
     let before = inv.failing k (rest_of after) here.0 in
     (before.0, before.1 ∙ here.1)

@@ -9,7 +9,7 @@ IsApart [] = ⊤
 IsApart (b ∷ bs) = is_separator b ≡ true
 
 -- The bytes, which begin at offset `at`, are separators, then the token, then `back`.
-pub record StandsFirst (at : ℕ) (bytes : List ℕ) (t : Placed) (back : List ℕ) : Type 0 where
+pub record IsFirst (at : ℕ) (bytes : List ℕ) (t : Placed) (back : List ℕ) : Type 0 where
   pub gap : List ℕ
   pub whole : bytes ≡ gap ++ (t.text ++ back)
   pub separators : list_all is_separator gap ≡ true
@@ -20,4 +20,4 @@ pub record StandsFirst (at : ℕ) (bytes : List ℕ) (t : Placed) (back : List �
 -- The bytes, which begin at offset `at`, are separators and these tokens.
 abbrev pub HasTokens : ℕ → List ℕ → List Placed → Type 0
 HasTokens at bytes [] = list_all is_separator bytes ≡ true
-HasTokens at bytes (t ∷ ts) = (back : List ℕ) × StandsFirst at bytes t back × HasTokens (t.at + length t.text) back ts
+HasTokens at bytes (t ∷ ts) = (back : List ℕ) × IsFirst at bytes t back × HasTokens (t.at + length t.text) back ts

@@ -5,7 +5,7 @@ use Rattle.std.proofs.lemmas.Bool.{and_parts}
 use Rattle.std.proofs.lemmas.List.{take-append-drop, take_all, drop_all, length-drop}
 use Rattle.std.proofs.lemmas.List.Folds.{length-prefix_len}
 use Rattle.tt_text.specs.Tokens.{is_separator, in_token, Placed, tokens_from, tokens_of, IsToken}
-use Rattle.tt_text.specs.Standing.{IsApart, StandsFirst, HasTokens}
+use Rattle.tt_text.specs.Places.{IsApart, IsFirst, HasTokens}
 use Rattle.tt_text.proofs.Runs.{tokens-begins, tokens-some, run_passes, is_a_token, ended}
 use Rattle.tt_text.proofs.Written.{after_separator, tokens-written}
 
@@ -41,11 +41,11 @@ first_token at text [] token apart =
     ap (tokens_from false at) (append-nil text) ∙ begun
     ∙ rw (len, take_all (length text) text (omega arith), drop_all (length text) text (omega arith)) refl
 
-pub standing_are_read : (at : ℕ) (bytes : List ℕ) (ts : List Placed) → HasTokens at bytes ts → tokens_from false at bytes ≡ ts
-standing_are_read at bytes [] h = only_gap at bytes h
-standing_are_read at bytes (t ∷ ts) h =
+pub tokens_are_read : (at : ℕ) (bytes : List ℕ) (ts : List Placed) → HasTokens at bytes ts → tokens_from false at bytes ≡ ts
+tokens_are_read at bytes [] h = only_gap at bytes h
+tokens_are_read at bytes (t ∷ ts) h =
     let s = h.1 in
-    let behind = standing_are_read (t.at + length t.text) h.0 ts h.2 in
+    let behind = tokens_are_read (t.at + length t.text) h.0 ts h.2 in
     ap (tokens_from false at) s.whole ∙ over_gap at s.gap (t.text ++ h.0) s.separators ∙ ap (λ (n : ℕ). tokens_from false n (t.text ++ h.0)) (sym s.offset)
     ∙ first_token t.at t.text h.0 s.token s.apart ∙ ap (λ (us : List Placed). t ∷ us) behind
 
@@ -82,7 +82,7 @@ one_token at bytes begun text rest begun_is text_is rest_is some more =
     let read : tokens_from false at bytes ≡ made ∷ tokens_from false (made.at + length text) rest =
     tokens-some at (prefix_len is_separator bytes) (prefix_len in_token begun) bytes begun text rest begun_is refl refl text_is rest_is some
     ∙ ap (λ (n : ℕ). made ∷ tokens_from false (made.at + n) rest) (sym len) in
-    let stands : StandsFirst at bytes made rest = record {
+    let first : IsFirst at bytes made rest = record {
       gap = gap;
       whole = sym (take-append-drop (prefix_len is_separator bytes) bytes) ∙ ap (λ (l : List ℕ). gap ++ l) (sym begun_is ∙ sym (take-append-drop (prefix_len in_token begun) begun) ∙ rw (text_is, rest_is) refl);
       separators = run_passes is_separator bytes;
@@ -90,7 +90,7 @@ one_token at bytes begun text rest begun_is text_is rest_is some more =
       offset = ap (λ (n : ℕ). at + n) (sym gap_len);
       apart = subst IsApart (sym rest_is) (after_run begun);
     } in
-    subst (HasTokens at bytes) (sym read) (rest, stands, more (made.at + length text))
+    subst (HasTokens at bytes) (sym read) (rest, first, more (made.at + length text))
 
 -- the text, given that the property holds of shorter ones
 one_more : (at fuel : ℕ) (bytes : List ℕ) → length bytes ≤ suc fuel → ((rest : List ℕ) → length rest ≤ fuel → (from : ℕ) → HasTokens from rest (tokens_from false from rest)) → HasTokens at bytes (tokens_from false at bytes)
@@ -109,5 +109,5 @@ on_length zero [] h at = subst (HasTokens at []) (sym (nothing_more at)) refl
 on_length zero (b ∷ bs) h at = absurd (omega (arith, h))
 on_length (suc fuel) bytes h at = one_more at fuel bytes h (λ rest less from. on_length fuel rest less from)
 
-pub read_stand : (bytes : List ℕ) → HasTokens 0 bytes (tokens_of bytes)
-read_stand bytes = on_length (length bytes) bytes (omega arith) 0
+pub read_are_tokens : (bytes : List ℕ) → HasTokens 0 bytes (tokens_of bytes)
+read_are_tokens bytes = on_length (length bytes) bytes (omega arith) 0
