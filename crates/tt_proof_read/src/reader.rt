@@ -1,9 +1,10 @@
 //! A proof, node by node.
 
-ghost use Rattle.std.specs.Prelude.{◌≡◌, ◌<◌, ◌==◌, true, is_some, Some, None, Ok, Err, IfOk, IfErr, IfSome, MatchResult};
+ghost use Rattle.std.specs.Prelude.{◌≡◌, ◌<◌, ◌==◌, true, if◌then◌else◌, is_some, Some, None, Ok, Err, IfOk, IfErr, IfSome, MatchResult};
+ghost use Rattle.tt_text.specs.Failures.{is_err_and};
 ghost use Rattle.tt_text.specs.Feeds.{stream_at, fresh};
 ghost use Rattle.tt_proof_read.specs.Answers.{StaysKnown, AgreesWhenCut};
-ghost use Rattle.tt_proof_read.specs.Faults.{read_failed, TellsNoFailedRead, TellsNoOutOfMemory, Gives};
+ghost use Rattle.tt_proof_read.specs.Faults.{is_failed_read, TellsNoOutOfMemory, Gives};
 ghost use Rattle.tt_proof_read.specs.Reading.{header_at, end_at};
 ghost use Rattle.tt_proof_read.specs.Readers.{IsNodeAt, IsReaderAfter, IsReadingOf, HeaderAgreesWhenCut, NodeAgreesWhenCut};
 ghost use Rattle.tt_proof_read.specs.Sizes.{AreSizes};
@@ -56,8 +57,7 @@ impl NodeReader {
         source: &mut R,
     ) -> Result<NodeReader, TextFault>
         ensures known { StaysKnown (R.remaining source.old) (R.remaining source.new) }
-        ensures failed { result ≡ Err read_failed → R.has_failed source.new ≡ true }
-        ensures unfailed { TellsNoFailedRead result → R.has_failed source.new ≡ R.has_failed source.old }
+        ensures failed { R.has_failed source.new ≡ (if is_err_and result is_failed_read then true else R.has_failed source.old) }
         ensures read { is_some (R.remaining source.old) ≡ true →
             Gives (λ r. ((r.version, r.bound), stream_at r.fed (R.remaining source.new))) result (header_at (stream_at fresh (R.remaining source.old))) }
         // A failed read is reported if the bytes before it give a part of the header and no fault.
@@ -109,8 +109,7 @@ impl NodeReader {
     #[inline(always)]
     pub fn next_node<R: Source>(&mut self, source: &mut R) -> Result<Option<Node>, TextFault>
         ensures known { StaysKnown (R.remaining source.old) (R.remaining source.new) }
-        ensures failed { self.old.fault ≡ None → result ≡ Err read_failed → R.has_failed source.new ≡ true }
-        ensures unfailed { self.old.fault ≡ None → TellsNoFailedRead result → R.has_failed source.new ≡ R.has_failed source.old }
+        ensures failed { self.old.fault ≡ None → R.has_failed source.new ≡ (if is_err_and result is_failed_read then true else R.has_failed source.old) }
         ensures again { IfSome self.old.fault (λ f. (result ≡ Err f) × (self.new ≡ self.old)) }
         ensures still { IfSome self.old.fault (λ _. source.new ≡ source.old) }
         ensures goes { self.old.fault ≡ None → IsReaderAfter self.old result self.new }
@@ -157,8 +156,7 @@ impl NodeReader {
     pub fn finish<R: Source>(&mut self, source: &mut R) -> Result<(), TextFault>
         requires { self.old.places ≡ 0 }
         ensures known { StaysKnown (R.remaining source.old) (R.remaining source.new) }
-        ensures failed { self.old.fault ≡ None → result ≡ Err read_failed → R.has_failed source.new ≡ true }
-        ensures unfailed { self.old.fault ≡ None → TellsNoFailedRead result → R.has_failed source.new ≡ R.has_failed source.old }
+        ensures failed { self.old.fault ≡ None → R.has_failed source.new ≡ (if is_err_and result is_failed_read then true else R.has_failed source.old) }
         ensures again { IfSome self.old.fault (λ f. (result ≡ Err f) × (self.new ≡ self.old)) }
         ensures still { IfSome self.old.fault (λ _. source.new ≡ source.old) }
         ensures fault { IfErr result (λ f. self.new.fault ≡ Some f) }
