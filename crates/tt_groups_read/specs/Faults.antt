@@ -1,5 +1,5 @@
 -- The information that an error of a header gives about the text.
-use Rattle.std.specs.Prelude.{◌≡◌, Bool, false, Result, Ok, Err, ⊤}
+use Rattle.std.specs.Prelude.{Bool, false}
 use Rattle.tt_proof_read.specs.Faults as proof
 use Rattle.tt_groups_read.specs.declared.fault.GroupTextFault.{GroupTextFault}
 use Rattle.tt_groups_read.specs.declared.fault.GroupTextFault.TheVariants.{ExpectedGroups, Text}
@@ -13,8 +13,3 @@ is_environmental (Text f) = proof.is_environmental f
 abbrev pub is_failed_read : GroupTextFault → Bool
 is_failed_read (ExpectedGroups at) = false
 is_failed_read (Text f) = proof.is_failed_read f
-
--- Whether a result reports no failed read.
-abbrev pub HeaderIsUnfailed : {X : Type 0} → Result X GroupTextFault → Type 0
-HeaderIsUnfailed (Ok x) = ⊤
-HeaderIsUnfailed (Err f) = is_failed_read f ≡ false

@@ -1,13 +1,13 @@
 //! Claims about groups, group by group.
 
-ghost use Rattle.std.specs.Prelude.{◌≡◌, ◌<◌, true, false, is_some, Some, None, Ok, Err, IfOk, IfErr, IfSome};
+ghost use Rattle.std.specs.Prelude.{◌≡◌, ◌<◌, true, false, if◌then◌else◌, is_some, Some, None, Ok, Err, IfOk, IfErr, IfSome};
+ghost use Rattle.tt_text.specs.Failures.{is_err_and};
 ghost use Rattle.tt_text.specs.Feeds.{stream_at, fresh, room_of};
 ghost use Rattle.tt_proof_read.specs.Answers.{StaysKnown};
-ghost use Rattle.tt_proof_read.specs.Faults.{read_failed, TellsNoFailedRead};
+ghost use Rattle.tt_proof_read.specs.Faults as proof;
 ghost use Rattle.tt_proof_read.specs.Sizes.{AreSizes};
-ghost use Rattle.tt_groups_read.specs.Faults.{HeaderIsUnfailed};
+ghost use Rattle.tt_groups_read.specs.Faults.{is_failed_read};
 ghost use Rattle.tt_groups_read.specs.Readers.{IsClaimAt, IsReaderAfter, IsReadingOf, IsHeaderReadingOf, HeaderAgreesWhenCut, GroupAgreesWhenCut};
-ghost use Rattle.tt_groups_read.specs.declared.fault.GroupTextFault.TheVariants.{Text};
 
 use crate::claim::GroupClaim;
 use crate::fault::GroupTextFault;
@@ -49,8 +49,7 @@ impl GroupReader {
         source: &mut R,
     ) -> Result<GroupReader, GroupTextFault>
         ensures known { StaysKnown (R.remaining source.old) (R.remaining source.new) }
-        ensures failed { result ≡ Err (Text read_failed) → R.has_failed source.new ≡ true }
-        ensures unfailed { HeaderIsUnfailed result → R.has_failed source.new ≡ R.has_failed source.old }
+        ensures failed { R.has_failed source.new ≡ (if is_err_and result is_failed_read then true else R.has_failed source.old) }
         ensures read { is_some (R.remaining source.old) ≡ true →
             IsHeaderReadingOf (stream_at fresh (R.remaining source.old)) result (R.remaining source.new) }
         // A failed read is reported if the bytes before it give a part of the header and no error.
@@ -85,8 +84,7 @@ impl GroupReader {
     /// Returns the next group, or `None` once the file has ended. After an error, it returns the same error again.
     pub fn next_group<R: Source>(&mut self, source: &mut R) -> Result<Option<GroupClaim>, TextFault>
         ensures known { StaysKnown (R.remaining source.old) (R.remaining source.new) }
-        ensures failed { self.old.fault ≡ None → result ≡ Err read_failed → R.has_failed source.new ≡ true }
-        ensures unfailed { self.old.fault ≡ None → TellsNoFailedRead result → R.has_failed source.new ≡ R.has_failed source.old }
+        ensures failed { self.old.fault ≡ None → R.has_failed source.new ≡ (if is_err_and result proof.is_failed_read then true else R.has_failed source.old) }
         ensures again { IfSome self.old.fault (λ f. (result ≡ Err f) × (self.new ≡ self.old)) }
         ensures still { IfSome self.old.fault (λ _. source.new ≡ source.old) }
         ensures goes { self.old.fault ≡ None → IsReaderAfter self.old result self.new }
