@@ -1,6 +1,6 @@
 //! The text of a report, and writing it to a sink.
 
-ghost use Rattle.std.specs.Prelude.{◌≡◌, ◌<◌, ◌++◌, length, flat_map, All, OnOk, IfOk, Err, true};
+ghost use Rattle.std.specs.Prelude.{◌≡◌, ◌<◌, ◌++◌, length, flat_map, All, OnOk, IfOk, Err, true, if◌then◌else◌};
 ghost use Rattle.std.specs.Io.KnownBytes.{Appends};
 ghost use Rattle.tt_lists.specs.Words.{range_below};
 ghost use Rattle.tt_text.specs.Lines.{line_text};
@@ -9,7 +9,9 @@ ghost use Rattle.tt_instance.specs.Courses.{teachers};
 ghost use Rattle.tt_table.specs.Table.{IsTimetable};
 ghost use Rattle.tt_table.specs.declared.groups.GroupBy.TheVariants as group;
 ghost use Rattle.tt_report.specs.Blocks.{IsBlock, entries_text, slot_text, day_text, block_text};
+ghost use Rattle.tt_report.specs.Faults.{is_failed_write};
 ghost use Rattle.tt_report.specs.Reports.{report_text};
+ghost use Rattle.tt_text.specs.Failures.{is_err_and};
 ghost use Rattle.tt_text.specs.Sinks.{TakesPart};
 ghost use Rattle.tt_report.specs.declared.blocks.Block.TheVariants as of;
 ghost use Rattle.tt_report.specs.declared.fault.ReportFault.TheVariants as fault;
@@ -188,8 +190,7 @@ pub fn report<W: Sink>(
     ensures written { OnOk result (Appends (W.contents sink.old) (W.contents sink.new) (report_text instance.now table.now by)) }
     // After a failed write, a part from the front of the text was taken.
     ensures part { result ≡ Err fault.Write → TakesPart (W.contents sink.old) (W.contents sink.new) (report_text instance.now table.now by) }
-    ensures failed { result ≡ Err fault.Write → W.has_failed sink.new ≡ true }
-    ensures unfailed { ¬ (result ≡ Err fault.Write) → W.has_failed sink.new ≡ W.has_failed sink.old }
+    ensures failed { W.has_failed sink.new ≡ (if is_err_and result is_failed_write then true else W.has_failed sink.old) }
     // If memory ran out, nothing was written.
     ensures unwritten { result ≡ Err fault.OutOfMemory → sink.new ≡ sink.old }
 {
