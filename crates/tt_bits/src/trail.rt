@@ -21,9 +21,9 @@ pub struct Trail {
 }
 
 impl Model for Trail {
-    ghost use Rattle.tt_bits.specs.Kept.{Kept};
+    ghost use Rattle.tt_bits.specs.TrailStates.{TrailStates};
 
-    ghost Value = { Kept };
+    ghost Value = { TrailStates };
 
     ghost use Rattle.std.specs.Prelude.{length};
     ghost use Rattle.tt_bits.specs.Undone.{tables_at, IsClimb, AreWithin};

@@ -27,8 +27,8 @@ use Rattle.tt_branch.specs.declared.tree_node.NodeState.TheVariants.{Split, Clos
 use Rattle.tt_branch.specs.declared.tree_node.TreeNode.{TreeNode}
 use Rattle.tt_branch.specs.declared.links.Link.{Link}
 use Rattle.tt_branch.specs.declared.search.Search.{Search}
-use Rattle.tt_branch.specs.Growing.{node_of, IsKnown, Stands, IsGrown, was_opened, is_open, IsSingle, HasMark, IsOpenAt, opened_in}
-use Rattle.tt_branch.specs.Kept.{IsKept, table_of, Advances}
+use Rattle.tt_branch.specs.Growing.{node_of, IsKnown, IsSameNode, IsGrown, was_opened, is_open, IsSingle, HasMark, IsOpenAt, opened_in}
+use Rattle.tt_branch.specs.BestSoFar.{IsBestSoFar, table_of, Advances}
 use Rattle.tt_branch.specs.Links.{path_at, AreLinks, link_of, divided_links}
 use Rattle.tt_branch.specs.State.{IsSplitAt, MakesWait, EndsAt}
 use Rattle.tt_branch.specs.Written.{IsReached}
@@ -38,7 +38,7 @@ use Rattle.tt_branch.proofs.Ending.{shallow}
 
 -- ---- the best timetable
 
-pub advance_same : (p : Problem) (old : Option Best) → IsKept p old → Advances p old old
+pub advance_same : (p : Problem) (old : Option Best) → IsBestSoFar p old → Advances p old old
 advance_same p old k = record { kept = k; grown = λ links tree_nodes g. g; no_dearer = λ t w. w }
 
 pub advance_twice : (p : Problem) (old mid new : Option Best) → Advances p old mid → Advances p mid new → Advances p old new
@@ -66,11 +66,11 @@ pub record IsThere (p : Problem) (links : List Link) (e : TreeNode) : Type 0 whe
 
 pub each_there : (p : Problem) (best : Option (List Cell)) (links : List Link) (tree_nodes : List TreeNode) → IsGrown p best links tree_nodes → length tree_nodes ≤ 131073 → AllByRecursion (IsThere p links) tree_nodes
 each_there p best links tree_nodes grown at_most =
-    zip_other (λ x e. Stands p best links x e × (length x.path ≤ 65536)) (IsThere p links) (λ x e h. record {
+    zip_other (λ x e. IsSameNode p best links x e × (length x.path ≤ 65536)) (IsThere p links) (λ x e h. record {
       reached = record { within = h.0.link; depth = subst (λ q. length q ≤ 65536) (sym h.0.path) h.1 };
       patterns = subst (ArePatterns p) (sym h.0.path) h.0.patterns;
     }) (on_paths [] grown.tree) tree_nodes
-    (zip_and (Stands p best links) (λ x. length x.path ≤ 65536) (on_paths [] grown.tree) tree_nodes (shallow p best links tree_nodes grown at_most) grown.together)
+    (zip_and (IsSameNode p best links) (λ x. length x.path ≤ 65536) (on_paths [] grown.tree) tree_nodes (shallow p best links tree_nodes grown at_most) grown.together)
 
 -- ---- opened nodes
 
@@ -117,11 +117,11 @@ waits_split place g old new s =
     record {
       under_way = λ p u.
           let here = subst (IsGrown p (table_of old.best) links) s.old_tree_nodes u.grown in
-          let w = zip_cut (Stands p (table_of old.best) links) (on_paths [] here.tree) s.before s.was s.after here.together in
+          let w = zip_cut (IsSameNode p (table_of old.best) links) (on_paths [] here.tree) s.before s.was s.after here.together in
           let inside : s.was.link ≤ length links = w.5.link in
           let ok = links_more (links ++ yes ∷ []) no (links_more links yes u.links inside) (omega (arith, length-append links (yes ∷ []))) in
           record {
-            kept = subst (IsKept p) (sym s.best) u.kept;
+            kept = subst (IsBestSoFar p) (sym s.best) u.kept;
             links = subst AreLinks (sym s.links) ok;
             grown = subst (λ b. IsGrown p (table_of b) new.links.items new.tree_nodes.items) (sym s.best)
                 (subst (λ l. IsGrown p (table_of old.best) l new.tree_nodes.items) (sym s.links)

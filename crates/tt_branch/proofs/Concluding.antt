@@ -43,8 +43,8 @@ use Rattle.tt_branch.specs.declared.tree_node.NodeState.TheVariants.{Split, Clos
 use Rattle.tt_branch.specs.declared.tree_node.TreeNode.{TreeNode}
 use Rattle.tt_branch.specs.declared.links.Link.{Link}
 use Rattle.tt_branch.specs.declared.search.Search.{Search}
-use Rattle.tt_branch.specs.Growing.{node_of, IsKnown, Stands, IsGrown, is_open, node_at, worth_at, nodes_of, worths_of}
-use Rattle.tt_branch.specs.Kept.{IsKept, table_of, Advances}
+use Rattle.tt_branch.specs.Growing.{node_of, IsKnown, IsSameNode, IsGrown, is_open, node_at, worth_at, nodes_of, worths_of}
+use Rattle.tt_branch.specs.BestSoFar.{IsBestSoFar, table_of, Advances}
 use Rattle.tt_branch.specs.Links.{path_at}
 use Rattle.tt_branch.specs.Outcomes.{BeginsWell, final_bound, IsOutcome}
 use Rattle.tt_branch.specs.Proofs.{node_worth, worths, IsShortNode, IsSearched, shown_bound}
@@ -81,11 +81,11 @@ module _ (p : Problem) (ok : IsInstance p) where
     abbrev xs : List OnPath
     xs = on_paths [] grown.tree
 
-    fit_tree_node : (x : OnPath) (e : TreeNode) → Stands p best links x e → IsFit p (node_at p links e)
+    fit_tree_node : (x : OnPath) (e : TreeNode) → IsSameNode p best links x e → IsFit p (node_at p links e)
     fit_tree_node x e s = subst (λ q. IsFit p (node_of p q e.mark)) (sym s.path) (fit_mark best x.path e.mark s.known)
 
     each_fit : AllByRecursion (λ e. IsFit p (node_at p links e)) tree_nodes
-    each_fit = zip_other (Stands p best links) (λ e. IsFit p (node_at p links e)) fit_tree_node xs tree_nodes grown.together
+    each_fit = zip_other (IsSameNode p best links) (λ e. IsFit p (node_at p links e)) fit_tree_node xs tree_nodes grown.together
 
     pub writable : length tree_nodes ≤ 131073 → All (IsWritable p links) tree_nodes
     writable at_most = All-from_recursion (IsWritable p links) tree_nodes
@@ -93,7 +93,7 @@ module _ (p : Problem) (ok : IsInstance p) where
         (each_both (IsThere p links) (λ e. IsFit p (node_at p links e)) tree_nodes (each_there p best links tree_nodes grown at_most) each_fit))
 
     -- the nodes written are those of the tree
-    same_nodes : (ys : List OnPath) (es : List TreeNode) → AllZip (Stands p best links) ys es → nodes_of p links es ≡ map (λ x. x.node) ys
+    same_nodes : (ys : List OnPath) (es : List TreeNode) → AllZip (IsSameNode p best links) ys es → nodes_of p links es ≡ map (λ x. x.node) ys
     same_nodes [] [] h = refl
     same_nodes [] (e ∷ es) h = absurd h
     same_nodes (y ∷ ys) [] h = absurd h
@@ -104,7 +104,7 @@ module _ (p : Problem) (ok : IsInstance p) where
     pub nodes_are : preorder grown.tree ≡ nodes_of p links tree_nodes
     nodes_are = sym (preorder-on_paths [] grown.tree) ∙ sym (same_nodes xs tree_nodes grown.together)
 
-    same_worths : (ys : List OnPath) (es : List TreeNode) → AllZip (Stands p best links) ys es → worths_of p links es ≡ worths p ys
+    same_worths : (ys : List OnPath) (es : List TreeNode) → AllZip (IsSameNode p best links) ys es → worths_of p links es ≡ worths p ys
     same_worths [] [] h = refl
     same_worths [] (e ∷ es) h = absurd h
     same_worths (y ∷ ys) [] h = absurd h
@@ -162,11 +162,11 @@ module _ (p : Problem) (ok : IsInstance p) where
   short_prices (node.Leaf (Slots cs)) s = tt
   short_prices (node.Leaf (Cost claims)) s = s
 
-  bound_final : (best : Option Best) → IsKept p best → IsBound (final_bound p (table_of best))
+  bound_final : (best : Option Best) → IsBestSoFar p best → IsBound (final_bound p (table_of best))
   bound_final None k = tt
   bound_final (Some b) k = cost_limit p ok b.table k.feasible
 
-  best_feasible : (best : Option Best) → IsKept p best → IfSome (table_of best) (IsFeasible p)
+  best_feasible : (best : Option Best) → IsBestSoFar p best → IfSome (table_of best) (IsFeasible p)
   best_feasible None k = tt
   best_feasible (Some b) k = k.feasible
 

@@ -30,7 +30,7 @@ use Rattle.tt_branch.specs.declared.tree_node.NodeState.{NodeState}
 use Rattle.tt_branch.specs.declared.tree_node.NodeState.TheVariants.{Split, Closed, Opened, Waiting}
 use Rattle.tt_branch.specs.declared.tree_node.TreeNode.{TreeNode}
 use Rattle.tt_branch.specs.declared.links.Link.{Link}
-use Rattle.tt_branch.specs.Growing.{node_of, IsKnown, Stands, IsGrown, is_open}
+use Rattle.tt_branch.specs.Growing.{node_of, IsKnown, IsSameNode, IsGrown, is_open}
 use Rattle.tt_branch.specs.Outcomes.{final_bound}
 use Rattle.tt_branch.specs.Proofs.{SplitsWell, node_worth, worths, IsCheaper, IsGreedy}
 use Rattle.tt_branch.proofs.Searching.{right_for, best_right, no_worth, worth_reaches, splits_well}
@@ -74,14 +74,14 @@ module _ (p : Problem) (best : Option (List Cell)) (links : List Link) (tree_nod
   xs = on_paths [] grown.tree
 
   pub as_many : length xs ≡ length tree_nodes
-  as_many = zip_length (Stands p best links) xs tree_nodes grown.together
+  as_many = zip_length (IsSameNode p best links) xs tree_nodes grown.together
 
   -- no node is too deep, if the tree has at most as many nodes as a search can make
   pub shallow : length tree_nodes ≤ 131073 → AllByRecursion (λ x. length x.path ≤ 65536) xs
   shallow h = each_weaker (λ x. length x.path ≤ 0 + splits grown.tree) (λ x. length x.path ≤ 65536) (λ x k. omega (arith, as_many, length-on_paths [] grown.tree)) xs (depth-le [] grown.tree)
 
   pub well_split : All (SplitsWell p) xs
-  well_split = All-from_recursion (SplitsWell p) xs (zip_each (Stands p best links) (SplitsWell p) (splits_well p best links) xs tree_nodes grown.together)
+  well_split = All-from_recursion (SplitsWell p) xs (zip_each (IsSameNode p best links) (SplitsWell p) (splits_well p best links) xs tree_nodes grown.together)
 
   proved_by : (b : Bound) → length tree_nodes ≤ 131073 → AllByRecursion (λ x. IsRightOn p b x.path x.node) xs → IsShallow grown.tree × Derives p b [] grown.tree
   proved_by b h right =
@@ -95,7 +95,7 @@ module _ (p : Problem) (best : Option (List Cell)) (links : List Link) (tree_nod
   closed_right x (Opened g) n k e = cc
   closed_right x Waiting n k e = cc
 
-  all_closed : (ys : List OnPath) (es : List TreeNode) → AllZip (Stands p best links) ys es → list_any (λ e. is_open e.mark) es ≡ false → AllByRecursion (λ x. IsRightOn p (final_bound p best) x.path x.node) ys
+  all_closed : (ys : List OnPath) (es : List TreeNode) → AllZip (IsSameNode p best links) ys es → list_any (λ e. is_open e.mark) es ≡ false → AllByRecursion (λ x. IsRightOn p (final_bound p best) x.path x.node) ys
   all_closed [] [] h e = tt
   all_closed [] (m ∷ es) h e = absurd h
   all_closed (y ∷ ys) [] h e = absurd h
@@ -128,7 +128,7 @@ module _ (p : Problem) (best : Option (List Cell)) (links : List Link) (tree_nod
 
     all_known : AllByRecursion (λ x. IsRightOn p (AtLeast v) x.path x.node) xs
     all_known = each_member (λ x. IsRightOn p (AtLeast v) x.path x.node) xs (λ x i.
-        let w = at_member (λ y. (e : TreeNode) × Stands p best links y e) xs x (zip_each (Stands p best links) (λ y. (e : TreeNode) × Stands p best links y e) (λ y e s. (e, s)) xs tree_nodes grown.together) i in
+        let w = at_member (λ y. (e : TreeNode) × IsSameNode p best links y e) xs x (zip_each (IsSameNode p best links) (λ y. (e : TreeNode) × IsSameNode p best links y e) (λ y e s. (e, s)) xs tree_nodes grown.together) i in
         known_right x w.0.mark w.1.node w.1.known i)
 
     -- the tree derives the least value of a Cost leaf
@@ -137,7 +137,7 @@ module _ (p : Problem) (best : Option (List Cell)) (links : List Link) (tree_nod
 
   -- -- leaves of a value below the best cost are those of the best claims
 
-  greedy_at : (x : OnPath) (e : TreeNode) → Stands p best links x e → IsGreedy p best x
+  greedy_at : (x : OnPath) (e : TreeNode) → IsSameNode p best links x e → IsGreedy p best x
   greedy_at x e s n k c = by_mark e.mark s.node s.known
     where
       dear : (o : Option (List Cell)) (leaf : Leaf) → x.node ≡ node.Leaf leaf → IsCheaper p o n → (right : IsRightOn p (final_bound p o) x.path (node.Leaf leaf)) → ⊥
@@ -151,4 +151,4 @@ module _ (p : Problem) (best : Option (List Cell)) (links : List Link) (tree_nod
       by_mark Waiting e j = e
 
   pub greedy : All (IsGreedy p best) xs
-  greedy = All-from_recursion (IsGreedy p best) xs (zip_each (Stands p best links) (IsGreedy p best) greedy_at xs tree_nodes grown.together)
+  greedy = All-from_recursion (IsGreedy p best) xs (zip_each (IsSameNode p best links) (IsGreedy p best) greedy_at xs tree_nodes grown.together)

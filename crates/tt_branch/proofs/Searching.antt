@@ -27,8 +27,8 @@ use Rattle.tt_branch.specs.declared.tree_node.NodeState.TheVariants.{Split, Clos
 use Rattle.tt_branch.specs.declared.tree_node.TreeNode.{TreeNode}
 use Rattle.tt_branch.specs.declared.links.Link.{Link}
 use Rattle.tt_branch.specs.Links.{path_at, AreLinks, link_of, divided_links}
-use Rattle.tt_branch.specs.Growing.{node_of, IsKnown, Stands, IsGrown, is_open}
-use Rattle.tt_branch.specs.Steps.{IsDivision}
+use Rattle.tt_branch.specs.Growing.{node_of, IsKnown, IsSameNode, IsGrown, is_open}
+use Rattle.tt_branch.specs.Steps.{IsSplitInto}
 use Rattle.tt_branch.specs.Outcomes.{final_bound}
 use Rattle.tt_branch.specs.Proofs.{IsSplitOn, SplitsWell, leaf_worth}
 use Rattle.tt_branch.proofs.Chains.{links_more, path_at-next, path_at-more}
@@ -90,7 +90,7 @@ module _ (p : Problem) where
   pub grow_better : (best : Option (List Cell)) (t : List Cell) (links : List Link) (tree_nodes : List TreeNode) → IsBetter p best t → IsGrown p best links tree_nodes → IsGrown p (Some t) links tree_nodes
   grow_better best t links tree_nodes h grown = record {
     tree = grown.tree;
-    together = zip_weaker (Stands p best links) (Stands p (Some t) links) (λ x e s. record { node = s.node; known = by_mark x.path e.mark s.known; link = s.link; path = s.path; patterns = s.patterns }) (on_paths [] grown.tree) tree_nodes grown.together;
+    together = zip_weaker (IsSameNode p best links) (IsSameNode p (Some t) links) (λ x e s. record { node = s.node; known = by_mark x.path e.mark s.known; link = s.link; path = s.path; patterns = s.patterns }) (on_paths [] grown.tree) tree_nodes grown.together;
   }
     where
       by_mark : (path : List Fact) (m : NodeState) → IsKnown p best path m → IsKnown p (Some t) path m
@@ -104,7 +104,7 @@ module _ (p : Problem) where
     pub grow_links : (links : List Link) (l : Link) (tree_nodes : List TreeNode) → AreLinks links → IsGrown p best links tree_nodes → IsGrown p best (links ++ l ∷ []) tree_nodes
     grow_links links l tree_nodes ok grown = record {
       tree = grown.tree;
-      together = zip_weaker (Stands p best links) (Stands p best (links ++ l ∷ [])) (λ x e s. record {
+      together = zip_weaker (IsSameNode p best links) (IsSameNode p best (links ++ l ∷ [])) (λ x e s. record {
         node = s.node;
         known = s.known;
         link = omega (arith, s.link, length-append links (l ∷ []));
@@ -116,7 +116,7 @@ module _ (p : Problem) where
     -- more is known about an open node, on its path
     pub grow_mark : (links : List Link) (before : List TreeNode) (e new : TreeNode) (after : List TreeNode) → IsGrown p best links (before ++ e ∷ after) → is_open e.mark ≡ true → new.link ≡ e.link → IsKnown p best (path_at links e.link) new.mark → (leaf : Leaf) → node_of p (path_at links e.link) new.mark ≡ node.Leaf leaf → IsGrown p best links (before ++ new ∷ after)
     grow_mark links before e new after grown o same known leaf shown =
-        let R = Stands p best links in
+        let R = IsSameNode p best links in
         let w = zip_cut R (on_paths [] grown.tree) before e after grown.together in
         let x = w.1 in
         let s = w.5 in
@@ -133,20 +133,20 @@ module _ (p : Problem) where
         }
 
     -- a node that was opened is split
-    pub grow_split : (links : List Link) (before : List TreeNode) (e : TreeNode) (after : List TreeNode) (g : Pattern) (d a b : TreeNode) → AreLinks links → IsGrown p best links (before ++ e ∷ after) → e.mark ≡ Opened g → IsDivision links e g d a b → IsGrown p best (divided_links links e.link g) (before ++ d ∷ a ∷ b ∷ after)
+    pub grow_split : (links : List Link) (before : List TreeNode) (e : TreeNode) (after : List TreeNode) (g : Pattern) (d a b : TreeNode) → AreLinks links → IsGrown p best links (before ++ e ∷ after) → e.mark ≡ Opened g → IsSplitInto links e g d a b → IsGrown p best (divided_links links e.link g) (before ++ d ∷ a ∷ b ∷ after)
     grow_split links before e after g d a b ok grown opened new =
         let yes = link_of e.link g true in
         let no = link_of e.link g false in
         let links1 = links ++ yes ∷ [] in
         let links2 = links1 ++ no ∷ [] in
-        let first = zip_cut (Stands p best links) (on_paths [] grown.tree) before e after grown.together in
+        let first = zip_cut (IsSameNode p best links) (on_paths [] grown.tree) before e after grown.together in
         let inside : e.link ≤ length links = first.5.link in
         let len1 = length-append links (yes ∷ []) in
         let len2 = length-append links1 (no ∷ []) in
         let ok1 = links_more links yes ok inside in
         let ok2 = links_more links1 no ok1 (omega arith) in
         let grown2 = grow_links links1 no (before ++ e ∷ after) ok1 (grow_links links yes (before ++ e ∷ after) ok grown) in
-        let R = Stands p best links2 in
+        let R = IsSameNode p best links2 in
         let w = zip_cut R (on_paths [] grown2.tree) before e after grown2.together in
         let x = w.1 in
         let s = w.5 in
@@ -210,7 +210,7 @@ module _ (p : Problem) where
   -- ---- the end
 
   -- each split satisfies its condition
-  pub splits_well : (best : Option (List Cell)) (links : List Link) (x : OnPath) (e : TreeNode) → Stands p best links x e → SplitsWell p x
+  pub splits_well : (best : Option (List Cell)) (links : List Link) (x : OnPath) (e : TreeNode) → IsSameNode p best links x e → SplitsWell p x
   splits_well best links x e s k is = by_mark e.mark s.node s.known
     where
       by_mark : (m : NodeState) → x.node ≡ node_of p x.path m → IsKnown p best x.path m → IsSplitOn p x.path k

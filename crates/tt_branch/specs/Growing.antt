@@ -33,7 +33,7 @@ IsKnown p best path (Opened g) = IsSplitOn p path g
 IsKnown p best path Waiting = ⊤
 
 -- A node of a tree on its path, and the same node of the tree that grows.
-pub record Stands (p : Problem) (best : Option (List Cell)) (links : List Link) (x : OnPath) (e : TreeNode) : Type 0 where
+pub record IsSameNode (p : Problem) (best : Option (List Cell)) (links : List Link) (x : OnPath) (e : TreeNode) : Type 0 where
   pub node : x.node ≡ node_of p x.path e.mark
   pub known : IsKnown p best x.path e.mark
   pub link : e.link ≤ length links
@@ -43,7 +43,7 @@ pub record Stands (p : Problem) (best : Option (List Cell)) (links : List Link) 
 -- The nodes are those of a tree.
 pub record IsGrown (p : Problem) (best : Option (List Cell)) (links : List Link) (tree_nodes : List TreeNode) : Type 0 where
   pub tree : Tree
-  pub together : AllZip (Stands p best links) (on_paths [] tree) tree_nodes
+  pub together : AllZip (IsSameNode p best links) (on_paths [] tree) tree_nodes
 
 -- ---- marks
 

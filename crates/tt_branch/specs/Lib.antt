@@ -1,6 +1,6 @@
 pub mod Alone
 pub mod Growing
-pub mod Kept
+pub mod BestSoFar
 pub mod Links
 pub mod Outcomes
 pub mod Proofs

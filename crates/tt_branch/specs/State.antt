@@ -8,13 +8,13 @@ use Rattle.tt_branch.specs.declared.tree_node.NodeState.TheVariants.{Opened, Wai
 use Rattle.tt_branch.specs.declared.tree_node.TreeNode.{TreeNode}
 use Rattle.tt_branch.specs.declared.search.Search.{Search}
 use Rattle.tt_branch.specs.Growing.{IsGrown, HasMark, is_open, opened_in}
-use Rattle.tt_branch.specs.Kept.{IsKept, table_of}
+use Rattle.tt_branch.specs.BestSoFar.{IsBestSoFar, table_of}
 use Rattle.tt_branch.specs.Links.{AreLinks, divided_links}
-use Rattle.tt_branch.specs.Steps.{IsDivision}
+use Rattle.tt_branch.specs.Steps.{IsSplitInto}
 
 -- The best timetable breaks no hard rule and has the cost stored, the links lead to parents, and the nodes are those of a tree.
 pub record IsUnderWay (p : Problem) (s : Search) : Type 0 where
-  pub kept : IsKept p s.best
+  pub kept : IsBestSoFar p s.best
   pub links : AreLinks s.links.items
   pub grown : IsGrown p (table_of s.best) s.links.items s.tree_nodes.items
 
@@ -29,7 +29,7 @@ pub record IsSplitAt (place : ℕ) (g : Pattern) (old new : Search) : Type 0 whe
   pub old_tree_nodes : old.tree_nodes.items ≡ before ++ was ∷ after
   pub place_is : length before ≡ place
   pub opened : was.mark ≡ Opened g
-  pub division : IsDivision old.links.items was g divided first second
+  pub division : IsSplitInto old.links.items was g divided first second
   pub tree_nodes : new.tree_nodes.items ≡ before ++ divided ∷ first ∷ second ∷ after
   pub links : new.links.items ≡ divided_links old.links.items was.link g
   pub best : new.best ≡ old.best

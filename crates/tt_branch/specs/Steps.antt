@@ -12,7 +12,7 @@ use Rattle.tt_branch.specs.declared.tree_node.TreeNode.{TreeNode}
 use Rattle.tt_branch.specs.declared.links.Link.{Link}
 
 -- A node that is split and its children, which wait.
-pub record IsDivision (links : List Link) (e : TreeNode) (g : Pattern) (d a b : TreeNode) : Type 0 where
+pub record IsSplitInto (links : List Link) (e : TreeNode) (g : Pattern) (d a b : TreeNode) : Type 0 where
   pub divided : d.mark ≡ Split g
   pub same_link : d.link ≡ e.link
   pub first : a.mark ≡ Waiting

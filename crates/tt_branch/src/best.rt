@@ -7,7 +7,7 @@ ghost use Rattle.tt_table.specs.Table.{IsTimetable};
 ghost use Rattle.tt_rules.specs.Score.{IsFeasible};
 ghost use Rattle.tt_search.specs.Improved.{IsNoWorse};
 ghost use Rattle.tt_branch.specs.Outcomes.{final_bound, BeginsWell, IsNoDearer};
-ghost use Rattle.tt_branch.specs.Kept.{IsKept, table_of, IsCosted};
+ghost use Rattle.tt_branch.specs.BestSoFar.{IsBestSoFar, table_of, IsCosted};
 
 use crate::limit::FIRST_STEPS;
 use std::alloc::{AllocError, Global};
@@ -153,7 +153,7 @@ pub fn first_best<W: Watch>(
     turns: u32,
     watch: &mut W,
 ) -> Result<Option<Best>, AllocError>
-    ensures kept { IfOk result (IsKept instance.now) }
+    ensures kept { IfOk result (IsBestSoFar instance.now) }
     ensures begun { IfOk result (λ best. BeginsWell instance.now (table_of best)) }
 {
     let table = construct(alloc, instance, seed)?;
@@ -164,7 +164,7 @@ pub fn first_best<W: Watch>(
 
 /// Returns the bound that closes a node: no timetable costs less than the best, or no timetable exists.
 pub fn bound_of(best: &Option<Best>) -> Bound
-    ensures { (p : Problem) → IsKept p best.now → result ≡ final_bound p (table_of best.now) }
+    ensures { (p : Problem) → IsBestSoFar p best.now → result ≡ final_bound p (table_of best.now) }
 {
     match best {
         None => Bound::Nothing,

@@ -2,7 +2,7 @@
 
 ghost use Rattle.std.specs.Prelude.{◌≡◌, ◌<◌, ◌≤◌, ◌+◌, ◌*◌, length, true, IfOk, OnOk, IfSome, IsNone};
 ghost use Rattle.tt_branch.specs.Growing.{IsOpenAt, is_open, opened_in};
-ghost use Rattle.tt_branch.specs.Kept.{Advances};
+ghost use Rattle.tt_branch.specs.BestSoFar.{Advances};
 ghost use Rattle.tt_branch.specs.State.{IsUnderWay, MakesWait, EndsAt};
 ghost use Rattle.tt_branch.specs.declared.limit.TheConstants.{MAX_OPENED, MAX_TREE};
 

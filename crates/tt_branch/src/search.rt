@@ -4,7 +4,7 @@ ghost use Rattle.std.specs.Prelude.{◌≡◌, ◌<◌, ◌+◌, [], ◌∷◌, 
 ghost use Rattle.std.specs.List.{list_any};
 ghost use Rattle.tt_instance.specs.Problem.{Problem};
 ghost use Rattle.tt_branch.specs.Growing.{IsOpenAt, HasMark, is_open, opened_in};
-ghost use Rattle.tt_branch.specs.Kept.{IsKept};
+ghost use Rattle.tt_branch.specs.BestSoFar.{IsBestSoFar};
 ghost use Rattle.tt_branch.specs.Links.{link_of};
 ghost use Rattle.tt_branch.specs.State.{IsUnderWay, IsSplitAt};
 
@@ -25,7 +25,7 @@ pub struct Search {
 impl Search {
     /// Creates a search with only the root, which waits.
     pub fn new(alloc: Global, best: Option<Best>) -> Result<Search, AllocError>
-        ensures under_way { IfOk result (λ s. (p : Problem) → IsKept p best → IsUnderWay p s) }
+        ensures under_way { IfOk result (λ s. (p : Problem) → IsBestSoFar p best → IsUnderWay p s) }
         ensures best { IfOk result (λ s. s.best ≡ best) }
         ensures alone { IfOk result (λ s. length s.tree_nodes.items ≡ 1) }
         ensures unopened { IfOk result (λ s. opened_in s.tree_nodes.items ≡ 0) }

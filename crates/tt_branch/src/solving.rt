@@ -4,7 +4,7 @@ ghost use Rattle.std.specs.Prelude.{◌≡◌, ◌≤◌, All, IfOk, OnOk, optio
 ghost use Rattle.tt_instance.specs.Problem.{Problem};
 ghost use Rattle.tt_proof_check.specs.Derives.{HoldsOfAll, Proves};
 ghost use Rattle.tt_proof_check.specs.Nodes.{IsNodeOf};
-ghost use Rattle.tt_branch.specs.Kept.{IsKept, table_of};
+ghost use Rattle.tt_branch.specs.BestSoFar.{IsBestSoFar, table_of};
 ghost use Rattle.tt_branch.specs.Outcomes.{IsOutcome, BeginsWell, final_bound};
 ghost use Rattle.tt_branch.specs.Proofs.{shown_bound};
 ghost use Rattle.tt_branch.specs.State.{IsUnderWay, EndsAt};
@@ -41,7 +41,7 @@ pub struct Outcome {
 /// Returns the bound that the proof of a search shows: if it is finished, that no timetable is better than the best; otherwise the least
 /// value of a Cost leaf.
 fn shown(best: &Option<Best>, least: Option<u64>, finished: bool) -> Bound
-    ensures { (p : Problem) → IsKept p best.now → result ≡ shown_bound (final_bound p (table_of best.now)) least finished }
+    ensures { (p : Problem) → IsBestSoFar p best.now → result ≡ shown_bound (final_bound p (table_of best.now)) least finished }
 {
     if finished {
         return bound_of(best);
@@ -122,7 +122,7 @@ fn solve_over<'i, P: Path<'i>, W: Watch>(
     limit: u32,
     watch: &mut W,
 ) -> Result<Outcome, AllocError>
-    requires kept { IsKept (P.problem path.old) best }
+    requires kept { IsBestSoFar (P.problem path.old) best }
     requires begun { BeginsWell (P.problem path.old) (table_of best) }
     requires positive { 1 ≤ limit }
     requires at_most { limit ≤ MAX_OPENED }

@@ -6,7 +6,7 @@ ghost use Rattle.tt_facts_path.specs.declared.path.TheConstants.{MAX_FACTS};
 ghost use Rattle.tt_leaf.specs.Found.{ArePatterns};
 ghost use Rattle.tt_leaf.specs.Pinned.{IsPinnedDown, IsOpen};
 ghost use Rattle.tt_branch.specs.Growing.{IsKnown, IsSingle, HasMark, was_opened, opened_in};
-ghost use Rattle.tt_branch.specs.Kept.{IsKept, table_of, Advances};
+ghost use Rattle.tt_branch.specs.BestSoFar.{IsBestSoFar, table_of, Advances};
 ghost use Rattle.tt_branch.specs.Links.{path_at, AreLinks};
 ghost use Rattle.tt_branch.specs.Outcomes.{final_bound};
 ghost use Rattle.tt_branch.specs.State.{IsUnderWay};
@@ -58,7 +58,7 @@ fn take_live<'i, P: Path<'i>>(
     path: &P,
     best: &mut Option<Best>,
 ) -> Result<Leaf, AllocError>
-    requires kept { IsKept (P.problem path.now) best.old }
+    requires kept { IsBestSoFar (P.problem path.now) best.old }
     requires pinned { IsPinnedDown (P.problem path.now) (P.facts path.now) }
     requires unclosed { IsOpen (P.problem path.now) (P.facts path.now) (final_bound (P.problem path.now) (table_of best.old)) }
     ensures known { IfOk result (λ leaf. IsKnown (P.problem path.now) (table_of best.new) (P.facts path.now) (NodeState.Closed leaf)) }
@@ -96,7 +96,7 @@ fn open<'i, P: Path<'i>>(
     path: &P,
     best: &mut Option<Best>,
 ) -> Result<Opening, AllocError>
-    requires kept { IsKept (P.problem path.now) best.old }
+    requires kept { IsBestSoFar (P.problem path.now) best.old }
     requires patterns { ArePatterns (P.problem path.now) (P.facts path.now) }
     ensures known { IfOk result (λ o. IsKnown (P.problem path.now) (table_of best.new) (P.facts path.now) o.mark) }
     ensures opened { IfOk result (λ o. was_opened o.mark ≡ true) }

@@ -1,6 +1,6 @@
 pub mod FactTable
 pub mod Grid
 pub mod Joined
-pub mod Kept
+pub mod Earlier
 pub mod Pinned
 pub mod Shown

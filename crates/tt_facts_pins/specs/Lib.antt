@@ -1,4 +1,4 @@
 pub mod FactTable
-pub mod Kept
+pub mod Earlier
 pub mod Sets
 pub mod Tables

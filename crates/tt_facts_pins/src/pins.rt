@@ -36,7 +36,7 @@ impl<'p, 'i> Model for Pins<'p, 'i> {
     ghost use Rattle.tt_facts_path.specs.declared.path.TheConstants.{MAX_FACTS};
     ghost use Rattle.tt_facts_pins.specs.Tables.{ShowsPins};
     ghost use Rattle.tt_facts_pins.specs.FactTable.{ShowsFacts, unplaced_of};
-    ghost use Rattle.tt_facts_pins.specs.Kept.{AreEarlier};
+    ghost use Rattle.tt_facts_pins.specs.Earlier.{AreEarlier};
 
     ghost Value = { Facts };
 

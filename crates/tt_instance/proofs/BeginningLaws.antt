@@ -17,7 +17,7 @@ use Rattle.tt_instance.specs.Beginnings.{token_offset, BeginsAs}
 use Rattle.tt_instance.specs.Problem.{Course, Room, Curriculum, Unavailability, Problem}
 use Rattle.tt_instance.specs.Reading.{Counts, ids_of, word_at, numbered, ranged, known, limited_at, below_at, course_at, courses_at, room_at, rooms_at, named_at, member_at, members_at, curriculum_at, curricula_at, unavailability_at, unavailabilities_at, name_at, counted_at, days_at, periods_at, header_at, places_at, groups_at, sections_at, instance_of}
 use Rattle.tt_instance.specs.Spelling.{Spells}
-use Rattle.tt_instance.proofs.Beginnings.{begins_shared, told_stands, told_stays}
+use Rattle.tt_instance.proofs.Beginnings.{begins_shared, fault_at_token, fault_of_all}
 use Rattle.tt_instance.proofs.WholeLaws.{is_read}
 use Rattle.tt_instance.proofs.Shared.{NoneAt, Shared, Apart, Next, Stays, Joins, NoneLeft, SharedLeft, other_offset, stays_joins, ok_joins, ReadsAlike, SkipsAlike, EndsAlike, SameVerdict, ok_reads, ok_skips, ok_ends, on_condition, then_reads, then_skips, err_reads, if_reads, then_verdict, then_token}
 
@@ -255,13 +255,13 @@ read_from bytes = refl
 
 -- a token of the bytes begins at the offset of the fault
 pub fault_stands : (bytes : List ℕ) (e : InstanceFault) (at : ℕ) → instance_of bytes ≡ Err e → token_offset e ≡ Some at → Any (λ t. t.at ≡ at) (tokens_of bytes)
-fault_stands bytes e at failed told =
+fault_stands bytes e at failed offset_of =
     let end : ℕ = length bytes in
-    told_stands token_offset at (instance_from end) (instance_from end) (instance_alike at end end) (tokens_of bytes) e (sym (read_from bytes) ∙ failed) told
+    fault_at_token token_offset at (instance_from end) (instance_from end) (instance_alike at end end) (tokens_of bytes) e (sym (read_from bytes) ∙ failed) offset_of
 
 -- bytes that begin the same way spell no instance
 pub fault_stays : (bytes other : List ℕ) (e : InstanceFault) (at : ℕ) → instance_of bytes ≡ Err e → token_offset e ≡ Some at → BeginsAs at bytes other → (p : Problem) → ¬ Spells other p
-fault_stays bytes other e at failed told begins p spelled =
+fault_stays bytes other e at failed offset_of begins p spelled =
     let end : ℕ = length bytes in
-    told_stays token_offset at (instance_from end) (instance_from (length other)) (instance_alike at end (length other)) (tokens_of bytes) e (sym (read_from bytes) ∙ failed) told
+    fault_of_all token_offset at (instance_from end) (instance_from (length other)) (instance_alike at end (length other)) (tokens_of bytes) e (sym (read_from bytes) ∙ failed) offset_of
     (tokens_of other) (begins_shared at bytes other begins) p (sym (read_from other) ∙ is_read other p spelled)

@@ -79,7 +79,7 @@ module _ (count : ℕ) where
         let c = get_or l.courses.items k d in
         let there : has_number l.courses.items c ≡ true = list_any_at (λ m. m == c) l.courses.items k d h (eq-eqb c c refl) in
         let none : get_or l.marks c false ≡ false = get_or_past l.marks c false (omega (arith, marked.len, le)) in
-        absurd (false≢true (sym none ∙ marked.told c ∙ there))
+        absurd (false≢true (sym none ∙ marked.agrees c ∙ there))
   ]
 
   -- the members of each curriculum are courses

@@ -22,16 +22,16 @@ other_offset at a not e = not cc
 
 -- -- the results of both readings
 
-module _ {F : Type 0} (told : F → Option ℕ) (at : ℕ) where
+module _ {F : Type 0} (offset_of : F → Option ℕ) (at : ℕ) where
   -- if no token begins at the offset, no fault is reported there
   abbrev pub Stays : {A : Type 0} → (A → Type 0) → Result A F → Type 0
   Stays P (Ok x) = P x
-  Stays P (Err e) = told e ≢ Some at
+  Stays P (Err e) = offset_of e ≢ Some at
 
   -- over shared tokens: both give the same, or neither gives a value, or the first is past the token at the offset
   abbrev pub Joins : {A : Type 0} → (A → Type 0) → (A → A → Type 0) → Result A F → Result A F → Type 0
   Joins {A} P Q (Ok x) s = P x ⊎ ((y : A) × (s ≡ Ok y) × Q x y)
-  Joins {A} P Q (Err e) s = (told e ≢ Some at) ⊎ ((y : A) → s ≢ Ok y)
+  Joins {A} P Q (Err e) s = (offset_of e ≢ Some at) ⊎ ((y : A) → s ≢ Ok y)
 
   -- A reader over these tokens and over others. The condition says that the token taken before doesn't begin at the offset.
   pub record Alike {A : Type 0} (P : A → Type 0) (Q : A → A → Type 0) (condition : Type 0) (f g : List Placed → Result A F) : Type 0 where
@@ -61,7 +61,7 @@ module _ {F : Type 0} (told : F → Option ℕ) (at : ℕ) where
   -- two verdicts on a token: the same value, or neither has a value
   abbrev pub SameVerdict : {J : Type 0} → Type 0 → Result J F → Result J F → Type 0
   SameVerdict condition (Ok v) s = s ≡ Ok v
-  SameVerdict {J} condition (Err e) s = (condition → told e ≢ Some at) × ((v : J) → s ≢ Ok v)
+  SameVerdict {J} condition (Err e) s = (condition → offset_of e ≢ Some at) × ((v : J) → s ≢ Ok v)
 
   -- -- one step and then the next
 
@@ -93,75 +93,75 @@ module _ {F : Type 0} (told : F → Option ℕ) (at : ℕ) where
 
 -- ---- readers
 
-module _ {F : Type 0} {told : F → Option ℕ} {at : ℕ} {condition : Type 0} where
+module _ {F : Type 0} {offset_of : F → Option ℕ} {at : ℕ} {condition : Type 0} where
   -- nothing more is read
-  pub ok_reads : {X : Type 0} (x : X) → ReadsAlike told at condition (λ ts. Ok (x, ts)) (λ us. Ok (x, us))
-  ok_reads x = record { stays = λ c ts none. none; joins = λ ts us shared. ok_joins told at x ts us shared }
+  pub ok_reads : {X : Type 0} (x : X) → ReadsAlike offset_of at condition (λ ts. Ok (x, ts)) (λ us. Ok (x, us))
+  ok_reads x = record { stays = λ c ts none. none; joins = λ ts us shared. ok_joins offset_of at x ts us shared }
 
-  pub ok_skips : SkipsAlike told at condition (λ ts. Ok ts) (λ us. Ok us)
-  ok_skips = record { stays = λ c ts none. none; joins = λ ts us shared. ok_skip_joins told at ts us shared }
+  pub ok_skips : SkipsAlike offset_of at condition (λ ts. Ok ts) (λ us. Ok us)
+  ok_skips = record { stays = λ c ts none. none; joins = λ ts us shared. ok_skip_joins offset_of at ts us shared }
 
-  pub ok_ends : {X : Type 0} (x y : X) → EndsAlike told at condition (λ ts. Ok x) (λ us. Ok y)
+  pub ok_ends : {X : Type 0} (x y : X) → EndsAlike offset_of at condition (λ ts. Ok x) (λ us. Ok y)
   ok_ends x y = record { stays = λ c ts none. tt; joins = λ ts us shared. inl tt }
 
-module _ {F : Type 0} {told : F → Option ℕ} {at : ℕ} {condition : Type 0} {B : Type 0} {R : B → Type 0} {S : B → B → Type 0} where
+module _ {F : Type 0} {offset_of : F → Option ℕ} {at : ℕ} {condition : Type 0} {B : Type 0} {R : B → Type 0} {S : B → B → Type 0} where
   -- readers that are alike on no condition are alike on this one
-  pub on_condition : {f g : List Placed → Result B F} → Alike told at R S (Unit {0}) f g → Alike told at R S condition f g
+  pub on_condition : {f g : List Placed → Result B F} → Alike offset_of at R S (Unit {0}) f g → Alike offset_of at R S condition f g
   on_condition a = record { stays = λ c ts none. a.stays tt ts none; joins = a.joins }
 
   -- reading a value, and then the rest
-  pub then_reads : {X : Type 0} {f g : List Placed → Result (X × List Placed) F} (h k : X × List Placed → Result B F) → ReadsAlike told at condition f g
-      → ((x : X) → Alike told at R S (Unit {0}) (λ ts. h (x, ts)) (λ us. k (x, us))) → Alike told at R S condition (λ ts. f ts >>= h) (λ us. g us >>= k)
+  pub then_reads : {X : Type 0} {f g : List Placed → Result (X × List Placed) F} (h k : X × List Placed → Result B F) → ReadsAlike offset_of at condition f g
+      → ((x : X) → Alike offset_of at R S (Unit {0}) (λ ts. h (x, ts)) (λ us. k (x, us))) → Alike offset_of at R S condition (λ ts. f ts >>= h) (λ us. g us >>= k)
   then_reads {X} {f} {g} h k first more =
       let stays = λ (x : X × List Placed) (none : NoneAt at x.1). (more x.0).stays tt x.1 none in
-      let joins = λ (x y : X × List Placed) (q : (x.0 ≡ y.0) × Shared at x.1 y.1). subst (λ (v : X). Joins told at R S (h x) (k (v, y.1))) q.0 ((more x.0).joins x.1 y.1 q.1) in
+      let joins = λ (x y : X × List Placed) (q : (x.0 ≡ y.0) × Shared at x.1 y.1). subst (λ (v : X). Joins offset_of at R S (h x) (k (v, y.1))) q.0 ((more x.0).joins x.1 y.1 q.1) in
       record {
-        stays = λ c ts none. bind_stays told at (NoneLeft told at) R (f ts) h (first.stays c ts none) stays;
-        joins = λ ts us shared. bind_joins told at (NoneLeft told at) (SharedLeft told at) R S h k (f ts) (g us) (first.joins ts us shared) stays joins;
+        stays = λ c ts none. bind_stays offset_of at (NoneLeft offset_of at) R (f ts) h (first.stays c ts none) stays;
+        joins = λ ts us shared. bind_joins offset_of at (NoneLeft offset_of at) (SharedLeft offset_of at) R S h k (f ts) (g us) (first.joins ts us shared) stays joins;
       }
 
   -- passing over tokens, and then the rest
-  pub then_skips : {f g : List Placed → Result (List Placed) F} (h k : List Placed → Result B F) → SkipsAlike told at condition f g → Alike told at R S (Unit {0}) h k
-      → Alike told at R S condition (λ ts. f ts >>= h) (λ us. g us >>= k)
+  pub then_skips : {f g : List Placed → Result (List Placed) F} (h k : List Placed → Result B F) → SkipsAlike offset_of at condition f g → Alike offset_of at R S (Unit {0}) h k
+      → Alike offset_of at R S condition (λ ts. f ts >>= h) (λ us. g us >>= k)
   then_skips {f} {g} h k first more =
       record {
-        stays = λ c ts none. bind_stays told at (NoneAt at) R (f ts) h (first.stays c ts none) (λ x p. more.stays tt x p);
-        joins = λ ts us shared. bind_joins told at (NoneAt at) (Shared at) R S h k (f ts) (g us) (first.joins ts us shared) (λ x p. more.stays tt x p) (λ x y q. more.joins x y q);
+        stays = λ c ts none. bind_stays offset_of at (NoneAt at) R (f ts) h (first.stays c ts none) (λ x p. more.stays tt x p);
+        joins = λ ts us shared. bind_joins offset_of at (NoneAt at) (Shared at) R S h k (f ts) (g us) (first.joins ts us shared) (λ x p. more.stays tt x p) (λ x y q. more.joins x y q);
       }
 
   -- a fault reported at the token taken before, or at no token
-  pub err_reads : (e d : F) → (condition → told e ≢ Some at) → Alike told at R S condition (λ ts. Err e) (λ us. Err d)
+  pub err_reads : (e d : F) → (condition → offset_of e ≢ Some at) → Alike offset_of at R S condition (λ ts. Err e) (λ us. Err d)
   err_reads e d elsewhere = record { stays = λ c ts none. elsewhere c; joins = λ ts us shared. inr (λ y is. cc) }
 
   -- a test of the token taken before
-  pub if_reads : (b : Bool) {f g h k : List Placed → Result B F} → Alike told at R S condition f g → Alike told at R S condition h k
-      → Alike told at R S condition (λ ts. cond b (f ts) (h ts)) (λ us. cond b (g us) (k us))
+  pub if_reads : (b : Bool) {f g h k : List Placed → Result B F} → Alike offset_of at R S condition f g → Alike offset_of at R S condition h k
+      → Alike offset_of at R S condition (λ ts. cond b (f ts) (h ts)) (λ us. cond b (g us) (k us))
   if_reads true first second = first
   if_reads false first second = second
 
   -- a verdict on the token taken before, and then the rest
-  pub then_verdict : {J : Type 0} (r s : Result J F) (h k : J → List Placed → Result B F) → SameVerdict told at condition r s → ((v : J) → Alike told at R S condition (h v) (k v))
-      → Alike told at R S condition (λ ts. r >>= λ v. h v ts) (λ us. s >>= λ v. k v us)
+  pub then_verdict : {J : Type 0} (r s : Result J F) (h k : J → List Placed → Result B F) → SameVerdict offset_of at condition r s → ((v : J) → Alike offset_of at R S condition (h v) (k v))
+      → Alike offset_of at R S condition (λ ts. r >>= λ v. h v ts) (λ us. s >>= λ v. k v us)
   then_verdict (Ok v) s h k same more = record { stays = λ c ts none. (more v).stays c ts none; joins = λ ts us shared. rw same ((more v).joins ts us shared) }
-  then_verdict (Err e) s h k same more = record { stays = λ c ts none. same.0 c; joins = λ ts us shared. inr (fails_on told at s (λ v. k v us) same.1) }
+  then_verdict (Err e) s h k same more = record { stays = λ c ts none. same.0 c; joins = λ ts us shared. inr (fails_on offset_of at s (λ v. k v us) same.1) }
 
 -- reading a token, and then the rest
-module _ {F : Type 0} (told : F → Option ℕ) (at : ℕ) {B : Type 0} (R : B → Type 0) (S : B → B → Type 0) (none other : F) (h k : Placed × List Placed → Result B F) (ended : told none ≡ None)
-    (more : (t : Placed) (n : ℕ) → Alike told at R S (t.at ≢ at) (λ ts. h (t, ts)) (λ us. k (record { text = t.text; at = n }, us))) where
-  token_stays : (ts : List Placed) → NoneAt at ts → Stays told at R (token_or none ts >>= h)
+module _ {F : Type 0} (offset_of : F → Option ℕ) (at : ℕ) {B : Type 0} (R : B → Type 0) (S : B → B → Type 0) (none other : F) (h k : Placed × List Placed → Result B F) (ended : offset_of none ≡ None)
+    (more : (t : Placed) (n : ℕ) → Alike offset_of at R S (t.at ≢ at) (λ ts. h (t, ts)) (λ us. k (record { text = t.text; at = n }, us))) where
+  token_stays : (ts : List Placed) → NoneAt at ts → Stays offset_of at R (token_or none ts >>= h)
   unfolding token_or
   token_stays [] p = λ e. cc
   token_stays (t ∷ ts) p = (more t 0).stays p.0 ts p.1
 
-  token_joins : (ts us : List Placed) → Shared at ts us → Joins told at R S (token_or none ts >>= h) (token_or other us >>= k)
+  token_joins : (ts us : List Placed) → Shared at ts us → Joins offset_of at R S (token_or none ts >>= h) (token_or other us >>= k)
   unfolding token_or
-  token_joins ts us (Apart p) = stays_joins told at R S (token_or none ts >>= h) (token_or other us >>= k) (token_stays ts p)
+  token_joins ts us (Apart p) = stays_joins offset_of at R S (token_or none ts >>= h) (token_or other us >>= k) (token_stays ts p)
   token_joins ts us (Next {t} {ts = rest} {us = others} n shared) = (more t n).joins rest others shared
 
-pub then_token : {F : Type 0} {told : F → Option ℕ} {at : ℕ} {condition : Type 0} {B : Type 0} {R : B → Type 0} {S : B → B → Type 0} (none other : F) (h k : Placed × List Placed → Result B F)
-    → told none ≡ None → ((t : Placed) (n : ℕ) → Alike told at R S (t.at ≢ at) (λ ts. h (t, ts)) (λ us. k (record { text = t.text; at = n }, us)))
-    → Alike told at R S condition (λ ts. token_or none ts >>= h) (λ us. token_or other us >>= k)
-then_token {told} {at} {R} {S} none other h k ended more = record {
-  stays = λ c ts p. token_stays told at R S none other h k ended more ts p;
-  joins = λ ts us shared. token_joins told at R S none other h k ended more ts us shared;
+pub then_token : {F : Type 0} {offset_of : F → Option ℕ} {at : ℕ} {condition : Type 0} {B : Type 0} {R : B → Type 0} {S : B → B → Type 0} (none other : F) (h k : Placed × List Placed → Result B F)
+    → offset_of none ≡ None → ((t : Placed) (n : ℕ) → Alike offset_of at R S (t.at ≢ at) (λ ts. h (t, ts)) (λ us. k (record { text = t.text; at = n }, us)))
+    → Alike offset_of at R S condition (λ ts. token_or none ts >>= h) (λ us. token_or other us >>= k)
+then_token {offset_of} {at} {R} {S} none other h k ended more = record {
+  stays = λ c ts p. token_stays offset_of at R S none other h k ended more ts p;
+  joins = λ ts us shared. token_joins offset_of at R S none other h k ended more ts us shared;
 }

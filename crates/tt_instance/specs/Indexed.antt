@@ -39,7 +39,7 @@ pub record IsRoomsIndexed (l : RoomList) : Type 0 where
 -- The list has a mark for each course, and the marks say which courses are members.
 pub record IsMarked (count : ℕ) (l : MemberList) : Type 0 where
   pub len : length l.marks ≡ count
-  pub told : (c : ℕ) → slice_index_or l.marks c false ≡ has_number l.courses.items c
+  pub agrees : (c : ℕ) → slice_index_or l.marks c false ≡ has_number l.courses.items c
 
 pub record IsCurriculaIndexed (count : ℕ) (l : CurriculumList) : Type 0 where
   pub ids_are : l.ids ≡ curriculum_ids_of (curricula_seen l.rows.items)
@@ -57,7 +57,7 @@ is_marked_at rows c d s = nat_lt s 64 && slice_index_or (slice_index_or rows c [
 pub record IsBarred (count days : ℕ) (l : UnavailabilityList) : Type 0 where
   pub len : length l.marks.items ≡ count
   pub lens : All (λ m. length m ≡ days * 64) l.marks.items
-  pub told : (c d s : ℕ) → is_marked_at l.marks.items c d s ≡ has_unavailability (unavailabilities_seen l.rows.items) c d s
+  pub agrees : (c d s : ℕ) → is_marked_at l.marks.items c d s ≡ has_unavailability (unavailabilities_seen l.rows.items) c d s
 
 -- The tables of all parts are right.
 pub record IsIndexedParts (a : Parts) : Type 0 where
@@ -76,4 +76,4 @@ IsSquare rows = All (λ row. length row ≡ length rows) rows
 
 -- The table has a row of marks for each course, which says with which courses it conflicts.
 pub record IsExcluding (p : Problem) (rows : List (List Bool)) : Type 0 where
-  pub told : (a b : ℕ) → mark_at rows a b ≡ conflict p a b
+  pub agrees : (a b : ℕ) → mark_at rows a b ≡ conflict p a b

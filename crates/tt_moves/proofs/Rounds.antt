@@ -10,11 +10,11 @@ use Rattle.tt_instance.specs.Cells.{slot, is_at}
 use Rattle.tt_instance.specs.Courses.{in_curriculum}
 use Rattle.tt_instance.specs.declared.cell.Cell.{Cell}
 use Rattle.tt_table.specs.Table.{IsTimetable}
-use Rattle.tt_occupancy_tallies.specs.Standing.{standing, stands, stands_beside, joined_before, joined_after}
+use Rattle.tt_occupancy_tallies.specs.Neighbours.{entries_at, has_entry_at, has_neighbour, joined_before, joined_after}
 use Rattle.tt_occupancy_tallies.proofs.Chosen.{any_counted}
 use Rattle.tt_occupancy.proofs.Standings.{none_standing}
 use Rattle.tt_moves.specs.Rests.{IsRest, IsStill}
-use Rattle.tt_moves.specs.Rounds.{is_beside, OtherIsHandled}
+use Rattle.tt_moves.specs.Rounds.{has_next, OtherIsHandled}
 use Rattle.tt_moves.specs.declared.rest.WithoutEntry.{WithoutEntry}
 
 -- ---- tests
@@ -55,38 +55,38 @@ nothing false false n e = refl
 -- ---- the entries u of curriculum q on day d, whose periods fit a word
 
 module _ (p : Problem) (u : List Cell) (q d : ℕ) (ok : IsTimetable p u) (short : p.periods ≤ 64) where
-  stands_is : (s : ℕ) → nat_lt 0 (standing p u q d s) ≡ stands p u q d s
+  stands_is : (s : ℕ) → nat_lt 0 (entries_at p u q d s) ≡ has_entry_at p u q d s
   stands_is s = any_counted (λ e. in_curriculum p q e.course && is_at (slot d s) e) u
 
-  module _ (b : ℕ → Bool) (is : (s : ℕ) → s < 64 → b s ≡ nat_lt 0 (standing p u q d s)) where
-    up_to : (s : ℕ) → (nat_lt s 64 && b s) ≡ stands p u q d s
+  module _ (b : ℕ → Bool) (is : (s : ℕ) → s < 64 → b s ≡ nat_lt 0 (entries_at p u q d s)) where
+    up_to : (s : ℕ) → (nat_lt s 64 && b s) ≡ has_entry_at p u q d s
     up_to s = elim (cases_lt s 64) [
       | inl h ↦ ap (λ t. t && b s) (lt-ltb s 64 h) ∙ is s h ∙ stands_is s
       | inr h ↦ ap (λ t. t && b s) (le-ltb s 64 h) ∙ ap (nat_lt 0) (none_standing p u q d s ok (omega arith)) ∙ stands_is s
     ]
 
-    pub beside_stands : (s : ℕ) → s < 64 → is_beside b s ≡ stands_beside p u q d s
+    pub beside_stands : (s : ℕ) → s < 64 → has_next b s ≡ has_neighbour p u q d s
     beside_stands s h =
         ap (λ t. (nat_lt 0 s && t) || (nat_lt (s + 1) 64 && b (s + 1))) (is (s - 1) (omega arith) ∙ stands_is (s - 1))
-        ∙ ap (λ t. (nat_lt 0 s && stands p u q d (s - 1)) || t) (up_to (s + 1))
-        ∙ or_comm (nat_lt 0 s && stands p u q d (s - 1)) (stands p u q d (s + 1))
+        ∙ ap (λ t. (nat_lt 0 s && has_entry_at p u q d (s - 1)) || t) (up_to (s + 1))
+        ∙ or_comm (nat_lt 0 s && has_entry_at p u q d (s - 1)) (has_entry_at p u q d (s + 1))
 
-    pub isolated_stand : (s : ℕ) → s < 64 → (b s && not (is_beside b s)) ≡ (nat_lt 0 (standing p u q d s) && not (stands_beside p u q d s))
-    isolated_stand s h = ap (λ t. t && not (is_beside b s)) (is s h) ∙ ap (λ t. nat_lt 0 (standing p u q d s) && not t) (beside_stands s h)
+    pub isolated_stand : (s : ℕ) → s < 64 → (b s && not (has_next b s)) ≡ (nat_lt 0 (entries_at p u q d s) && not (has_neighbour p u q d s))
+    isolated_stand s h = ap (λ t. t && not (has_next b s)) (is s h) ∙ ap (λ t. nat_lt 0 (entries_at p u q d s) && not t) (beside_stands s h)
 
-  module _ (b : ℕ → Bool) (is : (s : ℕ) → s < 64 → b s ≡ (nat_lt 0 (standing p u q d s) && not (stands_beside p u q d s))) (s : ℕ) (low : s < p.periods) where
-    pub before_joined : cond (nat_lt 0 s && b (s - 1)) (standing p u q d (s - 1)) 0 ≡ joined_before p u q d s
+  module _ (b : ℕ → Bool) (is : (s : ℕ) → s < 64 → b s ≡ (nat_lt 0 (entries_at p u q d s) && not (has_neighbour p u q d s))) (s : ℕ) (low : s < p.periods) where
+    pub before_joined : cond (nat_lt 0 s && b (s - 1)) (entries_at p u q d (s - 1)) 0 ≡ joined_before p u q d s
     before_joined =
-        ap (λ t. cond (nat_lt 0 s && t) (standing p u q d (s - 1)) 0) (is (s - 1) (omega arith))
-        ∙ some_only (nat_lt 0 s) (stands_beside p u q d (s - 1)) (standing p u q d (s - 1))
+        ap (λ t. cond (nat_lt 0 s && t) (entries_at p u q d (s - 1)) 0) (is (s - 1) (omega arith))
+        ∙ some_only (nat_lt 0 s) (has_neighbour p u q d (s - 1)) (entries_at p u q d (s - 1))
 
-    pub after_joined : cond (nat_lt (s + 1) 64 && b (s + 1)) (standing p u q d (s + 1)) 0 ≡ joined_after p u q d s
+    pub after_joined : cond (nat_lt (s + 1) 64 && b (s + 1)) (entries_at p u q d (s + 1)) 0 ≡ joined_after p u q d s
     after_joined = elim (cases_lt (s + 1) 64) [
       | inl h ↦
-          ap (λ t. cond (t && b (s + 1)) (standing p u q d (s + 1)) 0) (lt-ltb (s + 1) 64 h)
-          ∙ ap (λ t. cond t (standing p u q d (s + 1)) 0) (is (s + 1) h)
-          ∙ some_only true (stands_beside p u q d (s + 1)) (standing p u q d (s + 1))
-      | inr h ↦ nothing (nat_lt (s + 1) 64 && b (s + 1)) (not (stands_beside p u q d (s + 1))) (standing p u q d (s + 1)) (sym (none_standing p u q d (s + 1) ok (omega arith)))
+          ap (λ t. cond (t && b (s + 1)) (entries_at p u q d (s + 1)) 0) (lt-ltb (s + 1) 64 h)
+          ∙ ap (λ t. cond t (entries_at p u q d (s + 1)) 0) (is (s + 1) h)
+          ∙ some_only true (has_neighbour p u q d (s + 1)) (entries_at p u q d (s + 1))
+      | inr h ↦ nothing (nat_lt (s + 1) 64 && b (s + 1)) (not (has_neighbour p u q d (s + 1))) (entries_at p u q d (s + 1)) (sym (none_standing p u q d (s + 1) ok (omega arith)))
     ]
 
 -- -- the moved entry
@@ -107,14 +107,14 @@ module _ (r : WithoutEntry) (q d : ℕ) (gone : in_curriculum r.occupied.now.pro
 
   module _ (other : Bool) (counts : OtherIsHandled r q d other) (u : List Cell) (rest : IsRest r u) (s : ℕ) where
     -- the count over the rest, from the count over the timetable
-    pub standing_adjusted : standing r.occupied.now.problem u q d s + one_if (other && is_at (slot d s) r.from) + one_if (is_at (slot d s) r.gone) ≡ standing r.occupied.now.problem r.occupied.now.entries q d s + one_if (other && is_at (slot d s) r.to)
+    pub standing_adjusted : entries_at r.occupied.now.problem u q d s + one_if (other && is_at (slot d s) r.from) + one_if (is_at (slot d s) r.gone) ≡ entries_at r.occupied.now.problem r.occupied.now.entries q d s + one_if (other && is_at (slot d s) r.to)
     standing_adjusted =
         let test = λ (e : Cell). in_curriculum r.occupied.now.problem q e.course && is_at (slot d s) e in
         let one = ap (λ b. one_if (b && is_at (slot d s) r.gone)) gone in
         omega (arith, rest.counts test, counts s, one)
 
     -- if none of the three entries counts, the two counts agree
-    pub standing_same : (other && is_at (slot d s) r.to) ≡ false → (other && is_at (slot d s) r.from) ≡ false → is_at (slot d s) r.gone ≡ false → nat_lt 0 (standing r.occupied.now.problem r.occupied.now.entries q d s) ≡ nat_lt 0 (standing r.occupied.now.problem u q d s)
+    pub standing_same : (other && is_at (slot d s) r.to) ≡ false → (other && is_at (slot d s) r.from) ≡ false → is_at (slot d s) r.gone ≡ false → nat_lt 0 (entries_at r.occupied.now.problem r.occupied.now.entries q d s) ≡ nat_lt 0 (entries_at r.occupied.now.problem u q d s)
     standing_same to from away =
         let a = ap one_if to in
         let b = ap one_if from in

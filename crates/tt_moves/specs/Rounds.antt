@@ -5,21 +5,21 @@ use Rattle.tt_instance.specs.Cells.{slot, is_at}
 use Rattle.tt_instance.specs.Courses.{in_curriculum}
 use Rattle.tt_instance.specs.declared.cell.Cell.{Cell}
 use Rattle.tt_bits.specs.Bits.{has_bit}
-use Rattle.tt_occupancy_tallies.specs.Standing.{standing, stands_beside}
+use Rattle.tt_occupancy_tallies.specs.Neighbours.{entries_at, has_neighbour}
 use Rattle.tt_moves.specs.Rests.{IsRest}
 use Rattle.tt_moves.specs.declared.rest.WithoutEntry.{WithoutEntry}
 
 -- whether the period before or after passes the test
-abbrev pub is_beside : (ℕ → Bool) → ℕ → Bool
-is_beside b s = (nat_lt 0 s && b (s - 1)) || (nat_lt (s + 1) 64 && b (s + 1))
+abbrev pub has_next : (ℕ → Bool) → ℕ → Bool
+has_next b s = (nat_lt 0 s && b (s - 1)) || (nat_lt (s + 1) 64 && b (s + 1))
 
 -- whether the word is the set of the periods of day d that have an entry of curriculum q, among the rest's entries
-abbrev pub AreStanding : WithoutEntry → ℕ → ℕ → ℕ → Type 0
-AreStanding r q d word = (u : List Cell) → IsRest r u → (s : ℕ) → s < 64 → has_bit word s ≡ nat_lt 0 (standing r.occupied.now.problem u q d s)
+abbrev pub AreTaken : WithoutEntry → ℕ → ℕ → ℕ → Type 0
+AreTaken r q d word = (u : List Cell) → IsRest r u → (s : ℕ) → s < 64 → has_bit word s ≡ nat_lt 0 (entries_at r.occupied.now.problem u q d s)
 
 -- whether the word is the set of the periods of day d that have isolated entries of curriculum q, among the rest's entries
 abbrev pub AreIsolated : WithoutEntry → ℕ → ℕ → ℕ → Type 0
-AreIsolated r q d word = (u : List Cell) → IsRest r u → (s : ℕ) → s < 64 → has_bit word s ≡ (nat_lt 0 (standing r.occupied.now.problem u q d s) && not (stands_beside r.occupied.now.problem u q d s))
+AreIsolated r q d word = (u : List Cell) → IsRest r u → (s : ℕ) → s < 64 → has_bit word s ≡ (nat_lt 0 (entries_at r.occupied.now.problem u q d s) && not (has_neighbour r.occupied.now.problem u q d s))
 
 -- the choice whether the moved entry is counted again in curriculum q makes no difference on day d, or is right
 abbrev pub OtherIsHandled : WithoutEntry → ℕ → ℕ → Bool → Type 0

@@ -39,8 +39,8 @@ impl WithoutEntry<'_, '_, '_> {
             → result.alone ≡ alone self.now.occupied.now.problem u entry }
         ensures joined { (u : List Cell) → IsRest self.now u
             → result.joined ≡ all_joined self.now.occupied.now.problem u entry }
-        ensures few_alone { result.alone ≤ MAX_CURRICULA }
-        ensures few_joined { result.joined ≤ MAX_CURRICULA * (2 * (MAX_ENTRIES + 1)) }
+        ensures alone_at_most { result.alone ≤ MAX_CURRICULA }
+        ensures joined_at_most { result.joined ≤ MAX_CURRICULA * (2 * (MAX_ENTRIES + 1)) }
     {
         let is_still = self.is_still(entry.day);
         let mut gaps = Gaps {

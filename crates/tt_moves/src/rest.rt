@@ -7,7 +7,7 @@ ghost use Rattle.tt_instance.specs.declared.cell.Cell.{Cell};
 ghost use Rattle.tt_table.specs.declared.table.TheConstants.{MAX_ENTRIES};
 ghost use Rattle.tt_rules.specs.Soft.{days_of};
 ghost use Rattle.tt_occupancy_tallies.specs.Tallies.{rooms_of};
-ghost use Rattle.tt_occupancy_tallies.specs.Standing.{standing};
+ghost use Rattle.tt_occupancy_tallies.specs.Neighbours.{entries_at};
 ghost use Rattle.tt_occupancy_tallies.specs.Weight.{repeats, shares, against};
 ghost use Rattle.tt_moves.specs.Rests.{IsRest, rest_without};
 ghost use Rattle.tt_moves.specs.Rounds.{OtherIsHandled};
@@ -92,14 +92,14 @@ impl<'b, 'a, 'i> WithoutEntry<'b, 'a, 'i> {
 
 impl WithoutEntry<'_, '_, '_> {
     /// Returns the number of entries of a curriculum of the course left out, in a period; 0 past the day's end.
-    pub fn standing(&self, curriculum: u32, other: bool, day: u32, period: u32) -> u32
+    pub fn entries_at(&self, curriculum: u32, other: bool, day: u32, period: u32) -> u32
         requires curriculum { curriculum < length self.now.occupied.now.problem.curricula }
         requires day { day < self.now.occupied.now.problem.days }
         requires gone { in_curriculum self.now.occupied.now.problem curriculum self.now.gone.course ≡ true }
         requires other { OtherIsHandled self.now curriculum day other }
         requires rest { (u : List Cell) × IsRest self.now u }
         ensures value { (u : List Cell) → IsRest self.now u
-            → result ≡ standing self.now.occupied.now.problem u curriculum day period }
+            → result ≡ entries_at self.now.occupied.now.problem u curriculum day period }
         ensures at_most { result ≤ MAX_ENTRIES + 1 }
     {
         if period >= self.occupied.instance().periods() {

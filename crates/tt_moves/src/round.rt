@@ -5,10 +5,10 @@ ghost use Rattle.tt_bits.specs.Bits.{has_bit};
 ghost use Rattle.tt_instance.specs.Cells.{slot, is_at};
 ghost use Rattle.tt_instance.specs.Courses.{in_curriculum};
 ghost use Rattle.tt_instance.specs.declared.cell.Cell.{Cell};
-ghost use Rattle.tt_occupancy_tallies.specs.Standing.{standing, joined_before, joined_after};
+ghost use Rattle.tt_occupancy_tallies.specs.Neighbours.{entries_at, joined_before, joined_after};
 ghost use Rattle.tt_occupancy.specs.Around.{AreGaps};
 ghost use Rattle.tt_moves.specs.Rests.{IsRest, IsStill};
-ghost use Rattle.tt_moves.specs.Rounds.{AreStanding, AreIsolated, OtherIsHandled};
+ghost use Rattle.tt_moves.specs.Rounds.{AreTaken, AreIsolated, OtherIsHandled};
 ghost use Rattle.tt_table.specs.declared.table.TheConstants.{MAX_ENTRIES};
 
 use crate::beside::beside;
@@ -41,12 +41,12 @@ impl WithoutEntry<'_, '_, '_> {
         requires rest { (u : List Cell) × IsRest self.now u }
         ensures { (u : List Cell) → IsRest self.now u → (s : ℕ) → s < 64
             → has_bit result s ≡ cond (is_at (slot day s) entry)
-            (nat_lt 0 (standing self.now.occupied.now.problem u curriculum day s)) (has_bit set s) }
+            (nat_lt 0 (entries_at self.now.occupied.now.problem u curriculum day s)) (has_bit set s) }
     {
         if entry.day != day || entry.period >= MAX_PERIODS {
             return set;
         }
-        let count = self.standing(curriculum, other, day, entry.period);
+        let count = self.entries_at(curriculum, other, day, entry.period);
         put(set, entry.period, count > 0)
     }
 
@@ -57,7 +57,7 @@ impl WithoutEntry<'_, '_, '_> {
         requires gone { in_curriculum self.now.occupied.now.problem curriculum self.now.gone.course ≡ true }
         requires other { OtherIsHandled self.now curriculum day other }
         requires rest { (u : List Cell) × IsRest self.now u }
-        ensures { AreStanding self.now curriculum day result }
+        ensures { AreTaken self.now curriculum day result }
     {
         let all = self.occupied.curriculum_on(curriculum, day);
         let set = self.recounted(all, curriculum, other, day, self.gone);
@@ -91,7 +91,7 @@ impl WithoutEntry<'_, '_, '_> {
         // This holds for every instance: its periods fit a word.
         prove!(self.occupied.instance().periods() <= MAX_PERIODS);
         if has_bit(next(isolated), period) {
-            self.standing(curriculum, other, day, period - 1)
+            self.entries_at(curriculum, other, day, period - 1)
         } else {
             0
         }
@@ -120,7 +120,7 @@ impl WithoutEntry<'_, '_, '_> {
         // This holds for every instance: its periods fit a word.
         prove!(self.occupied.instance().periods() <= MAX_PERIODS);
         if has_bit(previous(isolated), period) {
-            self.standing(curriculum, other, day, period + 1)
+            self.entries_at(curriculum, other, day, period + 1)
         } else {
             0
         }
@@ -139,8 +139,8 @@ impl WithoutEntry<'_, '_, '_> {
         ensures gaps { (u : List Cell) (rows : List ℕ) → IsRest self.now u
             → AreGaps self.now.occupied.now.problem u rows day period gaps
             → AreGaps self.now.occupied.now.problem u (rows ++ curriculum ∷ []) day period result }
-        ensures few_alone { result.alone ≤ gaps.alone + 1 }
-        ensures few_joined { result.joined ≤ gaps.joined + 2 * (MAX_ENTRIES + 1) }
+        ensures alone_at_most { result.alone ≤ gaps.alone + 1 }
+        ensures joined_at_most { result.joined ≤ gaps.joined + 2 * (MAX_ENTRIES + 1) }
     {
         // This holds for every instance: its periods fit a word.
         prove!(self.occupied.instance().periods() <= MAX_PERIODS);

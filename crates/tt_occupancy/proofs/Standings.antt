@@ -11,7 +11,7 @@ use Rattle.tt_instance.specs.Courses.{in_curriculum}
 use Rattle.tt_instance.specs.declared.cell.Cell.{Cell}
 use Rattle.tt_table.specs.Table.{IsTimetable}
 use Rattle.tt_rules.specs.Soft.{is_isolated}
-use Rattle.tt_occupancy_tallies.specs.Standing.{standing, stands, stands_beside, joined_before, joined_after}
+use Rattle.tt_occupancy_tallies.specs.Neighbours.{entries_at, has_entry_at, has_neighbour, joined_before, joined_after}
 use Rattle.tt_occupancy_tallies.specs.Weight.{alone, joined, all_joined}
 use Rattle.tt_occupancy_tallies.proofs.Chosen.{sum_by-filter, any_counted}
 use Rattle.tt_occupancy_tallies.proofs.Neighbours.{isolated_by_periods, joined_by_periods}
@@ -23,7 +23,7 @@ use Rattle.tt_occupancy.specs.declared.around.Around.{Around}
 use Rattle.tt_occupancy.specs.declared.gaps.Gaps.{Gaps}
 
 -- no entry in range is past the day's end
-pub none_standing : (p : Problem) (u : List Cell) (q d s : ℕ) → IsTimetable p u → p.periods ≤ s → 0 ≡ standing p u q d s
+pub none_standing : (p : Problem) (u : List Cell) (q d s : ℕ) → IsTimetable p u → p.periods ≤ s → 0 ≡ entries_at p u q d s
 none_standing p u q d s ok h = sym (none_counted (λ e. in_curriculum p q e.course && is_at (slot d s) e) u (λ x member e.
     let r = subst (InRange p) member.2 (ok member.0 x member.1) in
     let a = and_parts (in_curriculum p q x.course) (is_at (slot d s) x) e in
@@ -33,7 +33,7 @@ none_standing p u q d s ok h = sym (none_counted (λ e. in_curriculum p q e.cour
     omega arith))
 
 -- whether the table w, which counts the entries, has some in a period
-pub some_standing : (p : Problem) (u : List Cell) (w : Week) → IsTimetable p u → IsTally p (length p.curricula) (of_curriculum p) u w → (q d s : ℕ) → q < length p.curricula → d < p.days → (nat_lt s w.periods && nat_lt 0 (in_period w q d s)) ≡ nat_lt 0 (standing p u q d s)
+pub some_standing : (p : Problem) (u : List Cell) (w : Week) → IsTimetable p u → IsTally p (length p.curricula) (of_curriculum p) u w → (q d s : ℕ) → q < length p.curricula → d < p.days → (nat_lt s w.periods && nat_lt 0 (in_period w q d s)) ≡ nat_lt 0 (entries_at p u q d s)
 some_standing p u w ok tally q d s row day = elim (cases_lt s w.periods) [
   | inl h ↦ ap (λ b. b && nat_lt 0 (in_period w q d s)) (lt-ltb s w.periods h) ∙ ap (nat_lt 0) (tally.counts q d s row day (omega (arith, tally.periods)))
   | inr h ↦ ap (λ b. b && nat_lt 0 (in_period w q d s)) (le-ltb s w.periods h) ∙ ap (nat_lt 0) (none_standing p u q d s ok (omega (arith, tally.periods)))
@@ -66,31 +66,31 @@ module _ (f : ℕ → ℕ) (s two_before before here after two_after : ℕ) (a :
 -- -- the entries u of curriculum q on day d, around period s
 
 module _ (p : Problem) (u : List Cell) (q d s : ℕ) where
-  beside_is : (k : ℕ) → beside (standing p u q d) k ≡ stands_beside p u q d k
+  beside_is : (k : ℕ) → beside (entries_at p u q d) k ≡ has_neighbour p u q d k
   beside_is k =
-      ap (λ b. b || (nat_lt 0 k && nat_lt 0 (standing p u q d (k - 1)))) (any_counted (λ e. in_curriculum p q e.course && is_at (slot d (k + 1)) e) u)
-      ∙ ap (λ b. stands p u q d (k + 1) || (nat_lt 0 k && b)) (any_counted (λ e. in_curriculum p q e.course && is_at (slot d (k - 1)) e) u)
+      ap (λ b. b || (nat_lt 0 k && nat_lt 0 (entries_at p u q d (k - 1)))) (any_counted (λ e. in_curriculum p q e.course && is_at (slot d (k + 1)) e) u)
+      ∙ ap (λ b. has_entry_at p u q d (k + 1) || (nat_lt 0 k && b)) (any_counted (λ e. in_curriculum p q e.course && is_at (slot d (k - 1)) e) u)
 
-  before_is : before_of (standing p u q d) s ≡ joined_before p u q d s
-  before_is = ap (λ b. cond (nat_lt 0 s && not b) (standing p u q d (s - 1)) 0) (beside_is (s - 1))
+  before_is : before_of (entries_at p u q d) s ≡ joined_before p u q d s
+  before_is = ap (λ b. cond (nat_lt 0 s && not b) (entries_at p u q d (s - 1)) 0) (beside_is (s - 1))
 
-  after_is : after_of (standing p u q d) s ≡ joined_after p u q d s
-  after_is = ap (λ b. cond (not b) (standing p u q d (s + 1)) 0) (beside_is (s + 1))
+  after_is : after_of (entries_at p u q d) s ≡ joined_after p u q d s
+  after_is = ap (λ b. cond (not b) (entries_at p u q d (s + 1)) 0) (beside_is (s + 1))
 
   module _ (a : Around) (ok : IsAround p u q d s a) where
-    pub alone_is : ((a.before == 0) && (a.after == 0)) ≡ not (stands_beside p u q d s)
+    pub alone_is : ((a.before == 0) && (a.after == 0)) ≡ not (has_neighbour p u q d s)
     alone_is =
-        alone_by_counts (standing p u q d) s a.two_before a.before a.here a.after a.two_after ok.two_before ok.before ok.here ok.after ok.two_after
+        alone_by_counts (entries_at p u q d) s a.two_before a.before a.here a.after a.two_after ok.two_before ok.before ok.here ok.after ok.two_after
         ∙ ap not (beside_is s)
 
     pub joined_none : 0 < a.here → 0 ≡ joined_before p u q d s + joined_after p u q d s
     joined_none some =
-        omega (arith, before_is, after_is, none_by_counts (standing p u q d) s a.two_before a.before a.here a.after a.two_after ok.two_before ok.before ok.here ok.after ok.two_after some)
+        omega (arith, before_is, after_is, none_by_counts (entries_at p u q d) s a.two_before a.before a.here a.after a.two_after ok.two_before ok.before ok.here ok.after ok.two_after some)
 
     pub joined_is : a.here ≤ 0 → cond (a.two_before == 0) a.before 0 + cond (a.two_after == 0) a.after 0 ≡ joined_before p u q d s + joined_after p u q d s
     joined_is none =
-        let b = before_by_counts (standing p u q d) s a.two_before a.before a.here a.after a.two_after ok.two_before ok.before ok.here ok.after ok.two_after none in
-        let c = after_by_counts (standing p u q d) s a.two_before a.before a.here a.after a.two_after ok.two_before ok.before ok.here ok.after ok.two_after none in
+        let b = before_by_counts (entries_at p u q d) s a.two_before a.before a.here a.after a.two_after ok.two_before ok.before ok.here ok.after ok.two_after none in
+        let c = after_by_counts (entries_at p u q d) s a.two_before a.before a.here a.after a.two_after ok.two_before ok.before ok.here ok.after ok.two_after none in
         omega (arith, before_is, after_is, b, c)
 
 -- ---- all curricula of a course
@@ -99,7 +99,7 @@ module _ (p : Problem) (u : List Cell) (x : Cell) (rows : List ℕ) (are : rows 
   pub gaps_alone : g.alone ≡ alone p u x
   gaps_alone =
       let member = λ (q : ℕ). in_curriculum p q x.course in
-      let f = λ (q : ℕ). cond (not (stands_beside p u q x.day x.period)) 1 0 in
+      let f = λ (q : ℕ). cond (not (has_neighbour p u q x.day x.period)) 1 0 in
       gaps.alone
       ∙ ap (sum_by f) are ∙ sum_by-filter f member (all_curricula p)
       ∙ sum_by-same (λ q. cond (member q) (f q) 0) (λ q. cond (member q) (cond (is_isolated p u q x) 1 0) 0) (all_curricula p)

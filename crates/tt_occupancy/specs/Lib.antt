@@ -1,5 +1,5 @@
 pub mod Around
 pub mod Counted
 pub mod Filled
-pub mod Kept
+pub mod Fields
 pub mod Weights

@@ -3,7 +3,7 @@
 ghost use Rattle.std.specs.Prelude.{◌≡◌, ℕ, ◌+◌, ◌^◌, ◌<◌, ◌≤◌, not, List};
 ghost use Rattle.tt_instance.specs.Problem.{Problem};
 ghost use Rattle.tt_instance.specs.declared.cell.Cell.{Cell};
-ghost use Rattle.tt_occupancy_tallies.specs.Standing.{stands_beside, joined_before, joined_after};
+ghost use Rattle.tt_occupancy_tallies.specs.Neighbours.{has_neighbour, joined_before, joined_after};
 ghost use Rattle.tt_occupancy.specs.Around.{IsAround};
 
 /// The number of entries in a period, in each of the two periods before it and in each of the two after it.
@@ -20,7 +20,7 @@ impl Around {
     /// Checks whether an entry in the period would be isolated.
     pub fn is_alone(self) -> bool
         ensures { (p : Problem) (u : List Cell) (q d s : ℕ) → IsAround p u q d s self
-            → result ≡ not (stands_beside p u q d s) }
+            → result ≡ not (has_neighbour p u q d s) }
     {
         self.before == 0 && self.after == 0
     }

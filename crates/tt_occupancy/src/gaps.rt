@@ -4,7 +4,7 @@ ghost use Rattle.std.specs.Prelude.{◌≡◌, ℕ, ◌+◌, ◌-◌, ◌*◌, �
 ghost use Rattle.tt_instance.specs.Problem.{Problem};
 ghost use Rattle.tt_instance.specs.declared.cell.Cell.{Cell};
 ghost use Rattle.tt_table.specs.Table.{IsTimetable};
-ghost use Rattle.tt_occupancy_tallies.specs.Standing.{standing};
+ghost use Rattle.tt_occupancy_tallies.specs.Neighbours.{entries_at};
 ghost use Rattle.tt_occupancy_tallies.specs.Tallies.{IsTally, of_curriculum};
 ghost use Rattle.tt_occupancy.specs.Around.{IsAround, AreGaps};
 ghost use Rattle.tt_instance.specs.declared.limit.TheConstants.{MAX_CURRICULA};
@@ -30,8 +30,8 @@ impl Gaps {
         ensures gaps { (p : Problem) (u : List Cell) (rows : List ℕ) (q d s : ℕ)
             → AreGaps p u rows d s self → IsAround p u q d s around
             → AreGaps p u (rows ++ q ∷ []) d s result }
-        ensures few_alone { result.alone ≤ self.alone + 1 }
-        ensures few_joined { result.joined ≤ self.joined + around.before + around.after }
+        ensures alone_at_most { result.alone ≤ self.alone + 1 }
+        ensures joined_at_most { result.joined ≤ self.joined + around.before + around.after }
     {
         Gaps {
             alone: self.alone + one_if(around.is_alone()),
@@ -41,12 +41,12 @@ impl Gaps {
 }
 
 /// Returns the number of entries of a curriculum in a period; 0 past the day's end.
-fn standing(week: &Week, row: u32, day: u32, period: u32) -> u32
+fn entries_at(week: &Week, row: u32, day: u32, period: u32) -> u32
     requires row { row < week.now.grid.rows }
     requires day { day < week.now.days }
     ensures value { (p : Problem) (u : List Cell) → IsTimetable p u
         → IsTally p (length p.curricula) (of_curriculum p) u week.now
-        → result ≡ standing p u row day period }
+        → result ≡ entries_at p u row day period }
     ensures at_most { result < 2 ^ 16 }
 {
     if period < week.periods {
@@ -57,16 +57,16 @@ fn standing(week: &Week, row: u32, day: u32, period: u32) -> u32
 }
 
 /// Returns the number of entries `by` periods before a period; 0 before the first period of the day.
-fn standing_before(week: &Week, row: u32, day: u32, period: u32, by: u32) -> u32
+fn entries_before(week: &Week, row: u32, day: u32, period: u32, by: u32) -> u32
     requires row { row < week.now.grid.rows }
     requires day { day < week.now.days }
     ensures value { (p : Problem) (u : List Cell) → IsTimetable p u
         → IsTally p (length p.curricula) (of_curriculum p) u week.now
-        → result ≡ cond (nat_le by period) (standing p u row day (period - by)) 0 }
+        → result ≡ cond (nat_le by period) (entries_at p u row day (period - by)) 0 }
     ensures at_most { result < 2 ^ 16 }
 {
     if by <= period {
-        standing(week, row, day, period - by)
+        entries_at(week, row, day, period - by)
     } else {
         0
     }
@@ -83,11 +83,11 @@ fn around(week: &Week, row: u32, day: u32, period: u32) -> Around
     ensures at_most { result.before + result.after < 2 * 2 ^ 16 }
 {
     Around {
-        two_before: standing_before(week, row, day, period, 2),
-        before: standing_before(week, row, day, period, 1),
-        here: standing(week, row, day, period),
-        after: standing(week, row, day, period + 1),
-        two_after: standing(week, row, day, period + 2),
+        two_before: entries_before(week, row, day, period, 2),
+        before: entries_before(week, row, day, period, 1),
+        here: entries_at(week, row, day, period),
+        after: entries_at(week, row, day, period + 1),
+        two_after: entries_at(week, row, day, period + 2),
     }
 }
 
@@ -100,8 +100,8 @@ pub fn gaps_round(week: &Week, rows: &[u32], day: u32, period: u32) -> Gaps
     ensures gaps { (p : Problem) (u : List Cell) → IsTimetable p u
         → IsTally p (length p.curricula) (of_curriculum p) u week.now
         → AreGaps p u rows.now day period result }
-    ensures few_alone { result.alone ≤ MAX_CURRICULA }
-    ensures few_joined { result.joined ≤ MAX_CURRICULA * (2 * 2 ^ 16) }
+    ensures alone_at_most { result.alone ≤ MAX_CURRICULA }
+    ensures joined_at_most { result.joined ≤ MAX_CURRICULA * (2 * 2 ^ 16) }
 {
     let mut gaps = Gaps {
         alone: 0,

@@ -38,9 +38,9 @@ impl<'a, 'i> Model for Occupied<'a, 'i> {
 
     ghost view = { λ s. record { problem = s.instance.now; entries = s.table } };
 
-    ghost use Rattle.tt_occupancy.specs.Kept.{IsKept};
+    ghost use Rattle.tt_occupancy.specs.Fields.{AreFieldsCounted};
 
-    ghost invariant = { IsKept };
+    ghost invariant = { AreFieldsCounted };
 }
 
 impl<'a, 'i> Occupied<'a, 'i> {

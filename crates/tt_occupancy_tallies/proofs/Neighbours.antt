@@ -11,7 +11,7 @@ use Rattle.tt_rules.specs.Soft.{is_isolated}
 use Rattle.tt_lists.proofs.Sums.{one_if, sum_by-plus, sum_by-same, sum_by-nothing}
 use Rattle.tt_lists.proofs.Tests.{list_any-same_at, list_any-or}
 use Rattle.tt_occupancy_tallies.specs.Weight.{joined}
-use Rattle.tt_occupancy_tallies.specs.Standing.{stands, stands_beside, joined_before, joined_after}
+use Rattle.tt_occupancy_tallies.specs.Neighbours.{has_entry_at, has_neighbour, joined_before, joined_after}
 
 -- a test that does not depend on the element
 list_any-also : {X : Type 0} (k : Bool) (p : X → Bool) (xs : List X) → list_any (λ x. k && p x) xs ≡ (k && list_any p xs)
@@ -31,7 +31,7 @@ one_before a s = elim (cases_lt 0 s) [
 ]
 
 -- an entry of the curriculum is next to a period if and only if one is in the period before or after it
-beside : (p : Problem) (u : List Cell) (q d s : ℕ) → list_any (λ e. in_curriculum p q e.course && next_to (slot_of e) (slot d s)) u ≡ stands_beside p u q d s
+beside : (p : Problem) (u : List Cell) (q d s : ℕ) → list_any (λ e. in_curriculum p q e.course && next_to (slot_of e) (slot d s)) u ≡ has_neighbour p u q d s
 beside p u q d s =
     let after = λ (e : Cell). in_curriculum p q e.course && is_at (slot d (s + 1)) e in
     let before = λ (e : Cell). nat_lt 0 s && (in_curriculum p q e.course && is_at (slot d (s - 1)) e) in
@@ -39,7 +39,7 @@ beside p u q d s =
     (λ e h. ap (λ b. in_curriculum p q e.course && ((e.day == d) && ((e.period == s + 1) || b))) (one_before e.period s)
     ∙ turn (in_curriculum p q e.course) (e.day == d) (e.period == s + 1) (nat_lt 0 s) (e.period == s - 1))
     ∙ list_any-or after before u
-    ∙ ap (λ b. stands p u q d (s + 1) || b) (list_any-also (nat_lt 0 s) (λ e. in_curriculum p q e.course && is_at (slot d (s - 1)) e) u)
+    ∙ ap (λ b. has_entry_at p u q d (s + 1) || b) (list_any-also (nat_lt 0 s) (λ e. in_curriculum p q e.course && is_at (slot d (s - 1)) e) u)
   where
     turn : (a b c k f : Bool) → (a && (b && (c || (k && f)))) ≡ ((a && (b && c)) || (k && (a && (b && f))))
     turn false b c true f = refl
@@ -50,7 +50,7 @@ beside p u q d s =
     turn true true false k f = refl
 
 -- whether an entry is isolated, by the periods next to it
-pub isolated_by_periods : (p : Problem) (u : List Cell) (q : ℕ) (x : Cell) → is_isolated p u q x ≡ not (stands_beside p u q x.day x.period)
+pub isolated_by_periods : (p : Problem) (u : List Cell) (q : ℕ) (x : Cell) → is_isolated p u q x ≡ not (has_neighbour p u q x.day x.period)
 isolated_by_periods p u q x = ap not (beside p u q x.day x.period)
 
 -- ---- the isolated entries next to a period
@@ -161,11 +161,11 @@ joined_by_periods p u x q =
     let s = x.period in
     let before = λ (e : Cell). one_if (in_curriculum p q e.course && is_at (slot d (s - 1)) e) in
     let after = λ (e : Cell). one_if (in_curriculum p q e.course && is_at (slot d (s + 1)) e) in
-    let k = nat_lt 0 s && not (stands_beside p u q d (s - 1)) in
-    let m = not (stands_beside p u q d (s + 1)) in
+    let k = nat_lt 0 s && not (has_neighbour p u q d (s - 1)) in
+    let m = not (has_neighbour p u q d (s + 1)) in
     sum_by-same (λ e. one_if (in_curriculum p q e.course && is_isolated p u q e && next_to (slot_of x) (slot_of e))) (λ e. cond k (before e) 0 + cond m (after e) 0) u
     (λ e. ap (λ b. one_if ((in_curriculum p q e.course && not b) && next_to (slot_of x) (slot_of e))) (beside p u q e.day e.period)
-    ∙ term (in_curriculum p q e.course) (stands_beside p u q) d s e.day e.period)
+    ∙ term (in_curriculum p q e.course) (has_neighbour p u q) d s e.day e.period)
     ∙ sum_by-plus (λ e. cond k (before e) 0) (λ e. cond m (after e) 0) u
     ∙ ap (λ n. n + sum_by (λ e. cond m (after e) 0) u) (sum_by-if k before u)
     ∙ ap (λ n. cond k (sum_by before u) 0 + n) (sum_by-if m after u)

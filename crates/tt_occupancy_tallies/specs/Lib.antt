@@ -1,7 +1,7 @@
 pub mod Bag
 pub mod Counts
 pub mod Links
-pub mod Standing
+pub mod Neighbours
 pub mod Tables
 pub mod Tallies
 pub mod Weight

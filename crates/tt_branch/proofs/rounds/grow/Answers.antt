@@ -4,7 +4,7 @@ use Rattle.std.specs.List.{list_any}
 use Rattle.tt_instance.specs.Problem.{Problem}
 use Rattle.tt_branch.specs.declared.tree_node.TreeNode.{TreeNode}
 use Rattle.tt_branch.specs.Growing.{is_open, IsOpenAt}
-use Rattle.tt_branch.specs.Kept.{Advances}
+use Rattle.tt_branch.specs.BestSoFar.{Advances}
 use Rattle.tt_branch.specs.State.{IsUnderWay}
 use Rattle.tt_branch.proofs.Advancing.{advance_twice, ends_closed, ends_by}
 use Rattle.tt_branch.proofs.rounds.grow.Goals as goal

@@ -1,6 +1,6 @@
 use Rattle.std.proofs.Common.{◌≡◌, ◌+◌, ◌*◌, ◌≤◌, length}
 use Rattle.tt_branch.specs.Growing.{opened_in}
-use Rattle.tt_branch.specs.Kept.{Advances}
+use Rattle.tt_branch.specs.BestSoFar.{Advances}
 use Rattle.tt_branch.specs.State.{IsUnderWay}
 use Rattle.tt_branch.proofs.rounds.grow.Given as goal
 

@@ -10,7 +10,7 @@ use Rattle.tt_proof_check.specs.Derives.{HoldsOfAll, Proves}
 use Rattle.tt_proof_check.specs.Nodes.{IsNodeOf}
 use Rattle.tt_branch.specs.declared.links.Link.{Link}
 use Rattle.tt_branch.specs.Growing.{nodes_of, worths_of}
-use Rattle.tt_branch.specs.Kept.{table_of}
+use Rattle.tt_branch.specs.BestSoFar.{table_of}
 use Rattle.tt_branch.specs.Links.{AreLinks}
 use Rattle.tt_branch.specs.Outcomes.{IsOutcome}
 use Rattle.tt_branch.specs.Written.{IsWritable}

@@ -1,7 +1,7 @@
 use Rattle.std.proofs.Common.{Option, refl, sym, ◌∙◌, subst}
 use Rattle.tt_instance.specs.Problem.{Problem}
 use Rattle.tt_branch.specs.declared.best.Best.{Best}
-use Rattle.tt_branch.specs.Kept.{table_of, Advances}
+use Rattle.tt_branch.specs.BestSoFar.{table_of, Advances}
 use Rattle.tt_branch.specs.Outcomes.{BeginsWell}
 use Rattle.tt_branch.specs.State.{IsUnderWay}
 use Rattle.tt_branch.proofs.Advancing.{advance_twice}

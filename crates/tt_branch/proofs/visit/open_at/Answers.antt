@@ -6,7 +6,7 @@ use Rattle.tt_facts_path.specs.declared.facts.Fact.{Fact}
 use Rattle.tt_leaf.specs.Found.{ArePatterns}
 use Rattle.tt_branch.specs.declared.tree_node.TreeNode.{TreeNode}
 use Rattle.tt_branch.specs.declared.links.Link.{Link}
-use Rattle.tt_branch.specs.Kept.{IsKept, table_of}
+use Rattle.tt_branch.specs.BestSoFar.{IsBestSoFar, table_of}
 use Rattle.tt_branch.specs.Links.{path_at, AreLinks}
 use Rattle.tt_branch.proofs.Advancing.{IsThere, each_there, opening_there}
 use Rattle.tt_branch.proofs.visit.open_at.Goals as goal
@@ -43,7 +43,7 @@ open-requires g c = λ κs.
     sym (c.in_ok-go_to.ensures.there ∙ ap (λ (l : List Link). path_at l read.link) c.as_slice.ensures.value ∙ ap (path_at s.links.items) link) in (
       (refl, tt),
       (
-        subst (λ (q : Problem). IsKept q s.best) same c.requires.under_way.kept,
+        subst (λ (q : Problem). IsBestSoFar q s.best) same c.requires.under_way.kept,
         subst (λ (q : Problem). ArePatterns q (g.P.Path.facts c.go_to.new.path)) same (subst (λ (l : List Fact). ArePatterns p l) facts there.patterns),
       ),
     )
@@ -63,7 +63,7 @@ returns-clause-under_way g c =
     let made = opening_there p (g.P.Path.problem c.go_to.new.path) (g.P.Path.facts c.go_to.new.path) s.best c.open.new.best s.links.items s.tree_nodes.items c.put.new.tree_nodes.items c.args.place read put
     c.in_ok-go_to.ensures.unchanged there c.index.ensures c.requires.waiting c.requires.under_way.grown c.in_ok-mark.ensures.better c.in_ok-mark.ensures.known c.in_ok-mark.ensures.opened c.in_ok-mark.ensures.single refl c.put.ensures in
     record {
-      kept = subst (λ (q : Problem). IsKept q c.open.new.best) c.in_ok-go_to.ensures.unchanged c.in_ok-mark.ensures.better.kept;
+      kept = subst (λ (q : Problem). IsBestSoFar q c.open.new.best) c.in_ok-go_to.ensures.unchanged c.in_ok-mark.ensures.better.kept;
       links = c.requires.under_way.links;
       grown = made.grown;
     }

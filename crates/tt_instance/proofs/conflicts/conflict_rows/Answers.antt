@@ -14,6 +14,6 @@ add_curricula-requires-clause-within c =
 
 pub returns : goal.returns
 returns c = record {
-  told = rows_told c.args.parts.now c.deref.result.now c.deref-2.result.now c.in_ok-rows.rows.items c.add_curricula.new.rows.items c.clear_own.new.rows.items
+  agrees = rows_told c.args.parts.now c.deref.result.now c.deref-2.result.now c.in_ok-rows.rows.items c.add_curricula.new.rows.items c.clear_own.new.rows.items
       c.requires c.deref.ensures.value c.deref-2.ensures.value c.in_ok-rows.ensures c.add_curricula.ensures.marked c.clear_own.ensures;
 }

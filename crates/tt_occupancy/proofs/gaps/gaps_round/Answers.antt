@@ -11,8 +11,8 @@ loop-row-preserved c =
       gaps = λ p u ok tally.
           subst (λ z. AreGaps p u z c.args.day c.args.period c.with-gaps.result) (sym (take_more rows k 0 c.loop-row-test.true))
           (c.with-gaps.ensures.gaps p u (take k rows) (get_or rows k 0) c.args.day c.args.period (c.loop-row.invariant.gaps p u ok tally) (c.around.ensures.around p u ok tally));
-      few_alone = omega (arith, c.with-gaps.ensures.few_alone);
-      few_joined = omega (arith, c.with-gaps.ensures.few_joined, c.around.ensures.at_most);
+      alone_at_most = omega (arith, c.with-gaps.ensures.alone_at_most);
+      joined_at_most = omega (arith, c.with-gaps.ensures.joined_at_most, c.around.ensures.at_most);
     }
 
 pub returns-clause-gaps : goal.returns-clause-gaps

@@ -9,6 +9,6 @@ use Rattle.tt_occupancy.proofs.gaps.gaps_round.Given as goal
 abbrev pub invariant-loop-row : goal.invariant-loop-row
 invariant-loop-row l = record {
   gaps : (p : Problem) (u : List Cell) → IsTimetable p u → IsTally p (length p.curricula) (of_curriculum p) u l.week → AreGaps p u (take l.row-index l.rows) l.day l.period l.gaps;
-  few_alone : l.gaps.alone ≤ l.row-index;
-  few_joined : l.gaps.joined ≤ l.row-index * 131072;
+  alone_at_most : l.gaps.alone ≤ l.row-index;
+  joined_at_most : l.gaps.joined ≤ l.row-index * 131072;
 }

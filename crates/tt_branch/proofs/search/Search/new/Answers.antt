@@ -3,7 +3,7 @@ use Rattle.std.specs.Prelude.{slice_get}
 use Rattle.tt_branch.specs.declared.tree_node.TreeNode.{TreeNode}
 use Rattle.tt_branch.specs.declared.tree_node.NodeState.TheVariants.{Waiting}
 use Rattle.tt_branch.specs.Growing.{IsGrown}
-use Rattle.tt_branch.specs.Kept.{table_of}
+use Rattle.tt_branch.specs.BestSoFar.{table_of}
 use Rattle.tt_branch.specs.Links.{AreLinks}
 use Rattle.tt_branch.proofs.Chains.{no_links}
 use Rattle.tt_branch.proofs.Searching.{grow_root}

@@ -17,8 +17,8 @@ loop-curriculum-preserved c =
       gaps = λ u rest.
           subst (λ z. AreGaps p u z e.day e.period c.with-gaps.result) (sym (take_more rows k 0 c.loop-curriculum-test.true))
           (c.with-gaps.ensures.gaps u (take k rows) rest (c.loop-curriculum.invariant.gaps u rest));
-      few_alone = omega (arith, c.with-gaps.ensures.few_alone);
-      few_joined = omega (arith, c.with-gaps.ensures.few_joined);
+      alone_at_most = omega (arith, c.with-gaps.ensures.alone_at_most);
+      joined_at_most = omega (arith, c.with-gaps.ensures.joined_at_most);
     }
 
 pub returns-clause-alone : goal.returns-clause-alone

@@ -8,6 +8,6 @@ use Rattle.tt_moves.proofs.rest.WithoutEntry.gaps.Given as goal
 abbrev pub invariant-loop-curriculum : goal.invariant-loop-curriculum
 invariant-loop-curriculum l = record {
   gaps : (u : List Cell) → IsRest l.self u → AreGaps l.self.occupied.now.problem u (take l.curriculum-index l.curriculum-items) l.entry.day l.entry.period l.gaps;
-  few_alone : l.gaps.alone ≤ l.curriculum-index;
-  few_joined : l.gaps.joined ≤ l.curriculum-index * (2 * (MAX_ENTRIES + 1));
+  alone_at_most : l.gaps.alone ≤ l.curriculum-index;
+  joined_at_most : l.gaps.joined ≤ l.curriculum-index * (2 * (MAX_ENTRIES + 1));
 }

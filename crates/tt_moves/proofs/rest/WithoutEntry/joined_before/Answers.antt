@@ -1,7 +1,7 @@
 use Rattle.std.proofs.Common.{◌≡◌, ◌≤◌, ◌-◌, true, false, cond, ◌&&◌, sym, ap, ◌∙◌, arith}
 use Rattle.std.specs.Prelude.{nat_lt}
 use Rattle.tt_bits.specs.Bits.{has_bit}
-use Rattle.tt_occupancy_tallies.specs.Standing.{standing}
+use Rattle.tt_occupancy_tallies.specs.Neighbours.{entries_at}
 use Rattle.tt_moves.proofs.Rounds.{before_joined}
 use Rattle.tt_moves.proofs.rest.WithoutEntry.joined_before.Goals as goal
 
@@ -13,8 +13,8 @@ returns-then-has_bit-clause-value c = λ u rest.
     let e = ap (λ z. z.periods) c.instance.ensures in
     let short : p.periods ≤ 64 = omega (arith, c.periods.ensures.value, c.periods.ensures.within) in
     let test : (nat_lt 0 s && has_bit a.isolated (s - 1)) ≡ true = sym (c.next.ensures s (omega arith)) ∙ sym c.has_bit.ensures ∙ c.if-has_bit.true in
-    c.standing.ensures.value u rest
-    ∙ sym (ap (λ b. cond b (standing p u a.curriculum a.day (s - 1)) 0) test)
+    c.entries_at.ensures.value u rest
+    ∙ sym (ap (λ b. cond b (entries_at p u a.curriculum a.day (s - 1)) 0) test)
     ∙ before_joined p u a.curriculum a.day rest.in_range short (has_bit a.isolated) (c.requires.isolated u rest) s c.requires.period
 
 pub returns-else-has_bit-clause-value : goal.returns-else-has_bit-clause-value
@@ -25,5 +25,5 @@ returns-else-has_bit-clause-value c = λ u rest.
     let e = ap (λ z. z.periods) c.instance.ensures in
     let short : p.periods ≤ 64 = omega (arith, c.periods.ensures.value, c.periods.ensures.within) in
     let test : (nat_lt 0 s && has_bit a.isolated (s - 1)) ≡ false = sym (c.next.ensures s (omega arith)) ∙ sym c.has_bit.ensures ∙ c.if-has_bit.false in
-    sym (ap (λ b. cond b (standing p u a.curriculum a.day (s - 1)) 0) test)
+    sym (ap (λ b. cond b (entries_at p u a.curriculum a.day (s - 1)) 0) test)
     ∙ before_joined p u a.curriculum a.day rest.in_range short (has_bit a.isolated) (c.requires.isolated u rest) s c.requires.period

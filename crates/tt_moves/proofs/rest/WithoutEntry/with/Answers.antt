@@ -2,7 +2,7 @@ use Rattle.std.proofs.Common.{◌+◌, ◌<◌, ◌≤◌, not, ◌&&◌, ap, �
 use Rattle.std.proofs.lemmas.List.Sums.{sum_by_push}
 use Rattle.tt_lists.proofs.Sums.{one_if}
 use Rattle.tt_bits.specs.Bits.{has_bit}
-use Rattle.tt_occupancy_tallies.specs.Standing.{stands_beside, joined_before, joined_after}
+use Rattle.tt_occupancy_tallies.specs.Neighbours.{has_neighbour, joined_before, joined_after}
 use Rattle.tt_moves.proofs.Rounds.{isolated_stand, beside_stands}
 use Rattle.tt_moves.proofs.rest.WithoutEntry.with.Goals as goal
 
@@ -39,6 +39,6 @@ returns-clause-gaps c = λ u rows rest are.
     let alone = ap (λ b. one_if (not b)) (c.has_bit.ensures ∙ c.beside-beside.ensures s low
     ∙ beside_stands p u q d rest.in_range short (has_bit c.standing_on-set.result) (c.standing_on-set.ensures u rest) s low) in
     record {
-      alone = omega (arith, are.alone, sum_by_push (λ k. one_if (not (stands_beside p u k d s))) rows q, alone, c.one_if.ensures);
+      alone = omega (arith, are.alone, sum_by_push (λ k. one_if (not (has_neighbour p u k d s))) rows q, alone, c.one_if.ensures);
       joined = omega (arith, are.joined, sum_by_push (λ k. joined_before p u k d s + joined_after p u k d s) rows q, c.joined_before-before.ensures.value u rest, c.joined_after-after.ensures.value u rest);
     }

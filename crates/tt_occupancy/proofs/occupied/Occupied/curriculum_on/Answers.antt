@@ -1,6 +1,6 @@
 use Rattle.std.proofs.Common.{◌<◌, length, sym, ap, ◌∙◌, subst}
 use Rattle.std.specs.Prelude.{nat_lt}
-use Rattle.tt_occupancy_tallies.specs.Standing.{standing}
+use Rattle.tt_occupancy_tallies.specs.Neighbours.{entries_at}
 use Rattle.tt_occupancy.specs.Filled.{Filled}
 use Rattle.tt_occupancy.proofs.Standings.{some_standing}
 use Rattle.tt_occupancy.proofs.occupied.Occupied.curriculum_on.Goals as goal
@@ -13,4 +13,4 @@ returns c = λ s h.
     let day = subst (λ (z : Filled). a.day < z.problem.days) (sym c.self.view_is) c.requires.day in
     c.word.ensures s h
     ∙ some_standing i.instance.now i.table i.tables.curricula.week c.self.invariant.in_range c.self.invariant.tables.curricula a.curriculum a.day s row day
-    ∙ ap (λ (z : Filled). nat_lt 0 (standing z.problem z.entries a.curriculum a.day s)) c.self.view_is
+    ∙ ap (λ (z : Filled). nat_lt 0 (entries_at z.problem z.entries a.curriculum a.day s)) c.self.view_is

@@ -3,5 +3,5 @@
 use Rattle.tt_occupancy.specs.Counted.{IsCounted}
 use Rattle.tt_occupancy.specs.declared.occupied.Occupied.TheInside.{Inside}
 
-abbrev pub IsKept : Inside → Type 0
-IsKept s = IsCounted s.instance.now s.table s.tables s.score
+abbrev pub AreFieldsCounted : Inside → Type 0
+AreFieldsCounted s = IsCounted s.instance.now s.table s.tables s.score

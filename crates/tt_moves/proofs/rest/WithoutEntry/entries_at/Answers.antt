@@ -1,6 +1,6 @@
 use Rattle.std.proofs.Common.{ap, arith}
 use Rattle.tt_occupancy.proofs.Standings.{none_standing}
-use Rattle.tt_moves.proofs.rest.WithoutEntry.standing.Goals as goal
+use Rattle.tt_moves.proofs.rest.WithoutEntry.entries_at.Goals as goal
 
 pub returns-then-period-periods-clause-value : goal.returns-then-period-periods-clause-value
 returns-then-period-periods-clause-value c = λ u rest.

@@ -15,14 +15,14 @@ pub record IsCosted (p : Problem) (b : Best) : Type 0 where
   pub feasible : IsFeasible p b.table
   pub cost : b.cost ≡ cost p b.table
 
-abbrev pub IsKept : Problem → Option Best → Type 0
-IsKept p best = IfSome best (IsCosted p)
+abbrev pub IsBestSoFar : Problem → Option Best → Type 0
+IsBestSoFar p best = IfSome best (IsCosted p)
 
 abbrev pub table_of : Option Best → Option (List Cell)
 table_of best = option_map (λ b. b.table) best
 
 -- Everything that was known about the nodes for the old best timetable is true for the new one, and the new one is at most as expensive.
 pub record Advances (p : Problem) (old new : Option Best) : Type 0 where
-  pub kept : IsKept p new
+  pub kept : IsBestSoFar p new
   pub grown : (links : List Link) (tree_nodes : List TreeNode) → IsGrown p (table_of old) links tree_nodes → IsGrown p (table_of new) links tree_nodes
   pub no_dearer : (t : List Cell) → IsNoDearer p (table_of old) t → IsNoDearer p (table_of new) t

@@ -8,21 +8,21 @@ use Rattle.tt_instance.specs.Courses.{in_curriculum}
 use Rattle.tt_instance.specs.declared.cell.Cell.{Cell}
 
 -- the number of entries of the curriculum in the period
-abbrev pub standing : Problem → List Cell → ℕ → ℕ → ℕ → ℕ
-standing p u q d s = count_by (λ e. in_curriculum p q e.course && is_at (slot d s) e) u
+abbrev pub entries_at : Problem → List Cell → ℕ → ℕ → ℕ → ℕ
+entries_at p u q d s = count_by (λ e. in_curriculum p q e.course && is_at (slot d s) e) u
 
 -- whether some entry of the curriculum is in the period
 abbrev pub stands : Problem → List Cell → ℕ → ℕ → ℕ → Bool
-stands p u q d s = list_any (λ e. in_curriculum p q e.course && is_at (slot d s) e) u
+has_entry_at p u q d s = list_any (λ e. in_curriculum p q e.course && is_at (slot d s) e) u
 
 -- whether some entry of the curriculum is in a period next to this one
-abbrev pub stands_beside : Problem → List Cell → ℕ → ℕ → ℕ → Bool
-stands_beside p u q d s = stands p u q d (s + 1) || (nat_lt 0 s && stands p u q d (s - 1))
+abbrev pub has_neighbour : Problem → List Cell → ℕ → ℕ → ℕ → Bool
+has_neighbour p u q d s = has_entry_at p u q d (s + 1) || (nat_lt 0 s && has_entry_at p u q d (s - 1))
 
 -- the isolated entries in the period before, which an entry of the curriculum in this period would join
 abbrev pub joined_before : Problem → List Cell → ℕ → ℕ → ℕ → ℕ
-joined_before p u q d s = cond (nat_lt 0 s && not (stands_beside p u q d (s - 1))) (standing p u q d (s - 1)) 0
+joined_before p u q d s = cond (nat_lt 0 s && not (has_neighbour p u q d (s - 1))) (entries_at p u q d (s - 1)) 0
 
 -- the isolated entries in the period after, which an entry of the curriculum in this period would join
 abbrev pub joined_after : Problem → List Cell → ℕ → ℕ → ℕ → ℕ
-joined_after p u q d s = cond (not (stands_beside p u q d (s + 1))) (standing p u q d (s + 1)) 0
+joined_after p u q d s = cond (not (has_neighbour p u q d (s + 1))) (entries_at p u q d (s + 1)) 0

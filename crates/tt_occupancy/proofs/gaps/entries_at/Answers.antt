@@ -1,6 +1,6 @@
 use Rattle.std.proofs.Common.{◌∙◌, arith}
 use Rattle.tt_occupancy.proofs.Standings.{none_standing}
-use Rattle.tt_occupancy.proofs.gaps.standing.Goals as goal
+use Rattle.tt_occupancy.proofs.gaps.entries_at.Goals as goal
 
 pub returns-then-period-week-clause-value : goal.returns-then-period-week-clause-value
 returns-then-period-week-clause-value c = λ p u ok tally.

@@ -1,6 +1,0 @@
-use Rattle.std.proofs.Common.{arith}
-use Rattle.std.proofs.lemmas.Bool.Decides.{nat_tests}
-use Rattle.tt_occupancy.proofs.gaps.standing_before.Goals as goal
-
-pub returns-then-by-period-clause-value : goal.returns-then-by-period-clause-value
-returns-then-by-period-clause-value c = λ p u ok tally. let e = c.standing.ensures.value p u ok tally in grind (arith, nat_tests)
