@@ -12,6 +12,7 @@ pub mod Excluding
 pub mod Exclusion
 pub mod Fellows
 pub mod FieldLaws
+pub mod Flagging
 pub mod FreshLaws
 pub mod Getting
 pub mod HeaderLaws

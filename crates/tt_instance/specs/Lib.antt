@@ -1,8 +1,10 @@
 pub mod Beginnings
 pub mod Cells
 pub mod Courses
+pub mod Flags
 pub mod Indexed
 pub mod Limits
+pub mod Numbers
 pub mod Problem
 pub mod Reading
 pub mod Seen

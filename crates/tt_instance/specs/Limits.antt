@@ -1,5 +1,5 @@
 -- The limits of an instance, and the properties of every instance that was read.
-use Rattle.std.specs.Prelude.{◌≡◌, ◌≢◌, ℕ, ◌*◌, ◌≤◌, ◌<◌, ◌==◌, Bool, true, not, ◌&&◌, length, sum_by, All, AllPairs, codes}
+use Rattle.std.specs.Prelude.{◌≡◌, ◌≢◌, ◌*◌, ◌≤◌, ◌<◌, ◌==◌, Bool, true, not, ◌&&◌, length, sum_by, All, AllPairs, codes}
 use Rattle.tt_lists.specs.Words.{each_two, are_distinct}
 use Rattle.tt_text.specs.Tokens.{IsToken}
 use Rattle.tt_instance.specs.declared.limit.TheConstants.{MAX_COURSES, MAX_ROOMS, MAX_DAYS, MAX_PERIODS, MAX_SLOTS, MAX_CELLS, MAX_CURRICULA, MAX_MEMBERS, MAX_UNAVAILABILITIES, MAX_LECTURES, MAX_MIN_DAYS, MAX_SEATS}

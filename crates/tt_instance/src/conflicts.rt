@@ -3,26 +3,27 @@
 ghost use Rattle.std.specs.Prelude.{◌≡◌, ◌<◌, ◌==◌, ℕ, not, ◌||◌, ◌&&◌, length, map, All, IfOk, slice_index_or};
 ghost use Rattle.std.specs.List.{list_any};
 ghost use Rattle.tt_lists.specs.Words.{has_number};
-ghost use Rattle.tt_instance.specs.Indexed.{IsIndexedParts, IsExcluding, IsSquare, mark_at};
+ghost use Rattle.tt_instance.specs.Indexed.{IsMarked, IsIndexedParts, IsExcluding, IsSquare, mark_at};
 ghost use Rattle.tt_instance.specs.Seen.{problem_seen};
 
 use crate::marks::Marks;
 use crate::parts::Parts;
-use crate::rows::{CourseRow, CurriculumRow};
+use crate::rows::{CourseRow, CurriculumRow, MemberList};
 use std::alloc::{AllocError, Global};
 
-/// Returns for each course whether it has this teacher.
-fn flags_of_teacher(
+/// Returns marks of the courses that have this teacher.
+fn marks_of_teacher(
     alloc: Global,
     courses: &[CourseRow<'_>],
     teacher: u32,
-) -> Result<Vec<bool>, AllocError>
-    ensures { IfOk result (λ v. v.items ≡ map (λ r. r.teacher == teacher) courses.now) }
+) -> Result<Marks, AllocError>
+    ensures { IfOk result (λ m. m ≡ map (λ r. r.teacher == teacher) courses.now) }
 {
-    courses
-        .iter()
-        .map(|row| row.teacher == teacher)
-        .collect(alloc)
+    let mut marks = Marks::new(alloc, courses.len())?;
+    for (course, row) in courses.iter().enumerate() {
+        marks.mark_if(course, row.teacher == teacher);
+    }
+    Ok(marks)
 }
 
 /// Returns for each course the courses that have its teacher.
@@ -31,23 +32,23 @@ fn teacher_rows(alloc: Global, courses: &[CourseRow<'_>]) -> Result<Vec<Marks>, 
 {
     let mut rows = Vec::new(alloc);
     for course in courses {
-        let flags = flags_of_teacher(alloc, courses, course.teacher)?;
-        rows.push(Marks::from_flags(flags))?;
+        rows.push(marks_of_teacher(alloc, courses, course.teacher)?)?;
     }
     Ok(rows)
 }
 
 /// Marks the members of a curriculum in the row of each member.
-fn add_members(rows: &mut Vec<Marks>, members: &[u32])
+fn add_members(rows: &mut Vec<Marks>, members: &MemberList)
     requires square { IsSquare rows.old.items }
-    requires within { All (λ c. c < length rows.old.items) members.now }
+    requires within { All (λ c. c < length rows.old.items) members.now.courses.items }
+    requires marked { IsMarked (length rows.old.items) members.now }
     ensures len { length rows.new.items ≡ length rows.old.items }
     ensures square { IsSquare rows.new.items }
     ensures marked { (a b : ℕ) → mark_at rows.new.items a b
-        ≡ (mark_at rows.old.items a b || (has_number members.now a && has_number members.now b)) }
+        ≡ (mark_at rows.old.items a b || (has_number members.now.courses.items a && has_number members.now.courses.items b)) }
 {
-    for member in members {
-        rows[*member as usize].mark_each(members);
+    for member in &members.courses {
+        rows[*member as usize].mark_all(&members.marks);
     }
 }
 
@@ -55,6 +56,7 @@ fn add_members(rows: &mut Vec<Marks>, members: &[u32])
 fn add_curricula(rows: &mut Vec<Marks>, curricula: &[CurriculumRow<'_>])
     requires square { IsSquare rows.old.items }
     requires within { All (λ q. All (λ c. c < length rows.old.items) q.members.courses.items) curricula.now }
+    requires each_marked { All (λ q. IsMarked (length rows.old.items) q.members) curricula.now }
     ensures len { length rows.new.items ≡ length rows.old.items }
     ensures square { IsSquare rows.new.items }
     ensures marked { (a b : ℕ) → mark_at rows.new.items a b
@@ -62,7 +64,7 @@ fn add_curricula(rows: &mut Vec<Marks>, curricula: &[CurriculumRow<'_>])
         || list_any (λ q. has_number q.members.courses.items a && has_number q.members.courses.items b) curricula.now) }
 {
     for curriculum in curricula {
-        add_members(rows, &curriculum.members.courses);
+        add_members(rows, &curriculum.members);
     }
 }
 

@@ -1,23 +1,44 @@
 //! Marks of numbers.
 
-ghost use Rattle.std.specs.Prelude.{◌≡◌, ◌<◌, ℕ, true, false, [], ◌||◌, length, replicate, slice_index_or, slice_set, All, IfOk};
-ghost use Rattle.tt_lists.specs.Words.{has_number};
+ghost use Rattle.std.specs.Prelude.{◌≡◌, ◌<◌, ◌≤◌, ℕ, true, false, [], ◌==◌, ◌&&◌, ◌||◌, length, replicate, slice_index_or, slice_set, IfOk};
+ghost use Rattle.tt_bits.specs.Bits.{has_bit};
 
 use std::alloc::{AllocError, Global};
 use std::marker::Model;
+use tt_bits::{either, has_bit, one, without};
 
-/// For each number below a length, whether it is marked.
+/// The numbers of a word.
+const BITS: usize = 64;
+
+/// For each number below a length, whether it is marked: a bit of a word.
 #[derive(Drop)]
 pub struct Marks {
-    marks: Vec<bool>,
+    words: Vec<u64>,
+    len: usize,
 }
 
 impl Model for Marks {
-    ghost use Rattle.std.specs.Prelude.{List, Bool};
+    ghost use Rattle.std.specs.Prelude.{List, Bool, ◌≡◌, length};
+    ghost use Rattle.std.specs.Int.{div_ceil};
+    ghost use Rattle.tt_instance.specs.Flags.{flags_in};
 
     ghost Value = { List Bool };
 
-    ghost view = { λ a. a.marks.items };
+    ghost view = { λ a. flags_in a.words.items a.len };
+
+    ghost invariant = { λ a. length a.words.items ≡ div_ceil a.len 64 };
+}
+
+/// Adds to each word the bits of the other word at its place.
+fn add_words(words: &mut Vec<u64>, others: &[u64])
+    requires { length words.old.items ≤ length others.now }
+    ensures len { length words.new.items ≡ length words.old.items }
+    ensures bits { (i r : ℕ) → i < length words.old.items → r < 64 → has_bit (slice_index_or words.new.items i 0) r
+        ≡ (has_bit (slice_index_or words.old.items i 0) r || has_bit (slice_index_or others.now i 0) r) }
+{
+    for place in 0..words.len() {
+        words[place] = either(words[place], others[place]);
+    }
 }
 
 impl Marks {
@@ -25,50 +46,58 @@ impl Marks {
     pub fn new(alloc: Global, len: usize) -> Result<Marks, AllocError>
         ensures { IfOk result (λ m. m ≡ replicate len false) }
     {
-        let marks = Vec::from_elem(alloc, false, len)?;
-        Ok(Marks { marks })
-    }
-
-    /// Creates marks from flags: a number is marked if the flag at its place is set.
-    pub fn from_flags(flags: Vec<bool>) -> Marks
-        ensures { result ≡ flags.items }
-    {
-        Marks { marks: flags }
+        let words = Vec::from_elem(alloc, 0, len.div_ceil(BITS))?;
+        Ok(Marks { words, len })
     }
 
     /// Returns whether a number is marked; false from the length on.
+    #[tactic(auto, using(crate::proofs::Flagging::flag_at, crate::proofs::Flagging::flag_past, crate::proofs::Flagging::word_there))]
     pub fn has(&self, number: usize) -> bool
         ensures { result ≡ slice_index_or self.now number false }
     {
-        self.marks.get(number).copied().unwrap_or(false)
+        number < self.len && has_bit(self.words[number / BITS], (number % BITS) as u32)
     }
 
     /// Marks a number.
+    #[tactic(auto, using(crate::proofs::Flagging::flags_length, crate::proofs::Flagging::word_there))]
     pub fn mark(&mut self, number: usize)
         requires { number < length self.old }
         ensures { self.new ≡ slice_set self.old number true }
     {
-        self.marks[number] = true;
+        let word = &mut self.words[number / BITS];
+        *word = either(*word, one((number % BITS) as u32));
+    }
+
+    /// Marks a number if `is_in` is true.
+    pub fn mark_if(&mut self, number: usize, is_in: bool)
+        requires { number < length self.old }
+        ensures len { length self.new ≡ length self.old }
+        ensures marked { (k : ℕ) → slice_index_or self.new k false ≡ (slice_index_or self.old k false || (is_in && (k == number))) }
+    {
+        if is_in {
+            self.mark(number);
+        }
     }
 
     /// Removes a mark.
+    #[tactic(auto, using(crate::proofs::Flagging::flags_length, crate::proofs::Flagging::word_there))]
     pub fn clear(&mut self, number: usize)
         requires { number < length self.old }
         ensures { self.new ≡ slice_set self.old number false }
     {
-        self.marks[number] = false;
+        let word = &mut self.words[number / BITS];
+        *word = without(*word, one((number % BITS) as u32));
     }
 
-    /// Marks each of the numbers.
-    pub fn mark_each(&mut self, numbers: &[u32])
-        requires { All (λ n. n < length self.old) numbers.now }
+    /// Marks the numbers that are marked in other marks of the same length, a word at a time.
+    #[tactic(auto, using(crate::proofs::Flagging::flags_length))]
+    pub fn mark_all(&mut self, other: &Marks)
+        requires { length other.now ≡ length self.old }
         ensures len { length self.new ≡ length self.old }
         ensures marked { (k : ℕ) → slice_index_or self.new k false
-            ≡ (slice_index_or self.old k false || has_number numbers.now k) }
+            ≡ (slice_index_or self.old k false || slice_index_or other.now k false) }
     {
-        for number in numbers {
-            self.mark(*number as usize);
-        }
+        add_words(&mut self.words, &other.words);
     }
 }
 

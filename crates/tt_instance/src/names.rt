@@ -1,24 +1,29 @@
 //! Names, numbered in the order in which they first appear.
 
-ghost use Rattle.std.specs.Prelude.{◌≡◌, ◌+◌, ◌<◌, ◌≤◌, not, length, slice_get, Some, [], IfOk, IfSome, OnErr, OnOk};
+ghost use Rattle.std.specs.Prelude.{◌≡◌, ◌+◌, ◌<◌, ◌≤◌, not, false, length, slice_get, Some, [], IfOk, IfSome, OnErr, OnOk};
 ghost use Rattle.tt_text.specs.Texts.{has_name, index_of_name, with_name};
 
-use indexmap::IndexSet;
 use std::alloc::{AllocError, Global};
+use std::collections::BTreeMap;
 use std::marker::Model;
 
-/// Different names, in the order in which they first appeared.
+/// Different names, in the order in which they first appeared, and the number of each. A tree and no hashes: no choice of names makes a
+/// search slow.
 #[derive(Drop)]
 pub struct Names<'a> {
-    set: IndexSet<&'a [u8]>,
+    names: Vec<&'a [u8]>,
+    numbers: BTreeMap<&'a [u8], usize>,
 }
 
 impl<'a> Model for Names<'a> {
-    ghost use Rattle.std.specs.Prelude.{List, ℕ, map};
+    ghost use Rattle.std.specs.Prelude.{List, ℕ};
+    ghost use Rattle.tt_instance.specs.Numbers.{names_seen, AreNumbers};
 
     ghost Value = { List (List ℕ) };
 
-    ghost view = { λ a. map (λ k. k.now) a.set.keys };
+    ghost view = { λ a. names_seen a.names.items };
+
+    ghost invariant = { λ a. AreNumbers (names_seen a.names.items) a.numbers };
 }
 
 impl<'a> Names<'a> {
@@ -27,7 +32,8 @@ impl<'a> Names<'a> {
         ensures { result ≡ [] }
     {
         Names {
-            set: IndexSet::new(alloc),
+            names: Vec::new(alloc),
+            numbers: BTreeMap::new(alloc),
         }
     }
 
@@ -35,7 +41,7 @@ impl<'a> Names<'a> {
     pub fn len(&self) -> usize
         ensures { result ≡ length self.now }
     {
-        self.set.len()
+        self.names.len()
     }
 
     /// Returns the number of a name.
@@ -43,7 +49,7 @@ impl<'a> Names<'a> {
         ensures index { result ≡ index_of_name self.now name.now }
         ensures within { IfSome result (λ i. i < length self.now) }
     {
-        self.set.get_index_of(name)
+        self.numbers.get(name).copied()
     }
 
     /// Returns the name with this number.
@@ -51,9 +57,23 @@ impl<'a> Names<'a> {
         requires { number < length self.now }
         ensures { slice_get self.now number ≡ Some result.now }
     {
-        match self.set.get_index(number) {
-            Some(name) => name,
-            None => unreachable!(),
+        self.names[number]
+    }
+
+    /// Adds a name that is new.
+    fn add(&mut self, name: &'a [u8]) -> Result<(), AllocError>
+        requires { has_name self.old name.now ≡ false }
+        ensures names { OnOk result (self.new ≡ with_name self.old name.now) }
+        ensures err { OnErr result (self.new ≡ self.old) }
+    {
+        let number = self.names.len();
+        self.names.push(name)?;
+        match self.numbers.insert(name, number) {
+            Ok(_) => Ok(()),
+            Err(failed) => {
+                self.names.pop();
+                Err(failed.into())
+            }
         }
     }
 
@@ -63,7 +83,11 @@ impl<'a> Names<'a> {
         ensures names { OnOk result (self.new ≡ with_name self.old name.now) }
         ensures err { OnErr result (self.new ≡ self.old) }
     {
-        Ok(self.set.insert(name)?)
+        if self.find(name).is_some() {
+            return Ok(false);
+        }
+        self.add(name)?;
+        Ok(true)
     }
 
     /// Returns the number of a name, and adds the name if it is new.
@@ -74,7 +98,11 @@ impl<'a> Names<'a> {
         ensures len { OnOk result (length self.new ≤ length self.old + 1) }
         ensures err { OnErr result (self.new ≡ self.old) }
     {
-        let (index, _) = self.set.insert_full(name)?;
-        Ok(index)
+        if let Some(number) = self.find(name) {
+            return Ok(number);
+        }
+        let number = self.names.len();
+        self.add(name)?;
+        Ok(number)
     }
 }
