@@ -31,8 +31,8 @@ same_bit : (k i : ℕ) → k / 64 ≡ i / 64 → k % 64 ≡ i % 64 → k ≡ i
 same_bit k i word bit = omega (arith, word, bit, div-add-mod k 64, div-add-mod i 64)
 
 module _ (words : List ℕ) (n i w : ℕ) (v : Bool)
-         (are : length words ≡ div_ceil n 64) (lt : i < n)
-         (bits : (r : ℕ) → r < 64 → has_bit w r ≡ cond (eqb r (i % 64)) v (has_bit (get_or words (i / 64) 0) r)) where
+    (are : length words ≡ div_ceil n 64) (lt : i < n)
+    (bits : (r : ℕ) → r < 64 → has_bit w r ≡ cond (eqb r (i % 64)) v (has_bit (get_or words (i / 64) 0) r)) where
   -- after a word is written, the flag of the number that was meant
   own : flag_in (set words (i / 64) w) i ≡ v
   own = ap (λ (x : ℕ). has_bit x (i % 64)) (get_or-set_same words (i / 64) w 0 (word_there words n i are lt))
@@ -63,7 +63,7 @@ module _ (words : List ℕ) (n i w : ℕ) (v : Bool)
             | inl same ↦
                 ap (flag_in (set words (i / 64) w)) same ∙ own
                 ∙ sym (ap (λ (j : ℕ). get_or (set (flags_in words n) i v) j false) same
-                    ∙ get_or-set_same (flags_in words n) i v false (omega (arith, lt, flags_length words n)))
+                ∙ get_or-set_same (flags_in words n) i v false (omega (arith, lt, flags_length words n)))
             | inr apart ↦
                 other k apart ∙ sym (get_or-set_other (flags_in words n) i k v false apart ∙ flag_at words n k in_n)
           ]

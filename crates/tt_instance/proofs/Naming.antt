@@ -110,8 +110,11 @@ number_within names name (Some i) is = (index_parts names name i (sym is)).0
 
 -- the first place of a name that isn't in the list
 last_place : (names : List (List ℕ)) (name : List ℕ) → has_name names name ≡ false → position_or_len (is_text name) names ≡ length names
-last_place names name new = omega (arith, ltb-false (position_or_len (is_text name) names) (length names) (sym (any_place (is_text name) names) ∙ new),
-    prefix_len-le-length (λ x. not (is_text name x)) names)
+last_place names name new = omega (
+  arith,
+  ltb-false (position_or_len (is_text name) names) (length names) (sym (any_place (is_text name) names) ∙ new),
+  prefix_len-le-length (λ x. not (is_text name x)) names,
+)
 
 -- the numbers of names after a new one was added, for both cases: it is the name or another
 added_number : (names : List (List ℕ)) (key name : List ℕ) (v : Bool) → has_name names key ≡ false → is_text key name ≡ v
@@ -133,8 +136,10 @@ added_number names key name false new e =
           let here : eqb (position_or_len (is_text name) names) (length names) ≡ true = eq-eqb _ _ (omega (arith, is, le, prefix_len-le-length (λ x. not (is_text name x)) names)) in
           let there : position_or_len (is_text name) (names ++ key ∷ []) ≡ length names + 1 =
           position_or_len_push (is_text name) names key ∙ rw (here, apart) refl in
-          rw (le-ltb (position_or_len (is_text name) names) (length names) (omega (arith, is, le)),
-          le-ltb (position_or_len (is_text name) (names ++ key ∷ [])) (length (names ++ key ∷ [])) (omega (arith, there, length-append names (key ∷ [])))) refl
+          rw (
+            le-ltb (position_or_len (is_text name) names) (length names) (omega (arith, is, le)),
+            le-ltb (position_or_len (is_text name) (names ++ key ∷ [])) (length (names ++ key ∷ [])) (omega (arith, there, length-append names (key ∷ []))),
+          ) refl
     ]
 
 -- the numbers of names after a new one was added

@@ -26,5 +26,11 @@ returns-clause-within c =
     let names = c.args.self.now in
     let name = c.args.name.now in
     let new : has_name names name ≡ false = has_number names name ∙ ap is_some (sym c.find.ensures.index ∙ c.in_default.is) in
-    omega (arith, c.len-number.ensures, length-map c.self.inside.names.items (λ k. k.now), ap length c.self.view_is,
-    ap length (c.in_ok-add.ensures.names ∙ added names name new), length-append names (name ∷ []))
+    omega (
+      arith,
+      c.len-number.ensures,
+      length-map c.self.inside.names.items (λ k. k.now),
+      ap length c.self.view_is,
+      ap length (c.in_ok-add.ensures.names ∙ added names name new),
+      length-append names (name ∷ []),
+    )
