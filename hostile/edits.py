@@ -1,0 +1,49 @@
+#!/usr/bin/env python3
+"""Tries the wrong edits that the gate leaves out: bodies that break a clause, which the prover has to refuse.
+
+    python3 hostile/edits.py [CRATE ..]
+
+A crate with must-fail edits is proved a second time before the first of them, so the gate has those that tell most, in few crates
+(crates/*/must-fail). The others are files of the same form in hostile/edits/CRATE. This script copies the repository without what was
+built, puts the edits of the named crates, or of all, in their places, and runs `rt must-fail`. The last line is `N edits of M crates were
+refused`, or the status is 1.
+"""
+
+import shutil
+import subprocess
+import sys
+import tempfile
+from pathlib import Path
+
+TOP = Path(__file__).resolve().parent.parent
+EDITS = TOP / "hostile" / "edits"
+
+
+def copy_crates(to):
+    """Copies what proves the crates, and no edits."""
+    (to / ".git").mkdir()
+    for name in ("HANDLES", "crates.txt"):
+        shutil.copy(TOP / name, to / name)
+    shutil.copytree(TOP / "crates", to / "crates", ignore=shutil.ignore_patterns("out", "must-fail"))
+
+
+def main(names):
+    known = sorted(it.name for it in EDITS.iterdir())
+    for name in names:
+        if name not in known:
+            sys.exit(f"{name} has no edits in {EDITS.relative_to(TOP)}: {', '.join(known)} have")
+    names = names or known
+    with tempfile.TemporaryDirectory() as folder:
+        to = Path(folder)
+        copy_crates(to)
+        for name in names:
+            shutil.copytree(EDITS / name, to / "crates" / name / "must-fail")
+        status = subprocess.run(["rt", "must-fail", *names], cwd=to, stdin=subprocess.DEVNULL).returncode
+    count = sum(1 for name in names for _ in (EDITS / name).glob("*.edit"))
+    if status:
+        sys.exit("some of the edits were not refused, or not tried")
+    print(f"{count} edits of {len(names)} crates were refused")
+
+
+if __name__ == "__main__":
+    main(sys.argv[1:])
