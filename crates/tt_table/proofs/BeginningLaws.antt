@@ -12,7 +12,7 @@ use Rattle.tt_instance.specs.Courses.{course_ids, room_ids}
 use Rattle.tt_instance.specs.Limits.{IsWithinLimits}
 use Rattle.tt_instance.specs.Beginnings.{BeginsAs}
 use Rattle.tt_instance.specs.declared.cell.Cell.{Cell}
-use Rattle.tt_instance.proofs.Beginnings.{begins_shared, told_stands, told_stays}
+use Rattle.tt_instance.proofs.Beginnings.{begins_shared, fault_at_token, fault_of_all}
 use Rattle.tt_instance.proofs.Shared.{NoneAt, Shared, Apart, Next, Stays, Joins, ReadsAlike, EndsAlike, SameVerdict, other_offset, stays_joins, ok_reads, on_condition, then_reads, then_verdict, then_token}
 use Rattle.tt_table.specs.declared.fault.SolutionFault.{SolutionFault}
 use Rattle.tt_table.specs.declared.fault.SolutionFault.TheVariants as fault
@@ -102,10 +102,10 @@ read_from p bytes = refl
 pub fault_stands : (p : Problem) (bytes : List ℕ) (e : SolutionFault) (at : ℕ) → solution_of p bytes ≡ Err e → token_offset e ≡ Some at → Any (λ t. t.at ≡ at) (tokens_of bytes)
 fault_stands p bytes e at failed told =
     let end : ℕ = length bytes in
-    told_stands token_offset at _ _ (entries_alike at end end p MAX_ENTRIES []) (tokens_of bytes) e (sym (read_from p bytes) ∙ failed) told
+    fault_at_token token_offset at _ _ (entries_alike at end end p MAX_ENTRIES []) (tokens_of bytes) e (sym (read_from p bytes) ∙ failed) told
 
 -- bytes that begin the same way spell no solution
 pub fault_stays : (p : Problem) (bytes other : List ℕ) (e : SolutionFault) (at : ℕ) → IsWithinLimits p → solution_of p bytes ≡ Err e → token_offset e ≡ Some at → BeginsAs at bytes other → (t : List Cell) → ¬ SpellsTable p other t
 fault_stays p bytes other e at within failed told begins t spelled =
-    told_stays token_offset at _ _ (entries_alike at (length bytes) (length other) p MAX_ENTRIES []) (tokens_of bytes) e (sym (read_from p bytes) ∙ failed) told
+    fault_of_all token_offset at _ _ (entries_alike at (length bytes) (length other) p MAX_ENTRIES []) (tokens_of bytes) e (sym (read_from p bytes) ∙ failed) told
     (tokens_of other) (begins_shared at bytes other begins) t (sym (read_from p other) ∙ solution_read p other t within spelled)
