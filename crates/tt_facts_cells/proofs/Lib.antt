@@ -8,7 +8,7 @@ pub mod Barred
 pub mod Renewed
 pub mod Contrary
 pub mod Listed
-pub mod Kept
+pub mod Earlier
 pub mod Asked
 pub mod Linked
 pub mod Ranked

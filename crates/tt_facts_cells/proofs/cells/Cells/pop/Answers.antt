@@ -1,6 +1,6 @@
 use Rattle.std.proofs.Common.{◌≡◌, [], ◌∷◌, ◌++◌, length, ap, arith}
 use Rattle.std.proofs.Common.{length-append}
-use Rattle.tt_facts_cells.proofs.Kept.{earlier_popped}
+use Rattle.tt_facts_cells.proofs.Earlier.{earlier_popped}
 use Rattle.tt_facts_cells.proofs.cells.Cells.pop.Goals as goal
 
 pub invariant_of-self : goal.invariant_of-self

@@ -3,7 +3,7 @@ use Rattle.std.proofs.Common.{length-append}
 use Rattle.tt_facts_path.specs.Paths.{Facts}
 use Rattle.tt_facts_cells.specs.Shown.{AreListed, AreTables}
 use Rattle.tt_facts_cells.proofs.Listed.{listing-now}
-use Rattle.tt_facts_cells.proofs.Kept.{earlier_pushed}
+use Rattle.tt_facts_cells.proofs.Earlier.{earlier_pushed}
 use Rattle.tt_facts_cells.proofs.cells.Cells.push.Goals as goal
 
 pub invariant_of-self-in_default : goal.invariant_of-self-in_default

@@ -1,7 +1,7 @@
 use Rattle.std.proofs.Common.{◌≡◌, ◌++◌, [], ◌∷◌, length, length-append, ap, arith}
 use Rattle.tt_facts_pins.specs.Tables.{ShowsPins}
 use Rattle.tt_facts_pins.specs.FactTable.{ShowsFacts}
-use Rattle.tt_facts_pins.proofs.Kept.{earlier_popped}
+use Rattle.tt_facts_pins.proofs.Earlier.{earlier_popped}
 use Rattle.tt_facts_pins.proofs.pins.Pins.pop.Goals as goal
 
 pub invariant_of-self : goal.invariant_of-self

@@ -2,7 +2,7 @@ use Rattle.std.proofs.Common.{◌≡◌, ◌++◌, [], ◌∷◌, length, length
 use Rattle.tt_facts_path.specs.Paths.{Facts}
 use Rattle.tt_facts_pins.specs.Tables.{ShowsPins}
 use Rattle.tt_facts_pins.specs.FactTable.{ShowsFacts}
-use Rattle.tt_facts_pins.proofs.Kept.{earlier_pushed}
+use Rattle.tt_facts_pins.proofs.Earlier.{earlier_pushed}
 use Rattle.tt_facts_pins.proofs.Shown.{shown_more}
 use Rattle.tt_facts_pins.proofs.FactTable.{fact_table_more}
 use Rattle.tt_facts_pins.proofs.pins.Pins.push.Goals as goal
