@@ -9,7 +9,7 @@ use Rattle.tt_table.specs.declared.fault.SolutionFault.{SolutionFault}
 use Rattle.tt_table.specs.declared.fault.SolutionFault.TheVariants as solution
 use Rattle.tt_proof_read.specs.declared.fault.TextFault.TheVariants as text
 use Rattle.tt_proof_check.specs.Faults as checks
-use Rattle.tt_proof_check.specs.Faults.{is_err_and}
+use Rattle.tt_text.specs.Failures.{is_err_and}
 use Rattle.tt_proof_check.specs.Verdicts as verdicts
 use Rattle.tt_proof_check.specs.declared.fault.CheckFault.{CheckFault}
 use Rattle.tt_proof_check.specs.declared.fault.CheckFault.TheVariants as check
@@ -24,6 +24,7 @@ use Rattle.tt_proof_upgrade.specs.declared.fault.UpgradeFault.{UpgradeFault}
 use Rattle.tt_proof_upgrade.specs.declared.fault.UpgradeFault.TheVariants as upgrade
 use Rattle.tt_page_text.specs.declared.fault.LabelsFault.{LabelsFault}
 use Rattle.tt_page_text.specs.declared.fault.LabelsFault.TheVariants as labels
+use Rattle.tt_report.specs.Faults as reports
 use Rattle.tt_report.specs.declared.fault.ReportFault.{ReportFault}
 use Rattle.tt_report.specs.declared.fault.ReportFault.TheVariants as report
 use Rattle.tt_app.specs.Checked.{read_failed, is_failed_read}
@@ -129,6 +130,6 @@ pub sum_write : (f : SumFault) → is_failed_write (fault_from_sum f) ≡ false
 sum_write sum.OutOfMemory = refl
 sum_write f = refl
 
-pub report_writes : (f : ReportFault) (before after : Bool) → (f ≡ report.Write → after ≡ true) → (¬ (f ≡ report.Write) → after ≡ before) → after ≡ (if is_failed_write (fault_from_report f) then true else before)
-report_writes report.Write before after failed unfailed = failed refl
-report_writes report.OutOfMemory before after failed unfailed = unfailed (λ e. cc)
+pub report_write : (f : ReportFault) → is_failed_write (fault_from_report f) ≡ reports.is_failed_write f
+report_write report.Write = refl
+report_write report.OutOfMemory = refl

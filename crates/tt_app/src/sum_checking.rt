@@ -5,7 +5,7 @@ ghost use Rattle.tt_rules.specs.Score.{IsFeasible};
 ghost use Rattle.tt_leaf_rules.specs.declared.leaf.Bound.TheVariants.{AtLeast};
 ghost use Rattle.tt_proof_check.specs.Derives.{HoldsOfAll};
 ghost use Rattle.tt_proof_sum.specs.UpToFailedRead.{IsFileCheckedUpToFailedRead};
-ghost use Rattle.tt_proof_check.specs.Faults.{is_err_and};
+ghost use Rattle.tt_text.specs.Failures.{is_err_and};
 ghost use Rattle.tt_proof_check.specs.Headline.{BreaksARule};
 ghost use Rattle.tt_proof_sum.specs.Added.{Give};
 ghost use Rattle.tt_proof_sum.specs.Faults as below;

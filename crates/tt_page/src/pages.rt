@@ -1,10 +1,12 @@
 //! The text of a page, and its output.
 
-ghost use Rattle.std.specs.Prelude.{◌≡◌, ◌++◌, Err, true, OnOk, IfOk};
+ghost use Rattle.std.specs.Prelude.{◌≡◌, ◌++◌, Err, true, if◌then◌else◌, OnOk, IfOk};
 ghost use Rattle.std.specs.Io.KnownBytes.{Appends};
 ghost use Rattle.tt_table.specs.Table.{IsTimetable};
 ghost use Rattle.tt_rules.specs.Score.{IsScore};
+ghost use Rattle.tt_text.specs.Failures.{is_err_and};
 ghost use Rattle.tt_text.specs.Sinks.{TakesPart};
+ghost use Rattle.tt_report.specs.Faults.{is_failed_write};
 ghost use Rattle.tt_report.specs.declared.fault.ReportFault.TheVariants as fault;
 ghost use Rattle.tt_page.specs.Pages.{counts_text, weeks_text, page_text};
 
@@ -92,8 +94,7 @@ pub fn page<W: Sink>(
     ensures written { OnOk result (Appends (W.contents sink.old) (W.contents sink.new) (page_text instance.now table.now labels.now proved style.now)) }
     // After a failed write, a part from the front of the text was taken.
     ensures part { result ≡ Err fault.Write → TakesPart (W.contents sink.old) (W.contents sink.new) (page_text instance.now table.now labels.now proved style.now) }
-    ensures failed { result ≡ Err fault.Write → W.has_failed sink.new ≡ true }
-    ensures unfailed { ¬ (result ≡ Err fault.Write) → W.has_failed sink.new ≡ W.has_failed sink.old }
+    ensures failed { W.has_failed sink.new ≡ (if is_err_and result is_failed_write then true else W.has_failed sink.old) }
     // If memory ran out, nothing was written.
     ensures unwritten { result ≡ Err fault.OutOfMemory → sink.new ≡ sink.old }
 {

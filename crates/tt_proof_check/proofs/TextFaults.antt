@@ -2,6 +2,7 @@
 use Rattle.std.proofs.Common.{◌≡◌, Bool, true, false, if◌then◌else◌, Result, Ok, Err, IfErr, refl, sym, ap, subst, ◌∙◌, ◌⊎◌, inl, inr}
 use Rattle.std.specs.Prelude.{IsErrAnd}
 use Rattle.std.specs.Bool.{OnFalse}
+use Rattle.tt_text.specs.Failures.{is_err_and}
 use Rattle.tt_text.specs.declared.feed.FeedFault.TheVariants as feed
 use Rattle.tt_proof_read.specs.Faults as read
 use Rattle.tt_proof_read.specs.Faults.{is_environmental, read_failed}
@@ -9,7 +10,7 @@ use Rattle.tt_proof_read.specs.declared.fault.TextFault.{TextFault}
 use Rattle.tt_proof_read.specs.declared.fault.TextFault.TheVariants as text
 use Rattle.tt_proof_check.specs.declared.fault.CheckFault.{CheckFault}
 use Rattle.tt_proof_check.specs.declared.fault.CheckFault.TheVariants as told
-use Rattle.tt_proof_check.specs.Faults.{fault_from_text, is_err_and, is_failed_read, OutOfMemoryIsNoTextFault}
+use Rattle.tt_proof_check.specs.Faults.{fault_from_text, is_failed_read, OutOfMemoryIsNoTextFault}
 use Rattle.tt_proof_check.specs.Streams.{Fails, IsEnvironmental}
 
 -- an error of the text is either being out of memory or becomes a text error of the check
@@ -52,27 +53,10 @@ pub err_same : {A E : Type 0} (r : Result A E) (x y : E) → IsErrAnd r (λ e. e
 err_same (Ok a) x y e h = absurd cc
 err_same (Err z) x y e h = let same : z ≡ y = cc in sym e ∙ same
 
--- whether a read has failed, after a text error
-pub text_reads : (f : TextFault) (before after : Bool) → (f ≡ read_failed → after ≡ true) → (read.is_failed_read f ≡ false → after ≡ before)
-    → after ≡ (if read.is_failed_read f then true else before)
-text_reads (text.Ended at) before after failed unfailed = unfailed refl
-text_reads (text.Expected w at) before after failed unfailed = unfailed refl
-text_reads (text.UnknownWord at) before after failed unfailed = unfailed refl
-text_reads (text.NotANumber at) before after failed unfailed = unfailed refl
-text_reads (text.UnknownIndex at) before after failed unfailed = unfailed refl
-text_reads (text.RepeatedIndex at) before after failed unfailed = unfailed refl
-text_reads (text.TrailingToken at) before after failed unfailed = unfailed refl
-text_reads (text.TooManyNodes at) before after failed unfailed = unfailed refl
-text_reads (text.Feed feed.Read) before after failed unfailed = failed refl
-text_reads (text.Feed (feed.TokenTooLong at)) before after failed unfailed = unfailed refl
-text_reads (text.Feed feed.TooManyBytes) before after failed unfailed = unfailed refl
-text_reads (text.Feed feed.OutOfMemory) before after failed unfailed = unfailed refl
-text_reads text.OutOfMemory before after failed unfailed = unfailed refl
-
 -- a check error made from a text error is a failed read exactly if the text error is one
-told_reads : (f : TextFault) → is_failed_read (fault_from_text f) ≡ read.is_failed_read f
-told_reads text.OutOfMemory = refl
-told_reads f = refl
+text_reads : (f : TextFault) → is_failed_read (fault_from_text f) ≡ read.is_failed_read f
+text_reads text.OutOfMemory = refl
+text_reads f = refl
 
 -- whether a read has failed, after an error that was passed on
 pub same_reads : {A E : Type 0} (r : Result A E) (f : E) (passes : E → Bool) (before middle after : Bool) → IsErrAnd r (λ e. e ≡ f) → after ≡ (if passes f then true else middle) → middle ≡ before
@@ -81,11 +65,10 @@ same_reads (Ok x) f passes before middle after e h same = absurd e
 same_reads (Err x) f passes before middle after e h same = h ∙ ap (λ (b : Bool). if passes f then true else b) same ∙ ap (λ y. if passes y then true else before) (sym e)
 
 -- whether a read has failed, after an error made from a text error
-pub err_reads : {A : Type 0} (r : Result A CheckFault) (f : TextFault) (before after : Bool) → IsErrAnd r (λ e. e ≡ fault_from_text f) → (f ≡ read_failed → after ≡ true)
-    → (read.is_failed_read f ≡ false → after ≡ before) → after ≡ (if is_err_and r is_failed_read then true else before)
-err_reads r f before after e failed unfailed =
-    let h = text_reads f before after failed unfailed ∙ ap (λ (b : Bool). if b then true else before) (sym (told_reads f)) in
-    same_reads r (fault_from_text f) is_failed_read before before after e h refl
+pub err_reads : {A : Type 0} (r : Result A CheckFault) (f : TextFault) (before middle after : Bool) → IsErrAnd r (λ e. e ≡ fault_from_text f) → after ≡ (if read.is_failed_read f then true else middle)
+    → middle ≡ before → after ≡ (if is_err_and r is_failed_read then true else before)
+err_reads r f before middle after e h same =
+    same_reads r (fault_from_text f) is_failed_read before middle after e (h ∙ ap (λ (b : Bool). if b then true else middle) (sym (text_reads f))) same
 
 -- a property of a check error made from a text error
 pub err_gives : {A : Type 0} (r : Result A CheckFault) (f : TextFault) (Q : CheckFault → Type 0) → IsErrAnd r (λ e. e ≡ fault_from_text f) → Q (fault_from_text f) → IfErr r Q

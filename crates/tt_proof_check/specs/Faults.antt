@@ -1,5 +1,5 @@
 -- The check error that an error of the text becomes, and how a failed read and being out of memory are reported.
-use Rattle.std.specs.Prelude.{◌≡◌, Bool, false, Result, Ok, Err, ⊤}
+use Rattle.std.specs.Prelude.{◌≡◌, Bool, false, ⊤}
 use Rattle.tt_proof_read.specs.Faults as read
 use Rattle.tt_proof_read.specs.declared.fault.TextFault.{TextFault}
 use Rattle.tt_proof_read.specs.declared.fault.TextFault.TheVariants as text
@@ -14,11 +14,6 @@ fault_from_text f = Text f
 abbrev pub is_failed_read : CheckFault → Bool
 is_failed_read (Text f) = read.is_failed_read f
 is_failed_read _ = false
-
--- Whether a result is an error that passes the test.
-abbrev pub is_err_and : {X E : Type 0} → Result X E → (E → Bool) → Bool
-is_err_and (Ok x) passes = false
-is_err_and (Err f) passes = passes f
 
 -- Being out of memory is reported as itself, and not as an error of the text.
 abbrev pub OutOfMemoryIsNoTextFault : CheckFault → Type 0

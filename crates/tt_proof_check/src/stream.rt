@@ -3,6 +3,7 @@
 ghost use Rattle.std.specs.Prelude.{◌≡◌, ◌<◌, ◌≤◌, ℕ, List, [], length, true, if◌then◌else◌, is_some, Some, None, Err, OnOk, IfOk, IfErr, MatchResult};
 ghost use Rattle.tt_facts_path.specs.declared.path.TheConstants.{MAX_FACTS};
 ghost use Rattle.tt_leaf_rules.specs.declared.leaf.Bound.{Bound};
+ghost use Rattle.tt_text.specs.Failures.{is_err_and};
 ghost use Rattle.tt_text.specs.Feeds.{stream_at, fresh};
 ghost use Rattle.tt_proof_read.specs.Answers.{StaysKnown};
 ghost use Rattle.tt_proof_read.specs.Faults.{read_failed};
@@ -10,7 +11,7 @@ ghost use Rattle.tt_proof_read.specs.Reading.{node_at};
 ghost use Rattle.tt_proof_read.specs.Sizes.{AreSizes};
 ghost use Rattle.tt_proof_check.specs.Derives.{HoldsOfAll};
 ghost use Rattle.tt_proof_check.specs.FailedReads.{NodeIsCutOff, IsCutOff, IsCheckedUpToFailedRead, UpToFailure, BeforeFailure};
-ghost use Rattle.tt_proof_check.specs.Faults.{OutOfMemoryIsNoTextFault, is_err_and, is_failed_read};
+ghost use Rattle.tt_proof_check.specs.Faults.{OutOfMemoryIsNoTextFault, is_failed_read};
 ghost use Rattle.tt_proof_check.specs.Visited.{Visited, Unvisited, IsVisitedProof};
 ghost use Rattle.tt_proof_check.specs.Nodes.{IsNodeOf};
 ghost use Rattle.tt_proof_check.specs.Steps.{Steps, Stops};

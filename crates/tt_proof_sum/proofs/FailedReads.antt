@@ -6,17 +6,14 @@ use Rattle.tt_text.specs.declared.feed.FeedFault.TheVariants as feed
 use Rattle.tt_instance.specs.Problem.{Problem}
 use Rattle.tt_leaf_rules.specs.declared.leaf.Bound.{Bound}
 use Rattle.tt_leaf_rules.specs.declared.leaf.Bound.TheVariants.{AtLeast}
-use Rattle.tt_proof_read.specs.Faults.{read_failed}
 use Rattle.tt_proof_read.specs.declared.fault.TextFault.TheVariants as text
 use Rattle.tt_proof_check.specs.Faults as checks
-use Rattle.tt_proof_check.specs.Faults.{is_err_and}
+use Rattle.tt_text.specs.Failures.{is_err_and}
 use Rattle.tt_proof_check.specs.declared.fault.CheckFault.{CheckFault}
 use Rattle.tt_proof_check.specs.declared.fault.CheckFault.TheVariants as check
-use Rattle.tt_proof_check.proofs.TextFaults.{text_reads}
 use Rattle.tt_groups_read.specs.Faults.{is_environmental, is_failed_read}
 use Rattle.tt_groups_read.specs.declared.claim.GroupClaim.{GroupClaim}
 use Rattle.tt_groups_read.specs.declared.fault.GroupTextFault.{GroupTextFault}
-use Rattle.tt_groups_read.specs.declared.fault.GroupTextFault.TheVariants as group_text
 use Rattle.tt_proof_sum.specs.Claiming.{TellsClaim}
 use Rattle.tt_proof_sum.specs.Faults.{IsNumbered, told_proof, told_text, read_failed_at, is_failed_read_at}
 use Rattle.tt_proof_sum.specs.Tables.{State}
@@ -56,10 +53,10 @@ told_reads result file n f before after told same h =
     let is : is_failed_read_at n result ≡ is_failed_read f = ap (is_failed_read_at n) (told ∙ ap (λ m. told_text m f) same) ∙ told_text_read n f in
     h ∙ ap (λ (b : Bool). if b then true else before) (sym is)
 
-pub group_reads : (f : GroupTextFault) (before after : Bool) → (f ≡ group_text.Text read_failed → after ≡ true) → (is_failed_read f ≡ false → after ≡ before)
-    → after ≡ (if is_failed_read f then true else before)
-group_reads (group_text.ExpectedGroups at) before after failed unfailed = unfailed refl
-group_reads (group_text.Text t) before after failed unfailed = text_reads t before after (λ e. failed (ap group_text.Text e)) unfailed
+-- whether a read has failed, after a result that is known
+pub result_reads : {A E : Type 0} (r known : Result A E) (passes : E → Bool) (before after : Bool) → r ≡ known → after ≡ (if is_err_and r passes then true else before)
+    → after ≡ (if is_err_and known passes then true else before)
+result_reads r known passes before after is h = h ∙ ap (λ (x : Result A E). if is_err_and x passes then true else before) is
 
 -- a failed read of this file
 pub read_is_at : (result : SumFault) (file n : ℕ) → result ≡ read_failed_at file → file ≡ n → is_failed_read_at n result ≡ true

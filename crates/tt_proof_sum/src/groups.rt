@@ -10,7 +10,7 @@ ghost use Rattle.tt_text_peek.specs.Fronts.{is_groups};
 ghost use Rattle.tt_proof_check.specs.FailedReads.{HoldsOfGiven};
 ghost use Rattle.tt_proof_sum.specs.Added.{Joins, IsOfKind};
 ghost use Rattle.tt_proof_sum.specs.Claiming.{TellsClaim};
-ghost use Rattle.tt_proof_check.specs.Faults.{is_err_and};
+ghost use Rattle.tt_text.specs.Failures.{is_err_and};
 ghost use Rattle.tt_proof_sum.specs.Faults.{TellsAdded, IsNumbered, OutOfMemoryIsOneFault, read_failed_at, is_failed_read_at};
 ghost use Rattle.tt_proof_sum.specs.Sums.{Part};
 ghost use Rattle.tt_proof_sum.specs.Tables.{State, IsTableOf, begun, group_places, first_owner, Marks};

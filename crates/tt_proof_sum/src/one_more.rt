@@ -2,7 +2,7 @@
 
 ghost use Rattle.std.specs.Prelude.{◌≡◌, ◌+◌, ◌<◌, ℕ, List, Some, Err, true, false, if◌then◌else◌, IfOk, IfErr, OnOk};
 ghost use Rattle.tt_text_peek.specs.Fronts.{is_groups};
-ghost use Rattle.tt_proof_check.specs.Faults.{is_err_and};
+ghost use Rattle.tt_text.specs.Failures.{is_err_and};
 ghost use Rattle.tt_proof_check.specs.FailedReads.{IsCheckedUpToFailedRead};
 ghost use Rattle.tt_proof_sum.specs.Added.{Joins};
 ghost use Rattle.tt_proof_sum.specs.Faults.{TellsAdded, IsNumbered, OutOfMemoryIsOneFault, read_failed_at, is_failed_read_at};

@@ -2,7 +2,7 @@
 
 ghost use Rattle.std.specs.Prelude.{◌≡◌, ◌+◌, ◌<◌, ◌≤◌, ◌^◌, ℕ, List, [], ◌++◌, ◌∷◌, Some, Err, true, if◌then◌else◌, IfOk, IfErr, MatchOption};
 ghost use Rattle.tt_proof_sum.specs.Added.{IsSumOf, Adds, due};
-ghost use Rattle.tt_proof_check.specs.Faults.{is_err_and};
+ghost use Rattle.tt_text.specs.Failures.{is_err_and};
 ghost use Rattle.tt_proof_sum.specs.Faults.{TellsAdded, IsNumbered, OutOfMemoryIsOneFault, IsSilentSum, read_failed_at, is_failed_read_at, points, all_points};
 ghost use Rattle.tt_proof_sum.specs.Sums.{Part, IsPart, AreApart, both_bounds, sum_of};
 ghost use Rattle.tt_proof_sum.specs.UpToFailedRead.{IsFileCheckedUpToFailedRead};

@@ -7,7 +7,7 @@ ghost use Rattle.tt_proof_read.specs.Faults.{read_failed, is_failed_read};
 ghost use Rattle.tt_proof_read.specs.Readers.{IsNodeAt};
 ghost use Rattle.tt_proof_read.specs.declared.fault.TextFault.{TextFault};
 ghost use Rattle.tt_proof_read.specs.declared.format.TheConstants.{MAX_PROOF_NODES};
-ghost use Rattle.tt_proof_check.specs.Faults.{is_err_and};
+ghost use Rattle.tt_text.specs.Failures.{is_err_and};
 ghost use Rattle.tt_proof_check.specs.FailedReads.{UpToFailure, BeforeFailure};
 ghost use Rattle.tt_proof_check.specs.Streams.{stream_of};
 ghost use Rattle.tt_proof_upgrade.specs.Texts.{IsRead, AreNodesOf, IsCollected, NodeTextFails, NodeIsCutOff, IsTextFault, IsReadUpToFailedRead};

@@ -4,7 +4,7 @@ ghost use Rattle.std.specs.Prelude.{◌≡◌, ◌≤◌, List, ℕ, length, All
 ghost use Rattle.tt_leaf_rules.specs.declared.leaf.Bound.{Bound};
 ghost use Rattle.tt_proof_read.specs.declared.format.TheConstants.{MAX_PROOF_NODES};
 ghost use Rattle.tt_proof_check.specs.Derives.{HoldsOfAll, Proves};
-ghost use Rattle.tt_proof_check.specs.Faults.{is_err_and};
+ghost use Rattle.tt_text.specs.Failures.{is_err_and};
 ghost use Rattle.tt_proof_read.specs.Spelling.{IsNode, SpellsProof};
 ghost use Rattle.tt_proof_read.specs.Trees.{Tree, preorder, IsPreorder};
 ghost use Rattle.tt_proof_check.specs.Nodes.{IsNodeOf};

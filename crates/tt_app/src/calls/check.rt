@@ -2,7 +2,7 @@
 
 ghost use Rattle.std.specs.Prelude.{◌≡◌, ◌+◌, ℕ, List, Some, Err, true, if◌then◌else◌, IfOk, IfErr};
 ghost use Rattle.tt_proof_check.specs.FailedReads.{IsSpelledAndCheckedUpToFailedRead};
-ghost use Rattle.tt_proof_check.specs.Faults.{is_err_and};
+ghost use Rattle.tt_text.specs.Failures.{is_err_and};
 ghost use Rattle.tt_proof_check.specs.Headline.{BreaksARule, Certifies};
 ghost use Rattle.tt_app.specs.Checked.{IsChecked, IsCheckRefusal, IsFileFault, AnswersYes, AnswersBroken, IsYesAnswer, IsBrokenAnswer, read_failed, is_failed_read};
 ghost use Rattle.tt_app.specs.FaultMaps.{OutOfMemoryIsOneFault};

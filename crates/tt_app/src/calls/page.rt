@@ -8,7 +8,7 @@ ghost use Rattle.tt_leaf_rules.specs.declared.leaf.Bound.{Bound};
 ghost use Rattle.tt_page.specs.Pages.{page_text};
 ghost use Rattle.tt_page_text.specs.Labelled.{Labelled};
 ghost use Rattle.tt_page_text.specs.Labels.{Gives};
-ghost use Rattle.tt_proof_check.specs.Faults.{is_err_and};
+ghost use Rattle.tt_text.specs.Failures.{is_err_and};
 ghost use Rattle.tt_proof_sum.specs.Added.{Give};
 ghost use Rattle.tt_proof_sum.specs.Faults.{all_points};
 ghost use Rattle.tt_proof_sum.specs.Sums.{IsSum};

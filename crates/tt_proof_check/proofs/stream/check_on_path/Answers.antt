@@ -109,15 +109,15 @@ returns-in_err-finish-clause-memory g c =
 pub returns-in_err-reader-clause-failed : goal.returns-in_err-reader-clause-failed
 returns-in_err-reader-clause-failed g c =
     let e = c.in_err-reader.ensures in
-    err_reads c.from_residual.result c.in_err-reader.field-0.0 _ _ c.from_residual.ensures.1 (λ is. e.failed (ap (λ x. Err x) is)) e.unfailed
+    err_reads c.from_residual.result c.in_err-reader.field-0.0 _ _ _ c.from_residual.ensures.1 e.failed refl
 
 pub returns-in_err-check_tree-clause-failed : goal.returns-in_err-check_tree-clause-failed
 returns-in_err-check_tree-clause-failed g c =
-    same_reads c.from_residual-in_err-check_tree.result c.in_err-check_tree.field-0.0 is_failed _ _ _ c.from_residual-in_err-check_tree.ensures.1 c.in_err-check_tree.ensures.failed (c.in_ok-reader.ensures.unfailed tt)
+    same_reads c.from_residual-in_err-check_tree.result c.in_err-check_tree.field-0.0 is_failed _ _ _ c.from_residual-in_err-check_tree.ensures.1 c.in_err-check_tree.ensures.failed c.in_ok-reader.ensures.failed
 
 pub returns-in_err-finish-clause-failed : goal.returns-in_err-finish-clause-failed
 returns-in_err-finish-clause-failed g c =
     let checked = c.in_ok-check_tree.ensures in
     let e = c.in_err-finish.ensures in
-    err_reads c.from_residual-in_err-finish.result c.in_err-finish.field-0.0 _ _ c.from_residual-in_err-finish.ensures.1 (λ is. e.failed checked.sound (ap (λ x. Err x) is))
-    (λ no. e.unfailed checked.sound no ∙ checked.failed ∙ c.in_ok-reader.ensures.unfailed tt)
+    err_reads c.from_residual-in_err-finish.result c.in_err-finish.field-0.0 _ _ _ c.from_residual-in_err-finish.ensures.1 (e.failed checked.sound)
+    (checked.failed ∙ c.in_ok-reader.ensures.failed)

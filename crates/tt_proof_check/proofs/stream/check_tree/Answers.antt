@@ -30,7 +30,7 @@ loop-node-init g c =
       count = sym r.unread;
       at_most = omega (arith, r.unread);
       known = λ k. k;
-      unfailed = refl;
+      failed = refl;
     }
 
 pub take-requires : goal.take-requires
@@ -72,7 +72,7 @@ loop-node-preserved g c =
       count = omega (arith, count, inv.count);
       at_most = omega (arith, count, e.room);
       known = λ k. e.known (inv.known k);
-      unfailed = e.unfailed inv.sofar.sound tt ∙ inv.unfailed;
+      failed = e.failed inv.sofar.sound ∙ inv.failed;
     }
 
 pub returns-in_err-node-clause-fault : goal.returns-in_err-node-clause-fault
@@ -210,4 +210,4 @@ pub returns-in_err-node-clause-failed : goal.returns-in_err-node-clause-failed
 returns-in_err-node-clause-failed g c =
     let e = c.in_err-node.ensures in
     let inv = c.loop-node.invariant in
-    err_reads c.from_residual.result c.in_err-node.field-0.0 _ _ c.from_residual.ensures.1 (λ is. e.failed inv.sofar.sound (ap (λ x. Err x) is)) (λ no. e.unfailed inv.sofar.sound no ∙ inv.unfailed)
+    err_reads c.from_residual.result c.in_err-node.field-0.0 _ _ _ c.from_residual.ensures.1 (e.failed inv.sofar.sound) inv.failed

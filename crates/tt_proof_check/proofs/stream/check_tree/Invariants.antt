@@ -15,7 +15,7 @@ invariant-loop-node g l = record {
   count : l.count ≡ l.reader.count;
   at_most : l.reader.count ≤ 16777216;
   known : is_some (g.R.Source.remaining l.fn.source) ≡ true → is_some (g.R.Source.remaining l.source) ≡ true;
-  unfailed : g.R.Source.has_failed l.source ≡ g.R.Source.has_failed l.fn.source;
+  failed : g.R.Source.has_failed l.source ≡ g.R.Source.has_failed l.fn.source;
 }
 
 abbrev pub decreases-loop-node : goal.decreases-loop-node

@@ -2,15 +2,15 @@ use Rattle.std.proofs.Common.{◌≡◌, ◌+◌, ◌<◌, Bool, if◌then◌els
 use Rattle.std.specs.Prelude.{IfOk, IfSome}
 use Rattle.std.proofs.lemmas.Result.{err_from_is_err_and}
 use Rattle.tt_text.specs.Feeds.{stream_at, room_of}
-use Rattle.tt_proof_read.specs.Faults.{TellsNoFailedRead}
+use Rattle.tt_proof_read.specs.Faults.{is_failed_read}
 use Rattle.tt_proof_read.specs.declared.fault.TextFault.{TextFault}
-use Rattle.tt_proof_check.proofs.TextFaults.{text_reads, same_reads}
+use Rattle.tt_proof_check.proofs.TextFaults.{same_reads}
 use Rattle.tt_groups_read.specs.Readers.{Reader, IsReaderAfter, IsReadingOf, GroupAgreesWhenCut, IsClaimAt}
 use Rattle.tt_groups_read.specs.declared.claim.GroupClaim.{GroupClaim}
 use Rattle.tt_groups_read.specs.declared.fault.GroupTextFault.TheVariants.{Text}
 use Rattle.tt_proof_sum.specs.Faults.{TellsAdded, is_failed_read_at}
 use Rattle.tt_proof_sum.specs.declared.fault.SumFault.{SumFault}
-use Rattle.tt_proof_sum.proofs.FailedReads.{told_reads, group_reads, claim_read, reached_read}
+use Rattle.tt_proof_sum.proofs.FailedReads.{told_reads, result_reads, claim_read, reached_read}
 use Rattle.tt_proof_sum.proofs.Underway.{underway_start, underway_more, claim_is, reading_claim, reading_end, joins, cheap_fault, claim_fault, text_fault, claim_cut, header_cut, reached_ok, reached_err, told_failed}
 use Rattle.tt_proof_sum.proofs.groups.take_groups.Goals as goal
 
@@ -26,7 +26,7 @@ loop-claim-init g c =
     let e = c.in-Ok.ensures in
     record {
       under = underway_start c.args.instance.now (g.R.Source.remaining c.args.source.now) (g.R.Source.remaining c.new.new.source) c.args.table.now c.in-Ok.reader e.known e.read e.cut_short e.start e.sizes;
-      calm = e.unfailed tt;
+      calm = e.failed;
     }
 
 pub returns-in-Ok-None-clause-joins : goal.returns-in-Ok-None-clause-joins
@@ -139,14 +139,14 @@ loop-claim-preserved g c =
     record {
       under = underway_more p c.days.ensures.instance start c.args.table.now r now c.loop-claim.table c.loop-claim.number c.loop-claim.total u after later e.known c.take_claim.new.table k (c.loop-claim.number + 1) c.saturating_add-total.result
           goes forward says cut claim taken.free taken.marks taken.holds c.requires refl c.saturating_add-total.ensures;
-      calm = e.unfailed u.sound (subst (λ (x : Result (Option GroupClaim) TextFault). TellsNoFailedRead x) (sym is) tt) ∙ c.loop-claim.invariant.calm;
+      calm = result_reads c.next_group.result (Ok (Some k)) is_failed_read _ _ is (e.failed u.sound) ∙ c.loop-claim.invariant.calm;
     }
 
 pub returns-in-Err-clause-failed : goal.returns-in-Err-clause-failed
 returns-in-Err-clause-failed g c =
     let e = c.in-Err.ensures in
     let f = c.in-Err.fault in
-    told_reads c.fault_of_text.result c.proof-file.result c.args.table.now.proof f _ _ c.fault_of_text.ensures c.proof-file.ensures (group_reads f _ _ (λ is. e.failed (ap (λ x. Err x) is)) e.unfailed)
+    told_reads c.fault_of_text.result c.proof-file.result c.args.table.now.proof f _ _ c.fault_of_text.ensures c.proof-file.ensures e.failed
 
 pub returns-in-Err-next_group-clause-failed : goal.returns-in-Err-next_group-clause-failed
 returns-in-Err-next_group-clause-failed g c =
@@ -155,8 +155,7 @@ returns-in-Err-next_group-clause-failed g c =
     let u = c.loop-claim.invariant.under in
     let is = c.in-Err-next_group.is in
     told_reads c.fault_of_text-in-Err-next_group.result c.proof-file.result c.args.table.now.proof (Text t) _ _ c.fault_of_text-in-Err-next_group.ensures c.proof-file.ensures
-    (text_reads t _ _ (λ read. e.failed u.sound (is ∙ ap (λ x. Err x) read))
-    (λ no. e.unfailed u.sound (subst (λ (x : Result (Option GroupClaim) TextFault). TellsNoFailedRead x) (sym is) no) ∙ c.loop-claim.invariant.calm))
+    (result_reads c.next_group.result (Err t) is_failed_read _ _ is (e.failed u.sound) ∙ ap (λ (b : Bool). if is_failed_read t then true else b) c.loop-claim.invariant.calm)
 
 pub returns-in_err-take_claim-clause-failed : goal.returns-in_err-take_claim-clause-failed
 returns-in_err-take_claim-clause-failed g c =
@@ -164,7 +163,7 @@ returns-in_err-take_claim-clause-failed g c =
     let u = c.loop-claim.invariant.under in
     let before = g.R.Source.has_failed c.args.source.now in
     let is : c.next_group.result ≡ Ok (Some c.in-Ok-Some.claim) = c.in-Ok-Some.is ∙ ap (λ (x : Option GroupClaim). Ok x) c.in-Ok-Some.field-0-is in
-    let calm = c.next_group.ensures.unfailed u.sound (subst (λ (x : Result (Option GroupClaim) TextFault). TellsNoFailedRead x) (sym is) tt) ∙ c.loop-claim.invariant.calm in
+    let calm = result_reads c.next_group.result (Ok (Some c.in-Ok-Some.claim)) is_failed_read _ _ is (c.next_group.ensures.failed u.sound) ∙ c.loop-claim.invariant.calm in
     same_reads c.from_residual.result f (is_failed_read_at c.args.table.now.proof) before before _ c.from_residual.ensures.1
     (calm ∙ ap (λ (b : Bool). if b then true else before) (sym (claim_read c.args.instance.now c.loop-claim.table c.loop-claim.number c.in-Ok-Some.claim c.args.table.now.proof f c.in_err-take_claim.ensures.fault))) refl
 
@@ -173,5 +172,5 @@ returns-in-Ok-None-clause-failed g c =
     let u = c.loop-claim.invariant.under in
     let before = g.R.Source.has_failed c.args.source.now in
     let is : c.next_group.result ≡ Ok None = c.in-Ok-None.is ∙ ap (λ (x : Option GroupClaim). Ok x) c.in-Ok-None.field-0-is in
-    let calm = c.next_group.ensures.unfailed u.sound (subst (λ (x : Result (Option GroupClaim) TextFault). TellsNoFailedRead x) (sym is) tt) ∙ c.loop-claim.invariant.calm in
+    let calm = result_reads c.next_group.result (Ok None) is_failed_read _ _ is (c.next_group.ensures.failed u.sound) ∙ c.loop-claim.invariant.calm in
     calm ∙ ap (λ (b : Bool). if b then true else before) (sym (reached_read c.reached.result c.proof-file.result c.args.table.now.proof c.loop-claim.total c.bound.result c.reached.ensures))

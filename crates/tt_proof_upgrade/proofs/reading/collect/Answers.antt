@@ -4,7 +4,7 @@ use Rattle.tt_text.specs.Feeds.{stream_at}
 use Rattle.tt_text.specs.CutShort.{cut_at}
 use Rattle.tt_proof_read.specs.Faults.{read_failed, is_failed_read}
 use Rattle.tt_proof_read.specs.Readers.{Reader}
-use Rattle.tt_proof_check.proofs.TextFaults.{err_same, text_reads, same_reads}
+use Rattle.tt_proof_check.proofs.TextFaults.{err_same, same_reads}
 use Rattle.tt_proof_upgrade.proofs.Collected.{collected_start, collected_next, collected_end, collected_breaks, collected_breaks_off}
 use Rattle.tt_proof_upgrade.proofs.reading.collect.Goals as goal
 
@@ -19,7 +19,7 @@ loop-nodes-init g c =
       );
       at_most = omega (arith, r.unread);
       known = λ k. k;
-      unfailed = refl;
+      failed = refl;
     }
 
 pub returns-in_err-node-clause-fault : goal.returns-in_err-node-clause-fault
@@ -52,7 +52,7 @@ loop-nodes-preserved g c =
           );
       at_most = omega (arith, count, e.room);
       known = λ k. e.known (inv.known k);
-      unfailed = e.unfailed inv.sofar.sound tt ∙ inv.unfailed;
+      failed = e.failed inv.sofar.sound ∙ inv.failed;
     }
 
 pub returns-in_err-push-clause-fault : goal.returns-in_err-push-clause-fault
@@ -96,4 +96,4 @@ returns-in_err-node-clause-failed g c =
     let e = c.in_err-node.ensures in
     let f = c.in_err-node.field-0.0 in
     let inv = c.loop-nodes.invariant in
-    same_reads c.from_residual.result f is_failed_read _ _ _ c.from_residual.ensures.1 (text_reads f _ _ (λ is. e.failed inv.sofar.sound (ap (λ x. Err x) is)) (e.unfailed inv.sofar.sound)) inv.unfailed
+    same_reads c.from_residual.result f is_failed_read _ _ _ c.from_residual.ensures.1 (e.failed inv.sofar.sound) inv.failed

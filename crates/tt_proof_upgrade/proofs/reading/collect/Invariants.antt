@@ -12,7 +12,7 @@ invariant-loop-nodes g l = record {
       (λ s t. Collected l.fn.reader.sizes l.fn.reader.version true s l.reader t l.nodes.items);
   at_most : l.reader.count ≤ 16777216;
   known : is_some (g.R.Source.remaining l.fn.source) ≡ true → is_some (g.R.Source.remaining l.source) ≡ true;
-  unfailed : g.R.Source.has_failed l.source ≡ g.R.Source.has_failed l.fn.source;
+  failed : g.R.Source.has_failed l.source ≡ g.R.Source.has_failed l.fn.source;
 }
 
 abbrev pub decreases-loop-nodes : goal.decreases-loop-nodes

@@ -3,7 +3,7 @@ use Rattle.std.proofs.lemmas.Result.{err_from_is_err_and}
 use Rattle.tt_text.specs.Feeds.{stream_at, fresh}
 use Rattle.tt_proof_read.specs.Faults.{read_failed, is_failed_read}
 use Rattle.tt_proof_check.proofs.FailedReads.{of_given}
-use Rattle.tt_proof_check.proofs.TextFaults.{err_same, text_reads, same_reads}
+use Rattle.tt_proof_check.proofs.TextFaults.{err_same, same_reads}
 use Rattle.tt_proof_upgrade.specs.Texts.{IsRead, IsTextFault, TextIsCutOff}
 use Rattle.tt_proof_upgrade.proofs.Whole.{nodes_break, nodes_break_off, end_breaks, end_breaks_off, is_read, of_bytes}
 use Rattle.tt_proof_upgrade.proofs.reading.parse_proof.Goals as goal
@@ -90,11 +90,11 @@ pub returns-in_err-reader-clause-failed : goal.returns-in_err-reader-clause-fail
 returns-in_err-reader-clause-failed g c =
     let e = c.in_err-reader.ensures in
     let f = c.in_err-reader.field-0.0 in
-    same_reads c.from_residual.result f is_failed_read _ _ _ c.from_residual.ensures.1 (text_reads f _ _ (λ is. e.failed (ap (λ x. Err x) is)) e.unfailed) refl
+    same_reads c.from_residual.result f is_failed_read _ _ _ c.from_residual.ensures.1 e.failed refl
 
 pub returns-in_err-nodes-clause-failed : goal.returns-in_err-nodes-clause-failed
 returns-in_err-nodes-clause-failed g c =
-    same_reads c.from_residual-in_err-nodes.result c.in_err-nodes.field-0.0 is_failed_read _ _ _ c.from_residual-in_err-nodes.ensures.1 c.in_err-nodes.ensures.failed (c.in_ok-reader.ensures.unfailed tt)
+    same_reads c.from_residual-in_err-nodes.result c.in_err-nodes.field-0.0 is_failed_read _ _ _ c.from_residual-in_err-nodes.ensures.1 c.in_err-nodes.ensures.failed c.in_ok-reader.ensures.failed
 
 pub returns-in_err-finish-clause-failed : goal.returns-in_err-finish-clause-failed
 returns-in_err-finish-clause-failed g c =
@@ -102,4 +102,4 @@ returns-in_err-finish-clause-failed g c =
     let f = c.in_err-finish.field-0.0 in
     let collected = c.in_ok-nodes.ensures in
     same_reads c.from_residual-in_err-finish.result f is_failed_read _ _ _ c.from_residual-in_err-finish.ensures.1
-    (text_reads f _ _ (λ is. e.failed collected.sound (ap (λ x. Err x) is)) (e.unfailed collected.sound)) (collected.failed ∙ c.in_ok-reader.ensures.unfailed tt)
+    (e.failed collected.sound) (collected.failed ∙ c.in_ok-reader.ensures.failed)

@@ -1,10 +1,8 @@
-use Rattle.std.proofs.Common.{◌≡◌, Err, refl, ap, inl}
+use Rattle.std.proofs.Common.{refl, inl}
 use Rattle.std.proofs.lemmas.Result.{err_from_is_err_and}
-use Rattle.tt_report.specs.declared.fault.ReportFault.TheVariants.{Write}
-use Rattle.tt_proof_check.proofs.TextFaults.{same_reads}
 use Rattle.tt_app.specs.FaultMaps.{fault_from_instance, fault_from_solution, fault_from_labels, fault_from_report}
 use Rattle.tt_app.specs.Reported.{is_failed_write}
-use Rattle.tt_app.proofs.FailedReads.{calm, instance_write, solution_write, labels_write, report_writes}
+use Rattle.tt_app.proofs.FailedReads.{passed, calm, instance_write, solution_write, labels_write, report_write}
 use Rattle.tt_app.proofs.Files.{tells_instance, tells_solution, only_memory}
 use Rattle.tt_app.proofs.Paging.{names_memory, names_tell, output_fails}
 use Rattle.tt_app.proofs.calls.page.page.Goals as goal
@@ -52,6 +50,4 @@ returns-in_err-labels-clause-failed g c =
 pub returns-in_err-page-clause-failed : goal.returns-in_err-page-clause-failed
 returns-in_err-page-clause-failed g c =
     let f = c.in_err-page.field-0.0 in
-    let e = c.in_err-page.ensures in
-    same_reads c.from_residual-in_err-page.result (fault_from_report f) is_failed_write _ _ _ c.from_residual-in_err-page.ensures.1
-    (report_writes f _ _ (λ is. e.failed (ap (λ x. Err x) is)) (λ other. e.unfailed (λ is. other (let same : f ≡ Write = cc in same)))) refl
+    passed c.from_residual-in_err-page.result (fault_from_report f) is_failed_write _ _ _ c.from_residual-in_err-page.ensures.1 (report_write f) c.in_err-page.ensures.failed

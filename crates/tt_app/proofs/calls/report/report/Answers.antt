@@ -1,10 +1,8 @@
-use Rattle.std.proofs.Common.{◌≡◌, Err, refl, ap, inl}
+use Rattle.std.proofs.Common.{refl, inl}
 use Rattle.std.proofs.lemmas.Result.{err_from_is_err_and}
-use Rattle.tt_report.specs.declared.fault.ReportFault.TheVariants.{Write}
-use Rattle.tt_proof_check.proofs.TextFaults.{same_reads}
-use Rattle.tt_app.specs.FaultMaps.{fault_from_instance, fault_from_solution, fault_from_report}
+use Rattle.tt_app.specs.FaultMaps.{fault_from_instance, fault_from_solution}
 use Rattle.tt_app.specs.Reported.{is_failed_write}
-use Rattle.tt_app.proofs.FailedReads.{calm, instance_write, solution_write, report_writes}
+use Rattle.tt_app.proofs.FailedReads.{calm, instance_write, solution_write}
 use Rattle.tt_app.proofs.Files.{tells_instance, tells_solution, only_memory}
 use Rattle.tt_app.proofs.calls.report.report.Goals as goal
 
