@@ -1,6 +1,7 @@
 pub mod Apart
 pub mod Clash
 pub mod Contradictions
+pub mod Covering
 pub mod Different
 pub mod Examples
 pub mod Live

@@ -3,6 +3,7 @@
 use Rattle.std.specs.Prelude.{◌≡◌, ℕ, ◌+◌, ◌-◌, ◌*◌, ◌<◌, nat_lt, nat_le, sum_by, count_by, All, Bool, true, not, ◌&&◌, ◌||◌, List, length, Option, Some, None}
 use Rattle.std.specs.List.{list_any, list_all}
 use Rattle.tt_lists.specs.Words.{each_two}
+use Rattle.tt_bits.specs.Bits.{each_bit}
 use Rattle.tt_instance.specs.Problem.{Problem}
 use Rattle.tt_instance.specs.Cells.{slot, cell, all_rooms, all_slots}
 use Rattle.tt_instance.specs.Courses.{lectures}
@@ -86,9 +87,10 @@ live_after p path cs s =
 abbrev pub PricesBelow : ℕ → List (ℕ × ℕ) → Type 0
 PricesBelow count prices = All (λ k. k.0 < count) prices
 
--- No cell of the course in the room is live.
-abbrev pub dead_in : Problem → List Fact → ℕ → ℕ → Bool
-dead_in p path c r = list_all (λ s. is_dead p path (cell c r s)) (all_slots p)
+-- None of these rooms of the block has a live cell of the course in the period.
+abbrev pub clear_in : Problem → List Fact → ℕ → ℕ → ℕ → Slot → Bool
+clear_in p path c block rooms s =
+    each_bit rooms (λ n. not (nat_lt (block * 64 + n) (length p.rooms)) || is_dead p path (cell c (block * 64 + n) s))
 
 -- Some course of the list has a live cell in the room in the period.
 abbrev pub priced_live_in : Problem → List Fact → List (ℕ × ℕ) → ℕ → Slot → Bool

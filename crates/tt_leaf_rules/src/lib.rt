@@ -15,6 +15,7 @@ mod lists;
 mod number_set;
 mod pinned;
 mod prices;
+mod room_prices;
 mod slots;
 mod stable;
 mod targets;

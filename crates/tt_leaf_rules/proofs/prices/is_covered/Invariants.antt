@@ -1,9 +1,8 @@
-use Rattle.std.proofs.Common.{◌≡◌, true}
-use Rattle.std.specs.List.{list_all}
-use Rattle.tt_lists.specs.Words.{range_below}
+use Rattle.std.proofs.Common.{◌≡◌, ℕ, ◌*◌, ◌<◌, true, length}
 use Rattle.tt_leaf_rules.specs.Nested.{covered_in}
 use Rattle.tt_leaf_rules.proofs.prices.is_covered.Given as goal
 
-abbrev pub invariant-loop-room : goal.invariant-loop-room
-invariant-loop-room g l =
-    list_all (covered_in (g.P.Path.problem l.path) (g.P.Path.facts l.path) l.rooms l.priced) (range_below l.room) ≡ true
+abbrev pub invariant-loop-block : goal.invariant-loop-block
+invariant-loop-block g l =
+    let p = g.P.Path.problem l.path in
+    (r : ℕ) → r < l.block * 64 → r < length p.rooms → covered_in p (g.P.Path.facts l.path) l.prices l.priced r ≡ true
