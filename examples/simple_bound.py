@@ -5,8 +5,14 @@
 """
 import sys
 
+if len(sys.argv) != 2:
+    sys.exit("usage: python3 simple_bound.py INSTANCE > PROOF")
 words = open(sys.argv[1], "rb").read().split()
-size = {name: int(words[words.index(name) + 1]) for name in (b"Courses:", b"Rooms:", b"Days:", b"Periods_per_day:", b"Constraints:")}
+names = (b"Courses:", b"Rooms:", b"Days:", b"Periods_per_day:", b"Constraints:")
+for name in names + (b"COURSES:", b"ROOMS:", b"UNAVAILABILITY_CONSTRAINTS:"):
+    if name not in words:
+        sys.exit(f"{sys.argv[1]} has no word {name.decode()}; `tt inspect` says where an instance is wrong")
+size = {name: int(words[words.index(name) + 1]) for name in names}
 at = words.index(b"COURSES:") + 1
 courses = [words[at + 5 * k : at + 5 * k + 5] for k in range(size[b"Courses:"])]
 at = words.index(b"ROOMS:") + 1
