@@ -12,7 +12,7 @@ abbrev pub entries_at : Problem → List Cell → ℕ → ℕ → ℕ → ℕ
 entries_at p u q d s = count_by (λ e. in_curriculum p q e.course && is_at (slot d s) e) u
 
 -- whether some entry of the curriculum is in the period
-abbrev pub stands : Problem → List Cell → ℕ → ℕ → ℕ → Bool
+abbrev pub has_entry_at : Problem → List Cell → ℕ → ℕ → ℕ → Bool
 has_entry_at p u q d s = list_any (λ e. in_curriculum p q e.course && is_at (slot d s) e) u
 
 -- whether some entry of the curriculum is in a period next to this one
