@@ -76,6 +76,13 @@ def prices_of_all(table):
     return proofs(table, instance_of(MOST_COURSES, 512, 32, 1, []), b"CTTP 2 bound 0 B " + claim + b"; end\n")
 
 
+def prices_of_dead_cells(table):
+    """Fifty claims about the seats of all courses, on paths on which no cell of them is live."""
+    instance = instance_of(MOST_COURSES, 64, 64, 8, [range(MOST_COURSES)])
+    claim = b"P " + b" ".join(b"c%d 1" % it for it in range(MOST_COURSES)) + b" " + b" ".join(b"r%d 1" % it for it in range(64)) + b" / "
+    return proofs(table, instance, b"CTTP 2 bound 0" + b" S q0 * * *" * 50 + b" B ;" + (b" B " + claim + b";") * 50 + b" end\n")
+
+
 def clique_of_all(table):
     """A clique of all courses, eleven times."""
     leaf = b" K " + b" ".join(b"c%d" % it for it in range(MOST_COURSES)) + b" ;"
@@ -128,6 +135,25 @@ def weeks(table, words, curricula, entries):
     return timed(table, words, len(instance) + len(entry) * entries, (0, 1))
 
 
+def instances(table, hard):
+    """What an instance takes beside a small one."""
+    table.put(hard=hard, easy=MINI, solution=b"")
+    return timed(table, "validate hard solution", len(hard), (0, 1))
+
+
+def curricula_of_all_courses(table):
+    """A hundred curricula of all courses, each two of which conflict."""
+    return instances(table, instance_of(MOST_COURSES, 1, 1, 1, [range(MOST_COURSES)] * 100))
+
+
+def names_that_begin_alike(table):
+    """A thousand names of 8,000 bytes that differ at their ends, and as many members."""
+    names = {it: f"{'x' * 8_000}{it}" for it in range(1_000)}
+    lines = ["Name: Slow", "Courses: 1000", "Rooms: 1", "Days: 1", "Periods_per_day: 1", "Curricula: 1", "Constraints: 0", "COURSES:"]
+    lines += [f"{name} t{it} 1 1 1" for it, name in names.items()] + ["ROOMS:", "R0 1", "CURRICULA:", "q0 1000 " + " ".join(names.values())]
+    return instances(table, "\n".join([*lines, "UNAVAILABILITY_CONSTRAINTS:", "END.\n"]).encode())
+
+
 def validate_of_many_entries(table):
     return weeks(table, "validate instance hard", 8_192, 16_384)
 
@@ -146,10 +172,13 @@ ROWS = [
     ("facts about one period of a curriculum of all courses", facts_of_a_period),
     ("20,000 facts about rooms, days and periods", wide_facts),
     ("prices of all courses and rooms", prices_of_all),
+    ("50 prices of all courses whose cells are dead", prices_of_dead_cells),
     ("a clique of all courses, eleven times", clique_of_all),
     ("groups: 8,192 tables of a million states", large_tables),
     ("groups: 8,192 tables of a million states and days on which nothing meets", large_tables_of_rare_days),
     ("groups: 682 with 4,096 sets of courses each", many_sets),
+    ("validate: 100 curricula of all courses", curricula_of_all_courses),
+    ("validate: 1,000 names of 8,000 bytes that begin alike, and as many members", names_that_begin_alike),
     ("validate: 8,192 curricula, 16,384 entries in one period", validate_of_many_entries),
     ("report: 8,192 curricula, 4,096 entries in one period", report_of_many_entries),
     ("page: 1,024 curricula, 1,024 entries in one period", page_of_many_entries),
