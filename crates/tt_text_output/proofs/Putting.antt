@@ -118,20 +118,13 @@ module _ {W : Type 0} (C : W → Option (List ℕ)) (F : W → Bool) where
         stopped = stopped;
       }
 
-  -- the whole text was written
-  pub all_written : (first last end : Output W) (x : List ℕ) → first.held.items ≡ [] → Puts C F first last x → Puts C F last end [] → end.failed ≡ false → end.held.items ≡ [] → Appends (C first.sink.now) (C end.sink.now) x
-  all_written first last end x empty p q ok left =
-      let both = puts_both first last end x [] p q in
-      subst (Appends (C first.sink.now) (C end.sink.now))
-      (sym (sym (append-nil x) ∙ ap (λ z. z ++ (x ++ [])) (sym empty) ∙ both.front ∙ ap (λ z. both.taken ++ z) (sym (both.held ok) ∙ left) ∙ append-nil both.taken))
-      both.appended
-
   -- a part of the text was written before a write failed
-  pub part_written : (first last end : Output W) (x : List ℕ) → first.held.items ≡ [] → Puts C F first last x → Puts C F last end [] → TakesPart (C first.sink.now) (C end.sink.now) x
-  part_written first last end x empty p q =
+  pub part_written : (first last end : Output W) (before after : W) (x : List ℕ) → first.held.items ≡ [] → first.sink.now ≡ before → end.sink.now ≡ after → Puts C F first last x → Puts C F last end [] → TakesPart (C before) (C after) x
+  part_written first last end before after x empty begins ends p q =
       let both = puts_both first last end x [] p q in
-      record { taken = both.taken; rest = both.rest; front = sym (append-nil x) ∙ ap (λ z. z ++ (x ++ [])) (sym empty) ∙ both.front; appended = both.appended }
-
-  -- whether the sink has failed then
-  pub sink_failed : (first last end : Output W) (x : List ℕ) → first.failed ≡ false → Puts C F first last x → Puts C F last end [] → F end.sink.now ≡ (if end.failed then true else F first.sink.now)
-  sink_failed first last end x ok p q = (puts_both first last end x [] p q).failed ok
+      record {
+        taken = both.taken;
+        rest = both.rest;
+        front = sym (append-nil x) ∙ ap (λ z. z ++ (x ++ [])) (sym empty) ∙ both.front;
+        appended = subst (λ w. Appends (C w) (C after) both.taken) begins (subst (λ w. Appends (C first.sink.now) (C w) both.taken) ends both.appended);
+      }
