@@ -153,7 +153,7 @@ fn put_report<W: Sink>(out: &mut Output<'_, W>, instance: &Instance<'_>, table: 
     }
 }
 
-/// Writes the week of each room, teacher or curriculum. Its memory does not grow with the text, and nothing is allocated.
+/// Writes the week of each room, teacher or curriculum through a buffer of a fixed size. Allocates nothing.
 pub fn report<W: Sink>(
     _alloc: Global,
     instance: &Instance<'_>,

@@ -1,4 +1,4 @@
-//! A buffer of a fixed size before a sink.
+//! A buffer before a sink.
 
 ghost use Rattle.std.specs.Prelude.{◌≡◌, [], ◌∷◌, true, false, if◌then◌else◌, OnOk, OnErr};
 ghost use Rattle.std.specs.Fmt.{decimal};
@@ -10,10 +10,10 @@ use arrayvec::ArrayVec;
 use itoa::Buffer;
 use tt_text::{Sink, WriteFailed, write_all};
 
-/// The size of the buffer.
+/// How many bytes the buffer holds.
 pub const BUFFER_BYTES: usize = 8_192;
 
-/// A buffer before a sink. After a failed write it takes no more bytes to the sink.
+/// A buffer of a fixed size before a sink. Once a write has failed, the sink gets no more bytes.
 #[derive(Drop)]
 pub struct Output<'s, W> {
     sink: &'s mut W,
@@ -21,8 +21,8 @@ pub struct Output<'s, W> {
     failed: bool,
 }
 
-/// Writes all bytes unless a write has failed, and returns whether one has failed then.
-fn fails_at<W: Sink>(has_failed: bool, sink: &mut W, bytes: &[u8]) -> bool
+/// Writes all bytes unless a write has failed before, and returns whether one has failed by then.
+fn write_unless_failed<W: Sink>(has_failed: bool, sink: &mut W, bytes: &[u8]) -> bool
     ensures all { has_failed ≡ false → result ≡ false → Appends (W.contents sink.old) (W.contents sink.new) bytes.now }
     ensures part { has_failed ≡ false → result ≡ true → TakesPart (W.contents sink.old) (W.contents sink.new) bytes.now }
     ensures failed { has_failed ≡ false → W.has_failed sink.new ≡ (if result then true else W.has_failed sink.old) }
@@ -62,20 +62,20 @@ impl<'s, W: Sink> Output<'s, W> {
         ensures puts { Puts W.contents W.has_failed self.old self.new [] }
         ensures held { self.new.held.items ≡ [] }
     {
-        self.failed = fails_at(self.failed, self.sink, self.held.as_slice());
+        self.failed = write_unless_failed(self.failed, self.sink, self.held.as_slice());
         self.held.clear();
     }
 
-    /// Writes bytes without the buffer, which is empty.
+    /// Writes bytes to the sink past the empty buffer.
     #[tactic(auto, using(crate::proofs::Putting::puts_sent))]
     fn send(&mut self, bytes: &[u8])
         requires { self.old.held.items ≡ [] }
         ensures { Puts W.contents W.has_failed self.old self.new bytes.now }
     {
-        self.failed = fails_at(self.failed, self.sink, bytes);
+        self.failed = write_unless_failed(self.failed, self.sink, bytes);
     }
 
-    /// Puts bytes that do not fit behind those in the buffer.
+    /// Empties the buffer and then puts bytes.
     #[tactic(auto, using(crate::proofs::Putting::puts_both, crate::proofs::Putting::puts_held))]
     fn put_after_emptying(&mut self, bytes: &[u8])
         ensures { Puts W.contents W.has_failed self.old self.new bytes.now }
