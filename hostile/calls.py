@@ -12,7 +12,7 @@ FAILED = 101
 # Calls that make tables: most of their growths are needed, and some are only asked for in advance, so not each refusal is answered.
 MAKES_TABLES = {"memory::the_call_trail_path_new"}
 # Calls that have nothing to keep.
-TAKE_NOTHING = {"memory::the_call_find_leaf_for_nothing"}
+TAKE_NOTHING = {"memory::the_call_find_leaf_for_nothing", "memory::the_call_report"}
 OUT_OF_MEMORY = re.compile(rb"(out of memory|error: (AllocError|OutOfMemory))\nthe test failed: its result gives status 1\n")
 
 

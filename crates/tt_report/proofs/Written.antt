@@ -1,6 +1,6 @@
 -- The text of lists of lines, part by part.
-use Rattle.std.proofs.Common.{◌≡◌, ℕ, zero, suc, ◌+◌, ◌≤◌, Bool, true, false, ◌&&◌, cond, List, [], ◌∷◌, ◌++◌, map, take, length, get_or, codes, refl, sym, ap, ◌∙◌, append_assoc, arith}
-use Rattle.std.specs.Prelude.{flat_map, filter}
+use Rattle.std.proofs.Common.{◌≡◌, ℕ, zero, suc, ◌+◌, ◌≤◌, Bool, true, false, ◌&&◌, cond, List, [], ◌∷◌, ◌++◌, map, take, length, get_or, codes, refl, sym, ap, ◌∙◌, subst, append_assoc, arith}
+use Rattle.std.specs.Prelude.{flat_map, filter, Option}
 use Rattle.std.specs.Fmt.{decimal}
 use Rattle.std.proofs.lemmas.List.{append-nil, take_more, take_all}
 use Rattle.std.proofs.lemmas.Grind.{flat_map-append}
@@ -8,13 +8,16 @@ use Rattle.tt_lists.specs.Words.{range_below}
 use Rattle.tt_lists.proofs.Below.{range_below_more}
 use Rattle.tt_text.specs.Pieces.{Piece, Text, Number}
 use Rattle.tt_text.specs.Lines.{text_of, line_text, lines_text}
+use Rattle.tt_text_output.specs.Puts.{Puts}
+use Rattle.tt_text_output.specs.declared.output.Output.{Output}
+use Rattle.tt_text_output.proofs.Putting.{puts_both, puts_nothing}
 use Rattle.tt_instance.specs.Problem.{Problem}
 use Rattle.tt_instance.specs.Cells.{slot, all_slots, all_days, all_rooms, all_curricula, is_at}
 use Rattle.tt_instance.specs.Courses.{teachers}
 use Rattle.tt_instance.specs.declared.cell.Cell.{Cell}
 use Rattle.tt_instance.specs.declared.cell.Slot.{Slot}
 use Rattle.tt_report.specs.Blocks.{head_of, shown_in, belongs_to, next_texts, entries_text, slot_text, block_text}
-use Rattle.tt_report.specs.Reports.{course_and_room, is_taught_by, slot_line, block, report_text}
+use Rattle.tt_report.specs.Reports.{course_text, room_text, course_and_room, is_taught_by, slot_line, block, report_text}
 use Rattle.tt_report.specs.declared.blocks.Block.{Block}
 use Rattle.tt_report.specs.declared.blocks.Block.TheVariants as of
 use Rattle.tt_report.specs.declared.by.By.TheVariants.{Room, Teacher, Curriculum}
@@ -25,9 +28,9 @@ texts_more f i =
     ap (flat_map f) (range_below_more i) ∙ flat_map-append f (range_below i) (i ∷ []) ∙ ap (λ z. flat_map f (range_below i) ++ z) (append-nil (f i))
 
 -- a text is extended by that of another number
-pub text_further : (f : ℕ → List ℕ) (i : ℕ) (first old new : List ℕ) → old ≡ first ++ flat_map f (range_below i) → new ≡ old ++ f i → new ≡ first ++ flat_map f (range_below (i + 1))
-text_further f i first old new before more =
-    more ∙ ap (λ z. z ++ f i) before ∙ append_assoc first (flat_map f (range_below i)) (f i) ∙ ap (λ z. first ++ z) (sym (texts_more f i))
+pub puts_further : {W : Type 0} (C : W → Option (List ℕ)) (F : W → Bool) (f : ℕ → List ℕ) (i : ℕ) (first old new : Output W) → Puts C F first old (flat_map f (range_below i)) → Puts C F old new (f i) → Puts C F first new (flat_map f (range_below (i + 1)))
+puts_further C F f i first old new before more =
+    subst (Puts C F first new) (sym (texts_more f i)) (puts_both C F first old new (flat_map f (range_below i)) (f i) before more)
 
 -- a line is its first piece, the others, each after a space, and its end
 pub line_is : (p : Piece) (ps : List Piece) → line_text (p ∷ ps) ≡ text_of p ++ (next_texts ps ++ 10 ∷ [])
@@ -76,21 +79,42 @@ flat_map-same f g (x ∷ xs) same = ap (λ z. z ++ flat_map f xs) (same x) ∙ a
 
 -- ---- the entries of a period
 
--- an entry that belongs to the block
-pub entry_shown : (p : Problem) (b : Block) (e : Cell) (es left : List Cell) (first old new : List ℕ) → left ≡ e ∷ es → belongs_to p b e ≡ true → new ≡ old ++ next_texts (shown_in p b e) → old ++ entries_text p b left ≡ first → new ++ entries_text p b es ≡ first
-entry_shown p b e es left first old new is belongs more before =
-    ap (λ z. z ++ entries_text p b es) more
-    ∙ append_assoc old (next_texts (shown_in p b e)) (entries_text p b es)
-    ∙ ap (λ c. old ++ flat_map (λ x. next_texts (shown_in p b x)) (cond c (e ∷ filter (belongs_to p b) es) (filter (belongs_to p b) es))) (sym belongs)
-    ∙ ap (λ l. old ++ entries_text p b l) (sym is)
-    ∙ before
+module _ {W : Type 0} (C : W → Option (List ℕ)) (F : W → Bool) where
+  -- the text of the entries before those that are left
+  pub record EntriesPut (p : Problem) (b : Block) (first now : Output W) (all left : List Cell) : Type 0 where
+    pub text : List ℕ
+    pub puts : Puts C F first now text
+    pub whole : text ++ entries_text p b left ≡ entries_text p b all
 
--- an entry of another block
-pub entry_passed : (p : Problem) (b : Block) (e : Cell) (es left : List Cell) (first old : List ℕ) → left ≡ e ∷ es → belongs_to p b e ≡ false → old ++ entries_text p b left ≡ first → old ++ entries_text p b es ≡ first
-entry_passed p b e es left first old is other before =
-    ap (λ c. old ++ flat_map (λ x. next_texts (shown_in p b x)) (cond c (e ∷ filter (belongs_to p b) es) (filter (belongs_to p b) es))) (sym other)
-    ∙ ap (λ l. old ++ entries_text p b l) (sym is)
-    ∙ before
+  -- no entry has been put
+  pub entries_begun : (p : Problem) (b : Block) (first : Output W) (all left : List Cell) → left ≡ all → EntriesPut p b first first all left
+  entries_begun p b first all left is = record { text = []; puts = puts_nothing C F first; whole = ap (entries_text p b) is }
+
+  -- an entry that belongs to the block
+  pub entry_shown : (p : Problem) (b : Block) (e : Cell) (es left all : List Cell) (first old new : Output W) → left ≡ e ∷ es → belongs_to p b e ≡ true → EntriesPut p b first old all left → Puts C F old new (next_texts (shown_in p b e)) → EntriesPut p b first new all es
+  entry_shown p b e es left all first old new is belongs before more = record {
+    text = before.text ++ next_texts (shown_in p b e);
+    puts = puts_both C F first old new before.text (next_texts (shown_in p b e)) before.puts more;
+    whole = append_assoc before.text (next_texts (shown_in p b e)) (entries_text p b es)
+        ∙ ap (λ c. before.text ++ flat_map (λ x. next_texts (shown_in p b x)) (cond c (e ∷ filter (belongs_to p b) es) (filter (belongs_to p b) es))) (sym belongs)
+        ∙ ap (λ l. before.text ++ entries_text p b l) (sym is)
+        ∙ before.whole;
+  }
+
+  -- an entry of another block
+  pub entry_passed : (p : Problem) (b : Block) (e : Cell) (es left all : List Cell) (first now : Output W) → left ≡ e ∷ es → belongs_to p b e ≡ false → EntriesPut p b first now all left → EntriesPut p b first now all es
+  entry_passed p b e es left all first now is other before = record {
+    text = before.text;
+    puts = before.puts;
+    whole = ap (λ c. before.text ++ flat_map (λ x. next_texts (shown_in p b x)) (cond c (e ∷ filter (belongs_to p b) es) (filter (belongs_to p b) es))) (sym other)
+        ∙ ap (λ l. before.text ++ entries_text p b l) (sym is)
+        ∙ before.whole;
+  }
+
+  -- no entry is left
+  pub entries_all : (p : Problem) (b : Block) (left all : List Cell) (first now : Output W) → left ≡ [] → EntriesPut p b first now all left → Puts C F first now (entries_text p b all)
+  entries_all p b left all first now none before =
+      subst (Puts C F first now) (sym (append-nil before.text) ∙ ap (λ l. before.text ++ entries_text p b l) (sym none) ∙ before.whole) before.puts
 
 -- the line of a period: day, period and its entries of the block
 pub slot_is : (p : Problem) (b : Block) (t : List Cell) (d s : ℕ) → slot_text p t b (slot d s) ≡ decimal d ++ (32 ∷ (decimal s ++ (entries_text p b (filter (is_at (slot d s)) t) ++ 10 ∷ [])))
@@ -99,12 +123,36 @@ slot_is p b t d s =
     ∙ ap (λ es. decimal d ++ 32 ∷ (decimal s ++ (next_texts (flat_map (shown_in p b) es) ++ 10 ∷ []))) (sym (filter-filter (belongs_to p b) (is_at (slot d s)) t))
     ∙ ap (λ z. decimal d ++ 32 ∷ (decimal s ++ (z ++ 10 ∷ []))) (next_texts-of_flat_map (shown_in p b) (filter (belongs_to p b) (filter (is_at (slot d s)) t)))
 
--- the parts written in turn are the line
-pub slot_put : (p : Problem) (b : Block) (t es : List Cell) (day period d s : ℕ) (first a c e g : List ℕ) → d ≡ day → s ≡ period → a ≡ first ++ decimal d → c ≡ a ++ 32 ∷ decimal s → es ≡ filter (is_at (slot day period)) t → e ≡ c ++ entries_text p b es → g ≡ e ++ 10 ∷ [] → g ≡ first ++ slot_text p t b (slot day period)
-slot_put p b t es day period d s first a c e g day_is period_is ea ec es_is ee eg =
-    let here = filter (is_at (slot day period)) t in
-    let put : g ≡ first ++ (decimal day ++ (32 ∷ (decimal period ++ (entries_text p b here ++ 10 ∷ [])))) = rw (eg, ee, ec, ea, es_is, day_is, period_is) (simp append_assoc) in
-    put ∙ ap (λ z. first ++ z) (sym (slot_is p b t day period))
+module _ {W : Type 0} (C : W → Option (List ℕ)) (F : W → Bool) where
+  -- the parts put in turn are the line
+  pub slot_put : (p : Problem) (b : Block) (t es : List Cell) (day period d s : ℕ) (first mid next last end : Output W) → d ≡ day → s ≡ period → es ≡ filter (is_at (slot day period)) t → Puts C F first mid (decimal d) → Puts C F mid next (32 ∷ decimal s) → Puts C F next last (entries_text p b es) → Puts C F last end (10 ∷ []) → Puts C F first end (slot_text p t b (slot day period))
+  slot_put p b t es day period d s first mid next last end day_is period_is es_is puts_day puts_period puts_entries puts_end =
+      let numbers = puts_both C F first mid next (decimal d) (32 ∷ decimal s) puts_day puts_period in
+      let entries = puts_both C F first next last (decimal d ++ 32 ∷ decimal s) (entries_text p b es) numbers puts_entries in
+      let text : ((decimal d ++ 32 ∷ decimal s) ++ entries_text p b es) ++ 10 ∷ [] ≡ decimal day ++ (32 ∷ (decimal period ++ (entries_text p b (filter (is_at (slot day period)) t) ++ 10 ∷ []))) = rw (es_is, day_is, period_is) (simp append_assoc) in
+      subst (Puts C F first end) (text ∙ sym (slot_is p b t day period)) (puts_both C F first last end ((decimal d ++ 32 ∷ decimal s) ++ entries_text p b es) (10 ∷ []) entries puts_end)
+
+  -- the parts of a head line
+  pub head_put : (head : List Piece) (bytes kind name : List ℕ) (first mid last end : Output W) → head ≡ Text kind ∷ Text name ∷ [] → bytes ≡ kind → Puts C F first mid bytes → Puts C F mid last (32 ∷ name) → Puts C F last end (10 ∷ []) → Puts C F first end (line_text head)
+  head_put head bytes kind name first mid last end head_is kind_is puts_kind puts_name puts_end =
+      let both = puts_both C F first mid last bytes (32 ∷ name) puts_kind puts_name in
+      subst (Puts C F first end)
+      (append_assoc bytes (32 ∷ name) (10 ∷ []) ∙ ap (λ z. z ++ 32 ∷ (name ++ 10 ∷ [])) kind_is ∙ ap line_text (sym head_is))
+      (puts_both C F first last end (bytes ++ 32 ∷ name) (10 ∷ []) both puts_end)
+
+  -- the course of an entry
+  pub course_put : (p : Problem) (b : Block) (e : Cell) (course : List ℕ) (first end : Output W) → shown_in p b e ≡ course_text p e ∷ [] → course ≡ text_of (course_text p e) → Puts C F first end (32 ∷ course) → Puts C F first end (next_texts (shown_in p b e))
+  course_put p b e course first end shown course_is puts =
+      subst (Puts C F first end) (ap (λ z. 32 ∷ z) (course_is ∙ sym (append-nil (text_of (course_text p e)))) ∙ ap next_texts (sym shown)) puts
+
+  -- the course and the room of an entry
+  pub course_and_room_put : (p : Problem) (b : Block) (e : Cell) (course room : List ℕ) (first mid end : Output W) → shown_in p b e ≡ course_and_room p e → course ≡ text_of (course_text p e) → room ≡ text_of (room_text p e) → Puts C F first mid (32 ∷ course) → Puts C F mid end (32 ∷ room) → Puts C F first end (next_texts (shown_in p b e))
+  course_and_room_put p b e course room first mid end shown course_is room_is puts_course puts_room =
+      subst (Puts C F first end)
+      (ap (λ z. 32 ∷ (z ++ 32 ∷ room)) course_is
+      ∙ ap (λ z. 32 ∷ (text_of (course_text p e) ++ 32 ∷ z)) (room_is ∙ sym (append-nil (text_of (room_text p e))))
+      ∙ ap next_texts (sym shown))
+      (puts_both C F first mid end (32 ∷ course) (32 ∷ room) puts_course puts_room)
 
 -- ---- blocks
 

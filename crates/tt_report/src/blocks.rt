@@ -1,15 +1,17 @@
 //! The blocks of a report: one for each room, teacher or curriculum.
 
-ghost use Rattle.std.specs.Prelude.{◌≡◌, ◌<◌, [], ◌++◌, length, slice_index_or, OnOk};
+ghost use Rattle.std.specs.Prelude.{◌≡◌, ◌<◌, [], ◌∷◌, length, slice_index_or};
 ghost use Rattle.tt_text.specs.Lines.{line_text};
+ghost use Rattle.tt_text.specs.Pieces.{Text};
 ghost use Rattle.tt_instance.specs.Cells.{InRange};
 ghost use Rattle.tt_instance.specs.Courses.{no_course, no_room, no_curriculum, teachers};
+ghost use Rattle.tt_text_output.specs.Puts.{Puts};
 ghost use Rattle.tt_report.specs.Blocks.{IsBlock, head_of, shown_in, belongs_to, next_texts};
 
-use std::alloc::AllocError;
 use tt_instance::Instance;
 use tt_table::Entry;
-use tt_text::{put_line_end, put_next_token, put_token};
+use tt_text::Sink;
+use tt_text_output::Output;
 
 /// The room, teacher or curriculum whose week a block shows, by number.
 #[derive(Clone, Copy)]
@@ -71,36 +73,39 @@ impl Block {
         }
     }
 
-    /// Appends the head line.
-    pub fn put_head(self, out: &mut Vec<u8>, instance: &Instance<'_>) -> Result<(), AllocError>
+    /// Returns the word that begins the head line, and the name after it.
+    fn kind_and_name<'a>(self, instance: &Instance<'a>) -> (&'static str, &'a [u8])
         requires { IsBlock instance.now self }
-        ensures { OnOk result (out.new.items ≡ out.old.items ++ line_text (head_of instance.now self)) }
+        ensures { head_of instance.now self ≡ Text result.0.now ∷ Text result.1.now ∷ [] }
     {
-        let (kind, name) = match self {
+        match self {
             Block::Room(room) => ("room", room_id(instance, room)),
             Block::Teacher(teacher) => ("teacher", teacher_name(instance, teacher)),
             Block::Curriculum(curriculum) => ("curriculum", curriculum_id(instance, curriculum)),
-        };
-        put_token(out, kind.as_bytes())?;
-        put_next_token(out, name)?;
-        put_line_end(out)
+        }
     }
 
-    /// Appends the text shown for an entry.
-    pub fn put_entry(
-        self,
-        out: &mut Vec<u8>,
-        instance: &Instance<'_>,
-        entry: &Entry,
-    ) -> Result<(), AllocError>
-        requires { InRange instance.now entry.now }
-        ensures { OnOk result (out.new.items ≡ out.old.items ++ next_texts (shown_in instance.now self entry.now)) }
+    /// Puts the head line.
+    pub fn put_head<W: Sink>(self, out: &mut Output<'_, W>, instance: &Instance<'_>)
+        requires { IsBlock instance.now self }
+        ensures { Puts W.contents W.has_failed out.old out.new (line_text (head_of instance.now self)) }
     {
-        put_next_token(out, course_id(instance, entry.course))?;
+        let (kind, name) = self.kind_and_name(instance);
+        out.put(kind.as_bytes());
+        out.put_next_token(name);
+        out.put_line_end();
+    }
+
+    /// Puts the text shown for an entry.
+    pub fn put_entry<W: Sink>(self, out: &mut Output<'_, W>, instance: &Instance<'_>, entry: &Entry)
+        requires { InRange instance.now entry.now }
+        ensures { Puts W.contents W.has_failed out.old out.new (next_texts (shown_in instance.now self entry.now)) }
+    {
+        out.put_next_token(course_id(instance, entry.course));
         match self {
-            Block::Room(_) => Ok(()),
+            Block::Room(_) => {}
             Block::Teacher(_) | Block::Curriculum(_) => {
-                put_next_token(out, room_id(instance, entry.room))
+                out.put_next_token(room_id(instance, entry.room));
             }
         }
     }

@@ -9,3 +9,6 @@ mod reports;
 pub use by::By;
 pub use fault::ReportFault;
 pub use reports::report;
+
+#[cfg(test)]
+mod tests;

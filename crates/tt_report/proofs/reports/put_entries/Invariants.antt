@@ -1,10 +1,10 @@
-use Rattle.std.proofs.Common.{◌≡◌, ◌++◌, All}
+use Rattle.std.proofs.Common.{All}
 use Rattle.tt_instance.specs.Cells.{InRange}
-use Rattle.tt_report.specs.Blocks.{entries_text}
+use Rattle.tt_report.proofs.Written.{EntriesPut}
 use Rattle.tt_report.proofs.reports.put_entries.Given as goal
 
 abbrev pub invariant-loop-entry : goal.invariant-loop-entry
-invariant-loop-entry l = record {
-  text : l.out.items ++ entries_text l.instance l.block l.entry-iterator ≡ l.fn.out.items ++ entries_text l.instance l.block l.fn.entries;
+invariant-loop-entry g l = record {
+  text : EntriesPut g.W.Sink.contents g.W.Sink.has_failed l.instance l.block l.fn.out l.out l.fn.entries l.entry-iterator;
   left : All (InRange l.instance) l.entry-iterator;
 }
