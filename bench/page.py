@@ -127,7 +127,8 @@ class Page:
         return shown(self.period_names[period].encode()) if period < len(self.period_names) else str(period + 1)
 
     def when(self, day, period):
-        return f"{self.day(day)}, period {self.period(period)}"
+        word = "" if period < len(self.period_names) else "period "
+        return f"{self.day(day)}, {word}{self.period(period)}"
 
     def when_link(self, kind, number, entry):
         return f'<a href="#{kind}{number}-{entry[2]}-{entry[3]}">{self.when(*entry[2:])}</a>'
