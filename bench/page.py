@@ -105,6 +105,14 @@ class Page:
             "teacher": [shown(it) for it in instance.teachers],
             "curriculum": [shown(it[0]) for it in instance.curricula],
         }
+        self.order = {
+            kind: sorted(range(len(names)), key=lambda it: (names[it], it))
+            for kind, names in [
+                ("room", [it[0] for it in instance.rooms]),
+                ("teacher", instance.teachers),
+                ("curriculum", [it[0] for it in instance.curricula]),
+            ]
+        }
         self.at = {}
         for entry in table:
             self.at.setdefault(entry[2:], []).append(entry)
@@ -209,12 +217,17 @@ class Page:
             return self.instance.teacher_of[entry[0]] == number
         return entry[0] in self.instance.curricula[number][1]
 
+    def owns(self, kind, number, course):
+        """Whether a week shows the unavailable periods of a course."""
+        if kind == "teacher":
+            return self.instance.teacher_of[course] == number
+        return kind == "curriculum" and course in self.instance.curricula[number][1]
+
     def cell(self, kind, number, day, period):
         text = f'<td id="{kind}{number}-{day}-{period}">\n'
-        if kind == "teacher":
-            for course, name in enumerate(self.names["course"]):
-                if self.instance.teacher_of[course] == number and (course, day, period) in self.instance.bars:
-                    text += f'<div class="barred"><span class="when">{self.when(day, period)}</span> not {name}</div>\n'
+        for course, name in enumerate(self.names["course"]):
+            if self.owns(kind, number, course) and (course, day, period) in self.instance.bars:
+                text += f'<div class="barred"><span class="when">{self.when(day, period)}</span> not {name}</div>\n'
         for entry in self.at.get((day, period), []):
             if self.has(kind, number, entry):
                 text += self.lecture(kind, number, entry)
@@ -246,7 +259,7 @@ class Page:
         text = f'<div class="grid day" id="day{day}">\n<h3 id="day{day}-name"><b>{self.day(day)}</b>{self.paper_name()}'
         text += f'<table aria-labelledby="day{day}-name">\n<thead>\n<tr>\n<th scope="col">Room</th>\n'
         text += "".join(f'<th scope="col">{self.period(it)}</th>\n' for it in range(self.instance.periods))
-        text += "</tr>\n</thead>\n<tbody>\n" + "".join(self.room_row(day, it) for it in range(len(self.instance.rooms)))
+        text += "</tr>\n</thead>\n<tbody>\n" + "".join(self.room_row(day, it) for it in self.order["room"])
         return text + "</tbody>\n</table>\n</div>\n"
 
     def days_text(self):
@@ -256,9 +269,9 @@ class Page:
         return text + '</ul>\n<div class="grids">\n' + "".join(self.day_grid(it) for it in days) + "</div>\n</details>\n"
 
     def section(self, ident, kind):
-        numbers = range(len(self.names[kind]))
+        numbers = self.order[kind]
         text = f'<details open id="{ident}">\n<summary><h2>{ident.capitalize()} <small>{len(numbers)}</small></h2></summary>\n'
-        hues = [self.hue(it if kind == "curriculum" else None) for it in numbers]
+        hues = {it: self.hue(it if kind == "curriculum" else None) for it in numbers}
         text += '<ul class="index">\n' + "".join(f'<li class="week{hues[it]}">{self.link(kind, it)}</li>\n' for it in numbers)
         text += '</ul>\n<div class="grids">\n' + "".join(self.grid(kind, it) for it in numbers)
         return text + "</div>\n</details>\n"
