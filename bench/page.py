@@ -31,6 +31,7 @@ CASES = [
 ]
 MOST_BYTES = 2_000_000
 HUES = 12
+LEAST_CONTRAST = 3  # of a bar, by WCAG
 SEPARATORS = b" \t\n\r\x0b\x0c"
 
 
@@ -326,7 +327,7 @@ class Page:
         bars = [it for it in self.table if (it[0], it[2], it[3]) in self.instance.bars]
         return [
             ("lectures", "Lectures", "missing, surplus, or two of a course in one period",
-             self.course_items(self.lectures_off, lambda it: f"wanted {courses[it][2]}, placed {len(self.of[it])}, periods {self.periods_of(it)}")),
+             self.course_items(self.lectures_off, lambda it: f"lectures {courses[it][2]}, placed {len(self.of[it])}, periods used {self.periods_of(it)}")),
             ("conflicts", "Conflicts", "pairs of one teacher or curriculum in one period",
              list(self.pairs(lambda one, other: self.instance.conflict(one[0], other[0]), lambda odds: odds))),
             ("availability", "Availability", "in a period unavailable for the course", [(1, self.barred(it)) for it in bars]),
@@ -382,7 +383,7 @@ class Page:
         return text + "".join(f"<td>{it}</td>\n" for it in cells) + "</tr>\n"
 
     def courses_text(self):
-        heads = ["Course", "Teacher", "Students", "Wanted", "Placed", "Least days", "Days", "Rooms", "Marks"]
+        heads = ["Course", "Teacher", "Students", "Lectures", "Placed", "Least days", "Days", "Rooms", "Marks"]
         text = f'<details open id="courses">\n<summary><h2>Courses <small>{len(self.of)}</small></h2></summary>\n'
         text += '<div class="list">\n<table>\n<caption>Courses</caption>\n<thead>\n<tr>\n'
         text += "".join(f'<th scope="col">{it}</th>\n' for it in heads) + "</tr>\n</thead>\n<tbody>\n"
@@ -475,6 +476,7 @@ def faults_of(text):
             faults.append(f"the items of {ident} don't add up")
     style = text[text.index("<style>") : text.index("</style>")]
     faults += [f"no colour of hue{it}" for it in range(HUES) if style.count(f".hue{it} {{") != 2]
+    faults += [f"too pale: {it}" for it in pale_hues(style)]
     rooms = text[text.index('<details open id="rooms">') : text.index('<details open id="teachers">')]
     count = lambda title: int(re.search(rf"{title}</th><td>(\d+)", text).group(1))
     if sum(map(int, re.findall(r"<mark>no seat: (\d+)</mark>", rooms))) != count("Room capacity"):
@@ -484,6 +486,26 @@ def faults_of(text):
     if re.search("[\x00-\x09\x0b-\x1f\x7f-\x9f]", text):
         faults.append("a control")
     return faults
+
+
+def brightness(colour):
+    """The relative luminance of a colour, as WCAG defines it."""
+    parts = [int(colour[at : at + 2], 16) / 255 for at in (1, 3, 5)]
+    red, green, blue = [it / 12.92 if it <= 0.04045 else ((it + 0.055) / 1.055) ** 2.4 for it in parts]
+    return 0.2126 * red + 0.7152 * green + 0.0722 * blue
+
+
+def pale_hues(style):
+    """The hues whose bars have too little contrast with what is behind them, light or dark."""
+    pale, dark = [], style.index("@media (prefers-color-scheme: dark)")
+    for part in (style[:dark], style[dark:]):
+        grounds = dict(re.findall(r"--(\w+): (#[0-9a-f]{6})", part))
+        for hue, colour in re.findall(r"\.hue(\d+) \{ --hue: (#[0-9a-f]{6})", part):
+            for ground in ("tile", "costfill", "badtint", "ground"):
+                low, high = sorted([brightness(colour), brightness(grounds[ground])])
+                if (high + 0.05) / (low + 0.05) < LEAST_CONTRAST:
+                    pale.append(f"hue{hue} on {ground}")
+    return pale
 
 
 def style_of():
