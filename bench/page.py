@@ -3,11 +3,12 @@
 
     python3 bench/page.py [FOLDER]
 
-writes the page of some timetables (good, broken, with names that are markup or no text, two weeks long) and says of each whether
-it is, byte for byte, what this second program derives from the two files; its tags are balanced, its ids are unique, each link
-lands, nothing comes from outside, the marks and the items of the lists add up to the counts, and it is below 2 MB where the
-instance is of realistic size. The last line counts what passed and failed. Where Chromium is there, pictures at three widths and
-on paper are put into FOLDER (pages, if none is given), beside the pages themselves.
+writes the page of some timetables (good, broken, with names that are markup or no text, two weeks long, with names of days and
+periods) and says of each whether it is, byte for byte, what this second program derives from the two files; its tags are
+balanced, its ids are unique, each link lands, nothing comes from outside, the marks and the items of the lists add up to the
+counts, the colours of bars are no paler than WCAG asks, and it is below 2 MB where the instance is of realistic size. The last
+line counts what passed and failed. Where Chromium is there, pictures at three widths and on paper are put into FOLDER (pages, if
+none is given), beside the pages themselves.
 """
 import html.parser
 import os
@@ -28,6 +29,7 @@ CASES = [
     ("like11", EXAMPLES + "/like11.ctt", EXAMPLES + "/like11.sol"),
     ("names", INPUT + "/names.ctt", INPUT + "/names.sol"),
     ("long", INPUT + "/long.ctt", INPUT + "/long.sol"),
+    ("mini.named", EXAMPLES + "/mini.ctt", INPUT + "/mini.broken.sol", ["Mon"], ["8:00", "9:00", "10:00"]),
 ]
 MOST_BYTES = 2_000_000
 HUES = 12
@@ -513,17 +515,18 @@ def style_of():
         return re.search(r'r#"(.*)"#;', file.read(), re.S).group(1)
 
 
-def look(name, instance, solution, folder):
+def look(name, instance, solution, folder, days=(), periods=()):
     """The faults of one case's page."""
     out = os.path.join(folder, name + ".html")
-    done = subprocess.run([TOP + "/tt", "page", instance, solution, out], capture_output=True, text=True)
+    options = ["--days", ",".join(days), "--periods", ",".join(periods)] if days else []
+    done = subprocess.run([TOP + "/tt", "page", instance, solution, out, *options], capture_output=True, text=True)
     if done.returncode:
         return [f"status {done.returncode}: {done.stderr.strip()}"]
     with open(out, "rb") as file:
         data = file.read()
     with open(instance, "rb") as first, open(solution, "rb") as second:
         read = Instance(first.read())
-        wanted = Page(read, table_of(read, second.read()), style_of()).text()
+        wanted = Page(read, table_of(read, second.read()), style_of(), days, periods).text()
     try:
         text = data.decode("utf-8")
     except UnicodeDecodeError as fault:
@@ -555,14 +558,14 @@ def main():
     folder = sys.argv[1] if len(sys.argv) > 1 else "pages"
     os.makedirs(folder, exist_ok=True)
     failed = 0
-    for name, instance, solution in CASES:
-        faults = look(name, instance, solution, folder)
+    for name, instance, solution, *named in CASES:
+        faults = look(name, instance, solution, folder, *named)
         failed += bool(faults)
         for fault in faults:
             print(f"  {name}: {fault}")
     browser = shutil.which("chromium") or shutil.which("chromium-browser") or shutil.which("google-chrome")
     if browser:
-        for name, _, _ in CASES:
+        for name, *_ in CASES:
             take_pictures(browser, name, folder)
     else:
         print("no Chromium: no pictures were taken")
