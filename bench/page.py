@@ -3,11 +3,12 @@
 
     python3 bench/page.py [FOLDER]
 
-writes the page of some timetables (good, broken, with names that are markup or no text, two weeks long) and says of each whether
-it is, byte for byte, what this second program derives from the two files; its tags are balanced, its ids are unique, each link
-lands, nothing comes from outside, the marks and the items of the lists add up to the counts, and it is below 2 MB where the
-instance is of realistic size. The last line counts what passed and failed. Where Chromium is there, pictures at three widths and
-on paper are put into FOLDER (pages, if none is given), beside the pages themselves.
+writes the page of some timetables (good, broken, with names that are markup or no text, two weeks long, with names of days and
+periods) and says of each whether it is, byte for byte, what this second program derives from the two files; its tags are
+balanced, its ids are unique, each link lands, nothing comes from outside, the marks and the items of the lists add up to the
+counts, the colours of bars are no paler than WCAG asks, and it is below 2 MB where the instance is of realistic size. The last
+line counts what passed and failed. Where Chromium is there, pictures at three widths and on paper are put into FOLDER (pages, if
+none is given), beside the pages themselves.
 """
 import html.parser
 import os
@@ -28,9 +29,11 @@ CASES = [
     ("like11", EXAMPLES + "/like11.ctt", EXAMPLES + "/like11.sol"),
     ("names", INPUT + "/names.ctt", INPUT + "/names.sol"),
     ("long", INPUT + "/long.ctt", INPUT + "/long.sol"),
+    ("mini.named", EXAMPLES + "/mini.ctt", INPUT + "/mini.broken.sol", ["Mon"], ["8:00", "9:00", "10:00"]),
 ]
 MOST_BYTES = 2_000_000
 HUES = 12
+LEAST_CONTRAST = 3  # of a bar, by WCAG
 SEPARATORS = b" \t\n\r\x0b\x0c"
 
 
@@ -105,6 +108,14 @@ class Page:
             "teacher": [shown(it) for it in instance.teachers],
             "curriculum": [shown(it[0]) for it in instance.curricula],
         }
+        self.order = {
+            kind: sorted(range(len(names)), key=lambda it: (names[it], it))
+            for kind, names in [
+                ("room", [it[0] for it in instance.rooms]),
+                ("teacher", instance.teachers),
+                ("curriculum", [it[0] for it in instance.curricula]),
+            ]
+        }
         self.at = {}
         for entry in table:
             self.at.setdefault(entry[2:], []).append(entry)
@@ -127,7 +138,8 @@ class Page:
         return shown(self.period_names[period].encode()) if period < len(self.period_names) else str(period + 1)
 
     def when(self, day, period):
-        return f"{self.day(day)}, period {self.period(period)}"
+        word = "" if period < len(self.period_names) else "period "
+        return f"{self.day(day)}, {word}{self.period(period)}"
 
     def when_link(self, kind, number, entry):
         return f'<a href="#{kind}{number}-{entry[2]}-{entry[3]}">{self.when(*entry[2:])}</a>'
@@ -208,12 +220,17 @@ class Page:
             return self.instance.teacher_of[entry[0]] == number
         return entry[0] in self.instance.curricula[number][1]
 
+    def owns(self, kind, number, course):
+        """Whether a week shows the unavailable periods of a course."""
+        if kind == "teacher":
+            return self.instance.teacher_of[course] == number
+        return kind == "curriculum" and course in self.instance.curricula[number][1]
+
     def cell(self, kind, number, day, period):
         text = f'<td id="{kind}{number}-{day}-{period}">\n'
-        if kind == "teacher":
-            for course, name in enumerate(self.names["course"]):
-                if self.instance.teacher_of[course] == number and (course, day, period) in self.instance.bars:
-                    text += f'<div class="barred"><span class="when">{self.when(day, period)}</span> not {name}</div>\n'
+        for course, name in enumerate(self.names["course"]):
+            if self.owns(kind, number, course) and (course, day, period) in self.instance.bars:
+                text += f'<div class="barred"><span class="when">{self.when(day, period)}</span> not {name}</div>\n'
         for entry in self.at.get((day, period), []):
             if self.has(kind, number, entry):
                 text += self.lecture(kind, number, entry)
@@ -245,7 +262,7 @@ class Page:
         text = f'<div class="grid day" id="day{day}">\n<h3 id="day{day}-name"><b>{self.day(day)}</b>{self.paper_name()}'
         text += f'<table aria-labelledby="day{day}-name">\n<thead>\n<tr>\n<th scope="col">Room</th>\n'
         text += "".join(f'<th scope="col">{self.period(it)}</th>\n' for it in range(self.instance.periods))
-        text += "</tr>\n</thead>\n<tbody>\n" + "".join(self.room_row(day, it) for it in range(len(self.instance.rooms)))
+        text += "</tr>\n</thead>\n<tbody>\n" + "".join(self.room_row(day, it) for it in self.order["room"])
         return text + "</tbody>\n</table>\n</div>\n"
 
     def days_text(self):
@@ -255,9 +272,9 @@ class Page:
         return text + '</ul>\n<div class="grids">\n' + "".join(self.day_grid(it) for it in days) + "</div>\n</details>\n"
 
     def section(self, ident, kind):
-        numbers = range(len(self.names[kind]))
+        numbers = self.order[kind]
         text = f'<details open id="{ident}">\n<summary><h2>{ident.capitalize()} <small>{len(numbers)}</small></h2></summary>\n'
-        hues = [self.hue(it if kind == "curriculum" else None) for it in numbers]
+        hues = {it: self.hue(it if kind == "curriculum" else None) for it in numbers}
         text += '<ul class="index">\n' + "".join(f'<li class="week{hues[it]}">{self.link(kind, it)}</li>\n' for it in numbers)
         text += '</ul>\n<div class="grids">\n' + "".join(self.grid(kind, it) for it in numbers)
         return text + "</div>\n</details>\n"
@@ -312,7 +329,7 @@ class Page:
         bars = [it for it in self.table if (it[0], it[2], it[3]) in self.instance.bars]
         return [
             ("lectures", "Lectures", "missing, surplus, or two of a course in one period",
-             self.course_items(self.lectures_off, lambda it: f"wanted {courses[it][2]}, placed {len(self.of[it])}, periods {self.periods_of(it)}")),
+             self.course_items(self.lectures_off, lambda it: f"lectures {courses[it][2]}, placed {len(self.of[it])}, periods used {self.periods_of(it)}")),
             ("conflicts", "Conflicts", "pairs of one teacher or curriculum in one period",
              list(self.pairs(lambda one, other: self.instance.conflict(one[0], other[0]), lambda odds: odds))),
             ("availability", "Availability", "in a period unavailable for the course", [(1, self.barred(it)) for it in bars]),
@@ -368,7 +385,7 @@ class Page:
         return text + "".join(f"<td>{it}</td>\n" for it in cells) + "</tr>\n"
 
     def courses_text(self):
-        heads = ["Course", "Teacher", "Students", "Wanted", "Placed", "Least days", "Days", "Rooms", "Marks"]
+        heads = ["Course", "Teacher", "Students", "Lectures", "Placed", "Least days", "Days", "Rooms", "Marks"]
         text = f'<details open id="courses">\n<summary><h2>Courses <small>{len(self.of)}</small></h2></summary>\n'
         text += '<div class="list">\n<table>\n<caption>Courses</caption>\n<thead>\n<tr>\n'
         text += "".join(f'<th scope="col">{it}</th>\n' for it in heads) + "</tr>\n</thead>\n<tbody>\n"
@@ -461,6 +478,7 @@ def faults_of(text):
             faults.append(f"the items of {ident} don't add up")
     style = text[text.index("<style>") : text.index("</style>")]
     faults += [f"no colour of hue{it}" for it in range(HUES) if style.count(f".hue{it} {{") != 2]
+    faults += [f"too pale: {it}" for it in pale_hues(style)]
     rooms = text[text.index('<details open id="rooms">') : text.index('<details open id="teachers">')]
     count = lambda title: int(re.search(rf"{title}</th><td>(\d+)", text).group(1))
     if sum(map(int, re.findall(r"<mark>no seat: (\d+)</mark>", rooms))) != count("Room capacity"):
@@ -472,22 +490,43 @@ def faults_of(text):
     return faults
 
 
+def brightness(colour):
+    """The relative luminance of a colour, as WCAG defines it."""
+    parts = [int(colour[at : at + 2], 16) / 255 for at in (1, 3, 5)]
+    red, green, blue = [it / 12.92 if it <= 0.04045 else ((it + 0.055) / 1.055) ** 2.4 for it in parts]
+    return 0.2126 * red + 0.7152 * green + 0.0722 * blue
+
+
+def pale_hues(style):
+    """The hues whose bars have too little contrast with what is behind them, light or dark."""
+    pale, dark = [], style.index("@media (prefers-color-scheme: dark)")
+    for part in (style[:dark], style[dark:]):
+        grounds = dict(re.findall(r"--(\w+): (#[0-9a-f]{6})", part))
+        for hue, colour in re.findall(r"\.hue(\d+) \{ --hue: (#[0-9a-f]{6})", part):
+            for ground in ("tile", "costfill", "badtint", "ground"):
+                low, high = sorted([brightness(colour), brightness(grounds[ground])])
+                if (high + 0.05) / (low + 0.05) < LEAST_CONTRAST:
+                    pale.append(f"hue{hue} on {ground}")
+    return pale
+
+
 def style_of():
     with open(TOP + "/crates/tt_page/src/style.rt", encoding="utf-8") as file:
         return re.search(r'r#"(.*)"#;', file.read(), re.S).group(1)
 
 
-def look(name, instance, solution, folder):
+def look(name, instance, solution, folder, days=(), periods=()):
     """The faults of one case's page."""
     out = os.path.join(folder, name + ".html")
-    done = subprocess.run([TOP + "/tt", "page", instance, solution, out], capture_output=True, text=True)
+    options = ["--days", ",".join(days), "--periods", ",".join(periods)] if days else []
+    done = subprocess.run([TOP + "/tt", "page", instance, solution, out, *options], capture_output=True, text=True)
     if done.returncode:
         return [f"status {done.returncode}: {done.stderr.strip()}"]
     with open(out, "rb") as file:
         data = file.read()
     with open(instance, "rb") as first, open(solution, "rb") as second:
         read = Instance(first.read())
-        wanted = Page(read, table_of(read, second.read()), style_of()).text()
+        wanted = Page(read, table_of(read, second.read()), style_of(), days, periods).text()
     try:
         text = data.decode("utf-8")
     except UnicodeDecodeError as fault:
@@ -519,14 +558,14 @@ def main():
     folder = sys.argv[1] if len(sys.argv) > 1 else "pages"
     os.makedirs(folder, exist_ok=True)
     failed = 0
-    for name, instance, solution in CASES:
-        faults = look(name, instance, solution, folder)
+    for name, instance, solution, *named in CASES:
+        faults = look(name, instance, solution, folder, *named)
         failed += bool(faults)
         for fault in faults:
             print(f"  {name}: {fault}")
     browser = shutil.which("chromium") or shutil.which("chromium-browser") or shutil.which("google-chrome")
     if browser:
-        for name, _, _ in CASES:
+        for name, *_ in CASES:
             take_pictures(browser, name, folder)
     else:
         print("no Chromium: no pictures were taken")

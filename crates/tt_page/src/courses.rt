@@ -124,7 +124,7 @@ fn put_rows(out: &mut Vec<u8>, plan: &Plan<'_, '_>) -> Result<(), AllocError>
 
 /// The text above the rows.
 const HEAD: &str =
-    "</small></h2></summary>\n<div class=\"list\">\n<table>\n<caption>Courses</caption>\n<thead>\n<tr>\n<th scope=\"col\">Course</th>\n<th scope=\"col\">Teacher</th>\n<th scope=\"col\">Students</th>\n<th scope=\"col\">Wanted</th>\n<th scope=\"col\">Placed</th>\n<th scope=\"col\">Least days</th>\n<th scope=\"col\">Days</th>\n<th scope=\"col\">Rooms</th>\n<th scope=\"col\">Marks</th>\n</tr>\n</thead>\n<tbody>\n";
+    "</small></h2></summary>\n<div class=\"list\">\n<table>\n<caption>Courses</caption>\n<thead>\n<tr>\n<th scope=\"col\">Course</th>\n<th scope=\"col\">Teacher</th>\n<th scope=\"col\">Students</th>\n<th scope=\"col\">Lectures</th>\n<th scope=\"col\">Placed</th>\n<th scope=\"col\">Least days</th>\n<th scope=\"col\">Days</th>\n<th scope=\"col\">Rooms</th>\n<th scope=\"col\">Marks</th>\n</tr>\n</thead>\n<tbody>\n";
 
 #[tactic(auto, unfolding(crate::specs::Courses::courses_head_text, crate::specs::Courses::courses_head))]
 fn put_courses_head(out: &mut Vec<u8>, courses: u32) -> Result<(), AllocError>

@@ -118,7 +118,7 @@ td:target, .grid:target, tr:target { outline: 3px solid var(--link); outline-off
 .list tbody th { font-weight: 650; }
 .list td:last-child { width: 100%; }
 
-@page { margin: 12mm; }
+@page { margin: 12mm; @bottom-right { content: counter(page); font: 9pt sans-serif; color: #333; } }
 @media screen and (max-width: 40rem) {
   main { padding: 1rem .75rem 3rem; }
   html { scroll-padding-top: 4.5rem; }

@@ -3,11 +3,12 @@ use Rattle.std.specs.Prelude.{ℕ, List, [], ◌∷◌, ◌++◌, flat_map, code
 use Rattle.tt_lists.specs.Words.{range_below}
 use Rattle.tt_text.specs.Pieces.{Text, Number}
 use Rattle.tt_instance.specs.Problem.{Problem}
-use Rattle.tt_instance.specs.Cells.{all_days, all_rooms}
+use Rattle.tt_instance.specs.Cells.{all_days}
 use Rattle.tt_instance.specs.declared.cell.Cell.{Cell}
 use Rattle.tt_page_text.specs.Markup.{markup}
 use Rattle.tt_page_text.specs.Labelled.{Labelled}
 use Rattle.tt_page_text.specs.Labels.{day_text, period_text}
+use Rattle.tt_page_plan.specs.Orders.{numbers_of}
 use Rattle.tt_page_plan.specs.Links.{week_link}
 use Rattle.tt_page_plan.specs.declared.kind.Kind.TheVariants.{Room}
 use Rattle.tt_page_weeks.specs.Lectures.{lecture_text}
@@ -39,10 +40,11 @@ day_title p labels d = day_grid_head d ++ day_text labels d ++ codes "</b>" ++ p
 unfoldable pub period_head : Labelled → ℕ → List ℕ
 period_head labels s = codes "<th scope=\"col\">" ++ period_text labels s ++ codes "</th>\n"
 
+-- The table of a day: a row for each room, in the order of their names.
 unfoldable pub day_grid : Problem → List Cell → Labelled → ℕ → List ℕ
 day_grid p t labels d =
     day_title p labels d ++ flat_map (period_head labels) (range_below p.periods)
-    ++ codes "</tr>\n</thead>\n<tbody>\n" ++ flat_map (room_row p t labels d) (all_rooms p) ++ codes "</tbody>\n</table>\n</div>\n"
+    ++ codes "</tr>\n</thead>\n<tbody>\n" ++ flat_map (room_row p t labels d) (numbers_of p Room) ++ codes "</tbody>\n</table>\n</div>\n"
 
 -- ---- the section
 

@@ -1,6 +1,6 @@
 //! The days of a page: a table for each, with a row for each room and a column for each period.
 
-ghost use Rattle.std.specs.Prelude.{◌≡◌, ◌<◌, ◌++◌, length, flat_map, OnOk};
+ghost use Rattle.std.specs.Prelude.{◌≡◌, ◌<◌, ◌++◌, length, flat_map, All, OnOk};
 ghost use Rattle.tt_lists.specs.Words.{range_below};
 ghost use Rattle.tt_page_days.specs.Days.{room_cell, room_row_head, room_row, day_grid_head, day_table_head, day_title, period_head, day_grid, day_link_head, day_index_item, days_head, days_text};
 
@@ -81,19 +81,21 @@ fn put_room_row(
     put_token(out, b"</tr>\n")
 }
 
-#[tactic(auto, using(tt_page_text::proofs::Growing::text_further))]
+/// Appends the rows of some rooms.
+#[tactic(auto, using(tt_page_text::proofs::Growing::taken_further))]
 fn put_room_rows(
     out: &mut Vec<u8>,
     plan: &Plan<'_, '_>,
     labels: &Labels,
     day: u32,
+    rooms: &[u32],
 ) -> Result<(), AllocError>
-    requires { day < plan.now.problem.days }
-    ensures { OnOk result (out.new.items ≡ out.old.items
-        ++ flat_map (room_row plan.now.problem plan.now.table labels.now day) (range_below (length plan.now.problem.rooms))) }
+    requires day { day < plan.now.problem.days }
+    requires rooms { All (λ r. r < length plan.now.problem.rooms) rooms.now }
+    ensures { OnOk result (out.new.items ≡ out.old.items ++ flat_map (room_row plan.now.problem plan.now.table labels.now day) rooms.now) }
 {
-    for room in 0..plan.instance().rooms() {
-        put_room_row(out, plan, labels, day, room)?;
+    for room in rooms {
+        put_room_row(out, plan, labels, day, *room)?;
     }
     Ok(())
 }
@@ -179,10 +181,11 @@ fn put_day_grid(
     requires { day < plan.now.problem.days }
     ensures { OnOk result (out.new.items ≡ out.old.items ++ day_grid plan.now.problem plan.now.table labels.now day) }
 {
+    let rooms = plan.in_order(Kind::Room);
     put_day_title(out, plan.instance(), labels, day)?;
     put_period_heads(out, plan.instance(), labels)?;
     put_token(out, b"</tr>\n</thead>\n<tbody>\n")?;
-    put_room_rows(out, plan, labels, day)?;
+    put_room_rows(out, plan, labels, day, rooms)?;
     put_token(out, b"</tbody>\n</table>\n</div>\n")
 }
 

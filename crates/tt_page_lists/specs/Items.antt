@@ -36,8 +36,8 @@ course_and_teacher p c = course_link p c ++ codes ", " ++ week_link p Teacher (t
 -- The lectures of a course, needed and placed, and the number of periods in which they are.
 unfoldable pub lectures_told : Problem → List Cell → ℕ → List ℕ
 lectures_told p t c = markup (
-    Text (codes ", wanted ") ∷ Number (lectures p c) ∷ Text (codes ", placed ") ∷ Number (entries_of t c)
-    ∷ Text (codes ", periods ") ∷ Number (periods_of p t c) ∷ [])
+    Text (codes ", lectures ") ∷ Number (lectures p c) ∷ Text (codes ", placed ") ∷ Number (entries_of t c)
+    ∷ Text (codes ", periods used ") ∷ Number (periods_of p t c) ∷ [])
 
 unfoldable pub days_told : Problem → List Cell → ℕ → List ℕ
 days_told p t c = markup (

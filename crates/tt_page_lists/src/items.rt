@@ -83,11 +83,11 @@ fn put_lectures_told(out: &mut Vec<u8>, plan: &Plan<'_, '_>, course: u32) -> Res
     put(
         out,
         &[
-            Part::Text(", wanted "),
+            Part::Text(", lectures "),
             Part::Number(wanted),
             Part::Text(", placed "),
             Part::Count(placed),
-            Part::Text(", periods "),
+            Part::Text(", periods used "),
             Part::Count(periods),
         ],
     )

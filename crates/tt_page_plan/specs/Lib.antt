@@ -2,6 +2,8 @@ pub mod Counts
 pub mod Kinds
 pub mod Links
 pub mod Names
+pub mod Ordered
+pub mod Orders
 pub mod Planned
 pub mod Plans
 pub mod Sides

@@ -3,6 +3,7 @@ use Rattle.std.specs.Prelude.{◌≡◌, ◌≤◌, length, All}
 use Rattle.tt_instance.specs.Cells.{InRange}
 use Rattle.tt_instance_links.specs.Linked.{AreCurricula}
 use Rattle.tt_table.specs.declared.groups.GroupBy.TheVariants as by
+use Rattle.tt_page_plan.specs.Ordered.{AreOrders}
 use Rattle.tt_page_plan.specs.declared.plan.Plan.TheInside.{Inside}
 use Rattle.tt_table.specs.declared.table.TheConstants.{MAX_ENTRIES}
 
@@ -12,3 +13,4 @@ pub record IsPlan (s : Inside) : Type 0 where
   pub by_period : s.by_period ≡ record { by = by.Period s.instance.now.periods; entries = s.entries.now }
   pub by_course : s.by_course ≡ record { by = by.Course; entries = s.entries.now }
   pub curricula : AreCurricula s.instance.now s.curricula
+  pub orders : AreOrders s.instance.now s.orders

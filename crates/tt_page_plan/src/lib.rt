@@ -7,6 +7,7 @@ mod kind;
 mod links;
 mod marks;
 mod name;
+mod order;
 mod plan;
 
 pub use counts::{

@@ -1,4 +1,4 @@
-//! A timetable of an instance, its entries by period and by course, and the curricula of each course.
+//! A timetable of an instance, its entries by period and by course, the curricula of each course, and the order of names.
 
 ghost use Rattle.std.specs.Prelude.{◌≡◌, ◌+◌, ◌<◌, ◌≤◌, length, filter, drop, All, Some, slice_get, IfOk, IfSome};
 ghost use Rattle.tt_instance.specs.Cells.{InRange, is_of, is_at, slot, slot_of};
@@ -6,15 +6,18 @@ ghost use Rattle.tt_table.specs.Table.{IsTimetable};
 ghost use Rattle.tt_table.specs.declared.table.TheConstants.{MAX_ENTRIES};
 ghost use Rattle.tt_table.specs.declared.groups.GroupBy.TheVariants as by;
 ghost use Rattle.tt_page_plan.specs.Planned.{Planned};
-ghost use Rattle.tt_page_plan.specs.Kinds.{first_curriculum};
+ghost use Rattle.tt_page_plan.specs.Kinds.{count_of, first_curriculum};
+ghost use Rattle.tt_page_plan.specs.Orders.{numbers_of};
 
+use crate::kind::Kind;
+use crate::order::Orders;
 use std::alloc::{AllocError, Global};
 use std::marker::Model;
 use tt_instance::{Instance, MAX_COURSES};
 use tt_instance_links::Curricula;
 use tt_table::{Entry, Group, GroupBy, Groups, Timetable};
 
-/// A timetable of an instance, its entries by period and by course, and the curricula of each course.
+/// A timetable of an instance, its entries by period and by course, the curricula of each course, and the order of names.
 #[derive(Drop)]
 pub struct Plan<'w, 'i> {
     instance: &'w Instance<'i>,
@@ -22,6 +25,7 @@ pub struct Plan<'w, 'i> {
     by_period: Groups<'w>,
     by_course: Groups<'w>,
     curricula: Curricula,
+    orders: Orders,
 }
 
 impl<'w, 'i> Model for Plan<'w, 'i> {
@@ -67,6 +71,7 @@ impl<'w, 'i> Plan<'w, 'i> {
         ensures { IfOk result (λ plan. plan ≡ record { problem = instance.now; table = table.now }) }
     {
         let curricula = Curricula::new(alloc, instance)?;
+        let orders = Orders::new(alloc, instance)?;
         let entries = table.entries();
         let by_period = by_period(instance, entries);
         let by_course = by_course(instance, entries);
@@ -76,6 +81,7 @@ impl<'w, 'i> Plan<'w, 'i> {
             by_period,
             by_course,
             curricula,
+            orders,
         })
     }
 
@@ -124,6 +130,14 @@ impl<'w, 'i> Plan<'w, 'i> {
         ensures { result ≡ first_curriculum self.now.problem course }
     {
         self.curricula.curricula_of(course).first().copied()
+    }
+
+    /// Returns the numbers of all rooms, teachers or curricula in the order of their names.
+    pub fn in_order(&self, kind: Kind) -> &[u32]
+        ensures value { result.now ≡ numbers_of self.now.problem kind }
+        ensures below { All (λ n. n < count_of self.now.problem kind) result.now }
+    {
+        self.orders.of(kind)
     }
 
     /// Returns the later entries of an entry's period.

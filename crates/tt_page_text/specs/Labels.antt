@@ -63,6 +63,14 @@ period_named s None = markup (Number (s + 1) ∷ [])
 unfoldable pub period_text : Labelled → ℕ → List ℕ
 period_text labels s = period_named s (slice_get labels.periods s)
 
--- A day and a period of it.
+abbrev pub period_behind : ℕ → Option (List ℕ) → List ℕ
+period_behind s (Some name) = shown name
+period_behind s None = markup (Text (codes "period ") ∷ Number (s + 1) ∷ [])
+
+-- A period behind its day: the name of the period if it has one, else the word "period" and its number.
+unfoldable pub behind_text : Labelled → ℕ → List ℕ
+behind_text labels s = period_behind s (slice_get labels.periods s)
+
+-- A day and a period of it, as "Mon, 8:00" or "Day 1, period 3".
 unfoldable pub when_text : Labelled → ℕ → ℕ → List ℕ
-when_text labels d s = day_text labels d ++ codes ", period " ++ period_text labels s
+when_text labels d s = day_text labels d ++ codes ", " ++ behind_text labels s

@@ -2,7 +2,7 @@
 
 ghost use Rattle.std.specs.Prelude.{◌≡◌, ◌++◌, OnOk, IfOk};
 ghost use Rattle.std.specs.Option.{option_copied};
-ghost use Rattle.tt_page_text.specs.Labels.{names_from, names_in, names_of, labels_of, no_labels, day_text, period_text, when_text, Gives};
+ghost use Rattle.tt_page_text.specs.Labels.{names_from, names_in, names_of, labels_of, no_labels, day_text, period_text, behind_text, when_text, Gives};
 ghost use Rattle.tt_page_text.specs.Naming.{names_seen};
 
 use crate::fault::LabelsFault;
@@ -118,12 +118,26 @@ pub fn put_period(out: &mut Vec<u8>, labels: &Labels, period: u32) -> Result<(),
     }
 }
 
+/// Appends the name of a period, or the word "period" and its number from 1.
+#[tactic(auto, unfolding(crate::specs::Labels::behind_text))]
+fn put_behind(out: &mut Vec<u8>, labels: &Labels, period: u32) -> Result<(), AllocError>
+    ensures { OnOk result (out.new.items ≡ out.old.items ++ behind_text labels.now period) }
+{
+    match labels.periods.get(period as usize) {
+        Some(name) => put_shown(out, name.as_slice()),
+        None => put(
+            out,
+            &[Part::Text("period "), Part::Count(u64::from(period) + 1)],
+        ),
+    }
+}
+
 /// Appends a day and a period of it.
 #[tactic(auto, unfolding(crate::specs::Labels::when_text))]
 pub fn put_when(out: &mut Vec<u8>, labels: &Labels, day: u32, period: u32) -> Result<(), AllocError>
     ensures { OnOk result (out.new.items ≡ out.old.items ++ when_text labels.now day period) }
 {
     put_day(out, labels, day)?;
-    put_token(out, b", period ")?;
-    put_period(out, labels, period)
+    put_token(out, b", ")?;
+    put_behind(out, labels, period)
 }

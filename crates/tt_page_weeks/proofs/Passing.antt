@@ -9,6 +9,7 @@ use Rattle.std.proofs.lemmas.List.FromFn.{length-range_with_len, get_or-range_wi
 use Rattle.std.proofs.lemmas.List.Elements.{All-filter, All-nil}
 use Rattle.tt_instance.specs.Problem.{Problem}
 use Rattle.tt_instance.specs.Cells.{all_courses}
+use Rattle.tt_instance.specs.Courses.{in_curriculum}
 use Rattle.tt_page_plan.specs.Kinds.{teacher_of}
 use Rattle.tt_page_weeks.specs.Grids.{own_courses}
 use Rattle.tt_page_plan.specs.declared.kind.Kind.{Kind}
@@ -65,13 +66,13 @@ number_left_out p i old fail before =
 
 -- -- the courses whose unavailable periods a week shows
 
+each_number : (m : ℕ) → All (λ c. c < m) (range_below m)
+each_number m i d h =
+    let short : i < m = rw (← length-range_with_len 0 m) h in
+    let same = get_or-range_with_len 0 m i d short in
+    omega (arith, short, same)
+
 pub own_courses_there : (p : Problem) (kind : Kind) (n : ℕ) → All (λ c. c < length p.courses) (own_courses p kind n)
-own_courses_there p Room n = All-nil (λ c. c < length p.courses)
-own_courses_there p Curriculum n = All-nil (λ c. c < length p.courses)
+own_courses_there p Room r = All-nil (λ c. c < length p.courses)
 own_courses_there p Teacher k = All-filter (λ c. teacher_of p c == k) (λ c. c < length p.courses) (all_courses p) (each_number (length p.courses))
-  where
-    each_number : (m : ℕ) → All (λ c. c < m) (range_below m)
-    each_number m i d h =
-        let short : i < m = rw (← length-range_with_len 0 m) h in
-        let same = get_or-range_with_len 0 m i d short in
-        omega (arith, short, same)
+own_courses_there p Curriculum q = All-filter (in_curriculum p q) (λ c. c < length p.courses) (all_courses p) (each_number (length p.courses))

@@ -4,7 +4,7 @@ use Rattle.tt_lists.specs.Words.{range_below}
 use Rattle.tt_text.specs.Pieces.{Text, Number}
 use Rattle.tt_instance.specs.Problem.{Problem}
 use Rattle.tt_instance.specs.Cells.{all_courses, all_days, slot, is_at}
-use Rattle.tt_instance.specs.Courses.{capacity, unavailable}
+use Rattle.tt_instance.specs.Courses.{capacity, unavailable, in_curriculum}
 use Rattle.tt_instance.specs.declared.cell.Cell.{Cell}
 use Rattle.tt_page_text.specs.Shown.{shown}
 use Rattle.tt_page_text.specs.Markup.{markup}
@@ -12,6 +12,7 @@ use Rattle.tt_page_text.specs.Labelled.{Labelled}
 use Rattle.tt_page_text.specs.Labels.{day_text, period_text, when_text}
 use Rattle.tt_page_plan.specs.Names.{name_text}
 use Rattle.tt_page_plan.specs.Kinds.{count_of, name_of, course_name, teacher_of, belongs_to, word_of, caption_of, section_of, title_of}
+use Rattle.tt_page_plan.specs.Orders.{numbers_of}
 use Rattle.tt_page_plan.specs.Links.{week_link}
 use Rattle.tt_page_weeks.specs.Lectures.{hue_class, lecture_text}
 use Rattle.tt_page_plan.specs.declared.kind.Kind.{Kind}
@@ -19,10 +20,11 @@ use Rattle.tt_page_plan.specs.declared.kind.Kind.TheVariants.{Room, Teacher, Cur
 
 -- ---- cells
 
--- The courses whose unavailable periods a week shows: those of a teacher.
+-- The courses whose unavailable periods a week shows: those of a teacher, and those of a curriculum.
 abbrev pub own_courses : Problem → Kind → ℕ → List ℕ
+own_courses p Room r = []
 own_courses p Teacher k = filter (λ c. teacher_of p c == k) (all_courses p)
-own_courses p _ n = []
+own_courses p Curriculum q = filter (in_curriculum p q) (all_courses p)
 
 -- The text for a course to which a period is unavailable.
 unfoldable pub barred_when : Labelled → ℕ → ℕ → List ℕ
@@ -101,8 +103,9 @@ section_head p kind = markup (
     Text (codes "<details open id=\"") ∷ Text (section_of kind) ∷ Text (codes "\">\n<summary><h2>") ∷ Text (title_of kind)
     ∷ Text (codes " <small>") ∷ Number (count_of p kind) ∷ Text (codes "</small></h2></summary>\n<ul class=\"index\">\n") ∷ [])
 
+-- The section of all rooms, teachers or curricula, in the order of their names.
 unfoldable pub section_text : Problem → List Cell → Labelled → Kind → List ℕ
 section_text p t labels kind =
-    section_head p kind ++ flat_map (index_item p kind) (range_below (count_of p kind))
-    ++ codes "</ul>\n<div class=\"grids\">\n" ++ flat_map (grid_text p t labels kind) (range_below (count_of p kind))
+    section_head p kind ++ flat_map (index_item p kind) (numbers_of p kind)
+    ++ codes "</ul>\n<div class=\"grids\">\n" ++ flat_map (grid_text p t labels kind) (numbers_of p kind)
     ++ codes "</div>\n</details>\n"

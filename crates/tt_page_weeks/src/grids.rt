@@ -3,6 +3,7 @@
 ghost use Rattle.std.specs.Prelude.{◌≡◌, ◌<◌, ◌==◌, ◌++◌, length, filter, flat_map, All, OnOk, IfOk};
 ghost use Rattle.tt_lists.specs.Words.{range_below};
 ghost use Rattle.tt_instance.specs.Cells.{InRange, all_courses};
+ghost use Rattle.tt_instance.specs.Courses.{in_curriculum};
 ghost use Rattle.tt_page_plan.specs.Kinds.{count_of, belongs_to, teacher_of};
 ghost use Rattle.tt_page_weeks.specs.Lectures.{lecture_text};
 ghost use Rattle.tt_page_weeks.specs.Grids.{own_courses, barred_when, barred_course, barred_text, cell_head, cell_text, row_head, row_text, seats_text, grid_head, paper_name, table_head, grid_title, day_head, grid_text, curriculum_of, index_item, section_head, section_text};
@@ -30,6 +31,24 @@ fn courses_of(alloc: Global, instance: &Instance<'_>, teacher: u32) -> Result<Ve
     Ok(own)
 }
 
+/// Returns the courses of a curriculum.
+fn members_of(
+    alloc: Global,
+    instance: &Instance<'_>,
+    curriculum: u32,
+) -> Result<Vec<u32>, AllocError>
+    ensures { IfOk result (λ own. own.items ≡ filter (in_curriculum instance.now curriculum) (all_courses instance.now)) }
+{
+    let mut own = Vec::new(alloc);
+    for course in 0..instance.courses() {
+        if !instance.in_curriculum(curriculum, course) {
+            continue;
+        }
+        own.push(course)?;
+    }
+    Ok(own)
+}
+
 /// Returns the courses whose unavailable periods a week shows.
 fn own_courses(
     alloc: Global,
@@ -40,8 +59,9 @@ fn own_courses(
     ensures { IfOk result (λ own. own.items ≡ own_courses instance.now kind number) }
 {
     match kind {
+        Kind::Room => Ok(Vec::new(alloc)),
         Kind::Teacher => courses_of(alloc, instance, number),
-        Kind::Room | Kind::Curriculum => Ok(Vec::new(alloc)),
+        Kind::Curriculum => members_of(alloc, instance, number),
     }
 }
 
@@ -400,18 +420,19 @@ fn put_grid(
 }
 
 /// Appends the grids of a section.
-#[tactic(auto, using(tt_page_text::proofs::Growing::text_further))]
+#[tactic(auto, using(tt_page_text::proofs::Growing::taken_further))]
 fn put_grids(
     out: &mut Vec<u8>,
     plan: &Plan<'_, '_>,
     labels: &Labels,
     kind: Kind,
+    numbers: &[u32],
 ) -> Result<(), AllocError>
-    ensures { OnOk result (out.new.items ≡ out.old.items
-        ++ flat_map (grid_text plan.now.problem plan.now.table labels.now kind) (range_below (count_of plan.now.problem kind))) }
+    requires { All (λ n. n < count_of plan.now.problem kind) numbers.now }
+    ensures { OnOk result (out.new.items ≡ out.old.items ++ flat_map (grid_text plan.now.problem plan.now.table labels.now kind) numbers.now) }
 {
-    for number in 0..kind.count(plan.instance()) {
-        put_grid(out, plan, labels, kind, number)?;
+    for number in numbers {
+        put_grid(out, plan, labels, kind, *number)?;
     }
     Ok(())
 }
@@ -444,13 +465,18 @@ fn put_index_item(
 }
 
 /// Appends the links to the grids of a section.
-#[tactic(auto, using(tt_page_text::proofs::Growing::text_further))]
-fn put_index(out: &mut Vec<u8>, instance: &Instance<'_>, kind: Kind) -> Result<(), AllocError>
-    ensures { OnOk result (out.new.items ≡ out.old.items
-        ++ flat_map (index_item instance.now kind) (range_below (count_of instance.now kind))) }
+#[tactic(auto, using(tt_page_text::proofs::Growing::taken_further))]
+fn put_index(
+    out: &mut Vec<u8>,
+    instance: &Instance<'_>,
+    kind: Kind,
+    numbers: &[u32],
+) -> Result<(), AllocError>
+    requires { All (λ n. n < count_of instance.now kind) numbers.now }
+    ensures { OnOk result (out.new.items ≡ out.old.items ++ flat_map (index_item instance.now kind) numbers.now) }
 {
-    for number in 0..kind.count(instance) {
-        put_index_item(out, instance, kind, number)?;
+    for number in numbers {
+        put_index_item(out, instance, kind, *number)?;
     }
     Ok(())
 }
@@ -478,7 +504,7 @@ fn put_section_head(
     )
 }
 
-/// Appends the section of all rooms, teachers or curricula.
+/// Appends the section of all rooms, teachers or curricula, in the order of their names.
 #[tactic(auto, unfolding(crate::specs::Grids::section_text))]
 pub fn put_section(
     out: &mut Vec<u8>,
@@ -488,9 +514,10 @@ pub fn put_section(
 ) -> Result<(), AllocError>
     ensures { OnOk result (out.new.items ≡ out.old.items ++ section_text plan.now.problem plan.now.table labels.now kind) }
 {
+    let numbers = plan.in_order(kind);
     put_section_head(out, plan.instance(), kind)?;
-    put_index(out, plan.instance(), kind)?;
+    put_index(out, plan.instance(), kind, numbers)?;
     put_token(out, b"</ul>\n<div class=\"grids\">\n")?;
-    put_grids(out, plan, labels, kind)?;
+    put_grids(out, plan, labels, kind, numbers)?;
     put_token(out, b"</div>\n</details>\n")
 }

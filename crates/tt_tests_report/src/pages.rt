@@ -81,7 +81,7 @@ fn a_week_with_broken_rules(rt: HostRuntime) -> Result<(), Fail> {
         &text,
         &[
             "<strong>not feasible</strong> hard 3, cost 7</p>\n",
-            "<li style=\"order:-1\"><b>1</b> <a href=\"#course0\">a</a>, <a href=\"#teacher0\">t1</a>, wanted 1, placed 2, periods 2</li>\n",
+            "<li style=\"order:-1\"><b>1</b> <a href=\"#course0\">a</a>, <a href=\"#teacher0\">t1</a>, lectures 1, placed 2, periods used 2</li>\n",
             "<li style=\"order:-1\"><b>1</b> <a href=\"#room0-0-0\">a</a>, <a href=\"#teacher0\">t1</a>, Day 1, period 1, in <a href=\"#room0\">R</a>, with <a href=\"#room0-0-0\">b</a>, <a href=\"#teacher1\">t2</a></li>\n",
             "</a> <a href=\"#teacher0\">t1</a> <strong>conflict</strong> <strong>room taken</strong></div>\n",
             "<td> <strong>lectures: 1</strong></td>\n",

@@ -8,6 +8,7 @@ unfolding day_grid
 returns c =
     let title = rw c.instance.ensures at c.in_ok-put_day_title.ensures in
     let heads = rw c.instance-2.ensures at c.in_ok-put_period_heads.ensures in
+    let rows = rw c.in_order-rooms.ensures.value at c.in_ok-put_room_rows.ensures in
     on_ok_weaker c.put_token-2.result
-    (λ last. then_more _ _ _ _ _ (then_more _ _ _ _ _ (then_more _ _ _ _ _ (then_more _ _ _ _ _ title heads) c.in_ok-put_token.ensures.ok) c.in_ok-put_room_rows.ensures) last)
+    (λ last. then_more _ _ _ _ _ (then_more _ _ _ _ _ (then_more _ _ _ _ _ (then_more _ _ _ _ _ title heads) c.in_ok-put_token.ensures.ok) rows) last)
     c.put_token-2.ensures.ok

@@ -1,8 +1,7 @@
-use Rattle.std.proofs.Common.{◌≡◌, ◌++◌}
+use Rattle.std.proofs.Common.{◌≡◌, ◌++◌, take}
 use Rattle.std.specs.Prelude.{flat_map}
-use Rattle.tt_lists.specs.Words.{range_below}
 use Rattle.tt_page_days.specs.Days.{room_row}
 use Rattle.tt_page_days.proofs.days.put_room_rows.Given as goal
 
 abbrev pub invariant-loop-room : goal.invariant-loop-room
-invariant-loop-room l = l.out.items ≡ l.initial.out.items ++ flat_map (room_row l.plan.problem l.plan.table l.labels l.day) (range_below l.room)
+invariant-loop-room l = l.out.items ≡ l.initial.out.items ++ flat_map (room_row l.plan.problem l.plan.table l.labels l.day) (take l.room-index l.rooms)

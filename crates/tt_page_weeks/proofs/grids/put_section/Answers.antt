@@ -7,7 +7,8 @@ pub returns : goal.returns
 unfolding section_text
 returns c =
     let head = rw c.instance.ensures at c.in_ok-put_section_head.ensures in
-    let index = rw c.instance-2.ensures at c.in_ok-put_index.ensures in
+    let index = rw (c.instance-2.ensures, c.in_order-numbers.ensures.value) at c.in_ok-put_index.ensures in
+    let grids = rw c.in_order-numbers.ensures.value at c.in_ok-put_grids.ensures in
     on_ok_weaker c.put_token-2.result
-    (λ last. then_more _ _ _ _ _ (then_more _ _ _ _ _ (then_more _ _ _ _ _ (then_more _ _ _ _ _ head index) c.in_ok-put_token.ensures.ok) c.in_ok-put_grids.ensures) last)
+    (λ last. then_more _ _ _ _ _ (then_more _ _ _ _ _ (then_more _ _ _ _ _ (then_more _ _ _ _ _ head index) c.in_ok-put_token.ensures.ok) grids) last)
     c.put_token-2.ensures.ok

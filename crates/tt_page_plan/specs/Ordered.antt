@@ -1,0 +1,15 @@
+-- The orders of an instance's rooms, teachers and curricula.
+use Rattle.std.specs.Prelude.{◌≡◌, ℕ, List}
+use Rattle.tt_instance.specs.Problem.{Problem}
+use Rattle.tt_page_plan.specs.Orders.{numbers_of}
+use Rattle.tt_page_plan.specs.declared.kind.Kind.{Kind}
+use Rattle.tt_page_plan.specs.declared.kind.Kind.TheVariants.{Room, Teacher, Curriculum}
+use Rattle.tt_page_plan.specs.declared.order.Orders.{Orders}
+
+abbrev pub order_of : Orders → Kind → List ℕ
+order_of orders Room = orders.rooms.items
+order_of orders Teacher = orders.teachers.items
+order_of orders Curriculum = orders.curricula.items
+
+abbrev pub AreOrders : Problem → Orders → Type 0
+AreOrders p orders = (kind : Kind) → order_of orders kind ≡ numbers_of p kind
