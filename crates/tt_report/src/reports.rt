@@ -1,10 +1,6 @@
 //! The text of a report, and writing it to a sink.
 
-<<<<<<< HEAD
-ghost use Rattle.std.specs.Prelude.{◌≡◌, ◌<◌, ◌++◌, length, flat_map, All, OnOk, IfOk, Err, true, if◌then◌else◌};
-=======
-ghost use Rattle.std.specs.Prelude.{◌≡◌, ◌<◌, length, flat_map, All, OnOk, Err, true};
->>>>>>> 751283539fba87005d0a24449cd366117d5ee424
+ghost use Rattle.std.specs.Prelude.{◌≡◌, ◌<◌, length, flat_map, All, OnOk, Err, true, if◌then◌else◌};
 ghost use Rattle.std.specs.Io.KnownBytes.{Appends};
 ghost use Rattle.tt_lists.specs.Words.{range_below};
 ghost use Rattle.tt_text.specs.Lines.{line_text};
