@@ -56,7 +56,7 @@ told_reads result file n f before after told same h =
 -- whether a read has failed, after a result that is known
 pub result_reads : {A E : Type 0} (r known : Result A E) (passes : E → Bool) (before after : Bool) → r ≡ known → after ≡ (if is_err_and r passes then true else before)
     → after ≡ (if is_err_and known passes then true else before)
-result_reads r known passes before after is h = h ∙ ap (λ (x : Result A E). if is_err_and x passes then true else before) is
+result_reads {A} {E} r known passes before after is h = h ∙ ap (λ (x : Result A E). if is_err_and x passes then true else before) is
 
 -- a failed read of this file
 pub read_is_at : (result : SumFault) (file n : ℕ) → result ≡ read_failed_at file → file ≡ n → is_failed_read_at n result ≡ true
