@@ -73,11 +73,11 @@ fn write_files<R: Files + Clock + AllocGlobal>(
 }
 
 /// Searches, shows the progress on standard error, and saves the best timetable on the way if the options ask for it.
-fn search_shown<R: Files + Clock + AllocGlobal, E: Write>(
-    rt: &R,
-    ticker: &mut Ticker<'_, R, E>,
-    instance: &[u8],
-    table: &mut Ready<R::File>,
+fn search_shown<'k, R: Files + Clock + AllocGlobal, E: Write>(
+    rt: &'k R,
+    ticker: &'k mut Ticker<'_, R, E>,
+    instance: &'k [u8],
+    table: &'k mut Ready<R::File>,
     search: BestSearch,
 ) -> Result<BestAnswer, AppFault> {
     let saved = saved_instance(rt.alloc(), instance, search.keeps);

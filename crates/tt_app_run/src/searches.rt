@@ -32,12 +32,12 @@ pub fn saved_instance(alloc: Global, bytes: &[u8], keeps: bool) -> Option<Instan
 }
 
 /// Improves a timetable, shows the progress on standard error, and saves timetables on the way if the options ask for it.
-fn improve_shown<R: Files + Clock + AllocGlobal, E: Write>(
-    rt: &R,
-    ticker: &mut Ticker<'_, R, E>,
-    instance: &[u8],
+fn improve_shown<'k, R: Files + Clock + AllocGlobal, E: Write>(
+    rt: &'k R,
+    ticker: &'k mut Ticker<'_, R, E>,
+    instance: &'k [u8],
     solution: &[u8],
-    out: &mut Ready<R::File>,
+    out: &'k mut Ready<R::File>,
     search: Search,
 ) -> Result<Answer, AppFault> {
     let saved = saved_instance(rt.alloc(), instance, search.keeps);
@@ -92,11 +92,11 @@ pub fn answer_improve<R: Files + Clock + AllocGlobal, E: Write>(
 }
 
 /// Searches for a best timetable, shows the progress on standard error, and saves timetables on the way if the options ask for it.
-fn solve_shown<R: Files + Clock + AllocGlobal, E: Write>(
-    rt: &R,
-    ticker: &mut Ticker<'_, R, E>,
-    instance: &[u8],
-    out: &mut Ready<R::File>,
+fn solve_shown<'k, R: Files + Clock + AllocGlobal, E: Write>(
+    rt: &'k R,
+    ticker: &'k mut Ticker<'_, R, E>,
+    instance: &'k [u8],
+    out: &'k mut Ready<R::File>,
     tree: TreeSearch,
 ) -> Result<Answer, AppFault> {
     let saved = saved_instance(rt.alloc(), instance, tree.keeps);
