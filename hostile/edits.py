@@ -3,7 +3,7 @@
 
     python3 hostile/edits.py [CRATE ..]
 
-A crate with must-fail edits is proved a second time before the first of them, so the gate has those that tell most, in few crates
+A crate with must-fail edits is proved a second time before the first of them, so the gate has a part of them, in few crates
 (crates/*/must-fail). The others are files of the same form in hostile/edits/CRATE. This script copies the repository without what was
 built, puts the edits of the named crates, or of all, in their places, and runs `rt must-fail`. The last line is `N edits of M crates were
 refused`, or the status is 1.
