@@ -11,19 +11,19 @@ use Rattle.tt_app.specs.FaultMaps.{fault_from_certify}
 use Rattle.tt_app.specs.declared.answer.Answer.{Answer}
 
 -- an error of the checker is reported
-pub tells : (i s : List ℕ) (proof : Option (List ℕ)) (f : CertifyFault) → IsFirstFault i s proof f → IsCheckRefusal i s proof (fault_from_certify f)
-tells i s proof (certify.Instance instance.OutOfMemory) h = tt
-tells i s proof (certify.Instance f) h = h
-tells i s proof (certify.Solution solution.OutOfMemory) h = tt
-tells i s proof (certify.Solution f) h = h
-tells i s proof (certify.Proof check.OutOfMemory) h = tt
-tells i s proof (certify.Proof f) h = h
-tells i s proof certify.OutOfMemory h = tt
+pub explains : (i s : List ℕ) (proof : Option (List ℕ)) (f : CertifyFault) → IsFirstFault i s proof f → IsCheckRefusal i s proof (fault_from_certify f)
+explains i s proof (certify.Instance instance.OutOfMemory) h = tt
+explains i s proof (certify.Instance f) h = h
+explains i s proof (certify.Solution solution.OutOfMemory) h = tt
+explains i s proof (certify.Solution f) h = h
+explains i s proof (certify.Proof check.OutOfMemory) h = tt
+explains i s proof (certify.Proof f) h = h
+explains i s proof certify.OutOfMemory h = tt
 
 -- an error that the checker may return instead of `Yes` may be reported instead of it
-pub yes_told : (f : CertifyFault) (c b : ℕ) → AnswersYesBelow (Err f) c b → AnswersYes (Err (fault_from_certify f)) c b
-yes_told f c b (inl e) = subst (λ g. AnswersYes (Err (fault_from_certify g)) c b) (sym e) (inl refl)
-yes_told f c b (inr e) = subst (λ g. AnswersYes (Err (fault_from_certify g)) c b) (sym e) (inr refl)
+pub yes_reported : (f : CertifyFault) (c b : ℕ) → AnswersYesBelow (Err f) c b → AnswersYes (Err (fault_from_certify f)) c b
+yes_reported f c b (inl e) = subst (λ g. AnswersYes (Err (fault_from_certify g)) c b) (sym e) (inl refl)
+yes_reported f c b (inr e) = subst (λ g. AnswersYes (Err (fault_from_certify g)) c b) (sym e) (inr refl)
 
 pub yes_same : (a : Answer) (m k c b : ℕ) → (m ≡ c) × (k ≡ b) → IsYesAnswer a m k → IsYesAnswer a c b
 yes_same a m k c b e h = subst (λ (n : ℕ). IsYesAnswer a n b) e.0 (subst (λ (n : ℕ). IsYesAnswer a m n) e.1 h)

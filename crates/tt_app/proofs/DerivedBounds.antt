@@ -29,16 +29,16 @@ spelled_memory i p (instance.UnknownCourse n) b spells h = let e = is_read i p s
 spelled_memory i p (instance.OutOfRange n) b spells h = let e = is_read i p spells in absurd cc
 
 -- a property of the bytes, if they are known
-pub told : (q : Option (List ℕ)) (P : List ℕ → Type 0) → ((bytes : List ℕ) → q ≡ Some bytes → P bytes) → IfSome q P
-told None P h = tt
-told (Some bytes) P h = h bytes refl
+pub reported : (q : Option (List ℕ)) (P : List ℕ → Type 0) → ((bytes : List ℕ) → q ≡ Some bytes → P bytes) → IfSome q P
+reported None P h = tt
+reported (Some bytes) P h = h bytes refl
 
 -- an error of the proof is reported
 pub proof_tells : (i : List ℕ) (p : Problem) (q : Option (List ℕ)) (f : CheckFault) → Spells i p → ((bytes : List ℕ) → q ≡ Some bytes → IsProofFault p (stream_of bytes) f) → IsBoundRefusal i q (fault_from_check f)
 proof_tells i p q check.OutOfMemory spells h = tt
-proof_tells i p q (check.Text f) spells h = record { problem = p; spelled = spells; fails = told q (λ bytes. IsProofFault p (stream_of bytes) (check.Text f)) h }
-proof_tells i p q (check.Rule n f) spells h = record { problem = p; spelled = spells; fails = told q (λ bytes. IsProofFault p (stream_of bytes) (check.Rule n f)) h }
-proof_tells i p q (check.TooDeep n) spells h = record { problem = p; spelled = spells; fails = told q (λ bytes. IsProofFault p (stream_of bytes) (check.TooDeep n)) h }
+proof_tells i p q (check.Text f) spells h = record { problem = p; spelled = spells; fails = reported q (λ bytes. IsProofFault p (stream_of bytes) (check.Text f)) h }
+proof_tells i p q (check.Rule n f) spells h = record { problem = p; spelled = spells; fails = reported q (λ bytes. IsProofFault p (stream_of bytes) (check.Rule n f)) h }
+proof_tells i p q (check.TooDeep n) spells h = record { problem = p; spelled = spells; fails = reported q (λ bytes. IsProofFault p (stream_of bytes) (check.TooDeep n)) h }
 
 -- a silent error says nothing about the bytes
 pub silent_bound : (f : CheckFault) (b : Bound) → IsEnvironmental f → AnswersBound (Err (fault_from_check f)) b
@@ -50,4 +50,4 @@ pub proved_here : (i bytes : List ℕ) (p read : Problem) (b : Bound) → Spells
 proved_here i bytes p read b spells found h = subst (λ (q : Problem). IsProved q bytes b) (one_instance i p read spells found) h
 
 pub bounded : (i : List ℕ) (p : Problem) (q : Option (List ℕ)) (a : Answer) (b : Bound) → Spells i p → ((bytes : List ℕ) → q ≡ Some bytes → IsProved p bytes b) → HoldsOfAll p b → IsBoundAnswer a b → IsBounded i q a
-bounded i p q a b spells proved holds answer = record { problem = p; spelled = spells; bound = b; proved = told q (λ bytes. IsProved p bytes b) proved; holds = holds; answer = answer }
+bounded i p q a b spells proved holds answer = record { problem = p; spelled = spells; bound = b; proved = reported q (λ bytes. IsProved p bytes b) proved; holds = holds; answer = answer }

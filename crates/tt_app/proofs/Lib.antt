@@ -8,5 +8,5 @@ pub mod Files
 pub mod Paging
 pub mod Rewriting
 pub mod Searching
-pub mod ToldMemory
+pub mod ReportedMemory
 pub mod Completions

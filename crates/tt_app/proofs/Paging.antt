@@ -90,7 +90,7 @@ page_same i s p read t found names l m b c style before after both spells solved
     let same : read ≡ p = one_instance i read p spells both.spelled in
     let here : SpellsTable p s found = subst (λ (q : Problem). SpellsTable q s found) same solved in
     let table : found ≡ t = one_table s i p found t both.spelled here both.solved in
-    let told : labels_for p names ≡ Ok m = subst (λ (q : Problem). labels_for q names ≡ Ok m) same given in
+    let reported : labels_for p names ≡ Ok m = subst (λ (q : Problem). labels_for q names ≡ Ok m) same given in
     let labelled : m ≡ l = cc in
     let text : page_text read found m (Some c) style ≡ page_text p t l (Some b) style = cc in
     subst (λ (x : List ℕ). Appends before after x) text written

@@ -14,7 +14,7 @@ use Rattle.tt_app.specs.Rewritten.{IsUpgradeAnswer, IsRewritten, FailsWhole, IsU
 use Rattle.tt_app.specs.FaultMaps.{fault_from_upgrade}
 use Rattle.tt_app.specs.declared.answer.Answer.{Answer}
 use Rattle.tt_app.specs.declared.fault.AppFault.{AppFault}
-use Rattle.tt_app.proofs.DerivedBounds.{told}
+use Rattle.tt_app.proofs.DerivedBounds.{reported}
 
 -- an error that `bound` may return instead of a bound may be returned by `upgrade`
 pub as_bound : (f : AppFault) (b : Bound) → AnswersBound (Err f) b → AnswersUpgrade (Err f) b
@@ -23,7 +23,7 @@ as_bound f b (inr e) = inr (inl e)
 
 module _ (i : List ℕ) (p : Problem) (q : Option (List ℕ)) (spells : Spells i p) where
   whole : (f : UpgradeFault) → ((bytes : List ℕ) → q ≡ Some bytes → IsUpgradeFault p (stream_of bytes) f) → FailsWhole i q f
-  whole f h = record { problem = p; spelled = spells; fails = told q (λ bytes. IsUpgradeFault p (stream_of bytes) f) h }
+  whole f h = record { problem = p; spelled = spells; fails = reported q (λ bytes. IsUpgradeFault p (stream_of bytes) f) h }
 
   -- an error of the proof is reported
   pub upgrade_tells : (f : UpgradeFault) → ((bytes : List ℕ) → q ≡ Some bytes → IsUpgradeFault p (stream_of bytes) f) → IsUpgradeRefusal i q (fault_from_upgrade f)
@@ -35,7 +35,7 @@ module _ (i : List ℕ) (p : Problem) (q : Option (List ℕ)) (spells : Spells i
   upgrade_tells upgrade.OutOfMemory h = tt
 
   pub rewritten : (a : Answer) (b : Bound) (out : List ℕ) → ((bytes : List ℕ) → q ≡ Some bytes → IsUpgraded p bytes b out) → HoldsOfAll p b → IsUpgradeAnswer a b out → IsRewritten i q a
-  rewritten a b out h holds answer = record { problem = p; spelled = spells; bound = b; out = out; upgraded = told q (λ bytes. IsUpgraded p bytes b out) h; holds = holds; answer = answer }
+  rewritten a b out h holds answer = record { problem = p; spelled = spells; bound = b; out = out; upgraded = reported q (λ bytes. IsUpgraded p bytes b out) h; holds = holds; answer = answer }
 
 -- a silent error says nothing against the proof
 pub silent_upgrade : (f : UpgradeFault) (b : Bound) → IsEnvironmental f → AnswersUpgrade (Err (fault_from_upgrade f)) b

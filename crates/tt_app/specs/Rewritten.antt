@@ -57,4 +57,4 @@ AnswersUpgrade (Err f) b = (f ≡ fault.OutOfMemory) ⊎ (f ≡ read_failed) ⊎
 pub record IsSpelledAndReadUpToFailedRead (instance proof : List ℕ) (left : Option (List ℕ)) : Type 0 where
   pub problem : Problem
   pub spelled : Spells instance problem
-  pub tells : IsReadUpToFailedRead problem proof left
+  pub explains : IsReadUpToFailedRead problem proof left

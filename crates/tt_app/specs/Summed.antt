@@ -83,7 +83,7 @@ AnswersSum (Err f) b = IsSilentRefusal f
 pub record IsSpelledAndFileCheckedUpToFailedRead (instance proof : List ℕ) (left : Option (List ℕ)) : Type 0 where
   pub problem : Problem
   pub spelled : Spells instance problem
-  pub tells : IsFileCheckedUpToFailedRead problem proof left
+  pub explains : IsFileCheckedUpToFailedRead problem proof left
 
 -- -- with a solution
 

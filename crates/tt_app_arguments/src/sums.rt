@@ -11,7 +11,7 @@ fn solution_option<'a>(alloc: Global) -> Arg<'a> {
         .action(ArgAction::Set)
         .value_name("SOLUTION")
         .help(
-            "A timetable that is checked too: it is told what it costs, and whether that is the bound",
+            "A timetable that is checked too: it is reported what it costs, and whether that is the bound",
         )
 }
 

@@ -214,8 +214,8 @@ module _ (p : Problem) (ok : IsInstance p) where
     proves true lowest ends same = let d = finished_proves p best links tree_nodes u.grown (omega (arith, ends.1)) ends.0 in (u.grown.tree, spelled, d.0, d.1)
     proves false lowest ends same =
         let w = least_worth links tree_nodes ends.0 in
-        let told : lowest ≡ Some w.0 = same refl ∙ w.1 in
-        let shown : shown_bound (final_bound p best) lowest false ≡ AtLeast w.0 = ap (λ o. shown_bound (final_bound p best) o false) told in
+        let reported : lowest ≡ Some w.0 = same refl ∙ w.1 in
+        let shown : shown_bound (final_bound p best) lowest false ≡ AtLeast w.0 = ap (λ o. shown_bound (final_bound p best) o false) reported in
         let found : least (worths p (on_paths [] u.grown.tree)) ≡ Some w.0 = sym (ap least (worths_are best links tree_nodes u.grown)) ∙ w.1 in
         let d = unfinished_proves p best links tree_nodes u.grown w.0 found (omega (arith, ends.2)) in
         (u.grown.tree, spelled, d.0, subst (λ b. Derives p b [] u.grown.tree) (sym shown) d.1)
@@ -234,8 +234,8 @@ module _ (p : Problem) (ok : IsInstance p) where
     }
     concluded false lowest begun ends same holds =
         let w = least_worth links tree_nodes ends.0 in
-        let told : lowest ≡ Some w.0 = same refl ∙ w.1 in
-        let shown : shown_bound (final_bound p best) lowest false ≡ AtLeast w.0 = ap (λ o. shown_bound (final_bound p best) o false) told in
+        let reported : lowest ≡ Some w.0 = same refl ∙ w.1 in
+        let shown : shown_bound (final_bound p best) lowest false ≡ AtLeast w.0 = ap (λ o. shown_bound (final_bound p best) o false) reported in
         let found : least (worths p (on_paths [] u.grown.tree)) ≡ Some w.0 = sym (ap least (worths_are best links tree_nodes u.grown)) ∙ w.1 in
         let bound : IsBound (shown_bound (final_bound p best) lowest false) = subst IsBound (sym shown) w.2 in
         let derives = (unfinished_proves p best links tree_nodes u.grown w.0 found (omega (arith, ends.2))).1 in

@@ -48,8 +48,8 @@ pub struct Best {
 /// Returns the timetable with its cost, if it breaks no hard rule.
 fn if_feasible(instance: &Instance<'_>, table: Timetable) -> Option<Best>
     requires { IsTimetable instance.now table }
-    ensures some { IfSome result (λ b. IsCosted instance.now b) }
-    ensures same { IfSome result (λ b. b.table ≡ table) }
+    ensures costed { IfSome result (λ b. IsCosted instance.now b) }
+    ensures table { IfSome result (λ b. b.table ≡ table) }
     ensures none { IsNone result → ¬ IsFeasible instance.now table }
     ensures no_dearer { (t : List Cell) → IsNoWorse instance.now t table → IsFeasible instance.now t → IsNoDearer instance.now (table_of result) t }
 {
@@ -76,7 +76,7 @@ fn size_of(instance: &Instance<'_>, table: &Timetable) -> u64 {
 }
 
 /// Returns whether a timetable breaks no hard rule and costs at most a goal.
-fn reaches(instance: &Instance<'_>, table: &Timetable, goal: u64) -> bool
+fn is_at_goal(instance: &Instance<'_>, table: &Timetable, goal: u64) -> bool
     requires { IsTimetable instance.now table.now }
 {
     let counts = score(instance, table);
@@ -124,7 +124,7 @@ fn improve_to<W: Watch>(
     let start = table.copy()?;
     let mut best = table;
     for turn in 0..turns {
-        if reaches(instance, &best, goal) {
+        if is_at_goal(instance, &best, goal) {
             break;
         }
         let turn_seed = seed.wrapping_add(u64::from(turn));
@@ -153,7 +153,7 @@ pub fn first_best<W: Watch>(
     turns: u32,
     watch: &mut W,
 ) -> Result<Option<Best>, AllocError>
-    ensures kept { IfOk result (IsBestSoFar instance.now) }
+    ensures best { IfOk result (IsBestSoFar instance.now) }
     ensures begun { IfOk result (λ best. BeginsWell instance.now (table_of best)) }
 {
     let table = construct(alloc, instance, seed)?;

@@ -56,7 +56,7 @@ fn is_next(tree_node: &TreeNode, first: bool, least: u64) -> bool
 
 /// Returns the open node with the least key, the first of several.
 pub fn next_open(tree_nodes: &[TreeNode]) -> Option<usize>
-    ensures some { IfSome result (λ place. IsOpenAt tree_nodes.now place) }
+    ensures open { IfSome result (λ place. IsOpenAt tree_nodes.now place) }
     ensures none { IsNone result → list_any (λ e. is_open e.mark) tree_nodes.now ≡ false }
 {
     let mut found = None;

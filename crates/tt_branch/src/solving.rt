@@ -122,7 +122,7 @@ fn solve_over<'i, P: Path<'i>, W: Watch>(
     limit: u32,
     watch: &mut W,
 ) -> Result<Outcome, AllocError>
-    requires kept { IsBestSoFar (P.problem path.old) best }
+    requires best { IsBestSoFar (P.problem path.old) best }
     requires begun { BeginsWell (P.problem path.old) (table_of best) }
     requires positive { 1 ≤ limit }
     requires at_most { limit ≤ MAX_OPENED }

@@ -22,7 +22,7 @@ pub enum NodeState {
 impl NodeState {
     /// Returns the pattern by which an opened node will be split.
     pub fn pattern(&self) -> Option<Pattern>
-        ensures some { IfSome result (λ g. self.now ≡ NodeState.Opened g) }
+        ensures opened { IfSome result (λ g. self.now ≡ NodeState.Opened g) }
         ensures none { IsNone result → is_open self.now ≡ true → self.now ≡ NodeState.Waiting }
     {
         match self {

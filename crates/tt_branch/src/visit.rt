@@ -58,7 +58,7 @@ fn take_live<'i, P: Path<'i>>(
     path: &P,
     best: &mut Option<Best>,
 ) -> Result<Leaf, AllocError>
-    requires kept { IsBestSoFar (P.problem path.now) best.old }
+    requires best { IsBestSoFar (P.problem path.now) best.old }
     requires pinned { IsPinnedDown (P.problem path.now) (P.facts path.now) }
     requires unclosed { IsOpen (P.problem path.now) (P.facts path.now) (final_bound (P.problem path.now) (table_of best.old)) }
     ensures known { IfOk result (λ leaf. IsKnown (P.problem path.now) (table_of best.new) (P.facts path.now) (NodeState.Closed leaf)) }
@@ -96,7 +96,7 @@ fn open<'i, P: Path<'i>>(
     path: &P,
     best: &mut Option<Best>,
 ) -> Result<Opening, AllocError>
-    requires kept { IsBestSoFar (P.problem path.now) best.old }
+    requires best { IsBestSoFar (P.problem path.now) best.old }
     requires patterns { ArePatterns (P.problem path.now) (P.facts path.now) }
     ensures known { IfOk result (λ o. IsKnown (P.problem path.now) (table_of best.new) (P.facts path.now) o.mark) }
     ensures opened { IfOk result (λ o. was_opened o.mark ≡ true) }

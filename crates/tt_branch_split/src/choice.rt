@@ -215,7 +215,7 @@ fn cheapest_room<'i, P: Path<'i>>(path: &P, cell: Cell) -> Cell
 
 /// Returns the own pattern of a free cell.
 fn split_by_cell<'i, P: Path<'i>>(path: &P) -> Option<Pattern>
-    ensures some { IfSome result (IsNewSplit (P.problem path.now) (P.facts path.now)) }
+    ensures split { IfSome result (IsNewSplit (P.problem path.now) (P.facts path.now)) }
     ensures none { IsNone result → IsPinnedDown (P.problem path.now) (P.facts path.now) }
 {
     match find_free(path) {
@@ -227,7 +227,7 @@ fn split_by_cell<'i, P: Path<'i>>(path: &P) -> Option<Pattern>
 /// Returns a pattern that splits a node which no leaf closes: of a course and a period, or of one cell once no
 /// course has an open period.
 pub fn choose_split<'i, P: Path<'i>>(alloc: Global, path: &P) -> Result<Option<Pattern>, AllocError>
-    ensures some { IfOk result (λ found. IfSome found (IsNewSplit (P.problem path.now) (P.facts path.now))) }
+    ensures split { IfOk result (λ found. IfSome found (IsNewSplit (P.problem path.now) (P.facts path.now))) }
     ensures none { IfOk result (λ found. IsNone found → IsPinnedDown (P.problem path.now) (P.facts path.now)) }
 {
     let prospects = Prospects::new(alloc, path)?;

@@ -31,7 +31,7 @@ fn free_on<'i, P: Path<'i>>(path: &P, course: u32, room: u32, day: u32) -> Optio
     requires course { course < length (P.problem path.now).courses }
     requires room { room < length (P.problem path.now).rooms }
     requires day { day < (P.problem path.now).days }
-    ensures some { IfSome result (λ x. InRange (P.problem path.now) x × IsFree (P.problem path.now) (P.facts path.now) x) }
+    ensures free { IfSome result (λ x. InRange (P.problem path.now) x × IsFree (P.problem path.now) (P.facts path.now) x) }
     ensures none { IsNone result → (s : ℕ) → s < (P.problem path.now).periods → ¬ IsFree (P.problem path.now) (P.facts path.now) (cell course room (slot day s)) }
 {
     for period in 0..path.instance().periods() {
@@ -51,7 +51,7 @@ fn free_on<'i, P: Path<'i>>(path: &P, course: u32, room: u32, day: u32) -> Optio
 fn free_in<'i, P: Path<'i>>(path: &P, course: u32, room: u32) -> Option<Cell>
     requires course { course < length (P.problem path.now).courses }
     requires room { room < length (P.problem path.now).rooms }
-    ensures some { IfSome result (λ x. InRange (P.problem path.now) x × IsFree (P.problem path.now) (P.facts path.now) x) }
+    ensures free { IfSome result (λ x. InRange (P.problem path.now) x × IsFree (P.problem path.now) (P.facts path.now) x) }
     ensures none { IsNone result → (d : ℕ) → d < (P.problem path.now).days → (s : ℕ) → s < (P.problem path.now).periods → ¬ IsFree (P.problem path.now) (P.facts path.now) (cell course room (slot d s)) }
 {
     for day in 0..path.instance().days() {
@@ -64,7 +64,7 @@ fn free_in<'i, P: Path<'i>>(path: &P, course: u32, room: u32) -> Option<Cell>
 
 fn free_of<'i, P: Path<'i>>(path: &P, course: u32) -> Option<Cell>
     requires course { course < length (P.problem path.now).courses }
-    ensures some { IfSome result (λ x. InRange (P.problem path.now) x × IsFree (P.problem path.now) (P.facts path.now) x) }
+    ensures free { IfSome result (λ x. InRange (P.problem path.now) x × IsFree (P.problem path.now) (P.facts path.now) x) }
     ensures none { IsNone result → (r : ℕ) → r < length (P.problem path.now).rooms → (d : ℕ) → d < (P.problem path.now).days → (s : ℕ) → s < (P.problem path.now).periods → ¬ IsFree (P.problem path.now) (P.facts path.now) (cell course r (slot d s)) }
 {
     for room in 0..path.instance().rooms() {
@@ -77,7 +77,7 @@ fn free_of<'i, P: Path<'i>>(path: &P, course: u32) -> Option<Cell>
 
 /// Returns a cell that is free on a path; if there is none, each live cell's own pattern is on the path as yes.
 pub fn find_free<'i, P: Path<'i>>(path: &P) -> Option<Cell>
-    ensures some { IfSome result (λ x. InRange (P.problem path.now) x × IsFree (P.problem path.now) (P.facts path.now) x) }
+    ensures free { IfSome result (λ x. InRange (P.problem path.now) x × IsFree (P.problem path.now) (P.facts path.now) x) }
     ensures none { IsNone result → IsPinnedDown (P.problem path.now) (P.facts path.now) }
 {
     for course in 0..path.instance().courses() {

@@ -98,7 +98,7 @@ impl Neighbours {
     }
 
     /// Returns the number of members with a live cell in the periods before and after a period.
-    pub fn beside(&self, curriculum: u32, day: u32, period: u32) -> u32 {
+    pub fn live_around(&self, curriculum: u32, day: u32, period: u32) -> u32 {
         let before = match period.checked_sub(1) {
             Some(earlier) => self.live(curriculum, day, earlier),
             None => 0,

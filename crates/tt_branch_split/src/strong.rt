@@ -145,12 +145,12 @@ fn thin_out(neighbours: &Neighbours, curriculum: u32, slot: Slot, lost: u32) -> 
     if let Some(before) = slot.period.checked_sub(1)
         && pinned & bit_of(before) != 0
     {
-        let beside = neighbours.beside(curriculum, slot.day, before);
+        let beside = neighbours.live_around(curriculum, slot.day, before);
         gain.add(isolation(beside, lost));
     }
     let after = slot.period.saturating_add(1);
     if pinned & bit_of(after) != 0 {
-        let beside = neighbours.beside(curriculum, slot.day, after);
+        let beside = neighbours.live_around(curriculum, slot.day, after);
         gain.add(isolation(beside, lost));
     }
     gain
@@ -161,7 +161,7 @@ fn pin(neighbours: &Neighbours, curriculum: u32, slot: Slot) -> ChildEstimate {
     if neighbours.pinned(curriculum, slot.day) & bit_of(slot.period) != 0 {
         return ChildEstimate::NONE;
     }
-    let beside = neighbours.beside(curriculum, slot.day, slot.period);
+    let beside = neighbours.live_around(curriculum, slot.day, slot.period);
     if beside == 0 {
         return ChildEstimate {
             cost: ISOLATED,
@@ -209,7 +209,7 @@ fn sum_of_no(gains: &[Gains], word: u32, set: u64) -> ChildEstimate {
 }
 
 /// Returns the periods before and after a period, as bits.
-fn beside(period: u32) -> u64 {
+fn around(period: u32) -> u64 {
     let before = period.checked_sub(1).map_or(0, bit_of);
     before | bit_of(period.saturating_add(1))
 }
@@ -323,7 +323,7 @@ impl BranchingTables<'_, '_> {
             add_yes(gains, *member, yes);
             add_no(gains, *member, no);
         }
-        if self.neighbours.pinned(curriculum, slot.day) & beside(slot.period) != 0 {
+        if self.neighbours.pinned(curriculum, slot.day) & around(slot.period) != 0 {
             self.add_others(curriculum, slot, set, gains);
         }
     }

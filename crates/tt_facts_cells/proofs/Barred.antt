@@ -12,10 +12,10 @@ use Rattle.tt_instance.specs.Problem.{Problem}
 use Rattle.tt_instance.specs.Cells.{InRange}
 use Rattle.tt_instance.specs.declared.cell.Cell.{Cell}
 use Rattle.tt_facts_path.specs.Facts.{agrees, is_who, matches}
-use Rattle.tt_facts_path.specs.Nested.{agrees_at, courses_of}
+use Rattle.tt_facts_path.specs.Nested.{has_place_of, courses_of}
 use Rattle.tt_facts_path.specs.declared.facts.Pattern.{Pattern}
 use Rattle.tt_facts_cell_set.specs.Tables.{is_placed}
-use Rattle.tt_facts_cells.specs.Slots.{allows, Covers}
+use Rattle.tt_facts_cells.specs.Slots.{is_allowed, Covers}
 use Rattle.tt_facts_cells.proofs.Losing.{placed_at}
 use Rattle.tt_facts_cells.proofs.Struck.{who-has}
 
@@ -25,13 +25,13 @@ slot_number p x = x.day * p.periods + x.period
 
 -- the cells of a course that agree with a pattern, in the periods below a number
 abbrev pub is_gone : Problem → Pattern → ℕ → ℕ → Cell → Bool
-is_gone p g c n x = (x.course == c) && agrees_at g x && nat_lt (slot_number p x) n
+is_gone p g c n x = (x.course == c) && has_place_of g x && nat_lt (slot_number p x) n
 
 module _ (p : Problem) (g : Pattern) (c n : ℕ) (x : Cell) (h : InRange p x) where
   at_slot : slot_number p x ≡ n → (x.day ≡ n / p.periods) × (x.period ≡ n % p.periods)
   at_slot e = (sym (div-mul-add x.day p.periods x.period h.period) ∙ ap (λ i. i / p.periods) e, sym (mod-mul-add x.day p.periods x.period h.period) ∙ ap (λ i. i % p.periods) e)
 
-  allowed : slot_number p x ≡ n → agrees_at g x ≡ true → allows p g n ≡ true
+  allowed : slot_number p x ≡ n → has_place_of g x ≡ true → is_allowed p g n ≡ true
   allowed e a =
       let u = and_parts (agrees g.room x.room && agrees g.day x.day) (agrees g.period x.period) a in
       let v = and_parts (agrees g.room x.room) (agrees g.day x.day) u.0 in
@@ -39,23 +39,23 @@ module _ (p : Problem) (g : Pattern) (c n : ℕ) (x : Cell) (h : InRange p x) wh
       and_from (agrees g.day (n / p.periods)) (agrees g.period (n % p.periods)) (ap (agrees g.day) (sym q.0) ∙ v.1) (ap (agrees g.period) (sym q.1) ∙ u.1)
 
   -- a period that the pattern doesn't allow
-  pub slot_skipped : allows p g n ≡ false → is_gone p g c n x ≡ is_gone p g c (n + 1) x
+  pub slot_skipped : is_allowed p g n ≡ false → is_gone p g c n x ≡ is_gone p g c (n + 1) x
   slot_skipped barred = same_truth (is_gone p g c n x) (is_gone p g c (n + 1) x)
       (λ e.
-      let a = and_parts ((x.course == c) && agrees_at g x) (nat_lt (slot_number p x) n) e in
+      let a = and_parts ((x.course == c) && has_place_of g x) (nat_lt (slot_number p x) n) e in
       let l = ltb-true (slot_number p x) n a.1 in
-      and_from ((x.course == c) && agrees_at g x) (nat_lt (slot_number p x) (n + 1)) a.0 (lt-ltb (slot_number p x) (n + 1) (omega arith)))
+      and_from ((x.course == c) && has_place_of g x) (nat_lt (slot_number p x) (n + 1)) a.0 (lt-ltb (slot_number p x) (n + 1) (omega arith)))
       (λ e.
-      let a = and_parts ((x.course == c) && agrees_at g x) (nat_lt (slot_number p x) (n + 1)) e in
-      let b = and_parts (x.course == c) (agrees_at g x) a.0 in
+      let a = and_parts ((x.course == c) && has_place_of g x) (nat_lt (slot_number p x) (n + 1)) e in
+      let b = and_parts (x.course == c) (has_place_of g x) a.0 in
       let l = ltb-true (slot_number p x) (n + 1) a.1 in
       elim (cases_lt (slot_number p x) n) [
-        | inl k ↦ and_from ((x.course == c) && agrees_at g x) (nat_lt (slot_number p x) n) a.0 (lt-ltb (slot_number p x) n k)
-        | inr k ↦ absurd (both_ways (allows p g n) barred (allowed (omega arith) b.1))
+        | inl k ↦ and_from ((x.course == c) && has_place_of g x) (nat_lt (slot_number p x) n) a.0 (lt-ltb (slot_number p x) n k)
+        | inr k ↦ absurd (both_ways (is_allowed p g n) barred (allowed (omega arith) b.1))
       ])
 
   -- a period that the pattern allows
-  pub slot_gone : allows p g n ≡ true → (is_gone p g c n x || (is_placed c (n / p.periods) (n % p.periods) x && agrees g.room x.room)) ≡ is_gone p g c (n + 1) x
+  pub slot_gone : is_allowed p g n ≡ true → (is_gone p g c n x || (is_placed c (n / p.periods) (n % p.periods) x && agrees g.room x.room)) ≡ is_gone p g c (n + 1) x
   slot_gone open_there = same_truth (is_gone p g c n x || (is_placed c d s x && agrees g.room x.room)) (is_gone p g c (n + 1) x) there back
     where
       d : ℕ
@@ -66,16 +66,16 @@ module _ (p : Problem) (g : Pattern) (c n : ℕ) (x : Cell) (h : InRange p x) wh
 
       there : (is_gone p g c n x || (is_placed c d s x && agrees g.room x.room)) ≡ true → is_gone p g c (n + 1) x ≡ true
       there e = elim (or_cases (is_gone p g c n x) (is_placed c d s x && agrees g.room x.room) e) [
-        | inl k ↦ let a = and_parts ((x.course == c) && agrees_at g x) (nat_lt (slot_number p x) n) k in
+        | inl k ↦ let a = and_parts ((x.course == c) && has_place_of g x) (nat_lt (slot_number p x) n) k in
             let l = ltb-true (slot_number p x) n a.1 in
-            and_from ((x.course == c) && agrees_at g x) (nat_lt (slot_number p x) (n + 1)) a.0 (lt-ltb (slot_number p x) (n + 1) (omega arith))
+            and_from ((x.course == c) && has_place_of g x) (nat_lt (slot_number p x) (n + 1)) a.0 (lt-ltb (slot_number p x) (n + 1) (omega arith))
         | inr k ↦ let a = and_parts (is_placed c d s x) (agrees g.room x.room) k in
             let at = placed_at c d s x a.0 in
             let ok = and_parts (agrees g.day d) (agrees g.period s) open_there in
             let some : 0 < p.periods = let l = h.period in omega arith in
             let whole : slot_number p x ≡ n = ap (λ i. i * p.periods + x.period) at.1 ∙ ap (λ i. d * p.periods + i) at.2 ∙ back_to some in
-            and_from ((x.course == c) && agrees_at g x) (nat_lt (slot_number p x) (n + 1))
-            (and_from (x.course == c) (agrees_at g x) (eq-eqb x.course c at.0) (and_from (agrees g.room x.room && agrees g.day x.day) (agrees g.period x.period) (and_from (agrees g.room x.room) (agrees g.day x.day) a.1 (ap (agrees g.day) at.1 ∙ ok.0)) (ap (agrees g.period) at.2 ∙ ok.1)))
+            and_from ((x.course == c) && has_place_of g x) (nat_lt (slot_number p x) (n + 1))
+            (and_from (x.course == c) (has_place_of g x) (eq-eqb x.course c at.0) (and_from (agrees g.room x.room && agrees g.day x.day) (agrees g.period x.period) (and_from (agrees g.room x.room) (agrees g.day x.day) a.1 (ap (agrees g.day) at.1 ∙ ok.0)) (ap (agrees g.period) at.2 ∙ ok.1)))
             (lt-ltb (slot_number p x) (n + 1) (omega arith))
       ]
         where
@@ -84,11 +84,11 @@ module _ (p : Problem) (g : Pattern) (c n : ℕ) (x : Cell) (h : InRange p x) wh
 
       back : is_gone p g c (n + 1) x ≡ true → (is_gone p g c n x || (is_placed c d s x && agrees g.room x.room)) ≡ true
       back e =
-          let a = and_parts ((x.course == c) && agrees_at g x) (nat_lt (slot_number p x) (n + 1)) e in
-          let b = and_parts (x.course == c) (agrees_at g x) a.0 in
+          let a = and_parts ((x.course == c) && has_place_of g x) (nat_lt (slot_number p x) (n + 1)) e in
+          let b = and_parts (x.course == c) (has_place_of g x) a.0 in
           let l = ltb-true (slot_number p x) (n + 1) a.1 in
           elim (cases_lt (slot_number p x) n) [
-            | inl k ↦ or_left (is_gone p g c n x) (is_placed c d s x && agrees g.room x.room) (and_from ((x.course == c) && agrees_at g x) (nat_lt (slot_number p x) n) a.0 (lt-ltb (slot_number p x) n k))
+            | inl k ↦ or_left (is_gone p g c n x) (is_placed c d s x && agrees g.room x.room) (and_from ((x.course == c) && has_place_of g x) (nat_lt (slot_number p x) n) a.0 (lt-ltb (slot_number p x) n k))
             | inr k ↦ let q = at_slot (omega arith) in
                 let u = and_parts (agrees g.room x.room && agrees g.day x.day) (agrees g.period x.period) b.1 in
                 let v = and_parts (agrees g.room x.room) (agrees g.day x.day) u.0 in
@@ -98,8 +98,8 @@ module _ (p : Problem) (g : Pattern) (c n : ℕ) (x : Cell) (h : InRange p x) wh
 -- before the first period that the pattern allows
 pub none_gone : (p : Problem) (g : Pattern) (c from to : ℕ) (x : Cell) → InRange p x → Covers p g from to → is_gone p g c from x ≡ false
 none_gone p g c from to x h covers = false_from_ne_true (is_gone p g c from x) (λ e.
-    let a = and_parts ((x.course == c) && agrees_at g x) (nat_lt (slot_number p x) from) e in
-    let b = and_parts (x.course == c) (agrees_at g x) a.0 in
+    let a = and_parts ((x.course == c) && has_place_of g x) (nat_lt (slot_number p x) from) e in
+    let b = and_parts (x.course == c) (has_place_of g x) a.0 in
     let u = and_parts (agrees g.room x.room && agrees g.day x.day) (agrees g.period x.period) b.1 in
     let v = and_parts (agrees g.room x.room) (agrees g.day x.day) u.0 in
     let w = covers.all x.day x.period h.day h.period v.1 u.1 in
@@ -108,16 +108,16 @@ none_gone p g c from to x h covers = false_from_ne_true (is_gone p g c from x) (
     omega arith)
 
 -- after the last period that the pattern allows
-pub all_gone : (p : Problem) (g : Pattern) (c from to n : ℕ) (x : Cell) → InRange p x → Covers p g from to → to ≤ n → is_gone p g c n x ≡ ((x.course == c) && agrees_at g x)
-all_gone p g c from to n x h covers past = same_truth (is_gone p g c n x) ((x.course == c) && agrees_at g x)
-    (λ e. (and_parts ((x.course == c) && agrees_at g x) (nat_lt (slot_number p x) n) e).0)
+pub all_gone : (p : Problem) (g : Pattern) (c from to n : ℕ) (x : Cell) → InRange p x → Covers p g from to → to ≤ n → is_gone p g c n x ≡ ((x.course == c) && has_place_of g x)
+all_gone p g c from to n x h covers past = same_truth (is_gone p g c n x) ((x.course == c) && has_place_of g x)
+    (λ e. (and_parts ((x.course == c) && has_place_of g x) (nat_lt (slot_number p x) n) e).0)
     (λ e.
-    let b = and_parts (x.course == c) (agrees_at g x) e in
+    let b = and_parts (x.course == c) (has_place_of g x) e in
     let u = and_parts (agrees g.room x.room && agrees g.day x.day) (agrees g.period x.period) b.1 in
     let v = and_parts (agrees g.room x.room) (agrees g.day x.day) u.0 in
     let w = covers.all x.day x.period h.day h.period v.1 u.1 in
     let high = w.1 in
-    and_from ((x.course == c) && agrees_at g x) (nat_lt (slot_number p x) n) e (lt-ltb (slot_number p x) n (omega arith)))
+    and_from ((x.course == c) && has_place_of g x) (nat_lt (slot_number p x) n) e (lt-ltb (slot_number p x) n (omega arith)))
 
 -- ---- course by course
 
@@ -151,15 +151,15 @@ regroup : (w r d s : Bool) → (w && (r && d && s)) ≡ (w && r && d && s)
 regroup true r d s = refl
 regroup false r d s = refl
 
-pub courses_gone : (p : Problem) (g : Pattern) (x : Cell) → (has_number (courses_of p g.who) x.course && agrees_at g x) ≡ matches p g x
-courses_gone p g x = ap (λ b. b && agrees_at g x) (who-has p g.who x.course) ∙ regroup (is_who p g.who x.course) (agrees g.room x.room) (agrees g.day x.day) (agrees g.period x.period)
+pub courses_gone : (p : Problem) (g : Pattern) (x : Cell) → (has_number (courses_of p g.who) x.course && has_place_of g x) ≡ matches p g x
+courses_gone p g x = ap (λ b. b && has_place_of g x) (who-has p g.who x.course) ∙ regroup (is_who p g.who x.course) (agrees g.room x.room) (agrees g.day x.day) (agrees g.period x.period)
 
 module _ (p : Problem) (g : Pattern) (ks : List ℕ) (i : ℕ) (hi : i < length ks) (x : Cell) where
-  pub course_at : ((has_number (take i ks) x.course && agrees_at g x) || ((x.course == slice_index_or ks i 0) && agrees_at g x)) ≡ (has_number (take (i + 1) ks) x.course && agrees_at g x)
-  course_at = course_gone (take i ks) (slice_index_or ks i 0) x.course (agrees_at g x) ∙ ap (λ l. has_number l x.course && agrees_at g x) (sym (take_more ks i 0 hi))
+  pub course_at : ((has_number (take i ks) x.course && has_place_of g x) || ((x.course == slice_index_or ks i 0) && has_place_of g x)) ≡ (has_number (take (i + 1) ks) x.course && has_place_of g x)
+  course_at = course_gone (take i ks) (slice_index_or ks i 0) x.course (has_place_of g x) ∙ ap (λ l. has_number l x.course && has_place_of g x) (sym (take_more ks i 0 hi))
 
-  pub course_past : InRange p x → length p.courses ≤ slice_index_or ks i 0 → (has_number (take i ks) x.course && agrees_at g x) ≡ (has_number (take (i + 1) ks) x.course && agrees_at g x)
-  course_past h past = course_absent p (take i ks) (slice_index_or ks i 0) x (agrees_at g x) h past ∙ ap (λ l. has_number l x.course && agrees_at g x) (sym (take_more ks i 0 hi))
+  pub course_past : InRange p x → length p.courses ≤ slice_index_or ks i 0 → (has_number (take i ks) x.course && has_place_of g x) ≡ (has_number (take (i + 1) ks) x.course && has_place_of g x)
+  course_past h past = course_absent p (take i ks) (slice_index_or ks i 0) x (has_place_of g x) h past ∙ ap (λ l. has_number l x.course && has_place_of g x) (sym (take_more ks i 0 hi))
 
 -- the cells of a course in one period: the test regrouped
 placed_split : (c a b : Bool) → (c && a && b && true) ≡ (c && (a && b))

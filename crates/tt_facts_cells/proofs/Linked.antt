@@ -15,7 +15,7 @@ use Rattle.tt_facts_path.specs.declared.facts.Pattern.{Pattern}
 use Rattle.tt_instance_links.specs.Links.{conflicts_of}
 use Rattle.tt_instance_links.proofs.Linked.{conflicts-has}
 use Rattle.tt_facts_cell_set.specs.Tables.{has_cell, is_open, is_placed}
-use Rattle.tt_facts_cells.specs.Struck.{is_beside, loses_room}
+use Rattle.tt_facts_cells.specs.Struck.{is_lost_to, loses_room}
 use Rattle.tt_facts_cells.specs.Shown.{is_struck}
 
 pub list_of_one : (xs : List ℕ) → length xs ≡ 1 → xs ≡ slice_index_or xs 0 0 ∷ []
@@ -47,7 +47,7 @@ module _ (p : Problem) (free : List ℕ) (g : Pattern) (d s k : ℕ) (hk : k < l
       ∙ in_period (x.day == d) (x.period == s) (not (has_cell p free x && agrees g.room x.room)) (loses_room p free g d s (k ∷ []) x.course x.room) (λ ed es.
       ap (λ n. not (has_cell p free (cell x.course x.room (slot n x.period)) && agrees g.room x.room)) (eqb-true x.day d ed)
       ∙ ap (λ n. not (has_cell p free (cell x.course x.room (slot d n)) && agrees g.room x.room)) (eqb-true x.period s es)
-      ∙ one_of (has_number (k ∷ []) x.course) (not (is_open p free g.room x.course d s x.room)) (list_all (is_beside p free g d s x.course x.room) (k ∷ [])) (or-false (k == x.course) ∙ eq-eqb k x.course (sym e)))
+      ∙ one_of (has_number (k ∷ []) x.course) (not (is_open p free g.room x.course d s x.room)) (list_all (is_lost_to p free g d s x.course x.room) (k ∷ [])) (or-false (k == x.course) ∙ eq-eqb k x.course (sym e)))
     where
       untaken : (a b c : Bool) → ((a || (b && false)) || c) ≡ (a || c)
       untaken true b c = refl
@@ -88,7 +88,7 @@ module _ (p : Problem) (free : List ℕ) (g : Pattern) (d s k : ℕ) (hk : k < l
           sym (ap (λ b. (not b || conflict p k x.course || list_all (λ i. not (is_open p free g.room k d s i) || (i == x.room)) (all_rooms p)) && true) (lt-ltb k (length p.courses) hk)
           ∙ ap (λ b. (conflict p k x.course || b) && true) (sym (common x.room))
           ∙ and-true (conflict p k x.course || lost x.room))
-          ∙ none_of (has_number (k ∷ []) x.course) (not (is_open p free g.room x.course d s x.room)) (list_all (is_beside p free g d s x.course x.room) (k ∷ [])) (or-false (k == x.course) ∙ ne_eqb k x.course (λ q. e (sym q)))
+          ∙ none_of (has_number (k ∷ []) x.course) (not (is_open p free g.room x.course d s x.room)) (list_all (is_lost_to p free g d s x.course x.room) (k ∷ [])) (or-false (k == x.course) ∙ ne_eqb k x.course (λ q. e (sym q)))
 
   pub struck_beside : ((beaten || taken) || left) ≡ is_struck p free g d s (k ∷ []) x
   struck_beside = elim (cases_eq x.course k) [ inl e ↦ own e | inr e ↦ other e ]

@@ -25,24 +25,24 @@ use Rattle.tt_facts_path.specs.declared.facts.Fact.{Fact}
 use Rattle.tt_facts_cells.proofs.More.{is_barred-yes, is_barred-no, is_dead-yes}
 use Rattle.tt_facts_cells.proofs.Recomputed.{excludes-untouched, is_dead-no-more}
 use Rattle.tt_facts_cell_set.specs.Tables.{has_cell, Shows, Loses}
-use Rattle.tt_facts_cells.specs.Touching.{may_agree, may_share, may_touch}
+use Rattle.tt_facts_cells.specs.Touching.{can_agree, can_share, can_touch}
 use Rattle.tt_facts_cells.specs.Shown.{is_free_of, yes_facts, AreListed, Settles, Renews, Adds}
 use Rattle.tt_facts_cells.proofs.Losing.{shows-less, shows-same}
 
 -- ---- patterns that touch
 
-agree : (a b : Option ℕ) (n : ℕ) → agrees a n ≡ true → agrees b n ≡ true → may_agree a b ≡ true
+agree : (a b : Option ℕ) (n : ℕ) → agrees a n ≡ true → agrees b n ≡ true → can_agree a b ≡ true
 agree None b n e f = refl
 agree (Some m) None n e f = refl
 agree (Some m) (Some k) n e f = eq-eqb m k (eqb-true m n e ∙ sym (eqb-true k n f))
 
-share : (p : Problem) (a b : Who) (c : ℕ) → is_who p a c ≡ true → is_who p b c ≡ true → may_share p a b ≡ true
+share : (p : Problem) (a b : Who) (c : ℕ) → is_who p a c ≡ true → is_who p b c ≡ true → can_share p a b ≡ true
 share p (Course a) (Course b) c e f = eq-eqb a b (sym (eqb-true c a e) ∙ eqb-true c b f)
 share p (Course a) (Curriculum q) c e f = ap (in_curriculum p q) (sym (eqb-true c a e)) ∙ f
 share p (Curriculum q) (Course b) c e f = ap (in_curriculum p q) (sym (eqb-true c b f)) ∙ e
 share p (Curriculum q) (Curriculum k) c e f = refl
 
-pub touching : (p : Problem) (f g : Pattern) (x : Cell) → matches p f x ≡ true → matches p g x ≡ true → may_touch p f g ≡ true
+pub touching : (p : Problem) (f g : Pattern) (x : Cell) → matches p f x ≡ true → matches p g x ≡ true → can_touch p f g ≡ true
 touching p f g x e h =
     let a = and_parts (is_who p f.who x.course && agrees f.room x.room && agrees f.day x.day) (agrees f.period x.period) e in
     let b = and_parts (is_who p f.who x.course && agrees f.room x.room) (agrees f.day x.day) a.0 in
@@ -50,9 +50,9 @@ touching p f g x e h =
     let u = and_parts (is_who p g.who x.course && agrees g.room x.room && agrees g.day x.day) (agrees g.period x.period) h in
     let v = and_parts (is_who p g.who x.course && agrees g.room x.room) (agrees g.day x.day) u.0 in
     let w = and_parts (is_who p g.who x.course) (agrees g.room x.room) v.0 in
-    and_from (may_agree f.room g.room && may_agree f.day g.day && may_agree f.period g.period) (may_share p f.who g.who)
-    (and_from (may_agree f.room g.room && may_agree f.day g.day) (may_agree f.period g.period)
-    (and_from (may_agree f.room g.room) (may_agree f.day g.day) (agree f.room g.room x.room c.1 w.1) (agree f.day g.day x.day b.1 v.1))
+    and_from (can_agree f.room g.room && can_agree f.day g.day && can_agree f.period g.period) (can_share p f.who g.who)
+    (and_from (can_agree f.room g.room && can_agree f.day g.day) (can_agree f.period g.period)
+    (and_from (can_agree f.room g.room) (can_agree f.day g.day) (agree f.room g.room x.room c.1 w.1) (agree f.day g.day x.day b.1 v.1))
     (agree f.period g.period x.period a.1 u.1))
     (share p f.who g.who x.course c.0 w.0)
 
@@ -106,12 +106,12 @@ module _ (p : Problem) (path : List Fact) (f : Fact) (live : List ℕ) (some : L
       ∙ ap (λ b. (is_live p path x && not (matches p f.pattern x)) && not b) (sym (shut_next p (path ++ f ∷ []) some h x)))
 
   -- a yes-fact of the path that doesn't touch the no-fact: the cells that it excludes are dead already
-  pub skipped_apart : (wanted : List Pattern) → AreListed (path ++ f ∷ []) wanted → Contains wanted h.pattern → f.holds ≡ false → may_touch p h.pattern f.pattern ≡ false → Shows p (so_far p path f (some ++ h ∷ [])) live
+  pub skipped_apart : (wanted : List Pattern) → AreListed (path ++ f ∷ []) wanted → Contains wanted h.pattern → f.holds ≡ false → can_touch p h.pattern f.pattern ≡ false → Shows p (so_far p path f (some ++ h ∷ [])) live
   skipped_apart wanted listed member it_denies apart = skip (λ x k e.
       let a = and_parts h.holds (excludes p (path ++ f ∷ []) h.pattern x) e in
       let u = excludes-untouched p path (path ++ f ∷ []) h.pattern x (λ y hy m.
       is_barred-no p path f y it_denies
-      ∙ ap (λ b. is_barred p path y || b) (false_from_ne_true (matches p f.pattern y) (λ q. both_ways (may_touch p h.pattern f.pattern) apart (touching p h.pattern f.pattern y m q)))
+      ∙ ap (λ b. is_barred p path y || b) (false_from_ne_true (matches p f.pattern y) (λ q. both_ways (can_touch p h.pattern f.pattern) apart (touching p h.pattern f.pattern y m q)))
       ∙ or-false (is_barred p path y)) in
       let t = λ (j : Fact). j.holds && excludes p path j.pattern x in
       let all = list_any_yes (λ g. excludes p path g x) (path ++ f ∷ []) ∙ sym (listed.same (λ g. excludes p path g x)) ∙ any_member (λ g. excludes p path g x) wanted h.pattern member (sym u ∙ a.1) in
@@ -162,7 +162,7 @@ module _ (p : Problem) (wanted : List Pattern) (path : List Fact) (f : Fact) (i 
   pub next_settled : (free new : List ℕ) → Shows p (is_free_of p (path ++ f ∷ [])) free → Settles p free live (slice_index_or wanted i d) new → Shows p (so_far p path f (map as_yes (take (i + 1) wanted))) new
   next_settled free new open_cells s = one_more new (settled_one p path f live (map as_yes (take i wanted)) (as_yes (slice_index_or wanted i d)) shows free new refl open_cells s)
 
-  pub next_apart : AreListed (path ++ f ∷ []) wanted → f.holds ≡ false → may_touch p (slice_index_or wanted i d) f.pattern ≡ false → Shows p (so_far p path f (map as_yes (take (i + 1) wanted))) live
+  pub next_apart : AreListed (path ++ f ∷ []) wanted → f.holds ≡ false → can_touch p (slice_index_or wanted i d) f.pattern ≡ false → Shows p (so_far p path f (map as_yes (take (i + 1) wanted))) live
   next_apart e denies apart = one_more live (skipped_apart p path f live (map as_yes (take i wanted)) (as_yes (slice_index_or wanted i d)) shows wanted e (Contains-get_or wanted i d hi) denies apart)
 
 -- after the last fact

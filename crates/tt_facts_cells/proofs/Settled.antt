@@ -17,7 +17,7 @@ use Rattle.tt_facts_cells.specs.Killing.{is_free, IsConfined}
 use Rattle.tt_facts_cells.proofs.Confined.{kills_there, kills_all, spares_all, spares_elsewhere}
 use Rattle.tt_facts_cell_set.specs.Tables.{IsTable, Shows, Loses}
 use Rattle.tt_facts_cells.specs.Struck.{is_left, loses_room}
-use Rattle.tt_facts_cells.specs.Slots.{allows, is_left_in, Covers, IsNone, IsFirst}
+use Rattle.tt_facts_cells.specs.Slots.{is_allowed, is_left_in, Covers, IsNone, IsFirst}
 use Rattle.tt_facts_cells.specs.Shown.{is_free_of, is_struck, Settles}
 use Rattle.tt_facts_cells.proofs.Losing.{loses-none, loses-same}
 use Rattle.tt_facts_cells.proofs.Struck.{left-free, free-left, kills-loses}
@@ -52,7 +52,7 @@ module _ (p : Problem) (path : List Fact) (free : List ℕ) (g : Pattern) (shows
   -- a period with a free cell
   free_in : (k : ℕ) → 0 < p.periods → k < p.days * p.periods → is_left_in p free g (courses_of p g.who) k ≡ true → (y : Cell) × InRange p y × (is_free p path g y ≡ true) × (y.day ≡ k / p.periods) × (y.period ≡ k % p.periods)
   free_in k some h e =
-      let a = and_parts (allows p g k) (is_left p free g (k / p.periods) (k % p.periods) (courses_of p g.who)) e in
+      let a = and_parts (is_allowed p g k) (is_left p free g (k / p.periods) (k % p.periods) (courses_of p g.who)) e in
       let b = and_parts (agrees g.day (k / p.periods)) (agrees g.period (k % p.periods)) a.0 in
       left-free p path free shows g (k / p.periods) (k % p.periods) (day_within k p.days p.periods some h) (mod-lt k some) b.0 b.1 a.1
 
@@ -105,7 +105,7 @@ module _ (p : Problem) (path : List Fact) (free : List ℕ) (g : Pattern) (shows
 
         here : (x.day ≡ d) → (x.period ≡ s) → excludes p path g x ≡ loses_room p free g d s ks x.course x.room
         here qd qs =
-            let a = and_parts (allows p g k) (is_left p free g d s ks) first.passes in
+            let a = and_parts (is_allowed p g k) (is_left p free g d s ks) first.passes in
             let b = and_parts (agrees g.day d) (agrees g.period s) a.0 in
             let hd = day_within k p.days p.periods some within in
             let hs : s < p.periods = mod-lt k some in

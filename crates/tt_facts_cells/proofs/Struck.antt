@@ -24,7 +24,7 @@ use Rattle.tt_facts_path.specs.declared.facts.Pattern.{Pattern}
 use Rattle.tt_facts_path.specs.declared.facts.Fact.{Fact}
 use Rattle.tt_facts_cells.specs.Killing.{is_free, kills_by, kills_at}
 use Rattle.tt_facts_cell_set.specs.Tables.{has_cell, Shows, is_open}
-use Rattle.tt_facts_cells.specs.Struck.{is_left_to, is_left, is_beside, loses_room}
+use Rattle.tt_facts_cells.specs.Struck.{is_left_to, is_left, is_lost_to, loses_room}
 use Rattle.tt_facts_cells.specs.Shown.{is_free_of}
 
 -- ---- the courses that are meant
@@ -145,7 +145,7 @@ module _ (p : Problem) (path : List Fact) (free : List ℕ) (shows : Shows p (is
       apart : (k : ℕ) → has_number ks c ≡ false → Contains ks k → k ≡ c → ⊥
       apart k none m q = both_ways (has_number ks c) none (ap (has_number ks) (sym q) ∙ member-has ks k m)
 
-      beside : kills_at p path g d s x ≡ true → has_number ks c ≡ false → (k : ℕ) → Contains ks k → is_beside p free g d s c r k ≡ true
+      beside : kills_at p path g d s x ≡ true → has_number ks c ≡ false → (k : ℕ) → Contains ks k → is_lost_to p free g d s c r k ≡ true
       beside e none k m = elim (cases_lt k (length p.courses)) [
         | inr past ↦ ap (λ b. not b || conflict p k c || list_all (λ i. not (is_open p free g.room k d s i) || (i == r)) (all_rooms p)) (le-ltb k (length p.courses) past)
         | inl hk ↦ elim (cases_Bool (conflict p k c)) [
@@ -162,8 +162,8 @@ module _ (p : Problem) (path : List Fact) (free : List ℕ) (shows : Shows p (is
 
       there : kills_at p path g d s x ≡ true → loses_room p free g d s ks c r ≡ true
       there e = elim (cases_Bool (has_number ks c)) [
-        | inl h ↦ or_left (has_number ks c && not (is_open p free g.room c d s r)) (not (has_number ks c) && list_all (is_beside p free g d s c r) ks) (and_from (has_number ks c) (not (is_open p free g.room c d s r)) h (ap not (own e h)))
-        | inr h ↦ or_right (has_number ks c && not (is_open p free g.room c d s r)) (not (has_number ks c) && list_all (is_beside p free g d s c r) ks) (and_from (not (has_number ks c)) (list_all (is_beside p free g d s c r) ks) (ap not h) (all_from_members (is_beside p free g d s c r) ks (beside e h)))
+        | inl h ↦ or_left (has_number ks c && not (is_open p free g.room c d s r)) (not (has_number ks c) && list_all (is_lost_to p free g d s c r) ks) (and_from (has_number ks c) (not (is_open p free g.room c d s r)) h (ap not (own e h)))
+        | inr h ↦ or_right (has_number ks c && not (is_open p free g.room c d s r)) (not (has_number ks c) && list_all (is_lost_to p free g d s c r) ks) (and_from (not (has_number ks c)) (list_all (is_lost_to p free g d s c r) ks) (ap not h) (all_from_members (is_lost_to p free g d s c r) ks (beside e h)))
       ]
 
       back_own : has_number ks c ≡ true → is_open p free g.room c d s r ≡ false → (k i : ℕ) → k < length p.courses → i < length p.rooms → is_who p g.who k ≡ true → is_open p free g.room k d s i ≡ true → clash p (cell k i (slot d s)) x ≡ true
@@ -172,10 +172,10 @@ module _ (p : Problem) (path : List Fact) (free : List ℕ) (shows : Shows p (is
         | inr q ↦ clash-other p c k r i d s q ∙ or_left (conflict p k c) (i == r) (who_conflict p g.who k c w (sym (who-has p g.who c) ∙ h) q)
       ]
 
-      back_other : has_number ks c ≡ false → list_all (is_beside p free g d s c r) ks ≡ true → (k i : ℕ) → k < length p.courses → i < length p.rooms → is_who p g.who k ≡ true → is_open p free g.room k d s i ≡ true → clash p (cell k i (slot d s)) x ≡ true
+      back_other : has_number ks c ≡ false → list_all (is_lost_to p free g d s c r) ks ≡ true → (k i : ℕ) → k < length p.courses → i < length p.rooms → is_who p g.who k ≡ true → is_open p free g.room k d s i ≡ true → clash p (cell k i (slot d s)) x ≡ true
       back_other none e k i hk hi w o =
           let m = has-member ks k (who-has p g.who k ∙ w) in
-          let t = at_member (λ j. is_beside p free g d s c r j ≡ true) ks k (each_from_list_all (is_beside p free g d s c r) ks e) m in
+          let t = at_member (λ j. is_lost_to p free g d s c r j ≡ true) ks k (each_from_list_all (is_lost_to p free g d s c r) ks e) m in
           clash-other p c k r i d s (apart k none m) ∙ elim (or_cases (not (nat_lt k (length p.courses)) || conflict p k c) (list_all (λ j. not (is_open p free g.room k d s j) || (j == r)) (all_rooms p)) t) [
             | inl u ↦ elim (or_cases (not (nat_lt k (length p.courses))) (conflict p k c) u) [
               | inl v ↦ absurd (both_ways (not (nat_lt k (length p.courses))) (ap not (lt-ltb k (length p.courses) hk)) v)
@@ -185,9 +185,9 @@ module _ (p : Problem) (path : List Fact) (free : List ℕ) (shows : Shows p (is
           ]
 
       clash_back : loses_room p free g d s ks c r ≡ true → (k i : ℕ) → k < length p.courses → i < length p.rooms → is_who p g.who k ≡ true → is_open p free g.room k d s i ≡ true → clash p (cell k i (slot d s)) x ≡ true
-      clash_back e = elim (or_cases (has_number ks c && not (is_open p free g.room c d s r)) (not (has_number ks c) && list_all (is_beside p free g d s c r) ks) e) [
+      clash_back e = elim (or_cases (has_number ks c && not (is_open p free g.room c d s r)) (not (has_number ks c) && list_all (is_lost_to p free g d s c r) ks) e) [
         | inl u ↦ let v = and_parts (has_number ks c) (not (is_open p free g.room c d s r)) u in back_own v.0 (turned (is_open p free g.room c d s r) v.1)
-        | inr u ↦ let v = and_parts (not (has_number ks c)) (list_all (is_beside p free g d s c r) ks) u in back_other (turned (has_number ks c) v.0) v.1
+        | inr u ↦ let v = and_parts (not (has_number ks c)) (list_all (is_lost_to p free g d s c r) ks) u in back_other (turned (has_number ks c) v.0) v.1
       ]
         where
           turned : (b : Bool) → not b ≡ true → b ≡ false

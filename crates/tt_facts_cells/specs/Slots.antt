@@ -7,12 +7,12 @@ use Rattle.tt_facts_path.specs.declared.facts.Pattern.{Pattern}
 use Rattle.tt_facts_cells.specs.Struck.{is_left}
 
 -- The pattern allows the day and the period.
-abbrev pub allows : Problem → Pattern → ℕ → Bool
-allows p g k = agrees g.day (k / p.periods) && agrees g.period (k % p.periods)
+abbrev pub is_allowed : Problem → Pattern → ℕ → Bool
+is_allowed p g k = agrees g.day (k / p.periods) && agrees g.period (k % p.periods)
 
 -- The pattern allows the period, and one of the courses has a free room there.
 abbrev pub is_left_in : Problem → List ℕ → Pattern → List ℕ → ℕ → Bool
-is_left_in p free g ks k = allows p g k && is_left p free g (k / p.periods) (k % p.periods) ks
+is_left_in p free g ks k = is_allowed p g k && is_left p free g (k / p.periods) (k % p.periods) ks
 
 -- Each period that the pattern allows has a number that is at least the first bound and below the second.
 pub record Covers (p : Problem) (g : Pattern) (from to : ℕ) : Type 0 where

@@ -19,11 +19,11 @@ abbrev pub is_left : Problem → List ℕ → Pattern → ℕ → ℕ → List �
 is_left p free g d s ks = list_any (is_left_to p free g d s) ks
 
 -- Each free room of course k excludes course c, another one, from room r.
-abbrev pub is_beside : Problem → List ℕ → Pattern → ℕ → ℕ → ℕ → ℕ → ℕ → Bool
-is_beside p free g d s c r k =
+abbrev pub is_lost_to : Problem → List ℕ → Pattern → ℕ → ℕ → ℕ → ℕ → ℕ → Bool
+is_lost_to p free g d s c r k =
     not (nat_lt k (length p.courses)) || conflict p k c || list_all (λ i. not (is_open p free g.room k d s i) || (i == r)) (all_rooms p)
 
 -- One of the courses ks must have a free room of its own: course c loses room r.
 abbrev pub loses_room : Problem → List ℕ → Pattern → ℕ → ℕ → List ℕ → ℕ → ℕ → Bool
 loses_room p free g d s ks c r =
-    (has_number ks c && not (is_open p free g.room c d s r)) || (not (has_number ks c) && list_all (is_beside p free g d s c r) ks)
+    (has_number ks c && not (is_open p free g.room c d s r)) || (not (has_number ks c) && list_all (is_lost_to p free g d s c r) ks)

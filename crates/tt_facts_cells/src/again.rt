@@ -3,7 +3,7 @@
 ghost use Rattle.std.specs.Prelude.{◌≡◌, OnOk};
 ghost use Rattle.tt_instance_links.specs.Linked.{AreConflicts};
 ghost use Rattle.tt_facts_cell_set.specs.Tables.{IsTable};
-ghost use Rattle.tt_facts_cells.specs.Touching.{may_agree, may_share, may_touch};
+ghost use Rattle.tt_facts_cells.specs.Touching.{can_agree, can_share, can_touch};
 ghost use Rattle.tt_facts_cells.specs.Shown.{Renews};
 
 use crate::settling::settle;
@@ -16,8 +16,8 @@ use tt_instance::Instance;
 use tt_instance_links::Conflicts;
 
 /// Returns whether some number agrees with both, as far as they are given.
-fn may_agree(first: Option<u32>, second: Option<u32>) -> bool
-    ensures { result ≡ may_agree first second }
+fn can_agree(first: Option<u32>, second: Option<u32>) -> bool
+    ensures { result ≡ can_agree first second }
 {
     match (first, second) {
         (Some(one), Some(other)) => one == other,
@@ -26,8 +26,8 @@ fn may_agree(first: Option<u32>, second: Option<u32>) -> bool
 }
 
 /// Returns whether some course may be meant by both; for two curricula this isn't checked.
-fn may_share(instance: &Instance<'_>, first: Who, second: Who) -> bool
-    ensures { result ≡ may_share instance.now first second }
+fn can_share(instance: &Instance<'_>, first: Who, second: Who) -> bool
+    ensures { result ≡ can_share instance.now first second }
 {
     match (first, second) {
         (Who::Course(one), Who::Course(other)) => one == other,
@@ -40,13 +40,13 @@ fn may_share(instance: &Instance<'_>, first: Who, second: Who) -> bool
 }
 
 /// Returns whether some cell may be matched by both patterns.
-fn may_touch(instance: &Instance<'_>, first: &Pattern, second: &Pattern) -> bool
-    ensures { result ≡ may_touch instance.now first.now second.now }
+fn can_touch(instance: &Instance<'_>, first: &Pattern, second: &Pattern) -> bool
+    ensures { result ≡ can_touch instance.now first.now second.now }
 {
-    may_agree(first.room, second.room)
-        && may_agree(first.day, second.day)
-        && may_agree(first.period, second.period)
-        && may_share(instance, first.who, second.who)
+    can_agree(first.room, second.room)
+        && can_agree(first.day, second.day)
+        && can_agree(first.period, second.period)
+        && can_share(instance, first.who, second.who)
 }
 
 /// Removes the live cells that the yes-facts of these patterns exclude now, after a no-fact of this pattern.
@@ -72,7 +72,7 @@ pub fn settle_again(
         }
         let place = next;
         next = next.saturating_add(1);
-        if !may_touch(instance, older, pattern) {
+        if !can_touch(instance, older, pattern) {
             continue;
         }
         let watch = settle(instance, links, free, live, older, watches.at(place))?;

@@ -2,11 +2,11 @@
 
 ghost use Rattle.std.specs.Prelude.{◌≡◌, ◌<◌, ◌==◌, ◌&&◌, Some, length, OnOk};
 ghost use Rattle.tt_facts_path.specs.Facts.{matches};
-ghost use Rattle.tt_facts_path.specs.Nested.{agrees_at};
+ghost use Rattle.tt_facts_path.specs.Nested.{has_place_of};
 ghost use Rattle.tt_facts_cell_set.specs.Tables.{IsTable, Loses};
 
 use crate::courses::courses_of;
-use crate::periods::{allows, slots_of};
+use crate::periods::{is_allowed, slots_of};
 use std::alloc::AllocError;
 use tt_bits::Trail;
 use tt_facts_cell_set::remove_rooms;
@@ -27,7 +27,7 @@ fn remove_at(
     requires period { pattern.now.period ≡ Some period }
     requires table { IsTable instance.now table.old.words }
     ensures ok { OnOk result (Loses instance.now table.old.words
-        (λ x. (x.course == course) && agrees_at pattern.now x) table.new.words) }
+        (λ x. (x.course == course) && has_place_of pattern.now x) table.new.words) }
     ensures unchanged { table.new.earlier ≡ table.old.earlier }
 {
     if day >= instance.days() || period >= instance.periods() {
@@ -49,13 +49,13 @@ fn remove_within(
     requires course { course < length instance.now.courses }
     requires table { IsTable instance.now table.old.words }
     ensures ok { OnOk result (Loses instance.now table.old.words
-        (λ x. (x.course == course) && agrees_at pattern.now x) table.new.words) }
+        (λ x. (x.course == course) && has_place_of pattern.now x) table.new.words) }
     ensures unchanged { table.new.earlier ≡ table.old.earlier }
 {
     let periods = instance.periods();
     let (from, to) = slots_of(instance, pattern);
     for slot in from..to {
-        if !allows(instance, pattern, slot) {
+        if !is_allowed(instance, pattern, slot) {
             continue;
         }
         remove_rooms(
@@ -80,7 +80,7 @@ fn remove_of(
     requires course { course < length instance.now.courses }
     requires table { IsTable instance.now table.old.words }
     ensures ok { OnOk result (Loses instance.now table.old.words
-        (λ x. (x.course == course) && agrees_at pattern.now x) table.new.words) }
+        (λ x. (x.course == course) && has_place_of pattern.now x) table.new.words) }
     ensures unchanged { table.new.earlier ≡ table.old.earlier }
 {
     if let (Some(day), Some(period)) = (pattern.day, pattern.period) {

@@ -8,7 +8,7 @@ ghost use Rattle.tt_instance_links.specs.Linked.{AreConflicts};
 ghost use Rattle.tt_facts_cell_set.specs.Rooms.{has_room};
 ghost use Rattle.tt_instance.specs.Cells.{all_rooms};
 ghost use Rattle.tt_facts_cell_set.specs.Tables.{is_open, is_placed, IsTable, Loses};
-ghost use Rattle.tt_facts_cells.specs.Struck.{is_beside, loses_room};
+ghost use Rattle.tt_facts_cells.specs.Struck.{is_lost_to, loses_room};
 ghost use Rattle.tt_facts_cells.specs.Shown.{is_struck};
 
 use std::alloc::AllocError;
@@ -19,7 +19,7 @@ use tt_instance::Instance;
 use tt_instance_links::Conflicts;
 
 /// Returns the rooms that a course loses in the period if another course must have one of its free rooms.
-fn rooms_beside(
+fn rooms_lost_to(
     instance: &Instance<'_>,
     free: &Trail,
     pattern: &Pattern,
@@ -32,7 +32,7 @@ fn rooms_beside(
     requires period { period < instance.now.periods }
     requires free { IsTable instance.now free.now.words }
     ensures { (r : ℕ) → has_room result r
-        ≡ is_beside instance.now free.now.words pattern.now day period course r other }
+        ≡ is_lost_to instance.now free.now.words pattern.now day period course r other }
 {
     if other >= instance.courses() || instance.conflict(other, course) {
         return Rooms::All;
@@ -55,11 +55,11 @@ fn lost_rooms(
     requires period { period < instance.now.periods }
     requires free { IsTable instance.now free.now.words }
     ensures { (r : ℕ) → has_room result r
-        ≡ list_all (is_beside instance.now free.now.words pattern.now day period course r) courses.now }
+        ≡ list_all (is_lost_to instance.now free.now.words pattern.now day period course r) courses.now }
 {
     let mut lost = Rooms::All;
     for other in courses {
-        lost = lost.both(rooms_beside(instance, free, pattern, day, period, *other, course));
+        lost = lost.both(rooms_lost_to(instance, free, pattern, day, period, *other, course));
         if matches!(lost, Rooms::Nothing) {
             return Rooms::Nothing;
         }
@@ -123,7 +123,7 @@ fn strike(
     if !has_period(instance, live, None, course, day, period) {
         return Ok(());
     }
-    if pattern.who.includes(instance, course) {
+    if pattern.who.has_course(instance, course) {
         keep_rooms(instance, live, free, pattern.room, course, day, period)?;
         return Ok(());
     }

@@ -4,7 +4,7 @@ ghost use Rattle.std.specs.Prelude.{◌≡◌, ◌<◌, ◌≤◌, ◌*◌, leng
 ghost use Rattle.tt_facts_path.specs.Facts.{agrees};
 ghost use Rattle.tt_facts_cell_set.specs.Tables.{IsTable};
 ghost use Rattle.tt_facts_cells.specs.Struck.{is_left_to, is_left};
-ghost use Rattle.tt_facts_cells.specs.Slots.{allows, is_left_in, Covers, IsNone, IsFirst};
+ghost use Rattle.tt_facts_cells.specs.Slots.{is_allowed, is_left_in, Covers, IsNone, IsFirst};
 
 use tt_bits::Trail;
 use tt_facts_cell_set::has_period;
@@ -12,7 +12,7 @@ use tt_facts_path::Pattern;
 use tt_instance::Instance;
 
 /// Returns whether a number agrees with the one given; if none is given, each number agrees.
-fn agrees(given: Option<u32>, number: u32) -> bool
+fn is_none_or_equal(given: Option<u32>, number: u32) -> bool
     ensures { result ≡ agrees given number }
 {
     given.is_none_or(|wanted| wanted == number)
@@ -35,11 +35,11 @@ pub fn slots_of(instance: &Instance<'_>, pattern: &Pattern) -> (u32, u32)
 }
 
 /// Returns whether a pattern allows the period with this number.
-pub fn allows(instance: &Instance<'_>, pattern: &Pattern, slot: u32) -> bool
-    ensures { result ≡ allows instance.now pattern.now slot }
+pub fn is_allowed(instance: &Instance<'_>, pattern: &Pattern, slot: u32) -> bool
+    ensures { result ≡ is_allowed instance.now pattern.now slot }
 {
     let periods = instance.periods();
-    agrees(pattern.day, slot / periods) && agrees(pattern.period, slot % periods)
+    is_none_or_equal(pattern.day, slot / periods) && is_none_or_equal(pattern.period, slot % periods)
 }
 
 /// Returns whether a course has a free room in the period that the pattern allows.
@@ -92,7 +92,7 @@ pub fn is_left_in(
     let periods = instance.periods();
     let day = slot / periods;
     let period = slot % periods;
-    allows(instance, pattern, slot) && is_left(instance, free, pattern, day, period, courses)
+    is_allowed(instance, pattern, slot) && is_left(instance, free, pattern, day, period, courses)
 }
 
 /// Returns the first of these periods in which one of the courses has a free room that the pattern allows.

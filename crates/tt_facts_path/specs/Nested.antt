@@ -15,8 +15,8 @@ use Rattle.tt_facts_path.specs.declared.facts.Pattern.{Pattern}
 use Rattle.tt_facts_path.specs.declared.facts.Fact.{Fact}
 
 -- The room, day and period of the cell are the pattern's, if it gives them.
-abbrev pub agrees_at : Pattern → Cell → Bool
-agrees_at g x = agrees g.room x.room && agrees g.day x.day && agrees g.period x.period
+abbrev pub has_place_of : Pattern → Cell → Bool
+has_place_of g x = agrees g.room x.room && agrees g.day x.day && agrees g.period x.period
 
 -- A no-fact matches the cell.
 abbrev pub is_denied : Problem → List Fact → Cell → Bool
@@ -40,18 +40,18 @@ abbrev pub is_lost : Problem → List Fact → Cell → Cell → Bool
 is_lost p path x y = clash p y x || is_barred p path y
 
 -- Each cell of the course in the room on the day that agrees with the pattern is lost.
-abbrev pub day_lost : Problem → List Fact → Pattern → Cell → ℕ → ℕ → ℕ → Bool
-day_lost p path g x c r d =
+abbrev pub is_day_lost : Problem → List Fact → Pattern → Cell → ℕ → ℕ → ℕ → Bool
+is_day_lost p path g x c r d =
     list_all (λ s. is_lost p path x (cell c r (slot d s))) (numbers_given g.period p.periods)
 
 -- Each cell of the course in the room that agrees with the pattern is lost, on each day.
-abbrev pub room_lost : Problem → List Fact → Pattern → Cell → ℕ → ℕ → Bool
-room_lost p path g x c r = list_all (day_lost p path g x c r) (numbers_given g.day p.days)
+abbrev pub is_room_lost : Problem → List Fact → Pattern → Cell → ℕ → ℕ → Bool
+is_room_lost p path g x c r = list_all (is_day_lost p path g x c r) (numbers_given g.day p.days)
 
 -- Each cell of the course that agrees with the pattern is lost, in each room.
-abbrev pub rooms_lost : Problem → List Fact → Pattern → Cell → ℕ → Bool
-rooms_lost p path g x c = list_all (room_lost p path g x c) (numbers_given g.room (length p.rooms))
+abbrev pub are_rooms_lost : Problem → List Fact → Pattern → Cell → ℕ → Bool
+are_rooms_lost p path g x c = list_all (is_room_lost p path g x c) (numbers_given g.room (length p.rooms))
 
 -- The course is out of range, or each of its cells that agree with the pattern is lost.
-abbrev pub course_lost : Problem → List Fact → Pattern → Cell → ℕ → Bool
-course_lost p path g x c = nat_le (length p.courses) c || rooms_lost p path g x c
+abbrev pub is_course_lost : Problem → List Fact → Pattern → Cell → ℕ → Bool
+is_course_lost p path g x c = nat_le (length p.courses) c || are_rooms_lost p path g x c

@@ -3,7 +3,7 @@
 ghost use Rattle.std.specs.Prelude.{◌≡◌};
 ghost use Rattle.tt_facts_path.specs.Facts.{agrees, is_who, matches};
 ghost use Rattle.tt_facts_path.specs.Live.{gives, is_pinned_by};
-ghost use Rattle.tt_facts_path.specs.Nested.{agrees_at};
+ghost use Rattle.tt_facts_path.specs.Nested.{has_place_of};
 
 use tt_instance::{Cell, Instance};
 
@@ -16,7 +16,7 @@ pub enum Who {
 
 impl Who {
     /// Returns whether a course is the one that is meant, or a member of the curriculum that is meant.
-    pub fn includes(self, instance: &Instance<'_>, course: u32) -> bool
+    pub fn has_course(self, instance: &Instance<'_>, course: u32) -> bool
         ensures { result ≡ is_who instance.now self course }
     {
         match self {
@@ -48,14 +48,14 @@ pub struct Pattern {
 }
 
 /// Returns whether a number agrees with the one given; if none is given, each number agrees.
-pub fn agrees(given: Option<u32>, number: u32) -> bool
+pub fn is_none_or_equal(given: Option<u32>, number: u32) -> bool
     ensures { result ≡ agrees given number }
 {
     given.is_none_or(|wanted| wanted == number)
 }
 
 /// Returns whether this number is given.
-pub fn gives(given: Option<u32>, number: u32) -> bool
+pub fn is_given(given: Option<u32>, number: u32) -> bool
     ensures { result ≡ gives given number }
 {
     given == Some(number)
@@ -63,19 +63,19 @@ pub fn gives(given: Option<u32>, number: u32) -> bool
 
 impl Pattern {
     /// Returns whether the room, the day and the period of a cell are the pattern's, if it gives them.
-    pub fn agrees_at(&self, cell: Cell) -> bool
-        ensures { result ≡ agrees_at self.now cell }
+    pub fn has_place_of(&self, cell: Cell) -> bool
+        ensures { result ≡ has_place_of self.now cell }
     {
-        agrees(self.room, cell.room)
-            && agrees(self.day, cell.day)
-            && agrees(self.period, cell.period)
+        is_none_or_equal(self.room, cell.room)
+            && is_none_or_equal(self.day, cell.day)
+            && is_none_or_equal(self.period, cell.period)
     }
 
     /// Returns whether the pattern matches a cell.
-    pub fn matches(&self, instance: &Instance<'_>, cell: Cell) -> bool
+    pub fn is_match(&self, instance: &Instance<'_>, cell: Cell) -> bool
         ensures { result ≡ matches instance.now self.now cell }
     {
-        self.who.includes(instance, cell.course) && self.agrees_at(cell)
+        self.who.has_course(instance, cell.course) && self.has_place_of(cell)
     }
 }
 

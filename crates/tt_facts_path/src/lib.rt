@@ -5,7 +5,7 @@ mod facts;
 mod path;
 mod plain;
 
-pub use facts::{Fact, Pattern, Who, agrees};
+pub use facts::{Fact, Pattern, Who, is_none_or_equal};
 pub use path::{MAX_FACTS, Path, PathFault};
 pub use plain::PlainPath;
 pub use tt_instance::Cell;

@@ -6,7 +6,7 @@ ghost use Rattle.tt_facts_path.specs.declared.facts.Fact.{Fact};
 
 mod cells;
 
-use crate::facts::{Fact, Pattern, Who, gives};
+use crate::facts::{Fact, Pattern, Who, is_given};
 use crate::path::{MAX_FACTS, Path, PathFault};
 use std::alloc::Global;
 use std::marker::Model;
@@ -139,8 +139,8 @@ impl<'p, 'i> Path<'i> for PlainPath<'p, 'i> {
         self.facts.iter().any(|fact| {
             fact.holds
                 && who.is_pinned_by(self.instance, fact.pattern.who)
-                && gives(fact.pattern.day, day)
-                && gives(fact.pattern.period, period)
+                && is_given(fact.pattern.day, day)
+                && is_given(fact.pattern.period, period)
         })
     }
 
@@ -156,7 +156,7 @@ impl<'p, 'i> Path<'i> for PlainPath<'p, 'i> {
         self.facts.iter().any(|fact| {
             fact.holds
                 && Who::Course(course).is_pinned_by(self.instance, fact.pattern.who)
-                && gives(fact.pattern.room, room)
+                && is_given(fact.pattern.room, room)
         })
     }
 

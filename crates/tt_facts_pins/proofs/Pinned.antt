@@ -26,17 +26,17 @@ in_bound t true v l e f = ap (λ b. t && b) e ∙ sym (ap (λ b. b && (t && v)) 
 in_bound t false v l e f = and-false t ∙ sym (ap (λ b. l && (t && b)) (sym e) ∙ ap (λ b. l && b) (and-false t) ∙ and-false l)
 
 -- from the places written to the periods that they mean
-pub pins_from_adds : (p : Problem) (told : Who) (d0 s0 : ℕ) (old new : List ℕ) (test : ℕ → Bool) → s0 < p.periods → Adds old test s0 new
-    → ((who : Who) (d : ℕ) → IsWho p who → d < p.days → test (day_place p (row_of p who) d) ≡ (is_pinned_by p who told && (d0 == d)))
+pub pins_from_adds : (p : Problem) (reported : Who) (d0 s0 : ℕ) (old new : List ℕ) (test : ℕ → Bool) → s0 < p.periods → Adds old test s0 new
+    → ((who : Who) (d : ℕ) → IsWho p who → d < p.days → test (day_place p (row_of p who) d) ≡ (is_pinned_by p who reported && (d0 == d)))
     → ((i : ℕ) → days_size p ≤ i → test i ≡ false)
-    → PinsPeriods p told (Some d0) (Some s0) old new
-pins_from_adds p told d0 s0 old new test h adds means beyond = record {
+    → PinsPeriods p reported (Some d0) (Some s0) old new
+pins_from_adds p reported d0 s0 old new test h adds means beyond = record {
   len = adds.len;
   periods = λ who d s is hd hs.
       let i = day_place p (row_of p who) d in
       adds.each i s hs
       ∙ ap (λ t. has_at old i s || (t && (s == s0))) (means who d is hd)
-      ∙ ap (λ t. has_at old i s || t) (in_bound (is_pinned_by p who told && (d0 == d)) (s == s0) (s0 == s) (nat_lt s p.periods) (test_turned s s0)
+      ∙ ap (λ t. has_at old i s || t) (in_bound (is_pinned_by p who reported && (d0 == d)) (s == s0) (s0 == s) (nat_lt s p.periods) (test_turned s s0)
       (λ e. let q = eqb-true s s0 e in lt-ltb s p.periods (omega arith)));
   others = λ i s hi hs. adds.each i s hs ∙ ap (λ t. has_at old i s || (t && (s == s0))) (beyond i hi) ∙ or-false (has_at old i s);
 }
@@ -69,24 +69,24 @@ beyond_days p d0 i h k qs a = list_any_none (λ q. i == day_place p (length p.co
 module _ (p : Problem) (d0 s0 : ℕ) (hd : d0 < p.days) (hs : s0 < p.periods) (old new : List ℕ) where
   pub curriculum_pins : (q : ℕ) → q < length p.curricula → Adds old (λ i. i == day_place p (length p.courses + q) d0) s0 new → PinsPeriods p (Curriculum q) (Some d0) (Some s0) old new
   curriculum_pins q h adds = pins_from_adds p (Curriculum q) d0 s0 old new (λ i. i == day_place p (length p.courses + q) d0) hs adds
-      (λ who d is k. same_day (row_of p who) d (length p.courses + q) d0 p.days k hd ∙ ap (λ b. b && (d0 == d)) (told who is))
+      (λ who d is k. same_day (row_of p who) d (length p.courses + q) d0 p.days k hd ∙ ap (λ b. b && (d0 == d)) (reported who is))
       (λ i k. apart_back (day_place p (length p.courses + q) d0) i (days_size p) (day_within p (length p.courses + q) d0 (row_within p (Curriculum q) h) hd) k)
     where
-      told : (who : Who) → IsWho p who → (row_of p who == length p.courses + q) ≡ is_pinned_by p who (Curriculum q)
-      told (Course c) is = ne_eqb c (length p.courses + q) (λ e. omega arith)
-      told (Curriculum k) is = same_test (length p.courses + k) (length p.courses + q) q k (λ e. omega arith) (λ e. omega arith)
+      reported : (who : Who) → IsWho p who → (row_of p who == length p.courses + q) ≡ is_pinned_by p who (Curriculum q)
+      reported (Course c) is = ne_eqb c (length p.courses + q) (λ e. omega arith)
+      reported (Curriculum k) is = same_test (length p.courses + k) (length p.courses + q) q k (λ e. omega arith) (λ e. omega arith)
 
   pub course_pins : (c : ℕ) → c < length p.courses → All (λ q. q < length p.curricula) (curricula_of p c) → Adds old (λ i. (i == day_place p c d0) || is_day_of p (curricula_of p c) d0 i) s0 new → PinsPeriods p (Course c) (Some d0) (Some s0) old new
   course_pins c h each adds = pins_from_adds p (Course c) d0 s0 old new (λ i. (i == day_place p c d0) || is_day_of p (curricula_of p c) d0 i) hs adds
-      told
+      reported
       (λ i k. ap (λ b. b || is_day_of p (curricula_of p c) d0 i) (apart_back (day_place p c d0) i (days_size p) (day_within p c d0 (row_within p (Course c) h) hd) k) ∙ beyond_days p d0 i k hd (curricula_of p c) each)
     where
-      told : (who : Who) (d : ℕ) → IsWho p who → d < p.days → ((day_place p (row_of p who) d == day_place p c d0) || is_day_of p (curricula_of p c) d0 (day_place p (row_of p who) d)) ≡ (is_pinned_by p who (Course c) && (d0 == d))
-      told (Course a) d is k =
+      reported : (who : Who) (d : ℕ) → IsWho p who → d < p.days → ((day_place p (row_of p who) d == day_place p c d0) || is_day_of p (curricula_of p c) d0 (day_place p (row_of p who) d)) ≡ (is_pinned_by p who (Course c) && (d0 == d))
+      reported (Course a) d is k =
           ap (λ b. b || is_day_of p (curricula_of p c) d0 (day_place p a d)) (same_day a d c d0 p.days k hd ∙ ap (λ b. b && (d0 == d)) (test_turned a c))
           ∙ ap (λ b. ((c == a) && (d0 == d)) || b) (no_day p d0 (day_place p a d) (λ q. same_day a d (length p.courses + q) d0 p.days k hd ∙ ap (λ b. b && (d0 == d)) (ne_eqb a (length p.courses + q) (λ e. omega arith))) (curricula_of p c))
           ∙ or-false ((c == a) && (d0 == d))
-      told (Curriculum q) d is k =
+      reported (Curriculum q) d is k =
           ap (λ b. b || is_day_of p (curricula_of p c) d0 (day_place p (length p.courses + q) d)) (same_day (length p.courses + q) d c d0 p.days k hd ∙ ap (λ b. b && (d0 == d)) (ne_eqb (length p.courses + q) c (λ e. omega arith)))
           ∙ any_day p q d d0 k hd (curricula_of p c)
           ∙ ap (λ b. b && (d0 == d)) (has-curricula_of p c q is)
@@ -102,8 +102,8 @@ first_of_three a b c e = ap (λ t. t && b && c) e
 second : (a b c : Bool) → b ≡ false → (a && b && c) ≡ false
 second a b c e = ap (λ t. a && t && c) e ∙ ap (λ t. t && c) (and-false a)
 
-pub pins_nothing : (p : Problem) (told : Who) (day period : Option ℕ) (words : List ℕ) → ((who : Who) (d s : ℕ) → IsWho p who → d < p.days → (nat_lt s p.periods && pins_period p told day period who d s) ≡ false) → PinsPeriods p told day period words words
-pins_nothing p told day period words none = record {
+pub pins_nothing : (p : Problem) (reported : Who) (day period : Option ℕ) (words : List ℕ) → ((who : Who) (d s : ℕ) → IsWho p who → d < p.days → (nat_lt s p.periods && pins_period p reported day period who d s) ≡ false) → PinsPeriods p reported day period words words
+pins_nothing p reported day period words none = record {
   len = refl;
   periods = λ who d s is hd hs. sym (ap (λ t. has_at words (day_place p (row_of p who) d) s || t) (none who d s is hd) ∙ or-false (has_at words (day_place p (row_of p who) d) s));
   others = λ i s hi hs. refl;
@@ -113,22 +113,22 @@ either_way : (l a : Bool) → a ≡ false → (l && a) ≡ false
 either_way l a e = ap (λ t. l && t) e ∙ and-false l
 
 module _ (p : Problem) (words : List ℕ) where
-  pub no_given_day : (told : Who) (period : Option ℕ) → PinsPeriods p told None period words words
-  no_given_day told period = pins_nothing p told None period words (λ who d s is h.
-      either_way (nat_lt s p.periods) (pins_period p told None period who d s) (second (is_pinned_by p who told) false (gives period s) refl))
+  pub no_given_day : (reported : Who) (period : Option ℕ) → PinsPeriods p reported None period words words
+  no_given_day reported period = pins_nothing p reported None period words (λ who d s is h.
+      either_way (nat_lt s p.periods) (pins_period p reported None period who d s) (second (is_pinned_by p who reported) false (gives period s) refl))
 
-  pub no_given_period : (told : Who) (day : Option ℕ) → PinsPeriods p told day None words words
-  no_given_period told day = pins_nothing p told day None words (λ who d s is h.
-      either_way (nat_lt s p.periods) (pins_period p told day None who d s) (third (is_pinned_by p who told) (gives day d) false refl))
+  pub no_given_period : (reported : Who) (day : Option ℕ) → PinsPeriods p reported day None words words
+  no_given_period reported day = pins_nothing p reported day None words (λ who d s is h.
+      either_way (nat_lt s p.periods) (pins_period p reported day None who d s) (third (is_pinned_by p who reported) (gives day d) false refl))
 
-  pub no_such_day : (told : Who) (d0 : ℕ) (period : Option ℕ) → p.days ≤ d0 → PinsPeriods p told (Some d0) period words words
-  no_such_day told d0 period k = pins_nothing p told (Some d0) period words (λ who d s is h.
-      either_way (nat_lt s p.periods) (pins_period p told (Some d0) period who d s) (second (is_pinned_by p who told) (d0 == d) (gives period s) (ne_eqb d0 d (λ e. omega arith))))
+  pub no_such_day : (reported : Who) (d0 : ℕ) (period : Option ℕ) → p.days ≤ d0 → PinsPeriods p reported (Some d0) period words words
+  no_such_day reported d0 period k = pins_nothing p reported (Some d0) period words (λ who d s is h.
+      either_way (nat_lt s p.periods) (pins_period p reported (Some d0) period who d s) (second (is_pinned_by p who reported) (d0 == d) (gives period s) (ne_eqb d0 d (λ e. omega arith))))
 
-  pub no_such_period : (told : Who) (day : Option ℕ) (s0 : ℕ) → p.periods ≤ s0 → PinsPeriods p told day (Some s0) words words
-  no_such_period told day s0 k = pins_nothing p told day (Some s0) words (λ who d s is h. elim (cases_eq s0 s) [
-    | inl e ↦ ap (λ b. b && pins_period p told day (Some s0) who d s) (le-ltb s p.periods (omega arith))
-    | inr e ↦ either_way (nat_lt s p.periods) (pins_period p told day (Some s0) who d s) (third (is_pinned_by p who told) (gives day d) (s0 == s) (ne_eqb s0 s e))
+  pub no_such_period : (reported : Who) (day : Option ℕ) (s0 : ℕ) → p.periods ≤ s0 → PinsPeriods p reported day (Some s0) words words
+  no_such_period reported day s0 k = pins_nothing p reported day (Some s0) words (λ who d s is h. elim (cases_eq s0 s) [
+    | inl e ↦ ap (λ b. b && pins_period p reported day (Some s0) who d s) (le-ltb s p.periods (omega arith))
+    | inr e ↦ either_way (nat_lt s p.periods) (pins_period p reported day (Some s0) who d s) (third (is_pinned_by p who reported) (gives day d) (s0 == s) (ne_eqb s0 s e))
   ])
 
   pub no_such_curriculum : (q : ℕ) (day period : Option ℕ) → length p.curricula ≤ q → PinsPeriods p (Curriculum q) day period words words
@@ -162,25 +162,25 @@ module _ (p : Problem) (old new : List ℕ) where
     others = λ i s hi hs. adds.each i s hs ∙ ap (λ t. has_at old i s || (t && (s == r0 % 64))) (apart i (room_place p c0 r0) (days_size p) hi (omega arith)) ∙ or-false (has_at old i s);
   }
 
-pub room_pins_nothing : (p : Problem) (told : Who) (room : Option ℕ) (words : List ℕ) → ((c r : ℕ) → c < length p.courses → (nat_lt r (length p.rooms) && pins_room p told room c r) ≡ false) → PinsRooms p told room words words
-room_pins_nothing p told room words none = record {
+pub room_pins_nothing : (p : Problem) (reported : Who) (room : Option ℕ) (words : List ℕ) → ((c r : ℕ) → c < length p.courses → (nat_lt r (length p.rooms) && pins_room p reported room c r) ≡ false) → PinsRooms p reported room words words
+room_pins_nothing p reported room words none = record {
   len = refl;
   rooms = λ c r hc hr. sym (ap (λ t. has_at words (room_place p c r) (r % 64) || t) (none c r hc) ∙ or-false (has_at words (room_place p c r) (r % 64)));
   others = λ i s hi hs. refl;
 }
 
 module _ (p : Problem) (words : List ℕ) where
-  pub no_room_given : (told : Who) → PinsRooms p told None words words
-  no_room_given told = room_pins_nothing p told None words (λ c r hc. either_way (nat_lt r (length p.rooms)) (pins_room p told None c r) (and-false (is_pinned_by p (Course c) told)))
+  pub no_room_given : (reported : Who) → PinsRooms p reported None words words
+  no_room_given reported = room_pins_nothing p reported None words (λ c r hc. either_way (nat_lt r (length p.rooms)) (pins_room p reported None c r) (and-false (is_pinned_by p (Course c) reported)))
 
-  pub no_such_room : (told : Who) (r0 : ℕ) → length p.rooms ≤ r0 → PinsRooms p told (Some r0) words words
-  no_such_room told r0 k = room_pins_nothing p told (Some r0) words (λ c r hc. elim (cases_eq r0 r) [
-    | inl e ↦ ap (λ b. b && pins_room p told (Some r0) c r) (le-ltb r (length p.rooms) (omega arith))
-    | inr e ↦ either_way (nat_lt r (length p.rooms)) (pins_room p told (Some r0) c r) (ap (λ b. is_pinned_by p (Course c) told && b) (ne_eqb r0 r e) ∙ and-false (is_pinned_by p (Course c) told))
+  pub no_such_room : (reported : Who) (r0 : ℕ) → length p.rooms ≤ r0 → PinsRooms p reported (Some r0) words words
+  no_such_room reported r0 k = room_pins_nothing p reported (Some r0) words (λ c r hc. elim (cases_eq r0 r) [
+    | inl e ↦ ap (λ b. b && pins_room p reported (Some r0) c r) (le-ltb r (length p.rooms) (omega arith))
+    | inr e ↦ either_way (nat_lt r (length p.rooms)) (pins_room p reported (Some r0) c r) (ap (λ b. is_pinned_by p (Course c) reported && b) (ne_eqb r0 r e) ∙ and-false (is_pinned_by p (Course c) reported))
   ])
 
-  pub no_course_told : (q : ℕ) (room : Option ℕ) → PinsRooms p (Curriculum q) room words words
-  no_course_told q room = room_pins_nothing p (Curriculum q) room words (λ c r hc. and-false (nat_lt r (length p.rooms)))
+  pub no_course_reported : (q : ℕ) (room : Option ℕ) → PinsRooms p (Curriculum q) room words words
+  no_course_reported q room = room_pins_nothing p (Curriculum q) room words (λ c r hc. and-false (nat_lt r (length p.rooms)))
 
   pub no_course_there : (c0 : ℕ) (room : Option ℕ) → length p.courses ≤ c0 → PinsRooms p (Course c0) room words words
   no_course_there c0 room k = room_pins_nothing p (Course c0) room words (λ c r hc. either_way (nat_lt r (length p.rooms)) (pins_room p (Course c0) room c r) (ap (λ b. b && gives room r) (ne_eqb c0 c (λ e. omega arith))))

@@ -40,17 +40,17 @@ shown_more p facts f old new s w = record {
 
 -- the periods of a yes-fact first, then its rooms
 pub pins_both : (p : Problem) (f : Fact) (a b d : List ℕ) → f.holds ≡ true → PinsPeriods p f.pattern.who f.pattern.day f.pattern.period a b → PinsRooms p f.pattern.who f.pattern.room b d → Pins p f a d
-pins_both p f a b d told g h = record {
+pins_both p f a b d reported g h = record {
   len = h.len ∙ g.len;
   periods = λ who e s is hd hs.
       let i = day_place p (row_of p who) e in
       h.others i s (day_within p (row_of p who) e (row_within p who is) hd) hs
       ∙ g.periods who e s is hd hs
-      ∙ ap (λ t. has_at a i s || (t && (nat_lt s p.periods && pins_period p f.pattern.who f.pattern.day f.pattern.period who e s))) (sym told);
+      ∙ ap (λ t. has_at a i s || (t && (nat_lt s p.periods && pins_period p f.pattern.who f.pattern.day f.pattern.period who e s))) (sym reported);
   rooms = λ c r hc hr.
       h.rooms c r hc hr
       ∙ ap (λ t. t || (nat_lt r (length p.rooms) && pins_room p f.pattern.who f.pattern.room c r)) (g.others (room_place p c r) (r % 64) (omega arith) (omega arith))
-      ∙ ap (λ t. has_at a (room_place p c r) (r % 64) || (t && (nat_lt r (length p.rooms) && pins_room p f.pattern.who f.pattern.room c r))) (sym told);
+      ∙ ap (λ t. has_at a (room_place p c r) (r % 64) || (t && (nat_lt r (length p.rooms) && pins_room p f.pattern.who f.pattern.room c r))) (sym reported);
 }
 
 -- a no-fact pins nothing

@@ -65,24 +65,24 @@ is_day_of p curricula d i = list_any (λ q. i == day_place p (length p.courses +
 
 -- A yes-fact about the second that gives this day and period pins the period for the first.
 abbrev pub pins_period : Problem → Who → Option ℕ → Option ℕ → Who → ℕ → ℕ → Bool
-pins_period p told day period who d s = is_pinned_by p who told && gives day d && gives period s
+pins_period p reported day period who d s = is_pinned_by p who reported && gives day d && gives period s
 
 -- A yes-fact that gives this room pins the room for a course.
 abbrev pub pins_room : Problem → Who → Option ℕ → ℕ → ℕ → Bool
-pins_room p told room c r = is_pinned_by p (Course c) told && gives room r
+pins_room p reported room c r = is_pinned_by p (Course c) reported && gives room r
 
-pub record PinsPeriods (p : Problem) (told : Who) (day period : Option ℕ) (old new : List ℕ) : Type 0 where
+pub record PinsPeriods (p : Problem) (reported : Who) (day period : Option ℕ) (old new : List ℕ) : Type 0 where
   pub len : length new ≡ length old
   pub periods : (who : Who) (d s : ℕ) → IsWho p who → d < p.days → s < 64 →
       has_at new (day_place p (row_of p who) d) s
-      ≡ (has_at old (day_place p (row_of p who) d) s || (nat_lt s p.periods && pins_period p told day period who d s))
+      ≡ (has_at old (day_place p (row_of p who) d) s || (nat_lt s p.periods && pins_period p reported day period who d s))
   pub others : (i s : ℕ) → days_size p ≤ i → s < 64 → has_at new i s ≡ has_at old i s
 
-pub record PinsRooms (p : Problem) (told : Who) (room : Option ℕ) (old new : List ℕ) : Type 0 where
+pub record PinsRooms (p : Problem) (reported : Who) (room : Option ℕ) (old new : List ℕ) : Type 0 where
   pub len : length new ≡ length old
   pub rooms : (c r : ℕ) → c < length p.courses → r / 64 < width p →
       has_at new (room_place p c r) (r % 64)
-      ≡ (has_at old (room_place p c r) (r % 64) || (nat_lt r (length p.rooms) && pins_room p told room c r))
+      ≡ (has_at old (room_place p c r) (r % 64) || (nat_lt r (length p.rooms) && pins_room p reported room c r))
   pub others : (i s : ℕ) → i < days_size p → s < 64 → has_at new i s ≡ has_at old i s
 
 -- Another fact has been added.

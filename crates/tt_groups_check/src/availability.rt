@@ -35,7 +35,7 @@ fn is_same(instance: &Instance<'_>, courses: &[u32], day: u32, other: u32) -> bo
 /// Returns an earlier day with the same availability, if one is found.
 pub fn same_day(instance: &Instance<'_>, courses: &[u32], day: u32) -> Option<u32>
     ensures earlier { IfSome result (λ d. d < day) }
-    ensures same { IfSome result (λ d. IsSameAvailability instance.now courses.now d day) }
+    ensures availability { IfSome result (λ d. IsSameAvailability instance.now courses.now d day) }
 {
     for other in 0..day {
         if is_same(instance, courses, other, day) {

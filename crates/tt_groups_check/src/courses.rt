@@ -7,7 +7,7 @@ ghost use Rattle.tt_groups.specs.Listed.{AreCourses};
 ghost use Rattle.tt_groups.specs.Places.{group_sizes};
 ghost use Rattle.tt_groups_check.specs.Limits.{IsGroupOf, courses_of};
 
-use crate::width::concerns;
+use crate::width::is_concerned;
 use std::alloc::{AllocError, Global};
 use tt_groups::Group;
 use tt_instance::Instance;
@@ -28,7 +28,7 @@ pub fn courses_of(
     prove!(0 < instance.days());
     let mut courses = Vec::new(alloc);
     for course in 0..instance.courses() {
-        if concerns(instance, group, course) {
+        if is_concerned(instance, group, course) {
             courses.push(course)?;
         }
     }

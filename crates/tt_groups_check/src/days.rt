@@ -36,7 +36,7 @@ pub fn lists_of(
     ensures reached { IfOk result (λ l. AreReached instance.now group.now courses.now l.moves.items l.of_day.items) }
     ensures unfinished { IfErr result (λ e. IsTrue (is_unfinished e)) }
     ensures too_many { result ≡ Err fault.TooManySets → MAX_SETS < sets_count instance.now courses.now }
-    ensures few_sets { OnOk result (sets_count instance.now courses.now ≤ MAX_SETS) }
+    ensures within_limit { OnOk result (sets_count instance.now courses.now ≤ MAX_SETS) }
     ensures used_up { result ≡ Err fault.TooMuchWork → (sets_count instance.now courses.now ≤ MAX_SETS) × IsUsedUp work.new }
 {
     let sets = list_sets(alloc, instance, group, courses, &digits.weights)?;

@@ -44,7 +44,7 @@ fn is_member(instance: &Instance<'_>, group: &Group, course: u32) -> bool
 }
 
 /// Checks whether a group concerns a course.
-pub fn concerns(instance: &Instance<'_>, group: &Group, course: u32) -> bool
+pub fn is_concerned(instance: &Instance<'_>, group: &Group, course: u32) -> bool
     ensures { result ≡ concerns instance.now group.now course }
 {
     is_own(group, course) || is_member(instance, group, course)
@@ -56,7 +56,7 @@ fn courses_count(instance: &Instance<'_>, group: &Group) -> usize
 {
     let mut count = 0;
     for course in 0..instance.courses() {
-        if concerns(instance, group, course) {
+        if is_concerned(instance, group, course) {
             count += 1;
         }
     }
@@ -68,7 +68,7 @@ fn has_long_course(instance: &Instance<'_>, group: &Group) -> bool
     ensures { result ≡ has_long_course instance.now group.now }
 {
     for course in 0..instance.courses() {
-        if concerns(instance, group, course) && GROUP_LECTURES < instance.lectures(course) {
+        if is_concerned(instance, group, course) && GROUP_LECTURES < instance.lectures(course) {
             return true;
         }
     }

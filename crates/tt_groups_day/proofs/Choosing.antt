@@ -22,7 +22,7 @@ use Rattle.tt_instance.proofs.Exclusion.{conflict-turn, conflict-itself}
 use Rattle.tt_groups.specs.Group.{Group, concerns}
 use Rattle.tt_groups.specs.Listed.{AreCourses}
 use Rattle.tt_groups.proofs.Lists.{passing_member, member_before}
-use Rattle.tt_groups_day.specs.Choosing.{clashes, with_course, with_next, IsApart, IsChoice, HasChoices}
+use Rattle.tt_groups_day.specs.Choosing.{has_conflict, with_course, with_next, IsApart, IsChoice, HasChoices}
 use Rattle.tt_groups_day.specs.Sets.{has_course, IsWordOf, index_by, IsCourseSet, IsComplete}
 use Rattle.tt_groups_day.specs.declared.morning.CourseSet.{CourseSet}
 
@@ -104,10 +104,10 @@ module _ (p : Problem) (g : Group) (cs weights : List ℕ) (n met : ℕ) (below 
   has_same x i e = ap (λ k. k == 1) (there x i e)
 
   -- a course that does not clash with a set conflicts with no course of the set
-  apart_last : (x : CourseSet) → IsChoice p g cs weights n x → clashes p cs n x ≡ false → (j : ℕ) → has_course x j ≡ true → conflict p (slice_index cs n) (slice_index cs j) ≡ false
+  apart_last : (x : CourseSet) → IsChoice p g cs weights n x → has_conflict p cs n x ≡ false → (j : ℕ) → has_course x j ≡ true → conflict p (slice_index cs n) (slice_index cs j) ≡ false
   apart_last x is none j e = elim (cases_eq j n) [
     | inl same ↦ absurd (both_ways (has_course x j) (none_at (slice_index x.courses j) (is.own j (omega arith))) e)
-    | inr other ↦ false_from_ne_true (conflict p (slice_index cs n) (slice_index cs j)) (λ t. both_ways (clashes p cs n x) none
+    | inr other ↦ false_from_ne_true (conflict p (slice_index cs n) (slice_index cs j)) (λ t. both_ways (has_conflict p cs n x) none
         (any_below (λ i. has_course x i && conflict p (slice_index cs n) (slice_index cs i)) n j (before j e) (and_from (has_course x j) (conflict p (slice_index cs n) (slice_index cs j)) e t)))
   ]
     where
@@ -140,7 +140,7 @@ module _ (p : Problem) (g : Group) (cs weights : List ℕ) (n met : ℕ) (below 
       dropped false b c e = ap (λ z. z && c) e
 
   -- a set with the course
-  with_last : (x : CourseSet) → IsChoice p g cs weights n x → clashes p cs n x ≡ false → IsChoice p g cs weights (n + 1) (wider x)
+  with_last : (x : CourseSet) → IsChoice p g cs weights n x → has_conflict p cs n x ≡ false → IsChoice p g cs weights (n + 1) (wider x)
   with_last x is none = record {
     long = length-set x.courses n 1 ∙ is.long;
     digits = λ i. elim (cases_eq i n) [
@@ -178,7 +178,7 @@ module _ (p : Problem) (g : Group) (cs weights : List ℕ) (n met : ℕ) (below 
   -- -- the list with another course
 
   abbrev goes : CourseSet → Bool
-  goes x = not (clashes p cs n x)
+  goes x = not (has_conflict p cs n x)
 
   not-true : (b : Bool) → not b ≡ true → b ≡ false
   not-true true e = sym e
@@ -191,7 +191,7 @@ module _ (p : Problem) (g : Group) (cs weights : List ℕ) (n met : ℕ) (below 
         (All-map (IsChoice p g cs weights (n + 1)) wider (filter goes xs) (λ k d h.
         let x = get_or (filter goes xs) k d in
         let m = Contains-get_or (filter goes xs) k d h in
-        with_last x (All-contains (IsChoice p g cs weights n) xs x each (member_before goes xs x m)) (not-true (clashes p cs n x) (All-contains (λ y. goes y ≡ true) (filter goes xs) x (filter_passes goes xs) m))))
+        with_last x (All-contains (IsChoice p g cs weights n) xs x each (member_before goes xs x m)) (not-true (has_conflict p cs n x) (All-contains (λ y. goes y ≡ true) (filter goes xs) x (filter_passes goes xs) m))))
 
     pub found_next : HasChoices p cs n xs → HasChoices p cs (n + 1) (with_next p cs n (slice_index weights n) met xs)
     found_next before = record { found = λ f free. by_last f free (f n) refl }
@@ -213,7 +213,7 @@ module _ (p : Problem) (g : Group) (cs weights : List ℕ) (n met : ℕ) (below 
         by_last f free true e =
             let x = before.found f (λ i j hi hj. free i j (omega arith) (omega arith)) in
             let is = All-contains (IsChoice p g cs weights n) xs x.0 each x.1 in
-            let fits_in : clashes p cs n x.0 ≡ false = false_from_ne_true (clashes p cs n x.0) (λ t.
+            let fits_in : has_conflict p cs n x.0 ≡ false = false_from_ne_true (has_conflict p cs n x.0) (λ t.
             let j = member_from_any (λ j. has_course x.0 j && conflict p (slice_index cs n) (slice_index cs j)) (range_below n) t in
             let l = below_member n j.0 j.1 in
             let two = and_parts (has_course x.0 j.0) (conflict p (slice_index cs n) (slice_index cs j.0)) j.2 in

@@ -17,7 +17,7 @@ use Rattle.tt_instance.specs.Problem.{Problem}
 use Rattle.tt_instance.specs.Courses.{in_curriculum, conflict}
 use Rattle.tt_instance.proofs.Exclusion.{conflict-turn}
 use Rattle.tt_groups.specs.Group.{Group}
-use Rattle.tt_groups_day.specs.Choosing.{clashes, with_course, with_next, IsChoice}
+use Rattle.tt_groups_day.specs.Choosing.{has_conflict, with_course, with_next, IsChoice}
 use Rattle.tt_groups_day.specs.Counting.{sublists, is_apart, sets_count}
 use Rattle.tt_groups_day.specs.Sets.{has_course, IsWordOf}
 use Rattle.tt_groups_day.specs.declared.morning.CourseSet.{CourseSet}
@@ -149,7 +149,7 @@ module _ (p : Problem) (g : Group) (cs weights : List ℕ) (n met : ℕ) (below 
   wider x = with_course n (slice_index weights n) met x
 
   abbrev goes : CourseSet → Bool
-  goes x = not (clashes p cs n x)
+  goes x = not (has_conflict p cs n x)
 
   abbrev free : List ℕ → Bool
   free s = not (list_any (conflict p (slice_index cs n)) s)

@@ -9,8 +9,8 @@ use Rattle.tt_groups_day.specs.Sets.{has_course, IsWordOf, index_by}
 use Rattle.tt_groups_day.specs.declared.morning.CourseSet.{CourseSet}
 
 -- A course clashes with a set if it conflicts with one of the set's courses before it.
-abbrev pub clashes : Problem → List ℕ → ℕ → CourseSet → Bool
-clashes p cs n x = list_any (λ j. has_course x j && conflict p (slice_index cs n) (slice_index cs j)) (range_below n)
+abbrev pub has_conflict : Problem → List ℕ → ℕ → CourseSet → Bool
+has_conflict p cs n x = list_any (λ j. has_course x j && conflict p (slice_index cs n) (slice_index cs j)) (range_below n)
 
 -- The set with another course, including its weight and its curricula.
 abbrev pub with_course : ℕ → ℕ → ℕ → CourseSet → CourseSet
@@ -18,7 +18,7 @@ with_course n weight met x = record { courses = slice_set x.courses n 1; index =
 
 -- The sets, followed by each set that does not clash with a course, with this course added.
 abbrev pub with_next : Problem → List ℕ → ℕ → ℕ → ℕ → List CourseSet → List CourseSet
-with_next p cs n weight met xs = xs ++ map (with_course n weight met) (filter (λ x. not (clashes p cs n x)) xs)
+with_next p cs n weight met xs = xs ++ map (with_course n weight met) (filter (λ x. not (has_conflict p cs n x)) xs)
 
 -- Whether no two courses of the set conflict.
 pub record IsApart (p : Problem) (cs : List ℕ) (x : CourseSet) : Type 0 where

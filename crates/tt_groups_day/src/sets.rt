@@ -3,7 +3,7 @@
 ghost use Rattle.std.specs.Prelude.{◌≡◌, ℕ, ◌+◌, ◌*◌, ◌<◌, ◌≤◌, ◌^◌, ◌++◌, ◌∷◌, [], length, slice_index, All, IfOk, OnOk, OnErr, Err};
 ghost use Rattle.tt_instance.specs.Courses.{in_curriculum};
 ghost use Rattle.tt_groups.specs.Listed.{AreCourses};
-ghost use Rattle.tt_groups_day.specs.Choosing.{clashes, with_course, with_next, IsApart};
+ghost use Rattle.tt_groups_day.specs.Choosing.{has_conflict, with_course, with_next, IsApart};
 ghost use Rattle.tt_groups_day.specs.Counting.{sets_count};
 ghost use Rattle.tt_groups_day.specs.Sets.{IsWordOf, IsCourseSet, IsComplete};
 ghost use Rattle.tt_groups_day.specs.declared.sets.SetsFault.TheVariants as fault;
@@ -50,10 +50,10 @@ fn curricula_with(instance: &Instance<'_>, group: &Group, course: u32) -> u64
 }
 
 /// Checks whether a course conflicts with one of a set's courses before it.
-fn clashes(instance: &Instance<'_>, courses: &[u32], number: usize, set: &CourseSet) -> bool
+fn has_conflict(instance: &Instance<'_>, courses: &[u32], number: usize, set: &CourseSet) -> bool
     requires there { number < length courses.now }
     requires at_most { length courses.now ≤ COURSES }
-    ensures { result ≡ clashes instance.now courses.now number set.now }
+    ensures { result ≡ has_conflict instance.now courses.now number set.now }
 {
     for other in 0..number {
         if set.courses[other] == 1 && instance.conflict(courses[number], courses[other]) {
@@ -112,7 +112,7 @@ fn add_course(
     let before = sets.len();
     for k in 0..before {
         let set = sets[k];
-        if !clashes(instance, courses, number, &set) {
+        if !has_conflict(instance, courses, number, &set) {
             append(sets, with_course(&set, number, weight, met))?;
         }
     }
@@ -139,7 +139,7 @@ pub fn list_sets(
     ensures small { IfOk result (λ sets. All (λ x. x.index ≤ MAX_INDEX) sets.items) }
     // The list is refused exactly if there are too many sets, unless memory runs out.
     ensures too_many { result ≡ Err fault.TooManySets → MAX_SETS < sets_count instance.now courses.now }
-    ensures few_sets { OnOk result (sets_count instance.now courses.now ≤ MAX_SETS) }
+    ensures within_limit { OnOk result (sets_count instance.now courses.now ≤ MAX_SETS) }
 {
     let mut sets = Vec::new(alloc);
     let none = CourseSet {

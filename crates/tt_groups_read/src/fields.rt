@@ -4,7 +4,7 @@ ghost use Rattle.std.specs.Prelude.{◌≡◌, ◌≤◌, ◌<◌, None, IfOk};
 ghost use Rattle.tt_text.specs.Feeds.{room_of};
 ghost use Rattle.tt_text.specs.Numbers.{number_of};
 ghost use Rattle.tt_proof_read.specs.Contract.{ReadsAs, ReadsPast};
-ghost use Rattle.tt_proof_read.specs.Faults.{TellsNoFailedRead, Gives};
+ghost use Rattle.tt_proof_read.specs.Faults.{ReportsNoFailedRead, Gives};
 ghost use Rattle.tt_proof_read.specs.Reading.{token_at, word_at, numbered_below, index_of, priced_as};
 ghost use Rattle.tt_proof_read.specs.declared.format.TheConstants.{MAX_POINTS};
 ghost use Rattle.tt_groups_read.specs.Reading.{points_at};
@@ -46,7 +46,7 @@ pub fn read_word<R: Source>(feed: &mut Feed, source: &mut R, word: Word) -> Resu
 fn number_below(digits: &[u8], at: usize, count: u32) -> Result<u32, TextFault>
     ensures read { Gives (λ n. n) result (numbered_below at count digits.now) }
     ensures within { IfOk result (λ n. n < count) }
-    ensures unread { TellsNoFailedRead result }
+    ensures unread { ReportsNoFailedRead result }
 {
     match number(&Token { bytes: digits, at }, 4_294_967_295) {
         Ok(n) => {
@@ -66,7 +66,7 @@ fn number_below(digits: &[u8], at: usize, count: u32) -> Result<u32, TextFault>
 pub fn index(text: &[u8], at: usize, letter: u8, count: u32) -> Result<u32, TextFault>
     ensures read { Gives (λ n. n) result (index_of letter count (record { text = text.now; at = at })) }
     ensures within { IfOk result (λ n. n < count) }
-    ensures unread { TellsNoFailedRead result }
+    ensures unread { ReportsNoFailedRead result }
 {
     match text.split_first() {
         Some((first, digits)) => {
@@ -84,7 +84,7 @@ pub fn index(text: &[u8], at: usize, letter: u8, count: u32) -> Result<u32, Text
 fn points(text: &[u8], at: usize) -> Result<u64, TextFault>
     ensures read { Gives (λ n. n) result (priced_as at (number_of MAX_POINTS text.now)) }
     ensures within { IfOk result (λ n. n ≤ MAX_POINTS) }
-    ensures unread { TellsNoFailedRead result }
+    ensures unread { ReportsNoFailedRead result }
 {
     match number(&Token { bytes: text, at }, MAX_POINTS) {
         Ok(points) => Ok(points),

@@ -3,7 +3,7 @@
 ghost use Rattle.std.specs.Prelude.{◌≡◌, ◌<◌, IfOk, IfSome};
 ghost use Rattle.tt_text.specs.Feeds.{room_of};
 ghost use Rattle.tt_proof_read.specs.Contract.{ReadsAs, ReadsPast};
-ghost use Rattle.tt_proof_read.specs.Faults.{TellsNoFailedRead, Gives};
+ghost use Rattle.tt_proof_read.specs.Faults.{ReportsNoFailedRead, Gives};
 ghost use Rattle.tt_groups_read.specs.Reading.{group_word_of, claim_at, nothing_at, group_at};
 ghost use Rattle.tt_groups_read.specs.Readers.{IsClaimAt};
 
@@ -26,7 +26,7 @@ pub enum GroupWord {
 /// Reads the word of a group, or the end, in one token.
 fn group_word(text: &[u8], at: usize) -> Result<GroupWord, TextFault>
     ensures read { Gives (λ w. w) result (group_word_of (record { text = text.now; at = at })) }
-    ensures unread { TellsNoFailedRead result }
+    ensures unread { ReportsNoFailedRead result }
 {
     match text {
         b"G" => Ok(GroupWord::Group),

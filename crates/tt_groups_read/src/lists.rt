@@ -5,7 +5,7 @@ ghost use Rattle.tt_lists.specs.Words.{each_two, has_number};
 ghost use Rattle.tt_leaf_rules.specs.Ranges.{AreBelow};
 ghost use Rattle.tt_text.specs.Feeds.{room_of};
 ghost use Rattle.tt_proof_read.specs.Contract.{ReadsAs};
-ghost use Rattle.tt_proof_read.specs.Faults.{TellsNoFailedRead, Gives};
+ghost use Rattle.tt_proof_read.specs.Faults.{ReportsNoFailedRead, Gives};
 ghost use Rattle.tt_groups_read.specs.Reading.{listed_of, listed_at, list_at};
 
 use crate::fields::{index, token};
@@ -29,7 +29,7 @@ fn listed(text: &[u8], at: usize, form: ListForm, before: &[u32]) -> Result<Opti
     ensures read { Gives (λ n. n) result (listed_of form before.now (record { text = text.now; at = at })) }
     ensures within { IfOk result (λ o. IfSome o (λ n. n < form.count)) }
     ensures new { IfOk result (λ o. IfSome o (λ n. has_number before.now n ≡ false)) }
-    ensures unread { TellsNoFailedRead result }
+    ensures unread { ReportsNoFailedRead result }
 {
     if [form.end].as_slice() == text {
         return Ok(None);

@@ -84,7 +84,7 @@ impl<'a> Row<'a> {
     }
 
     /// Returns whether the first word is this one.
-    pub fn begins_with(&self, name: &[u8]) -> bool {
+    pub fn has_first_word(&self, name: &[u8]) -> bool {
         match self.first {
             Some(token) => token.bytes == name,
             None => false,
@@ -102,19 +102,19 @@ impl<'a> Row<'a> {
 
     /// Returns the part that the line begins.
     pub fn begun(&self) -> Option<Section> {
-        if self.begins_with(Word::CoursesPart.text()) {
+        if self.has_first_word(Word::CoursesPart.text()) {
             return Some(Section::Courses);
         }
-        if self.begins_with(Word::RoomsPart.text()) {
+        if self.has_first_word(Word::RoomsPart.text()) {
             return Some(Section::Rooms);
         }
-        if self.begins_with(Word::CurriculaPart.text()) {
+        if self.has_first_word(Word::CurriculaPart.text()) {
             return Some(Section::Curricula);
         }
-        if self.begins_with(Word::UnavailabilityPart.text()) {
+        if self.has_first_word(Word::UnavailabilityPart.text()) {
             return Some(Section::Unavailabilities);
         }
-        if self.begins_with(Word::End.text()) {
+        if self.has_first_word(Word::End.text()) {
             return Some(Section::End);
         }
         None
@@ -141,7 +141,7 @@ pub fn line_named(bytes: &[u8], section: Section, name: &[u8]) -> Option<usize> 
         let row = Row::of(line);
         if let Some(begun) = row.begun() {
             here = begun;
-        } else if here == section && row.begins_with(name) {
+        } else if here == section && row.has_first_word(name) {
             return Some(number);
         }
     }

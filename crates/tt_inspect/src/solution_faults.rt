@@ -76,7 +76,7 @@ fn put_reason(
     if let Some(reason) = encoding_fault(bytes) {
         return writeln!(text, "likely: {reason}");
     }
-    if Row::of(bytes).begins_with(Word::Name.text()) {
+    if Row::of(bytes).has_first_word(Word::Name.text()) {
         return writeln!(
             text,
             "likely: this is an instance; the solution comes after it"

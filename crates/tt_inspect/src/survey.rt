@@ -39,7 +39,7 @@ impl Survey {
             Section::Unavailabilities,
         ] {
             if let Some((word, _)) = section.words()
-                && row.begins_with(word.text())
+                && row.has_first_word(word.text())
                 && let Some(tally) = self.tallies.get_mut(section.index())
             {
                 tally.said = row.number();

@@ -110,13 +110,13 @@ stands_or_none at (t ∷ ts) = stands_step at t ts (cases_eq t.at at) (stands_or
 
 -- a reader that fails, with a fault reported at the token at this offset
 module _ {F A : Type 0} (offset_of : F → Option ℕ) (at : ℕ) (f g : List Placed → Result A F) (alike : EndsAlike offset_of at (Unit {0}) f g) (ts : List Placed) (e : F) (failed : f ts ≡ Err e)
-    (is_told : offset_of e ≡ Some at) where
+    (is_reported : offset_of e ≡ Some at) where
   -- some token begins at the offset
   pub fault_at_token : Any (λ t. t.at ≡ at) ts
   fault_at_token = by_tokens (stands_or_none at ts)
     where
       by_tokens : NoneAt at ts ⊎ Any (λ t. t.at ≡ at) ts → Any (λ t. t.at ≡ at) ts
-      by_tokens (inl none) = absurd (subst (Stays offset_of at (λ (x : A). Unit {0})) failed (alike.stays tt ts none) is_told)
+      by_tokens (inl none) = absurd (subst (Stays offset_of at (λ (x : A). Unit {0})) failed (alike.stays tt ts none) is_reported)
       by_tokens (inr h) = h
 
   -- over shared tokens the reader gives no value
@@ -124,5 +124,5 @@ module _ {F A : Type 0} (offset_of : F → Option ℕ) (at : ℕ) (f g : List Pl
   fault_of_all us shared x read = by_fault (subst (λ (r : Result A F). Joins offset_of at (λ (y : A). Unit {0}) (λ _ _. Unit {0}) r (g us)) failed (alike.joins ts us shared))
     where
       by_fault : (offset_of e ≢ Some at) ⊎ ((y : A) → g us ≢ Ok y) → ⊥
-      by_fault (inl elsewhere) = elsewhere is_told
+      by_fault (inl elsewhere) = elsewhere is_reported
       by_fault (inr none) = none x read

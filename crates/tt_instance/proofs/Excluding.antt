@@ -49,9 +49,9 @@ abbrev one_name : List CourseRow → ℕ → ℕ → Bool
 one_name rows a b = is_same_text (slice_get (map teacher_of (courses_seen rows)) a) (slice_get (map teacher_of (courses_seen rows)) b)
 
 -- the flag of a course in the row of a teacher
-teacher_told : (names : List (List ℕ)) (rows : List CourseRow) (a b : ℕ) (x : CourseRow) → All (IsTeacher names) rows → a < length rows → x ≡ get_or rows a x
+teacher_reported : (names : List (List ℕ)) (rows : List CourseRow) (a b : ℕ) (x : CourseRow) → All (IsTeacher names) rows → a < length rows → x ≡ get_or rows a x
     → get_or (flags_of rows x.teacher) b false ≡ one_name rows a b
-teacher_told names rows a b x all in_a x_is = elim (cases_lt b (length rows)) [ inl lt ↦ here lt | inr le ↦ past le ]
+teacher_reported names rows a b x all in_a x_is = elim (cases_lt b (length rows)) [ inl lt ↦ here lt | inr le ↦ past le ]
   where
     at_a : slice_get (map teacher_of (courses_seen rows)) a ≡ Some x.teacher_name.now
     at_a = field_at course_seen rows a x teacher_of in_a x_is
@@ -118,7 +118,7 @@ teacher_at p a b is = elim (slice_get_cases p.courses.rows.items a).1 [
       let x = here.0 in
       ap (λ (row : List Bool). get_or row b false) (get_or-map (λ y. flags_of rows y.teacher) rows a x [] here.1)
       ∙ ap (λ (y : CourseRow). get_or (flags_of rows y.teacher) b false) here.3
-      ∙ teacher_told p.courses.teachers rows a b x is.courses.numbers here.1 (sym here.3)
+      ∙ teacher_reported p.courses.teachers rows a b x is.courses.numbers here.1 (sym here.3)
   | inr past ↦
       let rows = p.courses.rows.items in
       let none : slice_get (map teacher_of (courses_seen rows)) a ≡ None = slice_get_past _ a (simp length-map past.0) in
@@ -126,13 +126,13 @@ teacher_at p a b is = elim (slice_get_cases p.courses.rows.items a).1 [
 ]
 
 -- the rows of conflicts: those of teachers, with the members of curricula added, and each course's own mark cleared
-pub rows_told : (p : Parts) (courses : List CourseRow) (curricula : List CurriculumRow) (first added cleared : List (List Bool)) → IsIndexedParts p
+pub rows_reported : (p : Parts) (courses : List CourseRow) (curricula : List CurriculumRow) (first added cleared : List (List Bool)) → IsIndexedParts p
     → courses ≡ p.courses.rows.items → curricula ≡ p.curricula.rows.items
     → first ≡ teacher_rows_of courses
     → ((a b : ℕ) → mark_at added a b ≡ (mark_at first a b || list_any (λ q. has_number q.members.courses.items a && has_number q.members.courses.items b) curricula))
     → ((a b : ℕ) → mark_at cleared a b ≡ (not (a == b) && mark_at added a b))
     → (a b : ℕ) → mark_at cleared a b ≡ conflict (problem_seen p) a b
-rows_told p courses curricula first added cleared is courses_are curricula_are first_is more less a b =
+rows_reported p courses curricula first added cleared is courses_are curricula_are first_is more less a b =
     let both : CurriculumRow → Bool = λ q. has_number q.members.courses.items a && has_number q.members.courses.items b in
     let teacher : mark_at first a b ≡ one_teacher (problem_seen p) a b =
     ap (λ rows. mark_at rows a b) (first_is ∙ ap teacher_rows_of courses_are) ∙ teacher_at p a b is in

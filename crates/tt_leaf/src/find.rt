@@ -30,7 +30,7 @@ fn is_right<'i, P: Path<'i>>(path: &P, leaf: &Leaf, bound: Bound) -> bool
 /// Returns an Empty leaf of a yes-fact that is right, if one exists.
 fn find_empty<'i, P: Path<'i>>(path: &P, bound: Bound) -> Option<Leaf>
     requires { ArePatterns (P.problem path.now) (P.facts path.now) }
-    ensures some { IfSome result (Closes (P.problem path.now) (P.facts path.now) bound) }
+    ensures closes { IfSome result (Closes (P.problem path.now) (P.facts path.now) bound) }
     ensures none { IsNone result → All (λ f. f.holds ≡ true → ¬ IsRight (P.problem path.now) (P.facts path.now) bound (Empty f.pattern)) (P.facts path.now) }
 {
     for index in 0..path.depth() {
@@ -47,7 +47,7 @@ fn find_empty<'i, P: Path<'i>>(path: &P, bound: Bound) -> Option<Leaf>
 
 /// Returns a Many leaf that is right, if one exists.
 fn find_many<'i, P: Path<'i>>(path: &P, bound: Bound) -> Option<Leaf>
-    ensures some { IfSome result (Closes (P.problem path.now) (P.facts path.now) bound) }
+    ensures closes { IfSome result (Closes (P.problem path.now) (P.facts path.now) bound) }
     ensures none { IsNone result → (c : ℕ) → c < length (P.problem path.now).courses → ¬ IsRight (P.problem path.now) (P.facts path.now) bound (Many c) }
 {
     for course in 0..path.instance().courses() {
@@ -74,7 +74,7 @@ fn find_clique<'i, P: Path<'i>>(
     path: &P,
     bound: Bound,
 ) -> Result<Option<Leaf>, AllocError>
-    ensures some { IfOk result (λ found. IfSome found (Closes (P.problem path.now) (P.facts path.now) bound)) }
+    ensures closes { IfOk result (λ found. IfSome found (Closes (P.problem path.now) (P.facts path.now) bound)) }
     ensures none { IfOk result (λ found. IsNone found → (c : ℕ) → c < length (P.problem path.now).courses → ¬ IsRight (P.problem path.now) (P.facts path.now) bound (Clique (c ∷ []))) }
 {
     for course in 0..path.instance().courses() {
@@ -89,7 +89,7 @@ fn find_clique<'i, P: Path<'i>>(
 /// Returns the leaf if it is right.
 fn if_right<'i, P: Path<'i>>(path: &P, leaf: Leaf, bound: Bound) -> Option<Leaf>
     requires { IsAnswer (P.problem path.now) leaf }
-    ensures some { IfSome result (Closes (P.problem path.now) (P.facts path.now) bound) }
+    ensures closes { IfSome result (Closes (P.problem path.now) (P.facts path.now) bound) }
     ensures none { IsNone result → ¬ IsRight (P.problem path.now) (P.facts path.now) bound leaf }
 {
     if is_right(path, &leaf, bound) {
@@ -150,7 +150,7 @@ pub fn find_leaf<'i, P: Path<'i>>(
     bound: Bound,
 ) -> Result<Option<Leaf>, AllocError>
     requires { ArePatterns (P.problem path.now) (P.facts path.now) }
-    ensures some { IfOk result (λ found. IfSome found (Closes (P.problem path.now) (P.facts path.now) bound)) }
+    ensures closes { IfOk result (λ found. IfSome found (Closes (P.problem path.now) (P.facts path.now) bound)) }
     ensures none { IfOk result (λ found. IsNone found → IsOpen (P.problem path.now) (P.facts path.now) bound) }
     ensures pinned { IsPinnedDown (P.problem path.now) (P.facts path.now) →
         ((t : List Cell) → IsFeasible (P.problem path.now) t → Fits (P.problem path.now) t (P.facts path.now) → Respects bound (cost (P.problem path.now) t)) →

@@ -28,13 +28,13 @@ use Rattle.tt_facts_path.proofs.Given.{at_number, list_all-of_members}
 use Rattle.tt_facts_path.proofs.Lost.{is_who-has}
 use Rattle.tt_leaf_rules.specs.Leaves.{all_dead}
 use Rattle.tt_leaf_rules.specs.Claims.{is_alone, price_in}
-use Rattle.tt_leaf_rules.specs.Nested.{rooms_dead, period_dead, course_dead, gone_or_dead, live_before, live_after, covered_in}
+use Rattle.tt_leaf_rules.specs.Nested.{are_rooms_dead, is_period_dead, is_course_dead, is_gone_or_dead, live_before, live_after, covered_in}
 
 -- ---- dead cells
 
 module _ (p : Problem) (path : List Fact) (c : ℕ) (s : Slot) where
-  pub rooms_dead-any : not (live_period p path c s) ≡ rooms_dead p path None c s
-  rooms_dead-any =
+  pub are_rooms_dead-any : not (live_period p path c s) ≡ are_rooms_dead p path None c s
+  are_rooms_dead-any =
       sym (list_all-not (λ r. is_live p path (cell c r s)) (all_rooms p))
       ∙ list_all-same (λ r. not (is_live p path (cell c r s))) (λ r. is_dead p path (cell c r s)) (all_rooms p) (λ r. twice (is_dead p path (cell c r s)))
     where
@@ -42,8 +42,8 @@ module _ (p : Problem) (path : List Fact) (c : ℕ) (s : Slot) where
       twice true = refl
       twice false = refl
 
-  pub rooms_dead-one : (r : ℕ) → rooms_dead p path (Some r) c s ≡ (nat_le (length p.rooms) r || is_dead p path (cell c r s))
-  rooms_dead-one r = at_number (λ k. is_dead p path (cell c k s)) (length p.rooms) r
+  pub are_rooms_dead-one : (r : ℕ) → are_rooms_dead p path (Some r) c s ≡ (nat_le (length p.rooms) r || is_dead p path (cell c r s))
+  are_rooms_dead-one r = at_number (λ k. is_dead p path (cell c k s)) (length p.rooms) r
 
 module _ (p : Problem) (path : List Fact) (g : Pattern) where
   by_period : (u a b d : Bool) → (not (u && a && b) || d) ≡ ((not a || not b) || (not u || d))
@@ -58,35 +58,35 @@ module _ (p : Problem) (path : List Fact) (g : Pattern) where
   each_or true t rs = all_pass (λ r. true) rs (λ r. refl)
   each_or false t rs = refl
 
-  in_period : (c : ℕ) (s : Slot) → list_all (λ r. not (agrees g.room r && agrees g.day s.day && agrees g.period s.period) || is_dead p path (cell c r s)) (all_rooms p) ≡ period_dead p path g c s
+  in_period : (c : ℕ) (s : Slot) → list_all (λ r. not (agrees g.room r && agrees g.day s.day && agrees g.period s.period) || is_dead p path (cell c r s)) (all_rooms p) ≡ is_period_dead p path g c s
   in_period c s =
       list_all-same (λ r. not (agrees g.room r && agrees g.day s.day && agrees g.period s.period) || is_dead p path (cell c r s)) (λ r. (not (agrees g.day s.day) || not (agrees g.period s.period)) || (not (agrees g.room r) || is_dead p path (cell c r s))) (all_rooms p)
       (λ r. by_period (agrees g.room r) (agrees g.day s.day) (agrees g.period s.period) (is_dead p path (cell c r s)))
       ∙ each_or (not (agrees g.day s.day) || not (agrees g.period s.period)) (λ r. not (agrees g.room r) || is_dead p path (cell c r s)) (all_rooms p)
 
-  dead_cells : (c : ℕ) (b : Bool) → list_all (λ r. list_all (λ s. not (b && agrees g.room r && agrees g.day s.day && agrees g.period s.period) || is_dead p path (cell c r s)) (all_slots p)) (all_rooms p) ≡ (not b || course_dead p path g c)
+  dead_cells : (c : ℕ) (b : Bool) → list_all (λ r. list_all (λ s. not (b && agrees g.room r && agrees g.day s.day && agrees g.period s.period) || is_dead p path (cell c r s)) (all_slots p)) (all_rooms p) ≡ (not b || is_course_dead p path g c)
   dead_cells c true =
       list_all-swap (λ r s. not (agrees g.room r && agrees g.day s.day && agrees g.period s.period) || is_dead p path (cell c r s)) (all_rooms p) (all_slots p)
-      ∙ list_all-same (λ s. list_all (λ r. not (agrees g.room r && agrees g.day s.day && agrees g.period s.period) || is_dead p path (cell c r s)) (all_rooms p)) (period_dead p path g c) (all_slots p) (in_period c)
+      ∙ list_all-same (λ s. list_all (λ r. not (agrees g.room r && agrees g.day s.day && agrees g.period s.period) || is_dead p path (cell c r s)) (all_rooms p)) (is_period_dead p path g c) (all_slots p) (in_period c)
   dead_cells c false = all_pass (λ r. list_all (λ s. true) (all_slots p)) (all_rooms p) (λ r. all_pass (λ s. true) (all_slots p) (λ s. refl))
 
-  all_dead-by_course : all_dead p path g ≡ list_all (gone_or_dead p path g) (courses_of p g.who)
+  all_dead-by_course : all_dead p path g ≡ list_all (is_gone_or_dead p path g) (courses_of p g.who)
   all_dead-by_course =
       cells_in_rooms p (λ x. not (matches p g x) || is_dead p path x)
-      ∙ list_all-same (λ c. list_all (λ r. list_all (λ s. not (matches p g (cell c r s)) || is_dead p path (cell c r s)) (all_slots p)) (all_rooms p)) (λ c. not (has_number (courses_of p g.who) c) || course_dead p path g c) (all_courses p)
-      (λ c. dead_cells c (is_who p g.who c) ∙ ap (λ b. not b || course_dead p path g c) (is_who-has p g.who c))
-      ∙ list_all-of_members (course_dead p path g) (length p.courses) (courses_of p g.who)
+      ∙ list_all-same (λ c. list_all (λ r. list_all (λ s. not (matches p g (cell c r s)) || is_dead p path (cell c r s)) (all_slots p)) (all_rooms p)) (λ c. not (has_number (courses_of p g.who) c) || is_course_dead p path g c) (all_courses p)
+      (λ c. dead_cells c (is_who p g.who c) ∙ ap (λ b. not b || is_course_dead p path g c) (is_who-has p g.who c))
+      ∙ list_all-of_members (is_course_dead p path g) (length p.courses) (courses_of p g.who)
 
   -- the form in which the code goes through the courses that the pattern means
-  pub all_dead-by_one : (a : ℕ) → g.who ≡ Course a → all_dead p path g ≡ gone_or_dead p path g a
-  all_dead-by_one a e = all_dead-by_course ∙ ap (λ w. list_all (gone_or_dead p path g) (courses_of p w)) e ∙ and-true (gone_or_dead p path g a)
+  pub all_dead-by_one : (a : ℕ) → g.who ≡ Course a → all_dead p path g ≡ is_gone_or_dead p path g a
+  all_dead-by_one a e = all_dead-by_course ∙ ap (λ w. list_all (is_gone_or_dead p path g) (courses_of p w)) e ∙ and-true (is_gone_or_dead p path g a)
 
-  pub all_dead-by_members : (q : ℕ) → g.who ≡ Curriculum q → all_dead p path g ≡ list_all (gone_or_dead p path g) (members p q)
-  all_dead-by_members q e = all_dead-by_course ∙ ap (λ w. list_all (gone_or_dead p path g) (courses_of p w)) e
+  pub all_dead-by_members : (q : ℕ) → g.who ≡ Curriculum q → all_dead p path g ≡ list_all (is_gone_or_dead p path g) (members p q)
+  all_dead-by_members q e = all_dead-by_course ∙ ap (λ w. list_all (is_gone_or_dead p path g) (courses_of p w)) e
 
   pub all_dead-by_nobody : (q : ℕ) → g.who ≡ Curriculum q → length p.curricula ≤ q → all_dead p path g ≡ true
   all_dead-by_nobody q e h =
-      all_dead-by_members q e ∙ ap (λ c. list_all (gone_or_dead p path g) c.members) (get_or_past p.curricula q no_curriculum h)
+      all_dead-by_members q e ∙ ap (λ c. list_all (is_gone_or_dead p path g) c.members) (get_or_past p.curricula q no_curriculum h)
 
 -- ---- the neighbours of a period
 

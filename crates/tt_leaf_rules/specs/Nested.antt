@@ -20,21 +20,21 @@ use Rattle.tt_leaf_rules.specs.declared.leaf.Claim.{Claim}
 -- ---- dead cells
 
 -- The course's cells in the period are dead, in the given room if one is given.
-abbrev pub rooms_dead : Problem → List Fact → Option ℕ → ℕ → Slot → Bool
-rooms_dead p path room c s = list_all (λ r. not (agrees room r) || is_dead p path (cell c r s)) (all_rooms p)
+abbrev pub are_rooms_dead : Problem → List Fact → Option ℕ → ℕ → Slot → Bool
+are_rooms_dead p path room c s = list_all (λ r. not (agrees room r) || is_dead p path (cell c r s)) (all_rooms p)
 
 -- The pattern doesn't allow the period, or the course's cells there in the rooms that it allows are dead.
-abbrev pub period_dead : Problem → List Fact → Pattern → ℕ → Slot → Bool
-period_dead p path g c s =
-    not (agrees g.day s.day) || not (agrees g.period s.period) || rooms_dead p path g.room c s
+abbrev pub is_period_dead : Problem → List Fact → Pattern → ℕ → Slot → Bool
+is_period_dead p path g c s =
+    not (agrees g.day s.day) || not (agrees g.period s.period) || are_rooms_dead p path g.room c s
 
 -- In each period, the pattern doesn't allow it or the course's cells there in the rooms that it allows are dead.
-abbrev pub course_dead : Problem → List Fact → Pattern → ℕ → Bool
-course_dead p path g c = list_all (period_dead p path g c) (all_slots p)
+abbrev pub is_course_dead : Problem → List Fact → Pattern → ℕ → Bool
+is_course_dead p path g c = list_all (is_period_dead p path g c) (all_slots p)
 
 -- The course is out of range, or each of its cells that the pattern allows is dead.
-abbrev pub gone_or_dead : Problem → List Fact → Pattern → ℕ → Bool
-gone_or_dead p path g c = nat_le (length p.courses) c || course_dead p path g c
+abbrev pub is_gone_or_dead : Problem → List Fact → Pattern → ℕ → Bool
+is_gone_or_dead p path g c = nat_le (length p.courses) c || is_course_dead p path g c
 
 -- ---- courses with a live cell
 

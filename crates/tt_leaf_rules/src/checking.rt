@@ -11,11 +11,11 @@ ghost use Rattle.tt_leaf_rules.specs.declared.leaf.Bound.TheVariants.{AtLeast, N
 ghost use Rattle.tt_leaf_rules.specs.declared.leaf.Leaf.TheVariants.{Empty, Many, Clique, Slots, Cost};
 
 use crate::claims::{are_fair, are_worth, total};
-use crate::empty::all_dead;
-use crate::groups::{are_distinct, have_more_lectures, is_clique, open_periods, open_rooms};
+use crate::empty::are_all_dead;
+use crate::groups::{are_distinct, has_more_lectures, is_clique, open_periods, open_rooms};
 use crate::leaf::{Bound, Claim, Leaf, RuleFault};
 use crate::pinned::pinned_periods;
-use crate::targets::claims_once;
+use crate::targets::are_claimed_once;
 use tt_facts_path::{Path, Pattern, Who};
 use tt_instance::{MAX_COURSES, MAX_CURRICULA};
 
@@ -24,7 +24,7 @@ fn fault_of_empty<'i, P: Path<'i>>(path: &P, pattern: &Pattern) -> Option<RuleFa
 {
     if !path.has(pattern, true) {
         Some(RuleFault::NotOnPath)
-    } else if !all_dead(path, pattern) {
+    } else if !are_all_dead(path, pattern) {
         Some(RuleFault::StillAlive)
     } else {
         None
@@ -48,7 +48,7 @@ fn fault_of_clique<'i, P: Path<'i>>(path: &P, courses: &[u32]) -> Option<RuleFau
 {
     if !is_clique(path.instance(), courses) {
         Some(RuleFault::NotAClique)
-    } else if !have_more_lectures(path.instance(), courses, open_periods(path, courses)) {
+    } else if !has_more_lectures(path.instance(), courses, open_periods(path, courses)) {
         Some(RuleFault::EnoughRoom)
     } else {
         None
@@ -63,7 +63,7 @@ fn fault_of_slots<'i, P: Path<'i>>(path: &P, courses: &[u32]) -> Option<RuleFaul
     prove!(path.instance().courses() <= MAX_COURSES);
     if !are_distinct(courses) {
         Some(RuleFault::ClaimedTwice)
-    } else if !have_more_lectures(path.instance(), courses, open_rooms(path, courses)) {
+    } else if !has_more_lectures(path.instance(), courses, open_rooms(path, courses)) {
         Some(RuleFault::EnoughRoom)
     } else {
         None
@@ -78,7 +78,7 @@ fn fault_of_sum<'i, P: Path<'i>>(path: &P, claims: &[Claim], least: u64) -> Opti
     // In every instance, each target has a mark.
     prove!(instance.courses() <= MAX_COURSES);
     prove!(instance.curricula() <= MAX_CURRICULA);
-    if !claims_once(claims) {
+    if !are_claimed_once(claims) {
         Some(RuleFault::ClaimedTwice)
     } else if !are_fair(path, claims) {
         Some(RuleFault::BadPrice)

@@ -5,14 +5,14 @@ ghost use Rattle.std.specs.List.{list_all};
 ghost use Rattle.tt_instance.specs.Cells.{slot};
 ghost use Rattle.tt_instance.specs.Courses.{members};
 ghost use Rattle.tt_leaf_rules.specs.Leaves.{all_dead};
-ghost use Rattle.tt_leaf_rules.specs.Nested.{rooms_dead, period_dead, course_dead, gone_or_dead};
+ghost use Rattle.tt_leaf_rules.specs.Nested.{are_rooms_dead, is_period_dead, is_course_dead, is_gone_or_dead};
 
 use crate::slots::{slot_at, slot_count};
-use tt_facts_path::{Path, Pattern, Who, agrees};
+use tt_facts_path::{Path, Pattern, Who, is_none_or_equal};
 use tt_instance::Cell;
 
 /// Returns whether the course's cells in the period are dead, in the given room if one is given.
-fn rooms_dead<'i, P: Path<'i>>(
+fn are_rooms_dead<'i, P: Path<'i>>(
     path: &P,
     room: Option<u32>,
     course: u32,
@@ -22,7 +22,7 @@ fn rooms_dead<'i, P: Path<'i>>(
     requires course { course < length (P.problem path.now).courses }
     requires day { day < (P.problem path.now).days }
     requires period { period < (P.problem path.now).periods }
-    ensures { result ≡ rooms_dead (P.problem path.now) (P.facts path.now) room course (slot day period) }
+    ensures { result ≡ are_rooms_dead (P.problem path.now) (P.facts path.now) room course (slot day period) }
 {
     match room {
         None => !path.live_period(course, day, period),
@@ -38,7 +38,7 @@ fn rooms_dead<'i, P: Path<'i>>(
     }
 }
 
-fn period_dead<'i, P: Path<'i>>(
+fn is_period_dead<'i, P: Path<'i>>(
     path: &P,
     pattern: &Pattern,
     course: u32,
@@ -48,60 +48,60 @@ fn period_dead<'i, P: Path<'i>>(
     requires course { course < length (P.problem path.now).courses }
     requires day { day < (P.problem path.now).days }
     requires period { period < (P.problem path.now).periods }
-    ensures { result ≡ period_dead (P.problem path.now) (P.facts path.now) pattern.now course (slot day period) }
+    ensures { result ≡ is_period_dead (P.problem path.now) (P.facts path.now) pattern.now course (slot day period) }
 {
-    !agrees(pattern.day, day)
-        || !agrees(pattern.period, period)
-        || rooms_dead(path, pattern.room, course, day, period)
+    !is_none_or_equal(pattern.day, day)
+        || !is_none_or_equal(pattern.period, period)
+        || are_rooms_dead(path, pattern.room, course, day, period)
 }
 
-fn course_dead<'i, P: Path<'i>>(path: &P, pattern: &Pattern, course: u32) -> bool
+fn is_course_dead<'i, P: Path<'i>>(path: &P, pattern: &Pattern, course: u32) -> bool
     requires { course < length (P.problem path.now).courses }
-    ensures { result ≡ course_dead (P.problem path.now) (P.facts path.now) pattern.now course }
+    ensures { result ≡ is_course_dead (P.problem path.now) (P.facts path.now) pattern.now course }
 {
     let instance = path.instance();
     for place in 0..slot_count(instance) {
         let slot = slot_at(instance, place);
-        if !period_dead(path, pattern, course, slot.day, slot.period) {
+        if !is_period_dead(path, pattern, course, slot.day, slot.period) {
             return false;
         }
     }
     true
 }
 
-fn gone_or_dead<'i, P: Path<'i>>(path: &P, pattern: &Pattern, course: u32) -> bool
-    ensures { result ≡ gone_or_dead (P.problem path.now) (P.facts path.now) pattern.now course }
+fn is_gone_or_dead<'i, P: Path<'i>>(path: &P, pattern: &Pattern, course: u32) -> bool
+    ensures { result ≡ is_gone_or_dead (P.problem path.now) (P.facts path.now) pattern.now course }
 {
-    course >= path.instance().courses() || course_dead(path, pattern, course)
+    course >= path.instance().courses() || is_course_dead(path, pattern, course)
 }
 
-fn each_dead<'i, P: Path<'i>>(path: &P, pattern: &Pattern, courses: &[u32]) -> bool
-    ensures { result ≡ list_all (gone_or_dead (P.problem path.now) (P.facts path.now) pattern.now) courses.now }
+fn are_courses_dead<'i, P: Path<'i>>(path: &P, pattern: &Pattern, courses: &[u32]) -> bool
+    ensures { result ≡ list_all (is_gone_or_dead (P.problem path.now) (P.facts path.now) pattern.now) courses.now }
 {
     for course in courses {
-        if !gone_or_dead(path, pattern, *course) {
+        if !is_gone_or_dead(path, pattern, *course) {
             return false;
         }
     }
     true
 }
 
-fn members_dead<'i, P: Path<'i>>(path: &P, pattern: &Pattern, curriculum: u32) -> bool
+fn are_members_dead<'i, P: Path<'i>>(path: &P, pattern: &Pattern, curriculum: u32) -> bool
     requires { curriculum < length (P.problem path.now).curricula }
-    ensures { result ≡ list_all (gone_or_dead (P.problem path.now) (P.facts path.now) pattern.now)
+    ensures { result ≡ list_all (is_gone_or_dead (P.problem path.now) (P.facts path.now) pattern.now)
         (members (P.problem path.now) curriculum) }
 {
-    each_dead(path, pattern, path.instance().members(curriculum))
+    are_courses_dead(path, pattern, path.instance().members(curriculum))
 }
 
 /// Returns whether each cell that the pattern matches is dead. It visits only the courses that the pattern means.
-pub fn all_dead<'i, P: Path<'i>>(path: &P, pattern: &Pattern) -> bool
+pub fn are_all_dead<'i, P: Path<'i>>(path: &P, pattern: &Pattern) -> bool
     ensures { result ≡ all_dead (P.problem path.now) (P.facts path.now) pattern.now }
 {
     match pattern.who {
-        Who::Course(course) => gone_or_dead(path, pattern, course),
+        Who::Course(course) => is_gone_or_dead(path, pattern, course),
         Who::Curriculum(curriculum) => {
-            curriculum >= path.instance().curricula() || members_dead(path, pattern, curriculum)
+            curriculum >= path.instance().curricula() || are_members_dead(path, pattern, curriculum)
         }
     }
 }

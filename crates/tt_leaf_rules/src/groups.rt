@@ -18,18 +18,18 @@ use tt_bits::{below, count, either};
 use tt_facts_path::Path;
 use tt_instance::{Instance, MAX_PERIODS};
 
-fn excludes_each(instance: &Instance<'_>, course: u32, others: &[u32]) -> bool
+fn is_in_conflict_with_each(instance: &Instance<'_>, course: u32, others: &[u32]) -> bool
     ensures { result ≡ list_all (conflict instance.now course) others.now }
 {
     others.iter().all(|other| instance.conflict(course, *other))
 }
 
-fn each_two_exclude(instance: &Instance<'_>, courses: &[u32]) -> bool
+fn are_pairwise_in_conflict(instance: &Instance<'_>, courses: &[u32]) -> bool
     ensures { result ≡ each_two (conflict instance.now) courses.now }
 {
     let mut rest = courses;
     while let Some((first, others)) = rest.split_first() {
-        if !excludes_each(instance, *first, others) {
+        if !is_in_conflict_with_each(instance, *first, others) {
             return false;
         }
         rest = others;
@@ -41,21 +41,21 @@ fn each_two_exclude(instance: &Instance<'_>, courses: &[u32]) -> bool
 pub fn is_clique(instance: &Instance<'_>, courses: &[u32]) -> bool
     ensures { result ≡ is_clique instance.now courses.now }
 {
-    !courses.is_empty() && each_two_exclude(instance, courses)
+    !courses.is_empty() && are_pairwise_in_conflict(instance, courses)
 }
 
-fn differs_from_each(course: u32, others: &[u32]) -> bool
+fn is_other_than_each(course: u32, others: &[u32]) -> bool
     ensures { result ≡ list_all (λ other. not (course == other)) others.now }
 {
     others.iter().all(|other| course != *other)
 }
 
-fn each_two_differ(courses: &[u32]) -> bool
+fn are_pairwise_distinct(courses: &[u32]) -> bool
     ensures { result ≡ are_distinct courses.now }
 {
     let mut rest = courses;
     while let Some((first, others)) = rest.split_first() {
-        if !differs_from_each(*first, others) {
+        if !is_other_than_each(*first, others) {
             return false;
         }
         rest = others;
@@ -65,7 +65,7 @@ fn each_two_differ(courses: &[u32]) -> bool
 
 /// Returns whether no course occurs twice, by marks, without comparing each two courses. Not inlined, since its marks are on the stack.
 #[inline(never)]
-fn each_is_new(courses: &[u32]) -> bool
+fn are_new(courses: &[u32]) -> bool
     requires { AreBelow MAX_COURSES courses.now }
     ensures { result ≡ are_distinct courses.now }
 {
@@ -86,9 +86,9 @@ pub fn are_distinct(courses: &[u32]) -> bool
     ensures { result ≡ are_distinct courses.now }
 {
     if courses.len() <= MAX_COMPARED {
-        each_two_differ(courses)
+        are_pairwise_distinct(courses)
     } else {
-        each_is_new(courses)
+        are_new(courses)
     }
 }
 
@@ -106,7 +106,7 @@ fn all_lectures(instance: &Instance<'_>, courses: &[u32]) -> u64
 
 /// Returns whether courses have more lectures than `places`.
 #[tactic(auto, using(crate::proofs::Sizes::below_capped))]
-pub fn have_more_lectures(instance: &Instance<'_>, courses: &[u32], places: u32) -> bool
+pub fn has_more_lectures(instance: &Instance<'_>, courses: &[u32], places: u32) -> bool
     requires { AreBelow (length instance.now.courses) courses.now }
     ensures { result ≡ nat_lt places (all_lectures instance.now courses.now) }
 {

@@ -17,7 +17,7 @@ fn is_priced(courses: &[(u32, u32)], course: u32) -> bool
     courses.iter().any(|priced| course == priced.0)
 }
 
-fn claims_capacity(claim: &Claim, course: u32) -> bool
+fn has_capacity_target(claim: &Claim, course: u32) -> bool
     ensures { result ≡ claims_target claim.now (RoomCapacity course) }
 {
     match claim {
@@ -30,7 +30,7 @@ fn claims_capacity(claim: &Claim, course: u32) -> bool
     }
 }
 
-fn claims_days(claim: &Claim, course: u32) -> bool
+fn has_days_target(claim: &Claim, course: u32) -> bool
     ensures { result ≡ claims_target claim.now (WorkingDays course) }
 {
     match claim {
@@ -39,7 +39,7 @@ fn claims_days(claim: &Claim, course: u32) -> bool
     }
 }
 
-fn claims_compactness(claim: &Claim, curriculum: u32) -> bool
+fn has_compactness_target(claim: &Claim, curriculum: u32) -> bool
     ensures { result ≡ claims_target claim.now (Compactness curriculum) }
 {
     match claim {
@@ -48,7 +48,7 @@ fn claims_compactness(claim: &Claim, curriculum: u32) -> bool
     }
 }
 
-fn claims_stability(claim: &Claim, course: u32) -> bool
+fn has_stability_target(claim: &Claim, course: u32) -> bool
     ensures { result ≡ claims_target claim.now (Stability course) }
 {
     match claim {
@@ -57,23 +57,23 @@ fn claims_stability(claim: &Claim, course: u32) -> bool
     }
 }
 
-fn claims_no_capacity(claim: &Claim, courses: &[(u32, u32)]) -> bool
+fn has_no_capacity_target(claim: &Claim, courses: &[(u32, u32)]) -> bool
     ensures { result ≡ list_all (λ k. not (claims_target claim.now (RoomCapacity k.0))) courses.now }
 {
     courses
         .iter()
-        .all(|priced| !claims_capacity(claim, priced.0))
+        .all(|priced| !has_capacity_target(claim, priced.0))
 }
 
 fn are_apart(claim: &Claim, other: &Claim) -> bool
     ensures { result ≡ are_apart claim.now other.now }
 {
     match claim {
-        Claim::Capacity { course, .. } => !claims_capacity(other, *course),
-        Claim::Days(course) | Claim::Stacked(course) => !claims_days(other, *course),
-        Claim::Compact(curriculum) => !claims_compactness(other, *curriculum),
-        Claim::Stable(course) => !claims_stability(other, *course),
-        Claim::Prices { courses, .. } => claims_no_capacity(other, courses.as_slice()),
+        Claim::Capacity { course, .. } => !has_capacity_target(other, *course),
+        Claim::Days(course) | Claim::Stacked(course) => !has_days_target(other, *course),
+        Claim::Compact(curriculum) => !has_compactness_target(other, *curriculum),
+        Claim::Stable(course) => !has_stability_target(other, *course),
+        Claim::Prices { courses, .. } => has_no_capacity_target(other, courses.as_slice()),
     }
 }
 
@@ -83,7 +83,7 @@ fn is_apart_from_each(claim: &Claim, others: &[Claim]) -> bool
     others.iter().all(|other| are_apart(claim, other))
 }
 
-fn each_two_apart(claims: &[Claim]) -> bool
+fn are_pairwise_apart(claims: &[Claim]) -> bool
     requires { All IsOnce claims.now }
     ensures { result ≡ claims_once claims.now }
 {
@@ -128,7 +128,7 @@ fn insert_targets(taken: &mut NumberSet, claim: &Claim) -> bool
 
 /// Returns whether no target is claimed twice, by marks, without comparing each two targets. Not inlined, since its marks are on the stack.
 #[inline(never)]
-fn each_is_new(claims: &[Claim]) -> bool
+fn are_new(claims: &[Claim]) -> bool
     requires { All IsPlaced claims.now }
     ensures { result ≡ claims_once claims.now }
 {
@@ -153,14 +153,14 @@ fn are_few(claims: &[Claim]) -> bool {
 }
 
 /// Returns whether no target is claimed twice.
-pub fn claims_once(claims: &[Claim]) -> bool
+pub fn are_claimed_once(claims: &[Claim]) -> bool
     requires once { All IsOnce claims.now }
     requires placed { All IsPlaced claims.now }
     ensures { result ≡ claims_once claims.now }
 {
     if are_few(claims) {
-        each_two_apart(claims)
+        are_pairwise_apart(claims)
     } else {
-        each_is_new(claims)
+        are_new(claims)
     }
 }

@@ -52,8 +52,8 @@ module _ (r : WithoutEntry) (u : List Cell) (ok : IsRest r u) where
 
   module _ (n : ℕ) (place : Cell → ℕ) where
     -- the number of entries of a course in a place
-    abbrev pub standing_in : List Cell → ℕ → ℕ → ℕ
-    standing_in t c k = count_by (λ e. is_of c e && (place e == k)) t
+    abbrev pub taken_in : List Cell → ℕ → ℕ → ℕ
+    taken_in t c k = count_by (λ e. is_of c e && (place e == k)) t
 
     -- the number of places with an entry of a course
     abbrev pub used : List Cell → ℕ → ℕ
@@ -65,38 +65,38 @@ module _ (r : WithoutEntry) (u : List Cell) (ok : IsRest r u) where
         (λ k. ap one_if (own_any (λ e. place e == k)))
 
     -- the number of places with another entry e of the course
-    used_by : (e : Cell) → e.course ≡ r.gone.course → place e < n → used (e ∷ u) r.gone.course ≡ used u r.gone.course + one_if (standing_in u r.gone.course (place e) == 0)
+    used_by : (e : Cell) → e.course ≡ r.gone.course → place e < n → used (e ∷ u) r.gone.course ≡ used u r.gone.course + one_if (taken_in u r.gone.course (place e) == 0)
     used_by e course h =
         used_more n place u e h r.gone.course
-        ∙ ap (λ k. used u r.gone.course + one_if ((k == r.gone.course) && (standing_in u k (place e) == 0))) course
-        ∙ ap (λ b. used u r.gone.course + one_if (b && (standing_in u r.gone.course (place e) == 0))) own
+        ∙ ap (λ k. used u r.gone.course + one_if ((k == r.gone.course) && (taken_in u k (place e) == 0))) course
+        ∙ ap (λ b. used u r.gone.course + one_if (b && (taken_in u r.gone.course (place e) == 0))) own
 
-    left : place r.gone < n → used u r.gone.course + one_if (standing_in entries r.gone.course (place r.gone) == 1) ≡ used entries r.gone.course
+    left : place r.gone < n → used u r.gone.course + one_if (taken_in entries r.gone.course (place r.gone) == 1) ≡ used entries r.gone.course
     left h =
         let itself = ap one_if (eq-eqb (place r.gone) (place r.gone) refl) in
         let c = own_count (λ e. place e == place r.gone) in
-        let one : standing_in entries r.gone.course (place r.gone) ≡ standing_in u r.gone.course (place r.gone) + 1 = omega (arith, c, itself) in
-        let test = ap one_if (same_test (standing_in entries r.gone.course (place r.gone)) 1 (standing_in u r.gone.course (place r.gone)) 0 (λ e. omega arith) (λ e. omega arith)) in
+        let one : taken_in entries r.gone.course (place r.gone) ≡ taken_in u r.gone.course (place r.gone) + 1 = omega (arith, c, itself) in
+        let test = ap one_if (same_test (taken_in entries r.gone.course (place r.gone)) 1 (taken_in u r.gone.course (place r.gone)) 0 (λ e. omega arith) (λ e. omega arith)) in
         omega (arith, used_same, used_by r.gone refl h, test)
 
     module _ (x : Cell) (course : x.course ≡ r.gone.course) (here : place r.gone < n) (there : place x < n) where
-      pub some_used : one_if (standing_in entries x.course (place r.gone) == 1) ≤ used entries x.course
+      pub some_used : one_if (taken_in entries x.course (place r.gone) == 1) ≤ used entries x.course
       some_used =
-          let a = ap (λ c. one_if (standing_in entries c (place r.gone) == 1)) course in
+          let a = ap (λ c. one_if (taken_in entries c (place r.gone) == 1)) course in
           let b = ap (used entries) course in
           omega (arith, left here)
 
-      pub some_standing : one_if (place r.gone == place x) ≤ standing_in entries x.course (place x)
-      some_standing =
-          let a = ap (λ c. standing_in entries c (place x)) course in
+      pub some_taken : one_if (place r.gone == place x) ≤ taken_in entries x.course (place x)
+      some_taken =
+          let a = ap (λ c. taken_in entries c (place x)) course in
           omega (arith, own_count (λ e. place e == place x))
 
-      pub used_anew_is : used (x ∷ u) x.course ≡ (used entries x.course - one_if (standing_in entries x.course (place r.gone) == 1)) + one_if ((standing_in entries x.course (place x) - one_if (place r.gone == place x)) == 0)
+      pub used_anew_is : used (x ∷ u) x.course ≡ (used entries x.course - one_if (taken_in entries x.course (place r.gone) == 1)) + one_if ((taken_in entries x.course (place x) - one_if (place r.gone == place x)) == 0)
       used_anew_is =
-          let a = ap (λ c. one_if (standing_in entries c (place r.gone) == 1)) course in
+          let a = ap (λ c. one_if (taken_in entries c (place r.gone) == 1)) course in
           let b = ap (used entries) course in
           let d = ap (used (x ∷ u)) course in
-          let e = ap (λ c. standing_in entries c (place x)) course in
-          let f : standing_in u r.gone.course (place x) ≡ standing_in entries x.course (place x) - one_if (place r.gone == place x) = omega (arith, own_count (λ e. place e == place x)) in
+          let e = ap (λ c. taken_in entries c (place x)) course in
+          let f : taken_in u r.gone.course (place x) ≡ taken_in entries x.course (place x) - one_if (place r.gone == place x) = omega (arith, own_count (λ e. place e == place x)) in
           let g = ap (λ v. one_if (v == 0)) f in
           omega (arith, left here, used_by x course there)

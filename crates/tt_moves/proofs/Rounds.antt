@@ -12,7 +12,7 @@ use Rattle.tt_instance.specs.declared.cell.Cell.{Cell}
 use Rattle.tt_table.specs.Table.{IsTimetable}
 use Rattle.tt_occupancy_tallies.specs.Neighbours.{entries_at, has_entry_at, has_neighbour, joined_before, joined_after}
 use Rattle.tt_occupancy_tallies.proofs.Chosen.{any_counted}
-use Rattle.tt_occupancy.proofs.Standings.{none_standing}
+use Rattle.tt_occupancy.proofs.Takings.{none_taken}
 use Rattle.tt_moves.specs.Rests.{IsRest, IsStill}
 use Rattle.tt_moves.specs.Rounds.{has_next, OtherIsHandled}
 use Rattle.tt_moves.specs.declared.rest.WithoutEntry.{WithoutEntry}
@@ -62,7 +62,7 @@ module _ (p : Problem) (u : List Cell) (q d : ℕ) (ok : IsTimetable p u) (short
     up_to : (s : ℕ) → (nat_lt s 64 && b s) ≡ has_entry_at p u q d s
     up_to s = elim (cases_lt s 64) [
       | inl h ↦ ap (λ t. t && b s) (lt-ltb s 64 h) ∙ is s h ∙ stands_is s
-      | inr h ↦ ap (λ t. t && b s) (le-ltb s 64 h) ∙ ap (nat_lt 0) (none_standing p u q d s ok (omega arith)) ∙ stands_is s
+      | inr h ↦ ap (λ t. t && b s) (le-ltb s 64 h) ∙ ap (nat_lt 0) (none_taken p u q d s ok (omega arith)) ∙ stands_is s
     ]
 
     pub beside_stands : (s : ℕ) → s < 64 → has_next b s ≡ has_neighbour p u q d s
@@ -86,7 +86,7 @@ module _ (p : Problem) (u : List Cell) (q d : ℕ) (ok : IsTimetable p u) (short
           ap (λ t. cond (t && b (s + 1)) (entries_at p u q d (s + 1)) 0) (lt-ltb (s + 1) 64 h)
           ∙ ap (λ t. cond t (entries_at p u q d (s + 1)) 0) (is (s + 1) h)
           ∙ some_only true (has_neighbour p u q d (s + 1)) (entries_at p u q d (s + 1))
-      | inr h ↦ nothing (nat_lt (s + 1) 64 && b (s + 1)) (not (has_neighbour p u q d (s + 1))) (entries_at p u q d (s + 1)) (sym (none_standing p u q d (s + 1) ok (omega arith)))
+      | inr h ↦ nothing (nat_lt (s + 1) 64 && b (s + 1)) (not (has_neighbour p u q d (s + 1))) (entries_at p u q d (s + 1)) (sym (none_taken p u q d (s + 1) ok (omega arith)))
     ]
 
 -- -- the moved entry

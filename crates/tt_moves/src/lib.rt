@@ -1,7 +1,7 @@
 //! Steps, their changes of the score, and Kempe chains.
 #![tactic(auto)]
 
-mod beside;
+mod neighbours;
 mod changing;
 mod cost;
 mod exchanges;

@@ -30,24 +30,24 @@ pub struct WithoutEntry<'b, 'a, 'i> {
 }
 
 /// Checks whether an entry is in a period.
-pub fn stands_at(entry: Entry, day: u32, period: u32) -> bool
+pub fn is_in_period(entry: Entry, day: u32, period: u32) -> bool
     ensures { result ≡ is_at (slot day period) entry }
 {
     entry.day == day && entry.period == period
 }
 
 /// Checks whether an entry is in the room and the period of another entry.
-fn stands_in(entry: Entry, place: Entry) -> bool
+fn is_in_place_of(entry: Entry, place: Entry) -> bool
     ensures { result ≡ (is_in place.room entry && is_at (slot_of place) entry) }
 {
-    entry.room == place.room && stands_at(entry, place.day, place.period)
+    entry.room == place.room && is_in_period(entry, place.day, place.period)
 }
 
 /// Checks whether an entry is in the period of another entry, and their courses conflict.
-fn collides(instance: &Instance<'_>, entry: Entry, place: Entry) -> bool
+fn is_in_conflict(instance: &Instance<'_>, entry: Entry, place: Entry) -> bool
     ensures { result ≡ (conflict instance.now place.course entry.course && is_at (slot_of place) entry) }
 {
-    instance.conflict(place.course, entry.course) && stands_at(entry, place.day, place.period)
+    instance.conflict(place.course, entry.course) && is_in_period(entry, place.day, place.period)
 }
 
 /// Returns a count over the rest, from the count over the timetable.
@@ -107,14 +107,14 @@ impl WithoutEntry<'_, '_, '_> {
         }
         adjusted(
             self.occupied.of_curriculum(curriculum, day, period),
-            other && stands_at(self.to, day, period),
-            other && stands_at(self.from, day, period),
-            stands_at(self.gone, day, period),
+            other && is_in_period(self.to, day, period),
+            other && is_in_period(self.from, day, period),
+            is_in_period(self.gone, day, period),
         )
     }
 
     /// Checks whether an entry of the course left out would share a period with another of the course.
-    pub fn repeats(&self, entry: Entry) -> bool
+    pub fn has_repeat(&self, entry: Entry) -> bool
         requires in_range { InRange self.now.occupied.now.problem entry }
         requires course { entry.course ≡ self.now.gone.course }
         requires rest { (u : List Cell) × IsRest self.now u }
@@ -123,11 +123,11 @@ impl WithoutEntry<'_, '_, '_> {
         let count = self
             .occupied
             .of_course(entry.course, entry.day, entry.period);
-        count > one_if(stands_at(self.gone, entry.day, entry.period))
+        count > one_if(is_in_period(self.gone, entry.day, entry.period))
     }
 
     /// Checks whether an entry of the course left out would share a room with another entry.
-    pub fn shares(&self, entry: Entry) -> bool
+    pub fn has_shared_room(&self, entry: Entry) -> bool
         requires in_range { InRange self.now.occupied.now.problem entry }
         requires rest { (u : List Cell) × IsRest self.now u }
         ensures { (u : List Cell) → IsRest self.now u → result ≡ shares u entry }
@@ -135,9 +135,9 @@ impl WithoutEntry<'_, '_, '_> {
         let count = self.occupied.in_room(entry.room, entry.day, entry.period);
         adjusted(
             count,
-            stands_in(self.to, entry),
-            stands_in(self.from, entry),
-            stands_in(self.gone, entry),
+            is_in_place_of(self.to, entry),
+            is_in_place_of(self.from, entry),
+            is_in_place_of(self.gone, entry),
         ) > 0
     }
 
@@ -155,9 +155,9 @@ impl WithoutEntry<'_, '_, '_> {
             .opposing(entry.course, entry.day, entry.period);
         adjusted(
             count,
-            collides(instance, self.to, entry),
-            collides(instance, self.from, entry),
-            collides(instance, self.gone, entry),
+            is_in_conflict(instance, self.to, entry),
+            is_in_conflict(instance, self.from, entry),
+            is_in_conflict(instance, self.gone, entry),
         )
     }
 

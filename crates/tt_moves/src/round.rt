@@ -11,7 +11,7 @@ ghost use Rattle.tt_moves.specs.Rests.{IsRest, IsStill};
 ghost use Rattle.tt_moves.specs.Rounds.{AreTaken, AreIsolated, OtherIsHandled};
 ghost use Rattle.tt_table.specs.declared.table.TheConstants.{MAX_ENTRIES};
 
-use crate::beside::beside;
+use crate::neighbours::neighbours;
 use crate::rest::WithoutEntry;
 use tt_bits::{has_bit, next, previous, without};
 use tt_instance::MAX_PERIODS;
@@ -51,7 +51,7 @@ impl WithoutEntry<'_, '_, '_> {
     }
 
     /// Returns the periods of a day with an entry of a curriculum of the course left out, as a set.
-    fn standing_on(&self, curriculum: u32, other: bool, day: u32) -> u64
+    fn taken_on(&self, curriculum: u32, other: bool, day: u32) -> u64
         requires curriculum { curriculum < length self.now.occupied.now.problem.curricula }
         requires day { day < self.now.occupied.now.problem.days }
         requires gone { in_curriculum self.now.occupied.now.problem curriculum self.now.gone.course ≡ true }
@@ -145,8 +145,8 @@ impl WithoutEntry<'_, '_, '_> {
         // This holds for every instance: its periods fit a word.
         prove!(self.occupied.instance().periods() <= MAX_PERIODS);
         let other = self.is_other(curriculum, is_still);
-        let set = self.standing_on(curriculum, other, day);
-        let beside = beside(set);
+        let set = self.taken_on(curriculum, other, day);
+        let beside = neighbours(set);
         let isolated = without(set, beside);
         let before = self.joined_before(isolated, curriculum, other, day, period);
         let after = self.joined_after(isolated, curriculum, other, day, period);

@@ -61,9 +61,9 @@ impl WithoutEntry<'_, '_, '_> {
     {
         let instance = self.occupied.instance();
         let barred = instance.unavailable(entry.course, entry.day, entry.period);
-        one_if(self.repeats(entry))
+        one_if(self.has_repeat(entry))
             + self.against(entry)
             + one_if(barred)
-            + one_if(self.shares(entry))
+            + one_if(self.has_shared_room(entry))
     }
 }

@@ -11,13 +11,13 @@ use tt_instance::{Instance, Slot};
 use tt_table::Entry;
 
 /// Checks whether an entry is in a period.
-pub fn stands_at(s: Slot, e: &Entry) -> bool
+pub fn is_in_period(s: Slot, e: &Entry) -> bool
     ensures { result ≡ is_at s e.now }
 {
     e.day == s.day && e.period == s.period
 }
 
-fn excludes(instance: &Instance<'_>, x: &Entry, y: &Entry) -> bool
+fn are_in_conflict(instance: &Instance<'_>, x: &Entry, y: &Entry) -> bool
     ensures { result ≡ exclude instance.now x.now y.now }
 {
     x.room == y.room || x.course == y.course || instance.conflict(x.course, y.course)
@@ -27,8 +27,8 @@ fn excludes(instance: &Instance<'_>, x: &Entry, y: &Entry) -> bool
 pub fn is_linked(instance: &Instance<'_>, a: Slot, b: Slot, x: &Entry, y: &Entry) -> bool
     ensures { result ≡ linked instance.now a b x.now y.now }
 {
-    let apart = stands_at(a, x) && stands_at(b, y) || stands_at(b, x) && stands_at(a, y);
-    apart && excludes(instance, x, y)
+    let apart = is_in_period(a, x) && is_in_period(b, y) || is_in_period(b, x) && is_in_period(a, y);
+    apart && are_in_conflict(instance, x, y)
 }
 
 /// Marks the place, and adds it to the waiting ones if it is newly marked.

@@ -10,7 +10,7 @@ ghost use Rattle.tt_moves_chain.specs.Chains.{linked, swapped};
 
 use crate::kempe::Chain;
 use crate::seeking::{is_barred, other_period};
-use crate::spreading::{is_linked, stands_at};
+use crate::spreading::{is_linked, is_in_period};
 use tt_instance::{Instance, Slot};
 use tt_occupancy::Occupied;
 
@@ -30,7 +30,7 @@ impl Chain {
     }
 
     /// Checks that another entry is a member if it is linked to a given one.
-    fn holds_link(&self, occupied: &Occupied<'_, '_>, index: u32, other: u32) -> bool
+    fn has_link(&self, occupied: &Occupied<'_, '_>, index: u32, other: u32) -> bool
         requires index { index < length occupied.now.entries }
         requires other { other < length occupied.now.entries }
         ensures { IsTrue result ↔ (linked occupied.now.problem self.now.from self.now.to
@@ -43,7 +43,7 @@ impl Chain {
     }
 
     /// Checks that each entry that is linked to a given one is a member.
-    fn holds_links_of(&self, occupied: &Occupied<'_, '_>, index: u32) -> bool
+    fn has_links_of(&self, occupied: &Occupied<'_, '_>, index: u32) -> bool
         requires { index < length occupied.now.entries }
         ensures { IsTrue result ↔ ((j : ℕ) → j < length occupied.now.entries
             → linked occupied.now.problem self.now.from self.now.to
@@ -51,7 +51,7 @@ impl Chain {
             → has_number self.now.members j ≡ true) }
     {
         for other in 0..occupied.table().len() as u32 {
-            if !self.holds_link(occupied, index, other) {
+            if !self.has_link(occupied, index, other) {
                 return false;
             }
         }
@@ -59,7 +59,7 @@ impl Chain {
     }
 
     /// Checks whether a member may change its period.
-    fn may_turn(&self, occupied: &Occupied<'_, '_>, index: u32) -> bool
+    fn can_turn(&self, occupied: &Occupied<'_, '_>, index: u32) -> bool
         ensures { IsTrue result ↔ MayTurn occupied.now.problem occupied.now.entries self.now.from self.now.to
             self.now.members index }
     {
@@ -67,10 +67,10 @@ impl Chain {
             return false;
         }
         let entry = occupied.entry(index);
-        let stands = stands_at(self.from, &entry) || stands_at(self.to, &entry);
+        let stands = is_in_period(self.from, &entry) || is_in_period(self.to, &entry);
         stands
             && !is_barred(occupied, self.from, self.to, index)
-            && self.holds_links_of(occupied, index)
+            && self.has_links_of(occupied, index)
     }
 
     /// Checks whether the members can change periods in a timetable: each entry that is linked to
@@ -83,7 +83,7 @@ impl Chain {
             return false;
         }
         for member in self.members() {
-            if !self.may_turn(occupied, *member) {
+            if !self.can_turn(occupied, *member) {
                 return false;
             }
         }

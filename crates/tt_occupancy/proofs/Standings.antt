@@ -23,8 +23,8 @@ use Rattle.tt_occupancy.specs.declared.around.Around.{Around}
 use Rattle.tt_occupancy.specs.declared.gaps.Gaps.{Gaps}
 
 -- no entry in range is past the day's end
-pub none_standing : (p : Problem) (u : List Cell) (q d s : ℕ) → IsTimetable p u → p.periods ≤ s → 0 ≡ entries_at p u q d s
-none_standing p u q d s ok h = sym (none_counted (λ e. in_curriculum p q e.course && is_at (slot d s) e) u (λ x member e.
+pub none_taken : (p : Problem) (u : List Cell) (q d s : ℕ) → IsTimetable p u → p.periods ≤ s → 0 ≡ entries_at p u q d s
+none_taken p u q d s ok h = sym (none_counted (λ e. in_curriculum p q e.course && is_at (slot d s) e) u (λ x member e.
     let r = subst (InRange p) member.2 (ok member.0 x member.1) in
     let a = and_parts (in_curriculum p q x.course) (is_at (slot d s) x) e in
     let b = and_parts (x.day == d) (x.period == s) a.1 in
@@ -33,10 +33,10 @@ none_standing p u q d s ok h = sym (none_counted (λ e. in_curriculum p q e.cour
     omega arith))
 
 -- whether the table w, which counts the entries, has some in a period
-pub some_standing : (p : Problem) (u : List Cell) (w : Week) → IsTimetable p u → IsTally p (length p.curricula) (of_curriculum p) u w → (q d s : ℕ) → q < length p.curricula → d < p.days → (nat_lt s w.periods && nat_lt 0 (in_period w q d s)) ≡ nat_lt 0 (entries_at p u q d s)
-some_standing p u w ok tally q d s row day = elim (cases_lt s w.periods) [
+pub some_taken : (p : Problem) (u : List Cell) (w : Week) → IsTimetable p u → IsTally p (length p.curricula) (of_curriculum p) u w → (q d s : ℕ) → q < length p.curricula → d < p.days → (nat_lt s w.periods && nat_lt 0 (in_period w q d s)) ≡ nat_lt 0 (entries_at p u q d s)
+some_taken p u w ok tally q d s row day = elim (cases_lt s w.periods) [
   | inl h ↦ ap (λ b. b && nat_lt 0 (in_period w q d s)) (lt-ltb s w.periods h) ∙ ap (nat_lt 0) (tally.counts q d s row day (omega (arith, tally.periods)))
-  | inr h ↦ ap (λ b. b && nat_lt 0 (in_period w q d s)) (le-ltb s w.periods h) ∙ ap (nat_lt 0) (none_standing p u q d s ok (omega (arith, tally.periods)))
+  | inr h ↦ ap (λ b. b && nat_lt 0 (in_period w q d s)) (le-ltb s w.periods h) ∙ ap (nat_lt 0) (none_taken p u q d s ok (omega (arith, tally.periods)))
 ]
 
 -- ---- counts f by period

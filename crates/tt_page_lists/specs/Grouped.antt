@@ -33,14 +33,14 @@ crowded_line p labels e =
     if excess p e.course e.room == 0 then []
     else crowded_head p e ++ when_link labels Room e.room e ++ codes ", in " ++ week_link p Room e.room ++ crowded_end p e
 
-unfoldable pub students_told : Problem → ℕ → List ℕ
-students_told p c = markup (Text (codes ", ") ∷ Number (students p c) ∷ Text (codes " students\n<ul>\n") ∷ [])
+unfoldable pub students_detail : Problem → ℕ → List ℕ
+students_detail p c = markup (Text (codes ", ") ∷ Number (students p c) ∷ Text (codes " students\n<ul>\n") ∷ [])
 
-unfoldable pub seats_told : Problem → Labelled → ℕ → List Cell → List ℕ
-seats_told p labels c es = course_and_teacher p c ++ students_told p c ++ flat_map (crowded_line p labels) es ++ codes "</ul>\n"
+unfoldable pub seats_detail : Problem → Labelled → ℕ → List Cell → List ℕ
+seats_detail p labels c es = course_and_teacher p c ++ students_detail p c ++ flat_map (crowded_line p labels) es ++ codes "</ul>\n"
 
 unfoldable pub seats_item : Problem → List Cell → Labelled → ℕ → List ℕ
-seats_item p t labels c = item (seats_cost p t c) (seats_told p labels c (filter (is_of c) t))
+seats_item p t labels c = item (seats_cost p t c) (seats_detail p labels c (filter (is_of c) t))
 
 -- ---- isolated lectures of a curriculum
 
@@ -54,11 +54,11 @@ isolated_line p labels q e =
 unfoldable pub isolated_item : Problem → List Cell → Labelled → ℕ → Cell → List ℕ
 isolated_item p t labels q e = if in_curriculum p q e.course && is_isolated p t q e then isolated_line p labels q e else []
 
-unfoldable pub isolated_told : Problem → List Cell → Labelled → ℕ → List ℕ
-isolated_told p t labels q = week_link p Curriculum q ++ codes "\n<ul>\n" ++ flat_map (isolated_item p t labels q) t ++ codes "</ul>\n"
+unfoldable pub isolated_detail : Problem → List Cell → Labelled → ℕ → List ℕ
+isolated_detail p t labels q = week_link p Curriculum q ++ codes "\n<ul>\n" ++ flat_map (isolated_item p t labels q) t ++ codes "</ul>\n"
 
 unfoldable pub curriculum_item : Problem → List Cell → Labelled → ℕ → List ℕ
-curriculum_item p t labels q = item (compactness_cost p t q) (isolated_told p t labels q)
+curriculum_item p t labels q = item (compactness_cost p t q) (isolated_detail p t labels q)
 
 -- ---- all items of a list
 

@@ -34,24 +34,24 @@ unfoldable pub course_and_teacher : Problem → ℕ → List ℕ
 course_and_teacher p c = course_link p c ++ codes ", " ++ week_link p Teacher (teacher_of p c)
 
 -- The lectures of a course, needed and placed, and the number of periods in which they are.
-unfoldable pub lectures_told : Problem → List Cell → ℕ → List ℕ
-lectures_told p t c = markup (
+unfoldable pub lectures_detail : Problem → List Cell → ℕ → List ℕ
+lectures_detail p t c = markup (
     Text (codes ", lectures ") ∷ Number (lectures p c) ∷ Text (codes ", placed ") ∷ Number (entries_of t c)
     ∷ Text (codes ", periods used ") ∷ Number (periods_of p t c) ∷ [])
 
-unfoldable pub days_told : Problem → List Cell → ℕ → List ℕ
-days_told p t c = markup (
+unfoldable pub days_detail : Problem → List Cell → ℕ → List ℕ
+days_detail p t c = markup (
     Text (codes ", on ") ∷ Number (days_of p t c) ∷ Text (codes " of ") ∷ Number (min_days p c) ∷ Text (codes " days") ∷ [])
 
-unfoldable pub rooms_told : Problem → List Cell → ℕ → List ℕ
-rooms_told p t c = markup (Text (codes ", in ") ∷ Number (stability_cost p t c + 1) ∷ Text (codes " rooms") ∷ [])
+unfoldable pub rooms_detail : Problem → List Cell → ℕ → List ℕ
+rooms_detail p t c = markup (Text (codes ", in ") ∷ Number (stability_cost p t c + 1) ∷ Text (codes " rooms") ∷ [])
 
 -- The text about a course.
-unfoldable pub course_told : Problem → List Cell → Rule → ℕ → List ℕ
-course_told p t rule.Lectures c = lectures_told p t c
-course_told p t rule.WorkingDays c = days_told p t c
-course_told p t rule.RoomStability c = rooms_told p t c
-course_told p t _ c = []
+unfoldable pub course_detail : Problem → List Cell → Rule → ℕ → List ℕ
+course_detail p t rule.Lectures c = lectures_detail p t c
+course_detail p t rule.WorkingDays c = days_detail p t c
+course_detail p t rule.RoomStability c = rooms_detail p t c
+course_detail p t _ c = []
 
 -- The number that a course adds to a count.
 abbrev pub course_adds : Problem → List Cell → Rule → ℕ → ℕ
@@ -61,7 +61,7 @@ course_adds p t rule.RoomStability c = stability_cost p t c
 course_adds p t _ c = 0
 
 unfoldable pub course_item : Problem → List Cell → Rule → ℕ → List ℕ
-course_item p t r c = item (course_adds p t r c) (course_and_teacher p c ++ course_told p t r c)
+course_item p t r c = item (course_adds p t r c) (course_and_teacher p c ++ course_detail p t r c)
 
 -- ---- items of an entry
 
@@ -73,14 +73,14 @@ entry_and_teacher p e = cell_link p Room e.room e ++ codes ", " ++ week_link p T
 unfoldable pub place_text : Problem → Labelled → Cell → List ℕ
 place_text p labels e = codes ", " ++ when_text labels e.day e.period ++ codes ", in " ++ week_link p Room e.room
 
-unfoldable pub unavailable_told : Problem → Labelled → Cell → List ℕ
-unavailable_told p labels e =
+unfoldable pub unavailable_detail : Problem → Labelled → Cell → List ℕ
+unavailable_detail p labels e =
     cell_link p Teacher (teacher_of p e.course) e ++ codes ", " ++ week_link p Teacher (teacher_of p e.course)
     ++ codes ", " ++ when_text labels e.day e.period
 
 unfoldable pub unavailable_item : Problem → Labelled → Cell → List ℕ
 unavailable_item p labels e =
-    if unavailable p e.course e.day e.period then item_head 1 ++ unavailable_told p labels e ++ item_end else []
+    if unavailable p e.course e.day e.period then item_head 1 ++ unavailable_detail p labels e ++ item_end else []
 
 -- Whether two entries of a period break a rule together: their courses conflict, or they have the same room.
 abbrev pub is_odd : Problem → Rule → Cell → Cell → Bool

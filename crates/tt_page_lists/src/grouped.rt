@@ -6,7 +6,7 @@ ghost use Rattle.tt_instance.specs.Cells.{InRange, is_of};
 ghost use Rattle.tt_instance.specs.Courses.{excess, in_curriculum};
 ghost use Rattle.tt_rules.specs.Soft.{is_isolated};
 ghost use Rattle.tt_table.specs.declared.table.TheConstants.{MAX_ENTRIES};
-ghost use Rattle.tt_page_lists.specs.Grouped.{crowded_head, crowded_end, crowded_line, students_told, seats_told, seats_item, isolated_line, isolated_item, isolated_told, curriculum_item, items_text};
+ghost use Rattle.tt_page_lists.specs.Grouped.{crowded_head, crowded_end, crowded_line, students_detail, seats_detail, seats_item, isolated_line, isolated_item, isolated_detail, curriculum_item, items_text};
 
 use crate::items::{
     put_course_and_teacher, put_course_items, put_entry_items, put_item_end, put_item_head,
@@ -130,14 +130,14 @@ fn put_crowded_lines(
     Ok(())
 }
 
-#[tactic(auto, unfolding(crate::specs::Grouped::students_told))]
-fn put_students_told(
+#[tactic(auto, unfolding(crate::specs::Grouped::students_detail))]
+fn put_students_detail(
     out: &mut Vec<u8>,
     instance: &Instance<'_>,
     course: u32,
 ) -> Result<(), AllocError>
     requires { course < length instance.now.courses }
-    ensures { OnOk result (out.new.items ≡ out.old.items ++ students_told instance.now course) }
+    ensures { OnOk result (out.new.items ≡ out.old.items ++ students_detail instance.now course) }
 {
     let students = instance.students(course);
     put(
@@ -151,8 +151,8 @@ fn put_students_told(
 }
 
 /// Appends a course and its lectures without seats.
-#[tactic(auto, unfolding(crate::specs::Grouped::seats_told))]
-fn put_seats_told(
+#[tactic(auto, unfolding(crate::specs::Grouped::seats_detail))]
+fn put_seats_detail(
     out: &mut Vec<u8>,
     instance: &Instance<'_>,
     labels: &Labels,
@@ -161,10 +161,10 @@ fn put_seats_told(
 ) -> Result<(), AllocError>
     requires course { course < length instance.now.courses }
     requires in_range { All (InRange instance.now) entries.now }
-    ensures { OnOk result (out.new.items ≡ out.old.items ++ seats_told instance.now labels.now course entries.now) }
+    ensures { OnOk result (out.new.items ≡ out.old.items ++ seats_detail instance.now labels.now course entries.now) }
 {
     put_course_and_teacher(out, instance, course)?;
-    put_students_told(out, instance, course)?;
+    put_students_detail(out, instance, course)?;
     put_crowded_lines(out, instance, labels, entries)?;
     put_token(out, b"</ul>\n")
 }
@@ -187,7 +187,7 @@ fn put_seats_item(
         return Ok(());
     }
     put_item_head(out, adds)?;
-    put_seats_told(out, instance, labels, course, &entries)?;
+    put_seats_detail(out, instance, labels, course, &entries)?;
     put_item_end(out)
 }
 
@@ -287,15 +287,15 @@ fn put_isolated_items(
 }
 
 /// Appends a curriculum and its isolated lectures.
-#[tactic(auto, unfolding(crate::specs::Grouped::isolated_told))]
-fn put_isolated_told(
+#[tactic(auto, unfolding(crate::specs::Grouped::isolated_detail))]
+fn put_isolated_detail(
     out: &mut Vec<u8>,
     plan: &Plan<'_, '_>,
     labels: &Labels,
     curriculum: u32,
 ) -> Result<(), AllocError>
     requires { curriculum < length plan.now.problem.curricula }
-    ensures { OnOk result (out.new.items ≡ out.old.items ++ isolated_told plan.now.problem plan.now.table labels.now curriculum) }
+    ensures { OnOk result (out.new.items ≡ out.old.items ++ isolated_detail plan.now.problem plan.now.table labels.now curriculum) }
 {
     put_week_link(out, plan.instance(), Kind::Curriculum, curriculum)?;
     put_token(out, b"\n<ul>\n")?;
@@ -319,7 +319,7 @@ fn put_curriculum_item(
         return Ok(());
     }
     put_item_head(out, adds)?;
-    put_isolated_told(out, plan, labels, curriculum)?;
+    put_isolated_detail(out, plan, labels, curriculum)?;
     put_item_end(out)
 }
 

@@ -11,7 +11,7 @@ ghost use Rattle.tt_rules.specs.Hard.{entries_of, periods_of, lectures_off};
 ghost use Rattle.tt_rules.specs.Soft.{days_of, stability_cost};
 ghost use Rattle.tt_page_plan.specs.Counts.{is_taught_in};
 
-use crate::groups::{some_at, some_in, some_on};
+use crate::groups::{has_entry_at, has_entry_in, has_entry_on};
 use crate::plan::Plan;
 
 /// Counts the entries of a course.
@@ -28,7 +28,7 @@ fn is_taught_on(plan: &Plan<'_, '_>, course: u32, day: u32) -> bool
     ensures { result ≡ list_any (λ e. is_of course e && is_on day e) plan.now.table }
 {
     let entries = plan.of_course(course);
-    some_on(entries, day)
+    has_entry_on(entries, day)
 }
 
 fn is_taught_at(plan: &Plan<'_, '_>, course: u32, day: u32, period: u32) -> bool
@@ -36,7 +36,7 @@ fn is_taught_at(plan: &Plan<'_, '_>, course: u32, day: u32, period: u32) -> bool
     ensures { result ≡ list_any (λ e. is_of course e && is_at (slot day period) e) plan.now.table }
 {
     let entries = plan.of_course(course);
-    some_at(entries, day, period)
+    has_entry_at(entries, day, period)
 }
 
 /// Checks whether a course is taught in a room.
@@ -45,7 +45,7 @@ pub fn is_taught_in(plan: &Plan<'_, '_>, course: u32, room: u32) -> bool
     ensures { result ≡ is_taught_in plan.now.table course room }
 {
     let entries = plan.of_course(course);
-    some_in(entries, room)
+    has_entry_in(entries, room)
 }
 
 /// Counts the days on which a course is taught.

@@ -9,28 +9,28 @@ use tt_instance::Instance;
 use tt_table::Group;
 
 /// Returns whether some entry's course is in a curriculum.
-pub fn some_attended(instance: &Instance<'_>, mut group: Group<'_>, curriculum: u32) -> bool
+pub fn has_attended(instance: &Instance<'_>, mut group: Group<'_>, curriculum: u32) -> bool
     ensures { result ≡ list_any (λ x. in_curriculum instance.now curriculum x.course) group.entry }
 {
     group.any(|entry| instance.in_curriculum(curriculum, entry.course))
 }
 
 /// Returns whether some entry is on a day.
-pub fn some_on(mut group: Group<'_>, day: u32) -> bool
+pub fn has_entry_on(mut group: Group<'_>, day: u32) -> bool
     ensures { result ≡ list_any (is_on day) group.entry }
 {
     group.any(|entry| entry.day == day)
 }
 
 /// Returns whether some entry is in a period.
-pub fn some_at(mut group: Group<'_>, day: u32, period: u32) -> bool
+pub fn has_entry_at(mut group: Group<'_>, day: u32, period: u32) -> bool
     ensures { result ≡ list_any (is_at (slot day period)) group.entry }
 {
     group.any(|entry| entry.day == day && entry.period == period)
 }
 
 /// Returns whether some entry is in a room.
-pub fn some_in(mut group: Group<'_>, room: u32) -> bool
+pub fn has_entry_in(mut group: Group<'_>, room: u32) -> bool
     ensures { result ≡ list_any (is_in room) group.entry }
 {
     group.any(|entry| entry.room == room)

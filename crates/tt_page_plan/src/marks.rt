@@ -8,7 +8,7 @@ ghost use Rattle.tt_instance.specs.declared.limit.TheConstants.{MAX_SEATS};
 ghost use Rattle.tt_rules.specs.Soft.{is_isolated};
 ghost use Rattle.tt_page_plan.specs.Sides.{is_right_before, is_right_after};
 
-use crate::groups::some_attended;
+use crate::groups::has_attended;
 use crate::plan::Plan;
 use tt_instance::Instance;
 use tt_table::Entry;
@@ -28,7 +28,7 @@ fn is_taught(plan: &Plan<'_, '_>, curriculum: u32, day: u32, period: u32) -> boo
 {
     let instance = plan.instance();
     let others = plan.in_period(day, period);
-    some_attended(instance, others, curriculum)
+    has_attended(instance, others, curriculum)
 }
 
 /// Checks whether a course of the curriculum is taught in the period immediately before it on its day.

@@ -17,10 +17,10 @@ use Rattle.tt_page_plan.specs.declared.kind.Kind.{Kind}
 use Rattle.tt_page_plan.specs.declared.kind.Kind.TheVariants.{Room, Teacher, Curriculum}
 
 -- The part of a lecture that its week doesn't determine: a room's week shows teachers, a teacher's shows rooms, a curriculum's both.
-unfoldable pub beside_text : Problem → Kind → Cell → List ℕ
-beside_text p Room e = week_link p Teacher (teacher_of p e.course)
-beside_text p Teacher e = week_link p Room e.room
-beside_text p Curriculum e = week_link p Room e.room ++ codes " " ++ week_link p Teacher (teacher_of p e.course)
+unfoldable pub further_text : Problem → Kind → Cell → List ℕ
+further_text p Room e = week_link p Teacher (teacher_of p e.course)
+further_text p Teacher e = week_link p Room e.room
+further_text p Curriculum e = week_link p Room e.room ++ codes " " ++ week_link p Teacher (teacher_of p e.course)
 
 -- A mark, if it applies.
 abbrev pub mark : Bool → List ℕ → List ℕ
@@ -60,4 +60,4 @@ lecture_course p c = markup (
 
 unfoldable pub lecture_text : Problem → List Cell → Labelled → Kind → ℕ → Cell → List ℕ
 lecture_text p t labels kind n e =
-    lecture_head p e.course ++ lecture_when labels e ++ lecture_course p e.course ++ beside_text p kind e ++ marks_text p t kind n e ++ codes "</div>\n"
+    lecture_head p e.course ++ lecture_when labels e ++ lecture_course p e.course ++ further_text p kind e ++ marks_text p t kind n e ++ codes "</div>\n"

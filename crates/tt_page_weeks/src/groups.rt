@@ -10,7 +10,7 @@ use tt_instance::Instance;
 use tt_table::Group;
 
 /// Returns whether some entry's course conflicts with a course.
-pub fn some_excludes(instance: &Instance<'_>, mut group: Group<'_>, course: u32) -> bool
+pub fn has_conflict_with(instance: &Instance<'_>, mut group: Group<'_>, course: u32) -> bool
     ensures { result ≡ list_any (λ x. conflict instance.now x.course course) group.entry }
 {
     group.any(|entry| instance.conflict(entry.course, course))

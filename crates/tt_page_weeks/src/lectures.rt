@@ -2,7 +2,7 @@
 
 ghost use Rattle.std.specs.Prelude.{◌≡◌, ◌<◌, ◌++◌, length, OnOk};
 ghost use Rattle.tt_instance.specs.Cells.{InRange};
-ghost use Rattle.tt_page_weeks.specs.Lectures.{beside_text, mark, isolated_mark, marks_text, lecture_head, lecture_when, lecture_course, lecture_text};
+ghost use Rattle.tt_page_weeks.specs.Lectures.{further_text, mark, isolated_mark, marks_text, lecture_head, lecture_when, lecture_course, lecture_text};
 
 use crate::hues::put_hue;
 use crate::marks::{is_in_conflict, is_in_other_room, is_repeated, is_room_taken};
@@ -17,15 +17,15 @@ use tt_table::Entry;
 use tt_text::put_token;
 
 /// Appends the information about a lecture that its week doesn't already show.
-#[tactic(auto, unfolding(crate::specs::Lectures::beside_text))]
-fn put_beside(
+#[tactic(auto, unfolding(crate::specs::Lectures::further_text))]
+fn put_further(
     out: &mut Vec<u8>,
     instance: &Instance<'_>,
     kind: Kind,
     entry: &Entry,
 ) -> Result<(), AllocError>
     requires { InRange instance.now entry.now }
-    ensures { OnOk result (out.new.items ≡ out.old.items ++ beside_text instance.now kind entry.now) }
+    ensures { OnOk result (out.new.items ≡ out.old.items ++ further_text instance.now kind entry.now) }
 {
     match kind {
         Kind::Room => put_teacher_link(out, instance, entry.course),
@@ -173,7 +173,7 @@ pub fn put_lecture(
     put_lecture_head(out, plan, entry.course)?;
     put_lecture_when(out, labels, entry)?;
     put_lecture_course(out, instance, entry.course)?;
-    put_beside(out, instance, kind, entry)?;
+    put_further(out, instance, kind, entry)?;
     put_marks(out, plan, kind, number, entry)?;
     put_token(out, b"</div>\n")
 }

@@ -4,7 +4,7 @@ ghost use Rattle.std.specs.Prelude.{◌≡◌};
 ghost use Rattle.tt_instance.specs.Cells.{InRange};
 ghost use Rattle.tt_page_weeks.specs.Marks.{in_conflict, room_taken, repeated, in_other_room};
 
-use crate::groups::{count_in, count_of, some_excludes};
+use crate::groups::{count_in, count_of, has_conflict_with};
 use tt_page_plan::Plan;
 use tt_table::Entry;
 
@@ -15,7 +15,7 @@ pub fn is_in_conflict(plan: &Plan<'_, '_>, entry: &Entry) -> bool
 {
     let instance = plan.instance();
     let others = plan.in_period(entry.day, entry.period);
-    some_excludes(instance, others, entry.course)
+    has_conflict_with(instance, others, entry.course)
 }
 
 /// Checks whether its room has more than one entry in its period.

@@ -16,7 +16,7 @@ pub struct Draft {
 }
 
 /// Checks whether two lists have a number in common.
-pub fn have_common(first: &[u32], second: &[u32]) -> bool {
+pub fn has_common(first: &[u32], second: &[u32]) -> bool {
     first.iter().any(|number| second.contains(number))
 }
 
@@ -58,7 +58,7 @@ impl Draft {
     }
 
     /// Checks whether two drafts have a target in common.
-    pub fn meets(&self, other: &Draft) -> bool {
-        have_common(&self.curricula, &other.curricula) || have_common(&self.courses, &other.courses)
+    pub fn has_common_target(&self, other: &Draft) -> bool {
+        has_common(&self.curricula, &other.curricula) || has_common(&self.courses, &other.courses)
     }
 }

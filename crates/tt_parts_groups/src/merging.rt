@@ -3,7 +3,7 @@
 ghost use Rattle.std.specs.Prelude.{◌<◌, length, IfSome};
 
 use crate::cores::reduce_courses;
-use crate::draft::{Draft, have_common, union_of};
+use crate::draft::{Draft, has_common, union_of};
 use crate::free::Free;
 use crate::group_values::GroupValues;
 use crate::growing::with_days;
@@ -52,7 +52,7 @@ pub fn pairs_of(alloc: Global, drafts: &[Draft]) -> Result<Vec<Pair>, AllocError
     let mut pairs = Vec::new(alloc);
     for (second, other) in drafts.iter().enumerate() {
         for (first, draft) in drafts.iter().enumerate().take(second + 1) {
-            if have_common(&draft.concerned, &other.concerned) {
+            if has_common(&draft.concerned, &other.concerned) {
                 pairs.push(Pair::new(first, second))?;
             }
         }
@@ -116,14 +116,14 @@ fn renew(
         if pair
             .merged
             .as_ref()
-            .is_some_and(|merged| have_common(&merged.courses, &draft.courses))
+            .is_some_and(|merged| has_common(&merged.courses, &draft.courses))
         {
             pair.merged = None;
             pair.is_tried = false;
         }
     }
     for (place, other) in drafts.iter().enumerate() {
-        if have_common(&draft.concerned, &other.concerned) {
+        if has_common(&draft.concerned, &other.concerned) {
             pairs.push(Pair::new(place, changed))?;
         }
     }

@@ -33,11 +33,11 @@ use Rattle.tt_proof_check.proofs.Files.{FailsFiles, one_instance, one_table, onl
 
 -- files that are certified are refused only for being out of memory
 pub certified_memory : (i s bytes : List ℕ) (c b : ℕ) (f : CertifyFault) → Certifies i s bytes c b → FailsFiles i s f → AnswersYes (Err f) c b
-certified_memory i s bytes c b f h tells = inl (only_memory i s h.solves.problem h.solves.table f h.solves.both tells)
+certified_memory i s bytes c b f h explains = inl (only_memory i s h.solves.problem h.solves.table f h.solves.both explains)
 
 -- files of a timetable that breaks a hard rule are refused only for being out of memory
 pub broken_memory : (i s : List ℕ) (f : CertifyFault) → BreaksARule i s → FailsFiles i s f → AnswersBroken (Err f)
-broken_memory i s f k tells = only_memory i s k.problem k.table f k.both tells
+broken_memory i s f k explains = only_memory i s k.problem k.table f k.both explains
 
 -- a test for no points
 pub points : (b : Bool) (n : ℕ) → (IsTrue b ↔ (n ≡ 0)) → b ≡ false → n ≡ 0 → ⊥
@@ -49,16 +49,16 @@ no_points b n both feasible = both.0 feasible
 -- ---- the proof's bound
 
 -- an error of the check is reported as an error of the proof
-pub check_told : (p : Problem) (bytes : List ℕ) (f : CheckFault) → IsProofFault p (stream_of bytes) f → IsBoundFault p bytes (fault_from_check f)
-check_told p bytes check.OutOfMemory h = tt
-check_told p bytes (check.Text f) h = h
-check_told p bytes (check.Rule n f) h = h
-check_told p bytes (check.TooDeep n) h = h
+pub check_reported : (p : Problem) (bytes : List ℕ) (f : CheckFault) → IsProofFault p (stream_of bytes) f → IsBoundFault p bytes (fault_from_check f)
+check_reported p bytes check.OutOfMemory h = tt
+check_reported p bytes (check.Text f) h = h
+check_reported p bytes (check.Rule n f) h = h
+check_reported p bytes (check.TooDeep n) h = h
 
 -- a silent error says nothing about the bytes
-pub silent_told : (f : CheckFault) (b : ℕ) → IsEnvironmental f → GivesBound (Err (fault_from_check f)) b
-silent_told f b (inl e) = subst (λ g. GivesBound (Err (fault_from_check g)) b) (sym e) (inl refl)
-silent_told f b (inr e) = subst (λ g. GivesBound (Err (fault_from_check g)) b) (sym e) (inr refl)
+pub silent_reported : (f : CheckFault) (b : ℕ) → IsEnvironmental f → GivesBound (Err (fault_from_check f)) b
+silent_reported f b (inl e) = subst (λ g. GivesBound (Err (fault_from_check g)) b) (sym e) (inl refl)
+silent_reported f b (inr e) = subst (λ g. GivesBound (Err (fault_from_check g)) b) (sym e) (inr refl)
 
 -- an error of the proof is not an error of the instance or the solution
 pub bound_not_files : (f : CheckFault) → IsFileFault (fault_from_check f) → ⊥
@@ -164,11 +164,11 @@ module _ (i s : List ℕ) (p : Problem) (t : List Cell) (spelled : Spells i p) (
 
     -- an error of the proof is the first error
     pub bound_tells : (q : Option (List ℕ)) (f : CertifyFault) → broken_by score ≡ 0 → (IsFileFault f → ⊥) → ((bytes : List ℕ) → q ≡ Some bytes → IsBoundFault p bytes f) → IsFirstFault i s q f
-    bound_tells q (fault.Proof f) e own h = record { problem = p; table = t; both = both; feasible = is_feasible e; fails = told q h }
+    bound_tells q (fault.Proof f) e own h = record { problem = p; table = t; both = both; feasible = is_feasible e; fails = reported q h }
       where
-        told : (k : Option (List ℕ)) → ((bytes : List ℕ) → k ≡ Some bytes → IsProofFault p (stream_of bytes) f) → IfSome k (λ bytes. IsProofFault p (stream_of bytes) f)
-        told None h = tt
-        told (Some bytes) h = h bytes refl
+        reported : (k : Option (List ℕ)) → ((bytes : List ℕ) → k ≡ Some bytes → IsProofFault p (stream_of bytes) f) → IfSome k (λ bytes. IsProofFault p (stream_of bytes) f)
+        reported None h = tt
+        reported (Some bytes) h = h bytes refl
     bound_tells q fault.OutOfMemory e own h = tt
     bound_tells q (fault.Instance f) e own h = absurd (own tt)
     bound_tells q (fault.Solution f) e own h = absurd (own tt)
@@ -186,11 +186,11 @@ module _ (i s : List ℕ) (p : Problem) (t : List Cell) (spelled : Spells i p) (
     yes_found q b e proved holds =
         let all : BoundsAll i b = λ other spells. subst (λ (x : Problem). HoldsOfAll x (AtLeast b)) (one_instance i p other spelled spells) holds in
         let within : b ≤ costs_of score = subst (λ (n : ℕ). b ≤ n) (sym (cost_is p t score is)) (holds t (is_feasible e)) in
-        record { solves = solves_here e; certified = told q proved; bounds = all; within = within }
+        record { solves = solves_here e; certified = reported q proved; bounds = all; within = within }
       where
-        told : (k : Option (List ℕ)) → ((bytes : List ℕ) → k ≡ Some bytes → IsProved p bytes (AtLeast b)) → IfSome k (λ bytes. Certifies i s bytes (costs_of score) b)
-        told None h = tt
-        told (Some bytes) h = record { solves = solves_here e; proved = h bytes refl }
+        reported : (k : Option (List ℕ)) → ((bytes : List ℕ) → k ≡ Some bytes → IsProved p bytes (AtLeast b)) → IfSome k (λ bytes. Certifies i s bytes (costs_of score) b)
+        reported None h = tt
+        reported (Some bytes) h = record { solves = solves_here e; proved = h bytes refl }
 
 -- -- the whole result
 

@@ -14,7 +14,7 @@ use Rattle.tt_proof_read.specs.Trees.{Tree, Tip, Fork, with_fact, preorder, OnPa
 use Rattle.tt_proof_read.specs.declared.node.Node.{Node}
 use Rattle.tt_proof_read.proofs.Depth.{nodes_low}
 use Rattle.tt_proof_check.specs.declared.fault.NodesFault.{NodesFault}
-use Rattle.tt_proof_check.specs.declared.fault.NodesFault.TheVariants as told
+use Rattle.tt_proof_check.specs.declared.fault.NodesFault.TheVariants as reported
 use Rattle.tt_proof_check.specs.declared.walk.Stop.TheVariants.{Rule, TooDeep}
 use Rattle.tt_proof_check.specs.Derives.{Derives, Proves, HoldsOfAll}
 use Rattle.tt_proof_check.specs.Steps.{Steps, Stops}
@@ -43,11 +43,11 @@ module _ (p : Problem) (b : Bound) (nodes : List Node) (tree : IsPreorder nodes)
       let h = walked_next p b (take i nodes) path next n due s within in
       (h.0, subst (λ (l : List Node). Walked p b l next h.0) (sym (take_next nodes i n inside is)) h.1)
 
-  pub midway_fails : (f : RuleFault) → Stops p b path n (Rule f) → Explains p b nodes (told.Rule i f)
+  pub midway_fails : (f : RuleFault) → Stops p b path n (Rule f) → Explains p b nodes (reported.Rule i f)
   midway_fails f s =
       (tree.0, tree.1, subst (λ (k : ℕ). FailsAt p b tree.0 k f) before (fails_at p b (take i nodes) (drop (i + 1) nodes) path n f tree.0 split due s))
 
-  pub midway_deep : Stops p b path n TooDeep → Explains p b nodes (told.TooDeep (i + 1))
+  pub midway_deep : Stops p b path n TooDeep → Explains p b nodes (reported.TooDeep (i + 1))
   midway_deep s =
       let here = take_next nodes i n inside is in
       let rest : preorder tree.0 ≡ (take i nodes ++ n ∷ []) ++ drop (i + 1) nodes =
@@ -99,13 +99,13 @@ pub same_at : (nodes : List Node) (x y : Tree) (i : ℕ) → preorder x ≡ node
 same_at nodes x y i e d = ap (λ (l : List OnPath). slice_get l i) (sym (whole_places x nodes e) ∙ whole_places y nodes d)
 
 -- the only error of nodes that prove the bound is being out of memory
-proves_only : (p : Problem) (b : Bound) (nodes : List Node) (e : NodesFault) → Explains p b nodes e → Proves p b nodes → e ≡ told.OutOfMemory
-proves_only p b nodes told.NotATree t h = absurd (t (h.0, h.1))
-proves_only p b nodes (told.Rule i f) t h = absurd (never_fails p b h.0 t.0 i f (tree_passes p b h.0 h.2 h.3) (same_at nodes h.0 t.0 i h.1 t.1) t.2)
-proves_only p b nodes (told.TooDeep i) t h = absurd (never_deep p b h.0 t.0 i (tree_passes p b h.0 h.2 h.3) (same_at nodes h.0 t.0 i h.1 t.1) t.2)
-proves_only p b nodes told.OutOfMemory t h = refl
+proves_only : (p : Problem) (b : Bound) (nodes : List Node) (e : NodesFault) → Explains p b nodes e → Proves p b nodes → e ≡ reported.OutOfMemory
+proves_only p b nodes reported.NotATree t h = absurd (t (h.0, h.1))
+proves_only p b nodes (reported.Rule i f) t h = absurd (never_fails p b h.0 t.0 i f (tree_passes p b h.0 h.2 h.3) (same_at nodes h.0 t.0 i h.1 t.1) t.2)
+proves_only p b nodes (reported.TooDeep i) t h = absurd (never_deep p b h.0 t.0 i (tree_passes p b h.0 h.2 h.3) (same_at nodes h.0 t.0 i h.1 t.1) t.2)
+proves_only p b nodes reported.OutOfMemory t h = refl
 
-pub checked_only : (p : Problem) (b : Bound) (nodes : List Node) (r : Result (Unit {0}) NodesFault) → IfErr r (λ e. Explains p b nodes e) → Proves p b nodes → IsOkUnless r told.OutOfMemory
+pub checked_only : (p : Problem) (b : Bound) (nodes : List Node) (r : Result (Unit {0}) NodesFault) → IfErr r (λ e. Explains p b nodes e) → Proves p b nodes → IsOkUnless r reported.OutOfMemory
 checked_only p b nodes (Ok x) t h = tt
 checked_only p b nodes (Err e) t h = proves_only p b nodes e t h
 

@@ -28,7 +28,7 @@ use Rattle.tt_proof_read.specs.declared.fault.TextFault.TheVariants as text
 use Rattle.tt_proof_read.specs.declared.node.Node.{Node}
 use Rattle.tt_proof_read.specs.declared.node.Node.TheVariants as node
 use Rattle.tt_proof_check.specs.declared.fault.CheckFault.{CheckFault}
-use Rattle.tt_proof_check.specs.declared.fault.CheckFault.TheVariants as told
+use Rattle.tt_proof_check.specs.declared.fault.CheckFault.TheVariants as reported
 use Rattle.tt_proof_check.specs.declared.fault.CertifyFault.{CertifyFault}
 use Rattle.tt_proof_check.specs.declared.fault.CertifyFault.TheVariants as fault
 use Rattle.tt_proof_check.specs.Streams.{IsEnvironmental, stream_of, sizes_of, Fails, NodeFails, EndFails, IsReadTo, HasHeader, IsProofFault}
@@ -50,7 +50,7 @@ turned f g (inr (inl s)) = inr (inr s)
 turned f g (inr (inr s)) = inr (inl s)
 
 -- two errors of one reading
-one_reading : {Y : Type 0} (read : Result Y TextFault) (f g : TextFault) → ¬ (f ≡ text.OutOfMemory) → ¬ (g ≡ text.OutOfMemory) → Fails f read → Fails g read → AreOne (told.Text f) (told.Text g)
+one_reading : {Y : Type 0} (read : Result Y TextFault) (f g : TextFault) → ¬ (f ≡ text.OutOfMemory) → ¬ (g ≡ text.OutOfMemory) → Fails f read → Fails g read → AreOne (reported.Text f) (reported.Text g)
 one_reading read f g n m h k = elim (on_false (is_environmental f) (read ≡ Err f) h) [
   | inl s ↦ inr (inl (silent_is f s n))
   | inr a ↦ elim (on_false (is_environmental g) (read ≡ Err g) k) [
@@ -133,26 +133,26 @@ module _ (p : Problem) (v : ℕ) (b : Bound) (s : Stream) where
 
   -- if a node has been read, an error in its text is silent
   node_first : (f : TextFault) → ¬ (f ≡ text.OutOfMemory) → (k : ℕ) (nodes : List Node) (rest after : Stream) (x : Node) (xs : List Node) → length nodes ≡ k → ReadsNodes (sizes_of p) v (0 + length nodes) rest (x ∷ xs) after
-      → Fails f (node_at (sizes_of p) v k rest) → IsEnvironmental (told.Text f)
+      → Fails f (node_at (sizes_of p) v k rest) → IsEnvironmental (reported.Text f)
   node_first f n k nodes rest after x xs e r fails =
       let here : k ≡ 0 + length nodes = omega (arith, e) in
       fails_silently f (node_at (sizes_of p) v k rest) (x, r.0) (ap (λ (c : ℕ). node_at (sizes_of p) v c rest) here ∙ r.1) n fails
 
-  nodes_fail : (f g : TextFault) → ¬ (f ≡ text.OutOfMemory) → ¬ (g ≡ text.OutOfMemory) → NodeFails p v b s f → NodeFails p v b s g → AreOne (told.Text f) (told.Text g)
+  nodes_fail : (f g : TextFault) → ¬ (f ≡ text.OutOfMemory) → ¬ (g ≡ text.OutOfMemory) → NodeFails p v b s f → NodeFails p v b s g → AreOne (reported.Text f) (reported.Text g)
   nodes_fail f g n m a c = elim (compare (sizes_of p) v 0 s a.rest c.rest a.nodes c.nodes a.reads c.reads) [
     | inl d ↦ onward f g n m a c d.0 d.1 d.2
-    | inr d ↦ turned (told.Text g) (told.Text f) (onward g f m n c a d.0 d.1 d.2)
+    | inr d ↦ turned (reported.Text g) (reported.Text f) (onward g f m n c a d.0 d.1 d.2)
   ]
     where
       onward : (f g : TextFault) → ¬ (f ≡ text.OutOfMemory) → ¬ (g ≡ text.OutOfMemory) → (a : NodeFails p v b s f) (c : NodeFails p v b s g) (more : List Node) → a.nodes ++ more ≡ c.nodes
-          → ReadsNodes (sizes_of p) v (0 + length a.nodes) a.rest more c.rest → AreOne (told.Text f) (told.Text g)
+          → ReadsNodes (sizes_of p) v (0 + length a.nodes) a.rest more c.rest → AreOne (reported.Text f) (reported.Text g)
       onward f g n m a c [] e r =
           let len : length c.nodes ≡ length a.nodes = ap length (sym e ∙ append-nil a.nodes) in
           one_reading (node_at (sizes_of p) v (length a.nodes) a.rest) f g n m a.fails
           (subst (λ (x : Stream). Fails g (node_at (sizes_of p) v (length a.nodes) x)) (sym r) (subst (λ (k : ℕ). Fails g (node_at (sizes_of p) v k c.rest)) len c.fails))
       onward f g n m a c (x ∷ xs) e r = inr (inl (node_first f n (length a.nodes) a.nodes a.rest c.rest x xs refl r a.fails))
 
-  ends_fail : (f g : TextFault) → ¬ (f ≡ text.OutOfMemory) → ¬ (g ≡ text.OutOfMemory) → EndFails p v b s f → EndFails p v b s g → AreOne (told.Text f) (told.Text g)
+  ends_fail : (f g : TextFault) → ¬ (f ≡ text.OutOfMemory) → ¬ (g ≡ text.OutOfMemory) → EndFails p v b s f → EndFails p v b s g → AreOne (reported.Text f) (reported.Text g)
   ends_fail f g n m a c = one_reading (end_at a.rest) f g n m a.fails (subst (λ (x : Stream). Fails g (end_at x)) (sym same) c.fails)
     where
       none : (k : ℕ) (x y : Stream) (more : List Node) → [] ≡ more → ReadsNodes (sizes_of p) v k x more y → x ≡ y
@@ -164,17 +164,17 @@ module _ (p : Problem) (v : ℕ) (b : Bound) (s : Stream) where
         | inr d ↦ sym (none (0 + length (preorder c.tree)) c.rest a.rest d.0 (begins_whole a.tree c.tree d.0 (sym d.1)).1 d.2)
       ]
 
-  node_or_end : (f g : TextFault) → ¬ (f ≡ text.OutOfMemory) → NodeFails p v b s f → EndFails p v b s g → AreOne (told.Text f) (told.Text g)
+  node_or_end : (f g : TextFault) → ¬ (f ≡ text.OutOfMemory) → NodeFails p v b s f → EndFails p v b s g → AreOne (reported.Text f) (reported.Text g)
   node_or_end f g n a c = inr (inl (node_silent p v s c.rest c.tree c.reads f n a.nodes a.rest a.tree a.next a.more a.reads a.begins a.fails))
 
-  texts_fail : (f g : TextFault) → ¬ (f ≡ text.OutOfMemory) → ¬ (g ≡ text.OutOfMemory) → (NodeFails p v b s f ⊎ EndFails p v b s f) → (NodeFails p v b s g ⊎ EndFails p v b s g) → AreOne (told.Text f) (told.Text g)
+  texts_fail : (f g : TextFault) → ¬ (f ≡ text.OutOfMemory) → ¬ (g ≡ text.OutOfMemory) → (NodeFails p v b s f ⊎ EndFails p v b s f) → (NodeFails p v b s g ⊎ EndFails p v b s g) → AreOne (reported.Text f) (reported.Text g)
   texts_fail f g n m (inl a) (inl c) = nodes_fail f g n m a c
   texts_fail f g n m (inl a) (inr c) = node_or_end f g n a c
-  texts_fail f g n m (inr a) (inl c) = turned (told.Text g) (told.Text f) (node_or_end g f m c a)
+  texts_fail f g n m (inr a) (inl c) = turned (reported.Text g) (reported.Text f) (node_or_end g f m c a)
   texts_fail f g n m (inr a) (inr c) = ends_fail f g n m a c
 
   -- before a node that doesn't pass, all texts are read, or fail silently
-  text_silent : (f : TextFault) → ¬ (f ≡ text.OutOfMemory) → (NodeFails p v b s f ⊎ EndFails p v b s f) → (i : ℕ) (P : Tree → Type 0) (c : IsReadTo p v s i P) → Stops p b c.tree i → IsEnvironmental (told.Text f)
+  text_silent : (f : TextFault) → ¬ (f ≡ text.OutOfMemory) → (NodeFails p v b s f ⊎ EndFails p v b s f) → (i : ℕ) (P : Tree → Type 0) (c : IsReadTo p v s i P) → Stops p b c.tree i → IsEnvironmental (reported.Text f)
   text_silent f n (inr a) i P c stops = absurd (stops.stops (passes (place_read p v s a.rest a.tree a.reads i P c ∙ stops.found)))
     where
       all : AllByRecursion (Passes p b) (on_paths [] a.tree)
@@ -191,7 +191,7 @@ module _ (p : Problem) (v : ℕ) (b : Bound) (s : Stream) where
       passed h = none_stops p b a.tree c.tree (length a.nodes) i h a.passed
           (one_place (begun_before p v b s f a) (begun_to p v s i P c) i h (omega (arith, c.last))) stops
 
-      onward : (more : List Node) → a.nodes ++ more ≡ c.nodes → ReadsNodes (sizes_of p) v (0 + length a.nodes) a.rest more c.rest → IsEnvironmental (told.Text f)
+      onward : (more : List Node) → a.nodes ++ more ≡ c.nodes → ReadsNodes (sizes_of p) v (0 + length a.nodes) a.rest more c.rest → IsEnvironmental (reported.Text f)
       onward [] e r = absurd (passed (omega (arith, ap length (sym (append-nil a.nodes) ∙ e), c.last)))
       onward (x ∷ xs) e r = node_first f n (length a.nodes) a.nodes a.rest c.rest x xs refl r a.fails
 
@@ -226,15 +226,15 @@ module _ (p : Problem) (v : ℕ) (b : Bound) (s : Stream) where
     | inr (inr less) ↦ absurd (one_stop p v b s (begun_to p v s j Q c) (begun_to p v s i P a) j i c.last a.last (ends c.tree c.is) (stops a.tree a.is) less)
   ]
 
-  rules_fail : (i j : ℕ) (f g : RuleFault) → IsReadTo p v s i (λ t. FailsAt p b t i f) → IsReadTo p v s j (λ t. FailsAt p b t j g) → AreOne (told.Rule i f) (told.Rule j g)
+  rules_fail : (i j : ℕ) (f g : RuleFault) → IsReadTo p v s i (λ t. FailsAt p b t i f) → IsReadTo p v s j (λ t. FailsAt p b t j g) → AreOne (reported.Rule i f) (reported.Rule j g)
   rules_fail i j f g a c =
       let m = meets i j (λ t. FailsAt p b t i f) (λ t. FailsAt p b t j g) (by_fault i f) (by_fault j g) a c in
       let point = one_point (record { path = a.is.path; node = node.Leaf a.is.leaf }) (record { path = c.is.path; node = node.Leaf c.is.leaf }) (sym a.is.found ∙ m.1 ∙ c.is.found) in
       let same : f ≡ g = one_first p b a.is.path c.is.path a.is.leaf c.is.leaf f g (ap (λ (x : OnPath). x.node) point) (ap (λ (x : OnPath). x.path) point) a.is.fault c.is.fault in
-      inl (ap (λ k. told.Rule k f) m.0 ∙ ap (told.Rule j) same)
+      inl (ap (λ k. reported.Rule k f) m.0 ∙ ap (reported.Rule j) same)
 
-  depths_fail : (i j : ℕ) → IsReadTo p v s i (λ t. IsDeepAt p b t i) → IsReadTo p v s j (λ t. IsDeepAt p b t j) → AreOne (told.TooDeep i) (told.TooDeep j)
-  depths_fail i j a c = inl (ap told.TooDeep (meets i j (λ t. IsDeepAt p b t i) (λ t. IsDeepAt p b t j) (by_depth i) (by_depth j) a c).0)
+  depths_fail : (i j : ℕ) → IsReadTo p v s i (λ t. IsDeepAt p b t i) → IsReadTo p v s j (λ t. IsDeepAt p b t j) → AreOne (reported.TooDeep i) (reported.TooDeep j)
+  depths_fail i j a c = inl (ap reported.TooDeep (meets i j (λ t. IsDeepAt p b t i) (λ t. IsDeepAt p b t j) (by_depth i) (by_depth j) a c).0)
 
   -- a leaf whose rule is checked isn't too deep
   rule_or_depth : (i j : ℕ) (f : RuleFault) → IsReadTo p v s i (λ t. FailsAt p b t i f) → IsReadTo p v s j (λ t. IsDeepAt p b t j) → ⊥
@@ -256,43 +256,43 @@ abbrev FailsAfter : Problem → TextFault → ℕ → Bound → Stream → Type 
 FailsAfter p f v b rest = NodeFails p v b rest f ⊎ EndFails p v b rest f
 
 -- a header is read, or its text fails silently
-header_silent : (P : ℕ → Bound → Stream → Type 0) (s : Stream) (f : TextFault) → ¬ (f ≡ text.OutOfMemory) → Fails f (header_at s) → HasHeader s P → IsEnvironmental (told.Text f)
+header_silent : (P : ℕ → Bound → Stream → Type 0) (s : Stream) (f : TextFault) → ¬ (f ≡ text.OutOfMemory) → Fails f (header_at s) → HasHeader s P → IsEnvironmental (reported.Text f)
 header_silent P s f n h k = fails_silently f (header_at s) ((k.0, k.1), k.2) k.3 n h
 
-texts_one : (p : Problem) (s : Stream) (f g : TextFault) → IsProofFault p s (told.Text f) → IsProofFault p s (told.Text g) → AreOne (told.Text f) (told.Text g)
+texts_one : (p : Problem) (s : Stream) (f g : TextFault) → IsProofFault p s (reported.Text f) → IsProofFault p s (reported.Text g) → AreOne (reported.Text f) (reported.Text g)
 texts_one p s f g (n, inl h) (m, inl k) = one_reading (header_at s) f g n m h k
 texts_one p s f g (n, inl h) (m, inr k) = inr (inl (header_silent (FailsAfter p g) s f n h k))
 texts_one p s f g (n, inr h) (m, inl k) = inr (inr (header_silent (FailsAfter p f) s g m k h))
-texts_one p s f g (n, inr h) (m, inr k) = one_header (FailsAfter p f) (FailsAfter p g) (AreOne (told.Text f) (told.Text g)) s (λ v b rest x y. texts_fail p v b rest f g n m x y) h k
+texts_one p s f g (n, inr h) (m, inr k) = one_header (FailsAfter p f) (FailsAfter p g) (AreOne (reported.Text f) (reported.Text g)) s (λ v b rest x y. texts_fail p v b rest f g n m x y) h k
 
-text_one : (p : Problem) (s : Stream) (f : TextFault) (i : ℕ) (P : Bound → Tree → Type 0) → ((b : Bound) (tree : Tree) → P b tree → Stops p b tree i) → IsProofFault p s (told.Text f) → HasHeader s (λ v b rest. IsReadTo p v rest i (P b))
-    → IsEnvironmental (told.Text f)
+text_one : (p : Problem) (s : Stream) (f : TextFault) (i : ℕ) (P : Bound → Tree → Type 0) → ((b : Bound) (tree : Tree) → P b tree → Stops p b tree i) → IsProofFault p s (reported.Text f) → HasHeader s (λ v b rest. IsReadTo p v rest i (P b))
+    → IsEnvironmental (reported.Text f)
 text_one p s f i P stops (n, inl h) k = header_silent (λ v b rest. IsReadTo p v rest i (P b)) s f n h k
 text_one p s f i P stops (n, inr h) k =
-    one_header (FailsAfter p f) (λ v b rest. IsReadTo p v rest i (P b)) (IsEnvironmental (told.Text f)) s (λ v b rest x y. text_silent p v b rest f n x i (P b) y (stops b y.tree y.is)) h k
+    one_header (FailsAfter p f) (λ v b rest. IsReadTo p v rest i (P b)) (IsEnvironmental (reported.Text f)) s (λ v b rest x y. text_silent p v b rest f n x i (P b) y (stops b y.tree y.is)) h k
 
 -- two errors of one text are equal, or one of them is silent
 pub one_fault : (p : Problem) (s : Stream) (f g : CheckFault) → IsProofFault p s f → IsProofFault p s g → AreOne f g
-one_fault p s told.OutOfMemory g h k = inr (inl (inl refl))
-one_fault p s (told.Text f) told.OutOfMemory h k = inr (inr (inl refl))
-one_fault p s (told.Rule i f) told.OutOfMemory h k = inr (inr (inl refl))
-one_fault p s (told.TooDeep i) told.OutOfMemory h k = inr (inr (inl refl))
-one_fault p s (told.Text f) (told.Text g) h k = texts_one p s f g h k
-one_fault p s (told.Text f) (told.Rule j g) h k = inr (inl (text_one p s f j (λ b t. FailsAt p b t j g) (λ b t x. stops_by_fault p b t j g x) h k))
-one_fault p s (told.Text f) (told.TooDeep j) h k = inr (inl (text_one p s f j (λ b t. IsDeepAt p b t j) (λ b t x. stops_by_depth p b t j x) h k))
-one_fault p s (told.Rule i f) (told.Text g) h k = inr (inr (text_one p s g i (λ b t. FailsAt p b t i f) (λ b t x. stops_by_fault p b t i f x) k h))
-one_fault p s (told.TooDeep i) (told.Text g) h k = inr (inr (text_one p s g i (λ b t. IsDeepAt p b t i) (λ b t x. stops_by_depth p b t i x) k h))
-one_fault p s (told.Rule i f) (told.Rule j g) h k =
-    one_header (λ v b rest. IsReadTo p v rest i (λ t. FailsAt p b t i f)) (λ v b rest. IsReadTo p v rest j (λ t. FailsAt p b t j g)) (AreOne (told.Rule i f) (told.Rule j g)) s
+one_fault p s reported.OutOfMemory g h k = inr (inl (inl refl))
+one_fault p s (reported.Text f) reported.OutOfMemory h k = inr (inr (inl refl))
+one_fault p s (reported.Rule i f) reported.OutOfMemory h k = inr (inr (inl refl))
+one_fault p s (reported.TooDeep i) reported.OutOfMemory h k = inr (inr (inl refl))
+one_fault p s (reported.Text f) (reported.Text g) h k = texts_one p s f g h k
+one_fault p s (reported.Text f) (reported.Rule j g) h k = inr (inl (text_one p s f j (λ b t. FailsAt p b t j g) (λ b t x. stops_by_fault p b t j g x) h k))
+one_fault p s (reported.Text f) (reported.TooDeep j) h k = inr (inl (text_one p s f j (λ b t. IsDeepAt p b t j) (λ b t x. stops_by_depth p b t j x) h k))
+one_fault p s (reported.Rule i f) (reported.Text g) h k = inr (inr (text_one p s g i (λ b t. FailsAt p b t i f) (λ b t x. stops_by_fault p b t i f x) k h))
+one_fault p s (reported.TooDeep i) (reported.Text g) h k = inr (inr (text_one p s g i (λ b t. IsDeepAt p b t i) (λ b t x. stops_by_depth p b t i x) k h))
+one_fault p s (reported.Rule i f) (reported.Rule j g) h k =
+    one_header (λ v b rest. IsReadTo p v rest i (λ t. FailsAt p b t i f)) (λ v b rest. IsReadTo p v rest j (λ t. FailsAt p b t j g)) (AreOne (reported.Rule i f) (reported.Rule j g)) s
     (λ v b rest x y. rules_fail p v b rest i j f g x y) h k
-one_fault p s (told.TooDeep i) (told.TooDeep j) h k =
-    one_header (λ v b rest. IsReadTo p v rest i (λ t. IsDeepAt p b t i)) (λ v b rest. IsReadTo p v rest j (λ t. IsDeepAt p b t j)) (AreOne (told.TooDeep i) (told.TooDeep j)) s
+one_fault p s (reported.TooDeep i) (reported.TooDeep j) h k =
+    one_header (λ v b rest. IsReadTo p v rest i (λ t. IsDeepAt p b t i)) (λ v b rest. IsReadTo p v rest j (λ t. IsDeepAt p b t j)) (AreOne (reported.TooDeep i) (reported.TooDeep j)) s
     (λ v b rest x y. depths_fail p v b rest i j x y) h k
-one_fault p s (told.Rule i f) (told.TooDeep j) h k =
-    one_header (λ v b rest. IsReadTo p v rest i (λ t. FailsAt p b t i f)) (λ v b rest. IsReadTo p v rest j (λ t. IsDeepAt p b t j)) (AreOne (told.Rule i f) (told.TooDeep j)) s
+one_fault p s (reported.Rule i f) (reported.TooDeep j) h k =
+    one_header (λ v b rest. IsReadTo p v rest i (λ t. FailsAt p b t i f)) (λ v b rest. IsReadTo p v rest j (λ t. IsDeepAt p b t j)) (AreOne (reported.Rule i f) (reported.TooDeep j)) s
     (λ v b rest x y. absurd (rule_or_depth p v b rest i j f x y)) h k
-one_fault p s (told.TooDeep i) (told.Rule j g) h k =
-    one_header (λ v b rest. IsReadTo p v rest i (λ t. IsDeepAt p b t i)) (λ v b rest. IsReadTo p v rest j (λ t. FailsAt p b t j g)) (AreOne (told.TooDeep i) (told.Rule j g)) s
+one_fault p s (reported.TooDeep i) (reported.Rule j g) h k =
+    one_header (λ v b rest. IsReadTo p v rest i (λ t. IsDeepAt p b t i)) (λ v b rest. IsReadTo p v rest j (λ t. FailsAt p b t j g)) (AreOne (reported.TooDeep i) (reported.Rule j g)) s
     (λ v b rest x y. absurd (rule_or_depth p v b rest j i g y x)) h k
 
 -- -- the errors of `certify`

@@ -19,13 +19,13 @@ use Rattle.tt_leaf_rules.specs.declared.leaf.Leaf.TheVariants.{Many}
 use Rattle.tt_proof_read.specs.declared.sizes.Sizes.{Sizes}
 use Rattle.tt_proof_check.specs.declared.walk.Stop.TheVariants.{Rule, TooDeep}
 use Rattle.tt_proof_check.specs.declared.fault.CheckFault.{CheckFault}
-use Rattle.tt_proof_check.specs.declared.fault.CheckFault.TheVariants as told
+use Rattle.tt_proof_check.specs.declared.fault.CheckFault.TheVariants as reported
 use Rattle.tt_proof_check.specs.FailedReads.{NodeIsCutOff}
 use Rattle.tt_proof_check.specs.Faults.{fault_from_text}
 use Rattle.tt_proof_check.specs.Visited.{Visited}
 use Rattle.tt_proof_check.specs.Pending.{pending}
 use Rattle.tt_proof_check.specs.Steps.{Steps, Stops}
-use Rattle.tt_proof_check.specs.CheckedPart.{CheckedPart, TellsNodes, ExplainsChild}
+use Rattle.tt_proof_check.specs.CheckedPart.{CheckedPart, ExplainsNodes, ExplainsChild}
 use Rattle.tt_proof_check.specs.Streams.{sizes_of, Fails, NodeFails}
 use Rattle.tt_proof_check.specs.Explains.{Passes, FailsAt, IsDeepAt}
 use Rattle.tt_proof_check.proofs.Counting.{next_places}
@@ -115,12 +115,12 @@ child_as a c v w count more s i e same_sizes same_version same_count h =
     (subst (λ (k : ℕ). ExplainsChild c k count s i e) same_version (subst (λ (x : Sizes). ExplainsChild x v count s i e) same_sizes h))
 
 -- after nodes that pass, a node is due on a path that is too long; it has been read, or its text fails
-told_child : (p : Problem) (v : ℕ) (b : Bound) (s t : Stream) (nodes : List Node) (i : ℕ) → IsDeepNext p b nodes → length nodes ≡ i → ReadsNodes (sizes_of p) v 0 s nodes t → (e : CheckFault) → ExplainsChild (sizes_of p) v i t i e
-    → TellsNodes p v b s e
-told_child p v b s t nodes i d len reads (told.Text f) c =
+reported_child : (p : Problem) (v : ℕ) (b : Bound) (s t : Stream) (nodes : List Node) (i : ℕ) → IsDeepNext p b nodes → length nodes ≡ i → ReadsNodes (sizes_of p) v 0 s nodes t → (e : CheckFault) → ExplainsChild (sizes_of p) v i t i e
+    → ExplainsNodes p v b s e
+reported_child p v b s t nodes i d len reads (reported.Text f) c =
     (c.0, node_fails p v b s t f nodes d.path d.others d.stack d.passed reads (subst (λ (k : ℕ). Fails f (node_at (sizes_of p) v k t)) (sym len) c.1))
-told_child p v b s t nodes i d len reads (told.Rule j f) c = absurd c
-told_child p v b s t nodes i d len reads (told.TooDeep j) c =
+reported_child p v b s t nodes i d len reads (reported.Rule j f) c = absurd c
+reported_child p v b s t nodes i d len reads (reported.TooDeep j) c =
     let stack = next_stack d.path d.others c.1 in
     let h = some_tree (nodes ++ c.1 ∷ []) stack (stack_after-push d.path d.others nodes c.1 d.stack) in
     let deep = deep_at p b nodes (closing stack) c.1 h.0 (h.1 ∙ append_assoc nodes (c.1 ∷ []) (closing stack)) d in
@@ -136,7 +136,7 @@ told_child p v b s t nodes i d len reads (told.TooDeep j) c =
       last = omega (arith, length-append nodes (c.1 ∷ []), number);
       is = subst (IsDeepAt p b h.0) number deep;
     }
-told_child p v b s t nodes i d len reads told.OutOfMemory c = tt
+reported_child p v b s t nodes i d len reads reported.OutOfMemory c = tt
 
 module _ (p : Problem) (v : ℕ) (b : Bound) (known : Bool) (H : List Node → Type 0) (s : Stream) (old : Reader) (t : Stream) (path : List Fact) (m : Sofar p v b known H s old t path) where
   -- if a place is open, a node is due
@@ -180,7 +180,7 @@ module _ (p : Problem) (v : ℕ) (b : Bound) (known : Bool) (H : List Node → T
         }
 
     -- the node is a leaf that is not right
-    pub sofar_wrong : (i : ℕ) (f : RuleFault) → i ≡ old.count → Stops p b path n (Rule f) → known ≡ true → TellsNodes p v b s (told.Rule i f)
+    pub sofar_wrong : (i : ℕ) (f : RuleFault) → i ≡ old.count → Stops p b path n (Rule f) → known ≡ true → ExplainsNodes p v b s (reported.Rule i f)
     sofar_wrong i f number stops k =
         let w = (is_due goes.0).0 in
         let stack = next_stack path (pending path) n in
@@ -198,10 +198,10 @@ module _ (p : Problem) (v : ℕ) (b : Bound) (known : Bool) (H : List Node → T
         }
 
     -- the node is a split whose children are too deep
-    pub sofar_deep : (i : ℕ) (e : CheckFault) → i ≡ old.count → Stops p b path n TooDeep → known ≡ true → ExplainsChild new.sizes new.version new.count u (i + 1) e → TellsNodes p v b s e
+    pub sofar_deep : (i : ℕ) (e : CheckFault) → i ≡ old.count → Stops p b path n TooDeep → known ≡ true → ExplainsChild new.sizes new.version new.count u (i + 1) e → ExplainsNodes p v b s e
     sofar_deep i e number stops k child =
         let here : new.count ≡ i + 1 = ap (λ (r : Reader). r.count) goes.1 ∙ ap (λ (j : ℕ). j + 1) (sym number) in
-        told_child p v b s u (m.nodes ++ n ∷ []) (i + 1) (too_deep p b m.nodes path n (is_due goes.0).0 stops) (one_more n ∙ ap (λ (j : ℕ). j + 1) (sym number)) (read_one k) e
+        reported_child p v b s u (m.nodes ++ n ∷ []) (i + 1) (too_deep p b m.nodes path n (is_due goes.0).0 stops) (one_more n ∙ ap (λ (j : ℕ). j + 1) (sym number)) (read_one k) e
         (child_as new.sizes (sizes_of p) new.version v new.count (i + 1) u (i + 1) e (ap (λ (r : Reader). r.sizes) goes.1 ∙ same_sizes) (ap (λ (r : Reader). r.version) goes.1 ∙ m.version) here child)
 
     -- the node is a split whose children are too deep, and the failure of a read cuts off the first of them
@@ -229,11 +229,11 @@ module _ (p : Problem) (v : ℕ) (b : Bound) (known : Bool) (H : List Node → T
           }
 
   -- the text of the due node fails
-  pub sofar_unread : (new : Reader) (u : Stream) (f : TextFault) → IsReaderAfter old (Err f) new → known ≡ true → IsReadingOf old t (Err f) u → TellsNodes p v b s (fault_from_text f)
+  pub sofar_unread : (new : Reader) (u : Stream) (f : TextFault) → IsReaderAfter old (Err f) new → known ≡ true → IsReadingOf old t (Err f) u → ExplainsNodes p v b s (fault_from_text f)
   sofar_unread new u f goes k says =
       let w = (is_due goes.0).0 in
       let fails = node_as old.sizes (sizes_of p) old.version v old.count t (Fails f) same_sizes m.version says in
-      text_cases f (TellsNodes p v b s) tt
+      text_cases f (ExplainsNodes p v b s) tt
       (λ n. (n, node_fails p v b s t f m.nodes path (pending path) w.stack w.passed (m.reads k) (subst (λ (i : ℕ). Fails f (node_at (sizes_of p) v i t)) (sym m.count) fails)))
 
   -- the failure of a read cuts off the due node

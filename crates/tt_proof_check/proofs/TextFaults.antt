@@ -9,12 +9,12 @@ use Rattle.tt_proof_read.specs.Faults.{is_environmental, read_failed}
 use Rattle.tt_proof_read.specs.declared.fault.TextFault.{TextFault}
 use Rattle.tt_proof_read.specs.declared.fault.TextFault.TheVariants as text
 use Rattle.tt_proof_check.specs.declared.fault.CheckFault.{CheckFault}
-use Rattle.tt_proof_check.specs.declared.fault.CheckFault.TheVariants as told
+use Rattle.tt_proof_check.specs.declared.fault.CheckFault.TheVariants as reported
 use Rattle.tt_proof_check.specs.Faults.{fault_from_text, is_failed_read, OutOfMemoryIsNoTextFault}
 use Rattle.tt_proof_check.specs.Streams.{Fails, IsEnvironmental}
 
 -- an error of the text is either being out of memory or becomes a text error of the check
-pub text_cases : (f : TextFault) (Q : CheckFault → Type 0) → Q told.OutOfMemory → (¬ (f ≡ text.OutOfMemory) → Q (told.Text f)) → Q (fault_from_text f)
+pub text_cases : (f : TextFault) (Q : CheckFault → Type 0) → Q reported.OutOfMemory → (¬ (f ≡ text.OutOfMemory) → Q (reported.Text f)) → Q (fault_from_text f)
 text_cases (text.Ended at) Q a b = b (λ e. cc)
 text_cases (text.Expected w at) Q a b = b (λ e. cc)
 text_cases (text.UnknownWord at) Q a b = b (λ e. cc)
@@ -31,22 +31,22 @@ pub memory_text : (f : TextFault) → OutOfMemoryIsNoTextFault (fault_from_text 
 memory_text f = text_cases f OutOfMemoryIsNoTextFault tt (λ n. n)
 
 -- only a failed read is reported as one
-pub read_told : (f : TextFault) → fault_from_text f ≡ told.Text read_failed → f ≡ read_failed
-read_told (text.Ended at) e = cc
-read_told (text.Expected w at) e = cc
-read_told (text.UnknownWord at) e = cc
-read_told (text.NotANumber at) e = cc
-read_told (text.UnknownIndex at) e = cc
-read_told (text.RepeatedIndex at) e = cc
-read_told (text.TrailingToken at) e = cc
-read_told (text.TooManyNodes at) e = cc
-read_told (text.Feed f) e = cc
-read_told text.OutOfMemory e = cc
+pub read_reported : (f : TextFault) → fault_from_text f ≡ reported.Text read_failed → f ≡ read_failed
+read_reported (text.Ended at) e = cc
+read_reported (text.Expected w at) e = cc
+read_reported (text.UnknownWord at) e = cc
+read_reported (text.NotANumber at) e = cc
+read_reported (text.UnknownIndex at) e = cc
+read_reported (text.RepeatedIndex at) e = cc
+read_reported (text.TrailingToken at) e = cc
+read_reported (text.TooManyNodes at) e = cc
+read_reported (text.Feed f) e = cc
+read_reported text.OutOfMemory e = cc
 
 -- an error made from a text error that is reported as a failed read: the text error is a failed read
-pub err_read : {A : Type 0} (r : Result A CheckFault) (f : TextFault) → IsErrAnd r (λ e. e ≡ fault_from_text f) → r ≡ Err (told.Text read_failed) → f ≡ read_failed
+pub err_read : {A : Type 0} (r : Result A CheckFault) (f : TextFault) → IsErrAnd r (λ e. e ≡ fault_from_text f) → r ≡ Err (reported.Text read_failed) → f ≡ read_failed
 err_read (Ok x) f e h = absurd cc
-err_read (Err x) f e h = read_told f (let same : x ≡ told.Text read_failed = cc in sym e ∙ same)
+err_read (Err x) f e h = read_reported f (let same : x ≡ reported.Text read_failed = cc in sym e ∙ same)
 
 -- an error that was passed on is the same error
 pub err_same : {A E : Type 0} (r : Result A E) (x y : E) → IsErrAnd r (λ e. e ≡ x) → r ≡ Err y → x ≡ y
@@ -80,7 +80,7 @@ on_false true P h = inl refl
 on_false false P h = inr h
 
 -- a silent error is a failed read or being out of memory
-pub silent_is : (f : TextFault) → is_environmental f ≡ true → ¬ (f ≡ text.OutOfMemory) → IsEnvironmental (told.Text f)
+pub silent_is : (f : TextFault) → is_environmental f ≡ true → ¬ (f ≡ text.OutOfMemory) → IsEnvironmental (reported.Text f)
 silent_is (text.Ended at) e n = cc
 silent_is (text.Expected w at) e n = cc
 silent_is (text.UnknownWord at) e n = cc
@@ -99,7 +99,7 @@ abbrev read_fault : {Y : Type 0} → TextFault → Result Y TextFault
 read_fault f = Err f
 
 -- an error of a text that can be read is silent
-pub fails_silently : {Y : Type 0} (f : TextFault) (read : Result Y TextFault) (y : Y) → read ≡ Ok y → ¬ (f ≡ text.OutOfMemory) → Fails f read → IsEnvironmental (told.Text f)
+pub fails_silently : {Y : Type 0} (f : TextFault) (read : Result Y TextFault) (y : Y) → read ≡ Ok y → ¬ (f ≡ text.OutOfMemory) → Fails f read → IsEnvironmental (reported.Text f)
 fails_silently f read y e n h = elim (on_false (is_environmental f) (read ≡ Err f) h) [
   | inl s ↦ silent_is f s n
   | inr err ↦ absurd cc

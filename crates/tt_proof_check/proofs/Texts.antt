@@ -15,7 +15,7 @@ use Rattle.tt_proof_read.specs.declared.node.Node.{Node}
 use Rattle.tt_proof_read.proofs.ProofLaws.{reads_spelled, spelled_reads}
 use Rattle.tt_proof_read.proofs.Small.{are_small}
 use Rattle.tt_proof_check.specs.declared.fault.CheckFault.{CheckFault}
-use Rattle.tt_proof_check.specs.declared.fault.CheckFault.TheVariants as told
+use Rattle.tt_proof_check.specs.declared.fault.CheckFault.TheVariants as reported
 use Rattle.tt_proof_check.specs.Derives.{Derives, HoldsOfAll}
 use Rattle.tt_proof_check.specs.Visited.{IsVisitedProof}
 use Rattle.tt_proof_check.specs.CheckedPart.{Proved}
@@ -41,20 +41,20 @@ module _ (p : Problem) (v : ℕ) (s noded : Stream) (tree : Tree) (reads : Reads
 
   -- after nodes that some tree continues, an error in the text of a node is silent
   pub node_silent : (f : TextFault) → ¬ (f ≡ text.OutOfMemory) → (nodes : List Node) (rest : Stream) (other : Tree) (next : Node) (behind : List Node) → ReadsNodes (sizes_of p) v 0 s nodes rest → preorder other ≡ nodes ++ next ∷ behind
-      → Fails f (node_at (sizes_of p) v (length nodes) rest) → IsEnvironmental (told.Text f)
+      → Fails f (node_at (sizes_of p) v (length nodes) rest) → IsEnvironmental (reported.Text f)
   node_silent f n nodes rest other next behind reads_these begins fails = elim (compare (sizes_of p) v 0 s rest noded nodes (preorder tree) reads_these reads) [
     | inl m ↦ onward m.0 m.1 m.2
     | inr m ↦ absurd (none_due nodes m.0 other next behind m.1 begins)
   ]
     where
-      onward : (more : List Node) → nodes ++ more ≡ preorder tree → ReadsNodes (sizes_of p) v (0 + length nodes) rest more noded → IsEnvironmental (told.Text f)
+      onward : (more : List Node) → nodes ++ more ≡ preorder tree → ReadsNodes (sizes_of p) v (0 + length nodes) rest more noded → IsEnvironmental (reported.Text f)
       onward [] e r = absurd (none_due nodes [] other next behind (append-nil (preorder tree) ∙ sym e ∙ append-nil nodes) begins)
       onward (x ∷ xs) e r =
           let here : length nodes ≡ 0 + length nodes = omega arith in
           fails_silently f (node_at (sizes_of p) v (length nodes) rest) (x, r.0) (ap (λ (k : ℕ). node_at (sizes_of p) v k rest) here ∙ r.1) n fails
 
   -- after a whole tree, an error in the text of the end is silent
-  pub end_silent : (ended : Stream) → end_at noded ≡ Ok ended → (f : TextFault) → ¬ (f ≡ text.OutOfMemory) → (other : Tree) (rest : Stream) → ReadsNodes (sizes_of p) v 0 s (preorder other) rest → Fails f (end_at rest) → IsEnvironmental (told.Text f)
+  pub end_silent : (ended : Stream) → end_at noded ≡ Ok ended → (f : TextFault) → ¬ (f ≡ text.OutOfMemory) → (other : Tree) (rest : Stream) → ReadsNodes (sizes_of p) v 0 s (preorder other) rest → Fails f (end_at rest) → IsEnvironmental (reported.Text f)
   end_silent ended finish f n other rest reads_these fails = fails_silently f (end_at rest) ended (ap end_at same ∙ finish) n fails
     where
       none : (k : ℕ) (x y : Stream) (more : List Node) → [] ≡ more → ReadsNodes (sizes_of p) v k x more y → x ≡ y
@@ -84,18 +84,18 @@ module _ (p : Problem) (s : Stream) (v : ℕ) (b : Bound) (tree : Tree) (r : Rea
   bound_is known H c k h = ap (λ (x : (ℕ × Bound) × Stream). x.0.1) (same_header ((h.version, c), (h.reads k).headed) ((v, b), r.headed) (sym (h.reads k).header ∙ r.header))
 
   pub only_silent : IsShallow tree → Derives p b [] tree → (e : CheckFault) → IsProofFault p s e → IsEnvironmental e
-  only_silent shallow d (told.Text f) (n, inl h) = fails_silently f (header_at s) ((v, b), r.headed) r.header n h
-  only_silent shallow d (told.Text f) (n, inr h) = elim (header_is (λ w c rest. NodeFails p w c rest f ⊎ EndFails p w c rest f) h) [
+  only_silent shallow d (reported.Text f) (n, inl h) = fails_silently f (header_at s) ((v, b), r.headed) r.header n h
+  only_silent shallow d (reported.Text f) (n, inr h) = elim (header_is (λ w c rest. NodeFails p w c rest f ⊎ EndFails p w c rest f) h) [
     | inl a ↦ node_silent p v r.headed r.noded tree r.nodes f n a.nodes a.rest a.tree a.next a.more a.reads a.begins a.fails
     | inr a ↦ end_silent p v r.headed r.noded tree r.nodes r.ended r.finish f n a.tree a.rest a.reads a.fails
   ]
-  only_silent shallow d (told.Rule i f) h =
+  only_silent shallow d (reported.Rule i f) h =
       let a = header_is (λ w c rest. IsReadTo p w rest i (λ t. FailsAt p c t i f)) h in
       absurd (never_fails p b tree a.tree i f (tree_passes p b tree shallow d) (place_read p v r.headed r.noded tree r.nodes i (λ t. FailsAt p b t i f) a) a.is)
-  only_silent shallow d (told.TooDeep i) h =
+  only_silent shallow d (reported.TooDeep i) h =
       let a = header_is (λ w c rest. IsReadTo p w rest i (λ t. IsDeepAt p c t i)) h in
       absurd (never_deep p b tree a.tree i (tree_passes p b tree shallow d) (place_read p v r.headed r.noded tree r.nodes i (λ t. IsDeepAt p b t i) a) a.is)
-  only_silent shallow d told.OutOfMemory h = inl refl
+  only_silent shallow d reported.OutOfMemory h = inl refl
 
 -- ---- the bytes
 
@@ -108,8 +108,8 @@ module _ (p : Problem) (remaining : Option (List ℕ)) (H : List Node → Type 0
       let k = proved_in bytes e b h in
       (k.version, k.tree, reads_spelled p (sizes_of p) (are_sizes_of p) bytes k.version b k.tree k.shallow (k.reads refl), k.derives)
 
-  told_in : (bytes : List ℕ) → remaining ≡ Some bytes → (x : CheckFault) → IsProofFault p (stream_at fresh remaining) x → IsProofFault p (stream_of bytes) x
-  told_in bytes e x h = subst (λ (k : Option (List ℕ)). IsProofFault p (stream_at fresh k) x) e h
+  reported_in : (bytes : List ℕ) → remaining ≡ Some bytes → (x : CheckFault) → IsProofFault p (stream_at fresh remaining) x → IsProofFault p (stream_of bytes) x
+  reported_in bytes e x h = subst (λ (k : Option (List ℕ)). IsProofFault p (stream_at fresh k) x) e h
 
   pub proof_found : (r : Result Bound CheckFault) → IfOk r (λ b. Proved p (is_some remaining) H (stream_at fresh remaining) b) → IfOk r (λ b. (bytes : List ℕ) → remaining ≡ Some bytes → IsProved p bytes b)
   proof_found (Ok b) h = λ bytes e. found_in bytes e b h
@@ -138,13 +138,13 @@ module _ (p : Problem) (remaining : Option (List ℕ)) (H : List Node → Type 0
     where
       on : (x : Result Bound CheckFault) → IfOk x (λ c. Proved p (is_some remaining) H (stream_at fresh remaining) c) → (is_some remaining ≡ true → IfErr x (λ y. IsProofFault p (stream_at fresh remaining) y))
           → Reads (sizes_of p) (stream_of bytes) h.0 b h.1 → MatchResult x (λ c. c ≡ b) IsEnvironmental
-      on (Ok c) done told reads = bound_is p (stream_of bytes) h.0 b h.1 reads true H c refl (proved_in bytes e c done)
-      on (Err x) done told reads = only_silent p (stream_of bytes) h.0 b h.1 reads h.2.within.depth h.3 x (told_in bytes e x (told (ap is_some e)))
+      on (Ok c) done reported reads = bound_is p (stream_of bytes) h.0 b h.1 reads true H c refl (proved_in bytes e c done)
+      on (Err x) done reported reads = only_silent p (stream_of bytes) h.0 b h.1 reads h.2.within.depth h.3 x (reported_in bytes e x (reported (ap is_some e)))
 
 -- an error of bytes that spell a proof is silent
 pub proved_silent : (p : Problem) → IsInstance p → (bytes : List ℕ) (b : Bound) → IsProved p bytes b → (e : CheckFault) → IsProofFault p (stream_of bytes) e → IsEnvironmental e
-proved_silent p is bytes b h e told =
-    only_silent p (stream_of bytes) h.0 b h.1 (spelled_reads p (sizes_of p) (are_sizes_of p) (are_small p (sizes_of p) is (are_sizes_of p)) bytes h.0 b h.1 h.2) h.2.within.depth h.3 e told
+proved_silent p is bytes b h e reported =
+    only_silent p (stream_of bytes) h.0 b h.1 (spelled_reads p (sizes_of p) (are_sizes_of p) (are_small p (sizes_of p) is (are_sizes_of p)) bytes h.0 b h.1 h.2) h.2.within.depth h.3 e reported
 
 -- bytes spell at most one version, one bound and one tree
 pub spelled_once : (p : Problem) → IsInstance p → (bytes : List ℕ) (v w : ℕ) (b c : Bound) (x y : Tree) → SpellsProof p bytes v b x → SpellsProof p bytes w c y → ((v ≡ w) × (b ≡ c)) × (x ≡ y)

@@ -25,11 +25,11 @@ pub record CheckedPart (p : Problem) (v : ℕ) (b : Bound) (known : Bool) (H : L
   pub visited : H (preorder tree)
 
 -- the meaning of an error of the nodes
-abbrev pub TellsNodes : Problem → ℕ → Bound → Stream → CheckFault → Type 0
-TellsNodes p v b s (Text f) = ¬ (f ≡ text.OutOfMemory) × NodeFails p v b s f
-TellsNodes p v b s (Rule i f) = IsReadTo p v s i (λ tree. FailsAt p b tree i f)
-TellsNodes p v b s (TooDeep i) = IsReadTo p v s i (λ tree. IsDeepAt p b tree i)
-TellsNodes p v b s OutOfMemory = ⊤
+abbrev pub ExplainsNodes : Problem → ℕ → Bound → Stream → CheckFault → Type 0
+ExplainsNodes p v b s (Text f) = ¬ (f ≡ text.OutOfMemory) × NodeFails p v b s f
+ExplainsNodes p v b s (Rule i f) = IsReadTo p v s i (λ tree. FailsAt p b tree i f)
+ExplainsNodes p v b s (TooDeep i) = IsReadTo p v s i (λ tree. IsDeepAt p b tree i)
+ExplainsNodes p v b s OutOfMemory = ⊤
 
 -- the child that is too deep was read, or its text fails
 abbrev pub ExplainsChild : Sizes → ℕ → ℕ → Stream → ℕ → CheckFault → Type 0

@@ -34,7 +34,7 @@ IsCheckedUpToFailedRead p bytes left = HoldsOfGiven bytes left (IsCutOff p)
 pub record IsSpelledAndCheckedUpToFailedRead (instance proof : List ℕ) (left : Option (List ℕ)) : Type 0 where
   pub problem : Problem
   pub spelled : Spells instance problem
-  pub tells : IsCheckedUpToFailedRead problem proof left
+  pub explains : IsCheckedUpToFailedRead problem proof left
 
 -- P holds for the stream that a feed gives, if the read fails before the bytes that are left now
 abbrev pub UpToFailure : Fed → Option (List ℕ) → Option (List ℕ) → (Stream → Type 0) → Type 0

@@ -17,5 +17,5 @@ abbrev pub pending : List Fact → List (List Fact)
 pending path = pending_after [] path
 
 -- the deepest second child that is not read yet is the next, if there is one
-abbrev pub GoesOn : List Fact → List Fact → Type 0
-GoesOn path next = (pending path ≡ []) ⊎ (pending path ≡ next ∷ pending next)
+abbrev pub ContinuesWith : List Fact → List Fact → Type 0
+ContinuesWith path next = (pending path ≡ []) ⊎ (pending path ≡ next ∷ pending next)

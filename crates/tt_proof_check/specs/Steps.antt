@@ -13,13 +13,13 @@ use Rattle.tt_proof_read.specs.declared.node.Node.{Node}
 use Rattle.tt_proof_read.specs.declared.node.Node.TheVariants.{Split, Leaf}
 use Rattle.tt_proof_check.specs.declared.walk.Stop.{Stop}
 use Rattle.tt_proof_check.specs.declared.walk.Stop.TheVariants.{Rule, TooDeep, OutOfMemory}
-use Rattle.tt_proof_check.specs.Pending.{GoesOn}
+use Rattle.tt_proof_check.specs.Pending.{ContinuesWith}
 use Rattle.tt_facts_path.specs.declared.path.TheConstants.{MAX_FACTS}
 
 -- a split leads down to its first child, and a right leaf to the next place
 abbrev pub Steps : Problem → Bound → List Fact → Node → List Fact → Type 0
 Steps p b facts (Split g) next = next ≡ with_fact facts g true
-Steps p b facts (Leaf leaf) next = IsRight p facts b leaf × GoesOn facts next
+Steps p b facts (Leaf leaf) next = IsRight p facts b leaf × ContinuesWith facts next
 
 -- only a leaf breaks a rule, and only a split can be too deep
 abbrev pub Stops : Problem → Bound → List Fact → Node → Stop → Type 0

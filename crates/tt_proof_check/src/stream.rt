@@ -15,7 +15,7 @@ ghost use Rattle.tt_proof_check.specs.Faults.{OutOfMemoryIsNoTextFault, is_faile
 ghost use Rattle.tt_proof_check.specs.Visited.{Visited, Unvisited, IsVisitedProof};
 ghost use Rattle.tt_proof_check.specs.Nodes.{IsNodeOf};
 ghost use Rattle.tt_proof_check.specs.Steps.{Steps, Stops};
-ghost use Rattle.tt_proof_check.specs.CheckedPart.{CheckedPart, Proved, TellsNodes, ExplainsChild};
+ghost use Rattle.tt_proof_check.specs.CheckedPart.{CheckedPart, Proved, ExplainsNodes, ExplainsChild};
 ghost use Rattle.tt_proof_check.specs.Streams.{stream_of, IsProved, IsEnvironmental, IsProofFault};
 
 use crate::fault::CheckFault;
@@ -82,7 +82,7 @@ fn check_tree<'i, P: Path<'i>, R: Source, L: NodeVisitor>(
     ensures failed { R.has_failed source.new ≡ (if is_err_and result is_failed_read then true else R.has_failed source.old) }
     ensures memory { IfErr result OutOfMemoryIsNoTextFault }
     ensures fault { is_some (R.remaining source.old) ≡ true →
-        IfErr result (λ e. TellsNodes (P.problem path.old) reader.old.version reader.old.bound (stream_at reader.old.fed (R.remaining source.old)) e) }
+        IfErr result (λ e. ExplainsNodes (P.problem path.old) reader.old.version reader.old.bound (stream_at reader.old.fed (R.remaining source.old)) e) }
     ensures cut_short { OnOk result (BeforeFailure reader.old.fed (R.remaining source.old) reader.new.fed (R.remaining source.new)
         (CheckedPart (P.problem path.old) reader.old.version reader.old.bound true Unvisited)) }
     ensures up_to_failed_read { result ≡ Err (CheckFault.Text read_failed) → UpToFailure reader.old.fed (R.remaining source.old) (R.remaining source.new)

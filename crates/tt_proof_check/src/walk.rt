@@ -3,7 +3,7 @@
 ghost use Rattle.std.specs.Prelude.{◌≡◌, ◌≤◌, length, OnOk, IfErr, IsOkUnless};
 ghost use Rattle.tt_facts_path.specs.declared.path.TheConstants.{MAX_FACTS};
 ghost use Rattle.tt_proof_check.specs.Nodes.{IsNodeOf};
-ghost use Rattle.tt_proof_check.specs.Pending.{GoesOn};
+ghost use Rattle.tt_proof_check.specs.Pending.{ContinuesWith};
 ghost use Rattle.tt_proof_check.specs.Steps.{Steps, Stops};
 
 use tt_facts_path::{Fact, Path, PathFault};
@@ -49,7 +49,7 @@ impl From<PathFault> for Stop {
 #[inline(always)]
 fn advance<'i, P: Path<'i>>(path: &mut P) -> Result<(), PathFault>
     requires { length (P.facts path.old) ≤ MAX_FACTS }
-    ensures next { OnOk result (GoesOn (P.facts path.old) (P.facts path.new)) }
+    ensures next { OnOk result (ContinuesWith (P.facts path.old) (P.facts path.new)) }
     ensures within { length (P.facts path.new) ≤ MAX_FACTS }
     ensures memory { IsOkUnless result PathFault.OutOfMemory }
     ensures unchanged { P.problem path.new ≡ P.problem path.old }

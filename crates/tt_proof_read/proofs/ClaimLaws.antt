@@ -15,7 +15,7 @@ use Rattle.tt_instance.specs.Problem.{Problem}
 use Rattle.tt_leaf_rules.specs.Ranges.{ArePrices}
 use Rattle.tt_leaf_rules.specs.declared.leaf.Claim.{Claim}
 use Rattle.tt_leaf_rules.specs.declared.leaf.Claim.TheVariants as claim
-use Rattle.tt_proof_read.specs.Pricing.{AreKept}
+use Rattle.tt_proof_read.specs.Pricing.{ArePriceLists}
 use Rattle.tt_proof_read.specs.Readers.{IsWordIn}
 use Rattle.tt_proof_read.specs.Sizes.{AreSizes}
 use Rattle.tt_proof_read.specs.Spelling.{course_piece, price_pieces, by_kind, SpellsClaim, SpellsEach, IsClaim}
@@ -176,14 +176,14 @@ module _ (p : Problem) (sizes : Sizes) (are : AreSizes p sizes) (version : ℕ) 
         by_claim word.Stable (claim.Stable c) (course_piece c ∷ []) s after tt (λ mid t. rw (course_in c mid after next t) refl) (subst (λ qs. Took s qs after) spell took)
     claim_reads before (claim.Prices courses rooms) ps s after spell next took =
         by_claim word.Prices (claim.Prices courses rooms) (flat_map price_pieces spell.0 ++ Text (codes "/") ∷ []) s after next.0 (λ mid t.
-        let kept : AreKept sizes (courses, rooms) = record {
+        let kept : ArePriceLists sizes (courses, rooms) = record {
           courses = subst (λ n. ArePrices n courses) (sym are.courses) next.1.0;
           rooms = subst (λ n. ArePrices n rooms) (sym are.rooms) next.2.0;
           course_prices = next.1.1;
           room_prices = next.2.1;
         } in
         let shown : by_kind spell.0 ≡ (courses, rooms) = spell.1 in
-        let read = prices_read sizes spell.0 mid after small (subst (AreKept sizes) (sym shown) kept) t in
+        let read = prices_read sizes spell.0 mid after small (subst (ArePriceLists sizes) (sym shown) kept) t in
         rw read (ap (λ (k : List (ℕ × ℕ) × List (ℕ × ℕ)). let r : Result (Claim × Stream) TextFault = Ok (claim.Prices k.0 k.1, after) in r) shown)) (subst (λ qs. Took s qs after) spell.2 took)
     claim_reads before (claim.Stacked c) ps s after spell next took =
         by_claim word.Stacked (claim.Stacked c) (course_piece c ∷ []) s after next.0 (λ mid t. rw (course_in c mid after next.1 t) refl) (subst (λ qs. Took s qs after) spell took)

@@ -37,10 +37,10 @@ IsLong false n k a bs = HasLong a (tokens_from false n bs)
 
 -- this fault is not the one of too many bytes
 not_many : (n a : ℕ) (f : Fault) → (let x : Fault = record { byte = n; fault = TooManyBytes } in x) ≡ f → f.fault ≡ TokenTooLong a → ⊥
-not_many n a f e told = cc
+not_many n a f e reported = cc
 
 long_at : (n m a : ℕ) (f : Fault) → (let x : Fault = record { byte = n; fault = TokenTooLong m } in x) ≡ f → f.fault ≡ TokenTooLong a → m ≡ a
-long_at n m a f e told = cc
+long_at n m a f e reported = cc
 
 -- a separator, and then the others
 long_gap : (n k a b : ℕ) (inside : Bool) (bs : List ℕ) → is_separator b ≡ true → HasLong a (tokens_from false (n + 1) bs) → IsLong inside n k a (b ∷ bs)
@@ -85,30 +85,30 @@ long_step : (most n k a b : ℕ) (inside : Bool) (bs : List ℕ) (f : Fault) (v 
     → (fault_from most (n + 1) 0 bs ≡ Some f → HasLong a (tokens_from false (n + 1) bs))
     → (k ≤ n → fault_from most (n + 1) (k + 1) bs ≡ Some f → IsLong true (n + 1) (k + 1) a bs) → IsLong inside n k a (b ∷ bs)
 unfolding fault_from
-long_step most n k a b inside bs f true e carries fails told gap more =
+long_step most n k a b inside bs f true e carries fails reported gap more =
     elim (fault_gap (nat_le most n) (is_separator b) (nat_le 32 k) _ _ f _ _ e fails) [
-      | inl many ↦ absurd (not_many n a f many told)
+      | inl many ↦ absurd (not_many n a f many reported)
       | inr later ↦ long_gap n k a b inside bs e (gap later)
     ]
-long_step most n k a b true bs f false e carries fails told gap more =
+long_step most n k a b true bs f false e carries fails reported gap more =
     elim (fault_token (nat_le most n) (is_separator b) (nat_le 32 k) _ _ f _ _ e fails) [
-      | inl many ↦ absurd (not_many n a f many told)
-      | inr (inl long) ↦ long_here n k (n - k) a b bs e (omega (arith, carries)) (long_at n (n - k) a f long.1 told) long.0
+      | inl many ↦ absurd (not_many n a f many reported)
+      | inr (inl long) ↦ long_here n k (n - k) a b bs e (omega (arith, carries)) (long_at n (n - k) a f long.1 reported) long.0
       | inr (inr later) ↦ long_inside n k a b bs e (more carries later)
     ]
-long_step most n k a b false bs f false e carries fails told gap more =
+long_step most n k a b false bs f false e carries fails reported gap more =
     elim (fault_token (nat_le most n) (is_separator b) (nat_le 32 k) _ _ f _ _ e fails) [
-      | inl many ↦ absurd (not_many n a f many told)
+      | inl many ↦ absurd (not_many n a f many reported)
       | inr (inl long) ↦ absurd (omega (arith, carries, leb-true _ _ long.0))
       | inr (inr later) ↦ long_first n a b bs e (subst (λ (m : ℕ). IsLong true (n + 1) (m + 1) a bs) carries (more (omega (arith, carries)) later))
     ]
 
 long_from : (most n k a : ℕ) (inside : Bool) (bs : List ℕ) (f : Fault) → Carries inside n k → fault_from most n k bs ≡ Some f → f.fault ≡ TokenTooLong a → IsLong inside n k a bs
 unfolding fault_from
-long_from most n k a inside [] f carries fails told = absurd cc
-long_from most n k a inside (b ∷ bs) f carries fails told =
-    long_step most n k a b inside bs f (is_separator b) refl carries fails told (λ later. long_from most (n + 1) 0 a false bs f refl later told)
-    (λ less later. long_from most (n + 1) (k + 1) a true bs f (omega (arith, less)) later told)
+long_from most n k a inside [] f carries fails reported = absurd cc
+long_from most n k a inside (b ∷ bs) f carries fails reported =
+    long_step most n k a b inside bs f (is_separator b) refl carries fails reported (λ later. long_from most (n + 1) 0 a false bs f refl later reported)
+    (λ less later. long_from most (n + 1) (k + 1) a true bs f (omega (arith, less)) later reported)
 
 -- ---- streams
 

@@ -3,7 +3,7 @@ use Rattle.std.proofs.Common.{◌≡◌, ℕ, zero, suc, ◌<◌, Bool, length, 
 use Rattle.tt_text.specs.Feeds.{Stream}
 use Rattle.tt_text.specs.Reading.{FailsUnless}
 use Rattle.tt_text.proofs.Steps.{fails_then, fails_as, ok_is, bind_ok}
-use Rattle.tt_proof_read.specs.Reading.{up_to_end, kept_then}
+use Rattle.tt_proof_read.specs.Reading.{up_to_end, collected_then}
 use Rattle.tt_proof_read.specs.declared.fault.TextFault.{TextFault}
 
 module _ {S X : Type 0} (add : S → X → S) (part : S → Stream → Result (Option X × Stream) TextFault) where
@@ -22,7 +22,7 @@ module _ {S X : Type 0} (add : S → X → S) (part : S → Stream → Result (O
   all_left kept s = record { most = suc (length s.tokens); enough = omega arith; is = refl }
 
   -- one part and then the others
-  step : (n : ℕ) (kept : S) (s rest : Stream) (x : Option X) → part kept s ≡ Ok (x, rest) → up_to_end add part (suc n) kept s ≡ kept_then add kept rest (λ now. up_to_end add part n now rest) x
+  step : (n : ℕ) (kept : S) (s rest : Stream) (x : Option X) → part kept s ≡ Ok (x, rest) → up_to_end add part (suc n) kept s ≡ collected_then add kept rest (λ now. up_to_end add part n now rest) x
   unfolding up_to_end
   step n kept s rest x e = rw e refl
 
@@ -39,7 +39,7 @@ module _ {S X : Type 0} (add : S → X → S) (part : S → Stream → Result (O
       by_most (suc n) enough is = record {
         most = n;
         enough = omega (arith, less);
-        is = ap (kept_then add kept rest (λ now. up_to_end add part n now rest)) (sym some) ∙ sym (step n kept s rest o e) ∙ is;
+        is = ap (collected_then add kept rest (λ now. up_to_end add part n now rest)) (sym some) ∙ sym (step n kept s rest o e) ∙ is;
       }
 
   -- the end was read
@@ -48,7 +48,7 @@ module _ {S X : Type 0} (add : S → X → S) (part : S → Stream → Result (O
     where
       by_most : (n : ℕ) → length s.tokens < n → up_to_end add part n kept s ≡ total → total ≡ Ok (kept, rest)
       by_most zero enough is = absurd (omega arith)
-      by_most (suc n) enough is = sym is ∙ step n kept s rest o e ∙ ap (kept_then add kept rest (λ now. up_to_end add part n now rest)) none
+      by_most (suc n) enough is = sym is ∙ step n kept s rest o e ∙ ap (collected_then add kept rest (λ now. up_to_end add part n now rest)) none
 
   -- a part is refused
   pub left_fails : (silent : TextFault → Bool) (f : TextFault) (kept : S) (s : Stream) (total : Result (S × Stream) TextFault) → FailsUnless silent f (part kept s) → IsLeft kept s total → FailsUnless silent f total
@@ -58,12 +58,12 @@ module _ {S X : Type 0} (add : S → X → S) (part : S → Stream → Result (O
       by_most : (n : ℕ) → length s.tokens < n → up_to_end add part n kept s ≡ total → FailsUnless silent f total
       by_most zero enough is = absurd (omega arith)
       by_most (suc n) enough is =
-          fails_as silent f _ _ is (fails_then silent f (part kept s) (λ x. kept_then add kept x.1 (λ now. up_to_end add part n now x.1) x.0) fails)
+          fails_as silent f _ _ is (fails_then silent f (part kept s) (λ x. collected_then add kept x.1 (λ now. up_to_end add part n now x.1) x.0) fails)
 
   -- one part and then the others, if each takes a token
   rest_less : (n : ℕ) (kept : S) (s rest : Stream) (o : Option X) (x : S × Stream) → length rest.tokens < length s.tokens
       → ((now : S) → up_to_end add part n now rest ≡ Ok x → length x.1.tokens < length rest.tokens)
-      → kept_then add kept rest (λ now. up_to_end add part n now rest) o ≡ Ok x → length x.1.tokens < length s.tokens
+      → collected_then add kept rest (λ now. up_to_end add part n now rest) o ≡ Ok x → length x.1.tokens < length s.tokens
   rest_less n kept s rest None x less more e = subst (λ (y : S × Stream). length y.1.tokens < length s.tokens) (ok_is (kept, rest) x e) less
   rest_less n kept s rest (Some a) x less more e = let later = more (add kept a) e in omega (arith, less, later)
 
@@ -72,5 +72,5 @@ module _ {S X : Type 0} (add : S → X → S) (part : S → Stream → Result (O
   unfolding up_to_end
   total_less takes zero kept s x e = absurd cc
   total_less takes (suc n) kept s x e =
-      let a = bind_ok (part kept s) (λ y. kept_then add kept y.1 (λ now. up_to_end add part n now y.1) y.0) x e in
+      let a = bind_ok (part kept s) (λ y. collected_then add kept y.1 (λ now. up_to_end add part n now y.1) y.0) x e in
       rest_less n kept s a.0.1 a.0.0 x (takes.less kept s a.0 a.1) (λ now h. total_less takes n now a.0.1 x h) a.2

@@ -9,9 +9,9 @@ use Rattle.tt_text.specs.Feeds.{Stream}
 use Rattle.tt_text.specs.Reading.{◌>>=◌}
 use Rattle.tt_text.proofs.Steps.{ok_is, bind_ok}
 use Rattle.tt_text.proofs.Fields.{text_is, is_text_of}
-use Rattle.tt_proof_read.specs.Pricing.{IsUnseen, AreKept}
+use Rattle.tt_proof_read.specs.Pricing.{IsUnseen, ArePriceLists}
 use Rattle.tt_proof_read.specs.Spelling.{Price, OfCourse, OfRoom, price_pieces, course_prices, room_prices, by_kind, course_piece, SpellsEach}
-use Rattle.tt_proof_read.specs.Reading.{token_at, numbered_below, new_number, Kept, Seen, seen_in, priced_in, priced_of, with_price, price_at, pair_at, next_pair_at, with_priced, with_pair, prices_at}
+use Rattle.tt_proof_read.specs.Reading.{token_at, numbered_below, new_number, PriceLists, Seen, seen_in, priced_in, priced_of, with_price, price_at, pair_at, next_pair_at, with_priced, with_pair, prices_at}
 use Rattle.tt_proof_read.specs.declared.fault.TextFault.{TextFault}
 use Rattle.tt_proof_read.specs.declared.fault.TextFault.TheVariants as fault
 use Rattle.tt_proof_read.specs.declared.format.TheConstants.{COURSE_LETTER, MAX_PRICE, ROOM_LETTER}
@@ -58,7 +58,7 @@ abbrev Spell : Priced × ℕ → List Piece → Type 0
 Spell x ps = ps ≡ price_pieces (price_is x)
 
 -- a price that may come next
-abbrev IsNext : Sizes → Kept → Priced × ℕ → Type 0
+abbrev IsNext : Sizes → PriceLists → Priced × ℕ → Type 0
 IsNext sizes kept x = IsUnseen sizes (seen_in kept) x.0 × (x.1 ≤ MAX_PRICE)
 
 -- ---- one token
@@ -115,7 +115,7 @@ priced_reads_of sizes seen x t small next piece = rw (not_last x t.text piece, p
 -- ---- one pair
 
 -- a pair that was read, or the end, is spelled
-pair_took : (sizes : Sizes) (kept : Kept) (s : Stream) (x : Option (Priced × ℕ) × Stream) → next_pair_at sizes kept s ≡ Ok x → PartTook with_pair (next_pair_at sizes) Spell (IsNext sizes) last kept s x.0 x.1
+pair_took : (sizes : Sizes) (kept : PriceLists) (s : Stream) (x : Option (Priced × ℕ) × Stream) → next_pair_at sizes kept s ≡ Ok x → PartTook with_pair (next_pair_at sizes) Spell (IsNext sizes) last kept s x.0 x.1
 unfolding pair_at
 pair_took sizes kept s x e =
     let t = bind_ok (token_at s) _ x e in
@@ -140,7 +140,7 @@ pair_took sizes kept s x e =
         (priced_piece y ∷ Number u.0.0 ∷ [], two y u.0.0, took_then s mid u.0.1 (priced_piece y ∷ []) (Number u.0.0 ∷ []) took p.0, (next, p.1))
 
 -- a pair that is spelled is read
-pair_reads : (sizes : Sizes) → AreSmall sizes → (kept : Kept) (x : Priced × ℕ) (ps : List Piece) (s after : Stream) → Spell x ps → IsNext sizes kept x → Took s ps after → next_pair_at sizes kept s ≡ Ok (Some x, after)
+pair_reads : (sizes : Sizes) → AreSmall sizes → (kept : PriceLists) (x : Priced × ℕ) (ps : List Piece) (s after : Stream) → Spell x ps → IsNext sizes kept x → Took s ps after → next_pair_at sizes kept s ≡ Ok (Some x, after)
 unfolding pair_at
 pair_reads sizes small kept x ps s after spell next took = by_priced x.0 (subst (λ qs. Took s qs after) spell took) next.0
   where
@@ -154,7 +154,7 @@ pair_reads sizes small kept x ps s after spell next took = by_priced x.0 (subst 
     by_priced (Room r) t new = by_pieces (Room r) t new
 
 -- the end that is spelled is read
-last_reads : (sizes : Sizes) (kept : Kept) (s after : Stream) → Took s (last ∷ []) after → next_pair_at sizes kept s ≡ Ok (None, after)
+last_reads : (sizes : Sizes) (kept : PriceLists) (s after : Stream) → Took s (last ∷ []) after → next_pair_at sizes kept s ≡ Ok (None, after)
 unfolding pair_at
 last_reads sizes kept s after took =
     let f = first_of_pieces last [] s after took in
@@ -164,7 +164,7 @@ last_reads sizes kept s after took =
 -- -- the properties of the prices
 
 -- the pair of two lists
-abbrev make : List (ℕ × ℕ) → List (ℕ × ℕ) → Kept
+abbrev make : List (ℕ × ℕ) → List (ℕ × ℕ) → PriceLists
 make courses rooms = (courses, rooms)
 
 -- pairs of equal lists are equal
@@ -172,26 +172,26 @@ both : (a b c d : List (ℕ × ℕ)) → a ≡ c → b ≡ d → make a b ≡ ma
 both a b c d e f = ap (λ l. make l b) e ∙ ap (make c) f
 
 -- another pair
-more_pairs : (kept : Kept) (y : Priced) (u : ℕ) (ps : List Price)
+more_pairs : (kept : PriceLists) (y : Priced) (u : ℕ) (ps : List Price)
     → make ((with_priced kept y u).0 ++ course_prices ps) ((with_priced kept y u).1 ++ room_prices ps) ≡ make (kept.0 ++ course_prices (price_of y u ∷ ps)) (kept.1 ++ room_prices (price_of y u ∷ ps))
 more_pairs kept (Course c) u ps = both _ _ _ _ (append_assoc kept.0 ((c, u) ∷ []) (course_prices ps)) refl
 more_pairs kept (Room r) u ps = both _ _ _ _ refl (append_assoc kept.1 ((r, u) ∷ []) (room_prices ps))
 
 -- the lists that result from pairs
-fold_pairs : (kept : Kept) (xs : List (Priced × ℕ)) → fold with_pair kept xs ≡ make (kept.0 ++ course_prices (map price_is xs)) (kept.1 ++ room_prices (map price_is xs))
+fold_pairs : (kept : PriceLists) (xs : List (Priced × ℕ)) → fold with_pair kept xs ≡ make (kept.0 ++ course_prices (map price_is xs)) (kept.1 ++ room_prices (map price_is xs))
 fold_pairs kept [] = both kept.0 kept.1 (kept.0 ++ []) (kept.1 ++ []) (sym (append-nil kept.0)) (sym (append-nil kept.1))
 fold_pairs kept (x ∷ xs) = fold_pairs (with_pair kept x) xs ∙ more_pairs kept x.0 x.1 (map price_is xs)
 
 -- if each pair may come next, all are right
-each_kept : (sizes : Sizes) (kept : Kept) (xs : List (Priced × ℕ)) → AreKept sizes kept → EachNext with_pair (next_pair_at sizes) Spell (IsNext sizes) last kept xs → AreKept sizes (fold with_pair kept xs)
+each_kept : (sizes : Sizes) (kept : PriceLists) (xs : List (Priced × ℕ)) → ArePriceLists sizes kept → EachNext with_pair (next_pair_at sizes) Spell (IsNext sizes) last kept xs → ArePriceLists sizes (fold with_pair kept xs)
 each_kept sizes kept [] are each = are
 each_kept sizes kept (x ∷ xs) are each = each_kept sizes (with_pair kept x) xs (kept_push sizes kept x.0 x.1 are each.0.0 each.0.1) each.1
 
 -- if all pairs are right, each may come next
-next_each : (sizes : Sizes) (kept : Kept) (xs : List (Priced × ℕ)) → AreKept sizes (fold with_pair kept xs) → EachNext with_pair (next_pair_at sizes) Spell (IsNext sizes) last kept xs
+next_each : (sizes : Sizes) (kept : PriceLists) (xs : List (Priced × ℕ)) → ArePriceLists sizes (fold with_pair kept xs) → EachNext with_pair (next_pair_at sizes) Spell (IsNext sizes) last kept xs
 next_each sizes kept [] are = tt
 next_each sizes kept (x ∷ xs) are =
-    (kept_before sizes kept x.0 x.1 (course_prices (map price_is xs)) (room_prices (map price_is xs)) (subst (AreKept sizes) (fold_pairs (with_pair kept x) xs) are), next_each sizes (with_pair kept x) xs are)
+    (kept_before sizes kept x.0 x.1 (course_prices (map price_is xs)) (room_prices (map price_is xs)) (subst (ArePriceLists sizes) (fold_pairs (with_pair kept x) xs) are), next_each sizes (with_pair kept x) xs are)
 
 -- the pieces of pairs are their only spelling
 body_is : (xs : List (Priced × ℕ)) (body : List Piece) → SpellsEach Spell xs body → body ≡ flat_map price_pieces (map price_is xs)
@@ -220,14 +220,14 @@ prices_pairs (x ∷ xs) = ap (λ y. y ∷ map price_is (map pair_of xs)) (price_
 
 -- ---- the prices
 
-pub record PricesTook (sizes : Sizes) (s : Stream) (x : Kept × Stream) : Type 0 where
+pub record PricesTook (sizes : Sizes) (s : Stream) (x : PriceLists × Stream) : Type 0 where
   pub prices : List Price
   pub kinds : by_kind prices ≡ x.0
   pub took : Took s (flat_map price_pieces prices ++ Text (codes "/") ∷ []) x.1
-  pub kept : AreKept sizes x.0
+  pub kept : ArePriceLists sizes x.0
 
 -- prices that were read are spelled
-pub prices_took : (sizes : Sizes) (s : Stream) (x : Kept × Stream) → prices_at sizes s ≡ Ok x → PricesTook sizes s x
+pub prices_took : (sizes : Sizes) (s : Stream) (x : PriceLists × Stream) → prices_at sizes s ≡ Ok x → PricesTook sizes s x
 unfolding prices_at
 prices_took sizes s x e =
     let h = series_took with_pair (next_pair_at sizes) Spell (IsNext sizes) last (pair_took sizes) (suc (length s.tokens)) ([], []) s x e in
@@ -236,11 +236,11 @@ prices_took sizes s x e =
       prices = map price_is h.items;
       kinds = sym shown;
       took = subst (λ ps. Took s (ps ++ last ∷ []) x.1) (body_is h.items h.body h.spells) h.took;
-      kept = subst (AreKept sizes) (sym h.list) (each_kept sizes ([], []) h.items (kept_nothing sizes ([], []) refl) h.each);
+      kept = subst (ArePriceLists sizes) (sym h.list) (each_kept sizes ([], []) h.items (kept_nothing sizes ([], []) refl) h.each);
     }
 
 -- prices that are spelled are read
-pub prices_read : (sizes : Sizes) (prices : List Price) (s after : Stream) → AreSmall sizes → AreKept sizes (course_prices prices, room_prices prices)
+pub prices_read : (sizes : Sizes) (prices : List Price) (s after : Stream) → AreSmall sizes → ArePriceLists sizes (course_prices prices, room_prices prices)
     → Took s (flat_map price_pieces prices ++ Text (codes "/") ∷ []) after → prices_at sizes s ≡ Ok ((course_prices prices, room_prices prices), after)
 unfolding prices_at
 prices_read sizes prices s after small are took =
@@ -249,5 +249,5 @@ prices_read sizes prices s after small are took =
     let shown : fold with_pair ([], []) pairs ≡ make (course_prices prices) (room_prices prices) = fold_pairs ([], []) pairs ∙ ap (λ xs. make (course_prices xs) (room_prices xs)) back in
     let all = subst (λ (xs : List Price). Took s (flat_map price_pieces xs ++ last ∷ []) after) (sym back) took in
     series_reads with_pair (next_pair_at sizes) Spell (IsNext sizes) last (pair_takes sizes) (pair_reads sizes small) (last_reads sizes) (suc (length s.tokens)) ([], []) pairs (flat_map price_pieces (map price_is pairs)) s after
-    (omega arith) (next_each sizes ([], []) pairs (subst (AreKept sizes) (sym shown) are)) (body_spells pairs) all
-    ∙ ap (λ (k : Kept). let r : Result (Kept × Stream) TextFault = Ok (k, after) in r) shown
+    (omega arith) (next_each sizes ([], []) pairs (subst (ArePriceLists sizes) (sym shown) are)) (body_spells pairs) all
+    ∙ ap (λ (k : PriceLists). let r : Result (PriceLists × Stream) TextFault = Ok (k, after) in r) shown

@@ -9,8 +9,8 @@ use Rattle.tt_lists.proofs.Members.{each_of_append}
 use Rattle.tt_leaf_rules.specs.Ranges.{ArePrices, AreBelow}
 use Rattle.tt_text.specs.Feeds.{Stream}
 use Rattle.tt_proof_read.specs.Contract.{State, IsReading}
-use Rattle.tt_proof_read.specs.Pricing.{with_seen, IsUnseen, AreKept}
-use Rattle.tt_proof_read.specs.Reading.{Kept, Seen, seen_in, with_priced, with_pair, pair_at, next_pair_at, prices_at}
+use Rattle.tt_proof_read.specs.Pricing.{with_seen, IsUnseen, ArePriceLists}
+use Rattle.tt_proof_read.specs.Reading.{PriceLists, Seen, seen_in, with_priced, with_pair, pair_at, next_pair_at, prices_at}
 use Rattle.tt_proof_read.specs.declared.fault.TextFault.{TextFault}
 use Rattle.tt_proof_read.specs.declared.format.TheConstants.{MAX_PRICE}
 use Rattle.tt_proof_read.specs.declared.prices.Priced.{Priced}
@@ -33,7 +33,7 @@ prices_push count prices n u are below new = record {
 }
 
 -- another pair
-pub kept_push : (sizes : Sizes) (kept : Kept) (x : Priced) (u : ℕ) → AreKept sizes kept → IsUnseen sizes (seen_in kept) x → u ≤ MAX_PRICE → AreKept sizes (with_priced kept x u)
+pub kept_push : (sizes : Sizes) (kept : PriceLists) (x : Priced) (u : ℕ) → ArePriceLists sizes kept → IsUnseen sizes (seen_in kept) x → u ≤ MAX_PRICE → ArePriceLists sizes (with_priced kept x u)
 kept_push sizes kept (Course c) u are new within = record {
   courses = prices_push sizes.courses kept.0 c u are.courses new.0 new.1;
   rooms = are.rooms;
@@ -48,8 +48,8 @@ kept_push sizes kept (Room r) u are new within = record {
 }
 
 -- no pair
-pub kept_nothing : (sizes : Sizes) (kept : Kept) → kept ≡ ([], []) → AreKept sizes kept
-kept_nothing sizes kept e = subst (AreKept sizes) (sym e) (record {
+pub kept_nothing : (sizes : Sizes) (kept : PriceLists) → kept ≡ ([], []) → ArePriceLists sizes kept
+kept_nothing sizes kept e = subst (ArePriceLists sizes) (sym e) (record {
   courses = record { within = All-nil (λ m. m < sizes.courses); once = refl };
   rooms = record { within = All-nil (λ m. m < sizes.rooms); once = refl };
   course_prices = All-nil (λ (k : ℕ × ℕ). k.1 ≤ MAX_PRICE);
@@ -57,7 +57,7 @@ kept_nothing sizes kept e = subst (AreKept sizes) (sym e) (record {
 })
 
 -- before the first pair
-pub prices_left : (sizes : Sizes) (kept : Kept) (s : Stream) → kept ≡ ([], []) → IsLeft with_pair (next_pair_at sizes) kept s (prices_at sizes s)
+pub prices_left : (sizes : Sizes) (kept : PriceLists) (s : Stream) → kept ≡ ([], []) → IsLeft with_pair (next_pair_at sizes) kept s (prices_at sizes s)
 unfolding prices_at
 prices_left sizes kept s e = subst (λ k. IsLeft with_pair (next_pair_at sizes) k s (prices_at sizes s)) (sym e) (all_left with_pair (next_pair_at sizes) ([], []) s)
 
@@ -75,7 +75,7 @@ price_before count before n u xs are = (
 )
 
 -- if more prices follow, the next one is for a number without a price, and within the limit
-pub kept_before : (sizes : Sizes) (kept : Kept) (x : Priced) (u : ℕ) (courses rooms : List (ℕ × ℕ)) → AreKept sizes ((with_priced kept x u).0 ++ courses, (with_priced kept x u).1 ++ rooms) → IsUnseen sizes (seen_in kept) x × (u ≤ MAX_PRICE)
+pub kept_before : (sizes : Sizes) (kept : PriceLists) (x : Priced) (u : ℕ) (courses rooms : List (ℕ × ℕ)) → ArePriceLists sizes ((with_priced kept x u).0 ++ courses, (with_priced kept x u).1 ++ rooms) → IsUnseen sizes (seen_in kept) x × (u ≤ MAX_PRICE)
 kept_before sizes kept (Course c) u courses rooms are =
     let grouped : (kept.0 ++ (c, u) ∷ []) ++ courses ≡ kept.0 ++ (c, u) ∷ courses = append_assoc kept.0 ((c, u) ∷ []) courses in (
       price_before sizes.courses kept.0 c u courses (subst (ArePrices sizes.courses) grouped are.courses),
@@ -92,13 +92,13 @@ abbrev seen : List ℕ → List ℕ → Seen
 seen courses rooms = (courses, rooms)
 
 -- the numbers of the pairs and of another one
-pub seen_push : (kept : Kept) (x : Priced) (u : ℕ) → with_seen (seen_in kept) x ≡ seen_in (with_priced kept x u)
+pub seen_push : (kept : PriceLists) (x : Priced) (u : ℕ) → with_seen (seen_in kept) x ≡ seen_in (with_priced kept x u)
 seen_push kept (Course c) u = ap (λ (l : List ℕ). seen l (map (λ k. k.0) kept.1)) (sym (map-append (λ k. k.0) kept.0 ((c, u) ∷ [])))
 seen_push kept (Room r) u = ap (λ (l : List ℕ). seen (map (λ k. k.0) kept.0) l) (sym (map-append (λ k. k.0) kept.1 ((r, u) ∷ [])))
 
 -- -- one iteration
 
 -- reading a pair after the numbers seen is reading the next part after the stored pairs
-pub pair_kept : (sizes : Sizes) (now next : State) (result : Result (Option (Priced × ℕ)) TextFault) (listed : Seen) (kept : Kept) → listed ≡ seen_in kept → IsReading now next (λ o s. (o, s)) result (pair_at sizes listed)
+pub pair_kept : (sizes : Sizes) (now next : State) (result : Result (Option (Priced × ℕ)) TextFault) (listed : Seen) (kept : PriceLists) → listed ≡ seen_in kept → IsReading now next (λ o s. (o, s)) result (pair_at sizes listed)
     → ReadsPart with_pair (next_pair_at sizes) (prices_at sizes) now next result kept
 pair_kept sizes now next result listed kept same read = subst (λ l. IsReading now next (λ o s. (o, s)) result (pair_at sizes l)) same read

@@ -4,7 +4,7 @@ use Rattle.std.specs.Prelude.{fold}
 use Rattle.tt_text.specs.Pieces.{Piece}
 use Rattle.tt_text.specs.Feeds.{Stream}
 use Rattle.tt_text.proofs.Steps.{ok_is, bind_ok}
-use Rattle.tt_proof_read.specs.Reading.{kept_then, up_to_end}
+use Rattle.tt_proof_read.specs.Reading.{collected_then, up_to_end}
 use Rattle.tt_proof_read.specs.Spelling.{SpellsEach}
 use Rattle.tt_proof_read.specs.declared.fault.TextFault.{TextFault}
 use Rattle.tt_proof_read.proofs.Loops.{TakesTokens}
@@ -32,7 +32,7 @@ module _ {S X : Type 0} (add : S → X → S) (part : S → Stream → Result (O
 
   -- one part and then the others
   then_took : (n : ℕ) (kept : S) (s rest : Stream) (o : Option X) (y : S × Stream) → PartTook kept s o rest → ((now : S) → up_to_end add part n now rest ≡ Ok y → SeriesTook now rest y)
-      → kept_then add kept rest (λ now. up_to_end add part n now rest) o ≡ Ok y → SeriesTook kept s y
+      → collected_then add kept rest (λ now. up_to_end add part n now rest) o ≡ Ok y → SeriesTook kept s y
   then_took n kept s rest None y took more e =
       subst (SeriesTook kept s) (ok_is (kept, rest) y e) (record { items = []; list = refl; body = []; spells = refl; took = took; each = tt })
   then_took n kept s rest (Some x) y took more e =
@@ -52,7 +52,7 @@ module _ {S X : Type 0} (add : S → X → S) (part : S → Stream → Result (O
   unfolding up_to_end
   series_took law zero kept s y e = absurd cc
   series_took law (suc n) kept s y e =
-      let x = bind_ok (part kept s) (λ x. kept_then add kept x.1 (λ now. up_to_end add part n now x.1) x.0) y e in
+      let x = bind_ok (part kept s) (λ x. collected_then add kept x.1 (λ now. up_to_end add part n now x.1) x.0) y e in
       then_took n kept s x.0.1 x.0.0 y (law kept s x.0 x.1) (λ now h. series_took law n now x.0.1 y h) x.2
 
   module _ (takes : TakesTokens add part)

@@ -7,7 +7,7 @@ use Rattle.tt_text.specs.declared.feed.FeedFault.{FeedFault}
 use Rattle.tt_text.proofs.Steps.{ok_is, bind_ok}
 use Rattle.tt_instance.proofs.Shared.{NoneAt, Shared, Apart, Next, Stays, SameVerdict}
 use Rattle.tt_proof_read.specs.Beginnings.{token_offset}
-use Rattle.tt_proof_read.specs.Reading.{ended_as, first_of, token_at, one_at, kept_then, up_to_end}
+use Rattle.tt_proof_read.specs.Reading.{ended_as, first_of, token_at, one_at, collected_then, up_to_end}
 use Rattle.tt_proof_read.specs.declared.fault.TextFault.{TextFault}
 
 -- ---- streams
@@ -172,7 +172,7 @@ one_alike make same = then_token _ _ (λ t n. then_verdict (make t) (make (recor
 
 module _ (at : ℕ) {S X : Type 0} (add : S → X → S) (part : S → Stream → Result (Option X × Stream) TextFault) (alike : (kept : S) → ReadsAlike at (Unit {0}) (part kept) (part kept)) where
   abbrev more_of : ℕ → S → Option X × Stream → Result (S × Stream) TextFault
-  more_of n kept x = kept_then add kept x.1 (λ now. up_to_end add part n now x.1) x.0
+  more_of n kept x = collected_then add kept x.1 (λ now. up_to_end add part n now x.1) x.0
 
   more_stays : (n : ℕ) (kept : S) → ((now : S) (s : Stream) → NoneIn at s → StaysAt at (NoneLeft at) (up_to_end add part n now s))
       → (x : Option X) (s : Stream) → NoneIn at s → StaysAt at (NoneLeft at) (more_of n kept (x, s))

@@ -81,7 +81,7 @@ open_over nodes i node below so_far whole =
     none_is_not 0 (sym (so_far ∙ none) ∙ preorder_fills nodes whole)
 
 -- at the end, no place is open exactly if the nodes are one tree
-pub open_told : (nodes : List Node) (i places : ℕ) → length nodes ≤ i → open_after 1 nodes ≡ open_after places (drop i nodes) → IsTrue (places == 0) ↔ IsPreorder nodes
-open_told nodes i places past so_far =
+pub open_reported : (nodes : List Node) (i places : ℕ) → length nodes ≤ i → open_after 1 nodes ≡ open_after places (drop i nodes) → IsTrue (places == 0) ↔ IsPreorder nodes
+open_reported nodes i places past so_far =
     let left : open_after 1 nodes ≡ Some places = so_far ∙ at_drop_all (open_after places) nodes i past in
     (λ t. filled_tree nodes (left ∙ ap Some (eqb-true places 0 t)), λ whole. eq-eqb places 0 (some_is places 0 (sym left ∙ preorder_fills nodes whole)))

@@ -15,15 +15,15 @@ pub record State : Type 0 where
   pub failed : Bool
 
 -- If the feed had no fault before, a read has failed since then exactly if the result says so, and after a value the feed has no fault.
-abbrev pub TellsReads : {X : Type 0} → Option FeedFault → Bool → Option FeedFault → Bool → Result X TextFault → Type 0
-TellsReads before failed after fails (Ok x) = before ≡ None → (after ≡ None) × (fails ≡ failed)
-TellsReads before failed after fails (Err f) = before ≡ None → fails ≡ (if is_failed_read f then true else failed)
+abbrev pub ReportsReads : {X : Type 0} → Option FeedFault → Bool → Option FeedFault → Bool → Result X TextFault → Type 0
+ReportsReads before failed after fails (Ok x) = before ≡ None → (after ≡ None) × (fails ≡ failed)
+ReportsReads before failed after fails (Err f) = before ≡ None → fails ≡ (if is_failed_read f then true else failed)
 
 -- A reading from one state to the other, seen by `view`. If the source's bytes are known, the result and the stream after it are what reading
 -- gives for the stream before it.
 pub record IsReading {X Z : Type 0} (old new : State) (view : X → Stream → Z) (result : Result X TextFault) (reading : Stream → Result Z TextFault) : Type 0 where
   pub known : StaysKnown old.remaining new.remaining
-  pub failed : TellsReads old.fed.fault old.failed new.fed.fault new.failed result
+  pub failed : ReportsReads old.fed.fault old.failed new.fed.fault new.failed result
   pub gives : is_some old.remaining ≡ true → Gives (λ x. view x (stream_at new.fed new.remaining)) result (reading (stream_at old.fed old.remaining))
   pub cut_short : AgreesWhenCut old.fed old.remaining new.fed new.remaining view result reading
 

@@ -25,12 +25,12 @@ is_failed_read (fault.Feed feed.Read) = true
 is_failed_read _ = false
 
 -- No failed read is reported.
-abbrev pub TellsNoFailedRead : {X : Type 0} → Result X TextFault → Type 0
-TellsNoFailedRead result = IfErr result (λ f. is_failed_read f ≡ false)
+abbrev pub ReportsNoFailedRead : {X : Type 0} → Result X TextFault → Type 0
+ReportsNoFailedRead result = IfErr result (λ f. is_failed_read f ≡ false)
 
 -- Being out of memory is not reported.
-abbrev pub TellsNoOutOfMemory : {X : Type 0} → Result X TextFault → Type 0
-TellsNoOutOfMemory result = IfErr result (λ f. ¬ (f ≡ fault.OutOfMemory))
+abbrev pub ReportsNoOutOfMemory : {X : Type 0} → Result X TextFault → Type 0
+ReportsNoOutOfMemory result = IfErr result (λ f. ¬ (f ≡ fault.OutOfMemory))
 
 -- The result, seen by `view`, is what the text gives, except for silent faults.
 abbrev pub Gives : {X Y : Type 0} → (X → Y) → Result X TextFault → Result Y TextFault → Type 0

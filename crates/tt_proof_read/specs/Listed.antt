@@ -11,4 +11,4 @@ pub record Listed : Type 0 where
 -- The marks say which numbers are listed.
 pub record AreMarked (marks : List Bool) (numbers : List ℕ) : Type 0 where
   pub below : All (λ n. n < length marks) numbers
-  pub told : (k : ℕ) → slice_index_or marks k false ≡ has_number numbers k
+  pub reported : (k : ℕ) → slice_index_or marks k false ≡ has_number numbers k

@@ -4,7 +4,7 @@ use Rattle.std.specs.Prelude.{◌≡◌, ℕ, ◌<◌, ◌≤◌, false, [], ◌
 use Rattle.tt_lists.specs.Words.{has_number}
 use Rattle.tt_leaf_rules.specs.Ranges.{ArePrices}
 use Rattle.tt_proof_read.specs.declared.format.TheConstants.{MAX_PRICE}
-use Rattle.tt_proof_read.specs.Reading.{Kept, Seen}
+use Rattle.tt_proof_read.specs.Reading.{PriceLists, Seen}
 use Rattle.tt_proof_read.specs.declared.prices.Priced.{Priced}
 use Rattle.tt_proof_read.specs.declared.prices.Priced.TheVariants.{Course, Room}
 use Rattle.tt_proof_read.specs.declared.prices.Prices.{Prices}
@@ -12,8 +12,8 @@ use Rattle.tt_proof_read.specs.declared.sizes.Sizes.{Sizes}
 use Rattle.tt_proof_read.specs.declared.tables.Tables.{Tables}
 
 -- The prices as two lists.
-abbrev pub kept_of : Prices → Kept
-kept_of prices = (prices.courses.items, prices.rooms.items)
+abbrev pub price_lists_of : Prices → PriceLists
+price_lists_of prices = (prices.courses.items, prices.rooms.items)
 
 -- The numbers in the tables.
 abbrev pub seen_of : Tables → Seen
@@ -39,7 +39,7 @@ IsUnseen sizes seen (Course c) = (c < sizes.courses) × (has_number seen.0 c ≡
 IsUnseen sizes seen (Room r) = (r < sizes.rooms) × (has_number seen.1 r ≡ false)
 
 -- No course and no room occurs twice, and each price is within its limit.
-pub record AreKept (sizes : Sizes) (kept : Kept) : Type 0 where
+pub record ArePriceLists (sizes : Sizes) (kept : PriceLists) : Type 0 where
   pub courses : ArePrices sizes.courses kept.0
   pub rooms : ArePrices sizes.rooms kept.1
   pub course_prices : All (λ k. k.1 ≤ MAX_PRICE) kept.0

@@ -136,16 +136,16 @@ pattern_at sizes s = do
 -- ---- parts up to their end
 
 -- At the end, the collected value; otherwise more parts after adding the next one.
-abbrev pub kept_then : {S X : Type 0} → (S → X → S) → S → Stream → (S → Result (S × Stream) TextFault) → Option X → Result (S × Stream) TextFault
-kept_then add kept rest more None = Ok (kept, rest)
-kept_then add kept rest more (Some x) = more (add kept x)
+abbrev pub collected_then : {S X : Type 0} → (S → X → S) → S → Stream → (S → Result (S × Stream) TextFault) → Option X → Result (S × Stream) TextFault
+collected_then add kept rest more None = Ok (kept, rest)
+collected_then add kept rest more (Some x) = more (add kept x)
 
 -- The value collected from parts up to their end; each part is read given the value collected before it. Fewer than n tokens are left.
 unfoldable pub up_to_end : {S X : Type 0} → (S → X → S) → (S → Stream → Result (Option X × Stream) TextFault) → ℕ → S → Stream → Result (S × Stream) TextFault
 up_to_end add part zero kept s = Err (ended_as s.stop)
 up_to_end add part (suc n) kept s = do
   x ← part kept s
-  kept_then add kept x.1 (λ now. up_to_end add part n now x.1) x.0
+  collected_then add kept x.1 (λ now. up_to_end add part n now x.1) x.0
 
 -- ---- the courses of a clique or of slots
 
@@ -163,14 +163,14 @@ list_at sizes s = up_to_end push (listed_at sizes) (suc (length s.tokens)) [] s
 -- ---- prices of courses and of rooms
 
 -- The prices of courses, and the prices of rooms.
-abbrev pub Kept : Type 0
-Kept = List (ℕ × ℕ) × List (ℕ × ℕ)
+abbrev pub PriceLists : Type 0
+PriceLists = List (ℕ × ℕ) × List (ℕ × ℕ)
 
 -- The courses and the rooms that have a price.
 abbrev pub Seen : Type 0
 Seen = List ℕ × List ℕ
 
-abbrev pub seen_in : Kept → Seen
+abbrev pub seen_in : PriceLists → Seen
 seen_in kept = (map (λ k. k.0) kept.0, map (λ k. k.0) kept.1)
 
 abbrev pub priced_in : ℕ → Sizes → Seen → List ℕ → Result Priced TextFault
@@ -195,18 +195,18 @@ pair_at sizes seen s = do
   with_price x t.1
 
 -- A pair after those collected.
-abbrev pub next_pair_at : Sizes → Kept → Stream → Result (Option (Priced × ℕ) × Stream) TextFault
+abbrev pub next_pair_at : Sizes → PriceLists → Stream → Result (Option (Priced × ℕ) × Stream) TextFault
 next_pair_at sizes kept s = pair_at sizes (seen_in kept) s
 
-abbrev pub with_priced : Kept → Priced → ℕ → Kept
+abbrev pub with_priced : PriceLists → Priced → ℕ → PriceLists
 with_priced kept (priced.Course c) u = (push kept.0 (c, u), kept.1)
 with_priced kept (priced.Room r) u = (kept.0, push kept.1 (r, u))
 
-abbrev pub with_pair : Kept → Priced × ℕ → Kept
+abbrev pub with_pair : PriceLists → Priced × ℕ → PriceLists
 with_pair kept x = with_priced kept x.0 x.1
 
 -- Pairs up to `/`.
-unfoldable pub prices_at : Sizes → Stream → Result (Kept × Stream) TextFault
+unfoldable pub prices_at : Sizes → Stream → Result (PriceLists × Stream) TextFault
 prices_at sizes s = up_to_end with_pair (next_pair_at sizes) (suc (length s.tokens)) ([], []) s
 
 -- ---- claims

@@ -3,7 +3,7 @@
 ghost use Rattle.std.specs.Prelude.{◌<◌, IfOk, IfSome, All};
 ghost use Rattle.tt_text.specs.Feeds.{room_of};
 ghost use Rattle.tt_proof_read.specs.Contract.{ReadsAs};
-ghost use Rattle.tt_proof_read.specs.Faults.{TellsNoFailedRead, Gives};
+ghost use Rattle.tt_proof_read.specs.Faults.{ReportsNoFailedRead, Gives};
 ghost use Rattle.tt_proof_read.specs.Pricing.{AreTables};
 ghost use Rattle.tt_proof_read.specs.Readers.{IsWordIn, IsClaimAt};
 ghost use Rattle.tt_proof_read.specs.Reading.{claim_word_of, claim_after_word, claim_at, claims_at};
@@ -33,7 +33,7 @@ pub enum ClaimWord {
 fn claim_word(text: &[u8], at: usize, version: u8) -> Result<Option<ClaimWord>, TextFault>
     ensures read { Gives (λ w. w) result (claim_word_of version (record { text = text.now; at = at })) }
     ensures within { IfOk result (λ w. IfSome w (IsWordIn version)) }
-    ensures unread { TellsNoFailedRead result }
+    ensures unread { ReportsNoFailedRead result }
 {
     match text {
         b";" => Ok(None),

@@ -4,7 +4,7 @@ ghost use Rattle.std.specs.Prelude.{◌≡◌, ◌≤◌, ◌<◌, None, IfOk};
 ghost use Rattle.tt_text.specs.Feeds.{room_of};
 ghost use Rattle.tt_text.specs.Numbers.{number_of};
 ghost use Rattle.tt_proof_read.specs.Contract.{ReadsAs, ReadsPast};
-ghost use Rattle.tt_proof_read.specs.Faults.{TellsNoFailedRead, TellsNoOutOfMemory, Gives};
+ghost use Rattle.tt_proof_read.specs.Faults.{ReportsNoFailedRead, ReportsNoOutOfMemory, Gives};
 ghost use Rattle.tt_proof_read.specs.Reading.{token_at, word_at, numbered_below, index_of, course_at, curriculum_at, priced_as, price_at};
 
 use crate::fault::{TextFault, Word};
@@ -17,7 +17,7 @@ use tt_text::{Feed, NumberFault, Source, Token, number};
 #[inline(always)]
 pub fn token<R: Source>(feed: &mut Feed, source: &mut R) -> Result<usize, TextFault>
     ensures read { ReadsAs R.Source feed.old source.old feed.new source.new (λ at. record { text = feed.new.token; at = at }) result token_at }
-    ensures memory { feed.old.fault ≡ None → TellsNoOutOfMemory result }
+    ensures memory { feed.old.fault ≡ None → ReportsNoOutOfMemory result }
     ensures forward { IfOk result (λ _. room_of feed.new < room_of feed.old) }
 {
     match feed.next(source) {
@@ -34,7 +34,7 @@ pub fn token<R: Source>(feed: &mut Feed, source: &mut R) -> Result<usize, TextFa
 #[tactic(auto, unfolding(crate::specs::Reading::word_at))]
 pub fn read_word<R: Source>(feed: &mut Feed, source: &mut R, word: Word) -> Result<(), TextFault>
     ensures read { ReadsPast R.Source feed.old source.old feed.new source.new result (word_at word) }
-    ensures memory { feed.old.fault ≡ None → TellsNoOutOfMemory result }
+    ensures memory { feed.old.fault ≡ None → ReportsNoOutOfMemory result }
 {
     let at = token(feed, source)?;
     if word.text() == feed.token() {
@@ -50,7 +50,7 @@ pub fn read_word<R: Source>(feed: &mut Feed, source: &mut R, word: Word) -> Resu
 pub fn number_below(digits: &[u8], at: usize, count: u32) -> Result<u32, TextFault>
     ensures read { Gives (λ n. n) result (numbered_below at count digits.now) }
     ensures within { IfOk result (λ n. n < count) }
-    ensures unread { TellsNoFailedRead result }
+    ensures unread { ReportsNoFailedRead result }
 {
     match number(&Token { bytes: digits, at }, MAX_INDEX) {
         Ok(n) => {
@@ -71,7 +71,7 @@ pub fn number_below(digits: &[u8], at: usize, count: u32) -> Result<u32, TextFau
 pub fn index(text: &[u8], at: usize, letter: u8, count: u32) -> Result<u32, TextFault>
     ensures read { Gives (λ n. n) result (index_of letter count (record { text = text.now; at = at })) }
     ensures within { IfOk result (λ n. n < count) }
-    ensures unread { TellsNoFailedRead result }
+    ensures unread { ReportsNoFailedRead result }
 {
     match text.split_first() {
         Some((first, digits)) => {
@@ -122,7 +122,7 @@ pub fn read_curriculum<R: Source>(
 fn price(text: &[u8], at: usize) -> Result<u32, TextFault>
     ensures read { Gives (λ u. u) result (priced_as at (number_of MAX_PRICE text.now)) }
     ensures within { IfOk result (λ u. u ≤ MAX_PRICE) }
-    ensures unread { TellsNoFailedRead result }
+    ensures unread { ReportsNoFailedRead result }
 {
     match number(&Token { bytes: text, at }, u64::from(MAX_PRICE)) {
         Ok(points) => Ok(points as u32),

@@ -2,7 +2,7 @@
 
 ghost use Rattle.std.specs.Prelude.{◌≡◌, None};
 ghost use Rattle.tt_proof_read.specs.Contract.{ReadsAs, ReadsPast};
-ghost use Rattle.tt_proof_read.specs.Faults.{TellsNoFailedRead, TellsNoOutOfMemory, Gives};
+ghost use Rattle.tt_proof_read.specs.Faults.{ReportsNoFailedRead, ReportsNoOutOfMemory, Gives};
 ghost use Rattle.tt_proof_read.specs.Reading.{version_of, version_at, bound_of, bound_at, header_at, end_at};
 
 use crate::fault::{TextFault, Word};
@@ -14,7 +14,7 @@ use tt_text::{Feed, Source, Token, number};
 /// Returns the version in one token.
 fn version(text: &[u8], at: usize) -> Result<u8, TextFault>
     ensures read { Gives (λ v. v) result (version_of (record { text = text.now; at = at })) }
-    ensures unread { TellsNoFailedRead result }
+    ensures unread { ReportsNoFailedRead result }
 {
     match text {
         b"1" => Ok(1),
@@ -35,7 +35,7 @@ fn read_version<R: Source>(feed: &mut Feed, source: &mut R) -> Result<u8, TextFa
 #[tactic(auto, unfolding(crate::specs::Reading::bound_of))]
 fn bound(text: &[u8], at: usize) -> Result<Bound, TextFault>
     ensures read { Gives (λ b. b) result (bound_of (record { text = text.now; at = at })) }
-    ensures unread { TellsNoFailedRead result }
+    ensures unread { ReportsNoFailedRead result }
 {
     if b"none".as_slice() == text {
         return Ok(Bound::Nothing);
@@ -70,7 +70,7 @@ pub fn read_header<R: Source>(feed: &mut Feed, source: &mut R) -> Result<(u8, Bo
 #[tactic(auto, unfolding(crate::specs::Reading::end_at))]
 pub fn read_end<R: Source>(feed: &mut Feed, source: &mut R) -> Result<(), TextFault>
     ensures read { ReadsPast R.Source feed.old source.old feed.new source.new result end_at }
-    ensures memory { feed.old.fault ≡ None → TellsNoOutOfMemory result }
+    ensures memory { feed.old.fault ≡ None → ReportsNoOutOfMemory result }
 {
     read_word(feed, source, Word::End)?;
     match feed.next(source) {

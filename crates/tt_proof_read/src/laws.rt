@@ -32,6 +32,6 @@ pub fn filled_trees_are_whole()
 
 /// A leaf may appear in a proof of a version exactly if its numbers are in the range of the instance, it is within the limits and its claims
 /// belong to the version.
-pub fn leaves_stand_in_proofs()
+pub fn leaves_in_proofs()
     ensures { (p : Problem) (version : ℕ) (leaf : Leaf) → IsLeaf p version leaf ↔ (IsLeafOf p leaf × IsShortLeaf leaf × IsLeafIn version leaf) }
 {}

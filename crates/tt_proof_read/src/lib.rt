@@ -25,7 +25,7 @@ pub use format::{
     COURSE_LETTER, CURRICULUM_LETTER, DAY_LETTER, MAX_POINTS, MAX_PRICE, MAX_PROOF_NODES,
     PERIOD_LETTER, ROOM_LETTER,
 };
-pub use laws::{filled_trees_are_whole, leaves_stand_in_proofs, read_proofs_are_spelled};
+pub use laws::{filled_trees_are_whole, leaves_in_proofs, read_proofs_are_spelled};
 pub use node::Node;
 pub use reader::NodeReader;
 pub use sizes::Sizes;

@@ -5,7 +5,7 @@ ghost use Rattle.tt_lists.specs.Words.{each_two, has_number};
 ghost use Rattle.tt_leaf_rules.specs.Ranges.{AreBelow};
 ghost use Rattle.tt_text.specs.Feeds.{room_of};
 ghost use Rattle.tt_proof_read.specs.Contract.{ReadsAs};
-ghost use Rattle.tt_proof_read.specs.Faults.{TellsNoFailedRead, Gives};
+ghost use Rattle.tt_proof_read.specs.Faults.{ReportsNoFailedRead, Gives};
 ghost use Rattle.tt_proof_read.specs.Reading.{listed_of, listed_at, list_at};
 
 use crate::fault::TextFault;
@@ -23,7 +23,7 @@ fn listed(text: &[u8], at: usize, sizes: Sizes, seen: &Seen) -> Result<Option<u3
     ensures read { Gives (λ c. c) result (listed_of sizes seen.now.numbers (record { text = text.now; at = at })) }
     ensures within { IfOk result (λ c. IfSome c (λ n. n < sizes.courses)) }
     ensures new { IfOk result (λ c. IfSome c (λ n. has_number seen.now.numbers n ≡ false)) }
-    ensures unread { TellsNoFailedRead result }
+    ensures unread { ReportsNoFailedRead result }
 {
     if b";".as_slice() == text {
         return Ok(None);

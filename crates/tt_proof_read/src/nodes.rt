@@ -2,7 +2,7 @@
 
 ghost use Rattle.std.specs.Prelude.{◌<◌, IfOk};
 ghost use Rattle.tt_proof_read.specs.Contract.{ReadsAs};
-ghost use Rattle.tt_proof_read.specs.Faults.{TellsNoFailedRead, Gives};
+ghost use Rattle.tt_proof_read.specs.Faults.{ReportsNoFailedRead, Gives};
 ghost use Rattle.tt_proof_read.specs.Pricing.{AreTables};
 ghost use Rattle.tt_proof_read.specs.Readers.{IsNodeAt};
 ghost use Rattle.tt_proof_read.specs.Reading.{node_word_of, node_after_word, node_at};
@@ -34,7 +34,7 @@ pub enum NodeWord {
 /// Returns the word of a node, in one token.
 fn node_word(text: &[u8], at: usize) -> Result<NodeWord, TextFault>
     ensures read { Gives (λ w. w) result (node_word_of (record { text = text.now; at = at })) }
-    ensures unread { TellsNoFailedRead result }
+    ensures unread { ReportsNoFailedRead result }
 {
     match text {
         b"S" => Ok(NodeWord::Split),

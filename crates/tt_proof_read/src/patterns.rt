@@ -4,7 +4,7 @@ ghost use Rattle.std.specs.Prelude.{◌<◌, IfOk, IfSome};
 ghost use Rattle.tt_instance.specs.Problem.{Problem};
 ghost use Rattle.tt_facts_path.specs.Facts.{IsWho, IsPattern};
 ghost use Rattle.tt_proof_read.specs.Contract.{ReadsAs};
-ghost use Rattle.tt_proof_read.specs.Faults.{TellsNoFailedRead, Gives};
+ghost use Rattle.tt_proof_read.specs.Faults.{ReportsNoFailedRead, Gives};
 ghost use Rattle.tt_proof_read.specs.Sizes.{AreSizes};
 ghost use Rattle.tt_proof_read.specs.Reading.{who_in, who_at, given_of, given_at, pattern_at};
 
@@ -20,7 +20,7 @@ use tt_text::{Feed, Source};
 fn who(text: &[u8], at: usize, sizes: Sizes) -> Result<Who, TextFault>
     ensures read { Gives (λ w. w) result (who_in at sizes text.now) }
     ensures within { (p : Problem) → AreSizes p sizes → IfOk result (IsWho p) }
-    ensures unread { TellsNoFailedRead result }
+    ensures unread { ReportsNoFailedRead result }
 {
     match text.split_first() {
         Some((&COURSE_LETTER, digits)) => {
@@ -51,7 +51,7 @@ fn read_who<R: Source>(feed: &mut Feed, source: &mut R, sizes: Sizes) -> Result<
 fn given(text: &[u8], at: usize, letter: u8, count: u32) -> Result<Option<u32>, TextFault>
     ensures read { Gives (λ n. n) result (given_of letter count (record { text = text.now; at = at })) }
     ensures within { IfOk result (λ given. IfSome given (λ n. n < count)) }
-    ensures unread { TellsNoFailedRead result }
+    ensures unread { ReportsNoFailedRead result }
 {
     match text {
         b"*" => Ok(None),

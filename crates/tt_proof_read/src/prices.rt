@@ -3,8 +3,8 @@
 ghost use Rattle.std.specs.Prelude.{◌≡◌, ◌≤◌, ◌<◌, IfOk, IfSome, OnOk};
 ghost use Rattle.tt_text.specs.Feeds.{room_of};
 ghost use Rattle.tt_proof_read.specs.Contract.{ReadsAs};
-ghost use Rattle.tt_proof_read.specs.Faults.{TellsNoFailedRead, Gives};
-ghost use Rattle.tt_proof_read.specs.Pricing.{kept_of, seen_of, AreTables, IsUnseen, AreKept};
+ghost use Rattle.tt_proof_read.specs.Faults.{ReportsNoFailedRead, Gives};
+ghost use Rattle.tt_proof_read.specs.Pricing.{price_lists_of, seen_of, AreTables, IsUnseen, ArePriceLists};
 ghost use Rattle.tt_proof_read.specs.Reading.{priced_in, priced_of, pair_at, prices_at};
 
 use crate::fault::TextFault;
@@ -31,14 +31,14 @@ pub struct Prices {
 
 impl Prices {
     ghost use Rattle.std.specs.Prelude.{◌≡◌, OnOk};
-    ghost use Rattle.tt_proof_read.specs.Pricing.{kept_of, seen_of, with_seen, IsIn};
+    ghost use Rattle.tt_proof_read.specs.Pricing.{price_lists_of, seen_of, with_seen, IsIn};
     ghost use Rattle.tt_proof_read.specs.Reading.{with_priced};
 
     /// Adds a price, and adds its number to the tables.
     #[inline(always)]
     fn add(&mut self, tables: &mut Tables, priced: Priced, points: u32) -> Result<(), AllocError>
         requires { IsIn (tables.old.courses.count) (tables.old.rooms.count) priced }
-        ensures kept { OnOk result (kept_of self.new ≡ with_priced (kept_of self.old) priced points) }
+        ensures added { OnOk result (price_lists_of self.new ≡ with_priced (price_lists_of self.old) priced points) }
         ensures seen { OnOk result (seen_of tables.new ≡ with_seen (seen_of tables.old) priced) }
         ensures courses { tables.new.courses.count ≡ tables.old.courses.count }
         ensures rooms { tables.new.rooms.count ≡ tables.old.rooms.count }
@@ -62,7 +62,7 @@ impl Prices {
 fn new_priced(text: &[u8], at: usize, sizes: Sizes, tables: &Tables) -> Result<Priced, TextFault>
     ensures read { Gives (λ x. x) result (priced_in at sizes (seen_of tables.now) text.now) }
     ensures within { IfOk result (IsUnseen sizes (seen_of tables.now)) }
-    ensures unread { TellsNoFailedRead result }
+    ensures unread { ReportsNoFailedRead result }
 {
     match text.split_first() {
         Some((&COURSE_LETTER, digits)) => {
@@ -89,7 +89,7 @@ fn priced_or_end(
 ) -> Result<Option<Priced>, TextFault>
     ensures read { Gives (λ x. x) result (priced_of sizes (seen_of tables.now) (record { text = text.now; at = at })) }
     ensures within { IfOk result (λ x. IfSome x (IsUnseen sizes (seen_of tables.now))) }
-    ensures unread { TellsNoFailedRead result }
+    ensures unread { ReportsNoFailedRead result }
 {
     if b"/".as_slice() == text {
         return Ok(None);
@@ -128,9 +128,9 @@ pub fn read_prices<R: Source>(
 ) -> Result<Prices, TextFault>
     requires { AreTables sizes tables.old }
     ensures tables { AreTables sizes tables.new }
-    ensures read { ReadsAs R.Source feed.old source.old feed.new source.new (λ k. kept_of k) result (prices_at sizes) }
+    ensures read { ReadsAs R.Source feed.old source.old feed.new source.new (λ k. price_lists_of k) result (prices_at sizes) }
     ensures forward { IfOk result (λ _. room_of feed.new < room_of feed.old) }
-    ensures within { IfOk result (λ k. AreKept sizes (kept_of k)) }
+    ensures within { IfOk result (λ k. ArePriceLists sizes (price_lists_of k)) }
 {
     let mut prices = Prices {
         courses: Vec::new(alloc),

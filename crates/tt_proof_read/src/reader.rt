@@ -4,7 +4,7 @@ ghost use Rattle.std.specs.Prelude.{◌≡◌, ◌<◌, ◌==◌, true, if◌the
 ghost use Rattle.tt_text.specs.Failures.{is_err_and};
 ghost use Rattle.tt_text.specs.Feeds.{stream_at, fresh};
 ghost use Rattle.tt_proof_read.specs.Answers.{StaysKnown, AgreesWhenCut};
-ghost use Rattle.tt_proof_read.specs.Faults.{is_failed_read, TellsNoOutOfMemory, Gives};
+ghost use Rattle.tt_proof_read.specs.Faults.{is_failed_read, ReportsNoOutOfMemory, Gives};
 ghost use Rattle.tt_proof_read.specs.Reading.{header_at, end_at};
 ghost use Rattle.tt_proof_read.specs.Readers.{IsNodeAt, IsReaderAfter, IsReadingOf, HeaderAgreesWhenCut, NodeAgreesWhenCut};
 ghost use Rattle.tt_proof_read.specs.Sizes.{AreSizes};
@@ -112,9 +112,9 @@ impl NodeReader {
         ensures failed { self.old.fault ≡ None → R.has_failed source.new ≡ (if is_err_and result is_failed_read then true else R.has_failed source.old) }
         ensures again { IfSome self.old.fault (λ f. (result ≡ Err f) × (self.new ≡ self.old)) }
         ensures still { IfSome self.old.fault (λ _. source.new ≡ source.old) }
-        ensures goes { self.old.fault ≡ None → IsReaderAfter self.old result self.new }
+        ensures state { self.old.fault ≡ None → IsReaderAfter self.old result self.new }
         ensures room { IfOk result (λ o. IfSome o (λ _. self.old.count < MAX_PROOF_NODES)) }
-        ensures says { self.old.fault ≡ None → is_some (R.remaining source.old) ≡ true →
+        ensures known { self.old.fault ≡ None → is_some (R.remaining source.old) ≡ true →
             IsReadingOf self.old (stream_at self.old.fed (R.remaining source.old)) result (stream_at self.new.fed (R.remaining source.new)) }
         // A failed read is reported if the bytes before it give a part of the node and no fault.
         ensures cut_short { self.old.fault ≡ None → NodeAgreesWhenCut self.old (R.remaining source.old) result self.new.fed (R.remaining source.new) }
@@ -160,10 +160,10 @@ impl NodeReader {
         ensures again { IfSome self.old.fault (λ f. (result ≡ Err f) × (self.new ≡ self.old)) }
         ensures still { IfSome self.old.fault (λ _. source.new ≡ source.old) }
         ensures fault { IfErr result (λ f. self.new.fault ≡ Some f) }
-        ensures goes { self.old.fault ≡ None → MatchResult result
+        ensures state { self.old.fault ≡ None → MatchResult result
             (λ _. self.new ≡ record self.old { fed = self.new.fed })
             (λ f. self.new ≡ record self.old { fed = self.new.fed; fault = Some f }) }
-        ensures memory { self.old.fault ≡ None → TellsNoOutOfMemory result }
+        ensures memory { self.old.fault ≡ None → ReportsNoOutOfMemory result }
         ensures read { self.old.fault ≡ None → is_some (R.remaining source.old) ≡ true →
             Gives (λ _. stream_at self.new.fed (R.remaining source.new)) result (end_at (stream_at self.old.fed (R.remaining source.old))) }
         ensures cut_short { self.old.fault ≡ None → AgreesWhenCut self.old.fed (R.remaining source.old) self.new.fed (R.remaining source.new) (λ _ s. s) result end_at }

@@ -2,7 +2,7 @@
 
 ghost use Rattle.std.specs.Prelude.{◌≡◌, false, IfOk};
 ghost use Rattle.tt_lists.specs.Words.{has_number};
-ghost use Rattle.tt_proof_read.specs.Faults.{TellsNoFailedRead, Gives};
+ghost use Rattle.tt_proof_read.specs.Faults.{ReportsNoFailedRead, Gives};
 ghost use Rattle.tt_proof_read.specs.Reading.{new_number};
 
 use crate::fault::TextFault;
@@ -34,7 +34,7 @@ impl Tables {
 /// Returns the number if it hasn't been seen.
 pub fn new_number(seen: &Seen, number: u32, at: usize) -> Result<u32, TextFault>
     ensures read { Gives (λ n. n) result (new_number at seen.now.numbers number) }
-    ensures unread { TellsNoFailedRead result }
+    ensures unread { ReportsNoFailedRead result }
     ensures new { IfOk result (λ n. (n ≡ number) × (has_number seen.now.numbers n ≡ false)) }
 {
     if seen.has(number) {

@@ -22,7 +22,7 @@ use Rattle.tt_proof_sum.specs.declared.fault.SumFault.TheVariants.{Proof, Groups
 use Rattle.tt_proof_sum.specs.declared.summed.Sum.{Sum}
 use Rattle.tt_text_peek.specs.Fronts.{is_groups}
 use Rattle.tt_proof_sum.specs.Added.{IsPartOf, Joins, IsSumOf, Adds}
-use Rattle.tt_proof_sum.specs.Faults.{points, all_points, IsClaimedElsewhere, IsTooLarge, TellsAdded, OutOfMemoryIsOneFault, IsSilentSum}
+use Rattle.tt_proof_sum.specs.Faults.{points, all_points, IsClaimedElsewhere, IsTooLarge, ExplainsAdded, OutOfMemoryIsOneFault, IsSilentSum}
 use Rattle.tt_proof_sum.specs.Sums.{claimed_by, is_among, are_apart, TreePart, GroupsPart, Part, TreeProof, GroupsFile, IsTreePart, IsGroupsPart, IsPart, bound_of, claims_of, AreApart, both_bounds, sum_of}
 use Rattle.tt_proof_sum.specs.Tables.{State, claims_at}
 use Rattle.tt_proof_sum.proofs.Joining.{tree_claims}
@@ -97,41 +97,41 @@ too_large p remaining s parts a b of j large bytes known =
 
 -- if a tree claims a target that one of the parts claims, the two are not apart
 tree_meets : (p : Problem) → IsInstance p → (parts : List Part) (bytes : List ℕ) (k : TreePart) (i e : ℕ) → IsTreePart p bytes k → AreApart (parts ++ TreeProof k ∷ []) → IsClaimedElsewhere p parts bytes i e → ⊥
-tree_meets p is parts bytes k i e spelled apart told =
-    let same = (spelled_once p is bytes told.part.version k.version told.part.bound k.bound told.part.tree k.tree told.is.spelled spelled.spelled).1 in
-    let x = all_at (λ x. are_apart (claims_of x) (claimed_by k.tree)) (λ x. is_among (claims_of x) told.target ≡ true) parts (e - 1) (each_two-last (λ x y. are_apart (claims_of x) (claims_of y)) parts (TreeProof k) apart) told.earlier in
-    not_both (claims_of x.0) (claimed_by k.tree) x.1 told.target x.2
-    (subst (λ (t : Tree). is_among (claimed_by t) told.target ≡ true) same (claimed_in_tree told.part.tree told.before told.node told.more told.target told.nodes told.here))
+tree_meets p is parts bytes k i e spelled apart reported =
+    let same = (spelled_once p is bytes reported.part.version k.version reported.part.bound k.bound reported.part.tree k.tree reported.is.spelled spelled.spelled).1 in
+    let x = all_at (λ x. are_apart (claims_of x) (claimed_by k.tree)) (λ x. is_among (claims_of x) reported.target ≡ true) parts (e - 1) (each_two-last (λ x y. are_apart (claims_of x) (claims_of y)) parts (TreeProof k) apart) reported.earlier in
+    not_both (claims_of x.0) (claimed_by k.tree) x.1 reported.target x.2
+    (subst (λ (t : Tree). is_among (claimed_by t) reported.target ≡ true) same (claimed_in_tree reported.part.tree reported.before reported.node reported.more reported.target reported.nodes reported.here))
 
 -- a fault of a tree proof that can be added is silent
-tree_silent : (p : Problem) → IsInstance p → (parts : List Part) (bytes : List ℕ) (k : TreePart) → IsTreePart p bytes k → AreApart (parts ++ TreeProof k ∷ []) → all_points (parts ++ TreeProof k ∷ []) < 2 ^ 64 → (e : SumFault) → OutOfMemoryIsOneFault e → TellsAdded p parts bytes e
+tree_silent : (p : Problem) → IsInstance p → (parts : List Part) (bytes : List ℕ) (k : TreePart) → IsTreePart p bytes k → AreApart (parts ++ TreeProof k ∷ []) → all_points (parts ++ TreeProof k ∷ []) < 2 ^ 64 → (e : SumFault) → OutOfMemoryIsOneFault e → ExplainsAdded p parts bytes e
     → IsSilentSum e
-tree_silent p is parts bytes k spelled apart within (Proof n f) memory told =
-    elim (proved_silent p is bytes k.bound (k.version, k.tree, spelled.spelled, spelled.derives) f told.fault) [
+tree_silent p is parts bytes k spelled apart within (Proof n f) memory reported =
+    elim (proved_silent p is bytes k.bound (k.version, k.tree, spelled.spelled, spelled.derives) f reported.fault) [
       | inl e ↦ absurd (memory.0 e)
       | inr e ↦ e
     ]
-tree_silent p is parts bytes k spelled apart within (Groups n f) memory told = absurd (both_ways (is_groups bytes) (proofs_are_trees p bytes k spelled.spelled) told.kind)
-tree_silent p is parts bytes k spelled apart within (ClaimedElsewhere n i e) memory told = tree_meets p is parts bytes k i e spelled apart told
-tree_silent p is parts bytes k spelled apart within (TooLarge n) memory told =
-    let same : told.0 ≡ TreeProof k = same_part p is bytes told.0 (TreeProof k) told.1 spelled in
-    let points_same : points (bound_of told.0) ≡ points k.bound = ap (λ (x : Part). points (bound_of x)) same in
-    absurd (omega (arith, told.2, points_same, within, all_points-push parts (TreeProof k)))
-tree_silent p is parts bytes k spelled apart within OutOfMemory memory told = tt
+tree_silent p is parts bytes k spelled apart within (Groups n f) memory reported = absurd (both_ways (is_groups bytes) (proofs_are_trees p bytes k spelled.spelled) reported.kind)
+tree_silent p is parts bytes k spelled apart within (ClaimedElsewhere n i e) memory reported = tree_meets p is parts bytes k i e spelled apart reported
+tree_silent p is parts bytes k spelled apart within (TooLarge n) memory reported =
+    let same : reported.0 ≡ TreeProof k = same_part p is bytes reported.0 (TreeProof k) reported.1 spelled in
+    let points_same : points (bound_of reported.0) ≡ points k.bound = ap (λ (x : Part). points (bound_of x)) same in
+    absurd (omega (arith, reported.2, points_same, within, all_points-push parts (TreeProof k)))
+tree_silent p is parts bytes k spelled apart within OutOfMemory memory reported = tt
 
 -- a fault of a file of groups that can be added is silent
-groups_silent : (p : Problem) → IsInstance p → (parts : List Part) (bytes : List ℕ) (k : GroupsPart) → IsGroupsPart p bytes k → AreApart (parts ++ GroupsFile k ∷ []) → all_points (parts ++ GroupsFile k ∷ []) < 2 ^ 64 → (e : SumFault) → OutOfMemoryIsOneFault e → TellsAdded p parts bytes e
+groups_silent : (p : Problem) → IsInstance p → (parts : List Part) (bytes : List ℕ) (k : GroupsPart) → IsGroupsPart p bytes k → AreApart (parts ++ GroupsFile k ∷ []) → all_points (parts ++ GroupsFile k ∷ []) < 2 ^ 64 → (e : SumFault) → OutOfMemoryIsOneFault e → ExplainsAdded p parts bytes e
     → IsSilentSum e
-groups_silent p is parts bytes k spelled apart within (Proof n f) memory told = read_or_tree p bytes k f spelled told
-groups_silent p is parts bytes k spelled apart within (Groups n f) memory told = left_open p is parts bytes k spelled (each_two-last (λ x y. are_apart (claims_of x) (claims_of y)) parts (GroupsFile k) apart) f told.fault
-groups_silent p is parts bytes k spelled apart within (ClaimedElsewhere n i e) memory told = both_ways (is_groups bytes) (proofs_are_trees p bytes told.part told.is.spelled) spelled.kind
-groups_silent p is parts bytes k spelled apart within (TooLarge n) memory told =
-    let same : told.0 ≡ GroupsFile k = same_part p is bytes told.0 (GroupsFile k) told.1 spelled in
-    let points_same : points (bound_of told.0) ≡ k.bound = ap (λ (x : Part). points (bound_of x)) same in
-    absurd (omega (arith, told.2, points_same, within, all_points-push parts (GroupsFile k)))
-groups_silent p is parts bytes k spelled apart within OutOfMemory memory told = tt
+groups_silent p is parts bytes k spelled apart within (Proof n f) memory reported = read_or_tree p bytes k f spelled reported
+groups_silent p is parts bytes k spelled apart within (Groups n f) memory reported = left_open p is parts bytes k spelled (each_two-last (λ x y. are_apart (claims_of x) (claims_of y)) parts (GroupsFile k) apart) f reported.fault
+groups_silent p is parts bytes k spelled apart within (ClaimedElsewhere n i e) memory reported = both_ways (is_groups bytes) (proofs_are_trees p bytes reported.part reported.is.spelled) spelled.kind
+groups_silent p is parts bytes k spelled apart within (TooLarge n) memory reported =
+    let same : reported.0 ≡ GroupsFile k = same_part p is bytes reported.0 (GroupsFile k) reported.1 spelled in
+    let points_same : points (bound_of reported.0) ≡ k.bound = ap (λ (x : Part). points (bound_of x)) same in
+    absurd (omega (arith, reported.2, points_same, within, all_points-push parts (GroupsFile k)))
+groups_silent p is parts bytes k spelled apart within OutOfMemory memory reported = tt
 
-pub tells_silent : (p : Problem) → IsInstance p → (parts : List Part) (bytes : List ℕ) (part : Part) → IsPart p bytes part → AreApart (parts ++ part ∷ []) → all_points (parts ++ part ∷ []) < 2 ^ 64 → (e : SumFault) → OutOfMemoryIsOneFault e → TellsAdded p parts bytes e
+pub tells_silent : (p : Problem) → IsInstance p → (parts : List Part) (bytes : List ℕ) (part : Part) → IsPart p bytes part → AreApart (parts ++ part ∷ []) → all_points (parts ++ part ∷ []) < 2 ^ 64 → (e : SumFault) → OutOfMemoryIsOneFault e → ExplainsAdded p parts bytes e
     → IsSilentSum e
-tells_silent p is parts bytes (TreeProof k) spelled apart within e memory told = tree_silent p is parts bytes k spelled apart within e memory told
-tells_silent p is parts bytes (GroupsFile k) spelled apart within e memory told = groups_silent p is parts bytes k spelled apart within e memory told
+tells_silent p is parts bytes (TreeProof k) spelled apart within e memory reported = tree_silent p is parts bytes k spelled apart within e memory reported
+tells_silent p is parts bytes (GroupsFile k) spelled apart within e memory reported = groups_silent p is parts bytes k spelled apart within e memory reported

@@ -14,8 +14,8 @@ use Rattle.tt_proof_check.specs.declared.fault.CheckFault.TheVariants as check
 use Rattle.tt_groups_read.specs.Faults.{is_environmental, is_failed_read}
 use Rattle.tt_groups_read.specs.declared.claim.GroupClaim.{GroupClaim}
 use Rattle.tt_groups_read.specs.declared.fault.GroupTextFault.{GroupTextFault}
-use Rattle.tt_proof_sum.specs.Claiming.{TellsClaim}
-use Rattle.tt_proof_sum.specs.Faults.{IsNumbered, told_proof, told_text, read_failed_at, is_failed_read_at}
+use Rattle.tt_proof_sum.specs.Claiming.{ExplainsClaim}
+use Rattle.tt_proof_sum.specs.Faults.{IsNumbered, proof_fault_at, text_fault_at, read_failed_at, is_failed_read_at}
 use Rattle.tt_proof_sum.specs.Tables.{State}
 use Rattle.tt_proof_sum.specs.declared.fault.SumFault.{SumFault}
 use Rattle.tt_proof_sum.specs.declared.fault.SumFault.TheVariants as fault
@@ -25,15 +25,15 @@ use Rattle.tt_proof_sum.specs.declared.groups_fault.GroupsFault.TheVariants as g
 of_proof : (n : ℕ) (f : CheckFault) → is_failed_read_at n (fault.Proof n f) ≡ checks.is_failed_read f
 of_proof n f = ap (λ (b : Bool). b && checks.is_failed_read f) (eq-eqb n n refl)
 
-told_proof_read : (n : ℕ) (f : CheckFault) → is_failed_read_at n (told_proof n f) ≡ checks.is_failed_read f
-told_proof_read n check.OutOfMemory = refl
-told_proof_read n (check.Text f) = of_proof n (check.Text f)
-told_proof_read n (check.Rule i f) = of_proof n (check.Rule i f)
-told_proof_read n (check.TooDeep i) = of_proof n (check.TooDeep i)
+reported_proof_read : (n : ℕ) (f : CheckFault) → is_failed_read_at n (proof_fault_at n f) ≡ checks.is_failed_read f
+reported_proof_read n check.OutOfMemory = refl
+reported_proof_read n (check.Text f) = of_proof n (check.Text f)
+reported_proof_read n (check.Rule i f) = of_proof n (check.Rule i f)
+reported_proof_read n (check.TooDeep i) = of_proof n (check.TooDeep i)
 
 -- a fault of the text of this file as a file of groups
-told_text_read : (n : ℕ) (f : GroupTextFault) → is_failed_read_at n (told_text n f) ≡ is_failed_read f
-told_text_read n f = on (is_failed_read f) (is_environmental f)
+reported_text_read : (n : ℕ) (f : GroupTextFault) → is_failed_read_at n (text_fault_at n f) ≡ is_failed_read f
+reported_text_read n f = on (is_failed_read f) (is_environmental f)
   where
     on : (x y : Bool) → is_failed_read_at n (cond x (read_failed_at n) (cond y fault.OutOfMemory (fault.Groups n (groups.Text f)))) ≡ x
     on true y = of_proof n (check.Text (text.Feed feed.Read))
@@ -41,16 +41,16 @@ told_text_read n f = on (is_failed_read f) (is_environmental f)
     on false false = refl
 
 -- whether a read has failed, after such a fault
-pub proof_reads : (result : SumFault) (file n : ℕ) (f : CheckFault) (before after : Bool) → result ≡ told_proof file f → file ≡ n → after ≡ (if checks.is_failed_read f then true else before)
+pub proof_reads : (result : SumFault) (file n : ℕ) (f : CheckFault) (before after : Bool) → result ≡ proof_fault_at file f → file ≡ n → after ≡ (if checks.is_failed_read f then true else before)
     → after ≡ (if is_failed_read_at n result then true else before)
-proof_reads result file n f before after told same h =
-    let is : is_failed_read_at n result ≡ checks.is_failed_read f = ap (is_failed_read_at n) (told ∙ ap (λ m. told_proof m f) same) ∙ told_proof_read n f in
+proof_reads result file n f before after reported same h =
+    let is : is_failed_read_at n result ≡ checks.is_failed_read f = ap (is_failed_read_at n) (reported ∙ ap (λ m. proof_fault_at m f) same) ∙ reported_proof_read n f in
     h ∙ ap (λ (b : Bool). if b then true else before) (sym is)
 
-pub told_reads : (result : SumFault) (file n : ℕ) (f : GroupTextFault) (before after : Bool) → result ≡ told_text file f → file ≡ n → after ≡ (if is_failed_read f then true else before)
+pub reported_reads : (result : SumFault) (file n : ℕ) (f : GroupTextFault) (before after : Bool) → result ≡ text_fault_at file f → file ≡ n → after ≡ (if is_failed_read f then true else before)
     → after ≡ (if is_failed_read_at n result then true else before)
-told_reads result file n f before after told same h =
-    let is : is_failed_read_at n result ≡ is_failed_read f = ap (is_failed_read_at n) (told ∙ ap (λ m. told_text m f) same) ∙ told_text_read n f in
+reported_reads result file n f before after reported same h =
+    let is : is_failed_read_at n result ≡ is_failed_read f = ap (is_failed_read_at n) (reported ∙ ap (λ m. text_fault_at m f) same) ∙ reported_text_read n f in
     h ∙ ap (λ (b : Bool). if b then true else before) (sym is)
 
 -- whether a read has failed, after a result that is known
@@ -60,10 +60,10 @@ result_reads {A} {E} r known passes before after is h = h ∙ ap (λ (x : Result
 
 -- a failed read of this file
 pub read_is_at : (result : SumFault) (file n : ℕ) → result ≡ read_failed_at file → file ≡ n → is_failed_read_at n result ≡ true
-read_is_at result file n told same = ap (is_failed_read_at n) (told ∙ ap read_failed_at same) ∙ of_proof n (check.Text (text.Feed feed.Read))
+read_is_at result file n reported same = ap (is_failed_read_at n) (reported ∙ ap read_failed_at same) ∙ of_proof n (check.Text (text.Feed feed.Read))
 
 -- a fault of a claim is no failed read
-pub claim_read : (p : Problem) (a : State) (i : ℕ) (k : GroupClaim) (n : ℕ) (f : SumFault) → TellsClaim p a i k f → is_failed_read_at n f ≡ false
+pub claim_read : (p : Problem) (a : State) (i : ℕ) (k : GroupClaim) (n : ℕ) (f : SumFault) → ExplainsClaim p a i k f → is_failed_read_at n f ≡ false
 claim_read p a i k n (fault.Proof m f) h = absurd h
 claim_read p a i k n (fault.Groups m f) h = refl
 claim_read p a i k n (fault.ClaimedElsewhere m j e) h = absurd h

@@ -17,7 +17,7 @@ use Rattle.tt_proof_sum.specs.declared.fault.SumFault.{SumFault}
 use Rattle.tt_proof_sum.specs.declared.fault.SumFault.TheVariants.{Proof, Groups, ClaimedElsewhere, TooLarge, OutOfMemory}
 use Rattle.tt_proof_sum.specs.declared.summed.Sum.{Sum}
 use Rattle.tt_proof_sum.specs.Added.{IsPartOf, IsSumOf, Adds, due, Give}
-use Rattle.tt_proof_sum.specs.Faults.{points, all_points, is_failed_read_at, IsNumbered, IsRefused, TellsAdded, IsSumFault, OutOfMemoryIsOneFault, IsSilentSum}
+use Rattle.tt_proof_sum.specs.Faults.{points, all_points, is_failed_read_at, IsNumbered, IsRefused, ExplainsAdded, IsSumFault, OutOfMemoryIsOneFault, IsSilentSum}
 use Rattle.tt_proof_sum.specs.Sums.{are_apart, Part, IsPart, bound_of, claims_of, AreApart, sum_of, IsSum}
 use Rattle.tt_proof_sum.proofs.Added.{spelled_part, tells_silent}
 use Rattle.tt_proof_sum.proofs.FailedReads.{other_read}
@@ -62,14 +62,14 @@ module _ (p : Problem) (is : IsInstance p) where
       let apart = (each_two-of_append (λ a b. are_apart (claims_of a) (claims_of b)) (r.parts ++ z.at ∷ []) z.more (subst AreApart split h.apart)).0 in
       let total = sum_by-append (λ (k : Part). points (bound_of k)) (r.parts ++ z.at ∷ []) z.more in
       let all : all_points h.parts ≡ all_points ((r.parts ++ z.at ∷ []) ++ z.more) = ap all_points split in
-      tells_silent p is r.parts r.bytes z.at z.one apart (omega (arith, total, all, within)) e memory r.tells
+      tells_silent p is r.parts r.bytes z.at z.one apart (omega (arith, total, all, within)) e memory r.explains
 
   pub sum_silent : (proofs : List (List ℕ)) (s : Bound) (h : IsSum p proofs s) → all_points h.parts < 2 ^ 64 → (e : SumFault) → OutOfMemoryIsOneFault e → IsSumFault p proofs e → IsSilentSum e
-  sum_silent proofs s h within (Proof n f) memory told = refused_silent proofs s h within (Proof n f) memory told
-  sum_silent proofs s h within (Groups n f) memory told = refused_silent proofs s h within (Groups n f) memory told
-  sum_silent proofs s h within (ClaimedElsewhere n i e) memory told = refused_silent proofs s h within (ClaimedElsewhere n i e) memory told
-  sum_silent proofs s h within (TooLarge n) memory told = refused_silent proofs s h within (TooLarge n) memory told
-  sum_silent proofs s h within OutOfMemory memory told = tt
+  sum_silent proofs s h within (Proof n f) memory reported = refused_silent proofs s h within (Proof n f) memory reported
+  sum_silent proofs s h within (Groups n f) memory reported = refused_silent proofs s h within (Groups n f) memory reported
+  sum_silent proofs s h within (ClaimedElsewhere n i e) memory reported = refused_silent proofs s h within (ClaimedElsewhere n i e) memory reported
+  sum_silent proofs s h within (TooLarge n) memory reported = refused_silent proofs s h within (TooLarge n) memory reported
+  sum_silent proofs s h within OutOfMemory memory reported = tt
 
   -- files have at most one sum
   pub same_sum : (proofs : List (List ℕ)) (s t : Bound) → IsSum p proofs s → IsSum p proofs t → s ≡ t
@@ -174,8 +174,8 @@ module _ {R : Type 0} (p : Problem) (remaining : R → Option (List ℕ)) (faile
 
   -- a refusal of the source at i
   pub sofar_refused : (old now : List R) (i : ℕ) (s : Sum) (r : R) (e : SumFault) → i < length old → r ≡ get_or now i r → Sofar old now i s → IsNumbered (due s) e
-      → ((parts : List Part) (bytes : List ℕ) → IsSumOf s parts → remaining r ≡ Some bytes → TellsAdded p parts bytes e) → (proofs : List (List ℕ)) → Give remaining old proofs → IsSumFault p proofs e
-  sofar_refused old now i s r e l is h numbered tells proofs given =
+      → ((parts : List Part) (bytes : List ℕ) → IsSumOf s parts → remaining r ≡ Some bytes → ExplainsAdded p parts bytes e) → (proofs : List (List ℕ)) → Give remaining old proofs → IsSumFault p proofs e
+  sofar_refused old now i s r e l is h numbered explains proofs given =
       let first : r ≡ get_or old i r = is ∙ h.rest i r (omega arith) in
       let g = gives_at p remaining old proofs i r given (slice_get_read old (length old) i r refl l first) in
       let number : due s ≡ length h.parts + 1 = ap (λ (n : ℕ). n + 1) h.of.table.number in
@@ -188,7 +188,7 @@ module _ {R : Type 0} (p : Problem) (remaining : R → Option (List ℕ)) (faile
         each = zip_known p remaining (take i old) g.before h.parts g.each h.each;
         apart = h.of.apart;
         numbered = subst (λ (n : ℕ). IsNumbered n e) number numbered;
-        tells = tells h.parts g.bytes h.of g.known;
+        explains = explains h.parts g.bytes h.of g.known;
       })
 
   -- ---- reads that failed

@@ -13,7 +13,7 @@ use Rattle.tt_proof_check.specs.Streams.{stream_of}
 use Rattle.tt_text_peek.specs.Fronts.{is_groups, BreaksOff}
 use Rattle.tt_proof_sum.specs.declared.fault.SumFault.{SumFault}
 use Rattle.tt_proof_sum.specs.Added.{IsPartOf, IsOfKind, Joins}
-use Rattle.tt_proof_sum.specs.Faults.{TellsAdded}
+use Rattle.tt_proof_sum.specs.Faults.{ExplainsAdded}
 use Rattle.tt_proof_sum.specs.Sums.{Part, TreeProof, GroupsFile}
 use Rattle.tt_proof_sum.specs.Tables.{State, begun, IsTableOf}
 use Rattle.tt_proof_sum.specs.UpToFailedRead.{IsFileCheckedUpToFailedRead}
@@ -53,8 +53,8 @@ module _ (p : Problem) (old mid : Option (List ℕ)) (kept : Keeps old mid) (tab
   groups_joins kind h = ok_as r _ _ (λ b f parts of. f table parts old of begins kept kind) h
 
   pub kind_fault : (z : Bool) → IsOfKind z old
-      → IfErr r (λ e. (before : State) (parts : List Part) (bytes : List ℕ) → IsTableOf before parts → now ≡ begun before → mid ≡ Some bytes → is_groups bytes ≡ z → TellsAdded p parts bytes e)
-      → IfErr r (λ e. (parts : List Part) (bytes : List ℕ) → IsTableOf table parts → old ≡ Some bytes → TellsAdded p parts bytes e)
+      → IfErr r (λ e. (before : State) (parts : List Part) (bytes : List ℕ) → IsTableOf before parts → now ≡ begun before → mid ≡ Some bytes → is_groups bytes ≡ z → ExplainsAdded p parts bytes e)
+      → IfErr r (λ e. (parts : List Part) (bytes : List ℕ) → IsTableOf table parts → old ≡ Some bytes → ExplainsAdded p parts bytes e)
   kind_fault z kind h = err_as r _ _ (λ e f parts bytes of known. f table parts bytes of begins (keeps_known old mid bytes kept known) (kind bytes known)) h
 
 -- a stream that gives only a failed read

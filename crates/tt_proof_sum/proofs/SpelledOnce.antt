@@ -43,7 +43,7 @@ use Rattle.tt_groups_read.proofs.FileLaws.{spelled_reads}
 use Rattle.tt_proof_sum.specs.declared.groups_fault.GroupsFault.{GroupsFault}
 use Rattle.tt_proof_sum.specs.declared.groups_fault.GroupsFault.TheVariants as groups
 use Rattle.tt_proof_sum.specs.Faults.{IsTreeFault}
-use Rattle.tt_proof_sum.specs.GroupsFaults.{AfterClaims, TellsGroups, IsLeftOpen}
+use Rattle.tt_proof_sum.specs.GroupsFaults.{AfterClaims, ExplainsGroups, IsLeftOpen}
 use Rattle.tt_proof_sum.specs.Sums.{is_among, are_apart, group_targets, targets_of_claims, TreePart, GroupsPart, Part, TreeProof, GroupsFile, IsGroupsPart, IsPart, claims_of, AreClaimsApart}
 use Rattle.tt_proof_sum.proofs.Together.{not_both}
 
@@ -59,7 +59,7 @@ proofs_are_trees p bytes k spelled =
 
 -- a fault of a text as a tree proof is not one of a file of groups, unless a read failed
 pub read_or_tree : (p : Problem) (bytes : List ℕ) (k : GroupsPart) (f : CheckFault) → IsGroupsPart p bytes k → IsTreeFault p bytes f → f ≡ check.Text (text.Feed feed.Read)
-read_or_tree p bytes k f spelled told = elim told.kind [
+read_or_tree p bytes k f spelled reported = elim reported.kind [
   | inl e ↦ e
   | inr e ↦ absurd (both_ways (is_groups bytes) e spelled.kind)
 ]
@@ -87,13 +87,13 @@ claim_same x k s t e =
     (claim, ap (λ (z : Option GroupClaim × Stream). z.1) pair)
 
 -- the claims read so far are the first of all claims
-pub record GoesOn (sizes : Sizes) (all claims : List GroupClaim) (rest end : Stream) : Type 0 where
+pub record ContinuesWith (sizes : Sizes) (all claims : List GroupClaim) (rest end : Stream) : Type 0 where
   pub more : List GroupClaim
   pub split : all ≡ claims ++ more
   pub reads : ReadsClaims sizes rest more end
 
 module _ (sizes : Sizes) where
-  pub goes_on : (s : Stream) (all claims : List GroupClaim) (rest end after : Stream) → ReadsClaims sizes s all end → group_at sizes end ≡ Ok (None, after) → ReadsClaims sizes s claims rest → GoesOn sizes all claims rest end
+  pub goes_on : (s : Stream) (all claims : List GroupClaim) (rest end after : Stream) → ReadsClaims sizes s all end → group_at sizes end ≡ Ok (None, after) → ReadsClaims sizes s claims rest → ContinuesWith sizes all claims rest end
   goes_on s all [] rest end after reads finish part = record { more = all; split = refl; reads = subst (λ (x : Stream). ReadsClaims sizes x all end) part reads }
   goes_on s [] (k ∷ ks) rest end after reads finish part =
       absurd (not_both_answers k part.0 after (sym part.1 ∙ ap (group_at sizes) reads ∙ finish))
@@ -103,7 +103,7 @@ module _ (sizes : Sizes) where
       record { more = r.more; split = ap (λ (z : GroupClaim). z ∷ xs) same.0 ∙ ap (λ (l : List GroupClaim). k ∷ l) r.split; reads = r.reads }
 
   -- the next claim is one of all claims
-  pub next_is : (all claims : List GroupClaim) (rest end after mid : Stream) (k : GroupClaim) → GoesOn sizes all claims rest end → group_at sizes end ≡ Ok (None, after) → group_at sizes rest ≡ Ok (Some k, mid)
+  pub next_is : (all claims : List GroupClaim) (rest end after mid : Stream) (k : GroupClaim) → ContinuesWith sizes all claims rest end → group_at sizes end ≡ Ok (None, after) → group_at sizes rest ≡ Ok (Some k, mid)
       → (more : List GroupClaim) × (all ≡ claims ++ k ∷ more)
   next_is all claims rest end after mid k g finish read = on g.more g.split g.reads
     where
@@ -114,7 +114,7 @@ module _ (sizes : Sizes) where
           (ms, split ∙ ap (λ (z : GroupClaim). claims ++ z ∷ ms) (claim_same m k reads.0 mid (sym reads.1 ∙ read)).0)
 
   -- if no claim follows, the claims read are all claims
-  pub none_is : (all claims : List GroupClaim) (rest end mid : Stream) → GoesOn sizes all claims rest end → group_at sizes rest ≡ Ok (None, mid) → all ≡ claims
+  pub none_is : (all claims : List GroupClaim) (rest end mid : Stream) → ContinuesWith sizes all claims rest end → group_at sizes rest ≡ Ok (None, mid) → all ≡ claims
   none_is all claims rest end mid g read = on g.more g.split g.reads
     where
       on : (more : List GroupClaim) → all ≡ claims ++ more → ReadsClaims sizes rest more end → all ≡ claims
@@ -123,7 +123,7 @@ module _ (sizes : Sizes) where
           absurd (not_both_answers m reads.0 mid (sym reads.1 ∙ read))
 
   -- after claims of a complete file the text doesn't fail
-  pub never_fails : (all claims : List GroupClaim) (rest end after : Stream) (t : TextFault) → GoesOn sizes all claims rest end → group_at sizes end ≡ Ok (None, after) → group_at sizes rest ≡ Err t → ⊥
+  pub never_fails : (all claims : List GroupClaim) (rest end after : Stream) (t : TextFault) → ContinuesWith sizes all claims rest end → group_at sizes end ≡ Ok (None, after) → group_at sizes rest ≡ Err t → ⊥
   never_fails all claims rest end after t g finish read = on g.more g.reads
     where
       on : (more : List GroupClaim) → ReadsClaims sizes rest more end → ⊥
@@ -205,41 +205,41 @@ module _ (p : Problem) (is : IsInstance p) (parts : List Part) (bytes : List ℕ
   file = groups_read p is bytes k.bound k.claims spelled.spelled
 
   -- the rest of the file continues the part that was read, up to its end
-  read_on : {P : ℕ → List GroupClaim → Stream → Type 0} → (a : AfterClaims p parts (stream_of bytes) P) → (a.bound ≡ k.bound) × GoesOn (sizes_of p) k.claims a.claims a.rest file.listed
+  read_on : {P : ℕ → List GroupClaim → Stream → Type 0} → (a : AfterClaims p parts (stream_of bytes) P) → (a.bound ≡ k.bound) × ContinuesWith (sizes_of p) k.claims a.claims a.rest file.listed
   read_on a =
       let same = header_bound a.bound k.bound a.headed file.headed (sym a.header ∙ file.header) in
       (same.0, goes_on (sizes_of p) file.headed k.claims a.claims a.rest file.listed file.ended file.claims file.finish (subst (λ (s : Stream). ReadsClaims (sizes_of p) s a.claims a.rest) same.1 a.reads))
 
-  pub left_open : list_all (λ x. are_apart (claims_of x) (targets_of_claims k.claims)) parts ≡ true → (f : GroupsFault) → TellsGroups p parts (stream_of bytes) f → IsLeftOpen f
-  left_open apart (groups.Text f) told = elim told.1 [
+  pub left_open : list_all (λ x. are_apart (claims_of x) (targets_of_claims k.claims)) parts ≡ true → (f : GroupsFault) → ExplainsGroups p parts (stream_of bytes) f → IsLeftOpen f
+  left_open apart (groups.Text f) reported = elim reported.1 [
     | inl e ↦ let no : headed_by k.bound file.headed ≡ Err f = sym file.header ∙ e in absurd cc
     | inr a ↦ never_fails (sizes_of p) k.claims a.claims a.rest file.listed file.ended a.is.0 (read_on a).1 file.finish a.is.2
   ]
-  left_open apart (groups.ClaimedTwice i) told =
-      let next = next_is (sizes_of p) k.claims told.claims told.rest file.listed file.ended told.is.2 told.is.1 (read_on told).1 file.finish told.is.3 in
-      let first = told.is.4 in
-      claims_meet told.claims told.is.1 next.0 first.target (subst AreClaimsApart next.1 spelled.right.apart) first.is (split_among (targets_in told.is.1) first.before first.target first.more first.split)
-  left_open apart (groups.ClaimedElsewhere i e) told =
-      let next = next_is (sizes_of p) k.claims told.claims told.rest file.listed file.ended told.is.2 told.is.1 (read_on told).1 file.finish told.is.3 in
-      let first = told.is.4 in
+  left_open apart (groups.ClaimedTwice i) reported =
+      let next = next_is (sizes_of p) k.claims reported.claims reported.rest file.listed file.ended reported.is.2 reported.is.1 (read_on reported).1 file.finish reported.is.3 in
+      let first = reported.is.4 in
+      claims_meet reported.claims reported.is.1 next.0 first.target (subst AreClaimsApart next.1 spelled.right.apart) first.is (split_among (targets_in reported.is.1) first.before first.target first.more first.split)
+  left_open apart (groups.ClaimedElsewhere i e) reported =
+      let next = next_is (sizes_of p) k.claims reported.claims reported.rest file.listed file.ended reported.is.2 reported.is.1 (read_on reported).1 file.finish reported.is.3 in
+      let first = reported.is.4 in
       let x = all_at (λ z. are_apart (claims_of z) (targets_of_claims k.claims)) (λ z. is_among (claims_of z) first.target ≡ true) parts (e - 1) apart first.is.1 in
-      let here = split_among (targets_in told.is.1) first.before first.target first.more first.split in
+      let here = split_among (targets_in reported.is.1) first.before first.target first.more first.split in
       not_both (claims_of x.0) (targets_of_claims k.claims) x.1 first.target x.2
-      (ap (λ (l : List GroupClaim). is_among (targets_of_claims l) first.target) next.1 ∙ claim_among told.claims told.is.1 next.0 first.target here)
-  left_open apart (groups.Group i group.TooWide) told = tt
-  left_open apart (groups.Group i group.TooManyStates) told = tt
-  left_open apart (groups.Group i group.TooManySets) told = tt
-  left_open apart (groups.Group i group.TooMuchWork) told = tt
-  left_open apart (groups.Group i group.OutOfMemory) told = tt
-  left_open apart (groups.Group i group.TooCheap) told =
-      let claim = told.is.1 in
-      let next = next_is (sizes_of p) k.claims told.claims told.rest file.listed file.ended told.is.2 claim (read_on told).1 file.finish told.is.3 in
-      let there = subst (λ (l : List GroupClaim). Contains l claim) (sym next.1) (Contains-append_right told.claims (claim ∷ next.0) claim (0, omega arith, refl)) in
+      (ap (λ (l : List GroupClaim). is_among (targets_of_claims l) first.target) next.1 ∙ claim_among reported.claims reported.is.1 next.0 first.target here)
+  left_open apart (groups.Group i group.TooWide) reported = tt
+  left_open apart (groups.Group i group.TooManyStates) reported = tt
+  left_open apart (groups.Group i group.TooManySets) reported = tt
+  left_open apart (groups.Group i group.TooMuchWork) reported = tt
+  left_open apart (groups.Group i group.OutOfMemory) reported = tt
+  left_open apart (groups.Group i group.TooCheap) reported =
+      let claim = reported.is.1 in
+      let next = next_is (sizes_of p) k.claims reported.claims reported.rest file.listed file.ended reported.is.2 claim (read_on reported).1 file.finish reported.is.3 in
+      let there = subst (λ (l : List GroupClaim). Contains l claim) (sym next.1) (Contains-append_right reported.claims (claim ∷ next.0) claim (0, omega arith, refl)) in
       let bound = All-contains (λ (z : GroupClaim). IsGroupBound p z.group z.value) k.claims claim spelled.right.bounds there in
-      let less = told.is.4.1.1 in
+      let less = reported.is.4.1.1 in
       omega (arith, bound less.0 less.1, less.2)
-  left_open apart groups.TooCheap told =
-      let on = read_on told in
-      let all = none_is (sizes_of p) k.claims told.claims told.rest file.listed told.is.0 on.1 told.is.1 in
-      let sum : sum_by (λ (z : GroupClaim). z.value) k.claims ≡ sum_by (λ (z : GroupClaim). z.value) told.claims = ap (sum_by (λ (z : GroupClaim). z.value)) all in
-      omega (arith, told.is.2, on.0, sum, spelled.right.enough)
+  left_open apart groups.TooCheap reported =
+      let on = read_on reported in
+      let all = none_is (sizes_of p) k.claims reported.claims reported.rest file.listed reported.is.0 on.1 reported.is.1 in
+      let sum : sum_by (λ (z : GroupClaim). z.value) k.claims ≡ sum_by (λ (z : GroupClaim). z.value) reported.claims = ap (sum_by (λ (z : GroupClaim). z.value)) all in
+      omega (arith, reported.is.2, on.0, sum, spelled.right.enough)

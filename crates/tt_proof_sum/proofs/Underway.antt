@@ -40,9 +40,9 @@ use Rattle.tt_proof_sum.specs.declared.fault.SumFault.TheVariants as fault
 use Rattle.tt_proof_sum.specs.declared.groups_fault.GroupsFault.{GroupsFault}
 use Rattle.tt_proof_sum.specs.declared.groups_fault.GroupsFault.TheVariants as groups
 use Rattle.tt_proof_sum.specs.Added.{IsOfKind, Joins}
-use Rattle.tt_proof_sum.specs.Claiming.{TellsOfClaim, TellsClaim, ReadsTo, Underway}
-use Rattle.tt_proof_sum.specs.Faults.{IsGroupsFault, TellsAdded, IsNumbered, read_failed_at, told_text, OutOfMemoryIsOneFault}
-use Rattle.tt_proof_sum.specs.GroupsFaults.{Pass, AfterClaims, TellsGroups}
+use Rattle.tt_proof_sum.specs.Claiming.{ExplainsClaimFault, ExplainsClaim, ReadsTo, Underway}
+use Rattle.tt_proof_sum.specs.Faults.{IsGroupsFault, ExplainsAdded, IsNumbered, read_failed_at, text_fault_at, OutOfMemoryIsOneFault}
+use Rattle.tt_proof_sum.specs.GroupsFaults.{Pass, AfterClaims, ExplainsGroups}
 use Rattle.tt_proof_sum.specs.Sums.{group_targets, targets_of_claims, Part, GroupsPart, GroupsFile}
 use Rattle.tt_proof_sum.specs.Tables.{State, owner, first_claim, begun, group_places, first_owner, Marks, IsTableOf}
 use Rattle.tt_proof_sum.specs.UpToFailedRead.{AreGroupsCutOff}
@@ -187,22 +187,22 @@ module _ (p : Problem) (is : IsInstance p) (before : Option (List ℕ)) (a : Sta
         record { bound = r.bound; claims = u.claims; headed = reads.headed; rest = stream_at r.fed now; header = reads.header; reads = reads.reads; passed = passes; is = h }
 
     module _ (k : GroupClaim) (claim : IsClaim p k) (known : is_some before ≡ true) (rest : Stream) (reads : group_at (sizes_of p) (stream_at r.fed now) ≡ Ok (Some k, rest)) where
-      tells_claim : (f : GroupsFault) → TellsOfClaim p b number k f → TellsGroups p parts s f
-      tells_claim (groups.Text f) told = absurd told
-      tells_claim (groups.ClaimedTwice j) told =
-          after_claims _ known (sym u.counted ∙ sym told.0, k, rest, reads, claimed_twice old b parts u.claims of marked (group_targets k.group) (group_placed p is k claim) told.1)
-      tells_claim (groups.ClaimedElsewhere j e) told =
-          after_claims _ known (sym u.counted ∙ sym told.0, k, rest, reads, claimed_before old b parts u.claims of marked (group_targets k.group) e (group_placed p is k claim) told.1 told.2)
-      tells_claim (groups.Group j f) told =
-          after_claims _ known (sym u.counted ∙ sym told.0, k, rest, reads, (all_unclaimed old b parts u.claims of marked (group_targets k.group) (group_placed p is k claim) told.1, told.2))
-      tells_claim groups.TooCheap told = absurd told
+      tells_claim : (f : GroupsFault) → ExplainsClaimFault p b number k f → ExplainsGroups p parts s f
+      tells_claim (groups.Text f) reported = absurd reported
+      tells_claim (groups.ClaimedTwice j) reported =
+          after_claims _ known (sym u.counted ∙ sym reported.0, k, rest, reads, claimed_twice old b parts u.claims of marked (group_targets k.group) (group_placed p is k claim) reported.1)
+      tells_claim (groups.ClaimedElsewhere j e) reported =
+          after_claims _ known (sym u.counted ∙ sym reported.0, k, rest, reads, claimed_before old b parts u.claims of marked (group_targets k.group) e (group_placed p is k claim) reported.1 reported.2)
+      tells_claim (groups.Group j f) reported =
+          after_claims _ known (sym u.counted ∙ sym reported.0, k, rest, reads, (all_unclaimed old b parts u.claims of marked (group_targets k.group) (group_placed p is k claim) reported.1, reported.2))
+      tells_claim groups.TooCheap reported = absurd reported
 
-      pub claim_fault : (bytes : List ℕ) → before ≡ Some bytes → is_groups bytes ≡ true → (e : SumFault) → TellsClaim p b number k e → TellsAdded p parts bytes e
-      claim_fault bytes e kind (fault.Groups n f) told = record { kind = kind; fault = subst (λ (z : Option (List ℕ)). TellsGroups p parts (stream_at fresh z) f) e (tells_claim f told.1) }
-      claim_fault bytes e kind fault.OutOfMemory told = tt
-      claim_fault bytes e kind (fault.Proof n f) told = absurd told
-      claim_fault bytes e kind (fault.ClaimedElsewhere n i o) told = absurd told
-      claim_fault bytes e kind (fault.TooLarge n) told = absurd told
+      pub claim_fault : (bytes : List ℕ) → before ≡ Some bytes → is_groups bytes ≡ true → (e : SumFault) → ExplainsClaim p b number k e → ExplainsAdded p parts bytes e
+      claim_fault bytes e kind (fault.Groups n f) reported = record { kind = kind; fault = subst (λ (z : Option (List ℕ)). ExplainsGroups p parts (stream_at fresh z) f) e (tells_claim f reported.1) }
+      claim_fault bytes e kind fault.OutOfMemory reported = tt
+      claim_fault bytes e kind (fault.Proof n f) reported = absurd reported
+      claim_fault bytes e kind (fault.ClaimedElsewhere n i o) reported = absurd reported
+      claim_fault bytes e kind (fault.TooLarge n) reported = absurd reported
 
     pub cheap_fault : (bytes : List ℕ) → before ≡ Some bytes → is_groups bytes ≡ true → (later : Option (List ℕ)) (after : Reader) → (is_some before ≡ true → group_at (sizes_of p) (stream_at r.fed now) ≡ Ok (None, stream_at after.fed later))
         → sum < r.bound → r.bound < 2 ^ 64 → IsGroupsFault p parts bytes groups.TooCheap
@@ -210,7 +210,7 @@ module _ (p : Problem) (is : IsInstance p) (before : Option (List ℕ)) (a : Sta
         let k : is_some before ≡ true = ap is_some e in
         record {
           kind = kind;
-          fault = subst (λ (z : Option (List ℕ)). TellsGroups p parts (stream_at fresh z) groups.TooCheap) e
+          fault = subst (λ (z : Option (List ℕ)). ExplainsGroups p parts (stream_at fresh z) groups.TooCheap) e
               (after_claims _ k (stream_at after.fed later, finish k, omega (arith, below, small, u.total)));
         }
 
@@ -236,29 +236,29 @@ read_is (group_text.Text t) e = ap group_text.Text (text_read t e)
     text_read text.OutOfMemory h = absurd cc
 
 -- a fault of the text is reported as a failed read, as being out of memory, or as a fault of the file
-told_cases : (P : SumFault → Type 0) (n : ℕ) (f : GroupTextFault) → (is_failed_read f ≡ true → P (read_failed_at n)) → P fault.OutOfMemory → (is_environmental f ≡ false → P (fault.Groups n (groups.Text f))) → P (told_text n f)
-told_cases P n f read memory other = on (is_failed_read f) refl (is_environmental f) refl
+reported_cases : (P : SumFault → Type 0) (n : ℕ) (f : GroupTextFault) → (is_failed_read f ≡ true → P (read_failed_at n)) → P fault.OutOfMemory → (is_environmental f ≡ false → P (fault.Groups n (groups.Text f))) → P (text_fault_at n f)
+reported_cases P n f read memory other = on (is_failed_read f) refl (is_environmental f) refl
   where
     on : (x : Bool) → is_failed_read f ≡ x → (y : Bool) → is_environmental f ≡ y → P (cond x (read_failed_at n) (cond y fault.OutOfMemory (fault.Groups n (groups.Text f))))
     on true e y g = read e
     on false e true g = memory
     on false e false g = other g
 
-pub told_memory : (n : ℕ) (f : GroupTextFault) → OutOfMemoryIsOneFault (told_text n f)
-told_memory n f = told_cases OutOfMemoryIsOneFault n f (λ e. (λ x. cc, λ x. cc)) tt (λ e. e)
+pub reported_memory : (n : ℕ) (f : GroupTextFault) → OutOfMemoryIsOneFault (text_fault_at n f)
+reported_memory n f = reported_cases OutOfMemoryIsOneFault n f (λ e. (λ x. cc, λ x. cc)) tt (λ e. e)
 
-pub told_number : (n : ℕ) (f : GroupTextFault) → IsNumbered n (told_text n f)
-told_number n f = told_cases (IsNumbered n) n f (λ e. refl) tt (λ e. refl)
+pub reported_number : (n : ℕ) (f : GroupTextFault) → IsNumbered n (text_fault_at n f)
+reported_number n f = reported_cases (IsNumbered n) n f (λ e. refl) tt (λ e. refl)
 
 -- only a failed read is reported as one
-pub told_read : (n : ℕ) (f : GroupTextFault) → told_text n f ≡ read_failed_at n → f ≡ group_text.Text read_failed
-told_read n f = told_cases (λ x. x ≡ read_failed_at n → f ≡ group_text.Text read_failed) n f (λ e h. read_is f e) (λ h. absurd cc) (λ e h. absurd cc)
+pub reported_read : (n : ℕ) (f : GroupTextFault) → text_fault_at n f ≡ read_failed_at n → f ≡ group_text.Text read_failed
+reported_read n f = reported_cases (λ x. x ≡ read_failed_at n → f ≡ group_text.Text read_failed) n f (λ e h. read_is f e) (λ h. absurd cc) (λ e h. absurd cc)
 
-pub told_added : (p : Problem) (parts : List Part) (bytes : List ℕ) → is_groups bytes ≡ true → (n : ℕ) (f : GroupTextFault)
+pub reported_added : (p : Problem) (parts : List Part) (bytes : List ℕ) → is_groups bytes ≡ true → (n : ℕ) (f : GroupTextFault)
     → (is_environmental f ≡ false → (header_at (stream_of bytes) ≡ Err f) ⊎ AfterClaims p parts (stream_of bytes) (λ b claims rest. (t : TextFault) × (f ≡ group_text.Text t) × (group_at (sizes_of p) rest ≡ Err t)))
-    → TellsAdded p parts bytes (told_text n f)
-told_added p parts bytes kind n f tells =
-    told_cases (TellsAdded p parts bytes) n f (λ e. record { kind = inl refl; fault = (λ x. cc, inl tt) }) tt (λ e. record { kind = kind; fault = (e, tells e) })
+    → ExplainsAdded p parts bytes (text_fault_at n f)
+reported_added p parts bytes kind n f explains =
+    reported_cases (ExplainsAdded p parts bytes) n f (λ e. record { kind = inl refl; fault = (λ x. cc, inl tt) }) tt (λ e. record { kind = kind; fault = (e, explains e) })
 
 loud : (b : Bool) (P : Type 0) → OnFalse b P → b ≡ false → P
 loud true P h e = absurd cc
@@ -266,9 +266,9 @@ loud false P h e = h
 
 -- the header fails
 pub header_fault : (p : Problem) (parts : List Part) (bytes : List ℕ) (before now : Option (List ℕ)) → before ≡ Some bytes → is_groups bytes ≡ true → (n : ℕ) (f : GroupTextFault)
-    → (is_some before ≡ true → IsHeaderReadingOf (stream_at fresh before) (Err f) now) → TellsAdded p parts bytes (told_text n f)
+    → (is_some before ≡ true → IsHeaderReadingOf (stream_at fresh before) (Err f) now) → ExplainsAdded p parts bytes (text_fault_at n f)
 header_fault p parts bytes before now e kind n f says =
-    told_added p parts bytes kind n f
+    reported_added p parts bytes kind n f
     (λ l. inl (subst (λ (z : Option (List ℕ)). header_at (stream_at fresh z) ≡ Err f) e (loud (is_environmental f) (header_at (stream_at fresh before) ≡ Err f) (says (ap is_some e)) l)))
 
 -- a failed read within the header
@@ -280,10 +280,10 @@ header_cut p before now f is known cut =
 module _ (p : Problem) (is : IsInstance p) (before : Option (List ℕ)) (a : State) (r : Reader) (now : Option (List ℕ)) (b : State) (number sum : ℕ) (u : Underway p before a r now b number sum)
     (after : Reader) (later : Option (List ℕ)) (t : TextFault) where
   pub text_fault : (parts : List Part) (old : State) → IsTableOf old parts → a ≡ begun old → (is_some now ≡ true → IsReadingOf r (stream_at r.fed now) (Err t) (stream_at after.fed later)) → (bytes : List ℕ) → before ≡ Some bytes
-      → is_groups bytes ≡ true → (n : ℕ) → TellsAdded p parts bytes (told_text n (group_text.Text t))
+      → is_groups bytes ≡ true → (n : ℕ) → ExplainsAdded p parts bytes (text_fault_at n (group_text.Text t))
   text_fault parts old of begins says bytes e kind n =
       let k : is_some before ≡ true = ap is_some e in
-      told_added p parts bytes kind n (group_text.Text t)
+      reported_added p parts bytes kind n (group_text.Text t)
       (λ l. inr (subst (λ (z : Option (List ℕ)). AfterClaims p parts (stream_at fresh z) (λ b claims rest. (x : TextFault) × (group_text.Text t ≡ group_text.Text x) × (group_at (sizes_of p) rest ≡ Err x))) e
       (after_claims p is before a r now b number sum u parts old of begins _ k
       (t, refl, subst (λ (z : Sizes). group_at z (stream_at r.fed now) ≡ Err t) u.sizes (loud (is_environmental (group_text.Text t)) (group_at r.sizes (stream_at r.fed now) ≡ Err t) (says (u.known k)) l)))))
@@ -327,7 +327,7 @@ abbrev failed : SumFault → Result Bound SumFault
 failed e = Err e
 
 -- a fault of the text that is reported as a failed read is a failed read
-pub told_failed : (result : SumFault) (file n : ℕ) (f : GroupTextFault) → result ≡ told_text file f → file ≡ n → failed result ≡ failed (read_failed_at n) → f ≡ group_text.Text read_failed
-told_failed result file n f told same e =
+pub reported_failed : (result : SumFault) (file n : ℕ) (f : GroupTextFault) → result ≡ text_fault_at file f → file ≡ n → failed result ≡ failed (read_failed_at n) → f ≡ group_text.Text read_failed
+reported_failed result file n f reported same e =
     let is : result ≡ read_failed_at n = cc in
-    told_read file f (sym told ∙ is ∙ ap read_failed_at (sym same))
+    reported_read file f (sym reported ∙ is ∙ ap read_failed_at (sym same))

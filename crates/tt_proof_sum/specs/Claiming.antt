@@ -24,17 +24,17 @@ use Rattle.tt_proof_sum.specs.Sums.{targets_of_claims, Part}
 use Rattle.tt_proof_sum.specs.Tables.{State, owner, begun, group_places, first_owner, Marks, IsTableOf}
 
 -- The meaning of a refusal of the claim with number i, with the table before it.
-abbrev pub TellsOfClaim : Problem → State → ℕ → GroupClaim → GroupsFault → Type 0
-TellsOfClaim p a i k (groups.Text f) = ⊥
-TellsOfClaim p a i k (groups.ClaimedTwice j) = (j ≡ i) × (first_owner a (group_places k.group) ≡ Some a.proof)
-TellsOfClaim p a i k (groups.ClaimedElsewhere j e) = (j ≡ i) × (first_owner a (group_places k.group) ≡ Some e) × ¬ (e ≡ a.proof)
-TellsOfClaim p a i k (groups.Group j f) = (j ≡ i) × (first_owner a (group_places k.group) ≡ None) × IsRefusal p k f
-TellsOfClaim p a i k groups.TooCheap = ⊥
+abbrev pub ExplainsClaimFault : Problem → State → ℕ → GroupClaim → GroupsFault → Type 0
+ExplainsClaimFault p a i k (groups.Text f) = ⊥
+ExplainsClaimFault p a i k (groups.ClaimedTwice j) = (j ≡ i) × (first_owner a (group_places k.group) ≡ Some a.proof)
+ExplainsClaimFault p a i k (groups.ClaimedElsewhere j e) = (j ≡ i) × (first_owner a (group_places k.group) ≡ Some e) × ¬ (e ≡ a.proof)
+ExplainsClaimFault p a i k (groups.Group j f) = (j ≡ i) × (first_owner a (group_places k.group) ≡ None) × IsRefusal p k f
+ExplainsClaimFault p a i k groups.TooCheap = ⊥
 
-abbrev pub TellsClaim : Problem → State → ℕ → GroupClaim → SumFault → Type 0
-TellsClaim p a i k (fault.Groups n f) = (n ≡ a.proof) × TellsOfClaim p a i k f
-TellsClaim p a i k fault.OutOfMemory = ⊤
-TellsClaim p a i k _ = ⊥
+abbrev pub ExplainsClaim : Problem → State → ℕ → GroupClaim → SumFault → Type 0
+ExplainsClaim p a i k (fault.Groups n f) = (n ≡ a.proof) × ExplainsClaimFault p a i k f
+ExplainsClaim p a i k fault.OutOfMemory = ⊤
+ExplainsClaim p a i k _ = ⊥
 
 -- The stream is a header with this bound and these claims, and then `rest`.
 pub record ReadsTo (p : Problem) (s : Stream) (b : ℕ) (claims : List GroupClaim) (rest : Stream) : Type 0 where

@@ -21,7 +21,7 @@ use Rattle.tt_proof_sum.specs.declared.fault.SumFault.{SumFault}
 use Rattle.tt_proof_sum.specs.declared.fault.SumFault.TheVariants.{Proof, Groups, ClaimedElsewhere, TooLarge, OutOfMemory}
 use Rattle.tt_proof_sum.specs.declared.groups_fault.GroupsFault.{GroupsFault}
 use Rattle.tt_proof_sum.specs.declared.groups_fault.GroupsFault.TheVariants as groups
-use Rattle.tt_proof_sum.specs.GroupsFaults.{IsOfFile, IsLeftOpen, TellsGroups}
+use Rattle.tt_proof_sum.specs.GroupsFaults.{IsOfFile, IsLeftOpen, ExplainsGroups}
 use Rattle.tt_proof_sum.specs.Sums.{is_among, are_apart, TreePart, Part, IsTreePart, IsPart, bound_of, claims_of, AreApart}
 use Rattle.tt_proof_sum.specs.Tables.{claims_at}
 
@@ -63,15 +63,15 @@ pub record IsTreeFault (p : Problem) (bytes : List ℕ) (f : CheckFault) : Type 
 -- The text is a file of groups, and has this fault.
 pub record IsGroupsFault (p : Problem) (parts : List Part) (bytes : List ℕ) (f : GroupsFault) : Type 0 where
   pub kind : is_groups bytes ≡ true
-  pub fault : TellsGroups p parts (stream_of bytes) f
+  pub fault : ExplainsGroups p parts (stream_of bytes) f
 
 -- The meaning of a fault of another file.
-abbrev pub TellsAdded : Problem → List Part → List ℕ → SumFault → Type 0
-TellsAdded p parts bytes (Proof n f) = IsTreeFault p bytes f
-TellsAdded p parts bytes (Groups n f) = IsGroupsFault p parts bytes f
-TellsAdded p parts bytes (ClaimedElsewhere n i e) = IsClaimedElsewhere p parts bytes i e
-TellsAdded p parts bytes (TooLarge n) = IsTooLarge p parts bytes
-TellsAdded p parts bytes OutOfMemory = ⊤
+abbrev pub ExplainsAdded : Problem → List Part → List ℕ → SumFault → Type 0
+ExplainsAdded p parts bytes (Proof n f) = IsTreeFault p bytes f
+ExplainsAdded p parts bytes (Groups n f) = IsGroupsFault p parts bytes f
+ExplainsAdded p parts bytes (ClaimedElsewhere n i e) = IsClaimedElsewhere p parts bytes i e
+ExplainsAdded p parts bytes (TooLarge n) = IsTooLarge p parts bytes
+ExplainsAdded p parts bytes OutOfMemory = ⊤
 
 -- The fault reports the number of the file.
 abbrev pub IsNumbered : ℕ → SumFault → Type 0
@@ -93,7 +93,7 @@ pub record IsRefused (p : Problem) (files : List (List ℕ)) (e : SumFault) : Ty
   pub each : AllZip (IsPart p) before parts
   pub apart : AreApart parts
   pub numbered : IsNumbered (length parts + 1) e
-  pub tells : TellsAdded p parts bytes e
+  pub explains : ExplainsAdded p parts bytes e
 
 -- The fault is that of the first file that can't be added to those before it.
 abbrev pub IsSumFault : Problem → List (List ℕ) → SumFault → Type 0
@@ -102,9 +102,9 @@ IsSumFault p files e = IsRefused p files e
 
 -- ---- memory, and reads that failed
 
-abbrev pub told_proof : ℕ → CheckFault → SumFault
-told_proof n check.OutOfMemory = OutOfMemory
-told_proof n f = Proof n f
+abbrev pub proof_fault_at : ℕ → CheckFault → SumFault
+proof_fault_at n check.OutOfMemory = OutOfMemory
+proof_fault_at n f = Proof n f
 
 -- A read of this file failed, of whichever kind the file is.
 abbrev pub read_failed_at : ℕ → SumFault
@@ -116,8 +116,8 @@ is_failed_read_at n (Proof m f) = (m == n) && checks.is_failed_read f
 is_failed_read_at n _ = false
 
 -- The fault of a file of groups for a fault of its text.
-abbrev pub told_text : ℕ → GroupTextFault → SumFault
-told_text n f = if is_failed_read f then read_failed_at n else (if is_environmental f then OutOfMemory else Groups n (groups.Text f))
+abbrev pub text_fault_at : ℕ → GroupTextFault → SumFault
+text_fault_at n f = if is_failed_read f then read_failed_at n else (if is_environmental f then OutOfMemory else Groups n (groups.Text f))
 
 -- Being out of memory is a single fault.
 abbrev pub OutOfMemoryIsOneFault : SumFault → Type 0

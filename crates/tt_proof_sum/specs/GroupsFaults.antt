@@ -87,16 +87,16 @@ IsRefusal p k group.OutOfMemory = ⊥
 
 -- The meaning of a fault of a text whose stream is s. It is the first fault: for each claim first its text, then the first of its targets that
 -- is claimed already, then the limits of its check in their order; and last that all values together are below the bound.
-abbrev pub TellsGroups : Problem → List Part → Stream → GroupsFault → Type 0
-TellsGroups p parts s (Text f) =
+abbrev pub ExplainsGroups : Problem → List Part → Stream → GroupsFault → Type 0
+ExplainsGroups p parts s (Text f) =
     (is_environmental f ≡ false)
     × ((header_at s ≡ Err f) ⊎ AfterClaims p parts s (λ b claims rest. (t : TextFault) × (f ≡ text.Text t) × (group_at (sizes_of p) rest ≡ Err t)))
-TellsGroups p parts s (ClaimedTwice i) =
+ExplainsGroups p parts s (ClaimedTwice i) =
     AtClaim p parts s i (λ claims k. FirstClaimed parts claims (group_targets k.group) (λ y. is_among (targets_of_claims claims) y ≡ true))
-TellsGroups p parts s (ClaimedElsewhere i e) = AtClaim p parts s i (λ claims k. FirstClaimed parts claims (group_targets k.group) (IsClaimedBy parts e))
-TellsGroups p parts s (Group i f) =
+ExplainsGroups p parts s (ClaimedElsewhere i e) = AtClaim p parts s i (λ claims k. FirstClaimed parts claims (group_targets k.group) (IsClaimedBy parts e))
+ExplainsGroups p parts s (Group i f) =
     AtClaim p parts s i (λ claims k. (list_all (is_unclaimed parts claims) (group_targets k.group) ≡ true) × IsRefusal p k f)
-TellsGroups p parts s TooCheap =
+ExplainsGroups p parts s TooCheap =
     AfterClaims p parts s (λ b claims rest. (after : Stream) × (group_at (sizes_of p) rest ≡ Ok (None, after)) × (sum_by (λ k. k.value) claims < b))
 
 -- The fault belongs to the file: it is neither being out of memory nor a failed read.

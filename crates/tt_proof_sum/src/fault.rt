@@ -2,7 +2,7 @@
 
 ghost use Rattle.std.specs.Prelude.{◌≡◌, false};
 ghost use Rattle.tt_groups_read.specs.Faults.{is_failed_read, is_environmental};
-ghost use Rattle.tt_proof_sum.specs.Faults.{told_proof, told_text, read_failed_at};
+ghost use Rattle.tt_proof_sum.specs.Faults.{proof_fault_at, text_fault_at, read_failed_at};
 
 use crate::groups_fault::GroupsFault;
 use std::alloc::AllocError;
@@ -61,7 +61,7 @@ impl Error for SumFault {}
 
 /// Returns the fault of the proof with this number.
 pub fn fault_of_proof(number: u64, fault: CheckFault) -> SumFault
-    ensures { result ≡ told_proof number fault }
+    ensures { result ≡ proof_fault_at number fault }
 {
     match fault {
         CheckFault::OutOfMemory => SumFault::OutOfMemory,
@@ -93,7 +93,7 @@ fn is_out_of_memory(fault: &GroupTextFault) -> bool
 
 /// Returns the fault of the text of the file of groups with this number.
 pub fn fault_of_text(number: u64, fault: GroupTextFault) -> SumFault
-    ensures { result ≡ told_text number fault }
+    ensures { result ≡ text_fault_at number fault }
 {
     if is_failed_read(&fault) {
         read_failed(number)

@@ -9,9 +9,9 @@ ghost use Rattle.tt_leaf_rules.specs.declared.leaf.Bound.TheVariants.{AtLeast};
 ghost use Rattle.tt_text_peek.specs.Fronts.{is_groups};
 ghost use Rattle.tt_proof_check.specs.FailedReads.{HoldsOfGiven};
 ghost use Rattle.tt_proof_sum.specs.Added.{Joins, IsOfKind};
-ghost use Rattle.tt_proof_sum.specs.Claiming.{TellsClaim};
+ghost use Rattle.tt_proof_sum.specs.Claiming.{ExplainsClaim};
 ghost use Rattle.tt_text.specs.Failures.{is_err_and};
-ghost use Rattle.tt_proof_sum.specs.Faults.{TellsAdded, IsNumbered, OutOfMemoryIsOneFault, read_failed_at, is_failed_read_at};
+ghost use Rattle.tt_proof_sum.specs.Faults.{ExplainsAdded, IsNumbered, OutOfMemoryIsOneFault, read_failed_at, is_failed_read_at};
 ghost use Rattle.tt_proof_sum.specs.Sums.{Part};
 ghost use Rattle.tt_proof_sum.specs.Tables.{State, IsTableOf, begun, group_places, first_owner, Marks};
 ghost use Rattle.tt_proof_sum.specs.UpToFailedRead.{AreGroupsCutOff};
@@ -55,7 +55,7 @@ fn take_claim(
     ensures free { OnOk result (first_owner table.old (group_places claim.now.group) ≡ None) }
     ensures marks { OnOk result (Marks table.old (group_places claim.now.group) table.new) }
     ensures holds { OnOk result (IsGroupBound instance.now claim.now.group claim.now.value) }
-    ensures fault { IfErr result (TellsClaim instance.now table.old number claim.now) }
+    ensures fault { IfErr result (ExplainsClaim instance.now table.old number claim.now) }
     ensures memory { IfErr result OutOfMemoryIsOneFault }
 {
     let file = table.proof();
@@ -95,7 +95,7 @@ pub fn take_groups<R: Source>(
         Keeps known (R.remaining source.old) → IsOfKind true known → Joins instance.now known parts table.new b) }
     ensures proof { OnOk result (table.new.proof ≡ table.old.proof) }
     ensures fault { IfErr result (λ e. (before : State) (parts : List Part) (bytes : List ℕ) → IsTableOf before parts → table.old ≡ begun before →
-        R.remaining source.old ≡ Some bytes → is_groups bytes ≡ true → TellsAdded instance.now parts bytes e) }
+        R.remaining source.old ≡ Some bytes → is_groups bytes ≡ true → ExplainsAdded instance.now parts bytes e) }
     ensures numbered { IfErr result (IsNumbered table.old.proof) }
     ensures failed { R.has_failed source.new ≡ (if is_err_and result (is_failed_read_at table.old.proof) then true else R.has_failed source.old) }
     ensures memory { IfErr result OutOfMemoryIsOneFault }

@@ -5,7 +5,7 @@ ghost use Rattle.tt_text_peek.specs.Fronts.{is_groups};
 ghost use Rattle.tt_text.specs.Failures.{is_err_and};
 ghost use Rattle.tt_proof_check.specs.FailedReads.{IsCheckedUpToFailedRead};
 ghost use Rattle.tt_proof_sum.specs.Added.{Joins};
-ghost use Rattle.tt_proof_sum.specs.Faults.{TellsAdded, IsNumbered, OutOfMemoryIsOneFault, read_failed_at, is_failed_read_at};
+ghost use Rattle.tt_proof_sum.specs.Faults.{ExplainsAdded, IsNumbered, OutOfMemoryIsOneFault, read_failed_at, is_failed_read_at};
 ghost use Rattle.tt_proof_sum.specs.Sums.{Part};
 ghost use Rattle.tt_proof_sum.specs.Tables.{State, IsTableOf, begun};
 ghost use Rattle.tt_proof_sum.specs.UpToFailedRead.{IsFileCheckedUpToFailedRead};
@@ -32,7 +32,7 @@ fn take_proof<R: Source>(
         Joins instance.now (R.remaining source.old) parts table.new b) }
     ensures proof { OnOk result (table.new.proof ≡ table.old.proof) }
     ensures fault { IfErr result (λ e. (before : State) (parts : List Part) (bytes : List ℕ) → IsTableOf before parts → table.old ≡ begun before →
-        R.remaining source.old ≡ Some bytes → is_groups bytes ≡ false → TellsAdded instance.now parts bytes e) }
+        R.remaining source.old ≡ Some bytes → is_groups bytes ≡ false → ExplainsAdded instance.now parts bytes e) }
     ensures numbered { IfErr result (IsNumbered table.old.proof) }
     ensures failed { R.has_failed source.new ≡ (if is_err_and result (is_failed_read_at table.old.proof) then true else R.has_failed source.old) }
     ensures memory { IfErr result OutOfMemoryIsOneFault }
@@ -67,7 +67,7 @@ pub fn take_file<R: Peek>(
     ensures joins { IfOk result (λ b. (parts : List Part) → IsTableOf table.old parts → Joins instance.now (R.remaining source.old) parts table.new b) }
     ensures next { OnOk result (table.new.proof ≡ table.old.proof + 1) }
     ensures fault { IfErr result (λ e. (parts : List Part) (bytes : List ℕ) → IsTableOf table.old parts → R.remaining source.old ≡ Some bytes →
-        TellsAdded instance.now parts bytes e) }
+        ExplainsAdded instance.now parts bytes e) }
     ensures numbered { IfErr result (IsNumbered (table.old.proof + 1)) }
     ensures failed { R.has_failed source.new ≡ (if is_err_and result (is_failed_read_at (table.old.proof + 1)) then true else R.has_failed source.old) }
     ensures memory { IfErr result OutOfMemoryIsOneFault }

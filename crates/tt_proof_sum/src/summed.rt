@@ -3,7 +3,7 @@
 ghost use Rattle.std.specs.Prelude.{◌≡◌, ◌+◌, ◌<◌, ◌≤◌, ◌^◌, ℕ, List, [], ◌++◌, ◌∷◌, Some, Err, true, if◌then◌else◌, IfOk, IfErr, MatchOption};
 ghost use Rattle.tt_proof_sum.specs.Added.{IsSumOf, Adds, due};
 ghost use Rattle.tt_text.specs.Failures.{is_err_and};
-ghost use Rattle.tt_proof_sum.specs.Faults.{TellsAdded, IsNumbered, OutOfMemoryIsOneFault, IsSilentSum, read_failed_at, is_failed_read_at, points, all_points};
+ghost use Rattle.tt_proof_sum.specs.Faults.{ExplainsAdded, IsNumbered, OutOfMemoryIsOneFault, IsSilentSum, read_failed_at, is_failed_read_at, points, all_points};
 ghost use Rattle.tt_proof_sum.specs.Sums.{Part, IsPart, AreApart, both_bounds, sum_of};
 ghost use Rattle.tt_proof_sum.specs.UpToFailedRead.{IsFileCheckedUpToFailedRead};
 
@@ -66,7 +66,7 @@ impl Sum {
             IsPart instance.now bytes part → AreApart (parts ++ part ∷ []) → all_points (parts ++ part ∷ []) < 2 ^ 64 → IfErr result IsSilentSum }
         // A refusal reports the first fault.
         ensures fault { IfErr result (λ e. (parts : List Part) (bytes : List ℕ) → IsSumOf self parts → R.remaining source.old ≡ Some bytes →
-            TellsAdded instance.now parts bytes e) }
+            ExplainsAdded instance.now parts bytes e) }
         ensures numbered { IfErr result (IsNumbered (due self)) }
         // A failed read is reported exactly if a read failed.
         ensures failed { R.has_failed source.new ≡ (if is_err_and result (is_failed_read_at (due self)) then true else R.has_failed source.old) }

@@ -85,8 +85,8 @@ shallow_to : (nodes : List Node) → IsPreorder nodes → AreShallow nodes → a
 shallow_to nodes is h = ap (are_shallow 0 []) (sym is.1) ∙ whole is.0 ∙ paths_shallow is.0 [] 0 refl (h is.0 is.1)
 
 -- the test returns whether the nodes of a tree are not too deep
-pub depth_told : (nodes : List Node) (answer : Bool) → IsPreorder nodes → answer ≡ are_shallow 0 [] nodes → IsTrue answer ↔ AreShallow nodes
-depth_told nodes answer tree is = (λ t. shallow_from nodes (sym is ∙ t), λ h. is ∙ shallow_to nodes tree h)
+pub depth_reported : (nodes : List Node) (answer : Bool) → IsPreorder nodes → answer ≡ are_shallow 0 [] nodes → IsTrue answer ↔ AreShallow nodes
+depth_reported nodes answer tree is = (λ t. shallow_from nodes (sym is ∙ t), λ h. is ∙ shallow_to nodes tree h)
 
 -- -- the second children that are not read yet
 
@@ -137,13 +137,13 @@ node_read d ds nodes i node read below is e = at_drop_more (are_shallow d ds) no
 
 -- the invariant of a walk at a node at depth d, with second children at the depths ds still to come
 pub record KeepsDepths (nodes : List Node) (i d : ℕ) (ds : List ℕ) : Type 0 where
-  pub told : are_shallow d ds (drop i nodes) ≡ are_shallow 0 [] nodes
+  pub reported : are_shallow d ds (drop i nodes) ≡ are_shallow 0 [] nodes
   pub low : d ≤ MAX_FACTS
   pub falling : AreFalling d ds
 
 -- at the first node, no second child is still to come
 pub walk_begins : (nodes : List Node) (pending : List ℕ) → pending ≡ [] → KeepsDepths nodes 0 0 (reverse pending)
-walk_begins nodes pending none = rw none (record { told = refl; low = lit≤ tt; falling = tt })
+walk_begins nodes pending none = rw none (record { reported = refl; low = lit≤ tt; falling = tt })
 
 -- there is room for another second child if the depth is not too great
 pub walk_room : (nodes : List Node) (i d : ℕ) (pending : List ℕ) → KeepsDepths nodes i d (reverse pending) → d ≢ MAX_FACTS → length pending < MAX_FACTS
@@ -158,7 +158,7 @@ walk_split nodes i d e old new node g below is split free deeper pushed keeps =
     let here : are_shallow d ds (Split g ∷ drop (i + 1) nodes) ≡ are_shallow (d + 1) ((d + 1) ∷ ds) (drop (i + 1) nodes) = rw (lt-ltb d MAX_FACTS within) refl in
     rw (deeper, reverse_pushed old new (d + 1) pushed)
     (record {
-      told = sym here ∙ sym (node_read d ds nodes i node (Split g) below is split) ∙ keeps.told;
+      reported = sym here ∙ sym (node_read d ds nodes i node (Split g) below is split) ∙ keeps.reported;
       low = omega arith;
       falling = (omega arith, omega (arith, length-falling d ds keeps.falling), falling_deeper d ds keeps.falling);
     })
@@ -171,7 +171,7 @@ walk_leaf nodes i d e old new node leaf popped below is closed next split_off so
     let last = reverse_popped old new popped split_off some in
     rw (next, ← last.0, ← last.1)
     (record {
-      told = sym (node_read d ds nodes i node (Leaf leaf) below is closed) ∙ keeps.told;
+      reported = sym (node_read d ds nodes i node (Leaf leaf) below is closed) ∙ keeps.reported;
       low = omega (arith, keeps.low, next_low d ds keeps.falling);
       falling = next_falling d ds keeps.falling;
     })
@@ -180,8 +180,8 @@ walk_leaf nodes i d e old new node leaf popped below is closed next split_off so
 pub walk_too_deep : (nodes : List Node) (i d : ℕ) (ds : List ℕ) (node : Node) (g : Pattern) → IsPreorder nodes → KeepsDepths nodes i d ds → i < length nodes → node ≡ get_or nodes i node → node ≡ Split g → d ≡ MAX_FACTS → IsTrue false ↔ AreShallow nodes
 walk_too_deep nodes i d ds node g tree keeps below is split deep =
     let here : are_shallow d ds (Split g ∷ drop (i + 1) nodes) ≡ false = rw deep refl in
-    depth_told nodes false tree (sym here ∙ sym (node_read d ds nodes i node (Split g) below is split) ∙ keeps.told)
+    depth_reported nodes false tree (sym here ∙ sym (node_read d ds nodes i node (Split g) below is split) ∙ keeps.reported)
 
 -- at the end of the walk, no node is too deep
 pub walk_done : (nodes : List Node) (i d : ℕ) (ds : List ℕ) → IsPreorder nodes → KeepsDepths nodes i d ds → length nodes ≤ i → IsTrue true ↔ AreShallow nodes
-walk_done nodes i d ds tree keeps end = depth_told nodes true tree (sym (at_drop_all (are_shallow d ds) nodes i end) ∙ keeps.told)
+walk_done nodes i d ds tree keeps end = depth_reported nodes true tree (sym (at_drop_all (are_shallow d ds) nodes i end) ∙ keeps.reported)

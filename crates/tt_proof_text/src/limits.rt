@@ -43,7 +43,7 @@ fn is_short_node(node: &Node) -> bool
     }
 }
 
-fn have_short_prices(nodes: &[Node]) -> bool
+fn has_short_prices(nodes: &[Node]) -> bool
     ensures { IsTrue result ↔ All HasShortPrices nodes.now }
 {
     nodes.iter().all(is_short_node)
@@ -65,7 +65,7 @@ pub fn are_within(bound: Bound, nodes: &[Node]) -> bool
 {
     is_bound(bound)
         && nodes.len() <= MAX_PROOF_NODES as usize
-        && have_short_prices(nodes)
+        && has_short_prices(nodes)
         && is_shallow(nodes)
 }
 

@@ -38,7 +38,7 @@ fn against(instance: &Instance<'_>, by_period: &Groups<'_>, entry: &Entry, index
 /// Counts the pairs of entries that collide.
 pub fn count(instance: &Instance<'_>, entries: &[Entry], by_period: &Groups<'_>) -> u64
     requires by { by_period.now.by ≡ by.Period instance.now.periods }
-    requires same { by_period.now.entries ≡ entries.now }
+    requires entries { by_period.now.entries ≡ entries.now }
     requires in_range { All (InRange instance.now) entries.now }
     requires at_most { length entries.now ≤ MAX_ENTRIES }
     ensures count { result ≡ conflicts_count instance.now entries.now }

@@ -7,7 +7,7 @@ use tt_moves::Change;
 /// Decides whether a walk makes a step with this change: always if it breaks fewer hard rules, never if it breaks more, and otherwise at
 /// random, less often the more it costs. The temperature is the added cost, in thousandths, that is accepted half of the time; of `level`
 /// steps that change no cost, one is made.
-pub fn admits(rng: &mut Pcg32, temperature: u64, level: u32, change: Change) -> bool {
+pub fn is_accepted(rng: &mut Pcg32, temperature: u64, level: u32, change: Change) -> bool {
     if change.hard != 0 {
         return change.hard < 0;
     }

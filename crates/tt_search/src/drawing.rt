@@ -4,7 +4,7 @@ ghost use Rattle.std.specs.Prelude.{◌<◌, length, IfSome};
 ghost use Rattle.tt_moves.specs.Pricing.{IsEntryCost};
 ghost use Rattle.tt_moves.specs.Steps.{CanStep, first_of};
 
-use crate::acceptance::admits;
+use crate::acceptance::is_accepted;
 use crate::cell_entries::CellEntries;
 use crate::cooling::Cooling;
 use crate::open::Open;
@@ -56,7 +56,7 @@ fn draw_of(
         cooling.sample();
         if let Some(step) = sample(occupied, cells, open, rng, entry) {
             if let Some(change) = allowed_change(occupied, step, before, is_feasible) {
-                if admits(rng, temperature, level, change) {
+                if is_accepted(rng, temperature, level, change) {
                     return Some(step);
                 }
             }

@@ -12,7 +12,7 @@ use crate::phases::{Phase, phases};
 use crate::planning::walk_by_plans;
 use crate::restoring::restore;
 use crate::schedule::Schedule;
-use crate::settled::seems_settled;
+use crate::settled::is_settled;
 use crate::walking::{Walker, walk};
 use crate::watch::{Span, Unwatched, Watch};
 use rand_pcg::Pcg32;
@@ -143,7 +143,7 @@ fn walk_to_best<W: Watch>(
     let mut walker = Walker::new(alloc, occupied, seed)?;
     let mut replanner = Replanner::new(alloc, occupied)?;
     walker.begin(occupied);
-    let is_settled = seems_settled(occupied, &mut walker);
+    let is_settled = is_settled(occupied, &mut walker);
     let made = walk_phases(
         occupied,
         &mut best,
@@ -181,7 +181,7 @@ pub fn improve_watched<W: Watch>(
     watch: &mut W,
 ) -> Result<Timetable, AllocError>
     requires { IsTimetable instance.now table }
-    ensures kept { IfOk result (IsNoWorse instance.now table) }
+    ensures no_worse { IfOk result (IsNoWorse instance.now table) }
     ensures descended { IfOk result (IsDescended instance.now table (steps / 2) (steps - steps / 2)) }
 {
     let draws = steps / 2;
@@ -204,7 +204,7 @@ pub fn improve(
     steps: u64,
 ) -> Result<Timetable, AllocError>
     requires { IsTimetable instance.now table }
-    ensures kept { IfOk result (IsNoWorse instance.now table) }
+    ensures no_worse { IfOk result (IsNoWorse instance.now table) }
     ensures descended { IfOk result (IsDescended instance.now table (steps / 2) (steps - steps / 2)) }
 {
     improve_watched(alloc, instance, table, seed, steps, &mut Unwatched)

@@ -32,7 +32,7 @@ pub fn any_slot(instance: &Instance<'_>, rng: &mut Pcg32) -> Slot
 }
 
 /// Checks that an entry breaks no hard rule in a period, except possibly the room's. `gone` of the conflicting entries in it do not count.
-pub fn may_stand(occupied: &Occupied<'_, '_>, entry: Entry, slot: Slot, gone: u32) -> bool
+pub fn can_be_in(occupied: &Occupied<'_, '_>, entry: Entry, slot: Slot, gone: u32) -> bool
     requires in_range { InRange occupied.now.problem entry }
     requires day { slot.day < occupied.now.problem.days }
     requires period { slot.period < occupied.now.problem.periods }
@@ -48,7 +48,7 @@ pub fn may_stand(occupied: &Occupied<'_, '_>, entry: Entry, slot: Slot, gone: u3
 
 /// Checks that two entries each break no hard rule in the other's place. For the first this is already known, unless an entry in
 /// that place conflicts with it.
-pub fn may_change_places(
+pub fn can_change_places(
     occupied: &Occupied<'_, '_>,
     one: Entry,
     other: Entry,
@@ -58,5 +58,5 @@ pub fn may_change_places(
     requires other { InRange occupied.now.problem other }
 {
     let excludes = !is_free && occupied.instance().conflict(one.course, other.course);
-    (is_free || excludes) && may_stand(occupied, other, slot_of(one), u32::from(excludes))
+    (is_free || excludes) && can_be_in(occupied, other, slot_of(one), u32::from(excludes))
 }

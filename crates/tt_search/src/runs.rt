@@ -22,7 +22,7 @@ pub fn improve_in_runs<W: Watch>(
     watch: &mut W,
 ) -> Result<Timetable, AllocError>
     requires { IsTimetable instance.now table }
-    ensures kept { IfOk result (IsNoWorse instance.now table) }
+    ensures no_worse { IfOk result (IsNoWorse instance.now table) }
     ensures runs { IfOk result (Runs instance.now table (steps / 2) (steps - steps / 2) runs) }
 {
     let mut table = table;

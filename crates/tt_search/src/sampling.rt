@@ -6,9 +6,9 @@ ghost use Rattle.tt_moves.specs.Steps.{CanStep, first_of};
 
 use crate::cell_entries::CellEntries;
 use crate::open::Open;
-use crate::places::{any_slot, may_change_places, slot_of};
+use crate::places::{any_slot, can_change_places, slot_of};
 use crate::random::below;
-use crate::violations::costs_or_breaks;
+use crate::violations::has_cost_or_fault;
 use rand_pcg::Pcg32;
 use tt_instance::Slot;
 use tt_moves::Step;
@@ -40,7 +40,7 @@ fn costly_entry(occupied: &Occupied<'_, '_>, rng: &mut Pcg32) -> u32
 {
     for _ in 0..LOOKS {
         let index = any_entry(occupied, rng);
-        if costs_or_breaks(occupied, occupied.entry(index)) {
+        if has_cost_or_fault(occupied, occupied.entry(index)) {
             return index;
         }
     }
@@ -94,7 +94,7 @@ fn is_open(occupied: &Occupied<'_, '_>, step: Step, is_free: bool) -> bool
 {
     match step {
         Step::Move { .. } => is_free,
-        Step::Swap { first, second } => may_change_places(
+        Step::Swap { first, second } => can_change_places(
             occupied,
             occupied.entry(first),
             occupied.entry(second),

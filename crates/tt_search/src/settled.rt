@@ -17,7 +17,7 @@ use tt_occupancy::Occupied;
 const ENTRIES_LOOKED_AT: u32 = 200;
 
 /// Checks whether one of some samples of an entry lowers a timetable that breaks no hard rule.
-fn falls_by(
+fn has_lowering_sample(
     occupied: &Occupied<'_, '_>,
     cells: &CellEntries,
     open: &Open,
@@ -40,7 +40,7 @@ fn falls_by(
 
 /// Checks that the timetable with which a walker began breaks no hard rule, and that none of the samples tried
 /// lowers it. No memory is allocated.
-pub fn seems_settled(occupied: &Occupied<'_, '_>, walker: &mut Walker) -> bool
+pub fn is_settled(occupied: &Occupied<'_, '_>, walker: &mut Walker) -> bool
     requires { 0 < length occupied.now.entries }
     ensures feasible { result ≡ true → hard occupied.now.problem occupied.now.entries ≡ 0 }
     ensures unsettled { result ≡ false → (0 < hard occupied.now.problem occupied.now.entries)
@@ -52,7 +52,7 @@ pub fn seems_settled(occupied: &Occupied<'_, '_>, walker: &mut Walker) -> bool
     for _ in 0..ENTRIES_LOOKED_AT {
         let entry = entry_to_move(occupied, &mut walker.rng);
         walker.open.find(occupied, occupied.entry(entry));
-        if falls_by(
+        if has_lowering_sample(
             occupied,
             &walker.cells,
             &walker.open,

@@ -18,7 +18,7 @@ fn is_broken(occupied: &Occupied<'_, '_>, entry: Entry) -> bool
 }
 
 /// Checks whether an entry of a curriculum is in the period before or after.
-fn is_beside(occupied: &Occupied<'_, '_>, curriculum: u32, entry: Entry) -> bool
+fn has_neighbour(occupied: &Occupied<'_, '_>, curriculum: u32, entry: Entry) -> bool
     requires curriculum { curriculum < length occupied.now.problem.curricula }
     requires in_range { InRange occupied.now.problem entry }
 {
@@ -33,7 +33,7 @@ fn is_isolated(occupied: &Occupied<'_, '_>, entry: Entry) -> bool
     requires { InRange occupied.now.problem entry }
 {
     for curriculum in occupied.curricula_of(entry.course) {
-        if !is_beside(occupied, *curriculum, entry) {
+        if !has_neighbour(occupied, *curriculum, entry) {
             return true;
         }
     }
@@ -54,7 +54,7 @@ fn is_misplaced(occupied: &Occupied<'_, '_>, entry: Entry) -> bool
 }
 
 /// Checks whether an entry breaks a hard rule or has a cost at its place.
-pub fn costs_or_breaks(occupied: &Occupied<'_, '_>, entry: Entry) -> bool
+pub fn has_cost_or_fault(occupied: &Occupied<'_, '_>, entry: Entry) -> bool
     requires { InRange occupied.now.problem entry }
 {
     is_broken(occupied, entry) || is_misplaced(occupied, entry) || is_isolated(occupied, entry)

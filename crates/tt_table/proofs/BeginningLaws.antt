@@ -100,12 +100,12 @@ read_from p bytes = refl
 
 -- a token of the bytes begins at the offset of the fault
 pub fault_stands : (p : Problem) (bytes : List ℕ) (e : SolutionFault) (at : ℕ) → solution_of p bytes ≡ Err e → token_offset e ≡ Some at → Any (λ t. t.at ≡ at) (tokens_of bytes)
-fault_stands p bytes e at failed told =
+fault_stands p bytes e at failed reported =
     let end : ℕ = length bytes in
-    fault_at_token token_offset at _ _ (entries_alike at end end p MAX_ENTRIES []) (tokens_of bytes) e (sym (read_from p bytes) ∙ failed) told
+    fault_at_token token_offset at _ _ (entries_alike at end end p MAX_ENTRIES []) (tokens_of bytes) e (sym (read_from p bytes) ∙ failed) reported
 
 -- bytes that begin the same way spell no solution
 pub fault_stays : (p : Problem) (bytes other : List ℕ) (e : SolutionFault) (at : ℕ) → IsWithinLimits p → solution_of p bytes ≡ Err e → token_offset e ≡ Some at → BeginsAs at bytes other → (t : List Cell) → ¬ SpellsTable p other t
-fault_stays p bytes other e at within failed told begins t spelled =
-    fault_of_all token_offset at _ _ (entries_alike at (length bytes) (length other) p MAX_ENTRIES []) (tokens_of bytes) e (sym (read_from p bytes) ∙ failed) told
+fault_stays p bytes other e at within failed reported begins t spelled =
+    fault_of_all token_offset at _ _ (entries_alike at (length bytes) (length other) p MAX_ENTRIES []) (tokens_of bytes) e (sym (read_from p bytes) ∙ failed) reported
     (tokens_of other) (begins_shared at bytes other begins) t (sym (read_from p other) ∙ solution_read p other t within spelled)

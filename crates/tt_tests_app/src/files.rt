@@ -114,10 +114,10 @@ fn missing_files_of_proofs(rt: HostRuntime) -> Result<(), Fail> {
             "refused: instance: Expected Name: at byte 0\n",
         ),
     ] {
-        let told = refusal_of(rt.alloc(), &["bound", instance, proof])?;
-        assert_eq!(rt; told.as_str(), err);
-        let told = refusal_of(rt.alloc(), &["upgrade", instance, proof, "a.out"])?;
-        assert_eq!(rt; told.as_str(), err);
+        let reported = refusal_of(rt.alloc(), &["bound", instance, proof])?;
+        assert_eq!(rt; reported.as_str(), err);
+        let reported = refusal_of(rt.alloc(), &["upgrade", instance, proof, "a.out"])?;
+        assert_eq!(rt; reported.as_str(), err);
     }
     Ok(())
 }
@@ -152,8 +152,8 @@ fn outputs_are_apart(rt: HostRuntime) -> Result<(), Fail> {
         ["improve", "a.ctt", "a.sol", "out/"].as_slice(),
         ["improve", "a.ctt", "a.sol", ""].as_slice(),
     ] {
-        let (told, is_same) = overlap(rt.alloc(), words)?;
-        assert_eq!(rt; told.as_str(), "refused: cannot write\n", "{words:?}");
+        let (reported, is_same) = overlap(rt.alloc(), words)?;
+        assert_eq!(rt; reported.as_str(), "refused: cannot write\n", "{words:?}");
         assert!(rt; is_same, "{words:?}");
     }
     Ok(())

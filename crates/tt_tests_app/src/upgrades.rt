@@ -51,7 +51,7 @@ fn proofs_are_written_in_version_two(rt: HostRuntime) -> Result<(), Fail> {
 
 #[test]
 fn refused_proofs_leave_the_older_file(rt: HostRuntime) -> Result<(), Fail> {
-    for (proof, told) in [
+    for (proof, reported) in [
         (
             "CTTP 2 bound 5 B P c0 5 c1 5 r0 4 / ; end",
             "refused: proof: BadPrice at node 0\n",
@@ -64,7 +64,7 @@ fn refused_proofs_leave_the_older_file(rt: HostRuntime) -> Result<(), Fail> {
     ] {
         let memory = filled(rt.alloc(), SEATS, proof, Refusal::Nothing)?;
         let outcome = upgraded(rt.alloc(), &memory)?;
-        assert_eq!(rt; outcome.answer(), (2, "", told));
+        assert_eq!(rt; outcome.answer(), (2, "", reported));
         assert_eq!(rt; memory.text("a.out")?.as_deref(), Some(OLDER));
         assert_eq!(rt; memory.count(), 3);
     }

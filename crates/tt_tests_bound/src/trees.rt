@@ -26,8 +26,8 @@ fn bounded(alloc: Global, instance: &str, proof: &str) -> Result<Outcome, Fail> 
 /// Checks whether `bound` refuses a proof with this error.
 fn is_refused(alloc: Global, instance: &str, proof: &str, fault: &str) -> Result<bool, Fail> {
     let outcome = bounded(alloc, instance, proof)?;
-    let told = format!(in alloc; "refused: proof: {fault}\n")?;
-    Ok(outcome.answer() == (2, "", told.as_str()))
+    let reported = format!(in alloc; "refused: proof: {fault}\n")?;
+    Ok(outcome.answer() == (2, "", reported.as_str()))
 }
 
 #[test]
@@ -246,8 +246,8 @@ fn a_second_child_that_is_wrong(rt: HostRuntime) -> Result<(), Fail> {
         } else {
             "NotTooMany"
         };
-        let told = format!(in rt.alloc(); "refused: proof: {fault} at node {node}\n")?;
-        assert_eq!(rt; outcome.answer(), (2, "", told.as_str()));
+        let reported = format!(in rt.alloc(); "refused: proof: {fault} at node {node}\n")?;
+        assert_eq!(rt; outcome.answer(), (2, "", reported.as_str()));
     }
     Ok(())
 }

@@ -98,11 +98,11 @@ fn solutions(rt: HostRuntime) -> Result<(), Fail> {
         ("a R 0 0 b R \n", "Ended at byte 13"),
     ] {
         let refused = format!(in rt.alloc(); "refused: solution: {fault}\n")?;
-        let told = (2, "", refused.as_str());
+        let reported = (2, "", refused.as_str());
         let outcome = validated(rt.alloc(), MINI, solution)?;
-        assert_eq!(rt; outcome.answer(), told, "with {solution}");
+        assert_eq!(rt; outcome.answer(), reported, "with {solution}");
         let outcome = checked(rt.alloc(), MINI, solution, "CTTP 1 bound 0 B ; end")?;
-        assert_eq!(rt; outcome.answer(), told, "with {solution}");
+        assert_eq!(rt; outcome.answer(), reported, "with {solution}");
     }
     Ok(())
 }

@@ -180,7 +180,7 @@ fn failed_reads_of_the_second_proof(rt: HostRuntime) -> Result<(), Fail> {
 }
 
 /// Counts the costs from a bound to 20 that a line reports with that bound.
-fn costs_told(alloc: Global, out: &str, bound: u32) -> Result<u32, Fail> {
+fn costs_reported(alloc: Global, out: &str, bound: u32) -> Result<u32, Fail> {
     let mut costs = 0_u32;
     for cost in 0_u32..=20 {
         let line = format!(in alloc; "yes cost {cost} bound {bound}")?;
@@ -207,7 +207,7 @@ fn no_timetable_costs_less(rt: HostRuntime) -> Result<(), Fail> {
             }
             assert_eq!(rt; (outcome.status, outcome.err.as_str()), (0, ""));
             feasible = feasible.saturating_add(1);
-            let costs = costs_told(rt.alloc(), outcome.out.as_str(), bound)?;
+            let costs = costs_reported(rt.alloc(), outcome.out.as_str(), bound)?;
             assert_eq!(rt; costs, 1, "{table} with {proofs:?}");
         }
     }

@@ -50,7 +50,7 @@ fn an_interrupted_read_has_failed(rt: HostRuntime) {
 }
 
 #[test]
-fn an_interrupted_read_is_told(rt: HostRuntime) -> Result<(), Fail> {
+fn an_interrupted_read_is_reported(rt: HostRuntime) -> Result<(), Fail> {
     let mut source = Reading::new(Interrupted::new(MINI.as_bytes()));
     let whole = read_whole(rt.alloc(), &mut source, 188);
     assert_eq!(rt; whole.err(), Some(WholeFault::Read));

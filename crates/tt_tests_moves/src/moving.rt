@@ -273,8 +273,8 @@ fn chains_that_are_refused(rt: HostRuntime) -> Result<(), Fail> {
         (MINI, 0, ChainFault::SamePeriod),
         (barred.as_str(), 1, ChainFault::Unavailable(1)),
     ] {
-        let told = refused_in(rt.alloc(), instance, "a R 0 0 b R 0 1", period)?;
-        assert_eq!(rt; told, Some(fault));
+        let reported = refused_in(rt.alloc(), instance, "a R 0 0 b R 0 1", period)?;
+        assert_eq!(rt; reported, Some(fault));
     }
     Ok(())
 }

@@ -62,12 +62,12 @@ fn descended(
 
 #[test]
 fn descents(rt: HostRuntime) -> Result<(), Fail> {
-    for (instance, solution, steps, told) in [
+    for (instance, solution, steps, reported) in [
         (MINI, MINI_SOLUTION, 0, (false, 5, true)),
         (MINI, MINI_SOLUTION, 10, (true, 1, false)),
         (FLAT, FLAT_SOLUTION, 10, (true, 1, true)),
     ] {
-        assert_eq!(rt; descended(rt.alloc(), instance, solution, steps)?, told);
+        assert_eq!(rt; descended(rt.alloc(), instance, solution, steps)?, reported);
     }
     Ok(())
 }

@@ -1,6 +1,6 @@
 //! Compares both paths after equal pushes and pops.
 
-use crate::answers::{all_told, some_told};
+use crate::answers::{all_reported, some_reported};
 use crate::dice::{Dice, Ranges, ranges_of};
 use crate::instances::{SMALL01, TINY05};
 use crate::large::large_text;
@@ -48,10 +48,10 @@ fn next_fact(dice: &mut Dice, depth: u32, ranges: Ranges) -> Option<Fact> {
 }
 
 /// Returns a path's answers as one number.
-fn told<'i, P: Path<'i>>(path: &P, ranges: Ranges, seed: u64, look: Look) -> u64 {
+fn reported<'i, P: Path<'i>>(path: &P, ranges: Ranges, seed: u64, look: Look) -> u64 {
     match look {
-        Look::All => all_told(path, ranges, seed),
-        Look::Drawn => some_told(path, ranges, seed),
+        Look::All => all_reported(path, ranges, seed),
+        Look::Drawn => some_reported(path, ranges, seed),
     }
 }
 
@@ -68,7 +68,7 @@ fn first_difference<'i, P: Path<'i>, Q: Path<'i>>(
         let fact = next_fact(&mut dice, plain.depth(), ranges);
         let same = step(plain, trail, fact);
         let seed = dice.state;
-        if !same || told(plain, ranges, seed, look) != told(trail, ranges, seed, look) {
+        if !same || reported(plain, ranges, seed, look) != reported(trail, ranges, seed, look) {
             return Some(number);
         }
     }

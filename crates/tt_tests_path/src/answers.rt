@@ -4,8 +4,8 @@ use crate::dice::{Dice, Ranges};
 use tt_facts_path::{Cell, Fact, Path, Who};
 
 /// Returns a number that depends on the answers so far and another answer.
-fn mixed(told: u64, answer: u64) -> u64 {
-    (told ^ answer)
+fn mixed(reported: u64, answer: u64) -> u64 {
+    (reported ^ answer)
         .wrapping_mul(1_099_511_628_211)
         .wrapping_add(1)
 }
@@ -72,7 +72,7 @@ fn is_pinned_in<'i, P: Path<'i>>(path: &P, course: u32, room: u32) -> bool {
 }
 
 /// Returns the sets of a course on a day, in a period and in the block of a room, as one number.
-fn words_told<'i, P: Path<'i>>(path: &P, cell: Cell) -> u64 {
+fn words_reported<'i, P: Path<'i>>(path: &P, cell: Cell) -> u64 {
     let instance = path.instance();
     if cell.course >= instance.courses()
         || cell.room >= instance.rooms()
@@ -82,16 +82,16 @@ fn words_told<'i, P: Path<'i>>(path: &P, cell: Cell) -> u64 {
         return 0;
     }
     let block = cell.room / 64;
-    let mut told = path.live_periods(cell.course, cell.day);
-    told = mixed(
-        told,
+    let mut reported = path.live_periods(cell.course, cell.day);
+    reported = mixed(
+        reported,
         path.live_rooms(cell.course, cell.day, cell.period, block),
     );
-    told = mixed(
-        told,
+    reported = mixed(
+        reported,
         path.pinned_periods(Who::Course(cell.course), cell.day),
     );
-    mixed(told, path.pinned_rooms(cell.course, block))
+    mixed(reported, path.pinned_rooms(cell.course, block))
 }
 
 /// Returns the newest fact.
@@ -104,36 +104,36 @@ fn newest<'i, P: Path<'i>>(path: &P) -> Option<Fact> {
 }
 
 /// Returns the answers about one cell.
-fn cell_told<'i, P: Path<'i>>(path: &P, cell: Cell) -> u64 {
+fn cell_reported<'i, P: Path<'i>>(path: &P, cell: Cell) -> u64 {
     let (live, excess) = live_of(path, cell.course, cell.day, cell.period);
     let excess = match excess {
         None => 0,
         Some(students) => students.wrapping_add(1),
     };
-    let mut told = mixed(excess, u64::from(live));
-    told = mixed(told, words_told(path, cell));
-    told = mixed(told, u64::from(is_dead(path, cell)));
-    told = mixed(told, u64::from(is_live_on(path, cell.course, cell.day)));
-    told = mixed(
-        told,
+    let mut reported = mixed(excess, u64::from(live));
+    reported = mixed(reported, words_reported(path, cell));
+    reported = mixed(reported, u64::from(is_dead(path, cell)));
+    reported = mixed(reported, u64::from(is_live_on(path, cell.course, cell.day)));
+    reported = mixed(
+        reported,
         u64::from(is_pinned(path, cell.course, cell.day, cell.period)),
     );
-    mixed(told, u64::from(is_pinned_in(path, cell.course, cell.room)))
+    mixed(reported, u64::from(is_pinned_in(path, cell.course, cell.room)))
 }
 
 /// Returns the answers whether facts that are drawn from a seed are on the path.
-fn standing_told<'i, P: Path<'i>>(path: &P, ranges: Ranges, seed: u64) -> u64 {
+fn standing_reported<'i, P: Path<'i>>(path: &P, ranges: Ranges, seed: u64) -> u64 {
     let mut dice = Dice { state: seed };
-    let mut told = 0;
+    let mut reported = 0;
     for _ in 0..8 {
         let fact = dice.fact(ranges);
-        told = mixed(told, u64::from(path.has(&fact.pattern, fact.holds)));
+        reported = mixed(reported, u64::from(path.has(&fact.pattern, fact.holds)));
     }
-    told
+    reported
 }
 
 /// Returns the answers about the newest fact: whether it is on the path, and whether its contrary is.
-fn newest_told<'i, P: Path<'i>>(path: &P) -> u64 {
+fn newest_reported<'i, P: Path<'i>>(path: &P) -> u64 {
     match newest(path) {
         None => 0,
         Some(fact) => {
@@ -145,8 +145,8 @@ fn newest_told<'i, P: Path<'i>>(path: &P) -> u64 {
 }
 
 /// Returns the answers about the cells of one course in one room.
-fn cells_told<'i, P: Path<'i>>(path: &P, course: u32, room: u32, ranges: Ranges) -> u64 {
-    let mut told = 0;
+fn cells_reported<'i, P: Path<'i>>(path: &P, course: u32, room: u32, ranges: Ranges) -> u64 {
+    let mut reported = 0;
     for day in 0..ranges.days {
         for period in 0..ranges.periods {
             let cell = Cell {
@@ -155,63 +155,63 @@ fn cells_told<'i, P: Path<'i>>(path: &P, course: u32, room: u32, ranges: Ranges)
                 day,
                 period,
             };
-            told = mixed(told, cell_told(path, cell));
+            reported = mixed(reported, cell_reported(path, cell));
         }
     }
-    told
+    reported
 }
 
 /// Returns the answers about the pinned periods of the curricula.
-fn curricula_told<'i, P: Path<'i>>(path: &P, day: u32, period: u32, ranges: Ranges) -> u64 {
-    let mut told = 0;
+fn curricula_reported<'i, P: Path<'i>>(path: &P, day: u32, period: u32, ranges: Ranges) -> u64 {
+    let mut reported = 0;
     for curriculum in 0..ranges.curricula {
-        told = mixed(
-            told,
+        reported = mixed(
+            reported,
             u64::from(is_pinned_for(path, curriculum, day, period)),
         );
-        told = mixed(told, pinned_for(path, curriculum, day));
+        reported = mixed(reported, pinned_for(path, curriculum, day));
     }
-    told
+    reported
 }
 
 /// Returns the answers about the pinned periods of the curricula on a day.
-fn day_told<'i, P: Path<'i>>(path: &P, day: u32, ranges: Ranges) -> u64 {
-    let mut told = 0;
+fn day_reported<'i, P: Path<'i>>(path: &P, day: u32, ranges: Ranges) -> u64 {
+    let mut reported = 0;
     for period in 0..ranges.periods {
-        told = mixed(told, curricula_told(path, day, period, ranges));
+        reported = mixed(reported, curricula_reported(path, day, period, ranges));
     }
-    told
+    reported
 }
 
 /// Returns all answers about all cells of a small instance.
-pub fn all_told<'i, P: Path<'i>>(path: &P, ranges: Ranges, seed: u64) -> u64 {
-    let mut told = mixed(newest_told(path), standing_told(path, ranges, seed));
+pub fn all_reported<'i, P: Path<'i>>(path: &P, ranges: Ranges, seed: u64) -> u64 {
+    let mut reported = mixed(newest_reported(path), standing_reported(path, ranges, seed));
     for course in 0..ranges.courses {
         for room in 0..ranges.rooms {
-            told = mixed(told, cells_told(path, course, room, ranges));
+            reported = mixed(reported, cells_reported(path, course, room, ranges));
         }
     }
     for day in 0..ranges.days {
-        told = mixed(told, day_told(path, day, ranges));
+        reported = mixed(reported, day_reported(path, day, ranges));
     }
-    told
+    reported
 }
 
 /// Returns the answers about pinned periods and rooms of all courses and curricula, for one period and one room.
-fn pinned_told<'i, P: Path<'i>>(path: &P, cell: Cell, ranges: Ranges) -> u64 {
-    let mut told = curricula_told(path, cell.day, cell.period, ranges);
+fn pinned_reported<'i, P: Path<'i>>(path: &P, cell: Cell, ranges: Ranges) -> u64 {
+    let mut reported = curricula_reported(path, cell.day, cell.period, ranges);
     for course in 0..ranges.courses {
-        told = mixed(
-            told,
+        reported = mixed(
+            reported,
             u64::from(is_pinned(path, course, cell.day, cell.period)),
         );
-        told = mixed(told, u64::from(is_pinned_in(path, course, cell.room)));
+        reported = mixed(reported, u64::from(is_pinned_in(path, course, cell.room)));
     }
-    told
+    reported
 }
 
 /// Returns the answers about one cell that is drawn from a seed; those about live cells, which take long, only one time in many.
-pub fn some_told<'i, P: Path<'i>>(path: &P, ranges: Ranges, seed: u64) -> u64 {
+pub fn some_reported<'i, P: Path<'i>>(path: &P, ranges: Ranges, seed: u64) -> u64 {
     let mut dice = Dice { state: seed };
     let cell = Cell {
         course: dice.below(ranges.courses),
@@ -219,10 +219,10 @@ pub fn some_told<'i, P: Path<'i>>(path: &P, ranges: Ranges, seed: u64) -> u64 {
         day: dice.below(ranges.days),
         period: dice.below(ranges.periods),
     };
-    let told = mixed(newest_told(path), standing_told(path, ranges, seed));
-    let told = mixed(told, pinned_told(path, cell, ranges));
+    let reported = mixed(newest_reported(path), standing_reported(path, ranges, seed));
+    let reported = mixed(reported, pinned_reported(path, cell, ranges));
     if dice.below(32) == 0 {
-        return mixed(told, cell_told(path, cell));
+        return mixed(reported, cell_reported(path, cell));
     }
-    told
+    reported
 }

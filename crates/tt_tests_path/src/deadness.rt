@@ -93,9 +93,9 @@ fn push_all<'i, P: Path<'i>>(path: &mut P, facts: &[Fact]) {
 }
 
 /// Checks that a path has the first of these states after the facts, and the next one after each pop.
-fn shows<'i, P: Path<'i>>(path: &mut P, facts: &[Fact], told: &[DeadCells]) -> bool {
+fn shows<'i, P: Path<'i>>(path: &mut P, facts: &[Fact], reported: &[DeadCells]) -> bool {
     push_all(path, facts);
-    for cells in told {
+    for cells in reported {
         if seen(path) != *cells {
             return false;
         }
@@ -105,13 +105,13 @@ fn shows<'i, P: Path<'i>>(path: &mut P, facts: &[Fact], told: &[DeadCells]) -> b
 }
 
 /// Returns whether the plain path and the other path of Gap have these states.
-fn both_show(alloc: Global, facts: &[Fact], told: &[DeadCells]) -> Result<(bool, bool), Fail> {
+fn both_show(alloc: Global, facts: &[Fact], reported: &[DeadCells]) -> Result<(bool, bool), Fail> {
     let instance = read_instance(alloc, GAP.as_bytes())?;
     let mut plain = PlainPath::new(alloc, &instance);
     let mut trail = TrailPath::new(alloc, &instance)?;
     Ok((
-        shows(&mut plain, facts, told),
-        shows(&mut trail, facts, told),
+        shows(&mut plain, facts, reported),
+        shows(&mut trail, facts, reported),
     ))
 }
 
@@ -119,8 +119,8 @@ fn both_show(alloc: Global, facts: &[Fact], told: &[DeadCells]) -> Result<(bool,
 fn a_fact_bars_cells_and_its_pop_frees_them(rt: HostRuntime) -> Result<(), Fail> {
     let fact = fact_in_period(Who::Course(0), 0, true);
     // The first course takes the first period: its other cells remain live, since it may have more lectures.
-    let told = [of_cells(true, false, false), of_cells(false, false, false)];
-    assert_eq!(rt; both_show(rt.alloc(), &[fact], &told)?, (true, true));
+    let reported = [of_cells(true, false, false), of_cells(false, false, false)];
+    assert_eq!(rt; both_show(rt.alloc(), &[fact], &reported)?, (true, true));
     Ok(())
 }
 
@@ -128,13 +128,13 @@ fn a_fact_bars_cells_and_its_pop_frees_them(rt: HostRuntime) -> Result<(), Fail>
 fn a_no_fact_of_a_curriculum_then_a_yes_fact(rt: HostRuntime) -> Result<(), Fail> {
     let barred = fact_in_period(Who::Curriculum(0), 0, false);
     let taken = fact_of(Who::Course(0), true);
-    let told = [
+    let reported = [
         of_cells(true, true, false),
         of_cells(true, false, false),
         of_cells(false, false, false),
     ];
     assert_eq!(rt;
-        both_show(rt.alloc(), &[barred, taken], &told)?,
+        both_show(rt.alloc(), &[barred, taken], &reported)?,
         (true, true)
     );
     Ok(())
@@ -144,13 +144,13 @@ fn a_no_fact_of_a_curriculum_then_a_yes_fact(rt: HostRuntime) -> Result<(), Fail
 fn a_yes_fact_then_a_no_fact_that_leaves_it_one_period(rt: HostRuntime) -> Result<(), Fail> {
     let taken = fact_of(Who::Course(0), true);
     let barred = fact_in_period(Who::Course(0), 0, false);
-    let told = [
+    let reported = [
         of_cells(false, true, false),
         of_cells(false, false, false),
         of_cells(false, false, false),
     ];
     assert_eq!(rt;
-        both_show(rt.alloc(), &[taken, barred], &told)?,
+        both_show(rt.alloc(), &[taken, barred], &reported)?,
         (true, true)
     );
     Ok(())

@@ -235,7 +235,7 @@ enum Question<'a> {
 
 /// The answer of a path.
 #[derive(Clone, Copy, Debug, PartialEq, Eq)]
-enum Told {
+enum Reported {
     Pinned(Option<Verdicts>),
     Courses(Option<Result<(), RuleFault>>),
     Before(Option<Result<(), RuleFault>>, Option<Result<(), RuleFault>>),
@@ -245,28 +245,28 @@ fn ask<'i, P: Path<'i>>(
     alloc: Global,
     path: &mut P,
     question: Question<'_>,
-) -> Result<Told, AllocError> {
+) -> Result<Reported, AllocError> {
     match question {
-        Question::Pinned => Ok(Told::Pinned(pinned_verdicts(alloc, path)?)),
+        Question::Pinned => Ok(Reported::Pinned(pinned_verdicts(alloc, path)?)),
         Question::Courses(list, courses) => {
-            Ok(Told::Courses(list_checked(alloc, path, list, courses)?))
+            Ok(Reported::Courses(list_checked(alloc, path, list, courses)?))
         }
         Question::OneCourse => {
             let (before, after) = clique_checked(alloc, path)?;
-            Ok(Told::Before(before, after))
+            Ok(Reported::Before(before, after))
         }
-        Question::Twice => Ok(Told::Courses(twice_checked(alloc, path, Bound::AtLeast(2))?)),
-        Question::Days(bound) => Ok(Told::Courses(days_checked(alloc, path, bound)?)),
-        Question::Many => Ok(Told::Courses(many_checked(path))),
+        Question::Twice => Ok(Reported::Courses(twice_checked(alloc, path, Bound::AtLeast(2))?)),
+        Question::Days(bound) => Ok(Reported::Courses(days_checked(alloc, path, bound)?)),
+        Question::Many => Ok(Reported::Courses(many_checked(path))),
         Question::Emptied => {
             let (before, after) = emptied(path);
-            Ok(Told::Before(before, after))
+            Ok(Reported::Before(before, after))
         }
     }
 }
 
 /// Returns the answers of the plain path and of the other path.
-fn answers(alloc: Global, text: &str, question: Question<'_>) -> Result<(Told, Told), Fail> {
+fn answers(alloc: Global, text: &str, question: Question<'_>) -> Result<(Reported, Reported), Fail> {
     let instance = read_instance(alloc, text.as_bytes())?;
     let mut plain = PlainPath::new(alloc, &instance);
     let mut trail = TrailPath::new(alloc, &instance)?;
@@ -276,13 +276,13 @@ fn answers(alloc: Global, text: &str, question: Question<'_>) -> Result<(Told, T
 
 #[test]
 fn claims_of_two_pinned_courses(rt: HostRuntime) -> Result<(), Fail> {
-    let told = Told::Pinned(Some(Verdicts {
+    let reported = Reported::Pinned(Some(Verdicts {
         values: (Some(1), Some(4), Some(5)),
         at_five: Some(Ok(())),
         at_six: Some(Err(RuleFault::TooCheap)),
         at_nothing: Some(Err(RuleFault::NoBound)),
     }));
-    assert_eq!(rt; answers(rt.alloc(), GAP, Question::Pinned)?, (told, told));
+    assert_eq!(rt; answers(rt.alloc(), GAP, Question::Pinned)?, (reported, reported));
     Ok(())
 }
 
@@ -302,9 +302,9 @@ fn lists_of_courses(rt: HostRuntime) -> Result<(), Fail> {
         (SAME, List::Clique, &[0, 1], Ok(())),
         (MINI, List::Clique, &[0], Err(RuleFault::EnoughRoom)),
     ] {
-        let told = Told::Courses(Some(verdict));
+        let reported = Reported::Courses(Some(verdict));
         let question = Question::Courses(list, courses);
-        assert_eq!(rt; answers(rt.alloc(), text, question)?, (told, told));
+        assert_eq!(rt; answers(rt.alloc(), text, question)?, (reported, reported));
     }
     Ok(())
 }
@@ -326,28 +326,28 @@ fn claims_and_single_courses(rt: HostRuntime) -> Result<(), Fail> {
         ),
         (MINI, Question::Many, Err(RuleFault::NotTooMany)),
     ] {
-        let told = Told::Courses(Some(verdict));
-        assert_eq!(rt; answers(rt.alloc(), text, question)?, (told, told));
+        let reported = Reported::Courses(Some(verdict));
+        assert_eq!(rt; answers(rt.alloc(), text, question)?, (reported, reported));
     }
     Ok(())
 }
 
 #[test]
 fn a_pattern_that_has_cells(rt: HostRuntime) -> Result<(), Fail> {
-    let told = Told::Before(
+    let reported = Reported::Before(
         Some(Err(RuleFault::NotOnPath)),
         Some(Err(RuleFault::StillAlive)),
     );
-    assert_eq!(rt; answers(rt.alloc(), MINI, Question::Emptied)?, (told, told));
+    assert_eq!(rt; answers(rt.alloc(), MINI, Question::Emptied)?, (reported, reported));
     Ok(())
 }
 
 #[test]
 fn a_clique_of_one(rt: HostRuntime) -> Result<(), Fail> {
-    let told = Told::Before(Some(Err(RuleFault::EnoughRoom)), Some(Ok(())));
+    let reported = Reported::Before(Some(Err(RuleFault::EnoughRoom)), Some(Ok(())));
     assert_eq!(rt;
         answers(rt.alloc(), GAP, Question::OneCourse)?,
-        (told, told)
+        (reported, reported)
     );
     Ok(())
 }

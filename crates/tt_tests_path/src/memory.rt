@@ -1,6 +1,6 @@
 //! Both paths, between two marks: hostile/run.py refuses their allocations in turn. After a refusal each of their answers is unchanged.
 
-use crate::answers::all_told;
+use crate::answers::all_reported;
 use crate::deadness::fact_in_period;
 use crate::dice::{Dice, Ranges, ranges_of};
 use std::test::Fail;
@@ -38,7 +38,7 @@ fn is_as<'i, P: Path<'i>, Q: Path<'i>>(
     ranges: Ranges,
 ) -> Result<bool, PathFault> {
     push_drawn(other, ranges, path.depth())?;
-    let same = all_told(path, ranges, 5) == all_told(other, ranges, 5);
+    let same = all_reported(path, ranges, 5) == all_reported(other, ranges, 5);
     Ok(same && path.depth() == other.depth())
 }
 

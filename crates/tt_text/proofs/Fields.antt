@@ -51,16 +51,16 @@ is_text_of x y e = subst (λ (z : List ℕ). is_text y z ≡ true) (sym e) (nat_
 -- ---- numbers
 
 -- if the two tests of a number give a value, both pass
-told : (a b : Bool) (v n : ℕ) → cond a (cond b (Ok v) (Err TooLarge)) (Err NotANumber) ≡ Ok n → (a ≡ true) × (b ≡ true) × (v ≡ n)
-told true true v n e = (refl, refl, cc)
-told true false v n e = absurd cc
-told false b v n e = absurd cc
+reported : (a b : Bool) (v n : ℕ) → cond a (cond b (Ok v) (Err TooLarge)) (Err NotANumber) ≡ Ok n → (a ≡ true) × (b ≡ true) × (v ≡ n)
+reported true true v n e = (refl, refl, cc)
+reported true false v n e = absurd cc
+reported false b v n e = absurd cc
 
 -- digits that were read spell their number, and it is within the limit
 pub number_spelled : (limit : ℕ) (text : List ℕ) (n : ℕ) → number_of limit text ≡ Ok n → SpellsNumber text n × (n ≤ limit)
 unfolding number_of
 number_spelled limit text n e =
-    let h = told (is_number_text text) (leb (value_on 0 text) limit) (value_on 0 text) n e in
+    let h = reported (is_number_text text) (leb (value_on 0 text) limit) (value_on 0 text) n e in
     (record { digits_only = h.0; value = h.2 }, omega (arith, leb-true _ _ h.1, h.2))
 
 -- digits that spell a number within the limit are read as that number

@@ -1,6 +1,6 @@
 -- Texts with the first token `CTTG`, and others.
 use Rattle.std.proofs.Common.{◌≡◌, true, false, [], ◌∷◌, refl, codes}
-use Rattle.tt_text_peek.specs.Fronts.{begins_with_groups, is_groups, is_settled}
+use Rattle.tt_text_peek.specs.Fronts.{has_groups_word, is_groups, is_settled}
 
 groups : is_groups (codes "CTTG 1 bound 4 end") ≡ true
 groups = refl
@@ -24,5 +24,5 @@ may_go_on = refl
 ends : is_settled (codes "CTTG ") ≡ true
 ends = refl
 
-begins : begins_with_groups (codes " CTTG") ≡ true
+begins : has_groups_word (codes " CTTG") ≡ true
 begins = refl

@@ -16,7 +16,7 @@ use Rattle.tt_text.specs.declared.feed.FeedFault.TheVariants.{Read}
 use Rattle.tt_text.specs.declared.feed.TheConstants.{MAX_BYTES}
 use Rattle.tt_text.proofs.Finding.{finds_more}
 use Rattle.tt_text.proofs.Runs.{tokens-some, tokens-none, run_passes, ended}
-use Rattle.tt_text_peek.specs.Fronts.{begun, first_word, begins_with_groups, is_groups, is_settled}
+use Rattle.tt_text_peek.specs.Fronts.{begun, first_word, has_groups_word, is_groups, is_settled}
 
 -- ---- the first token that a reader finds
 
@@ -160,14 +160,14 @@ long_word (a ∷ b ∷ c ∷ d ∷ e ∷ w) h = all_false (67 == a) (84 == b) (8
     all_false true true true true = refl
 
 -- further bytes leave a settled word as it is, or too long
-settled_more : (xs ys : List ℕ) → is_settled xs ≡ true → begins_with_groups (xs ++ ys) ≡ begins_with_groups xs
+settled_more : (xs ys : List ℕ) → is_settled xs ≡ true → has_groups_word (xs ++ ys) ≡ has_groups_word xs
 settled_more xs ys settled =
     elim (or_cases (nat_lt (length (first_word xs)) (length xs - prefix_len is_separator xs)) (nat_lt 32 (length (first_word xs))) settled) [
       | inl h ↦ same (ltb-true _ _ h)
       | inr h ↦ long (ltb-true _ _ h)
     ]
   where
-    same : length (first_word xs) < length xs - prefix_len is_separator xs → begins_with_groups (xs ++ ys) ≡ begins_with_groups xs
+    same : length (first_word xs) < length xs - prefix_len is_separator xs → has_groups_word (xs ++ ys) ≡ has_groups_word xs
     same h =
         let left : length (begun xs) ≡ length xs - prefix_len is_separator xs = length-drop (prefix_len is_separator xs) xs in
         let n = word_long xs in
@@ -175,7 +175,7 @@ settled_more xs ys settled =
         let stops = run_stops in_token (begun xs) ys (omega (arith, h, left, n)) in
         ap (is_text (codes "CTTG")) (ap (λ (l : List ℕ). take (prefix_len in_token l) l) more ∙ ap (λ (k : ℕ). take k (begun xs ++ ys)) stops ∙ take-append-le (word_len xs) (begun xs) ys (omega (arith, h, left, n)))
 
-    long : 32 < length (first_word xs) → begins_with_groups (xs ++ ys) ≡ begins_with_groups xs
+    long : 32 < length (first_word xs) → has_groups_word (xs ++ ys) ≡ has_groups_word xs
     long h =
         let n = word_long xs in
         let f = word_front xs ys in
@@ -189,15 +189,15 @@ take_over (suc n) (x ∷ xs) ys h = let r = take_over n xs ys (omega (arith, h))
 
 -- -- what the front of a text says about it
 
-pub full_front : (xs ys : List ℕ) → 4096 ≤ length xs → begins_with_groups (take 4096 xs) ≡ is_groups (xs ++ ys)
-full_front xs ys h = ap begins_with_groups (sym (take-append-le 4096 xs ys h))
+pub full_front : (xs ys : List ℕ) → 4096 ≤ length xs → has_groups_word (take 4096 xs) ≡ is_groups (xs ++ ys)
+full_front xs ys h = ap has_groups_word (sym (take-append-le 4096 xs ys h))
 
-pub settled_front : (xs ys : List ℕ) → length xs < 4096 → is_settled xs ≡ true → begins_with_groups (take 4096 xs) ≡ is_groups (xs ++ ys)
+pub settled_front : (xs ys : List ℕ) → length xs < 4096 → is_settled xs ≡ true → has_groups_word (take 4096 xs) ≡ is_groups (xs ++ ys)
 settled_front xs ys h settled =
     let r = take_over 4096 xs ys (omega (arith, h)) in
-    ap begins_with_groups (take_all 4096 xs (omega (arith, h))) ∙ sym (settled_more xs (take r.0 ys) settled) ∙ ap begins_with_groups (sym r.1)
+    ap has_groups_word (take_all 4096 xs (omega (arith, h))) ∙ sym (settled_more xs (take r.0 ys) settled) ∙ ap has_groups_word (sym r.1)
 
-pub whole_front : (xs ys : List ℕ) → ys ≡ [] → begins_with_groups (take 4096 xs) ≡ is_groups (xs ++ ys)
+pub whole_front : (xs ys : List ℕ) → ys ≡ [] → has_groups_word (take 4096 xs) ≡ is_groups (xs ++ ys)
 whole_front xs ys e = ap is_groups (sym (append-nil xs) ∙ ap (λ (l : List ℕ). xs ++ l) (sym e))
 
 or_no : (a b : Bool) → (a || b) ≡ false → (a ≡ false) × (b ≡ false)

@@ -21,13 +21,13 @@ abbrev pub first_word : List ℕ → List ℕ
 first_word bytes = take (prefix_len in_token (begun bytes)) (begun bytes)
 
 -- The first token is `CTTG`.
-abbrev pub begins_with_groups : List ℕ → Bool
-begins_with_groups bytes = is_text (codes "CTTG") (first_word bytes)
+abbrev pub has_groups_word : List ℕ → Bool
+has_groups_word bytes = is_text (codes "CTTG") (first_word bytes)
 
 -- A text is a file of groups if the first token of its first 4,096 bytes is `CTTG`. A token that goes on beyond them counts as if it ended
 -- there, and each other text is a tree proof.
 abbrev pub is_groups : List ℕ → Bool
-is_groups bytes = begins_with_groups (take PEEKED_BYTES bytes)
+is_groups bytes = has_groups_word (take PEEKED_BYTES bytes)
 
 -- Another byte follows the first token, or it is longer than a token may be.
 abbrev pub is_settled : List ℕ → Bool

@@ -7,14 +7,14 @@ ghost use Rattle.tt_text.specs.Failures.{is_err_and};
 ghost use Rattle.tt_text.specs.Feeds.{stream_from, stopped};
 ghost use Rattle.tt_text.specs.declared.feed.FeedFault.TheVariants.{Read};
 ghost use Rattle.tt_text.specs.declared.feed.TheConstants.{MAX_BYTES};
-ghost use Rattle.tt_text_peek.specs.Fronts.{begins_with_groups, is_settled, is_groups, is_failed_read};
+ghost use Rattle.tt_text_peek.specs.Fronts.{has_groups_word, is_settled, is_groups, is_failed_read};
 
 use crate::peek::{PEEKED_BYTES, PeekFault};
 use tt_text::{MAX_TOKEN_BYTES, Source, Tokens};
 
 /// Returns whether the first token is `CTTG`.
-pub fn begins_with_groups(bytes: &[u8]) -> bool
-    ensures { result ≡ begins_with_groups bytes.now }
+pub fn has_groups_word(bytes: &[u8]) -> bool
+    ensures { result ≡ has_groups_word bytes.now }
 {
     match Tokens::new(bytes).next() {
         Some(token) => b"CTTG".as_slice() == token.bytes,
@@ -37,10 +37,10 @@ fn is_settled(bytes: &[u8]) -> bool
 
 /// Reads more bytes after the first ones of a source until they settle its first token, are 4,096 bytes, or are all bytes.
 pub fn read_front<R: Source>(front: &mut Vec<u8>, source: &mut R) -> Result<(), PeekFault>
-    ensures kept { ¬ (result ≡ Err PeekFault.OutOfMemory) →
+    ensures bytes { ¬ (result ≡ Err PeekFault.OutOfMemory) →
         Keeps (prepend_known front.old.items (R.remaining source.old)) (prepend_known front.new.items (R.remaining source.new)) }
     ensures groups { OnOk result ((bytes : List ℕ) → prepend_known front.old.items (R.remaining source.old) ≡ Some bytes →
-        begins_with_groups (take PEEKED_BYTES front.new.items) ≡ is_groups bytes) }
+        has_groups_word (take PEEKED_BYTES front.new.items) ≡ is_groups bytes) }
     ensures failed { R.has_failed source.new ≡ (if is_err_and result is_failed_read then true else R.has_failed source.old) }
     ensures no_token { result ≡ Err PeekFault.Read → cut_short (stream_from MAX_BYTES 0 front.new.items) ≡ stopped (Err Read) }
 {

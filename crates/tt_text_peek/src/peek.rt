@@ -27,7 +27,7 @@ pub trait Peek: Source {
     /// a read fails, the bytes that came before it are lost; the source is read no further than the first token.
     fn peek_groups(&mut self) -> Result<bool, PeekFault>
         ensures groups { IfOk result (λ b. (bytes : List ℕ) → Self.remaining self.old ≡ Some bytes → b ≡ is_groups bytes) }
-        ensures kept { OnOk result (Keeps (Self.remaining self.old) (Self.remaining self.new)) }
+        ensures bytes { OnOk result (Keeps (Self.remaining self.old) (Self.remaining self.new)) }
         ensures failed { Self.has_failed self.new ≡ (if is_err_and result is_failed_read then true else Self.has_failed self.old) }
         ensures breaks_off { result ≡ Err PeekFault.Read → BreaksOff (Self.remaining self.old) (Self.remaining self.new) };
 }

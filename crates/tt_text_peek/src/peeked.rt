@@ -3,7 +3,7 @@
 ghost use Rattle.std.specs.Prelude.{◌≡◌, [], ℕ, List};
 ghost use Rattle.std.specs.Io.KnownBytes.{prepend_known};
 
-use crate::front::{begins_with_groups, read_front, remove_front};
+use crate::front::{has_groups_word, read_front, remove_front};
 use crate::peek::{PEEKED_BYTES, Peek, PeekFault};
 use std::alloc::Global;
 use tt_text::{ReadFailed, Source};
@@ -55,6 +55,6 @@ impl<R: Source> Peek for Peeked<R> {
             return Err(fault);
         }
         let end = self.front.len().min(PEEKED_BYTES);
-        Ok(begins_with_groups(&self.front[..end]))
+        Ok(has_groups_word(&self.front[..end]))
     }
 }

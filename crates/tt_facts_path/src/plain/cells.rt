@@ -6,7 +6,7 @@ ghost use Rattle.tt_instance.specs.Cells.{slot, cell};
 ghost use Rattle.tt_instance.specs.Courses.{members, excess};
 ghost use Rattle.tt_instance.specs.declared.limit.TheConstants.{MAX_SEATS};
 ghost use Rattle.tt_facts_path.specs.Live.{clash, is_barred, excludes, is_dead, is_live, live_period};
-ghost use Rattle.tt_facts_path.specs.Nested.{is_denied, is_excluded, numbers_given, is_lost, day_lost, room_lost, rooms_lost, course_lost};
+ghost use Rattle.tt_facts_path.specs.Nested.{is_denied, is_excluded, numbers_given, is_lost, is_day_lost, is_room_lost, are_rooms_lost, is_course_lost};
 
 use super::PlainPath;
 use crate::facts::{Pattern, Who};
@@ -25,7 +25,7 @@ fn numbers_given(given: Option<u32>, count: u32) -> Range<u32>
 }
 
 /// Returns whether two cells clash, so that no timetable can have both.
-fn clash(instance: &Instance<'_>, first: Cell, second: Cell) -> bool
+fn are_clashing(instance: &Instance<'_>, first: Cell, second: Cell) -> bool
     ensures { result ≡ clash instance.now first second }
 {
     first != second
@@ -40,7 +40,7 @@ impl<'p, 'i> PlainPath<'p, 'i> {
     fn is_denied(&self, cell: Cell) -> bool
         ensures { result ≡ is_denied self.now.problem self.now.facts cell }
     {
-        self.facts.iter().any(|fact| !fact.holds && fact.pattern.matches(self.instance, cell))
+        self.facts.iter().any(|fact| !fact.holds && fact.pattern.is_match(self.instance, cell))
     }
 
     fn is_barred(&self, cell: Cell) -> bool
@@ -56,12 +56,12 @@ impl<'p, 'i> PlainPath<'p, 'i> {
     fn is_lost(&self, cell: Cell, other: Cell) -> bool
         ensures { result ≡ is_lost self.now.problem self.now.facts cell other }
     {
-        clash(self.instance, other, cell) || self.is_barred(other)
+        are_clashing(self.instance, other, cell) || self.is_barred(other)
     }
 
-    fn day_lost(&self, pattern: &Pattern, cell: Cell, course: u32, room: u32, day: u32) -> bool
+    fn is_day_lost(&self, pattern: &Pattern, cell: Cell, course: u32, room: u32, day: u32) -> bool
         ensures { result
-            ≡ day_lost self.now.problem self.now.facts pattern.now cell course room day }
+            ≡ is_day_lost self.now.problem self.now.facts pattern.now cell course room day }
     {
         let mut periods = numbers_given(pattern.period, self.instance.periods());
         periods.all(|period| {
@@ -75,45 +75,45 @@ impl<'p, 'i> PlainPath<'p, 'i> {
         })
     }
 
-    fn room_lost(&self, pattern: &Pattern, cell: Cell, course: u32, room: u32) -> bool
-        ensures { result ≡ room_lost self.now.problem self.now.facts pattern.now cell course room }
+    fn is_room_lost(&self, pattern: &Pattern, cell: Cell, course: u32, room: u32) -> bool
+        ensures { result ≡ is_room_lost self.now.problem self.now.facts pattern.now cell course room }
     {
         let mut days = numbers_given(pattern.day, self.instance.days());
-        days.all(|day| self.day_lost(pattern, cell, course, room, day))
+        days.all(|day| self.is_day_lost(pattern, cell, course, room, day))
     }
 
-    fn rooms_lost(&self, pattern: &Pattern, cell: Cell, course: u32) -> bool
-        ensures { result ≡ rooms_lost self.now.problem self.now.facts pattern.now cell course }
+    fn are_rooms_lost(&self, pattern: &Pattern, cell: Cell, course: u32) -> bool
+        ensures { result ≡ are_rooms_lost self.now.problem self.now.facts pattern.now cell course }
     {
         let mut rooms = numbers_given(pattern.room, self.instance.rooms());
-        rooms.all(|room| self.room_lost(pattern, cell, course, room))
+        rooms.all(|room| self.is_room_lost(pattern, cell, course, room))
     }
 
-    fn course_lost(&self, pattern: &Pattern, cell: Cell, course: u32) -> bool
-        ensures { result ≡ course_lost self.now.problem self.now.facts pattern.now cell course }
+    fn is_course_lost(&self, pattern: &Pattern, cell: Cell, course: u32) -> bool
+        ensures { result ≡ is_course_lost self.now.problem self.now.facts pattern.now cell course }
     {
-        course >= self.instance.courses() || self.rooms_lost(pattern, cell, course)
+        course >= self.instance.courses() || self.are_rooms_lost(pattern, cell, course)
     }
 
-    fn members_lost(&self, pattern: &Pattern, cell: Cell, curriculum: u32) -> bool
+    fn are_members_lost(&self, pattern: &Pattern, cell: Cell, curriculum: u32) -> bool
         requires { curriculum < length self.now.problem.curricula }
-        ensures { result ≡ list_all (course_lost self.now.problem self.now.facts pattern.now cell)
+        ensures { result ≡ list_all (is_course_lost self.now.problem self.now.facts pattern.now cell)
             (members self.now.problem curriculum) }
     {
         self.instance
             .members(curriculum)
             .iter()
-            .all(|course| self.course_lost(pattern, cell, *course))
+            .all(|course| self.is_course_lost(pattern, cell, *course))
     }
 
-    fn excludes(&self, pattern: &Pattern, cell: Cell) -> bool
+    fn is_excluding(&self, pattern: &Pattern, cell: Cell) -> bool
         ensures { result ≡ excludes self.now.problem self.now.facts pattern.now cell }
     {
         match pattern.who {
-            Who::Course(course) => self.course_lost(pattern, cell, course),
+            Who::Course(course) => self.is_course_lost(pattern, cell, course),
             Who::Curriculum(curriculum) => {
                 curriculum >= self.instance.curricula()
-                    || self.members_lost(pattern, cell, curriculum)
+                    || self.are_members_lost(pattern, cell, curriculum)
             }
         }
     }
@@ -125,7 +125,7 @@ impl<'p, 'i> PlainPath<'p, 'i> {
     {
         self.facts
             .iter()
-            .any(|fact| fact.holds && self.excludes(&fact.pattern, cell))
+            .any(|fact| fact.holds && self.is_excluding(&fact.pattern, cell))
     }
 
     /// Returns whether a cell is barred, or excluded by some yes-fact.

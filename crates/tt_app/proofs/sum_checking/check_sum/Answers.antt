@@ -8,7 +8,7 @@ use Rattle.tt_app.specs.Summed.{IsSumYes, fault_from_sum, read_failed_at, is_fai
 use Rattle.tt_app.proofs.Answering.{yes_same}
 use Rattle.tt_app.proofs.FailedReads.{passed, calm, unread, instance_read_at, solution_read_at, sum_read}
 use Rattle.tt_app.proofs.Files.{tells_instance, tells_solution, only_memory}
-use Rattle.tt_app.proofs.ToldMemory.{memory_instance, memory_solution}
+use Rattle.tt_app.proofs.ReportedMemory.{memory_instance, memory_solution}
 use Rattle.tt_app.proofs.Adding.{memory_sum, read_summed}
 use Rattle.tt_app.proofs.AddingBoth.{silent_yes, sum_certified, sum_not_certified, sum_cost, sum_fails, sum_yes}
 use Rattle.tt_app.proofs.sum_checking.check_sum.Goals as goal
@@ -80,9 +80,9 @@ returns-in_err-bound-clause-memory g c =
 
 pub returns-in_err-bound-clause-up_to_failed_read : goal.returns-in_err-bound-clause-up_to_failed_read
 returns-in_err-bound-clause-up_to_failed_read g c =
-    λ i r q bytes told was now known.
-    let is = read_summed c.in_err-bound.field-0.0 _ (err_same c.from_residual-in_err-bound.result _ (read_failed_at _) c.from_residual-in_err-bound.ensures.1 told) in
-    record { problem = c.in_ok-instance.instance; spelled = c.in_ok-instance.ensures.found; tells = c.in_err-bound.ensures.up_to_failed_read i r q bytes (ap (λ f. Err f) is) was now known }
+    λ i r q bytes reported was now known.
+    let is = read_summed c.in_err-bound.field-0.0 _ (err_same c.from_residual-in_err-bound.result _ (read_failed_at _) c.from_residual-in_err-bound.ensures.1 reported) in
+    record { problem = c.in_ok-instance.instance; spelled = c.in_ok-instance.ensures.found; explains = c.in_err-bound.ensures.up_to_failed_read i r q bytes (ap (λ f. Err f) is) was now known }
 
 pub returns-in_err-yes_answer-clause-broken : goal.returns-in_err-yes_answer-clause-broken
 returns-in_err-yes_answer-clause-broken g c = λ k. absurd (not_broken c.args.instance.now c.args.solution.now c.in_ok-instance.instance c.in_ok-table.table c.in_ok-instance.ensures.found c.in_ok-table.ensures.found c.score-score.result c.score-score.ensures (no_points c.feasible.result _ c.feasible.ensures c.if-not-feasible.false) k)

@@ -35,6 +35,6 @@ returns-clause-ends g c =
     let tree_nodes = c.loop-opened.search.tree_nodes.items in
     let value = c.as_slice-2.ensures.value in
     ends_by c.args.limit tree_nodes c.next_open-2.result c.is_none.result c.is_none.ensures
-    (subst (λ (l : List TreeNode). IfSome c.next_open-2.result (IsOpenAt l)) value c.next_open-2.ensures.some)
+    (subst (λ (l : List TreeNode). IfSome c.next_open-2.result (IsOpenAt l)) value c.next_open-2.ensures.open)
     (subst (λ (l : List TreeNode). IsNone c.next_open-2.result → list_any (λ e. is_open e.mark) l ≡ false) value c.next_open-2.ensures.none)
     (omega (arith, c.loop-opened.invariant.opened)) (omega (arith, c.loop-opened.invariant.at_most))

@@ -1,7 +1,7 @@
 use Rattle.std.proofs.Common.{◌≡◌, ◌<◌, length, take, map, refl, sym, ap, ◌∙◌, subst, arith}
 use Rattle.std.proofs.Math.Seq.{take-length}
 use Rattle.tt_facts_cell_set.specs.Tables.{Shows}
-use Rattle.tt_facts_cells.specs.Touching.{may_touch}
+use Rattle.tt_facts_cells.specs.Touching.{can_touch}
 use Rattle.tt_facts_cells.proofs.Renewed.{so_far, as_yes, next_settled, next_apart, all_settled, nothing_left, so_far_none}
 use Rattle.tt_facts_cells.proofs.again.settle_again.Goals as goal
 
@@ -25,15 +25,15 @@ loop-older-preserved c =
       earlier = c.settle.ensures.unchanged ∙ c.loop-older.invariant.earlier;
     }
 
-pub loop-older-preserved-then-not-may_touch : goal.loop-older-preserved-then-not-may_touch
-loop-older-preserved-then-not-may_touch c =
+pub loop-older-preserved-then-not-can_touch : goal.loop-older-preserved-then-not-can_touch
+loop-older-preserved-then-not-can_touch c =
     let a = c.args in
     let p = a.instance.now in
     let i = c.loop-older.older-index in
     let here : i < length a.yes.now = omega arith in
     record {
       table = c.loop-older.invariant.table;
-      shown = λ path f e denies same free old. next_apart p a.yes.now path f i _ here c.loop-older.live.words (c.loop-older.invariant.shown path f e denies same free old) e denies (ap (may_touch p _) same ∙ sym c.may_touch.ensures ∙ c.if-not-may_touch.true);
+      shown = λ path f e denies same free old. next_apart p a.yes.now path f i _ here c.loop-older.live.words (c.loop-older.invariant.shown path f e denies same free old) e denies (ap (can_touch p _) same ∙ sym c.can_touch.ensures ∙ c.if-not-can_touch.true);
       earlier = c.loop-older.invariant.earlier;
     }
 

@@ -1,11 +1,11 @@
 use Rattle.std.proofs.Common.{◌≡◌, ◌&&◌, take}
 use Rattle.tt_lists.specs.Words.{has_number}
-use Rattle.tt_facts_path.specs.Nested.{agrees_at}
+use Rattle.tt_facts_path.specs.Nested.{has_place_of}
 use Rattle.tt_facts_cell_set.specs.Tables.{Loses}
 use Rattle.tt_facts_cells.proofs.barring.remove_matched.Given as goal
 
 abbrev pub invariant-loop-course : goal.invariant-loop-course
 invariant-loop-course l = record {
-  loses : Loses l.instance l.fn.table.words (λ x. has_number (take l.course-index l.course-items) x.course && agrees_at l.pattern x) l.table.words;
+  loses : Loses l.instance l.fn.table.words (λ x. has_number (take l.course-index l.course-items) x.course && has_place_of l.pattern x) l.table.words;
   earlier : l.table.earlier ≡ l.fn.table.earlier;
 }

@@ -1,7 +1,7 @@
 use Rattle.std.proofs.Common.{ℕ, ◌+◌, ◌/◌, ◌%◌, ◌≤◌, ◌&&◌, refl, sym, ◌∙◌, subst, arith}
 use Rattle.std.specs.Prelude.{◌==◌}
 use Rattle.tt_facts_path.specs.Facts.{agrees}
-use Rattle.tt_facts_path.specs.Nested.{agrees_at}
+use Rattle.tt_facts_path.specs.Nested.{has_place_of}
 use Rattle.tt_facts_cell_set.specs.Tables.{Loses, is_placed}
 use Rattle.tt_instance.specs.declared.cell.Cell.{Cell}
 use Rattle.tt_facts_cells.proofs.Losing.{loses-none, loses-same, loses-more}
@@ -19,15 +19,15 @@ loop-slot-init c =
       earlier = refl;
     }
 
-pub loop-slot-preserved-then-not-allows : goal.loop-slot-preserved-then-not-allows
-loop-slot-preserved-then-not-allows c =
+pub loop-slot-preserved-then-not-is_allowed : goal.loop-slot-preserved-then-not-is_allowed
+loop-slot-preserved-then-not-is_allowed c =
     let a = c.args in
     let p = a.instance.now in
     let g = a.pattern.now in
     let n = c.loop-slot.slot in
     record {
       loses = loses-same p a.table.now.words c.loop-slot.table.words (is_gone p g a.course n) (is_gone p g a.course (n + 1)) c.loop-slot.invariant.loses
-          (λ x h. slot_skipped p g a.course n x h (sym c.allows.ensures ∙ c.if-not-allows.true));
+          (λ x h. slot_skipped p g a.course n x h (sym c.is_allowed.ensures ∙ c.if-not-is_allowed.true));
       earlier = c.loop-slot.invariant.earlier;
     }
 
@@ -46,7 +46,7 @@ loop-slot-preserved c =
     record {
       loses = loses-more p a.table.now.words mid new (is_gone p g a.course n) (gone p.periods) (is_gone p g a.course (n + 1)) c.loop-slot.invariant.loses
           (subst (λ i. Loses p mid (gone i) new) c.periods-periods.ensures.value c.in_ok-remove_rooms.ensures.ok)
-          (λ x h. slot_gone p g a.course n x h (sym c.allows.ensures ∙ c.if-not-allows.false));
+          (λ x h. slot_gone p g a.course n x h (sym c.is_allowed.ensures ∙ c.if-not-is_allowed.false));
       earlier = c.remove_rooms.ensures.unchanged ∙ c.loop-slot.invariant.earlier;
     }
 
@@ -58,5 +58,5 @@ returns-clause-ok c =
     let n = c.loop-slot.slot in
     let t = c.slots_of-from.result in
     let past : t.1 ≤ n = omega arith in
-    loses-same p a.table.now.words c.loop-slot.table.words (is_gone p g a.course n) (λ x. (x.course == a.course) && agrees_at g x) c.loop-slot.invariant.loses
+    loses-same p a.table.now.words c.loop-slot.table.words (is_gone p g a.course n) (λ x. (x.course == a.course) && has_place_of g x) c.loop-slot.invariant.loses
     (λ x h. all_gone p g a.course t.0 t.1 n x h c.slots_of-from.ensures past)

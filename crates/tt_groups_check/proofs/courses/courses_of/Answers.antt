@@ -7,16 +7,16 @@ use Rattle.tt_groups_check.specs.Limits.{courses_of}
 use Rattle.tt_groups_check.proofs.CoursesAndSizes.{filter_more-passing, filter_more-failing, are_courses, concerned_below, distinct_passing}
 use Rattle.tt_groups_day.specs.Found.{AreDistinct}
 use Rattle.tt_groups_check.proofs.courses.courses_of.Goals as goal
-use Rattle.tt_groups_check.proofs.courses.courses_of.Goals.{then-concerns+in_ok-push, else-concerns}
+use Rattle.tt_groups_check.proofs.courses.courses_of.Goals.{then-is_concerned+in_ok-push, else-is_concerned}
 
 pub loop-course-preserved : goal.loop-course-preserved
 loop-course-preserved c =
     let q = concerns c.args.instance.now c.args.group.now in
     let i = c.loop-course.course in
-    elim c.if-concerns.branch [
-      | then-concerns+in_ok-push w ↦ ap (λ v. v.items) w.courses-is ∙ w.in_ok-push.ensures.items ∙ ap (λ (l : List ℕ). l ++ i ∷ []) c.loop-course.invariant
-          ∙ sym (filter_more-passing q i (sym c.concerns.ensures ∙ w.if-concerns.true))
-      | else-concerns w ↦ ap (λ v. v.items) w.courses-is ∙ c.loop-course.invariant ∙ sym (filter_more-failing q i (sym c.concerns.ensures ∙ w.if-concerns.false))
+    elim c.if-is_concerned.branch [
+      | then-is_concerned+in_ok-push w ↦ ap (λ v. v.items) w.courses-is ∙ w.in_ok-push.ensures.items ∙ ap (λ (l : List ℕ). l ++ i ∷ []) c.loop-course.invariant
+          ∙ sym (filter_more-passing q i (sym c.is_concerned.ensures ∙ w.if-is_concerned.true))
+      | else-is_concerned w ↦ ap (λ v. v.items) w.courses-is ∙ c.loop-course.invariant ∙ sym (filter_more-failing q i (sym c.is_concerned.ensures ∙ w.if-is_concerned.false))
     ]
 
 pub returns-clause-courses : goal.returns-clause-courses

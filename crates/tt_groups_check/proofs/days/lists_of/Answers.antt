@@ -36,7 +36,7 @@ loop-day-preserved c =
     elim c.match-same_day.branch [
       | in-Some+in_ok-share-in-Some w ↦
           let clauses = w.in_ok-share-in-Some.ensures in
-          let same = subst (λ (n : ℕ). IsSameAvailability p cs w.in-Some.earlier n) (sym before.all) w.in-Some.ensures.same in
+          let same = subst (λ (n : ℕ). IsSameAvailability p cs w.in-Some.earlier n) (sym before.all) w.in-Some.ensures.availability in
           record {
             listed = subst (λ (x : Lists). AreListed ns ws d.courses x.moves.items x.of_day.items) (sym w.lists-is) clauses.listed;
             all = ap (λ (x : Lists). length x.of_day.items) w.lists-is ∙ clauses.more ∙ ap (λ n. n + 1) before.all;

@@ -68,8 +68,8 @@ returns-clause-small c =
     small_sets p g cs ws c.loop-i.sets.items 1048576 c.requires.at_most (λ i. omega (arith, c.requires.small i, m))
     (subst (λ n. All (IsChoice p g cs ws n) c.loop-i.sets.items) e c.loop-i.invariant.each)
 
-pub returns-clause-few_sets : goal.returns-clause-few_sets
-returns-clause-few_sets c =
+pub returns-clause-within_limit : goal.returns-clause-within_limit
+returns-clause-within_limit c =
     let cs = c.args.courses.now in
     let e : c.loop-i.i ≡ length cs = omega arith in
     let count = subst (λ n. HasCount c.args.instance.now cs n c.loop-i.sets.items) e c.loop-i.invariant.count in

@@ -1,5 +1,5 @@
 use Rattle.std.proofs.Common.{◌∙◌, arith}
-use Rattle.tt_occupancy.proofs.Standings.{none_standing}
+use Rattle.tt_occupancy.proofs.Takings.{none_taken}
 use Rattle.tt_occupancy.proofs.gaps.entries_at.Goals as goal
 
 pub returns-then-period-week-clause-value : goal.returns-then-period-week-clause-value
@@ -8,4 +8,4 @@ returns-then-period-week-clause-value c = λ p u ok tally.
 
 pub returns-else-period-week-clause-value : goal.returns-else-period-week-clause-value
 returns-else-period-week-clause-value c = λ p u ok tally.
-    none_standing p u c.args.row c.args.day c.args.period ok (omega (arith, tally.periods))
+    none_taken p u c.args.row c.args.day c.args.period ok (omega (arith, tally.periods))

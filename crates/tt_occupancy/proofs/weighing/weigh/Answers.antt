@@ -5,7 +5,7 @@ use Rattle.tt_instance.specs.Cells.{slot_of, is_of, is_at, is_in}
 use Rattle.tt_instance.specs.Courses.{in_curriculum}
 use Rattle.tt_occupancy_tallies.specs.Tallies.{of_curriculum}
 use Rattle.tt_occupancy_tallies.proofs.Rows.{rows_below, passing_few}
-use Rattle.tt_occupancy.proofs.Standings.{gaps_alone, gaps_joined}
+use Rattle.tt_occupancy.proofs.Takings.{gaps_alone, gaps_joined}
 use Rattle.tt_occupancy_tallies.proofs.Against.{against_is}
 use Rattle.tt_occupancy_tallies.proofs.Chosen.{any_counted}
 use Rattle.tt_occupancy.proofs.weighing.weigh.Goals as goal

@@ -13,7 +13,7 @@ returns c =
     let t = c.args.plan.now.table in
     let here : Cell → Bool = is_at (slot c.args.day c.args.period) in
     let chosen : Cell → Bool = λ x. in_curriculum p c.args.curriculum x.course in
-    c.some_attended.ensures
+    c.has_attended.ensures
     ∙ ap (λ (q : Problem). list_any (λ x. in_curriculum q c.args.curriculum x.course) c.in_period-others.result) c.instance-instance.ensures
     ∙ any_in_group here chosen t c.in_period-others.result c.in_period-others.ensures.group
     ∙ list_any-turned here chosen t

@@ -10,6 +10,6 @@ pub returns : goal.returns
 returns c =
     let p = c.args.plan.now.problem in
     let e = c.args.entry.now in
-    c.some_excludes.ensures
+    c.has_conflict_with.ensures
     ∙ ap (λ (q : Problem). list_any (λ x. conflict q x.course e.course) c.in_period-others.result) c.instance-instance.ensures
     ∙ any_in_group (is_at (slot e.day e.period)) (λ x. conflict p x.course e.course) c.args.plan.now.table c.in_period-others.result c.in_period-others.ensures.group

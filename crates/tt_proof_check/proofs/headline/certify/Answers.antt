@@ -70,9 +70,9 @@ returns-clause-broken g c =
 
 pub returns-in_err-bound-clause-up_to_failed_read : goal.returns-in_err-bound-clause-up_to_failed_read
 returns-in_err-bound-clause-up_to_failed_read g c =
-    λ told bytes known.
-    let is = err_same c.from_residual-in_err-bound.result c.in_err-bound.field-0.0 read_failed c.from_residual-in_err-bound.ensures.1 told in
-    record { problem = c.in_ok-instance.instance; spelled = c.in_ok-instance.ensures.found; tells = c.in_err-bound.ensures.up_to_failed_read (ap (λ x. Err x) is) bytes known }
+    λ reported bytes known.
+    let is = err_same c.from_residual-in_err-bound.result c.in_err-bound.field-0.0 read_failed c.from_residual-in_err-bound.ensures.1 reported in
+    record { problem = c.in_ok-instance.instance; spelled = c.in_ok-instance.ensures.found; explains = c.in_err-bound.ensures.up_to_failed_read (ap (λ x. Err x) is) bytes known }
 
 pub returns-in_err-instance-clause-memory : goal.returns-in_err-instance-clause-memory
 returns-in_err-instance-clause-memory g c =

@@ -64,22 +64,22 @@ returns-clause-proved g c =
 
 pub returns-in_err-check_tree-clause-up_to_failed_read : goal.returns-in_err-check_tree-clause-up_to_failed_read
 returns-in_err-check_tree-clause-up_to_failed_read g c =
-    λ told k.
+    λ reported k.
     let reader = c.in_ok-reader.reader in
     let start = c.in_ok-reader.ensures in
-    let is = err_same c.from_residual-in_err-check_tree.result c.in_err-check_tree.field-0.0 (Text read_failed) c.from_residual-in_err-check_tree.ensures.1 told in
+    let is = err_same c.from_residual-in_err-check_tree.result c.in_err-check_tree.field-0.0 (Text read_failed) c.from_residual-in_err-check_tree.ensures.1 reported in
     let here = c.in_err-check_tree.ensures.up_to_failed_read (ap (λ x. Err x) is) (start.known k) in
     let first = start.cut_short k _ here.0 in
     (first.0, inr (reader.version, reader.bound, _, first.1, inl here.1))
 
 pub returns-in_err-finish-clause-up_to_failed_read : goal.returns-in_err-finish-clause-up_to_failed_read
 returns-in_err-finish-clause-up_to_failed_read g c =
-    λ told k.
+    λ reported k.
     let reader = c.in_ok-reader.reader in
     let start = c.in_ok-reader.ensures in
     let checked = c.in_ok-check_tree.ensures in
     let f = c.in_err-finish.field-0.0 in
-    let is : f ≡ read_failed = err_read c.from_residual-in_err-finish.result f c.from_residual-in_err-finish.ensures.1 told in
+    let is : f ≡ read_failed = err_read c.from_residual-in_err-finish.result f c.from_residual-in_err-finish.ensures.1 reported in
     let here = c.in_err-finish.ensures.cut_short checked.sound (checked.known (start.known k)) (ap is_failed_read is) in
     let tree = checked.cut_short (start.known k) _ here.0 in
     let first = start.cut_short k _ tree.0 in (

@@ -39,8 +39,8 @@ returns-clause-holds g c =
 
 pub returns-clause-up_to_failed_read : goal.returns-clause-up_to_failed_read
 returns-clause-up_to_failed_read g c =
-    λ told.
+    λ reported.
     let before = g.R.Source.remaining c.args.source.now in
     let after = g.R.Source.remaining c.check_on_path.new.source in
-    let up = subst (λ (p : Problem). UpToFailure fresh before after (IsCutOff p)) c.in_ok-path.ensures.problem (c.check_on_path.ensures.up_to_failed_read told) in
+    let up = subst (λ (p : Problem). UpToFailure fresh before after (IsCutOff p)) c.in_ok-path.ensures.problem (c.check_on_path.ensures.up_to_failed_read reported) in
     of_given (IsCutOff c.args.instance.now) before after c.check_on_path.ensures.known up

@@ -8,7 +8,7 @@ use Rattle.tt_proof_check.specs.declared.fault.CheckFault.TheVariants.{Text}
 use Rattle.tt_proof_check.specs.declared.walk.Stop.TheVariants.{Rule, TooDeep}
 use Rattle.tt_proof_check.specs.Faults.{OutOfMemoryIsNoTextFault}
 use Rattle.tt_proof_check.specs.Visited.{Visited, Unvisited}
-use Rattle.tt_proof_check.specs.CheckedPart.{TellsNodes}
+use Rattle.tt_proof_check.specs.CheckedPart.{ExplainsNodes}
 use Rattle.tt_proof_check.specs.Nodes.{IsNodeOf}
 use Rattle.tt_proof_check.proofs.Nodes.{node_numbers}
 use Rattle.tt_proof_check.proofs.Streaming.{sofar_start, sofar_next, sofar_wrong, sofar_deep, sofar_end, sofar_unread, sofar_breaks, sofar_deep_breaks, visited_push}
@@ -91,7 +91,7 @@ returns-in_err-node-clause-fault g c =
     let path = g.P.Path.facts c.loop-node.path in
     let new = c.next_node.new.self in
     let u = stream_at new.fed (g.R.Source.remaining c.next_node.new.source) in
-    err_gives c.from_residual.result f (TellsNodes p v b s) c.from_residual.ensures.1
+    err_gives c.from_residual.result f (ExplainsNodes p v b s) c.from_residual.ensures.1
     (sofar_unread p v b known _ s old t path inv.sofar new u f (e.goes inv.sofar.sound) k (e.says inv.sofar.sound (inv.known k)))
 
 pub returns-in-Err-Rule-clause-fault : goal.returns-in-Err-Rule-clause-fault
@@ -158,20 +158,20 @@ returns-clause-checked g c =
 
 pub returns-in_err-node-clause-up_to_failed_read : goal.returns-in_err-node-clause-up_to_failed_read
 returns-in_err-node-clause-up_to_failed_read g c =
-    λ told k.
+    λ reported k.
     let e = c.in_err-node.ensures in
     let f = c.in_err-node.field-0.0 in
     let inv = c.loop-node.invariant in
     let old = c.loop-node.reader in
     let path = g.P.Path.facts c.loop-node.path in
-    let is : f ≡ read_failed = err_read c.from_residual.result f c.from_residual.ensures.1 told in
+    let is : f ≡ read_failed = err_read c.from_residual.result f c.from_residual.ensures.1 reported in
     let here = e.cut_short inv.sofar.sound (inv.known k) (ap is_failed_read is) in
     let first = inv.failing k _ here.0 in
     (first.0, sofar_breaks _ _ _ true Unvisited _ old _ path first.1 (e.goes inv.sofar.sound).0 refl (here.1 ∙ ap (λ x. Err x) is))
 
 pub returns-in-Err-TooDeep-clause-up_to_failed_read : goal.returns-in-Err-TooDeep-clause-up_to_failed_read
 returns-in-Err-TooDeep-clause-up_to_failed_read g c =
-    λ told k.
+    λ reported k.
     let e = rw c.in-Some.is at c.in_ok-node.ensures in
     let taken = rw c.in-Err-TooDeep.field-0-is at c.in-Err-TooDeep.ensures in
     let n = c.in-Some.node in

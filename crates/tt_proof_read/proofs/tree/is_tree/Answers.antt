@@ -3,7 +3,7 @@ use Rattle.std.proofs.lemmas.Bool.{false≢true}
 use Rattle.tt_proof_read.specs.Reads.{open_after}
 use Rattle.tt_proof_read.specs.Readers.{places_after}
 use Rattle.tt_proof_read.specs.declared.node.Node.{Node}
-use Rattle.tt_proof_read.proofs.Whole.{open_more, open_over, open_told}
+use Rattle.tt_proof_read.proofs.Whole.{open_more, open_over, open_reported}
 use Rattle.tt_proof_read.proofs.tree.is_tree.Goals as goal
 use Rattle.tt_proof_read.proofs.tree.is_tree.Goals.{in-Split, in-Leaf}
 
@@ -27,4 +27,4 @@ loop-node-preserved c =
     ]
 
 pub returns : goal.returns
-returns c = open_told c.args.nodes.now c.loop-node.node-index c.loop-node.places (omega arith) c.loop-node.invariant.0
+returns c = open_reported c.args.nodes.now c.loop-node.node-index c.loop-node.places (omega arith) c.loop-node.invariant.0

@@ -8,18 +8,18 @@ use Rattle.tt_proof_check.proofs.TextFaults.{same_reads}
 use Rattle.tt_groups_read.specs.Readers.{Reader, IsReaderAfter, IsReadingOf, GroupAgreesWhenCut, IsClaimAt}
 use Rattle.tt_groups_read.specs.declared.claim.GroupClaim.{GroupClaim}
 use Rattle.tt_groups_read.specs.declared.fault.GroupTextFault.TheVariants.{Text}
-use Rattle.tt_proof_sum.specs.Faults.{TellsAdded, is_failed_read_at}
+use Rattle.tt_proof_sum.specs.Faults.{ExplainsAdded, is_failed_read_at}
 use Rattle.tt_proof_sum.specs.declared.fault.SumFault.{SumFault}
-use Rattle.tt_proof_sum.proofs.FailedReads.{told_reads, result_reads, claim_read, reached_read}
-use Rattle.tt_proof_sum.proofs.Underway.{underway_start, underway_more, claim_is, reading_claim, reading_end, joins, cheap_fault, claim_fault, text_fault, claim_cut, header_cut, reached_ok, reached_err, told_failed}
+use Rattle.tt_proof_sum.proofs.FailedReads.{reported_reads, result_reads, claim_read, reached_read}
+use Rattle.tt_proof_sum.proofs.Underway.{underway_start, underway_more, claim_is, reading_claim, reading_end, joins, cheap_fault, claim_fault, text_fault, claim_cut, header_cut, reached_ok, reached_err, reported_failed}
 use Rattle.tt_proof_sum.proofs.groups.take_groups.Goals as goal
 
 pub returns-in-Err-clause-up_to_failed_read : goal.returns-in-Err-clause-up_to_failed_read
 returns-in-Err-clause-up_to_failed_read g c =
-    λ told bytes known.
+    λ reported bytes known.
     let e = c.in-Err.ensures in
     header_cut c.args.instance.now (g.R.Source.remaining c.args.source.now) (g.R.Source.remaining c.new.new.source) c.in-Err.fault
-    (told_failed c.fault_of_text.result c.proof-file.result c.args.table.now.proof c.in-Err.fault c.fault_of_text.ensures c.proof-file.ensures told) e.known e.cut_short bytes known
+    (reported_failed c.fault_of_text.result c.proof-file.result c.args.table.now.proof c.in-Err.fault c.fault_of_text.ensures c.proof-file.ensures reported) e.known e.cut_short bytes known
 
 pub loop-claim-init : goal.loop-claim-init
 loop-claim-init g c =
@@ -77,13 +77,13 @@ returns-in-Err-next_group-clause-fault g c =
     let u = c.loop-claim.invariant.under in
     let after = c.next_group.new.self in
     let later = g.R.Source.remaining c.next_group.new.source in
-    let says : is_some now ≡ true → IsReadingOf r (stream_at r.fed now) (Err c.in-Err-next_group.fault) (stream_at after.fed later) = λ k. subst (λ (x : Result (Option GroupClaim) TextFault). IsReadingOf r (stream_at r.fed now) x (stream_at after.fed later)) c.in-Err-next_group.is (c.next_group.ensures.says u.sound k) in
-    subst (λ (x : SumFault). TellsAdded p parts bytes x) (sym c.fault_of_text-in-Err-next_group.ensures)
+    let says : is_some now ≡ true → IsReadingOf r (stream_at r.fed now) (Err c.in-Err-next_group.fault) (stream_at after.fed later) = λ k. subst (λ (x : Result (Option GroupClaim) TextFault). IsReadingOf r (stream_at r.fed now) x (stream_at after.fed later)) c.in-Err-next_group.is (c.next_group.ensures.known u.sound k) in
+    subst (λ (x : SumFault). ExplainsAdded p parts bytes x) (sym c.fault_of_text-in-Err-next_group.ensures)
     (text_fault p c.days.ensures.instance start c.args.table.now r now c.loop-claim.table c.loop-claim.number c.loop-claim.total u after later c.in-Err-next_group.fault parts before of begins says bytes known kind c.proof-file.result)
 
 pub returns-in-Err-next_group-clause-up_to_failed_read : goal.returns-in-Err-next_group-clause-up_to_failed_read
 returns-in-Err-next_group-clause-up_to_failed_read g c =
-    λ told bytes known.
+    λ reported bytes known.
     let p = c.args.instance.now in
     let start = g.R.Source.remaining c.args.source.now in
     let r = c.loop-claim.reader in
@@ -93,7 +93,7 @@ returns-in-Err-next_group-clause-up_to_failed_read g c =
     let later = g.R.Source.remaining c.next_group.new.source in
     let cut = subst (λ (x : Result (Option GroupClaim) TextFault). GroupAgreesWhenCut r now x after.fed later) c.in-Err-next_group.is (c.next_group.ensures.cut_short u.sound) in
     claim_cut p c.days.ensures.instance start c.args.table.now r now c.loop-claim.table c.loop-claim.number c.loop-claim.total u after later c.in-Err-next_group.fault
-    (told_failed c.fault_of_text-in-Err-next_group.result c.proof-file.result c.args.table.now.proof (Text c.in-Err-next_group.fault) c.fault_of_text-in-Err-next_group.ensures c.proof-file.ensures told)
+    (reported_failed c.fault_of_text-in-Err-next_group.result c.proof-file.result c.args.table.now.proof (Text c.in-Err-next_group.fault) c.fault_of_text-in-Err-next_group.ensures c.proof-file.ensures reported)
     c.next_group.ensures.known cut bytes known
 
 pub returns-in_err-take_claim-clause-fault : goal.returns-in_err-take_claim-clause-fault
@@ -146,7 +146,7 @@ pub returns-in-Err-clause-failed : goal.returns-in-Err-clause-failed
 returns-in-Err-clause-failed g c =
     let e = c.in-Err.ensures in
     let f = c.in-Err.fault in
-    told_reads c.fault_of_text.result c.proof-file.result c.args.table.now.proof f _ _ c.fault_of_text.ensures c.proof-file.ensures e.failed
+    reported_reads c.fault_of_text.result c.proof-file.result c.args.table.now.proof f _ _ c.fault_of_text.ensures c.proof-file.ensures e.failed
 
 pub returns-in-Err-next_group-clause-failed : goal.returns-in-Err-next_group-clause-failed
 returns-in-Err-next_group-clause-failed g c =
@@ -154,7 +154,7 @@ returns-in-Err-next_group-clause-failed g c =
     let t = c.in-Err-next_group.fault in
     let u = c.loop-claim.invariant.under in
     let is = c.in-Err-next_group.is in
-    told_reads c.fault_of_text-in-Err-next_group.result c.proof-file.result c.args.table.now.proof (Text t) _ _ c.fault_of_text-in-Err-next_group.ensures c.proof-file.ensures
+    reported_reads c.fault_of_text-in-Err-next_group.result c.proof-file.result c.args.table.now.proof (Text t) _ _ c.fault_of_text-in-Err-next_group.ensures c.proof-file.ensures
     (result_reads c.next_group.result (Err t) is_failed_read _ _ is (e.failed u.sound) ∙ ap (λ (b : Bool). if is_failed_read t then true else b) c.loop-claim.invariant.calm)
 
 pub returns-in_err-take_claim-clause-failed : goal.returns-in_err-take_claim-clause-failed

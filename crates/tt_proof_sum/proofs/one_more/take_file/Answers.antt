@@ -29,6 +29,6 @@ returns-in-Ok-false-clause-fault g c =
 
 pub returns-in-Err-Read-clause-up_to_failed_read : goal.returns-in-Err-Read-clause-up_to_failed_read
 returns-in-Err-Read-clause-up_to_failed_read g c =
-    λ told bytes known.
+    λ reported bytes known.
     broken_off c.args.instance.now (g.R.Source.remaining c.args.source.now) (g.R.Source.remaining c.peek_groups.new.self)
     (c.peek_groups.ensures.breaks_off (c.in-Err-Read.is ∙ ap (λ (x : PeekFault). Err x) c.in-Err-Read.field-0-is)) bytes known

@@ -30,9 +30,9 @@ pub returns-in_err-sum-2-clause-only : goal.returns-in_err-sum-2-clause-only
 returns-in_err-sum-2-clause-only g c =
     let e = err_from_is_err_and c.from_residual-in_err-sum-2.result c.from_residual-in_err-sum-2.ensures.1 in
     λ proofs s given h within.
-    let told = sofar_refused c.args.instance.now g.R.Source.remaining g.R.Source.has_failed c.args.sources.now c.loop-source.source-items c.loop-source.source-index c.loop-source.sum (get_or c.loop-source.source-items c.loop-source.source-index c.source-item.result)
+    let reported = sofar_refused c.args.instance.now g.R.Source.remaining g.R.Source.has_failed c.args.sources.now c.loop-source.source-items c.loop-source.source-index c.loop-source.sum (get_or c.loop-source.source-items c.loop-source.source-index c.source-item.result)
     c.in_err-sum-2.field-0.0 c.loop-source-test.true (ap (get_or c.loop-source.source-items c.loop-source.source-index) c.source-item.is) c.loop-source.invariant.sofar c.in_err-sum-2.ensures.numbered c.in_err-sum-2.ensures.fault proofs given in
-    rw (e.1, e.2) (sum_silent c.args.instance.now c.days.ensures.instance proofs s h within c.in_err-sum-2.field-0.0 c.in_err-sum-2.ensures.memory told)
+    rw (e.1, e.2) (sum_silent c.args.instance.now c.days.ensures.instance proofs s h within c.in_err-sum-2.field-0.0 c.in_err-sum-2.ensures.memory reported)
 
 pub returns-in_err-sum-clause-failed : goal.returns-in_err-sum-clause-failed
 returns-in_err-sum-clause-failed g c =
@@ -50,10 +50,10 @@ returns-in_err-sum-2-clause-failed g c =
 
 pub returns-in_err-sum-2-clause-up_to_failed_read : goal.returns-in_err-sum-2-clause-up_to_failed_read
 returns-in_err-sum-2-clause-up_to_failed_read g c =
-    λ i r q bytes told before after known.
+    λ i r q bytes reported before after known.
     let s = c.loop-source.sum in
     let f = c.in_err-sum-2.field-0.0 in
-    let is : f ≡ read_failed_at (i + 1) = err_same c.from_residual-in_err-sum-2.result f (read_failed_at (i + 1)) c.from_residual-in_err-sum-2.ensures.1 told in
+    let is : f ≡ read_failed_at (i + 1) = err_same c.from_residual-in_err-sum-2.result f (read_failed_at (i + 1)) c.from_residual-in_err-sum-2.ensures.1 reported in
     let number : i + 1 ≡ due s = subst (λ (x : SumFault). IsNumbered (due s) x) is c.in_err-sum-2.ensures.numbered in
     let within : c.loop-source.source-index ≤ length c.args.sources.now = omega arith in
     let here = taken c.args.instance.now g.R.Source.remaining g.R.Source.has_failed c.args.sources.now c.loop-source.source-items c.loop-source.source-index s within c.loop-source.invariant.sofar in

@@ -83,10 +83,10 @@ returns-clause-cut_short g c =
 
 pub returns-in_err-node-clause-up_to_failed_read : goal.returns-in_err-node-clause-up_to_failed_read
 returns-in_err-node-clause-up_to_failed_read g c =
-    λ told k.
+    λ reported k.
     let e = c.in_err-node.ensures in
     let inv = c.loop-nodes.invariant in
-    let is = err_same c.from_residual.result c.in_err-node.field-0.0 read_failed c.from_residual.ensures.1 told in
+    let is = err_same c.from_residual.result c.in_err-node.field-0.0 read_failed c.from_residual.ensures.1 reported in
     let here = e.cut_short inv.sofar.sound (inv.known k) (ap is_failed_read is) in
     let first = inv.failing k _ here.0 in
     (first.0, collected_breaks_off _ _ true _ c.loop-nodes.reader _ c.loop-nodes.nodes.items first.1 (e.goes inv.sofar.sound).0 refl (here.1 ∙ ap (λ x. Err x) is))

@@ -53,8 +53,8 @@ returns-in_err-reader-clause-up_to_failed_read g c =
     let before = g.R.Source.remaining c.args.source.now in
     let after = g.R.Source.remaining c.new.new.source in
     let start = c.in_err-reader.ensures in
-    λ told. of_given (TextIsCutOff c.args.instance.now) before after start.known (λ k.
-    let is = err_same c.from_residual.result c.in_err-reader.field-0.0 read_failed c.from_residual.ensures.1 told in
+    λ reported. of_given (TextIsCutOff c.args.instance.now) before after start.known (λ k.
+    let is = err_same c.from_residual.result c.in_err-reader.field-0.0 read_failed c.from_residual.ensures.1 reported in
     let here = start.cut_short k (ap is_failed_read is) in
     (here.0, inl (here.1 ∙ ap (λ x. Err x) is)))
 
@@ -65,8 +65,8 @@ returns-in_err-nodes-clause-up_to_failed_read g c =
     let before = g.R.Source.remaining c.args.source.now in
     let after = g.R.Source.remaining c.collect.new.source in
     let p = c.args.instance.now in
-    λ told. of_given (TextIsCutOff p) before after (λ k. c.in_err-nodes.ensures.known (start.known k)) (λ k.
-    let is = err_same c.from_residual-in_err-nodes.result c.in_err-nodes.field-0.0 read_failed c.from_residual-in_err-nodes.ensures.1 told in
+    λ reported. of_given (TextIsCutOff p) before after (λ k. c.in_err-nodes.ensures.known (start.known k)) (λ k.
+    let is = err_same c.from_residual-in_err-nodes.result c.in_err-nodes.field-0.0 read_failed c.from_residual-in_err-nodes.ensures.1 reported in
     let here = c.in_err-nodes.ensures.up_to_failed_read (ap (λ x. Err x) is) (start.known k) in
     let first = start.cut_short k _ here.0 in
     (first.0, nodes_break_off p reader.sizes start.sizes _ reader.version reader.bound _ first.1 here.1))
@@ -79,8 +79,8 @@ returns-in_err-finish-clause-up_to_failed_read g c =
     let before = g.R.Source.remaining c.args.source.now in
     let after = g.R.Source.remaining c.finish.new.source in
     let p = c.args.instance.now in
-    λ told. of_given (TextIsCutOff p) before after (λ k. c.in_err-finish.ensures.known (collected.known (start.known k))) (λ k.
-    let is = err_same c.from_residual-in_err-finish.result c.in_err-finish.field-0.0 read_failed c.from_residual-in_err-finish.ensures.1 told in
+    λ reported. of_given (TextIsCutOff p) before after (λ k. c.in_err-finish.ensures.known (collected.known (start.known k))) (λ k.
+    let is = err_same c.from_residual-in_err-finish.result c.in_err-finish.field-0.0 read_failed c.from_residual-in_err-finish.ensures.1 reported in
     let here = c.in_err-finish.ensures.cut_short collected.sound (collected.known (start.known k)) (ap is_failed_read is) in
     let nodes = collected.cut_short (start.known k) _ here.0 in
     let first = start.cut_short k _ nodes.0 in

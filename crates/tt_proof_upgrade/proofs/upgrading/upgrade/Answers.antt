@@ -9,7 +9,7 @@ use Rattle.tt_proof_check.proofs.Nodes.{node_numbers}
 use Rattle.tt_proof_check.proofs.Soundness.{proof_sound}
 use Rattle.tt_proof_check.proofs.TextFaults.{err_same, same_reads}
 use Rattle.tt_proof_upgrade.specs.Faults.{fault_from_text, read_failed, is_failed_read}
-use Rattle.tt_proof_upgrade.proofs.Faults.{read_told, text_read, nodes_read, write_read, memory_text, memory_nodes, memory_write}
+use Rattle.tt_proof_upgrade.proofs.Faults.{read_reported, text_read, nodes_read, write_read, memory_text, memory_nodes, memory_write}
 use Rattle.tt_proof_upgrade.proofs.Written.{nodes_tell, write_tells, upgraded, text_tells, bound_read, silent}
 use Rattle.tt_proof_upgrade.proofs.upgrading.upgrade.Goals as goal
 
@@ -69,7 +69,7 @@ returns-clause-holds g c =
 
 pub returns-in_err-read-clause-up_to_failed_read : goal.returns-in_err-read-clause-up_to_failed_read
 returns-in_err-read-clause-up_to_failed_read g c =
-    λ told. c.in_err-read.ensures.up_to_failed_read (ap (λ f. Err f) (read_told c.in_err-read.field-0.0 (err_same c.from_residual.result _ read_failed c.from_residual.ensures.1 told)))
+    λ reported. c.in_err-read.ensures.up_to_failed_read (ap (λ f. Err f) (read_reported c.in_err-read.field-0.0 (err_same c.from_residual.result _ read_failed c.from_residual.ensures.1 reported)))
 
 pub returns-in_err-read-clause-memory : goal.returns-in_err-read-clause-memory
 returns-in_err-read-clause-memory g c =

@@ -13,6 +13,6 @@ loop-run-preserved g c =
     let found = c.in_ok-table in
     let next : suc l.run ≡ l.run + 1 = omega arith in
     record {
-      kept = IsNoWorse-trans l.invariant.kept found.ensures.kept;
+      kept = IsNoWorse-trans l.invariant.kept found.ensures.no_worse;
       runs = subst (λ n. Runs a.instance.now a.table (a.steps / 2) (a.steps - a.steps / 2) n found.table) next (l.table, l.invariant.runs, found.ensures.descended);
     }

@@ -4,7 +4,7 @@ use Rattle.tt_proof_check.proofs.TextFaults.{err_same}
 use Rattle.tt_app.specs.Checked.{read_failed, is_failed_read}
 use Rattle.tt_app.specs.FaultMaps.{fault_from_instance, fault_from_check}
 use Rattle.tt_app.proofs.FailedReads.{read_checked, passed, calm, instance_read, check_read}
-use Rattle.tt_app.proofs.ToldMemory.{memory_instance, memory_check}
+use Rattle.tt_app.proofs.ReportedMemory.{memory_instance, memory_check}
 use Rattle.tt_app.proofs.DerivedBounds.{spelled_memory, proof_tells, silent_bound, proved_here, bounded}
 use Rattle.tt_app.proofs.calls.bound.bound.Goals as goal
 
@@ -29,9 +29,9 @@ returns-clause-found g c =
 
 pub returns-in_err-bound-clause-up_to_failed_read : goal.returns-in_err-bound-clause-up_to_failed_read
 returns-in_err-bound-clause-up_to_failed_read g c =
-    λ told bytes known.
-    let is = read_checked c.in_err-bound.field-0.0 (err_same c.from_residual-in_err-bound.result _ read_failed c.from_residual-in_err-bound.ensures.1 told) in
-    record { problem = c.in_ok-instance.instance; spelled = c.in_ok-instance.ensures.found; tells = c.in_err-bound.ensures.up_to_failed_read (ap (λ f. Err f) is) bytes known }
+    λ reported bytes known.
+    let is = read_checked c.in_err-bound.field-0.0 (err_same c.from_residual-in_err-bound.result _ read_failed c.from_residual-in_err-bound.ensures.1 reported) in
+    record { problem = c.in_ok-instance.instance; spelled = c.in_ok-instance.ensures.found; explains = c.in_err-bound.ensures.up_to_failed_read (ap (λ f. Err f) is) bytes known }
 
 pub returns-in_err-instance-clause-memory : goal.returns-in_err-instance-clause-memory
 returns-in_err-instance-clause-memory g c =

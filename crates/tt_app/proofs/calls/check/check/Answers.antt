@@ -5,19 +5,19 @@ use Rattle.tt_proof_check.proofs.TextFaults.{err_same}
 use Rattle.tt_app.specs.Checked.{read_failed, is_failed_read}
 use Rattle.tt_app.specs.FaultMaps.{fault_from_certify}
 use Rattle.tt_app.proofs.FailedReads.{read_certified, passed, certify_read}
-use Rattle.tt_app.proofs.ToldMemory.{memory_certify}
-use Rattle.tt_app.proofs.Answering.{tells, yes_told, yes_same}
+use Rattle.tt_app.proofs.ReportedMemory.{memory_certify}
+use Rattle.tt_app.proofs.Answering.{explains, yes_reported, yes_same}
 use Rattle.tt_app.proofs.calls.check.check.Goals as goal
 
 pub returns-in_err-cost-clause-fault : goal.returns-in_err-cost-clause-fault
 returns-in_err-cost-clause-fault g c =
     let e = err_from_is_err_and c.from_residual.result c.from_residual.ensures.1 in
-    rw (e.1, e.2) (tells c.args.instance.now c.args.solution.now (g.R.Source.remaining c.args.proof.now) c.in_err-cost.field-0.0 c.in_err-cost.ensures.fault)
+    rw (e.1, e.2) (explains c.args.instance.now c.args.solution.now (g.R.Source.remaining c.args.proof.now) c.in_err-cost.field-0.0 c.in_err-cost.ensures.fault)
 
 pub returns-in_err-cost-clause-yes : goal.returns-in_err-cost-clause-yes
 returns-in_err-cost-clause-yes g c =
     let e = err_from_is_err_and c.from_residual.result c.from_residual.ensures.1 in
-    λ n b bytes known h. rw (e.1, e.2) (yes_told c.in_err-cost.field-0.0 n b (c.in_err-cost.ensures.yes n b bytes known h))
+    λ n b bytes known h. rw (e.1, e.2) (yes_reported c.in_err-cost.field-0.0 n b (c.in_err-cost.ensures.yes n b bytes known h))
 
 pub returns-in_ok-yes_answer-in-Yes-clause-yes : goal.returns-in_ok-yes_answer-in-Yes-clause-yes
 returns-in_ok-yes_answer-in-Yes-clause-yes g c =
@@ -30,7 +30,7 @@ returns-in_ok-broken_answer-in-Breaks-clause-yes g c =
 
 pub returns-in_err-cost-clause-up_to_failed_read : goal.returns-in_err-cost-clause-up_to_failed_read
 returns-in_err-cost-clause-up_to_failed_read g c =
-    λ told. c.in_err-cost.ensures.up_to_failed_read (ap (λ f. Err f) (read_certified c.in_err-cost.field-0.0 (err_same c.from_residual.result _ read_failed c.from_residual.ensures.1 told)))
+    λ reported. c.in_err-cost.ensures.up_to_failed_read (ap (λ f. Err f) (read_certified c.in_err-cost.field-0.0 (err_same c.from_residual.result _ read_failed c.from_residual.ensures.1 reported)))
 
 pub returns-in_err-cost-clause-memory : goal.returns-in_err-cost-clause-memory
 returns-in_err-cost-clause-memory g c =

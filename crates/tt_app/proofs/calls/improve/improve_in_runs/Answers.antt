@@ -41,7 +41,7 @@ returns-clause-found g c = record {
   table = c.in_ok-table.table;
   both = record { spelled = c.in_ok-instance.ensures.found; solved = c.in_ok-table.ensures.found };
   better = c.in_ok-better.better;
-  no_worse = c.in_ok-better.ensures.kept;
+  no_worse = c.in_ok-better.ensures.no_worse;
   in_runs = c.in_ok-better.ensures.runs;
   answer = c.in_ok-table_answer.ensures;
 }

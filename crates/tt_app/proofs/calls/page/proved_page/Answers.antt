@@ -9,7 +9,7 @@ use Rattle.tt_app.proofs.Adding.{silent_sum, memory_sum, read_summed, sum_here}
 use Rattle.tt_app.proofs.FailedReads.{passed, calm, unread, sum_read, instance_read_at, solution_read_at, labels_read_at, report_read_at, instance_write, solution_write, labels_write, sum_write, report_write}
 use Rattle.tt_app.proofs.Files.{tells_instance, tells_solution, only_memory}
 use Rattle.tt_app.proofs.Paging.{names_memory, names_tell_proved, sum_tells_page, page_tells, page_same, output_says_nothing}
-use Rattle.tt_app.proofs.ToldMemory.{memory_instance, memory_solution, memory_labels}
+use Rattle.tt_app.proofs.ReportedMemory.{memory_instance, memory_solution, memory_labels}
 use Rattle.tt_app.proofs.calls.page.proved_page.Goals as goal
 
 pub returns-in_err-instance-clause-only : goal.returns-in_err-instance-clause-only
@@ -66,9 +66,9 @@ returns-in_err-bound-clause-memory g c =
 
 pub returns-in_err-bound-clause-up_to_failed_read : goal.returns-in_err-bound-clause-up_to_failed_read
 returns-in_err-bound-clause-up_to_failed_read g c =
-    λ i r q bytes told was now known.
-    let is = read_summed c.in_err-bound.field-0.0 _ (err_same c.from_residual-in_err-bound.result _ (read_failed_at _) c.from_residual-in_err-bound.ensures.1 told) in
-    record { problem = c.in_ok-instance.instance; spelled = c.in_ok-instance.ensures.found; tells = c.in_err-bound.ensures.up_to_failed_read i r q bytes (ap (λ f. Err f) is) was now known }
+    λ i r q bytes reported was now known.
+    let is = read_summed c.in_err-bound.field-0.0 _ (err_same c.from_residual-in_err-bound.result _ (read_failed_at _) c.from_residual-in_err-bound.ensures.1 reported) in
+    record { problem = c.in_ok-instance.instance; spelled = c.in_ok-instance.ensures.found; explains = c.in_err-bound.ensures.up_to_failed_read i r q bytes (ap (λ f. Err f) is) was now known }
 
 pub returns-in_err-page-clause-fault : goal.returns-in_err-page-clause-fault
 returns-in_err-page-clause-fault g c =

@@ -6,7 +6,7 @@ use Rattle.tt_app.specs.Bounded.{IsBoundAnswer}
 use Rattle.tt_app.specs.FaultMaps.{fault_from_instance}
 use Rattle.tt_app.specs.Summed.{fault_from_sum, read_failed_at, is_failed_read_at}
 use Rattle.tt_app.proofs.FailedReads.{passed, calm, unread, instance_read_at, sum_read}
-use Rattle.tt_app.proofs.ToldMemory.{memory_instance}
+use Rattle.tt_app.proofs.ReportedMemory.{memory_instance}
 use Rattle.tt_app.proofs.Adding.{spelled_memory, sum_tells, silent_sum, memory_sum, read_summed, sum_here}
 use Rattle.tt_app.proofs.calls.sum.sum.Goals as goal
 
@@ -39,9 +39,9 @@ returns-in_err-bound-clause-memory g c =
 
 pub returns-in_err-bound-clause-up_to_failed_read : goal.returns-in_err-bound-clause-up_to_failed_read
 returns-in_err-bound-clause-up_to_failed_read g c =
-    λ i r q bytes told was now known.
-    let is = read_summed c.in_err-bound.field-0.0 _ (err_same c.from_residual-in_err-bound.result _ (read_failed_at _) c.from_residual-in_err-bound.ensures.1 told) in
-    record { problem = c.in_ok-instance.instance; spelled = c.in_ok-instance.ensures.found; tells = c.in_err-bound.ensures.up_to_failed_read i r q bytes (ap (λ f. Err f) is) was now known }
+    λ i r q bytes reported was now known.
+    let is = read_summed c.in_err-bound.field-0.0 _ (err_same c.from_residual-in_err-bound.result _ (read_failed_at _) c.from_residual-in_err-bound.ensures.1 reported) in
+    record { problem = c.in_ok-instance.instance; spelled = c.in_ok-instance.ensures.found; explains = c.in_err-bound.ensures.up_to_failed_read i r q bytes (ap (λ f. Err f) is) was now known }
 
 pub returns-clause-found : goal.returns-clause-found
 returns-clause-found g c = record {

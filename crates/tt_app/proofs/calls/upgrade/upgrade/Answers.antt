@@ -5,7 +5,7 @@ use Rattle.tt_app.specs.Checked.{read_failed, is_failed_read}
 use Rattle.tt_app.specs.Lines.{bound_line}
 use Rattle.tt_app.specs.FaultMaps.{fault_from_instance, fault_from_upgrade}
 use Rattle.tt_app.proofs.FailedReads.{read_upgraded, passed, calm, instance_read, upgrade_read}
-use Rattle.tt_app.proofs.ToldMemory.{memory_instance, memory_upgrade}
+use Rattle.tt_app.proofs.ReportedMemory.{memory_instance, memory_upgrade}
 use Rattle.tt_app.proofs.DerivedBounds.{spelled_memory, proved_here}
 use Rattle.tt_app.proofs.Rewriting.{as_bound, upgrade_tells, rewritten, silent_upgrade}
 use Rattle.tt_app.proofs.calls.upgrade.upgrade.Goals as goal
@@ -36,9 +36,9 @@ returns-clause-only g c =
 
 pub returns-in_err-upgraded-clause-up_to_failed_read : goal.returns-in_err-upgraded-clause-up_to_failed_read
 returns-in_err-upgraded-clause-up_to_failed_read g c =
-    λ told bytes known.
-    let is = read_upgraded c.in_err-upgraded.field-0.0 (err_same c.from_residual-in_err-upgraded.result _ read_failed c.from_residual-in_err-upgraded.ensures.1 told) in
-    record { problem = c.in_ok-instance.instance; spelled = c.in_ok-instance.ensures.found; tells = c.in_err-upgraded.ensures.up_to_failed_read (ap (λ f. Err f) is) bytes known }
+    λ reported bytes known.
+    let is = read_upgraded c.in_err-upgraded.field-0.0 (err_same c.from_residual-in_err-upgraded.result _ read_failed c.from_residual-in_err-upgraded.ensures.1 reported) in
+    record { problem = c.in_ok-instance.instance; spelled = c.in_ok-instance.ensures.found; explains = c.in_err-upgraded.ensures.up_to_failed_read (ap (λ f. Err f) is) bytes known }
 
 pub returns-in_err-instance-clause-memory : goal.returns-in_err-instance-clause-memory
 returns-in_err-instance-clause-memory g c =

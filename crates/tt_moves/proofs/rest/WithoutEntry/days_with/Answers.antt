@@ -1,7 +1,7 @@
 use Rattle.std.proofs.Common.{◌-◌, ap, arith}
 use Rattle.std.specs.Prelude.{◌==◌}
 use Rattle.tt_lists.proofs.Sums.{one_if}
-use Rattle.tt_moves.proofs.Rests.{some_used, some_standing, used_anew_is}
+use Rattle.tt_moves.proofs.Rests.{some_used, some_taken, used_anew_is}
 use Rattle.tt_moves.proofs.rest.WithoutEntry.days_with.Goals as goal
 
 pub used_anew-requires-clause-enough : goal.used_anew-requires-clause-enough
@@ -21,7 +21,7 @@ used_anew-requires-clause-counted c =
     let x = c.args.entry in
     let u = c.requires.rest.0 in
     let rest = c.requires.rest.1 in
-    omega (arith, c.on_day-2.ensures.count, some_standing r u rest p.days (λ e. e.day) x c.requires.course rest.gone.day c.requires.in_range.day)
+    omega (arith, c.on_day-2.ensures.count, some_taken r u rest p.days (λ e. e.day) x c.requires.course rest.gone.day c.requires.in_range.day)
 
 pub returns-clause-value : goal.returns-clause-value
 returns-clause-value c = λ u rest.

@@ -4,7 +4,7 @@ use Rattle.std.proofs.lemmas.List.{take_all, take_more}
 use Rattle.tt_instance.specs.Cells.{all_curricula}
 use Rattle.tt_instance.specs.Courses.{in_curriculum}
 use Rattle.tt_occupancy.specs.Around.{AreGaps}
-use Rattle.tt_occupancy.proofs.Standings.{gaps_alone, gaps_joined}
+use Rattle.tt_occupancy.proofs.Takings.{gaps_alone, gaps_joined}
 use Rattle.tt_moves.proofs.rest.WithoutEntry.gaps.Goals as goal
 
 pub loop-curriculum-preserved : goal.loop-curriculum-preserved

@@ -1,7 +1,7 @@
 use Rattle.std.proofs.Common.{◌-◌, length, ap, arith}
 use Rattle.std.specs.Prelude.{◌==◌}
 use Rattle.tt_lists.proofs.Sums.{one_if}
-use Rattle.tt_moves.proofs.Rests.{some_used, some_standing, used_anew_is}
+use Rattle.tt_moves.proofs.Rests.{some_used, some_taken, used_anew_is}
 use Rattle.tt_moves.proofs.rest.WithoutEntry.rooms_with.Goals as goal
 
 pub used_anew-requires-clause-enough : goal.used_anew-requires-clause-enough
@@ -21,7 +21,7 @@ used_anew-requires-clause-counted c =
     let x = c.args.entry in
     let u = c.requires.rest.0 in
     let rest = c.requires.rest.1 in
-    omega (arith, c.course_in_room-2.ensures.count, some_standing r u rest (length p.rooms) (λ e. e.room) x c.requires.course rest.gone.room c.requires.in_range.room)
+    omega (arith, c.course_in_room-2.ensures.count, some_taken r u rest (length p.rooms) (λ e. e.room) x c.requires.course rest.gone.room c.requires.in_range.room)
 
 pub returns-clause-value : goal.returns-clause-value
 returns-clause-value c = λ u rest.

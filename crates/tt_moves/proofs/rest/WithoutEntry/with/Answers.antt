@@ -13,8 +13,8 @@ joined_before-before-requires-clause-isolated c = λ u rest s h.
     let e = ap (λ z. z.periods) c.instance.ensures in
     let short : p.periods ≤ 64 = omega (arith, c.periods.ensures.value, c.periods.ensures.within) in
     c.without-isolated.ensures s h
-    ∙ ap (λ b. has_bit c.standing_on-set.result s && not b) (c.beside-beside.ensures s h)
-    ∙ isolated_stand p u a.curriculum a.day rest.in_range short (has_bit c.standing_on-set.result) (c.standing_on-set.ensures u rest) s h
+    ∙ ap (λ b. has_bit c.taken_on-set.result s && not b) (c.neighbours-beside.ensures s h)
+    ∙ isolated_stand p u a.curriculum a.day rest.in_range short (has_bit c.taken_on-set.result) (c.taken_on-set.ensures u rest) s h
 
 pub joined_after-after-requires-clause-isolated : goal.joined_after-after-requires-clause-isolated
 joined_after-after-requires-clause-isolated c = λ u rest s h.
@@ -23,8 +23,8 @@ joined_after-after-requires-clause-isolated c = λ u rest s h.
     let e = ap (λ z. z.periods) c.instance.ensures in
     let short : p.periods ≤ 64 = omega (arith, c.periods.ensures.value, c.periods.ensures.within) in
     c.without-isolated.ensures s h
-    ∙ ap (λ b. has_bit c.standing_on-set.result s && not b) (c.beside-beside.ensures s h)
-    ∙ isolated_stand p u a.curriculum a.day rest.in_range short (has_bit c.standing_on-set.result) (c.standing_on-set.ensures u rest) s h
+    ∙ ap (λ b. has_bit c.taken_on-set.result s && not b) (c.neighbours-beside.ensures s h)
+    ∙ isolated_stand p u a.curriculum a.day rest.in_range short (has_bit c.taken_on-set.result) (c.taken_on-set.ensures u rest) s h
 
 pub returns-clause-gaps : goal.returns-clause-gaps
 returns-clause-gaps c = λ u rows rest are.
@@ -36,8 +36,8 @@ returns-clause-gaps c = λ u rows rest are.
     let e = ap (λ z. z.periods) c.instance.ensures in
     let short : p.periods ≤ 64 = omega (arith, c.periods.ensures.value, c.periods.ensures.within) in
     let low : s < 64 = omega (arith, c.requires.period) in
-    let alone = ap (λ b. one_if (not b)) (c.has_bit.ensures ∙ c.beside-beside.ensures s low
-    ∙ beside_stands p u q d rest.in_range short (has_bit c.standing_on-set.result) (c.standing_on-set.ensures u rest) s low) in
+    let alone = ap (λ b. one_if (not b)) (c.has_bit.ensures ∙ c.neighbours-beside.ensures s low
+    ∙ beside_stands p u q d rest.in_range short (has_bit c.taken_on-set.result) (c.taken_on-set.ensures u rest) s low) in
     record {
       alone = omega (arith, are.alone, sum_by_push (λ k. one_if (not (has_neighbour p u k d s))) rows q, alone, c.one_if.ensures);
       joined = omega (arith, are.joined, sum_by_push (λ k. joined_before p u k d s + joined_after p u k d s) rows q, c.joined_before-before.ensures.value u rest, c.joined_after-after.ensures.value u rest);

@@ -5,8 +5,8 @@ use Rattle.tt_moves_chain.specs.Answers.{MayTurn, IsPeriod, same_slot}
 use Rattle.tt_moves_chain.proofs.Holding.{EachMayTurn, closed_from, free_from, inside_from, each_from}
 use Rattle.tt_moves_chain.proofs.kempe.Chain.is_of.Goals as goal
 
-pub returns-then-not-may_turn : goal.returns-then-not-may_turn
-returns-then-not-may_turn c = (
+pub returns-then-not-can_turn : goal.returns-then-not-can_turn
+returns-then-not-can_turn c = (
   λ e. absurd (false≢true e),
   λ of.
       let o = c.args.occupied.now in
@@ -15,11 +15,11 @@ returns-then-not-may_turn c = (
       let k = c.loop-member.member-index in
       let h = subst (λ (l : List ℕ). k < length l) is c.loop-member-test.true in
       let may = each_from o.problem o.entries x.from x.to x.members of.inside of.closed of.free k h in
-      c.if-not-may_turn.ensures.1 (subst (λ (l : List ℕ). MayTurn o.problem o.entries x.from x.to x.members (get_or l k 0)) (sym is) may),
+      c.if-not-can_turn.ensures.1 (subst (λ (l : List ℕ). MayTurn o.problem o.entries x.from x.to x.members (get_or l k 0)) (sym is) may),
 )
 
 pub loop-member-preserved : goal.loop-member-preserved
-loop-member-preserved c = below_more _ _ c.loop-member.invariant (c.if-not-may_turn.ensures.0 refl)
+loop-member-preserved c = below_more _ _ c.loop-member.invariant (c.if-not-can_turn.ensures.0 refl)
 
 pub returns : goal.returns
 returns c =

@@ -1,6 +1,6 @@
 use Rattle.std.proofs.Common.{◌&&◌, sym, ap, ◌∙◌, eq-eqb, ne_eqb}
 use Rattle.std.specs.Prelude.{◌==◌}
-use Rattle.tt_occupancy.proofs.Standings.{alone_is}
+use Rattle.tt_occupancy.proofs.Takings.{alone_is}
 use Rattle.tt_occupancy.proofs.around.Around.is_alone.Goals as goal
 
 pub returns-then-self-eq0 : goal.returns-then-self-eq0

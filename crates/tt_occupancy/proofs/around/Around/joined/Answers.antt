@@ -1,6 +1,6 @@
 use Rattle.std.proofs.Common.{arith}
 use Rattle.std.proofs.lemmas.Bool.Decides.{nat_tests}
-use Rattle.tt_occupancy.proofs.Standings.{joined_none, joined_is}
+use Rattle.tt_occupancy.proofs.Takings.{joined_none, joined_is}
 use Rattle.tt_occupancy.proofs.around.Around.joined.Goals as goal
 
 pub returns-then-self-gt0-clause-value : goal.returns-then-self-gt0-clause-value
