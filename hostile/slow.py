@@ -1,7 +1,7 @@
 """The files that hold the program longest for their size, of those that were looked for: each with its seconds, and its seconds a MB.
 
 A row is slow if it takes twice what is aimed at: 20 seconds and a second for each MB of the file that is tried, beside what the same
-command takes on the same instance with a file of one line. A file of groups that uses up all the work that is allowed may take two minutes.
+command takes on the same instance with a file of one line.
 A run that passes the row's limit is stopped and counts as slow."""
 
 from largest import ROOMS, STOPPED, course
@@ -11,7 +11,6 @@ AIM_SECONDS, AIM_SECONDS_A_MB, TIMES = 20, 1, 2
 MOST_COURSES = 2_048
 MB = 1_000_000
 EASY = b"CTTP 1 bound 0 B ; end\n"
-GROUPS_SECONDS = 120
 
 
 def instance_of(courses, rooms, days, periods, curricula, teachers=None):
@@ -29,10 +28,10 @@ def comb(patterns, version=1):
     return b"CTTP %d bound 0 " % version + b" ".join(b"S " + it for it in patterns) + b" B ;" * (len(patterns) + 1) + b" end\n"
 
 
-def timed(table, words, size, wanted, most=None):
+def timed(table, words, size, wanted):
     """What a command takes beside what it takes on an easy file, in words; a slow row is a failure."""
     easy = table.run(words.replace("hard", "easy"))
-    most = (most or TIMES * (AIM_SECONDS + AIM_SECONDS_A_MB * size / MB)) + easy.seconds
+    most = TIMES * (AIM_SECONDS + AIM_SECONDS_A_MB * size / MB) + easy.seconds
     hard = table.run(words, seconds=most)
     taken = hard.seconds - easy.seconds
     said = f"{size} bytes, {taken:.2f} s, {taken / size * MB:.1f} s a MB, {hard.peak:.0f} MiB"
@@ -95,7 +94,7 @@ def groups(table, instance, value, count, targets=None):
     lines = "".join(f"G {value} {it if targets is None else targets(it)} / ;\n" for it in (range(count) if targets else (f"q{n}" for n in range(count))))
     hard = f"CTTG 1 bound {value * count}\n{lines}end\n".encode()
     table.put(instance=instance, hard=hard, easy=b"CTTG 1 bound 0 end\n")
-    return timed(table, "sum instance hard", len(hard), (0, 2), GROUPS_SECONDS)
+    return timed(table, "sum instance hard", len(hard), (0, 2))
 
 
 def unavailable(instance, slots):

@@ -27,7 +27,7 @@ pub const MAX_TRIES: u64 = 268_435_456;
 pub const MAX_RELAXATIONS: u64 = 4_294_967_296;
 
 /// The number of relaxations that take as long as a place of a day's table.
-const PLACE_PRICE: u64 = 8;
+const PLACE_PRICE: u64 = 32;
 
 /// The work that checks may still do.
 #[derive(Clone, Copy, Debug, PartialEq, Eq)]
