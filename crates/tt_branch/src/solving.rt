@@ -81,7 +81,7 @@ fn conclude<'i, P: Path<'i>>(
     requires at_most { limit ≤ MAX_OPENED }
     ensures { IfOk result (λ o. IsOutcome (P.problem path.old) limit o.best o.bound (option_map (λ v. v.items) o.proof) o.finished) }
 {
-    // In every instance, the numbers are within the limits.
+    // Brings the instance's limits into the proof.
     prove!(path.instance().days() <= 64);
     let Search {
         tree_nodes,

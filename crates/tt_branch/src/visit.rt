@@ -64,7 +64,7 @@ fn take_live<'i, P: Path<'i>>(
     ensures known { IfOk result (λ leaf. IsKnown (P.problem path.now) (table_of best.new) (P.facts path.now) (NodeState.Closed leaf)) }
     ensures better { OnOk result (Advances (P.problem path.now) best.old best.new) }
 {
-    // In every instance, the number of lectures is limited.
+    // Brings the instance's limits into the proof.
     prove!(path.instance().days() <= 64);
     let table = live_table(alloc, path)?;
     let leaf = best_claims(alloc, path)?;

@@ -204,7 +204,7 @@ impl<'p, 'i> Cells<'p, 'i> {
         requires day { day < self.now.problem.days }
         ensures { result ≡ live_day self.now.problem self.now.facts course day }
     {
-        // In every instance, the periods of a day are numbers below 64, so a word can have them.
+        // Brings the instance's limits into the proof.
         prove!(self.instance.periods() <= 64);
         !is_empty(self.live_periods(course, day))
     }

@@ -24,7 +24,7 @@ pub fn courses_of(
     ensures distinct { IfOk result (λ v. AreDistinct v.items) }
     ensures in_range { IfOk result (λ _. (c : ℕ) → concerns instance.now group.now c ≡ true → c < length instance.now.courses) }
 {
-    // This holds for every instance: the members of its curricula are its courses.
+    // Brings the instance's limits into the proof.
     prove!(0 < instance.days());
     let mut courses = Vec::new(alloc);
     for course in 0..instance.courses() {

@@ -101,7 +101,7 @@ pub fn best_claims<'i, P: Path<'i>>(alloc: Global, path: &P) -> Result<Leaf, All
     ensures leaf { IfOk result (λ leaf. leaf ≡ best_leaf (P.problem path.now) (P.facts path.now)) }
     ensures answer { IfOk result (IsAnswer (P.problem path.now)) }
 {
-    // In every instance, no excess is above the limit of students.
+    // Brings the instance's limits into the proof.
     prove!(path.instance().days() <= 64);
     let mut claims = Vec::new(alloc);
     push_capacity(alloc, path, &mut claims)?;
@@ -116,7 +116,7 @@ pub fn stacked_claims<'i, P: Path<'i>>(alloc: Global, path: &P) -> Result<Leaf, 
     ensures leaf { IfOk result (λ leaf. leaf ≡ stacked_leaf (P.problem path.now) (P.facts path.now)) }
     ensures answer { IfOk result (IsAnswer (P.problem path.now)) }
 {
-    // In every instance, no excess is above the limit of students.
+    // Brings the instance's limits into the proof.
     prove!(path.instance().days() <= 64);
     let mut claims = Vec::new(alloc);
     push_capacity(alloc, path, &mut claims)?;

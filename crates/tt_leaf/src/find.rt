@@ -156,7 +156,7 @@ pub fn find_leaf<'i, P: Path<'i>>(
         ((t : List Cell) → IsFeasible (P.problem path.now) t → Fits (P.problem path.now) t (P.facts path.now) → Respects bound (cost (P.problem path.now) t)) →
         IfOk result IsSome }
 {
-    // In every instance, the members of a curriculum are courses.
+    // Brings the instance's limits into the proof.
     prove!(path.instance().days() <= 64);
     if let Some(leaf) = find_empty(path, bound) {
         return Ok(Some(leaf));

@@ -59,7 +59,7 @@ fn fault_of_slots<'i, P: Path<'i>>(path: &P, courses: &[u32]) -> Option<RuleFaul
     requires { AreBelow (length (P.problem path.now).courses) courses.now }
     ensures { result ≡ fault_of (P.problem path.now) (P.facts path.now) Nothing (Slots courses.now) }
 {
-    // In every instance, each course has a mark.
+    // Brings the instance's limits into the proof.
     prove!(path.instance().courses() <= MAX_COURSES);
     if !are_distinct(courses) {
         Some(RuleFault::ClaimedTwice)
@@ -75,7 +75,7 @@ fn fault_of_sum<'i, P: Path<'i>>(path: &P, claims: &[Claim], least: u64) -> Opti
     ensures { result ≡ fault_of (P.problem path.now) (P.facts path.now) (AtLeast least) (Cost claims.now) }
 {
     let instance = path.instance();
-    // In every instance, each target has a mark.
+    // Brings the instance's limits into the proof.
     prove!(instance.courses() <= MAX_COURSES);
     prove!(instance.curricula() <= MAX_CURRICULA);
     if !are_claimed_once(claims) {

@@ -42,7 +42,7 @@ fn is_pinned_day<'i, P: Path<'i>>(path: &P, course: u32, day: u32) -> bool
     requires day { day < (P.problem path.now).days }
     ensures { result ≡ pinned_day (P.problem path.now) (P.facts path.now) course day }
 {
-    // In every instance, the periods of a day are numbers below 64, so a word can have them.
+    // Brings the instance's limits into the proof.
     prove!(path.instance().periods() <= MAX_PERIODS);
     !is_empty(path.pinned_periods(Who::Course(course), day))
 }

@@ -25,7 +25,7 @@ fn isolated_on<'i, P: Path<'i>>(path: &P, curriculum: u32, day: u32) -> u64
         && is_alone (P.problem path.now) (P.facts path.now) curriculum (slot day s))) }
 {
     let instance = path.instance();
-    // In every instance, the members of a curriculum are courses, and the periods of a day are numbers below 64, so a word can have them.
+    // Brings the instance's limits into the proof.
     prove!(instance.days() <= MAX_DAYS);
     prove!(instance.periods() <= MAX_PERIODS);
     let pinned = path.pinned_periods(Who::Curriculum(curriculum), day);
@@ -42,7 +42,7 @@ fn isolated_periods<'i, P: Path<'i>>(path: &P, curriculum: u32) -> u32
     ensures value { result ≡ isolated_periods (P.problem path.now) (P.facts path.now) curriculum }
     ensures within { result ≤ MAX_SLOTS }
 {
-    // In every instance, the periods of a day are numbers below 64, so a word can have them.
+    // Brings the instance's limits into the proof.
     prove!(path.instance().periods() <= MAX_PERIODS);
     let mut total = 0;
     for day in 0..path.instance().days() {

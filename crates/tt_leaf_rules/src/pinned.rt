@@ -15,7 +15,7 @@ pub fn pinned_periods<'i, P: Path<'i>>(path: &P, who: Who) -> u32
     ensures value { result ≡ pinned_periods (P.problem path.now) (P.facts path.now) who }
     ensures within { result ≤ MAX_SLOTS }
 {
-    // In every instance, the periods of a day are numbers below 64, so a word can have them.
+    // Brings the instance's limits into the proof.
     prove!(path.instance().periods() <= MAX_PERIODS);
     let mut total = 0;
     for day in 0..path.instance().days() {

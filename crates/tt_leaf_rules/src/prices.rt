@@ -41,7 +41,7 @@ fn is_dear(instance: &Instance<'_>, prices: &RoomPrices<'_>, priced: (u32, u32),
     requires room { room < length instance.now.rooms }
     ensures { result ≡ nat_lt (excess instance.now priced.0 room + price_in prices.now room) priced.1 }
 {
-    // In every instance, rooms are numbers below this.
+    // Brings the instance's limits into the proof.
     prove!(instance.rooms() <= MAX_ROOMS);
     let (course, price) = priced;
     let excess = instance
@@ -195,7 +195,7 @@ fn paid_in_period<'i, P: Path<'i>>(
     ensures value { result ≡ sum_by (λ k. cond (priced_live_in (P.problem path.now) (P.facts path.now) courses.now k.0 (slot day period)) k.1 0) rooms.now }
     ensures within { result ≤ MAX_ROOMS * 2 ^ 32 }
 {
-    // In every instance, rooms are numbers below this.
+    // Brings the instance's limits into the proof.
     prove!(path.instance().rooms() <= MAX_ROOMS);
     let open = open_words(path, courses, day, period);
     let mut total: u64 = 0;

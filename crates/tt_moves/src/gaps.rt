@@ -25,7 +25,7 @@ impl WithoutEntry<'_, '_, '_> {
             result.now }
         ensures at_most { length result.now ≤ MAX_CURRICULA }
     {
-        // This holds for every instance: the number of its curricula is limited.
+        // Brings the instance's limits into the proof.
         prove!(self.occupied.instance().curricula() <= MAX_CURRICULA);
         self.occupied.curricula_of(self.gone.course)
     }

@@ -88,7 +88,7 @@ impl WithoutEntry<'_, '_, '_> {
             → result ≡ joined_before self.now.occupied.now.problem u curriculum day period }
         ensures at_most { result ≤ MAX_ENTRIES + 1 }
     {
-        // This holds for every instance: its periods fit a word.
+        // Brings the instance's limits into the proof.
         prove!(self.occupied.instance().periods() <= MAX_PERIODS);
         if has_bit(next(isolated), period) {
             self.entries_at(curriculum, other, day, period - 1)
@@ -117,7 +117,7 @@ impl WithoutEntry<'_, '_, '_> {
             → result ≡ joined_after self.now.occupied.now.problem u curriculum day period }
         ensures at_most { result ≤ MAX_ENTRIES + 1 }
     {
-        // This holds for every instance: its periods fit a word.
+        // Brings the instance's limits into the proof.
         prove!(self.occupied.instance().periods() <= MAX_PERIODS);
         if has_bit(previous(isolated), period) {
             self.entries_at(curriculum, other, day, period + 1)
@@ -142,7 +142,7 @@ impl WithoutEntry<'_, '_, '_> {
         ensures alone_at_most { result.alone ≤ gaps.alone + 1 }
         ensures joined_at_most { result.joined ≤ gaps.joined + 2 * (MAX_ENTRIES + 1) }
     {
-        // This holds for every instance: its periods fit a word.
+        // Brings the instance's limits into the proof.
         prove!(self.occupied.instance().periods() <= MAX_PERIODS);
         let other = self.is_other(curriculum, is_still);
         let set = self.taken_on(curriculum, other, day);

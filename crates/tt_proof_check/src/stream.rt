@@ -150,7 +150,7 @@ pub fn check_proof_with<R: Source, L: NodeVisitor>(
     ensures up_to_failed_read { result ≡ Err (CheckFault.Text read_failed) → (bytes : List ℕ) → R.remaining source.old ≡ Some bytes →
         IsCheckedUpToFailedRead instance.now bytes (R.remaining source.new) }
 {
-    // This holds for every instance: its numbers are small enough to be read.
+    // Brings the instance's limits into the proof.
     prove!(instance.days() > 0);
     let mut path = TrailPath::new(alloc, instance)?;
     check_on_path(alloc, &mut path, visitor, source)

@@ -102,7 +102,7 @@ pub fn take_groups<R: Source>(
     ensures up_to_failed_read { result ≡ Err (read_failed_at table.old.proof) → (bytes : List ℕ) → R.remaining source.old ≡ Some bytes →
         HoldsOfGiven bytes (R.remaining source.new) (AreGroupsCutOff instance.now) }
 {
-    // In every instance, the numbers are small enough to be read.
+    // Brings the instance's limits into the proof.
     prove!(instance.days() > 0);
     let file = table.proof();
     let mut reader = match GroupReader::new(alloc, instance, source) {

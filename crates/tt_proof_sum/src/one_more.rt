@@ -39,7 +39,7 @@ fn take_proof<R: Source>(
     ensures up_to_failed_read { result ≡ Err (read_failed_at table.old.proof) → (bytes : List ℕ) → R.remaining source.old ≡ Some bytes →
         IsCheckedUpToFailedRead instance.now bytes (R.remaining source.new) }
 {
-    // In every instance, the numbers are small enough to be read.
+    // Brings the instance's limits into the proof.
     prove!(instance.days() > 0);
     let proof = table.proof();
     let bound = match check_proof_with(alloc, instance, table, source) {

@@ -40,7 +40,7 @@ pub fn sum_proofs<R: Peek>(
     ensures up_to_failed_read { (i : ℕ) (r q : R) (bytes : List ℕ) → result ≡ Err (read_failed_at (i + 1)) → slice_get sources.old i ≡ Some r → slice_get sources.new i ≡ Some q →
         R.remaining r ≡ Some bytes → IsFileCheckedUpToFailedRead instance.now bytes (R.remaining q) }
 {
-    // In every instance, the numbers are small enough to be read.
+    // Brings the instance's limits into the proof.
     prove!(instance.days() > 0);
     let mut sum = Sum::new(alloc)?;
     for source in sources {

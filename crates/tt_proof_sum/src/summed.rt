@@ -75,7 +75,7 @@ impl Sum {
         ensures up_to_failed_read { result ≡ Err (read_failed_at (due self)) → (bytes : List ℕ) → R.remaining source.old ≡ Some bytes →
             IsFileCheckedUpToFailedRead instance.now bytes (R.remaining source.new) }
     {
-        // In every instance, the numbers are small enough to be read.
+        // Brings the instance's limits into the proof.
         prove!(instance.days() > 0);
         let bound = take_file(alloc, instance, &mut self.table, source)?;
         match both(self.total, bound) {

@@ -95,7 +95,7 @@ pub fn upgrade<R: Source>(
     // Being out of memory is a single fault, wherever it comes from.
     ensures memory { IfErr result OutOfMemoryIsOneFault }
 {
-    // In every instance, the numbers are small enough to be read.
+    // Brings the instance's limits into the proof.
     prove!(instance.days() > 0);
     let read = parse_proof(alloc, instance, source)?;
     check_tree(alloc, instance, read.bound, &read.nodes)?;

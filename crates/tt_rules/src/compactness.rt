@@ -94,7 +94,7 @@ fn isolated(instance: &Instance<'_>, by_course: &Groups<'_>, curriculum: u32) ->
         && is_isolated instance.now by_course.now.entries curriculum e) by_course.now.entries }
     ensures at_most { result ≤ length by_course.now.entries }
 {
-    // In every instance, the members of a curriculum are courses.
+    // Brings the instance's limits into the proof.
     prove!(instance.days() > 0);
     let members = instance.members(curriculum);
     let taught = taught(instance, by_course, members);

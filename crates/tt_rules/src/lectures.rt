@@ -41,7 +41,7 @@ fn lectures_off(instance: &Instance<'_>, by_course: &Groups<'_>, course: u32) ->
     ensures value { result ≡ lectures_off instance.now by_course.now.entries course }
     ensures within { result ≤ 4 * MAX_ENTRIES }
 {
-    // In every instance, each course is a group.
+    // Brings the instance's limits into the proof.
     prove!(instance.courses() <= MAX_COURSES);
     let wanted = u64::from(instance.lectures(course));
     let placed = entries_of(by_course, course);

@@ -20,7 +20,7 @@ fn by_course<'t>(instance: &Instance<'_>, entries: &'t [Entry]) -> Groups<'t>
     requires at_most { length entries.now ≤ MAX_ENTRIES }
     ensures { result ≡ record { by = by.Course; entries = entries.now } }
 {
-    // In every instance, each course is a group.
+    // Brings the instance's limits into the proof.
     prove!(instance.courses() <= MAX_COURSES);
     Groups::new(entries, GroupBy::Course)
 }
@@ -31,7 +31,7 @@ fn by_room<'t>(instance: &Instance<'_>, entries: &'t [Entry]) -> Groups<'t>
     requires at_most { length entries.now ≤ MAX_ENTRIES }
     ensures { result ≡ record { by = by.Room; entries = entries.now } }
 {
-    // In every instance, each room is a group.
+    // Brings the instance's limits into the proof.
     prove!(instance.rooms() <= MAX_ROOMS);
     Groups::new(entries, GroupBy::Room)
 }

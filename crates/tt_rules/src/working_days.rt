@@ -30,7 +30,7 @@ fn cost_of(instance: &Instance<'_>, by_course: &Groups<'_>, course: u32) -> u64
     ensures cost { result ≡ days_cost instance.now by_course.now.entries course }
     ensures at_most { result ≤ DAY_PRICE * MAX_MIN_DAYS }
 {
-    // In every instance, each course is a group.
+    // Brings the instance's limits into the proof.
     prove!(instance.courses() <= MAX_COURSES);
     let days = days_of(instance, by_course, course);
     DAY_PRICE * u64::from(instance.min_days(course)).saturating_sub(days)

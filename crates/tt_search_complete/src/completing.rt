@@ -45,7 +45,7 @@ fn add_all(
     requires missing { AreMissing instance.now table.old (length instance.now.courses) missing.now }
     ensures { OnOk result (IsCompletedTo instance.now (length instance.now.courses) table.old table.new) }
 {
-    // This holds for every instance: the number of its lectures is limited.
+    // Brings the instance's limits into the proof.
     prove!(instance.days() > 0);
     for course in 0..instance.courses() {
         let count = missing_at(missing, course);

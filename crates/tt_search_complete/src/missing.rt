@@ -30,7 +30,7 @@ fn missing_of(instance: &Instance<'_>, by_course: &Groups<'_>, course: u32) -> u
     requires at_most { length by_course.now.entries ≤ MAX_ENTRIES }
     ensures { result ≡ lectures instance.now course - entries_of by_course.now.entries course }
 {
-    // This holds for every instance: each course is a group.
+    // Brings the instance's limits into the proof.
     prove!(instance.courses() <= MAX_COURSES);
     let placed = count_entries(by_course, course);
     u64::from(instance.lectures(course)).saturating_sub(placed) as u32
@@ -62,7 +62,7 @@ pub fn count_missing(
     requires { IsTimetable instance.now table.now }
     ensures { IfOk result (λ missing. AreMissing instance.now table.now (length instance.now.courses) missing.items) }
 {
-    // This holds for every instance: each course is a group.
+    // Brings the instance's limits into the proof.
     prove!(instance.courses() <= MAX_COURSES);
     let by_course = Groups::new(table.entries(), GroupBy::Course);
     let mut missing = Vec::new(alloc);

@@ -80,7 +80,7 @@ pub fn fill(
     requires { 0 < length instance.now.rooms }
     ensures { IfOk result (IsConstructed instance.now) }
 {
-    // This holds for every instance: the number of its lectures is limited.
+    // Brings the instance's limits into the proof.
     prove!(instance.days() > 0);
     let mut table = Timetable::new(alloc);
     for course in 0..instance.courses() {

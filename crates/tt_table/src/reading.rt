@@ -106,7 +106,7 @@ pub fn read_solution(
     ensures one { (t u : List Cell) → SpellsTable instance.now bytes.now t → SpellsTable instance.now bytes.now u → t ≡ u }
     ensures fits { IfOk result (λ t. IsTimetable instance.now t) }
 {
-    // Every instance is within its limits.
+    // Brings the instance's limits into the proof.
     prove!(instance.days() > 0);
     read_entries(alloc, instance, bytes)
 }

@@ -49,7 +49,7 @@ pub fn write_solution(
     // The text is read as the same timetable.
     ensures again { IfOk result (λ out. SpellsTable instance.now out.items table.now) }
 {
-    // Every instance is within its limits.
+    // Brings the instance's limits into the proof.
     prove!(instance.days() > 0);
     put_entries(alloc, instance, table.entries())
 }
