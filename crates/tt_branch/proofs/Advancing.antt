@@ -23,7 +23,7 @@ use Rattle.tt_proof_read.specs.declared.node.Node.TheVariants as node
 use Rattle.tt_leaf.specs.Best.{best_leaf}
 use Rattle.tt_branch.specs.declared.best.Best.{Best}
 use Rattle.tt_branch.specs.declared.tree_node.NodeState.{NodeState}
-use Rattle.tt_branch.specs.declared.tree_node.NodeState.TheVariants.{Split, Closed, Opened, Waiting}
+use Rattle.tt_branch.specs.declared.tree_node.NodeState.TheVariants.{Split, Closed, Opened, Unopened}
 use Rattle.tt_branch.specs.declared.tree_node.TreeNode.{TreeNode}
 use Rattle.tt_branch.specs.declared.links.Link.{Link}
 use Rattle.tt_branch.specs.declared.search.Search.{Search}
@@ -90,9 +90,9 @@ shown_leaf : (p : Problem) (links : List Link) (e : TreeNode) (m : NodeState) �
 shown_leaf p links e (Split g) s = absurd s
 shown_leaf p links e (Closed leaf) s = (leaf, refl)
 shown_leaf p links e (Opened g) s = (best_leaf p (path_at links e.link), refl)
-shown_leaf p links e Waiting s = (best_leaf p (path_at links e.link), refl)
+shown_leaf p links e Unopened s = (best_leaf p (path_at links e.link), refl)
 
-pub opening : (p : Problem) (old new : Option Best) (links : List Link) (tree_nodes more : List TreeNode) (place : ℕ) (e put : TreeNode) → IsGrown p (table_of old) links tree_nodes → Advances p old new → slice_get tree_nodes place ≡ Some e → e.mark ≡ Waiting → put.link ≡ e.link
+pub opening : (p : Problem) (old new : Option Best) (links : List Link) (tree_nodes more : List TreeNode) (place : ℕ) (e put : TreeNode) → IsGrown p (table_of old) links tree_nodes → Advances p old new → slice_get tree_nodes place ≡ Some e → e.mark ≡ Unopened → put.link ≡ e.link
     → IsKnown p (table_of new) (path_at links e.link) put.mark → was_opened put.mark ≡ true → IsSingle put.mark → more ≡ slice_set tree_nodes place put → IsOpening p old new links tree_nodes more
 opening p old new links tree_nodes more place e put grown better at waits same known opened single is =
     let cut = cut_at tree_nodes place e at in
@@ -161,7 +161,7 @@ waits_second place g old new s =
       best = first.best;
     }
 
-pub waits_same : (place : ℕ) (old : Search) → HasMark old.tree_nodes.items place Waiting → MakesWait place old place old
+pub waits_same : (place : ℕ) (old : Search) → HasMark old.tree_nodes.items place Unopened → MakesWait place old place old
 waits_same place old h = record { under_way = λ p u. u; waiting = h; opened = refl; many = omega arith; best = refl }
 
 -- ---- the end of the rounds
@@ -170,7 +170,7 @@ opened_unless : (m : NodeState) → is_open m ≡ false → was_opened m ≡ tru
 opened_unless (Split g) e = refl
 opened_unless (Closed leaf) e = refl
 opened_unless (Opened g) e = refl
-opened_unless Waiting e = cc
+opened_unless Unopened e = cc
 
 -- if no node is open, each was opened
 all_opened : (tree_nodes : List TreeNode) → list_any (λ e. is_open e.mark) tree_nodes ≡ false → opened_in tree_nodes ≡ length tree_nodes
@@ -186,7 +186,7 @@ pub ends_open : (limit : ℕ) (tree_nodes : List TreeNode) → list_any (λ e. i
 ends_open limit tree_nodes some e h = (some, omega (arith, count_by-le-length (λ (k : TreeNode). was_opened k.mark) tree_nodes), h)
 
 -- an opening in the form in which the code reads the node and moves the path
-pub opening_there : (p q : Problem) (facts : List Fact) (old new : Option Best) (links : List Link) (tree_nodes more : List TreeNode) (place : ℕ) (read put : TreeNode) → q ≡ p → facts ≡ path_at links read.link → read ≡ get_or tree_nodes place read → HasMark tree_nodes place Waiting → IsGrown p (table_of old) links tree_nodes
+pub opening_there : (p q : Problem) (facts : List Fact) (old new : Option Best) (links : List Link) (tree_nodes more : List TreeNode) (place : ℕ) (read put : TreeNode) → q ≡ p → facts ≡ path_at links read.link → read ≡ get_or tree_nodes place read → HasMark tree_nodes place Unopened → IsGrown p (table_of old) links tree_nodes
     → Advances q old new → IsKnown q (table_of new) facts put.mark → was_opened put.mark ≡ true → IsSingle put.mark → put.link ≡ read.link → more ≡ slice_set tree_nodes place put → IsOpening p old new links tree_nodes more
 opening_there p q facts old new links tree_nodes more place read put same there is waits grown better known opened single link made =
     let e = waits.0 in

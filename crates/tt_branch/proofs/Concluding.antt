@@ -39,7 +39,7 @@ use Rattle.tt_leaf.proofs.Answering.{best_answer}
 use Rattle.tt_leaf.proofs.Claims.{once}
 use Rattle.tt_branch.specs.declared.best.Best.{Best}
 use Rattle.tt_branch.specs.declared.tree_node.NodeState.{NodeState}
-use Rattle.tt_branch.specs.declared.tree_node.NodeState.TheVariants.{Split, Closed, Opened, Waiting}
+use Rattle.tt_branch.specs.declared.tree_node.NodeState.TheVariants.{Split, Closed, Opened, Unopened}
 use Rattle.tt_branch.specs.declared.tree_node.TreeNode.{TreeNode}
 use Rattle.tt_branch.specs.declared.links.Link.{Link}
 use Rattle.tt_branch.specs.declared.search.Search.{Search}
@@ -75,7 +75,7 @@ module _ (p : Problem) (ok : IsInstance p) where
   fit_mark best path (Split g) k = record { numbers = k.numbers; once = tt; short = tt }
   fit_mark best path (Closed leaf) k = record { numbers = k.answer.numbers; once = once_closed p path (final_bound p best) leaf k.right; short = k.answer.short }
   fit_mark best path (Opened g) k = let a = best_answer p path ok in record { numbers = a.numbers; once = once Days (λ c. refl) p path; short = a.short }
-  fit_mark best path Waiting k = let a = best_answer p path ok in record { numbers = a.numbers; once = once Days (λ c. refl) p path; short = a.short }
+  fit_mark best path Unopened k = let a = best_answer p path ok in record { numbers = a.numbers; once = once Days (λ c. refl) p path; short = a.short }
 
   module _ (best : Option (List Cell)) (links : List Link) (tree_nodes : List TreeNode) (grown : IsGrown p best links tree_nodes) where
     abbrev xs : List OnPath
@@ -132,7 +132,7 @@ module _ (p : Problem) (ok : IsInstance p) where
       by_mark (Split g) k = cc
       by_mark (Closed leaf) k = cc
       by_mark (Opened g) k = (total_of p (path_at links e.link) (best_claims p (path_at links e.link)), refl, total_limit p ok (path_at links e.link))
-      by_mark Waiting k = (total_of p (path_at links e.link) (best_claims p (path_at links e.link)), refl, total_limit p ok (path_at links e.link))
+      by_mark Unopened k = (total_of p (path_at links e.link) (best_claims p (path_at links e.link)), refl, total_limit p ok (path_at links e.link))
 
   least_of : (o : Option ℕ) (ns : List ℕ) (v : ℕ) → least ns ≡ Some v → v ≤ 1000000000000 → (w : ℕ) × (least (cons_option o ns) ≡ Some w) × (w ≤ 1000000000000)
   least_of None ns v e h = (v, e, h)

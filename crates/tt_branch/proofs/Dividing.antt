@@ -6,7 +6,7 @@ use Rattle.std.proofs.Common.{zero, ◌<◌}
 use Rattle.std.proofs.lemmas.Option.{get_or_from_slice_get}
 use Rattle.tt_lists.proofs.Cuts.{IsCut, cut_at, set_cut, insert_cut}
 use Rattle.tt_facts_path.specs.declared.facts.Pattern.{Pattern}
-use Rattle.tt_branch.specs.declared.tree_node.NodeState.TheVariants.{Split, Opened, Waiting}
+use Rattle.tt_branch.specs.declared.tree_node.NodeState.TheVariants.{Split, Opened, Unopened}
 use Rattle.tt_branch.specs.declared.tree_node.TreeNode.{TreeNode}
 use Rattle.tt_branch.specs.declared.links.Link.{Link}
 use Rattle.tt_branch.specs.declared.search.Search.{Search}
@@ -34,9 +34,9 @@ pub record AreSteps (place : ℕ) (g : Pattern) (old new : Search) : Type 0 wher
   pub no_is : no ≡ length one + 1
   pub a : TreeNode
   pub b : TreeNode
-  pub a_mark : a.mark ≡ Waiting
+  pub a_mark : a.mark ≡ Unopened
   pub a_link : a.link ≡ yes
-  pub b_mark : b.mark ≡ Waiting
+  pub b_mark : b.mark ≡ Unopened
   pub b_link : b.link ≡ no
   pub d : TreeNode
   pub d_mark : d.mark ≡ Split g

@@ -27,7 +27,7 @@ use Rattle.tt_proof_check.specs.Explains.{IsRightOn, Passes}
 use Rattle.tt_proof_check.proofs.Walking.{passed_tree}
 use Rattle.tt_leaf.specs.Best.{best_claims, best_leaf}
 use Rattle.tt_branch.specs.declared.tree_node.NodeState.{NodeState}
-use Rattle.tt_branch.specs.declared.tree_node.NodeState.TheVariants.{Split, Closed, Opened, Waiting}
+use Rattle.tt_branch.specs.declared.tree_node.NodeState.TheVariants.{Split, Closed, Opened, Unopened}
 use Rattle.tt_branch.specs.declared.tree_node.TreeNode.{TreeNode}
 use Rattle.tt_branch.specs.declared.links.Link.{Link}
 use Rattle.tt_branch.specs.Growing.{node_of, IsKnown, IsSameNode, IsGrown, is_open}
@@ -93,7 +93,7 @@ module _ (p : Problem) (best : Option (List Cell)) (links : List Link) (tree_nod
   closed_right x (Split g) n k e = subst (IsRightOn p (final_bound p best) x.path) (sym n) tt
   closed_right x (Closed leaf) n k e = subst (IsRightOn p (final_bound p best) x.path) (sym n) k.right
   closed_right x (Opened g) n k e = cc
-  closed_right x Waiting n k e = cc
+  closed_right x Unopened n k e = cc
 
   all_closed : (ys : List OnPath) (es : List TreeNode) → AllZip (IsSameNode p best links) ys es → list_any (λ e. is_open e.mark) es ≡ false → AllByRecursion (λ x. IsRightOn p (final_bound p best) x.path x.node) ys
   all_closed [] [] h e = tt
@@ -124,7 +124,7 @@ module _ (p : Problem) (best : Option (List Cell)) (links : List Link) (tree_nod
         by_mark (Closed leaf) e k =
             subst (IsRightOn p (AtLeast v) x.path) (sym e) (right_for p x.path (final_bound p best) leaf v k.right (λ n w. below n (ap (node_worth p x.path) e ∙ w)))
         by_mark (Opened g) e k = by_best e
-        by_mark Waiting e k = by_best e
+        by_mark Unopened e k = by_best e
 
     all_known : AllByRecursion (λ x. IsRightOn p (AtLeast v) x.path x.node) xs
     all_known = each_member (λ x. IsRightOn p (AtLeast v) x.path x.node) xs (λ x i.
@@ -148,7 +148,7 @@ module _ (p : Problem) (best : Option (List Cell)) (links : List Link) (tree_nod
       by_mark (Split g) e j = let a = sym (ap (node_worth p x.path) e) ∙ k in cc
       by_mark (Closed leaf) e j = absurd (dear best leaf e c j.right)
       by_mark (Opened g) e j = e
-      by_mark Waiting e j = e
+      by_mark Unopened e j = e
 
   pub greedy : All (IsGreedy p best) xs
   greedy = All-from_recursion (IsGreedy p best) xs (zip_each (IsSameNode p best links) (IsGreedy p best) greedy_at xs tree_nodes grown.together)

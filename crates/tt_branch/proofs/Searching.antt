@@ -23,7 +23,7 @@ use Rattle.tt_proof_read.specs.declared.node.Node.TheVariants as node
 use Rattle.tt_leaf.specs.Best.{best_claims, best_leaf}
 use Rattle.tt_leaf.proofs.Claims.{all_different, all_fair}
 use Rattle.tt_branch.specs.declared.tree_node.NodeState.{NodeState}
-use Rattle.tt_branch.specs.declared.tree_node.NodeState.TheVariants.{Split, Closed, Opened, Waiting}
+use Rattle.tt_branch.specs.declared.tree_node.NodeState.TheVariants.{Split, Closed, Opened, Unopened}
 use Rattle.tt_branch.specs.declared.tree_node.TreeNode.{TreeNode}
 use Rattle.tt_branch.specs.declared.links.Link.{Link}
 use Rattle.tt_branch.specs.Links.{path_at, AreLinks, link_of, divided_links}
@@ -83,7 +83,7 @@ pub open_leaf : (p : Problem) (m : NodeState) (path : List Fact) → is_open m �
 open_leaf p (Split g) path e = cc
 open_leaf p (Closed leaf) path e = cc
 open_leaf p (Opened g) path e = refl
-open_leaf p Waiting path e = refl
+open_leaf p Unopened path e = refl
 
 module _ (p : Problem) where
   -- a better timetable was found
@@ -97,7 +97,7 @@ module _ (p : Problem) where
       by_mark path (Split g) k = k
       by_mark path (Closed leaf) k = record { right = closes_better p path best t leaf h k.right; answer = k.answer }
       by_mark path (Opened g) k = k
-      by_mark path Waiting k = tt
+      by_mark path Unopened k = tt
 
   module _ (best : Option (List Cell)) where
     -- further links change nothing
@@ -192,7 +192,7 @@ module _ (p : Problem) where
         }
 
   -- the tree that consists of the root
-  pub grow_root : (best : Option (List Cell)) (e : TreeNode) → e.mark ≡ Waiting → e.link ≡ 0 → IsGrown p best [] (e ∷ [])
+  pub grow_root : (best : Option (List Cell)) (e : TreeNode) → e.mark ≡ Unopened → e.link ≡ 0 → IsGrown p best [] (e ∷ [])
   grow_root best e m l = record {
     tree = Tip (best_leaf p []);
     together = (
@@ -217,4 +217,4 @@ module _ (p : Problem) where
       by_mark (Split g) n known = let same : g ≡ k = cc (n, is) in subst (λ q. IsSplitOn p x.path q) same known
       by_mark (Closed leaf) n known = cc
       by_mark (Opened g) n known = cc
-      by_mark Waiting n known = cc
+      by_mark Unopened n known = cc

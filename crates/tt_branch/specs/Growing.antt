@@ -11,7 +11,7 @@ use Rattle.tt_proof_read.specs.declared.node.Node.TheVariants as node
 use Rattle.tt_leaf.specs.Best.{best_leaf}
 use Rattle.tt_leaf.specs.Found.{Closes, ArePatterns}
 use Rattle.tt_branch.specs.declared.tree_node.NodeState.{NodeState}
-use Rattle.tt_branch.specs.declared.tree_node.NodeState.TheVariants.{Split, Closed, Opened, Waiting}
+use Rattle.tt_branch.specs.declared.tree_node.NodeState.TheVariants.{Split, Closed, Opened, Unopened}
 use Rattle.tt_branch.specs.declared.tree_node.TreeNode.{TreeNode}
 use Rattle.tt_branch.specs.declared.links.Link.{Link}
 use Rattle.tt_branch.specs.Links.{path_at}
@@ -23,14 +23,14 @@ abbrev pub node_of : Problem → List Fact → NodeState → Node
 node_of p path (Split g) = node.Split g
 node_of p path (Closed leaf) = node.Leaf leaf
 node_of p path (Opened g) = node.Leaf (best_leaf p path)
-node_of p path Waiting = node.Leaf (best_leaf p path)
+node_of p path Unopened = node.Leaf (best_leaf p path)
 
 -- What is known about a node by its mark.
 abbrev pub IsKnown : Problem → Option (List Cell) → List Fact → NodeState → Type 0
 IsKnown p best path (Split g) = IsSplitOn p path g
 IsKnown p best path (Closed leaf) = Closes p path (final_bound p best) leaf
 IsKnown p best path (Opened g) = IsSplitOn p path g
-IsKnown p best path Waiting = ⊤
+IsKnown p best path Unopened = ⊤
 
 -- A node of a tree on its path, and the same node of the tree that grows.
 pub record IsSameNode (p : Problem) (best : Option (List Cell)) (links : List Link) (x : OnPath) (e : TreeNode) : Type 0 where
@@ -48,12 +48,12 @@ pub record IsGrown (p : Problem) (best : Option (List Cell)) (links : List Link)
 -- ---- marks
 
 abbrev pub was_opened : NodeState → Bool
-was_opened Waiting = false
+was_opened Unopened = false
 was_opened _ = true
 
 abbrev pub is_open : NodeState → Bool
 is_open (Opened g) = true
-is_open Waiting = true
+is_open Unopened = true
 is_open _ = false
 
 -- The mark is not that of a split.

@@ -4,7 +4,7 @@ use Rattle.std.specs.Prelude.{◌≡◌, ℕ, ◌+◌, ◌*◌, ◌≤◌, Bool,
 use Rattle.std.specs.List.{list_any}
 use Rattle.tt_instance.specs.Problem.{Problem}
 use Rattle.tt_facts_path.specs.declared.facts.Pattern.{Pattern}
-use Rattle.tt_branch.specs.declared.tree_node.NodeState.TheVariants.{Opened, Waiting}
+use Rattle.tt_branch.specs.declared.tree_node.NodeState.TheVariants.{Opened, Unopened}
 use Rattle.tt_branch.specs.declared.tree_node.TreeNode.{TreeNode}
 use Rattle.tt_branch.specs.declared.search.Search.{Search}
 use Rattle.tt_branch.specs.Growing.{IsGrown, HasMark, is_open, opened_in}
@@ -37,7 +37,7 @@ pub record IsSplitAt (place : ℕ) (g : Pattern) (old new : Search) : Type 0 whe
 -- The open node at the place waits, or it was split and the child at the place `next` waits; nothing else has changed.
 pub record MakesWait (place : ℕ) (old : Search) (next : ℕ) (new : Search) : Type 0 where
   pub under_way : (p : Problem) → IsUnderWay p old → IsUnderWay p new
-  pub waiting : HasMark new.tree_nodes.items next Waiting
+  pub waiting : HasMark new.tree_nodes.items next Unopened
   pub opened : opened_in new.tree_nodes.items ≡ opened_in old.tree_nodes.items
   pub many : length new.tree_nodes.items ≤ length old.tree_nodes.items + 2
   pub best : new.best ≡ old.best

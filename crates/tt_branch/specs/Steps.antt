@@ -7,7 +7,7 @@ use Rattle.tt_instance.specs.Cells.{slot, cell, all_days, all_rooms}
 use Rattle.tt_instance.specs.declared.cell.Cell.{Cell}
 use Rattle.tt_facts_path.specs.Live.{least_with}
 use Rattle.tt_facts_path.specs.declared.facts.Pattern.{Pattern}
-use Rattle.tt_branch.specs.declared.tree_node.NodeState.TheVariants.{Split, Waiting}
+use Rattle.tt_branch.specs.declared.tree_node.NodeState.TheVariants.{Split, Unopened}
 use Rattle.tt_branch.specs.declared.tree_node.TreeNode.{TreeNode}
 use Rattle.tt_branch.specs.declared.links.Link.{Link}
 
@@ -15,9 +15,9 @@ use Rattle.tt_branch.specs.declared.links.Link.{Link}
 pub record IsSplitInto (links : List Link) (e : TreeNode) (g : Pattern) (d a b : TreeNode) : Type 0 where
   pub divided : d.mark ≡ Split g
   pub same_link : d.link ≡ e.link
-  pub first : a.mark ≡ Waiting
+  pub first : a.mark ≡ Unopened
   pub first_link : a.link ≡ length links + 1
-  pub second : b.mark ≡ Waiting
+  pub second : b.mark ≡ Unopened
   pub second_link : b.link ≡ length links + 2
 
 -- The lesser of a value and the least value so far.

@@ -41,7 +41,7 @@ fn node_for<'i, P: Path<'i>>(
     match mark {
         NodeState::Split(pattern) => Ok(Node::Split(pattern)),
         NodeState::Closed(leaf) => Ok(Node::Leaf(leaf)),
-        NodeState::Opened(_) | NodeState::Waiting => {
+        NodeState::Opened(_) | NodeState::Unopened => {
             go_to(alloc, path, links, link)?;
             Ok(Node::Leaf(best_claims(alloc, path)?))
         }

@@ -29,11 +29,11 @@ impl Search {
         ensures best { IfOk result (λ s. s.best ≡ best) }
         ensures alone { IfOk result (λ s. length s.tree_nodes.items ≡ 1) }
         ensures unopened { IfOk result (λ s. opened_in s.tree_nodes.items ≡ 0) }
-        ensures waiting { IfOk result (λ s. HasMark s.tree_nodes.items 0 NodeState.Waiting) }
+        ensures waiting { IfOk result (λ s. HasMark s.tree_nodes.items 0 NodeState.Unopened) }
     {
         let mut tree_nodes = Vec::new(alloc);
         tree_nodes.push(TreeNode {
-            mark: NodeState::Waiting,
+            mark: NodeState::Unopened,
             link: 0,
             key: 0,
             rises: ChildGains::NONE,

@@ -16,14 +16,14 @@ pub enum NodeState {
     /// The node was opened but not closed; it will be split by this pattern.
     Opened(Pattern),
     /// The node was not opened yet.
-    Waiting,
+    Unopened,
 }
 
 impl NodeState {
     /// Returns the pattern by which an opened node will be split.
     pub fn pattern(&self) -> Option<Pattern>
         ensures opened { IfSome result (λ g. self.now ≡ NodeState.Opened g) }
-        ensures none { IsNone result → is_open self.now ≡ true → self.now ≡ NodeState.Waiting }
+        ensures none { IsNone result → is_open self.now ≡ true → self.now ≡ NodeState.Unopened }
     {
         match self {
             NodeState::Opened(pattern) => Some(*pattern),
@@ -62,11 +62,11 @@ pub struct TreeNode {
 impl TreeNode {
     /// Creates a node that waits.
     pub fn waiting(link: usize, key: u64) -> TreeNode
-        ensures mark { result.mark ≡ NodeState.Waiting }
+        ensures mark { result.mark ≡ NodeState.Unopened }
         ensures link { result.link ≡ link }
     {
         TreeNode {
-            mark: NodeState::Waiting,
+            mark: NodeState::Unopened,
             link,
             key,
             rises: ChildGains::NONE,
@@ -78,7 +78,7 @@ impl TreeNode {
         ensures { result ≡ is_open self.now.mark }
     {
         match self.mark {
-            NodeState::Opened(_) | NodeState::Waiting => true,
+            NodeState::Opened(_) | NodeState::Unopened => true,
             NodeState::Split(_) | NodeState::Closed(_) => false,
         }
     }

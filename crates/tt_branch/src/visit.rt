@@ -170,7 +170,7 @@ pub fn open_at<'i, P: Path<'i>>(
     place: usize,
 ) -> Result<(), AllocError>
     requires under_way { IsUnderWay (P.problem path.old) search.old }
-    requires waiting { HasMark search.old.tree_nodes.items place NodeState.Waiting }
+    requires waiting { HasMark search.old.tree_nodes.items place NodeState.Unopened }
     requires at_most { length search.old.tree_nodes.items ≤ MAX_TREE + 2 }
     ensures under_way { OnOk result (IsUnderWay (P.problem path.old) search.new) }
     ensures better { OnOk result (Advances (P.problem path.old) search.old.best search.new.best) }

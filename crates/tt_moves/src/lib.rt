@@ -6,7 +6,7 @@ mod changing;
 mod cost;
 mod exchanges;
 mod exchanging;
-mod gaps;
+mod isolation_change;
 mod limit;
 mod pricing;
 mod rest;

@@ -6,7 +6,7 @@ ghost use Rattle.tt_instance.specs.Cells.{slot, is_at};
 ghost use Rattle.tt_instance.specs.Courses.{in_curriculum};
 ghost use Rattle.tt_instance.specs.declared.cell.Cell.{Cell};
 ghost use Rattle.tt_occupancy_tallies.specs.Neighbours.{entries_at, joined_before, joined_after};
-ghost use Rattle.tt_occupancy.specs.Around.{AreGaps};
+ghost use Rattle.tt_occupancy.specs.NeighbourCounts.{IsIsolationChange};
 ghost use Rattle.tt_moves.specs.Rests.{IsRest, IsStill};
 ghost use Rattle.tt_moves.specs.Rounds.{AreTaken, AreIsolated, OtherIsHandled};
 ghost use Rattle.tt_table.specs.declared.table.TheConstants.{MAX_ENTRIES};
@@ -15,7 +15,7 @@ use crate::neighbours::neighbours;
 use crate::rest::WithoutEntry;
 use tt_bits::{has_bit, next, previous, without};
 use tt_instance::MAX_PERIODS;
-use tt_occupancy::{Gaps, one_if};
+use tt_occupancy::{IsolationChange, one_if};
 use tt_occupancy_tallies::put;
 use tt_table::Entry;
 
@@ -127,20 +127,20 @@ impl WithoutEntry<'_, '_, '_> {
     }
 
     /// Adds the changes that an entry of the course left out would make in another curriculum.
-    pub fn with(&self, gaps: Gaps, curriculum: u32, is_still: bool, day: u32, period: u32) -> Gaps
+    pub fn with(&self, isolation_change: IsolationChange, curriculum: u32, is_still: bool, day: u32, period: u32) -> IsolationChange
         requires curriculum { curriculum < length self.now.occupied.now.problem.curricula }
         requires day { day < self.now.occupied.now.problem.days }
         requires period { period < self.now.occupied.now.problem.periods }
         requires gone { in_curriculum self.now.occupied.now.problem curriculum self.now.gone.course ≡ true }
         requires still { is_still ≡ true → IsStill self.now day }
         requires rest { (u : List Cell) × IsRest self.now u }
-        requires alone { gaps.alone + 1 < 2 ^ 32 }
-        requires joined { gaps.joined + 2 * (MAX_ENTRIES + 1) < 2 ^ 32 }
-        ensures gaps { (u : List Cell) (rows : List ℕ) → IsRest self.now u
-            → AreGaps self.now.occupied.now.problem u rows day period gaps
-            → AreGaps self.now.occupied.now.problem u (rows ++ curriculum ∷ []) day period result }
-        ensures alone_at_most { result.alone ≤ gaps.alone + 1 }
-        ensures joined_at_most { result.joined ≤ gaps.joined + 2 * (MAX_ENTRIES + 1) }
+        requires alone { isolation_change.alone + 1 < 2 ^ 32 }
+        requires joined { isolation_change.joined + 2 * (MAX_ENTRIES + 1) < 2 ^ 32 }
+        ensures isolation_change { (u : List Cell) (rows : List ℕ) → IsRest self.now u
+            → IsIsolationChange self.now.occupied.now.problem u rows day period isolation_change
+            → IsIsolationChange self.now.occupied.now.problem u (rows ++ curriculum ∷ []) day period result }
+        ensures alone_at_most { result.alone ≤ isolation_change.alone + 1 }
+        ensures joined_at_most { result.joined ≤ isolation_change.joined + 2 * (MAX_ENTRIES + 1) }
     {
         // Brings the instance's limits into the proof.
         prove!(self.occupied.instance().periods() <= MAX_PERIODS);
@@ -150,9 +150,9 @@ impl WithoutEntry<'_, '_, '_> {
         let isolated = without(set, beside);
         let before = self.joined_before(isolated, curriculum, other, day, period);
         let after = self.joined_after(isolated, curriculum, other, day, period);
-        Gaps {
-            alone: gaps.alone + one_if(!has_bit(beside, period)),
-            joined: gaps.joined + before + after,
+        IsolationChange {
+            alone: isolation_change.alone + one_if(!has_bit(beside, period)),
+            joined: isolation_change.joined + before + after,
         }
     }
 }

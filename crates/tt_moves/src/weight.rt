@@ -43,10 +43,10 @@ impl WithoutEntry<'_, '_, '_> {
         let instance = self.occupied.instance();
         let students = instance.students(entry.course);
         let excess = students.saturating_sub(instance.capacity(entry.room));
-        let gaps = self.gaps(entry);
+        let isolation_change = self.isolation_change(entry);
         EntryCost {
-            rise: excess + self.spread_cost(entry) + ISOLATED_PRICE * gaps.alone,
-            fall: ISOLATED_PRICE * gaps.joined,
+            rise: excess + self.spread_cost(entry) + ISOLATED_PRICE * isolation_change.alone,
+            fall: ISOLATED_PRICE * isolation_change.joined,
         }
     }
 

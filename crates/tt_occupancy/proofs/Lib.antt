@@ -1,4 +1,4 @@
 pub mod Examples
 pub mod Exchanging
 pub mod Replaced
-pub mod Takings
+pub mod TakenPeriods

@@ -1,4 +1,4 @@
-pub mod Around
+pub mod NeighbourCounts
 pub mod Counted
 pub mod Filled
 pub mod Fields

@@ -8,7 +8,7 @@ ghost use Rattle.tt_rules.specs.Soft.{days_cost, stability_cost};
 ghost use Rattle.tt_occupancy_tallies.specs.Tables.{AreTables};
 ghost use Rattle.tt_occupancy.specs.Weights.{IsWeight};
 
-use crate::gaps::gaps_round;
+use crate::isolation_change::isolation_change_at;
 use crate::weight::Weight;
 use tt_instance::Instance;
 use tt_occupancy_tallies::Tables;
@@ -54,7 +54,7 @@ pub fn weigh(instance: &Instance<'_>, tables: &Tables, entry: Entry) -> Weight
 {
     let (course, room, day, period) = (entry.course, entry.room, entry.day, entry.period);
     let curricula = tables.links.curricula_of(course);
-    let gaps = gaps_round(&tables.curricula.week, curricula, day, period);
+    let isolation_change = isolation_change_at(&tables.curricula.week, curricula, day, period);
     Weight {
         repeats: one_if(tables.courses.get(course, day, period) > 0),
         against: u32::from(tables.opponents.get(course, day, period)),
@@ -64,8 +64,8 @@ pub fn weigh(instance: &Instance<'_>, tables: &Tables, entry: Entry) -> Weight
             .students(course)
             .saturating_sub(instance.capacity(room)),
         days: days_with(instance, tables, entry),
-        alone: gaps.alone,
-        joined: gaps.joined,
+        alone: isolation_change.alone,
+        joined: isolation_change.joined,
         rooms: rooms_with(instance, tables, entry),
     }
 }

@@ -8,7 +8,7 @@ use Rattle.tt_occupancy_tallies.specs.declared.links.Links.{Links}
 
 -- Each list has each of its numbers once.
 pub record AreLinks (p : Problem) (k : Links) : Type 0 where
-  pub curricula_size : length k.curricula.items ≡ length p.courses
-  pub curricula : (c : ℕ) → c < length p.courses → slice_index_or k.curricula.items c [] ≡ filter (λ q. in_curriculum p q c) (all_curricula p)
-  pub opponents_size : length k.opponents.items ≡ length p.courses
-  pub opponents : (c : ℕ) → c < length p.courses → slice_index_or k.opponents.items c [] ≡ filter (λ i. conflict p i c) (all_courses p)
+  pub curricula_size : length k.curricula ≡ length p.courses
+  pub curricula : (c : ℕ) → c < length p.courses → slice_index_or k.curricula c [] ≡ filter (λ q. in_curriculum p q c) (all_curricula p)
+  pub opponents_size : length k.opponents ≡ length p.courses
+  pub opponents : (c : ℕ) → c < length p.courses → slice_index_or k.opponents c [] ≡ filter (λ i. conflict p i c) (all_courses p)

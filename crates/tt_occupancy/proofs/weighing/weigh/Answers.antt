@@ -5,13 +5,13 @@ use Rattle.tt_instance.specs.Cells.{slot_of, is_of, is_at, is_in}
 use Rattle.tt_instance.specs.Courses.{in_curriculum}
 use Rattle.tt_occupancy_tallies.specs.Tallies.{of_curriculum}
 use Rattle.tt_occupancy_tallies.proofs.Rows.{rows_below, passing_few}
-use Rattle.tt_occupancy.proofs.Takings.{gaps_alone, gaps_joined}
+use Rattle.tt_occupancy.proofs.TakenPeriods.{gaps_alone, gaps_joined}
 use Rattle.tt_occupancy_tallies.proofs.Against.{against_is}
 use Rattle.tt_occupancy_tallies.proofs.Chosen.{any_counted}
 use Rattle.tt_occupancy.proofs.weighing.weigh.Goals as goal
 
-pub gaps_round-gaps-requires-clause-rows : goal.gaps_round-gaps-requires-clause-rows
-gaps_round-gaps-requires-clause-rows c =
+pub isolation_change_at-isolation_change-requires-clause-rows : goal.isolation_change_at-isolation_change-requires-clause-rows
+isolation_change_at-isolation_change-requires-clause-rows c =
     let p = c.args.instance.now in
     let e = c.args.entry in
     let r = c.requires.in_range in
@@ -19,8 +19,8 @@ gaps_round-gaps-requires-clause-rows c =
     let rows = c.curricula_of-curricula in
     rows_below p (length p.curricula) (of_curriculum p) e rows.result.now (rows.ensures ∙ ok.links.curricula e.course r.course) r c.requires.counted.0 c.args.tables.now.curricula.week ok.curricula
 
-pub gaps_round-gaps-requires-clause-at_most : goal.gaps_round-gaps-requires-clause-at_most
-gaps_round-gaps-requires-clause-at_most c =
+pub isolation_change_at-isolation_change-requires-clause-at_most : goal.isolation_change_at-isolation_change-requires-clause-at_most
+isolation_change_at-isolation_change-requires-clause-at_most c =
     let p = c.args.instance.now in
     let e = c.args.entry in
     let ok = c.requires.counted.1 in
@@ -35,7 +35,7 @@ returns c = λ t timetable ok.
     let r = c.requires.in_range in
     let rows = c.curricula_of-curricula in
     let are = rows.ensures ∙ ok.links.curricula e.course r.course in
-    let gaps = c.gaps_round-gaps.ensures.gaps p t timetable ok.curricula in
+    let isolation_change = c.isolation_change_at-isolation_change.ensures.isolation_change p t timetable ok.curricula in
     record {
       repeats = c.one_if.ensures ∙ ap (λ n. one_if (nat_lt 0 n)) (c.get.ensures ∙ ok.courses.counts e.course e.day e.period r.course r.day r.period)
           ∙ ap one_if (any_counted (λ z. is_of e.course z && is_at (slot_of e) z) t);
@@ -45,7 +45,7 @@ returns c = λ t timetable ok.
           ∙ ap one_if (any_counted (λ z. is_in e.room z && is_at (slot_of e) z) t);
       excess = omega arith;
       days = c.days_with.ensures t ok;
-      alone = gaps_alone p t e rows.result.now are c.gaps_round-gaps.result gaps;
-      joined = gaps_joined p t e rows.result.now are c.gaps_round-gaps.result gaps;
+      alone = gaps_alone p t e rows.result.now are c.isolation_change_at-isolation_change.result isolation_change;
+      joined = gaps_joined p t e rows.result.now are c.isolation_change_at-isolation_change.result isolation_change;
       rooms = c.rooms_with.ensures t ok;
     }

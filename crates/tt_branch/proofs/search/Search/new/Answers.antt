@@ -1,7 +1,7 @@
 use Rattle.std.proofs.Common.{◌∷◌, ◌++◌, [], sym, ap, ◌∙◌, subst, refl, List}
 use Rattle.std.specs.Prelude.{slice_get}
 use Rattle.tt_branch.specs.declared.tree_node.TreeNode.{TreeNode}
-use Rattle.tt_branch.specs.declared.tree_node.NodeState.TheVariants.{Waiting}
+use Rattle.tt_branch.specs.declared.tree_node.NodeState.TheVariants.{Unopened}
 use Rattle.tt_branch.specs.Growing.{IsGrown}
 use Rattle.tt_branch.specs.BestSoFar.{table_of}
 use Rattle.tt_branch.specs.Links.{AreLinks}
@@ -10,7 +10,7 @@ use Rattle.tt_branch.proofs.Searching.{grow_root}
 use Rattle.tt_branch.proofs.search.Search.new.Goals as goal
 
 abbrev root : TreeNode
-root = record { mark = Waiting; link = 0; key = 0; rises = record { yes = 0; no = 0 } }
+root = record { mark = Unopened; link = 0; key = 0; rises = record { yes = 0; no = 0 } }
 
 pub returns-clause-under_way : goal.returns-clause-under_way
 returns-clause-under_way c = λ p k.

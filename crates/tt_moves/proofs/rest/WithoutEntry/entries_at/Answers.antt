@@ -1,5 +1,5 @@
 use Rattle.std.proofs.Common.{ap, arith}
-use Rattle.tt_occupancy.proofs.Takings.{none_taken}
+use Rattle.tt_occupancy.proofs.TakenPeriods.{none_taken}
 use Rattle.tt_moves.proofs.rest.WithoutEntry.entries_at.Goals as goal
 
 pub returns-then-period-periods-clause-value : goal.returns-then-period-periods-clause-value

@@ -26,8 +26,8 @@ joined_after-after-requires-clause-isolated c = λ u rest s h.
     ∙ ap (λ b. has_bit c.taken_on-set.result s && not b) (c.neighbours-beside.ensures s h)
     ∙ isolated_stand p u a.curriculum a.day rest.in_range short (has_bit c.taken_on-set.result) (c.taken_on-set.ensures u rest) s h
 
-pub returns-clause-gaps : goal.returns-clause-gaps
-returns-clause-gaps c = λ u rows rest are.
+pub returns-clause-isolation_change : goal.returns-clause-isolation_change
+returns-clause-isolation_change c = λ u rows rest are.
     let a = c.args in
     let p = a.self.now.occupied.now.problem in
     let q = a.curriculum in

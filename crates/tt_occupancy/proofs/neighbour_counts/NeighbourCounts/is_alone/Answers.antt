@@ -1,7 +1,7 @@
 use Rattle.std.proofs.Common.{◌&&◌, sym, ap, ◌∙◌, eq-eqb, ne_eqb}
 use Rattle.std.specs.Prelude.{◌==◌}
-use Rattle.tt_occupancy.proofs.Takings.{alone_is}
-use Rattle.tt_occupancy.proofs.around.Around.is_alone.Goals as goal
+use Rattle.tt_occupancy.proofs.TakenPeriods.{alone_is}
+use Rattle.tt_occupancy.proofs.neighbour_counts.NeighbourCounts.is_alone.Goals as goal
 
 pub returns-then-self-eq0 : goal.returns-then-self-eq0
 returns-then-self-eq0 c = λ p u q d s ok.

@@ -6,36 +6,36 @@ ghost use Rattle.tt_instance.specs.declared.cell.Cell.{Cell};
 ghost use Rattle.tt_table.specs.Table.{IsTimetable};
 ghost use Rattle.tt_occupancy_tallies.specs.Neighbours.{entries_at};
 ghost use Rattle.tt_occupancy_tallies.specs.Tallies.{IsTally, of_curriculum};
-ghost use Rattle.tt_occupancy.specs.Around.{IsAround, AreGaps};
+ghost use Rattle.tt_occupancy.specs.NeighbourCounts.{AreNeighbourCounts, IsIsolationChange};
 ghost use Rattle.tt_instance.specs.declared.limit.TheConstants.{MAX_CURRICULA};
 
-use crate::around::Around;
+use crate::neighbour_counts::NeighbourCounts;
 use crate::weighing::one_if;
 use tt_occupancy_tallies::Week;
 
 /// The changes that an entry would make to the isolated entries of its curricula.
 #[derive(Clone, Copy)]
-pub struct Gaps {
+pub struct IsolationChange {
     /// The number of curricula in which it would be isolated.
     pub alone: u32,
     /// The number of isolated entries that it would join.
     pub joined: u32,
 }
 
-impl Gaps {
+impl IsolationChange {
     /// Adds the changes in another curriculum, which has these entries around the period.
-    pub fn with(self, around: Around) -> Gaps
+    pub fn with(self, neighbour_counts: NeighbourCounts) -> IsolationChange
         requires alone { self.alone + 1 < 2 ^ 32 }
-        requires joined { self.joined + around.before + around.after < 2 ^ 32 }
-        ensures gaps { (p : Problem) (u : List Cell) (rows : List ℕ) (q d s : ℕ)
-            → AreGaps p u rows d s self → IsAround p u q d s around
-            → AreGaps p u (rows ++ q ∷ []) d s result }
+        requires joined { self.joined + neighbour_counts.before + neighbour_counts.after < 2 ^ 32 }
+        ensures isolation_change { (p : Problem) (u : List Cell) (rows : List ℕ) (q d s : ℕ)
+            → IsIsolationChange p u rows d s self → AreNeighbourCounts p u q d s neighbour_counts
+            → IsIsolationChange p u (rows ++ q ∷ []) d s result }
         ensures alone_at_most { result.alone ≤ self.alone + 1 }
-        ensures joined_at_most { result.joined ≤ self.joined + around.before + around.after }
+        ensures joined_at_most { result.joined ≤ self.joined + neighbour_counts.before + neighbour_counts.after }
     {
-        Gaps {
-            alone: self.alone + one_if(around.is_alone()),
-            joined: self.joined + around.joined(),
+        IsolationChange {
+            alone: self.alone + one_if(neighbour_counts.is_alone()),
+            joined: self.joined + neighbour_counts.joined(),
         }
     }
 }
@@ -73,16 +73,16 @@ fn entries_before(week: &Week, row: u32, day: u32, period: u32, by: u32) -> u32
 }
 
 /// Returns the entries of a curriculum around a period.
-fn around(week: &Week, row: u32, day: u32, period: u32) -> Around
+fn neighbour_counts(week: &Week, row: u32, day: u32, period: u32) -> NeighbourCounts
     requires row { row < week.now.grid.rows }
     requires day { day < week.now.days }
     requires period { period < week.now.periods }
-    ensures around { (p : Problem) (u : List Cell) → IsTimetable p u
+    ensures neighbour_counts { (p : Problem) (u : List Cell) → IsTimetable p u
         → IsTally p (length p.curricula) (of_curriculum p) u week.now
-        → IsAround p u row day period result }
+        → AreNeighbourCounts p u row day period result }
     ensures at_most { result.before + result.after < 2 * 2 ^ 16 }
 {
-    Around {
+    NeighbourCounts {
         two_before: entries_before(week, row, day, period, 2),
         before: entries_before(week, row, day, period, 1),
         here: entries_at(week, row, day, period),
@@ -92,23 +92,23 @@ fn around(week: &Week, row: u32, day: u32, period: u32) -> Around
 }
 
 /// Returns the changes that an entry of these curricula would make in a period.
-pub fn gaps_round(week: &Week, rows: &[u32], day: u32, period: u32) -> Gaps
+pub fn isolation_change_at(week: &Week, rows: &[u32], day: u32, period: u32) -> IsolationChange
     requires rows { All (λ q. q < week.now.grid.rows) rows.now }
     requires day { day < week.now.days }
     requires period { period < week.now.periods }
     requires at_most { length rows.now ≤ MAX_CURRICULA }
-    ensures gaps { (p : Problem) (u : List Cell) → IsTimetable p u
+    ensures isolation_change { (p : Problem) (u : List Cell) → IsTimetable p u
         → IsTally p (length p.curricula) (of_curriculum p) u week.now
-        → AreGaps p u rows.now day period result }
+        → IsIsolationChange p u rows.now day period result }
     ensures alone_at_most { result.alone ≤ MAX_CURRICULA }
     ensures joined_at_most { result.joined ≤ MAX_CURRICULA * (2 * 2 ^ 16) }
 {
-    let mut gaps = Gaps {
+    let mut isolation_change = IsolationChange {
         alone: 0,
         joined: 0,
     };
     for row in rows {
-        gaps = gaps.with(around(week, *row, day, period));
+        isolation_change = isolation_change.with(neighbour_counts(week, *row, day, period));
     }
-    gaps
+    isolation_change
 }

@@ -1,7 +1,7 @@
-use Rattle.tt_occupancy.proofs.gaps.around.Goals as goal
+use Rattle.tt_occupancy.proofs.isolation_change.neighbour_counts.Goals as goal
 
-pub returns-clause-around : goal.returns-clause-around
-returns-clause-around c = λ p u ok tally. record {
+pub returns-clause-neighbour_counts : goal.returns-clause-neighbour_counts
+returns-clause-neighbour_counts c = λ p u ok tally. record {
   two_before = c.entries_before.ensures.value p u ok tally;
   before = c.entries_before-2.ensures.value p u ok tally;
   here = c.entries_at.ensures.value p u ok tally;

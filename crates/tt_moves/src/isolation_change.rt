@@ -10,7 +10,7 @@ ghost use Rattle.tt_table.specs.declared.table.TheConstants.{MAX_ENTRIES};
 
 use crate::rest::WithoutEntry;
 use tt_instance::MAX_CURRICULA;
-use tt_occupancy::Gaps;
+use tt_occupancy::IsolationChange;
 use tt_table::Entry;
 
 impl WithoutEntry<'_, '_, '_> {
@@ -31,7 +31,7 @@ impl WithoutEntry<'_, '_, '_> {
     }
 
     /// Returns the changes that an entry of the course left out would make.
-    pub fn gaps(&self, entry: Entry) -> Gaps
+    pub fn isolation_change(&self, entry: Entry) -> IsolationChange
         requires in_range { InRange self.now.occupied.now.problem entry }
         requires course { entry.course ≡ self.now.gone.course }
         requires rest { (u : List Cell) × IsRest self.now u }
@@ -43,13 +43,13 @@ impl WithoutEntry<'_, '_, '_> {
         ensures joined_at_most { result.joined ≤ MAX_CURRICULA * (2 * (MAX_ENTRIES + 1)) }
     {
         let is_still = self.is_still(entry.day);
-        let mut gaps = Gaps {
+        let mut isolation_change = IsolationChange {
             alone: 0,
             joined: 0,
         };
         for curriculum in self.curricula() {
-            gaps = self.with(gaps, *curriculum, is_still, entry.day, entry.period);
+            isolation_change = self.with(isolation_change, *curriculum, is_still, entry.day, entry.period);
         }
-        gaps
+        isolation_change
     }
 }

@@ -4,11 +4,11 @@ ghost use Rattle.std.specs.Prelude.{◌≡◌, ℕ, ◌+◌, ◌^◌, ◌<◌, �
 ghost use Rattle.tt_instance.specs.Problem.{Problem};
 ghost use Rattle.tt_instance.specs.declared.cell.Cell.{Cell};
 ghost use Rattle.tt_occupancy_tallies.specs.Neighbours.{has_neighbour, joined_before, joined_after};
-ghost use Rattle.tt_occupancy.specs.Around.{IsAround};
+ghost use Rattle.tt_occupancy.specs.NeighbourCounts.{AreNeighbourCounts};
 
 /// The number of entries in a period, in each of the two periods before it and in each of the two after it.
 #[derive(Clone, Copy)]
-pub struct Around {
+pub struct NeighbourCounts {
     pub two_before: u32,
     pub before: u32,
     pub here: u32,
@@ -16,10 +16,10 @@ pub struct Around {
     pub two_after: u32,
 }
 
-impl Around {
+impl NeighbourCounts {
     /// Checks whether an entry in the period would be isolated.
     pub fn is_alone(self) -> bool
-        ensures { (p : Problem) (u : List Cell) (q d s : ℕ) → IsAround p u q d s self
+        ensures { (p : Problem) (u : List Cell) (q d s : ℕ) → AreNeighbourCounts p u q d s self
             → result ≡ not (has_neighbour p u q d s) }
     {
         self.before == 0 && self.after == 0
@@ -28,7 +28,7 @@ impl Around {
     /// Returns the number of isolated entries that an entry in the period would join.
     pub fn joined(self) -> u32
         requires { self.before + self.after < 2 ^ 32 }
-        ensures value { (p : Problem) (u : List Cell) (q d s : ℕ) → IsAround p u q d s self
+        ensures value { (p : Problem) (u : List Cell) (q d s : ℕ) → AreNeighbourCounts p u q d s self
             → result ≡ joined_before p u q d s + joined_after p u q d s }
         ensures at_most { result ≤ self.before + self.after }
     {

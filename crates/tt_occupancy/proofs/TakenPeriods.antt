@@ -18,9 +18,9 @@ use Rattle.tt_occupancy_tallies.proofs.Neighbours.{isolated_by_periods, joined_b
 use Rattle.tt_occupancy_tallies.specs.Counts.{in_period}
 use Rattle.tt_occupancy_tallies.specs.Tallies.{IsTally, of_curriculum}
 use Rattle.tt_occupancy_tallies.specs.declared.week.Week.{Week}
-use Rattle.tt_occupancy.specs.Around.{IsAround, AreGaps}
-use Rattle.tt_occupancy.specs.declared.around.Around.{Around}
-use Rattle.tt_occupancy.specs.declared.gaps.Gaps.{Gaps}
+use Rattle.tt_occupancy.specs.NeighbourCounts.{AreNeighbourCounts, IsIsolationChange}
+use Rattle.tt_occupancy.specs.declared.neighbour_counts.NeighbourCounts.{NeighbourCounts}
+use Rattle.tt_occupancy.specs.declared.isolation_change.IsolationChange.{IsolationChange}
 
 -- no entry in range is past the day's end
 pub none_taken : (p : Problem) (u : List Cell) (q d s : ℕ) → IsTimetable p u → p.periods ≤ s → 0 ≡ entries_at p u q d s
@@ -77,7 +77,7 @@ module _ (p : Problem) (u : List Cell) (q d s : ℕ) where
   after_is : after_of (entries_at p u q d) s ≡ joined_after p u q d s
   after_is = ap (λ b. cond (not b) (entries_at p u q d (s + 1)) 0) (beside_is (s + 1))
 
-  module _ (a : Around) (ok : IsAround p u q d s a) where
+  module _ (a : NeighbourCounts) (ok : AreNeighbourCounts p u q d s a) where
     pub alone_is : ((a.before == 0) && (a.after == 0)) ≡ not (has_neighbour p u q d s)
     alone_is =
         alone_by_counts (entries_at p u q d) s a.two_before a.before a.here a.after a.two_after ok.two_before ok.before ok.here ok.after ok.two_after
@@ -95,12 +95,12 @@ module _ (p : Problem) (u : List Cell) (q d s : ℕ) where
 
 -- ---- all curricula of a course
 
-module _ (p : Problem) (u : List Cell) (x : Cell) (rows : List ℕ) (are : rows ≡ filter (λ q. in_curriculum p q x.course) (all_curricula p)) (g : Gaps) (gaps : AreGaps p u rows x.day x.period g) where
+module _ (p : Problem) (u : List Cell) (x : Cell) (rows : List ℕ) (are : rows ≡ filter (λ q. in_curriculum p q x.course) (all_curricula p)) (g : IsolationChange) (isolation_change : IsIsolationChange p u rows x.day x.period g) where
   pub gaps_alone : g.alone ≡ alone p u x
   gaps_alone =
       let member = λ (q : ℕ). in_curriculum p q x.course in
       let f = λ (q : ℕ). cond (not (has_neighbour p u q x.day x.period)) 1 0 in
-      gaps.alone
+      isolation_change.alone
       ∙ ap (sum_by f) are ∙ sum_by-filter f member (all_curricula p)
       ∙ sum_by-same (λ q. cond (member q) (f q) 0) (λ q. cond (member q) (cond (is_isolated p u q x) 1 0) 0) (all_curricula p)
       (λ q. ap (λ b. cond (member q) (cond b 1 0) 0) (sym (isolated_by_periods p u q x)))
@@ -109,7 +109,7 @@ module _ (p : Problem) (u : List Cell) (x : Cell) (rows : List ℕ) (are : rows 
   gaps_joined =
       let member = λ (q : ℕ). in_curriculum p q x.course in
       let f = λ (q : ℕ). joined_before p u q x.day x.period + joined_after p u q x.day x.period in
-      gaps.joined
+      isolation_change.joined
       ∙ ap (sum_by f) are ∙ sum_by-filter f member (all_curricula p)
       ∙ sum_by-same (λ q. cond (member q) (f q) 0) (λ q. cond (member q) (joined p u x q) 0) (all_curricula p)
       (λ q. ap (λ n. cond (member q) n 0) (sym (joined_by_periods p u x q)))

@@ -1,6 +1,6 @@
 use Rattle.std.proofs.Common.{◌∙◌, arith}
-use Rattle.tt_occupancy.proofs.Takings.{none_taken}
-use Rattle.tt_occupancy.proofs.gaps.entries_at.Goals as goal
+use Rattle.tt_occupancy.proofs.TakenPeriods.{none_taken}
+use Rattle.tt_occupancy.proofs.isolation_change.entries_at.Goals as goal
 
 pub returns-then-period-week-clause-value : goal.returns-then-period-week-clause-value
 returns-then-period-week-clause-value c = λ p u ok tally.
