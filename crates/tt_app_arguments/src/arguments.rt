@@ -125,8 +125,8 @@ pub enum Request<'a> {
     },
 }
 
-/// The toolchain that proves and builds the program, as `rt version` names it.
-const VERSION: &str = "0.1 (rattle-kit-13f logic dac8208d650f15bf)";
+/// The version, and the toolchain with which the program was proved, as `rt version` names it.
+const VERSION: &str = "0.1 (rattle-kit-13b logic dac8208d650f15bf)";
 
 /// Returns the argument of a file that has to be given.
 fn file<'a>(alloc: Global, id: &'a str, help: &'a str) -> Arg<'a> {
