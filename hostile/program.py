@@ -18,6 +18,19 @@ OUT_OF_MEMORY = (2, b"", b"refused: out of memory\n")
 CANNOT = re.compile(rb"([^\n]*: [^\n]*\n)?refused: ((instance|solution|proof): cannot read|proof( \d+)?: Read|cannot write)\n")
 
 
+# What a refusal calls the files of a command, in the order of its words.
+ROLES = {
+    "validate": ["instance", "solution"],
+    "improve": ["instance", "solution"],
+    "report": ["instance", "solution"],
+    "inspect": ["instance", "solution"],
+    "page": ["instance", "solution"],
+    "check": ["instance", "solution", "proof"],
+    "bound": ["instance", "proof"],
+    "upgrade": ["instance", "proof"],
+}
+
+
 @dataclass
 class Command:
     """A command line with the files that it reads, what it answers, and the files that it writes."""
@@ -30,6 +43,25 @@ class Command:
 
     def name(self):
         return f"tt {self.words}".strip()
+
+    def inputs(self):
+        """The files that it reads, in its order: each with what a refusal calls it."""
+        words, options = self.words.split(), {}
+        for option in ("--solution", "--proof"):
+            while option in words:
+                place = words.index(option)
+                options.setdefault(option, []).append(words[place + 1])
+                del words[place : place + 2]
+        command, names = (words or [""])[0], [it for it in words[1:] if it in FILES]
+        roles = ROLES.get(command, ["instance"])
+        if command == "sum":
+            roles = ["instance", *(f"proof {it}" for it in range(1, len(names)))]
+        proofs = options.get("--proof", [])
+        return [
+            *zip(names, roles),
+            *((it, "solution") for it in options.get("--solution", [])),
+            *((it, f"proof {number}") for number, it in enumerate(proofs, 1)),
+        ]
 
 
 FILES = {
@@ -188,6 +220,13 @@ class Runs:
                     runs += 1
         return runs
 
+    def check_role(self, outcome, where):
+        """A refusal after one failed call names the file of that call, or says that it can't write."""
+        roles = {role for name, role in self.command.inputs() if name == outcome.counted.file}
+        said = outcome.err.rsplit(b"refused: ", 1)[1].decode()
+        named = said.rsplit(":", 1)[0] if ":" in said else ""
+        assert named in roles or (not named and not roles), f"names {named or 'an output'}, and {outcome.counted.file} failed, {where}"
+
     def check_outcome(self, refusal, outcome, files):
         """After a failed call the answer is the command's own, or a refusal of the file that failed; each file that it writes is the
         older one or the new one, whole, and of several all are new or none. A file that can't be removed stays."""
@@ -203,8 +242,10 @@ class Runs:
             assert all(files[it] == self.own_files[it] for it in self.shelf.files), f"not written {where}"
         else:
             assert self.own.out.startswith(outcome.out), where
-            told = CANNOT.fullmatch(outcome.err) or (self.own.status == 2 and self.own.err.startswith(outcome.err))
-            assert told or (refusal.from_there and not outcome.err), where
+            own = self.own.status == 2 and self.own.err.startswith(outcome.err)
+            assert CANNOT.fullmatch(outcome.err) or own or (refusal.from_there and not outcome.err), where
+            if not own and not refusal.from_there:
+                self.check_role(outcome, where)
         if refusal.from_there:
             return
         if outcome.counted.unlinks == 0:

@@ -17,6 +17,7 @@ extern void _exit(int status);
 #define INPUT_OUTPUT 5
 #define OUT_OF_MEMORY 12
 #define STOPPED 86
+#define MOST_FILES 256
 
 // The numbers of the page, in the order of refusing.py.
 struct page {
@@ -31,6 +32,7 @@ struct page {
   long refused;
   long marks;
   long unlinks;       // of those refused, how many would have removed a file
+  char file[64];      // the name of the file of the last one refused, without its folders; empty if it isn't known
 };
 
 static struct page none;
@@ -63,8 +65,33 @@ static int fails(void) {
   return 1;
 }
 
-static int fails_to_remove(void) {
+// The names of open files, without their folders.
+static char names[MOST_FILES][sizeof none.file];
+
+static void copy_name(char *to, const char *path) {
+  const char *name = path;
+  for (; *path; path++)
+    if (*path == '/') name = path + 1;
+  size_t count = 0;
+  for (; name[count] && count + 1 < sizeof none.file; count++) to[count] = name[count];
+  to[count] = 0;
+}
+
+static int opened(int file, const char *path) {
+  if (file >= 0 && file < MOST_FILES) copy_name(names[file], path);
+  return file;
+}
+
+static int fails_on(const char *path) {
   if (!fails()) return 0;
+  copy_name(page->file, path);
+  return 1;
+}
+
+static int fails_in(int file) { return fails_on(file >= 0 && file < MOST_FILES ? names[file] : ""); }
+
+static int fails_to_remove(const char *path) {
+  if (!fails_on(path)) return 0;
   page->unlinks++;
   return 1;
 }
@@ -104,13 +131,13 @@ void *realloc(void *block, size_t count) {
 
 ssize_t read(int file, void *bytes, size_t count) {
   REAL(reading *, "read");
-  if (fails()) return -1;
+  if (fails_in(file)) return -1;
   return real(file, bytes, part(count));
 }
 
 static ssize_t counted_write(writing *real, int file, const void *bytes, size_t count) {
   if (file == 1) page->marks++;
-  if (fails()) return page->fault ? -1 : 0;
+  if (fails_in(file)) return page->fault ? -1 : 0;
   return real(file, bytes, part(count));
 }
 
@@ -126,75 +153,75 @@ ssize_t __write(int file, const void *bytes, size_t count) {
 
 int open(const char *path, int how, unsigned mode) {
   REAL(opening *, "open");
-  return fails() ? -1 : real(path, how, mode);
+  return fails_on(path) ? -1 : opened(real(path, how, mode), path);
 }
 
 int open64(const char *path, int how, unsigned mode) {
   REAL(opening *, "open64");
-  return fails() ? -1 : real(path, how, mode);
+  return fails_on(path) ? -1 : opened(real(path, how, mode), path);
 }
 
 int openat(int folder, const char *path, int how, unsigned mode) {
   REAL(opening_at *, "openat");
-  return fails() ? -1 : real(folder, path, how, mode);
+  return fails_on(path) ? -1 : opened(real(folder, path, how, mode), path);
 }
 
 int rename(const char *from, const char *to) {
   REAL(renaming *, "rename");
-  return fails() ? -1 : real(from, to);
+  return fails_on(to) ? -1 : real(from, to);
 }
 
 int renameat(int from_folder, const char *from, int to_folder, const char *to) {
   REAL(renaming_at *, "renameat");
-  return fails() ? -1 : real(from_folder, from, to_folder, to);
+  return fails_on(to) ? -1 : real(from_folder, from, to_folder, to);
 }
 
 int unlink(const char *path) {
   REAL(removing *, "unlink");
-  return fails_to_remove() ? -1 : real(path);
+  return fails_to_remove(path) ? -1 : real(path);
 }
 
 int unlinkat(int folder, const char *path, int how) {
   REAL(removing_at *, "unlinkat");
-  return fails_to_remove() ? -1 : real(folder, path, how);
+  return fails_to_remove(path) ? -1 : real(folder, path, how);
 }
 
 int fsync(int file) {
   REAL(syncing *, "fsync");
-  return fails() ? -1 : real(file);
+  return fails_in(file) ? -1 : real(file);
 }
 
 int fdatasync(int file) {
   REAL(syncing *, "fdatasync");
-  return fails() ? -1 : real(file);
+  return fails_in(file) ? -1 : real(file);
 }
 
 int close(int file) {
   REAL(syncing *, "close");
-  return fails() ? -1 : real(file);
+  return fails_in(file) ? -1 : real(file);
 }
 
 int link(const char *from, const char *to) {
   REAL(linking *, "link");
-  return fails() ? -1 : real(from, to);
+  return fails_on(to) ? -1 : real(from, to);
 }
 
 ssize_t readlink(const char *path, char *bytes, size_t count) {
   REAL(reading_link *, "readlink");
-  return fails() ? -1 : real(path, bytes, count);
+  return fails_on(path) ? -1 : real(path, bytes, count);
 }
 
 int fchmod(int file, unsigned mode) {
   REAL(setting_mode *, "fchmod");
-  return fails() ? -1 : real(file, mode);
+  return fails_in(file) ? -1 : real(file, mode);
 }
 
 int statx(int folder, const char *path, int how, unsigned mask, void *found) {
   REAL(looking *, "statx");
-  return fails() ? -1 : real(folder, path, how, mask, found);
+  return (*path ? fails_on(path) : fails_in(folder)) ? -1 : real(folder, path, how, mask, found);
 }
 
 long lseek(int file, long offset, int from) {
   REAL(seeking *, "lseek");
-  return fails() ? -1 : real(file, offset, from);
+  return fails_in(file) ? -1 : real(file, offset, from);
 }

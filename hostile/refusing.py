@@ -37,6 +37,7 @@ class Counted:
     refused: int
     marks: int
     unlinks: int
+    file: str = ""
 
 
 @dataclass
@@ -54,7 +55,8 @@ class Outcome:
 
 NOTHING = Refusal()
 GIVEN = struct.Struct(f"{len(fields(Refusal))}q")
-COUNTED = struct.Struct(f"{len(fields(Counted))}q")
+NUMBERS = len(fields(Counted)) - 1
+COUNTED = struct.Struct(f"{NUMBERS}q64s")
 
 
 class Refuser:
@@ -71,10 +73,11 @@ class Refuser:
         """Runs words with one refusal, in a folder."""
         given_numbers = [getattr(refusal, it.name) for it in fields(Refusal)]
         GIVEN.pack_into(self.page, 0, *given_numbers)
-        COUNTED.pack_into(self.page, GIVEN.size, *[0] * len(fields(Counted)))
+        COUNTED.pack_into(self.page, GIVEN.size, *[0] * NUMBERS, b"")
         surroundings = {"LD_PRELOAD": str(self.library), "REFUSE_PAGE": str(self.file)}
         done = subprocess.run(words, env=surroundings, pass_fds=(self.file,), cwd=folder, stdin=given, capture_output=True, timeout=seconds)
-        return Outcome(done.returncode, done.stdout, done.stderr, Counted(*COUNTED.unpack_from(self.page, GIVEN.size)))
+        *counts, file = COUNTED.unpack_from(self.page, GIVEN.size)
+        return Outcome(done.returncode, done.stdout, done.stderr, Counted(*counts, file.split(b"\0")[0].decode()))
 
 
 def toolchain():
