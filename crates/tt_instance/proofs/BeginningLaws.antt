@@ -11,15 +11,17 @@ use Rattle.tt_instance.specs.declared.fault.Word.{Word}
 use Rattle.tt_instance.specs.declared.fault.Word.TheVariants as word
 use Rattle.tt_instance.specs.declared.fault.InstanceFault.{InstanceFault}
 use Rattle.tt_instance.specs.declared.fault.InstanceFault.TheVariants as fault
-use Rattle.tt_instance.specs.declared.limit.TheConstants.{MAX_DAYS, MAX_PERIODS, MAX_SLOTS, MAX_CELLS}
+use Rattle.tt_instance_data.specs.declared.limit.TheConstants.{MAX_DAYS, MAX_PERIODS, MAX_SLOTS, MAX_CELLS}
 use Rattle.tt_instance.specs.Words.{word_text}
-use Rattle.tt_instance.specs.Beginnings.{token_offset, BeginsAs}
-use Rattle.tt_instance.specs.Problem.{Course, Room, Curriculum, Unavailability, Problem}
-use Rattle.tt_instance.specs.Reading.{Counts, ids_of, word_at, numbered, ranged, known, limited_at, below_at, course_at, courses_at, room_at, rooms_at, named_at, member_at, members_at, curriculum_at, curricula_at, unavailability_at, unavailabilities_at, name_at, counted_at, days_at, periods_at, header_at, places_at, groups_at, sections_at, instance_of}
-use Rattle.tt_instance.specs.Spelling.{Spells}
-use Rattle.tt_instance.proofs.Beginnings.{begins_shared, fault_at_token, fault_of_all}
+use Rattle.tt_instance_data.specs.Beginnings.{BeginsAs}
+use Rattle.tt_instance.specs.Beginnings.{token_offset}
+use Rattle.tt_instance_data.specs.Problem.{Course, Room, Curriculum, Unavailability, Problem}
+use Rattle.tt_instance_data.specs.Columns.{ids_of}
+use Rattle.tt_instance.specs.Reading.{Counts, word_at, numbered, ranged, known, limited_at, below_at, course_at, courses_at, room_at, rooms_at, named_at, member_at, members_at, curriculum_at, curricula_at, unavailability_at, unavailabilities_at, name_at, counted_at, days_at, periods_at, header_at, places_at, groups_at, sections_at, instance_of}
+use Rattle.tt_instance_data.specs.Spelling.{Spells}
+use Rattle.tt_instance_data.proofs.Beginnings.{begins_shared, fault_at_token, fault_of_all}
 use Rattle.tt_instance.proofs.WholeLaws.{is_read}
-use Rattle.tt_instance.proofs.Shared.{NoneAt, Shared, Apart, Next, Stays, Joins, NoneLeft, SharedLeft, other_offset, stays_joins, ok_joins, ReadsAlike, SkipsAlike, EndsAlike, SameVerdict, ok_reads, ok_skips, ok_ends, on_condition, then_reads, then_skips, err_reads, if_reads, then_verdict, then_token}
+use Rattle.tt_instance_data.proofs.Shared.{NoneAt, Shared, Apart, Next, Stays, Joins, NoneLeft, SharedLeft, other_offset, stays_joins, ok_joins, ReadsAlike, SkipsAlike, EndsAlike, SameVerdict, ok_reads, ok_skips, ok_ends, on_condition, then_reads, then_skips, err_reads, if_reads, then_verdict, then_token}
 
 -- the verdict on a name that must be new
 abbrev new_test : ℕ → Bool → Result (Unit {0}) InstanceFault

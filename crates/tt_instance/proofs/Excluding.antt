@@ -13,16 +13,16 @@ use Rattle.std.proofs.lemmas.Option.{slice_get_cases}
 use Rattle.std.proofs.lemmas.List.Folds.{list_any_at}
 use Rattle.tt_lists.specs.Words.{has_number}
 use Rattle.tt_lists.proofs.Sums.{list_any-of_map}
-use Rattle.tt_instance.specs.declared.rows.MemberList.{MemberList}
+use Rattle.tt_instance_data.specs.declared.rows.MemberList.{MemberList}
 use Rattle.tt_text.specs.Texts.{is_text, is_same_text, index_of_name}
-use Rattle.tt_instance.specs.declared.rows.CourseRow.{CourseRow}
-use Rattle.tt_instance.specs.declared.rows.CurriculumRow.{CurriculumRow}
-use Rattle.tt_instance.specs.declared.parts.Parts.{Parts}
-use Rattle.tt_instance.specs.Problem.{Course}
-use Rattle.tt_instance.specs.Courses.{one_teacher, one_curriculum, conflict}
-use Rattle.tt_instance.specs.Seen.{course_seen, courses_seen, curriculum_seen, problem_seen}
-use Rattle.tt_instance.specs.Indexed.{IsTeacher, IsMarked, IsIndexedParts, IsSquare, mark_at}
-use Rattle.tt_instance.proofs.Getting.{field_at}
+use Rattle.tt_instance_data.specs.declared.rows.CourseRow.{CourseRow}
+use Rattle.tt_instance_data.specs.declared.rows.CurriculumRow.{CurriculumRow}
+use Rattle.tt_instance_data.specs.declared.parts.Parts.{Parts}
+use Rattle.tt_instance_data.specs.Problem.{Course}
+use Rattle.tt_instance_data.specs.Courses.{one_teacher, one_curriculum, conflict}
+use Rattle.tt_instance_data.specs.Seen.{course_seen, courses_seen, curriculum_seen, problem_seen}
+use Rattle.tt_instance_data.specs.Indexed.{IsTeacher, IsMarked, IsIndexedParts, IsSquare, mark_at}
+use Rattle.tt_instance_data.proofs.Getting.{field_at}
 
 -- two teachers are the same if their numbers are
 same_number : (names : List (List ℕ)) (s t : List ℕ) (i j : ℕ) (v : Bool) → is_text s t ≡ v → index_of_name names s ≡ Some i → index_of_name names t ≡ Some j → eqb j i ≡ v

@@ -5,15 +5,15 @@ use Rattle.std.proofs.lemmas.List.{map_push, length-append}
 use Rattle.std.proofs.lemmas.List.Sums.{fold_push, sum_by_push}
 use Rattle.std.proofs.lemmas.List.Elements.{All-push, All-weaker}
 use Rattle.tt_text.specs.Texts.{has_name, with_name, index_of_name}
-use Rattle.tt_instance.specs.declared.rows.CourseRow.{CourseRow}
-use Rattle.tt_instance.specs.declared.rows.CourseList.{CourseList}
-use Rattle.tt_instance.specs.declared.rows.RoomList.{RoomList}
-use Rattle.tt_instance.specs.declared.rows.RoomRow.{RoomRow}
-use Rattle.tt_instance.specs.Problem.{Course, Room}
-use Rattle.tt_instance.specs.Reading.{ids_of, room_ids_of, lectures_of}
-use Rattle.tt_instance.specs.Seen.{course_seen, courses_seen, room_seen, rooms_seen}
-use Rattle.tt_instance.specs.Indexed.{IsIndexed, IsRoomsIndexed, IsTeacher, teachers_of}
-use Rattle.tt_instance.proofs.Naming.{length-with_name, index_of_name-with_name}
+use Rattle.tt_instance_data.specs.declared.rows.CourseRow.{CourseRow}
+use Rattle.tt_instance_data.specs.declared.rows.CourseList.{CourseList}
+use Rattle.tt_instance_data.specs.declared.rows.RoomList.{RoomList}
+use Rattle.tt_instance_data.specs.declared.rows.RoomRow.{RoomRow}
+use Rattle.tt_instance_data.specs.Problem.{Course, Room}
+use Rattle.tt_instance_data.specs.Columns.{ids_of, room_ids_of, lectures_of}
+use Rattle.tt_instance_data.specs.Seen.{course_seen, courses_seen, room_seen, rooms_seen}
+use Rattle.tt_instance_data.specs.Indexed.{IsIndexed, IsRoomsIndexed, IsTeacher, teachers_of}
+use Rattle.tt_instance_data.proofs.Naming.{length-with_name, index_of_name-with_name}
 
 -- a name that isn't in the list is added at the end
 pub fresh : (names : List (List ℕ)) (name : List ℕ) (v : Bool) → has_name names name ≡ v → not v ≡ true → with_name names name ≡ names ++ name ∷ []

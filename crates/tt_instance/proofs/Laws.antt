@@ -2,9 +2,9 @@
 use Rattle.std.proofs.Common.{◌≡◌, ◌∙◌, ℕ, List, Result, Ok, Err, sym}
 use Rattle.std.specs.Prelude.{IfOk}
 use Rattle.tt_instance.specs.declared.fault.InstanceFault.{InstanceFault}
-use Rattle.tt_instance.specs.Problem.{Problem}
+use Rattle.tt_instance_data.specs.Problem.{Problem}
 use Rattle.tt_instance.specs.Reading.{Gives, instance_of}
-use Rattle.tt_instance.specs.Spelling.{Spells}
+use Rattle.tt_instance_data.specs.Spelling.{Spells}
 use Rattle.tt_text.proofs.Steps.{ok_is}
 pub use Rattle.tt_instance.proofs.TokenLaws.{spelled_instance, is_instance}
 pub use Rattle.tt_instance.proofs.WholeLaws.{is_spelled, is_read}

@@ -8,10 +8,11 @@ use Rattle.tt_text.specs.Tokens.{Placed}
 use Rattle.tt_text.specs.Pieces.{Piece, Begins}
 use Rattle.tt_text.proofs.Steps.{done, ok_is, bind_ok, bind_is, Takes}
 use Rattle.tt_text.proofs.Fields.{ReadsOn}
-use Rattle.tt_instance.specs.Problem.{Course}
-use Rattle.tt_instance.specs.Reading.{ids_of, named_at, member_at, members_at}
-use Rattle.tt_instance.specs.Spelling.{named}
-use Rattle.tt_instance.proofs.AfterLaws.{All-from_each_after, EachAfter-from_all}
+use Rattle.tt_instance_data.specs.Problem.{Course}
+use Rattle.tt_instance_data.specs.Columns.{ids_of}
+use Rattle.tt_instance.specs.Reading.{named_at, member_at, members_at}
+use Rattle.tt_instance_data.specs.Spelling.{named}
+use Rattle.tt_instance_data.proofs.AfterLaws.{All-from_each_after, EachAfter-from_all}
 use Rattle.tt_instance.proofs.NameLaws.{AreNamed, named_takes, named_reads}
 use Rattle.tt_instance.proofs.Repeating.{members_repeat}
 use Rattle.tt_instance.proofs.SeriesLaws.{OneTaken, series_takes, series_reads}

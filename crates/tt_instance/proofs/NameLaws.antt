@@ -7,11 +7,12 @@ use Rattle.tt_text.specs.Pieces.{Piece, Begins}
 use Rattle.tt_text.proofs.Steps.{ok_is, bind_ok, Takes}
 use Rattle.tt_text.proofs.Fields.{ReadsOn, takes_piece, has_piece}
 use Rattle.tt_instance.specs.declared.fault.InstanceFault.TheVariants as fault
-use Rattle.tt_instance.specs.Problem.{Course}
-use Rattle.tt_instance.specs.Courses.{no_course}
-use Rattle.tt_instance.specs.Reading.{ids_of, token_at, known, named_at}
-use Rattle.tt_instance.specs.Spelling.{named}
-use Rattle.tt_instance.proofs.FreshLaws.{found_is, index_is}
+use Rattle.tt_instance_data.specs.Problem.{Course}
+use Rattle.tt_instance_data.specs.Courses.{no_course}
+use Rattle.tt_instance_data.specs.Columns.{ids_of}
+use Rattle.tt_instance.specs.Reading.{token_at, known, named_at}
+use Rattle.tt_instance_data.specs.Spelling.{named}
+use Rattle.tt_instance_data.proofs.FreshLaws.{found_is, index_is}
 
 -- no two courses have the same name
 abbrev pub AreNamed : List Course → Type 0

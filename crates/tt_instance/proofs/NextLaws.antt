@@ -4,12 +4,12 @@ use Rattle.std.proofs.Common.{◌≡◌, ◌≢◌, ℕ, ◌+◌, ◌≤◌, fal
 use Rattle.std.specs.Prelude.{All, AllPairs}
 use Rattle.std.proofs.lemmas.List.Sums.{sum_by-append, sum_by-cons, sum_by_more_le}
 use Rattle.tt_text.specs.Texts.{has_name}
-use Rattle.tt_instance.specs.declared.limit.TheConstants.{MAX_LECTURES, MAX_SEATS}
-use Rattle.tt_instance.specs.Problem.{Course, Room, Curriculum}
-use Rattle.tt_instance.specs.Reading.{ids_of, room_ids_of, curriculum_ids_of, lectures_of}
-use Rattle.tt_instance.proofs.Each.{IsCourse, IsCurriculum}
-use Rattle.tt_instance.proofs.AfterLaws.{EachAfter, EachAfter-from_at, All-from_each_after}
-use Rattle.tt_instance.proofs.FreshLaws.{is_new, apart_from_new}
+use Rattle.tt_instance_data.specs.declared.limit.TheConstants.{MAX_LECTURES, MAX_SEATS}
+use Rattle.tt_instance_data.specs.Problem.{Course, Room, Curriculum}
+use Rattle.tt_instance_data.specs.Columns.{ids_of, room_ids_of, curriculum_ids_of, lectures_of}
+use Rattle.tt_instance_data.proofs.Each.{IsCourse, IsCurriculum}
+use Rattle.tt_instance_data.proofs.AfterLaws.{EachAfter, EachAfter-from_at, All-from_each_after}
+use Rattle.tt_instance_data.proofs.FreshLaws.{is_new, apart_from_new}
 
 -- ---- courses
 

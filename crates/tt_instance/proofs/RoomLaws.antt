@@ -7,10 +7,11 @@ use Rattle.tt_text.specs.Pieces.{Piece, Text, Number, Begins}
 use Rattle.tt_text.proofs.Steps.{done, ok_is, bind_ok, Takes, takes_then}
 use Rattle.tt_text.proofs.Fields.{ReadsOn, has_piece}
 use Rattle.tt_instance.specs.declared.fault.InstanceFault.TheVariants as fault
-use Rattle.tt_instance.specs.Problem.{Room}
-use Rattle.tt_instance.specs.Reading.{room_ids_of, token_at, limited_at, room_at, rooms_at}
-use Rattle.tt_instance.specs.Spelling.{room_pieces}
-use Rattle.tt_instance.proofs.AfterLaws.{EachAfter}
+use Rattle.tt_instance_data.specs.Problem.{Room}
+use Rattle.tt_instance_data.specs.Columns.{room_ids_of}
+use Rattle.tt_instance.specs.Reading.{token_at, limited_at, room_at, rooms_at}
+use Rattle.tt_instance_data.specs.Spelling.{room_pieces}
+use Rattle.tt_instance_data.proofs.AfterLaws.{EachAfter}
 use Rattle.tt_instance.proofs.NextLaws.{IsNextRoom}
 use Rattle.tt_instance.proofs.FieldLaws.{guard_passed, text_takes, limited_takes, limited_reads}
 use Rattle.tt_instance.proofs.Repeating.{rooms_repeat}

@@ -8,11 +8,12 @@ use Rattle.tt_text.proofs.Steps.{ok_is, bind_ok, bind_is, Takes, takes_then}
 use Rattle.tt_text.proofs.Fields.{ReadsOn}
 use Rattle.tt_instance.specs.declared.fault.Word.TheVariants as word
 use Rattle.tt_instance.specs.Words.{fixed}
-use Rattle.tt_instance.specs.Problem.{Course, Room, Curriculum, Unavailability}
-use Rattle.tt_instance.specs.Reading.{Counts, Sections, ids_of, word_at, courses_at, rooms_at, curricula_at, unavailabilities_at, places_at, groups_at, sections_at}
-use Rattle.tt_instance.specs.Spelling.{course_pieces, room_pieces, curriculum_pieces, unavailability_pieces}
-use Rattle.tt_instance.proofs.Each.{IsUnavailability}
-use Rattle.tt_instance.proofs.AfterLaws.{All-from_each_after}
+use Rattle.tt_instance_data.specs.Problem.{Course, Room, Curriculum, Unavailability}
+use Rattle.tt_instance_data.specs.Columns.{ids_of}
+use Rattle.tt_instance.specs.Reading.{Counts, Sections, word_at, courses_at, rooms_at, curricula_at, unavailabilities_at, places_at, groups_at, sections_at}
+use Rattle.tt_instance_data.specs.Spelling.{course_pieces, room_pieces, curriculum_pieces, unavailability_pieces}
+use Rattle.tt_instance_data.proofs.Each.{IsUnavailability}
+use Rattle.tt_instance_data.proofs.AfterLaws.{All-from_each_after}
 use Rattle.tt_instance.proofs.FieldLaws.{word_takes, has_word}
 use Rattle.tt_instance.proofs.NextLaws.{AreCourses, AreRooms, AreCurricula, courses_next, courses_are, rooms_next, rooms_are, curricula_next, curricula_are}
 use Rattle.tt_instance.proofs.NameLaws.{AreNamed}

@@ -9,7 +9,7 @@ use Rattle.tt_text.specs.Reading.{◌>>=◌}
 use Rattle.tt_text.proofs.Steps.{done, ok_is, bind_ok, bind_is, Takes, takes_then}
 use Rattle.tt_text.proofs.Fields.{ReadsOn}
 use Rattle.tt_instance.specs.declared.fault.InstanceFault.{InstanceFault}
-use Rattle.tt_instance.proofs.AfterLaws.{EachAfter}
+use Rattle.tt_instance_data.proofs.AfterLaws.{EachAfter}
 
 -- reading another item, and reading this many more items
 pub record IsSeries {B : Type 0} (one : B → List Placed → Result (B × List Placed) InstanceFault) (many : ℕ → B → List Placed → Result (B × List Placed) InstanceFault) : Type 0 where

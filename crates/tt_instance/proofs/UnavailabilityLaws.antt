@@ -9,12 +9,13 @@ use Rattle.tt_text.specs.Pieces.{Piece, Number, Begins}
 use Rattle.tt_text.proofs.Steps.{done, ok_is, bind_ok, bind_is, Takes, takes_then}
 use Rattle.tt_text.proofs.Fields.{ReadsOn}
 use Rattle.tt_instance.specs.declared.fault.InstanceFault.{InstanceFault}
-use Rattle.tt_instance.specs.Problem.{Course, Unavailability}
-use Rattle.tt_instance.specs.Limits.{same_unavailability}
-use Rattle.tt_instance.specs.Reading.{ids_of, named_at, below_at, unavailability_at, unavailabilities_at}
-use Rattle.tt_instance.specs.Spelling.{unavailability_pieces}
-use Rattle.tt_instance.proofs.Each.{IsUnavailability}
-use Rattle.tt_instance.proofs.AfterLaws.{EachAfter-from_all}
+use Rattle.tt_instance_data.specs.Problem.{Course, Unavailability}
+use Rattle.tt_instance_data.specs.Limits.{same_unavailability}
+use Rattle.tt_instance_data.specs.Columns.{ids_of}
+use Rattle.tt_instance.specs.Reading.{named_at, below_at, unavailability_at, unavailabilities_at}
+use Rattle.tt_instance_data.specs.Spelling.{unavailability_pieces}
+use Rattle.tt_instance_data.proofs.Each.{IsUnavailability}
+use Rattle.tt_instance_data.proofs.AfterLaws.{EachAfter-from_all}
 use Rattle.tt_instance.proofs.FieldLaws.{below_takes, below_reads}
 use Rattle.tt_instance.proofs.NameLaws.{AreNamed, named_takes, named_reads}
 use Rattle.tt_instance.proofs.Repeating.{unavailabilities_repeat}

@@ -8,10 +8,10 @@ use Rattle.tt_text.proofs.Steps.{done, bind_ok, bind_is, Takes, takes_then}
 use Rattle.tt_instance.specs.declared.fault.InstanceFault.{InstanceFault}
 use Rattle.tt_instance.specs.declared.fault.Word.TheVariants as word
 use Rattle.tt_instance.specs.Words.{fixed}
-use Rattle.tt_instance.specs.Problem.{Curriculum, Unavailability, Problem}
-use Rattle.tt_instance.specs.Limits.{IsWithinLimits}
+use Rattle.tt_instance_data.specs.Problem.{Curriculum, Unavailability, Problem}
+use Rattle.tt_instance_data.specs.Limits.{IsWithinLimits}
 use Rattle.tt_instance.specs.Reading.{Counts, Sections, word_at, name_at, header_at, sections_at, instance_of}
-use Rattle.tt_instance.specs.Spelling.{pieces, without_repeats, Spells}
+use Rattle.tt_instance_data.specs.Spelling.{pieces, without_repeats, Spells}
 use Rattle.tt_instance.proofs.FieldLaws.{word_takes, has_word}
 use Rattle.tt_instance.proofs.HeaderLaws.{IsNamePart, IsHeader, count_pieces, name_takes, name_reads, header_takes, header_reads}
 use Rattle.tt_instance.proofs.CurriculumLaws.{all_kept}

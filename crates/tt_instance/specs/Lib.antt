@@ -1,13 +1,5 @@
 pub mod Beginnings
-pub mod Cells
-pub mod Courses
-pub mod Flags
-pub mod Indexed
-pub mod Limits
-pub mod Numbers
-pub mod Problem
+pub mod Counted
 pub mod Reading
-pub mod Seen
-pub mod Spelling
 pub mod Words
 pub mod Writing

@@ -1,5 +1,5 @@
 -- The result of reading an instance: its parts, or the first fault from the left. All checks of one token come before the next token.
-use Rattle.std.specs.Prelude.{ℕ, zero, suc, ◌*◌, ◌-◌, ◌==◌, nat_lt, Bool, true, false, if◌then◌else◌, List, [], ◌∷◌, ◌++◌, length, map, sum_by, Option, Some, None, Result, Ok, Err}
+use Rattle.std.specs.Prelude.{ℕ, zero, suc, ◌*◌, ◌-◌, ◌==◌, nat_lt, Bool, true, false, if◌then◌else◌, List, [], ◌∷◌, ◌++◌, length, Option, Some, None, Result, Ok, Err}
 use Rattle.tt_lists.specs.Words.{with_new}
 use Rattle.tt_text.specs.Tokens.{Placed, tokens_of}
 use Rattle.tt_text.specs.Texts.{is_text, has_name, index_of_name}
@@ -11,10 +11,11 @@ use Rattle.tt_instance.specs.declared.fault.Word.{Word}
 use Rattle.tt_instance.specs.declared.fault.Word.TheVariants as word
 use Rattle.tt_instance.specs.declared.fault.InstanceFault.{InstanceFault}
 use Rattle.tt_instance.specs.declared.fault.InstanceFault.TheVariants as fault
-use Rattle.tt_instance.specs.declared.limit.TheConstants.{MAX_COURSES, MAX_ROOMS, MAX_DAYS, MAX_PERIODS, MAX_SLOTS, MAX_CELLS, MAX_CURRICULA, MAX_MEMBERS, MAX_UNAVAILABILITIES, MAX_LECTURES, MAX_MIN_DAYS, MAX_SEATS}
+use Rattle.tt_instance_data.specs.declared.limit.TheConstants.{MAX_COURSES, MAX_ROOMS, MAX_DAYS, MAX_PERIODS, MAX_SLOTS, MAX_CELLS, MAX_CURRICULA, MAX_MEMBERS, MAX_UNAVAILABILITIES, MAX_LECTURES, MAX_MIN_DAYS, MAX_SEATS}
 use Rattle.tt_instance.specs.Words.{word_text}
-use Rattle.tt_instance.specs.Problem.{Course, Room, Curriculum, Unavailability, Problem}
-use Rattle.tt_instance.specs.Limits.{same_unavailability}
+use Rattle.tt_instance_data.specs.Problem.{Course, Room, Curriculum, Unavailability, Problem}
+use Rattle.tt_instance_data.specs.Columns.{ids_of, room_ids_of, curriculum_ids_of, lectures_of}
+use Rattle.tt_instance_data.specs.Limits.{same_unavailability}
 
 -- Being out of memory says nothing about the bytes.
 abbrev pub is_environmental : InstanceFault → Bool
@@ -69,16 +70,6 @@ new_name names t = if has_name names t.text then Err (fault.Repeated t.at) else 
 
 -- ---- courses and rooms
 
-abbrev pub ids_of : List Course → List (List ℕ)
-ids_of cs = map (λ c. c.id) cs
-
-abbrev pub room_ids_of : List Room → List (List ℕ)
-room_ids_of rs = map (λ r. r.id) rs
-
--- The number of all lectures of the courses.
-abbrev pub lectures_of : List Course → ℕ
-lectures_of cs = sum_by (λ c. c.lectures) cs
-
 -- Another course after those before.
 unfoldable pub course_at : ℕ → List Course → List Placed → Result (List Course × List Placed) InstanceFault
 course_at end before ts = do
@@ -113,9 +104,6 @@ rooms_at end (suc n) before ts = do
   rooms_at end n r.0 r.1
 
 -- ---- curricula and unavailabilities
-
-abbrev pub curriculum_ids_of : List Curriculum → List (List ℕ)
-curriculum_ids_of qs = map (λ q. q.id) qs
 
 abbrev pub known : ℕ → Option ℕ → Result ℕ InstanceFault
 known at None = Err (fault.UnknownCourse at)

@@ -3,13 +3,11 @@
 ghost use Rattle.std.specs.Prelude.{◌≡◌, ◌<◌, ◌==◌, ℕ, not, ◌||◌, ◌&&◌, length, map, All, IfOk, slice_index_or};
 ghost use Rattle.std.specs.List.{list_any};
 ghost use Rattle.tt_lists.specs.Words.{has_number};
-ghost use Rattle.tt_instance.specs.Indexed.{IsMarked, IsIndexedParts, IsExcluding, IsSquare, mark_at};
-ghost use Rattle.tt_instance.specs.Seen.{problem_seen};
+ghost use Rattle.tt_instance_data.specs.Indexed.{IsMarked, IsIndexedParts, IsExcluding, IsSquare, mark_at};
+ghost use Rattle.tt_instance_data.specs.Seen.{problem_seen};
 
-use crate::marks::Marks;
-use crate::parts::Parts;
-use crate::rows::{CourseRow, CurriculumRow, MemberList};
 use std::alloc::{AllocError, Global};
+use tt_instance_data::{CourseRow, CurriculumRow, Marks, MemberList, Parts};
 
 /// Returns marks of the courses that have this teacher.
 fn marks_of_teacher(

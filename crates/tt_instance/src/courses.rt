@@ -2,15 +2,13 @@
 
 ghost use Rattle.std.specs.Prelude.{◌≡◌, ◌+◌, ◌^◌, ◌<◌, ◌≤◌, [], length, OnOk, IfOk};
 ghost use Rattle.tt_instance.specs.Reading.{Gives, course_at, courses_at};
-ghost use Rattle.tt_instance.specs.Indexed.{IsIndexed};
-ghost use Rattle.tt_instance.specs.Seen.{courses_seen};
+ghost use Rattle.tt_instance_data.specs.Indexed.{IsIndexed};
+ghost use Rattle.tt_instance_data.specs.Seen.{courses_seen};
 
 use crate::fault::InstanceFault;
 use crate::fields::{read_limited, read_token};
-use crate::limit::{MAX_LECTURES, MAX_MIN_DAYS, MAX_SEATS};
-use crate::names::Names;
-use crate::rows::{CourseList, CourseRow};
 use std::alloc::Global;
+use tt_instance_data::{CourseList, CourseRow, MAX_LECTURES, MAX_MIN_DAYS, MAX_SEATS, Names};
 use tt_text::Tokens;
 
 /// Reads another course after those of the list.

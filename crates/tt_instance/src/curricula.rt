@@ -2,16 +2,13 @@
 
 ghost use Rattle.std.specs.Prelude.{◌<◌, ◌^◌, [], length, OnOk, IfOk};
 ghost use Rattle.tt_instance.specs.Reading.{Gives, member_at, members_at, curriculum_at, curricula_at};
-ghost use Rattle.tt_instance.specs.Indexed.{IsMarked, IsCurriculaIndexed};
-ghost use Rattle.tt_instance.specs.Seen.{curricula_seen};
+ghost use Rattle.tt_instance_data.specs.Indexed.{IsMarked, IsCurriculaIndexed};
+ghost use Rattle.tt_instance_data.specs.Seen.{curricula_seen};
 
 use crate::fault::InstanceFault;
 use crate::fields::{read_course_name, read_limited, read_token};
-use crate::limit::MAX_MEMBERS;
-use crate::marks::Marks;
-use crate::names::Names;
-use crate::rows::{CurriculumList, CurriculumRow, MemberList};
 use std::alloc::Global;
+use tt_instance_data::{CurriculumList, CurriculumRow, MAX_MEMBERS, Marks, MemberList, Names};
 use tt_text::Tokens;
 
 /// Reads another member and adds it if it is new.

@@ -2,10 +2,11 @@
 
 ghost use Rattle.std.specs.Prelude.{◌≡◌, ℕ, List, Any, Some, Err};
 ghost use Rattle.tt_text.specs.Tokens.{tokens_of};
-ghost use Rattle.tt_instance.specs.Beginnings.{token_offset, BeginsAs};
-ghost use Rattle.tt_instance.specs.Problem.{Problem};
+ghost use Rattle.tt_instance_data.specs.Beginnings.{BeginsAs};
+ghost use Rattle.tt_instance.specs.Beginnings.{token_offset};
+ghost use Rattle.tt_instance_data.specs.Problem.{Problem};
 ghost use Rattle.tt_instance.specs.Reading.{instance_of};
-ghost use Rattle.tt_instance.specs.Spelling.{Spells};
+ghost use Rattle.tt_instance_data.specs.Spelling.{Spells};
 ghost use Rattle.tt_instance.specs.declared.fault.InstanceFault.{InstanceFault};
 
 /// If reading an instance fails at a token, the bytes have a token at that offset, and no bytes whose tokens have the same texts up to and

@@ -2,15 +2,16 @@
 
 ghost use Rattle.std.specs.Prelude.{◌≤◌, ◌<◌, ◌*◌, [], IfOk};
 ghost use Rattle.tt_instance.specs.Reading.{Gives, name_at, days_at, periods_at, header_at};
-ghost use Rattle.tt_instance.specs.Seen.{counts_seen, name_seen};
+ghost use Rattle.tt_instance_data.specs.Seen.{name_seen};
+ghost use Rattle.tt_instance.specs.Counted.{counts_seen};
 
 use crate::fault::{InstanceFault, Word};
 use crate::fields::{read_counted, read_limited, read_token, read_value, read_word};
-use crate::limit::{
+use std::alloc::Global;
+use tt_instance_data::{
     MAX_CELLS, MAX_COURSES, MAX_CURRICULA, MAX_DAYS, MAX_PERIODS, MAX_ROOMS, MAX_SLOTS,
     MAX_UNAVAILABILITIES,
 };
-use std::alloc::Global;
 use tt_text::Tokens;
 
 /// The numbers of a header.

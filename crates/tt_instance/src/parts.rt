@@ -1,34 +1,24 @@
-//! The parts of an instance, and the bytes that spell them.
+//! The parts of an instance, from the bytes that spell them.
 
 ghost use Rattle.std.specs.Prelude.{◌<◌, ◌≤◌, ◌^◌, length, IfOk};
 ghost use Rattle.tt_instance.specs.Reading.{Gives, places_at, groups_at, instance_of};
-ghost use Rattle.tt_instance.specs.Indexed.{IsIndexed, IsRoomsIndexed, IsCurriculaIndexed, IsBarred, IsIndexedParts};
-ghost use Rattle.tt_instance.specs.Seen.{courses_seen, rooms_seen, curricula_seen, unavailabilities_seen, counts_seen, problem_seen};
+ghost use Rattle.tt_instance_data.specs.Indexed.{IsIndexed, IsRoomsIndexed, IsCurriculaIndexed, IsBarred, IsIndexedParts};
+ghost use Rattle.tt_instance_data.specs.Seen.{courses_seen, rooms_seen, curricula_seen, unavailabilities_seen, problem_seen};
+ghost use Rattle.tt_instance.specs.Counted.{counts_seen};
 
 use crate::courses::read_courses;
 use crate::curricula::read_curricula;
 use crate::fault::{InstanceFault, Word};
 use crate::fields::read_word;
 use crate::header::{Header, read_header, read_name};
-use crate::limit::{MAX_COURSES, MAX_PERIODS};
-use crate::names::Names;
 use crate::rooms::read_rooms;
-use crate::rows::{CourseList, CurriculumList, RoomList, UnavailabilityList};
 use crate::unavailabilities::read_unavailabilities;
 use std::alloc::Global;
+use tt_instance_data::{
+    CourseList, CurriculumList, MAX_COURSES, MAX_PERIODS, Names, Parts, RoomList,
+    UnavailabilityList,
+};
 use tt_text::Tokens;
-
-/// The contents of the bytes of an instance.
-#[derive(Drop)]
-pub struct Parts<'a> {
-    pub name: Vec<&'a [u8]>,
-    pub days: u32,
-    pub periods: u32,
-    pub courses: CourseList<'a>,
-    pub rooms: RoomList<'a>,
-    pub curricula: CurriculumList<'a>,
-    pub unavailabilities: UnavailabilityList,
-}
 
 /// Reads the courses and rooms after a header.
 #[tactic(auto, unfolding(crate::specs::Reading::places_at))]

@@ -2,15 +2,13 @@
 
 ghost use Rattle.std.specs.Prelude.{[], OnOk, IfOk};
 ghost use Rattle.tt_instance.specs.Reading.{Gives, room_at, rooms_at};
-ghost use Rattle.tt_instance.specs.Indexed.{IsRoomsIndexed};
-ghost use Rattle.tt_instance.specs.Seen.{rooms_seen};
+ghost use Rattle.tt_instance_data.specs.Indexed.{IsRoomsIndexed};
+ghost use Rattle.tt_instance_data.specs.Seen.{rooms_seen};
 
 use crate::fault::InstanceFault;
 use crate::fields::{read_limited, read_token};
-use crate::limit::MAX_SEATS;
-use crate::names::Names;
-use crate::rows::{RoomList, RoomRow};
 use std::alloc::Global;
+use tt_instance_data::{MAX_SEATS, Names, RoomList, RoomRow};
 use tt_text::Tokens;
 
 /// Reads another room after those of the list.

@@ -1,36 +1,18 @@
 //! The unavailabilities of an instance.
 
-ghost use Rattle.std.specs.Prelude.{◌≡◌, ◌<◌, ◌≤◌, ◌^◌, ◌+◌, ◌*◌, [], false, length, replicate, OnOk, IfOk};
+ghost use Rattle.std.specs.Prelude.{◌≡◌, ◌<◌, ◌≤◌, ◌^◌, ◌*◌, [], false, length, replicate, OnOk, IfOk};
 ghost use Rattle.tt_instance.specs.Reading.{Gives, unavailability_at, unavailabilities_at};
-ghost use Rattle.tt_instance.specs.Indexed.{IsBarred, is_marked_at};
-ghost use Rattle.tt_instance.specs.Seen.{unavailabilities_seen};
+ghost use Rattle.tt_instance_data.specs.Indexed.{IsBarred};
+ghost use Rattle.tt_instance_data.specs.Seen.{unavailabilities_seen};
 
 use crate::fault::InstanceFault;
 use crate::fields::{read_below, read_course_name};
 use crate::header::Header;
-use crate::limit::MAX_PERIODS;
-use crate::marks::{Marks, has_at};
-use crate::names::Names;
-use crate::rows::{UnavailabilityList, UnavailabilityRow};
 use std::alloc::{AllocError, Global};
+use tt_instance_data::{
+    MAX_PERIODS, Marks, Names, UnavailabilityList, UnavailabilityRow, is_barred, mark_place,
+};
 use tt_text::Tokens;
-
-/// The places of a day in the marks of a course.
-const DAY: u32 = MAX_PERIODS;
-
-/// Returns the place of a period in the marks of a course.
-fn place(day: u32, period: u32) -> usize
-    ensures { result ≡ day * 64 + period }
-{
-    day as usize * DAY as usize + period as usize
-}
-
-/// Returns whether a period is unavailable to a course; false if the course, the day or the period is out of range.
-pub fn is_barred(marks: &[Marks], course: u32, day: u32, period: u32) -> bool
-    ensures { result ≡ is_marked_at marks.now course day period }
-{
-    period < DAY && has_at(marks, course as usize, place(day, period))
-}
 
 /// Creates empty marks for each course and day.
 fn no_marks(alloc: Global, courses: usize, days: u32) -> Result<Vec<Marks>, AllocError>
@@ -38,7 +20,7 @@ fn no_marks(alloc: Global, courses: usize, days: u32) -> Result<Vec<Marks>, Allo
 {
     let mut marks = Vec::new(alloc);
     for _ in 0..courses {
-        marks.push(Marks::new(alloc, place(days, 0))?)?;
+        marks.push(Marks::new(alloc, mark_place(days, 0))?)?;
     }
     Ok(marks)
 }
@@ -71,7 +53,7 @@ fn read_unavailability(
             period,
         })?;
         let row = &mut list.marks[course as usize];
-        row.mark(place(day, period));
+        row.mark(mark_place(day, period));
     }
     Ok(())
 }

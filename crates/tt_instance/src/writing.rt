@@ -6,15 +6,14 @@ ghost use Rattle.tt_text.specs.Pieces.{Text};
 ghost use Rattle.tt_text.specs.Lines.{line_text, lines_text};
 ghost use Rattle.tt_instance.specs.declared.fault.Word.TheVariants as word;
 ghost use Rattle.tt_instance.specs.Words.{fixed};
-ghost use Rattle.tt_instance.specs.Limits.{IsInstance};
-ghost use Rattle.tt_instance.specs.Spelling.{course_pieces, room_pieces, curriculum_pieces, unavailability_pieces};
+ghost use Rattle.tt_instance_data.specs.Limits.{IsInstance};
+ghost use Rattle.tt_instance_data.specs.Spelling.{course_pieces, room_pieces, curriculum_pieces, unavailability_pieces};
 ghost use Rattle.tt_instance.specs.Writing.{counted_line, section, header_lines, instance_text};
-ghost use Rattle.tt_instance.specs.Seen.{name_seen, course_seen, courses_seen, room_seen, rooms_seen, curriculum_seen, curricula_seen, unavailability_seen, unavailabilities_seen, problem_seen};
+ghost use Rattle.tt_instance_data.specs.Seen.{name_seen, course_seen, courses_seen, room_seen, rooms_seen, curriculum_seen, curricula_seen, unavailability_seen, unavailabilities_seen, problem_seen};
 
 use crate::fault::Word;
-use crate::parts::Parts;
-use crate::rows::{CourseRow, CurriculumRow, RoomRow, UnavailabilityRow};
 use std::alloc::{AllocError, Global};
+use tt_instance_data::{CourseRow, CurriculumRow, Parts, RoomRow, UnavailabilityRow};
 use tt_text::{put_number, put_token};
 
 /// Appends a space and a token.

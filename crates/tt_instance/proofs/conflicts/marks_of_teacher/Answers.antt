@@ -1,7 +1,7 @@
 use Rattle.std.proofs.Common.{◌≡◌, ℕ, false, ◌&&◌, ltb, get_or, map, length, sym, ap, ◌∙◌, arith}
 use Rattle.std.specs.Prelude.{◌==◌}
 use Rattle.std.proofs.lemmas.List.{length-map, get_or-map}
-use Rattle.tt_instance.proofs.Flagging.{growing, all_grown}
+use Rattle.tt_instance_data.proofs.Flagging.{growing, all_grown}
 use Rattle.tt_instance.proofs.conflicts.marks_of_teacher.Goals as goal
 
 pub loop-course-preserved : goal.loop-course-preserved

@@ -1,7 +1,7 @@
 use Rattle.std.proofs.Common.{◌∙◌, sym, ap, List, ℕ, Bor}
 use Rattle.std.proofs.lemmas.List.{map_push}
 use Rattle.tt_text.specs.Texts.{is_text}
-use Rattle.tt_instance.specs.Seen.{name_seen}
+use Rattle.tt_instance_data.specs.Seen.{name_seen}
 use Rattle.tt_instance.specs.Reading.{name_at}
 use Rattle.tt_instance.proofs.NameSteps.{name_done, name_on, name_ended}
 use Rattle.tt_instance.proofs.header.read_name.Goals as goal

@@ -1,0 +1,16 @@
+pub mod AfterLaws
+pub mod Beginnings
+pub mod Cells
+pub mod CourseLimits
+pub mod Each
+pub mod Examples
+pub mod Exclusion
+pub mod Fellows
+pub mod Flagging
+pub mod FreshLaws
+pub mod Getting
+pub mod Limits
+pub mod Naming
+pub mod Places
+pub mod Shared
+pub mod Slots

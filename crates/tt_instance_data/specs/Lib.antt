@@ -1,0 +1,11 @@
+pub mod Beginnings
+pub mod Cells
+pub mod Columns
+pub mod Courses
+pub mod Flags
+pub mod Indexed
+pub mod Limits
+pub mod Numbers
+pub mod Problem
+pub mod Seen
+pub mod Spelling

@@ -1,0 +1,26 @@
+//! Instances of curriculum-based course timetabling.
+#![tactic(auto)]
+
+mod barred;
+mod cell;
+mod instance;
+mod limit;
+mod marks;
+mod names;
+mod parts;
+mod rows;
+
+pub use barred::{is_barred, mark_place};
+pub use cell::{Cell, Slot};
+pub use instance::Instance;
+pub use limit::{
+    MAX_CELLS, MAX_COURSES, MAX_CURRICULA, MAX_DAYS, MAX_LECTURES, MAX_MEMBERS, MAX_MIN_DAYS,
+    MAX_PERIODS, MAX_ROOMS, MAX_SEATS, MAX_SLOTS, MAX_UNAVAILABILITIES,
+};
+pub use marks::Marks;
+pub use names::Names;
+pub use parts::Parts;
+pub use rows::{
+    CourseList, CourseRow, CurriculumList, CurriculumRow, MemberList, RoomList, RoomRow,
+    UnavailabilityList, UnavailabilityRow,
+};
