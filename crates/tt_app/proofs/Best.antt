@@ -1,8 +1,8 @@
 -- The answer of `best`, from the results of its steps.
 use Rattle.std.proofs.Common.{◌≡◌, ◌≤◌, ℕ, List, Some, sym, subst}
-use Rattle.tt_instance.specs.Problem.{Problem}
-use Rattle.tt_instance.specs.Spelling.{Spells}
-use Rattle.tt_instance.specs.declared.cell.Cell.{Cell}
+use Rattle.tt_instance_data.specs.Problem.{Problem}
+use Rattle.tt_instance_data.specs.Spelling.{Spells}
+use Rattle.tt_instance_data.specs.declared.cell.Cell.{Cell}
 use Rattle.tt_table.specs.Spelling.{SpellsTable}
 use Rattle.tt_rules.specs.Score.{IsFeasible, cost}
 use Rattle.tt_leaf_rules.specs.declared.leaf.Bound.{Bound}

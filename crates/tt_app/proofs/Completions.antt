@@ -1,7 +1,7 @@
 -- A refusal to complete a timetable, as the call reports it.
 use Rattle.std.proofs.Common.{◌≡◌, ℕ, ◌<◌, List, [], length, refl}
-use Rattle.tt_instance.specs.Problem.{Problem}
-use Rattle.tt_instance.specs.declared.cell.Cell.{Cell}
+use Rattle.tt_instance_data.specs.Problem.{Problem}
+use Rattle.tt_instance_data.specs.declared.cell.Cell.{Cell}
 use Rattle.tt_search_complete.specs.declared.completing.TheConstants.{MOST_ENTRIES}
 use Rattle.tt_search_complete.specs.declared.fault.CompleteFault.{CompleteFault}
 use Rattle.tt_search_complete.specs.declared.fault.CompleteFault.TheVariants as completion

@@ -1,10 +1,10 @@
 -- The answer of `solve`, from the results of its steps.
 use Rattle.std.proofs.Common.{◌≡◌, ℕ, Bool, List, Option, Some, All, refl, subst, inl, inr}
 use Rattle.std.specs.Prelude.{IfSome, ◌⊎◌}
-use Rattle.tt_instance.specs.Problem.{Problem}
+use Rattle.tt_instance_data.specs.Problem.{Problem}
 use Rattle.tt_instance.specs.Reading.{instance_of, Fails}
-use Rattle.tt_instance.specs.Spelling.{Spells}
-use Rattle.tt_instance.specs.declared.cell.Cell.{Cell}
+use Rattle.tt_instance_data.specs.Spelling.{Spells}
+use Rattle.tt_instance_data.specs.declared.cell.Cell.{Cell}
 use Rattle.tt_instance.specs.declared.fault.InstanceFault.{InstanceFault}
 use Rattle.tt_instance.specs.declared.fault.InstanceFault.TheVariants as instance
 use Rattle.tt_instance.proofs.Laws.{is_read}

@@ -1,7 +1,7 @@
 -- The answer of `best` for the bytes of an instance.
 use Rattle.std.specs.Prelude.{◌≡◌, ◌≤◌, ◌⊎◌, ℕ, List, Some, None, IsSomeAnd}
-use Rattle.tt_instance.specs.Problem.{Problem}
-use Rattle.tt_instance.specs.Spelling.{Spells}
+use Rattle.tt_instance_data.specs.Problem.{Problem}
+use Rattle.tt_instance_data.specs.Spelling.{Spells}
 use Rattle.tt_leaf_rules.specs.declared.leaf.Bound.{Bound}
 use Rattle.tt_leaf_rules.specs.declared.leaf.Bound.TheVariants.{AtLeast}
 use Rattle.tt_page.specs.Pages.{page_text}

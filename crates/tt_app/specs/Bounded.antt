@@ -1,8 +1,8 @@
 -- The answer of `bound` for the bytes of an instance and of a proof.
 use Rattle.std.specs.Prelude.{◌≡◌, ℕ, ◌⊎◌, List, Option, Result, Ok, Err, IfSome, ⊤}
-use Rattle.tt_instance.specs.Problem.{Problem}
+use Rattle.tt_instance_data.specs.Problem.{Problem}
 use Rattle.tt_instance.specs.Reading.{instance_of}
-use Rattle.tt_instance.specs.Spelling.{Spells}
+use Rattle.tt_instance_data.specs.Spelling.{Spells}
 use Rattle.tt_leaf_rules.specs.declared.leaf.Bound.{Bound}
 use Rattle.tt_proof_check.specs.Derives.{HoldsOfAll}
 use Rattle.tt_proof_check.specs.Streams.{IsProved, stream_of, IsProofFault}

@@ -1,8 +1,8 @@
 -- The answers of `table` and `calendar` for the bytes of an instance and of a solution.
 use Rattle.std.specs.Prelude.{◌≡◌, ℕ, List, None, Some, Err, ⊤, slice_get}
-use Rattle.tt_instance.specs.Problem.{Problem}
+use Rattle.tt_instance_data.specs.Problem.{Problem}
 use Rattle.tt_instance.specs.Reading.{instance_of}
-use Rattle.tt_instance.specs.declared.cell.Cell.{Cell}
+use Rattle.tt_instance_data.specs.declared.cell.Cell.{Cell}
 use Rattle.tt_report.specs.declared.by.By.{By}
 use Rattle.tt_report_export.specs.Tables.{table_text}
 use Rattle.tt_report_export.specs.Calendars.{Term, calendar_text}

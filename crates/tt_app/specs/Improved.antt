@@ -1,8 +1,8 @@
 -- The answer of `improve` for the bytes of an instance and of a solution.
 use Rattle.std.specs.Prelude.{◌≡◌, ℕ, ◌-◌, ◌/◌, ◌<◌, ◌==◌, if◌then◌else◌, List, [], length, None, Err, IsSomeAnd, ⊤}
-use Rattle.tt_instance.specs.Problem.{Problem}
+use Rattle.tt_instance_data.specs.Problem.{Problem}
 use Rattle.tt_instance.specs.Reading.{instance_of}
-use Rattle.tt_instance.specs.declared.cell.Cell.{Cell}
+use Rattle.tt_instance_data.specs.declared.cell.Cell.{Cell}
 use Rattle.tt_table.specs.Spelling.{SpellsBoth, solution_text}
 use Rattle.tt_rules.specs.Score.{hard, cost}
 use Rattle.tt_search.specs.Improved.{IsNoWorse, IsDescended}

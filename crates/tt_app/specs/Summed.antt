@@ -1,9 +1,9 @@
 -- The answer of `sum` for the bytes of an instance, of proofs, and of a solution if one is given.
 use Rattle.std.specs.Prelude.{◌≡◌, ℕ, ◌+◌, ◌≤◌, ◌⊎◌, Bool, false, List, Option, Result, Ok, Err, ⊤}
-use Rattle.tt_instance.specs.Problem.{Problem}
+use Rattle.tt_instance_data.specs.Problem.{Problem}
 use Rattle.tt_instance.specs.Reading.{instance_of}
-use Rattle.tt_instance.specs.Spelling.{Spells}
-use Rattle.tt_instance.specs.declared.cell.Cell.{Cell}
+use Rattle.tt_instance_data.specs.Spelling.{Spells}
+use Rattle.tt_instance_data.specs.declared.cell.Cell.{Cell}
 use Rattle.tt_rules.specs.Score.{IsFeasible}
 use Rattle.tt_rules.specs.declared.counts.Score.{Score}
 use Rattle.tt_leaf_rules.specs.declared.leaf.Bound.{Bound}

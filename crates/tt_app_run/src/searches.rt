@@ -9,7 +9,8 @@ use tt_app::{Answer, AppFault, Input, complete_and_improve, improve_in_runs, sol
 use tt_app_arguments::{MAX_SOLVE_NODES, Search, Showing, TreeSearch};
 use tt_app_files::{Batch, Output, Ready};
 use tt_app_watch::{Keeper, Ticker};
-use tt_instance::{Instance, read_instance};
+use tt_instance::read_instance;
+use tt_instance_data::Instance;
 
 /// Writes one file, if there is one to write.
 pub fn write_given<R: Files + Clock + AllocGlobal>(

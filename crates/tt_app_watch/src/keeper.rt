@@ -6,7 +6,7 @@ use std::io::Write;
 use std::rt::{Clock, Files};
 use std::time::Duration;
 use tt_app_files::{Batch, OutputFault, Ready};
-use tt_instance::Instance;
+use tt_instance_data::Instance;
 use tt_search::{Pair, Progress, Watch};
 use tt_table::{Entry, Timetable, write_solution};
 

@@ -1,5 +1,5 @@
 -- The result of a search for a best timetable.
-use Rattle.tt_instance.specs.Problem.{Problem}
+use Rattle.tt_instance_data.specs.Problem.{Problem}
 use Rattle.tt_table.specs.Table.{IsTimetable}
 use Rattle.tt_parts.specs.Found.{AreFound}
 use Rattle.tt_best.specs.declared.searching.Week.{Week}

@@ -12,8 +12,8 @@ use Rattle.tt_lists.proofs.Sums.{one_if, count_by-cons}
 use Rattle.tt_lists.proofs.Zipped.{zip_and, zip_cut, zip_other}
 use Rattle.tt_lists.proofs.Tested.{each_at}
 use Rattle.tt_lists.proofs.Cuts.{cut_at, set_cut, get_next, get_after}
-use Rattle.tt_instance.specs.Problem.{Problem}
-use Rattle.tt_instance.specs.declared.cell.Cell.{Cell}
+use Rattle.tt_instance_data.specs.Problem.{Problem}
+use Rattle.tt_instance_data.specs.declared.cell.Cell.{Cell}
 use Rattle.tt_rules.specs.Score.{IsFeasible, cost}
 use Rattle.tt_facts_path.specs.declared.facts.Pattern.{Pattern}
 use Rattle.tt_leaf.specs.Found.{ArePatterns}

@@ -7,9 +7,9 @@ use Rattle.std.proofs.lemmas.List.{length-map}
 use Rattle.tt_lists.proofs.Sums.{each_both, each_weaker}
 use Rattle.tt_lists.proofs.Tested.{each_map}
 use Rattle.tt_lists.proofs.Zipped.{zip_other}
-use Rattle.tt_instance.specs.Problem.{Problem}
-use Rattle.tt_instance.specs.Limits.{IsInstance}
-use Rattle.tt_instance.specs.declared.cell.Cell.{Cell}
+use Rattle.tt_instance_data.specs.Problem.{Problem}
+use Rattle.tt_instance_data.specs.Limits.{IsInstance}
+use Rattle.tt_instance_data.specs.declared.cell.Cell.{Cell}
 use Rattle.tt_rules.specs.Score.{IsFeasible}
 use Rattle.tt_facts_path.specs.Live.{least, least_with}
 use Rattle.tt_facts_path.specs.declared.facts.Fact.{Fact}

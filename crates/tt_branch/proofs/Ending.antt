@@ -10,8 +10,8 @@ use Rattle.tt_lists.proofs.Members.{member_cases, each_member, at_member}
 use Rattle.tt_lists.proofs.Tested.{each_append}
 use Rattle.tt_lists.proofs.Given.{given_member}
 use Rattle.tt_lists.proofs.Zipped.{zip_each, zip_length}
-use Rattle.tt_instance.specs.Problem.{Problem}
-use Rattle.tt_instance.specs.declared.cell.Cell.{Cell}
+use Rattle.tt_instance_data.specs.Problem.{Problem}
+use Rattle.tt_instance_data.specs.declared.cell.Cell.{Cell}
 use Rattle.tt_rules.specs.Score.{cost}
 use Rattle.tt_facts_path.specs.declared.facts.Fact.{Fact}
 use Rattle.tt_facts_path.specs.Live.{least, least_with}

@@ -10,13 +10,13 @@ use Rattle.tt_lists.proofs.Members.{each_member}
 use Rattle.tt_lists.proofs.Sums.{sum_by-le, sum_by-times, each}
 use Rattle.tt_lists.proofs.Range.{each_below}
 use Rattle.tt_lists.proofs.Counting.{sum_by-ones}
-use Rattle.tt_instance.specs.Problem.{Problem}
-use Rattle.tt_instance.specs.Limits.{IsInstance}
-use Rattle.tt_instance.specs.Cells.{all_courses, all_curricula, all_rooms, all_slots, is_of, is_in}
-use Rattle.tt_instance.specs.Courses.{lectures, min_days, students, excess, no_course, in_curriculum}
-use Rattle.tt_instance.specs.declared.cell.Cell.{Cell}
-use Rattle.tt_instance.proofs.Slots.{length-all_slots}
-use Rattle.tt_instance.proofs.CourseLimits.{few_students, few_lectures}
+use Rattle.tt_instance_data.specs.Problem.{Problem}
+use Rattle.tt_instance_data.specs.Limits.{IsInstance}
+use Rattle.tt_instance_data.specs.Cells.{all_courses, all_curricula, all_rooms, all_slots, is_of, is_in}
+use Rattle.tt_instance_data.specs.Courses.{lectures, min_days, students, excess, no_course, in_curriculum}
+use Rattle.tt_instance_data.specs.declared.cell.Cell.{Cell}
+use Rattle.tt_instance_data.proofs.Slots.{length-all_slots}
+use Rattle.tt_instance_data.proofs.CourseLimits.{few_students, few_lectures}
 use Rattle.tt_rules.specs.Hard.{entries_of}
 use Rattle.tt_rules.specs.Soft.{days_cost, is_isolated, compactness_cost, stability_cost}
 use Rattle.tt_rules.specs.Score.{IsFeasible, cost}

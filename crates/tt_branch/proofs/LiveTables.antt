@@ -16,12 +16,12 @@ use Rattle.tt_lists.proofs.Numbers.{any_below, sum_more}
 use Rattle.tt_lists.proofs.Tests.{sum_by-same_below}
 use Rattle.tt_lists.proofs.Growing.{map-of_flat_map}
 use Rattle.tt_lists.proofs.Counting.{sum_by-ones}
-use Rattle.tt_instance.specs.Problem.{Problem, Course}
-use Rattle.tt_instance.specs.Limits.{IsInstance}
-use Rattle.tt_instance.specs.Cells.{slot, cell, is_of, all_days, all_rooms, all_courses, all_slots, all_cells, InRange}
-use Rattle.tt_instance.specs.Courses.{lectures, no_course}
-use Rattle.tt_instance.specs.declared.cell.Cell.{Cell}
-use Rattle.tt_instance.proofs.CourseLimits.{few_lectures}
+use Rattle.tt_instance_data.specs.Problem.{Problem, Course}
+use Rattle.tt_instance_data.specs.Limits.{IsInstance}
+use Rattle.tt_instance_data.specs.Cells.{slot, cell, is_of, all_days, all_rooms, all_courses, all_slots, all_cells, InRange}
+use Rattle.tt_instance_data.specs.Courses.{lectures, no_course}
+use Rattle.tt_instance_data.specs.declared.cell.Cell.{Cell}
+use Rattle.tt_instance_data.proofs.CourseLimits.{few_lectures}
 use Rattle.tt_rules.specs.Hard.{entries_of}
 use Rattle.tt_facts_path.specs.declared.facts.Fact.{Fact}
 use Rattle.tt_facts_path.proofs.LiveCells.{live_cells, range_of}

@@ -8,11 +8,11 @@ use Rattle.std.proofs.lemmas.List.Sorted.{IsPermutation-refl, IsPermutation-sym,
 use Rattle.std.proofs.lemmas.List.Elements.{All-contains}
 use Rattle.tt_lists.proofs.Sums.{one_if, one_if_true, count_by-cons, count_if_any, any_if_count, sum_by-le, cond-le, each}
 use Rattle.tt_lists.proofs.Members.{any_member, member_from_any}
-use Rattle.tt_instance.specs.Problem.{Problem}
-use Rattle.tt_instance.specs.Limits.{IsInstance}
-use Rattle.tt_instance.specs.Cells.{slot_of, is_at, is_in, InRange}
-use Rattle.tt_instance.specs.declared.cell.Cell.{Cell}
-use Rattle.tt_instance.proofs.Cells.{is_cell, at_itself}
+use Rattle.tt_instance_data.specs.Problem.{Problem}
+use Rattle.tt_instance_data.specs.Limits.{IsInstance}
+use Rattle.tt_instance_data.specs.Cells.{slot_of, is_at, is_in, InRange}
+use Rattle.tt_instance_data.specs.declared.cell.Cell.{Cell}
+use Rattle.tt_instance_data.proofs.Cells.{is_cell, at_itself}
 use Rattle.tt_rules.specs.Score.{IsFeasible, cost}
 use Rattle.tt_rules.proofs.Feasible.{in_range, one_in}
 use Rattle.tt_facts_path.specs.Facts.{matches, Fits}

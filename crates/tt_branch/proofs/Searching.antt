@@ -5,8 +5,8 @@ use Rattle.std.proofs.lemmas.List.Elements.{All-nil, All-push}
 use Rattle.std.specs.List.{AllZip, list_all}
 use Rattle.tt_lists.proofs.Zipped.{zip_cut, zip_append, zip_weaker}
 use Rattle.tt_lists.proofs.Cuts.{at_first, at_next}
-use Rattle.tt_instance.specs.Problem.{Problem}
-use Rattle.tt_instance.specs.declared.cell.Cell.{Cell}
+use Rattle.tt_instance_data.specs.Problem.{Problem}
+use Rattle.tt_instance_data.specs.declared.cell.Cell.{Cell}
 use Rattle.tt_rules.specs.Score.{cost}
 use Rattle.tt_facts_path.specs.Facts.{IsPattern}
 use Rattle.tt_facts_path.specs.declared.facts.Pattern.{Pattern}

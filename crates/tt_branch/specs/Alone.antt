@@ -1,9 +1,9 @@
 -- Paths that leave exactly one timetable.
 use Rattle.std.specs.Prelude.{◌≡◌, List, filter}
 use Rattle.std.specs.List.Sorted.{IsPermutation}
-use Rattle.tt_instance.specs.Problem.{Problem}
-use Rattle.tt_instance.specs.Cells.{all_cells}
-use Rattle.tt_instance.specs.declared.cell.Cell.{Cell}
+use Rattle.tt_instance_data.specs.Problem.{Problem}
+use Rattle.tt_instance_data.specs.Cells.{all_cells}
+use Rattle.tt_instance_data.specs.declared.cell.Cell.{Cell}
 use Rattle.tt_rules.specs.Score.{IsFeasible, cost}
 use Rattle.tt_facts_path.specs.Facts.{Fits}
 use Rattle.tt_facts_path.specs.Live.{is_live}

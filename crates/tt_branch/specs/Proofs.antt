@@ -1,8 +1,8 @@
 -- The properties of the proof that a search returns.
 use Rattle.std.specs.Prelude.{◌≡◌, ℕ, ◌<◌, Bool, true, false, List, [], ◌∷◌, Option, Some, None, length, All, Contains, ⊤}
 use Rattle.std.specs.List.{filter_map}
-use Rattle.tt_instance.specs.Problem.{Problem}
-use Rattle.tt_instance.specs.declared.cell.Cell.{Cell}
+use Rattle.tt_instance_data.specs.Problem.{Problem}
+use Rattle.tt_instance_data.specs.declared.cell.Cell.{Cell}
 use Rattle.tt_rules.specs.Score.{cost}
 use Rattle.tt_facts_path.specs.Facts.{IsPattern, has_fact}
 use Rattle.tt_facts_path.specs.declared.facts.Pattern.{Pattern}

@@ -2,7 +2,7 @@
 -- Nodes of the tree that can be written as nodes of a proof.
 use Rattle.std.specs.Prelude.{◌≡◌, ℕ, ◌≤◌, Bool, true, List, ◌++◌, length, reverse, Option, ⊤}
 use Rattle.tt_facts_path.specs.Live.{least}
-use Rattle.tt_instance.specs.Problem.{Problem}
+use Rattle.tt_instance_data.specs.Problem.{Problem}
 use Rattle.tt_leaf_rules.specs.Outcomes.{IsClaimedOnce}
 use Rattle.tt_proof_read.specs.declared.node.Node.{Node}
 use Rattle.tt_proof_read.specs.declared.node.Node.TheVariants as node

@@ -1,8 +1,8 @@
 //! The best timetable that a search has found.
 
 ghost use Rattle.std.specs.Prelude.{◌≡◌, IfOk, IfSome, OnOk, IsNone, List};
-ghost use Rattle.tt_instance.specs.Problem.{Problem};
-ghost use Rattle.tt_instance.specs.declared.cell.Cell.{Cell};
+ghost use Rattle.tt_instance_data.specs.Problem.{Problem};
+ghost use Rattle.tt_instance_data.specs.declared.cell.Cell.{Cell};
 ghost use Rattle.tt_table.specs.Table.{IsTimetable};
 ghost use Rattle.tt_rules.specs.Score.{IsFeasible};
 ghost use Rattle.tt_search.specs.Improved.{IsNoWorse};
@@ -11,7 +11,7 @@ ghost use Rattle.tt_branch.specs.BestSoFar.{IsBestSoFar, table_of, IsCosted};
 
 use crate::limit::FIRST_STEPS;
 use std::alloc::{AllocError, Global};
-use tt_instance::Instance;
+use tt_instance_data::Instance;
 use tt_leaf_rules::Bound;
 use tt_rules::score;
 use tt_search::{Watch, construct, descend, improve_watched};

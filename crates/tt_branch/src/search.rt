@@ -2,7 +2,7 @@
 
 ghost use Rattle.std.specs.Prelude.{◌≡◌, ◌<◌, ◌+◌, [], ◌∷◌, ◌++◌, length, IfOk, OnOk, IfSome, IsNone, true, false, slice_set, vec_len};
 ghost use Rattle.std.specs.List.{list_any};
-ghost use Rattle.tt_instance.specs.Problem.{Problem};
+ghost use Rattle.tt_instance_data.specs.Problem.{Problem};
 ghost use Rattle.tt_branch.specs.Growing.{IsOpenAt, HasMark, is_open, opened_in};
 ghost use Rattle.tt_branch.specs.BestSoFar.{IsBestSoFar};
 ghost use Rattle.tt_branch.specs.Links.{link_of};

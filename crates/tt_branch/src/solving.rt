@@ -1,7 +1,7 @@
 //! The search for a best timetable and a proof of a lower bound.
 
 ghost use Rattle.std.specs.Prelude.{◌≡◌, ◌≤◌, All, IfOk, OnOk, option_map};
-ghost use Rattle.tt_instance.specs.Problem.{Problem};
+ghost use Rattle.tt_instance_data.specs.Problem.{Problem};
 ghost use Rattle.tt_proof_check.specs.Derives.{HoldsOfAll, Proves};
 ghost use Rattle.tt_proof_check.specs.Nodes.{IsNodeOf};
 ghost use Rattle.tt_branch.specs.BestSoFar.{IsBestSoFar, table_of};
@@ -18,7 +18,7 @@ use crate::visit::{best_worth, open_at};
 use std::alloc::{AllocError, Global};
 use tt_facts::TrailPath;
 use tt_facts_path::Path;
-use tt_instance::Instance;
+use tt_instance_data::Instance;
 use tt_leaf_rules::Bound;
 use tt_proof_check::{NodesFault, check_nodes};
 use tt_proof_read::Node;

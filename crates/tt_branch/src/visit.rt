@@ -1,7 +1,7 @@
 //! Opening nodes.
 
 ghost use Rattle.std.specs.Prelude.{◌≡◌, ◌<◌, ◌≤◌, ◌+◌, length, true, IfOk, OnOk};
-ghost use Rattle.tt_instance.specs.Problem.{Problem};
+ghost use Rattle.tt_instance_data.specs.Problem.{Problem};
 ghost use Rattle.tt_facts_path.specs.declared.path.TheConstants.{MAX_FACTS};
 ghost use Rattle.tt_leaf.specs.Found.{ArePatterns};
 ghost use Rattle.tt_leaf.specs.Pinned.{IsPinnedDown, IsOpen};

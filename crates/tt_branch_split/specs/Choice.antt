@@ -1,8 +1,8 @@
 -- Patterns that may split a node.
 use Rattle.std.specs.Prelude.{◌≡◌, true, false, List}
-use Rattle.tt_instance.specs.Problem.{Problem}
-use Rattle.tt_instance.specs.Cells.{InRange}
-use Rattle.tt_instance.specs.declared.cell.Cell.{Cell}
+use Rattle.tt_instance_data.specs.Problem.{Problem}
+use Rattle.tt_instance_data.specs.Cells.{InRange}
+use Rattle.tt_instance_data.specs.declared.cell.Cell.{Cell}
 use Rattle.tt_facts_path.specs.Facts.{IsPattern, matches, has_fact}
 use Rattle.tt_facts_path.specs.Live.{is_live}
 use Rattle.tt_facts_path.specs.declared.facts.Pattern.{Pattern}

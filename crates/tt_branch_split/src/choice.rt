@@ -1,7 +1,7 @@
 //! The choice of a pattern to split a node by. Nothing is proved about the choice except that it aims at a free cell.
 
 ghost use Rattle.std.specs.Prelude.{◌≡◌, ◌<◌, length, IfOk, IfSome, IsNone};
-ghost use Rattle.tt_instance.specs.Cells.{InRange};
+ghost use Rattle.tt_instance_data.specs.Cells.{InRange};
 ghost use Rattle.tt_leaf.specs.Pinned.{IsPinnedDown};
 ghost use Rattle.tt_branch_split.specs.Choice.{IsFree, IsNewSplit};
 
@@ -11,7 +11,7 @@ use crate::prospects::Prospects;
 use crate::strong::best_candidate;
 use std::alloc::{AllocError, Global};
 use tt_facts_path::{Cell, Path, Pattern, Who};
-use tt_instance::Instance;
+use tt_instance_data::Instance;
 
 /// The maximum number of ways to choose the periods of all courses, as a logarithm in sixteenths, for fixing one curriculum
 /// after another: then a search below is likely to end.

@@ -1,7 +1,7 @@
 //! Sets of courses as bits, and the courses that conflict with each course. Nothing is proved about the tables.
 
 use std::alloc::{AllocError, Global};
-use tt_instance::Instance;
+use tt_instance_data::Instance;
 
 /// The number of courses in one word.
 const WORD: u32 = 64;

@@ -1,7 +1,7 @@
 //! Cells that are free: live, and without their own yes-fact on the path.
 
 ghost use Rattle.std.specs.Prelude.{◌≡◌, ℕ, ◌<◌, length, true, false, IsTrue, ◌↔◌, IfSome, IsNone};
-ghost use Rattle.tt_instance.specs.Cells.{InRange, cell, slot};
+ghost use Rattle.tt_instance_data.specs.Cells.{InRange, cell, slot};
 ghost use Rattle.tt_leaf.specs.Pinned.{own_pattern, IsPinnedDown};
 ghost use Rattle.tt_branch_split.specs.Choice.{IsFree};
 

@@ -6,7 +6,7 @@ use crate::leeway::Leeway;
 use std::alloc::{AllocError, Global};
 use tt_bits::without;
 use tt_facts_path::{Path, Who};
-use tt_instance::Instance;
+use tt_instance_data::Instance;
 
 /// The cost of a working day that a course lacks.
 const LACKING_DAY: u64 = 5;

@@ -8,7 +8,7 @@ use std::marker::Model;
 use tt_facts_cells::Cells;
 use tt_facts_path::{Cell, Fact, MAX_FACTS, Path, PathFault, Pattern, Who};
 use tt_facts_pins::Pins;
-use tt_instance::Instance;
+use tt_instance_data::Instance;
 
 /// The facts with tables of the live cells and of the pinned periods and rooms, which only yes-facts change. Only `has` may
 /// go through facts for its answer: for a no-fact, or if the pattern gives no day or no period or is about a curriculum. A pop

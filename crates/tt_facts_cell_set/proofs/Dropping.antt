@@ -4,9 +4,9 @@ use Rattle.std.specs.Prelude.{◌==◌, nat_lt, slice_set, slice_index_or}
 use Rattle.std.proofs.lemmas.Bool.{cases_eq, and_parts, and_from, eqb-true, lt-ltb, ltb-true, false_from_ne_true, le-ltb}
 use Rattle.std.proofs.lemmas.List.{length-set, get_or-set_same, get_or-set_other}
 use Rattle.tt_lists.proofs.Truth.{same_truth, still_there, taken_twice}
-use Rattle.tt_instance.specs.Problem.{Problem}
-use Rattle.tt_instance.specs.Cells.{slot, cell, InRange}
-use Rattle.tt_instance.specs.declared.cell.Cell.{Cell}
+use Rattle.tt_instance_data.specs.Problem.{Problem}
+use Rattle.tt_instance_data.specs.Cells.{slot, cell, InRange}
+use Rattle.tt_instance_data.specs.declared.cell.Cell.{Cell}
 use Rattle.tt_facts_path.specs.Facts.{agrees}
 use Rattle.tt_bits.specs.Bits.{has_bit, Clears}
 use Rattle.tt_facts_cell_set.specs.Words.{Bit, IsBit, width, place, size, bit_of, is_set, in_force, is_here, Drops}

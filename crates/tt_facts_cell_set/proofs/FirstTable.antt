@@ -13,8 +13,8 @@ use Rattle.std.proofs.Math.Bool.{or-false, and-true}
 use Rattle.tt_lists.proofs.Tests.{same_test}
 use Rattle.tt_lists.proofs.Truth.{same_truth}
 use Rattle.tt_lists.proofs.Twos.{neither}
-use Rattle.tt_instance.specs.Problem.{Problem, Unavailability}
-use Rattle.tt_instance.specs.declared.cell.Cell.{Cell}
+use Rattle.tt_instance_data.specs.Problem.{Problem, Unavailability}
+use Rattle.tt_instance_data.specs.declared.cell.Cell.{Cell}
 use Rattle.tt_bits.specs.Bits.{has_bit}
 use Rattle.tt_facts_cell_set.specs.Words.{Bit, IsBit, width, place, size, room_of, bit_of, is_set}
 use Rattle.tt_facts_cell_set.specs.Tables.{has_cell, Shows, Loses, is_placed}

@@ -10,8 +10,8 @@ use Rattle.tt_lists.proofs.Numbers.{any_below}
 use Rattle.tt_lists.proofs.Members.{member_from_any}
 use Rattle.tt_lists.proofs.Range.{all_below, at_below, below_member}
 use Rattle.tt_lists.proofs.Truth.{same_truth}
-use Rattle.tt_instance.specs.Problem.{Problem}
-use Rattle.tt_instance.specs.Cells.{slot, cell, all_rooms}
+use Rattle.tt_instance_data.specs.Problem.{Problem}
+use Rattle.tt_instance_data.specs.Cells.{slot, cell, all_rooms}
 use Rattle.tt_bits.specs.Bits.{bits}
 use Rattle.tt_bits.proofs.BitLaws.{any_bits_at, bit_from_any, all_bits_from, all_bits_at}
 use Rattle.tt_facts_cell_set.specs.Words.{width, is_set, in_force}

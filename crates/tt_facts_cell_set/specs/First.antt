@@ -1,7 +1,7 @@
 -- Not part of the trusted statement: only proofs use this file.
 -- The words of a table that has all cells.
 use Rattle.std.specs.Prelude.{◌≡◌, ℕ, ◌+◌, ◌*◌, ◌%◌, ◌<◌, nat_lt, List, length, slice_index_or}
-use Rattle.tt_instance.specs.Problem.{Problem}
+use Rattle.tt_instance_data.specs.Problem.{Problem}
 use Rattle.tt_bits.specs.Bits.{has_bit}
 use Rattle.tt_facts_cell_set.specs.Words.{width}
 

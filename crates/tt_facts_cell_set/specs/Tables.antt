@@ -1,9 +1,9 @@
 -- Not part of the trusted statement: only proofs use this file.
 -- Tables of cells.
 use Rattle.std.specs.Prelude.{◌≡◌, ℕ, ◌+◌, ◌≤◌, ◌==◌, Bool, false, not, ◌&&◌, List, length, Option}
-use Rattle.tt_instance.specs.Problem.{Problem}
-use Rattle.tt_instance.specs.Cells.{slot, cell, InRange}
-use Rattle.tt_instance.specs.declared.cell.Cell.{Cell}
+use Rattle.tt_instance_data.specs.Problem.{Problem}
+use Rattle.tt_instance_data.specs.Cells.{slot, cell, InRange}
+use Rattle.tt_instance_data.specs.declared.cell.Cell.{Cell}
 use Rattle.tt_facts_path.specs.Facts.{agrees}
 use Rattle.tt_facts_cell_set.specs.Words.{Bit, IsBit, size, room_of, bit_of, is_set, in_force}
 

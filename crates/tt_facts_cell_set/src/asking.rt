@@ -2,7 +2,7 @@
 
 ghost use Rattle.std.specs.Prelude.{◌≡◌, ◌<◌, ◌+◌, ◌*◌, ◌==◌, ◌||◌, ◌&&◌, ℕ, not, nat_lt, length, None};
 ghost use Rattle.std.specs.List.{list_any, list_all};
-ghost use Rattle.tt_instance.specs.Cells.{slot, cell, all_rooms, InRange};
+ghost use Rattle.tt_instance_data.specs.Cells.{slot, cell, all_rooms, InRange};
 ghost use Rattle.tt_lists.specs.Words.{range_below};
 ghost use Rattle.tt_bits.specs.Bits.{has_bit, bits};
 ghost use Rattle.tt_facts_cell_set.specs.Words.{width};
@@ -12,7 +12,7 @@ ghost use Rattle.tt_facts_cell_set.specs.Tables.{has_cell, is_open, IsTable};
 use crate::places::{cells_word, open_word, width};
 use crate::rooms::{Rooms, common_of};
 use tt_bits::{Trail, has_bit, is_empty, with_if};
-use tt_instance::{Cell, Instance};
+use tt_instance_data::{Cell, Instance};
 
 /// Returns whether the table has a cell.
 pub fn has_cell(instance: &Instance<'_>, table: &Trail, cell: Cell) -> bool

@@ -1,7 +1,7 @@
 //! The first table of an instance.
 
 ghost use Rattle.std.specs.Prelude.{◌≡◌, [], not, IfOk};
-ghost use Rattle.tt_instance.specs.Courses.{unavailable};
+ghost use Rattle.tt_instance_data.specs.Courses.{unavailable};
 ghost use Rattle.tt_facts_cell_set.specs.Words.{size};
 ghost use Rattle.tt_facts_cell_set.specs.Tables.{Shows};
 ghost use Rattle.tt_facts_cell_set.specs.First.{AreFull};
@@ -10,7 +10,7 @@ use crate::places::width;
 use crate::removing::remove_rooms;
 use std::alloc::{AllocError, Global};
 use tt_bits::{Trail, below};
-use tt_instance::Instance;
+use tt_instance_data::Instance;
 
 /// Creates the words of a table that has all cells.
 fn full_words(alloc: Global, instance: &Instance<'_>) -> Result<Vec<u64>, AllocError>

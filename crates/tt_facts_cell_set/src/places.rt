@@ -1,14 +1,14 @@
 //! The places of the words of rooms.
 
 ghost use Rattle.std.specs.Prelude.{◌≡◌, ◌<◌, ◌≤◌, ◌+◌, ◌*◌, ℕ, length};
-ghost use Rattle.tt_instance.specs.Cells.{slot, cell};
+ghost use Rattle.tt_instance_data.specs.Cells.{slot, cell};
 ghost use Rattle.tt_facts_path.specs.Facts.{agrees};
 ghost use Rattle.tt_bits.specs.Bits.{has_bit};
 ghost use Rattle.tt_facts_cell_set.specs.Words.{width, place, size};
 ghost use Rattle.tt_facts_cell_set.specs.Tables.{has_cell, is_open, IsTable};
 
 use tt_bits::{Trail, both, one};
-use tt_instance::Instance;
+use tt_instance_data::Instance;
 
 /// Returns how many words the rooms take.
 pub fn width(instance: &Instance<'_>) -> u32

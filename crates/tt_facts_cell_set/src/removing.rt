@@ -1,14 +1,14 @@
 //! Removing cells from a table.
 
 ghost use Rattle.std.specs.Prelude.{◌≡◌, ◌<◌, ◌&&◌, true, false, not, length, OnOk, OnErr};
-ghost use Rattle.tt_instance.specs.declared.cell.Cell.{Cell};
+ghost use Rattle.tt_instance_data.specs.declared.cell.Cell.{Cell};
 ghost use Rattle.tt_facts_path.specs.Facts.{agrees};
 ghost use Rattle.tt_facts_cell_set.specs.Tables.{has_cell, is_placed, IsTable, Loses};
 
 use crate::places::{allowed, open_word, place, width};
 use std::alloc::AllocError;
 use tt_bits::{Trail, clear, others};
-use tt_instance::Instance;
+use tt_instance_data::Instance;
 
 /// Removes the course's cells in a period, in the given room if one is given.
 #[inline(always)]

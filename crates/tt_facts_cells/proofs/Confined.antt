@@ -4,12 +4,12 @@ use Rattle.std.specs.Prelude.{◌==◌}
 use Rattle.std.proofs.lemmas.Bool.{and_parts, false_from_ne_true, both_ways, eqb-true}
 use Rattle.tt_lists.proofs.Range.{all_below, at_below}
 use Rattle.tt_lists.proofs.Truth.{same_truth, wanted, not_wanted}
-use Rattle.tt_instance.specs.Problem.{Problem}
-use Rattle.tt_instance.specs.Cells.{slot, cell, InRange, same_cell}
-use Rattle.tt_instance.specs.Courses.{conflict}
-use Rattle.tt_instance.specs.declared.cell.Cell.{Cell}
-use Rattle.tt_instance.proofs.Places.{each_cell_at}
-use Rattle.tt_instance.proofs.Cells.{all_cells_pass}
+use Rattle.tt_instance_data.specs.Problem.{Problem}
+use Rattle.tt_instance_data.specs.Cells.{slot, cell, InRange, same_cell}
+use Rattle.tt_instance_data.specs.Courses.{conflict}
+use Rattle.tt_instance_data.specs.declared.cell.Cell.{Cell}
+use Rattle.tt_instance_data.proofs.Places.{each_cell_at}
+use Rattle.tt_instance_data.proofs.Cells.{all_cells_pass}
 use Rattle.tt_facts_path.specs.Facts.{matches}
 use Rattle.tt_facts_path.specs.Live.{clash, is_barred, excludes}
 use Rattle.tt_facts_path.specs.declared.facts.Pattern.{Pattern}

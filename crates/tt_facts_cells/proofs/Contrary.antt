@@ -4,8 +4,8 @@ use Rattle.std.specs.List.{list_any}
 use Rattle.std.proofs.lemmas.Bool.{or_right}
 use Rattle.tt_lists.proofs.Members.{any_member, member_from_any}
 use Rattle.tt_lists.proofs.Twos.{neither}
-use Rattle.tt_instance.specs.Problem.{Problem}
-use Rattle.tt_instance.specs.declared.cell.Cell.{Cell}
+use Rattle.tt_instance_data.specs.Problem.{Problem}
+use Rattle.tt_instance_data.specs.declared.cell.Cell.{Cell}
 use Rattle.tt_facts_path.specs.Facts.{matches, same_pattern}
 use Rattle.tt_facts_path.specs.Live.{is_barred, excludes, is_live}
 use Rattle.tt_facts_path.specs.Nested.{is_excluded}

@@ -5,11 +5,11 @@ use Rattle.std.specs.List.{list_all}
 use Rattle.std.proofs.lemmas.Bool.{cases_eq, eqb-true, lt-ltb}
 use Rattle.std.proofs.Math.Bool.{or-false, and-true}
 use Rattle.tt_lists.specs.Words.{has_number}
-use Rattle.tt_instance.specs.Problem.{Problem}
-use Rattle.tt_instance.specs.Cells.{slot, cell, all_rooms, InRange}
-use Rattle.tt_instance.specs.Courses.{conflict}
-use Rattle.tt_instance.specs.declared.cell.Cell.{Cell}
-use Rattle.tt_instance.proofs.Exclusion.{conflict-itself}
+use Rattle.tt_instance_data.specs.Problem.{Problem}
+use Rattle.tt_instance_data.specs.Cells.{slot, cell, all_rooms, InRange}
+use Rattle.tt_instance_data.specs.Courses.{conflict}
+use Rattle.tt_instance_data.specs.declared.cell.Cell.{Cell}
+use Rattle.tt_instance_data.proofs.Exclusion.{conflict-itself}
 use Rattle.tt_facts_path.specs.Facts.{agrees}
 use Rattle.tt_facts_path.specs.declared.facts.Pattern.{Pattern}
 use Rattle.tt_instance_links.specs.Links.{conflicts_of}

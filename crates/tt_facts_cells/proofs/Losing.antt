@@ -5,9 +5,9 @@ use Rattle.std.specs.List.{list_all}
 use Rattle.std.proofs.lemmas.Bool.{cases_eq, and_parts, eqb-true, lt-ltb, ltb-true, le-ltb}
 use Rattle.std.proofs.Math.Bool.{or-false}
 use Rattle.tt_lists.proofs.Truth.{same_truth, still_there, taken_twice}
-use Rattle.tt_instance.specs.Problem.{Problem}
-use Rattle.tt_instance.specs.Cells.{InRange}
-use Rattle.tt_instance.specs.declared.cell.Cell.{Cell}
+use Rattle.tt_instance_data.specs.Problem.{Problem}
+use Rattle.tt_instance_data.specs.Cells.{InRange}
+use Rattle.tt_instance_data.specs.declared.cell.Cell.{Cell}
 use Rattle.tt_facts_cell_set.specs.Tables.{has_cell, IsTable, Shows, Loses, is_placed}
 
 -- another number below a bound

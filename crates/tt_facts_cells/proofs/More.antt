@@ -8,10 +8,10 @@ use Rattle.std.proofs.Math.Bool.{or-false}
 use Rattle.tt_lists.proofs.All.{list_all-same}
 use Rattle.tt_lists.proofs.Members.{any_member, member_from_any}
 use Rattle.tt_lists.proofs.Tested.{list_any-same}
-use Rattle.tt_instance.specs.Problem.{Problem}
-use Rattle.tt_instance.specs.Cells.{all_cells}
-use Rattle.tt_instance.specs.Courses.{unavailable}
-use Rattle.tt_instance.specs.declared.cell.Cell.{Cell}
+use Rattle.tt_instance_data.specs.Problem.{Problem}
+use Rattle.tt_instance_data.specs.Cells.{all_cells}
+use Rattle.tt_instance_data.specs.Courses.{unavailable}
+use Rattle.tt_instance_data.specs.declared.cell.Cell.{Cell}
 use Rattle.tt_facts_path.specs.Facts.{matches, same_pattern, same_answer, has_fact}
 use Rattle.tt_facts_path.specs.Live.{clash, is_barred, excludes, is_dead}
 use Rattle.tt_facts_path.specs.Nested.{is_denied, is_excluded}

@@ -8,8 +8,8 @@ use Rattle.tt_lists.proofs.Below.{all_stops}
 use Rattle.tt_lists.proofs.Members.{each_below_at}
 use Rattle.tt_lists.proofs.Range.{none_below, all_below}
 use Rattle.tt_lists.proofs.Sums.{each_from_list_any}
-use Rattle.tt_instance.specs.Problem.{Problem}
-use Rattle.tt_instance.specs.Cells.{all_rooms}
+use Rattle.tt_instance_data.specs.Problem.{Problem}
+use Rattle.tt_instance_data.specs.Cells.{all_rooms}
 use Rattle.tt_facts_path.specs.declared.facts.Pattern.{Pattern}
 use Rattle.tt_facts_cell_set.specs.Rooms.{has_room}
 use Rattle.tt_facts_cell_set.specs.Tables.{is_open}

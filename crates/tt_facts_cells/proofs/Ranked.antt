@@ -6,10 +6,10 @@ use Rattle.std.proofs.lemmas.List.Sorted.{Contains-permutation, All-permutation}
 use Rattle.std.proofs.lemmas.List.FromFn.{get_or-map-range_with_len, length-map-range_with_len}
 use Rattle.std.proofs.lemmas.List.{get_or_default}
 use Rattle.tt_lists.specs.Words.{range_below}
-use Rattle.tt_instance.specs.Problem.{Problem}
-use Rattle.tt_instance.specs.Cells.{cell, all_rooms}
-use Rattle.tt_instance.specs.Courses.{students, capacity, excess}
-use Rattle.tt_instance.specs.declared.cell.Slot.{Slot}
+use Rattle.tt_instance_data.specs.Problem.{Problem}
+use Rattle.tt_instance_data.specs.Cells.{cell, all_rooms}
+use Rattle.tt_instance_data.specs.Courses.{students, capacity, excess}
+use Rattle.tt_instance_data.specs.declared.cell.Slot.{Slot}
 use Rattle.tt_facts_path.specs.Live.{least, least_with, is_live, least_excess}
 use Rattle.tt_facts_path.specs.declared.facts.Fact.{Fact}
 use Rattle.tt_facts_cells.specs.Order.{ranked, IsRoomOrder, IsRoomiest}

@@ -11,10 +11,10 @@ use Rattle.tt_lists.proofs.Members.{any_member}
 use Rattle.tt_lists.proofs.Sums.{list_any-of_map}
 use Rattle.tt_lists.proofs.Truth.{taken_twice}
 use Rattle.tt_lists.proofs.Twos.{neither}
-use Rattle.tt_instance.specs.Problem.{Problem}
-use Rattle.tt_instance.specs.Cells.{InRange}
-use Rattle.tt_instance.specs.Courses.{in_curriculum}
-use Rattle.tt_instance.specs.declared.cell.Cell.{Cell}
+use Rattle.tt_instance_data.specs.Problem.{Problem}
+use Rattle.tt_instance_data.specs.Cells.{InRange}
+use Rattle.tt_instance_data.specs.Courses.{in_curriculum}
+use Rattle.tt_instance_data.specs.declared.cell.Cell.{Cell}
 use Rattle.tt_facts_path.specs.Facts.{agrees, is_who, matches}
 use Rattle.tt_facts_path.specs.Live.{is_barred, excludes, is_dead, is_live}
 use Rattle.tt_facts_path.specs.Nested.{is_excluded}

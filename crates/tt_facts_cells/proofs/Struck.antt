@@ -11,10 +11,10 @@ use Rattle.tt_lists.proofs.Sums.{each_from_list_all}
 use Rattle.tt_lists.proofs.Tests.{same_test}
 use Rattle.tt_lists.proofs.Range.{below_member, all_below, at_below}
 use Rattle.tt_lists.proofs.Truth.{same_truth, wanted, not_wanted}
-use Rattle.tt_instance.specs.Problem.{Problem, Curriculum}
-use Rattle.tt_instance.specs.Cells.{slot, cell, all_rooms, InRange}
-use Rattle.tt_instance.specs.Courses.{conflict, one_teacher, one_curriculum, members, no_curriculum}
-use Rattle.tt_instance.specs.declared.cell.Cell.{Cell}
+use Rattle.tt_instance_data.specs.Problem.{Problem, Curriculum}
+use Rattle.tt_instance_data.specs.Cells.{slot, cell, all_rooms, InRange}
+use Rattle.tt_instance_data.specs.Courses.{conflict, one_teacher, one_curriculum, members, no_curriculum}
+use Rattle.tt_instance_data.specs.declared.cell.Cell.{Cell}
 use Rattle.tt_facts_path.specs.Facts.{matches, is_who, agrees}
 use Rattle.tt_facts_path.specs.Live.{clash}
 use Rattle.tt_facts_path.specs.Nested.{courses_of}

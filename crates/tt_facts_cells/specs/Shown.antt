@@ -2,8 +2,8 @@
 -- What the tables of a path show.
 use Rattle.std.specs.Prelude.{◌≡◌, ℕ, ◌<◌, ◌==◌, Bool, false, not, ◌&&◌, List, [], ◌∷◌, ◌++◌, length, take, map, filter, slice_index_or}
 use Rattle.std.specs.List.{list_any}
-use Rattle.tt_instance.specs.Problem.{Problem}
-use Rattle.tt_instance.specs.declared.cell.Cell.{Cell}
+use Rattle.tt_instance_data.specs.Problem.{Problem}
+use Rattle.tt_instance_data.specs.declared.cell.Cell.{Cell}
 use Rattle.tt_facts_path.specs.Facts.{matches}
 use Rattle.tt_facts_path.specs.Live.{is_barred, is_live, excludes}
 use Rattle.tt_facts_path.specs.declared.facts.Fact.{Fact}

@@ -1,7 +1,7 @@
 -- Not part of the trusted statement: only proofs use this file.
 -- A yes-fact with free cells in two periods.
 use Rattle.std.specs.Prelude.{◌≡◌, ℕ, ◌*◌, ◌<◌, true, List}
-use Rattle.tt_instance.specs.Problem.{Problem}
+use Rattle.tt_instance_data.specs.Problem.{Problem}
 use Rattle.tt_facts_path.specs.declared.facts.Pattern.{Pattern}
 use Rattle.tt_facts_cells.specs.Slots.{is_left_in}
 

@@ -4,9 +4,9 @@
 use Rattle.std.specs.Prelude.{ℕ, ◌==◌, nat_lt, Bool, not, ◌&&◌, ◌||◌, List, length}
 use Rattle.std.specs.List.{list_all, list_any}
 use Rattle.tt_lists.specs.Words.{has_number}
-use Rattle.tt_instance.specs.Problem.{Problem}
-use Rattle.tt_instance.specs.Cells.{all_rooms}
-use Rattle.tt_instance.specs.Courses.{conflict}
+use Rattle.tt_instance_data.specs.Problem.{Problem}
+use Rattle.tt_instance_data.specs.Cells.{all_rooms}
+use Rattle.tt_instance_data.specs.Courses.{conflict}
 use Rattle.tt_facts_path.specs.declared.facts.Pattern.{Pattern}
 use Rattle.tt_facts_cell_set.specs.Tables.{is_open}
 

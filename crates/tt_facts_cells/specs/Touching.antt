@@ -1,8 +1,8 @@
 -- Not part of the trusted statement: only proofs use this file.
 -- Which patterns may match a cell in common. These are steps of the code.
 use Rattle.std.specs.Prelude.{ℕ, ◌==◌, Bool, true, ◌&&◌, Option, Some, None}
-use Rattle.tt_instance.specs.Problem.{Problem}
-use Rattle.tt_instance.specs.Courses.{in_curriculum}
+use Rattle.tt_instance_data.specs.Problem.{Problem}
+use Rattle.tt_instance_data.specs.Courses.{in_curriculum}
 use Rattle.tt_facts_path.specs.declared.facts.Who.{Who}
 use Rattle.tt_facts_path.specs.declared.facts.Who.TheVariants.{Course, Curriculum}
 use Rattle.tt_facts_path.specs.declared.facts.Pattern.{Pattern}

@@ -14,7 +14,7 @@ use std::alloc::AllocError;
 use tt_bits::Trail;
 use tt_facts_cell_set::remove_all;
 use tt_facts_path::{Fact, Pattern};
-use tt_instance::Instance;
+use tt_instance_data::Instance;
 use tt_instance_links::Conflicts;
 
 /// Changes both tables for a no-fact, the last of the facts. `yes` has the patterns of the yes-facts; if one of them is the

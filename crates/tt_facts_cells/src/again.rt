@@ -12,7 +12,7 @@ use std::alloc::AllocError;
 use tt_bits::Trail;
 use tt_facts_cell_set::is_cleared;
 use tt_facts_path::{Pattern, Who};
-use tt_instance::Instance;
+use tt_instance_data::Instance;
 use tt_instance_links::Conflicts;
 
 /// Returns whether some number agrees with both, as far as they are given.

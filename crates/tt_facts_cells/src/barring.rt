@@ -11,7 +11,7 @@ use std::alloc::AllocError;
 use tt_bits::Trail;
 use tt_facts_cell_set::remove_rooms;
 use tt_facts_path::Pattern;
-use tt_instance::Instance;
+use tt_instance_data::Instance;
 
 /// Removes a course's cells that agree with a pattern which gives this day and this period.
 fn remove_at(

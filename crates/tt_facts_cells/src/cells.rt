@@ -12,7 +12,7 @@ use std::marker::Model;
 use tt_bits::{Trail, is_empty};
 use tt_facts_cell_set::{cells_word, first_table, has_cell, has_period, periods_of};
 use tt_facts_path::{Cell, Fact, Pattern};
-use tt_instance::Instance;
+use tt_instance_data::Instance;
 use tt_instance_links::Conflicts;
 
 /// The facts, which of them are the first yes-facts of their patterns, these patterns, the cells that are not barred, and the live ones.
@@ -55,11 +55,11 @@ impl<'p, 'i> Model for Cells<'p, 'i> {
 impl<'p, 'i> Cells<'p, 'i> {
     ghost use Rattle.std.specs.Prelude.{ℕ, ◌+◌, ◌*◌, ◌&&◌, nat_lt, [], ◌∷◌, ◌++◌, slice_get, Some, OnOk, OnErr, IfOk, IfSome, MatchOption, false};
     ghost use Rattle.tt_bits.specs.Bits.{has_bit};
-    ghost use Rattle.tt_instance.specs.Cells.{InRange, slot, cell};
+    ghost use Rattle.tt_instance_data.specs.Cells.{InRange, slot, cell};
     ghost use Rattle.tt_facts_cells.specs.Order.{IsRoomiest};
     ghost use Rattle.tt_facts_path.specs.Facts.{has_fact};
     ghost use Rattle.tt_facts_path.specs.Live.{is_dead, is_live, live_period, live_day, least_excess};
-    ghost use Rattle.tt_instance.specs.declared.limit.TheConstants.{MAX_SEATS};
+    ghost use Rattle.tt_instance_data.specs.declared.limit.TheConstants.{MAX_SEATS};
 
     /// Creates a path with no facts. The tables allocate their memory immediately.
     pub fn new(alloc: Global, instance: &'p Instance<'i>) -> Result<Cells<'p, 'i>, AllocError>

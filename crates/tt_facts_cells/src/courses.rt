@@ -5,7 +5,7 @@ ghost use Rattle.tt_facts_path.specs.Nested.{courses_of};
 
 use std::slice;
 use tt_facts_path::Who;
-use tt_instance::Instance;
+use tt_instance_data::Instance;
 
 /// Returns the course that is meant, or the members of the curriculum that is meant.
 pub fn courses_of<'a>(instance: &'a Instance<'_>, who: &'a Who) -> &'a [u32]

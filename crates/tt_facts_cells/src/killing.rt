@@ -6,7 +6,7 @@ ghost use Rattle.tt_lists.specs.Words.{has_number};
 ghost use Rattle.tt_facts_path.specs.Nested.{courses_of};
 ghost use Rattle.tt_instance_links.specs.Linked.{AreConflicts};
 ghost use Rattle.tt_facts_cell_set.specs.Rooms.{has_room};
-ghost use Rattle.tt_instance.specs.Cells.{all_rooms};
+ghost use Rattle.tt_instance_data.specs.Cells.{all_rooms};
 ghost use Rattle.tt_facts_cell_set.specs.Tables.{is_open, is_placed, IsTable, Loses};
 ghost use Rattle.tt_facts_cells.specs.Struck.{is_lost_to, loses_room};
 ghost use Rattle.tt_facts_cells.specs.Shown.{is_struck};
@@ -15,7 +15,7 @@ use std::alloc::AllocError;
 use tt_bits::Trail;
 use tt_facts_cell_set::{Rooms, common_rooms, has_period, keep_rooms, remove_rooms};
 use tt_facts_path::Pattern;
-use tt_instance::Instance;
+use tt_instance_data::Instance;
 use tt_instance_links::Conflicts;
 
 /// Returns the rooms that a course loses in the period if another course must have one of its free rooms.

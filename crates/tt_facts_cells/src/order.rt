@@ -1,13 +1,13 @@
 //! The rooms of an instance by their seats.
 
 ghost use Rattle.std.specs.Prelude.{◌≡◌, ◌<◌, ◌^◌, ℕ, length, map, IfOk};
-ghost use Rattle.tt_instance.specs.Cells.{all_rooms};
-ghost use Rattle.tt_instance.specs.Courses.{capacity};
+ghost use Rattle.tt_instance_data.specs.Cells.{all_rooms};
+ghost use Rattle.tt_instance_data.specs.Courses.{capacity};
 ghost use Rattle.tt_facts_cells.specs.Order.{ranked};
 
 use std::alloc::{AllocError, Global};
 use std::marker::Model;
-use tt_instance::Instance;
+use tt_instance_data::Instance;
 
 /// A room and its seats.
 #[derive(Clone, Copy, Debug, PartialEq, Eq)]

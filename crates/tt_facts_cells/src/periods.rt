@@ -9,7 +9,7 @@ ghost use Rattle.tt_facts_cells.specs.Slots.{is_allowed, is_left_in, Covers, IsN
 use tt_bits::Trail;
 use tt_facts_cell_set::has_period;
 use tt_facts_path::Pattern;
-use tt_instance::Instance;
+use tt_instance_data::Instance;
 
 /// Returns whether a number agrees with the one given; if none is given, each number agrees.
 fn is_none_or_equal(given: Option<u32>, number: u32) -> bool

@@ -15,7 +15,7 @@ use std::alloc::AllocError;
 use tt_bits::Trail;
 use tt_facts_cell_set::{Rooms, common_rooms, remove_all};
 use tt_facts_path::Pattern;
-use tt_instance::Instance;
+use tt_instance_data::Instance;
 use tt_instance_links::Conflicts;
 
 /// Removes the live cells that a pattern excludes, if its first free period is this one. Returns this period and the next free one.

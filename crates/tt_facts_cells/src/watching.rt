@@ -8,7 +8,7 @@ use crate::periods::is_left_in;
 use std::alloc::{AllocError, Global};
 use tt_bits::Trail;
 use tt_facts_path::Pattern;
-use tt_instance::Instance;
+use tt_instance_data::Instance;
 
 /// The numbers of two periods, the first below the second; other numbers say that none are known.
 #[derive(Clone, Copy)]

@@ -1,7 +1,7 @@
 -- Paths of facts on small instances, evaluated by the definitions.
 use Rattle.std.proofs.Common.{◌≡◌, ℕ, true, false, [], ◌∷◌, Some, None, refl}
-use Rattle.tt_instance.specs.Cells.{slot}
-use Rattle.tt_instance.proofs.Examples.{at, mini, gap}
+use Rattle.tt_instance_data.specs.Cells.{slot}
+use Rattle.tt_instance_data.proofs.Examples.{at, mini, gap}
 use Rattle.tt_facts_path.specs.Facts.{has_fact}
 use Rattle.tt_facts_path.specs.Live.{is_dead, live_period, live_day, least_excess, pinned, pinned_room, pinned_periods}
 use Rattle.tt_facts_path.specs.declared.facts.Who.{Who}

@@ -6,11 +6,11 @@ use Rattle.std.proofs.lemmas.List.Elements.{All-filter, All-contains, All-from_r
 use Rattle.std.proofs.lemmas.Bool.{and_from, or_left, not-true, both_ways}
 use Rattle.tt_lists.proofs.Sums.{sum_by-le, one_if, each}
 use Rattle.tt_lists.proofs.Filters.{list_any-of_filter, sum_by-of_filter, member_passes}
-use Rattle.tt_instance.specs.Problem.{Problem}
-use Rattle.tt_instance.specs.Cells.{all_cells, InRange}
-use Rattle.tt_instance.specs.declared.cell.Cell.{Cell}
-use Rattle.tt_instance.proofs.Places.{any_cell}
-use Rattle.tt_instance.proofs.Cells.{each_cell, is_cell, count_cells}
+use Rattle.tt_instance_data.specs.Problem.{Problem}
+use Rattle.tt_instance_data.specs.Cells.{all_cells, InRange}
+use Rattle.tt_instance_data.specs.declared.cell.Cell.{Cell}
+use Rattle.tt_instance_data.proofs.Places.{any_cell}
+use Rattle.tt_instance_data.proofs.Cells.{each_cell, is_cell, count_cells}
 use Rattle.tt_facts_path.specs.Live.{is_barred, excludes, is_dead, is_live}
 use Rattle.tt_facts_path.specs.declared.facts.Fact.{Fact}
 

@@ -7,11 +7,11 @@ use Rattle.std.proofs.lemmas.List.{get_or_past}
 use Rattle.tt_lists.specs.Words.{range_below, has_number}
 use Rattle.tt_lists.proofs.All.{list_all-same}
 use Rattle.tt_lists.proofs.Tests.{same_test}
-use Rattle.tt_instance.specs.Problem.{Problem}
-use Rattle.tt_instance.specs.Cells.{slot, cell, all_cells, all_courses, all_rooms, all_days}
-use Rattle.tt_instance.specs.Courses.{no_curriculum, members}
-use Rattle.tt_instance.specs.declared.cell.Cell.{Cell}
-use Rattle.tt_instance.proofs.Places.{cells_nested}
+use Rattle.tt_instance_data.specs.Problem.{Problem}
+use Rattle.tt_instance_data.specs.Cells.{slot, cell, all_cells, all_courses, all_rooms, all_days}
+use Rattle.tt_instance_data.specs.Courses.{no_curriculum, members}
+use Rattle.tt_instance_data.specs.declared.cell.Cell.{Cell}
+use Rattle.tt_instance_data.proofs.Places.{cells_nested}
 use Rattle.tt_facts_path.specs.Facts.{agrees, is_who, matches}
 use Rattle.tt_facts_path.specs.Live.{clash, is_barred, excludes}
 use Rattle.tt_facts_path.specs.Nested.{courses_of, is_lost, is_day_lost, is_room_lost, are_rooms_lost, is_course_lost}

@@ -1,8 +1,8 @@
 -- What a pattern says about a cell that it matches.
 use Rattle.std.proofs.Common.{◌≡◌, ℕ, true, ◌&&◌, Option, Some, None, ◌∙◌, eqb-true, eq-eqb}
 use Rattle.std.proofs.lemmas.Bool.{and_parts}
-use Rattle.tt_instance.specs.Problem.{Problem}
-use Rattle.tt_instance.specs.declared.cell.Cell.{Cell}
+use Rattle.tt_instance_data.specs.Problem.{Problem}
+use Rattle.tt_instance_data.specs.declared.cell.Cell.{Cell}
 use Rattle.tt_facts_path.specs.Facts.{agrees, is_who, matches}
 use Rattle.tt_facts_path.specs.Live.{gives, is_pinned_by}
 use Rattle.tt_facts_path.specs.declared.facts.Who.{Who}

@@ -1,9 +1,9 @@
 -- Patterns, facts, and which timetables fit a path of facts.
 use Rattle.std.specs.Prelude.{◌≡◌, ℕ, ◌==◌, ◌<◌, Bool, true, false, ◌&&◌, List, length, Option, Some, None, IfSome, All}
 use Rattle.std.specs.List.{list_any}
-use Rattle.tt_instance.specs.Problem.{Problem}
-use Rattle.tt_instance.specs.Courses.{in_curriculum}
-use Rattle.tt_instance.specs.declared.cell.Cell.{Cell}
+use Rattle.tt_instance_data.specs.Problem.{Problem}
+use Rattle.tt_instance_data.specs.Courses.{in_curriculum}
+use Rattle.tt_instance_data.specs.declared.cell.Cell.{Cell}
 use Rattle.tt_facts_path.specs.declared.facts.Who.{Who}
 use Rattle.tt_facts_path.specs.declared.facts.Who.TheVariants.{Course, Curriculum}
 use Rattle.tt_facts_path.specs.declared.facts.Pattern.{Pattern}

@@ -2,11 +2,11 @@
 use Rattle.std.specs.Prelude.{ℕ, ◌==◌, Bool, false, not, ◌&&◌, ◌||◌, List, [], ◌∷◌, min, map, filter, Option, Some, None, count_by}
 use Rattle.std.specs.List.{list_any, list_all}
 use Rattle.tt_lists.specs.Words.{range_below}
-use Rattle.tt_instance.specs.Problem.{Problem}
-use Rattle.tt_instance.specs.Cells.{slot, cell, all_rooms, all_slots, all_cells, same_cell}
-use Rattle.tt_instance.specs.Courses.{in_curriculum, conflict, unavailable, excess}
-use Rattle.tt_instance.specs.declared.cell.Cell.{Cell}
-use Rattle.tt_instance.specs.declared.cell.Slot.{Slot}
+use Rattle.tt_instance_data.specs.Problem.{Problem}
+use Rattle.tt_instance_data.specs.Cells.{slot, cell, all_rooms, all_slots, all_cells, same_cell}
+use Rattle.tt_instance_data.specs.Courses.{in_curriculum, conflict, unavailable, excess}
+use Rattle.tt_instance_data.specs.declared.cell.Cell.{Cell}
+use Rattle.tt_instance_data.specs.declared.cell.Slot.{Slot}
 use Rattle.tt_facts_path.specs.declared.facts.Who.{Who}
 use Rattle.tt_facts_path.specs.declared.facts.Who.TheVariants.{Course, Curriculum}
 use Rattle.tt_facts_path.specs.declared.facts.Pattern.{Pattern}

@@ -3,10 +3,10 @@
 use Rattle.std.specs.Prelude.{ℕ, Bool, not, ◌&&◌, ◌||◌, List, Option, [], ◌∷◌, nat_le, filter, length}
 use Rattle.std.specs.List.{list_any, list_all}
 use Rattle.tt_lists.specs.Words.{range_below}
-use Rattle.tt_instance.specs.Problem.{Problem}
-use Rattle.tt_instance.specs.Cells.{slot, cell}
-use Rattle.tt_instance.specs.Courses.{members}
-use Rattle.tt_instance.specs.declared.cell.Cell.{Cell}
+use Rattle.tt_instance_data.specs.Problem.{Problem}
+use Rattle.tt_instance_data.specs.Cells.{slot, cell}
+use Rattle.tt_instance_data.specs.Courses.{members}
+use Rattle.tt_instance_data.specs.declared.cell.Cell.{Cell}
 use Rattle.tt_facts_path.specs.Facts.{agrees, matches}
 use Rattle.tt_facts_path.specs.Live.{clash, is_barred, excludes}
 use Rattle.tt_facts_path.specs.declared.facts.Who.{Who}

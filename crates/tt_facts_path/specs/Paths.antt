@@ -1,7 +1,7 @@
 -- Not part of the trusted statement: only proofs use this file.
 -- The value of a path.
 use Rattle.std.specs.Prelude.{List}
-use Rattle.tt_instance.specs.Problem.{Problem}
+use Rattle.tt_instance_data.specs.Problem.{Problem}
 use Rattle.tt_facts_path.specs.declared.facts.Fact.{Fact}
 
 -- Facts about the timetables of an instance, the oldest first.

@@ -5,7 +5,7 @@ ghost use Rattle.tt_facts_path.specs.Facts.{agrees, is_who, matches};
 ghost use Rattle.tt_facts_path.specs.Live.{gives, is_pinned_by};
 ghost use Rattle.tt_facts_path.specs.Nested.{has_place_of};
 
-use tt_instance::{Cell, Instance};
+use tt_instance_data::{Cell, Instance};
 
 /// The course or the curriculum whose cells a pattern matches.
 #[derive(Clone, Copy, Debug, PartialEq, Eq)]

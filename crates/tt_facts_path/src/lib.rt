@@ -8,4 +8,4 @@ mod plain;
 pub use facts::{Fact, Pattern, Who, is_none_or_equal};
 pub use path::{MAX_FACTS, Path, PathFault};
 pub use plain::PlainPath;
-pub use tt_instance::Cell;
+pub use tt_instance_data::Cell;

@@ -1,17 +1,17 @@
 //! Paths: lists of facts over one instance, and what they leave possible.
 
 ghost use Rattle.std.specs.Prelude.{◌≡◌, ◌<◌, ◌≤◌, ◌+◌, ◌*◌, ◌&&◌, ℕ, nat_lt, [], ◌∷◌, ◌++◌, List, length, slice_get, Some, IfSome, OnOk, OnErr, IsErrOf, IsOkUnless};
-ghost use Rattle.tt_instance.specs.Problem.{Problem};
+ghost use Rattle.tt_instance_data.specs.Problem.{Problem};
 ghost use Rattle.tt_bits.specs.Bits.{has_bit};
-ghost use Rattle.tt_instance.specs.Cells.{InRange, slot, cell};
+ghost use Rattle.tt_instance_data.specs.Cells.{InRange, slot, cell};
 ghost use Rattle.tt_facts_path.specs.Facts.{IsWho, has_fact};
 ghost use Rattle.tt_facts_path.specs.Live.{is_dead, is_live, live_period, live_day, least_excess, pinned, pinned_room};
 ghost use Rattle.tt_facts_path.specs.declared.facts.Fact.{Fact};
-ghost use Rattle.tt_instance.specs.declared.limit.TheConstants.{MAX_SEATS};
+ghost use Rattle.tt_instance_data.specs.declared.limit.TheConstants.{MAX_SEATS};
 
 use crate::facts::{Fact, Pattern, Who};
 use thiserror::Error;
-use tt_instance::{Cell, Instance};
+use tt_instance_data::{Cell, Instance};
 
 /// The maximum number of facts of a path.
 pub const MAX_FACTS: u32 = 65_536;

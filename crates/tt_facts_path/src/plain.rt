@@ -11,7 +11,7 @@ use crate::path::{MAX_FACTS, Path, PathFault};
 use std::alloc::Global;
 use std::marker::Model;
 use tt_bits::with_if;
-use tt_instance::{Cell, Instance};
+use tt_instance_data::{Cell, Instance};
 
 /// The facts as a list, without further tables; each answer goes through all facts.
 #[derive(Drop)]

@@ -8,7 +8,7 @@ use Rattle.std.proofs.lemmas.List.{append-nil}
 use Rattle.std.proofs.lemmas.List.Elements.{filter-append}
 use Rattle.std.proofs.lemmas.List.Folds.{list_any-append}
 use Rattle.tt_lists.proofs.Tests.{same_test, test_turned}
-use Rattle.tt_instance.specs.Problem.{Problem}
+use Rattle.tt_instance_data.specs.Problem.{Problem}
 use Rattle.tt_facts_path.specs.Facts.{same_answer, same_option, same_who, same_pattern, has_fact}
 use Rattle.tt_facts_path.specs.declared.facts.Who.{Who}
 use Rattle.tt_facts_path.specs.declared.facts.Who.TheVariants.{Course, Curriculum}

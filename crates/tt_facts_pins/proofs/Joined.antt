@@ -5,7 +5,7 @@ use Rattle.std.proofs.Math.Bool.{or-false}
 use Rattle.std.proofs.lemmas.Bool.{cases_eq}
 use Rattle.std.proofs.lemmas.List.{take_more}
 use Rattle.std.proofs.lemmas.List.Folds.{list_any-append}
-use Rattle.tt_instance.specs.Problem.{Problem}
+use Rattle.tt_instance_data.specs.Problem.{Problem}
 use Rattle.tt_bits.specs.Bits.{has_bit}
 use Rattle.tt_facts_pins.specs.Sets.{has_at, Puts}
 use Rattle.tt_facts_pins.specs.Tables.{Adds, is_day_of, day_place}

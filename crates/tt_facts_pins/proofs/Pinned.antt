@@ -6,10 +6,10 @@ use Rattle.std.proofs.lemmas.Bool.{cases_eq, eqb-true, lt-ltb, le-ltb}
 use Rattle.std.proofs.lemmas.List.Folds.{list_any_none}
 use Rattle.tt_lists.specs.Words.{has_number}
 use Rattle.tt_lists.proofs.Tests.{same_test, test_turned}
-use Rattle.tt_instance.specs.Problem.{Problem}
-use Rattle.tt_instance.specs.Courses.{members}
-use Rattle.tt_instance.specs.Limits.{IsInstance}
-use Rattle.tt_instance.proofs.Limits.{members_below}
+use Rattle.tt_instance_data.specs.Problem.{Problem}
+use Rattle.tt_instance_data.specs.Courses.{members}
+use Rattle.tt_instance_data.specs.Limits.{IsInstance}
+use Rattle.tt_instance_data.proofs.Limits.{members_below}
 use Rattle.tt_instance_links.specs.Links.{curricula_of}
 use Rattle.tt_instance_links.proofs.Linked.{has-curricula_of}
 use Rattle.tt_facts_path.specs.Facts.{IsWho}

@@ -3,8 +3,8 @@ use Rattle.std.proofs.Common.{◌≡◌, ℕ, ◌+◌, ◌*◌, ◌/◌, ◌%◌
 use Rattle.std.specs.Prelude.{nat_lt}
 use Rattle.std.proofs.Math.Bool.{or-false}
 use Rattle.std.proofs.lemmas.List.Folds.{list_any-append}
-use Rattle.tt_instance.specs.Problem.{Problem}
-use Rattle.tt_instance.specs.Cells.{slot}
+use Rattle.tt_instance_data.specs.Problem.{Problem}
+use Rattle.tt_instance_data.specs.Cells.{slot}
 use Rattle.tt_facts_path.specs.Live.{gives, is_pinned_by, pinned, pinned_room}
 use Rattle.tt_facts_path.specs.declared.facts.Who.TheVariants.{Course}
 use Rattle.tt_facts_path.specs.declared.facts.Fact.{Fact}

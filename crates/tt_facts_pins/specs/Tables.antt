@@ -2,8 +2,8 @@
 -- The table of pinned periods and rooms.
 use Rattle.std.specs.Prelude.{◌≡◌, ℕ, ◌+◌, ◌*◌, ◌/◌, ◌%◌, ◌<◌, ◌≤◌, ◌==◌, nat_lt, Bool, ◌&&◌, ◌||◌, List, length, Option}
 use Rattle.std.specs.List.{list_any}
-use Rattle.tt_instance.specs.Problem.{Problem}
-use Rattle.tt_instance.specs.Cells.{slot}
+use Rattle.tt_instance_data.specs.Problem.{Problem}
+use Rattle.tt_instance_data.specs.Cells.{slot}
 use Rattle.tt_facts_path.specs.Facts.{IsWho}
 use Rattle.tt_facts_path.specs.Live.{gives, is_pinned_by, pinned, pinned_room}
 use Rattle.tt_facts_path.specs.declared.facts.Who.{Who}

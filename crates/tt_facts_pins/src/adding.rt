@@ -10,7 +10,7 @@ use crate::pinning::{pin_period, pin_room};
 use std::alloc::AllocError;
 use tt_bits::Trail;
 use tt_facts_path::Fact;
-use tt_instance::Instance;
+use tt_instance_data::Instance;
 use tt_instance_links::Curricula;
 
 /// Writes the period and the room that a fact pins.

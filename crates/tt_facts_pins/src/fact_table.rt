@@ -8,7 +8,7 @@ use crate::sets::put;
 use std::alloc::AllocError;
 use tt_bits::Trail;
 use tt_facts_path::Fact;
-use tt_instance::Instance;
+use tt_instance_data::Instance;
 
 /// Writes a fact into the table, if the table has a place for it.
 pub fn add_fact(

@@ -7,7 +7,7 @@ ghost use Rattle.tt_facts_pins.specs.FactTable.{unplaced_of};
 use crate::bit_places::has_bit_place;
 use std::alloc::AllocError;
 use tt_facts_path::{Fact, Pattern};
-use tt_instance::Instance;
+use tt_instance_data::Instance;
 
 /// Adds a fact to the lists it belongs in. Not inlined, since inlining copies the fact field by field.
 #[inline(never)]

@@ -1,7 +1,7 @@
 //! The periods and rooms that another yes-fact pins.
 
 ghost use Rattle.std.specs.Prelude.{◌≡◌, ◌<◌, ◌==◌, All, Some, length, OnOk};
-ghost use Rattle.tt_instance.specs.Limits.{IsInstance};
+ghost use Rattle.tt_instance_data.specs.Limits.{IsInstance};
 ghost use Rattle.tt_instance_links.specs.Linked.{AreCurricula};
 ghost use Rattle.tt_facts_path.specs.Facts.{IsWho};
 ghost use Rattle.tt_facts_pins.specs.Tables.{size, row_of, day_place, is_day_of, Adds, PinsPeriods, PinsRooms};
@@ -11,7 +11,7 @@ use crate::sets::put;
 use std::alloc::AllocError;
 use tt_bits::Trail;
 use tt_facts_path::Who;
-use tt_instance::Instance;
+use tt_instance_data::Instance;
 use tt_instance_links::Curricula;
 
 /// Adds a period to the set of a course or a curriculum on a day.

@@ -2,7 +2,7 @@
 
 ghost use Rattle.std.specs.Prelude.{◌≡◌, ◌<◌, ◌+◌, ◌*◌, ◌&&◌, ℕ, nat_lt, length, slice_get, Some};
 ghost use Rattle.tt_bits.specs.Bits.{has_bit};
-ghost use Rattle.tt_instance.specs.Cells.{slot};
+ghost use Rattle.tt_instance_data.specs.Cells.{slot};
 ghost use Rattle.tt_facts_path.specs.Facts.{IsWho, has_fact};
 ghost use Rattle.tt_facts_path.specs.Live.{pinned, pinned_room};
 ghost use Rattle.tt_facts_path.specs.declared.path.TheConstants.{MAX_FACTS};
@@ -15,7 +15,7 @@ use std::alloc::{AllocError, Global};
 use std::marker::Model;
 use tt_bits::{Trail, has_bit};
 use tt_facts_path::{Fact, Pattern, Who};
-use tt_instance::Instance;
+use tt_instance_data::Instance;
 use tt_instance_links::Curricula;
 
 /// The facts, with a table of the periods and rooms that they pin and a table of the facts themselves.

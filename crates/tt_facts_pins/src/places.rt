@@ -3,10 +3,10 @@
 ghost use Rattle.std.specs.Prelude.{◌≡◌, ◌<◌, ◌≤◌, ◌+◌, ◌*◌, length};
 ghost use Rattle.tt_facts_path.specs.Facts.{IsWho};
 ghost use Rattle.tt_facts_pins.specs.Tables.{row_of, rows, day_place, days_size, width, block_place, room_place, size};
-ghost use Rattle.tt_instance.specs.declared.limit.TheConstants.{MAX_COURSES, MAX_CURRICULA};
+ghost use Rattle.tt_instance_data.specs.declared.limit.TheConstants.{MAX_COURSES, MAX_CURRICULA};
 
 use tt_facts_path::Who;
-use tt_instance::Instance;
+use tt_instance_data::Instance;
 
 /// Returns the row of a course or a curriculum.
 pub fn row_of(instance: &Instance<'_>, who: Who) -> usize

@@ -12,13 +12,13 @@ use Rattle.tt_lists.proofs.Numbers.{any_below, count_below}
 use Rattle.tt_lists.proofs.Tested.{each_flat}
 use Rattle.tt_lists.proofs.Tests.{sum_by-same_below}
 use Rattle.tt_lists.proofs.Truth.{same_truth}
-use Rattle.tt_instance.specs.Problem.{Problem}
-use Rattle.tt_instance.specs.Cells.{slot, slot_of, cell, all_slots, all_courses, is_of, is_at}
-use Rattle.tt_instance.specs.Courses.{lectures, members, conflict, unavailable}
-use Rattle.tt_instance.specs.declared.cell.Cell.{Cell}
-use Rattle.tt_instance.specs.declared.cell.Slot.{Slot}
-use Rattle.tt_instance.proofs.Cells.{IsSlot, each_slot, at_itself}
-use Rattle.tt_instance.proofs.Places.{any_slot, slots_summed}
+use Rattle.tt_instance_data.specs.Problem.{Problem}
+use Rattle.tt_instance_data.specs.Cells.{slot, slot_of, cell, all_slots, all_courses, is_of, is_at}
+use Rattle.tt_instance_data.specs.Courses.{lectures, members, conflict, unavailable}
+use Rattle.tt_instance_data.specs.declared.cell.Cell.{Cell}
+use Rattle.tt_instance_data.specs.declared.cell.Slot.{Slot}
+use Rattle.tt_instance_data.proofs.Cells.{IsSlot, each_slot, at_itself}
+use Rattle.tt_instance_data.proofs.Places.{any_slot, slots_summed}
 use Rattle.tt_rules.specs.Hard.{entries_of, periods_of, lectures_off, collide, conflicts_count, availability_count}
 use Rattle.tt_rules.proofs.Feasible.{periods-le_entries}
 use Rattle.tt_groups.specs.Group.{Group, group_cost, concerns, entries_for, IsRelaxedTimetable}

@@ -14,10 +14,10 @@ use Rattle.tt_lists.proofs.Filters.{member_passes}
 use Rattle.tt_lists.proofs.Members.{member_from_any, number_below}
 use Rattle.tt_lists.proofs.Numbers.{any_below}
 use Rattle.tt_lists.proofs.Range.{below_member}
-use Rattle.tt_instance.specs.Problem.{Problem}
-use Rattle.tt_instance.specs.Cells.{all_courses}
-use Rattle.tt_instance.specs.Courses.{lectures, members, in_curriculum, no_curriculum}
-use Rattle.tt_instance.specs.Limits.{IsInstance}
+use Rattle.tt_instance_data.specs.Problem.{Problem}
+use Rattle.tt_instance_data.specs.Cells.{all_courses}
+use Rattle.tt_instance_data.specs.Courses.{lectures, members, in_curriculum, no_curriculum}
+use Rattle.tt_instance_data.specs.Limits.{IsInstance}
 use Rattle.tt_groups.specs.Group.{Group, concerns, IsGroupBound}
 use Rattle.tt_groups.specs.Listed.{AreCourses, IsDayList, IsReachedDay}
 use Rattle.tt_groups.specs.Places.{group_sizes}

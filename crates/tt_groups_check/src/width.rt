@@ -6,12 +6,12 @@ ghost use Rattle.tt_lists.specs.Words.{has_number};
 ghost use Rattle.tt_groups.specs.Group.{concerns};
 ghost use Rattle.tt_groups.specs.Plans.{base_cost};
 ghost use Rattle.tt_groups_check.specs.Limits.{IsGroupOf, has_long_course, is_too_wide};
-ghost use Rattle.tt_instance.specs.Cells.{all_courses};
-ghost use Rattle.tt_instance.specs.Courses.{in_curriculum};
-ghost use Rattle.tt_instance.specs.declared.limit.TheConstants.{MAX_MIN_DAYS};
+ghost use Rattle.tt_instance_data.specs.Cells.{all_courses};
+ghost use Rattle.tt_instance_data.specs.Courses.{in_curriculum};
+ghost use Rattle.tt_instance_data.specs.declared.limit.TheConstants.{MAX_MIN_DAYS};
 
 use tt_groups::Group;
-use tt_instance::Instance;
+use tt_instance_data::Instance;
 use tt_rules::DAY_PRICE;
 
 /// The maximum number of curricula of a group.

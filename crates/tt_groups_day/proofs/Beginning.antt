@@ -17,8 +17,8 @@ use Rattle.tt_lists.proofs.Truth.{same_truth}
 use Rattle.tt_bits.specs.Bits.{has_bit}
 use Rattle.tt_bits.proofs.BitLaws.{has_bit-without}
 use Rattle.tt_bits.proofs.Counts.{count_ones-bits, count-past, count-bits}
-use Rattle.tt_instance.specs.Problem.{Problem}
-use Rattle.tt_instance.specs.Courses.{members, in_curriculum, unavailable}
+use Rattle.tt_instance_data.specs.Problem.{Problem}
+use Rattle.tt_instance_data.specs.Courses.{members, in_curriculum, unavailable}
 use Rattle.tt_groups.specs.Group.{Group}
 use Rattle.tt_groups.specs.Listed.{AreCourses}
 use Rattle.tt_groups.specs.Plans.{Day, is_taught}

@@ -16,9 +16,9 @@ use Rattle.tt_lists.proofs.Range.{below_member, any_same_below}
 use Rattle.tt_lists.proofs.Tests.{sum_by-same_below}
 use Rattle.tt_lists.proofs.Truth.{same_truth}
 use Rattle.tt_bits.specs.Bits.{has_bit}
-use Rattle.tt_instance.specs.Problem.{Problem}
-use Rattle.tt_instance.specs.Courses.{in_curriculum, conflict}
-use Rattle.tt_instance.proofs.Exclusion.{conflict-turn, conflict-itself}
+use Rattle.tt_instance_data.specs.Problem.{Problem}
+use Rattle.tt_instance_data.specs.Courses.{in_curriculum, conflict}
+use Rattle.tt_instance_data.proofs.Exclusion.{conflict-turn, conflict-itself}
 use Rattle.tt_groups.specs.Group.{Group, concerns}
 use Rattle.tt_groups.specs.Listed.{AreCourses}
 use Rattle.tt_groups.proofs.Lists.{passing_member, member_before}

@@ -13,9 +13,9 @@ use Rattle.tt_lists.proofs.Counting.{count_by-same_at}
 use Rattle.tt_lists.proofs.Filters.{count_by-of_filter}
 use Rattle.tt_lists.proofs.Sums.{count_by-cons, sum_by-of_map, sum_by-same}
 use Rattle.tt_lists.proofs.Truth.{same_truth}
-use Rattle.tt_instance.specs.Problem.{Problem}
-use Rattle.tt_instance.specs.Courses.{in_curriculum, conflict}
-use Rattle.tt_instance.proofs.Exclusion.{conflict-turn}
+use Rattle.tt_instance_data.specs.Problem.{Problem}
+use Rattle.tt_instance_data.specs.Courses.{in_curriculum, conflict}
+use Rattle.tt_instance_data.proofs.Exclusion.{conflict-turn}
 use Rattle.tt_groups.specs.Group.{Group}
 use Rattle.tt_groups_day.specs.Choosing.{has_conflict, with_course, with_next, IsChoice}
 use Rattle.tt_groups_day.specs.Counting.{sublists, is_apart, sets_count}

@@ -8,8 +8,8 @@ use Rattle.std.proofs.lemmas.List.Elements.{Contains-append_left, Contains-appen
 use Rattle.tt_lists.specs.Words.{range_below}
 use Rattle.tt_lists.proofs.Members.{any_member, member_cases}
 use Rattle.tt_lists.proofs.Tests.{sum_by-same_below}
-use Rattle.tt_instance.specs.Problem.{Problem}
-use Rattle.tt_instance.specs.Courses.{lectures, in_curriculum}
+use Rattle.tt_instance_data.specs.Problem.{Problem}
+use Rattle.tt_instance_data.specs.Courses.{lectures, in_curriculum}
 use Rattle.tt_groups.specs.Group.{Group, concerns}
 use Rattle.tt_groups.specs.Listed.{AreCourses, IsDayList, IsReachedDay}
 use Rattle.tt_groups.specs.Places.{weights_from, place_of, group_amounts}

@@ -8,7 +8,7 @@ use Rattle.tt_lists.specs.Words.{range_below}
 use Rattle.tt_lists.proofs.Sums.{sum_by-same, sum_by-nothing}
 use Rattle.tt_bits.specs.Bits.{has_bit}
 use Rattle.tt_bits.proofs.BitLaws.{has_bit-none}
-use Rattle.tt_instance.specs.Problem.{Problem}
+use Rattle.tt_instance_data.specs.Problem.{Problem}
 use Rattle.tt_groups.specs.Group.{Group}
 use Rattle.tt_groups_day.specs.Sets.{IsWordOf, IsMorningOf}
 use Rattle.tt_groups_day.specs.declared.morning.Morning.{Morning}

@@ -3,8 +3,8 @@ use Rattle.std.specs.Prelude.{All, slice_index_or, [], ◌∷◌, ◌++◌, coun
 use Rattle.std.specs.List.{list_any}
 use Rattle.tt_lists.specs.Words.{range_below}
 use Rattle.tt_bits.specs.Bits.{has_bit}
-use Rattle.tt_instance.specs.Problem.{Problem}
-use Rattle.tt_instance.specs.Courses.{lectures, in_curriculum, conflict, unavailable}
+use Rattle.tt_instance_data.specs.Problem.{Problem}
+use Rattle.tt_instance_data.specs.Courses.{lectures, in_curriculum, conflict, unavailable}
 use Rattle.tt_groups.specs.Group.{Group, concerns}
 use Rattle.tt_groups.specs.Listed.{AreCourses}
 use Rattle.tt_groups.specs.Plans.{Day, lectures_on, day_cost, is_taught, IsDay}

@@ -7,8 +7,8 @@ use Rattle.tt_lists.specs.Words.{range_below}
 use Rattle.tt_lists.proofs.Range.{all_below}
 use Rattle.tt_lists.proofs.Sums.{sum_by-nothing}
 use Rattle.tt_lists.proofs.Tests.{sum_by-same_below, sum_further}
-use Rattle.tt_instance.specs.Problem.{Problem}
-use Rattle.tt_instance.specs.Courses.{lectures}
+use Rattle.tt_instance_data.specs.Problem.{Problem}
+use Rattle.tt_instance_data.specs.Courses.{lectures}
 use Rattle.tt_groups.specs.Group.{Group}
 use Rattle.tt_groups.specs.Places.{weights_from, place_of, group_sizes, group_digits, group_amounts}
 use Rattle.tt_groups.specs.Plans.{slack}

@@ -7,8 +7,8 @@ use Rattle.tt_lists.specs.Words.{range_below}
 use Rattle.tt_lists.proofs.Range.{all_below, all_same_below}
 use Rattle.tt_lists.proofs.Tests.{sum_by-same_below}
 use Rattle.tt_lists.proofs.Zipped.{zip_append}
-use Rattle.tt_instance.specs.Problem.{Problem}
-use Rattle.tt_instance.specs.Courses.{lectures}
+use Rattle.tt_instance_data.specs.Problem.{Problem}
+use Rattle.tt_instance_data.specs.Courses.{lectures}
 use Rattle.tt_groups.specs.Group.{Group, IsGroupBound}
 use Rattle.tt_groups.specs.Listed.{AreCourses, IsDayList}
 use Rattle.tt_groups_week.specs.Fold.{AreMovesOf}

@@ -8,8 +8,8 @@ use Rattle.tt_lists.specs.Words.{range_below}
 use Rattle.tt_lists.proofs.Range.{at_below}
 use Rattle.tt_lists.proofs.Sums.{sum_by-same, sum_by-nothing}
 use Rattle.tt_lists.proofs.Tests.{sum_by-same_below}
-use Rattle.tt_instance.specs.Problem.{Problem}
-use Rattle.tt_instance.specs.Courses.{lectures}
+use Rattle.tt_instance_data.specs.Problem.{Problem}
+use Rattle.tt_instance_data.specs.Courses.{lectures}
 use Rattle.tt_groups.specs.Group.{Group, concerns}
 use Rattle.tt_groups.specs.Listed.{AreCourses, IsReachedDay}
 use Rattle.tt_groups.specs.Places.{weights_from, place_of, group_sizes, group_digits, group_amounts}

@@ -7,7 +7,7 @@ use crate::lists::{put_courses_without_curriculum, put_small_curricula, put_smal
 use crate::shown::{Counted, Name};
 use crate::summary::{most_seats, periods_of_week, places};
 use std::alloc::AllocError;
-use tt_instance::Instance;
+use tt_instance_data::Instance;
 
 /// Courses no two of which can have lectures at the same time, and why.
 #[derive(Clone, Copy)]

@@ -1,7 +1,7 @@
 //! Numbers that are counted once for an instance and used by all texts about it.
 
 use std::alloc::{AllocError, Global};
-use tt_instance::Instance;
+use tt_instance_data::Instance;
 
 /// Counts of each course, and the courses of each teacher.
 #[derive(Drop)]

@@ -3,7 +3,7 @@
 use crate::counts::Counts;
 use crate::shown::{Counted, Name};
 use std::alloc::AllocError;
-use tt_instance::Instance;
+use tt_instance_data::Instance;
 
 /// The maximum number of names of a line.
 const MAX_NAMES: usize = 8;

@@ -2,7 +2,7 @@
 
 use crate::shown::{Counted, Name};
 use std::alloc::AllocError;
-use tt_instance::Instance;
+use tt_instance_data::Instance;
 use tt_rules::Score;
 use tt_table::Timetable;
 

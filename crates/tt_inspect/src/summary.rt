@@ -3,7 +3,7 @@
 use crate::counts::Counts;
 use crate::shown::Counted;
 use std::alloc::AllocError;
-use tt_instance::Instance;
+use tt_instance_data::Instance;
 
 /// Returns a part of a whole in percent, rounded down.
 fn percent(part: u64, whole: u64) -> u64 {

@@ -12,10 +12,10 @@ use Rattle.tt_lists.proofs.Members.{member_from_any}
 use Rattle.tt_lists.proofs.Numbers.{any_below}
 use Rattle.tt_lists.proofs.Range.{each_below}
 use Rattle.tt_lists.proofs.Truth.{same_truth}
-use Rattle.tt_instance.specs.Problem.{Problem}
-use Rattle.tt_instance.specs.Cells.{all_courses}
-use Rattle.tt_instance.specs.Courses.{in_curriculum, conflict}
-use Rattle.tt_instance.proofs.Exclusion.{conflict-turn}
+use Rattle.tt_instance_data.specs.Problem.{Problem}
+use Rattle.tt_instance_data.specs.Cells.{all_courses}
+use Rattle.tt_instance_data.specs.Courses.{in_curriculum, conflict}
+use Rattle.tt_instance_data.proofs.Exclusion.{conflict-turn}
 use Rattle.tt_instance_links.specs.Links.{curricula_of, conflicts_of}
 
 -- the curricula are those that the course is in

@@ -3,11 +3,11 @@ use Rattle.std.proofs.Common.{◌≡◌, ℕ, ◌≤◌, ◌<◌, List, length, 
 use Rattle.std.proofs.lemmas.List.Elements.{All-contains, All-from_recursion}
 use Rattle.tt_lists.proofs.Finding.{find_member}
 use Rattle.tt_lists.proofs.Given.{each_given}
-use Rattle.tt_instance.specs.Problem.{Problem}
-use Rattle.tt_instance.specs.Limits.{IsInstance}
-use Rattle.tt_instance.specs.Cells.{cell, all_slots, all_rooms}
-use Rattle.tt_instance.specs.Courses.{excess}
-use Rattle.tt_instance.proofs.CourseLimits.{few_students}
+use Rattle.tt_instance_data.specs.Problem.{Problem}
+use Rattle.tt_instance_data.specs.Limits.{IsInstance}
+use Rattle.tt_instance_data.specs.Cells.{cell, all_slots, all_rooms}
+use Rattle.tt_instance_data.specs.Courses.{excess}
+use Rattle.tt_instance_data.proofs.CourseLimits.{few_students}
 use Rattle.tt_facts_path.specs.Live.{is_live, least_excess}
 use Rattle.tt_facts_path.specs.declared.facts.Fact.{Fact}
 use Rattle.tt_facts_path.proofs.Least.{least_short}

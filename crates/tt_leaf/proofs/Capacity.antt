@@ -9,13 +9,13 @@ use Rattle.tt_lists.proofs.Members.{each_member, any_member, none_passes}
 use Rattle.tt_lists.proofs.Counting.{count_both, count_all, cond-le_cond}
 use Rattle.tt_lists.proofs.Finding.{find_passes, find_none, greatest}
 use Rattle.tt_lists.proofs.Given.{or_zero, at_least_value, count_in, count_by-filter_map, length-filter_map}
-use Rattle.tt_instance.specs.Problem.{Problem}
-use Rattle.tt_instance.specs.Cells.{slot_of, cell, is_at, is_of, all_slots, all_rooms}
-use Rattle.tt_instance.specs.Courses.{lectures, conflict, excess}
-use Rattle.tt_instance.specs.declared.cell.Slot.{Slot}
-use Rattle.tt_instance.specs.declared.cell.Cell.{Cell}
-use Rattle.tt_instance.proofs.Places.{any_slot}
-use Rattle.tt_instance.proofs.Cells.{at_itself, is_at-slot}
+use Rattle.tt_instance_data.specs.Problem.{Problem}
+use Rattle.tt_instance_data.specs.Cells.{slot_of, cell, is_at, is_of, all_slots, all_rooms}
+use Rattle.tt_instance_data.specs.Courses.{lectures, conflict, excess}
+use Rattle.tt_instance_data.specs.declared.cell.Slot.{Slot}
+use Rattle.tt_instance_data.specs.declared.cell.Cell.{Cell}
+use Rattle.tt_instance_data.proofs.Places.{any_slot}
+use Rattle.tt_instance_data.proofs.Cells.{at_itself, is_at-slot}
 use Rattle.tt_rules.specs.Hard.{entries_of}
 use Rattle.tt_facts_path.specs.Live.{is_live, live_period, least_excess}
 use Rattle.tt_facts_path.specs.declared.facts.Fact.{Fact}

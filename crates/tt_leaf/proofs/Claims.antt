@@ -14,8 +14,8 @@ use Rattle.tt_lists.proofs.Below.{all_pass}
 use Rattle.tt_lists.proofs.Filters.{each_two_kept, each_two-of_filter, sum_by-of_filter, filter_all_pass}
 use Rattle.tt_lists.proofs.Range.{distinct_below, each_below}
 use Rattle.tt_lists.proofs.Tested.{each_append, each_flat, each_map}
-use Rattle.tt_instance.specs.Problem.{Problem}
-use Rattle.tt_instance.specs.Cells.{all_courses, all_curricula}
+use Rattle.tt_instance_data.specs.Problem.{Problem}
+use Rattle.tt_instance_data.specs.Cells.{all_courses, all_curricula}
 use Rattle.tt_facts_path.specs.declared.facts.Fact.{Fact}
 use Rattle.tt_leaf_rules.specs.Claims.{Target, RoomCapacity, WorkingDays, Compactness, Stability, targets_of, claimed, is_fair, value_of, total_of}
 use Rattle.tt_leaf_rules.specs.Tests.{claims_once, same_target}

@@ -10,15 +10,15 @@ use Rattle.tt_lists.proofs.Numbers.{any_below}
 use Rattle.tt_lists.proofs.Members.{at_member, each_member, member_from_any, any_member}
 use Rattle.tt_lists.proofs.Counting.{counted_once}
 use Rattle.tt_lists.proofs.Range.{below_member, each_below}
-use Rattle.tt_instance.specs.Problem.{Problem}
-use Rattle.tt_instance.specs.Limits.{IsInstance}
-use Rattle.tt_instance.specs.Cells.{slot, slot_of, cell, next_to, is_at, is_of, is_in, is_on, all_slots, all_rooms, all_days, all_courses, all_curricula}
-use Rattle.tt_instance.specs.Courses.{members, in_curriculum, excess}
-use Rattle.tt_instance.specs.declared.cell.Slot.{Slot}
-use Rattle.tt_instance.specs.declared.cell.Cell.{Cell}
-use Rattle.tt_instance.proofs.Places.{any_slot}
-use Rattle.tt_instance.proofs.Cells.{at_itself, is_at-slot, IsSlot, each_slot}
-use Rattle.tt_instance.proofs.Limits.{members_below}
+use Rattle.tt_instance_data.specs.Problem.{Problem}
+use Rattle.tt_instance_data.specs.Limits.{IsInstance}
+use Rattle.tt_instance_data.specs.Cells.{slot, slot_of, cell, next_to, is_at, is_of, is_in, is_on, all_slots, all_rooms, all_days, all_courses, all_curricula}
+use Rattle.tt_instance_data.specs.Courses.{members, in_curriculum, excess}
+use Rattle.tt_instance_data.specs.declared.cell.Slot.{Slot}
+use Rattle.tt_instance_data.specs.declared.cell.Cell.{Cell}
+use Rattle.tt_instance_data.proofs.Places.{any_slot}
+use Rattle.tt_instance_data.proofs.Cells.{at_itself, is_at-slot, IsSlot, each_slot}
+use Rattle.tt_instance_data.proofs.Limits.{members_below}
 use Rattle.tt_rules.specs.Soft.{days_of, days_cost, is_isolated, compactness_cost, stability_cost, capacity_count}
 use Rattle.tt_rules.specs.Score.{IsFeasible, cost}
 use Rattle.tt_facts_path.specs.Facts.{Fits}

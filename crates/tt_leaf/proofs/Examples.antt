@@ -1,7 +1,7 @@
 -- Best claims and prices on small instances, evaluated by the definitions.
 use Rattle.std.proofs.Common.{◌≡◌, List, [], ◌∷◌, Some, None, refl, codes}
-use Rattle.tt_instance.proofs.Examples.{course, room, week, gap, wide}
-use Rattle.tt_instance.specs.Problem.{Problem}
+use Rattle.tt_instance_data.proofs.Examples.{course, room, week, gap, wide}
+use Rattle.tt_instance_data.specs.Problem.{Problem}
 use Rattle.tt_facts_path.specs.declared.facts.Fact.{Fact}
 use Rattle.tt_facts_path.proofs.Examples.{yes}
 use Rattle.tt_leaf_rules.specs.Faults.{fault_of}

@@ -13,14 +13,14 @@ use Rattle.tt_lists.proofs.Members.{member_from_any, any_member, each_member, no
 use Rattle.tt_lists.proofs.Tested.{fails_with}
 use Rattle.tt_lists.proofs.Counting.{counted_once, pairs_none}
 use Rattle.tt_lists.proofs.Range.{below_member}
-use Rattle.tt_instance.specs.Problem.{Problem}
-use Rattle.tt_instance.specs.Cells.{slot_of, cell, is_at, is_of, all_cells, all_slots, all_rooms, all_courses, InRange}
-use Rattle.tt_instance.specs.Courses.{lectures, one_teacher, one_curriculum, conflict, unavailable}
-use Rattle.tt_instance.specs.declared.cell.Slot.{Slot}
-use Rattle.tt_instance.specs.declared.cell.Cell.{Cell}
-use Rattle.tt_instance.proofs.Places.{any_slot}
-use Rattle.tt_instance.proofs.Exclusion.{conflict-turn}
-use Rattle.tt_instance.proofs.Cells.{at_itself, is_at-slot, IsSlot, each_slot, each_cell}
+use Rattle.tt_instance_data.specs.Problem.{Problem}
+use Rattle.tt_instance_data.specs.Cells.{slot_of, cell, is_at, is_of, all_cells, all_slots, all_rooms, all_courses, InRange}
+use Rattle.tt_instance_data.specs.Courses.{lectures, one_teacher, one_curriculum, conflict, unavailable}
+use Rattle.tt_instance_data.specs.declared.cell.Slot.{Slot}
+use Rattle.tt_instance_data.specs.declared.cell.Cell.{Cell}
+use Rattle.tt_instance_data.proofs.Places.{any_slot}
+use Rattle.tt_instance_data.proofs.Exclusion.{conflict-turn}
+use Rattle.tt_instance_data.proofs.Cells.{at_itself, is_at-slot, IsSlot, each_slot, each_cell}
 use Rattle.tt_rules.specs.Hard.{entries_of, periods_of, lectures_off, entries_in, collide, conflicts_count, availability_count, occupancy_count}
 use Rattle.tt_rules.specs.Score.{IsFeasible}
 use Rattle.tt_rules.proofs.Feasible.{periods-le_entries}

@@ -6,13 +6,13 @@ use Rattle.std.proofs.lemmas.Bool.{and_parts, and_from, or_left, or_right, cases
 use Rattle.tt_lists.proofs.Below.{all_pass}
 use Rattle.tt_lists.proofs.Counting.{one_passes}
 use Rattle.tt_lists.proofs.Members.{any_member}
-use Rattle.tt_instance.specs.Problem.{Problem}
-use Rattle.tt_instance.specs.Cells.{slot_of, is_at, is_of, is_in, all_cells, InRange, same_cell}
-use Rattle.tt_instance.specs.Courses.{in_curriculum, conflict}
-use Rattle.tt_instance.specs.declared.cell.Slot.{Slot}
-use Rattle.tt_instance.specs.declared.cell.Cell.{Cell}
-use Rattle.tt_instance.proofs.Cells.{is_cell}
-use Rattle.tt_instance.proofs.Fellows.{fellows}
+use Rattle.tt_instance_data.specs.Problem.{Problem}
+use Rattle.tt_instance_data.specs.Cells.{slot_of, is_at, is_of, is_in, all_cells, InRange, same_cell}
+use Rattle.tt_instance_data.specs.Courses.{in_curriculum, conflict}
+use Rattle.tt_instance_data.specs.declared.cell.Slot.{Slot}
+use Rattle.tt_instance_data.specs.declared.cell.Cell.{Cell}
+use Rattle.tt_instance_data.proofs.Cells.{is_cell}
+use Rattle.tt_instance_data.proofs.Fellows.{fellows}
 use Rattle.tt_rules.specs.Hard.{entries_in}
 use Rattle.tt_facts_path.specs.Facts.{matches, has_fact}
 use Rattle.tt_facts_path.specs.Live.{clash, is_barred, excludes, is_dead, is_live}

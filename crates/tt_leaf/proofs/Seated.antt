@@ -6,11 +6,11 @@ use Rattle.std.proofs.lemmas.List.Sums.{sum_by-take-le}
 use Rattle.tt_lists.proofs.Sums.{sum_by-le, cond-le, each}
 use Rattle.tt_lists.proofs.Finding.{find_passes}
 use Rattle.tt_lists.proofs.Given.{count_in, count_by-filter_map}
-use Rattle.tt_instance.specs.Problem.{Problem}
-use Rattle.tt_instance.specs.Cells.{all_slots}
-use Rattle.tt_instance.specs.Courses.{lectures}
-use Rattle.tt_instance.specs.declared.cell.Slot.{Slot}
-use Rattle.tt_instance.proofs.Slots.{slots_count_yes}
+use Rattle.tt_instance_data.specs.Problem.{Problem}
+use Rattle.tt_instance_data.specs.Cells.{all_slots}
+use Rattle.tt_instance_data.specs.Courses.{lectures}
+use Rattle.tt_instance_data.specs.declared.cell.Slot.{Slot}
+use Rattle.tt_instance_data.proofs.Slots.{slots_count_yes}
 use Rattle.tt_facts_path.specs.Live.{least_excess}
 use Rattle.tt_facts_path.specs.declared.facts.Fact.{Fact}
 use Rattle.tt_leaf_rules.specs.Claims.{value_of}

@@ -1,9 +1,9 @@
 -- The leaf of the claims of positive value.
 use Rattle.std.specs.Prelude.{ℕ, min, nat_lt, nat_le, ◌&&◌, Bool, List, [], ◌∷◌, ◌++◌, length, map, flat_map, filter, Option, Some, None, count_by}
 use Rattle.std.specs.List.{find, filter_map}
-use Rattle.tt_instance.specs.Problem.{Problem}
-use Rattle.tt_instance.specs.Cells.{all_courses, all_curricula, all_slots}
-use Rattle.tt_instance.specs.Courses.{lectures}
+use Rattle.tt_instance_data.specs.Problem.{Problem}
+use Rattle.tt_instance_data.specs.Cells.{all_courses, all_curricula, all_slots}
+use Rattle.tt_instance_data.specs.Courses.{lectures}
 use Rattle.tt_facts_path.specs.Live.{least_excess}
 use Rattle.tt_facts_path.specs.declared.facts.Fact.{Fact}
 use Rattle.tt_leaf_rules.specs.Claims.{value_of}

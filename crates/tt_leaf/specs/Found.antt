@@ -1,5 +1,5 @@
 -- The properties of a leaf that was found.
-use Rattle.tt_instance.specs.Problem.{Problem}
+use Rattle.tt_instance_data.specs.Problem.{Problem}
 use Rattle.std.specs.Prelude.{◌≡◌, ℕ, true, List, All}
 use Rattle.tt_lists.specs.Words.{are_distinct}
 use Rattle.tt_facts_path.specs.Facts.{IsPattern}

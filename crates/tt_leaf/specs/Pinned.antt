@@ -1,8 +1,8 @@
 -- Paths that leave at most one timetable possible, and the leaves that are tried on a path.
 use Rattle.std.specs.Prelude.{◌≡◌, ℕ, ◌<◌, true, List, [], ◌∷◌, length, Some, Contains}
-use Rattle.tt_instance.specs.Problem.{Problem}
-use Rattle.tt_instance.specs.Cells.{InRange}
-use Rattle.tt_instance.specs.declared.cell.Cell.{Cell}
+use Rattle.tt_instance_data.specs.Problem.{Problem}
+use Rattle.tt_instance_data.specs.Cells.{InRange}
+use Rattle.tt_instance_data.specs.declared.cell.Cell.{Cell}
 use Rattle.tt_facts_path.specs.Facts.{has_fact}
 use Rattle.tt_facts_path.specs.Live.{is_live}
 use Rattle.tt_facts_path.specs.declared.facts.Who.TheVariants.{Course}

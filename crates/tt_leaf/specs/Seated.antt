@@ -1,8 +1,8 @@
 -- Periods that seat all students of a course, as the code counts them. Not part of the trusted statement.
 use Rattle.std.specs.Prelude.{ℕ, ◌==◌, Bool, false, List, Option, Some, None, count_by}
-use Rattle.tt_instance.specs.Problem.{Problem}
-use Rattle.tt_instance.specs.Cells.{all_slots}
-use Rattle.tt_instance.specs.declared.cell.Slot.{Slot}
+use Rattle.tt_instance_data.specs.Problem.{Problem}
+use Rattle.tt_instance_data.specs.Cells.{all_slots}
+use Rattle.tt_instance_data.specs.declared.cell.Slot.{Slot}
 use Rattle.tt_facts_path.specs.Live.{least_excess}
 use Rattle.tt_facts_path.specs.declared.facts.Fact.{Fact}
 

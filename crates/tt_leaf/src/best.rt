@@ -1,7 +1,7 @@
 //! The leaf of the claims of positive value.
 
 ghost use Rattle.std.specs.Prelude.{◌≡◌, ◌<◌, [], ◌∷◌, ◌++◌, length, map, IfOk, OnOk};
-ghost use Rattle.tt_instance.specs.Cells.{all_courses, all_curricula};
+ghost use Rattle.tt_instance_data.specs.Cells.{all_courses, all_curricula};
 ghost use Rattle.tt_leaf_rules.specs.Ranges.{IsClaimOf};
 ghost use Rattle.tt_leaf_rules.specs.declared.leaf.Claim.TheVariants.{Days, Compact, Stable, Stacked};
 ghost use Rattle.tt_leaf.specs.Best.{capacity_claims, worth, best_leaf, stacked_leaf};

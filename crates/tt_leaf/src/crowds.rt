@@ -8,7 +8,7 @@ use crate::prices::{has_seats, price_of};
 use crate::rivals::rivals_of;
 use std::alloc::{AllocError, Global};
 use tt_facts_path::Path;
-use tt_instance::Instance;
+use tt_instance_data::Instance;
 use tt_leaf_rules::{Claim, claim_value};
 
 /// The maximum number of cells of an instance in which groups are searched for.

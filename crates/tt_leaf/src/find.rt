@@ -1,7 +1,7 @@
 //! The search for a leaf that closes a node.
 
 ghost use Rattle.std.specs.Prelude.{◌≡◌, ◌<◌, ◌↔◌, [], ◌∷◌, List, length, All, Contains, true, IsTrue, IfOk, IfSome, IsSome, IsNone, ℕ};
-ghost use Rattle.tt_instance.specs.declared.cell.Cell.{Cell};
+ghost use Rattle.tt_instance_data.specs.declared.cell.Cell.{Cell};
 ghost use Rattle.tt_rules.specs.Score.{IsFeasible, cost};
 ghost use Rattle.tt_facts_path.specs.Facts.{IsPattern, Fits};
 ghost use Rattle.tt_facts_path.specs.declared.facts.Fact.{Fact};

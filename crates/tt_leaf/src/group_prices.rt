@@ -4,7 +4,7 @@ ghost use Rattle.std.specs.Prelude.{◌<◌, length};
 
 use crate::grid::Grid;
 use std::alloc::{AllocError, Global};
-use tt_instance::Instance;
+use tt_instance_data::Instance;
 
 /// Prices of the courses of a group and of rooms, by number, 0 for none; and their value.
 #[derive(Drop)]

@@ -1,9 +1,9 @@
 //! Which nodes the leaves that are tried close.
 
 ghost use Rattle.std.specs.Prelude.{List};
-ghost use Rattle.tt_instance.specs.Problem.{Problem};
-ghost use Rattle.tt_instance.specs.Limits.{IsInstance};
-ghost use Rattle.tt_instance.specs.declared.cell.Cell.{Cell};
+ghost use Rattle.tt_instance_data.specs.Problem.{Problem};
+ghost use Rattle.tt_instance_data.specs.Limits.{IsInstance};
+ghost use Rattle.tt_instance_data.specs.declared.cell.Cell.{Cell};
 ghost use Rattle.tt_rules.specs.Score.{IsFeasible, cost};
 ghost use Rattle.tt_facts_path.specs.Facts.{Fits};
 ghost use Rattle.tt_facts_path.specs.declared.facts.Fact.{Fact};

@@ -5,7 +5,7 @@ ghost use Rattle.tt_leaf_rules.specs.Ranges.{AreBelow};
 ghost use Rattle.tt_leaf.specs.Found.{IsAnswer, AreNumbers};
 
 use std::alloc::{AllocError, Global};
-use tt_instance::Instance;
+use tt_instance_data::Instance;
 use tt_leaf_rules::{CourseList, Leaf};
 
 /// Courses that share the periods of the week.

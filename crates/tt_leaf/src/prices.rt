@@ -5,17 +5,17 @@ ghost use Rattle.std.specs.List.{cons_option};
 ghost use Rattle.std.specs.Ordering.{nat_cmp};
 ghost use Rattle.std.specs.Vec.Iter.{into_iter_items};
 ghost use Rattle.itertools.specs.Extremes.{IsKLeast, by_cmp};
-ghost use Rattle.tt_instance.specs.Cells.{slot};
-ghost use Rattle.tt_instance.specs.Courses.{lectures};
+ghost use Rattle.tt_instance_data.specs.Cells.{slot};
+ghost use Rattle.tt_instance_data.specs.Courses.{lectures};
 ghost use Rattle.tt_leaf.specs.Best.{kth_smallest, least_excesses, price_of};
 ghost use Rattle.tt_leaf.specs.Seated.{is_seated, seated_periods};
-ghost use Rattle.tt_instance.specs.declared.limit.TheConstants.{MAX_SEATS};
+ghost use Rattle.tt_instance_data.specs.declared.limit.TheConstants.{MAX_SEATS};
 
 use itertools::Itertools;
 use std::alloc::{AllocError, Global};
 use std::vec::IntoIter;
 use tt_facts_path::Path;
-use tt_instance::Slot;
+use tt_instance_data::Slot;
 use tt_leaf_rules::{slot_at, slot_count};
 
 /// Returns the `k` smallest numbers, in ascending order.

@@ -4,7 +4,7 @@ ghost use Rattle.std.specs.Prelude.{◌<◌, length};
 
 use crate::grid::Grid;
 use std::alloc::{AllocError, Global};
-use tt_instance::Instance;
+use tt_instance_data::Instance;
 
 /// A group that grows from one course.
 #[derive(Drop)]

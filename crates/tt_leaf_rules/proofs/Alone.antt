@@ -4,9 +4,9 @@ use Rattle.std.specs.Prelude.{nat_lt}
 use Rattle.std.proofs.lemmas.Bool.{cases_lt, lt-ltb, le-ltb}
 use Rattle.tt_bits.specs.Bits.{has_bit}
 use Rattle.tt_bits.proofs.BitLaws.{has_bit-none}
-use Rattle.tt_instance.specs.Problem.{Problem}
-use Rattle.tt_instance.specs.Cells.{slot}
-use Rattle.tt_instance.specs.Courses.{members}
+use Rattle.tt_instance_data.specs.Problem.{Problem}
+use Rattle.tt_instance_data.specs.Cells.{slot}
+use Rattle.tt_instance_data.specs.Courses.{members}
 use Rattle.tt_facts_path.specs.Live.{pinned}
 use Rattle.tt_facts_path.specs.declared.facts.Fact.{Fact}
 use Rattle.tt_facts_path.specs.declared.facts.Who.TheVariants.{Curriculum}

@@ -12,10 +12,10 @@ use Rattle.tt_lists.proofs.Range.{at_below}
 use Rattle.tt_lists.proofs.Truth.{wanted, same_truth}
 use Rattle.tt_bits.specs.Bits.{has_bit, bits, each_bit}
 use Rattle.tt_bits.proofs.BitLaws.{each_bit_from, each_bit_at, each_bit-none, none-bit, bit_from_any}
-use Rattle.tt_instance.specs.Problem.{Problem}
-use Rattle.tt_instance.specs.Cells.{cell, all_slots}
-use Rattle.tt_instance.specs.Courses.{excess}
-use Rattle.tt_instance.specs.declared.cell.Slot.{Slot}
+use Rattle.tt_instance_data.specs.Problem.{Problem}
+use Rattle.tt_instance_data.specs.Cells.{cell, all_slots}
+use Rattle.tt_instance_data.specs.Courses.{excess}
+use Rattle.tt_instance_data.specs.declared.cell.Slot.{Slot}
 use Rattle.tt_facts_path.specs.Live.{is_dead}
 use Rattle.tt_facts_path.specs.declared.facts.Fact.{Fact}
 use Rattle.tt_leaf_rules.specs.Claims.{price_in, is_covered}

@@ -1,7 +1,7 @@
 -- Leaves on small instances, evaluated by the definitions.
 use Rattle.std.proofs.Common.{◌≡◌, ℕ, List, [], ◌∷◌, Some, None, refl, codes}
-use Rattle.tt_instance.specs.Problem.{Problem}
-use Rattle.tt_instance.proofs.Examples.{course, room, week, mini, gap, wide, same, apart}
+use Rattle.tt_instance_data.specs.Problem.{Problem}
+use Rattle.tt_instance_data.proofs.Examples.{course, room, week, mini, gap, wide, same, apart}
 use Rattle.tt_facts_path.specs.declared.facts.Who.TheVariants.{Course}
 use Rattle.tt_facts_path.specs.declared.facts.Pattern.{Pattern}
 use Rattle.tt_facts_path.specs.declared.facts.Fact.{Fact}

@@ -4,8 +4,8 @@ use Rattle.std.specs.Prelude.{nat_lt, nat_le, ◌==◌, ◌↔◌, IsTrue, is_ok
 use Rattle.std.specs.List.{list_all}
 use Rattle.std.proofs.lemmas.Bool.{and_parts, and_from}
 use Rattle.tt_lists.specs.Words.{each_two, are_distinct}
-use Rattle.tt_instance.specs.Problem.{Problem}
-use Rattle.tt_instance.specs.Courses.{lectures, conflict}
+use Rattle.tt_instance_data.specs.Problem.{Problem}
+use Rattle.tt_instance_data.specs.Courses.{lectures, conflict}
 use Rattle.tt_facts_path.specs.Facts.{has_fact}
 use Rattle.tt_facts_path.specs.Live.{pinned_periods}
 use Rattle.tt_facts_path.specs.declared.facts.Who.TheVariants.{Course}

@@ -15,7 +15,7 @@ use Rattle.tt_lists.proofs.Counting.{length-le_sum}
 use Rattle.tt_lists.proofs.Tested.{each_append}
 use Rattle.tt_lists.proofs.Members.{each_two-of_map}
 use Rattle.tt_lists.proofs.Apart.{distinct_sum}
-use Rattle.tt_instance.specs.Problem.{Problem}
+use Rattle.tt_instance_data.specs.Problem.{Problem}
 use Rattle.tt_leaf_rules.specs.Claims.{Target, RoomCapacity, targets_of, claimed}
 use Rattle.tt_leaf_rules.specs.Nested.{PricesBelow, IsOnce}
 use Rattle.tt_leaf_rules.specs.Ranges.{AreBelow, ArePrices, IsClaimOf}

@@ -7,10 +7,10 @@ use Rattle.tt_lists.proofs.Numbers.{sum_more}
 use Rattle.tt_lists.proofs.Sums.{sum_by-same, sum_by-of_map, sum_by-of_flat_map}
 use Rattle.tt_bits.specs.Bits.{has_bit, bits}
 use Rattle.tt_bits.proofs.Counts.{count-set}
-use Rattle.tt_instance.specs.Problem.{Problem}
-use Rattle.tt_instance.specs.Cells.{slot, all_slots, all_days}
-use Rattle.tt_instance.specs.declared.cell.Slot.{Slot}
-use Rattle.tt_instance.proofs.Slots.{length-all_slots}
+use Rattle.tt_instance_data.specs.Problem.{Problem}
+use Rattle.tt_instance_data.specs.Cells.{slot, all_slots, all_days}
+use Rattle.tt_instance_data.specs.declared.cell.Slot.{Slot}
+use Rattle.tt_instance_data.proofs.Slots.{length-all_slots}
 
 -- how many periods of a day pass
 abbrev pub on_day : Problem → (Slot → Bool) → ℕ → ℕ

@@ -2,8 +2,8 @@
 use Rattle.std.specs.Prelude.{nat_lt, nat_le, Bool, true, List, Option, Some, None, if◌then◌else◌}
 use Rattle.std.specs.List.{list_all}
 use Rattle.tt_lists.specs.Words.{are_distinct}
-use Rattle.tt_instance.specs.Problem.{Problem}
-use Rattle.tt_instance.specs.Courses.{lectures}
+use Rattle.tt_instance_data.specs.Problem.{Problem}
+use Rattle.tt_instance_data.specs.Courses.{lectures}
 use Rattle.tt_facts_path.specs.Facts.{has_fact}
 use Rattle.tt_facts_path.specs.Live.{pinned_periods}
 use Rattle.tt_facts_path.specs.declared.facts.Who.TheVariants.{Course}

@@ -2,9 +2,9 @@
 use Rattle.std.specs.Prelude.{◌≡◌, ℕ, ◌<◌, ◌≤◌, Bool, true, not, ◌||◌, List, length, Contains, sum_by, count_by}
 use Rattle.std.specs.List.{list_any, list_all}
 use Rattle.tt_lists.specs.Words.{each_two, AreDistinct}
-use Rattle.tt_instance.specs.Problem.{Problem}
-use Rattle.tt_instance.specs.Cells.{cell, all_rooms, all_slots, all_cells}
-use Rattle.tt_instance.specs.Courses.{lectures, conflict}
+use Rattle.tt_instance_data.specs.Problem.{Problem}
+use Rattle.tt_instance_data.specs.Cells.{cell, all_rooms, all_slots, all_cells}
+use Rattle.tt_instance_data.specs.Courses.{lectures, conflict}
 use Rattle.tt_facts_path.specs.Facts.{matches}
 use Rattle.tt_facts_path.specs.Live.{is_dead, is_live, live_period, pinned_periods}
 use Rattle.tt_facts_path.specs.declared.facts.Who.TheVariants.{Course}

@@ -4,10 +4,10 @@ use Rattle.std.specs.Prelude.{◌≡◌, ℕ, ◌+◌, ◌-◌, ◌*◌, ◌<◌
 use Rattle.std.specs.List.{list_any, list_all}
 use Rattle.tt_lists.specs.Words.{each_two}
 use Rattle.tt_bits.specs.Bits.{each_bit}
-use Rattle.tt_instance.specs.Problem.{Problem}
-use Rattle.tt_instance.specs.Cells.{slot, cell, all_rooms, all_slots}
-use Rattle.tt_instance.specs.Courses.{lectures}
-use Rattle.tt_instance.specs.declared.cell.Slot.{Slot}
+use Rattle.tt_instance_data.specs.Problem.{Problem}
+use Rattle.tt_instance_data.specs.Cells.{slot, cell, all_rooms, all_slots}
+use Rattle.tt_instance_data.specs.Courses.{lectures}
+use Rattle.tt_instance_data.specs.declared.cell.Slot.{Slot}
 use Rattle.tt_facts_path.specs.Facts.{agrees}
 use Rattle.tt_facts_path.specs.Live.{is_dead, is_live, live_period, least_excess, pinned, pinned_room}
 use Rattle.tt_facts_path.specs.declared.facts.Who.TheVariants.{Curriculum}

@@ -1,7 +1,7 @@
 -- The numbers of a leaf.
 use Rattle.std.specs.Prelude.{◌≡◌, ℕ, ◌<◌, ◌==◌, true, not, List, length, map, All}
 use Rattle.tt_lists.specs.Words.{each_two}
-use Rattle.tt_instance.specs.Problem.{Problem}
+use Rattle.tt_instance_data.specs.Problem.{Problem}
 use Rattle.tt_facts_path.specs.Facts.{IsPattern}
 use Rattle.tt_leaf_rules.specs.declared.leaf.Claim.{Claim}
 use Rattle.tt_leaf_rules.specs.declared.leaf.Claim.TheVariants.{Capacity, Days, Compact, Stable, Prices, Stacked}

@@ -17,7 +17,7 @@ use crate::leaf::{Bound, Claim, Leaf, RuleFault};
 use crate::pinned::pinned_periods;
 use crate::targets::are_claimed_once;
 use tt_facts_path::{Path, Pattern, Who};
-use tt_instance::{MAX_COURSES, MAX_CURRICULA};
+use tt_instance_data::{MAX_COURSES, MAX_CURRICULA};
 
 fn fault_of_empty<'i, P: Path<'i>>(path: &P, pattern: &Pattern) -> Option<RuleFault>
     ensures { result ≡ fault_of (P.problem path.now) (P.facts path.now) Nothing (Empty pattern.now) }

@@ -1,8 +1,8 @@
 //! The meaning of the leaf rules.
 
 ghost use Rattle.std.specs.Prelude.{List};
-ghost use Rattle.tt_instance.specs.Problem.{Problem};
-ghost use Rattle.tt_instance.specs.declared.cell.Cell.{Cell};
+ghost use Rattle.tt_instance_data.specs.Problem.{Problem};
+ghost use Rattle.tt_instance_data.specs.declared.cell.Cell.{Cell};
 ghost use Rattle.tt_rules.specs.Score.{IsFeasible, cost};
 ghost use Rattle.tt_facts_path.specs.Facts.{Fits};
 ghost use Rattle.tt_facts_path.specs.declared.facts.Fact.{Fact};

@@ -6,8 +6,8 @@ use Rattle.std.proofs.lemmas.Bool.Decides.{nat_tests}
 use Rattle.tt_lists.specs.Words.{range_below}
 use Rattle.tt_lists.proofs.Sums.{one_if, count_by-cons, sum_by-same}
 use Rattle.tt_lists.proofs.Tests.{same_test}
-use Rattle.tt_instance.specs.Cells.{slot_of, is_of, is_at}
-use Rattle.tt_instance.specs.declared.cell.Cell.{Cell}
+use Rattle.tt_instance_data.specs.Cells.{slot_of, is_of, is_at}
+use Rattle.tt_instance_data.specs.declared.cell.Cell.{Cell}
 use Rattle.tt_occupancy_tallies.specs.Weight.{repeats}
 use Rattle.tt_occupancy_tallies.proofs.Chosen.{any_counted}
 use Rattle.tt_occupancy_tallies.proofs.Spreads.{used_more}

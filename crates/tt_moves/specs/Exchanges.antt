@@ -1,9 +1,9 @@
 -- Not part of the trusted statement: only proofs use this file.
 -- Exchanges of one entry for another of its course, and the exchanges that make a step.
 use Rattle.std.specs.Prelude.{◌≡◌, List, ◌∷◌, remove}
-use Rattle.tt_instance.specs.Problem.{Problem}
-use Rattle.tt_instance.specs.Cells.{InRange}
-use Rattle.tt_instance.specs.declared.cell.Cell.{Cell}
+use Rattle.tt_instance_data.specs.Problem.{Problem}
+use Rattle.tt_instance_data.specs.Cells.{InRange}
+use Rattle.tt_instance_data.specs.declared.cell.Cell.{Cell}
 use Rattle.tt_occupancy_tallies.specs.Bag.{SameBag}
 use Rattle.tt_occupancy.specs.Filled.{Filled}
 use Rattle.tt_moves.specs.Rests.{IsRest}

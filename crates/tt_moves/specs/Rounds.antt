@@ -1,9 +1,9 @@
 -- Not part of the trusted statement: only proofs use this file.
 -- Sets of periods of a day in words.
 use Rattle.std.specs.Prelude.{◌≡◌, ℕ, ◌+◌, ◌-◌, ◌<◌, Bool, cond, not, ◌&&◌, ◌||◌, List, nat_lt}
-use Rattle.tt_instance.specs.Cells.{slot, is_at}
-use Rattle.tt_instance.specs.Courses.{in_curriculum}
-use Rattle.tt_instance.specs.declared.cell.Cell.{Cell}
+use Rattle.tt_instance_data.specs.Cells.{slot, is_at}
+use Rattle.tt_instance_data.specs.Courses.{in_curriculum}
+use Rattle.tt_instance_data.specs.declared.cell.Cell.{Cell}
 use Rattle.tt_bits.specs.Bits.{has_bit}
 use Rattle.tt_occupancy_tallies.specs.Neighbours.{entries_at, has_neighbour}
 use Rattle.tt_moves.specs.Rests.{IsRest}

@@ -2,9 +2,9 @@
 
 ghost use Rattle.std.specs.Prelude.{◌≡◌, ℕ, ◌+◌, ◌*◌, ◌^◌, ◌<◌, ◌≤◌, ◌&&◌, nat_lt, cond, not, true, List, [], ◌∷◌, ◌++◌, length};
 ghost use Rattle.tt_bits.specs.Bits.{has_bit};
-ghost use Rattle.tt_instance.specs.Cells.{slot, is_at};
-ghost use Rattle.tt_instance.specs.Courses.{in_curriculum};
-ghost use Rattle.tt_instance.specs.declared.cell.Cell.{Cell};
+ghost use Rattle.tt_instance_data.specs.Cells.{slot, is_at};
+ghost use Rattle.tt_instance_data.specs.Courses.{in_curriculum};
+ghost use Rattle.tt_instance_data.specs.declared.cell.Cell.{Cell};
 ghost use Rattle.tt_occupancy_tallies.specs.Neighbours.{entries_at, joined_before, joined_after};
 ghost use Rattle.tt_occupancy.specs.NeighbourCounts.{IsIsolationChange};
 ghost use Rattle.tt_moves.specs.Rests.{IsRest, IsStill};
@@ -14,7 +14,7 @@ ghost use Rattle.tt_table.specs.declared.table.TheConstants.{MAX_ENTRIES};
 use crate::neighbours::neighbours;
 use crate::rest::WithoutEntry;
 use tt_bits::{has_bit, next, previous, without};
-use tt_instance::MAX_PERIODS;
+use tt_instance_data::MAX_PERIODS;
 use tt_occupancy::{IsolationChange, one_if};
 use tt_occupancy_tallies::put;
 use tt_table::Entry;

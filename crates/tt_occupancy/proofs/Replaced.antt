@@ -10,10 +10,10 @@ use Rattle.std.proofs.lemmas.Bool.{cases_lt}
 use Rattle.std.proofs.lemmas.Option.{get_or_from_slice_get}
 use Rattle.tt_lists.specs.Words.{range_below}
 use Rattle.tt_lists.proofs.Sums.{one_if, sum_by-same}
-use Rattle.tt_instance.specs.Problem.{Problem}
-use Rattle.tt_instance.specs.Cells.{InRange, is_of, is_in, is_at, slot}
-use Rattle.tt_instance.specs.Courses.{teachers}
-use Rattle.tt_instance.specs.declared.cell.Cell.{Cell}
+use Rattle.tt_instance_data.specs.Problem.{Problem}
+use Rattle.tt_instance_data.specs.Cells.{InRange, is_of, is_in, is_at, slot}
+use Rattle.tt_instance_data.specs.Courses.{teachers}
+use Rattle.tt_instance_data.specs.declared.cell.Cell.{Cell}
 use Rattle.tt_table.specs.Table.{IsTimetable}
 use Rattle.tt_rules.specs.Score.{IsScore}
 use Rattle.tt_rules.specs.declared.counts.Score.{Score}

@@ -5,10 +5,10 @@ use Rattle.std.proofs.lemmas.Bool.{cases_lt, lt-ltb, le-ltb, and_parts}
 use Rattle.std.proofs.lemmas.Bool.Decides.{nat_tests}
 use Rattle.tt_lists.proofs.Members.{none_counted}
 use Rattle.tt_lists.proofs.Sums.{sum_by-same}
-use Rattle.tt_instance.specs.Problem.{Problem}
-use Rattle.tt_instance.specs.Cells.{InRange, all_curricula, slot, is_at}
-use Rattle.tt_instance.specs.Courses.{in_curriculum}
-use Rattle.tt_instance.specs.declared.cell.Cell.{Cell}
+use Rattle.tt_instance_data.specs.Problem.{Problem}
+use Rattle.tt_instance_data.specs.Cells.{InRange, all_curricula, slot, is_at}
+use Rattle.tt_instance_data.specs.Courses.{in_curriculum}
+use Rattle.tt_instance_data.specs.declared.cell.Cell.{Cell}
 use Rattle.tt_table.specs.Table.{IsTimetable}
 use Rattle.tt_rules.specs.Soft.{is_isolated}
 use Rattle.tt_occupancy_tallies.specs.Neighbours.{entries_at, has_entry_at, has_neighbour, joined_before, joined_after}

@@ -1,8 +1,8 @@
 -- Not part of the trusted statement: only proofs use this file.
 -- The entries of a curriculum around a period.
 use Rattle.std.specs.Prelude.{◌≡◌, ℕ, ◌+◌, ◌-◌, cond, not, List, sum_by, count_by, nat_le}
-use Rattle.tt_instance.specs.Problem.{Problem}
-use Rattle.tt_instance.specs.declared.cell.Cell.{Cell}
+use Rattle.tt_instance_data.specs.Problem.{Problem}
+use Rattle.tt_instance_data.specs.declared.cell.Cell.{Cell}
 use Rattle.tt_occupancy_tallies.specs.Neighbours.{entries_at, has_neighbour, joined_before, joined_after}
 use Rattle.tt_occupancy.specs.declared.neighbour_counts.NeighbourCounts.{NeighbourCounts}
 use Rattle.tt_occupancy.specs.declared.isolation_change.IsolationChange.{IsolationChange}

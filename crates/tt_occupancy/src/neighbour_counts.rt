@@ -1,8 +1,8 @@
 //! The entries of a curriculum around a period.
 
 ghost use Rattle.std.specs.Prelude.{◌≡◌, ℕ, ◌+◌, ◌^◌, ◌<◌, ◌≤◌, not, List};
-ghost use Rattle.tt_instance.specs.Problem.{Problem};
-ghost use Rattle.tt_instance.specs.declared.cell.Cell.{Cell};
+ghost use Rattle.tt_instance_data.specs.Problem.{Problem};
+ghost use Rattle.tt_instance_data.specs.declared.cell.Cell.{Cell};
 ghost use Rattle.tt_occupancy_tallies.specs.Neighbours.{has_neighbour, joined_before, joined_after};
 ghost use Rattle.tt_occupancy.specs.NeighbourCounts.{AreNeighbourCounts};
 

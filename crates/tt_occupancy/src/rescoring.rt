@@ -1,8 +1,8 @@
 //! A score that is updated by weights.
 
 ghost use Rattle.std.specs.Prelude.{◌≡◌, ℕ, List, ◌∷◌};
-ghost use Rattle.tt_instance.specs.Problem.{Problem};
-ghost use Rattle.tt_instance.specs.declared.cell.Cell.{Cell};
+ghost use Rattle.tt_instance_data.specs.Problem.{Problem};
+ghost use Rattle.tt_instance_data.specs.declared.cell.Cell.{Cell};
 ghost use Rattle.tt_rules.specs.Score.{IsScore};
 ghost use Rattle.tt_occupancy.specs.Weights.{IsExchange, IsExchanged};
 

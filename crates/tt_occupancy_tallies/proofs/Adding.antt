@@ -4,15 +4,15 @@ use Rattle.std.specs.Prelude.{sum_by, count_by, ◌==◌, min, max}
 use Rattle.std.specs.List.{list_any}
 use Rattle.std.proofs.lemmas.List.Sums.{sum_by-cons}
 use Rattle.std.proofs.lemmas.Bool.{cases_lt, both_ways, and_parts, and_left, and_from, and_right}
-use Rattle.tt_instance.specs.Problem.{Problem}
-use Rattle.tt_instance.specs.Cells.{slot, slot_of, all_rooms, all_days, all_slots, InRange, is_of, is_at, is_in, is_on}
-use Rattle.tt_instance.specs.Courses.{lectures, min_days, unavailable, excess}
-use Rattle.tt_instance.specs.declared.cell.Slot.{Slot}
-use Rattle.tt_instance.specs.declared.cell.Cell.{Cell}
+use Rattle.tt_instance_data.specs.Problem.{Problem}
+use Rattle.tt_instance_data.specs.Cells.{slot, slot_of, all_rooms, all_days, all_slots, InRange, is_of, is_at, is_in, is_on}
+use Rattle.tt_instance_data.specs.Courses.{lectures, min_days, unavailable, excess}
+use Rattle.tt_instance_data.specs.declared.cell.Slot.{Slot}
+use Rattle.tt_instance_data.specs.declared.cell.Cell.{Cell}
 use Rattle.tt_rules.specs.Hard.{entries_of, periods_of, lectures_off, lectures_count, conflicts_count, availability_count, entries_in, occupancy_count}
 use Rattle.tt_rules.specs.Soft.{capacity_count, days_of, days_cost, days_count, stability_cost, stability_count}
 use Rattle.tt_lists.proofs.Sums.{one_if, one_if_true, one_if_false, count_by-cons, sum_by-same, sum_by-le, count_if_any, any_if_count, one_if_any, spread_down, once_at_most, each}
-use Rattle.tt_instance.proofs.Places.{count_slots}
+use Rattle.tt_instance_data.proofs.Places.{count_slots}
 use Rattle.tt_occupancy_tallies.specs.Weight.{repeats, shares, barred, against}
 use Rattle.tt_occupancy_tallies.proofs.Differ.{sum_by-differ, differ_below, once_below, once_slot}
 

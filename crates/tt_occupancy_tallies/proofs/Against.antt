@@ -3,10 +3,10 @@ use Rattle.std.proofs.Common.{◌≡◌, ℕ, Bool, true, false, ◌&&◌, List,
 use Rattle.std.specs.Prelude.{◌==◌, count_by}
 use Rattle.tt_lists.proofs.Sums.{one_if, sum_by-same}
 use Rattle.tt_lists.proofs.Tests.{same_test}
-use Rattle.tt_instance.specs.Problem.{Problem}
-use Rattle.tt_instance.specs.Cells.{slot, is_at}
-use Rattle.tt_instance.specs.Courses.{conflict}
-use Rattle.tt_instance.specs.declared.cell.Cell.{Cell}
+use Rattle.tt_instance_data.specs.Problem.{Problem}
+use Rattle.tt_instance_data.specs.Cells.{slot, is_at}
+use Rattle.tt_instance_data.specs.Courses.{conflict}
+use Rattle.tt_instance_data.specs.declared.cell.Cell.{Cell}
 use Rattle.tt_rules.specs.Hard.{collide}
 use Rattle.tt_occupancy_tallies.specs.Weight.{against}
 

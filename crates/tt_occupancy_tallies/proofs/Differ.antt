@@ -3,12 +3,12 @@ use Rattle.std.proofs.Common.{◌≡◌, ℕ, ◌+◌, ◌*◌, ◌<◌, Bool, t
 use Rattle.std.specs.Prelude.{sum_by, count_by, ◌==◌, ◌⊎◌}
 use Rattle.std.proofs.lemmas.Bool.{cases_Bool}
 use Rattle.tt_lists.specs.Words.{range_below}
-use Rattle.tt_instance.specs.Problem.{Problem}
-use Rattle.tt_instance.specs.Cells.{all_slots, is_at}
-use Rattle.tt_instance.specs.declared.cell.Cell.{Cell}
+use Rattle.tt_instance_data.specs.Problem.{Problem}
+use Rattle.tt_instance_data.specs.Cells.{all_slots, is_at}
+use Rattle.tt_instance_data.specs.declared.cell.Cell.{Cell}
 use Rattle.tt_lists.proofs.Sums.{sum_by-plus, sum_by-same, sum_by-at_places, count_if_any}
 use Rattle.tt_lists.proofs.Numbers.{any_below, count_below}
-use Rattle.tt_instance.proofs.Places.{any_slot, count_slots}
+use Rattle.tt_instance_data.proofs.Places.{any_slot, count_slots}
 
 -- the terms at the only place that passes are a and b, and elsewhere they are equal
 pub sum_by-differ : {X : Type 0} (f g : X → ℕ) (q : X → Bool) (a b : ℕ) (xs : List X) → count_by q xs ≡ 1 → ((x : X) → q x ≡ false → f x ≡ g x) → ((x : X) → q x ≡ true → (f x ≡ a) × (g x ≡ b)) → sum_by f xs + b ≡ sum_by g xs + a

@@ -1,7 +1,7 @@
 -- Examples of which teachers teach which courses, and weights of an entry next to one other entry, as computed by the definitions.
 use Rattle.std.proofs.Common.{◌≡◌, true, false, List, [], ◌∷◌, refl}
-use Rattle.tt_instance.specs.declared.cell.Cell.{Cell}
-use Rattle.tt_instance.proofs.Examples.{at, mini, same, gap}
+use Rattle.tt_instance_data.specs.declared.cell.Cell.{Cell}
+use Rattle.tt_instance_data.proofs.Examples.{at, mini, same, gap}
 use Rattle.tt_occupancy_tallies.specs.Tallies.{teaches}
 use Rattle.tt_occupancy_tallies.specs.Weight.{hard_weight, cost_rise, cost_fall}
 

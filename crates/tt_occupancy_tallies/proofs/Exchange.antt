@@ -2,10 +2,10 @@
 use Rattle.std.proofs.Common.{◌≡◌, ℕ, ◌+◌, ◌-◌, ◌<◌, List, ◌∷◌, length, get_or, set, ap, arith}
 use Rattle.std.specs.Prelude.{min, max, remove, All}
 use Rattle.std.proofs.lemmas.List.Elements.{All-set}
-use Rattle.tt_instance.specs.Problem.{Problem}
-use Rattle.tt_instance.specs.Courses.{lectures}
-use Rattle.tt_instance.specs.Cells.{InRange}
-use Rattle.tt_instance.specs.declared.cell.Cell.{Cell}
+use Rattle.tt_instance_data.specs.Problem.{Problem}
+use Rattle.tt_instance_data.specs.Courses.{lectures}
+use Rattle.tt_instance_data.specs.Cells.{InRange}
+use Rattle.tt_instance_data.specs.declared.cell.Cell.{Cell}
 use Rattle.tt_rules.specs.Hard.{entries_of, periods_of, lectures_off, lectures_count}
 use Rattle.tt_rules.specs.Soft.{days_cost, days_count, stability_cost, stability_count}
 use Rattle.tt_rules.specs.Score.{hard, cost}

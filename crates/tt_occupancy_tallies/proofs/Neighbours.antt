@@ -3,10 +3,10 @@ use Rattle.std.proofs.Common.{◌≡◌, ℕ, ◌+◌, ◌-◌, Bool, true, fals
 use Rattle.std.specs.Prelude.{sum_by, ◌==◌, nat_lt}
 use Rattle.std.specs.List.{list_any}
 use Rattle.std.proofs.lemmas.Bool.{cases_lt, cases_eq, lt-ltb, le-ltb}
-use Rattle.tt_instance.specs.Problem.{Problem}
-use Rattle.tt_instance.specs.Cells.{slot, slot_of, next_to, is_at}
-use Rattle.tt_instance.specs.Courses.{in_curriculum}
-use Rattle.tt_instance.specs.declared.cell.Cell.{Cell}
+use Rattle.tt_instance_data.specs.Problem.{Problem}
+use Rattle.tt_instance_data.specs.Cells.{slot, slot_of, next_to, is_at}
+use Rattle.tt_instance_data.specs.Courses.{in_curriculum}
+use Rattle.tt_instance_data.specs.declared.cell.Cell.{Cell}
 use Rattle.tt_rules.specs.Soft.{is_isolated}
 use Rattle.tt_lists.proofs.Sums.{one_if, sum_by-plus, sum_by-same, sum_by-nothing}
 use Rattle.tt_lists.proofs.Tests.{list_any-same_at, list_any-or}

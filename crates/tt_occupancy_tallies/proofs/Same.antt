@@ -3,10 +3,10 @@ use Rattle.std.proofs.Common.{◌≡◌, ℕ, ◌+◌, ◌-◌, ◌*◌, Bool, t
 use Rattle.std.specs.Prelude.{sum_by, count_by, min, max}
 use Rattle.std.specs.List.{list_any}
 use Rattle.std.proofs.lemmas.Bool.{cases_Bool, false_from_ne_true, both_ways}
-use Rattle.tt_instance.specs.Problem.{Problem}
-use Rattle.tt_instance.specs.Cells.{slot_of, next_to, all_courses, all_rooms, all_curricula, all_days, all_slots, is_of, is_at, is_in, is_on}
-use Rattle.tt_instance.specs.Courses.{lectures, min_days, in_curriculum, unavailable, excess}
-use Rattle.tt_instance.specs.declared.cell.Cell.{Cell}
+use Rattle.tt_instance_data.specs.Problem.{Problem}
+use Rattle.tt_instance_data.specs.Cells.{slot_of, next_to, all_courses, all_rooms, all_curricula, all_days, all_slots, is_of, is_at, is_in, is_on}
+use Rattle.tt_instance_data.specs.Courses.{lectures, min_days, in_curriculum, unavailable, excess}
+use Rattle.tt_instance_data.specs.declared.cell.Cell.{Cell}
 use Rattle.tt_rules.specs.Hard.{entries_of, periods_of, lectures_off, lectures_count, collide, conflicts_count, availability_count, entries_in, occupancy_count}
 use Rattle.tt_rules.specs.Soft.{capacity_count, days_cost, days_count, is_isolated, compactness_cost, compactness_count, stability_cost, stability_count}
 use Rattle.tt_rules.specs.Score.{hard, cost}

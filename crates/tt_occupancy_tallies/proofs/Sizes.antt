@@ -7,13 +7,13 @@ use Rattle.std.proofs.lemmas.List.{get_or_past}
 use Rattle.std.proofs.lemmas.List.FromFn.{length-range_with_len}
 use Rattle.std.proofs.lemmas.List.Sums.{sum_by-le, count_by-le-length}
 use Rattle.tt_lists.specs.Words.{range_below, count_pairs}
-use Rattle.tt_instance.specs.Problem.{Problem}
-use Rattle.tt_instance.specs.Cells.{all_rooms, all_slots, is_of, is_at, is_in}
-use Rattle.tt_instance.specs.Courses.{no_course, in_curriculum, unavailable, excess}
-use Rattle.tt_instance.specs.Limits.{IsInstance}
-use Rattle.tt_instance.specs.declared.cell.Cell.{Cell}
-use Rattle.tt_instance.proofs.CourseLimits.{IsFewCourse, each_few}
-use Rattle.tt_instance.proofs.Slots.{length-all_slots}
+use Rattle.tt_instance_data.specs.Problem.{Problem}
+use Rattle.tt_instance_data.specs.Cells.{all_rooms, all_slots, is_of, is_at, is_in}
+use Rattle.tt_instance_data.specs.Courses.{no_course, in_curriculum, unavailable, excess}
+use Rattle.tt_instance_data.specs.Limits.{IsInstance}
+use Rattle.tt_instance_data.specs.declared.cell.Cell.{Cell}
+use Rattle.tt_instance_data.proofs.CourseLimits.{IsFewCourse, each_few}
+use Rattle.tt_instance_data.proofs.Slots.{length-all_slots}
 use Rattle.tt_rules.specs.Hard.{lectures_off, lectures_count, collide, conflicts_count, availability_count, entries_in, occupancy_count}
 use Rattle.tt_rules.specs.Soft.{capacity_count, days_cost, days_count, is_isolated, compactness_cost, compactness_count, stability_cost, stability_count}
 

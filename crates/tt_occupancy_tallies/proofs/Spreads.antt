@@ -8,9 +8,9 @@ use Rattle.std.proofs.lemmas.List.FromFn.{length-range_with_len}
 use Rattle.tt_lists.specs.Words.{range_below}
 use Rattle.tt_lists.proofs.Numbers.{any_below}
 use Rattle.tt_lists.proofs.Sums.{one_if, one_if_true, one_if_false, count_by-cons, sum_by-nothing, any_if_count, count_if_any}
-use Rattle.tt_instance.specs.Problem.{Problem}
-use Rattle.tt_instance.specs.Cells.{InRange, is_of}
-use Rattle.tt_instance.specs.declared.cell.Cell.{Cell}
+use Rattle.tt_instance_data.specs.Problem.{Problem}
+use Rattle.tt_instance_data.specs.Cells.{InRange, is_of}
+use Rattle.tt_instance_data.specs.declared.cell.Cell.{Cell}
 use Rattle.tt_occupancy_tallies.proofs.Differ.{once_below}
 use Rattle.tt_occupancy_tallies.proofs.Adding.{places_added, places_kept}
 use Rattle.tt_occupancy_tallies.specs.Counts.{at, used_at, IsOneMore}

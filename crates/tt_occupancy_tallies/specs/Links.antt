@@ -1,9 +1,9 @@
 -- Not part of the trusted statement: only proofs use this file.
 -- The curricula of each course, and the courses that conflict with it.
 use Rattle.std.specs.Prelude.{◌≡◌, ℕ, ◌<◌, [], length, filter, slice_index_or}
-use Rattle.tt_instance.specs.Problem.{Problem}
-use Rattle.tt_instance.specs.Cells.{all_courses, all_curricula}
-use Rattle.tt_instance.specs.Courses.{in_curriculum, conflict}
+use Rattle.tt_instance_data.specs.Problem.{Problem}
+use Rattle.tt_instance_data.specs.Cells.{all_courses, all_curricula}
+use Rattle.tt_instance_data.specs.Courses.{in_curriculum, conflict}
 use Rattle.tt_occupancy_tallies.specs.declared.links.Links.{Links}
 
 -- Each list has each of its numbers once.

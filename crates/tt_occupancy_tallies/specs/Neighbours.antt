@@ -2,10 +2,10 @@
 -- The entries of a curriculum's courses around a period of a day.
 use Rattle.std.specs.Prelude.{ℕ, ◌+◌, ◌-◌, Bool, cond, not, ◌&&◌, ◌||◌, List, count_by, nat_lt}
 use Rattle.std.specs.List.{list_any}
-use Rattle.tt_instance.specs.Problem.{Problem}
-use Rattle.tt_instance.specs.Cells.{slot, is_at}
-use Rattle.tt_instance.specs.Courses.{in_curriculum}
-use Rattle.tt_instance.specs.declared.cell.Cell.{Cell}
+use Rattle.tt_instance_data.specs.Problem.{Problem}
+use Rattle.tt_instance_data.specs.Cells.{slot, is_at}
+use Rattle.tt_instance_data.specs.Courses.{in_curriculum}
+use Rattle.tt_instance_data.specs.declared.cell.Cell.{Cell}
 
 -- the number of entries of the curriculum in the period
 abbrev pub entries_at : Problem → List Cell → ℕ → ℕ → ℕ → ℕ

@@ -1,10 +1,10 @@
 -- Not part of the trusted statement: only proofs use this file.
 -- The tables of a list of entries.
 use Rattle.std.specs.Prelude.{List, length}
-use Rattle.tt_instance.specs.Problem.{Problem}
-use Rattle.tt_instance.specs.Cells.{is_of, is_in}
-use Rattle.tt_instance.specs.Courses.{teachers}
-use Rattle.tt_instance.specs.declared.cell.Cell.{Cell}
+use Rattle.tt_instance_data.specs.Problem.{Problem}
+use Rattle.tt_instance_data.specs.Cells.{is_of, is_in}
+use Rattle.tt_instance_data.specs.Courses.{teachers}
+use Rattle.tt_instance_data.specs.declared.cell.Cell.{Cell}
 use Rattle.tt_occupancy_tallies.specs.Links.{AreLinks}
 use Rattle.tt_occupancy_tallies.specs.Tallies.{IsTally, IsSpread, of_curriculum, of_teacher, opposes}
 use Rattle.tt_occupancy_tallies.specs.declared.tables.Tables.{Tables}

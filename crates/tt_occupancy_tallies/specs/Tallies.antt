@@ -3,10 +3,10 @@ use Rattle.std.specs.Prelude.{◌≡◌, ℕ, ◌<◌, ◌==◌, Bool, false, �
 use Rattle.std.specs.List.{list_any}
 use Rattle.tt_lists.specs.Words.{range_below}
 use Rattle.tt_text.specs.Texts.{index_of_name}
-use Rattle.tt_instance.specs.Problem.{Problem}
-use Rattle.tt_instance.specs.Cells.{all_rooms, slot, is_of, is_at, is_in}
-use Rattle.tt_instance.specs.Courses.{no_course, teachers, in_curriculum, conflict}
-use Rattle.tt_instance.specs.declared.cell.Cell.{Cell}
+use Rattle.tt_instance_data.specs.Problem.{Problem}
+use Rattle.tt_instance_data.specs.Cells.{all_rooms, slot, is_of, is_at, is_in}
+use Rattle.tt_instance_data.specs.Courses.{no_course, teachers, in_curriculum, conflict}
+use Rattle.tt_instance_data.specs.declared.cell.Cell.{Cell}
 use Rattle.tt_occupancy_tallies.specs.Counts.{at, in_period, used_at}
 use Rattle.tt_occupancy_tallies.specs.declared.spread.Spread.{Spread}
 use Rattle.tt_occupancy_tallies.specs.declared.week.Week.{Week}

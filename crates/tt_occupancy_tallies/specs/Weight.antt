@@ -2,10 +2,10 @@
 -- weights.
 use Rattle.std.specs.Prelude.{ℕ, ◌+◌, ◌*◌, Bool, cond, ◌&&◌, List, ◌∷◌, sum_by, count_by}
 use Rattle.std.specs.List.{list_any}
-use Rattle.tt_instance.specs.Problem.{Problem}
-use Rattle.tt_instance.specs.Cells.{slot_of, next_to, all_curricula, is_of, is_at, is_in}
-use Rattle.tt_instance.specs.Courses.{in_curriculum, unavailable, excess}
-use Rattle.tt_instance.specs.declared.cell.Cell.{Cell}
+use Rattle.tt_instance_data.specs.Problem.{Problem}
+use Rattle.tt_instance_data.specs.Cells.{slot_of, next_to, all_curricula, is_of, is_at, is_in}
+use Rattle.tt_instance_data.specs.Courses.{in_curriculum, unavailable, excess}
+use Rattle.tt_instance_data.specs.declared.cell.Cell.{Cell}
 use Rattle.tt_rules.specs.Hard.{collide}
 use Rattle.tt_rules.specs.Soft.{days_cost, is_isolated, stability_cost}
 

@@ -1,9 +1,9 @@
 //! Laws: the contribution of one entry to each count of a timetable.
 
 ghost use Rattle.std.specs.Prelude.{◌≡◌, ◌+◌, List, ◌∷◌};
-ghost use Rattle.tt_instance.specs.Problem.{Problem};
-ghost use Rattle.tt_instance.specs.Cells.{InRange};
-ghost use Rattle.tt_instance.specs.declared.cell.Cell.{Cell};
+ghost use Rattle.tt_instance_data.specs.Problem.{Problem};
+ghost use Rattle.tt_instance_data.specs.Cells.{InRange};
+ghost use Rattle.tt_instance_data.specs.declared.cell.Cell.{Cell};
 ghost use Rattle.tt_rules.specs.Score.{hard, cost};
 ghost use Rattle.tt_occupancy_tallies.specs.Bag.{SameBag};
 ghost use Rattle.tt_occupancy_tallies.specs.Weight.{hard_weight, cost_rise, cost_fall};

@@ -4,7 +4,7 @@ ghost use Rattle.std.specs.Prelude.{◌≡◌, ◌<◌, [], length, slice_index_
 ghost use Rattle.tt_occupancy_tallies.specs.Links.{AreLinks};
 
 use std::alloc::{AllocError, Global};
-use tt_instance::Instance;
+use tt_instance_data::Instance;
 use tt_instance_links::{Conflicts, Curricula};
 
 /// The curricula and courses in whose rows an entry of each course is counted.

@@ -1,7 +1,7 @@
 //! Counts by the week, and the sets of the periods with a count above 0.
 
 ghost use Rattle.std.specs.Prelude.{◌≡◌, ℕ, ◌+◌, ◌*◌, ◌^◌, ◌<◌, ◌≤◌, ◌==◌, ◌&&◌, IfOk, cond, nat_lt, length, slice_index, count_by, All};
-ghost use Rattle.tt_instance.specs.declared.limit.TheConstants.{MAX_CURRICULA, MAX_PERIODS, MAX_SLOTS};
+ghost use Rattle.tt_instance_data.specs.declared.limit.TheConstants.{MAX_CURRICULA, MAX_PERIODS, MAX_SLOTS};
 ghost use Rattle.tt_bits.specs.Bits.{has_bit};
 ghost use Rattle.tt_occupancy_tallies.specs.Counts.{in_period, IsMore, AreMarks};
 

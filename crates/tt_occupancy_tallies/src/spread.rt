@@ -1,7 +1,7 @@
 //! The count of each row at each place, and the number of places with a count above 0.
 
 ghost use Rattle.std.specs.Prelude.{◌≡◌, ℕ, ◌+◌, ◌*◌, ◌^◌, ◌<◌, ◌≤◌, IfOk, length};
-ghost use Rattle.tt_instance.specs.declared.limit.TheConstants.{MAX_COURSES, MAX_SLOTS};
+ghost use Rattle.tt_instance_data.specs.declared.limit.TheConstants.{MAX_COURSES, MAX_SLOTS};
 
 use crate::grid::Grid;
 use std::alloc::{AllocError, Global};

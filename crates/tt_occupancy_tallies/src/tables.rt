@@ -1,9 +1,9 @@
 //! The count tables of a timetable.
 
 ghost use Rattle.std.specs.Prelude.{◌≡◌, ◌<◌, ◌≤◌, List, [], ◌∷◌, length, IfOk};
-ghost use Rattle.tt_instance.specs.Cells.{InRange};
-ghost use Rattle.tt_instance.specs.Limits.{IsInstance};
-ghost use Rattle.tt_instance.specs.declared.cell.Cell.{Cell};
+ghost use Rattle.tt_instance_data.specs.Cells.{InRange};
+ghost use Rattle.tt_instance_data.specs.Limits.{IsInstance};
+ghost use Rattle.tt_instance_data.specs.declared.cell.Cell.{Cell};
 ghost use Rattle.tt_table.specs.declared.table.TheConstants.{MAX_ENTRIES};
 ghost use Rattle.tt_occupancy_tallies.specs.Tables.{AreTables};
 
@@ -12,7 +12,7 @@ use crate::marked::Marked;
 use crate::spread::Spread;
 use crate::week::Week;
 use std::alloc::{AllocError, Global};
-use tt_instance::Instance;
+use tt_instance_data::Instance;
 use tt_table::Entry;
 
 /// Counts of the entries of a timetable.

@@ -1,7 +1,7 @@
 //! Tables of counts with a count for each period of the week.
 
 ghost use Rattle.std.specs.Prelude.{◌≡◌, ℕ, ◌+◌, ◌*◌, ◌^◌, ◌<◌, ◌≤◌, ◌==◌, ◌&&◌, IfOk, cond, count_by, All};
-ghost use Rattle.tt_instance.specs.declared.limit.TheConstants.{MAX_CURRICULA, MAX_PERIODS, MAX_SLOTS};
+ghost use Rattle.tt_instance_data.specs.declared.limit.TheConstants.{MAX_CURRICULA, MAX_PERIODS, MAX_SLOTS};
 
 use crate::grid::Grid;
 use std::alloc::{AllocError, Global};

@@ -2,8 +2,8 @@
 
 ghost use Rattle.std.specs.Prelude.{◌≡◌, ◌<◌, ◌≤◌, ◌&&◌, ◌++◌, length, filter, flat_map, sum_by, count_by, All, OnOk, IfOk};
 ghost use Rattle.tt_lists.specs.Words.{range_below};
-ghost use Rattle.tt_instance.specs.Cells.{InRange, is_of};
-ghost use Rattle.tt_instance.specs.Courses.{excess, in_curriculum};
+ghost use Rattle.tt_instance_data.specs.Cells.{InRange, is_of};
+ghost use Rattle.tt_instance_data.specs.Courses.{excess, in_curriculum};
 ghost use Rattle.tt_rules.specs.Soft.{is_isolated};
 ghost use Rattle.tt_table.specs.declared.table.TheConstants.{MAX_ENTRIES};
 ghost use Rattle.tt_page_lists.specs.Grouped.{crowded_head, crowded_end, crowded_line, students_detail, seats_detail, seats_item, isolated_line, isolated_item, isolated_detail, curriculum_item, items_text};
@@ -13,7 +13,7 @@ use crate::items::{
 };
 use crate::rule::Rule;
 use std::alloc::{AllocError, Global};
-use tt_instance::Instance;
+use tt_instance_data::Instance;
 use tt_page_plan::{Kind, Plan, is_isolated, put_week_link, put_when_link, without_seat};
 use tt_page_text::{Labels, Part, put};
 use tt_table::{Entry, Group};

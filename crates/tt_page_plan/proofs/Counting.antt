@@ -7,10 +7,10 @@ use Rattle.tt_lists.specs.Words.{range_below}
 use Rattle.tt_lists.proofs.Sums.{one_if, sum_by-same}
 use Rattle.tt_lists.proofs.Filters.{list_any-of_filter, count_by-of_filter}
 use Rattle.tt_lists.proofs.Tested.{list_any-same}
-use Rattle.tt_instance.specs.Problem.{Problem}
-use Rattle.tt_instance.specs.Cells.{all_slots, all_days, slot}
-use Rattle.tt_instance.specs.declared.cell.Slot.{Slot}
-use Rattle.tt_instance.proofs.Places.{slots_summed}
+use Rattle.tt_instance_data.specs.Problem.{Problem}
+use Rattle.tt_instance_data.specs.Cells.{all_slots, all_days, slot}
+use Rattle.tt_instance_data.specs.declared.cell.Slot.{Slot}
+use Rattle.tt_instance_data.proofs.Places.{slots_summed}
 
 module _ {X : Type 0} where
   pub count-turned : (p q : X → Bool) (xs : List X) → count_by (λ x. p x && q x) xs ≡ count_by (λ x. q x && p x) xs

@@ -1,10 +1,10 @@
 -- The kinds of weeks that a page shows: those of all rooms, of all teachers and of all curricula.
 use Rattle.std.specs.Prelude.{ℕ, ◌==◌, Bool, List, [], length, codes, slice_index_or, unwrap_or, Option, find}
 use Rattle.tt_text.specs.Texts.{index_of_name}
-use Rattle.tt_instance.specs.Problem.{Problem}
-use Rattle.tt_instance.specs.Cells.{is_in, all_curricula}
-use Rattle.tt_instance.specs.Courses.{no_course, no_room, no_curriculum, teachers, in_curriculum}
-use Rattle.tt_instance.specs.declared.cell.Cell.{Cell}
+use Rattle.tt_instance_data.specs.Problem.{Problem}
+use Rattle.tt_instance_data.specs.Cells.{is_in, all_curricula}
+use Rattle.tt_instance_data.specs.Courses.{no_course, no_room, no_curriculum, teachers, in_curriculum}
+use Rattle.tt_instance_data.specs.declared.cell.Cell.{Cell}
 use Rattle.tt_page_plan.specs.declared.kind.Kind.{Kind}
 use Rattle.tt_page_plan.specs.declared.kind.Kind.TheVariants.{Room, Teacher, Curriculum}
 

@@ -3,9 +3,9 @@
 ghost use Rattle.std.specs.Prelude.{◌≡◌, ◌<◌, ◌≤◌, ◌-◌, ◌&&◌, length, count_by};
 ghost use Rattle.std.specs.List.{list_any};
 ghost use Rattle.tt_lists.specs.Words.{range_below};
-ghost use Rattle.tt_instance.specs.Cells.{is_of, is_on, is_at, slot};
-ghost use Rattle.tt_instance.specs.Courses.{min_days};
-ghost use Rattle.tt_instance.specs.declared.limit.TheConstants.{MAX_MIN_DAYS, MAX_ROOMS};
+ghost use Rattle.tt_instance_data.specs.Cells.{is_of, is_on, is_at, slot};
+ghost use Rattle.tt_instance_data.specs.Courses.{min_days};
+ghost use Rattle.tt_instance_data.specs.declared.limit.TheConstants.{MAX_MIN_DAYS, MAX_ROOMS};
 ghost use Rattle.tt_table.specs.declared.table.TheConstants.{MAX_ENTRIES};
 ghost use Rattle.tt_rules.specs.Hard.{entries_of, periods_of, lectures_off};
 ghost use Rattle.tt_rules.specs.Soft.{days_of, stability_cost};

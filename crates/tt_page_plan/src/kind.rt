@@ -1,11 +1,11 @@
 //! The kinds of weeks that a page shows.
 
 ghost use Rattle.std.specs.Prelude.{◌≡◌, ◌<◌, [], length, slice_index_or};
-ghost use Rattle.tt_instance.specs.Cells.{InRange};
-ghost use Rattle.tt_instance.specs.Courses.{no_room, no_curriculum, teachers};
+ghost use Rattle.tt_instance_data.specs.Cells.{InRange};
+ghost use Rattle.tt_instance_data.specs.Courses.{no_room, no_curriculum, teachers};
 ghost use Rattle.tt_page_plan.specs.Kinds.{count_of, name_of, course_name, teacher_of, belongs_to, word_of, caption_of, section_of, title_of};
 
-use tt_instance::Instance;
+use tt_instance_data::Instance;
 use tt_table::Entry;
 
 /// The kind of weeks in a section of the page.

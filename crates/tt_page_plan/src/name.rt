@@ -4,7 +4,7 @@ ghost use Rattle.std.specs.Prelude.{◌≡◌, ◌++◌, OnOk};
 ghost use Rattle.tt_page_plan.specs.Names.{name_text, next_shown};
 
 use std::alloc::AllocError;
-use tt_instance::Instance;
+use tt_instance_data::Instance;
 use tt_page_text::put_shown;
 use tt_text::put_token;
 

@@ -8,7 +8,7 @@ ghost use Rattle.tt_page_plan.specs.Ordered.{order_of, AreOrders};
 
 use crate::kind::Kind;
 use std::alloc::{AllocError, Global};
-use tt_instance::Instance;
+use tt_instance_data::Instance;
 
 /// The numbers of all rooms, of all teachers and of all curricula, each in the order of their names.
 #[derive(Drop)]

@@ -7,9 +7,9 @@ use Rattle.std.specs.Prelude.{◌==◌, All}
 use Rattle.std.proofs.Common.{arith}
 use Rattle.std.proofs.lemmas.List.FromFn.{length-range_with_len, get_or-range_with_len}
 use Rattle.std.proofs.lemmas.List.Elements.{All-filter, All-nil}
-use Rattle.tt_instance.specs.Problem.{Problem}
-use Rattle.tt_instance.specs.Cells.{all_courses}
-use Rattle.tt_instance.specs.Courses.{in_curriculum}
+use Rattle.tt_instance_data.specs.Problem.{Problem}
+use Rattle.tt_instance_data.specs.Cells.{all_courses}
+use Rattle.tt_instance_data.specs.Courses.{in_curriculum}
 use Rattle.tt_page_plan.specs.Kinds.{teacher_of}
 use Rattle.tt_page_weeks.specs.Grids.{own_courses}
 use Rattle.tt_page_plan.specs.declared.kind.Kind.{Kind}

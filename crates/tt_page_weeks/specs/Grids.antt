@@ -2,10 +2,10 @@
 use Rattle.std.specs.Prelude.{ℕ, ◌==◌, List, [], ◌∷◌, ◌++◌, filter, flat_map, codes, Option, Some, None, if◌then◌else◌}
 use Rattle.tt_lists.specs.Words.{range_below}
 use Rattle.tt_text.specs.Pieces.{Text, Number}
-use Rattle.tt_instance.specs.Problem.{Problem}
-use Rattle.tt_instance.specs.Cells.{all_courses, all_days, slot, is_at}
-use Rattle.tt_instance.specs.Courses.{capacity, unavailable, in_curriculum}
-use Rattle.tt_instance.specs.declared.cell.Cell.{Cell}
+use Rattle.tt_instance_data.specs.Problem.{Problem}
+use Rattle.tt_instance_data.specs.Cells.{all_courses, all_days, slot, is_at}
+use Rattle.tt_instance_data.specs.Courses.{capacity, unavailable, in_curriculum}
+use Rattle.tt_instance_data.specs.declared.cell.Cell.{Cell}
 use Rattle.tt_page_text.specs.Shown.{shown}
 use Rattle.tt_page_text.specs.Markup.{markup}
 use Rattle.tt_page_text.specs.Labelled.{Labelled}

@@ -2,8 +2,8 @@
 
 ghost use Rattle.std.specs.Prelude.{◌≡◌, ◌<◌, ◌==◌, ◌++◌, length, filter, flat_map, All, OnOk, IfOk};
 ghost use Rattle.tt_lists.specs.Words.{range_below};
-ghost use Rattle.tt_instance.specs.Cells.{InRange, all_courses};
-ghost use Rattle.tt_instance.specs.Courses.{in_curriculum};
+ghost use Rattle.tt_instance_data.specs.Cells.{InRange, all_courses};
+ghost use Rattle.tt_instance_data.specs.Courses.{in_curriculum};
 ghost use Rattle.tt_page_plan.specs.Kinds.{count_of, belongs_to, teacher_of};
 ghost use Rattle.tt_page_weeks.specs.Lectures.{lecture_text};
 ghost use Rattle.tt_page_weeks.specs.Grids.{own_courses, barred_when, barred_course, barred_text, cell_head, cell_text, row_head, row_text, seats_text, grid_head, paper_name, table_head, grid_title, day_head, grid_text, curriculum_of, index_item, section_head, section_text};
@@ -11,7 +11,7 @@ ghost use Rattle.tt_page_weeks.specs.Grids.{own_courses, barred_when, barred_cou
 use crate::hues::put_hue;
 use crate::lectures::put_lecture;
 use std::alloc::{AllocError, Global};
-use tt_instance::Instance;
+use tt_instance_data::Instance;
 use tt_page_plan::{Kind, Plan, course_name, put_name, put_week_link, teacher_of};
 use tt_page_text::{Labels, Part, put, put_day, put_period, put_when};
 use tt_table::Group;

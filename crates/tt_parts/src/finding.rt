@@ -6,7 +6,7 @@ ghost use Rattle.tt_parts.specs.Found.{AreFound};
 use crate::rooms::find_rooms;
 use crate::together::sum_of;
 use std::alloc::{AllocError, Global};
-use tt_instance::Instance;
+use tt_instance_data::Instance;
 use tt_leaf_rules::Bound;
 use tt_parts_groups::{find_groups, write_groups};
 use tt_search::{Unwatched, Watch};

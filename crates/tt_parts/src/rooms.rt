@@ -6,7 +6,7 @@ ghost use Rattle.tt_leaf_rules.specs.Ranges.{IsClaimOf};
 use std::alloc::{AllocError, Global};
 use tt_facts::TrailPath;
 use tt_facts_path::Path;
-use tt_instance::Instance;
+use tt_instance_data::Instance;
 use tt_leaf::best_claims;
 use tt_leaf_rules::{Bound, Claim, ClaimList, Leaf, claim_value};
 use tt_proof_read::Node;

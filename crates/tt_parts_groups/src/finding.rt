@@ -12,7 +12,7 @@ use rand_core::SeedableRng;
 use rand_pcg::Pcg32;
 use std::alloc::{AllocError, Global};
 use tt_groups_read::GroupClaim;
-use tt_instance::Instance;
+use tt_instance_data::Instance;
 use tt_search::{Progress, Unit, Watch};
 use tt_table::Entry;
 

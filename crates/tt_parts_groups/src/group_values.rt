@@ -4,7 +4,7 @@ use crate::draft::Draft;
 use crate::guide::Guide;
 use std::alloc::{AllocError, Global};
 use std::collections::HashMap;
-use tt_instance::Instance;
+use tt_instance_data::Instance;
 use tt_parts_least::{Aim, Layout, Least, courses_of, least_cost};
 
 /// The maximum amount of work for one group at once.

@@ -4,7 +4,7 @@ use crate::draft::{Draft, union_of};
 use crate::free::Free;
 use crate::group_values::GroupValues;
 use std::alloc::{AllocError, Global};
-use tt_instance::Instance;
+use tt_instance_data::Instance;
 use tt_parts_least::{courses_of, lectures_of, members_of};
 
 /// The maximum number of curricula of a group.

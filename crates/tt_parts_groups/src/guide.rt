@@ -1,7 +1,7 @@
 //! The cost of each target in a known timetable.
 
 use std::alloc::{AllocError, Global};
-use tt_instance::Instance;
+use tt_instance_data::Instance;
 use tt_rules::{DAY_PRICE, ISOLATED_PRICE};
 use tt_table::Entry;
 

@@ -4,7 +4,7 @@ use crate::day::Table;
 use crate::layout::Layout;
 use crate::sets::Set;
 use std::alloc::{AllocError, Global};
-use tt_instance::Instance;
+use tt_instance_data::Instance;
 
 /// Tables, and the number of the table that each day has.
 #[derive(Drop)]

@@ -3,8 +3,8 @@ use Rattle.std.proofs.Common.{true, false, List, [], inl, inr}
 use Rattle.std.specs.List.{list_any}
 use Rattle.std.proofs.lemmas.List.Elements.{All-push, All-nil}
 use Rattle.std.proofs.lemmas.Bool.{cases_Bool}
-use Rattle.tt_instance.specs.Problem.{Problem}
-use Rattle.tt_instance.specs.declared.cell.Cell.{Cell}
+use Rattle.tt_instance_data.specs.Problem.{Problem}
+use Rattle.tt_instance_data.specs.declared.cell.Cell.{Cell}
 use Rattle.tt_rules.specs.Score.{IsFeasible, cost}
 use Rattle.tt_facts_path.specs.Facts.{matches, Holds, Fits}
 use Rattle.tt_facts_path.specs.declared.facts.Fact.{Fact}

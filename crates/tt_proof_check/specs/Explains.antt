@@ -1,6 +1,6 @@
 -- The meaning of an error for a list of nodes.
 use Rattle.std.specs.Prelude.{◌≡◌, ℕ, ◌<◌, ◌≤◌, List, [], length, take, All, Some, slice_get, ⊤}
-use Rattle.tt_instance.specs.Problem.{Problem}
+use Rattle.tt_instance_data.specs.Problem.{Problem}
 use Rattle.tt_facts_path.specs.declared.facts.Fact.{Fact}
 use Rattle.tt_leaf_rules.specs.Faults.{fault_of}
 use Rattle.tt_leaf_rules.specs.Leaves.{IsRight}

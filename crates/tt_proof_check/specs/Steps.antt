@@ -1,7 +1,7 @@
 -- Not part of the trusted statement: only proofs use this file.
 -- The change of a path by one node.
 use Rattle.std.specs.Prelude.{◌≡◌, true, List, length, Some, ⊤}
-use Rattle.tt_instance.specs.Problem.{Problem}
+use Rattle.tt_instance_data.specs.Problem.{Problem}
 use Rattle.tt_facts_path.specs.declared.facts.Fact.{Fact}
 use Rattle.tt_facts_path.specs.declared.path.PathFault.{PathFault}
 use Rattle.tt_facts_path.specs.declared.path.PathFault.TheVariants as path

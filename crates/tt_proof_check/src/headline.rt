@@ -15,7 +15,8 @@ ghost use Rattle.tt_proof_check.specs.Verdicts.{IsVerdict, IsFirstFault, IsFileF
 use crate::fault::{CertifyFault, Verdict};
 use crate::stream::check_proof;
 use std::alloc::Global;
-use tt_instance::{Instance, read_instance};
+use tt_instance::read_instance;
+use tt_instance_data::Instance;
 use tt_leaf_rules::Bound;
 use tt_rules::score;
 use tt_table::{Timetable, read_solution};

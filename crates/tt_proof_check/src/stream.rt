@@ -24,7 +24,7 @@ use crate::walk::{Stop, check_node};
 use std::alloc::Global;
 use tt_facts::TrailPath;
 use tt_facts_path::Path;
-use tt_instance::Instance;
+use tt_instance_data::Instance;
 use tt_leaf_rules::Bound;
 use tt_proof_read::{Node, NodeReader};
 use tt_text::Source;

@@ -1,6 +1,6 @@
 -- The three parts of the condition on a leaf of a proof: its numbers, its limits and its version.
 use Rattle.std.proofs.Common.{ℕ}
-use Rattle.tt_instance.specs.Problem.{Problem}
+use Rattle.tt_instance_data.specs.Problem.{Problem}
 use Rattle.tt_leaf_rules.specs.Ranges.{IsClaimOf, IsLeafOf}
 use Rattle.tt_leaf_rules.specs.declared.leaf.Claim.{Claim}
 use Rattle.tt_leaf_rules.specs.declared.leaf.Claim.TheVariants.{Capacity, Days, Compact, Stable, Prices, Stacked}

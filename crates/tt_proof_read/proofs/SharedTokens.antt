@@ -9,7 +9,7 @@ use Rattle.tt_text.specs.Reading.{◌>>=◌}
 use Rattle.tt_text.specs.declared.numbers.NumberFault.{NumberFault}
 use Rattle.tt_text.specs.declared.numbers.NumberFault.TheVariants as number
 use Rattle.tt_text.proofs.Steps.{bind_ok}
-use Rattle.tt_instance.proofs.Shared.{SameVerdict, other_offset}
+use Rattle.tt_instance_data.proofs.Shared.{SameVerdict, other_offset}
 use Rattle.tt_facts_path.specs.declared.facts.Who.TheVariants as who
 use Rattle.tt_leaf_rules.specs.declared.leaf.Bound.TheVariants as bound
 use Rattle.tt_proof_read.specs.Beginnings.{token_offset}

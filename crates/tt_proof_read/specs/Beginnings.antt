@@ -1,4 +1,4 @@
--- How reading the bytes of a proof fails, and the token at which it fails (what that says of other bytes is said by `BeginsAs` of `tt_instance`).
+-- How reading the bytes of a proof fails, and the token at which it fails (what that says of other bytes is said by `BeginsAs` of `tt_instance_data`).
 use Rattle.std.specs.Prelude.{◌≡◌, ◌⊎◌, ℕ, zero, suc, ◌+◌, List, length, Option, Some, None, Ok, Err}
 use Rattle.tt_text.specs.Feeds.{Stream}
 use Rattle.tt_text.specs.declared.feed.FeedFault.TheVariants as feed

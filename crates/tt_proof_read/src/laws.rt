@@ -1,8 +1,8 @@
 //! The meaning of reading a proof node by node.
 
 ghost use Rattle.std.specs.Prelude.{◌≡◌, ◌≤◌, ◌↔◌, ℕ, List, [], length, Some};
-ghost use Rattle.tt_instance.specs.Limits.{IsInstance};
-ghost use Rattle.tt_instance.specs.Problem.{Problem};
+ghost use Rattle.tt_instance_data.specs.Limits.{IsInstance};
+ghost use Rattle.tt_instance_data.specs.Problem.{Problem};
 ghost use Rattle.tt_leaf_rules.specs.Ranges.{IsLeafOf};
 ghost use Rattle.tt_leaf_rules.specs.declared.leaf.Bound.{Bound};
 ghost use Rattle.tt_leaf_rules.specs.declared.leaf.Leaf.{Leaf};

@@ -18,7 +18,7 @@ use crate::sizes::Sizes;
 use crate::tables::Tables;
 use std::alloc::Global;
 use std::marker::Model;
-use tt_instance::Instance;
+use tt_instance_data::Instance;
 use tt_leaf_rules::Bound;
 use tt_text::{Feed, Source};
 

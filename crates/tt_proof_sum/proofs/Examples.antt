@@ -1,9 +1,9 @@
 -- Files over different targets, whose bounds add up, and files that share one.
 use Rattle.std.proofs.Common.{◌≡◌, ℕ, List, true, false, [], ◌∷◌, refl}
 use Rattle.tt_lists.specs.Words.{each_two}
-use Rattle.tt_instance.proofs.Examples.{gap}
-use Rattle.tt_instance.specs.Cells.{slot, cell}
-use Rattle.tt_instance.specs.declared.cell.Cell.{Cell}
+use Rattle.tt_instance_data.proofs.Examples.{gap}
+use Rattle.tt_instance_data.specs.Cells.{slot, cell}
+use Rattle.tt_instance_data.specs.declared.cell.Cell.{Cell}
 use Rattle.tt_leaf_rules.specs.Claims.{RoomCapacity, WorkingDays, Compactness, Stability}
 use Rattle.tt_leaf_rules.specs.declared.leaf.Bound.{Bound}
 use Rattle.tt_leaf_rules.specs.declared.leaf.Bound.TheVariants.{AtLeast, Nothing}

@@ -12,8 +12,8 @@ use Rattle.tt_lists.specs.Words.{has_number}
 use Rattle.tt_lists.proofs.Members.{each_of_append}
 use Rattle.tt_lists.proofs.Tests.{test_turned}
 use Rattle.tt_lists.proofs.Twos.{list_all-swap}
-use Rattle.tt_instance.specs.Problem.{Problem}
-use Rattle.tt_instance.specs.Limits.{IsInstance}
+use Rattle.tt_instance_data.specs.Problem.{Problem}
+use Rattle.tt_instance_data.specs.Limits.{IsInstance}
 use Rattle.tt_leaf_rules.specs.Claims.{Target, targets_of, claimed}
 use Rattle.tt_leaf_rules.specs.NumberSet.{place, places_of, IsPlaced}
 use Rattle.tt_leaf_rules.specs.Tests.{same_target}

@@ -5,7 +5,7 @@ use Rattle.std.specs.Io.KnownBytes.{Consumes, Keeps}
 use Rattle.tt_text.specs.CutShort.{cut_short}
 use Rattle.tt_text.specs.Feeds.{Stream, stopped}
 use Rattle.tt_text.specs.declared.feed.FeedFault.TheVariants.{Read}
-use Rattle.tt_instance.specs.Problem.{Problem}
+use Rattle.tt_instance_data.specs.Problem.{Problem}
 use Rattle.tt_leaf_rules.specs.declared.leaf.Bound.{Bound}
 use Rattle.tt_proof_read.specs.Faults.{read_failed}
 use Rattle.tt_proof_read.specs.Reading.{header_at, word_at, token_at}

@@ -10,8 +10,8 @@ use Rattle.tt_lists.proofs.Members.{at_member}
 use Rattle.tt_lists.proofs.Below.{all_pass}
 use Rattle.tt_lists.proofs.Apart.{distinct_sum}
 use Rattle.std.proofs.lemmas.List.Folds.{list_all-append}
-use Rattle.tt_instance.specs.Problem.{Problem}
-use Rattle.tt_instance.specs.declared.cell.Cell.{Cell}
+use Rattle.tt_instance_data.specs.Problem.{Problem}
+use Rattle.tt_instance_data.specs.declared.cell.Cell.{Cell}
 use Rattle.tt_rules.specs.Score.{IsFeasible, cost}
 use Rattle.tt_facts_path.specs.Facts.{matches, Holds, Fits}
 use Rattle.tt_facts_path.specs.declared.facts.Fact.{Fact}

@@ -11,8 +11,8 @@ use Rattle.std.proofs.lemmas.Grind.{flat_map-append}
 use Rattle.tt_lists.specs.Words.{has_number}
 use Rattle.tt_lists.proofs.Below.{all_pass}
 use Rattle.tt_lists.proofs.Twos.{list_all-swap, each_two-push}
-use Rattle.tt_instance.specs.Problem.{Problem}
-use Rattle.tt_instance.specs.Limits.{IsInstance}
+use Rattle.tt_instance_data.specs.Problem.{Problem}
+use Rattle.tt_instance_data.specs.Limits.{IsInstance}
 use Rattle.tt_leaf_rules.specs.Claims.{Target, WorkingDays, Compactness}
 use Rattle.tt_leaf_rules.specs.NumberSet.{place}
 use Rattle.tt_groups.specs.Group.{Group, IsGroupBound}

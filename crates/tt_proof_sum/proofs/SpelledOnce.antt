@@ -11,8 +11,8 @@ use Rattle.tt_lists.proofs.Members.{at_member, member_from_any, each_two-of_appe
 use Rattle.tt_lists.proofs.Sums.{list_any-of_flat_map, each_from_list_all}
 use Rattle.tt_lists.proofs.Tested.{all_at}
 use Rattle.tt_lists.proofs.Twos.{each_two-last}
-use Rattle.tt_instance.specs.Problem.{Problem}
-use Rattle.tt_instance.specs.Limits.{IsInstance}
+use Rattle.tt_instance_data.specs.Problem.{Problem}
+use Rattle.tt_instance_data.specs.Limits.{IsInstance}
 use Rattle.tt_text.specs.Feeds.{Stream}
 use Rattle.tt_text.specs.Pieces.{Piece, Text, Begins}
 use Rattle.tt_text.specs.Tokens.{Placed, tokens_of}

@@ -9,8 +9,8 @@ use Rattle.tt_lists.specs.Words.{has_number}
 use Rattle.tt_text.specs.CutShort.{rest_of, cut_at}
 use Rattle.tt_text.specs.Feeds.{Stream, stream_at, fresh, room_of}
 use Rattle.tt_text.specs.declared.feed.FeedFault.TheVariants as feed
-use Rattle.tt_instance.specs.Problem.{Problem}
-use Rattle.tt_instance.specs.Limits.{IsInstance}
+use Rattle.tt_instance_data.specs.Problem.{Problem}
+use Rattle.tt_instance_data.specs.Limits.{IsInstance}
 use Rattle.tt_leaf_rules.specs.NumberSet.{place}
 use Rattle.tt_leaf_rules.specs.declared.leaf.Bound.{Bound}
 use Rattle.tt_leaf_rules.specs.declared.leaf.Bound.TheVariants.{AtLeast}

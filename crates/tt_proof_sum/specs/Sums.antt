@@ -2,9 +2,9 @@
 use Rattle.std.specs.Prelude.{◌≡◌, ℕ, ◌+◌, ◌≤◌, Bool, true, not, List, [], ◌∷◌, ◌++◌, map, flat_map, sum_by, All}
 use Rattle.std.specs.List.{list_any, list_all, AllZip}
 use Rattle.tt_lists.specs.Words.{each_two}
-use Rattle.tt_instance.specs.Problem.{Problem}
-use Rattle.tt_instance.specs.Cells.{all_courses, all_curricula}
-use Rattle.tt_instance.specs.declared.cell.Cell.{Cell}
+use Rattle.tt_instance_data.specs.Problem.{Problem}
+use Rattle.tt_instance_data.specs.Cells.{all_courses, all_curricula}
+use Rattle.tt_instance_data.specs.declared.cell.Cell.{Cell}
 use Rattle.tt_rules.specs.Score.{IsFeasible, cost}
 use Rattle.tt_facts_path.specs.Facts.{Fits}
 use Rattle.tt_facts_path.specs.declared.facts.Fact.{Fact}

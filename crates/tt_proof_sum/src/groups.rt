@@ -24,7 +24,7 @@ use crate::table::Table;
 use std::alloc::Global;
 use tt_groups_check::{GroupFault, Work, check_group};
 use tt_groups_read::{GroupClaim, GroupReader, GroupTextFault};
-use tt_instance::Instance;
+use tt_instance_data::Instance;
 use tt_leaf_rules::Bound;
 use tt_text::Source;
 

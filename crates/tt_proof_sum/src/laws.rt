@@ -1,8 +1,8 @@
 //! The meaning of bounds over disjoint targets.
 
 ghost use Rattle.std.specs.Prelude.{◌≡◌, true, List, [], ℕ, All};
-ghost use Rattle.tt_instance.specs.Problem.{Problem};
-ghost use Rattle.tt_instance.specs.declared.cell.Cell.{Cell};
+ghost use Rattle.tt_instance_data.specs.Problem.{Problem};
+ghost use Rattle.tt_instance_data.specs.declared.cell.Cell.{Cell};
 ghost use Rattle.tt_rules.specs.Score.{IsFeasible};
 ghost use Rattle.tt_facts_path.specs.declared.facts.Fact.{Fact};
 ghost use Rattle.tt_leaf_rules.specs.Claims.{Target};

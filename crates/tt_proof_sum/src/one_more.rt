@@ -14,7 +14,7 @@ use crate::fault::{SumFault, fault_of_proof, read_failed};
 use crate::groups::take_groups;
 use crate::table::Table;
 use std::alloc::Global;
-use tt_instance::Instance;
+use tt_instance_data::Instance;
 use tt_leaf_rules::Bound;
 use tt_proof_check::check_proof_with;
 use tt_text::Source;

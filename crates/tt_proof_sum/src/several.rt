@@ -12,7 +12,7 @@ ghost use Rattle.tt_proof_sum.specs.UpToFailedRead.{IsFileCheckedUpToFailedRead}
 use crate::fault::SumFault;
 use crate::summed::Sum;
 use std::alloc::Global;
-use tt_instance::Instance;
+use tt_instance_data::Instance;
 use tt_leaf_rules::Bound;
 use tt_text_peek::Peek;
 

@@ -11,7 +11,7 @@ use crate::fault::SumFault;
 use crate::one_more::take_file;
 use crate::table::Table;
 use std::alloc::{AllocError, Global};
-use tt_instance::Instance;
+use tt_instance_data::Instance;
 use tt_leaf_rules::Bound;
 use tt_text_peek::Peek;
 

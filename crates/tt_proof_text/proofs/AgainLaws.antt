@@ -8,7 +8,7 @@ use Rattle.tt_text.specs.Pieces.{Piece, Text, Begins}
 use Rattle.tt_text.specs.Lines.{all_pieces}
 use Rattle.tt_text.proofs.Lines.{lines_begin}
 use Rattle.tt_text.proofs.Parts.{all_pieces-append, all_pieces-map}
-use Rattle.tt_instance.specs.Problem.{Problem}
+use Rattle.tt_instance_data.specs.Problem.{Problem}
 use Rattle.tt_leaf_rules.specs.declared.leaf.Bound.{Bound}
 use Rattle.tt_leaf_rules.specs.declared.leaf.Claim.{Claim}
 use Rattle.tt_leaf_rules.specs.declared.leaf.Claim.TheVariants.{Capacity, Days, Compact, Stable, Prices, Stacked}

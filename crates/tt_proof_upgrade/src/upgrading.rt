@@ -10,7 +10,7 @@ ghost use Rattle.tt_proof_read.specs.Trees.{Tree, preorder, IsPreorder};
 ghost use Rattle.tt_proof_check.specs.Nodes.{IsNodeOf};
 ghost use Rattle.tt_proof_check.specs.Streams.{IsProved, stream_of};
 ghost use Rattle.tt_proof_text.specs.Within.{Writes};
-ghost use Rattle.tt_instance.specs.Problem.{Problem};
+ghost use Rattle.tt_instance_data.specs.Problem.{Problem};
 ghost use Rattle.tt_proof_upgrade.specs.Faults.{read_failed, is_failed_read, IsNodesFault, IsWriteFault, OutOfMemoryIsOneFault};
 ghost use Rattle.tt_proof_upgrade.specs.Texts.{IsReadUpToFailedRead};
 ghost use Rattle.tt_proof_upgrade.specs.Upgrades.{IsUpgraded, IsEnvironmental, IsUpgradeFault};
@@ -18,7 +18,7 @@ ghost use Rattle.tt_proof_upgrade.specs.Upgrades.{IsUpgraded, IsEnvironmental, I
 use crate::fault::{UpgradeFault, node_fault};
 use crate::reading::parse_proof;
 use std::alloc::Global;
-use tt_instance::Instance;
+use tt_instance_data::Instance;
 use tt_leaf_rules::Bound;
 use tt_proof_check::check_nodes;
 use tt_proof_read::Node;

@@ -11,11 +11,11 @@ use Rattle.tt_text.specs.Lines.{text_of, line_text, lines_text}
 use Rattle.tt_text_output.specs.Puts.{Puts}
 use Rattle.tt_text_output.specs.declared.output.Output.{Output}
 use Rattle.tt_text_output.proofs.Putting.{puts_both, puts_nothing}
-use Rattle.tt_instance.specs.Problem.{Problem}
-use Rattle.tt_instance.specs.Cells.{slot, all_slots, all_days, all_rooms, all_curricula, is_at}
-use Rattle.tt_instance.specs.Courses.{teachers}
-use Rattle.tt_instance.specs.declared.cell.Cell.{Cell}
-use Rattle.tt_instance.specs.declared.cell.Slot.{Slot}
+use Rattle.tt_instance_data.specs.Problem.{Problem}
+use Rattle.tt_instance_data.specs.Cells.{slot, all_slots, all_days, all_rooms, all_curricula, is_at}
+use Rattle.tt_instance_data.specs.Courses.{teachers}
+use Rattle.tt_instance_data.specs.declared.cell.Cell.{Cell}
+use Rattle.tt_instance_data.specs.declared.cell.Slot.{Slot}
 use Rattle.tt_report.specs.Blocks.{head_of, shown_in, belongs_to, next_texts, entries_text, slot_text, block_text}
 use Rattle.tt_report.specs.Reports.{course_text, room_text, course_and_room, is_taught_by, slot_line, block, report_text}
 use Rattle.tt_report.specs.declared.blocks.Block.{Block}

@@ -9,8 +9,8 @@ use Rattle.tt_lists.proofs.Sums.{one_if, sum_by-same, sum_by-plus, sum_by-nothin
 use Rattle.tt_lists.proofs.Tests.{list_any-or, test_turned}
 use Rattle.tt_lists.proofs.Twos.{list_all-not}
 use Rattle.tt_lists.proofs.Tested.{list_any-same}
-use Rattle.tt_instance.specs.Cells.{is_of}
-use Rattle.tt_instance.specs.declared.cell.Cell.{Cell}
+use Rattle.tt_instance_data.specs.Cells.{is_of}
+use Rattle.tt_instance_data.specs.declared.cell.Cell.{Cell}
 
 module _ (test : Cell → Bool) (t : List Cell) where
   -- whether some entry of one of the courses passes

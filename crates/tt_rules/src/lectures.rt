@@ -1,14 +1,14 @@
 //! Lectures: all lectures of a course are placed, in distinct periods.
 
 ghost use Rattle.std.specs.Prelude.{◌≡◌, ◌<◌, ◌≤◌, ◌*◌, length, All};
-ghost use Rattle.tt_instance.specs.Cells.{InRange};
+ghost use Rattle.tt_instance_data.specs.Cells.{InRange};
 ghost use Rattle.tt_rules.specs.Hard.{entries_of, periods_of, lectures_off, lectures_count};
 ghost use Rattle.tt_table.specs.declared.groups.GroupBy.TheVariants as by;
 ghost use Rattle.tt_table.specs.declared.table.TheConstants.{MAX_ENTRIES};
 ghost use Rattle.tt_rules.specs.declared.limit.TheConstants.{MAX_COUNT};
 
 use crate::distinct;
-use tt_instance::{Instance, MAX_COURSES};
+use tt_instance_data::{Instance, MAX_COURSES};
 use tt_table::Groups;
 
 /// Counts the entries of a course.

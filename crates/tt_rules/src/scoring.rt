@@ -1,7 +1,7 @@
 //! The score of a timetable.
 
 ghost use Rattle.std.specs.Prelude.{◌≡◌, ◌≤◌, length, All};
-ghost use Rattle.tt_instance.specs.Cells.{InRange};
+ghost use Rattle.tt_instance_data.specs.Cells.{InRange};
 ghost use Rattle.tt_table.specs.declared.groups.GroupBy.TheVariants as by;
 ghost use Rattle.tt_table.specs.Table.{IsTimetable};
 ghost use Rattle.tt_table.specs.declared.table.TheConstants.{MAX_ENTRIES};
@@ -11,7 +11,7 @@ use crate::counts::Score;
 use crate::{
     availability, capacity, compactness, conflicts, lectures, occupancy, stability, working_days,
 };
-use tt_instance::{Instance, MAX_COURSES, MAX_ROOMS};
+use tt_instance_data::{Instance, MAX_COURSES, MAX_ROOMS};
 use tt_table::{Entry, GroupBy, Groups, Timetable};
 
 /// Groups the entries by course.

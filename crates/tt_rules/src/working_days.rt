@@ -1,15 +1,15 @@
 //! Minimum working days: 5 for each day that a course is below its minimum.
 
 ghost use Rattle.std.specs.Prelude.{◌≡◌, ◌<◌, ◌≤◌, ◌*◌, length, All};
-ghost use Rattle.tt_instance.specs.Cells.{InRange};
+ghost use Rattle.tt_instance_data.specs.Cells.{InRange};
 ghost use Rattle.tt_rules.specs.Soft.{days_of, days_cost, days_count};
 ghost use Rattle.tt_table.specs.declared.groups.GroupBy.TheVariants as by;
-ghost use Rattle.tt_instance.specs.declared.limit.TheConstants.{MAX_MIN_DAYS};
+ghost use Rattle.tt_instance_data.specs.declared.limit.TheConstants.{MAX_MIN_DAYS};
 ghost use Rattle.tt_rules.specs.declared.limit.TheConstants.{MAX_COUNT};
 
 use crate::distinct;
 use crate::limit::DAY_PRICE;
-use tt_instance::{Instance, MAX_COURSES};
+use tt_instance_data::{Instance, MAX_COURSES};
 use tt_table::Groups;
 
 /// Counts the days on which the course is taught.

@@ -1,9 +1,9 @@
 -- Comparisons of timetables of a small instance, whether they are no worse than others: two courses of a curriculum, and one room.
 use Rattle.std.proofs.Common.{◌≡◌, ℕ, ◌<◌, List, [], ◌∷◌, refl, inl, inr, ap, arith, get_or, lit<}
 use Rattle.std.proofs.lemmas.List.Elements.{All-cons, All-nil}
-use Rattle.tt_instance.specs.Cells.{InRange}
-use Rattle.tt_instance.specs.declared.cell.Cell.{Cell}
-use Rattle.tt_instance.proofs.Examples.{at, mini}
+use Rattle.tt_instance_data.specs.Cells.{InRange}
+use Rattle.tt_instance_data.specs.declared.cell.Cell.{Cell}
+use Rattle.tt_instance_data.proofs.Examples.{at, mini}
 use Rattle.tt_table.specs.Table.{IsTimetable}
 use Rattle.tt_moves.specs.Changes.{IsBelow}
 use Rattle.tt_moves_descend.proofs.Descents.{IsBelow-asym}

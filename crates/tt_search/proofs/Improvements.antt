@@ -1,7 +1,7 @@
 -- Laws of improvements.
 use Rattle.std.proofs.Common.{◌≡◌, ℕ, ◌+◌, ◌≤◌, Bool, List, ◌∙◌, ap, subst, refl, inl, inr, arith}
-use Rattle.tt_instance.specs.Problem.{Problem}
-use Rattle.tt_instance.specs.declared.cell.Cell.{Cell}
+use Rattle.tt_instance_data.specs.Problem.{Problem}
+use Rattle.tt_instance_data.specs.declared.cell.Cell.{Cell}
 use Rattle.tt_table.specs.Table.{IsTimetable}
 use Rattle.tt_moves.specs.Changes.{IsBelow}
 use Rattle.tt_occupancy.specs.Filled.{Filled}

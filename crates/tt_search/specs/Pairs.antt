@@ -1,8 +1,8 @@
 -- Not part of the trusted statement: only proofs use this file.
 -- Pairs of a hard count and a cost.
 use Rattle.std.specs.Prelude.{◌≡◌, List}
-use Rattle.tt_instance.specs.Problem.{Problem}
-use Rattle.tt_instance.specs.declared.cell.Cell.{Cell}
+use Rattle.tt_instance_data.specs.Problem.{Problem}
+use Rattle.tt_instance_data.specs.declared.cell.Cell.{Cell}
 use Rattle.tt_rules.specs.Score.{hard, cost}
 use Rattle.tt_moves.specs.Changes.{IsLower}
 use Rattle.tt_search.specs.Improved.{IsNoWorse}

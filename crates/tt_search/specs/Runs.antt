@@ -1,7 +1,7 @@
 -- Several improvements in turn.
 use Rattle.std.specs.Prelude.{◌≡◌, ℕ, zero, suc, List}
-use Rattle.tt_instance.specs.Problem.{Problem}
-use Rattle.tt_instance.specs.declared.cell.Cell.{Cell}
+use Rattle.tt_instance_data.specs.Problem.{Problem}
+use Rattle.tt_instance_data.specs.declared.cell.Cell.{Cell}
 use Rattle.tt_search.specs.Improved.{IsDescended}
 
 -- This many improvements, each with at most `draws` draws and `steps` steps, lead from the first timetable to the last.

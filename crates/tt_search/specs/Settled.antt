@@ -1,8 +1,8 @@
 -- Not part of the trusted statement: only proofs use this file.
 -- Timetables that some step lowers.
 use Rattle.std.specs.Prelude.{List}
-use Rattle.tt_instance.specs.Problem.{Problem}
-use Rattle.tt_instance.specs.declared.cell.Cell.{Cell}
+use Rattle.tt_instance_data.specs.Problem.{Problem}
+use Rattle.tt_instance_data.specs.declared.cell.Cell.{Cell}
 use Rattle.tt_moves.specs.Changes.{IsBelow}
 use Rattle.tt_moves.specs.Steps.{CanStep, stepped}
 use Rattle.tt_moves.specs.declared.step.Step.{Step}

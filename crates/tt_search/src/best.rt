@@ -1,7 +1,7 @@
 //! The best timetable that a search has found.
 
 ghost use Rattle.std.specs.Prelude.{◌≡◌, ◌⊎◌, IfOk, List};
-ghost use Rattle.tt_instance.specs.declared.cell.Cell.{Cell};
+ghost use Rattle.tt_instance_data.specs.declared.cell.Cell.{Cell};
 ghost use Rattle.tt_search.specs.Improved.{courses_of};
 ghost use Rattle.tt_search.specs.Pairs.{IsBest};
 

@@ -1,7 +1,7 @@
 //! The entry in each cell. Nothing is proved about the contents.
 
 use std::alloc::{AllocError, Global};
-use tt_instance::{Instance, Slot};
+use tt_instance_data::{Instance, Slot};
 use tt_moves::Step;
 use tt_occupancy::Occupied;
 

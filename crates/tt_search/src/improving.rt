@@ -1,7 +1,7 @@
 //! The improvement of a timetable.
 
 ghost use Rattle.std.specs.Prelude.{◌≡◌, ◌<◌, ◌≤◌, ◌-◌, ◌/◌, List, length, IfOk, OnOk};
-ghost use Rattle.tt_instance.specs.declared.cell.Cell.{Cell};
+ghost use Rattle.tt_instance_data.specs.declared.cell.Cell.{Cell};
 ghost use Rattle.tt_table.specs.Table.{IsTimetable};
 ghost use Rattle.tt_search.specs.Improved.{IsNoWorse, LeadsWithin, IsDescended};
 ghost use Rattle.tt_search.specs.Pairs.{IsBest};
@@ -17,7 +17,7 @@ use crate::walking::{Walker, walk};
 use crate::watch::{Span, Unwatched, Watch};
 use rand_pcg::Pcg32;
 use std::alloc::{AllocError, Global};
-use tt_instance::Instance;
+use tt_instance_data::Instance;
 use tt_moves_descend::descend_in;
 use tt_occupancy::Occupied;
 use tt_search_replan::{Replanner, can_replan};

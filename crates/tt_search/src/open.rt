@@ -1,12 +1,12 @@
 //! The periods to which an entry's course may move. Nothing is proved about them.
 
 ghost use Rattle.std.specs.Prelude.{◌<◌, IfSome};
-ghost use Rattle.tt_instance.specs.Cells.{InRange};
+ghost use Rattle.tt_instance_data.specs.Cells.{InRange};
 
 use crate::random::below;
 use rand_pcg::Pcg32;
 use std::alloc::{AllocError, Global};
-use tt_instance::{Instance, Slot};
+use tt_instance_data::{Instance, Slot};
 use tt_occupancy::Occupied;
 use tt_table::Entry;
 

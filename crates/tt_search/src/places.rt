@@ -1,11 +1,11 @@
 //! Places to which an entry may move.
 
 ghost use Rattle.std.specs.Prelude.{◌≡◌, ◌<◌, length};
-ghost use Rattle.tt_instance.specs.Cells.{InRange};
+ghost use Rattle.tt_instance_data.specs.Cells.{InRange};
 
 use crate::random::below;
 use rand_pcg::Pcg32;
-use tt_instance::{Instance, Slot};
+use tt_instance_data::{Instance, Slot};
 use tt_occupancy::Occupied;
 use tt_table::Entry;
 

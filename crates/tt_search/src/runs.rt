@@ -8,7 +8,7 @@ ghost use Rattle.tt_search.specs.Runs.{Runs};
 use crate::improving::improve_watched;
 use crate::watch::Watch;
 use std::alloc::{AllocError, Global};
-use tt_instance::Instance;
+use tt_instance_data::Instance;
 use tt_table::Timetable;
 
 /// Improves a timetable in this many runs, each from the result of the run before, with the seed increased by 1 each time.

@@ -1,7 +1,7 @@
 //! Steps to choose from.
 
 ghost use Rattle.std.specs.Prelude.{◌≡◌, ◌<◌, length, IfSome};
-ghost use Rattle.tt_instance.specs.Cells.{InRange};
+ghost use Rattle.tt_instance_data.specs.Cells.{InRange};
 ghost use Rattle.tt_moves.specs.Steps.{CanStep, first_of};
 
 use crate::cell_entries::CellEntries;
@@ -10,7 +10,7 @@ use crate::places::{any_slot, can_change_places, slot_of};
 use crate::random::below;
 use crate::violations::has_cost_or_fault;
 use rand_pcg::Pcg32;
-use tt_instance::Slot;
+use tt_instance_data::Slot;
 use tt_moves::Step;
 use tt_occupancy::Occupied;
 

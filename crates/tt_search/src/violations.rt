@@ -1,7 +1,7 @@
 //! Entries for which another place may be better.
 
 ghost use Rattle.std.specs.Prelude.{◌<◌, length};
-ghost use Rattle.tt_instance.specs.Cells.{InRange};
+ghost use Rattle.tt_instance_data.specs.Cells.{InRange};
 
 use tt_occupancy::Occupied;
 use tt_table::Entry;

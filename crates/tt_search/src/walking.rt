@@ -1,7 +1,7 @@
 //! Walks by drawn steps.
 
 ghost use Rattle.std.specs.Prelude.{◌≡◌, ◌<◌, ◌+◌, ℕ, List, length};
-ghost use Rattle.tt_instance.specs.declared.cell.Cell.{Cell};
+ghost use Rattle.tt_instance_data.specs.declared.cell.Cell.{Cell};
 ghost use Rattle.tt_search.specs.Improved.{courses_of, LeadsWithin};
 ghost use Rattle.tt_search.specs.Pairs.{IsBest};
 

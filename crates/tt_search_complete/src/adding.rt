@@ -7,7 +7,7 @@ ghost use Rattle.tt_search_complete.specs.Progress.{Begins};
 
 use crate::taken_places::TakenPlaces;
 use std::alloc::AllocError;
-use tt_instance::Instance;
+use tt_instance_data::Instance;
 use tt_table::{Entry, PushFault, Timetable};
 
 /// Adds an entry to a timetable that has room for it.

@@ -1,16 +1,16 @@
 //! The lectures that a timetable lacks.
 
 ghost use Rattle.std.specs.Prelude.{◌≡◌, ◌+◌, ◌-◌, ◌<◌, ◌≤◌, length, slice_index_or, IfOk, OnOk};
-ghost use Rattle.tt_instance.specs.Courses.{lectures};
+ghost use Rattle.tt_instance_data.specs.Courses.{lectures};
 ghost use Rattle.tt_rules.specs.Hard.{entries_of};
 ghost use Rattle.tt_table.specs.Table.{IsTimetable};
-ghost use Rattle.tt_instance.specs.declared.limit.TheConstants.{MAX_COURSES};
+ghost use Rattle.tt_instance_data.specs.declared.limit.TheConstants.{MAX_COURSES};
 ghost use Rattle.tt_table.specs.declared.groups.GroupBy.TheVariants as by;
 ghost use Rattle.tt_table.specs.declared.table.TheConstants.{MAX_ENTRIES};
 ghost use Rattle.tt_search_complete.specs.Progress.{AreMissing};
 
 use std::alloc::{AllocError, Global};
-use tt_instance::{Instance, MAX_COURSES};
+use tt_instance_data::{Instance, MAX_COURSES};
 use tt_table::{GroupBy, Groups, Timetable};
 
 /// Returns the number of entries of a course.

@@ -1,10 +1,10 @@
 -- The timetables of a small instance that are constructed ones: two courses of one lecture each, and one room.
 use Rattle.std.proofs.Common.{◌≡◌, ℕ, zero, suc, ◌<◌, List, [], ◌∷◌, refl, sym, arith, lit<}
 use Rattle.std.proofs.lemmas.List.Elements.{All-cons, All-nil}
-use Rattle.tt_instance.specs.Cells.{InRange}
-use Rattle.tt_instance.specs.Courses.{lectures}
-use Rattle.tt_instance.specs.declared.cell.Cell.{Cell}
-use Rattle.tt_instance.proofs.Examples.{at, mini}
+use Rattle.tt_instance_data.specs.Cells.{InRange}
+use Rattle.tt_instance_data.specs.Courses.{lectures}
+use Rattle.tt_instance_data.specs.declared.cell.Cell.{Cell}
+use Rattle.tt_instance_data.proofs.Examples.{at, mini}
 use Rattle.tt_rules.specs.Hard.{entries_of}
 use Rattle.tt_search_construct.specs.Constructed.{IsConstructed}
 

@@ -4,12 +4,12 @@ use Rattle.std.specs.Prelude.{◌==◌}
 use Rattle.std.proofs.lemmas.Bool.{cases_eq}
 use Rattle.std.proofs.lemmas.List.Sums.{sum_by-append, sum_by_more, sum_by_more_le}
 use Rattle.std.proofs.lemmas.List.Elements.{All-append, All-cons, All-nil}
-use Rattle.tt_instance.specs.Problem.{Problem, Course}
-use Rattle.tt_instance.specs.Cells.{InRange, is_of}
-use Rattle.tt_instance.specs.Courses.{no_course, lectures}
-use Rattle.tt_instance.specs.Limits.{IsInstance}
-use Rattle.tt_instance.specs.Reading.{lectures_of}
-use Rattle.tt_instance.specs.declared.cell.Cell.{Cell}
+use Rattle.tt_instance_data.specs.Problem.{Problem, Course}
+use Rattle.tt_instance_data.specs.Cells.{InRange, is_of}
+use Rattle.tt_instance_data.specs.Courses.{no_course, lectures}
+use Rattle.tt_instance_data.specs.Limits.{IsInstance}
+use Rattle.tt_instance_data.specs.Columns.{lectures_of}
+use Rattle.tt_instance_data.specs.declared.cell.Cell.{Cell}
 use Rattle.tt_lists.proofs.Sums.{one_if, count_by-cons}
 use Rattle.tt_table.specs.Table.{IsTimetable}
 use Rattle.tt_rules.specs.Hard.{entries_of}

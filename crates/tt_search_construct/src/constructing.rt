@@ -9,7 +9,7 @@ use crate::planning::Plan;
 use rand_core::SeedableRng;
 use rand_pcg::Pcg32;
 use std::alloc::{AllocError, Global};
-use tt_instance::Instance;
+use tt_instance_data::Instance;
 use tt_rules::score;
 use tt_table::Timetable;
 

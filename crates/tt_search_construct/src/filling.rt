@@ -1,16 +1,16 @@
 //! The timetable of a plan.
 
 ghost use Rattle.std.specs.Prelude.{◌≡◌, ◌<◌, ◌≤◌, ◌+◌, ◌∷◌, ◌++◌, [], length, IfOk, OnOk};
-ghost use Rattle.tt_instance.specs.Cells.{InRange};
-ghost use Rattle.tt_instance.specs.Courses.{lectures};
+ghost use Rattle.tt_instance_data.specs.Cells.{InRange};
+ghost use Rattle.tt_instance_data.specs.Courses.{lectures};
 ghost use Rattle.tt_table.specs.declared.table.TheConstants.{MAX_ENTRIES};
 ghost use Rattle.tt_search_construct.specs.Constructed.{IsConstructed};
 ghost use Rattle.tt_search_construct.specs.Filled.{HasMore};
-ghost use Rattle.tt_instance.specs.declared.limit.TheConstants.{MAX_LECTURES};
+ghost use Rattle.tt_instance_data.specs.declared.limit.TheConstants.{MAX_LECTURES};
 
 use crate::place::Place;
 use std::alloc::{AllocError, Global};
-use tt_instance::Instance;
+use tt_instance_data::Instance;
 use tt_table::{Entry, PushFault, Timetable};
 
 /// Returns the entry of a course at a place, or in the first room and period if the instance has no such place.

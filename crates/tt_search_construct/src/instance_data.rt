@@ -1,7 +1,7 @@
 //! The data of an instance that the choices use.
 
 use std::alloc::{AllocError, Global};
-use tt_instance::Instance;
+use tt_instance_data::Instance;
 
 /// The data of a course that the choices use.
 #[derive(Drop)]

@@ -4,7 +4,7 @@ use crate::counts::Counts;
 use crate::instance_data::{Course, InstanceData};
 use crate::place::Place;
 use std::alloc::{AllocError, Global};
-use tt_instance::Instance;
+use tt_instance_data::Instance;
 
 /// The state of a course whose lectures are being placed.
 #[derive(Clone, Copy)]

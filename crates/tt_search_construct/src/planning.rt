@@ -8,7 +8,7 @@ use crate::placed::PlacedLectures;
 use crate::ranking::Lecture;
 use rand_pcg::Pcg32;
 use std::alloc::{AllocError, Global};
-use tt_instance::Instance;
+use tt_instance_data::Instance;
 
 /// From this round on, the demand of other courses counts before the cost.
 const AHEAD: u32 = 3;

@@ -2,7 +2,7 @@
 
 use crate::drawing::{at_most, one_of};
 use rand_pcg::Pcg32;
-use tt_instance::Instance;
+use tt_instance_data::Instance;
 use tt_occupancy::Occupied;
 
 /// The maximum number of courses of a group.

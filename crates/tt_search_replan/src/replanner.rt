@@ -12,7 +12,7 @@ use crate::spelling::Speller;
 use crate::week::Week;
 use rand_pcg::Pcg32;
 use std::alloc::{AllocError, Global};
-use tt_instance::Instance;
+use tt_instance_data::Instance;
 use tt_moves::Step;
 use tt_occupancy::Occupied;
 

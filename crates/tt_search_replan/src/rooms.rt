@@ -5,7 +5,7 @@ ghost use Rattle.std.specs.Prelude.{◌<◌, length};
 use crate::drawing::at_most;
 use rand_pcg::Pcg32;
 use std::alloc::{AllocError, Global};
-use tt_instance::Instance;
+use tt_instance_data::Instance;
 use tt_occupancy::Occupied;
 
 /// A cost point, in the thousandths used for the costs of plans.

@@ -4,7 +4,7 @@ use crate::group::Group;
 use crate::links::Links;
 use crate::rooms::{Rooms, set_of};
 use std::alloc::{AllocError, Global};
-use tt_instance::Instance;
+use tt_instance_data::Instance;
 use tt_occupancy::Occupied;
 use tt_table::Entry;
 

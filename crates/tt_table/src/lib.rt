@@ -13,5 +13,5 @@ pub use faulty::faulty_beginnings_spell_none;
 pub use groups::{Group, GroupBy, Groups};
 pub use reading::read_solution;
 pub use table::{MAX_ENTRIES, Timetable};
-pub use tt_instance::Cell as Entry;
+pub use tt_instance_data::Cell as Entry;
 pub use writing::write_solution;

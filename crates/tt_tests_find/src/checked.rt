@@ -7,7 +7,7 @@ ghost use Rattle.tt_leaf_rules.specs.Ranges.{IsLeafOf};
 
 use std::alloc::{AllocError, Global};
 use tt_facts_path::{Fact, Path, Pattern, Who};
-use tt_instance::Instance;
+use tt_instance_data::Instance;
 use tt_leaf::find_leaf;
 use tt_leaf_rules::{Bound, Leaf, holds};
 

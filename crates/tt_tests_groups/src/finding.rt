@@ -3,7 +3,8 @@
 use std::alloc::Global;
 use std::test::Fail;
 use tt_groups_read::GroupReader;
-use tt_instance::{Instance, read_instance};
+use tt_instance::read_instance;
+use tt_instance_data::Instance;
 use tt_parts_groups::{find_groups, write_groups};
 use tt_search::Unwatched;
 use tt_table::Entry;

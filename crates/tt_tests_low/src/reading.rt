@@ -2,7 +2,8 @@
 
 use std::alloc::{AllocError, Global};
 use std::test::Fail;
-use tt_instance::{Instance, InstanceFault, read_instance, write_instance};
+use tt_instance::{InstanceFault, read_instance, write_instance};
+use tt_instance_data::Instance;
 use tt_tests_samples::{GAP, MINI, TOUR, TRIO, WIDE, edited};
 use tt_text::{Pieces, Source, WholeFault, read_whole};
 

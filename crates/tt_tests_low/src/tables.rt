@@ -2,7 +2,8 @@
 
 use std::alloc::Global;
 use std::test::Fail;
-use tt_instance::{Instance, read_instance};
+use tt_instance::read_instance;
+use tt_instance_data::Instance;
 use tt_rules::score;
 use tt_table::{Entry, MAX_ENTRIES, PushFault, Timetable, read_solution, write_solution};
 use tt_tests_samples::{MINI, repeated};

@@ -5,7 +5,8 @@ ghost use Rattle.std.specs.Prelude.{◌<◌, ◌↔◌, IsTrue};
 use crate::timetables::{occupied, text_of};
 use std::alloc::Global;
 use std::test::Fail;
-use tt_instance::{Instance, read_instance};
+use tt_instance::read_instance;
+use tt_instance_data::Instance;
 use tt_occupancy::Occupied;
 use tt_tests_samples::{MINI, MINI_SOLUTION};
 

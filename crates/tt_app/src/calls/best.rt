@@ -1,8 +1,8 @@
 //! The call `best`.
 
 ghost use Rattle.std.specs.Prelude.{◌≡◌, ℕ, List, IfOk, IfErr, MatchResult, IsSomeAnd, None, ⊤};
-ghost use Rattle.tt_instance.specs.Problem.{Problem};
-ghost use Rattle.tt_instance.specs.Spelling.{Spells};
+ghost use Rattle.tt_instance_data.specs.Problem.{Problem};
+ghost use Rattle.tt_instance_data.specs.Spelling.{Spells};
 ghost use Rattle.tt_table.specs.Spelling.{SpellsTable};
 ghost use Rattle.tt_table.specs.Table.{IsTimetable};
 ghost use Rattle.tt_rules.specs.Score as score;
@@ -18,7 +18,8 @@ use crate::calls::solve::put_bound;
 use crate::fault::AppFault;
 use std::alloc::{AllocError, Global};
 use tt_best::{Rounds, Week, find_best_watched};
-use tt_instance::{Instance, read_instance};
+use tt_instance::read_instance;
+use tt_instance_data::Instance;
 use tt_leaf_rules::Bound;
 use tt_page_text::Labels;
 use tt_parts::Parts;

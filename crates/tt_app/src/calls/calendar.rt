@@ -6,7 +6,8 @@ ghost use Rattle.tt_app.specs.Exported.{IsCalendar, IsCalendarRefusal, IsNoTerm}
 use crate::answer::Answer;
 use crate::fault::AppFault;
 use std::alloc::Global;
-use tt_instance::{Instance, read_instance};
+use tt_instance::read_instance;
+use tt_instance_data::Instance;
 use tt_report::By;
 use tt_report_export::{Term, Week, write_calendar};
 use tt_table::read_solution;

@@ -1,8 +1,8 @@
 //! The call `improve`.
 
 ghost use Rattle.std.specs.Prelude.{◌≡◌, List, IfOk, IfErr, MatchResult, ⊤};
-ghost use Rattle.tt_instance.specs.Problem.{Problem};
-ghost use Rattle.tt_instance.specs.declared.cell.Cell.{Cell};
+ghost use Rattle.tt_instance_data.specs.Problem.{Problem};
+ghost use Rattle.tt_instance_data.specs.declared.cell.Cell.{Cell};
 ghost use Rattle.tt_table.specs.Table.{IsTimetable};
 ghost use Rattle.tt_table.specs.Spelling.{SpellsBoth};
 ghost use Rattle.tt_app.specs.Improved.{IsImproved, IsImprovedInRuns, IsCompletedAndImproved, IsCompletionRefusal, IsTableAnswer};
@@ -13,7 +13,8 @@ use crate::answer::Answer;
 use crate::fault::AppFault;
 use crate::lines::pair_line;
 use std::alloc::{AllocError, Global};
-use tt_instance::{Instance, read_instance};
+use tt_instance::read_instance;
+use tt_instance_data::Instance;
 use tt_rules::score;
 use tt_search::{Unwatched, Watch};
 use tt_search_complete::complete;

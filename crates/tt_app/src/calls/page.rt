@@ -2,8 +2,8 @@
 
 ghost use Rattle.std.specs.Prelude.{◌≡◌, ◌⊎◌, ◌+◌, ◌<◌, ◌^◌, ℕ, List, Some, Ok, Err, true, if◌then◌else◌, IfOk, IfErr, MatchResult, ⊤, slice_get, slice_index_or};
 ghost use Rattle.std.specs.Io.KnownBytes.{Appends};
-ghost use Rattle.tt_instance.specs.Problem.{Problem};
-ghost use Rattle.tt_instance.specs.declared.cell.Cell.{Cell};
+ghost use Rattle.tt_instance_data.specs.Problem.{Problem};
+ghost use Rattle.tt_instance_data.specs.declared.cell.Cell.{Cell};
 ghost use Rattle.tt_leaf_rules.specs.declared.leaf.Bound.{Bound};
 ghost use Rattle.tt_page.specs.Pages.{page_text};
 ghost use Rattle.tt_page_text.specs.Labelled.{Labelled};
@@ -21,7 +21,8 @@ ghost use Rattle.tt_app.specs.declared.fault.AppFault.TheVariants as fault;
 
 use crate::fault::AppFault;
 use std::alloc::Global;
-use tt_instance::{Instance, read_instance};
+use tt_instance::read_instance;
+use tt_instance_data::Instance;
 use tt_page_text::{Labels, LabelsFault};
 use tt_proof_sum::sum_proofs;
 use tt_table::read_solution;

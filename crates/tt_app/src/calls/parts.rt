@@ -1,9 +1,9 @@
 //! The call `parts`.
 
 ghost use Rattle.std.specs.Prelude.{◌≡◌, ℕ, List, IfOk, IfErr, MatchResult, ⊤};
-ghost use Rattle.tt_instance.specs.Problem.{Problem};
-ghost use Rattle.tt_instance.specs.Spelling.{Spells};
-ghost use Rattle.tt_instance.specs.declared.cell.Cell.{Cell};
+ghost use Rattle.tt_instance_data.specs.Problem.{Problem};
+ghost use Rattle.tt_instance_data.specs.Spelling.{Spells};
+ghost use Rattle.tt_instance_data.specs.declared.cell.Cell.{Cell};
 ghost use Rattle.tt_table.specs.Spelling.{SpellsBoth};
 ghost use Rattle.tt_app.specs.Lines.{parts_line};
 ghost use Rattle.tt_app.specs.Parted.{IsParted, IsPartsRefusal};
@@ -13,7 +13,8 @@ ghost use Rattle.tt_app.specs.declared.fault.AppFault.TheVariants as fault;
 use crate::calls::solve::put_bound;
 use crate::fault::AppFault;
 use std::alloc::{AllocError, Global};
-use tt_instance::{Instance, read_instance};
+use tt_instance::read_instance;
+use tt_instance_data::Instance;
 use tt_leaf_rules::Bound;
 use tt_parts::{Effort, Parts, find_parts_watched};
 use tt_search::{Unwatched, Watch};

@@ -1,8 +1,8 @@
 //! The call `report`.
 
 ghost use Rattle.std.specs.Prelude.{◌≡◌, ◌⊎◌, List, Err, true, if◌then◌else◌, IfOk, IfErr, MatchResult, ⊤};
-ghost use Rattle.tt_instance.specs.Problem.{Problem};
-ghost use Rattle.tt_instance.specs.declared.cell.Cell.{Cell};
+ghost use Rattle.tt_instance_data.specs.Problem.{Problem};
+ghost use Rattle.tt_instance_data.specs.declared.cell.Cell.{Cell};
 ghost use Rattle.tt_text.specs.Failures.{is_err_and};
 ghost use Rattle.tt_app.specs.Reported.{IsReported, IsReportRefusal, IsUnwritten, is_failed_write};
 ghost use Rattle.tt_table.specs.Spelling.{SpellsBoth};

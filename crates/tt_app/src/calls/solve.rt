@@ -1,8 +1,8 @@
 //! The call `solve`.
 
 ghost use Rattle.std.specs.Prelude.{◌≡◌, ◌≤◌, ◌⊎◌, ◌++◌, ◌∷◌, [], Some, IfSome, IfOk, IfErr, OnOk, MatchResult, option_map, is_some, ⊤, if◌then◌else◌, codes};
-ghost use Rattle.tt_instance.specs.Problem.{Problem};
-ghost use Rattle.tt_instance.specs.Spelling.{Spells};
+ghost use Rattle.tt_instance_data.specs.Problem.{Problem};
+ghost use Rattle.tt_instance_data.specs.Spelling.{Spells};
 ghost use Rattle.tt_table.specs.Spelling.{solution_text};
 ghost use Rattle.tt_table.specs.Table.{IsTimetable};
 ghost use Rattle.tt_proof_read.specs.Trees.{IsPreorder};
@@ -16,7 +16,8 @@ use crate::answer::Answer;
 use crate::fault::AppFault;
 use std::alloc::{AllocError, Global};
 use tt_branch::Outcome;
-use tt_instance::{Instance, read_instance};
+use tt_instance::read_instance;
+use tt_instance_data::Instance;
 use tt_leaf_rules::Bound;
 use tt_proof_read::Node;
 use tt_proof_text::{WriteFault, write_proof};

@@ -1,8 +1,8 @@
 //! The call `validate`.
 
 ghost use Rattle.std.specs.Prelude.{◌≡◌, List, IfOk, IfErr, MatchResult, ⊤};
-ghost use Rattle.tt_instance.specs.Problem.{Problem};
-ghost use Rattle.tt_instance.specs.declared.cell.Cell.{Cell};
+ghost use Rattle.tt_instance_data.specs.Problem.{Problem};
+ghost use Rattle.tt_instance_data.specs.declared.cell.Cell.{Cell};
 ghost use Rattle.tt_table.specs.Spelling.{SpellsBoth};
 ghost use Rattle.tt_app.specs.Validated.{IsScoreAnswer, IsValidated, IsFileRefusal, score_lines};
 ghost use Rattle.tt_app.specs.declared.fault.AppFault.TheVariants as fault;

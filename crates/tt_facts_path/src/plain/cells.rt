@@ -2,16 +2,16 @@
 
 ghost use Rattle.std.specs.Prelude.{◌≡◌, ◌<◌, ◌≤◌, ◌-◌, length};
 ghost use Rattle.std.specs.List.{range_with_len, list_all};
-ghost use Rattle.tt_instance.specs.Cells.{slot, cell};
-ghost use Rattle.tt_instance.specs.Courses.{members, excess};
-ghost use Rattle.tt_instance.specs.declared.limit.TheConstants.{MAX_SEATS};
+ghost use Rattle.tt_instance_data.specs.Cells.{slot, cell};
+ghost use Rattle.tt_instance_data.specs.Courses.{members, excess};
+ghost use Rattle.tt_instance_data.specs.declared.limit.TheConstants.{MAX_SEATS};
 ghost use Rattle.tt_facts_path.specs.Live.{clash, is_barred, excludes, is_dead, is_live, live_period};
 ghost use Rattle.tt_facts_path.specs.Nested.{is_denied, is_excluded, numbers_given, is_lost, is_day_lost, is_room_lost, are_rooms_lost, is_course_lost};
 
 use super::PlainPath;
 use crate::facts::{Pattern, Who};
 use std::ops::Range;
-use tt_instance::{Cell, Instance};
+use tt_instance_data::{Cell, Instance};
 
 /// Returns the numbers below a bound that agree with a number that may be given.
 fn numbers_given(given: Option<u32>, count: u32) -> Range<u32>

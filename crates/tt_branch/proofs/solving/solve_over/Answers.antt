@@ -1,5 +1,5 @@
 use Rattle.std.proofs.Common.{Option, refl, sym, ◌∙◌, subst}
-use Rattle.tt_instance.specs.Problem.{Problem}
+use Rattle.tt_instance_data.specs.Problem.{Problem}
 use Rattle.tt_branch.specs.declared.best.Best.{Best}
 use Rattle.tt_branch.specs.BestSoFar.{table_of, Advances}
 use Rattle.tt_branch.specs.Outcomes.{BeginsWell}

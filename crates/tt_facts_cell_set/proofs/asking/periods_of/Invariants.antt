@@ -1,7 +1,7 @@
 use Rattle.std.proofs.Common.{◌≡◌, ℕ, ◌<◌, ◌&&◌, None}
 use Rattle.std.specs.Prelude.{nat_lt}
 use Rattle.std.specs.List.{list_any}
-use Rattle.tt_instance.specs.Cells.{all_rooms}
+use Rattle.tt_instance_data.specs.Cells.{all_rooms}
 use Rattle.tt_bits.specs.Bits.{has_bit}
 use Rattle.tt_facts_cell_set.specs.Tables.{is_open}
 use Rattle.tt_facts_cell_set.proofs.asking.periods_of.Given as goal

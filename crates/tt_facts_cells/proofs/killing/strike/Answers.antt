@@ -2,10 +2,10 @@ use Rattle.std.proofs.Common.{◌≡◌, ℕ, Bool, true, false, not, ◌&&◌, 
 use Rattle.std.specs.List.{list_any, list_all}
 use Rattle.std.proofs.lemmas.Bool.{and_parts, and_from, both_ways, false_from_ne_true}
 use Rattle.tt_lists.proofs.Numbers.{any_below}
-use Rattle.tt_instance.specs.Problem.{Problem}
-use Rattle.tt_instance.specs.declared.cell.Cell.{Cell}
+use Rattle.tt_instance_data.specs.Problem.{Problem}
+use Rattle.tt_instance_data.specs.declared.cell.Cell.{Cell}
 use Rattle.tt_facts_path.specs.Facts.{agrees}
-use Rattle.tt_instance.specs.Cells.{slot, cell, all_rooms, InRange}
+use Rattle.tt_instance_data.specs.Cells.{slot, cell, all_rooms, InRange}
 use Rattle.tt_lists.specs.Words.{has_number}
 use Rattle.tt_facts_cell_set.specs.Rooms.{has_room}
 use Rattle.tt_facts_cell_set.specs.Tables.{has_cell, is_placed, is_open, IsTable, Loses}

@@ -3,7 +3,7 @@ use Rattle.std.specs.Prelude.{slice_index}
 use Rattle.std.proofs.lemmas.Bool.{and_from}
 use Rattle.tt_lists.proofs.Below.{any_more}
 use Rattle.tt_lists.proofs.Numbers.{any_below}
-use Rattle.tt_instance.specs.Courses.{conflict}
+use Rattle.tt_instance_data.specs.Courses.{conflict}
 use Rattle.tt_groups_day.specs.Sets.{has_course}
 use Rattle.tt_groups_day.proofs.Choosing.{cut_right}
 use Rattle.tt_groups_day.proofs.sets.has_conflict.Goals as goal

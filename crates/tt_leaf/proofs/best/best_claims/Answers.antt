@@ -1,5 +1,5 @@
 use Rattle.std.proofs.Common.{rules, sym, subst}
-use Rattle.tt_instance.specs.Limits.{IsInstance}
+use Rattle.tt_instance_data.specs.Limits.{IsInstance}
 use Rattle.tt_leaf.specs.Found.{IsAnswer}
 use Rattle.tt_leaf.proofs.Answering.{best_answer}
 use Rattle.tt_leaf.proofs.best.best_claims.Goals as goal

@@ -1,6 +1,6 @@
 use Rattle.std.proofs.Common.{rules, Option, Some, None, Result, Ok, Err, subst}
 use Rattle.std.specs.Prelude.{IsSome, IsNone, IfOk}
-use Rattle.tt_instance.specs.Limits.{IsInstance}
+use Rattle.tt_instance_data.specs.Limits.{IsInstance}
 use Rattle.tt_leaf.specs.Pinned.{IsOpen}
 use Rattle.tt_leaf.proofs.Closing.{pinned_closes}
 use Rattle.tt_leaf.proofs.find.find_leaf.Goals as goal

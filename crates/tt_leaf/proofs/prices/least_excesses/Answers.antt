@@ -1,7 +1,7 @@
 use Rattle.std.proofs.Common.{◌≡◌, ◌≤◌, ◌<◌, [], ◌++◌, length, get_or, take, sym, ap, ◌∙◌, subst, arith}
 use Rattle.std.specs.Prelude.{All}
 use Rattle.std.specs.List.{filter_map, cons_option}
-use Rattle.tt_instance.specs.Cells.{all_slots}
+use Rattle.tt_instance_data.specs.Cells.{all_slots}
 use Rattle.tt_facts_path.specs.Live.{least_excess}
 use Rattle.tt_lists.proofs.Given.{filter_map_more, All-option}
 use Rattle.tt_leaf.proofs.prices.least_excesses.Goals as goal

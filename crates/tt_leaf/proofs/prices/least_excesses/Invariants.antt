@@ -1,7 +1,7 @@
 use Rattle.std.proofs.Common.{◌≡◌, ◌≤◌, take}
 use Rattle.std.specs.Prelude.{All}
 use Rattle.std.specs.List.{filter_map}
-use Rattle.tt_instance.specs.Cells.{all_slots}
+use Rattle.tt_instance_data.specs.Cells.{all_slots}
 use Rattle.tt_facts_path.specs.Live.{least_excess}
 use Rattle.tt_leaf.proofs.prices.least_excesses.Given as goal
 

@@ -1,8 +1,8 @@
 use Rattle.std.proofs.Common.{◌&&◌, length, ap, ◌∙◌, arith}
 use Rattle.std.specs.Prelude.{nat_lt}
 use Rattle.tt_lists.proofs.Sums.{one_if}
-use Rattle.tt_instance.specs.Cells.{slot_of, is_of, is_at, is_in}
-use Rattle.tt_instance.specs.Courses.{in_curriculum}
+use Rattle.tt_instance_data.specs.Cells.{slot_of, is_of, is_at, is_in}
+use Rattle.tt_instance_data.specs.Courses.{in_curriculum}
 use Rattle.tt_occupancy_tallies.specs.Tallies.{of_curriculum}
 use Rattle.tt_occupancy_tallies.proofs.Rows.{rows_below, passing_few}
 use Rattle.tt_occupancy.proofs.TakenPeriods.{gaps_alone, gaps_joined}

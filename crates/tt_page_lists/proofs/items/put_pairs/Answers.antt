@@ -2,9 +2,9 @@ use Rattle.std.proofs.Common.{◌≡◌, Bool, ◌+◌, All, length, drop, subst
 use Rattle.std.specs.Prelude.{filter, IfSome}
 use Rattle.std.proofs.lemmas.List.Elements.{All-filter}
 use Rattle.std.proofs.lemmas.List.Sums.{length-filter, count_by-le-length}
-use Rattle.tt_instance.specs.Problem.{Problem}
-use Rattle.tt_instance.specs.Cells.{InRange, is_at, slot_of}
-use Rattle.tt_instance.specs.declared.cell.Cell.{Cell}
+use Rattle.tt_instance_data.specs.Problem.{Problem}
+use Rattle.tt_instance_data.specs.Cells.{InRange, is_at, slot_of}
+use Rattle.tt_instance_data.specs.declared.cell.Cell.{Cell}
 use Rattle.tt_page_lists.specs.Items.{is_odd, at_odds, pairs_item}
 use Rattle.tt_page_lists.proofs.Pairs.{odds_behind}
 use Rattle.tt_page_lists.proofs.items.put_pairs.Goals as goal

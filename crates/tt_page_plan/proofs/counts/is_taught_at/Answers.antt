@@ -1,5 +1,5 @@
 use Rattle.std.proofs.Common.{◌∙◌}
-use Rattle.tt_instance.specs.Cells.{is_of, is_at, slot}
+use Rattle.tt_instance_data.specs.Cells.{is_of, is_at, slot}
 use Rattle.tt_page_plan.proofs.Counting.{any_in_group}
 use Rattle.tt_page_plan.proofs.counts.is_taught_at.Goals as goal
 

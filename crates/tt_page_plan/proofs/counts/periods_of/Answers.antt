@@ -2,9 +2,9 @@ use Rattle.std.proofs.Common.{◌≡◌, Bool, ◌&&◌, sym, ap, ◌∙◌, ari
 use Rattle.std.specs.Prelude.{count_by, sum_by}
 use Rattle.std.specs.List.{list_any}
 use Rattle.tt_lists.specs.Words.{range_below}
-use Rattle.tt_instance.specs.Problem.{Problem}
-use Rattle.tt_instance.specs.Cells.{is_of, is_at, slot}
-use Rattle.tt_instance.specs.declared.cell.Slot.{Slot}
+use Rattle.tt_instance_data.specs.Problem.{Problem}
+use Rattle.tt_instance_data.specs.Cells.{is_of, is_at, slot}
+use Rattle.tt_instance_data.specs.declared.cell.Slot.{Slot}
 use Rattle.tt_page_plan.proofs.Counting.{slots_by_day}
 use Rattle.tt_page_plan.proofs.counts.periods_of.Goals as goal
 

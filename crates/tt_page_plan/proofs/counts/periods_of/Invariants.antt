@@ -2,7 +2,7 @@ use Rattle.std.proofs.Common.{◌≡◌, ◌≤◌, ◌*◌, ◌&&◌}
 use Rattle.std.specs.Prelude.{count_by, sum_by}
 use Rattle.std.specs.List.{list_any}
 use Rattle.tt_lists.specs.Words.{range_below}
-use Rattle.tt_instance.specs.Cells.{is_of, is_at, slot}
+use Rattle.tt_instance_data.specs.Cells.{is_of, is_at, slot}
 use Rattle.tt_page_plan.proofs.counts.periods_of.Given as goal
 
 abbrev pub invariant-loop-day : goal.invariant-loop-day

@@ -1,5 +1,5 @@
 use Rattle.std.proofs.Common.{length}
-use Rattle.tt_instance.specs.Courses.{in_curriculum}
+use Rattle.tt_instance_data.specs.Courses.{in_curriculum}
 use Rattle.tt_occupancy_tallies.proofs.Rows.{passing_below}
 use Rattle.tt_search.proofs.violations.is_isolated.Goals as goal
 

@@ -1,6 +1,6 @@
 use Rattle.std.proofs.Common.{ap, ◌∙◌}
 use Rattle.tt_facts_path.specs.Paths.{Facts}
-use Rattle.tt_instance.specs.Cells.{slot}
+use Rattle.tt_instance_data.specs.Cells.{slot}
 use Rattle.tt_facts_path.specs.Live.{pinned}
 use Rattle.tt_facts.proofs.Halving.{pinned_by_yes, by_halves}
 use Rattle.tt_facts.proofs.trail_path.TrailPathPath.pinned.Goals as goal

@@ -1,6 +1,6 @@
 use Rattle.std.proofs.Common.{◌<◌, ◌&&◌, length, ap, ◌∙◌, arith}
 use Rattle.std.specs.Prelude.{nat_lt}
-use Rattle.tt_instance.specs.Cells.{slot}
+use Rattle.tt_instance_data.specs.Cells.{slot}
 use Rattle.tt_facts_path.specs.Live.{live_period}
 use Rattle.tt_facts_path.specs.Paths.{Facts}
 use Rattle.tt_facts_cells.proofs.Asked.{live-periods}

@@ -1,7 +1,7 @@
 use Rattle.std.proofs.Common.{ℕ, ◌<◌, length, sym, ◌∙◌, subst, arith}
 use Rattle.std.proofs.lemmas.Bool.{both_ways, false_from_ne_true}
 use Rattle.tt_lists.proofs.Numbers.{any_below}
-use Rattle.tt_instance.specs.Cells.{slot, cell}
+use Rattle.tt_instance_data.specs.Cells.{slot, cell}
 use Rattle.tt_facts_path.specs.Live.{is_live, live_period}
 use Rattle.tt_facts_path.specs.Paths.{Facts}
 use Rattle.tt_facts_cells.specs.Order.{IsRoomOrder}

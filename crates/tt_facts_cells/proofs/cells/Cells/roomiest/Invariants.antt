@@ -1,5 +1,5 @@
 use Rattle.std.proofs.Common.{◌≡◌, ℕ, ◌<◌, false, get_or}
-use Rattle.tt_instance.specs.Cells.{slot, cell}
+use Rattle.tt_instance_data.specs.Cells.{slot, cell}
 use Rattle.tt_facts_path.specs.Live.{is_live}
 use Rattle.tt_facts_cells.specs.declared.order.Ranked.{Ranked}
 use Rattle.tt_facts_cells.proofs.cells.Cells.roomiest.Given as goal

@@ -1,8 +1,8 @@
 use Rattle.std.proofs.Common.{◌≡◌, ◌≤◌, map}
 use Rattle.std.specs.Prelude.{filter, IfSome}
 use Rattle.tt_lists.specs.Words.{range_below}
-use Rattle.tt_instance.specs.Cells.{slot, cell}
-use Rattle.tt_instance.specs.Courses.{excess}
+use Rattle.tt_instance_data.specs.Cells.{slot, cell}
+use Rattle.tt_instance_data.specs.Courses.{excess}
 use Rattle.tt_facts_path.specs.Live.{least, is_live}
 use Rattle.tt_facts_path.proofs.plain.PlainPathPath.least_excess.Given as goal
 

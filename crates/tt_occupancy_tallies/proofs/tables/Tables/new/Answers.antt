@@ -1,6 +1,6 @@
 use Rattle.std.proofs.Common.{◌∙◌, length}
-use Rattle.tt_instance.specs.Cells.{is_of, is_in}
-use Rattle.tt_instance.specs.Courses.{teachers}
+use Rattle.tt_instance_data.specs.Cells.{is_of, is_in}
+use Rattle.tt_instance_data.specs.Courses.{teachers}
 use Rattle.tt_occupancy_tallies.specs.Tallies.{of_curriculum, of_teacher, opposes}
 use Rattle.tt_occupancy_tallies.proofs.Spreads.{spread_none}
 use Rattle.tt_occupancy_tallies.proofs.Tallies.{tally_none}

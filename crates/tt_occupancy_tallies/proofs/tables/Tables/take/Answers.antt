@@ -1,7 +1,7 @@
 use Rattle.std.proofs.Common.{◌∷◌, ◌&&◌, refl, sym, ap, ◌∙◌, length}
 use Rattle.tt_lists.proofs.Sums.{one_if}
-use Rattle.tt_instance.specs.Cells.{slot, is_of, is_at, is_in}
-use Rattle.tt_instance.specs.Courses.{teachers}
+use Rattle.tt_instance_data.specs.Cells.{slot, is_of, is_at, is_in}
+use Rattle.tt_instance_data.specs.Courses.{teachers}
 use Rattle.tt_occupancy_tallies.specs.Tallies.{of_curriculum, of_teacher, opposes, is_number}
 use Rattle.tt_occupancy_tallies.proofs.Rows.{rows_same, rows_below, rows_some}
 use Rattle.tt_occupancy_tallies.proofs.Spreads.{spread_used, spread_taken}
