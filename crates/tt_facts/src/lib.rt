@@ -5,4 +5,6 @@ mod both;
 mod trail_path;
 
 pub use trail_path::TrailPath;
-pub use tt_facts_path::{Cell, Fact, MAX_FACTS, Path, PathFault, Pattern, PlainPath, Who, agrees};
+pub use tt_facts_path::{
+    Cell, Fact, MAX_FACTS, Path, PathFault, Pattern, PlainPath, Who, is_none_or_equal,
+};

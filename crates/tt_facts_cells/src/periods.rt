@@ -39,7 +39,8 @@ pub fn is_allowed(instance: &Instance<'_>, pattern: &Pattern, slot: u32) -> bool
     ensures { result ≡ is_allowed instance.now pattern.now slot }
 {
     let periods = instance.periods();
-    is_none_or_equal(pattern.day, slot / periods) && is_none_or_equal(pattern.period, slot % periods)
+    is_none_or_equal(pattern.day, slot / periods)
+        && is_none_or_equal(pattern.period, slot % periods)
 }
 
 /// Returns whether a course has a free room in the period that the pattern allows.

@@ -48,7 +48,13 @@ impl WithoutEntry<'_, '_, '_> {
             joined: 0,
         };
         for curriculum in self.curricula() {
-            isolation_change = self.with(isolation_change, *curriculum, is_still, entry.day, entry.period);
+            isolation_change = self.with(
+                isolation_change,
+                *curriculum,
+                is_still,
+                entry.day,
+                entry.period,
+            );
         }
         isolation_change
     }

@@ -1,13 +1,13 @@
 //! Steps, their changes of the score, and Kempe chains.
 #![tactic(auto)]
 
-mod neighbours;
 mod changing;
 mod cost;
 mod exchanges;
 mod exchanging;
 mod isolation_change;
 mod limit;
+mod neighbours;
 mod pricing;
 mod rest;
 mod round;

@@ -127,7 +127,14 @@ impl WithoutEntry<'_, '_, '_> {
     }
 
     /// Adds the changes that an entry of the course left out would make in another curriculum.
-    pub fn with(&self, isolation_change: IsolationChange, curriculum: u32, is_still: bool, day: u32, period: u32) -> IsolationChange
+    pub fn with(
+        &self,
+        isolation_change: IsolationChange,
+        curriculum: u32,
+        is_still: bool,
+        day: u32,
+        period: u32,
+    ) -> IsolationChange
         requires curriculum { curriculum < length self.now.occupied.now.problem.curricula }
         requires day { day < self.now.occupied.now.problem.days }
         requires period { period < self.now.occupied.now.problem.periods }

@@ -27,7 +27,8 @@ fn are_in_conflict(instance: &Instance<'_>, x: &Entry, y: &Entry) -> bool
 pub fn is_linked(instance: &Instance<'_>, a: Slot, b: Slot, x: &Entry, y: &Entry) -> bool
     ensures { result ≡ linked instance.now a b x.now y.now }
 {
-    let apart = is_in_period(a, x) && is_in_period(b, y) || is_in_period(b, x) && is_in_period(a, y);
+    let apart = is_in_period(a, x) && is_in_period(b, y)
+        || is_in_period(b, x) && is_in_period(a, y);
     apart && are_in_conflict(instance, x, y)
 }
 

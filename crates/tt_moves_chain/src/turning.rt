@@ -10,7 +10,7 @@ ghost use Rattle.tt_moves_chain.specs.Chains.{linked, swapped};
 
 use crate::kempe::Chain;
 use crate::seeking::{is_barred, other_period};
-use crate::spreading::{is_linked, is_in_period};
+use crate::spreading::{is_in_period, is_linked};
 use tt_instance_data::{Instance, Slot};
 use tt_occupancy::Occupied;
 

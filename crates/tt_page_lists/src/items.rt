@@ -73,7 +73,11 @@ fn course_adds(plan: &Plan<'_, '_>, rule: Rule, course: u32) -> u64
 }
 
 #[tactic(auto, unfolding(crate::specs::Items::lectures_detail))]
-fn put_lectures_detail(out: &mut Vec<u8>, plan: &Plan<'_, '_>, course: u32) -> Result<(), AllocError>
+fn put_lectures_detail(
+    out: &mut Vec<u8>,
+    plan: &Plan<'_, '_>,
+    course: u32,
+) -> Result<(), AllocError>
     requires { course < length plan.now.problem.courses }
     ensures { OnOk result (out.new.items ≡ out.old.items ++ lectures_detail plan.now.problem plan.now.table course) }
 {

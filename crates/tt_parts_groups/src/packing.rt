@@ -55,7 +55,11 @@ fn grow_all(
 fn forget(free: &Free, seeds: &mut Vec<Seed>, draft: &Draft) {
     seeds.retain(|seed| free.has_curriculum(seed.curriculum));
     for seed in seeds.iter_mut() {
-        if seed.grown.as_ref().is_some_and(|grown| grown.has_common_target(draft)) {
+        if seed
+            .grown
+            .as_ref()
+            .is_some_and(|grown| grown.has_common_target(draft))
+        {
             seed.grown = None;
             seed.is_grown = false;
         }

@@ -46,7 +46,14 @@ fn the_call_sum_proofs_of_groups(rt: HostRuntime) -> Result<(), Fail> {
 fn the_call_find_parts(rt: HostRuntime) -> Result<(), Fail> {
     let instance = read_instance(rt.alloc(), GAP.as_bytes())?;
     println!(rt; "{MARK}")?;
-    let parts = find_parts(rt.alloc(), &instance, Effort { nodes: 100, seed: 1 });
+    let parts = find_parts(
+        rt.alloc(),
+        &instance,
+        Effort {
+            nodes: 100,
+            seed: 1,
+        },
+    );
     println!(rt; "{MARK}")?;
     assert!(rt; parts?.bound == Bound::AtLeast(5));
     Ok(())

@@ -118,7 +118,10 @@ fn cell_reported<'i, P: Path<'i>>(path: &P, cell: Cell) -> u64 {
         reported,
         u64::from(is_pinned(path, cell.course, cell.day, cell.period)),
     );
-    mixed(reported, u64::from(is_pinned_in(path, cell.course, cell.room)))
+    mixed(
+        reported,
+        u64::from(is_pinned_in(path, cell.course, cell.room)),
+    )
 }
 
 /// Returns the answers whether facts that are drawn from a seed are on the path.

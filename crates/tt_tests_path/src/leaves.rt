@@ -266,7 +266,11 @@ fn ask<'i, P: Path<'i>>(
 }
 
 /// Returns the answers of the plain path and of the other path.
-fn answers(alloc: Global, text: &str, question: Question<'_>) -> Result<(Reported, Reported), Fail> {
+fn answers(
+    alloc: Global,
+    text: &str,
+    question: Question<'_>,
+) -> Result<(Reported, Reported), Fail> {
     let instance = read_instance(alloc, text.as_bytes())?;
     let mut plain = PlainPath::new(alloc, &instance);
     let mut trail = TrailPath::new(alloc, &instance)?;
@@ -282,7 +286,10 @@ fn claims_of_two_pinned_courses(rt: HostRuntime) -> Result<(), Fail> {
         at_six: Some(Err(RuleFault::TooCheap)),
         at_nothing: Some(Err(RuleFault::NoBound)),
     }));
-    assert_eq!(rt; answers(rt.alloc(), GAP, Question::Pinned)?, (reported, reported));
+    assert_eq!(rt;
+        answers(rt.alloc(), GAP, Question::Pinned)?,
+        (reported, reported)
+    );
     Ok(())
 }
 
@@ -338,7 +345,10 @@ fn a_pattern_that_has_cells(rt: HostRuntime) -> Result<(), Fail> {
         Some(Err(RuleFault::NotOnPath)),
         Some(Err(RuleFault::StillAlive)),
     );
-    assert_eq!(rt; answers(rt.alloc(), MINI, Question::Emptied)?, (reported, reported));
+    assert_eq!(rt;
+        answers(rt.alloc(), MINI, Question::Emptied)?,
+        (reported, reported)
+    );
     Ok(())
 }
 

@@ -123,9 +123,7 @@ impl<'p, 'i> PlainPath<'p, 'i> {
     fn is_excluded(&self, cell: Cell) -> bool
         ensures { result ≡ is_excluded self.now.problem self.now.facts cell }
     {
-        self.facts
-            .iter()
-            .any(|fact| fact.holds && self.is_excluding(&fact.pattern, cell))
+        self.facts.iter().any(|fact| fact.holds && self.is_excluding(&fact.pattern, cell))
     }
 
     /// Returns whether a cell is barred, or excluded by some yes-fact.
