@@ -12,11 +12,11 @@ use Rattle.tt_lists.proofs.Members.{each_two-of_map}
 use Rattle.tt_lists.proofs.Twos.{neither, each_two-same, list_all-both}
 use Rattle.tt_leaf_rules.specs.Claims.{Target, RoomCapacity, WorkingDays, Compactness, Stability, targets_of, claimed}
 use Rattle.tt_leaf_rules.specs.NumberSet.{marked, are_new, place, places_of, IsPlaced}
-use Rattle.tt_leaf_rules.specs.Ranges.{AreBelow, IsClaimOf}
+use Rattle.tt_leaf_data.specs.Ranges.{AreBelow, IsClaimOf}
 use Rattle.tt_leaf_rules.specs.Tests.{claims_once, same_target}
-use Rattle.tt_instance_data.specs.Problem.{Problem}
-use Rattle.tt_leaf_rules.specs.declared.leaf.Claim.{Claim}
-use Rattle.tt_leaf_rules.specs.declared.leaf.Claim.TheVariants.{Capacity, Days, Compact, Stable, Prices, Stacked}
+use Rattle.tt_instance.specs.Problem.{Problem}
+use Rattle.tt_leaf_data.specs.declared.leaf.Claim.{Claim}
+use Rattle.tt_leaf_data.specs.declared.leaf.Claim.TheVariants.{Capacity, Days, Compact, Stable, Prices, Stacked}
 
 -- if nothing is marked, numbers that differ are new
 pub new_at_first : (marks : List Bool) (ns : List ℕ) → ((k : ℕ) → marked marks k ≡ false) → each_two (λ a b. not (a == b)) ns ≡ are_new marks ns

@@ -19,7 +19,7 @@ use Rattle.tt_leaf_rules.specs.Tests.{same_target}
 use Rattle.tt_instance_data.specs.declared.cell.Cell.{Cell}
 use Rattle.tt_facts_path.specs.declared.facts.Who.TheVariants.{Course}
 use Rattle.tt_facts_path.specs.declared.facts.Fact.{Fact}
-use Rattle.tt_leaf_rules.specs.declared.leaf.Claim.TheVariants.{Prices, Stacked}
+use Rattle.tt_leaf_data.specs.declared.leaf.Claim.TheVariants.{Prices, Stacked}
 use Rattle.tt_lists.proofs.Sums.{one_if, one_if_any, cond-le, sum_by-le, sum_by-same, sum_by-plus, sum_by-of_map, sum_by-at_places, sum_by-times, each, each_from_list_all, list_any-of_map, spread_up, spread_down, once_at_most}
 use Rattle.tt_lists.proofs.Numbers.{any_below, count_below}
 use Rattle.tt_instance_data.proofs.Places.{count_slots, each_slot_at}

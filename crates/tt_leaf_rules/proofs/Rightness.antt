@@ -17,13 +17,13 @@ use Rattle.tt_leaf_rules.specs.Faults.{demand, fault_of}
 use Rattle.tt_leaf_rules.specs.Leaves.{all_dead, open_periods, all_lectures, open_rooms, IsRight}
 use Rattle.tt_leaf_rules.specs.Outcomes.{outcome}
 use Rattle.tt_leaf_rules.specs.Tests.{claims_once, has_member, is_clique, same_target}
-use Rattle.tt_leaf_rules.specs.declared.leaf.Bound.{Bound}
-use Rattle.tt_leaf_rules.specs.declared.leaf.Bound.TheVariants.{AtLeast, Nothing}
-use Rattle.tt_leaf_rules.specs.declared.leaf.Claim.{Claim}
-use Rattle.tt_leaf_rules.specs.declared.leaf.Leaf.{Leaf}
-use Rattle.tt_leaf_rules.specs.declared.leaf.Leaf.TheVariants.{Empty, Many, Clique, Slots, Cost}
-use Rattle.tt_leaf_rules.specs.declared.leaf.RuleFault.{RuleFault}
-use Rattle.tt_leaf_rules.specs.declared.leaf.RuleFault.TheVariants.{NotOnPath, StillAlive, NotTooMany, NotAClique, EnoughRoom, ClaimedTwice, TooCheap, BadPrice}
+use Rattle.tt_leaf_data.specs.declared.leaf.Bound.{Bound}
+use Rattle.tt_leaf_data.specs.declared.leaf.Bound.TheVariants.{AtLeast, Nothing}
+use Rattle.tt_leaf_data.specs.declared.leaf.Claim.{Claim}
+use Rattle.tt_leaf_data.specs.declared.leaf.Leaf.{Leaf}
+use Rattle.tt_leaf_data.specs.declared.leaf.Leaf.TheVariants.{Empty, Many, Clique, Slots, Cost}
+use Rattle.tt_leaf_rules.specs.declared.fault.RuleFault.{RuleFault}
+use Rattle.tt_leaf_rules.specs.declared.fault.RuleFault.TheVariants.{NotOnPath, StillAlive, NotTooMany, NotAClique, EnoughRoom, ClaimedTwice, TooCheap, BadPrice}
 use Rattle.tt_leaf_rules.proofs.Different.{AreDifferent, different, each_two_differ}
 use Rattle.tt_leaf_rules.proofs.Totals.{same_target-true, same_target-itself}
 

@@ -18,10 +18,10 @@ use Rattle.tt_lists.proofs.Apart.{distinct_sum}
 use Rattle.tt_instance_data.specs.Problem.{Problem}
 use Rattle.tt_leaf_rules.specs.Claims.{Target, RoomCapacity, targets_of, claimed}
 use Rattle.tt_leaf_rules.specs.Nested.{PricesBelow, IsOnce}
-use Rattle.tt_leaf_rules.specs.Ranges.{AreBelow, ArePrices, IsClaimOf}
+use Rattle.tt_leaf_data.specs.Ranges.{AreBelow, ArePrices, IsClaimOf}
 use Rattle.tt_leaf_rules.specs.Tests.{claims_once, same_target}
-use Rattle.tt_leaf_rules.specs.declared.leaf.Claim.{Claim}
-use Rattle.tt_leaf_rules.specs.declared.leaf.Claim.TheVariants.{Capacity, Days, Compact, Stable, Prices, Stacked}
+use Rattle.tt_leaf_data.specs.declared.leaf.Claim.{Claim}
+use Rattle.tt_leaf_data.specs.declared.leaf.Claim.TheVariants.{Capacity, Days, Compact, Stable, Prices, Stacked}
 use Rattle.tt_leaf_rules.proofs.Totals.{all_targets, same_target-true, same_target-itself, capacity_there, days_there, compactness_there, stability_there, length-all_targets}
 
 -- the count of distinct numbers below a bound is at most the bound

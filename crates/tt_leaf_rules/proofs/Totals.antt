@@ -19,8 +19,8 @@ use Rattle.tt_leaf_rules.specs.Claims.{RoomCapacity, WorkingDays, Compactness, S
 use Rattle.tt_leaf_rules.specs.Tests.{claims_once, same_target}
 use Rattle.tt_instance_data.specs.declared.cell.Cell.{Cell}
 use Rattle.tt_facts_path.specs.declared.facts.Fact.{Fact}
-use Rattle.tt_leaf_rules.specs.declared.leaf.Claim.{Claim}
-use Rattle.tt_leaf_rules.specs.declared.leaf.Claim.TheVariants.{Capacity, Days, Compact, Stable, Prices, Stacked}
+use Rattle.tt_leaf_data.specs.declared.leaf.Claim.{Claim}
+use Rattle.tt_leaf_data.specs.declared.leaf.Claim.TheVariants.{Capacity, Days, Compact, Stable, Prices, Stacked}
 use Rattle.tt_lists.proofs.Sums.{sum_by-le, sum_by-of_map, sum_by-of_flat_map, each, list_any-of_map, spread_down, once_at_most, sum_by-nothing}
 use Rattle.tt_lists.proofs.Numbers.{any_below, count_below}
 use Rattle.tt_lists.proofs.Members.{each_two-of_append, each_member, member_from_any, none_counted}

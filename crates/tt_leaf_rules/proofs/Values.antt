@@ -18,7 +18,7 @@ use Rattle.tt_leaf_rules.specs.Nested.{above_least, discounts}
 use Rattle.tt_instance_data.specs.declared.cell.Cell.{Cell}
 use Rattle.tt_facts_path.specs.declared.facts.Who.TheVariants.{Curriculum}
 use Rattle.tt_facts_path.specs.declared.facts.Fact.{Fact}
-use Rattle.tt_leaf_rules.specs.declared.leaf.Claim.TheVariants.{Capacity, Days, Compact, Stable}
+use Rattle.tt_leaf_data.specs.declared.leaf.Claim.TheVariants.{Capacity, Days, Compact, Stable}
 use Rattle.tt_lists.proofs.Sums.{one_if, cond-le, sum_by-le, sum_by-same, sum_by-plus, each, each_weaker, one_if_any, spread_up, spread_down, once_at_least, once_at_most, sum_by-at_places}
 use Rattle.tt_instance_data.proofs.Places.{any_slot, count_slots}
 use Rattle.tt_lists.proofs.Numbers.{count_below}

@@ -11,8 +11,8 @@ use Rattle.tt_rules.specs.Soft.{days_cost, compactness_cost, stability_cost}
 use Rattle.tt_facts_path.specs.Live.{is_live, pinned_periods, live_period, live_day, pinned, pinned_room}
 use Rattle.tt_facts_path.specs.declared.facts.Who.TheVariants.{Course, Curriculum}
 use Rattle.tt_facts_path.specs.declared.facts.Fact.{Fact}
-use Rattle.tt_leaf_rules.specs.declared.leaf.Claim.{Claim}
-use Rattle.tt_leaf_rules.specs.declared.leaf.Claim.TheVariants.{Capacity, Days, Compact, Stable, Prices, Stacked}
+use Rattle.tt_leaf_data.specs.declared.leaf.Claim.{Claim}
+use Rattle.tt_leaf_data.specs.declared.leaf.Claim.TheVariants.{Capacity, Days, Compact, Stable, Prices, Stacked}
 
 -- ---- targets: the kinds of cost, each with its course or curriculum
 

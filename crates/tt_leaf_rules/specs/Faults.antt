@@ -11,13 +11,13 @@ use Rattle.tt_facts_path.specs.declared.facts.Fact.{Fact}
 use Rattle.tt_leaf_rules.specs.Claims.{is_fair, total_of}
 use Rattle.tt_leaf_rules.specs.Leaves.{all_dead, all_lectures, open_periods, open_rooms}
 use Rattle.tt_leaf_rules.specs.Tests.{claims_once, is_clique}
-use Rattle.tt_leaf_rules.specs.declared.leaf.Bound.{Bound}
-use Rattle.tt_leaf_rules.specs.declared.leaf.Bound.TheVariants.{AtLeast, Nothing}
-use Rattle.tt_leaf_rules.specs.declared.leaf.Claim.{Claim}
-use Rattle.tt_leaf_rules.specs.declared.leaf.Leaf.{Leaf}
-use Rattle.tt_leaf_rules.specs.declared.leaf.Leaf.TheVariants.{Empty, Many, Clique, Slots, Cost}
-use Rattle.tt_leaf_rules.specs.declared.leaf.RuleFault.{RuleFault}
-use Rattle.tt_leaf_rules.specs.declared.leaf.RuleFault.TheVariants.{NotOnPath, StillAlive, NotTooMany, NotAClique, EnoughRoom, ClaimedTwice, TooCheap, NoBound, BadPrice}
+use Rattle.tt_leaf_data.specs.declared.leaf.Bound.{Bound}
+use Rattle.tt_leaf_data.specs.declared.leaf.Bound.TheVariants.{AtLeast, Nothing}
+use Rattle.tt_leaf_data.specs.declared.leaf.Claim.{Claim}
+use Rattle.tt_leaf_data.specs.declared.leaf.Leaf.{Leaf}
+use Rattle.tt_leaf_data.specs.declared.leaf.Leaf.TheVariants.{Empty, Many, Clique, Slots, Cost}
+use Rattle.tt_leaf_rules.specs.declared.fault.RuleFault.{RuleFault}
+use Rattle.tt_leaf_rules.specs.declared.fault.RuleFault.TheVariants.{NotOnPath, StillAlive, NotTooMany, NotAClique, EnoughRoom, ClaimedTwice, TooCheap, NoBound, BadPrice}
 
 -- The fault if the test fails, otherwise the result of the rest.
 abbrev pub demand : Bool → RuleFault → Option RuleFault → Option RuleFault

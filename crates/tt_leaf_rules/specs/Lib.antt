@@ -5,5 +5,4 @@ pub mod Leaves
 pub mod NumberSet
 pub mod Nested
 pub mod Outcomes
-pub mod Ranges
 pub mod Tests

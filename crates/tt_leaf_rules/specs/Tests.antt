@@ -4,7 +4,7 @@ use Rattle.tt_lists.specs.Words.{each_two}
 use Rattle.tt_instance_data.specs.Problem.{Problem}
 use Rattle.tt_instance_data.specs.Courses.{conflict}
 use Rattle.tt_leaf_rules.specs.Claims.{Target, RoomCapacity, WorkingDays, Compactness, Stability, claimed}
-use Rattle.tt_leaf_rules.specs.declared.leaf.Claim.{Claim}
+use Rattle.tt_leaf_data.specs.declared.leaf.Claim.{Claim}
 
 abbrev pub has_member : List ℕ → Bool
 has_member [] = false

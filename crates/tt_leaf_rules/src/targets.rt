@@ -8,8 +8,8 @@ ghost use Rattle.tt_leaf_rules.specs.Nested.{claims_target, are_apart, IsOnce};
 ghost use Rattle.tt_leaf_rules.specs.Tests.{claims_once};
 ghost use Rattle.tt_leaf_rules.specs.declared.number_set.TheConstants.{PLACES};
 
-use crate::leaf::Claim;
 use crate::number_set::{MAX_COMPARED, NumberSet};
+use tt_leaf_data::Claim;
 
 fn is_priced(courses: &[(u32, u32)], course: u32) -> bool
     ensures { result ≡ list_any (λ k. course == k.0) courses.now }

@@ -3,10 +3,10 @@ use Rattle.std.specs.Prelude.{◌≡◌, ℕ, ◌<◌, ◌==◌, true, not, List
 use Rattle.tt_lists.specs.Words.{each_two}
 use Rattle.tt_instance_data.specs.Problem.{Problem}
 use Rattle.tt_facts_path.specs.Facts.{IsPattern}
-use Rattle.tt_leaf_rules.specs.declared.leaf.Claim.{Claim}
-use Rattle.tt_leaf_rules.specs.declared.leaf.Claim.TheVariants.{Capacity, Days, Compact, Stable, Prices, Stacked}
-use Rattle.tt_leaf_rules.specs.declared.leaf.Leaf.{Leaf}
-use Rattle.tt_leaf_rules.specs.declared.leaf.Leaf.TheVariants.{Empty, Many, Clique, Slots, Cost}
+use Rattle.tt_leaf_data.specs.declared.leaf.Claim.{Claim}
+use Rattle.tt_leaf_data.specs.declared.leaf.Claim.TheVariants.{Capacity, Days, Compact, Stable, Prices, Stacked}
+use Rattle.tt_leaf_data.specs.declared.leaf.Leaf.{Leaf}
+use Rattle.tt_leaf_data.specs.declared.leaf.Leaf.TheVariants.{Empty, Many, Clique, Slots, Cost}
 
 abbrev pub AreBelow : ℕ → List ℕ → Type 0
 AreBelow count ns = All (λ n. n < count) ns

@@ -2,7 +2,6 @@
 
 use crate::lists::{CourseList, PriceList};
 use std::marker::Model;
-use thiserror::Error;
 use tt_facts_path::Pattern;
 
 /// A bound on the cost, in cost points, or the claim that there is no feasible timetable.
@@ -43,7 +42,7 @@ pub struct ClaimList {
 
 impl Model for ClaimList {
     ghost use Rattle.std.specs.Prelude.{List};
-    ghost use Rattle.tt_leaf_rules.specs.declared.leaf.Claim.{Claim};
+    ghost use Rattle.tt_leaf_data.specs.declared.leaf.Claim.{Claim};
 
     ghost Value = { List Claim };
 
@@ -88,27 +87,4 @@ pub enum Leaf {
     Slots(CourseList),
     /// Claims that add up to the bound.
     Cost(ClaimList),
-}
-
-/// Why a leaf doesn't close its node: the first fault that applies.
-#[derive(Clone, Copy, Debug, PartialEq, Eq, Error)]
-pub enum RuleFault {
-    #[error("NotOnPath")]
-    NotOnPath,
-    #[error("StillAlive")]
-    StillAlive,
-    #[error("NotTooMany")]
-    NotTooMany,
-    #[error("NotAClique")]
-    NotAClique,
-    #[error("EnoughRoom")]
-    EnoughRoom,
-    #[error("ClaimedTwice")]
-    ClaimedTwice,
-    #[error("TooCheap")]
-    TooCheap,
-    #[error("NoBound")]
-    NoBound,
-    #[error("BadPrice")]
-    BadPrice,
 }
