@@ -6,7 +6,7 @@ use Rattle.tt_instance_data.specs.Spelling.{Spells}
 use Rattle.tt_instance.specs.declared.fault.InstanceFault.{InstanceFault}
 use Rattle.tt_instance.specs.declared.fault.InstanceFault.TheVariants as instance
 use Rattle.tt_instance.proofs.Laws.{is_read}
-use Rattle.tt_leaf_rules.specs.declared.leaf.Bound.{Bound}
+use Rattle.tt_leaf_data.specs.declared.leaf.Bound.{Bound}
 use Rattle.tt_proof_check.proofs.Files.{one_instance}
 use Rattle.tt_proof_sum.specs.Faults.{IsSumFault, IsSilentSum, all_points, OutOfMemoryIsOneFault as OneFaultOfSum, read_failed_at as read_failed_below}
 use Rattle.tt_proof_sum.specs.Sums.{IsSum}

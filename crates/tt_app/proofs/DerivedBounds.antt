@@ -7,7 +7,7 @@ use Rattle.tt_instance_data.specs.Spelling.{Spells}
 use Rattle.tt_instance.specs.declared.fault.InstanceFault.{InstanceFault}
 use Rattle.tt_instance.specs.declared.fault.InstanceFault.TheVariants as instance
 use Rattle.tt_instance.proofs.Laws.{is_read}
-use Rattle.tt_leaf_rules.specs.declared.leaf.Bound.{Bound}
+use Rattle.tt_leaf_data.specs.declared.leaf.Bound.{Bound}
 use Rattle.tt_proof_check.specs.Derives.{HoldsOfAll}
 use Rattle.tt_proof_check.specs.Streams.{IsProved, IsEnvironmental, stream_of, IsProofFault}
 use Rattle.tt_proof_check.specs.declared.fault.CheckFault.{CheckFault}

@@ -10,7 +10,7 @@ use Rattle.tt_instance.specs.declared.fault.InstanceFault.TheVariants as instanc
 use Rattle.tt_instance.proofs.Laws.{is_read}
 use Rattle.tt_table.specs.Table.{IsTimetable}
 use Rattle.tt_rules.specs.Score.{IsFeasible}
-use Rattle.tt_leaf_rules.specs.declared.leaf.Bound.{Bound}
+use Rattle.tt_leaf_data.specs.declared.leaf.Bound.{Bound}
 use Rattle.tt_proof_read.specs.declared.node.Node.{Node}
 use Rattle.tt_proof_read.specs.Trees.{IsPreorder}
 use Rattle.tt_proof_text.specs.Within.{IsNodeIn, Refuses, Writes}

@@ -2,8 +2,8 @@
 use Rattle.std.specs.Prelude.{◌≡◌, ◌≤◌, ◌⊎◌, ℕ, List, Some, None, IsSomeAnd}
 use Rattle.tt_instance_data.specs.Problem.{Problem}
 use Rattle.tt_instance_data.specs.Spelling.{Spells}
-use Rattle.tt_leaf_rules.specs.declared.leaf.Bound.{Bound}
-use Rattle.tt_leaf_rules.specs.declared.leaf.Bound.TheVariants.{AtLeast}
+use Rattle.tt_leaf_data.specs.declared.leaf.Bound.{Bound}
+use Rattle.tt_leaf_data.specs.declared.leaf.Bound.TheVariants.{AtLeast}
 use Rattle.tt_page.specs.Pages.{page_text}
 use Rattle.tt_page_text.specs.Labels.{no_labels}
 use Rattle.tt_proof_check.specs.Derives.{HoldsOfAll}

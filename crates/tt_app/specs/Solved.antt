@@ -5,7 +5,7 @@ use Rattle.tt_instance.specs.Reading.{instance_of}
 use Rattle.tt_instance_data.specs.Spelling.{Spells}
 use Rattle.tt_instance_data.specs.declared.cell.Cell.{Cell}
 use Rattle.tt_table.specs.Spelling.{solution_text}
-use Rattle.tt_leaf_rules.specs.declared.leaf.Bound.{Bound}
+use Rattle.tt_leaf_data.specs.declared.leaf.Bound.{Bound}
 use Rattle.tt_proof_read.specs.declared.node.Node.{Node}
 use Rattle.tt_proof_text.specs.Within.{FitsFile, IsNodeIn}
 use Rattle.tt_proof_text.specs.Written.{proof_text}

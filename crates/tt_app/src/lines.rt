@@ -5,7 +5,7 @@ ghost use Rattle.std.specs.Fmt.{decimal};
 ghost use Rattle.tt_app.specs.Lines.{yes_line, broken_line, bound_line, pair_line, count_line};
 
 use std::alloc::{AllocError, Global};
-use tt_leaf_rules::Bound;
+use tt_leaf_data::Bound;
 use tt_text::{put_line_end, put_next_number, put_number, put_token};
 
 /// Returns the line of a solution that breaks no hard rule, with its cost and the bound that is proved.

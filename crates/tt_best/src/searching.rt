@@ -8,7 +8,7 @@ ghost use Rattle.tt_best.specs.Weeks.{IsWeek};
 use std::alloc::{AllocError, Global};
 use tt_branch::{Outcome, solve_watched};
 use tt_instance_data::Instance;
-use tt_leaf_rules::Bound;
+use tt_leaf_data::Bound;
 use tt_parts::{Effort, Parts, add_up, find_parts_watched};
 use tt_proof_read::Node;
 use tt_proof_text::{WriteFault, write_proof};

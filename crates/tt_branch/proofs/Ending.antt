@@ -17,9 +17,9 @@ use Rattle.tt_facts_path.specs.declared.facts.Fact.{Fact}
 use Rattle.tt_facts_path.specs.Live.{least, least_with}
 use Rattle.tt_facts_path.proofs.Least.{least-le}
 use Rattle.tt_leaf_rules.specs.Claims.{total_of}
-use Rattle.tt_leaf_rules.specs.declared.leaf.Bound.{Bound}
-use Rattle.tt_leaf_rules.specs.declared.leaf.Bound.TheVariants.{AtLeast}
-use Rattle.tt_leaf_rules.specs.declared.leaf.Leaf.{Leaf}
+use Rattle.tt_leaf_data.specs.declared.leaf.Bound.{Bound}
+use Rattle.tt_leaf_data.specs.declared.leaf.Bound.TheVariants.{AtLeast}
+use Rattle.tt_leaf_data.specs.declared.leaf.Leaf.{Leaf}
 use Rattle.tt_proof_read.specs.Trees.{Tree, Tip, Fork, OnPath, on_paths, preorder, with_fact, IsShallow}
 use Rattle.tt_proof_read.specs.declared.node.Node.TheVariants as node
 use Rattle.tt_proof_check.specs.Derives.{Derives}

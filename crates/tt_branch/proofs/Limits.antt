@@ -25,7 +25,7 @@ use Rattle.tt_facts_path.specs.Live.{pinned, pinned_room}
 use Rattle.tt_facts_path.specs.declared.facts.Who.TheVariants.{Curriculum}
 use Rattle.tt_facts_path.specs.declared.facts.Fact.{Fact}
 use Rattle.tt_leaf_rules.specs.Claims.{is_alone, value_of, total_of}
-use Rattle.tt_leaf_rules.specs.declared.leaf.Claim.TheVariants.{Capacity, Days, Compact, Stable}
+use Rattle.tt_leaf_data.specs.declared.leaf.Claim.TheVariants.{Capacity, Days, Compact, Stable}
 use Rattle.tt_leaf.specs.Best.{price_of, at_price, best_claims}
 use Rattle.tt_leaf.proofs.Answering.{price_short}
 use Rattle.tt_leaf.proofs.Claims.{total-claims}

@@ -25,7 +25,7 @@ use Rattle.tt_instance_data.proofs.CourseLimits.{few_lectures}
 use Rattle.tt_rules.specs.Hard.{entries_of}
 use Rattle.tt_facts_path.specs.declared.facts.Fact.{Fact}
 use Rattle.tt_facts_path.proofs.LiveCells.{live_cells, range_of}
-use Rattle.tt_leaf_rules.specs.declared.leaf.Bound.{Bound}
+use Rattle.tt_leaf_data.specs.declared.leaf.Bound.{Bound}
 use Rattle.tt_leaf.specs.Pinned.{IsPinnedDown, IsOpen}
 use Rattle.tt_leaf.proofs.Fitting.{lectures_placed}
 use Rattle.tt_branch.specs.Steps.{cells_in, cells_of}

@@ -22,7 +22,7 @@ use Rattle.tt_facts_path.specs.declared.facts.Fact.{Fact}
 use Rattle.tt_facts_path.proofs.LiveCells.{live_cells, range_of, is_live_of, any_live, once_live}
 use Rattle.tt_facts_path.proofs.Matching.{Matches-from}
 use Rattle.tt_leaf_rules.specs.Claims.{total_of}
-use Rattle.tt_leaf_rules.specs.declared.leaf.Bound.TheVariants.{AtLeast, Nothing}
+use Rattle.tt_leaf_data.specs.declared.leaf.Bound.TheVariants.{AtLeast, Nothing}
 use Rattle.tt_leaf_rules.proofs.Live.{matched, live_entry}
 use Rattle.tt_leaf_rules.proofs.Soundness.{leaf_sound}
 use Rattle.tt_leaf.specs.Best.{best_claims, best_leaf}

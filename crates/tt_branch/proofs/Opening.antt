@@ -15,8 +15,8 @@ use Rattle.tt_facts_path.specs.declared.facts.Pattern.{Pattern}
 use Rattle.tt_facts_path.specs.declared.facts.Fact.{Fact}
 use Rattle.tt_facts_path.proofs.LiveCells.{live_cells, live_not_barred}
 use Rattle.tt_facts_path.proofs.Same.{fact_there}
-use Rattle.tt_leaf_rules.specs.declared.leaf.Bound.{Bound}
-use Rattle.tt_leaf_rules.specs.declared.leaf.Bound.TheVariants.{AtLeast}
+use Rattle.tt_leaf_data.specs.declared.leaf.Bound.{Bound}
+use Rattle.tt_leaf_data.specs.declared.leaf.Bound.TheVariants.{AtLeast}
 use Rattle.tt_leaf.specs.Best.{best_leaf}
 use Rattle.tt_leaf.specs.Found.{Closes}
 use Rattle.tt_leaf.specs.Pinned.{IsPinnedDown, IsOpen}

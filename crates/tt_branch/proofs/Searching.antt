@@ -13,11 +13,11 @@ use Rattle.tt_facts_path.specs.declared.facts.Pattern.{Pattern}
 use Rattle.tt_facts_path.specs.declared.facts.Fact.{Fact}
 use Rattle.tt_leaf_rules.specs.Claims.{is_fair, total_of}
 use Rattle.tt_leaf_rules.specs.Leaves.{IsRight}
-use Rattle.tt_leaf_rules.specs.declared.leaf.Bound.{Bound}
-use Rattle.tt_leaf_rules.specs.declared.leaf.Bound.TheVariants.{AtLeast, Nothing}
-use Rattle.tt_leaf_rules.specs.declared.leaf.Claim.TheVariants.{Days}
-use Rattle.tt_leaf_rules.specs.declared.leaf.Leaf.{Leaf}
-use Rattle.tt_leaf_rules.specs.declared.leaf.Leaf.TheVariants.{Empty, Many, Clique, Slots, Cost}
+use Rattle.tt_leaf_data.specs.declared.leaf.Bound.{Bound}
+use Rattle.tt_leaf_data.specs.declared.leaf.Bound.TheVariants.{AtLeast, Nothing}
+use Rattle.tt_leaf_data.specs.declared.leaf.Claim.TheVariants.{Days}
+use Rattle.tt_leaf_data.specs.declared.leaf.Leaf.{Leaf}
+use Rattle.tt_leaf_data.specs.declared.leaf.Leaf.TheVariants.{Empty, Many, Clique, Slots, Cost}
 use Rattle.tt_proof_read.specs.Trees.{Tip, Fork, OnPath, on_paths, with_fact}
 use Rattle.tt_proof_read.specs.declared.node.Node.TheVariants as node
 use Rattle.tt_leaf.specs.Best.{best_claims, best_leaf}

@@ -12,7 +12,7 @@ ghost use Rattle.tt_branch.specs.BestSoFar.{IsBestSoFar, table_of, IsCosted};
 use crate::limit::FIRST_STEPS;
 use std::alloc::{AllocError, Global};
 use tt_instance_data::Instance;
-use tt_leaf_rules::Bound;
+use tt_leaf_data::Bound;
 use tt_rules::score;
 use tt_search::{Watch, construct, descend, improve_watched};
 use tt_table::Timetable;

@@ -15,7 +15,8 @@ use crate::visit::go_to;
 use std::alloc::{AllocError, Global};
 use tt_facts_path::Path;
 use tt_leaf::best_claims;
-use tt_leaf_rules::{Leaf, leaf_value};
+use tt_leaf_data::Leaf;
+use tt_leaf_rules::leaf_value;
 use tt_proof_read::Node;
 
 /// The nodes of a proof in preorder, and the least value of a Cost leaf, if it was asked for.

@@ -19,7 +19,7 @@ use std::alloc::{AllocError, Global};
 use tt_facts::TrailPath;
 use tt_facts_path::Path;
 use tt_instance_data::Instance;
-use tt_leaf_rules::Bound;
+use tt_leaf_data::Bound;
 use tt_proof_check::{NodesFault, check_nodes};
 use tt_proof_read::Node;
 use tt_search::{Unwatched, Watch};

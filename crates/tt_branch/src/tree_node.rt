@@ -4,7 +4,7 @@ ghost use Rattle.std.specs.Prelude.{◌≡◌, true, IfSome, IsNone};
 ghost use Rattle.tt_branch.specs.Growing.{is_open};
 
 use tt_facts_path::Pattern;
-use tt_leaf_rules::Leaf;
+use tt_leaf_data::Leaf;
 
 /// How far a node has been searched.
 #[derive(Drop)]

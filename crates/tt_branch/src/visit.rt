@@ -22,7 +22,8 @@ use std::alloc::{AllocError, Global};
 use tt_branch_split::choose_split;
 use tt_facts_path::{Fact, Path, PathFault, Pattern};
 use tt_leaf::{best_claims, find_leaf};
-use tt_leaf_rules::{Leaf, leaf_value};
+use tt_leaf_data::Leaf;
+use tt_leaf_rules::leaf_value;
 use tt_rules::score;
 
 /// Replaces the facts of a path by those of a node.

@@ -5,7 +5,7 @@ use Rattle.tt_text.specs.Tokens.{tokens_of}
 use Rattle.tt_text.specs.declared.feed.TheConstants.{MAX_BYTES, MAX_TOKEN_BYTES}
 use Rattle.tt_text.specs.Pieces.{Piece, Text, Number, Index, Begins}
 use Rattle.tt_instance_data.specs.Problem.{Problem}
-use Rattle.tt_leaf_rules.specs.Ranges.{AreBelow}
+use Rattle.tt_leaf_data.specs.Ranges.{AreBelow}
 use Rattle.tt_groups.specs.Group.{Group}
 use Rattle.tt_proof_read.specs.Spelling.{listed_pieces, AreCourses}
 use Rattle.tt_proof_read.specs.declared.format.TheConstants.{CURRICULUM_LETTER, MAX_POINTS}

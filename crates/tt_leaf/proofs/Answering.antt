@@ -11,8 +11,8 @@ use Rattle.tt_instance_data.proofs.CourseLimits.{few_students}
 use Rattle.tt_facts_path.specs.Live.{is_live, least_excess}
 use Rattle.tt_facts_path.specs.declared.facts.Fact.{Fact}
 use Rattle.tt_facts_path.proofs.Least.{least_short}
-use Rattle.tt_leaf_rules.specs.Ranges.{IsClaimOf}
-use Rattle.tt_leaf_rules.specs.declared.leaf.Claim.TheVariants.{Days, Stacked}
+use Rattle.tt_leaf_data.specs.Ranges.{IsClaimOf}
+use Rattle.tt_leaf_data.specs.declared.leaf.Claim.TheVariants.{Days, Stacked}
 use Rattle.tt_proof_read.specs.Limits.{IsShortClaim}
 use Rattle.tt_leaf.specs.Best.{is_kth, least_excesses, price_of, best_leaf, stacked_leaf}
 use Rattle.tt_leaf.specs.Found.{IsAnswer}

@@ -23,8 +23,8 @@ use Rattle.tt_facts_path.proofs.Least.{is_some-least, least_over}
 use Rattle.tt_facts_path.proofs.LiveCells.{live_cells, range_of, is_live_of}
 use Rattle.tt_leaf_rules.specs.Claims.{RoomCapacity, part, value_of}
 use Rattle.tt_leaf_rules.specs.Nested.{above_least}
-use Rattle.tt_leaf_rules.specs.declared.leaf.Bound.{Bound}
-use Rattle.tt_leaf_rules.specs.declared.leaf.Claim.TheVariants.{Capacity}
+use Rattle.tt_leaf_data.specs.declared.leaf.Bound.{Bound}
+use Rattle.tt_leaf_data.specs.declared.leaf.Claim.TheVariants.{Capacity}
 use Rattle.tt_leaf_rules.proofs.Values.{discounts_are}
 use Rattle.tt_leaf.specs.Best.{is_kth, kth_smallest, least_excesses, price_of, at_price}
 use Rattle.tt_leaf.specs.Pinned.{IsPinnedDown, IsOpen}

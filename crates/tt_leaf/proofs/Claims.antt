@@ -19,8 +19,8 @@ use Rattle.tt_instance_data.specs.Cells.{all_courses, all_curricula}
 use Rattle.tt_facts_path.specs.declared.facts.Fact.{Fact}
 use Rattle.tt_leaf_rules.specs.Claims.{Target, RoomCapacity, WorkingDays, Compactness, Stability, targets_of, claimed, is_fair, value_of, total_of}
 use Rattle.tt_leaf_rules.specs.Tests.{claims_once, same_target}
-use Rattle.tt_leaf_rules.specs.declared.leaf.Claim.{Claim}
-use Rattle.tt_leaf_rules.specs.declared.leaf.Claim.TheVariants.{Capacity, Compact, Stable}
+use Rattle.tt_leaf_data.specs.declared.leaf.Claim.{Claim}
+use Rattle.tt_leaf_data.specs.declared.leaf.Claim.TheVariants.{Capacity, Compact, Stable}
 use Rattle.tt_leaf_rules.proofs.Rightness.{targets_different}
 use Rattle.tt_leaf_rules.proofs.Different.{AreDifferent}
 use Rattle.tt_leaf.specs.Best.{price_of, at_price, capacity_claims, worth, claims_with}

@@ -5,9 +5,9 @@ use Rattle.tt_instance_data.specs.Problem.{Problem}
 use Rattle.tt_facts_path.specs.declared.facts.Fact.{Fact}
 use Rattle.tt_facts_path.proofs.Examples.{yes}
 use Rattle.tt_leaf_rules.specs.Faults.{fault_of}
-use Rattle.tt_leaf_rules.specs.declared.leaf.Bound.TheVariants.{AtLeast, Nothing}
-use Rattle.tt_leaf_rules.specs.declared.leaf.Claim.TheVariants.{Capacity, Days, Compact, Stacked}
-use Rattle.tt_leaf_rules.specs.declared.leaf.RuleFault.TheVariants.{TooCheap, NoBound}
+use Rattle.tt_leaf_data.specs.declared.leaf.Bound.TheVariants.{AtLeast, Nothing}
+use Rattle.tt_leaf_data.specs.declared.leaf.Claim.TheVariants.{Capacity, Days, Compact, Stacked}
+use Rattle.tt_leaf_rules.specs.declared.fault.RuleFault.TheVariants.{TooCheap, NoBound}
 use Rattle.tt_leaf_rules.proofs.Examples.{when}
 use Rattle.tt_leaf.specs.Best.{kth_smallest, best_claims, stacked_claims, best_leaf, stacked_leaf}
 

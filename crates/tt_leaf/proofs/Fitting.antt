@@ -32,7 +32,7 @@ use Rattle.tt_facts_path.specs.declared.facts.Pattern.{Pattern}
 use Rattle.tt_facts_path.specs.declared.facts.Fact.{Fact}
 use Rattle.tt_facts_path.proofs.LiveCells.{live_cells, live_in_range, range_of, is_live_of, any_live, live_not_barred}
 use Rattle.tt_leaf_rules.specs.Leaves.{all_dead, open_periods, all_lectures}
-use Rattle.tt_leaf_rules.specs.declared.leaf.Bound.{Bound}
+use Rattle.tt_leaf_data.specs.declared.leaf.Bound.{Bound}
 use Rattle.tt_leaf.specs.Pinned.{IsPinnedDown, IsOpen}
 use Rattle.tt_leaf.proofs.LiveCells.{own_fact, same_live, once_of, once_in}
 

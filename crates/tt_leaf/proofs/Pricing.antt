@@ -8,7 +8,7 @@ use Rattle.std.proofs.lemmas.List.Elements.{All-push, recursion_from_All}
 use Rattle.std.proofs.lemmas.List.Folds.{list_all-append}
 use Rattle.tt_lists.specs.Words.{each_two}
 use Rattle.tt_lists.proofs.Members.{each_of_map}
-use Rattle.tt_leaf_rules.specs.Ranges.{ArePrices, AreBelow}
+use Rattle.tt_leaf_data.specs.Ranges.{ArePrices, AreBelow}
 use Rattle.tt_leaf.specs.Found.{AreNumbers}
 
 module _ {X : Type 0} (number : X → ℕ) where

@@ -14,7 +14,7 @@ use Rattle.tt_instance_data.proofs.Slots.{slots_count_yes}
 use Rattle.tt_facts_path.specs.Live.{least_excess}
 use Rattle.tt_facts_path.specs.declared.facts.Fact.{Fact}
 use Rattle.tt_leaf_rules.specs.Claims.{value_of}
-use Rattle.tt_leaf_rules.specs.declared.leaf.Claim.TheVariants.{Capacity}
+use Rattle.tt_leaf_data.specs.declared.leaf.Claim.TheVariants.{Capacity}
 use Rattle.tt_leaf.specs.Best.{is_kth, least_excesses, price_of, at_price, capacity_claims, worth}
 use Rattle.tt_leaf.specs.Seated.{is_nothing, is_seated, seated_periods}
 

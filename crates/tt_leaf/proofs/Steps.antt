@@ -8,7 +8,7 @@ use Rattle.tt_lists.proofs.Growing.{kept_one_more}
 use Rattle.tt_instance_data.specs.Problem.{Problem}
 use Rattle.tt_facts_path.specs.declared.facts.Fact.{Fact}
 use Rattle.tt_leaf_rules.specs.Claims.{value_of}
-use Rattle.tt_leaf_rules.specs.declared.leaf.Claim.{Claim}
+use Rattle.tt_leaf_data.specs.declared.leaf.Claim.{Claim}
 use Rattle.tt_leaf.specs.Best.{price_of, at_price, capacity_claims, worth}
 use Rattle.std.proofs.lemmas.List.Elements.{filter-append}
 

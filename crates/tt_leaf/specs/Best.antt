@@ -7,10 +7,10 @@ use Rattle.tt_instance_data.specs.Courses.{lectures}
 use Rattle.tt_facts_path.specs.Live.{least_excess}
 use Rattle.tt_facts_path.specs.declared.facts.Fact.{Fact}
 use Rattle.tt_leaf_rules.specs.Claims.{value_of}
-use Rattle.tt_leaf_rules.specs.declared.leaf.Claim.{Claim}
-use Rattle.tt_leaf_rules.specs.declared.leaf.Claim.TheVariants.{Capacity, Days, Compact, Stable, Stacked}
-use Rattle.tt_leaf_rules.specs.declared.leaf.Leaf.{Leaf}
-use Rattle.tt_leaf_rules.specs.declared.leaf.Leaf.TheVariants.{Cost}
+use Rattle.tt_leaf_data.specs.declared.leaf.Claim.{Claim}
+use Rattle.tt_leaf_data.specs.declared.leaf.Claim.TheVariants.{Capacity, Days, Compact, Stable, Stacked}
+use Rattle.tt_leaf_data.specs.declared.leaf.Leaf.{Leaf}
+use Rattle.tt_leaf_data.specs.declared.leaf.Leaf.TheVariants.{Cost}
 
 -- ---- prices
 

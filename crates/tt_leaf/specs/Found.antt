@@ -5,10 +5,10 @@ use Rattle.tt_lists.specs.Words.{are_distinct}
 use Rattle.tt_facts_path.specs.Facts.{IsPattern}
 use Rattle.tt_facts_path.specs.declared.facts.Fact.{Fact}
 use Rattle.tt_leaf_rules.specs.Leaves.{IsRight}
-use Rattle.tt_leaf_rules.specs.Ranges.{AreBelow, IsClaimOf, IsLeafOf}
-use Rattle.tt_leaf_rules.specs.declared.leaf.Claim.{Claim}
-use Rattle.tt_leaf_rules.specs.declared.leaf.Bound.{Bound}
-use Rattle.tt_leaf_rules.specs.declared.leaf.Leaf.{Leaf}
+use Rattle.tt_leaf_data.specs.Ranges.{AreBelow, IsClaimOf, IsLeafOf}
+use Rattle.tt_leaf_data.specs.declared.leaf.Claim.{Claim}
+use Rattle.tt_leaf_data.specs.declared.leaf.Bound.{Bound}
+use Rattle.tt_leaf_data.specs.declared.leaf.Leaf.{Leaf}
 use Rattle.tt_proof_read.specs.Limits.{IsShortClaim, IsShortLeaf}
 
 -- The numbers of the leaf are in the range of the instance, and it may appear in a proof.

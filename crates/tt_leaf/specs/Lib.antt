@@ -9,4 +9,4 @@ pub use Rattle.tt_leaf_rules.specs.Leaves
 pub use Rattle.tt_leaf_rules.specs.NumberSet
 pub use Rattle.tt_leaf_rules.specs.Nested
 pub use Rattle.tt_leaf_rules.specs.Outcomes
-pub use Rattle.tt_leaf_rules.specs.Ranges
+pub use Rattle.tt_leaf_data.specs.Ranges

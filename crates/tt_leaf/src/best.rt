@@ -2,15 +2,16 @@
 
 ghost use Rattle.std.specs.Prelude.{◌≡◌, ◌<◌, [], ◌∷◌, ◌++◌, length, map, IfOk, OnOk};
 ghost use Rattle.tt_instance_data.specs.Cells.{all_courses, all_curricula};
-ghost use Rattle.tt_leaf_rules.specs.Ranges.{IsClaimOf};
-ghost use Rattle.tt_leaf_rules.specs.declared.leaf.Claim.TheVariants.{Days, Compact, Stable, Stacked};
+ghost use Rattle.tt_leaf_data.specs.Ranges.{IsClaimOf};
+ghost use Rattle.tt_leaf_data.specs.declared.leaf.Claim.TheVariants.{Days, Compact, Stable, Stacked};
 ghost use Rattle.tt_leaf.specs.Best.{capacity_claims, worth, best_leaf, stacked_leaf};
 ghost use Rattle.tt_leaf.specs.Found.{IsAnswer};
 
 use crate::prices::{has_seats, price_of};
 use std::alloc::{AllocError, Global};
 use tt_facts_path::Path;
-use tt_leaf_rules::{Claim, ClaimList, Leaf, claim_value};
+use tt_leaf_data::{Claim, ClaimList, Leaf};
+use tt_leaf_rules::claim_value;
 
 /// Adds a claim if its value is positive.
 fn push_if_worth<'i, P: Path<'i>>(

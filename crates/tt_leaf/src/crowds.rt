@@ -9,7 +9,8 @@ use crate::rivals::rivals_of;
 use std::alloc::{AllocError, Global};
 use tt_facts_path::Path;
 use tt_instance_data::Instance;
-use tt_leaf_rules::{Claim, claim_value};
+use tt_leaf_data::Claim;
+use tt_leaf_rules::claim_value;
 
 /// The maximum number of cells of an instance in which groups are searched for.
 const MOST_CELLS: u64 = 8192;

@@ -7,8 +7,8 @@ ghost use Rattle.tt_facts_path.specs.Facts.{IsPattern, Fits};
 ghost use Rattle.tt_facts_path.specs.declared.facts.Fact.{Fact};
 ghost use Rattle.tt_leaf_rules.specs.Bounds.{Respects};
 ghost use Rattle.tt_leaf_rules.specs.Leaves.{IsRight};
-ghost use Rattle.tt_leaf_rules.specs.Ranges.{IsLeafOf};
-ghost use Rattle.tt_leaf_rules.specs.declared.leaf.Leaf.TheVariants.{Empty, Many, Clique};
+ghost use Rattle.tt_leaf_data.specs.Ranges.{IsLeafOf};
+ghost use Rattle.tt_leaf_data.specs.declared.leaf.Leaf.TheVariants.{Empty, Many, Clique};
 ghost use Rattle.tt_leaf.specs.Found.{IsAnswer, Closes, ArePatterns};
 ghost use Rattle.tt_leaf.specs.Pinned.{IsPinnedDown, IsOpen};
 
@@ -17,7 +17,8 @@ use crate::overfull::overfull_leaf;
 use crate::priced::priced_claims;
 use std::alloc::{AllocError, Global};
 use tt_facts_path::Path;
-use tt_leaf_rules::{Bound, CourseList, Leaf, holds};
+use tt_leaf_data::{Bound, CourseList, Leaf};
+use tt_leaf_rules::holds;
 
 /// Returns whether a leaf is right.
 fn is_right<'i, P: Path<'i>>(path: &P, leaf: &Leaf, bound: Bound) -> bool

@@ -8,7 +8,7 @@ ghost use Rattle.tt_rules.specs.Score.{IsFeasible, cost};
 ghost use Rattle.tt_facts_path.specs.Facts.{Fits};
 ghost use Rattle.tt_facts_path.specs.declared.facts.Fact.{Fact};
 ghost use Rattle.tt_leaf_rules.specs.Bounds.{Respects};
-ghost use Rattle.tt_leaf_rules.specs.declared.leaf.Bound.{Bound};
+ghost use Rattle.tt_leaf_data.specs.declared.leaf.Bound.{Bound};
 ghost use Rattle.tt_leaf.specs.Pinned.{IsPinnedDown, IsOpen};
 
 /// If the path has each live cell's own pattern as a yes-fact, one of the leaves that are tried is

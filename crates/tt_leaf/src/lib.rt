@@ -15,7 +15,7 @@ mod rivals;
 pub use best::best_claims;
 pub use find::find_leaf;
 pub use laws::pinned_paths_close;
+pub use tt_leaf_data::{Bound, Claim, ClaimList, CourseList, Leaf, PriceList};
 pub use tt_leaf_rules::{
-    Bound, Claim, ClaimList, CourseList, Leaf, PriceList, RuleFault, claim_value, holds,
-    leaf_value, right_leaves_hold, slot_at, slot_count,
+    RuleFault, claim_value, holds, leaf_value, right_leaves_hold, slot_at, slot_count,
 };

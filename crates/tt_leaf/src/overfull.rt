@@ -1,12 +1,12 @@
 //! Courses that have more lectures than the week has periods or rooms for them. Nothing is proved about the choice.
 
 ghost use Rattle.std.specs.Prelude.{◌+◌, ◌<◌, length, IfOk, IfSome, OnOk};
-ghost use Rattle.tt_leaf_rules.specs.Ranges.{AreBelow};
+ghost use Rattle.tt_leaf_data.specs.Ranges.{AreBelow};
 ghost use Rattle.tt_leaf.specs.Found.{IsAnswer, AreNumbers};
 
 use std::alloc::{AllocError, Global};
 use tt_instance_data::Instance;
-use tt_leaf_rules::{CourseList, Leaf};
+use tt_leaf_data::{CourseList, Leaf};
 
 /// Courses that share the periods of the week.
 #[derive(Clone, Copy)]

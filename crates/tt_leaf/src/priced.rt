@@ -1,7 +1,7 @@
 //! A leaf with prices over groups of courses.
 
 ghost use Rattle.std.specs.Prelude.{◌+◌, ◌<◌, ◌≤◌, length, All, IfOk, IfSome, OnOk};
-ghost use Rattle.tt_leaf_rules.specs.Ranges.{ArePrices};
+ghost use Rattle.tt_leaf_data.specs.Ranges.{ArePrices};
 ghost use Rattle.tt_leaf.specs.Found.{IsAnswer, IsFitClaim};
 
 use crate::crowds::{Crowd, find_crowds};
@@ -9,7 +9,8 @@ use crate::group_prices::Pricing;
 use crate::prices::{has_seats, price_of};
 use std::alloc::{AllocError, Global};
 use tt_facts_path::Path;
-use tt_leaf_rules::{Claim, ClaimList, Leaf, PriceList, claim_value};
+use tt_leaf_data::{Claim, ClaimList, Leaf, PriceList};
+use tt_leaf_rules::claim_value;
 
 /// The maximum price that may appear in a proof.
 const MOST_PRICE: u32 = 1_000_000;

@@ -14,7 +14,7 @@ use Rattle.tt_leaf_rules.specs.Claims.{Target, RoomCapacity, WorkingDays, Compac
 use Rattle.tt_leaf_rules.specs.NumberSet.{marked, are_new, place, places_of, IsPlaced}
 use Rattle.tt_leaf_data.specs.Ranges.{AreBelow, IsClaimOf}
 use Rattle.tt_leaf_rules.specs.Tests.{claims_once, same_target}
-use Rattle.tt_instance.specs.Problem.{Problem}
+use Rattle.tt_instance_data.specs.Problem.{Problem}
 use Rattle.tt_leaf_data.specs.declared.leaf.Claim.{Claim}
 use Rattle.tt_leaf_data.specs.declared.leaf.Claim.TheVariants.{Capacity, Days, Compact, Stable, Prices, Stacked}
 

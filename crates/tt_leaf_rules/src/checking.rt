@@ -11,13 +11,13 @@ ghost use Rattle.tt_leaf_data.specs.declared.leaf.Bound.TheVariants.{AtLeast, No
 ghost use Rattle.tt_leaf_data.specs.declared.leaf.Leaf.TheVariants.{Empty, Many, Clique, Slots, Cost};
 
 use crate::claims::{are_fair, are_worth, total};
-use crate::empty::all_dead;
+use crate::empty::are_all_dead;
 use crate::fault::RuleFault;
-use crate::groups::{are_distinct, have_more_lectures, is_clique, open_periods, open_rooms};
+use crate::groups::{are_distinct, has_more_lectures, is_clique, open_periods, open_rooms};
 use crate::pinned::pinned_periods;
 use crate::targets::are_claimed_once;
 use tt_facts_path::{Path, Pattern, Who};
-use tt_instance::{MAX_COURSES, MAX_CURRICULA};
+use tt_instance_data::{MAX_COURSES, MAX_CURRICULA};
 use tt_leaf_data::{Bound, Claim, Leaf};
 
 fn fault_of_empty<'i, P: Path<'i>>(path: &P, pattern: &Pattern) -> Option<RuleFault>

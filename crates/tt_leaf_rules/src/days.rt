@@ -3,7 +3,7 @@
 ghost use Rattle.std.specs.Prelude.{◌≡◌, ◌<◌, ◌≤◌, ◌*◌, length};
 ghost use Rattle.tt_leaf_rules.specs.Claims.{live_days, pinned_day, pinned_days, value_of};
 ghost use Rattle.tt_leaf_data.specs.declared.leaf.Claim.TheVariants.{Days, Stacked};
-ghost use Rattle.tt_instance.specs.declared.limit.TheConstants.{MAX_DAYS, MAX_MIN_DAYS};
+ghost use Rattle.tt_instance_data.specs.declared.limit.TheConstants.{MAX_DAYS, MAX_MIN_DAYS};
 
 use crate::pinned::pinned_periods;
 use tt_bits::is_empty;

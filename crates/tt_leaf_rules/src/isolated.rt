@@ -8,7 +8,7 @@ ghost use Rattle.tt_facts_path.specs.declared.facts.Who.TheVariants.{Curriculum}
 ghost use Rattle.tt_leaf_rules.specs.Claims.{is_alone, value_of};
 ghost use Rattle.tt_leaf_rules.specs.Nested.{isolated_periods};
 ghost use Rattle.tt_leaf_data.specs.declared.leaf.Claim.TheVariants.{Compact};
-ghost use Rattle.tt_instance.specs.declared.limit.TheConstants.{MAX_SLOTS};
+ghost use Rattle.tt_instance_data.specs.declared.limit.TheConstants.{MAX_SLOTS};
 
 use crate::groups::open_on;
 use tt_bits::{count, next, previous, without};

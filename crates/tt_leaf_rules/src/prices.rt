@@ -9,7 +9,7 @@ ghost use Rattle.tt_leaf_rules.specs.Claims.{price_in, are_covered, value_of};
 ghost use Rattle.tt_leaf_rules.specs.Nested.{PricesBelow, clear_in, priced_live_in, course_prices, room_prices, covered};
 ghost use Rattle.tt_leaf_data.specs.Ranges.{ArePrices};
 ghost use Rattle.tt_leaf_data.specs.declared.leaf.Claim.TheVariants.{Prices};
-ghost use Rattle.tt_instance.specs.declared.limit.TheConstants.{MAX_COURSES, MAX_ROOMS, MAX_SLOTS};
+ghost use Rattle.tt_instance_data.specs.declared.limit.TheConstants.{MAX_COURSES, MAX_ROOMS, MAX_SLOTS};
 ghost use Rattle.tt_leaf_rules.specs.declared.limit.TheConstants.{MAX_TARGET_VALUE};
 
 use crate::room_prices::RoomPrices;

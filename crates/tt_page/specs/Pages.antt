@@ -2,7 +2,7 @@
 use Rattle.std.specs.Prelude.{ℕ, List, ◌++◌, codes, Option}
 use Rattle.tt_instance_data.specs.Problem.{Problem}
 use Rattle.tt_instance_data.specs.declared.cell.Cell.{Cell}
-use Rattle.tt_leaf_rules.specs.declared.leaf.Bound.{Bound}
+use Rattle.tt_leaf_data.specs.declared.leaf.Bound.{Bound}
 use Rattle.tt_page_text.specs.Labelled.{Labelled}
 use Rattle.tt_page.specs.Heading.{head_text, header_text, legend_text}
 use Rattle.tt_page_lists.specs.Lists.{hard_table, cost_table, lists_text}

@@ -6,7 +6,7 @@ ghost use Rattle.tt_page.specs.Heading.{head_text, contents_text, verdict_text, 
 
 use std::alloc::AllocError;
 use tt_instance_data::Instance;
-use tt_leaf_rules::Bound;
+use tt_leaf_data::Bound;
 use tt_page_plan::{Plan, put_name};
 use tt_page_text::{Part, put};
 use tt_rules::Score;

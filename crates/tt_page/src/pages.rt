@@ -14,7 +14,7 @@ use crate::courses::put_courses;
 use crate::heading::{put_head, put_header, put_legend};
 use std::alloc::{AllocError, Global};
 use tt_instance_data::Instance;
-use tt_leaf_rules::Bound;
+use tt_leaf_data::Bound;
 use tt_page_days::put_days;
 use tt_page_lists::{put_cost_table, put_hard_table, put_lists};
 use tt_page_plan::{Kind, Plan};

@@ -7,7 +7,7 @@ use crate::rooms::find_rooms;
 use crate::together::sum_of;
 use std::alloc::{AllocError, Global};
 use tt_instance_data::Instance;
-use tt_leaf_rules::Bound;
+use tt_leaf_data::Bound;
 use tt_parts_groups::{find_groups, write_groups};
 use tt_search::{Unwatched, Watch};
 use tt_table::Entry;

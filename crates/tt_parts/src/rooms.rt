@@ -1,14 +1,15 @@
 //! A bound on the seats that rooms lack.
 
 ghost use Rattle.std.specs.Prelude.{All, IfOk};
-ghost use Rattle.tt_leaf_rules.specs.Ranges.{IsClaimOf};
+ghost use Rattle.tt_leaf_data.specs.Ranges.{IsClaimOf};
 
 use std::alloc::{AllocError, Global};
 use tt_facts::TrailPath;
 use tt_facts_path::Path;
 use tt_instance_data::Instance;
 use tt_leaf::best_claims;
-use tt_leaf_rules::{Bound, Claim, ClaimList, Leaf, claim_value};
+use tt_leaf_data::{Bound, Claim, ClaimList, Leaf};
+use tt_leaf_rules::claim_value;
 use tt_proof_read::Node;
 use tt_proof_text::{WriteFault, write_proof};
 

@@ -7,7 +7,7 @@ ghost use Rattle.tt_parts.specs.Found.{texts_of};
 
 use std::alloc::{AllocError, Global};
 use tt_instance_data::Instance;
-use tt_leaf_rules::Bound;
+use tt_leaf_data::Bound;
 use tt_proof_sum::{SumFault, sum_proofs};
 use tt_text::Pieces;
 use tt_text_peek::Peeked;

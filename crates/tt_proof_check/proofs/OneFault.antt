@@ -15,9 +15,9 @@ use Rattle.tt_table.specs.Reading.{solution_of}
 use Rattle.tt_table.specs.declared.fault.SolutionFault.{SolutionFault}
 use Rattle.tt_facts_path.specs.declared.facts.Fact.{Fact}
 use Rattle.tt_leaf_rules.specs.Faults.{fault_of}
-use Rattle.tt_leaf_rules.specs.declared.leaf.Bound.{Bound}
-use Rattle.tt_leaf_rules.specs.declared.leaf.Leaf.{Leaf}
-use Rattle.tt_leaf_rules.specs.declared.leaf.RuleFault.{RuleFault}
+use Rattle.tt_leaf_data.specs.declared.leaf.Bound.{Bound}
+use Rattle.tt_leaf_data.specs.declared.leaf.Leaf.{Leaf}
+use Rattle.tt_leaf_rules.specs.declared.fault.RuleFault.{RuleFault}
 use Rattle.tt_leaf_rules.proofs.Rightness.{faultless}
 use Rattle.tt_proof_read.specs.Faults.{is_environmental}
 use Rattle.tt_proof_read.specs.Reading.{header_at, node_at, end_at}

@@ -2,7 +2,7 @@
 use Rattle.std.proofs.Common.{◌≡◌, ℕ, zero, suc, ◌≤◌, ◌<◌, true, false, List, [], ◌∷◌, ◌++◌, map, length, Option, Some, None, refl, sym, ap, ◌∙◌, arith, append_assoc, append-nil, le_of_suc-le-suc}
 use Rattle.std.specs.Prelude.{slice_get}
 use Rattle.tt_facts_path.specs.declared.facts.Fact.{Fact}
-use Rattle.tt_leaf_rules.specs.declared.leaf.Leaf.TheVariants.{Many}
+use Rattle.tt_leaf_data.specs.declared.leaf.Leaf.TheVariants.{Many}
 use Rattle.tt_proof_read.specs.Trees.{Tree, Tip, Fork, with_fact, preorder, OnPath, on_paths, IsPreorder}
 use Rattle.tt_proof_read.specs.declared.node.Node.{Node}
 use Rattle.tt_proof_read.specs.declared.node.Node.TheVariants.{Split, Leaf}

@@ -9,7 +9,7 @@ use Rattle.tt_rules.specs.Score.{IsFeasible, cost}
 use Rattle.tt_facts_path.specs.Facts.{matches, Holds, Fits}
 use Rattle.tt_facts_path.specs.declared.facts.Fact.{Fact}
 use Rattle.tt_leaf_rules.specs.Bounds.{Respects}
-use Rattle.tt_leaf_rules.specs.declared.leaf.Bound.{Bound}
+use Rattle.tt_leaf_data.specs.declared.leaf.Bound.{Bound}
 use Rattle.tt_leaf_rules.proofs.Soundness.{leaf_sound}
 use Rattle.tt_proof_read.specs.Trees.{Tree, Tip, Fork, with_fact}
 use Rattle.tt_proof_read.specs.declared.node.Node.{Node}

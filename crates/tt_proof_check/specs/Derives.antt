@@ -7,7 +7,7 @@ use Rattle.tt_facts_path.specs.Facts.{Fits}
 use Rattle.tt_facts_path.specs.declared.facts.Fact.{Fact}
 use Rattle.tt_leaf_rules.specs.Bounds.{Respects}
 use Rattle.tt_leaf_rules.specs.Leaves.{IsRight}
-use Rattle.tt_leaf_rules.specs.declared.leaf.Bound.{Bound}
+use Rattle.tt_leaf_data.specs.declared.leaf.Bound.{Bound}
 use Rattle.tt_proof_read.specs.Trees.{Tree, AllLeaves, preorder, IsShallow}
 use Rattle.tt_proof_read.specs.declared.node.Node.{Node}
 

@@ -5,7 +5,7 @@ use Rattle.tt_instance_data.specs.Spelling.{Spells}
 use Rattle.tt_instance_data.specs.declared.cell.Cell.{Cell}
 use Rattle.tt_table.specs.Spelling.{SpellsBoth}
 use Rattle.tt_rules.specs.Score.{IsFeasible, hard, cost}
-use Rattle.tt_leaf_rules.specs.declared.leaf.Bound.TheVariants.{AtLeast}
+use Rattle.tt_leaf_data.specs.declared.leaf.Bound.TheVariants.{AtLeast}
 use Rattle.tt_proof_check.specs.Derives.{HoldsOfAll}
 use Rattle.tt_proof_check.specs.Streams.{IsProved}
 

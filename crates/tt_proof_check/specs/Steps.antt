@@ -7,7 +7,7 @@ use Rattle.tt_facts_path.specs.declared.path.PathFault.{PathFault}
 use Rattle.tt_facts_path.specs.declared.path.PathFault.TheVariants as path
 use Rattle.tt_leaf_rules.specs.Faults.{fault_of}
 use Rattle.tt_leaf_rules.specs.Leaves.{IsRight}
-use Rattle.tt_leaf_rules.specs.declared.leaf.Bound.{Bound}
+use Rattle.tt_leaf_data.specs.declared.leaf.Bound.{Bound}
 use Rattle.tt_proof_read.specs.Trees.{with_fact}
 use Rattle.tt_proof_read.specs.declared.node.Node.{Node}
 use Rattle.tt_proof_read.specs.declared.node.Node.TheVariants.{Split, Leaf}

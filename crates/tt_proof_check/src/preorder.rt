@@ -12,7 +12,7 @@ use std::alloc::Global;
 use tt_facts::TrailPath;
 use tt_facts_path::Path;
 use tt_instance_data::Instance;
-use tt_leaf_rules::Bound;
+use tt_leaf_data::Bound;
 use tt_proof_read::{Node, is_tree};
 
 /// Checks the nodes of a tree, each on its path.

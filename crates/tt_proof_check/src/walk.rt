@@ -7,7 +7,8 @@ ghost use Rattle.tt_proof_check.specs.Pending.{ContinuesWith};
 ghost use Rattle.tt_proof_check.specs.Steps.{Steps, Stops};
 
 use tt_facts_path::{Fact, Path, PathFault};
-use tt_leaf_rules::{Bound, RuleFault, holds};
+use tt_leaf_data::Bound;
+use tt_leaf_rules::{RuleFault, holds};
 use tt_proof_read::Node;
 
 /// The reason why a node was not taken.

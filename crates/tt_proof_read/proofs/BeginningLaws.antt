@@ -16,7 +16,7 @@ use Rattle.tt_instance_data.specs.Beginnings.{BeginsAs}
 use Rattle.tt_instance_data.specs.Limits.{IsInstance}
 use Rattle.tt_instance_data.proofs.Beginnings.{begins_shared}
 use Rattle.tt_instance_data.proofs.Shared.{NoneAt, Shared, Apart, Next, other_offset}
-use Rattle.tt_leaf_rules.specs.declared.leaf.Bound.{Bound}
+use Rattle.tt_leaf_data.specs.declared.leaf.Bound.{Bound}
 use Rattle.tt_proof_read.specs.Beginnings.{token_offset, FailsNext, NodesFail, ReadingFails}
 use Rattle.tt_proof_read.specs.Reading.{header_at, node_at, end_at}
 use Rattle.tt_proof_read.specs.Reads.{ReadsNodes, Reads, stream_of_bytes, open_after}

@@ -6,7 +6,7 @@ use Rattle.tt_lists.specs.Words.{has_number}
 use Rattle.std.proofs.lemmas.List.{map-append}
 use Rattle.std.proofs.lemmas.List.Elements.{All-nil, All-push, recursion_from_All}
 use Rattle.tt_lists.proofs.Members.{each_of_append}
-use Rattle.tt_leaf_rules.specs.Ranges.{ArePrices, AreBelow}
+use Rattle.tt_leaf_data.specs.Ranges.{ArePrices, AreBelow}
 use Rattle.tt_text.specs.Feeds.{Stream}
 use Rattle.tt_proof_read.specs.Contract.{State, IsReading}
 use Rattle.tt_proof_read.specs.Pricing.{with_seen, IsUnseen, ArePriceLists}

@@ -11,7 +11,7 @@ use Rattle.tt_text.specs.declared.numbers.NumberFault.TheVariants as number
 use Rattle.tt_text.proofs.Steps.{bind_ok}
 use Rattle.tt_instance_data.proofs.Shared.{SameVerdict, other_offset}
 use Rattle.tt_facts_path.specs.declared.facts.Who.TheVariants as who
-use Rattle.tt_leaf_rules.specs.declared.leaf.Bound.TheVariants as bound
+use Rattle.tt_leaf_data.specs.declared.leaf.Bound.TheVariants as bound
 use Rattle.tt_proof_read.specs.Beginnings.{token_offset}
 use Rattle.tt_proof_read.specs.Reading.{numbered, below, numbered_below, index_in, index_of, new_number, priced_as, who_in, given_of, listed_of, Seen, priced_in, priced_of, claim_word_of, node_word_of, counted, version_of, bounded, bound_of}
 use Rattle.tt_proof_read.specs.declared.fault.TextFault.{TextFault}

@@ -15,8 +15,8 @@ use Rattle.tt_text.proofs.Steps.{ok_is, bind_ok, test_ok, refusal_ok}
 use Rattle.tt_text.proofs.Fields.{text_is, is_text_of, number_spelled, number_read}
 use Rattle.tt_facts_path.specs.declared.facts.Who.{Who}
 use Rattle.tt_facts_path.specs.declared.facts.Who.TheVariants.{Course, Curriculum}
-use Rattle.tt_leaf_rules.specs.declared.leaf.Bound.{Bound}
-use Rattle.tt_leaf_rules.specs.declared.leaf.Bound.TheVariants.{AtLeast, Nothing}
+use Rattle.tt_leaf_data.specs.declared.leaf.Bound.{Bound}
+use Rattle.tt_leaf_data.specs.declared.leaf.Bound.TheVariants.{AtLeast, Nothing}
 use Rattle.tt_proof_read.specs.Words.{word_text, fixed}
 use Rattle.tt_proof_read.specs.Spelling.{given_piece, course_piece, who_piece, bound_piece, version_text, IsBound}
 use Rattle.tt_proof_read.specs.Reading.{token_at, word_at, numbered, below, numbered_below, index_in, index_of, new_number, course_at, curriculum_at, priced_as, price_at, who_in, who_at, given_of, given_at, version_of, version_at, bounded, bound_of, bound_at}

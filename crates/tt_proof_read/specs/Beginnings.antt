@@ -2,7 +2,7 @@
 use Rattle.std.specs.Prelude.{◌≡◌, ◌⊎◌, ℕ, zero, suc, ◌+◌, List, length, Option, Some, None, Ok, Err}
 use Rattle.tt_text.specs.Feeds.{Stream}
 use Rattle.tt_text.specs.declared.feed.FeedFault.TheVariants as feed
-use Rattle.tt_leaf_rules.specs.declared.leaf.Bound.{Bound}
+use Rattle.tt_leaf_data.specs.declared.leaf.Bound.{Bound}
 use Rattle.tt_proof_read.specs.Reading.{header_at, node_at, end_at}
 use Rattle.tt_proof_read.specs.Reads.{ReadsNodes, open_after}
 use Rattle.tt_proof_read.specs.declared.fault.TextFault.{TextFault}

@@ -14,11 +14,11 @@ use Rattle.tt_text.specs.declared.numbers.NumberFault.TheVariants as number
 use Rattle.tt_facts_path.specs.declared.facts.Who.{Who}
 use Rattle.tt_facts_path.specs.declared.facts.Who.TheVariants as who
 use Rattle.tt_facts_path.specs.declared.facts.Pattern.{Pattern}
-use Rattle.tt_leaf_rules.specs.declared.leaf.Bound.{Bound}
-use Rattle.tt_leaf_rules.specs.declared.leaf.Bound.TheVariants as bound
-use Rattle.tt_leaf_rules.specs.declared.leaf.Claim.{Claim}
-use Rattle.tt_leaf_rules.specs.declared.leaf.Claim.TheVariants as claim
-use Rattle.tt_leaf_rules.specs.declared.leaf.Leaf.TheVariants as leaf
+use Rattle.tt_leaf_data.specs.declared.leaf.Bound.{Bound}
+use Rattle.tt_leaf_data.specs.declared.leaf.Bound.TheVariants as bound
+use Rattle.tt_leaf_data.specs.declared.leaf.Claim.{Claim}
+use Rattle.tt_leaf_data.specs.declared.leaf.Claim.TheVariants as claim
+use Rattle.tt_leaf_data.specs.declared.leaf.Leaf.TheVariants as leaf
 use Rattle.tt_proof_read.specs.Words.{word_text}
 use Rattle.tt_proof_read.specs.Faults.{fault_from_feed}
 use Rattle.tt_proof_read.specs.declared.fault.Word.{Word}

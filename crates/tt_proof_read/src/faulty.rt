@@ -5,7 +5,7 @@ ghost use Rattle.tt_text.specs.Tokens.{tokens_of};
 ghost use Rattle.tt_instance_data.specs.Beginnings.{BeginsAs};
 ghost use Rattle.tt_instance_data.specs.Limits.{IsInstance};
 ghost use Rattle.tt_instance_data.specs.Problem.{Problem};
-ghost use Rattle.tt_leaf_rules.specs.declared.leaf.Bound.{Bound};
+ghost use Rattle.tt_leaf_data.specs.declared.leaf.Bound.{Bound};
 ghost use Rattle.tt_proof_read.specs.Beginnings.{token_offset, ReadingFails};
 ghost use Rattle.tt_proof_read.specs.Reads.{stream_of_bytes};
 ghost use Rattle.tt_proof_read.specs.Sizes.{AreSizes};

@@ -3,9 +3,9 @@
 ghost use Rattle.std.specs.Prelude.{◌≡◌, ◌≤◌, ◌↔◌, ℕ, List, [], length, Some};
 ghost use Rattle.tt_instance_data.specs.Limits.{IsInstance};
 ghost use Rattle.tt_instance_data.specs.Problem.{Problem};
-ghost use Rattle.tt_leaf_rules.specs.Ranges.{IsLeafOf};
-ghost use Rattle.tt_leaf_rules.specs.declared.leaf.Bound.{Bound};
-ghost use Rattle.tt_leaf_rules.specs.declared.leaf.Leaf.{Leaf};
+ghost use Rattle.tt_leaf_data.specs.Ranges.{IsLeafOf};
+ghost use Rattle.tt_leaf_data.specs.declared.leaf.Bound.{Bound};
+ghost use Rattle.tt_leaf_data.specs.declared.leaf.Leaf.{Leaf};
 ghost use Rattle.tt_proof_read.specs.Limits.{IsShortLeaf, IsLeafIn};
 ghost use Rattle.tt_proof_read.specs.Reads.{Reads, open_after, stream_of_bytes};
 ghost use Rattle.tt_proof_read.specs.Sizes.{AreSizes};

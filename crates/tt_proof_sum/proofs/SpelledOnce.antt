@@ -18,7 +18,7 @@ use Rattle.tt_text.specs.Pieces.{Piece, Text, Begins}
 use Rattle.tt_text.specs.Tokens.{Placed, tokens_of}
 use Rattle.tt_leaf_rules.specs.Claims.{Target}
 use Rattle.tt_leaf_rules.specs.Tests.{same_target}
-use Rattle.tt_leaf_rules.specs.declared.leaf.Bound.{Bound}
+use Rattle.tt_leaf_data.specs.declared.leaf.Bound.{Bound}
 use Rattle.tt_leaf_rules.proofs.Totals.{same_target-itself}
 use Rattle.tt_proof_read.specs.Spelling.{version_text, bound_piece, SpellsProof}
 use Rattle.tt_proof_read.specs.Trees.{Tree}

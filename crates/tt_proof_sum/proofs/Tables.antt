@@ -9,7 +9,7 @@ use Rattle.tt_lists.specs.Words.{has_number}
 use Rattle.std.proofs.lemmas.Grind.{flat_map-append}
 use Rattle.tt_leaf_rules.specs.Claims.{RoomCapacity, targets_of, claimed}
 use Rattle.tt_leaf_rules.specs.NumberSet.{place, places_of}
-use Rattle.tt_leaf_rules.specs.declared.leaf.Claim.{Claim}
+use Rattle.tt_leaf_data.specs.declared.leaf.Claim.{Claim}
 use Rattle.tt_proof_read.specs.declared.node.Node.{Node}
 use Rattle.tt_proof_check.specs.Visited.{Visited}
 use Rattle.tt_proof_sum.specs.declared.table.Clash.{Clash}

@@ -15,7 +15,7 @@ use crate::groups::take_groups;
 use crate::table::Table;
 use std::alloc::Global;
 use tt_instance_data::Instance;
-use tt_leaf_rules::Bound;
+use tt_leaf_data::Bound;
 use tt_proof_check::check_proof_with;
 use tt_text::Source;
 use tt_text_peek::{Peek, PeekFault};

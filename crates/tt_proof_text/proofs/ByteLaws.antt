@@ -7,7 +7,7 @@ use Rattle.std.proofs.lemmas.List.{append-nil, take_all}
 use Rattle.tt_text.specs.Pieces.{Piece, Text}
 use Rattle.tt_text.specs.Lines.{text_of, line_text, lines_text}
 use Rattle.tt_text.proofs.Texts.{rows_text, lines_text-append}
-use Rattle.tt_leaf_rules.specs.declared.leaf.Leaf.TheVariants.{Empty, Many, Clique, Slots, Cost}
+use Rattle.tt_leaf_data.specs.declared.leaf.Leaf.TheVariants.{Empty, Many, Clique, Slots, Cost}
 use Rattle.tt_proof_read.specs.declared.node.Node.{Node}
 use Rattle.tt_proof_read.specs.declared.node.Node.TheVariants.{Split, Leaf}
 use Rattle.tt_proof_text.specs.Bytes.{clipped}

@@ -2,9 +2,9 @@
 use Rattle.std.proofs.Common.{◌≡◌, List, [], ◌∷◌, None, Some, codes, refl}
 use Rattle.tt_text.specs.Pieces.{Piece, Text, Number, Index}
 use Rattle.tt_facts_path.specs.declared.facts.Who.TheVariants.{Curriculum}
-use Rattle.tt_leaf_rules.specs.declared.leaf.Bound.TheVariants.{AtLeast, Nothing}
-use Rattle.tt_leaf_rules.specs.declared.leaf.Claim.TheVariants.{Prices, Stacked}
-use Rattle.tt_leaf_rules.specs.declared.leaf.Leaf.TheVariants.{Clique, Cost}
+use Rattle.tt_leaf_data.specs.declared.leaf.Bound.TheVariants.{AtLeast, Nothing}
+use Rattle.tt_leaf_data.specs.declared.leaf.Claim.TheVariants.{Prices, Stacked}
+use Rattle.tt_leaf_data.specs.declared.leaf.Leaf.TheVariants.{Clique, Cost}
 use Rattle.tt_proof_read.specs.declared.node.Node.TheVariants.{Split, Leaf}
 use Rattle.tt_proof_text.specs.Written.{proof_lines}
 

@@ -4,9 +4,9 @@ use Rattle.std.specs.Prelude.{ℕ, ◌<◌, IfSome, All}
 use Rattle.tt_facts_path.specs.declared.facts.Who.{Who}
 use Rattle.tt_facts_path.specs.declared.facts.Who.TheVariants.{Course, Curriculum}
 use Rattle.tt_facts_path.specs.declared.facts.Pattern.{Pattern}
-use Rattle.tt_leaf_rules.specs.declared.leaf.Claim.{Claim}
-use Rattle.tt_leaf_rules.specs.declared.leaf.Claim.TheVariants.{Capacity, Days, Compact, Stable, Prices, Stacked}
-use Rattle.tt_leaf_rules.specs.declared.leaf.Leaf.TheVariants.{Empty, Many, Clique, Slots, Cost}
+use Rattle.tt_leaf_data.specs.declared.leaf.Claim.{Claim}
+use Rattle.tt_leaf_data.specs.declared.leaf.Claim.TheVariants.{Capacity, Days, Compact, Stable, Prices, Stacked}
+use Rattle.tt_leaf_data.specs.declared.leaf.Leaf.TheVariants.{Empty, Many, Clique, Slots, Cost}
 use Rattle.tt_proof_read.specs.declared.node.Node.{Node}
 use Rattle.tt_proof_read.specs.declared.node.Node.TheVariants.{Split, Leaf}
 

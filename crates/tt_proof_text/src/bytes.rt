@@ -13,7 +13,7 @@ ghost use Rattle.tt_proof_text.specs.Written.{priced_pieces, claim_rest, claim_p
 
 use crate::fields::version_text;
 use tt_facts_path::{Pattern, Who};
-use tt_leaf_rules::{Bound, Claim, Leaf};
+use tt_leaf_data::{Bound, Claim, Leaf};
 use tt_proof_read::{Node, Word};
 use tt_text::digit_count;
 

@@ -7,7 +7,7 @@ ghost use Rattle.tt_proof_text.specs.Written.{priced_pieces, claim_word, claim_r
 
 use crate::fields::{put_index, put_price};
 use std::alloc::AllocError;
-use tt_leaf_rules::Claim;
+use tt_leaf_data::Claim;
 use tt_text::put_next_token;
 
 /// Writes numbers of one kind, each with its price.

@@ -7,7 +7,7 @@ ghost use Rattle.tt_proof_read.specs.Trees.{IsPreorder};
 ghost use Rattle.tt_proof_text.specs.Within.{HasShortPrices, IsNodeIn, AreWithin};
 
 use crate::depth::is_shallow;
-use tt_leaf_rules::{Bound, Claim, Leaf};
+use tt_leaf_data::{Bound, Claim, Leaf};
 use tt_proof_read::{MAX_POINTS, MAX_PRICE, MAX_PROOF_NODES, Node};
 
 fn are_short_prices(prices: &[(u32, u32)]) -> bool

@@ -8,7 +8,7 @@ ghost use Rattle.tt_proof_text.specs.Written.{node_word, node_rest, node_pieces,
 use crate::claims::put_claims;
 use crate::fields::{put_courses, put_index, put_pattern};
 use std::alloc::AllocError;
-use tt_leaf_rules::Leaf;
+use tt_leaf_data::Leaf;
 use tt_proof_read::Node;
 use tt_text::{put_line_end, put_token};
 

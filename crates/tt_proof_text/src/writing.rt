@@ -15,7 +15,7 @@ use crate::fields::version_text;
 use crate::limits::{are_nodes_in, are_within};
 use crate::nodes::put_nodes;
 use std::alloc::{AllocError, Global};
-use tt_leaf_rules::Bound;
+use tt_leaf_data::Bound;
 use tt_proof_read::{Node, Word, is_tree};
 use tt_text::{MAX_BYTES, put_line_end, put_next_number, put_next_token, put_token};
 

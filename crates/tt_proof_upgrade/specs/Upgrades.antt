@@ -2,7 +2,7 @@
 use Rattle.std.specs.Prelude.{◌≡◌, ℕ, ◌⊎◌, List, [], ⊤}
 use Rattle.tt_text.specs.Feeds.{Stream}
 use Rattle.tt_instance_data.specs.Problem.{Problem}
-use Rattle.tt_leaf_rules.specs.declared.leaf.Bound.{Bound}
+use Rattle.tt_leaf_data.specs.declared.leaf.Bound.{Bound}
 use Rattle.tt_proof_read.specs.Reads.{Reads}
 use Rattle.tt_proof_read.specs.Spelling.{SpellsProof}
 use Rattle.tt_proof_read.specs.Trees.{Tree, preorder, IsShallow}

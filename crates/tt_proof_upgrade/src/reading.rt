@@ -14,7 +14,7 @@ ghost use Rattle.tt_proof_upgrade.specs.Texts.{IsRead, AreNodesOf, IsCollected, 
 
 use std::alloc::Global;
 use tt_instance_data::Instance;
-use tt_leaf_rules::Bound;
+use tt_leaf_data::Bound;
 use tt_proof_read::{Node, NodeReader, TextFault};
 use tt_text::Source;
 

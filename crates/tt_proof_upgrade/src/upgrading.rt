@@ -1,7 +1,7 @@
 //! Proofs that are written again.
 
 ghost use Rattle.std.specs.Prelude.{◌≡◌, ◌≤◌, List, ℕ, length, All, true, if◌then◌else◌, Some, Err, IfOk, IfErr, OnOk, MatchResult};
-ghost use Rattle.tt_leaf_rules.specs.declared.leaf.Bound.{Bound};
+ghost use Rattle.tt_leaf_data.specs.declared.leaf.Bound.{Bound};
 ghost use Rattle.tt_proof_read.specs.declared.format.TheConstants.{MAX_PROOF_NODES};
 ghost use Rattle.tt_proof_check.specs.Derives.{HoldsOfAll, Proves};
 ghost use Rattle.tt_text.specs.Failures.{is_err_and};
@@ -19,7 +19,7 @@ use crate::fault::{UpgradeFault, node_fault};
 use crate::reading::parse_proof;
 use std::alloc::Global;
 use tt_instance_data::Instance;
-use tt_leaf_rules::Bound;
+use tt_leaf_data::Bound;
 use tt_proof_check::check_nodes;
 use tt_proof_read::Node;
 use tt_proof_text::{WriteFault, write_proof};

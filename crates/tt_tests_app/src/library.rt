@@ -4,7 +4,7 @@ use std::alloc::Global;
 use std::test::Fail;
 use tt_app::AppFault;
 use tt_instance::read_instance;
-use tt_leaf_rules::Bound;
+use tt_leaf_data::Bound;
 use tt_proof_check::check_proof;
 use tt_rules::score;
 use tt_table::read_solution;

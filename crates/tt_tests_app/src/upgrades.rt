@@ -3,7 +3,7 @@
 use std::alloc::Global;
 use std::test::Fail;
 use tt_instance::read_instance;
-use tt_leaf_rules::Bound;
+use tt_leaf_data::Bound;
 use tt_proof_check::check_nodes;
 use tt_proof_text::write_proof;
 use tt_proof_upgrade::parse_proof;

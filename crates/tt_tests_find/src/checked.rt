@@ -3,13 +3,14 @@
 ghost use Rattle.std.specs.Prelude.{◌≡◌, ◌<◌, true, IfSome};
 ghost use Rattle.tt_facts_path.specs.Facts.{IsPattern, IsWho};
 ghost use Rattle.tt_leaf.specs.Found.{ArePatterns};
-ghost use Rattle.tt_leaf_rules.specs.Ranges.{IsLeafOf};
+ghost use Rattle.tt_leaf_data.specs.Ranges.{IsLeafOf};
 
 use std::alloc::{AllocError, Global};
 use tt_facts_path::{Fact, Path, Pattern, Who};
 use tt_instance_data::Instance;
 use tt_leaf::find_leaf;
-use tt_leaf_rules::{Bound, Leaf, holds};
+use tt_leaf_data::{Bound, Leaf};
+use tt_leaf_rules::holds;
 
 fn is_given(given: Option<u32>, count: u32) -> bool
     ensures { result ≡ true → IfSome given (λ n. n < count) }

@@ -10,7 +10,7 @@ use std::test::Fail;
 use tt_facts::TrailPath;
 use tt_facts_path::{Fact, Path, Pattern, PlainPath, Who};
 use tt_instance::read_instance;
-use tt_leaf_rules::Bound;
+use tt_leaf_data::Bound;
 use tt_tests_samples::{GAP, MINI, SAME, SEATS, TOUR, TRIO};
 
 /// The number of random paths for each instance.

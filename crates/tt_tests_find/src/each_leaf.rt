@@ -2,13 +2,14 @@
 
 ghost use Rattle.std.specs.Prelude.{◌<◌, length, All, IfOk, OnOk};
 ghost use Rattle.tt_leaf.specs.Found.{ArePatterns};
-ghost use Rattle.tt_leaf_rules.specs.Ranges.{IsClaimOf, IsLeafOf};
+ghost use Rattle.tt_leaf_data.specs.Ranges.{IsClaimOf, IsLeafOf};
 
 use crate::checked::is_right;
 use std::alloc::{AllocError, Global};
 use tt_facts_path::Path;
 use tt_leaf::best_claims;
-use tt_leaf_rules::{Bound, Claim, ClaimList, CourseList, Leaf, claim_value};
+use tt_leaf_data::{Bound, Claim, ClaimList, CourseList, Leaf};
+use tt_leaf_rules::claim_value;
 
 /// Checks whether the Empty leaf of some yes-fact is right.
 fn is_empty_right<'i, P: Path<'i>>(path: &P, bound: Bound) -> bool

@@ -8,7 +8,7 @@ use tt_facts_path::{Fact, Pattern, PlainPath, Who};
 use tt_instance::read_instance;
 use tt_instance_data::Instance;
 use tt_leaf::best_claims;
-use tt_leaf_rules::{Bound, Claim, Leaf};
+use tt_leaf_data::{Bound, Claim, Leaf};
 use tt_tests_samples::{GAP, WIDE, edited};
 
 /// Returns a yes-fact of the first course in a period of the first day.

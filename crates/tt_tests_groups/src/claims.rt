@@ -6,7 +6,7 @@ use std::alloc::Global;
 use std::test::Fail;
 use tt_groups_check::GroupFault;
 use tt_instance::read_instance;
-use tt_leaf_rules::Bound;
+use tt_leaf_data::Bound;
 use tt_proof_sum::{GroupsFault, SumFault, sum_proofs};
 use tt_text::Pieces;
 use tt_text_peek::Peeked;

@@ -3,7 +3,7 @@
 
 use std::test::Fail;
 use tt_instance::{read_instance, write_instance};
-use tt_leaf_rules::{Bound, ClaimList, Leaf};
+use tt_leaf_data::{Bound, ClaimList, Leaf};
 use tt_proof_read::{Node, NodeReader, TextFault};
 use tt_proof_text::write_proof;
 use tt_table::{Entry, PushFault, Timetable, read_solution, write_solution};

@@ -6,7 +6,7 @@ use std::io::{Error, ErrorKind, Read};
 use std::test::Fail;
 use tt_instance::read_instance;
 use tt_instance_data::Instance;
-use tt_leaf_rules::Bound;
+use tt_leaf_data::Bound;
 use tt_proof_read::{NodeReader, TextFault};
 use tt_tests_samples::{MINI, WIDE};
 use tt_text::{Feed, FeedFault, Pieces, ReadFailed, Reading, Source, WholeFault, read_whole};

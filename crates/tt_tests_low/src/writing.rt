@@ -2,7 +2,7 @@
 
 use std::test::Fail;
 use tt_facts_path::{Pattern, Who};
-use tt_leaf_rules::{Bound, Claim, ClaimList, Leaf};
+use tt_leaf_data::{Bound, Claim, ClaimList, Leaf};
 use tt_proof_read::Node;
 use tt_proof_text::{WriteFault, write_proof};
 

@@ -9,7 +9,7 @@ use tt_facts_path::{Pattern, PlainPath, Who};
 use tt_instance::read_instance;
 use tt_instance_data::Instance;
 use tt_leaf::{best_claims, find_leaf};
-use tt_leaf_rules::{Bound, Claim, ClaimList, Leaf};
+use tt_leaf_data::{Bound, Claim, ClaimList, Leaf};
 use tt_page::put_shown;
 use tt_proof_check::{NodesFault, Verdict, certify, check_nodes, check_proof};
 use tt_proof_read::Node;

@@ -3,7 +3,7 @@
 use std::alloc::Global;
 use std::test::Fail;
 use tt_instance::read_instance;
-use tt_leaf_rules::Bound;
+use tt_leaf_data::Bound;
 use tt_parts::{Effort, find_parts};
 use tt_proof_sum::sum_proofs;
 use tt_tests_samples::{GAP, MINI, WIDE};

@@ -1,8 +1,8 @@
 //! Leaves that are checked on both paths.
 
 ghost use Rattle.std.specs.Prelude.{◌≡◌, [], ◌∷◌, IfOk};
-ghost use Rattle.tt_leaf_rules.specs.declared.leaf.Claim.{Claim};
-ghost use Rattle.tt_leaf_rules.specs.declared.leaf.Leaf.{Leaf};
+ghost use Rattle.tt_leaf_data.specs.declared.leaf.Claim.{Claim};
+ghost use Rattle.tt_leaf_data.specs.declared.leaf.Leaf.{Leaf};
 
 use crate::deadness::{fact_in_period, fact_of, pushed};
 use std::alloc::{AllocError, Global};
@@ -10,9 +10,8 @@ use std::test::Fail;
 use tt_facts::TrailPath;
 use tt_facts_path::{Path, Pattern, PlainPath, Who};
 use tt_instance::read_instance;
-use tt_leaf_rules::{
-    Bound, Claim, ClaimList, CourseList, Leaf, RuleFault, claim_value, holds, leaf_value,
-};
+use tt_leaf_data::{Bound, Claim, ClaimList, CourseList, Leaf};
+use tt_leaf_rules::{RuleFault, claim_value, holds, leaf_value};
 use tt_tests_samples::{APART, GAP, MINI, SAME, WIDE};
 
 /// Pins Gap's courses in its first and its last period, and returns whether the path accepted both facts.

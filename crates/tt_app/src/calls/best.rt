@@ -20,7 +20,7 @@ use std::alloc::{AllocError, Global};
 use tt_best::{Rounds, Week, find_best_watched};
 use tt_instance::read_instance;
 use tt_instance_data::Instance;
-use tt_leaf_rules::Bound;
+use tt_leaf_data::Bound;
 use tt_page_text::Labels;
 use tt_parts::Parts;
 use tt_rules::score;

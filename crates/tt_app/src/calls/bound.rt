@@ -3,7 +3,7 @@
 ghost use Rattle.std.specs.Prelude.{◌≡◌, ℕ, List, Some, Err, true, if◌then◌else◌, IfOk, IfErr};
 ghost use Rattle.tt_instance_data.specs.Problem.{Problem};
 ghost use Rattle.tt_instance_data.specs.Spelling.{Spells};
-ghost use Rattle.tt_leaf_rules.specs.declared.leaf.Bound.{Bound};
+ghost use Rattle.tt_leaf_data.specs.declared.leaf.Bound.{Bound};
 ghost use Rattle.tt_proof_check.specs.FailedReads.{IsSpelledAndCheckedUpToFailedRead};
 ghost use Rattle.tt_text.specs.Failures.{is_err_and};
 ghost use Rattle.tt_proof_check.specs.Streams.{IsProved};
@@ -16,7 +16,7 @@ use crate::fault::AppFault;
 use crate::lines::bound_line;
 use std::alloc::{AllocError, Global};
 use tt_instance::read_instance;
-use tt_leaf_rules::Bound;
+use tt_leaf_data::Bound;
 use tt_proof_check::check_proof;
 use tt_text::Source;
 

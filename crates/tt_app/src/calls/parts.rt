@@ -15,7 +15,7 @@ use crate::fault::AppFault;
 use std::alloc::{AllocError, Global};
 use tt_instance::read_instance;
 use tt_instance_data::Instance;
-use tt_leaf_rules::Bound;
+use tt_leaf_data::Bound;
 use tt_parts::{Effort, Parts, find_parts_watched};
 use tt_search::{Unwatched, Watch};
 use tt_table::{Entry, read_solution};

@@ -18,7 +18,7 @@ use std::alloc::{AllocError, Global};
 use tt_branch::Outcome;
 use tt_instance::read_instance;
 use tt_instance_data::Instance;
-use tt_leaf_rules::Bound;
+use tt_leaf_data::Bound;
 use tt_proof_read::Node;
 use tt_proof_text::{WriteFault, write_proof};
 use tt_rules::score;

@@ -3,7 +3,7 @@
 ghost use Rattle.std.specs.Prelude.{◌≡◌, ◌+◌, ◌<◌, ◌^◌, ℕ, List, Some, Err, true, if◌then◌else◌, IfOk, IfErr, slice_get, slice_index_or};
 ghost use Rattle.tt_instance_data.specs.Problem.{Problem};
 ghost use Rattle.tt_instance_data.specs.Spelling.{Spells};
-ghost use Rattle.tt_leaf_rules.specs.declared.leaf.Bound.{Bound};
+ghost use Rattle.tt_leaf_data.specs.declared.leaf.Bound.{Bound};
 ghost use Rattle.tt_text.specs.Failures.{is_err_and};
 ghost use Rattle.tt_proof_sum.specs.Added.{Give};
 ghost use Rattle.tt_proof_sum.specs.Faults.{IsSumFault, all_points};

@@ -1,6 +1,6 @@
 use Rattle.std.proofs.Common.{◌≡◌, ◌+◌, Err, refl, ap}
 use Rattle.std.proofs.lemmas.Result.{err_from_is_err_and}
-use Rattle.tt_leaf_rules.specs.declared.leaf.Bound.TheVariants.{AtLeast}
+use Rattle.tt_leaf_data.specs.declared.leaf.Bound.TheVariants.{AtLeast}
 use Rattle.tt_proof_check.proofs.TextFaults.{err_same, same_reads}
 use Rattle.tt_proof_sum.specs.Faults.{read_failed_at, is_failed_read_at}
 use Rattle.tt_app.proofs.sum_checking.summed_bound.Goals as goal

@@ -5,7 +5,7 @@ use Rattle.tt_instance_data.specs.Problem.{Problem}
 use Rattle.tt_instance_data.specs.Limits.{IsInstance}
 use Rattle.tt_instance_data.specs.declared.cell.Cell.{Cell}
 use Rattle.tt_facts_path.specs.Live.{least}
-use Rattle.tt_leaf_rules.specs.declared.leaf.Bound.{Bound}
+use Rattle.tt_leaf_data.specs.declared.leaf.Bound.{Bound}
 use Rattle.tt_proof_check.specs.Derives.{HoldsOfAll, Proves}
 use Rattle.tt_proof_check.specs.Nodes.{IsNodeOf}
 use Rattle.tt_branch.specs.declared.links.Link.{Link}

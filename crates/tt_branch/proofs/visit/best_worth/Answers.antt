@@ -1,6 +1,6 @@
 use Rattle.std.proofs.Common.{refl, sym, subst}
 use Rattle.tt_leaf_rules.specs.Outcomes.{IsClaimedOnce}
-use Rattle.tt_leaf_rules.specs.declared.leaf.Claim.TheVariants.{Days}
+use Rattle.tt_leaf_data.specs.declared.leaf.Claim.TheVariants.{Days}
 use Rattle.tt_leaf.proofs.Claims.{once}
 use Rattle.tt_branch.proofs.visit.best_worth.Goals as goal
 

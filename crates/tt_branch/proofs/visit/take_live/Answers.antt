@@ -7,7 +7,7 @@ use Rattle.tt_instance_data.specs.declared.cell.Cell.{Cell}
 use Rattle.tt_rules.specs.Score.{IsScore, IsFeasible, cost}
 use Rattle.tt_rules.proofs.Scores.{cost_is}
 use Rattle.tt_facts_path.proofs.LiveCells.{live_cells}
-use Rattle.tt_leaf_rules.specs.declared.leaf.Bound.TheVariants.{AtLeast}
+use Rattle.tt_leaf_data.specs.declared.leaf.Bound.TheVariants.{AtLeast}
 use Rattle.tt_leaf.specs.Found.{Closes}
 use Rattle.tt_branch.specs.BestSoFar.{table_of}
 use Rattle.tt_branch.specs.Outcomes.{final_bound}

@@ -1,4 +1,4 @@
-use Rattle.tt_leaf_rules.specs.declared.leaf.Claim.TheVariants.{Days}
+use Rattle.tt_leaf_data.specs.declared.leaf.Claim.TheVariants.{Days}
 use Rattle.tt_lists.proofs.Growing.{pushed_more}
 use Rattle.tt_leaf.proofs.Steps.{worth_more}
 use Rattle.tt_leaf.proofs.best.push_days.Goals as goal

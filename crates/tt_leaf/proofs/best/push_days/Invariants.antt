@@ -1,6 +1,6 @@
 use Rattle.std.proofs.Common.{◌≡◌, ◌++◌, map}
 use Rattle.tt_leaf.specs.Best.{worth}
-use Rattle.tt_leaf_rules.specs.declared.leaf.Claim.TheVariants.{Days}
+use Rattle.tt_leaf_data.specs.declared.leaf.Claim.TheVariants.{Days}
 use Rattle.tt_lists.specs.Words.{range_below}
 use Rattle.tt_leaf.proofs.best.push_days.Given as goal
 

@@ -1,6 +1,6 @@
 use Rattle.std.proofs.Common.{ℕ, ◌<◌, [], ◌∷◌}
 use Rattle.tt_leaf_rules.specs.Leaves.{IsRight}
-use Rattle.tt_leaf_rules.specs.declared.leaf.Leaf.TheVariants.{Clique}
+use Rattle.tt_leaf_data.specs.declared.leaf.Leaf.TheVariants.{Clique}
 use Rattle.tt_leaf.proofs.find.find_clique.Given as goal
 
 abbrev pub invariant-loop-course : goal.invariant-loop-course

@@ -1,7 +1,7 @@
 use Rattle.std.proofs.Common.{◌≡◌, true, take}
 use Rattle.std.specs.Prelude.{All}
 use Rattle.tt_leaf_rules.specs.Leaves.{IsRight}
-use Rattle.tt_leaf_rules.specs.declared.leaf.Leaf.TheVariants.{Empty}
+use Rattle.tt_leaf_data.specs.declared.leaf.Leaf.TheVariants.{Empty}
 use Rattle.tt_leaf.proofs.find.find_empty.Given as goal
 
 abbrev pub invariant-loop-index : goal.invariant-loop-index

@@ -1,6 +1,6 @@
 use Rattle.std.proofs.Common.{◌≤◌}
 use Rattle.std.specs.Prelude.{All}
-use Rattle.tt_leaf_rules.specs.Ranges.{ArePrices}
+use Rattle.tt_leaf_data.specs.Ranges.{ArePrices}
 use Rattle.tt_leaf.proofs.priced.list_prices.Given as goal
 
 abbrev pub invariant-loop-number : goal.invariant-loop-number

@@ -1,5 +1,5 @@
 use Rattle.std.proofs.Common.{◌+◌, sym, subst}
-use Rattle.tt_leaf_rules.specs.Ranges.{ArePrices}
+use Rattle.tt_leaf_data.specs.Ranges.{ArePrices}
 use Rattle.tt_leaf.proofs.Pricing.{prices_same, prices_more}
 use Rattle.tt_leaf.proofs.priced.push_price.Goals as goal
 

@@ -2,7 +2,7 @@ use Rattle.std.proofs.Common.{◌≡◌, length}
 use Rattle.tt_lists.specs.Words.{are_distinct}
 use Rattle.tt_leaf_rules.specs.NumberSet.{are_new}
 use Rattle.tt_leaf_data.specs.Ranges.{AreBelow}
-use Rattle.tt_leaf_rules.proofs.groups.each_is_new.Given as goal
+use Rattle.tt_leaf_rules.proofs.groups.are_new.Given as goal
 
 abbrev pub invariant-loop-first : goal.invariant-loop-first
 invariant-loop-first l = record { same : are_distinct l.courses ≡ are_new l.taken l.rest; below : AreBelow 2048 l.rest }

@@ -1,5 +1,5 @@
 use Rattle.std.specs.Prelude.{All}
-use Rattle.tt_leaf_rules.specs.Ranges.{IsClaimOf}
+use Rattle.tt_leaf_data.specs.Ranges.{IsClaimOf}
 use Rattle.tt_tests_find.proofs.each_leaf.but_days.Given as goal
 
 abbrev pub invariant-loop-claim : goal.invariant-loop-claim
