@@ -3,3 +3,8 @@ pub mod Counted
 pub mod Reading
 pub mod Words
 pub mod Writing
+pub use Rattle.tt_instance_data.specs.Cells
+pub use Rattle.tt_instance_data.specs.Courses
+pub use Rattle.tt_instance_data.specs.Limits
+pub use Rattle.tt_instance_data.specs.Problem
+pub use Rattle.tt_instance_data.specs.Spelling
