@@ -11,7 +11,7 @@ use Rattle.tt_instance.specs.declared.fault.InstanceFault.TheVariants as fault
 use Rattle.tt_instance_data.specs.Problem.{Course, Curriculum}
 use Rattle.tt_instance_data.specs.Columns.{ids_of, curriculum_ids_of}
 use Rattle.tt_instance.specs.Reading.{token_at, limited_at, members_at, curriculum_at, curricula_at}
-use Rattle.tt_instance_data.specs.Spelling.{named, curriculum_pieces, members_once}
+use Rattle.tt_instance_data.specs.Spelling.{named, curriculum_pieces, without_repeated_members}
 use Rattle.tt_instance_data.proofs.AfterLaws.{EachAfter}
 use Rattle.tt_instance.proofs.NextLaws.{IsNextCurriculum}
 use Rattle.tt_instance.proofs.FieldLaws.{guard_passed, text_takes, limited_takes, limited_reads}
@@ -22,7 +22,7 @@ use Rattle.tt_instance.proofs.SeriesLaws.{OneTaken, ManyTaken, series_takes, ser
 
 -- the listed curricula, with each member once
 abbrev pub all_kept : List Curriculum → List Curriculum
-all_kept qs = map members_once qs
+all_kept qs = map without_repeated_members qs
 
 -- each curriculum preserves its name
 pub ids_kept : (qs : List Curriculum) → curriculum_ids_of (all_kept qs) ≡ curriculum_ids_of qs
@@ -50,7 +50,7 @@ module _ (end : ℕ) (cs : List Course) where
       let counted : Takes id.0.1 (Number (length m.listed) ∷ []) count.0.1 = subst (λ k. Takes id.0.1 (Number k ∷ []) count.0.1) (sym m.len) n.0 in
       let pieces : Takes ts (curriculum_pieces cs q) members.0.1 = takes_then _ _ _ _ _ (text_takes end ts id.0 id.1) (takes_then _ _ _ _ _ counted m.takes) in
       let list : all_kept before ++ record { id = q.id; members = members.0.0 } ∷ [] ≡ all_kept (before ++ q ∷ []) =
-      ap (λ ms. all_kept before ++ record { id = q.id; members = ms } ∷ []) m.list ∙ sym (map_push members_once before q) in
+      ap (λ ms. all_kept before ++ record { id = q.id; members = ms } ∷ []) m.list ∙ sym (map_push without_repeated_members before q) in
       subst (OneTaken all_kept (curriculum_pieces cs) (IsNextCurriculum (length cs)) before ts) (ok_is (all_kept before ++ record { id = q.id; members = members.0.0 } ∷ [], members.0.1) x members.2)
       (record { item = q; list = list; next = record { fresh = fresh; is = (omega (arith, m.len, n.1), m.each) }; takes = pieces })
 
@@ -73,7 +73,7 @@ module _ (end : ℕ) (cs : List Course) where
         let fresh : has_name (curriculum_ids_of (all_kept before)) id.token.0.text ≡ false = ap (has_name (curriculum_ids_of (all_kept before))) id.piece ∙ ap (λ names. has_name names q.id) (ids_kept before) ∙ next.fresh in
         let made : done {A = List Curriculum × List Placed} (all_kept before ++ record { id = id.token.0.text; members = once q.members } ∷ [], members.mid) ≡ Ok (all_kept (before ++ q ∷ []), members.mid) =
         ap (λ name. done {A = List Curriculum × List Placed} (all_kept before ++ record { id = name; members = once q.members } ∷ [], members.mid)) id.piece
-        ∙ ap (λ l. done {A = List Curriculum × List Placed} (l, members.mid)) (sym (map_push members_once before q)) in
+        ∙ ap (λ l. done {A = List Curriculum × List Placed} (l, members.mid)) (sym (map_push without_repeated_members before q)) in
         record { mid = members.mid; is = rw (id.is, fresh, count.is, members.is) made; left = members.left }
 
     -- curricula that are spelled are read

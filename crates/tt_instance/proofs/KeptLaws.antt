@@ -8,20 +8,20 @@ use Rattle.tt_lists.specs.Words.{each_two, distinct}
 use Rattle.tt_lists.proofs.Distinct.{All-distinct, length-distinct, each_two-distinct, distinct_stays}
 use Rattle.tt_instance_data.specs.Problem.{Curriculum, Unavailability, Problem}
 use Rattle.tt_instance_data.specs.Limits.{same_unavailability, IsWithinLimits}
-use Rattle.tt_instance_data.specs.Spelling.{members_once, without_repeats}
+use Rattle.tt_instance_data.specs.Spelling.{without_repeated_members, without_repeats}
 use Rattle.tt_instance_data.proofs.Each.{IsCurriculum, IsUnavailability}
 use Rattle.tt_instance.proofs.CurriculumLaws.{all_kept}
 
 -- a curriculum without repeated members is within the limits, too
-curriculum_within : (courses : ℕ) (q : Curriculum) → IsCurriculum courses q → IsCurriculum courses (members_once q)
+curriculum_within : (courses : ℕ) (q : Curriculum) → IsCurriculum courses q → IsCurriculum courses (without_repeated_members q)
 curriculum_within courses q is = (omega (arith, length-distinct (λ a b. a == b) q.members, is.0), All-distinct (λ a b. a == b) (λ c. c < courses) q.members is.1)
 
 -- curricula without repeated members preserve their names
 names_apart : (qs : List Curriculum) → AllPairs (λ q r. q.id ≢ r.id) qs → AllPairs (λ q r. q.id ≢ r.id) (all_kept qs)
 names_apart qs apart = λ i j d below l same.
-    let in_list : j < length qs = omega (arith, l, length-map qs members_once) in
-    let one = get_or-map members_once qs i d d (omega (arith, below, in_list)) in
-    let other = get_or-map members_once qs j d d in_list in
+    let in_list : j < length qs = omega (arith, l, length-map qs without_repeated_members) in
+    let one = get_or-map without_repeated_members qs i d d (omega (arith, below, in_list)) in
+    let other = get_or-map without_repeated_members qs j d d in_list in
     let name : Curriculum → List ℕ = λ q. q.id in
     apart i j d below in_list (sym (ap name one) ∙ same ∙ ap name other)
 
@@ -37,7 +37,7 @@ kept_within w within = let Is : Curriculum → Type 0 = IsCurriculum (length w.c
   periods = within.periods;
   slots = within.slots;
   cells = within.cells;
-  curricula = omega (arith, length-map w.curricula members_once, within.curricula);
+  curricula = omega (arith, length-map w.curricula without_repeated_members, within.curricula);
   unavailabilities = omega (arith, length-distinct same_unavailability w.unavailabilities, within.unavailabilities);
   course_names = within.course_names;
   room_names = within.room_names;
@@ -45,7 +45,7 @@ kept_within w within = let Is : Curriculum → Type 0 = IsCurriculum (length w.c
   lectures = within.lectures;
   each_course = within.each_course;
   each_room = within.each_room;
-  each_curriculum = All-map Is members_once w.curricula (All-weaker Is (λ q. Is (members_once q)) (curriculum_within (length w.courses)) w.curricula within.each_curriculum);
+  each_curriculum = All-map Is without_repeated_members w.curricula (All-weaker Is (λ q. Is (without_repeated_members q)) (curriculum_within (length w.courses)) w.curricula within.each_curriculum);
   each_unavailability = All-distinct same_unavailability (IsUnavailability (length w.courses) w.days w.periods) w.unavailabilities within.each_unavailability;
 }
 
@@ -55,10 +55,10 @@ HasOnce q = each_two (λ a b. not (a == b)) q.members ≡ true
 
 -- curricula without repeated members have each member once
 pub members_once : (qs : List Curriculum) → All HasOnce (all_kept qs)
-members_once qs = All-map HasOnce members_once qs (λ k d _. each_two-distinct (λ a b. a == b) (get_or qs k d).members)
+members_once qs = All-map HasOnce without_repeated_members qs (λ k d _. each_two-distinct (λ a b. a == b) (get_or qs k d).members)
 
 -- a curriculum that has each member once stays as it is
-curriculum_stays : (q : Curriculum) → HasOnce q → members_once q ≡ q
+curriculum_stays : (q : Curriculum) → HasOnce q → without_repeated_members q ≡ q
 curriculum_stays q once = ap (λ (ms : List ℕ). let r : Curriculum = record { id = q.id; members = ms } in r) (distinct_stays (λ a b. a == b) q.members once)
 
 -- an instance with the same curricula and unavailabilities
@@ -68,4 +68,4 @@ kept_is p qs bs qs_is bs_is = rw (qs_is, bs_is) refl
 -- an instance that has each member and each unavailability once stays as it is
 pub kept_stays : (p : Problem) → All HasOnce p.curricula → each_two (λ a b. not (same_unavailability a b)) p.unavailabilities ≡ true → p ≡ without_repeats p
 kept_stays p members unavailabilities =
-    kept_is p (all_kept p.curricula) (distinct same_unavailability p.unavailabilities) (map_fixed members_once p.curricula (All-weaker HasOnce (λ q. members_once q ≡ q) curriculum_stays p.curricula members)) (distinct_stays same_unavailability p.unavailabilities unavailabilities)
+    kept_is p (all_kept p.curricula) (distinct same_unavailability p.unavailabilities) (map_fixed without_repeated_members p.curricula (All-weaker HasOnce (λ q. without_repeated_members q ≡ q) curriculum_stays p.curricula members)) (distinct_stays same_unavailability p.unavailabilities unavailabilities)

@@ -13,7 +13,7 @@ use Rattle.tt_instance.specs.Words.{fixed}
 use Rattle.tt_instance_data.specs.Problem.{Problem}
 use Rattle.tt_instance_data.specs.Limits.{same_unavailability, IsInstance}
 use Rattle.tt_instance.specs.Reading.{instance_of}
-use Rattle.tt_instance_data.specs.Spelling.{header_pieces, course_pieces, room_pieces, curriculum_pieces, unavailability_pieces, pieces, members_once, Spells}
+use Rattle.tt_instance_data.specs.Spelling.{header_pieces, course_pieces, room_pieces, curriculum_pieces, unavailability_pieces, pieces, without_repeated_members, Spells}
 use Rattle.tt_instance.proofs.KeptLaws.{kept_within, members_once}
 use Rattle.tt_instance.proofs.WholeLaws.{is_spelled}
 
@@ -65,7 +65,7 @@ spelled_instance bytes p spelled =
       name_tokens = tokens.name;
       course_tokens = tokens.courses;
       room_tokens = tokens.rooms;
-      curriculum_tokens = All-map (λ q. IsToken q.id) members_once w.curricula tokens.curricula;
+      curriculum_tokens = All-map (λ q. IsToken q.id) without_repeated_members w.curricula tokens.curricula;
     })
 
 -- an instance that was read is within the limits, has each member and each unavailability once, and names that are tokens

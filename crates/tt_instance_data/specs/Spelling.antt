@@ -41,12 +41,12 @@ pieces p =
     ++ (Text (codes "UNAVAILABILITY_CONSTRAINTS:") ∷ flat_map (unavailability_pieces p.courses) p.unavailabilities)
     ++ (Text (codes "END.") ∷ [])
 
-abbrev pub members_once : Curriculum → Curriculum
-members_once q = record q { members = distinct (λ a b. a == b) q.members }
+abbrev pub without_repeated_members : Curriculum → Curriculum
+without_repeated_members q = record q { members = distinct (λ a b. a == b) q.members }
 
 -- The instance of a file's lines without repeats: each member of a curriculum and each unavailability once, in the order of first mention.
 abbrev pub without_repeats : Problem → Problem
-without_repeats w = record w { curricula = map members_once w.curricula; unavailabilities = distinct same_unavailability w.unavailabilities }
+without_repeats w = record w { curricula = map without_repeated_members w.curricula; unavailabilities = distinct same_unavailability w.unavailabilities }
 
 -- The bytes spell the instance: they begin with the pieces of an instance that is this one if repeats are removed. Bytes after `END.` are not read.
 pub record Spells (bytes : List ℕ) (p : Problem) : Type 0 where

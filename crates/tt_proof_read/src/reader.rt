@@ -114,7 +114,7 @@ impl NodeReader {
         ensures still { IfSome self.old.fault (λ _. source.new ≡ source.old) }
         ensures state { self.old.fault ≡ None → IsReaderAfter self.old result self.new }
         ensures room { IfOk result (λ o. IfSome o (λ _. self.old.count < MAX_PROOF_NODES)) }
-        ensures known { self.old.fault ≡ None → is_some (R.remaining source.old) ≡ true →
+        ensures read { self.old.fault ≡ None → is_some (R.remaining source.old) ≡ true →
             IsReadingOf self.old (stream_at self.old.fed (R.remaining source.old)) result (stream_at self.new.fed (R.remaining source.new)) }
         // A failed read is reported if the bytes before it give a part of the node and no fault.
         ensures cut_short { self.old.fault ≡ None → NodeAgreesWhenCut self.old (R.remaining source.old) result self.new.fed (R.remaining source.new) }

@@ -77,7 +77,7 @@ returns-in-Err-next_group-clause-fault g c =
     let u = c.loop-claim.invariant.under in
     let after = c.next_group.new.self in
     let later = g.R.Source.remaining c.next_group.new.source in
-    let says : is_some now ≡ true → IsReadingOf r (stream_at r.fed now) (Err c.in-Err-next_group.fault) (stream_at after.fed later) = λ k. subst (λ (x : Result (Option GroupClaim) TextFault). IsReadingOf r (stream_at r.fed now) x (stream_at after.fed later)) c.in-Err-next_group.is (c.next_group.ensures.known u.sound k) in
+    let says : is_some now ≡ true → IsReadingOf r (stream_at r.fed now) (Err c.in-Err-next_group.fault) (stream_at after.fed later) = λ k. subst (λ (x : Result (Option GroupClaim) TextFault). IsReadingOf r (stream_at r.fed now) x (stream_at after.fed later)) c.in-Err-next_group.is (c.next_group.ensures.read u.sound k) in
     subst (λ (x : SumFault). ExplainsAdded p parts bytes x) (sym c.fault_of_text-in-Err-next_group.ensures)
     (text_fault p c.days.ensures.instance start c.args.table.now r now c.loop-claim.table c.loop-claim.number c.loop-claim.total u after later c.in-Err-next_group.fault parts before of begins says bytes known kind c.proof-file.result)
 
