@@ -1,0 +1,4 @@
+pub mod FailedReads
+pub mod Files
+pub mod Sums
+pub mod ReportedMemory

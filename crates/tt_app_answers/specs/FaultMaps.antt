@@ -1,0 +1,79 @@
+-- The report of a layer's error by a call: being out of memory is always the same error.
+use Rattle.std.specs.Prelude.{◌≡◌, ⊤}
+use Rattle.tt_instance.specs.declared.fault.InstanceFault.{InstanceFault}
+use Rattle.tt_instance.specs.declared.fault.InstanceFault.TheVariants as instance
+use Rattle.tt_table.specs.declared.fault.SolutionFault.{SolutionFault}
+use Rattle.tt_table.specs.declared.fault.SolutionFault.TheVariants as solution
+use Rattle.tt_proof_check.specs.Faults.{OutOfMemoryIsNoTextFault}
+use Rattle.tt_proof_check.specs.declared.fault.CheckFault.{CheckFault}
+use Rattle.tt_proof_check.specs.declared.fault.CheckFault.TheVariants as check
+use Rattle.tt_proof_check.specs.declared.fault.CertifyFault.{CertifyFault}
+use Rattle.tt_proof_check.specs.declared.fault.CertifyFault.TheVariants as certify
+use Rattle.tt_proof_upgrade.specs.declared.fault.UpgradeFault.{UpgradeFault}
+use Rattle.tt_proof_upgrade.specs.declared.fault.UpgradeFault.TheVariants as upgrade
+use Rattle.tt_search_complete.specs.declared.fault.CompleteFault.{CompleteFault}
+use Rattle.tt_search_complete.specs.declared.fault.CompleteFault.TheVariants as completion
+use Rattle.tt_page_text.specs.declared.fault.LabelsFault.{LabelsFault}
+use Rattle.tt_page_text.specs.declared.fault.LabelsFault.TheVariants as labels
+use Rattle.tt_report.specs.declared.fault.ReportFault.{ReportFault}
+use Rattle.tt_proof_sum.specs.Faults.{OutOfMemoryIsOneFault as OneFaultOfSum}
+use Rattle.tt_proof_sum.specs.declared.fault.SumFault.TheVariants as sum
+use Rattle.tt_report.specs.declared.fault.ReportFault.TheVariants as report
+use Rattle.tt_app_answers.specs.declared.fault.AppFault.{AppFault}
+use Rattle.tt_app_answers.specs.declared.fault.AppFault.TheVariants as fault
+use Rattle.tt_proof_sum.specs.declared.fault.SumFault.{SumFault}
+use Rattle.tt_report_export.specs.Calendars.{Term}
+
+abbrev pub fault_from_instance : InstanceFault → AppFault
+fault_from_instance instance.OutOfMemory = fault.OutOfMemory
+fault_from_instance f = fault.Instance f
+
+abbrev pub fault_from_solution : SolutionFault → AppFault
+fault_from_solution solution.OutOfMemory = fault.OutOfMemory
+fault_from_solution f = fault.Solution f
+
+abbrev pub fault_from_check : CheckFault → AppFault
+fault_from_check check.OutOfMemory = fault.OutOfMemory
+fault_from_check f = fault.Proof f
+
+abbrev pub fault_from_report : ReportFault → AppFault
+fault_from_report report.Write = fault.CannotWrite
+fault_from_report report.OutOfMemory = fault.OutOfMemory
+
+abbrev pub fault_from_certify : CertifyFault → AppFault
+fault_from_certify (certify.Instance f) = fault_from_instance f
+fault_from_certify (certify.Solution f) = fault_from_solution f
+fault_from_certify (certify.Proof f) = fault_from_check f
+fault_from_certify certify.OutOfMemory = fault.OutOfMemory
+
+abbrev pub fault_from_upgrade : UpgradeFault → AppFault
+fault_from_upgrade (upgrade.Proof f) = fault_from_check f
+fault_from_upgrade upgrade.TooLarge = fault.ProofTooLarge
+fault_from_upgrade upgrade.OutOfMemory = fault.OutOfMemory
+
+abbrev pub fault_from_completion : CompleteFault → AppFault
+fault_from_completion completion.OutOfMemory = fault.OutOfMemory
+fault_from_completion f = fault.Complete f
+
+abbrev pub fault_from_labels : LabelsFault → AppFault
+fault_from_labels labels.Days = fault.DayNames
+fault_from_labels labels.Periods = fault.PeriodNames
+fault_from_labels labels.OutOfMemory = fault.OutOfMemory
+
+-- Being out of memory is reported as itself, regardless of its source.
+abbrev pub OutOfMemoryIsOneFault : AppFault → Type 0
+OutOfMemoryIsOneFault (fault.Instance f) = ¬ (f ≡ instance.OutOfMemory)
+OutOfMemoryIsOneFault (fault.Solution f) = ¬ (f ≡ solution.OutOfMemory)
+OutOfMemoryIsOneFault (fault.Proof f) = ¬ (f ≡ check.OutOfMemory) × OutOfMemoryIsNoTextFault f
+OutOfMemoryIsOneFault (fault.Sum f) = ¬ (f ≡ sum.OutOfMemory) × OneFaultOfSum f
+OutOfMemoryIsOneFault _ = ⊤
+
+abbrev pub fault_from_sum : SumFault → AppFault
+fault_from_sum sum.OutOfMemory = fault.OutOfMemory
+fault_from_sum f = fault.Sum f
+
+-- whether the error is a refusal of dates and times
+abbrev pub IsNoTerm : AppFault → Type 0
+IsNoTerm (fault.Term f) = ⊤
+IsNoTerm fault.OutOfMemory = ⊤
+IsNoTerm _ = ⊥

@@ -1,0 +1,4 @@
+pub mod FaultMaps
+pub mod Lines
+pub mod Refusals
+pub mod Sums

@@ -1,0 +1,12 @@
+//! The calls that read files and check them.
+#![tactic(auto)]
+
+mod calls;
+mod lines;
+
+pub use calls::bound::bound;
+pub use calls::check::check;
+pub use calls::check_sum::check_sum;
+pub use calls::sum::sum;
+pub use calls::upgrade::upgrade;
+pub use calls::validate::validate;

@@ -1,0 +1,4 @@
+pub mod Best
+pub mod Improved
+pub mod Parted
+pub mod Solved

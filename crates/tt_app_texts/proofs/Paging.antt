@@ -1,0 +1,95 @@
+-- The answers of `page` and `proved_page`, from the results of their steps.
+use Rattle.std.proofs.Common.{◌≡◌, ◌⊎◌, ℕ, List, Option, Some, Ok, refl, subst, inl, inr}
+use Rattle.std.specs.Io.KnownBytes.{Appends}
+use Rattle.tt_text.specs.Reading.{FailsUnless}
+use Rattle.tt_text.specs.Sinks.{TakesPart}
+use Rattle.tt_instance_data.specs.Problem.{Problem}
+use Rattle.tt_instance_data.specs.Spelling.{Spells}
+use Rattle.tt_instance_data.specs.declared.cell.Cell.{Cell}
+use Rattle.tt_table.specs.Spelling.{SpellsBoth, SpellsTable}
+use Rattle.tt_leaf_data.specs.declared.leaf.Bound.{Bound}
+use Rattle.tt_page.specs.Pages.{page_text}
+use Rattle.tt_page_text.specs.Labelled.{Labelled}
+use Rattle.tt_page_text.specs.Labels.{is_environmental}
+use Rattle.tt_page_text.specs.declared.fault.LabelsFault.{LabelsFault}
+use Rattle.tt_page_text.specs.declared.fault.LabelsFault.TheVariants as labels
+use Rattle.tt_report.specs.declared.fault.ReportFault.{ReportFault}
+use Rattle.tt_report.specs.declared.fault.ReportFault.TheVariants as report
+use Rattle.tt_proof_check.specs.Derives.{HoldsOfAll}
+use Rattle.tt_proof_check.proofs.Files.{one_instance, one_table}
+use Rattle.tt_proof_sum.specs.Faults.{IsSumFault}
+use Rattle.tt_proof_sum.specs.Sums.{IsSum}
+use Rattle.tt_proof_sum.specs.declared.fault.SumFault.{SumFault}
+use Rattle.tt_proof_sum.specs.declared.fault.SumFault.TheVariants as sum
+use Rattle.tt_app_answers.specs.FaultMaps.{fault_from_labels, fault_from_report, fault_from_sum}
+use Rattle.tt_app_texts.specs.Paged.{labels_for, IsPageRefusal, IsProvedPageRefusal, IsSilentOrUnwritable}
+use Rattle.tt_app_texts.specs.declared.calls.page.PageNames.{PageNames}
+use Rattle.tt_app_answers.specs.declared.fault.AppFault.TheVariants as fault
+
+-- an error of the page's output is being out of memory or a failed write
+pub output_fails : (f : ReportFault) → (fault_from_report f ≡ fault.OutOfMemory) ⊎ (fault_from_report f ≡ fault.CannotWrite)
+output_fails report.Write = inr refl
+output_fails report.OutOfMemory = inl refl
+
+pub output_says_nothing : (f : ReportFault) → IsSilentOrUnwritable (fault_from_report f)
+output_says_nothing report.Write = inr refl
+output_says_nothing report.OutOfMemory = inl (inl refl)
+
+-- if the names fit the instance that the bytes spell, they are refused only for being out of memory
+pub names_memory : (i : List ℕ) (p read : Problem) (names : PageNames) (l : Labelled) (f : LabelsFault) → Spells i p → Spells i read → labels_for p names ≡ Ok l → FailsUnless is_environmental f (labels_for read names)
+    → fault_from_labels f ≡ fault.OutOfMemory
+names_memory i p read names l labels.Days spells found named h =
+    let here : labels_for read names ≡ Ok l = subst (λ (q : Problem). labels_for q names ≡ Ok l) (one_instance i p read spells found) named in
+    absurd cc
+names_memory i p read names l labels.Periods spells found named h =
+    let here : labels_for read names ≡ Ok l = subst (λ (q : Problem). labels_for q names ≡ Ok l) (one_instance i p read spells found) named in
+    absurd cc
+names_memory i p read names l labels.OutOfMemory spells found named h = refl
+
+module _ (i s : List ℕ) (p : Problem) (t : List Cell) (names : PageNames) (spelled : Spells i p) (solved : SpellsTable p s t) where
+  both : SpellsBoth i s p t
+  both = record { spelled = spelled; solved = solved }
+
+  -- an error of the names is reported
+  pub names_tell : (style : List ℕ) (before after : Option (List ℕ)) (f : LabelsFault) → FailsUnless is_environmental f (labels_for p names) → IsPageRefusal i s names style before after (fault_from_labels f)
+  names_tell style before after labels.Days h = record { problem = p; table = t; both = both; fails = h }
+  names_tell style before after labels.Periods h = record { problem = p; table = t; both = both; fails = h }
+  names_tell style before after labels.OutOfMemory h = tt
+
+  pub names_tell_proved : (style : List ℕ) (gives : List (List ℕ) → Type 0) (before after : Option (List ℕ)) (f : LabelsFault) → FailsUnless is_environmental f (labels_for p names)
+      → IsProvedPageRefusal i s names style gives before after (fault_from_labels f)
+  names_tell_proved style gives before after labels.Days h = record { problem = p; table = t; both = both; fails = h }
+  names_tell_proved style gives before after labels.Periods h = record { problem = p; table = t; both = both; fails = h }
+  names_tell_proved style gives before after labels.OutOfMemory h = tt
+
+  -- an error of the proofs is reported
+  pub sum_tells_page : (style : List ℕ) (l : Labelled) (gives : List (List ℕ) → Type 0) (before after : Option (List ℕ)) (f : SumFault) → labels_for p names ≡ Ok l
+      → ((proofs : List (List ℕ)) → gives proofs → IsSumFault p proofs f) → IsProvedPageRefusal i s names style gives before after (fault_from_sum f)
+  sum_tells_page style l gives before after (sum.Proof n f) named h = record { problem = p; table = t; labels = l; both = both; named = named; fails = h }
+  sum_tells_page style l gives before after (sum.Groups n f) named h = record { problem = p; table = t; labels = l; both = both; named = named; fails = h }
+  sum_tells_page style l gives before after (sum.ClaimedElsewhere n k e) named h = record { problem = p; table = t; labels = l; both = both; named = named; fails = h }
+  sum_tells_page style l gives before after (sum.TooLarge n) named h = record { problem = p; table = t; labels = l; both = both; named = named; fails = h }
+  sum_tells_page style l gives before after sum.OutOfMemory named h = tt
+
+  -- an error of the page's output is reported
+  pub page_tells : (style : List ℕ) (l : Labelled) (b : Bound) (gives : List (List ℕ) → Type 0) (before after : Option (List ℕ)) (f : ReportFault) → labels_for p names ≡ Ok l
+      → ((proofs : List (List ℕ)) → gives proofs → IsSum p proofs b) → HoldsOfAll p b → (f ≡ report.Write → TakesPart before after (page_text p t l (Some b) style)) → IsProvedPageRefusal i s names style gives before after (fault_from_report f)
+  page_tells style l b gives before after report.Write named sum holds part = record {
+    bound = b;
+    paged = record { problem = p; table = t; labels = l; both = both; named = named; part = part refl };
+    sum = sum;
+    holds = holds;
+  }
+  page_tells style l b gives before after report.OutOfMemory named sum holds part = tt
+
+-- the text that was written for the instance and the timetable that were read is the page of those that the bytes spell
+pub page_same : (i s : List ℕ) (p read : Problem) (t found : List Cell) (names : PageNames) (l m : Labelled) (b c : Bound) (style : List ℕ) (before after : Option (List ℕ)) → SpellsBoth i s p t → Spells i read → SpellsTable read s found
+    → labels_for p names ≡ Ok l → labels_for read names ≡ Ok m → c ≡ b → Appends before after (page_text read found m (Some c) style) → Appends before after (page_text p t l (Some b) style)
+page_same i s p read t found names l m b c style before after both spells solved named given e written =
+    let same : read ≡ p = one_instance i read p spells both.spelled in
+    let here : SpellsTable p s found = subst (λ (q : Problem). SpellsTable q s found) same solved in
+    let table : found ≡ t = one_table s i p found t both.spelled here both.solved in
+    let reported : labels_for p names ≡ Ok m = subst (λ (q : Problem). labels_for q names ≡ Ok m) same given in
+    let labelled : m ≡ l = cc in
+    let text : page_text read found m (Some c) style ≡ page_text p t l (Some b) style = cc in
+    subst (λ (x : List ℕ). Appends before after x) text written

@@ -1,0 +1,4 @@
+pub mod Exported
+pub mod Inspected
+pub mod Paged
+pub mod Reported

@@ -1,0 +1,10 @@
+//! The calls that describe a timetable: reports, tables, calendars, pages and advice.
+#![tactic(auto)]
+
+mod calls;
+
+pub use calls::calendar::{WeekTimes, calendar};
+pub use calls::inspect::inspect;
+pub use calls::page::{PageNames, page, proved_page};
+pub use calls::report::report;
+pub use calls::table::table;
