@@ -1,20 +1,17 @@
 //! The program: arguments in, texts and an exit status out.
 
-use crate::best_files::answer_best;
-use crate::exports::{answer_calendar, answer_table};
-use crate::inspecting::answer_inspect;
-use crate::page_file::{PageFiles, page_to};
-use crate::parts_files::{PartsPaths, answer_parts};
-use crate::requests::{
-    answer_bound, answer_check, answer_stored, answer_upgrade, answer_validate, report_to,
-};
-use crate::searches::{answer_improve, answer_solve};
-use crate::sums::answer_sum;
 use clap::error::ErrorKind;
 use std::io::Write;
 use std::rt::{Clock, Files};
-use tt_app::{Answer, AppFault};
+use tt_app_answers::{Answer, AppFault};
 use tt_app_arguments::{Request, parse_arguments};
+use tt_app_run_checks::{
+    answer_bound, answer_check, answer_stored, answer_sum, answer_upgrade, answer_validate,
+};
+use tt_app_run_searches::{PartsPaths, answer_best, answer_improve, answer_parts, answer_solve};
+use tt_app_run_texts::{
+    PageFiles, answer_calendar, answer_inspect, answer_table, page_to, report_to,
+};
 
 /// Prints a refusal, and returns its status.
 fn print_refusal<E: Write>(fault: AppFault, err: &mut E) -> u8 {

@@ -1,31 +1,12 @@
-//! The file handling of `sum`.
+//! The files of `sum`.
 
-use crate::disk::read_file;
-use crate::proof_files::ProofFile;
-use crate::showing::{Shown, clear, ticker_of};
-use std::alloc::AllocError;
 use std::cell::RefCell;
 use std::io::Write;
 use std::rt::{Clock, Files};
-use tt_app::{Answer, AppFault, Input, check_sum, sum};
+use tt_app_answers::{Answer, AppFault, Input};
 use tt_app_arguments::Showing;
-use tt_text_peek::Peeked;
-
-/// Returns the files of proofs, each opened by its first read.
-pub fn proof_files<'r, 't, R: Files + Clock + AllocGlobal, E: Write>(
-    rt: &'r R,
-    paths: &[&'r str],
-    shown: &'r Shown<'t, R, E>,
-) -> Result<Vec<Peeked<ProofFile<'r, 't, R, E>>>, AllocError> {
-    let mut files = Vec::new(rt.alloc());
-    let mut number: u64 = 0;
-    for path in paths {
-        number = number.saturating_add(1);
-        let file = ProofFile::new(rt, path, number, shown);
-        files.push(Peeked::new(rt.alloc(), file))?;
-    }
-    Ok(files)
-}
+use tt_app_checks::{check_sum, sum};
+use tt_app_run_files::{Shown, clear, proof_files, read_file, ticker_of};
 
 /// Sums the bounds that proofs derive, and shows the progress of reading them.
 fn sum_files<R: Files + Clock + AllocGlobal, E: Write>(

@@ -1,14 +1,13 @@
-//! The files of the command `best`.
+//! The files of `best`.
 
-use crate::disk::read_file;
-use crate::folder_files::Folder;
-use crate::searches::saved_instance;
-use crate::showing::ticker_of;
+use crate::saving::saved_instance;
 use std::io::Write;
 use std::rt::{Clock, Files};
-use tt_app::{Answer, AppFault, BestAnswer, Input, Rounds, best_watched};
+use tt_app_answers::{Answer, AppFault, Input};
 use tt_app_arguments::{BestSearch, Showing};
 use tt_app_files::{Batch, Ready};
+use tt_app_run_files::{Folder, read_file, ticker_of};
+use tt_app_searches::{BestAnswer, Rounds, best_watched};
 use tt_app_watch::{Keeper, Ticker};
 use tt_page::STYLE;
 

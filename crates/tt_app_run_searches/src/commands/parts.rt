@@ -1,14 +1,13 @@
-//! The files of the command `parts`.
+//! The files of `parts`.
 
-use crate::disk::read_file;
-use crate::folder_files::Folder;
-use crate::showing::ticker_of;
 use std::alloc::AllocError;
 use std::io::Write;
 use std::rt::{Clock, Files};
-use tt_app::{Answer, AppFault, Input, PartsAnswer, guided_parts_watched, parts_watched};
+use tt_app_answers::{Answer, AppFault, Input};
 use tt_app_arguments::{PartSearch, Showing};
 use tt_app_files::{Batch, Ready};
+use tt_app_run_files::{Folder, read_file, ticker_of};
+use tt_app_searches::{PartsAnswer, guided_parts_watched, parts_watched};
 use tt_app_watch::Ticker;
 use tt_parts::Effort;
 

@@ -1,10 +1,11 @@
 //! The files of `inspect`.
 
-use crate::disk::read_file;
 use std::fs;
 use std::io::Write;
 use std::rt::Files;
-use tt_app::{Answer, AppFault, Input, inspect};
+use tt_app_answers::{Answer, AppFault, Input};
+use tt_app_run_files::read_file;
+use tt_app_texts::inspect;
 
 /// Writes the name of a file that can't be read, and the system's reason if it can't be opened.
 fn explain<R: Files, E: Write>(rt: &R, path: &str, err: &mut E) {

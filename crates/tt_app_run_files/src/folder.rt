@@ -3,7 +3,7 @@
 use std::alloc::AllocError;
 use std::fs;
 use std::rt::{Clock, Files};
-use tt_app::AppFault;
+use tt_app_answers::AppFault;
 use tt_app_files::{Output, Ready, make_folder};
 
 /// A folder that is written to, and the files that are read before writing.

@@ -1,15 +1,14 @@
-//! The file of the command `page`.
+//! The files of `page`.
 
-use crate::disk::read_file;
-use crate::showing::{Shown, clear, ticker_of};
-use crate::sums::proof_files;
 use std::alloc::{AllocError, Global};
 use std::cell::RefCell;
 use std::io::Write;
 use std::rt::{Clock, Files};
-use tt_app::{AppFault, Input, PageNames, page, proved_page};
+use tt_app_answers::{AppFault, Input};
 use tt_app_arguments::{NamesWish, Showing};
 use tt_app_files::{Batch, Draft, Output, Place, Ready, finish};
+use tt_app_run_files::{Shown, clear, proof_files, read_file, ticker_of};
+use tt_app_texts::{PageNames, page, proved_page};
 use tt_page::STYLE;
 use tt_text::{Sink, Writing};
 use tt_text_peek::Peek;

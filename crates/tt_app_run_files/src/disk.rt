@@ -2,7 +2,7 @@
 
 use std::fs;
 use std::rt::Files;
-use tt_app::{AppFault, Input};
+use tt_app_answers::{AppFault, Input};
 use tt_text::{Reading, WholeFault, read_whole};
 
 /// The maximum number of bytes of an instance file and of a solution file.

@@ -1,20 +1,10 @@
-//! Tables and calendars of a solution.
+//! The files of `report --ics`.
 
-use crate::disk::read_file;
 use std::rt::Files;
-use tt_app::{Answer, AppFault, Input, WeekTimes, calendar, table};
+use tt_app_answers::{Answer, AppFault, Input};
 use tt_app_arguments::CalendarWish;
-
-/// Returns the table of a solution.
-pub fn answer_table<R: Files + AllocGlobal>(
-    rt: &R,
-    instance: &str,
-    solution: &str,
-) -> Result<Answer, AppFault> {
-    let instance = read_file(rt, instance, Input::Instance)?;
-    let solution = read_file(rt, solution, Input::Solution)?;
-    table(rt.alloc(), &instance, &solution)
-}
+use tt_app_run_files::read_file;
+use tt_app_texts::{WeekTimes, calendar};
 
 /// Returns a calendar of a solution.
 pub fn answer_calendar<R: Files + AllocGlobal>(

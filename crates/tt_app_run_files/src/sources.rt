@@ -1,10 +1,12 @@
 //! Files of proofs; at most one is open at a time.
 
 use crate::showing::{Shown, open_counted};
+use std::alloc::AllocError;
 use std::io::{Read, Write};
 use std::rt::{Clock, Files};
 use tt_app_watch::Counted;
 use tt_text::{ReadFailed, Source};
+use tt_text_peek::Peeked;
 
 /// A file that is opened by its first read, and closed at its end.
 pub struct ProofFile<'r, 't, R: Files + Clock, E: Write> {
@@ -87,4 +89,20 @@ impl<'r, 't, R: Files + Clock, E: Write> Source for ProofFile<'r, 't, R, E> {
     fn failed(&self) -> bool {
         self.failed
     }
+}
+
+/// Returns the files of proofs, each opened by its first read.
+pub fn proof_files<'r, 't, R: Files + Clock + AllocGlobal, E: Write>(
+    rt: &'r R,
+    paths: &[&'r str],
+    shown: &'r Shown<'t, R, E>,
+) -> Result<Vec<Peeked<ProofFile<'r, 't, R, E>>>, AllocError> {
+    let mut files = Vec::new(rt.alloc());
+    let mut number: u64 = 0;
+    for path in paths {
+        number = number.saturating_add(1);
+        let file = ProofFile::new(rt, path, number, shown);
+        files.push(Peeked::new(rt.alloc(), file))?;
+    }
+    Ok(files)
 }

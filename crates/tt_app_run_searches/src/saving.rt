@@ -1,0 +1,12 @@
+//! Timetables that are saved during a search.
+
+use std::alloc::Global;
+use tt_instance::{Instance, read_instance};
+
+/// Returns the instance that is needed to save timetables on the way, if they are to be saved and the bytes spell an instance.
+pub fn saved_instance(alloc: Global, bytes: &[u8], keeps: bool) -> Option<Instance<'_>> {
+    if !keeps {
+        return None;
+    }
+    read_instance(alloc, bytes).ok()
+}

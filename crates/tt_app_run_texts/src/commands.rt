@@ -1,0 +1,7 @@
+//! The commands, one file each.
+
+pub mod calendar;
+pub mod inspect;
+pub mod page;
+pub mod report;
+pub mod table;
