@@ -1,10 +1,37 @@
-//! Why names of days and periods were not taken.
+//! Why a text was not put, and why names of days and periods were not taken.
 
 ghost use Rattle.std.specs.Prelude.{◌≡◌};
 ghost use Rattle.tt_page_text.specs.declared.fault.LabelsFault.TheVariants as fault;
+ghost use Rattle.tt_page_text.specs.declared.fault.TextFault.TheVariants as text_fault;
 
 use std::alloc::{AllocError, AllocFailed};
 use thiserror::Error;
+
+/// Why a text was not put.
+#[derive(Clone, Copy, Debug, PartialEq, Eq, Error)]
+pub enum TextFault {
+    /// The page would have more than 67,108,864 bytes.
+    #[error("TooLarge")]
+    TooLarge,
+    #[error("out of memory")]
+    OutOfMemory,
+}
+
+impl From<AllocError> for TextFault {
+    ghost from_gives = { λ _ e. e ≡ text_fault.OutOfMemory };
+
+    fn from(_e: AllocError) -> TextFault {
+        TextFault::OutOfMemory
+    }
+}
+
+impl<T: Drop> From<AllocFailed<T>> for TextFault {
+    ghost from_gives = { λ _ e. e ≡ text_fault.OutOfMemory };
+
+    fn from(_e: AllocFailed<T>) -> TextFault {
+        TextFault::OutOfMemory
+    }
+}
 
 /// Why names of days and periods were not taken.
 #[derive(Clone, Copy, Debug, PartialEq, Eq, Error)]

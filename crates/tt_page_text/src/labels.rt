@@ -1,16 +1,17 @@
 //! The names of the days and of the periods of a day.
 
-ghost use Rattle.std.specs.Prelude.{◌≡◌, ◌++◌, OnOk, IfOk};
+ghost use Rattle.std.specs.Prelude.{◌≡◌, IfOk};
 ghost use Rattle.std.specs.Option.{option_copied};
 ghost use Rattle.tt_page_text.specs.Labels.{names_from, names_in, names_of, labels_of, no_labels, day_text, period_text, behind_text, when_text, Gives};
 ghost use Rattle.tt_page_text.specs.Naming.{names_seen};
+ghost use Rattle.tt_page_text.specs.Puts.{Puts};
 
-use crate::fault::LabelsFault;
+use crate::fault::{LabelsFault, TextFault};
+use crate::page_text::{PageText, put_token};
 use crate::part::{Part, put};
 use crate::shown::put_shown;
 use std::alloc::{AllocError, Global};
 use std::marker::Model;
-use tt_text::put_token;
 
 /// The names of the days and of the periods of a day, or none.
 #[derive(Drop)]
@@ -98,8 +99,8 @@ impl Labels {
 
 /// Appends the name of a day, or its number from 1.
 #[tactic(auto, unfolding(crate::specs::Labels::day_text))]
-pub fn put_day(out: &mut Vec<u8>, labels: &Labels, day: u32) -> Result<(), AllocError>
-    ensures { OnOk result (out.new.items ≡ out.old.items ++ day_text labels.now day) }
+pub fn put_day(out: &mut PageText, labels: &Labels, day: u32) -> Result<(), TextFault>
+    ensures { Puts result out.old out.new (day_text labels.now day) }
 {
     match labels.days.get(day as usize) {
         Some(name) => put_shown(out, name.as_slice()),
@@ -109,8 +110,8 @@ pub fn put_day(out: &mut Vec<u8>, labels: &Labels, day: u32) -> Result<(), Alloc
 
 /// Appends the name of a period, or its number from 1.
 #[tactic(auto, unfolding(crate::specs::Labels::period_text))]
-pub fn put_period(out: &mut Vec<u8>, labels: &Labels, period: u32) -> Result<(), AllocError>
-    ensures { OnOk result (out.new.items ≡ out.old.items ++ period_text labels.now period) }
+pub fn put_period(out: &mut PageText, labels: &Labels, period: u32) -> Result<(), TextFault>
+    ensures { Puts result out.old out.new (period_text labels.now period) }
 {
     match labels.periods.get(period as usize) {
         Some(name) => put_shown(out, name.as_slice()),
@@ -120,8 +121,8 @@ pub fn put_period(out: &mut Vec<u8>, labels: &Labels, period: u32) -> Result<(),
 
 /// Appends the name of a period, or the word "period" and its number from 1.
 #[tactic(auto, unfolding(crate::specs::Labels::behind_text))]
-fn put_behind(out: &mut Vec<u8>, labels: &Labels, period: u32) -> Result<(), AllocError>
-    ensures { OnOk result (out.new.items ≡ out.old.items ++ behind_text labels.now period) }
+fn put_behind(out: &mut PageText, labels: &Labels, period: u32) -> Result<(), TextFault>
+    ensures { Puts result out.old out.new (behind_text labels.now period) }
 {
     match labels.periods.get(period as usize) {
         Some(name) => put_shown(out, name.as_slice()),
@@ -134,8 +135,8 @@ fn put_behind(out: &mut Vec<u8>, labels: &Labels, period: u32) -> Result<(), All
 
 /// Appends a day and a period of it.
 #[tactic(auto, unfolding(crate::specs::Labels::when_text))]
-pub fn put_when(out: &mut Vec<u8>, labels: &Labels, day: u32, period: u32) -> Result<(), AllocError>
-    ensures { OnOk result (out.new.items ≡ out.old.items ++ when_text labels.now day period) }
+pub fn put_when(out: &mut PageText, labels: &Labels, day: u32, period: u32) -> Result<(), TextFault>
+    ensures { Puts result out.old out.new (when_text labels.now day period) }
 {
     put_day(out, labels, day)?;
     put_token(out, b", ")?;

@@ -1,11 +1,11 @@
 //! Pieces of a page, in turn.
 
-ghost use Rattle.std.specs.Prelude.{◌≡◌, ◌++◌, OnOk};
 ghost use Rattle.tt_page_text.specs.Markup.{part_text, parts_text, counted};
+ghost use Rattle.tt_page_text.specs.Puts.{Puts};
 
+use crate::fault::TextFault;
+use crate::page_text::{PageText, put_number, put_token};
 use crate::shown::put_shown;
-use std::alloc::AllocError;
-use tt_text::{put_number, put_token};
 
 /// A piece of a page.
 #[derive(Clone, Copy)]
@@ -18,8 +18,8 @@ pub enum Part<'a> {
     Name(&'a [u8]),
 }
 
-fn put_part(out: &mut Vec<u8>, part: Part<'_>) -> Result<(), AllocError>
-    ensures { OnOk result (out.new.items ≡ out.old.items ++ part_text part.entry) }
+fn put_part(out: &mut PageText, part: Part<'_>) -> Result<(), TextFault>
+    ensures { Puts result out.old out.new (part_text part.entry) }
 {
     match part {
         Part::Text(text) => put_token(out, text.as_bytes()),
@@ -30,9 +30,9 @@ fn put_part(out: &mut Vec<u8>, part: Part<'_>) -> Result<(), AllocError>
 }
 
 /// Appends pieces.
-#[tactic(auto, using(crate::proofs::Growing::taken_further))]
-pub fn put(out: &mut Vec<u8>, parts: &[Part<'_>]) -> Result<(), AllocError>
-    ensures { OnOk result (out.new.items ≡ out.old.items ++ parts_text parts.now) }
+#[tactic(auto, using(crate::proofs::Growing::taken_further, crate::proofs::Growing::taken_within))]
+pub fn put(out: &mut PageText, parts: &[Part<'_>]) -> Result<(), TextFault>
+    ensures { Puts result out.old out.new (parts_text parts.now) }
 {
     for part in parts {
         put_part(out, *part)?;
@@ -42,12 +42,12 @@ pub fn put(out: &mut Vec<u8>, parts: &[Part<'_>]) -> Result<(), AllocError>
 
 /// Appends a number between two texts, unless it is 0.
 pub fn put_counted<'x>(
-    out: &mut Vec<u8>,
+    out: &mut PageText,
     before: &'x str,
     number: u64,
     behind: &'x str,
-) -> Result<(), AllocError>
-    ensures { OnOk result (out.new.items ≡ out.old.items ++ counted before.now number behind.now) }
+) -> Result<(), TextFault>
+    ensures { Puts result out.old out.new (counted before.now number behind.now) }
 {
     if number == 0 {
         return Ok(());

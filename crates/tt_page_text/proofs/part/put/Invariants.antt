@@ -4,4 +4,4 @@ use Rattle.tt_page_text.specs.Markup.{part_text}
 use Rattle.tt_page_text.proofs.part.put.Given as goal
 
 abbrev pub invariant-loop-part : goal.invariant-loop-part
-invariant-loop-part l = l.out.items ≡ l.initial.out.items ++ flat_map part_text (take l.part-index l.parts)
+invariant-loop-part l = l.out ≡ l.initial.out ++ flat_map part_text (take l.part-index l.parts)

@@ -4,4 +4,4 @@ use Rattle.tt_page_text.specs.Shown.{letter_text}
 use Rattle.tt_page_text.proofs.shown.put_letters.Given as goal
 
 abbrev pub invariant-loop-letter : goal.invariant-loop-letter
-invariant-loop-letter l = l.out.items ≡ l.initial.out.items ++ flat_map letter_text l.yielded
+invariant-loop-letter l = l.out ≡ l.initial.out ++ flat_map letter_text l.yielded
