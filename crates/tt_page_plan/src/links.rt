@@ -1,27 +1,26 @@
 //! Links to the parts of a page.
 
-ghost use Rattle.std.specs.Prelude.{◌≡◌, ◌<◌, ◌++◌, length, OnOk};
-ghost use Rattle.tt_instance_data.specs.Cells.{InRange};
+ghost use Rattle.std.specs.Prelude.{◌<◌, length};
+ghost use Rattle.tt_instance.specs.Cells.{InRange};
+ghost use Rattle.tt_page_text.specs.Puts.{Puts};
 ghost use Rattle.tt_page_plan.specs.Kinds.{count_of, teacher_of};
 ghost use Rattle.tt_page_plan.specs.declared.kind.Kind.TheVariants as kinds;
 ghost use Rattle.tt_page_plan.specs.Links.{course_link, week_link, cell_link, cell_anchor, when_link};
 
 use crate::kind::{Kind, course_name, teacher_of};
-use std::alloc::AllocError;
-use tt_instance_data::Instance;
-use tt_page_text::{Labels, Part, put, put_when};
+use tt_instance::Instance;
+use tt_page_text::{Labels, PageText, Part, TextFault, put, put_token, put_when};
 use tt_table::Entry;
-use tt_text::put_token;
 
 /// Appends a link to the row of a course.
 #[tactic(auto, unfolding(crate::specs::Links::course_link))]
 pub fn put_course_link(
-    out: &mut Vec<u8>,
+    out: &mut PageText,
     instance: &Instance<'_>,
     course: u32,
-) -> Result<(), AllocError>
+) -> Result<(), TextFault>
     requires { course < length instance.now.courses }
-    ensures { OnOk result (out.new.items ≡ out.old.items ++ course_link instance.now course) }
+    ensures { Puts result out.old out.new (course_link instance.now course) }
 {
     let name = course_name(instance, course);
     put(
@@ -39,13 +38,13 @@ pub fn put_course_link(
 /// Appends a link to a week.
 #[tactic(auto, unfolding(crate::specs::Links::week_link))]
 pub fn put_week_link(
-    out: &mut Vec<u8>,
+    out: &mut PageText,
     instance: &Instance<'_>,
     kind: Kind,
     number: u32,
-) -> Result<(), AllocError>
+) -> Result<(), TextFault>
     requires { number < count_of instance.now kind }
-    ensures { OnOk result (out.new.items ≡ out.old.items ++ week_link instance.now kind number) }
+    ensures { Puts result out.old out.new (week_link instance.now kind number) }
 {
     let name = kind.name(instance, number);
     put(
@@ -64,14 +63,14 @@ pub fn put_week_link(
 /// Appends a link from an entry to its cell in a week.
 #[tactic(auto, unfolding(crate::specs::Links::cell_link))]
 pub fn put_cell_link(
-    out: &mut Vec<u8>,
+    out: &mut PageText,
     instance: &Instance<'_>,
     kind: Kind,
     number: u32,
     entry: &Entry,
-) -> Result<(), AllocError>
+) -> Result<(), TextFault>
     requires { InRange instance.now entry.now }
-    ensures { OnOk result (out.new.items ≡ out.old.items ++ cell_link instance.now kind number entry.now) }
+    ensures { Puts result out.old out.new (cell_link instance.now kind number entry.now) }
 {
     let name = course_name(instance, entry.course);
     put(
@@ -93,12 +92,12 @@ pub fn put_cell_link(
 
 /// Appends the name of a course's teacher, as a link to the teacher's week.
 pub fn put_teacher_link(
-    out: &mut Vec<u8>,
+    out: &mut PageText,
     instance: &Instance<'_>,
     course: u32,
-) -> Result<(), AllocError>
+) -> Result<(), TextFault>
     requires { course < length instance.now.courses }
-    ensures { OnOk result (out.new.items ≡ out.old.items ++ week_link instance.now kinds.Teacher (teacher_of instance.now course)) }
+    ensures { Puts result out.old out.new (week_link instance.now kinds.Teacher (teacher_of instance.now course)) }
 {
     let teacher = teacher_of(instance, course);
     put_week_link(out, instance, Kind::Teacher, teacher)
@@ -107,12 +106,12 @@ pub fn put_teacher_link(
 /// Appends the beginning of a link from an entry to its cell in a week.
 #[tactic(auto, unfolding(crate::specs::Links::cell_anchor))]
 fn put_cell_anchor(
-    out: &mut Vec<u8>,
+    out: &mut PageText,
     kind: Kind,
     number: u32,
     entry: &Entry,
-) -> Result<(), AllocError>
-    ensures { OnOk result (out.new.items ≡ out.old.items ++ cell_anchor kind number entry.now) }
+) -> Result<(), TextFault>
+    ensures { Puts result out.old out.new (cell_anchor kind number entry.now) }
 {
     put(
         out,
@@ -132,13 +131,13 @@ fn put_cell_anchor(
 /// Appends a link from the day and the period of an entry to its cell in a week.
 #[tactic(auto, unfolding(crate::specs::Links::when_link))]
 pub fn put_when_link(
-    out: &mut Vec<u8>,
+    out: &mut PageText,
     labels: &Labels,
     kind: Kind,
     number: u32,
     entry: &Entry,
-) -> Result<(), AllocError>
-    ensures { OnOk result (out.new.items ≡ out.old.items ++ when_link labels.now kind number entry.now) }
+) -> Result<(), TextFault>
+    ensures { Puts result out.old out.new (when_link labels.now kind number entry.now) }
 {
     put_cell_anchor(out, kind, number, entry)?;
     put_when(out, labels, entry.day, entry.period)?;

@@ -4,4 +4,4 @@ use Rattle.tt_page_plan.specs.Names.{next_shown}
 use Rattle.tt_page_plan.proofs.name.put_name.Given as goal
 
 abbrev pub invariant-loop-index : goal.invariant-loop-index
-invariant-loop-index l = l.out.items ≡ l.initial.out.items ++ flat_map next_shown (take l.index l.instance.name)
+invariant-loop-index l = l.out ≡ l.initial.out ++ flat_map next_shown (take l.index l.instance.name)
