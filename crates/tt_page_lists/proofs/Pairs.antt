@@ -1,13 +1,15 @@
 -- Entries that break a rule together with later ones.
-use Rattle.std.proofs.Common.{◌≡◌, ℕ, ◌+◌, ◌<◌, ◌≤◌, ◌&&◌, List, ◌++◌, length, get_or, drop, refl, sym, ap, ◌∙◌, append_assoc}
+use Rattle.std.proofs.Common.{◌≡◌, ℕ, ◌+◌, ◌<◌, ◌≤◌, ◌&&◌, List, ◌++◌, length, get_or, drop, refl, sym, ap, subst, ◌∙◌, append_assoc}
 use Rattle.std.specs.Prelude.{◌==◌, filter}
 use Rattle.std.proofs.lemmas.List.{drop_more, drop_all, append-nil}
 use Rattle.tt_lists.proofs.Tests.{test_turned}
 use Rattle.tt_page_text.specs.Labelled.{Labelled}
-use Rattle.tt_instance_data.specs.Problem.{Problem}
-use Rattle.tt_instance_data.specs.Cells.{is_at, slot_of}
-use Rattle.tt_instance_data.specs.Courses.{conflict}
-use Rattle.tt_instance_data.specs.declared.cell.Cell.{Cell}
+use Rattle.tt_page_text.specs.Puts.{IsTooLarge}
+use Rattle.tt_page_text.proofs.Stopping.{longer}
+use Rattle.tt_instance.specs.Problem.{Problem}
+use Rattle.tt_instance.specs.Cells.{is_at, slot_of}
+use Rattle.tt_instance.specs.Courses.{conflict}
+use Rattle.tt_instance.specs.declared.cell.Cell.{Cell}
 use Rattle.tt_page_lists.specs.Items.{is_odd, at_odds, entry_item, entry_items}
 use Rattle.tt_page_lists.specs.declared.rule.Rule.{Rule}
 use Rattle.tt_page_lists.specs.declared.rule.Rule.TheVariants as rule
@@ -39,3 +41,10 @@ item_further p labels r t i d first old new within before more =
 pub items_done : (p : Problem) (labels : Labelled) (r : Rule) (t : List Cell) (i : ℕ) (first old : List ℕ) → length t ≤ i → old ++ entry_items p labels r (drop i t) ≡ first ++ entry_items p labels r t → old ≡ first ++ entry_items p labels r t
 unfolding entry_items
 items_done p labels r t i first old past before = sym (append-nil old) ∙ ap (λ es. old ++ entry_items p labels r es) (sym (drop_all i t past)) ∙ before
+
+-- an item that is too large is one of items that are too large
+pub item_too_large : (p : Problem) (labels : Labelled) (r : Rule) (t : List Cell) (i : ℕ) (d : Cell) (first old : List ℕ) → i < length t → old ++ entry_items p labels r (drop i t) ≡ first → IsTooLarge (old ++ entry_item p labels r (get_or t i d) (drop (i + 1) t)) → IsTooLarge first
+unfolding entry_items
+item_too_large p labels r t i d first old within before large =
+    subst IsTooLarge (ap (λ es. old ++ entry_items p labels r es) (sym (drop_more t i d within)) ∙ before)
+    (longer old (entry_item p labels r (get_or t i d) (drop (i + 1) t)) (entry_items p labels r (drop (i + 1) t)) large)

@@ -1,12 +1,13 @@
 //! The items that are groups: the lectures of a course without seats, and the isolated lectures of a curriculum.
 
-ghost use Rattle.std.specs.Prelude.{◌≡◌, ◌<◌, ◌≤◌, ◌&&◌, ◌++◌, length, filter, flat_map, sum_by, count_by, All, OnOk, IfOk};
+ghost use Rattle.std.specs.Prelude.{◌≡◌, ◌<◌, ◌≤◌, ◌&&◌, length, filter, flat_map, sum_by, count_by, All, IfOk};
 ghost use Rattle.tt_lists.specs.Words.{range_below};
 ghost use Rattle.tt_instance_data.specs.Cells.{InRange, is_of};
 ghost use Rattle.tt_instance_data.specs.Courses.{excess, in_curriculum};
 ghost use Rattle.tt_rules.specs.Soft.{is_isolated};
 ghost use Rattle.tt_table.specs.declared.table.TheConstants.{MAX_ENTRIES};
-ghost use Rattle.tt_page_lists.specs.Grouped.{crowded_head, crowded_end, crowded_line, students_detail, seats_detail, seats_item, isolated_line, isolated_item, isolated_detail, curriculum_item, items_text};
+ghost use Rattle.tt_page_text.specs.Puts.{Puts};
+ghost use Rattle.tt_page_lists.specs.Grouped.{crowded_head, crowded_end, crowded_line, students_told, seats_told, seats_item, isolated_line, isolated_item, isolated_told, curriculum_item, items_text};
 
 use crate::items::{
     put_course_and_teacher, put_course_items, put_entry_items, put_item_end, put_item_head,
@@ -15,9 +16,8 @@ use crate::rule::Rule;
 use std::alloc::{AllocError, Global};
 use tt_instance_data::Instance;
 use tt_page_plan::{Kind, Plan, is_isolated, put_week_link, put_when_link, without_seat};
-use tt_page_text::{Labels, Part, put};
+use tt_page_text::{Labels, PageText, Part, TextFault, put, put_token};
 use tt_table::{Entry, Group};
-use tt_text::put_token;
 
 // ---- lectures of a course with students without a seat
 
@@ -59,12 +59,12 @@ fn seats_of(instance: &Instance<'_>, entries: &[Entry]) -> u64
 
 #[tactic(auto, unfolding(crate::specs::Grouped::crowded_head))]
 fn put_crowded_head(
-    out: &mut Vec<u8>,
+    out: &mut PageText,
     instance: &Instance<'_>,
     entry: &Entry,
-) -> Result<(), AllocError>
+) -> Result<(), TextFault>
     requires { InRange instance.now entry.now }
-    ensures { OnOk result (out.new.items ≡ out.old.items ++ crowded_head instance.now entry.now) }
+    ensures { Puts result out.old out.new (crowded_head instance.now entry.now) }
 {
     let lacking = without_seat(instance, entry);
     put(
@@ -75,12 +75,12 @@ fn put_crowded_head(
 
 #[tactic(auto, unfolding(crate::specs::Grouped::crowded_end))]
 fn put_crowded_end(
-    out: &mut Vec<u8>,
+    out: &mut PageText,
     instance: &Instance<'_>,
     entry: &Entry,
-) -> Result<(), AllocError>
+) -> Result<(), TextFault>
     requires { InRange instance.now entry.now }
-    ensures { OnOk result (out.new.items ≡ out.old.items ++ crowded_end instance.now entry.now) }
+    ensures { Puts result out.old out.new (crowded_end instance.now entry.now) }
 {
     let seats = instance.capacity(entry.room);
     put(
@@ -96,13 +96,13 @@ fn put_crowded_end(
 /// Appends a lecture if some student has no seat: how many, when, and in which room.
 #[tactic(auto, unfolding(crate::specs::Grouped::crowded_line))]
 fn put_crowded_line(
-    out: &mut Vec<u8>,
+    out: &mut PageText,
     instance: &Instance<'_>,
     labels: &Labels,
     entry: &Entry,
-) -> Result<(), AllocError>
+) -> Result<(), TextFault>
     requires { InRange instance.now entry.now }
-    ensures { OnOk result (out.new.items ≡ out.old.items ++ crowded_line instance.now labels.now entry.now) }
+    ensures { Puts result out.old out.new (crowded_line instance.now labels.now entry.now) }
 {
     if without_seat(instance, entry) == 0 {
         return Ok(());
@@ -114,15 +114,15 @@ fn put_crowded_line(
     put_crowded_end(out, instance, entry)
 }
 
-#[tactic(auto, using(tt_page_text::proofs::Growing::taken_further))]
+#[tactic(auto, using(tt_page_text::proofs::Growing::taken_further, tt_page_text::proofs::Growing::taken_within))]
 fn put_crowded_lines(
-    out: &mut Vec<u8>,
+    out: &mut PageText,
     instance: &Instance<'_>,
     labels: &Labels,
     entries: &[Entry],
-) -> Result<(), AllocError>
+) -> Result<(), TextFault>
     requires { All (InRange instance.now) entries.now }
-    ensures { OnOk result (out.new.items ≡ out.old.items ++ flat_map (crowded_line instance.now labels.now) entries.now) }
+    ensures { Puts result out.old out.new (flat_map (crowded_line instance.now labels.now) entries.now) }
 {
     for entry in entries {
         put_crowded_line(out, instance, labels, entry)?;
@@ -130,14 +130,14 @@ fn put_crowded_lines(
     Ok(())
 }
 
-#[tactic(auto, unfolding(crate::specs::Grouped::students_detail))]
-fn put_students_detail(
-    out: &mut Vec<u8>,
+#[tactic(auto, unfolding(crate::specs::Grouped::students_told))]
+fn put_students_told(
+    out: &mut PageText,
     instance: &Instance<'_>,
     course: u32,
-) -> Result<(), AllocError>
+) -> Result<(), TextFault>
     requires { course < length instance.now.courses }
-    ensures { OnOk result (out.new.items ≡ out.old.items ++ students_detail instance.now course) }
+    ensures { Puts result out.old out.new (students_told instance.now course) }
 {
     let students = instance.students(course);
     put(
@@ -151,17 +151,17 @@ fn put_students_detail(
 }
 
 /// Appends a course and its lectures without seats.
-#[tactic(auto, unfolding(crate::specs::Grouped::seats_detail))]
-fn put_seats_detail(
-    out: &mut Vec<u8>,
+#[tactic(auto, unfolding(crate::specs::Grouped::seats_told))]
+fn put_seats_told(
+    out: &mut PageText,
     instance: &Instance<'_>,
     labels: &Labels,
     course: u32,
     entries: &[Entry],
-) -> Result<(), AllocError>
+) -> Result<(), TextFault>
     requires course { course < length instance.now.courses }
     requires in_range { All (InRange instance.now) entries.now }
-    ensures { OnOk result (out.new.items ≡ out.old.items ++ seats_detail instance.now labels.now course entries.now) }
+    ensures { Puts result out.old out.new (seats_told instance.now labels.now course entries.now) }
 {
     put_course_and_teacher(out, instance, course)?;
     put_students_detail(out, instance, course)?;
@@ -172,16 +172,16 @@ fn put_seats_detail(
 /// Appends the item of a course.
 #[tactic(auto, unfolding(crate::specs::Grouped::seats_item))]
 fn put_seats_item(
-    out: &mut Vec<u8>,
+    out: &mut PageText,
     plan: &Plan<'_, '_>,
     labels: &Labels,
     course: u32,
-) -> Result<(), AllocError>
+) -> Result<(), TextFault>
     requires { course < length plan.now.problem.courses }
-    ensures { OnOk result (out.new.items ≡ out.old.items ++ seats_item plan.now.problem plan.now.table labels.now course) }
+    ensures { Puts result out.old out.new (seats_item plan.now.problem plan.now.table labels.now course) }
 {
     let instance = plan.instance();
-    let entries = entries_of(plan, *out.allocator(), course)?;
+    let entries = entries_of(plan, out.allocator(), course)?;
     let adds = seats_of(instance, &entries);
     if adds == 0 {
         return Ok(());
@@ -191,14 +191,13 @@ fn put_seats_item(
     put_item_end(out)
 }
 
-#[tactic(auto, using(tt_page_text::proofs::Growing::text_further))]
+#[tactic(auto, using(tt_page_text::proofs::Growing::text_further, tt_page_text::proofs::Growing::text_within))]
 fn put_seats_items(
-    out: &mut Vec<u8>,
+    out: &mut PageText,
     plan: &Plan<'_, '_>,
     labels: &Labels,
-) -> Result<(), AllocError>
-    ensures { OnOk result (out.new.items ≡ out.old.items
-        ++ flat_map (seats_item plan.now.problem plan.now.table labels.now) (range_below (length plan.now.problem.courses))) }
+) -> Result<(), TextFault>
+    ensures { Puts result out.old out.new (flat_map (seats_item plan.now.problem plan.now.table labels.now) (range_below (length plan.now.problem.courses))) }
 {
     for course in 0..plan.instance().courses() {
         put_seats_item(out, plan, labels, course)?;
@@ -234,14 +233,14 @@ fn isolated_count(plan: &Plan<'_, '_>, curriculum: u32) -> u64
 /// Appends a lecture: when, its course and teacher, and its room.
 #[tactic(auto, unfolding(crate::specs::Grouped::isolated_line))]
 fn put_isolated_line(
-    out: &mut Vec<u8>,
+    out: &mut PageText,
     instance: &Instance<'_>,
     labels: &Labels,
     curriculum: u32,
     entry: &Entry,
-) -> Result<(), AllocError>
+) -> Result<(), TextFault>
     requires { InRange instance.now entry.now }
-    ensures { OnOk result (out.new.items ≡ out.old.items ++ isolated_line instance.now labels.now curriculum entry.now) }
+    ensures { Puts result out.old out.new (isolated_line instance.now labels.now curriculum entry.now) }
 {
     put_token(out, b"<li>")?;
     put_when_link(out, labels, Kind::Curriculum, curriculum, entry)?;
@@ -255,14 +254,14 @@ fn put_isolated_line(
 /// Appends an entry if it is an isolated one of the curriculum.
 #[tactic(auto, unfolding(crate::specs::Grouped::isolated_item))]
 fn put_isolated_item(
-    out: &mut Vec<u8>,
+    out: &mut PageText,
     plan: &Plan<'_, '_>,
     labels: &Labels,
     curriculum: u32,
     entry: &Entry,
-) -> Result<(), AllocError>
+) -> Result<(), TextFault>
     requires { InRange plan.now.problem entry.now }
-    ensures { OnOk result (out.new.items ≡ out.old.items ++ isolated_item plan.now.problem plan.now.table labels.now curriculum entry.now) }
+    ensures { Puts result out.old out.new (isolated_item plan.now.problem plan.now.table labels.now curriculum entry.now) }
 {
     if !is_isolated_in(plan, curriculum, entry) {
         return Ok(());
@@ -270,15 +269,14 @@ fn put_isolated_item(
     put_isolated_line(out, plan.instance(), labels, curriculum, entry)
 }
 
-#[tactic(auto, using(tt_page_text::proofs::Growing::taken_further))]
+#[tactic(auto, using(tt_page_text::proofs::Growing::taken_further, tt_page_text::proofs::Growing::taken_within))]
 fn put_isolated_items(
-    out: &mut Vec<u8>,
+    out: &mut PageText,
     plan: &Plan<'_, '_>,
     labels: &Labels,
     curriculum: u32,
-) -> Result<(), AllocError>
-    ensures { OnOk result (out.new.items ≡ out.old.items
-        ++ flat_map (isolated_item plan.now.problem plan.now.table labels.now curriculum) plan.now.table) }
+) -> Result<(), TextFault>
+    ensures { Puts result out.old out.new (flat_map (isolated_item plan.now.problem plan.now.table labels.now curriculum) plan.now.table) }
 {
     for entry in plan.entries() {
         put_isolated_item(out, plan, labels, curriculum, entry)?;
@@ -287,15 +285,15 @@ fn put_isolated_items(
 }
 
 /// Appends a curriculum and its isolated lectures.
-#[tactic(auto, unfolding(crate::specs::Grouped::isolated_detail))]
-fn put_isolated_detail(
-    out: &mut Vec<u8>,
+#[tactic(auto, unfolding(crate::specs::Grouped::isolated_told))]
+fn put_isolated_told(
+    out: &mut PageText,
     plan: &Plan<'_, '_>,
     labels: &Labels,
     curriculum: u32,
-) -> Result<(), AllocError>
+) -> Result<(), TextFault>
     requires { curriculum < length plan.now.problem.curricula }
-    ensures { OnOk result (out.new.items ≡ out.old.items ++ isolated_detail plan.now.problem plan.now.table labels.now curriculum) }
+    ensures { Puts result out.old out.new (isolated_told plan.now.problem plan.now.table labels.now curriculum) }
 {
     put_week_link(out, plan.instance(), Kind::Curriculum, curriculum)?;
     put_token(out, b"\n<ul>\n")?;
@@ -306,13 +304,13 @@ fn put_isolated_detail(
 /// Appends the item of a curriculum.
 #[tactic(auto, unfolding(crate::specs::Grouped::curriculum_item))]
 fn put_curriculum_item(
-    out: &mut Vec<u8>,
+    out: &mut PageText,
     plan: &Plan<'_, '_>,
     labels: &Labels,
     curriculum: u32,
-) -> Result<(), AllocError>
+) -> Result<(), TextFault>
     requires { curriculum < length plan.now.problem.curricula }
-    ensures { OnOk result (out.new.items ≡ out.old.items ++ curriculum_item plan.now.problem plan.now.table labels.now curriculum) }
+    ensures { Puts result out.old out.new (curriculum_item plan.now.problem plan.now.table labels.now curriculum) }
 {
     let adds = 2 * isolated_count(plan, curriculum);
     if adds == 0 {
@@ -323,14 +321,13 @@ fn put_curriculum_item(
     put_item_end(out)
 }
 
-#[tactic(auto, using(tt_page_text::proofs::Growing::text_further))]
+#[tactic(auto, using(tt_page_text::proofs::Growing::text_further, tt_page_text::proofs::Growing::text_within))]
 fn put_curriculum_items(
-    out: &mut Vec<u8>,
+    out: &mut PageText,
     plan: &Plan<'_, '_>,
     labels: &Labels,
-) -> Result<(), AllocError>
-    ensures { OnOk result (out.new.items ≡ out.old.items
-        ++ flat_map (curriculum_item plan.now.problem plan.now.table labels.now) (range_below (length plan.now.problem.curricula))) }
+) -> Result<(), TextFault>
+    ensures { Puts result out.old out.new (flat_map (curriculum_item plan.now.problem plan.now.table labels.now) (range_below (length plan.now.problem.curricula))) }
 {
     for curriculum in 0..plan.instance().curricula() {
         put_curriculum_item(out, plan, labels, curriculum)?;
@@ -343,12 +340,12 @@ fn put_curriculum_items(
 /// Appends all items of a list.
 #[tactic(auto, unfolding(crate::specs::Grouped::items_text))]
 pub fn put_items(
-    out: &mut Vec<u8>,
+    out: &mut PageText,
     plan: &Plan<'_, '_>,
     labels: &Labels,
     rule: Rule,
-) -> Result<(), AllocError>
-    ensures { OnOk result (out.new.items ≡ out.old.items ++ items_text plan.now.problem plan.now.table labels.now rule) }
+) -> Result<(), TextFault>
+    ensures { Puts result out.old out.new (items_text plan.now.problem plan.now.table labels.now rule) }
 {
     match rule {
         Rule::Lectures | Rule::WorkingDays | Rule::RoomStability => {

@@ -1,10 +1,11 @@
 //! The items of the lists, except those in groups: they show which entries and courses add to each count, and the place of each.
 
-ghost use Rattle.std.specs.Prelude.{◌≡◌, ◌+◌, ◌<◌, ◌≤◌, ◌++◌, length, filter, flat_map, drop, All, Some, slice_get, OnOk, IfOk};
+ghost use Rattle.std.specs.Prelude.{◌≡◌, ◌+◌, ◌<◌, ◌≤◌, length, filter, flat_map, drop, All, Some, slice_get, IfOk};
 ghost use Rattle.tt_lists.specs.Words.{range_below};
 ghost use Rattle.tt_instance_data.specs.Cells.{InRange};
 ghost use Rattle.tt_table.specs.declared.table.TheConstants.{MAX_ENTRIES};
-ghost use Rattle.tt_page_lists.specs.Items.{item_head, item_end, course_and_teacher, lectures_detail, days_detail, rooms_detail, course_detail, course_adds, course_item, entry_and_teacher, place_text, unavailable_detail, unavailable_item, is_odd, odds_count, more_text, pair_text, odds_item, pairs_item, entry_item, entry_items};
+ghost use Rattle.tt_page_text.specs.Puts.{Puts};
+ghost use Rattle.tt_page_lists.specs.Items.{item_head, item_end, course_and_teacher, lectures_told, days_told, rooms_told, course_told, course_adds, course_item, entry_and_teacher, place_text, unavailable_told, unavailable_item, is_odd, odds_count, more_text, pair_text, odds_item, pairs_item, entry_item, entry_items};
 
 use crate::rule::Rule;
 use std::alloc::{AllocError, Global};
@@ -13,14 +14,13 @@ use tt_page_plan::{
     Kind, Plan, days_of, entries_of, is_unavailable, lectures_off, missing_days, other_rooms,
     periods_of, put_cell_link, put_course_link, put_teacher_link, put_week_link, teacher_of,
 };
-use tt_page_text::{Labels, Part, put, put_when};
+use tt_page_text::{Labels, PageText, Part, TextFault, put, put_token, put_when};
 use tt_table::{Entry, Group};
-use tt_text::put_token;
 
 /// Appends the beginning of an item: the number that it adds, by which it is placed.
 #[tactic(auto, unfolding(crate::specs::Items::item_head))]
-pub fn put_item_head(out: &mut Vec<u8>, adds: u64) -> Result<(), AllocError>
-    ensures { OnOk result (out.new.items ≡ out.old.items ++ item_head adds) }
+pub fn put_item_head(out: &mut PageText, adds: u64) -> Result<(), TextFault>
+    ensures { Puts result out.old out.new (item_head adds) }
 {
     put(
         out,
@@ -36,8 +36,8 @@ pub fn put_item_head(out: &mut Vec<u8>, adds: u64) -> Result<(), AllocError>
 
 /// Appends the end of an item.
 #[tactic(auto, unfolding(crate::specs::Items::item_end))]
-pub fn put_item_end(out: &mut Vec<u8>) -> Result<(), AllocError>
-    ensures { OnOk result (out.new.items ≡ out.old.items ++ item_end) }
+pub fn put_item_end(out: &mut PageText) -> Result<(), TextFault>
+    ensures { Puts result out.old out.new item_end }
 {
     put_token(out, b"</li>\n")
 }
@@ -47,12 +47,12 @@ pub fn put_item_end(out: &mut Vec<u8>) -> Result<(), AllocError>
 /// Appends a course and its teacher.
 #[tactic(auto, unfolding(crate::specs::Items::course_and_teacher))]
 pub fn put_course_and_teacher(
-    out: &mut Vec<u8>,
+    out: &mut PageText,
     instance: &Instance<'_>,
     course: u32,
-) -> Result<(), AllocError>
+) -> Result<(), TextFault>
     requires { course < length instance.now.courses }
-    ensures { OnOk result (out.new.items ≡ out.old.items ++ course_and_teacher instance.now course) }
+    ensures { Puts result out.old out.new (course_and_teacher instance.now course) }
 {
     put_course_link(out, instance, course)?;
     put_token(out, b", ")?;
@@ -72,14 +72,10 @@ fn course_adds(plan: &Plan<'_, '_>, rule: Rule, course: u32) -> u64
     }
 }
 
-#[tactic(auto, unfolding(crate::specs::Items::lectures_detail))]
-fn put_lectures_detail(
-    out: &mut Vec<u8>,
-    plan: &Plan<'_, '_>,
-    course: u32,
-) -> Result<(), AllocError>
+#[tactic(auto, unfolding(crate::specs::Items::lectures_told))]
+fn put_lectures_told(out: &mut PageText, plan: &Plan<'_, '_>, course: u32) -> Result<(), TextFault>
     requires { course < length plan.now.problem.courses }
-    ensures { OnOk result (out.new.items ≡ out.old.items ++ lectures_detail plan.now.problem plan.now.table course) }
+    ensures { Puts result out.old out.new (lectures_told plan.now.problem plan.now.table course) }
 {
     let wanted = plan.instance().lectures(course);
     let placed = entries_of(plan, course);
@@ -97,10 +93,10 @@ fn put_lectures_detail(
     )
 }
 
-#[tactic(auto, unfolding(crate::specs::Items::days_detail))]
-fn put_days_detail(out: &mut Vec<u8>, plan: &Plan<'_, '_>, course: u32) -> Result<(), AllocError>
+#[tactic(auto, unfolding(crate::specs::Items::days_told))]
+fn put_days_told(out: &mut PageText, plan: &Plan<'_, '_>, course: u32) -> Result<(), TextFault>
     requires { course < length plan.now.problem.courses }
-    ensures { OnOk result (out.new.items ≡ out.old.items ++ days_detail plan.now.problem plan.now.table course) }
+    ensures { Puts result out.old out.new (days_told plan.now.problem plan.now.table course) }
 {
     let days = days_of(plan, course);
     let least = plan.instance().min_days(course);
@@ -116,10 +112,10 @@ fn put_days_detail(out: &mut Vec<u8>, plan: &Plan<'_, '_>, course: u32) -> Resul
     )
 }
 
-#[tactic(auto, unfolding(crate::specs::Items::rooms_detail))]
-fn put_rooms_detail(out: &mut Vec<u8>, plan: &Plan<'_, '_>, course: u32) -> Result<(), AllocError>
+#[tactic(auto, unfolding(crate::specs::Items::rooms_told))]
+fn put_rooms_told(out: &mut PageText, plan: &Plan<'_, '_>, course: u32) -> Result<(), TextFault>
     requires { course < length plan.now.problem.courses }
-    ensures { OnOk result (out.new.items ≡ out.old.items ++ rooms_detail plan.now.problem plan.now.table course) }
+    ensures { Puts result out.old out.new (rooms_told plan.now.problem plan.now.table course) }
 {
     let rooms = other_rooms(plan, course) + 1;
     put(
@@ -133,15 +129,15 @@ fn put_rooms_detail(out: &mut Vec<u8>, plan: &Plan<'_, '_>, course: u32) -> Resu
 }
 
 /// Appends the text about a course.
-#[tactic(auto, unfolding(crate::specs::Items::course_detail))]
-fn put_course_detail(
-    out: &mut Vec<u8>,
+#[tactic(auto, unfolding(crate::specs::Items::course_told))]
+fn put_course_told(
+    out: &mut PageText,
     plan: &Plan<'_, '_>,
     rule: Rule,
     course: u32,
-) -> Result<(), AllocError>
+) -> Result<(), TextFault>
     requires { course < length plan.now.problem.courses }
-    ensures { OnOk result (out.new.items ≡ out.old.items ++ course_detail plan.now.problem plan.now.table rule course) }
+    ensures { Puts result out.old out.new (course_told plan.now.problem plan.now.table rule course) }
 {
     match rule {
         Rule::Lectures => put_lectures_detail(out, plan, course),
@@ -153,13 +149,13 @@ fn put_course_detail(
 
 #[tactic(auto, unfolding(crate::specs::Items::course_item))]
 fn put_course_item(
-    out: &mut Vec<u8>,
+    out: &mut PageText,
     plan: &Plan<'_, '_>,
     rule: Rule,
     course: u32,
-) -> Result<(), AllocError>
+) -> Result<(), TextFault>
     requires { course < length plan.now.problem.courses }
-    ensures { OnOk result (out.new.items ≡ out.old.items ++ course_item plan.now.problem plan.now.table rule course) }
+    ensures { Puts result out.old out.new (course_item plan.now.problem plan.now.table rule course) }
 {
     let adds = course_adds(plan, rule, course);
     if adds == 0 {
@@ -172,14 +168,13 @@ fn put_course_item(
 }
 
 /// Appends the items of all courses.
-#[tactic(auto, using(tt_page_text::proofs::Growing::text_further))]
+#[tactic(auto, using(tt_page_text::proofs::Growing::text_further, tt_page_text::proofs::Growing::text_within))]
 pub fn put_course_items(
-    out: &mut Vec<u8>,
+    out: &mut PageText,
     plan: &Plan<'_, '_>,
     rule: Rule,
-) -> Result<(), AllocError>
-    ensures { OnOk result (out.new.items ≡ out.old.items
-        ++ flat_map (course_item plan.now.problem plan.now.table rule) (range_below (length plan.now.problem.courses))) }
+) -> Result<(), TextFault>
+    ensures { Puts result out.old out.new (flat_map (course_item plan.now.problem plan.now.table rule) (range_below (length plan.now.problem.courses))) }
 {
     for course in 0..plan.instance().courses() {
         put_course_item(out, plan, rule, course)?;
@@ -192,12 +187,12 @@ pub fn put_course_items(
 /// Appends a lecture and its teacher.
 #[tactic(auto, unfolding(crate::specs::Items::entry_and_teacher))]
 fn put_entry_and_teacher(
-    out: &mut Vec<u8>,
+    out: &mut PageText,
     instance: &Instance<'_>,
     entry: &Entry,
-) -> Result<(), AllocError>
+) -> Result<(), TextFault>
     requires { InRange instance.now entry.now }
-    ensures { OnOk result (out.new.items ≡ out.old.items ++ entry_and_teacher instance.now entry.now) }
+    ensures { Puts result out.old out.new (entry_and_teacher instance.now entry.now) }
 {
     put_cell_link(out, instance, Kind::Room, entry.room, entry)?;
     put_token(out, b", ")?;
@@ -207,13 +202,13 @@ fn put_entry_and_teacher(
 /// Appends when and where a lecture is.
 #[tactic(auto, unfolding(crate::specs::Items::place_text))]
 fn put_place(
-    out: &mut Vec<u8>,
+    out: &mut PageText,
     instance: &Instance<'_>,
     labels: &Labels,
     entry: &Entry,
-) -> Result<(), AllocError>
+) -> Result<(), TextFault>
     requires { InRange instance.now entry.now }
-    ensures { OnOk result (out.new.items ≡ out.old.items ++ place_text instance.now labels.now entry.now) }
+    ensures { Puts result out.old out.new (place_text instance.now labels.now entry.now) }
 {
     put_token(out, b", ")?;
     put_when(out, labels, entry.day, entry.period)?;
@@ -221,15 +216,15 @@ fn put_place(
     put_week_link(out, instance, Kind::Room, entry.room)
 }
 
-#[tactic(auto, unfolding(crate::specs::Items::unavailable_detail))]
-fn put_unavailable_detail(
-    out: &mut Vec<u8>,
+#[tactic(auto, unfolding(crate::specs::Items::unavailable_told))]
+fn put_unavailable_told(
+    out: &mut PageText,
     instance: &Instance<'_>,
     labels: &Labels,
     entry: &Entry,
-) -> Result<(), AllocError>
+) -> Result<(), TextFault>
     requires { InRange instance.now entry.now }
-    ensures { OnOk result (out.new.items ≡ out.old.items ++ unavailable_detail instance.now labels.now entry.now) }
+    ensures { Puts result out.old out.new (unavailable_told instance.now labels.now entry.now) }
 {
     let teacher = teacher_of(instance, entry.course);
     put_cell_link(out, instance, Kind::Teacher, teacher, entry)?;
@@ -241,13 +236,13 @@ fn put_unavailable_detail(
 
 #[tactic(auto, unfolding(crate::specs::Items::unavailable_item))]
 fn put_unavailable(
-    out: &mut Vec<u8>,
+    out: &mut PageText,
     instance: &Instance<'_>,
     labels: &Labels,
     entry: &Entry,
-) -> Result<(), AllocError>
+) -> Result<(), TextFault>
     requires { InRange instance.now entry.now }
-    ensures { OnOk result (out.new.items ≡ out.old.items ++ unavailable_item instance.now labels.now entry.now) }
+    ensures { Puts result out.old out.new (unavailable_item instance.now labels.now entry.now) }
 {
     if !is_unavailable(instance, entry) {
         return Ok(());
@@ -288,8 +283,8 @@ fn odd_ones(
 
 /// Appends how many there are besides the first.
 #[tactic(auto, unfolding(crate::specs::Items::more_text))]
-fn put_more(out: &mut Vec<u8>, more: u64) -> Result<(), AllocError>
-    ensures { OnOk result (out.new.items ≡ out.old.items ++ more_text more) }
+fn put_more(out: &mut PageText, more: u64) -> Result<(), TextFault>
+    ensures { Puts result out.old out.new (more_text more) }
 {
     if more == 0 {
         return Ok(());
@@ -313,16 +308,16 @@ fn odds_count(rule: Rule, odds: u64) -> u64
 /// Appends an entry that breaks the rule together with a later one, and with some more.
 #[tactic(auto, unfolding(crate::specs::Items::pair_text))]
 fn put_pair(
-    out: &mut Vec<u8>,
+    out: &mut PageText,
     instance: &Instance<'_>,
     labels: &Labels,
     entry: &Entry,
     other: &Entry,
     more: u64,
-) -> Result<(), AllocError>
+) -> Result<(), TextFault>
     requires entry { InRange instance.now entry.now }
     requires other { InRange instance.now other.now }
-    ensures { OnOk result (out.new.items ≡ out.old.items ++ pair_text instance.now labels.now entry.now other.now more) }
+    ensures { Puts result out.old out.new (pair_text instance.now labels.now entry.now other.now more) }
 {
     put_entry_and_teacher(out, instance, entry)?;
     put_place(out, instance, labels, entry)?;
@@ -335,17 +330,17 @@ fn put_pair(
 /// Appends an entry, and the later ones that break the rule together with it.
 #[tactic(auto, unfolding(crate::specs::Items::odds_item))]
 fn put_odds(
-    out: &mut Vec<u8>,
+    out: &mut PageText,
     instance: &Instance<'_>,
     labels: &Labels,
     rule: Rule,
     entry: &Entry,
     odds: &[Entry],
-) -> Result<(), AllocError>
+) -> Result<(), TextFault>
     requires entry { InRange instance.now entry.now }
     requires odds { All (InRange instance.now) odds.now }
     requires at_most { length odds.now ≤ MAX_ENTRIES }
-    ensures { OnOk result (out.new.items ≡ out.old.items ++ odds_item instance.now labels.now rule entry.now odds.now) }
+    ensures { Puts result out.old out.new (odds_item instance.now labels.now rule entry.now odds.now) }
 {
     let Some((first, more)) = odds.split_first() else {
         return Ok(());
@@ -358,22 +353,21 @@ fn put_odds(
 /// Appends the item of an entry, from the entries after it, for a rule of pairs.
 #[tactic(auto, unfolding(crate::specs::Items::pairs_item))]
 fn put_pairs(
-    out: &mut Vec<u8>,
+    out: &mut PageText,
     plan: &Plan<'_, '_>,
     labels: &Labels,
     rule: Rule,
     index: usize,
     entry: &Entry,
-) -> Result<(), AllocError>
+) -> Result<(), TextFault>
     requires there { slice_get plan.now.table index ≡ Some entry.now }
     requires in_range { InRange plan.now.problem entry.now }
-    ensures { OnOk result (out.new.items ≡ out.old.items
-        ++ pairs_item plan.now.problem labels.now rule entry.now (drop (index + 1) plan.now.table)) }
+    ensures { Puts result out.old out.new (pairs_item plan.now.problem labels.now rule entry.now (drop (index + 1) plan.now.table)) }
 {
     // Brings into the proof that the plan's entries are in range.
     let _entries = plan.entries();
     let odds = odd_ones(
-        *out.allocator(),
+        out.allocator(),
         plan.instance(),
         rule,
         entry,
@@ -385,17 +379,16 @@ fn put_pairs(
 /// Appends the item of an entry, from the entries after it.
 #[tactic(auto, unfolding(crate::specs::Items::entry_item))]
 fn put_entry_item(
-    out: &mut Vec<u8>,
+    out: &mut PageText,
     plan: &Plan<'_, '_>,
     labels: &Labels,
     rule: Rule,
     index: usize,
     entry: &Entry,
-) -> Result<(), AllocError>
+) -> Result<(), TextFault>
     requires there { slice_get plan.now.table index ≡ Some entry.now }
     requires in_range { InRange plan.now.problem entry.now }
-    ensures { OnOk result (out.new.items ≡ out.old.items
-        ++ entry_item plan.now.problem labels.now rule entry.now (drop (index + 1) plan.now.table)) }
+    ensures { Puts result out.old out.new (entry_item plan.now.problem labels.now rule entry.now (drop (index + 1) plan.now.table)) }
 {
     match rule {
         Rule::Availability => put_unavailable(out, plan.instance(), labels, entry),
@@ -405,12 +398,12 @@ fn put_entry_item(
 
 /// Appends the items of all entries.
 pub fn put_entry_items(
-    out: &mut Vec<u8>,
+    out: &mut PageText,
     plan: &Plan<'_, '_>,
     labels: &Labels,
     rule: Rule,
-) -> Result<(), AllocError>
-    ensures { OnOk result (out.new.items ≡ out.old.items ++ entry_items plan.now.problem labels.now rule plan.now.table) }
+) -> Result<(), TextFault>
+    ensures { Puts result out.old out.new (entry_items plan.now.problem labels.now rule plan.now.table) }
 {
     for (index, entry) in plan.entries().iter().enumerate() {
         put_entry_item(out, plan, labels, rule, index, entry)?;

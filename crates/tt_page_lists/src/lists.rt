@@ -1,16 +1,15 @@
 //! The two tables of counts, and a list for each count above 0.
 
-ghost use Rattle.std.specs.Prelude.{◌≡◌, ◌++◌, OnOk};
+ghost use Rattle.std.specs.Prelude.{◌≡◌};
 ghost use Rattle.tt_rules.specs.Score.{IsScore};
+ghost use Rattle.tt_page_text.specs.Puts.{Puts};
 ghost use Rattle.tt_page_lists.specs.Lists.{row_begin, count_row, total_row, rule_row, hard_table, cost_table, list_head, broken_head, costs_head, list_text, lists_text};
 
 use crate::grouped::put_items;
 use crate::rule::Rule;
-use std::alloc::AllocError;
 use tt_page_plan::Plan;
-use tt_page_text::{Labels, Part, put};
+use tt_page_text::{Labels, PageText, Part, TextFault, put, put_token};
 use tt_rules::Score;
-use tt_text::put_token;
 
 /// Returns the beginning of a row: a row of a count of 0 has a class of its own.
 fn row_begin(count: u64) -> &'static str
@@ -26,12 +25,12 @@ fn row_begin(count: u64) -> &'static str
 /// Appends a row of a table of counts.
 #[tactic(auto, unfolding(crate::specs::Lists::count_row))]
 fn put_count_row<'x>(
-    out: &mut Vec<u8>,
+    out: &mut PageText,
     title: &'x str,
     count: u64,
     meaning: &'x str,
-) -> Result<(), AllocError>
-    ensures { OnOk result (out.new.items ≡ out.old.items ++ count_row title.now count meaning.now) }
+) -> Result<(), TextFault>
+    ensures { Puts result out.old out.new (count_row title.now count meaning.now) }
 {
     put(
         out,
@@ -50,12 +49,12 @@ fn put_count_row<'x>(
 /// Appends the row of a total.
 #[tactic(auto, unfolding(crate::specs::Lists::total_row))]
 fn put_total_row<'x>(
-    out: &mut Vec<u8>,
+    out: &mut PageText,
     title: &'x str,
     count: u64,
     meaning: &'x str,
-) -> Result<(), AllocError>
-    ensures { OnOk result (out.new.items ≡ out.old.items ++ total_row title.now count meaning.now) }
+) -> Result<(), TextFault>
+    ensures { Puts result out.old out.new (total_row title.now count meaning.now) }
 {
     put(
         out,
@@ -73,27 +72,27 @@ fn put_total_row<'x>(
 
 #[tactic(auto, unfolding(crate::specs::Lists::rule_row))]
 fn put_rule_row(
-    out: &mut Vec<u8>,
+    out: &mut PageText,
     plan: &Plan<'_, '_>,
     score: &Score,
     rule: Rule,
-) -> Result<(), AllocError>
+) -> Result<(), TextFault>
     requires { IsScore plan.now.problem plan.now.table score.now }
-    ensures { OnOk result (out.new.items ≡ out.old.items ++ rule_row plan.now.problem plan.now.table rule) }
+    ensures { Puts result out.old out.new (rule_row plan.now.problem plan.now.table rule) }
 {
     let count = rule.count(plan, score);
     put_count_row(out, rule.title(), count, rule.meaning())
 }
 
 /// Appends the table of the hard rules.
-#[tactic(auto, unfolding(crate::specs::Lists::hard_table, crate::specs::Lists::table_foot, crate::specs::Lists::table_end))]
+#[tactic(auto, unfolding(crate::specs::Lists::hard_head, crate::specs::Lists::hard_table, crate::specs::Lists::table_foot, crate::specs::Lists::table_end))]
 pub fn put_hard_table(
-    out: &mut Vec<u8>,
+    out: &mut PageText,
     plan: &Plan<'_, '_>,
     score: &Score,
-) -> Result<(), AllocError>
+) -> Result<(), TextFault>
     requires { IsScore plan.now.problem plan.now.table score.now }
-    ensures { OnOk result (out.new.items ≡ out.old.items ++ hard_table plan.now.problem plan.now.table) }
+    ensures { Puts result out.old out.new (hard_table plan.now.problem plan.now.table) }
 {
     put_token(
         out,
@@ -109,14 +108,14 @@ pub fn put_hard_table(
 }
 
 /// Appends the table of the costs.
-#[tactic(auto, unfolding(crate::specs::Lists::cost_table, crate::specs::Lists::table_foot, crate::specs::Lists::table_end))]
+#[tactic(auto, unfolding(crate::specs::Lists::cost_head, crate::specs::Lists::cost_table, crate::specs::Lists::table_foot, crate::specs::Lists::table_end))]
 pub fn put_cost_table(
-    out: &mut Vec<u8>,
+    out: &mut PageText,
     plan: &Plan<'_, '_>,
     score: &Score,
-) -> Result<(), AllocError>
+) -> Result<(), TextFault>
     requires { IsScore plan.now.problem plan.now.table score.now }
-    ensures { OnOk result (out.new.items ≡ out.old.items ++ cost_table plan.now.problem plan.now.table) }
+    ensures { Puts result out.old out.new (cost_table plan.now.problem plan.now.table) }
 {
     put_token(
         out,
@@ -133,8 +132,8 @@ pub fn put_cost_table(
 
 /// Appends the beginning of a list.
 #[tactic(auto, unfolding(crate::specs::Lists::list_head))]
-fn put_list_head(out: &mut Vec<u8>, rule: Rule, count: u64) -> Result<(), AllocError>
-    ensures { OnOk result (out.new.items ≡ out.old.items ++ list_head rule count) }
+fn put_list_head(out: &mut PageText, rule: Rule, count: u64) -> Result<(), TextFault>
+    ensures { Puts result out.old out.new (list_head rule count) }
 {
     if rule.is_hard() {
         put_broken_head(out, rule, count)
@@ -144,8 +143,8 @@ fn put_list_head(out: &mut Vec<u8>, rule: Rule, count: u64) -> Result<(), AllocE
 }
 
 #[tactic(auto, unfolding(crate::specs::Lists::broken_head))]
-fn put_broken_head(out: &mut Vec<u8>, rule: Rule, count: u64) -> Result<(), AllocError>
-    ensures { OnOk result (out.new.items ≡ out.old.items ++ broken_head rule count) }
+fn put_broken_head(out: &mut PageText, rule: Rule, count: u64) -> Result<(), TextFault>
+    ensures { Puts result out.old out.new (broken_head rule count) }
 {
     put(
         out,
@@ -162,8 +161,8 @@ fn put_broken_head(out: &mut Vec<u8>, rule: Rule, count: u64) -> Result<(), Allo
 }
 
 #[tactic(auto, unfolding(crate::specs::Lists::costs_head))]
-fn put_costs_head(out: &mut Vec<u8>, rule: Rule, count: u64) -> Result<(), AllocError>
-    ensures { OnOk result (out.new.items ≡ out.old.items ++ costs_head rule count) }
+fn put_costs_head(out: &mut PageText, rule: Rule, count: u64) -> Result<(), TextFault>
+    ensures { Puts result out.old out.new (costs_head rule count) }
 {
     put(
         out,
@@ -182,14 +181,14 @@ fn put_costs_head(out: &mut Vec<u8>, rule: Rule, count: u64) -> Result<(), Alloc
 /// Appends a list if its count is above 0.
 #[tactic(auto, unfolding(crate::specs::Lists::list_text))]
 fn put_list(
-    out: &mut Vec<u8>,
+    out: &mut PageText,
     plan: &Plan<'_, '_>,
     labels: &Labels,
     score: &Score,
     rule: Rule,
-) -> Result<(), AllocError>
+) -> Result<(), TextFault>
     requires { IsScore plan.now.problem plan.now.table score.now }
-    ensures { OnOk result (out.new.items ≡ out.old.items ++ list_text plan.now.problem plan.now.table labels.now rule) }
+    ensures { Puts result out.old out.new (list_text plan.now.problem plan.now.table labels.now rule) }
 {
     let count = rule.count(plan, score);
     if count == 0 {
@@ -203,13 +202,13 @@ fn put_list(
 /// Appends the lists of all counts above 0.
 #[tactic(auto, unfolding(crate::specs::Lists::lists_text))]
 pub fn put_lists(
-    out: &mut Vec<u8>,
+    out: &mut PageText,
     plan: &Plan<'_, '_>,
     labels: &Labels,
     score: &Score,
-) -> Result<(), AllocError>
+) -> Result<(), TextFault>
     requires { IsScore plan.now.problem plan.now.table score.now }
-    ensures { OnOk result (out.new.items ≡ out.old.items ++ lists_text plan.now.problem plan.now.table labels.now) }
+    ensures { Puts result out.old out.new (lists_text plan.now.problem plan.now.table labels.now) }
 {
     put_list(out, plan, labels, score, Rule::Lectures)?;
     put_list(out, plan, labels, score, Rule::Conflicts)?;

@@ -5,4 +5,4 @@ use Rattle.tt_page_lists.specs.Grouped.{seats_item}
 use Rattle.tt_page_lists.proofs.grouped.put_seats_items.Given as goal
 
 abbrev pub invariant-loop-course : goal.invariant-loop-course
-invariant-loop-course l = l.out.items ≡ l.initial.out.items ++ flat_map (seats_item l.plan.problem l.plan.table l.labels) (range_below l.course)
+invariant-loop-course l = l.out ≡ l.initial.out ++ flat_map (seats_item l.plan.problem l.plan.table l.labels) (range_below l.course)
