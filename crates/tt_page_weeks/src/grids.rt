@@ -1,9 +1,10 @@
 //! The grids of a page: one for each room, teacher and curriculum.
 
-ghost use Rattle.std.specs.Prelude.{◌≡◌, ◌<◌, ◌==◌, ◌++◌, length, filter, flat_map, All, OnOk, IfOk};
+ghost use Rattle.std.specs.Prelude.{◌≡◌, ◌<◌, ◌==◌, length, filter, flat_map, All, IfOk};
 ghost use Rattle.tt_lists.specs.Words.{range_below};
-ghost use Rattle.tt_instance_data.specs.Cells.{InRange, all_courses};
-ghost use Rattle.tt_instance_data.specs.Courses.{in_curriculum};
+ghost use Rattle.tt_instance.specs.Cells.{InRange, all_courses};
+ghost use Rattle.tt_instance.specs.Courses.{in_curriculum};
+ghost use Rattle.tt_page_text.specs.Puts.{Puts};
 ghost use Rattle.tt_page_plan.specs.Kinds.{count_of, belongs_to, teacher_of};
 ghost use Rattle.tt_page_weeks.specs.Lectures.{lecture_text};
 ghost use Rattle.tt_page_weeks.specs.Grids.{own_courses, barred_when, barred_course, barred_text, cell_head, cell_text, row_head, row_text, seats_text, grid_head, paper_name, table_head, grid_title, day_head, grid_text, curriculum_of, index_item, section_head, section_text};
@@ -13,9 +14,10 @@ use crate::lectures::put_lecture;
 use std::alloc::{AllocError, Global};
 use tt_instance_data::Instance;
 use tt_page_plan::{Kind, Plan, course_name, put_name, put_week_link, teacher_of};
-use tt_page_text::{Labels, Part, put, put_day, put_period, put_when};
+use tt_page_text::{
+    Labels, PageText, Part, TextFault, put, put_day, put_period, put_token, put_when,
+};
 use tt_table::Group;
-use tt_text::put_token;
 
 /// Returns the courses of a teacher.
 fn courses_of(alloc: Global, instance: &Instance<'_>, teacher: u32) -> Result<Vec<u32>, AllocError>
@@ -68,12 +70,12 @@ fn own_courses(
 /// Appends the beginning of the text for a course to which a period is unavailable.
 #[tactic(auto, unfolding(crate::specs::Grids::barred_when))]
 fn put_barred_when(
-    out: &mut Vec<u8>,
+    out: &mut PageText,
     labels: &Labels,
     day: u32,
     period: u32,
-) -> Result<(), AllocError>
-    ensures { OnOk result (out.new.items ≡ out.old.items ++ barred_when labels.now day period) }
+) -> Result<(), TextFault>
+    ensures { Puts result out.old out.new (barred_when labels.now day period) }
 {
     put_token(out, b"<div class=\"barred\"><span class=\"when\">")?;
     put_when(out, labels, day, period)?;
@@ -82,12 +84,12 @@ fn put_barred_when(
 
 #[tactic(auto, unfolding(crate::specs::Grids::barred_course))]
 fn put_barred_course(
-    out: &mut Vec<u8>,
+    out: &mut PageText,
     instance: &Instance<'_>,
     course: u32,
-) -> Result<(), AllocError>
+) -> Result<(), TextFault>
     requires { course < length instance.now.courses }
-    ensures { OnOk result (out.new.items ≡ out.old.items ++ barred_course instance.now course) }
+    ensures { Puts result out.old out.new (barred_course instance.now course) }
 {
     let name = course_name(instance, course);
     put(
@@ -99,15 +101,15 @@ fn put_barred_course(
 /// Appends the text for a course to which a period is unavailable.
 #[tactic(auto, unfolding(crate::specs::Grids::barred_text))]
 fn put_barred(
-    out: &mut Vec<u8>,
+    out: &mut PageText,
     instance: &Instance<'_>,
     labels: &Labels,
     day: u32,
     period: u32,
     course: u32,
-) -> Result<(), AllocError>
+) -> Result<(), TextFault>
     requires { course < length instance.now.courses }
-    ensures { OnOk result (out.new.items ≡ out.old.items ++ barred_text instance.now labels.now day period course) }
+    ensures { Puts result out.old out.new (barred_text instance.now labels.now day period course) }
 {
     if !instance.unavailable(course, day, period) {
         return Ok(());
@@ -117,17 +119,17 @@ fn put_barred(
 }
 
 /// Appends the texts for those of some courses to which a period is unavailable.
-#[tactic(auto, using(tt_page_text::proofs::Growing::taken_further))]
+#[tactic(auto, using(tt_page_text::proofs::Growing::taken_further, tt_page_text::proofs::Growing::taken_within))]
 fn put_all_barred(
-    out: &mut Vec<u8>,
+    out: &mut PageText,
     instance: &Instance<'_>,
     labels: &Labels,
     courses: &[u32],
     day: u32,
     period: u32,
-) -> Result<(), AllocError>
+) -> Result<(), TextFault>
     requires { All (λ c. c < length instance.now.courses) courses.now }
-    ensures { OnOk result (out.new.items ≡ out.old.items ++ flat_map (barred_text instance.now labels.now day period) courses.now) }
+    ensures { Puts result out.old out.new (flat_map (barred_text instance.now labels.now day period) courses.now) }
 {
     for course in courses {
         put_barred(out, instance, labels, day, period, *course)?;
@@ -137,16 +139,15 @@ fn put_all_barred(
 
 /// Appends the lectures of those of some entries that belong to a week.
 pub fn put_lectures(
-    out: &mut Vec<u8>,
+    out: &mut PageText,
     plan: &Plan<'_, '_>,
     labels: &Labels,
     kind: Kind,
     number: u32,
     entries: Group<'_>,
-) -> Result<(), AllocError>
+) -> Result<(), TextFault>
     requires { All (InRange plan.now.problem) entries }
-    ensures { OnOk result (out.new.items ≡ out.old.items
-        ++ flat_map (lecture_text plan.now.problem plan.now.table labels.now kind number) (filter (belongs_to plan.now.problem kind number) entries.entry)) }
+    ensures { Puts result out.old out.new (flat_map (lecture_text plan.now.problem plan.now.table labels.now kind number) (filter (belongs_to plan.now.problem kind number) entries.entry)) }
 {
     for entry in entries {
         if kind.has(plan.instance(), number, entry) {
@@ -159,13 +160,13 @@ pub fn put_lectures(
 /// Appends the beginning of a cell.
 #[tactic(auto, unfolding(crate::specs::Grids::cell_head))]
 fn put_cell_head(
-    out: &mut Vec<u8>,
+    out: &mut PageText,
     kind: Kind,
     number: u32,
     day: u32,
     period: u32,
-) -> Result<(), AllocError>
-    ensures { OnOk result (out.new.items ≡ out.old.items ++ cell_head kind number day period) }
+) -> Result<(), TextFault>
+    ensures { Puts result out.old out.new (cell_head kind number day period) }
 {
     put(
         out,
@@ -185,7 +186,7 @@ fn put_cell_head(
 /// Appends a cell: a period of a day.
 #[tactic(auto, unfolding(crate::specs::Grids::cell_text))]
 fn put_cell(
-    out: &mut Vec<u8>,
+    out: &mut PageText,
     plan: &Plan<'_, '_>,
     labels: &Labels,
     kind: Kind,
@@ -193,11 +194,11 @@ fn put_cell(
     own: &[u32],
     period: u32,
     day: u32,
-) -> Result<(), AllocError>
+) -> Result<(), TextFault>
     requires own { All (λ c. c < length plan.now.problem.courses) own.now }
     requires period { period < plan.now.problem.periods }
     requires day { day < plan.now.problem.days }
-    ensures { OnOk result (out.new.items ≡ out.old.items ++ cell_text plan.now.problem plan.now.table labels.now kind number own.now period day) }
+    ensures { Puts result out.old out.new (cell_text plan.now.problem plan.now.table labels.now kind number own.now period day) }
 {
     put_cell_head(out, kind, number, day, period)?;
     put_all_barred(out, plan.instance(), labels, own, day, period)?;
@@ -207,20 +208,19 @@ fn put_cell(
 }
 
 /// Appends the cells of a period.
-#[tactic(auto, using(tt_page_text::proofs::Growing::text_further))]
+#[tactic(auto, using(tt_page_text::proofs::Growing::text_further, tt_page_text::proofs::Growing::text_within))]
 fn put_cells(
-    out: &mut Vec<u8>,
+    out: &mut PageText,
     plan: &Plan<'_, '_>,
     labels: &Labels,
     kind: Kind,
     number: u32,
     own: &[u32],
     period: u32,
-) -> Result<(), AllocError>
+) -> Result<(), TextFault>
     requires own { All (λ c. c < length plan.now.problem.courses) own.now }
     requires period { period < plan.now.problem.periods }
-    ensures { OnOk result (out.new.items ≡ out.old.items
-        ++ flat_map (cell_text plan.now.problem plan.now.table labels.now kind number own.now period) (range_below plan.now.problem.days)) }
+    ensures { Puts result out.old out.new (flat_map (cell_text plan.now.problem plan.now.table labels.now kind number own.now period) (range_below plan.now.problem.days)) }
 {
     for day in 0..plan.instance().days() {
         put_cell(out, plan, labels, kind, number, own, period, day)?;
@@ -230,8 +230,8 @@ fn put_cells(
 
 /// Appends the beginning of a row: its period.
 #[tactic(auto, unfolding(crate::specs::Grids::row_head))]
-fn put_row_head(out: &mut Vec<u8>, labels: &Labels, period: u32) -> Result<(), AllocError>
-    ensures { OnOk result (out.new.items ≡ out.old.items ++ row_head labels.now period) }
+fn put_row_head(out: &mut PageText, labels: &Labels, period: u32) -> Result<(), TextFault>
+    ensures { Puts result out.old out.new (row_head labels.now period) }
 {
     put_token(out, b"<tr>\n<th scope=\"row\">")?;
     put_period(out, labels, period)?;
@@ -241,17 +241,17 @@ fn put_row_head(out: &mut Vec<u8>, labels: &Labels, period: u32) -> Result<(), A
 /// Appends a row: a period of each day.
 #[tactic(auto, unfolding(crate::specs::Grids::row_text))]
 fn put_row(
-    out: &mut Vec<u8>,
+    out: &mut PageText,
     plan: &Plan<'_, '_>,
     labels: &Labels,
     kind: Kind,
     number: u32,
     own: &[u32],
     period: u32,
-) -> Result<(), AllocError>
+) -> Result<(), TextFault>
     requires own { All (λ c. c < length plan.now.problem.courses) own.now }
     requires period { period < plan.now.problem.periods }
-    ensures { OnOk result (out.new.items ≡ out.old.items ++ row_text plan.now.problem plan.now.table labels.now kind number own.now period) }
+    ensures { Puts result out.old out.new (row_text plan.now.problem plan.now.table labels.now kind number own.now period) }
 {
     put_row_head(out, labels, period)?;
     put_cells(out, plan, labels, kind, number, own, period)?;
@@ -259,18 +259,17 @@ fn put_row(
 }
 
 /// Appends the rows of a grid.
-#[tactic(auto, using(tt_page_text::proofs::Growing::text_further))]
+#[tactic(auto, using(tt_page_text::proofs::Growing::text_further, tt_page_text::proofs::Growing::text_within))]
 fn put_rows(
-    out: &mut Vec<u8>,
+    out: &mut PageText,
     plan: &Plan<'_, '_>,
     labels: &Labels,
     kind: Kind,
     number: u32,
     own: &[u32],
-) -> Result<(), AllocError>
+) -> Result<(), TextFault>
     requires { All (λ c. c < length plan.now.problem.courses) own.now }
-    ensures { OnOk result (out.new.items ≡ out.old.items
-        ++ flat_map (row_text plan.now.problem plan.now.table labels.now kind number own.now) (range_below plan.now.problem.periods)) }
+    ensures { Puts result out.old out.new (flat_map (row_text plan.now.problem plan.now.table labels.now kind number own.now) (range_below plan.now.problem.periods)) }
 {
     for period in 0..plan.instance().periods() {
         put_row(out, plan, labels, kind, number, own, period)?;
@@ -281,13 +280,13 @@ fn put_rows(
 /// Appends the beginning of a grid, with its room, teacher or curriculum.
 #[tactic(auto, unfolding(crate::specs::Grids::grid_head))]
 fn put_grid_head(
-    out: &mut Vec<u8>,
+    out: &mut PageText,
     instance: &Instance<'_>,
     kind: Kind,
     number: u32,
-) -> Result<(), AllocError>
+) -> Result<(), TextFault>
     requires { number < count_of instance.now kind }
-    ensures { OnOk result (out.new.items ≡ out.old.items ++ grid_head instance.now kind number) }
+    ensures { Puts result out.old out.new (grid_head instance.now kind number) }
 {
     let name = kind.name(instance, number);
     let word = kind.word();
@@ -312,13 +311,13 @@ fn put_grid_head(
 /// Appends the seats of a room, in its heading.
 #[tactic(auto, unfolding(crate::specs::Grids::seats_text))]
 fn put_seats(
-    out: &mut Vec<u8>,
+    out: &mut PageText,
     instance: &Instance<'_>,
     kind: Kind,
     number: u32,
-) -> Result<(), AllocError>
+) -> Result<(), TextFault>
     requires { number < count_of instance.now kind }
-    ensures { OnOk result (out.new.items ≡ out.old.items ++ seats_text instance.now kind number) }
+    ensures { Puts result out.old out.new (seats_text instance.now kind number) }
 {
     match kind {
         Kind::Room => {
@@ -334,8 +333,8 @@ fn put_seats(
 
 /// Appends the end of a heading: the name of the instance, for the sheets of paper.
 #[tactic(auto, unfolding(crate::specs::Grids::paper_name))]
-pub fn put_paper_name(out: &mut Vec<u8>, instance: &Instance<'_>) -> Result<(), AllocError>
-    ensures { OnOk result (out.new.items ≡ out.old.items ++ paper_name instance.now) }
+pub fn put_paper_name(out: &mut PageText, instance: &Instance<'_>) -> Result<(), TextFault>
+    ensures { Puts result out.old out.new (paper_name instance.now) }
 {
     put_token(out, b"<span class=\"paper\">, timetable")?;
     put_name(out, instance)?;
@@ -343,8 +342,8 @@ pub fn put_paper_name(out: &mut Vec<u8>, instance: &Instance<'_>) -> Result<(), 
 }
 
 #[tactic(auto, unfolding(crate::specs::Grids::table_head))]
-fn put_table_head(out: &mut Vec<u8>, kind: Kind, number: u32) -> Result<(), AllocError>
-    ensures { OnOk result (out.new.items ≡ out.old.items ++ table_head kind number) }
+fn put_table_head(out: &mut PageText, kind: Kind, number: u32) -> Result<(), TextFault>
+    ensures { Puts result out.old out.new (table_head kind number) }
 {
     put(
         out,
@@ -360,13 +359,13 @@ fn put_table_head(out: &mut Vec<u8>, kind: Kind, number: u32) -> Result<(), Allo
 /// Appends the heading of a grid, and the beginning of its table.
 #[tactic(auto, unfolding(crate::specs::Grids::grid_title))]
 fn put_grid_title(
-    out: &mut Vec<u8>,
+    out: &mut PageText,
     instance: &Instance<'_>,
     kind: Kind,
     number: u32,
-) -> Result<(), AllocError>
+) -> Result<(), TextFault>
     requires { number < count_of instance.now kind }
-    ensures { OnOk result (out.new.items ≡ out.old.items ++ grid_title instance.now kind number) }
+    ensures { Puts result out.old out.new (grid_title instance.now kind number) }
 {
     put_grid_head(out, instance, kind, number)?;
     put_seats(out, instance, kind, number)?;
@@ -375,13 +374,13 @@ fn put_grid_title(
 }
 
 /// Appends the heads of the columns.
-#[tactic(auto, using(tt_page_text::proofs::Growing::text_further), unfolding(crate::specs::Grids::day_head))]
+#[tactic(auto, using(tt_page_text::proofs::Growing::text_further, tt_page_text::proofs::Growing::text_within), unfolding(crate::specs::Grids::day_head))]
 fn put_day_heads(
-    out: &mut Vec<u8>,
+    out: &mut PageText,
     instance: &Instance<'_>,
     labels: &Labels,
-) -> Result<(), AllocError>
-    ensures { OnOk result (out.new.items ≡ out.old.items ++ flat_map (day_head labels.now) (range_below instance.now.days)) }
+) -> Result<(), TextFault>
+    ensures { Puts result out.old out.new (flat_map (day_head labels.now) (range_below instance.now.days)) }
 {
     for day in 0..instance.days() {
         put_day_head(out, labels, day)?;
@@ -390,8 +389,8 @@ fn put_day_heads(
 }
 
 #[tactic(auto, unfolding(crate::specs::Grids::day_head))]
-fn put_day_head(out: &mut Vec<u8>, labels: &Labels, day: u32) -> Result<(), AllocError>
-    ensures { OnOk result (out.new.items ≡ out.old.items ++ day_head labels.now day) }
+fn put_day_head(out: &mut PageText, labels: &Labels, day: u32) -> Result<(), TextFault>
+    ensures { Puts result out.old out.new (day_head labels.now day) }
 {
     put_token(out, b"<th scope=\"col\">")?;
     put_day(out, labels, day)?;
@@ -401,17 +400,17 @@ fn put_day_head(out: &mut Vec<u8>, labels: &Labels, day: u32) -> Result<(), Allo
 /// Appends the grid of a room, teacher or curriculum.
 #[tactic(auto, unfolding(crate::specs::Grids::grid_text))]
 fn put_grid(
-    out: &mut Vec<u8>,
+    out: &mut PageText,
     plan: &Plan<'_, '_>,
     labels: &Labels,
     kind: Kind,
     number: u32,
-) -> Result<(), AllocError>
+) -> Result<(), TextFault>
     requires { number < count_of plan.now.problem kind }
-    ensures { OnOk result (out.new.items ≡ out.old.items ++ grid_text plan.now.problem plan.now.table labels.now kind number) }
+    ensures { Puts result out.old out.new (grid_text plan.now.problem plan.now.table labels.now kind number) }
 {
     let instance = plan.instance();
-    let own = own_courses(*out.allocator(), instance, kind, number)?;
+    let own = own_courses(out.allocator(), instance, kind, number)?;
     put_grid_title(out, instance, kind, number)?;
     put_day_heads(out, instance, labels)?;
     put_token(out, b"</tr>\n</thead>\n<tbody>\n")?;
@@ -420,16 +419,16 @@ fn put_grid(
 }
 
 /// Appends the grids of a section.
-#[tactic(auto, using(tt_page_text::proofs::Growing::taken_further))]
+#[tactic(auto, using(tt_page_text::proofs::Growing::taken_further, tt_page_text::proofs::Growing::taken_within))]
 fn put_grids(
-    out: &mut Vec<u8>,
+    out: &mut PageText,
     plan: &Plan<'_, '_>,
     labels: &Labels,
     kind: Kind,
     numbers: &[u32],
-) -> Result<(), AllocError>
+) -> Result<(), TextFault>
     requires { All (λ n. n < count_of plan.now.problem kind) numbers.now }
-    ensures { OnOk result (out.new.items ≡ out.old.items ++ flat_map (grid_text plan.now.problem plan.now.table labels.now kind) numbers.now) }
+    ensures { Puts result out.old out.new (flat_map (grid_text plan.now.problem plan.now.table labels.now kind) numbers.now) }
 {
     for number in numbers {
         put_grid(out, plan, labels, kind, *number)?;
@@ -449,13 +448,13 @@ fn curriculum_of(kind: Kind, number: u32) -> Option<u32>
 
 #[tactic(auto, unfolding(crate::specs::Grids::index_item))]
 fn put_index_item(
-    out: &mut Vec<u8>,
+    out: &mut PageText,
     instance: &Instance<'_>,
     kind: Kind,
     number: u32,
-) -> Result<(), AllocError>
+) -> Result<(), TextFault>
     requires { number < count_of instance.now kind }
-    ensures { OnOk result (out.new.items ≡ out.old.items ++ index_item instance.now kind number) }
+    ensures { Puts result out.old out.new (index_item instance.now kind number) }
 {
     put_token(out, b"<li class=\"week")?;
     put_hue(out, curriculum_of(kind, number))?;
@@ -465,15 +464,15 @@ fn put_index_item(
 }
 
 /// Appends the links to the grids of a section.
-#[tactic(auto, using(tt_page_text::proofs::Growing::taken_further))]
+#[tactic(auto, using(tt_page_text::proofs::Growing::taken_further, tt_page_text::proofs::Growing::taken_within))]
 fn put_index(
-    out: &mut Vec<u8>,
+    out: &mut PageText,
     instance: &Instance<'_>,
     kind: Kind,
     numbers: &[u32],
-) -> Result<(), AllocError>
+) -> Result<(), TextFault>
     requires { All (λ n. n < count_of instance.now kind) numbers.now }
-    ensures { OnOk result (out.new.items ≡ out.old.items ++ flat_map (index_item instance.now kind) numbers.now) }
+    ensures { Puts result out.old out.new (flat_map (index_item instance.now kind) numbers.now) }
 {
     for number in numbers {
         put_index_item(out, instance, kind, *number)?;
@@ -483,11 +482,11 @@ fn put_index(
 
 #[tactic(auto, unfolding(crate::specs::Grids::section_head))]
 fn put_section_head(
-    out: &mut Vec<u8>,
+    out: &mut PageText,
     instance: &Instance<'_>,
     kind: Kind,
-) -> Result<(), AllocError>
-    ensures { OnOk result (out.new.items ≡ out.old.items ++ section_head instance.now kind) }
+) -> Result<(), TextFault>
+    ensures { Puts result out.old out.new (section_head instance.now kind) }
 {
     let count = kind.count(instance);
     put(
@@ -507,12 +506,12 @@ fn put_section_head(
 /// Appends the section of all rooms, teachers or curricula, in the order of their names.
 #[tactic(auto, unfolding(crate::specs::Grids::section_text))]
 pub fn put_section(
-    out: &mut Vec<u8>,
+    out: &mut PageText,
     plan: &Plan<'_, '_>,
     labels: &Labels,
     kind: Kind,
-) -> Result<(), AllocError>
-    ensures { OnOk result (out.new.items ≡ out.old.items ++ section_text plan.now.problem plan.now.table labels.now kind) }
+) -> Result<(), TextFault>
+    ensures { Puts result out.old out.new (section_text plan.now.problem plan.now.table labels.now kind) }
 {
     let numbers = plan.in_order(kind);
     put_section_head(out, plan.instance(), kind)?;

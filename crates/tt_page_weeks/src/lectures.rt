@@ -1,31 +1,30 @@
 //! A lecture as it appears in a week.
 
-ghost use Rattle.std.specs.Prelude.{◌≡◌, ◌<◌, ◌++◌, length, OnOk};
-ghost use Rattle.tt_instance_data.specs.Cells.{InRange};
-ghost use Rattle.tt_page_weeks.specs.Lectures.{further_text, mark, isolated_mark, marks_text, lecture_head, lecture_when, lecture_course, lecture_text};
+ghost use Rattle.std.specs.Prelude.{◌<◌, length};
+ghost use Rattle.tt_instance.specs.Cells.{InRange};
+ghost use Rattle.tt_page_text.specs.Puts.{Puts};
+ghost use Rattle.tt_page_weeks.specs.Lectures.{beside_text, mark, isolated_mark, marks_text, lecture_head, lecture_when, lecture_course, lecture_text};
 
 use crate::hues::put_hue;
 use crate::marks::{is_in_conflict, is_in_other_room, is_repeated, is_room_taken};
-use std::alloc::AllocError;
-use tt_instance_data::Instance;
+use tt_instance::Instance;
 use tt_page_plan::{
     Kind, Plan, course_name, is_isolated, is_unavailable, put_teacher_link, put_week_link,
     without_seat,
 };
-use tt_page_text::{Labels, Part, put, put_counted, put_when};
+use tt_page_text::{Labels, PageText, Part, TextFault, put, put_counted, put_token, put_when};
 use tt_table::Entry;
-use tt_text::put_token;
 
 /// Appends the information about a lecture that its week doesn't already show.
-#[tactic(auto, unfolding(crate::specs::Lectures::further_text))]
-fn put_further(
-    out: &mut Vec<u8>,
+#[tactic(auto, unfolding(crate::specs::Lectures::beside_text))]
+fn put_beside(
+    out: &mut PageText,
     instance: &Instance<'_>,
     kind: Kind,
     entry: &Entry,
-) -> Result<(), AllocError>
+) -> Result<(), TextFault>
     requires { InRange instance.now entry.now }
-    ensures { OnOk result (out.new.items ≡ out.old.items ++ further_text instance.now kind entry.now) }
+    ensures { Puts result out.old out.new (beside_text instance.now kind entry.now) }
 {
     match kind {
         Kind::Room => put_teacher_link(out, instance, entry.course),
@@ -39,8 +38,8 @@ fn put_further(
 }
 
 /// Appends a mark if it holds.
-fn put_mark(out: &mut Vec<u8>, holds: bool, text: &str) -> Result<(), AllocError>
-    ensures { OnOk result (out.new.items ≡ out.old.items ++ mark holds text.now) }
+fn put_mark(out: &mut PageText, holds: bool, text: &str) -> Result<(), TextFault>
+    ensures { Puts result out.old out.new (mark holds text.now) }
 {
     if holds {
         put_token(out, text.as_bytes())
@@ -52,14 +51,14 @@ fn put_mark(out: &mut Vec<u8>, holds: bool, text: &str) -> Result<(), AllocError
 /// Appends the mark of an isolated lecture, only in the week of the curriculum.
 #[tactic(auto, unfolding(crate::specs::Lectures::isolated_mark))]
 fn put_isolated(
-    out: &mut Vec<u8>,
+    out: &mut PageText,
     plan: &Plan<'_, '_>,
     kind: Kind,
     number: u32,
     entry: &Entry,
-) -> Result<(), AllocError>
+) -> Result<(), TextFault>
     requires { InRange plan.now.problem entry.now }
-    ensures { OnOk result (out.new.items ≡ out.old.items ++ isolated_mark plan.now.problem plan.now.table kind number entry.now) }
+    ensures { Puts result out.old out.new (isolated_mark plan.now.problem plan.now.table kind number entry.now) }
 {
     match kind {
         Kind::Room | Kind::Teacher => Ok(()),
@@ -73,14 +72,14 @@ fn put_isolated(
 /// Appends the marks of a lecture.
 #[tactic(auto, unfolding(crate::specs::Lectures::marks_text))]
 fn put_marks(
-    out: &mut Vec<u8>,
+    out: &mut PageText,
     plan: &Plan<'_, '_>,
     kind: Kind,
     number: u32,
     entry: &Entry,
-) -> Result<(), AllocError>
+) -> Result<(), TextFault>
     requires { InRange plan.now.problem entry.now }
-    ensures { OnOk result (out.new.items ≡ out.old.items ++ marks_text plan.now.problem plan.now.table kind number entry.now) }
+    ensures { Puts result out.old out.new (marks_text plan.now.problem plan.now.table kind number entry.now) }
 {
     let instance = plan.instance();
     put_mark(
@@ -115,9 +114,9 @@ fn put_marks(
 
 /// Appends the beginning of a lecture: its colour.
 #[tactic(auto, unfolding(crate::specs::Lectures::lecture_head))]
-fn put_lecture_head(out: &mut Vec<u8>, plan: &Plan<'_, '_>, course: u32) -> Result<(), AllocError>
+fn put_lecture_head(out: &mut PageText, plan: &Plan<'_, '_>, course: u32) -> Result<(), TextFault>
     requires { course < length plan.now.problem.courses }
-    ensures { OnOk result (out.new.items ≡ out.old.items ++ lecture_head plan.now.problem course) }
+    ensures { Puts result out.old out.new (lecture_head plan.now.problem course) }
 {
     put_token(out, b"<div class=\"lecture")?;
     put_hue(out, plan.first_curriculum(course))
@@ -125,8 +124,8 @@ fn put_lecture_head(out: &mut Vec<u8>, plan: &Plan<'_, '_>, course: u32) -> Resu
 
 /// Appends the day and the period of a lecture.
 #[tactic(auto, unfolding(crate::specs::Lectures::lecture_when))]
-fn put_lecture_when(out: &mut Vec<u8>, labels: &Labels, entry: &Entry) -> Result<(), AllocError>
-    ensures { OnOk result (out.new.items ≡ out.old.items ++ lecture_when labels.now entry.now) }
+fn put_lecture_when(out: &mut PageText, labels: &Labels, entry: &Entry) -> Result<(), TextFault>
+    ensures { Puts result out.old out.new (lecture_when labels.now entry.now) }
 {
     put_token(out, b"\"><span class=\"when\">")?;
     put_when(out, labels, entry.day, entry.period)?;
@@ -136,12 +135,12 @@ fn put_lecture_when(out: &mut Vec<u8>, labels: &Labels, entry: &Entry) -> Result
 /// Appends the link from a lecture to its course.
 #[tactic(auto, unfolding(crate::specs::Lectures::lecture_course))]
 fn put_lecture_course(
-    out: &mut Vec<u8>,
+    out: &mut PageText,
     instance: &Instance<'_>,
     course: u32,
-) -> Result<(), AllocError>
+) -> Result<(), TextFault>
     requires { course < length instance.now.courses }
-    ensures { OnOk result (out.new.items ≡ out.old.items ++ lecture_course instance.now course) }
+    ensures { Puts result out.old out.new (lecture_course instance.now course) }
 {
     let name = course_name(instance, course);
     put(
@@ -159,15 +158,15 @@ fn put_lecture_course(
 /// Appends a lecture in a week.
 #[tactic(auto, unfolding(crate::specs::Lectures::lecture_text))]
 pub fn put_lecture(
-    out: &mut Vec<u8>,
+    out: &mut PageText,
     plan: &Plan<'_, '_>,
     labels: &Labels,
     kind: Kind,
     number: u32,
     entry: &Entry,
-) -> Result<(), AllocError>
+) -> Result<(), TextFault>
     requires { InRange plan.now.problem entry.now }
-    ensures { OnOk result (out.new.items ≡ out.old.items ++ lecture_text plan.now.problem plan.now.table labels.now kind number entry.now) }
+    ensures { Puts result out.old out.new (lecture_text plan.now.problem plan.now.table labels.now kind number entry.now) }
 {
     let instance = plan.instance();
     put_lecture_head(out, plan, entry.course)?;

@@ -1,10 +1,9 @@
-use Rattle.std.proofs.lemmas.Result.{on_ok_weaker}
 use Rattle.tt_page_weeks.specs.Grids.{barred_text}
-use Rattle.tt_page_text.proofs.Growing.{then_more}
+use Rattle.tt_page_text.proofs.Growing.{then_puts}
 use Rattle.tt_page_weeks.proofs.grids.put_barred.Goals as goal
 
 pub returns : goal.returns
 unfolding barred_text
 returns c =
     rw (← c.unavailable.ensures, c.if-not-unavailable.false)
-    (on_ok_weaker c.put_barred_course.result (λ last. then_more _ _ _ _ _ c.in_ok-put_barred_when.ensures last) c.put_barred_course.ensures)
+    (then_puts c.put_barred_course.result _ _ _ _ _ c.in_ok-put_barred_when.ensures c.put_barred_course.ensures)

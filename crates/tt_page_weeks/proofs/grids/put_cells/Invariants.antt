@@ -5,4 +5,4 @@ use Rattle.tt_page_weeks.specs.Grids.{cell_text}
 use Rattle.tt_page_weeks.proofs.grids.put_cells.Given as goal
 
 abbrev pub invariant-loop-day : goal.invariant-loop-day
-invariant-loop-day l = l.out.items ≡ l.initial.out.items ++ flat_map (cell_text l.plan.problem l.plan.table l.labels l.kind l.number l.own l.period) (range_below l.day)
+invariant-loop-day l = l.out ≡ l.initial.out ++ flat_map (cell_text l.plan.problem l.plan.table l.labels l.kind l.number l.own l.period) (range_below l.day)

@@ -5,4 +5,4 @@ use Rattle.tt_page_weeks.specs.Grids.{day_head}
 use Rattle.tt_page_weeks.proofs.grids.put_day_heads.Given as goal
 
 abbrev pub invariant-loop-day : goal.invariant-loop-day
-invariant-loop-day l = l.out.items ≡ l.initial.out.items ++ flat_map (day_head l.labels) (range_below l.day)
+invariant-loop-day l = l.out ≡ l.initial.out ++ flat_map (day_head l.labels) (range_below l.day)

@@ -1,7 +1,6 @@
 use Rattle.std.proofs.Common.{◌≡◌, ◌<◌, All, length, subst, sym, ◌∙◌}
-use Rattle.std.proofs.lemmas.Result.{on_ok_weaker}
 use Rattle.tt_page_weeks.specs.Grids.{own_courses, grid_text}
-use Rattle.tt_page_text.proofs.Growing.{then_more}
+use Rattle.tt_page_text.proofs.Growing.{then_more, then_puts}
 use Rattle.tt_page_weeks.proofs.Passing.{own_courses_there}
 use Rattle.tt_page_weeks.proofs.grids.put_grid.Goals as goal
 
@@ -19,6 +18,4 @@ returns c =
     let title = rw c.instance-instance.ensures at c.in_ok-put_grid_title.ensures in
     let days = rw c.instance-instance.ensures at c.in_ok-put_day_heads.ensures in
     let rows = rw own at c.in_ok-put_rows.ensures in
-    on_ok_weaker c.put_token-2.result
-    (λ last. then_more _ _ _ _ _ (then_more _ _ _ _ _ (then_more _ _ _ _ _ (then_more _ _ _ _ _ title days) c.in_ok-put_token.ensures.ok) rows) last)
-    c.put_token-2.ensures.ok
+    then_puts c.put_token-2.result _ _ _ _ _ (then_more _ _ _ _ _ (then_more _ _ _ _ _ (then_more _ _ _ _ _ title days) c.in_ok-put_token.ensures.puts) rows) c.put_token-2.ensures.puts

@@ -15,7 +15,7 @@ loop-entry-preserved-in-Continue-1 c =
     let first = c.in-Some.ensures.steps in
     let own : belongs_to p c.args.kind c.args.number e ≡ true = ap (λ (q : Problem). belongs_to q c.args.kind c.args.number e) (sym c.instance.ensures) ∙ sym c.has.ensures ∙ c.if-has.true in
     record {
-      text = shown_one (belongs_to p c.args.kind c.args.number) (lecture_text p t c.args.labels.now c.args.kind c.args.number) e c.next.new.self c.loop-entry.entry-iterator _ c.loop-entry.out.items c.put_lecture.new.out.items first own c.in_ok-put_lecture.ensures c.loop-entry.invariant.text;
+      text = shown_one (belongs_to p c.args.kind c.args.number) (lecture_text p t c.args.labels.now c.args.kind c.args.number) e c.next.new.self c.loop-entry.entry-iterator _ c.loop-entry.out c.put_lecture.new.out first own c.in_ok-put_lecture.ensures c.loop-entry.invariant.text;
       left = All-tail (InRange p) e c.next.new.self (subst (All (InRange p)) first c.loop-entry.invariant.left);
     }
 
@@ -27,6 +27,6 @@ loop-entry-preserved c =
     let first = c.in-Some.ensures.steps in
     let other : belongs_to p c.args.kind c.args.number e ≡ false = ap (λ (q : Problem). belongs_to q c.args.kind c.args.number e) (sym c.instance.ensures) ∙ sym c.has.ensures ∙ c.if-has.false in
     record {
-      text = passed_one (belongs_to p c.args.kind c.args.number) (lecture_text p t c.args.labels.now c.args.kind c.args.number) e c.next.new.self c.loop-entry.entry-iterator _ c.loop-entry.out.items first other c.loop-entry.invariant.text;
+      text = passed_one (belongs_to p c.args.kind c.args.number) (lecture_text p t c.args.labels.now c.args.kind c.args.number) e c.next.new.self c.loop-entry.entry-iterator _ c.loop-entry.out first other c.loop-entry.invariant.text;
       left = All-tail (InRange p) e c.next.new.self (subst (All (InRange p)) first c.loop-entry.invariant.left);
     }

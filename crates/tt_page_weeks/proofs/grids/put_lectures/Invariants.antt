@@ -7,6 +7,6 @@ use Rattle.tt_page_weeks.proofs.grids.put_lectures.Given as goal
 
 abbrev pub invariant-loop-entry : goal.invariant-loop-entry
 invariant-loop-entry l = record {
-  text : l.out.items ++ flat_map (lecture_text l.plan.problem l.plan.table l.labels l.kind l.number) (filter (belongs_to l.plan.problem l.kind l.number) l.entry-iterator) ≡ l.fn.out.items ++ flat_map (lecture_text l.plan.problem l.plan.table l.labels l.kind l.number) (filter (belongs_to l.plan.problem l.kind l.number) l.fn.entries);
+  text : l.out ++ flat_map (lecture_text l.plan.problem l.plan.table l.labels l.kind l.number) (filter (belongs_to l.plan.problem l.kind l.number) l.entry-iterator) ≡ l.fn.out ++ flat_map (lecture_text l.plan.problem l.plan.table l.labels l.kind l.number) (filter (belongs_to l.plan.problem l.kind l.number) l.fn.entries);
   left : All (InRange l.plan.problem) l.entry-iterator;
 }

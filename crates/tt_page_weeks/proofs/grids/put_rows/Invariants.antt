@@ -5,4 +5,4 @@ use Rattle.tt_page_weeks.specs.Grids.{row_text}
 use Rattle.tt_page_weeks.proofs.grids.put_rows.Given as goal
 
 abbrev pub invariant-loop-period : goal.invariant-loop-period
-invariant-loop-period l = l.out.items ≡ l.initial.out.items ++ flat_map (row_text l.plan.problem l.plan.table l.labels l.kind l.number l.own) (range_below l.period)
+invariant-loop-period l = l.out ≡ l.initial.out ++ flat_map (row_text l.plan.problem l.plan.table l.labels l.kind l.number l.own) (range_below l.period)

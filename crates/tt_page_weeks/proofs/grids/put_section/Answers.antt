@@ -1,6 +1,5 @@
-use Rattle.std.proofs.lemmas.Result.{on_ok_weaker}
 use Rattle.tt_page_weeks.specs.Grids.{section_text}
-use Rattle.tt_page_text.proofs.Growing.{then_more}
+use Rattle.tt_page_text.proofs.Growing.{then_more, then_puts}
 use Rattle.tt_page_weeks.proofs.grids.put_section.Goals as goal
 
 pub returns : goal.returns
@@ -9,6 +8,4 @@ returns c =
     let head = rw c.instance.ensures at c.in_ok-put_section_head.ensures in
     let index = rw (c.instance-2.ensures, c.in_order-numbers.ensures.value) at c.in_ok-put_index.ensures in
     let grids = rw c.in_order-numbers.ensures.value at c.in_ok-put_grids.ensures in
-    on_ok_weaker c.put_token-2.result
-    (λ last. then_more _ _ _ _ _ (then_more _ _ _ _ _ (then_more _ _ _ _ _ (then_more _ _ _ _ _ head index) c.in_ok-put_token.ensures.ok) grids) last)
-    c.put_token-2.ensures.ok
+    then_puts c.put_token-2.result _ _ _ _ _ (then_more _ _ _ _ _ (then_more _ _ _ _ _ (then_more _ _ _ _ _ head index) c.in_ok-put_token.ensures.puts) grids) c.put_token-2.ensures.puts

@@ -1,6 +1,5 @@
-use Rattle.std.proofs.lemmas.Result.{on_ok_weaker}
 use Rattle.tt_page_weeks.specs.Lectures.{marks_text}
-use Rattle.tt_page_text.proofs.Growing.{then_more}
+use Rattle.tt_page_text.proofs.Growing.{then_more, then_puts}
 use Rattle.tt_page_weeks.proofs.lectures.put_marks.Goals as goal
 
 pub returns : goal.returns
@@ -11,7 +10,5 @@ returns c =
     let taken = rw c.is_room_taken.ensures at c.in_ok-put_mark-3.ensures in
     let again = rw c.is_repeated.ensures at c.in_ok-put_mark-4.ensures in
     let seats = rw (c.without_seat.ensures.value, c.instance-instance.ensures) at c.in_ok-put_counted.ensures in
-    on_ok_weaker c.put_mark-5.result
-    (λ last. then_more _ _ _ _ _ (then_more _ _ _ _ _ (then_more _ _ _ _ _ (then_more _ _ _ _ _ (then_more _ _ _ _ _ (then_more _ _ _ _ _
-    conflict barred) taken) again) c.in_ok-put_isolated.ensures) seats) (rw c.is_in_other_room.ensures at last))
-    c.put_mark-5.ensures
+    then_puts c.put_mark-5.result _ _ _ _ _ (then_more _ _ _ _ _ (then_more _ _ _ _ _ (then_more _ _ _ _ _ (then_more _ _ _ _ _ (then_more _ _ _ _ _
+    conflict barred) taken) again) c.in_ok-put_isolated.ensures) seats) (rw c.is_in_other_room.ensures at c.put_mark-5.ensures)
