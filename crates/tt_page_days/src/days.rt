@@ -1,29 +1,28 @@
 //! The days of a page: a table for each, with a row for each room and a column for each period.
 
-ghost use Rattle.std.specs.Prelude.{◌≡◌, ◌<◌, ◌++◌, length, flat_map, All, OnOk};
+ghost use Rattle.std.specs.Prelude.{◌<◌, length, flat_map, All};
 ghost use Rattle.tt_lists.specs.Words.{range_below};
+ghost use Rattle.tt_page_text.specs.Puts.{Puts};
 ghost use Rattle.tt_page_days.specs.Days.{room_cell, room_row_head, room_row, day_grid_head, day_table_head, day_title, period_head, day_grid, day_link_head, day_index_item, days_head, days_text};
 
-use std::alloc::AllocError;
-use tt_instance_data::Instance;
+use tt_instance::Instance;
 use tt_page_plan::{Kind, Plan, put_week_link};
-use tt_page_text::{Labels, Part, put, put_day, put_period};
+use tt_page_text::{Labels, PageText, Part, TextFault, put, put_day, put_period, put_token};
 use tt_page_weeks::{put_lectures, put_paper_name};
-use tt_text::put_token;
 
 /// Appends the lectures in a room in a period of a day.
 #[tactic(auto, unfolding(crate::specs::Days::room_cell))]
 fn put_room_cell(
-    out: &mut Vec<u8>,
+    out: &mut PageText,
     plan: &Plan<'_, '_>,
     labels: &Labels,
     day: u32,
     room: u32,
     period: u32,
-) -> Result<(), AllocError>
+) -> Result<(), TextFault>
     requires day { day < plan.now.problem.days }
     requires period { period < plan.now.problem.periods }
-    ensures { OnOk result (out.new.items ≡ out.old.items ++ room_cell plan.now.problem plan.now.table labels.now day room period) }
+    ensures { Puts result out.old out.new (room_cell plan.now.problem plan.now.table labels.now day room period) }
 {
     put_token(out, b"<td>\n")?;
     let entries = plan.in_period(day, period);
@@ -31,17 +30,16 @@ fn put_room_cell(
     put_token(out, b"</td>\n")
 }
 
-#[tactic(auto, using(tt_page_text::proofs::Growing::text_further))]
+#[tactic(auto, using(tt_page_text::proofs::Growing::text_further, tt_page_text::proofs::Growing::text_within))]
 fn put_room_cells(
-    out: &mut Vec<u8>,
+    out: &mut PageText,
     plan: &Plan<'_, '_>,
     labels: &Labels,
     day: u32,
     room: u32,
-) -> Result<(), AllocError>
+) -> Result<(), TextFault>
     requires day { day < plan.now.problem.days }
-    ensures { OnOk result (out.new.items ≡ out.old.items
-        ++ flat_map (room_cell plan.now.problem plan.now.table labels.now day room) (range_below plan.now.problem.periods)) }
+    ensures { Puts result out.old out.new (flat_map (room_cell plan.now.problem plan.now.table labels.now day room) (range_below plan.now.problem.periods)) }
 {
     for period in 0..plan.instance().periods() {
         put_room_cell(out, plan, labels, day, room, period)?;
@@ -51,12 +49,12 @@ fn put_room_cells(
 
 #[tactic(auto, unfolding(crate::specs::Days::room_row_head))]
 fn put_room_row_head(
-    out: &mut Vec<u8>,
+    out: &mut PageText,
     instance: &Instance<'_>,
     room: u32,
-) -> Result<(), AllocError>
+) -> Result<(), TextFault>
     requires { room < length instance.now.rooms }
-    ensures { OnOk result (out.new.items ≡ out.old.items ++ room_row_head instance.now room) }
+    ensures { Puts result out.old out.new (room_row_head instance.now room) }
 {
     put_token(out, b"<tr>\n<th scope=\"row\">")?;
     put_week_link(out, instance, Kind::Room, room)?;
@@ -66,15 +64,15 @@ fn put_room_row_head(
 /// Appends the row of a room.
 #[tactic(auto, unfolding(crate::specs::Days::room_row))]
 fn put_room_row(
-    out: &mut Vec<u8>,
+    out: &mut PageText,
     plan: &Plan<'_, '_>,
     labels: &Labels,
     day: u32,
     room: u32,
-) -> Result<(), AllocError>
+) -> Result<(), TextFault>
     requires day { day < plan.now.problem.days }
     requires room { room < length plan.now.problem.rooms }
-    ensures { OnOk result (out.new.items ≡ out.old.items ++ room_row plan.now.problem plan.now.table labels.now day room) }
+    ensures { Puts result out.old out.new (room_row plan.now.problem plan.now.table labels.now day room) }
 {
     put_room_row_head(out, plan.instance(), room)?;
     put_room_cells(out, plan, labels, day, room)?;
@@ -82,17 +80,17 @@ fn put_room_row(
 }
 
 /// Appends the rows of some rooms.
-#[tactic(auto, using(tt_page_text::proofs::Growing::taken_further))]
+#[tactic(auto, using(tt_page_text::proofs::Growing::taken_further, tt_page_text::proofs::Growing::taken_within))]
 fn put_room_rows(
-    out: &mut Vec<u8>,
+    out: &mut PageText,
     plan: &Plan<'_, '_>,
     labels: &Labels,
     day: u32,
     rooms: &[u32],
-) -> Result<(), AllocError>
+) -> Result<(), TextFault>
     requires day { day < plan.now.problem.days }
     requires rooms { All (λ r. r < length plan.now.problem.rooms) rooms.now }
-    ensures { OnOk result (out.new.items ≡ out.old.items ++ flat_map (room_row plan.now.problem plan.now.table labels.now day) rooms.now) }
+    ensures { Puts result out.old out.new (flat_map (room_row plan.now.problem plan.now.table labels.now day) rooms.now) }
 {
     for room in rooms {
         put_room_row(out, plan, labels, day, *room)?;
@@ -101,8 +99,8 @@ fn put_room_rows(
 }
 
 #[tactic(auto, unfolding(crate::specs::Days::day_grid_head))]
-fn put_day_grid_head(out: &mut Vec<u8>, day: u32) -> Result<(), AllocError>
-    ensures { OnOk result (out.new.items ≡ out.old.items ++ day_grid_head day) }
+fn put_day_grid_head(out: &mut PageText, day: u32) -> Result<(), TextFault>
+    ensures { Puts result out.old out.new (day_grid_head day) }
 {
     put(
         out,
@@ -117,8 +115,8 @@ fn put_day_grid_head(out: &mut Vec<u8>, day: u32) -> Result<(), AllocError>
 }
 
 #[tactic(auto, unfolding(crate::specs::Days::day_table_head))]
-fn put_day_table_head(out: &mut Vec<u8>, day: u32) -> Result<(), AllocError>
-    ensures { OnOk result (out.new.items ≡ out.old.items ++ day_table_head day) }
+fn put_day_table_head(out: &mut PageText, day: u32) -> Result<(), TextFault>
+    ensures { Puts result out.old out.new (day_table_head day) }
 {
     put(
         out,
@@ -133,12 +131,12 @@ fn put_day_table_head(out: &mut Vec<u8>, day: u32) -> Result<(), AllocError>
 /// Appends the heading of a day, and the beginning of its table.
 #[tactic(auto, unfolding(crate::specs::Days::day_title))]
 fn put_day_title(
-    out: &mut Vec<u8>,
+    out: &mut PageText,
     instance: &Instance<'_>,
     labels: &Labels,
     day: u32,
-) -> Result<(), AllocError>
-    ensures { OnOk result (out.new.items ≡ out.old.items ++ day_title instance.now labels.now day) }
+) -> Result<(), TextFault>
+    ensures { Puts result out.old out.new (day_title instance.now labels.now day) }
 {
     put_day_grid_head(out, day)?;
     put_day(out, labels, day)?;
@@ -148,21 +146,21 @@ fn put_day_title(
 }
 
 #[tactic(auto, unfolding(crate::specs::Days::period_head))]
-fn put_period_head(out: &mut Vec<u8>, labels: &Labels, period: u32) -> Result<(), AllocError>
-    ensures { OnOk result (out.new.items ≡ out.old.items ++ period_head labels.now period) }
+fn put_period_head(out: &mut PageText, labels: &Labels, period: u32) -> Result<(), TextFault>
+    ensures { Puts result out.old out.new (period_head labels.now period) }
 {
     put_token(out, b"<th scope=\"col\">")?;
     put_period(out, labels, period)?;
     put_token(out, b"</th>\n")
 }
 
-#[tactic(auto, using(tt_page_text::proofs::Growing::text_further))]
+#[tactic(auto, using(tt_page_text::proofs::Growing::text_further, tt_page_text::proofs::Growing::text_within))]
 fn put_period_heads(
-    out: &mut Vec<u8>,
+    out: &mut PageText,
     instance: &Instance<'_>,
     labels: &Labels,
-) -> Result<(), AllocError>
-    ensures { OnOk result (out.new.items ≡ out.old.items ++ flat_map (period_head labels.now) (range_below instance.now.periods)) }
+) -> Result<(), TextFault>
+    ensures { Puts result out.old out.new (flat_map (period_head labels.now) (range_below instance.now.periods)) }
 {
     for period in 0..instance.periods() {
         put_period_head(out, labels, period)?;
@@ -173,13 +171,13 @@ fn put_period_heads(
 /// Appends the table of a day.
 #[tactic(auto, unfolding(crate::specs::Days::day_grid))]
 fn put_day_grid(
-    out: &mut Vec<u8>,
+    out: &mut PageText,
     plan: &Plan<'_, '_>,
     labels: &Labels,
     day: u32,
-) -> Result<(), AllocError>
+) -> Result<(), TextFault>
     requires { day < plan.now.problem.days }
-    ensures { OnOk result (out.new.items ≡ out.old.items ++ day_grid plan.now.problem plan.now.table labels.now day) }
+    ensures { Puts result out.old out.new (day_grid plan.now.problem plan.now.table labels.now day) }
 {
     let rooms = plan.in_order(Kind::Room);
     put_day_title(out, plan.instance(), labels, day)?;
@@ -189,10 +187,9 @@ fn put_day_grid(
     put_token(out, b"</tbody>\n</table>\n</div>\n")
 }
 
-#[tactic(auto, using(tt_page_text::proofs::Growing::text_further))]
-fn put_day_grids(out: &mut Vec<u8>, plan: &Plan<'_, '_>, labels: &Labels) -> Result<(), AllocError>
-    ensures { OnOk result (out.new.items ≡ out.old.items
-        ++ flat_map (day_grid plan.now.problem plan.now.table labels.now) (range_below plan.now.problem.days)) }
+#[tactic(auto, using(tt_page_text::proofs::Growing::text_further, tt_page_text::proofs::Growing::text_within))]
+fn put_day_grids(out: &mut PageText, plan: &Plan<'_, '_>, labels: &Labels) -> Result<(), TextFault>
+    ensures { Puts result out.old out.new (flat_map (day_grid plan.now.problem plan.now.table labels.now) (range_below plan.now.problem.days)) }
 {
     for day in 0..plan.instance().days() {
         put_day_grid(out, plan, labels, day)?;
@@ -201,8 +198,8 @@ fn put_day_grids(out: &mut Vec<u8>, plan: &Plan<'_, '_>, labels: &Labels) -> Res
 }
 
 #[tactic(auto, unfolding(crate::specs::Days::day_link_head))]
-fn put_day_link_head(out: &mut Vec<u8>, day: u32) -> Result<(), AllocError>
-    ensures { OnOk result (out.new.items ≡ out.old.items ++ day_link_head day) }
+fn put_day_link_head(out: &mut PageText, day: u32) -> Result<(), TextFault>
+    ensures { Puts result out.old out.new (day_link_head day) }
 {
     put(
         out,
@@ -215,8 +212,8 @@ fn put_day_link_head(out: &mut Vec<u8>, day: u32) -> Result<(), AllocError>
 }
 
 #[tactic(auto, unfolding(crate::specs::Days::day_index_item))]
-fn put_day_index_item(out: &mut Vec<u8>, labels: &Labels, day: u32) -> Result<(), AllocError>
-    ensures { OnOk result (out.new.items ≡ out.old.items ++ day_index_item labels.now day) }
+fn put_day_index_item(out: &mut PageText, labels: &Labels, day: u32) -> Result<(), TextFault>
+    ensures { Puts result out.old out.new (day_index_item labels.now day) }
 {
     put_day_link_head(out, day)?;
     put_day(out, labels, day)?;
@@ -224,13 +221,13 @@ fn put_day_index_item(out: &mut Vec<u8>, labels: &Labels, day: u32) -> Result<()
 }
 
 /// Appends the links to the days.
-#[tactic(auto, using(tt_page_text::proofs::Growing::text_further))]
+#[tactic(auto, using(tt_page_text::proofs::Growing::text_further, tt_page_text::proofs::Growing::text_within))]
 fn put_day_index(
-    out: &mut Vec<u8>,
+    out: &mut PageText,
     instance: &Instance<'_>,
     labels: &Labels,
-) -> Result<(), AllocError>
-    ensures { OnOk result (out.new.items ≡ out.old.items ++ flat_map (day_index_item labels.now) (range_below instance.now.days)) }
+) -> Result<(), TextFault>
+    ensures { Puts result out.old out.new (flat_map (day_index_item labels.now) (range_below instance.now.days)) }
 {
     for day in 0..instance.days() {
         put_day_index_item(out, labels, day)?;
@@ -239,8 +236,8 @@ fn put_day_index(
 }
 
 #[tactic(auto, unfolding(crate::specs::Days::days_head))]
-fn put_days_head(out: &mut Vec<u8>, days: u32) -> Result<(), AllocError>
-    ensures { OnOk result (out.new.items ≡ out.old.items ++ days_head days) }
+fn put_days_head(out: &mut PageText, days: u32) -> Result<(), TextFault>
+    ensures { Puts result out.old out.new (days_head days) }
 {
     put(
         out,
@@ -254,8 +251,8 @@ fn put_days_head(out: &mut Vec<u8>, days: u32) -> Result<(), AllocError>
 
 /// Appends the section of all days.
 #[tactic(auto, unfolding(crate::specs::Days::days_text))]
-pub fn put_days(out: &mut Vec<u8>, plan: &Plan<'_, '_>, labels: &Labels) -> Result<(), AllocError>
-    ensures { OnOk result (out.new.items ≡ out.old.items ++ days_text plan.now.problem plan.now.table labels.now) }
+pub fn put_days(out: &mut PageText, plan: &Plan<'_, '_>, labels: &Labels) -> Result<(), TextFault>
+    ensures { Puts result out.old out.new (days_text plan.now.problem plan.now.table labels.now) }
 {
     put_days_head(out, plan.instance().days())?;
     put_day_index(out, plan.instance(), labels)?;

@@ -1,6 +1,5 @@
-use Rattle.std.proofs.lemmas.Result.{on_ok_weaker}
 use Rattle.tt_page_days.specs.Days.{day_grid}
-use Rattle.tt_page_text.proofs.Growing.{then_more}
+use Rattle.tt_page_text.proofs.Growing.{then_more, then_puts}
 use Rattle.tt_page_days.proofs.days.put_day_grid.Goals as goal
 
 pub returns : goal.returns
@@ -9,6 +8,4 @@ returns c =
     let title = rw c.instance.ensures at c.in_ok-put_day_title.ensures in
     let heads = rw c.instance-2.ensures at c.in_ok-put_period_heads.ensures in
     let rows = rw c.in_order-rooms.ensures.value at c.in_ok-put_room_rows.ensures in
-    on_ok_weaker c.put_token-2.result
-    (λ last. then_more _ _ _ _ _ (then_more _ _ _ _ _ (then_more _ _ _ _ _ (then_more _ _ _ _ _ title heads) c.in_ok-put_token.ensures.ok) rows) last)
-    c.put_token-2.ensures.ok
+    then_puts c.put_token-2.result _ _ _ _ _ (then_more _ _ _ _ _ (then_more _ _ _ _ _ (then_more _ _ _ _ _ title heads) c.in_ok-put_token.ensures.puts) rows) c.put_token-2.ensures.puts

@@ -5,4 +5,4 @@ use Rattle.tt_page_days.specs.Days.{day_index_item}
 use Rattle.tt_page_days.proofs.days.put_day_index.Given as goal
 
 abbrev pub invariant-loop-day : goal.invariant-loop-day
-invariant-loop-day l = l.out.items ≡ l.initial.out.items ++ flat_map (day_index_item l.labels) (range_below l.day)
+invariant-loop-day l = l.out ≡ l.initial.out ++ flat_map (day_index_item l.labels) (range_below l.day)

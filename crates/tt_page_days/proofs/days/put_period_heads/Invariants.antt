@@ -5,4 +5,4 @@ use Rattle.tt_page_days.specs.Days.{period_head}
 use Rattle.tt_page_days.proofs.days.put_period_heads.Given as goal
 
 abbrev pub invariant-loop-period : goal.invariant-loop-period
-invariant-loop-period l = l.out.items ≡ l.initial.out.items ++ flat_map (period_head l.labels) (range_below l.period)
+invariant-loop-period l = l.out ≡ l.initial.out ++ flat_map (period_head l.labels) (range_below l.period)
