@@ -1,3 +1,5 @@
 pub mod Courses
+pub mod Faults
 pub mod Heading
+pub mod Limits
 pub mod Pages

@@ -1,27 +1,26 @@
 //! The rows of the courses.
 
-ghost use Rattle.std.specs.Prelude.{◌≡◌, ◌<◌, ◌++◌, length, flat_map, OnOk};
+ghost use Rattle.std.specs.Prelude.{◌<◌, length, flat_map};
 ghost use Rattle.tt_lists.specs.Words.{range_below};
-ghost use Rattle.tt_page.specs.Courses.{rooms_text, room_text, course_marks, course_numbers, course_row, courses_head_text, courses_text};
+ghost use Rattle.tt_page_text.specs.Puts.{Puts};
+ghost use Rattle.tt_page.specs.Courses.{rooms_text, room_text, course_marks, course_numbers, course_head, course_row, courses_head_text, courses_text};
 
-use std::alloc::AllocError;
 use tt_page_plan::{
     Kind, Plan, course_name, days_of, entries_of, is_taught_in, lectures_off, missing_days,
     other_rooms, put_teacher_link, put_week_link,
 };
-use tt_page_text::{Part, put, put_counted};
-use tt_text::put_token;
+use tt_page_text::{PageText, Part, TextFault, put, put_counted, put_token};
 
 #[tactic(auto, unfolding(crate::specs::Courses::room_text))]
 fn put_room(
-    out: &mut Vec<u8>,
+    out: &mut PageText,
     plan: &Plan<'_, '_>,
     course: u32,
     room: u32,
-) -> Result<(), AllocError>
+) -> Result<(), TextFault>
     requires course { course < length plan.now.problem.courses }
     requires room { room < length plan.now.problem.rooms }
-    ensures { OnOk result (out.new.items ≡ out.old.items ++ room_text plan.now.problem plan.now.table course room) }
+    ensures { Puts result out.old out.new (room_text plan.now.problem plan.now.table course room) }
 {
     if !is_taught_in(plan, course, room) {
         return Ok(());
@@ -31,10 +30,10 @@ fn put_room(
 }
 
 /// Appends the rooms of a course, in the order of the instance.
-#[tactic(auto, using(tt_page_text::proofs::Growing::text_further), unfolding(crate::specs::Courses::rooms_text))]
-fn put_rooms(out: &mut Vec<u8>, plan: &Plan<'_, '_>, course: u32) -> Result<(), AllocError>
+#[tactic(auto, using(tt_page_text::proofs::Growing::text_further, tt_page_text::proofs::Growing::text_within), unfolding(crate::specs::Courses::rooms_text))]
+fn put_rooms(out: &mut PageText, plan: &Plan<'_, '_>, course: u32) -> Result<(), TextFault>
     requires { course < length plan.now.problem.courses }
-    ensures { OnOk result (out.new.items ≡ out.old.items ++ rooms_text plan.now.problem plan.now.table course) }
+    ensures { Puts result out.old out.new (rooms_text plan.now.problem plan.now.table course) }
 {
     for room in 0..plan.instance().rooms() {
         put_room(out, plan, course, room)?;
@@ -44,9 +43,9 @@ fn put_rooms(out: &mut Vec<u8>, plan: &Plan<'_, '_>, course: u32) -> Result<(), 
 
 /// Appends what is wrong with all lectures of a course together.
 #[tactic(auto, unfolding(crate::specs::Courses::course_marks))]
-fn put_course_marks(out: &mut Vec<u8>, plan: &Plan<'_, '_>, course: u32) -> Result<(), AllocError>
+fn put_course_marks(out: &mut PageText, plan: &Plan<'_, '_>, course: u32) -> Result<(), TextFault>
     requires { course < length plan.now.problem.courses }
-    ensures { OnOk result (out.new.items ≡ out.old.items ++ course_marks plan.now.problem plan.now.table course) }
+    ensures { Puts result out.old out.new (course_marks plan.now.problem plan.now.table course) }
 {
     let lectures = lectures_off(plan, course);
     put_counted(out, " <strong>lectures: ", lectures, "</strong>")?;
@@ -58,9 +57,9 @@ fn put_course_marks(out: &mut Vec<u8>, plan: &Plan<'_, '_>, course: u32) -> Resu
 
 /// Appends the students, the lectures needed and placed, and the days needed and reached.
 #[tactic(auto, unfolding(crate::specs::Courses::course_numbers))]
-fn put_course_numbers(out: &mut Vec<u8>, plan: &Plan<'_, '_>, course: u32) -> Result<(), AllocError>
+fn put_course_numbers(out: &mut PageText, plan: &Plan<'_, '_>, course: u32) -> Result<(), TextFault>
     requires { course < length plan.now.problem.courses }
-    ensures { OnOk result (out.new.items ≡ out.old.items ++ course_numbers plan.now.problem plan.now.table course) }
+    ensures { Puts result out.old out.new (course_numbers plan.now.problem plan.now.table course) }
 {
     let instance = plan.instance();
     let students = instance.students(course);
@@ -86,11 +85,11 @@ fn put_course_numbers(out: &mut Vec<u8>, plan: &Plan<'_, '_>, course: u32) -> Re
     )
 }
 
-/// Appends the row of a course.
-#[tactic(auto, unfolding(crate::specs::Courses::course_row))]
-fn put_course(out: &mut Vec<u8>, plan: &Plan<'_, '_>, course: u32) -> Result<(), AllocError>
+/// Appends the beginning of a course's row: its name.
+#[tactic(auto, unfolding(crate::specs::Courses::course_head))]
+fn put_course_head(out: &mut PageText, plan: &Plan<'_, '_>, course: u32) -> Result<(), TextFault>
     requires { course < length plan.now.problem.courses }
-    ensures { OnOk result (out.new.items ≡ out.old.items ++ course_row plan.now.problem plan.now.table course) }
+    ensures { Puts result out.old out.new (course_head plan.now.problem course) }
 {
     let name = course_name(plan.instance(), course);
     put(
@@ -102,7 +101,16 @@ fn put_course(out: &mut Vec<u8>, plan: &Plan<'_, '_>, course: u32) -> Result<(),
             Part::Name(name),
             Part::Text("</th>\n<td>"),
         ],
-    )?;
+    )
+}
+
+/// Appends the row of a course.
+#[tactic(auto, unfolding(crate::specs::Courses::course_row))]
+fn put_course(out: &mut PageText, plan: &Plan<'_, '_>, course: u32) -> Result<(), TextFault>
+    requires { course < length plan.now.problem.courses }
+    ensures { Puts result out.old out.new (course_row plan.now.problem plan.now.table course) }
+{
+    put_course_head(out, plan, course)?;
     put_teacher_link(out, plan.instance(), course)?;
     put_course_numbers(out, plan, course)?;
     put_rooms(out, plan, course)?;
@@ -111,10 +119,9 @@ fn put_course(out: &mut Vec<u8>, plan: &Plan<'_, '_>, course: u32) -> Result<(),
     put_token(out, b"</td>\n</tr>\n")
 }
 
-#[tactic(auto, using(tt_page_text::proofs::Growing::text_further))]
-fn put_rows(out: &mut Vec<u8>, plan: &Plan<'_, '_>) -> Result<(), AllocError>
-    ensures { OnOk result (out.new.items ≡ out.old.items
-        ++ flat_map (course_row plan.now.problem plan.now.table) (range_below (length plan.now.problem.courses))) }
+#[tactic(auto, using(tt_page_text::proofs::Growing::text_further, tt_page_text::proofs::Growing::text_within))]
+fn put_rows(out: &mut PageText, plan: &Plan<'_, '_>) -> Result<(), TextFault>
+    ensures { Puts result out.old out.new (flat_map (course_row plan.now.problem plan.now.table) (range_below (length plan.now.problem.courses))) }
 {
     for course in 0..plan.instance().courses() {
         put_course(out, plan, course)?;
@@ -127,8 +134,8 @@ const HEAD: &str =
     "</small></h2></summary>\n<div class=\"list\">\n<table>\n<caption>Courses</caption>\n<thead>\n<tr>\n<th scope=\"col\">Course</th>\n<th scope=\"col\">Teacher</th>\n<th scope=\"col\">Students</th>\n<th scope=\"col\">Lectures</th>\n<th scope=\"col\">Placed</th>\n<th scope=\"col\">Least days</th>\n<th scope=\"col\">Days</th>\n<th scope=\"col\">Rooms</th>\n<th scope=\"col\">Marks</th>\n</tr>\n</thead>\n<tbody>\n";
 
 #[tactic(auto, unfolding(crate::specs::Courses::courses_head_text, crate::specs::Courses::courses_head))]
-fn put_courses_head(out: &mut Vec<u8>, courses: u32) -> Result<(), AllocError>
-    ensures { OnOk result (out.new.items ≡ out.old.items ++ courses_head_text courses) }
+fn put_courses_head(out: &mut PageText, courses: u32) -> Result<(), TextFault>
+    ensures { Puts result out.old out.new (courses_head_text courses) }
 {
     put(
         out,
@@ -142,8 +149,8 @@ fn put_courses_head(out: &mut Vec<u8>, courses: u32) -> Result<(), AllocError>
 
 /// Appends the rows of all courses.
 #[tactic(auto, unfolding(crate::specs::Courses::courses_text))]
-pub fn put_courses(out: &mut Vec<u8>, plan: &Plan<'_, '_>) -> Result<(), AllocError>
-    ensures { OnOk result (out.new.items ≡ out.old.items ++ courses_text plan.now.problem plan.now.table) }
+pub fn put_courses(out: &mut PageText, plan: &Plan<'_, '_>) -> Result<(), TextFault>
+    ensures { Puts result out.old out.new (courses_text plan.now.problem plan.now.table) }
 {
     put_courses_head(out, plan.instance().courses())?;
     put_rows(out, plan)?;

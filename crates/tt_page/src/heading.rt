@@ -1,25 +1,23 @@
 //! The head of a page, and its header.
 
-ghost use Rattle.std.specs.Prelude.{◌≡◌, ◌++◌, OnOk};
 ghost use Rattle.tt_rules.specs.Score.{IsScore};
+ghost use Rattle.tt_page_text.specs.Puts.{Puts};
 ghost use Rattle.tt_page.specs.Heading.{head_text, contents_text, verdict_text, best_text, gap_text, least_text, nothing_text, bound_text, proved_text, sizes_text, header_text, legend_text};
 
-use std::alloc::AllocError;
-use tt_instance_data::Instance;
-use tt_leaf_data::Bound;
+use tt_instance::Instance;
+use tt_leaf_rules::Bound;
 use tt_page_plan::{Plan, put_name};
-use tt_page_text::{Part, put};
+use tt_page_text::{PageText, Part, TextFault, put, put_token};
 use tt_rules::Score;
-use tt_text::put_token;
 
 /// The text before the title.
 const BEFORE_TITLE: &str =
     "<!DOCTYPE html>\n<html lang=\"en\">\n<head>\n<meta charset=\"utf-8\">\n<meta name=\"viewport\" content=\"width=device-width, initial-scale=1\">\n<meta name=\"color-scheme\" content=\"light dark\">\n<title>Timetable";
 
 /// Appends the head, with the page's style.
-#[tactic(auto, unfolding(crate::specs::Heading::head_text))]
-pub fn put_head(out: &mut Vec<u8>, instance: &Instance<'_>, style: &str) -> Result<(), AllocError>
-    ensures { OnOk result (out.new.items ≡ out.old.items ++ head_text instance.now style.now) }
+#[tactic(auto, unfolding(crate::specs::Heading::before_title, crate::specs::Heading::head_text))]
+pub fn put_head(out: &mut PageText, instance: &Instance<'_>, style: &str) -> Result<(), TextFault>
+    ensures { Puts result out.old out.new (head_text instance.now style.now) }
 {
     put_token(out, BEFORE_TITLE.as_bytes())?;
     put_name(out, instance)?;
@@ -33,16 +31,16 @@ const CONTENTS: &str =
     "<a class=\"skip\" href=\"#rooms\">Skip to the weeks</a>\n<nav aria-label=\"Contents\">\n<ul>\n<li><a href=\"#summary\">Summary</a></li>\n<li><a href=\"#rooms\">Rooms</a></li>\n<li><a href=\"#teachers\">Teachers</a></li>\n<li><a href=\"#curricula\">Curricula</a></li>\n<li><a href=\"#daily\">Days</a></li>\n<li><a href=\"#courses\">Courses</a></li>\n</ul>\n</nav>\n<main>\n<header id=\"summary\">\n<h1>Timetable<b>";
 
 #[tactic(auto, unfolding(crate::specs::Heading::contents_text))]
-fn put_contents(out: &mut Vec<u8>) -> Result<(), AllocError>
-    ensures { OnOk result (out.new.items ≡ out.old.items ++ contents_text) }
+fn put_contents(out: &mut PageText) -> Result<(), TextFault>
+    ensures { Puts result out.old out.new contents_text }
 {
     put_token(out, CONTENTS.as_bytes())
 }
 
 /// Appends whether the timetable is feasible, and its cost.
 #[tactic(auto, unfolding(crate::specs::Heading::verdict_text))]
-fn put_verdict(out: &mut Vec<u8>, hard: u64, cost: u64) -> Result<(), AllocError>
-    ensures { OnOk result (out.new.items ≡ out.old.items ++ verdict_text hard cost) }
+fn put_verdict(out: &mut PageText, hard: u64, cost: u64) -> Result<(), TextFault>
+    ensures { Puts result out.old out.new (verdict_text hard cost) }
 {
     if hard == 0 {
         return put(
@@ -67,8 +65,8 @@ fn put_verdict(out: &mut Vec<u8>, hard: u64, cost: u64) -> Result<(), AllocError
 }
 
 #[tactic(auto, unfolding(crate::specs::Heading::gap_text))]
-fn put_gap(out: &mut Vec<u8>, bound: u64, gap: u64) -> Result<(), AllocError>
-    ensures { OnOk result (out.new.items ≡ out.old.items ++ gap_text bound gap) }
+fn put_gap(out: &mut PageText, bound: u64, gap: u64) -> Result<(), TextFault>
+    ensures { Puts result out.old out.new (gap_text bound gap) }
 {
     put(
         out,
@@ -83,8 +81,8 @@ fn put_gap(out: &mut Vec<u8>, bound: u64, gap: u64) -> Result<(), AllocError>
 }
 
 #[tactic(auto, unfolding(crate::specs::Heading::least_text))]
-fn put_least(out: &mut Vec<u8>, bound: u64) -> Result<(), AllocError>
-    ensures { OnOk result (out.new.items ≡ out.old.items ++ least_text bound) }
+fn put_least(out: &mut PageText, bound: u64) -> Result<(), TextFault>
+    ensures { Puts result out.old out.new (least_text bound) }
 {
     put(
         out,
@@ -98,8 +96,8 @@ fn put_least(out: &mut Vec<u8>, bound: u64) -> Result<(), AllocError>
 
 /// Appends what a proved bound on costs says about the timetable.
 #[tactic(auto, unfolding(crate::specs::Heading::best_text))]
-fn put_bound(out: &mut Vec<u8>, hard: u64, cost: u64, bound: u64) -> Result<(), AllocError>
-    ensures { OnOk result (out.new.items ≡ out.old.items ++ bound_text hard cost bound) }
+fn put_bound(out: &mut PageText, hard: u64, cost: u64, bound: u64) -> Result<(), TextFault>
+    ensures { Puts result out.old out.new (bound_text hard cost bound) }
 {
     if hard != 0 {
         put_least(out, bound)
@@ -113,12 +111,12 @@ fn put_bound(out: &mut Vec<u8>, hard: u64, cost: u64, bound: u64) -> Result<(), 
 /// Appends what was proved about the timetable.
 #[tactic(auto, unfolding(crate::specs::Heading::proved_text, crate::specs::Heading::nothing_text))]
 fn put_proved(
-    out: &mut Vec<u8>,
+    out: &mut PageText,
     proved: Option<Bound>,
     hard: u64,
     cost: u64,
-) -> Result<(), AllocError>
-    ensures { OnOk result (out.new.items ≡ out.old.items ++ proved_text proved hard cost) }
+) -> Result<(), TextFault>
+    ensures { Puts result out.old out.new (proved_text proved hard cost) }
 {
     match proved {
         None => Ok(()),
@@ -132,8 +130,8 @@ fn put_proved(
 
 /// Appends the numbers of all things.
 #[tactic(auto, unfolding(crate::specs::Heading::sizes_text))]
-fn put_sizes(out: &mut Vec<u8>, plan: &Plan<'_, '_>) -> Result<(), AllocError>
-    ensures { OnOk result (out.new.items ≡ out.old.items ++ sizes_text plan.now.problem plan.now.table) }
+fn put_sizes(out: &mut PageText, plan: &Plan<'_, '_>) -> Result<(), TextFault>
+    ensures { Puts result out.old out.new (sizes_text plan.now.problem plan.now.table) }
 {
     let instance = plan.instance();
     let courses = instance.courses();
@@ -168,13 +166,13 @@ fn put_sizes(out: &mut Vec<u8>, plan: &Plan<'_, '_>) -> Result<(), AllocError>
 /// Appends the header: name, verdict, what was proved, and sizes.
 #[tactic(auto, unfolding(crate::specs::Heading::header_text))]
 pub fn put_header(
-    out: &mut Vec<u8>,
+    out: &mut PageText,
     plan: &Plan<'_, '_>,
     proved: Option<Bound>,
     score: &Score,
-) -> Result<(), AllocError>
+) -> Result<(), TextFault>
     requires { IsScore plan.now.problem plan.now.table score.now }
-    ensures { OnOk result (out.new.items ≡ out.old.items ++ header_text plan.now.problem plan.now.table proved) }
+    ensures { Puts result out.old out.new (header_text plan.now.problem plan.now.table proved) }
 {
     let hard = score.hard();
     let cost = score.cost();
@@ -191,8 +189,8 @@ const LEGEND: &str =
 
 /// Appends the legend.
 #[tactic(auto, unfolding(crate::specs::Heading::legend_text))]
-pub fn put_legend(out: &mut Vec<u8>) -> Result<(), AllocError>
-    ensures { OnOk result (out.new.items ≡ out.old.items ++ legend_text) }
+pub fn put_legend(out: &mut PageText) -> Result<(), TextFault>
+    ensures { Puts result out.old out.new legend_text }
 {
     put_token(out, LEGEND.as_bytes())
 }

@@ -2,10 +2,12 @@
 #![tactic(auto)]
 
 mod courses;
+mod fault;
 mod heading;
 mod pages;
 mod style;
 
+pub use fault::PageFault;
 pub use pages::{page, text_of};
 pub use style::STYLE;
-pub use tt_page_text::{Labels, LabelsFault, put_shown};
+pub use tt_page_text::{Labels, LabelsFault, MAX_PAGE_BYTES, PageText, TextFault, put_shown};

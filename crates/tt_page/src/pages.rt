@@ -1,41 +1,44 @@
 //! The text of a page, and its output.
 
-ghost use Rattle.std.specs.Prelude.{◌≡◌, ◌++◌, Err, true, if◌then◌else◌, OnOk, IfOk};
+ghost use Rattle.std.specs.Prelude.{◌≡◌, Err, true, if◌then◌else◌, OnOk, IfOk, MatchResult};
 ghost use Rattle.std.specs.Io.KnownBytes.{Appends};
 ghost use Rattle.tt_table.specs.Table.{IsTimetable};
 ghost use Rattle.tt_rules.specs.Score.{IsScore};
 ghost use Rattle.tt_text.specs.Failures.{is_err_and};
 ghost use Rattle.tt_text.specs.Sinks.{TakesPart};
-ghost use Rattle.tt_report.specs.Faults.{is_failed_write};
-ghost use Rattle.tt_report.specs.declared.fault.ReportFault.TheVariants as fault;
+ghost use Rattle.tt_page_text.specs.Puts.{IsTooLarge, Puts};
+ghost use Rattle.tt_page_text.specs.declared.fault.TextFault.TheVariants as text_fault;
+ghost use Rattle.tt_page.specs.Faults.{TellsSize, is_failed_write};
+ghost use Rattle.tt_page.specs.Limits.{IsWithinLimit};
 ghost use Rattle.tt_page.specs.Pages.{counts_text, weeks_text, page_text};
+ghost use Rattle.tt_page.specs.declared.fault.PageFault.TheVariants as fault;
 
 use crate::courses::put_courses;
+use crate::fault::PageFault;
 use crate::heading::{put_head, put_header, put_legend};
-use std::alloc::{AllocError, Global};
-use tt_instance_data::Instance;
-use tt_leaf_data::Bound;
+use std::alloc::Global;
+use tt_instance::Instance;
+use tt_leaf_rules::Bound;
 use tt_page_days::put_days;
 use tt_page_lists::{put_cost_table, put_hard_table, put_lists};
 use tt_page_plan::{Kind, Plan};
-use tt_page_text::Labels;
+use tt_page_text::{Labels, PageText, TextFault, put_token};
 use tt_page_weeks::put_section;
-use tt_report::ReportFault;
 use tt_rules::{Score, score};
 use tt_table::Timetable;
-use tt_text::{Sink, put_token, write_all};
+use tt_text::{Sink, write_all};
 
 /// Appends the counts of the timetable, and the places where they arise.
 #[tactic(auto, unfolding(crate::specs::Pages::counts_text))]
 fn put_counts(
-    out: &mut Vec<u8>,
+    out: &mut PageText,
     plan: &Plan<'_, '_>,
     labels: &Labels,
     proved: Option<Bound>,
     score: &Score,
-) -> Result<(), AllocError>
+) -> Result<(), TextFault>
     requires { IsScore plan.now.problem plan.now.table score.now }
-    ensures { OnOk result (out.new.items ≡ out.old.items ++ counts_text plan.now.problem plan.now.table labels.now proved) }
+    ensures { Puts result out.old out.new (counts_text plan.now.problem plan.now.table labels.now proved) }
 {
     put_header(out, plan, proved, score)?;
     put_hard_table(out, plan, score)?;
@@ -46,8 +49,8 @@ fn put_counts(
 
 /// Appends the weeks, the days, and the courses.
 #[tactic(auto, unfolding(crate::specs::Pages::weeks_text))]
-fn put_weeks(out: &mut Vec<u8>, plan: &Plan<'_, '_>, labels: &Labels) -> Result<(), AllocError>
-    ensures { OnOk result (out.new.items ≡ out.old.items ++ weeks_text plan.now.problem plan.now.table labels.now) }
+fn put_weeks(out: &mut PageText, plan: &Plan<'_, '_>, labels: &Labels) -> Result<(), TextFault>
+    ensures { Puts result out.old out.new (weeks_text plan.now.problem plan.now.table labels.now) }
 {
     put_section(out, plan, labels, Kind::Room)?;
     put_section(out, plan, labels, Kind::Teacher)?;
@@ -56,8 +59,26 @@ fn put_weeks(out: &mut Vec<u8>, plan: &Plan<'_, '_>, labels: &Labels) -> Result<
     put_courses(out, plan)
 }
 
-/// Returns the text of a page.
+/// Appends the text of a page.
 #[tactic(auto, unfolding(crate::specs::Pages::page_text))]
+fn put_page(
+    out: &mut PageText,
+    plan: &Plan<'_, '_>,
+    labels: &Labels,
+    proved: Option<Bound>,
+    score: &Score,
+    style: &str,
+) -> Result<(), TextFault>
+    requires { IsScore plan.now.problem plan.now.table score.now }
+    ensures { Puts result out.old out.new (page_text plan.now.problem plan.now.table labels.now proved style.now) }
+{
+    put_head(out, plan.instance(), style)?;
+    put_counts(out, plan, labels, proved, score)?;
+    put_weeks(out, plan, labels)?;
+    put_token(out, b"</main>\n</body>\n</html>\n")
+}
+
+/// Returns the text of a page, unless it is too large.
 pub fn text_of(
     alloc: Global,
     instance: &Instance<'_>,
@@ -65,18 +86,18 @@ pub fn text_of(
     labels: &Labels,
     proved: Option<Bound>,
     style: &str,
-) -> Result<Vec<u8>, AllocError>
+) -> Result<Vec<u8>, TextFault>
     requires { IsTimetable instance.now table.now }
-    ensures { IfOk result (λ v. v.items ≡ page_text instance.now table.now labels.now proved style.now) }
+    ensures text { IfOk result (λ v. v.items ≡ page_text instance.now table.now labels.now proved style.now) }
+    // It is refused as too large exactly if it has more bytes than a page may have, unless memory runs out.
+    ensures size { let text = page_text instance.now table.now labels.now proved style.now in
+        MatchResult result (λ _. IsWithinLimit text) (λ f. f ≡ text_fault.TooLarge → IsTooLarge text) }
 {
     let plan = Plan::new(alloc, instance, table)?;
     let score = score(instance, table);
-    let mut out = Vec::new(alloc);
-    put_head(&mut out, instance, style)?;
-    put_counts(&mut out, &plan, labels, proved, &score)?;
-    put_weeks(&mut out, &plan, labels)?;
-    put_token(&mut out, b"</main>\n</body>\n</html>\n")?;
-    Ok(out)
+    let mut out = PageText::new(alloc);
+    put_page(&mut out, &plan, labels, proved, &score, style)?;
+    Ok(out.into_bytes())
 }
 
 /// Writes the page of a timetable's week, with names of days and periods, and a style (`STYLE` is the program's). If a bound is proved, the
@@ -89,12 +110,17 @@ pub fn page<W: Sink>(
     proved: Option<Bound>,
     style: &str,
     sink: &mut W,
-) -> Result<(), ReportFault>
+) -> Result<(), PageFault>
     requires { IsTimetable instance.now table.now }
     ensures written { OnOk result (Appends (W.contents sink.old) (W.contents sink.new) (page_text instance.now table.now labels.now proved style.now)) }
     // After a failed write, a part from the front of the text was taken.
     ensures part { result ≡ Err fault.Write → TakesPart (W.contents sink.old) (W.contents sink.new) (page_text instance.now table.now labels.now proved style.now) }
     ensures failed { W.has_failed sink.new ≡ (if is_err_and result is_failed_write then true else W.has_failed sink.old) }
+    // The page is refused as too large exactly if it has more bytes than a page may have, unless memory runs out.
+    ensures size { let text = page_text instance.now table.now labels.now proved style.now in
+        MatchResult result (λ _. IsWithinLimit text) (λ f. TellsSize f text) }
+    // If the page is too large, nothing was written.
+    ensures refused { result ≡ Err fault.TooLarge → sink.new ≡ sink.old }
     // If memory ran out, nothing was written.
     ensures unwritten { result ≡ Err fault.OutOfMemory → sink.new ≡ sink.old }
 {

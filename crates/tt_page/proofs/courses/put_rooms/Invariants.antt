@@ -5,4 +5,4 @@ use Rattle.tt_page.specs.Courses.{room_text}
 use Rattle.tt_page.proofs.courses.put_rooms.Given as goal
 
 abbrev pub invariant-loop-room : goal.invariant-loop-room
-invariant-loop-room l = l.out.items ≡ l.initial.out.items ++ flat_map (room_text l.plan.problem l.plan.table l.course) (range_below l.room)
+invariant-loop-room l = l.out ≡ l.initial.out ++ flat_map (room_text l.plan.problem l.plan.table l.course) (range_below l.room)

@@ -5,4 +5,4 @@ use Rattle.tt_page.specs.Courses.{course_row}
 use Rattle.tt_page.proofs.courses.put_rows.Given as goal
 
 abbrev pub invariant-loop-course : goal.invariant-loop-course
-invariant-loop-course l = l.out.items ≡ l.initial.out.items ++ flat_map (course_row l.plan.problem l.plan.table) (range_below l.course)
+invariant-loop-course l = l.out ≡ l.initial.out ++ flat_map (course_row l.plan.problem l.plan.table) (range_below l.course)
