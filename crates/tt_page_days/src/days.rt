@@ -5,7 +5,7 @@ ghost use Rattle.tt_lists.specs.Words.{range_below};
 ghost use Rattle.tt_page_text.specs.Puts.{Puts};
 ghost use Rattle.tt_page_days.specs.Days.{room_cell, room_row_head, room_row, day_grid_head, day_table_head, day_title, period_head, day_grid, day_link_head, day_index_item, days_head, days_text};
 
-use tt_instance::Instance;
+use tt_instance_data::Instance;
 use tt_page_plan::{Kind, Plan, put_week_link};
 use tt_page_text::{Labels, PageText, Part, TextFault, put, put_day, put_period, put_token};
 use tt_page_weeks::{put_lectures, put_paper_name};

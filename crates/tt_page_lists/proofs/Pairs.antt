@@ -6,10 +6,10 @@ use Rattle.tt_lists.proofs.Tests.{test_turned}
 use Rattle.tt_page_text.specs.Labelled.{Labelled}
 use Rattle.tt_page_text.specs.Puts.{IsTooLarge}
 use Rattle.tt_page_text.proofs.Stopping.{longer}
-use Rattle.tt_instance.specs.Problem.{Problem}
-use Rattle.tt_instance.specs.Cells.{is_at, slot_of}
-use Rattle.tt_instance.specs.Courses.{conflict}
-use Rattle.tt_instance.specs.declared.cell.Cell.{Cell}
+use Rattle.tt_instance_data.specs.Problem.{Problem}
+use Rattle.tt_instance_data.specs.Cells.{is_at, slot_of}
+use Rattle.tt_instance_data.specs.Courses.{conflict}
+use Rattle.tt_instance_data.specs.declared.cell.Cell.{Cell}
 use Rattle.tt_page_lists.specs.Items.{is_odd, at_odds, entry_item, entry_items}
 use Rattle.tt_page_lists.specs.declared.rule.Rule.{Rule}
 use Rattle.tt_page_lists.specs.declared.rule.Rule.TheVariants as rule

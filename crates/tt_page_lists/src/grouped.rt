@@ -7,7 +7,7 @@ ghost use Rattle.tt_instance_data.specs.Courses.{excess, in_curriculum};
 ghost use Rattle.tt_rules.specs.Soft.{is_isolated};
 ghost use Rattle.tt_table.specs.declared.table.TheConstants.{MAX_ENTRIES};
 ghost use Rattle.tt_page_text.specs.Puts.{Puts};
-ghost use Rattle.tt_page_lists.specs.Grouped.{crowded_head, crowded_end, crowded_line, students_told, seats_told, seats_item, isolated_line, isolated_item, isolated_told, curriculum_item, items_text};
+ghost use Rattle.tt_page_lists.specs.Grouped.{crowded_head, crowded_end, crowded_line, students_detail, seats_detail, seats_item, isolated_line, isolated_item, isolated_detail, curriculum_item, items_text};
 
 use crate::items::{
     put_course_and_teacher, put_course_items, put_entry_items, put_item_end, put_item_head,
@@ -130,14 +130,14 @@ fn put_crowded_lines(
     Ok(())
 }
 
-#[tactic(auto, unfolding(crate::specs::Grouped::students_told))]
-fn put_students_told(
+#[tactic(auto, unfolding(crate::specs::Grouped::students_detail))]
+fn put_students_detail(
     out: &mut PageText,
     instance: &Instance<'_>,
     course: u32,
 ) -> Result<(), TextFault>
     requires { course < length instance.now.courses }
-    ensures { Puts result out.old out.new (students_told instance.now course) }
+    ensures { Puts result out.old out.new (students_detail instance.now course) }
 {
     let students = instance.students(course);
     put(
@@ -151,8 +151,8 @@ fn put_students_told(
 }
 
 /// Appends a course and its lectures without seats.
-#[tactic(auto, unfolding(crate::specs::Grouped::seats_told))]
-fn put_seats_told(
+#[tactic(auto, unfolding(crate::specs::Grouped::seats_detail))]
+fn put_seats_detail(
     out: &mut PageText,
     instance: &Instance<'_>,
     labels: &Labels,
@@ -161,7 +161,7 @@ fn put_seats_told(
 ) -> Result<(), TextFault>
     requires course { course < length instance.now.courses }
     requires in_range { All (InRange instance.now) entries.now }
-    ensures { Puts result out.old out.new (seats_told instance.now labels.now course entries.now) }
+    ensures { Puts result out.old out.new (seats_detail instance.now labels.now course entries.now) }
 {
     put_course_and_teacher(out, instance, course)?;
     put_students_detail(out, instance, course)?;
@@ -285,15 +285,15 @@ fn put_isolated_items(
 }
 
 /// Appends a curriculum and its isolated lectures.
-#[tactic(auto, unfolding(crate::specs::Grouped::isolated_told))]
-fn put_isolated_told(
+#[tactic(auto, unfolding(crate::specs::Grouped::isolated_detail))]
+fn put_isolated_detail(
     out: &mut PageText,
     plan: &Plan<'_, '_>,
     labels: &Labels,
     curriculum: u32,
 ) -> Result<(), TextFault>
     requires { curriculum < length plan.now.problem.curricula }
-    ensures { Puts result out.old out.new (isolated_told plan.now.problem plan.now.table labels.now curriculum) }
+    ensures { Puts result out.old out.new (isolated_detail plan.now.problem plan.now.table labels.now curriculum) }
 {
     put_week_link(out, plan.instance(), Kind::Curriculum, curriculum)?;
     put_token(out, b"\n<ul>\n")?;

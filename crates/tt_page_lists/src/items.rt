@@ -5,7 +5,7 @@ ghost use Rattle.tt_lists.specs.Words.{range_below};
 ghost use Rattle.tt_instance_data.specs.Cells.{InRange};
 ghost use Rattle.tt_table.specs.declared.table.TheConstants.{MAX_ENTRIES};
 ghost use Rattle.tt_page_text.specs.Puts.{Puts};
-ghost use Rattle.tt_page_lists.specs.Items.{item_head, item_end, course_and_teacher, lectures_told, days_told, rooms_told, course_told, course_adds, course_item, entry_and_teacher, place_text, unavailable_told, unavailable_item, is_odd, odds_count, more_text, pair_text, odds_item, pairs_item, entry_item, entry_items};
+ghost use Rattle.tt_page_lists.specs.Items.{item_head, item_end, course_and_teacher, lectures_detail, days_detail, rooms_detail, course_detail, course_adds, course_item, entry_and_teacher, place_text, unavailable_detail, unavailable_item, is_odd, odds_count, more_text, pair_text, odds_item, pairs_item, entry_item, entry_items};
 
 use crate::rule::Rule;
 use std::alloc::{AllocError, Global};
@@ -72,10 +72,14 @@ fn course_adds(plan: &Plan<'_, '_>, rule: Rule, course: u32) -> u64
     }
 }
 
-#[tactic(auto, unfolding(crate::specs::Items::lectures_told))]
-fn put_lectures_told(out: &mut PageText, plan: &Plan<'_, '_>, course: u32) -> Result<(), TextFault>
+#[tactic(auto, unfolding(crate::specs::Items::lectures_detail))]
+fn put_lectures_detail(
+    out: &mut PageText,
+    plan: &Plan<'_, '_>,
+    course: u32,
+) -> Result<(), TextFault>
     requires { course < length plan.now.problem.courses }
-    ensures { Puts result out.old out.new (lectures_told plan.now.problem plan.now.table course) }
+    ensures { Puts result out.old out.new (lectures_detail plan.now.problem plan.now.table course) }
 {
     let wanted = plan.instance().lectures(course);
     let placed = entries_of(plan, course);
@@ -93,10 +97,10 @@ fn put_lectures_told(out: &mut PageText, plan: &Plan<'_, '_>, course: u32) -> Re
     )
 }
 
-#[tactic(auto, unfolding(crate::specs::Items::days_told))]
-fn put_days_told(out: &mut PageText, plan: &Plan<'_, '_>, course: u32) -> Result<(), TextFault>
+#[tactic(auto, unfolding(crate::specs::Items::days_detail))]
+fn put_days_detail(out: &mut PageText, plan: &Plan<'_, '_>, course: u32) -> Result<(), TextFault>
     requires { course < length plan.now.problem.courses }
-    ensures { Puts result out.old out.new (days_told plan.now.problem plan.now.table course) }
+    ensures { Puts result out.old out.new (days_detail plan.now.problem plan.now.table course) }
 {
     let days = days_of(plan, course);
     let least = plan.instance().min_days(course);
@@ -112,10 +116,10 @@ fn put_days_told(out: &mut PageText, plan: &Plan<'_, '_>, course: u32) -> Result
     )
 }
 
-#[tactic(auto, unfolding(crate::specs::Items::rooms_told))]
-fn put_rooms_told(out: &mut PageText, plan: &Plan<'_, '_>, course: u32) -> Result<(), TextFault>
+#[tactic(auto, unfolding(crate::specs::Items::rooms_detail))]
+fn put_rooms_detail(out: &mut PageText, plan: &Plan<'_, '_>, course: u32) -> Result<(), TextFault>
     requires { course < length plan.now.problem.courses }
-    ensures { Puts result out.old out.new (rooms_told plan.now.problem plan.now.table course) }
+    ensures { Puts result out.old out.new (rooms_detail plan.now.problem plan.now.table course) }
 {
     let rooms = other_rooms(plan, course) + 1;
     put(
@@ -129,15 +133,15 @@ fn put_rooms_told(out: &mut PageText, plan: &Plan<'_, '_>, course: u32) -> Resul
 }
 
 /// Appends the text about a course.
-#[tactic(auto, unfolding(crate::specs::Items::course_told))]
-fn put_course_told(
+#[tactic(auto, unfolding(crate::specs::Items::course_detail))]
+fn put_course_detail(
     out: &mut PageText,
     plan: &Plan<'_, '_>,
     rule: Rule,
     course: u32,
 ) -> Result<(), TextFault>
     requires { course < length plan.now.problem.courses }
-    ensures { Puts result out.old out.new (course_told plan.now.problem plan.now.table rule course) }
+    ensures { Puts result out.old out.new (course_detail plan.now.problem plan.now.table rule course) }
 {
     match rule {
         Rule::Lectures => put_lectures_detail(out, plan, course),
@@ -216,15 +220,15 @@ fn put_place(
     put_week_link(out, instance, Kind::Room, entry.room)
 }
 
-#[tactic(auto, unfolding(crate::specs::Items::unavailable_told))]
-fn put_unavailable_told(
+#[tactic(auto, unfolding(crate::specs::Items::unavailable_detail))]
+fn put_unavailable_detail(
     out: &mut PageText,
     instance: &Instance<'_>,
     labels: &Labels,
     entry: &Entry,
 ) -> Result<(), TextFault>
     requires { InRange instance.now entry.now }
-    ensures { Puts result out.old out.new (unavailable_told instance.now labels.now entry.now) }
+    ensures { Puts result out.old out.new (unavailable_detail instance.now labels.now entry.now) }
 {
     let teacher = teacher_of(instance, entry.course);
     put_cell_link(out, instance, Kind::Teacher, teacher, entry)?;

@@ -1,14 +1,14 @@
 //! Links to the parts of a page.
 
 ghost use Rattle.std.specs.Prelude.{◌<◌, length};
-ghost use Rattle.tt_instance.specs.Cells.{InRange};
+ghost use Rattle.tt_instance_data.specs.Cells.{InRange};
 ghost use Rattle.tt_page_text.specs.Puts.{Puts};
 ghost use Rattle.tt_page_plan.specs.Kinds.{count_of, teacher_of};
 ghost use Rattle.tt_page_plan.specs.declared.kind.Kind.TheVariants as kinds;
 ghost use Rattle.tt_page_plan.specs.Links.{course_link, week_link, cell_link, cell_anchor, when_link};
 
 use crate::kind::{Kind, course_name, teacher_of};
-use tt_instance::Instance;
+use tt_instance_data::Instance;
 use tt_page_text::{Labels, PageText, Part, TextFault, put, put_token, put_when};
 use tt_table::Entry;
 

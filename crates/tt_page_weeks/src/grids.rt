@@ -2,8 +2,8 @@
 
 ghost use Rattle.std.specs.Prelude.{◌≡◌, ◌<◌, ◌==◌, length, filter, flat_map, All, IfOk};
 ghost use Rattle.tt_lists.specs.Words.{range_below};
-ghost use Rattle.tt_instance.specs.Cells.{InRange, all_courses};
-ghost use Rattle.tt_instance.specs.Courses.{in_curriculum};
+ghost use Rattle.tt_instance_data.specs.Cells.{InRange, all_courses};
+ghost use Rattle.tt_instance_data.specs.Courses.{in_curriculum};
 ghost use Rattle.tt_page_text.specs.Puts.{Puts};
 ghost use Rattle.tt_page_plan.specs.Kinds.{count_of, belongs_to, teacher_of};
 ghost use Rattle.tt_page_weeks.specs.Lectures.{lecture_text};

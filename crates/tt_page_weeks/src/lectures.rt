@@ -1,13 +1,13 @@
 //! A lecture as it appears in a week.
 
 ghost use Rattle.std.specs.Prelude.{◌<◌, length};
-ghost use Rattle.tt_instance.specs.Cells.{InRange};
+ghost use Rattle.tt_instance_data.specs.Cells.{InRange};
 ghost use Rattle.tt_page_text.specs.Puts.{Puts};
-ghost use Rattle.tt_page_weeks.specs.Lectures.{beside_text, mark, isolated_mark, marks_text, lecture_head, lecture_when, lecture_course, lecture_text};
+ghost use Rattle.tt_page_weeks.specs.Lectures.{further_text, mark, isolated_mark, marks_text, lecture_head, lecture_when, lecture_course, lecture_text};
 
 use crate::hues::put_hue;
 use crate::marks::{is_in_conflict, is_in_other_room, is_repeated, is_room_taken};
-use tt_instance::Instance;
+use tt_instance_data::Instance;
 use tt_page_plan::{
     Kind, Plan, course_name, is_isolated, is_unavailable, put_teacher_link, put_week_link,
     without_seat,
@@ -16,15 +16,15 @@ use tt_page_text::{Labels, PageText, Part, TextFault, put, put_counted, put_toke
 use tt_table::Entry;
 
 /// Appends the information about a lecture that its week doesn't already show.
-#[tactic(auto, unfolding(crate::specs::Lectures::beside_text))]
-fn put_beside(
+#[tactic(auto, unfolding(crate::specs::Lectures::further_text))]
+fn put_further(
     out: &mut PageText,
     instance: &Instance<'_>,
     kind: Kind,
     entry: &Entry,
 ) -> Result<(), TextFault>
     requires { InRange instance.now entry.now }
-    ensures { Puts result out.old out.new (beside_text instance.now kind entry.now) }
+    ensures { Puts result out.old out.new (further_text instance.now kind entry.now) }
 {
     match kind {
         Kind::Room => put_teacher_link(out, instance, entry.course),
