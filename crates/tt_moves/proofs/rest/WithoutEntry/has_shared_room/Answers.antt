@@ -10,7 +10,7 @@ pub returns : goal.returns
 returns c = λ u rest.
     let test = λ (e : Cell). is_in c.args.entry.room e && is_at (slot_of c.args.entry) e in
     let to = ap one_if c.is_in_place_of.ensures in
-    let from = ap one_if c.stands_in-2.ensures in
-    let gone = ap one_if c.stands_in-3.ensures in
+    let from = ap one_if c.is_in_place_of-2.ensures in
+    let gone = ap one_if c.is_in_place_of-3.ensures in
     let is : c.adjusted.result ≡ count_by test u = omega (arith, c.adjusted.ensures.value, c.in_room-count.ensures.count, rest.counts test) in
     ap (nat_lt 0) is ∙ any_counted test u
