@@ -127,11 +127,11 @@ def many_sets(table):
     return groups(table, week, 24, 682, lambda it: " ".join(f"q{12 * it + k}" for k in range(12)))
 
 
-def weeks(table, words, curricula, entries):
+def weeks(table, words, curricula, entries, wanted=(0, 1)):
     """Each curriculum has one course, which has all entries, in one period."""
     instance, entry = instance_of(1, 1, 1, 1, [[0]] * curricula), f"{course(0)} R0 0 0\n".encode()
     table.put(instance=instance, hard=entry * entries, easy=entry)
-    return timed(table, words, len(instance) + len(entry) * entries, (0, 1))
+    return timed(table, words, len(instance) + len(entry) * entries, wanted)
 
 
 def instances(table, hard):
@@ -161,8 +161,9 @@ def report_of_many_entries(table):
     return weeks(table, "report instance hard --by curriculum", 8_192, 4_096)
 
 
-def page_of_many_entries(table):
-    return weeks(table, "page instance hard out", 1_024, 1_024)
+def page_that_is_too_large(table):
+    """A page of 313 MB, which is refused once its text passes the limit."""
+    return weeks(table, "page instance hard out", 1_024, 1_024, (2,))
 
 
 ROWS = [
@@ -180,5 +181,5 @@ ROWS = [
     ("validate: 1,000 names of 8,000 bytes that begin alike, and as many members", names_that_begin_alike),
     ("validate: 8,192 curricula, 16,384 entries in one period", validate_of_many_entries),
     ("report: 8,192 curricula, 4,096 entries in one period", report_of_many_entries),
-    ("page: 1,024 curricula, 1,024 entries in one period", page_of_many_entries),
+    ("page: 1,024 curricula, 1,024 entries in one period, too large", page_that_is_too_large),
 ]

@@ -22,13 +22,13 @@ use Rattle.tt_proof_sum.specs.declared.fault.SumFault.TheVariants as sum
 use Rattle.tt_proof_upgrade.specs.Faults as upgrades
 use Rattle.tt_proof_upgrade.specs.declared.fault.UpgradeFault.{UpgradeFault}
 use Rattle.tt_proof_upgrade.specs.declared.fault.UpgradeFault.TheVariants as upgrade
+use Rattle.tt_page.specs.Faults as pages
+use Rattle.tt_page.specs.declared.fault.PageFault.{PageFault}
+use Rattle.tt_page.specs.declared.fault.PageFault.TheVariants as page
 use Rattle.tt_page_text.specs.declared.fault.LabelsFault.{LabelsFault}
 use Rattle.tt_page_text.specs.declared.fault.LabelsFault.TheVariants as labels
-use Rattle.tt_report.specs.Faults as reports
-use Rattle.tt_report.specs.declared.fault.ReportFault.{ReportFault}
-use Rattle.tt_report.specs.declared.fault.ReportFault.TheVariants as report
 use Rattle.tt_app_answers.specs.Refusals.{read_failed, is_failed_read, is_failed_write, is_failed_read_at, read_failed_at}
-use Rattle.tt_app_answers.specs.FaultMaps.{fault_from_instance, fault_from_solution, fault_from_check, fault_from_certify, fault_from_upgrade, fault_from_labels, fault_from_report, fault_from_sum}
+use Rattle.tt_app_answers.specs.FaultMaps.{fault_from_instance, fault_from_solution, fault_from_check, fault_from_certify, fault_from_upgrade, fault_from_labels, fault_from_page, fault_from_sum}
 use Rattle.tt_proof_sum.specs.Faults.{read_failed_at as read_failed_below}
 
 abbrev pub failed_text : CheckFault
@@ -108,9 +108,10 @@ labels_read_at n labels.Days = refl
 labels_read_at n labels.Periods = refl
 labels_read_at n labels.OutOfMemory = refl
 
-pub report_read_at : (n : ℕ) (f : ReportFault) → is_failed_read_at n (fault_from_report f) ≡ false
-report_read_at n report.Write = refl
-report_read_at n report.OutOfMemory = refl
+pub page_read_at : (n : ℕ) (f : PageFault) → is_failed_read_at n (fault_from_page f) ≡ false
+page_read_at n page.Write = refl
+page_read_at n page.TooLarge = refl
+page_read_at n page.OutOfMemory = refl
 
 pub instance_write : (f : InstanceFault) → is_failed_write (fault_from_instance f) ≡ false
 instance_write instance.OutOfMemory = refl
@@ -129,9 +130,10 @@ pub sum_write : (f : SumFault) → is_failed_write (fault_from_sum f) ≡ false
 sum_write sum.OutOfMemory = refl
 sum_write f = refl
 
-pub report_write : (f : ReportFault) → is_failed_write (fault_from_report f) ≡ reports.is_failed_write f
-report_write report.Write = refl
-report_write report.OutOfMemory = refl
+pub page_write : (f : PageFault) → is_failed_write (fault_from_page f) ≡ pages.is_failed_write f
+page_write page.Write = refl
+page_write page.TooLarge = refl
+page_write page.OutOfMemory = refl
 
 -- only a failed read is reported as one
 pub read_summed : (f : SumFault) (n : ℕ) → fault_from_sum f ≡ read_failed_at n → f ≡ read_failed_below n

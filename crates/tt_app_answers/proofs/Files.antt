@@ -38,6 +38,7 @@ only_memory i s p t (fault.Solution f) both h =
     absurd cc
 only_memory i s p t fault.OutOfMemory both h = refl
 only_memory i s p t fault.ProofTooLarge both h = absurd h
+only_memory i s p t fault.PageTooLarge both h = absurd h
 only_memory i s p t fault.CannotWrite both h = absurd h
 only_memory i s p t fault.UnknownName both h = absurd h
 only_memory i s p t fault.DayNames both h = absurd h

@@ -13,6 +13,8 @@ use Rattle.tt_proof_upgrade.specs.declared.fault.UpgradeFault.{UpgradeFault}
 use Rattle.tt_proof_upgrade.specs.declared.fault.UpgradeFault.TheVariants as upgrade
 use Rattle.tt_search_complete.specs.declared.fault.CompleteFault.{CompleteFault}
 use Rattle.tt_search_complete.specs.declared.fault.CompleteFault.TheVariants as completion
+use Rattle.tt_page.specs.declared.fault.PageFault.{PageFault}
+use Rattle.tt_page.specs.declared.fault.PageFault.TheVariants as page
 use Rattle.tt_page_text.specs.declared.fault.LabelsFault.{LabelsFault}
 use Rattle.tt_page_text.specs.declared.fault.LabelsFault.TheVariants as labels
 use Rattle.tt_report.specs.declared.fault.ReportFault.{ReportFault}
@@ -39,6 +41,11 @@ fault_from_check f = fault.Proof f
 abbrev pub fault_from_report : ReportFault → AppFault
 fault_from_report report.Write = fault.CannotWrite
 fault_from_report report.OutOfMemory = fault.OutOfMemory
+
+abbrev pub fault_from_page : PageFault → AppFault
+fault_from_page page.Write = fault.CannotWrite
+fault_from_page page.TooLarge = fault.PageTooLarge
+fault_from_page page.OutOfMemory = fault.OutOfMemory
 
 abbrev pub fault_from_certify : CertifyFault → AppFault
 fault_from_certify (certify.Instance f) = fault_from_instance f

@@ -4,6 +4,7 @@ use std::alloc::AllocError;
 use thiserror::Error;
 use tt_app_files::OutputFault;
 use tt_instance::InstanceFault;
+use tt_page::PageFault;
 use tt_page_text::LabelsFault;
 use tt_proof_check::{CertifyFault, CheckFault};
 use tt_proof_sum::SumFault;
@@ -37,6 +38,9 @@ pub enum AppFault {
     Sum(SumFault),
     #[error("proof too large")]
     ProofTooLarge,
+    /// The page would have more than 67,108,864 bytes.
+    #[error("page: TooLarge")]
+    PageTooLarge,
     #[error("out of memory")]
     OutOfMemory,
     #[error("{0}: cannot read")]
@@ -174,6 +178,21 @@ impl From<ReportFault> for AppFault {
         match fault {
             ReportFault::Write => AppFault::CannotWrite,
             ReportFault::OutOfMemory => AppFault::OutOfMemory,
+        }
+    }
+}
+
+impl From<PageFault> for AppFault {
+    ghost use Rattle.std.specs.Prelude.{◌≡◌};
+    ghost use Rattle.tt_app_answers.specs.FaultMaps.{fault_from_page};
+
+    ghost from_gives = { λ f e. e ≡ fault_from_page f };
+
+    fn from(fault: PageFault) -> AppFault {
+        match fault {
+            PageFault::Write => AppFault::CannotWrite,
+            PageFault::TooLarge => AppFault::PageTooLarge,
+            PageFault::OutOfMemory => AppFault::OutOfMemory,
         }
     }
 }

@@ -54,6 +54,7 @@ text_refusal b nodes fault.OutOfMemory h = inl refl
 text_refusal b nodes (fault.CannotRead f) h = absurd h
 text_refusal b nodes (fault.TooLong f) h = absurd h
 text_refusal b nodes fault.CannotWrite h = absurd h
+text_refusal b nodes fault.PageTooLarge h = absurd h
 text_refusal b nodes fault.UnknownName h = absurd h
 text_refusal b nodes fault.DayNames h = absurd h
 text_refusal b nodes fault.PeriodNames h = absurd h
@@ -92,6 +93,7 @@ text_refused i limit p best b proof nodes finished (fault.Sum f) spells found is
 text_refused i limit p best b proof nodes finished (fault.CannotRead f) spells found is h = absurd h
 text_refused i limit p best b proof nodes finished (fault.TooLong f) spells found is h = absurd h
 text_refused i limit p best b proof nodes finished fault.CannotWrite spells found is h = absurd h
+text_refused i limit p best b proof nodes finished fault.PageTooLarge spells found is h = absurd h
 text_refused i limit p best b proof nodes finished fault.UnknownName spells found is h = absurd h
 text_refused i limit p best b proof nodes finished fault.DayNames spells found is h = absurd h
 text_refused i limit p best b proof nodes finished fault.PeriodNames spells found is h = absurd h

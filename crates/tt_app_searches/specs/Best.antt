@@ -1,11 +1,13 @@
 -- The answer of `best` for the bytes of an instance.
-use Rattle.std.specs.Prelude.{◌≡◌, ◌≤◌, ◌⊎◌, ℕ, List, Some, None, IsSomeAnd}
+use Rattle.std.specs.Prelude.{◌≡◌, ◌≤◌, ◌⊎◌, ℕ, List, Vec, Option, Some, None, IsSomeAnd}
 use Rattle.tt_instance_data.specs.Problem.{Problem}
 use Rattle.tt_instance_data.specs.Spelling.{Spells}
 use Rattle.tt_leaf_data.specs.declared.leaf.Bound.{Bound}
 use Rattle.tt_leaf_data.specs.declared.leaf.Bound.TheVariants.{AtLeast}
+use Rattle.tt_page.specs.Limits.{IsWithinLimit}
 use Rattle.tt_page.specs.Pages.{page_text}
 use Rattle.tt_page_text.specs.Labels.{no_labels}
+use Rattle.tt_page_text.specs.Puts.{IsTooLarge}
 use Rattle.tt_proof_check.specs.Derives.{HoldsOfAll}
 use Rattle.tt_proof_check.specs.Headline.{BoundsAll}
 use Rattle.tt_proof_sum.specs.Sums.{IsSum}
@@ -14,9 +16,14 @@ use Rattle.tt_app_answers.specs.Lines.{best_line, none_line}
 use Rattle.tt_app_answers.specs.Sums.{CertifiesSum}
 use Rattle.tt_app_searches.specs.declared.calls.best.BestAnswer.{BestAnswer}
 
+-- There is a page with this text, or none, which is exactly if it would be too large.
+abbrev pub ShowsPage : {A : Type 0} → Option (Vec ℕ A) → List ℕ → Type 0
+ShowsPage (Some v) text = (v.items ≡ text) × IsWithinLimit text
+ShowsPage None text = IsTooLarge text
+
 -- The solution breaks no hard rule of the instance, its cost is the one in the line, and the proofs add up to the bound in the line, as a sum
 -- with this solution would. Every timetable of the instance that breaks no hard rule costs at least the bound. The page shows the timetable and
--- the bound, in this style.
+-- the bound, in this style, unless it would be too large.
 pub record IsBestFound (instance style : List ℕ) (a : BestAnswer) : Type 0 where
   pub solution : List ℕ
   pub cost : ℕ
@@ -25,7 +32,7 @@ pub record IsBestFound (instance style : List ℕ) (a : BestAnswer) : Type 0 whe
   pub bounds : BoundsAll instance bound
   pub within : bound ≤ cost
   pub file : IsSomeAnd a.table (λ v. v.items ≡ solution)
-  pub page : IsSomeAnd a.page (λ v. v.items ≡ page_text certified.solves.problem certified.solves.table no_labels (Some (AtLeast bound)) style)
+  pub page : ShowsPage a.page (page_text certified.solves.problem certified.solves.table no_labels (Some (AtLeast bound)) style)
   pub text : a.out.items ≡ best_line cost bound
   pub status : a.status ≡ 0
 

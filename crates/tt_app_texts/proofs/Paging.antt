@@ -1,6 +1,5 @@
 -- The answers of `page` and `proved_page`, from the results of their steps.
-use Rattle.std.proofs.Common.{◌≡◌, ◌⊎◌, ℕ, List, Option, Some, Ok, refl, subst, inl, inr}
-use Rattle.std.specs.Io.KnownBytes.{Appends}
+use Rattle.std.proofs.Common.{◌≡◌, ℕ, List, Option, None, Some, Ok, refl, subst}
 use Rattle.tt_text.specs.Reading.{FailsUnless}
 use Rattle.tt_text.specs.Sinks.{TakesPart}
 use Rattle.tt_instance_data.specs.Problem.{Problem}
@@ -8,32 +7,35 @@ use Rattle.tt_instance_data.specs.Spelling.{Spells}
 use Rattle.tt_instance_data.specs.declared.cell.Cell.{Cell}
 use Rattle.tt_table.specs.Spelling.{SpellsBoth, SpellsTable}
 use Rattle.tt_leaf_data.specs.declared.leaf.Bound.{Bound}
+use Rattle.tt_page.specs.Faults.{TellsSize}
 use Rattle.tt_page.specs.Pages.{page_text}
+use Rattle.tt_page.specs.declared.fault.PageFault.{PageFault}
+use Rattle.tt_page.specs.declared.fault.PageFault.TheVariants as page
 use Rattle.tt_page_text.specs.Labelled.{Labelled}
 use Rattle.tt_page_text.specs.Labels.{is_environmental}
 use Rattle.tt_page_text.specs.declared.fault.LabelsFault.{LabelsFault}
 use Rattle.tt_page_text.specs.declared.fault.LabelsFault.TheVariants as labels
-use Rattle.tt_report.specs.declared.fault.ReportFault.{ReportFault}
-use Rattle.tt_report.specs.declared.fault.ReportFault.TheVariants as report
 use Rattle.tt_proof_check.specs.Derives.{HoldsOfAll}
 use Rattle.tt_proof_check.proofs.Files.{one_instance, one_table}
 use Rattle.tt_proof_sum.specs.Faults.{IsSumFault}
 use Rattle.tt_proof_sum.specs.Sums.{IsSum}
 use Rattle.tt_proof_sum.specs.declared.fault.SumFault.{SumFault}
 use Rattle.tt_proof_sum.specs.declared.fault.SumFault.TheVariants as sum
-use Rattle.tt_app_answers.specs.FaultMaps.{fault_from_labels, fault_from_report, fault_from_sum}
-use Rattle.tt_app_texts.specs.Paged.{labels_for, IsPageRefusal, IsProvedPageRefusal, IsSilentOrUnwritable}
+use Rattle.tt_app_answers.specs.FaultMaps.{fault_from_labels, fault_from_page, fault_from_sum}
+use Rattle.tt_app_texts.specs.Paged.{labels_for, IsNotPut, IsPageRefusal, IsProvedPageRefusal}
 use Rattle.tt_app_texts.specs.declared.calls.page.PageNames.{PageNames}
+use Rattle.tt_app_answers.specs.declared.fault.AppFault.{AppFault}
 use Rattle.tt_app_answers.specs.declared.fault.AppFault.TheVariants as fault
 
--- an error of the page's output is being out of memory or a failed write
-pub output_fails : (f : ReportFault) → (fault_from_report f ≡ fault.OutOfMemory) ⊎ (fault_from_report f ≡ fault.CannotWrite)
-output_fails report.Write = inr refl
-output_fails report.OutOfMemory = inl refl
+-- an error of the page's output tells its size
+pub output_tells : (f : PageFault) (text : List ℕ) → TellsSize f text → IsNotPut (fault_from_page f) text
+output_tells page.Write text size = size
+output_tells page.TooLarge text size = size
+output_tells page.OutOfMemory text size = tt
 
-pub output_says_nothing : (f : ReportFault) → IsSilentOrUnwritable (fault_from_report f)
-output_says_nothing report.Write = inr refl
-output_says_nothing report.OutOfMemory = inl (inl refl)
+-- being out of memory says nothing of the size
+pub memory_not_put : (f : AppFault) (text : List ℕ) → f ≡ fault.OutOfMemory → IsNotPut f text
+memory_not_put f text e = rw e tt
 
 -- if the names fit the instance that the bytes spell, they are refused only for being out of memory
 pub names_memory : (i : List ℕ) (p read : Problem) (names : PageNames) (l : Labelled) (f : LabelsFault) → Spells i p → Spells i read → labels_for p names ≡ Ok l → FailsUnless is_environmental f (labels_for read names)
@@ -72,24 +74,36 @@ module _ (i s : List ℕ) (p : Problem) (t : List Cell) (names : PageNames) (spe
   sum_tells_page style l gives before after sum.OutOfMemory named h = tt
 
   -- an error of the page's output is reported
-  pub page_tells : (style : List ℕ) (l : Labelled) (b : Bound) (gives : List (List ℕ) → Type 0) (before after : Option (List ℕ)) (f : ReportFault) → labels_for p names ≡ Ok l
-      → ((proofs : List (List ℕ)) → gives proofs → IsSum p proofs b) → HoldsOfAll p b → (f ≡ report.Write → TakesPart before after (page_text p t l (Some b) style)) → IsProvedPageRefusal i s names style gives before after (fault_from_report f)
-  page_tells style l b gives before after report.Write named sum holds part = record {
+  pub plain_page_tells : (style : List ℕ) (l : Labelled) (before after : Option (List ℕ)) (f : PageFault) → labels_for p names ≡ Ok l
+      → (f ≡ page.Write → TakesPart before after (page_text p t l None style)) → TellsSize f (page_text p t l None style) → IsPageRefusal i s names style before after (fault_from_page f)
+  plain_page_tells style l before after page.Write named part size = record { problem = p; table = t; labels = l; both = both; named = named; within = size; part = part refl }
+  plain_page_tells style l before after page.TooLarge named part size = record { problem = p; table = t; labels = l; both = both; named = named; large = size }
+  plain_page_tells style l before after page.OutOfMemory named part size = tt
+
+  pub page_tells : (style : List ℕ) (l : Labelled) (b : Bound) (gives : List (List ℕ) → Type 0) (before after : Option (List ℕ)) (f : PageFault) → labels_for p names ≡ Ok l
+      → ((proofs : List (List ℕ)) → gives proofs → IsSum p proofs b) → HoldsOfAll p b → (f ≡ page.Write → TakesPart before after (page_text p t l (Some b) style)) → TellsSize f (page_text p t l (Some b) style)
+      → IsProvedPageRefusal i s names style gives before after (fault_from_page f)
+  page_tells style l b gives before after page.Write named sum holds part size = record {
     bound = b;
-    paged = record { problem = p; table = t; labels = l; both = both; named = named; part = part refl };
+    paged = record { problem = p; table = t; labels = l; both = both; named = named; within = size; part = part refl };
     sum = sum;
     holds = holds;
   }
-  page_tells style l b gives before after report.OutOfMemory named sum holds part = tt
+  page_tells style l b gives before after page.TooLarge named sum holds part size = record {
+    bound = b;
+    paged = record { problem = p; table = t; labels = l; both = both; named = named; large = size };
+    sum = sum;
+    holds = holds;
+  }
+  page_tells style l b gives before after page.OutOfMemory named sum holds part size = tt
 
--- the text that was written for the instance and the timetable that were read is the page of those that the bytes spell
-pub page_same : (i s : List ℕ) (p read : Problem) (t found : List Cell) (names : PageNames) (l m : Labelled) (b c : Bound) (style : List ℕ) (before after : Option (List ℕ)) → SpellsBoth i s p t → Spells i read → SpellsTable read s found
-    → labels_for p names ≡ Ok l → labels_for read names ≡ Ok m → c ≡ b → Appends before after (page_text read found m (Some c) style) → Appends before after (page_text p t l (Some b) style)
-page_same i s p read t found names l m b c style before after both spells solved named given e written =
+-- the page of the instance and the timetable that were read is that of those that the bytes spell
+pub page_same : (i s : List ℕ) (p read : Problem) (t found : List Cell) (names : PageNames) (l m : Labelled) (a c : Option Bound) (style : List ℕ) → SpellsBoth i s p t → Spells i read → SpellsTable read s found
+    → labels_for p names ≡ Ok l → labels_for read names ≡ Ok m → c ≡ a → page_text read found m c style ≡ page_text p t l a style
+page_same i s p read t found names l m a c style both spells solved named given e =
     let same : read ≡ p = one_instance i read p spells both.spelled in
     let here : SpellsTable p s found = subst (λ (q : Problem). SpellsTable q s found) same solved in
     let table : found ≡ t = one_table s i p found t both.spelled here both.solved in
     let reported : labels_for p names ≡ Ok m = subst (λ (q : Problem). labels_for q names ≡ Ok m) same given in
     let labelled : m ≡ l = cc in
-    let text : page_text read found m (Some c) style ≡ page_text p t l (Some b) style = cc in
-    subst (λ (x : List ℕ). Appends before after x) text written
+    cc

@@ -6,9 +6,11 @@ use Rattle.tt_instance_data.specs.Problem.{Problem}
 use Rattle.tt_instance.specs.Reading.{instance_of}
 use Rattle.tt_instance_data.specs.declared.cell.Cell.{Cell}
 use Rattle.tt_leaf_data.specs.declared.leaf.Bound.{Bound}
+use Rattle.tt_page.specs.Limits.{IsWithinLimit}
 use Rattle.tt_page.specs.Pages.{page_text}
 use Rattle.tt_page_text.specs.Labelled.{Labelled}
 use Rattle.tt_page_text.specs.Labels.{labels_of}
+use Rattle.tt_page_text.specs.Puts.{IsTooLarge}
 use Rattle.tt_page_text.specs.declared.fault.LabelsFault.{LabelsFault}
 use Rattle.tt_page_text.specs.declared.fault.LabelsFault.TheVariants as labels
 use Rattle.tt_proof_check.specs.Derives.{HoldsOfAll}
@@ -53,6 +55,7 @@ pub record IsPagedWith (proved : Option Bound) (instance solution : List ℕ) (n
   pub labels : Labelled
   pub both : SpellsBoth instance solution problem table
   pub named : labels_for problem names ≡ Ok labels
+  pub within : IsWithinLimit (page_text problem table labels proved style)
   pub written : Appends before after (page_text problem table labels proved style)
   pub done : status ≡ 0
 
@@ -63,19 +66,30 @@ pub record IsPagedPartlyWith (proved : Option Bound) (instance solution : List �
   pub labels : Labelled
   pub both : SpellsBoth instance solution problem table
   pub named : labels_for problem names ≡ Ok labels
+  pub within : IsWithinLimit (page_text problem table labels proved style)
   pub part : TakesPart before after (page_text problem table labels proved style)
+
+-- the files are spelled and the names fit, but the page is too large
+pub record IsPageTooLargeWith (proved : Option Bound) (instance solution : List ℕ) (names : PageNames) (style : List ℕ) : Type 0 where
+  pub problem : Problem
+  pub table : List Cell
+  pub labels : Labelled
+  pub both : SpellsBoth instance solution problem table
+  pub named : labels_for problem names ≡ Ok labels
+  pub large : IsTooLarge (page_text problem table labels proved style)
 
 -- the page shows no bound
 abbrev pub IsPaged : List ℕ → List ℕ → PageNames → List ℕ → Option (List ℕ) → Option (List ℕ) → ℕ → Type 0
 IsPaged instance solution names style before after status = IsPagedWith None instance solution names style before after status
 
--- a refusal reports the first error: the instance's, then the solution's, then the names', then that of a write
+-- a refusal reports the first error: the instance's, then the solution's, then the names', then that the page is too large, then that of a write
 abbrev pub IsPageRefusal : List ℕ → List ℕ → PageNames → List ℕ → Option (List ℕ) → Option (List ℕ) → AppFault → Type 0
 IsPageRefusal instance solution names style before after (fault.Instance f) = instance_of instance ≡ Err f
 IsPageRefusal instance solution names style before after (fault.Solution f) = FailsSolution instance solution f
 IsPageRefusal instance solution names style before after fault.DayNames = FailsNames instance solution names labels.Days
 IsPageRefusal instance solution names style before after fault.PeriodNames = FailsNames instance solution names labels.Periods
 IsPageRefusal instance solution names style before after fault.OutOfMemory = ⊤
+IsPageRefusal instance solution names style before after fault.PageTooLarge = IsPageTooLargeWith None instance solution names style
 IsPageRefusal instance solution names style before after fault.CannotWrite = IsPagedPartlyWith None instance solution names style before after
 IsPageRefusal instance solution names style before after _ = ⊥
 
@@ -95,6 +109,13 @@ pub record IsProvedPagedPartly (instance solution : List ℕ) (names : PageNames
   pub sum : (proofs : List (List ℕ)) → gives proofs → IsSum paged.problem proofs bound
   pub holds : HoldsOfAll paged.problem bound
 
+-- the page with this bound is too large
+pub record IsProvedPageTooLarge (instance solution : List ℕ) (names : PageNames) (style : List ℕ) (gives : List (List ℕ) → Type 0) : Type 0 where
+  pub bound : Bound
+  pub paged : IsPageTooLargeWith (Some bound) instance solution names style
+  pub sum : (proofs : List (List ℕ)) → gives proofs → IsSum paged.problem proofs bound
+  pub holds : HoldsOfAll paged.problem bound
+
 -- the files are spelled and the names fit, and the proofs have this error
 pub record FailsSumOfPage (instance solution : List ℕ) (names : PageNames) (gives : List (List ℕ) → Type 0) (f : SumFault) : Type 0 where
   pub problem : Problem
@@ -105,7 +126,7 @@ pub record FailsSumOfPage (instance solution : List ℕ) (names : PageNames) (gi
   pub fails : (proofs : List (List ℕ)) → gives proofs → IsSumFault problem proofs f
 
 -- a refusal reports the first error: the instance's, then the solution's, then the names', then that of the first proof that is refused, then
--- that of a write
+-- that the page is too large, then that of a write
 abbrev pub IsProvedPageRefusal : List ℕ → List ℕ → PageNames → List ℕ → (List (List ℕ) → Type 0) → Option (List ℕ) → Option (List ℕ) → AppFault → Type 0
 IsProvedPageRefusal instance solution names style gives before after (fault.Instance f) = instance_of instance ≡ Err f
 IsProvedPageRefusal instance solution names style gives before after (fault.Solution f) = FailsSolution instance solution f
@@ -113,9 +134,19 @@ IsProvedPageRefusal instance solution names style gives before after fault.DayNa
 IsProvedPageRefusal instance solution names style gives before after fault.PeriodNames = FailsNames instance solution names labels.Periods
 IsProvedPageRefusal instance solution names style gives before after (fault.Sum f) = FailsSumOfPage instance solution names gives f
 IsProvedPageRefusal instance solution names style gives before after fault.OutOfMemory = ⊤
+IsProvedPageRefusal instance solution names style gives before after fault.PageTooLarge = IsProvedPageTooLarge instance solution names style gives
 IsProvedPageRefusal instance solution names style gives before after fault.CannotWrite = IsProvedPagedPartly instance solution names style gives before after
 IsProvedPageRefusal instance solution names style gives before after _ = ⊥
 
--- whether the refusal says nothing about the bytes, or a write failed
-abbrev pub IsSilentOrUnwritable : AppFault → Type 0
-IsSilentOrUnwritable f = IsSilentRefusal f ⊎ (f ≡ fault.CannotWrite)
+-- ---- the size of a page
+
+-- the page was not written: it is too large, or it isn't and a write failed, or memory ran out
+abbrev pub IsNotPut : AppFault → List ℕ → Type 0
+IsNotPut fault.PageTooLarge page = IsTooLarge page
+IsNotPut fault.CannotWrite page = IsWithinLimit page
+IsNotPut fault.OutOfMemory page = ⊤
+IsNotPut _ page = ⊥
+
+-- the refusal says nothing about the bytes, or the page was not written
+abbrev pub IsSilentOrNotPut : AppFault → List ℕ → Type 0
+IsSilentOrNotPut f page = IsSilentRefusal f ⊎ IsNotPut f page

@@ -195,6 +195,7 @@ fn of_the_program(rt: HostRuntime) -> Result<(), Fail> {
             "proof: TooManyBytes",
         ),
         (AppFault::ProofTooLarge, "proof too large"),
+        (AppFault::PageTooLarge, "page: TooLarge"),
         (AppFault::OutOfMemory, "out of memory"),
         (
             AppFault::CannotRead(Input::Instance),

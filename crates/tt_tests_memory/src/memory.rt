@@ -10,7 +10,7 @@ use tt_instance::read_instance;
 use tt_instance_data::Instance;
 use tt_leaf::{best_claims, find_leaf};
 use tt_leaf_data::{Bound, Claim, ClaimList, Leaf};
-use tt_page::put_shown;
+use tt_page::{PageText, put_shown};
 use tt_proof_check::{NodesFault, Verdict, certify, check_nodes, check_proof};
 use tt_proof_read::Node;
 use tt_proof_upgrade::parse_proof;
@@ -334,12 +334,12 @@ fn the_command_page(rt: HostRuntime) -> Result<(), Fail> {
 
 #[test]
 fn the_call_put_shown(rt: HostRuntime) -> Result<(), Fail> {
-    let mut text = Vec::new(rt.alloc());
+    let mut text = PageText::new(rt.alloc());
     println!(rt; "{MARK}")?;
     let put = put_shown(&mut text, b"a<b");
     println!(rt; "{MARK}")?;
     put?;
-    assert_eq!(rt; text.as_slice(), b"a&lt;b".as_slice());
+    assert_eq!(rt; text.into_bytes().as_slice(), b"a&lt;b".as_slice());
     Ok(())
 }
 

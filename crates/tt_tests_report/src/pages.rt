@@ -4,7 +4,7 @@ use crate::reports::Narrow;
 use std::alloc::Global;
 use std::test::Fail;
 use tt_app::{AppFault, PageNames, page};
-use tt_page::put_shown;
+use tt_page::{MAX_PAGE_BYTES, PageText, put_shown};
 use tt_tests_files::{MemoryFiles, Refusal};
 use tt_tests_runs::{Outcome, run_on};
 use tt_tests_samples::{GAP, GAP_PROOF, MINI, MINI_SOLUTION, edited};
@@ -115,9 +115,9 @@ fn unavailable_periods(rt: HostRuntime) -> Result<(), Fail> {
 
 /// Returns the text that is shown for a name.
 fn shown(alloc: Global, name: &[u8]) -> Result<String, Fail> {
-    let mut out = Vec::new(alloc);
+    let mut out = PageText::new(alloc);
     put_shown(&mut out, name)?;
-    Ok(String::from_utf8(out)?)
+    Ok(String::from_utf8(out.into_bytes())?)
 }
 
 #[test]
@@ -183,6 +183,34 @@ fn writes_that_stop(rt: HostRuntime) -> Result<(), Fail> {
         assert!(rt; whole.as_bytes().starts_with(narrow.bytes()));
         assert_eq!(rt; narrow.bytes().len(), stops_at - 1);
     }
+    Ok(())
+}
+
+/// Writes the page of Mini with a style of this many letters, and returns the answer and how many bytes were written.
+fn styled(alloc: Global, letters: usize) -> Result<(Result<u8, AppFault>, usize), Fail> {
+    let style = String::from_utf8(Vec::from_elem(alloc, b'x', letters)?)?;
+    let mut text = Vec::new(alloc);
+    let answer = page(
+        alloc,
+        MINI.as_bytes(),
+        MINI_SOLUTION.as_bytes(),
+        UNNAMED,
+        style.as_str(),
+        &mut Writing::new(&mut text),
+    );
+    Ok((answer, text.len()))
+}
+
+#[test]
+fn the_largest_page(rt: HostRuntime) -> Result<(), Fail> {
+    let (answer, unstyled) = styled(rt.alloc(), 0)?;
+    assert_eq!(rt; answer, Ok(0));
+    let (answer, written) = styled(rt.alloc(), MAX_PAGE_BYTES - unstyled)?;
+    assert_eq!(rt; answer, Ok(0));
+    assert_eq!(rt; written, MAX_PAGE_BYTES);
+    let (answer, written) = styled(rt.alloc(), MAX_PAGE_BYTES - unstyled + 1)?;
+    assert_eq!(rt; answer, Err(AppFault::PageTooLarge));
+    assert_eq!(rt; written, 0);
     Ok(())
 }
 

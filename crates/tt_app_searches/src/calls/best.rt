@@ -1,15 +1,17 @@
 //! The call `best`.
 
-ghost use Rattle.std.specs.Prelude.{◌≡◌, ℕ, List, IfOk, IfErr, MatchResult, IsSomeAnd, None, ⊤};
+ghost use Rattle.std.specs.Prelude.{◌≡◌, ℕ, List, Some, IfOk, IfErr, MatchResult, IsSomeAnd, None, ⊤};
 ghost use Rattle.tt_instance_data.specs.Problem.{Problem};
 ghost use Rattle.tt_instance_data.specs.Spelling.{Spells};
 ghost use Rattle.tt_table.specs.Spelling.{SpellsTable};
 ghost use Rattle.tt_table.specs.Table.{IsTimetable};
 ghost use Rattle.tt_rules.specs.Score as score;
 ghost use Rattle.tt_rules.specs.Score.{IsFeasible};
+ghost use Rattle.tt_page.specs.Pages.{page_text};
+ghost use Rattle.tt_page_text.specs.Labels.{no_labels};
 ghost use Rattle.tt_parts.specs.Found.{AreFound};
 ghost use Rattle.tt_best.specs.Weeks.{IsWeek};
-ghost use Rattle.tt_app_searches.specs.Best.{IsBest, IsBestFound, IsNoneFound};
+ghost use Rattle.tt_app_searches.specs.Best.{IsBest, IsBestFound, IsNoneFound, ShowsPage};
 ghost use Rattle.tt_app_answers.specs.Lines.{best_line, none_line};
 ghost use Rattle.tt_app_searches.specs.Parted.{IsPartsRefusal};
 ghost use Rattle.tt_app_answers.specs.declared.fault.AppFault.TheVariants as fault;
@@ -21,7 +23,7 @@ use tt_best::{Rounds, Week, find_best_watched};
 use tt_instance::read_instance;
 use tt_instance_data::Instance;
 use tt_leaf_data::Bound;
-use tt_page_text::Labels;
+use tt_page_text::{Labels, TextFault};
 use tt_parts::Parts;
 use tt_rules::score;
 use tt_search::Watch;
@@ -37,7 +39,7 @@ pub struct BestAnswer {
     pub out: Vec<u8>,
     /// The text of the best timetable's file.
     pub table: Option<Vec<u8>>,
-    /// The text of the page that shows it with the bound of the proofs.
+    /// The text of the page that shows it with the bound of the proofs, unless it is too large.
     pub page: Option<Vec<u8>>,
     /// The texts of the proofs. A file of groups comes first, if there is one; the others are tree proofs.
     pub proofs: Vec<Vec<u8>>,
@@ -70,6 +72,25 @@ fn missing_line(alloc: Global, bound: Bound) -> Result<Vec<u8>, AllocError>
     Ok(out)
 }
 
+/// Returns the page of a timetable with a bound, unless it is too large.
+fn page_of(
+    alloc: Global,
+    instance: &Instance<'_>,
+    table: &Timetable,
+    bound: Bound,
+    style: &str,
+) -> Result<Option<Vec<u8>>, AllocError>
+    requires { IsTimetable instance.now table.now }
+    ensures { IfOk result (λ page. ShowsPage page (page_text instance.now table.now no_labels (Some bound) style.now)) }
+{
+    let labels = Labels::none(alloc);
+    match tt_page::text_of(alloc, instance, table, &labels, Some(bound), style) {
+        Ok(text) => Ok(Some(text)),
+        Err(TextFault::TooLarge) => Ok(None),
+        Err(TextFault::OutOfMemory) => Err(AllocError),
+    }
+}
+
 /// Returns the answer with a timetable that breaks no hard rule, its page, and proofs.
 fn found_answer(
     alloc: Global,
@@ -92,14 +113,7 @@ fn found_answer(
         status: 0,
         out: found_line(alloc, cost, points)?,
         table: Some(write_solution(alloc, instance, table)?),
-        page: Some(tt_page::text_of(
-            alloc,
-            instance,
-            table,
-            &Labels::none(alloc),
-            Some(bound),
-            style,
-        )?),
+        page: page_of(alloc, instance, table, bound, style)?,
         proofs,
     })
 }

@@ -1,10 +1,11 @@
 //! The calls `page` and `proved_page`.
 
-ghost use Rattle.std.specs.Prelude.{◌≡◌, ◌⊎◌, ◌+◌, ◌<◌, ◌^◌, ℕ, List, Some, Ok, Err, true, if◌then◌else◌, IfOk, IfErr, MatchResult, ⊤, slice_get, slice_index_or};
+ghost use Rattle.std.specs.Prelude.{◌≡◌, ◌+◌, ◌<◌, ◌^◌, ℕ, List, None, Some, Ok, Err, true, if◌then◌else◌, IfOk, IfErr, MatchResult, slice_get, slice_index_or};
 ghost use Rattle.std.specs.Io.KnownBytes.{Appends};
 ghost use Rattle.tt_instance_data.specs.Problem.{Problem};
 ghost use Rattle.tt_instance_data.specs.declared.cell.Cell.{Cell};
 ghost use Rattle.tt_leaf_data.specs.declared.leaf.Bound.{Bound};
+ghost use Rattle.tt_page.specs.Limits.{IsWithinLimit};
 ghost use Rattle.tt_page.specs.Pages.{page_text};
 ghost use Rattle.tt_page_text.specs.Labelled.{Labelled};
 ghost use Rattle.tt_page_text.specs.Labels.{Gives};
@@ -14,11 +15,10 @@ ghost use Rattle.tt_proof_sum.specs.Faults.{all_points};
 ghost use Rattle.tt_proof_sum.specs.Sums.{IsSum};
 ghost use Rattle.tt_table.specs.Spelling.{SpellsBoth};
 ghost use Rattle.tt_app_answers.specs.FaultMaps.{OutOfMemoryIsOneFault};
-ghost use Rattle.tt_app_texts.specs.Paged.{labels_for, IsBeforeProofs, IsPaged, IsPageRefusal, IsProvedPaged, IsProvedPageRefusal, IsSilentOrUnwritable};
+ghost use Rattle.tt_app_texts.specs.Paged.{labels_for, IsBeforeProofs, IsNotPut, IsPaged, IsPageRefusal, IsProvedPaged, IsProvedPageRefusal, IsSilentOrNotPut};
 ghost use Rattle.tt_app_answers.specs.Refusals.{IsUnwritten, is_failed_write};
 ghost use Rattle.tt_app_answers.specs.Sums.{IsSpelledAndFileCheckedUpToFailedRead};
 ghost use Rattle.tt_app_answers.specs.Refusals.{read_failed_at, is_failed_read_at};
-ghost use Rattle.tt_app_answers.specs.declared.fault.AppFault.TheVariants as fault;
 
 use std::alloc::Global;
 use tt_app_answers::AppFault;
@@ -64,9 +64,9 @@ pub fn page<W: Sink>(
     ensures written { IfOk result (IsPaged instance.now solution.now names.entry style.now (W.contents sink.old) (W.contents sink.new)) }
     // A refusal reports the first error.
     ensures fault { IfErr result (IsPageRefusal instance.now solution.now names.entry style.now (W.contents sink.old) (W.contents sink.new)) }
-    // If both files are spelled and the names fit, the page is written, unless memory runs out or a write fails.
+    // If both files are spelled and the names fit, the page is written if it isn't too large, and only then, unless memory runs out or a write fails.
     ensures only { (p : Problem) (t : List Cell) (labels : Labelled) → SpellsBoth instance.now solution.now p t → labels_for p names.entry ≡ Ok labels →
-        MatchResult result (λ _. ⊤) (λ f. (f ≡ fault.OutOfMemory) ⊎ (f ≡ fault.CannotWrite)) }
+        let text = page_text p t labels None style.now in MatchResult result (λ _. IsWithinLimit text) (λ f. IsNotPut f text) }
     // If any other error is reported, nothing is written.
     ensures unwritten { IfErr result (λ f. IsUnwritten f → sink.new ≡ sink.old) }
     // A failed write is reported exactly if a write failed.
@@ -94,11 +94,12 @@ pub fn proved_page<R: Peek, W: Sink>(
     ensures written { IfOk result (IsProvedPaged instance.now solution.now names.entry style.now (Give R.remaining proofs.old) (W.contents sink.old) (W.contents sink.new)) }
     // A refusal reports the first error.
     ensures fault { IfErr result (IsProvedPageRefusal instance.now solution.now names.entry style.now (Give R.remaining proofs.old) (W.contents sink.old) (W.contents sink.new)) }
-    // If both files are spelled, the names fit and the proofs have a sum below 2^64, the page with this sum is written, unless the refusal says
-    // nothing about the bytes or a write fails.
+    // If both files are spelled, the names fit and the proofs have a sum below 2^64, the page with this sum is written if it isn't too large, and
+    // only then, unless the refusal says nothing about the bytes or a write fails.
     ensures only { (p : Problem) (t : List Cell) (labels : Labelled) (files : List (List ℕ)) (b : Bound) → SpellsBoth instance.now solution.now p t →
         labels_for p names.entry ≡ Ok labels → Give R.remaining proofs.old files → (h : IsSum p files b) → all_points h.parts < 2 ^ 64 →
-        MatchResult result (λ _. Appends (W.contents sink.old) (W.contents sink.new) (page_text p t labels (Some b) style.now)) IsSilentOrUnwritable }
+        let text = page_text p t labels (Some b) style.now in
+        MatchResult result (λ _. Appends (W.contents sink.old) (W.contents sink.new) text × IsWithinLimit text) (λ f. IsSilentOrNotPut f text) }
     // If the instance, the solution or the names are refused, no proof is read.
     ensures unread { IfErr result (λ f. IsBeforeProofs f → proofs.new ≡ proofs.old) }
     // If any other error than a failed write is reported, nothing is written.

@@ -8,9 +8,9 @@ returns c =
     λ i spells.
     let a = c.args in
     let solution = c.in_ok-write_solution in
-    let page = c.in_ok-text_of in
-    let is = whole i solution.field-0.items a.instance.now a.table.now (texts_of a.parts.proofs.items) c.none.result page.field-0.items a.style.now a.parts.bound a.cost
-    c.in-AtLeast.points spells solution.ensures.again c.requires.feasible c.requires.cost c.requires.parts.sum c.requires.parts.holds c.in-AtLeast.is c.none.ensures page.ensures in
+    let page = c.in_ok-page_of in
+    let is = whole i solution.field-0.items a.instance.now a.table.now (texts_of a.parts.proofs.items) page.field-0 a.style.now a.parts.bound a.cost
+    c.in-AtLeast.points spells solution.ensures.again c.requires.feasible c.requires.cost c.requires.parts.sum c.requires.parts.holds c.in-AtLeast.is page.ensures in
     record {
       solution = solution.field-0.items;
       cost = a.cost;

@@ -1,14 +1,17 @@
-use Rattle.std.proofs.Common.{◌+◌, Err, refl, ap, inl}
+use Rattle.std.proofs.Common.{◌+◌, ℕ, List, Some, Err, refl, ap, subst, inl, inr}
+use Rattle.std.specs.Io.KnownBytes.{Appends}
 use Rattle.std.proofs.lemmas.Result.{err_from_is_err_and}
+use Rattle.tt_page.specs.Limits.{IsWithinLimit}
 use Rattle.tt_proof_check.proofs.TextFaults.{err_same}
 use Rattle.tt_proof_sum.specs.Added.{Give}
-use Rattle.tt_app_answers.specs.FaultMaps.{fault_from_instance, fault_from_solution, fault_from_labels, fault_from_report, fault_from_sum}
+use Rattle.tt_app_answers.specs.FaultMaps.{fault_from_instance, fault_from_solution, fault_from_labels, fault_from_page, fault_from_sum}
+use Rattle.tt_app_texts.specs.Paged.{IsNotPut}
 use Rattle.tt_app_answers.specs.Refusals.{is_failed_write, read_failed_at, is_failed_read_at}
 use Rattle.tt_app_answers.proofs.ReportedMemory.{memory_sum, memory_instance, memory_solution, memory_labels}
-use Rattle.tt_app_answers.proofs.FailedReads.{read_summed, passed, calm, unread, sum_read, instance_read_at, solution_read_at, labels_read_at, report_read_at, instance_write, solution_write, labels_write, sum_write, report_write}
+use Rattle.tt_app_answers.proofs.FailedReads.{read_summed, passed, calm, unread, sum_read, instance_read_at, solution_read_at, labels_read_at, page_read_at, instance_write, solution_write, labels_write, sum_write, page_write}
 use Rattle.tt_app_answers.proofs.Sums.{sum_here, silent_refusal}
 use Rattle.tt_app_answers.proofs.Files.{tells_instance, tells_solution, only_memory}
-use Rattle.tt_app_texts.proofs.Paging.{names_memory, names_tell_proved, sum_tells_page, page_tells, page_same, output_says_nothing}
+use Rattle.tt_app_texts.proofs.Paging.{names_memory, names_tell_proved, sum_tells_page, page_tells, page_same, output_tells}
 use Rattle.tt_app_texts.proofs.calls.page.proved_page.Goals as goal
 
 pub returns-in_err-instance-clause-only : goal.returns-in_err-instance-clause-only
@@ -72,12 +75,17 @@ returns-in_err-bound-clause-up_to_failed_read g c =
 pub returns-in_err-page-clause-fault : goal.returns-in_err-page-clause-fault
 returns-in_err-page-clause-fault g c =
     let e = err_from_is_err_and c.from_residual-in_err-page.result c.from_residual-in_err-page.ensures.1 in
-    rw (e.1, e.2) (page_tells c.args.instance.now c.args.solution.now c.in_ok-instance.instance c.in_ok-table.table c.args.names c.in_ok-instance.ensures.found c.in_ok-table.ensures.found c.args.style.now _ c.in_ok-bound.bound (Give g.R.Source.remaining c.args.proofs.now) _ _ c.in_err-page.field-0.0 c.in_ok-labels.ensures c.in_ok-bound.ensures.found c.in_ok-bound.ensures.holds (λ is. c.in_err-page.ensures.part (ap (λ f. Err f) is)))
+    rw (e.1, e.2) (page_tells c.args.instance.now c.args.solution.now c.in_ok-instance.instance c.in_ok-table.table c.args.names c.in_ok-instance.ensures.found c.in_ok-table.ensures.found c.args.style.now _ c.in_ok-bound.bound (Give g.R.Source.remaining c.args.proofs.now) _ _ c.in_err-page.field-0.0 c.in_ok-labels.ensures c.in_ok-bound.ensures.found c.in_ok-bound.ensures.holds (λ is. c.in_err-page.ensures.part (ap (λ f. Err f) is)) c.in_err-page.ensures.size)
 
 pub returns-in_err-page-clause-only : goal.returns-in_err-page-clause-only
 returns-in_err-page-clause-only g c =
     let e = err_from_is_err_and c.from_residual-in_err-page.result c.from_residual-in_err-page.ensures.1 in
-    λ p t l files b both named given h within. rw (e.1, e.2) (output_says_nothing c.in_err-page.field-0.0)
+    let f = c.in_err-page.field-0.0 in
+    λ p t l files b both named given h within.
+    let here = sum_here c.args.instance.now files p c.in_ok-instance.instance b both.spelled c.in_ok-instance.ensures.found h within in
+    let same = page_same c.args.instance.now c.args.solution.now p c.in_ok-instance.instance t c.in_ok-table.table c.args.names l c.in_ok-labels.labels (Some b) (Some c.in_ok-bound.bound) c.args.style.now both c.in_ok-instance.ensures.found c.in_ok-table.ensures.found named c.in_ok-labels.ensures
+    (ap (λ x. Some x) (c.in_ok-bound.ensures.only files b given here.is here.within)) in
+    rw (e.1, e.2) (inr (subst (IsNotPut (fault_from_page f)) same (output_tells f _ c.in_err-page.ensures.size)))
 
 pub returns-clause-written : goal.returns-clause-written
 returns-clause-written g c = record {
@@ -88,6 +96,7 @@ returns-clause-written g c = record {
     labels = c.in_ok-labels.labels;
     both = record { spelled = c.in_ok-instance.ensures.found; solved = c.in_ok-table.ensures.found };
     named = c.in_ok-labels.ensures;
+    within = c.in_ok-page.ensures.size;
     written = c.in_ok-page.ensures.written;
     done = refl;
   };
@@ -99,8 +108,9 @@ pub returns-clause-only : goal.returns-clause-only
 returns-clause-only g c =
     λ p t l files b both named given h within.
     let here = sum_here c.args.instance.now files p c.in_ok-instance.instance b both.spelled c.in_ok-instance.ensures.found h within in
-    page_same c.args.instance.now c.args.solution.now p c.in_ok-instance.instance t c.in_ok-table.table c.args.names l _ b c.in_ok-bound.bound c.args.style.now _ _ both c.in_ok-instance.ensures.found c.in_ok-table.ensures.found named c.in_ok-labels.ensures
-    (c.in_ok-bound.ensures.only files b given here.is here.within) c.in_ok-page.ensures.written
+    let same = page_same c.args.instance.now c.args.solution.now p c.in_ok-instance.instance t c.in_ok-table.table c.args.names l c.in_ok-labels.labels (Some b) (Some c.in_ok-bound.bound) c.args.style.now both c.in_ok-instance.ensures.found c.in_ok-table.ensures.found named c.in_ok-labels.ensures
+    (ap (λ x. Some x) (c.in_ok-bound.ensures.only files b given here.is here.within)) in
+    (subst (λ (x : List ℕ). Appends (g.W.Sink.contents c.args.sink.now) (g.W.Sink.contents c.page.new.sink) x) same c.in_ok-page.ensures.written, subst IsWithinLimit same c.in_ok-page.ensures.size)
 
 pub returns-in_err-instance-clause-failed_read : goal.returns-in_err-instance-clause-failed_read
 returns-in_err-instance-clause-failed_read g c =
@@ -130,7 +140,7 @@ pub returns-in_err-page-clause-failed_read : goal.returns-in_err-page-clause-fai
 returns-in_err-page-clause-failed_read g c =
     λ i r found.
     let f = c.in_err-page.field-0.0 in
-    calm c.from_residual-in_err-page.result (fault_from_report f) (is_failed_read_at (i + 1)) _ _ c.from_residual-in_err-page.ensures.1 (report_read_at (i + 1) f) (c.in_ok-bound.ensures.failed i r found)
+    calm c.from_residual-in_err-page.result (fault_from_page f) (is_failed_read_at (i + 1)) _ _ c.from_residual-in_err-page.ensures.1 (page_read_at (i + 1) f) (c.in_ok-bound.ensures.failed i r found)
 
 pub returns-in_err-instance-clause-failed : goal.returns-in_err-instance-clause-failed
 returns-in_err-instance-clause-failed g c =
@@ -155,4 +165,4 @@ returns-in_err-bound-clause-failed g c =
 pub returns-in_err-page-clause-failed : goal.returns-in_err-page-clause-failed
 returns-in_err-page-clause-failed g c =
     let f = c.in_err-page.field-0.0 in
-    passed c.from_residual-in_err-page.result (fault_from_report f) is_failed_write _ _ _ c.from_residual-in_err-page.ensures.1 (report_write f) c.in_err-page.ensures.failed
+    passed c.from_residual-in_err-page.result (fault_from_page f) is_failed_write _ _ _ c.from_residual-in_err-page.ensures.1 (page_write f) c.in_err-page.ensures.failed
