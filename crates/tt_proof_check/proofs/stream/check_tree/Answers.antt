@@ -57,10 +57,10 @@ loop-node-preserved g c =
     let u = stream_at new.fed (g.R.Source.remaining c.next_node.new.source) in
     let next = g.P.Path.facts c.take.new.path in
     let n = c.in-Some.node in
-    let goes = e.goes inv.sofar.sound in
+    let goes = e.state inv.sofar.sound in
     let count : old.count + 1 ≡ new.count = ap (λ (r : Reader). r.count) (sym goes.1) in
     record {
-      sofar = sofar_next p v b known _ s old t path inv.sofar new u n goes (λ k. e.says inv.sofar.sound (inv.known k)) _ (λ nodes long visited. visited_push g.L.NodeVisitor.visits 0 c.args.visitor.now c.loop-node.visitor c.visit.new.self c.loop-node.count n c.visit.ensures nodes (omega (arith, long, inv.count)) visited) next
+      sofar = sofar_next p v b known _ s old t path inv.sofar new u n goes (λ k. e.read inv.sofar.sound (inv.known k)) _ (λ nodes long visited. visited_push g.L.NodeVisitor.visits 0 c.args.visitor.now c.loop-node.visitor c.visit.new.self c.loop-node.count n c.visit.ensures nodes (omega (arith, long, inv.count)) visited) next
           (steps_as _ p c.bound-bound.result b path n next inv.problem c.bound-bound.ensures c.in-Ok.ensures.steps) c.in-Ok.ensures.within;
       failing = λ k rest m.
           let here = e.cut_short inv.sofar.sound (inv.known k) rest m in
@@ -92,7 +92,7 @@ returns-in_err-node-clause-fault g c =
     let new = c.next_node.new.self in
     let u = stream_at new.fed (g.R.Source.remaining c.next_node.new.source) in
     err_gives c.from_residual.result f (ExplainsNodes p v b s) c.from_residual.ensures.1
-    (sofar_unread p v b known _ s old t path inv.sofar new u f (e.goes inv.sofar.sound) k (e.says inv.sofar.sound (inv.known k)))
+    (sofar_unread p v b known _ s old t path inv.sofar new u f (e.state inv.sofar.sound) k (e.read inv.sofar.sound (inv.known k)))
 
 pub returns-in-Err-Rule-clause-fault : goal.returns-in-Err-Rule-clause-fault
 returns-in-Err-Rule-clause-fault g c =
@@ -112,7 +112,7 @@ returns-in-Err-Rule-clause-fault g c =
     let path = g.P.Path.facts c.loop-node.path in
     let new = c.next_node.new.self in
     let u = stream_at new.fed (g.R.Source.remaining c.next_node.new.source) in
-    rw c.in-Err-Rule.field-0-is (sofar_wrong p v b known _ s old t path inv.sofar new u n (e.goes inv.sofar.sound) (λ j. e.says inv.sofar.sound (inv.known j)) c.loop-node.count f inv.count
+    rw c.in-Err-Rule.field-0-is (sofar_wrong p v b known _ s old t path inv.sofar new u n (e.state inv.sofar.sound) (λ j. e.read inv.sofar.sound (inv.known j)) c.loop-node.count f inv.count
     (stops_as _ p c.bound-bound.result b path n (Rule f) inv.problem c.bound-bound.ensures taken.stops) k)
 
 pub returns-in-Err-TooDeep-clause-known : goal.returns-in-Err-TooDeep-clause-known
@@ -137,7 +137,7 @@ returns-in-Err-TooDeep-clause-fault g c =
     let path = g.P.Path.facts c.loop-node.path in
     let new = c.next_node.new.self in
     let u = stream_at new.fed (g.R.Source.remaining c.next_node.new.source) in
-    sofar_deep p v b known _ s old t path inv.sofar new u n (e.goes inv.sofar.sound) (λ j. e.says inv.sofar.sound (inv.known j)) c.loop-node.count c.deep_fault.result inv.count
+    sofar_deep p v b known _ s old t path inv.sofar new u n (e.state inv.sofar.sound) (λ j. e.read inv.sofar.sound (inv.known j)) c.loop-node.count c.deep_fault.result inv.count
     (stops_as _ p c.bound-bound.result b path n TooDeep inv.problem c.bound-bound.ensures taken.stops) k (c.deep_fault.ensures.fault (e.known (inv.known k)))
 
 pub returns-clause-checked : goal.returns-clause-checked
@@ -154,7 +154,7 @@ returns-clause-checked g c =
     let path = g.P.Path.facts c.loop-node.path in
     let new = c.next_node.new.self in
     let u = stream_at new.fed (g.R.Source.remaining c.next_node.new.source) in
-    sofar_end p v b known _ s old t path inv.sofar new u (e.goes inv.sofar.sound) (λ k. e.says inv.sofar.sound (inv.known k))
+    sofar_end p v b known _ s old t path inv.sofar new u (e.state inv.sofar.sound) (λ k. e.read inv.sofar.sound (inv.known k))
 
 pub returns-in_err-node-clause-up_to_failed_read : goal.returns-in_err-node-clause-up_to_failed_read
 returns-in_err-node-clause-up_to_failed_read g c =
@@ -167,7 +167,7 @@ returns-in_err-node-clause-up_to_failed_read g c =
     let is : f ≡ read_failed = err_read c.from_residual.result f c.from_residual.ensures.1 reported in
     let here = e.cut_short inv.sofar.sound (inv.known k) (ap is_failed_read is) in
     let first = inv.failing k _ here.0 in
-    (first.0, sofar_breaks _ _ _ true Unvisited _ old _ path first.1 (e.goes inv.sofar.sound).0 refl (here.1 ∙ ap (λ x. Err x) is))
+    (first.0, sofar_breaks _ _ _ true Unvisited _ old _ path first.1 (e.state inv.sofar.sound).0 refl (here.1 ∙ ap (λ x. Err x) is))
 
 pub returns-in-Err-TooDeep-clause-up_to_failed_read : goal.returns-in-Err-TooDeep-clause-up_to_failed_read
 returns-in-Err-TooDeep-clause-up_to_failed_read g c =
@@ -186,7 +186,7 @@ returns-in-Err-TooDeep-clause-up_to_failed_read g c =
     let here = e.cut_short inv.sofar.sound (inv.known k) _ child.0 in
     let first = inv.failing k _ here.0 in (
       first.0,
-      sofar_deep_breaks p _ b true Unvisited _ old _ path first.1 new _ n (e.goes inv.sofar.sound) (λ _. here.1) (stops_as _ p c.bound-bound.result b path n TooDeep inv.problem c.bound-bound.ensures taken.stops) refl child.1,
+      sofar_deep_breaks p _ b true Unvisited _ old _ path first.1 new _ n (e.state inv.sofar.sound) (λ _. here.1) (stops_as _ p c.bound-bound.result b path n TooDeep inv.problem c.bound-bound.ensures taken.stops) refl child.1,
     )
 
 pub returns-clause-cut_short : goal.returns-clause-cut_short
@@ -199,7 +199,7 @@ returns-clause-cut_short g c =
     let new = c.next_node.new.self in
     let here = e.cut_short inv.sofar.sound (inv.known k) rest m in
     let first = inv.failing k rest here.0 in
-    (first.0, sofar_end _ _ _ true Unvisited _ old _ path first.1 new _ (e.goes inv.sofar.sound) (λ _. here.1))
+    (first.0, sofar_end _ _ _ true Unvisited _ old _ path first.1 new _ (e.state inv.sofar.sound) (λ _. here.1))
 
 pub returns-in_err-node-clause-memory : goal.returns-in_err-node-clause-memory
 returns-in_err-node-clause-memory g c =

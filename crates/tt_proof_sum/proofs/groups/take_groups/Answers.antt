@@ -40,10 +40,10 @@ returns-in-Ok-None-clause-joins g c =
     let later = g.R.Source.remaining c.next_group.new.source in
     let e = c.next_group.ensures in
     let is : c.next_group.result ≡ Ok None = c.in-Ok-None.is ∙ ap (λ (x : Option GroupClaim). Ok x) c.in-Ok-None.field-0-is in
-    let goes = subst (λ (x : Result (Option GroupClaim) TextFault). IsReaderAfter r x after) is (e.goes u.sound) in
+    let goes = subst (λ (x : Result (Option GroupClaim) TextFault). IsReaderAfter r x after) is (e.state u.sound) in
     let bound_is : c.bound.result ≡ r.bound = c.bound.ensures ∙ ap (λ (x : Reader). x.bound) goes in
     let finish = reading_end p c.days.ensures.instance start c.args.table.now r now c.loop-claim.table c.loop-claim.number c.loop-claim.total u after later e.known
-    (λ k. subst (λ (x : Result (Option GroupClaim) TextFault). IsReadingOf r (stream_at r.fed now) x (stream_at after.fed later)) is (e.says u.sound k)) in
+    (λ k. subst (λ (x : Result (Option GroupClaim) TextFault). IsReadingOf r (stream_at r.fed now) x (stream_at after.fed later)) is (e.read u.sound k)) in
     reached_ok c.reached.result c.proof-file.result c.loop-claim.total c.bound.result _ c.reached.ensures
     (λ enough before parts known of begins kept kind.
     rw bound_is (joins p c.days.ensures.instance start c.args.table.now r now c.loop-claim.table c.loop-claim.number c.loop-claim.total u parts before of begins known kept kind later after finish (omega (arith, enough, bound_is))))
@@ -59,10 +59,10 @@ returns-in-Ok-None-clause-fault g c =
     let later = g.R.Source.remaining c.next_group.new.source in
     let e = c.next_group.ensures in
     let is : c.next_group.result ≡ Ok None = c.in-Ok-None.is ∙ ap (λ (x : Option GroupClaim). Ok x) c.in-Ok-None.field-0-is in
-    let goes = subst (λ (x : Result (Option GroupClaim) TextFault). IsReaderAfter r x after) is (e.goes u.sound) in
+    let goes = subst (λ (x : Result (Option GroupClaim) TextFault). IsReaderAfter r x after) is (e.state u.sound) in
     let bound_is : c.bound.result ≡ r.bound = c.bound.ensures ∙ ap (λ (x : Reader). x.bound) goes in
     let finish = reading_end p c.days.ensures.instance start c.args.table.now r now c.loop-claim.table c.loop-claim.number c.loop-claim.total u after later e.known
-    (λ k. subst (λ (x : Result (Option GroupClaim) TextFault). IsReadingOf r (stream_at r.fed now) x (stream_at after.fed later)) is (e.says u.sound k)) in
+    (λ k. subst (λ (x : Result (Option GroupClaim) TextFault). IsReadingOf r (stream_at r.fed now) x (stream_at after.fed later)) is (e.read u.sound k)) in
     reached_err c.reached.result c.proof-file.result c.loop-claim.total c.bound.result _ c.reached.ensures
     (λ below before parts bytes of begins known kind.
     cheap_fault p c.days.ensures.instance start c.args.table.now r now c.loop-claim.table c.loop-claim.number c.loop-claim.total u parts before of begins bytes known kind later after finish (omega (arith, below, bound_is)) (let small = c.bound.type_inv in omega (arith, small, bound_is)))
@@ -109,7 +109,7 @@ returns-in_err-take_claim-clause-fault g c =
     let k = c.in-Ok-Some.claim in
     let is : c.next_group.result ≡ Ok (Some k) = c.in-Ok-Some.is ∙ ap (λ (x : Option GroupClaim). Ok x) c.in-Ok-Some.field-0-is in
     let claim = subst (λ (x : Result (Option GroupClaim) TextFault). IfOk x (λ o. IfSome o (IsClaimAt r.sizes))) is e.claim in
-    let says : is_some now ≡ true → IsReadingOf r (stream_at r.fed now) (Ok (Some k)) (stream_at after.fed later) = λ kn. subst (λ (x : Result (Option GroupClaim) TextFault). IsReadingOf r (stream_at r.fed now) x (stream_at after.fed later)) is (e.says u.sound kn) in
+    let says : is_some now ≡ true → IsReadingOf r (stream_at r.fed now) (Ok (Some k)) (stream_at after.fed later) = λ kn. subst (λ (x : Result (Option GroupClaim) TextFault). IsReadingOf r (stream_at r.fed now) x (stream_at after.fed later)) is (e.read u.sound kn) in
     let f = err_from_is_err_and c.from_residual.result c.from_residual.ensures.1 in
     rw (f.1, f.2) (λ before parts bytes of begins known kind.
     let kn : is_some start ≡ true = ap is_some known in
@@ -131,10 +131,10 @@ loop-claim-preserved g c =
     let k = c.in-Ok-Some.claim in
     let taken = c.in_ok-take_claim.ensures in
     let is : c.next_group.result ≡ Ok (Some k) = c.in-Ok-Some.is ∙ ap (λ (x : Option GroupClaim). Ok x) c.in-Ok-Some.field-0-is in
-    let goes = subst (λ (x : Result (Option GroupClaim) TextFault). IsReaderAfter r x after) is (e.goes u.sound) in
+    let goes = subst (λ (x : Result (Option GroupClaim) TextFault). IsReaderAfter r x after) is (e.state u.sound) in
     let claim = subst (λ (x : Result (Option GroupClaim) TextFault). IfOk x (λ o. IfSome o (IsClaimAt r.sizes))) is e.claim in
     let forward = subst (λ (x : Result (Option GroupClaim) TextFault). IfOk x (λ o. IfSome o (λ _. room_of after.fed < room_of r.fed))) is e.forward in
-    let says : is_some now ≡ true → IsReadingOf r (stream_at r.fed now) (Ok (Some k)) (stream_at after.fed later) = λ kn. subst (λ (x : Result (Option GroupClaim) TextFault). IsReadingOf r (stream_at r.fed now) x (stream_at after.fed later)) is (e.says u.sound kn) in
+    let says : is_some now ≡ true → IsReadingOf r (stream_at r.fed now) (Ok (Some k)) (stream_at after.fed later) = λ kn. subst (λ (x : Result (Option GroupClaim) TextFault). IsReadingOf r (stream_at r.fed now) x (stream_at after.fed later)) is (e.read u.sound kn) in
     let cut = subst (λ (x : Result (Option GroupClaim) TextFault). GroupAgreesWhenCut r now x after.fed later) is (e.cut_short u.sound) in
     record {
       under = underway_more p c.days.ensures.instance start c.args.table.now r now c.loop-claim.table c.loop-claim.number c.loop-claim.total u after later e.known c.take_claim.new.table k (c.loop-claim.number + 1) c.saturating_add-total.result
