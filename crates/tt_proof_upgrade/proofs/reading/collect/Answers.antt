@@ -38,12 +38,12 @@ loop-nodes-preserved g c =
     let inv = c.loop-nodes.invariant in
     let old = c.loop-nodes.reader in
     let new = c.next_node.new.self in
-    let goes = e.goes inv.sofar.sound in
+    let goes = e.state inv.sofar.sound in
     let count : old.count + 1 ≡ new.count = ap (λ (r : Reader). r.count) (sym goes.1) in
     record {
       sofar = rw c.in_ok-push.ensures.items (collected_next c.args.reader.now.sizes c.args.reader.now.version (is_some (g.R.Source.remaining c.args.source.now)) (stream_at c.args.reader.now.fed (g.R.Source.remaining c.args.source.now))
           old (stream_at old.fed (g.R.Source.remaining c.loop-nodes.source)) c.loop-nodes.nodes.items inv.sofar new (stream_at new.fed (g.R.Source.remaining c.next_node.new.source)) c.in-Some.node goes
-          (λ k. e.says inv.sofar.sound (inv.known k)) e.node);
+          (λ k. e.read inv.sofar.sound (inv.known k)) e.node);
       failing = λ k rest m.
           let here = e.cut_short inv.sofar.sound (inv.known k) rest m in
           let first = inv.failing k rest here.0 in (
@@ -67,10 +67,10 @@ returns-clause-collected g c =
     let inv = c.loop-nodes.invariant in
     let old = c.loop-nodes.reader in
     let new = c.next_node.new.self in
-    let goes = e.goes inv.sofar.sound in
+    let goes = e.state inv.sofar.sound in
     collected_end c.args.reader.now.sizes c.args.reader.now.version (is_some (g.R.Source.remaining c.args.source.now)) (stream_at c.args.reader.now.fed (g.R.Source.remaining c.args.source.now))
     old (stream_at old.fed (g.R.Source.remaining c.loop-nodes.source)) c.loop-nodes.nodes.items inv.sofar (stream_at new.fed (g.R.Source.remaining c.next_node.new.source)) goes.0
-    (λ k. e.says inv.sofar.sound (inv.known k))
+    (λ k. e.read inv.sofar.sound (inv.known k))
 
 pub returns-clause-cut_short : goal.returns-clause-cut_short
 returns-clause-cut_short g c =
@@ -79,7 +79,7 @@ returns-clause-cut_short g c =
     let inv = c.loop-nodes.invariant in
     let here = e.cut_short inv.sofar.sound (inv.known k) rest m in
     let first = inv.failing k rest here.0 in
-    (first.0, collected_end _ _ true _ c.loop-nodes.reader _ c.loop-nodes.nodes.items first.1 _ (e.goes inv.sofar.sound).0 (λ _. here.1))
+    (first.0, collected_end _ _ true _ c.loop-nodes.reader _ c.loop-nodes.nodes.items first.1 _ (e.state inv.sofar.sound).0 (λ _. here.1))
 
 pub returns-in_err-node-clause-up_to_failed_read : goal.returns-in_err-node-clause-up_to_failed_read
 returns-in_err-node-clause-up_to_failed_read g c =
@@ -89,7 +89,7 @@ returns-in_err-node-clause-up_to_failed_read g c =
     let is = err_same c.from_residual.result c.in_err-node.field-0.0 read_failed c.from_residual.ensures.1 reported in
     let here = e.cut_short inv.sofar.sound (inv.known k) (ap is_failed_read is) in
     let first = inv.failing k _ here.0 in
-    (first.0, collected_breaks_off _ _ true _ c.loop-nodes.reader _ c.loop-nodes.nodes.items first.1 (e.goes inv.sofar.sound).0 refl (here.1 ∙ ap (λ x. Err x) is))
+    (first.0, collected_breaks_off _ _ true _ c.loop-nodes.reader _ c.loop-nodes.nodes.items first.1 (e.state inv.sofar.sound).0 refl (here.1 ∙ ap (λ x. Err x) is))
 
 pub returns-in_err-node-clause-failed : goal.returns-in_err-node-clause-failed
 returns-in_err-node-clause-failed g c =
