@@ -30,7 +30,7 @@ returns-in_err-node-clause-fault g c =
     let inv = c.loop-nodes.invariant in
     let old = c.loop-nodes.reader in
     rw (e.1, e.2) (λ n. collected_breaks c.args.reader.now.sizes c.args.reader.now.version (is_some (g.R.Source.remaining c.args.source.now)) (stream_at c.args.reader.now.fed (g.R.Source.remaining c.args.source.now))
-    old (stream_at old.fed (g.R.Source.remaining c.loop-nodes.source)) c.loop-nodes.nodes.items inv.sofar c.in_err-node.field-0.0 (h.goes inv.sofar.sound).0 k (h.says inv.sofar.sound (inv.known k)))
+    old (stream_at old.fed (g.R.Source.remaining c.loop-nodes.source)) c.loop-nodes.nodes.items inv.sofar c.in_err-node.field-0.0 (h.state inv.sofar.sound).0 k (h.read inv.sofar.sound (inv.known k)))
 
 pub loop-nodes-preserved : goal.loop-nodes-preserved
 loop-nodes-preserved g c =

@@ -3,8 +3,8 @@ use Rattle.tt_instance_data.specs.Courses.{in_curriculum}
 use Rattle.tt_occupancy_tallies.proofs.Rows.{passing_below}
 use Rattle.tt_search.proofs.violations.is_isolated.Goals as goal
 
-pub is_beside-requires-clause-curriculum : goal.is_beside-requires-clause-curriculum
-is_beside-requires-clause-curriculum c =
+pub has_neighbour-requires-clause-curriculum : goal.has_neighbour-requires-clause-curriculum
+has_neighbour-requires-clause-curriculum c =
     let a = c.args in
     let p = a.occupied.now.problem in
     let rows = c.curricula_of-curriculum-items.result.now in
