@@ -26,7 +26,7 @@ pub record IsWhole {A : Type 0} (instance solution : List ℕ) (files : List (Li
 
 -- they certify them if the solution spells a feasible timetable of this cost, and the bound is the sum
 pub whole : {A : Type 0} (i s : List ℕ) (p : Problem) (t : List Cell) (files : List (List ℕ)) (page : Option (Vec ℕ A)) (style : List ℕ) (sum : Bound) (c b : ℕ) → Spells i p → SpellsTable p s t → IsFeasible p t → c ≡ cost p t → IsSum p files sum → HoldsOfAll p sum
-    → sum ≡ AtLeast b → ShowsPage page (page_text p t no_labels (Some sum) style) → IsWhole i s files page style c b
+    → sum ≡ AtLeast b → ShowsPage page (page_text p t no_labels (Some (AtLeast b)) style) → IsWhole i s files page style c b
 whole i s p t files page style sum c b spells solved feasible costs is holds e shown =
     let here : HoldsOfAll p (AtLeast b) = subst (λ (x : Bound). HoldsOfAll p x) e holds in
     record {
@@ -36,5 +36,5 @@ whole i s p t files page style sum c b spells solved feasible costs is holds e s
       };
       bounds = λ other read. subst (λ (x : Problem). HoldsOfAll x (AtLeast b)) (one_instance i p other spells read) here;
       within = subst (λ (n : ℕ). b ≤ n) (sym costs) (here t feasible);
-      shown = subst (λ (x : Bound). ShowsPage page (page_text p t no_labels (Some x) style)) e shown;
+      shown = shown;
     }

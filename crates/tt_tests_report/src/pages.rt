@@ -205,10 +205,11 @@ fn styled(alloc: Global, letters: usize) -> Result<(Result<u8, AppFault>, usize)
 fn the_largest_page(rt: HostRuntime) -> Result<(), Fail> {
     let (answer, unstyled) = styled(rt.alloc(), 0)?;
     assert_eq!(rt; answer, Ok(0));
-    let (answer, written) = styled(rt.alloc(), MAX_PAGE_BYTES - unstyled)?;
+    let room = MAX_PAGE_BYTES.saturating_sub(unstyled);
+    let (answer, written) = styled(rt.alloc(), room)?;
     assert_eq!(rt; answer, Ok(0));
     assert_eq!(rt; written, MAX_PAGE_BYTES);
-    let (answer, written) = styled(rt.alloc(), MAX_PAGE_BYTES - unstyled + 1)?;
+    let (answer, written) = styled(rt.alloc(), room.saturating_add(1))?;
     assert_eq!(rt; answer, Err(AppFault::PageTooLarge));
     assert_eq!(rt; written, 0);
     Ok(())
