@@ -7,7 +7,7 @@ use Rattle.tt_instance_data.specs.Spelling.{Spells}
 use Rattle.tt_instance_data.specs.declared.cell.Cell.{Cell}
 use Rattle.tt_table.specs.Spelling.{SpellsBoth, SpellsTable}
 use Rattle.tt_leaf_data.specs.declared.leaf.Bound.{Bound}
-use Rattle.tt_page.specs.Faults.{TellsSize}
+use Rattle.tt_page.specs.Faults.{ExplainsSize}
 use Rattle.tt_page.specs.Pages.{page_text}
 use Rattle.tt_page.specs.declared.fault.PageFault.{PageFault}
 use Rattle.tt_page.specs.declared.fault.PageFault.TheVariants as page
@@ -28,7 +28,7 @@ use Rattle.tt_app_answers.specs.declared.fault.AppFault.{AppFault}
 use Rattle.tt_app_answers.specs.declared.fault.AppFault.TheVariants as fault
 
 -- an error of the page's output tells its size
-pub output_tells : (f : PageFault) (text : List ℕ) → TellsSize f text → IsNotPut (fault_from_page f) text
+pub output_tells : (f : PageFault) (text : List ℕ) → ExplainsSize f text → IsNotPut (fault_from_page f) text
 output_tells page.Write text size = size
 output_tells page.TooLarge text size = size
 output_tells page.OutOfMemory text size = tt
@@ -75,13 +75,13 @@ module _ (i s : List ℕ) (p : Problem) (t : List Cell) (names : PageNames) (spe
 
   -- an error of the page's output is reported
   pub plain_page_tells : (style : List ℕ) (l : Labelled) (before after : Option (List ℕ)) (f : PageFault) → labels_for p names ≡ Ok l
-      → (f ≡ page.Write → TakesPart before after (page_text p t l None style)) → TellsSize f (page_text p t l None style) → IsPageRefusal i s names style before after (fault_from_page f)
+      → (f ≡ page.Write → TakesPart before after (page_text p t l None style)) → ExplainsSize f (page_text p t l None style) → IsPageRefusal i s names style before after (fault_from_page f)
   plain_page_tells style l before after page.Write named part size = record { problem = p; table = t; labels = l; both = both; named = named; within = size; part = part refl }
   plain_page_tells style l before after page.TooLarge named part size = record { problem = p; table = t; labels = l; both = both; named = named; large = size }
   plain_page_tells style l before after page.OutOfMemory named part size = tt
 
   pub page_tells : (style : List ℕ) (l : Labelled) (b : Bound) (gives : List (List ℕ) → Type 0) (before after : Option (List ℕ)) (f : PageFault) → labels_for p names ≡ Ok l
-      → ((proofs : List (List ℕ)) → gives proofs → IsSum p proofs b) → HoldsOfAll p b → (f ≡ page.Write → TakesPart before after (page_text p t l (Some b) style)) → TellsSize f (page_text p t l (Some b) style)
+      → ((proofs : List (List ℕ)) → gives proofs → IsSum p proofs b) → HoldsOfAll p b → (f ≡ page.Write → TakesPart before after (page_text p t l (Some b) style)) → ExplainsSize f (page_text p t l (Some b) style)
       → IsProvedPageRefusal i s names style gives before after (fault_from_page f)
   page_tells style l b gives before after page.Write named sum holds part size = record {
     bound = b;

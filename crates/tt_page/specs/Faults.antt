@@ -17,7 +17,7 @@ is_failed_write Write = true
 is_failed_write _ = false
 
 -- Whether the text is too large: it is refused if it is, and writes fail only if it isn't. Memory that ran out says nothing about it.
-abbrev pub TellsSize : PageFault → List ℕ → Type 0
-TellsSize TooLarge page = IsTooLarge page
-TellsSize Write page = IsWithinLimit page
-TellsSize OutOfMemory page = ⊤
+abbrev pub ExplainsSize : PageFault → List ℕ → Type 0
+ExplainsSize TooLarge page = IsTooLarge page
+ExplainsSize Write page = IsWithinLimit page
+ExplainsSize OutOfMemory page = ⊤

@@ -8,7 +8,7 @@ ghost use Rattle.tt_text.specs.Failures.{is_err_and};
 ghost use Rattle.tt_text.specs.Sinks.{TakesPart};
 ghost use Rattle.tt_page_text.specs.Puts.{IsTooLarge, Puts};
 ghost use Rattle.tt_page_text.specs.declared.fault.TextFault.TheVariants as text_fault;
-ghost use Rattle.tt_page.specs.Faults.{TellsSize, is_failed_write};
+ghost use Rattle.tt_page.specs.Faults.{ExplainsSize, is_failed_write};
 ghost use Rattle.tt_page.specs.Limits.{IsWithinLimit};
 ghost use Rattle.tt_page.specs.Pages.{counts_text, weeks_text, page_text};
 ghost use Rattle.tt_page.specs.declared.fault.PageFault.TheVariants as fault;
@@ -118,7 +118,7 @@ pub fn page<W: Sink>(
     ensures failed { W.has_failed sink.new ≡ (if is_err_and result is_failed_write then true else W.has_failed sink.old) }
     // The page is refused as too large exactly if it has more bytes than a page may have, unless memory runs out.
     ensures size { let text = page_text instance.now table.now labels.now proved style.now in
-        MatchResult result (λ _. IsWithinLimit text) (λ f. TellsSize f text) }
+        MatchResult result (λ _. IsWithinLimit text) (λ f. ExplainsSize f text) }
     // If the page is too large, nothing was written.
     ensures refused { result ≡ Err fault.TooLarge → sink.new ≡ sink.old }
     // If memory ran out, nothing was written.
