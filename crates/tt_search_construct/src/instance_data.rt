@@ -2,6 +2,7 @@
 
 use std::alloc::{AllocError, Global};
 use tt_instance_data::Instance;
+use tt_instance_links::{Conflicts, Curricula};
 
 /// The data of a course that the choices use.
 #[derive(Drop)]
@@ -34,28 +35,6 @@ pub struct InstanceData {
     pub lectures: usize,
 }
 
-/// Returns the curricula of a course.
-fn curricula_of(
-    alloc: Global,
-    instance: &Instance<'_>,
-    course: u32,
-) -> Result<Vec<u32>, AllocError> {
-    (0..instance.curricula())
-        .filter(|curriculum| instance.in_curriculum(*curriculum, course))
-        .collect(alloc)
-}
-
-/// Returns the courses that conflict with a course.
-fn opponents_of(
-    alloc: Global,
-    instance: &Instance<'_>,
-    course: u32,
-) -> Result<Vec<u32>, AllocError> {
-    (0..instance.courses())
-        .filter(|other| instance.conflict(*other, course))
-        .collect(alloc)
-}
-
 /// Returns the seats of each room.
 fn seats_of(alloc: Global, instance: &Instance<'_>) -> Result<Vec<u32>, AllocError> {
     let mut seats = Vec::new(alloc);
@@ -86,6 +65,8 @@ impl InstanceData {
     /// Returns the data of the instance that the choices use.
     pub fn new(alloc: Global, instance: &Instance<'_>) -> Result<InstanceData, AllocError> {
         let mut data = InstanceData::empty(alloc, instance)?;
+        let curricula = Curricula::new(alloc, instance)?;
+        let conflicts = Conflicts::new(alloc, instance)?;
         for course in 0..instance.courses() {
             let lectures = instance.lectures(course);
             data.courses.push(Course {
@@ -93,8 +74,8 @@ impl InstanceData {
                 students: instance.students(course),
                 min_days: instance.min_days(course),
                 first: data.lectures,
-                curricula: curricula_of(alloc, instance, course)?,
-                opponents: opponents_of(alloc, instance, course)?,
+                curricula: Vec::from_slice(alloc, curricula.curricula_of(course))?,
+                opponents: Vec::from_slice(alloc, conflicts.conflicts_of(course))?,
             })?;
             data.lectures = data.lectures.saturating_add(lectures as usize);
         }
