@@ -1,3 +1,4 @@
+mod Examples
 pub mod Growing
 pub mod Harmless
 pub mod Stopping
