@@ -1,4 +1,4 @@
--- Examples of texts that are put behind others.
+-- Examples of texts that are appended.
 use Rattle.std.proofs.Common.{Ok, Err, refl}
 use Rattle.std.specs.Prelude.{Result, codes}
 use Rattle.tt_page_text.specs.Puts.{Puts}
@@ -11,7 +11,7 @@ done = Ok tt
 abbrev out_of_memory : Result (Unit {0}) TextFault
 out_of_memory = Err fault.OutOfMemory
 
--- the text comes behind the one that is there
+-- the text is appended
 behind : Puts done (codes "<td>") (codes "<td>a</td>") (codes "a</td>")
 behind = refl
 

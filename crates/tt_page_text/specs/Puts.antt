@@ -8,6 +8,6 @@ use Rattle.tt_page_text.specs.declared.page_text.TheConstants.{MAX_PAGE_BYTES}
 abbrev pub IsTooLarge : List ℕ → Type 0
 IsTooLarge text = MAX_PAGE_BYTES < length text
 
--- The text was put behind the one before, unless memory ran out, or both together are too large.
+-- The text was appended to the one before, unless memory ran out or both together are too large.
 abbrev pub Puts : {X : Type 0} → Result X TextFault → List ℕ → List ℕ → List ℕ → Type 0
 Puts result before after text = MatchResult result (λ _. after ≡ before ++ text) (λ f. f ≡ fault.TooLarge → IsTooLarge (before ++ text))
