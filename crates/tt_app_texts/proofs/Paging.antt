@@ -27,7 +27,7 @@ use Rattle.tt_app_texts.specs.declared.calls.page.PageNames.{PageNames}
 use Rattle.tt_app_answers.specs.declared.fault.AppFault.{AppFault}
 use Rattle.tt_app_answers.specs.declared.fault.AppFault.TheVariants as fault
 
--- an error of the page's output tells its size
+-- what an error of the page's output says about its size
 pub output_tells : (f : PageFault) (text : List ℕ) → ExplainsSize f text → IsNotPut (fault_from_page f) text
 output_tells page.Write text size = size
 output_tells page.TooLarge text size = size
