@@ -5,6 +5,7 @@ use Rattle.tt_proof_check.specs.declared.fault.CertifyFault.TheVariants as certi
 use Rattle.tt_proof_check.specs.declared.fault.Verdict.{Verdict}
 use Rattle.tt_proof_check.specs.declared.fault.Verdict.TheVariants.{Yes, Breaks}
 use Rattle.tt_app_answers.specs.Lines.{yes_line, broken_line}
+use Rattle.tt_app_answers.specs.Refusals.{read_failed}
 use Rattle.tt_app_answers.specs.declared.answer.Answer.{Answer}
 use Rattle.tt_app_answers.specs.declared.fault.AppFault.{AppFault}
 use Rattle.tt_app_answers.specs.declared.fault.AppFault.TheVariants as fault

@@ -16,6 +16,8 @@ use Rattle.tt_proof_sum.specs.Sums.{IsSum}
 use Rattle.tt_proof_sum.specs.declared.fault.SumFault.{SumFault}
 use Rattle.tt_app_checks.specs.Bounded.{IsBoundAnswer}
 use Rattle.tt_app_checks.specs.Checked.{IsYesAnswer, IsBrokenAnswer}
+use Rattle.tt_app_answers.specs.Refusals.{IsSilentRefusal}
+use Rattle.tt_app_answers.specs.Sums.{CertifiesSum}
 use Rattle.tt_app_answers.specs.declared.answer.Answer.{Answer}
 use Rattle.tt_app_answers.specs.declared.fault.AppFault.{AppFault}
 use Rattle.tt_app_answers.specs.declared.fault.AppFault.TheVariants as fault
