@@ -5,9 +5,11 @@ use Rattle.std.specs.List.{list_all}
 use Rattle.std.specs.Int.{bit_at}
 use Rattle.tt_lists.specs.Words.{range_below}
 
+-- Whether the set has this number: the bit at that position is 1.
 abbrev pub has_bit : ℕ → ℕ → Bool
 has_bit w r = bit_at w r == 1
 
+-- The positions of the 64 bits, in ascending order.
 unfoldable pub bits : List ℕ
 bits = range_below 64
 

@@ -13,6 +13,7 @@ undone words (o ∷ os) = slice_set (undone words os) o.place o.word
 abbrev pub table_at : List ℕ → List Old → ℕ → List ℕ
 table_at words log mark = undone words (drop mark log)
 
+-- The tables at the times when the log had these lengths, one for each length, in order.
 abbrev pub tables_at : List ℕ → List Old → List ℕ → List (List ℕ)
 tables_at words log marks = map (table_at words log) marks
 
@@ -21,5 +22,6 @@ abbrev pub IsClimb : List ℕ → ℕ → Type 0
 IsClimb [] n = Unit {0}
 IsClimb (m ∷ ms) n = AllByRecursion (λ k. m ≤ k) (ms ++ n ∷ []) × IsClimb ms n
 
+-- Each write of the log has a place below n.
 abbrev pub AreWithin : ℕ → List Old → Type 0
 AreWithin n log = AllByRecursion (λ o. o.place < n) log

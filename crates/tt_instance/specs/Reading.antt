@@ -22,9 +22,11 @@ abbrev pub is_environmental : InstanceFault → Bool
 is_environmental fault.OutOfMemory = true
 is_environmental _ = false
 
+-- The text has exactly this fault. Being out of memory says nothing about the text.
 abbrev pub Fails : {Y : Type 0} → InstanceFault → Result Y InstanceFault → Type 0
 Fails e read = FailsUnless is_environmental e read
 
+-- The result, seen by `view`, is the one that the text gives. A result of being out of memory says nothing about the text.
 abbrev pub Gives : {X Y : Type 0} → (X → Y) → Result X InstanceFault → Result Y InstanceFault → Type 0
 Gives view result read = AgreesUnless is_environmental view result read
 
@@ -105,6 +107,7 @@ rooms_at end (suc n) before ts = do
 
 -- ---- curricula and unavailabilities
 
+-- The number of a course, if there is one, or else the fault that the token at this offset names no course.
 abbrev pub known : ℕ → Option ℕ → Result ℕ InstanceFault
 known at None = Err (fault.UnknownCourse at)
 known at (Some i) = Ok i
@@ -240,6 +243,7 @@ groups_at end counts ids ts = do
   ts3 ← word_at end word.End unavailabilities.1
   Ok ((curricula.0, unavailabilities.0), ts3)
 
+-- The courses, rooms, curricula and unavailabilities after the header, up to and including the word `END.`.
 unfoldable pub sections_at : ℕ → Counts → List Placed → Result (Sections × List Placed) InstanceFault
 sections_at end counts ts = do
   places ← places_at end counts ts

@@ -8,6 +8,7 @@ use Rattle.tt_instance.specs.Words.{fixed}
 use Rattle.tt_instance_data.specs.Problem.{Problem}
 use Rattle.tt_instance_data.specs.Spelling.{course_pieces, room_pieces, curriculum_pieces, unavailability_pieces}
 
+-- A line of a fixed word and a number.
 abbrev pub counted_line : Word → ℕ → List Piece
 counted_line w n = fixed w ∷ Number n ∷ []
 
@@ -15,6 +16,7 @@ counted_line w n = fixed w ∷ Number n ∷ []
 abbrev pub section : Word → List (List Piece)
 section w = [] ∷ (fixed w ∷ []) ∷ []
 
+-- The lines of the header: the name, and the numbers of courses, rooms, days, periods of a day, curricula and unavailabilities.
 abbrev pub header_lines : Problem → List (List Piece)
 header_lines p =
     (fixed word.Name ∷ map Text p.name) ∷ counted_line word.Courses (length p.courses) ∷ counted_line word.Rooms (length p.rooms)
@@ -31,5 +33,6 @@ instance_lines p =
     ++ (section word.UnavailabilityPart ++ map (unavailability_pieces p.courses) p.unavailabilities)
     ++ section word.End
 
+-- The bytes of the canonical text of an instance.
 abbrev pub instance_text : Problem → List ℕ
 instance_text p = lines_text (instance_lines p)

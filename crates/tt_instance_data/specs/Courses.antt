@@ -5,27 +5,35 @@ use Rattle.tt_lists.specs.Words.{has_number}
 use Rattle.tt_text.specs.Texts.{is_same_text, distinct_names}
 use Rattle.tt_instance_data.specs.Problem.{Course, Room, Curriculum, Problem}
 
+-- The course for a number out of range: its name and its teacher are empty, and its numbers are 0.
 abbrev pub no_course : Course
 no_course = record { id = []; teacher = []; lectures = 0; min_days = 0; students = 0 }
 
+-- The room for a number out of range: its name is empty, and it has no seats.
 abbrev pub no_room : Room
 no_room = record { id = []; capacity = 0 }
 
+-- The curriculum for a number out of range: its name is empty, and it has no members.
 abbrev pub no_curriculum : Curriculum
 no_curriculum = record { id = []; members = [] }
 
+-- The number of lectures of the course; 0 if there is no such course.
 abbrev pub lectures : Problem → ℕ → ℕ
 lectures p c = (slice_index_or p.courses c no_course).lectures
 
+-- The minimum number of working days of the course; 0 if there is no such course.
 abbrev pub min_days : Problem → ℕ → ℕ
 min_days p c = (slice_index_or p.courses c no_course).min_days
 
+-- The number of students of the course; 0 if there is no such course.
 abbrev pub students : Problem → ℕ → ℕ
 students p c = (slice_index_or p.courses c no_course).students
 
+-- The number of seats of the room; 0 if there is no such room.
 abbrev pub capacity : Problem → ℕ → ℕ
 capacity p r = (slice_index_or p.rooms r no_room).capacity
 
+-- The numbers of the courses of the curriculum; none if there is no such curriculum.
 abbrev pub members : Problem → ℕ → List ℕ
 members p q = (slice_index_or p.curricula q no_curriculum).members
 
@@ -35,12 +43,15 @@ excess p c r = students p c - capacity p r
 
 -- ---- names
 
+-- The name of each course of the instance, in order.
 abbrev pub course_ids : Problem → List (List ℕ)
 course_ids p = map (λ c. c.id) p.courses
 
+-- The name of each room of the instance, in order.
 abbrev pub room_ids : Problem → List (List ℕ)
 room_ids p = map (λ r. r.id) p.rooms
 
+-- The name of each curriculum of the instance, in order.
 abbrev pub curriculum_ids : Problem → List (List ℕ)
 curriculum_ids p = map (λ q. q.id) p.curricula
 
@@ -54,6 +65,7 @@ teachers p = distinct_names (course_teachers p)
 
 -- -- which courses conflict, and which periods are unavailable to a course
 
+-- Whether curriculum `q` has course `c` as a member.
 abbrev pub in_curriculum : Problem → ℕ → ℕ → Bool
 in_curriculum p q c = has_number (members p q) c
 

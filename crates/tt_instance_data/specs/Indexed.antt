@@ -25,6 +25,8 @@ teachers_of cs = distinct_names (map (λ c. c.teacher) cs)
 abbrev pub IsTeacher : List (List ℕ) → CourseRow → Type 0
 IsTeacher names r = index_of_name names r.teacher_name.now ≡ Some r.teacher
 
+-- The list has the name of the course of each row, each teacher once in the order of first mention, and the number of all lectures, which is
+-- within its limit. There are at most as many teachers as rows, and each row has the number of its teacher.
 pub record IsIndexed (l : CourseList) : Type 0 where
   pub ids_are : l.ids ≡ ids_of (courses_seen l.rows.items)
   pub teachers_are : l.teachers ≡ teachers_of (courses_seen l.rows.items)
@@ -33,6 +35,7 @@ pub record IsIndexed (l : CourseList) : Type 0 where
   pub at_most : length l.teachers ≤ length l.rows.items
   pub numbers : All (IsTeacher l.teachers) l.rows.items
 
+-- The list has the name of the room of each row, in order.
 pub record IsRoomsIndexed (l : RoomList) : Type 0 where
   pub ids_are : l.ids ≡ room_ids_of (rooms_seen l.rows.items)
 
@@ -41,6 +44,7 @@ pub record IsMarked (count : ℕ) (l : MemberList) : Type 0 where
   pub len : length l.marks ≡ count
   pub agrees : (c : ℕ) → slice_index_or l.marks c false ≡ has_number l.courses.items c
 
+-- The list has the name of the curriculum of each row, in order, and each row has marks for `count` courses that say which are its members.
 pub record IsCurriculaIndexed (count : ℕ) (l : CurriculumList) : Type 0 where
   pub ids_are : l.ids ≡ curriculum_ids_of (curricula_seen l.rows.items)
   pub marked : All (λ r. IsMarked count r.members) l.rows.items

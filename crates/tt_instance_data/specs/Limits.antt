@@ -28,6 +28,7 @@ pub record IsWithinLimits (p : Problem) : Type 0 where
   pub each_curriculum : All (λ q. (length q.members ≤ MAX_MEMBERS) × All (λ c. c < length p.courses) q.members) p.curricula
   pub each_unavailability : All (λ b. (b.course < length p.courses) × (b.day < p.days) × (b.period < p.periods)) p.unavailabilities
 
+-- Whether both have the same course, day and period.
 abbrev pub same_unavailability : Unavailability → Unavailability → Bool
 same_unavailability a b = (a.course == b.course) && (a.day == b.day) && (a.period == b.period)
 

@@ -2,6 +2,7 @@
 -- Competition (track 3, technical report of Di Gaspero, McCollum and Schaerf, section 3).
 use Rattle.std.specs.Prelude.{ℕ, List}
 
+-- A course: its name, its teacher, and its numbers of lectures, of minimum working days and of students.
 pub record Course : Type 0 where
   pub id : List ℕ
   pub teacher : List ℕ
@@ -9,6 +10,7 @@ pub record Course : Type 0 where
   pub min_days : ℕ
   pub students : ℕ
 
+-- A room: its name and its number of seats.
 pub record Room : Type 0 where
   pub id : List ℕ
   pub capacity : ℕ

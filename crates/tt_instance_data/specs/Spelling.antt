@@ -12,18 +12,23 @@ use Rattle.tt_instance_data.specs.Limits.{same_unavailability, IsWithinLimits}
 abbrev pub named : List Course → ℕ → Piece
 named cs c = Text (slice_index_or cs c no_course).id
 
+-- The pieces of a course: its name, its teacher, and its numbers of lectures, of minimum working days and of students.
 abbrev pub course_pieces : Course → List Piece
 course_pieces c = Text c.id ∷ Text c.teacher ∷ Number c.lectures ∷ Number c.min_days ∷ Number c.students ∷ []
 
+-- The pieces of a room: its name and its number of seats.
 abbrev pub room_pieces : Room → List Piece
 room_pieces r = Text r.id ∷ Number r.capacity ∷ []
 
+-- The pieces of a curriculum: its name, the number of its members, and the name of each member.
 abbrev pub curriculum_pieces : List Course → Curriculum → List Piece
 curriculum_pieces cs q = Text q.id ∷ Number (length q.members) ∷ map (named cs) q.members
 
+-- The pieces of an unavailability: the name of its course, and the numbers of its day and its period.
 abbrev pub unavailability_pieces : List Course → Unavailability → List Piece
 unavailability_pieces cs b = named cs b.course ∷ Number b.day ∷ Number b.period ∷ []
 
+-- The pieces of the header after the name: six fixed words, each with its number after it.
 abbrev pub header_pieces : Problem → List Piece
 header_pieces p =
     Text (codes "Courses:") ∷ Number (length p.courses) ∷ Text (codes "Rooms:") ∷ Number (length p.rooms)
@@ -41,6 +46,7 @@ pieces p =
     ++ (Text (codes "UNAVAILABILITY_CONSTRAINTS:") ∷ flat_map (unavailability_pieces p.courses) p.unavailabilities)
     ++ (Text (codes "END.") ∷ [])
 
+-- The curriculum with each member once, in the order of first mention.
 abbrev pub without_repeated_members : Curriculum → Curriculum
 without_repeated_members q = record q { members = distinct (λ a b. a == b) q.members }
 

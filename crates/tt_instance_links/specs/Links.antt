@@ -9,5 +9,6 @@ use Rattle.tt_instance_data.specs.Courses.{in_curriculum, conflict}
 abbrev pub curricula_of : Problem → ℕ → List ℕ
 curricula_of p c = filter (λ q. in_curriculum p q c) (all_curricula p)
 
+-- Each course that conflicts with the course once, in ascending order.
 abbrev pub conflicts_of : Problem → ℕ → List ℕ
 conflicts_of p c = filter (λ i. conflict p i c) (all_courses p)

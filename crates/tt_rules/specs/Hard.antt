@@ -9,6 +9,7 @@ use Rattle.tt_instance_data.specs.Courses.{lectures, conflict, unavailable}
 use Rattle.tt_instance_data.specs.declared.cell.Cell.{Cell}
 use Rattle.tt_instance_data.specs.declared.cell.Slot.{Slot}
 
+-- The number of entries that the course has in the timetable.
 abbrev pub entries_of : List Cell → ℕ → ℕ
 entries_of t c = count_by (is_of c) t
 
@@ -37,6 +38,7 @@ conflicts_count p t = count_pairs (collide p) t
 abbrev pub availability_count : Problem → List Cell → ℕ
 availability_count p t = count_by (λ e. unavailable p e.course e.day e.period) t
 
+-- The number of entries that the timetable has in the room in this period of the week.
 abbrev pub entries_in : List Cell → ℕ → Slot → ℕ
 entries_in t r s = count_by (λ e. is_in r e && is_at s e) t
 

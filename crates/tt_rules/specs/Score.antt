@@ -18,6 +18,7 @@ pub record IsScore (p : Problem) (t : List Cell) (s : Score) : Type 0 where
   pub compactness : s.compactness ≡ compactness_count p t
   pub room_stability : s.room_stability ≡ stability_count p t
 
+-- The sum of the counts of the four hard rules.
 abbrev pub hard : Problem → List Cell → ℕ
 hard p t = lectures_count p t + conflicts_count p t + availability_count p t + occupancy_count p t
 

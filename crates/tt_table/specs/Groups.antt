@@ -12,6 +12,7 @@ group_of Course e = e.course
 group_of Room e = e.room
 group_of (Period periods) e = e.day * periods + e.period
 
+-- Whether the entry is in the group with this number.
 abbrev pub in_group : GroupBy → ℕ → Cell → Bool
 in_group by g e = group_of by e == g
 
@@ -29,6 +30,7 @@ pub record Grouped : Type 0 where
 abbrev pub first_at : GroupBy → List Cell → ℕ → ℕ → ℕ
 first_at by t g i = i + prefix_len (λ e. not (in_group by g e)) (drop i t)
 
+-- The entry for a place out of range: all its numbers are 0.
 abbrev pub nobody : Cell
 nobody = record { course = 0; room = 0; day = 0; period = 0 }
 
@@ -40,10 +42,13 @@ NamesNext by t next i = (j : ℕ) → i ≤ j → j < length t → slice_index_o
 abbrev pub NamesFirst : GroupBy → List Cell → List ℕ → ℕ → Type 0
 NamesFirst by t first i = (g : ℕ) → g < GROUPS → slice_index_or first g 0 ≡ first_at by t g i
 
+-- `next` has, for each entry, the place of the next entry of its group, or the number of entries if there is none.
 pub record IsChained (by : GroupBy) (t : List Cell) (next : List ℕ) : Type 0 where
   pub room : length t ≤ length next
   pub named : NamesNext by t next 0
 
+-- `first` has the place of the first entry of each group, and `next` has, for each entry, the place of the next entry of its group.
+-- If there is no such entry, the place is the number of entries.
 pub record IsLinked (by : GroupBy) (t : List Cell) (first next : List ℕ) : Type 0 where
   pub groups : length first ≡ GROUPS
   pub begins : NamesFirst by t first 0

@@ -18,9 +18,11 @@ abbrev pub is_environmental : SolutionFault → Bool
 is_environmental fault.OutOfMemory = true
 is_environmental _ = false
 
+-- The text has exactly this fault. Being out of memory says nothing about the text.
 abbrev pub Fails : {Y : Type 0} → SolutionFault → Result Y SolutionFault → Type 0
 Fails e read = FailsUnless is_environmental e read
 
+-- The result, seen by `view`, is the one that the text gives. A result of being out of memory says nothing about the text.
 abbrev pub Gives : {X Y : Type 0} → (X → Y) → Result X SolutionFault → Result Y SolutionFault → Type 0
 Gives view result read = AgreesUnless is_environmental view result read
 
@@ -28,6 +30,7 @@ Gives view result read = AgreesUnless is_environmental view result read
 abbrev pub token_at : ℕ → List Placed → Result (Placed × List Placed) SolutionFault
 token_at end ts = token_or (fault.Ended end) ts
 
+-- The number, if there is one, or else this fault.
 abbrev pub found : SolutionFault → Option ℕ → Result ℕ SolutionFault
 found e None = Err e
 found e (Some i) = Ok i

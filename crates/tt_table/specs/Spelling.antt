@@ -10,6 +10,7 @@ use Rattle.tt_instance_data.specs.declared.cell.Cell.{Cell}
 use Rattle.tt_table.specs.Table.{IsTimetable}
 use Rattle.tt_table.specs.declared.table.TheConstants.{MAX_ENTRIES}
 
+-- The pieces of an entry: the names of its course and its room, and the numbers of its day and its period.
 abbrev pub entry_pieces : Problem → Cell → List Piece
 entry_pieces p e =
     named p.courses e.course ∷ Text (slice_index_or p.rooms e.room no_room).id ∷ Number e.day ∷ Number e.period ∷ []

@@ -6,6 +6,8 @@ use Rattle.tt_text.specs.Feeds.{Stream, stream_with, Fed, stream_at}
 use Rattle.tt_text.specs.declared.feed.FeedFault.{FeedFault}
 use Rattle.tt_text.specs.declared.feed.FeedFault.TheVariants.{Read}
 
+-- The stream with these tokens and this end, if a read fails after its bytes: the tokens as far as another byte follows them, and then the failed
+-- read. If the end is a fault, it is the stream of all these tokens and that fault.
 abbrev pub cut_short_by : List Placed → Result ℕ FeedFault → Stream
 cut_short_by ts (Ok n) = stream_with (Some (record { byte = n; fault = Read })) n ts
 cut_short_by ts (Err f) = record { tokens = ts; stop = Err f }
