@@ -17,6 +17,7 @@ pub record Bit : Type 0 where
   pub block : ℕ
   pub number : ℕ
 
+-- The bit is one of the table: its course, day, period, block and number are in range.
 pub record IsBit (p : Problem) (b : Bit) : Type 0 where
   pub course : b.course < length p.courses
   pub day : b.day < p.days
@@ -32,15 +33,19 @@ place p c d s = ((c * p.days + d) * p.periods + s) * width p
 abbrev pub size : Problem → ℕ
 size p = length p.courses * p.days * p.periods * width p
 
+-- The number of a bit's room, which may be past the last room.
 abbrev pub room_of : Bit → ℕ
 room_of b = b.block * 64 + b.number
 
+-- The bit that represents a cell.
 abbrev pub bit_of : Cell → Bit
 bit_of x = record { course = x.course; day = x.day; period = x.period; block = x.room / 64; number = x.room % 64 }
 
+-- Word w of the rooms for a course in a period, 0 past the end of the table.
 abbrev pub word_at : Problem → List ℕ → ℕ → ℕ → ℕ → ℕ → ℕ
 word_at p words c d s w = slice_index_or words (place p c d s + w) 0
 
+-- The bit is set in the words.
 abbrev pub is_set : Problem → List ℕ → Bit → Bool
 is_set p words b = has_bit (word_at p words b.course b.day b.period b.block) b.number
 
@@ -48,6 +53,7 @@ is_set p words b = has_bit (word_at p words b.course b.day b.period b.block) b.n
 abbrev pub in_force : Problem → List ℕ → Bool
 in_force p words = slice_index_or words (size p) 0 == 0
 
+-- The bit belongs to this course in this period of this day.
 abbrev pub is_here : ℕ → ℕ → ℕ → Bit → Bool
 is_here c d s b = (b.course == c) && (b.day == d) && (b.period == s)
 

@@ -14,6 +14,7 @@ use Rattle.tt_facts_path.specs.declared.facts.Fact.{Fact}
 abbrev pub is_free : Problem → List Fact → Pattern → Cell → Bool
 is_free p path g y = matches p g y && not (is_barred p path y)
 
+-- Both cells are in the same period of the same day.
 abbrev pub IsSamePeriod : Cell → Cell → Type 0
 IsSamePeriod y z = (y.day ≡ z.day) × (y.period ≡ z.period)
 

@@ -10,6 +10,7 @@ use Rattle.tt_facts_path.specs.Live.{is_live}
 use Rattle.tt_facts_path.specs.declared.facts.Fact.{Fact}
 use Rattle.tt_facts_cells.specs.declared.order.Ranked.{Ranked}
 
+-- A room with its number of seats.
 abbrev pub ranked : Problem → ℕ → Ranked
 ranked p r = record { room = r; seats = capacity p r }
 

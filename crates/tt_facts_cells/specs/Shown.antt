@@ -11,6 +11,7 @@ use Rattle.tt_facts_path.specs.declared.facts.Pattern.{Pattern}
 use Rattle.tt_facts_cell_set.specs.Tables.{IsTable, Shows, Loses}
 use Rattle.tt_facts_cells.specs.Struck.{loses_room}
 
+-- The cell isn't barred on the path.
 abbrev pub is_free_of : Problem → List Fact → Cell → Bool
 is_free_of p path x = not (is_barred p path x)
 

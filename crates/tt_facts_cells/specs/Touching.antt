@@ -20,5 +20,6 @@ can_share p (Course a) (Curriculum q) = in_curriculum p q a
 can_share p (Curriculum q) (Course b) = in_curriculum p q b
 can_share p (Curriculum q) (Curriculum k) = true
 
+-- Some cell may match both patterns; whether two curricula share a course isn't checked.
 abbrev pub can_touch : Problem → Pattern → Pattern → Bool
 can_touch p f g = can_agree f.room g.room && can_agree f.day g.day && can_agree f.period g.period && can_share p f.who g.who

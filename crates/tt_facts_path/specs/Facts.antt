@@ -19,6 +19,7 @@ abbrev pub is_who : Problem → Who → ℕ → Bool
 is_who p (Course a) c = c == a
 is_who p (Curriculum q) c = in_curriculum p q c
 
+-- The cell's course, room, day and period agree with the pattern.
 abbrev pub matches : Problem → Pattern → Cell → Bool
 matches p g x = is_who p g.who x.course && agrees g.room x.room && agrees g.day x.day && agrees g.period x.period
 
@@ -32,6 +33,7 @@ Fits p t path = All (Holds p t) path
 
 -- ---- the numbers of a pattern
 
+-- The course or curriculum is one of the instance.
 abbrev pub IsWho : Problem → Who → Type 0
 IsWho p (Course c) = c < length p.courses
 IsWho p (Curriculum q) = q < length p.curricula
@@ -45,18 +47,21 @@ pub record IsPattern (p : Problem) (g : Pattern) : Type 0 where
 
 -- ---- patterns as values
 
+-- Whether two numbers are the same; two that aren't given are the same.
 abbrev pub same_option : Option ℕ → Option ℕ → Bool
 same_option None None = true
 same_option None (Some n) = false
 same_option (Some m) None = false
 same_option (Some m) (Some n) = m == n
 
+-- Whether both are the same course or the same curriculum.
 abbrev pub same_who : Who → Who → Bool
 same_who (Course a) (Course b) = a == b
 same_who (Course a) (Curriculum b) = false
 same_who (Curriculum a) (Course b) = false
 same_who (Curriculum a) (Curriculum b) = a == b
 
+-- Whether two patterns have the same course or curriculum, room, day and period.
 abbrev pub same_pattern : Pattern → Pattern → Bool
 same_pattern g h =
     same_who g.who h.who && same_option g.room h.room && same_option g.day h.day && same_option g.period h.period

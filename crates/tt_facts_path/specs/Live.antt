@@ -32,6 +32,7 @@ excludes p path g x = list_all (λ y. not (matches p g y) || is_barred p path y 
 abbrev pub is_dead : Problem → List Fact → Cell → Bool
 is_dead p path x = is_barred p path x || list_any (λ f. f.holds && excludes p path f.pattern x) path
 
+-- Whether the cell is not dead.
 abbrev pub is_live : Problem → List Fact → Cell → Bool
 is_live p path x = not (is_dead p path x)
 
@@ -39,11 +40,13 @@ is_live p path x = not (is_dead p path x)
 abbrev pub live_period : Problem → List Fact → ℕ → Slot → Bool
 live_period p path c s = list_any (λ r. is_live p path (cell c r s)) (all_rooms p)
 
+-- Whether some period of the day is live for the course.
 abbrev pub live_day : Problem → List Fact → ℕ → ℕ → Bool
 live_day p path c d = list_any (λ s. live_period p path c (slot d s)) (range_below p.periods)
 
 -- ---- the least excess
 
+-- The smaller of two numbers, or the first if there is no second.
 abbrev pub least_with : ℕ → Option ℕ → ℕ
 least_with n None = n
 least_with n (Some m) = min n m
@@ -60,6 +63,7 @@ least_excess p path c s =
 
 -- -- what the yes-facts pin
 
+-- Whether a number is given and is this one.
 abbrev pub gives : Option ℕ → ℕ → Bool
 gives None n = false
 gives (Some m) n = m == n

@@ -17,6 +17,7 @@ use Rattle.tt_facts_pins.specs.Tables.{width}
 abbrev pub fact_row : Problem → Bool → ℕ → ℕ
 fact_row p holds c = (if holds then length p.courses else 0) + c
 
+-- The number of rows, two for each course.
 abbrev pub fact_rows : Problem → ℕ
 fact_rows p = length p.courses + length p.courses
 
@@ -24,6 +25,7 @@ fact_rows p = length p.courses + length p.courses
 abbrev pub open_place : Problem → Bool → ℕ → ℕ → ℕ
 open_place p holds c d = fact_row p holds c * p.days + d
 
+-- The number of words for facts without a room.
 abbrev pub open_size : Problem → ℕ
 open_size p = fact_rows p * p.days
 
@@ -31,20 +33,25 @@ open_size p = fact_rows p * p.days
 abbrev pub slot_row : Problem → Bool → ℕ → ℕ → ℕ → ℕ
 slot_row p holds c d s = open_place p holds c d * p.periods + s
 
+-- The number of rows for facts with a room.
 abbrev pub slot_rows : Problem → ℕ
 slot_rows p = open_size p * p.periods
 
+-- The place of a fact with a room.
 abbrev pub closed_place : Problem → Bool → ℕ → ℕ → ℕ → ℕ → ℕ
 closed_place p holds c d s r = open_size p + (slot_row p holds c d s * width p + r / 64)
 
+-- The number of words of the table of facts.
 abbrev pub fact_table_size : Problem → ℕ
 fact_table_size p = open_size p + slot_rows p * width p
 
+-- The place and the bit of a fact about a course in a period; none if its room is out of range.
 abbrev pub bit_place_in : Problem → Bool → ℕ → ℕ → ℕ → Option ℕ → Option BitPlace
 bit_place_in p holds c d s None = Some (record { place = open_place p holds c d; number = s })
 bit_place_in p holds c d s (Some r) =
     if nat_lt r (length p.rooms) then Some (record { place = closed_place p holds c d s r; number = r % 64 }) else None
 
+-- The place and the bit of a fact; none unless it gives a course, a day and a period, and all numbers that it gives are in range.
 abbrev pub bit_place_of : Problem → Bool → Who → Option ℕ → Option ℕ → Option ℕ → Option BitPlace
 bit_place_of p holds (Curriculum q) room day period = None
 bit_place_of p holds (Course c) room None period = None
@@ -52,9 +59,11 @@ bit_place_of p holds (Course c) room (Some d) None = None
 bit_place_of p holds (Course c) room (Some d) (Some s) =
     if nat_lt c (length p.courses) && nat_lt d p.days && nat_lt s p.periods then bit_place_in p holds c d s room else None
 
+-- The place and the bit of the fact with this pattern, a yes-fact or a no-fact, if it has a place.
 abbrev pub bit_place_at : Problem → Pattern → Bool → Option BitPlace
 bit_place_at p g holds = bit_place_of p holds g.who g.room g.day g.period
 
+-- There is no place.
 abbrev pub is_nowhere : Option BitPlace → Bool
 is_nowhere None = true
 is_nowhere (Some x) = false
@@ -65,6 +74,7 @@ unplaced_of p facts = filter (λ f. is_nowhere (bit_place_at p f.pattern f.holds
 
 -- -- the meaning of the words
 
+-- The words have exactly these facts, of the facts that have a place.
 pub record ShowsFacts (p : Problem) (facts : List Fact) (words : List ℕ) : Type 0 where
   pub len : length words ≡ fact_table_size p
   pub each : (g : Pattern) (holds : Bool) (x : BitPlace) → bit_place_at p g holds ≡ Some x →

@@ -18,6 +18,7 @@ abbrev pub row_of : Problem → Who → ℕ
 row_of p (Course c) = c
 row_of p (Curriculum q) = length p.courses + q
 
+-- The number of rows, one for each course and one for each curriculum.
 abbrev pub rows : Problem → ℕ
 rows p = length p.courses + length p.curricula
 
@@ -37,14 +38,17 @@ width p = (length p.rooms + 63) / 64
 abbrev pub block_place : Problem → ℕ → ℕ → ℕ
 block_place p c b = days_size p + (c * width p + b)
 
+-- The place of the word that has the bit of a room of a course.
 abbrev pub room_place : Problem → ℕ → ℕ → ℕ
 room_place p c r = block_place p c (r / 64)
 
+-- The number of words of the table of pinned periods and rooms.
 abbrev pub size : Problem → ℕ
 size p = days_size p + length p.courses * width p
 
 -- -- the meaning of the words
 
+-- The words have exactly the periods and the rooms that these facts pin.
 pub record ShowsPins (p : Problem) (facts : List Fact) (words : List ℕ) : Type 0 where
   pub len : length words ≡ size p
   pub periods : (who : Who) (d s : ℕ) → IsWho p who → d < p.days → s < 64 →
@@ -71,6 +75,7 @@ pins_period p reported day period who d s = is_pinned_by p who reported && gives
 abbrev pub pins_room : Problem → Who → Option ℕ → ℕ → ℕ → Bool
 pins_room p reported room c r = is_pinned_by p (Course c) reported && gives room r
 
+-- The periods that a yes-fact with this day and this period pins have been added; the words of rooms are as before.
 pub record PinsPeriods (p : Problem) (reported : Who) (day period : Option ℕ) (old new : List ℕ) : Type 0 where
   pub len : length new ≡ length old
   pub periods : (who : Who) (d s : ℕ) → IsWho p who → d < p.days → s < 64 →
@@ -78,6 +83,7 @@ pub record PinsPeriods (p : Problem) (reported : Who) (day period : Option ℕ) 
       ≡ (has_at old (day_place p (row_of p who) d) s || (nat_lt s p.periods && pins_period p reported day period who d s))
   pub others : (i s : ℕ) → days_size p ≤ i → s < 64 → has_at new i s ≡ has_at old i s
 
+-- The rooms that a yes-fact with this room pins have been added; the words of periods are as before.
 pub record PinsRooms (p : Problem) (reported : Who) (room : Option ℕ) (old new : List ℕ) : Type 0 where
   pub len : length new ≡ length old
   pub rooms : (c r : ℕ) → c < length p.courses → r / 64 < width p →

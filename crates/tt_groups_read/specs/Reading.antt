@@ -36,6 +36,7 @@ bound_at s = do
   named ← word_at word.Bound one
   points_at named
 
+-- The opening that begins with this token: the bound of a header after `CTTG`, or the offset of another token.
 abbrev pub opening_of : Placed → Stream → Result (Opening × Stream) TextFault
 opening_of t s = if is_text (codes "CTTG") t.text then (bound_at s >>= λ b. Ok (opening.Groups b.0, b.1)) else Ok (opening.Other t.at, s)
 
@@ -57,6 +58,7 @@ header_at s = opened (opening_at s)
 
 -- ---- lists
 
+-- The number in a token, other than those before it, or none if the token ends the list.
 abbrev pub listed_of : ListForm → List ℕ → Placed → Result (Option ℕ) TextFault
 listed_of form before t =
     if is_text (form.end ∷ []) t.text then Ok None else (index_of form.letter form.count t >>= new_number t.at before >>= λ n. Ok (Some n))
@@ -87,6 +89,7 @@ claim_at sizes s = do
   courses ← list_at (courses_form sizes) curricula.1
   Ok (record { value = value.0; group = record { curricula = curricula.0; courses = courses.0 } }, courses.1)
 
+-- The word in a token: `G` before a group, or `end`.
 abbrev pub group_word_of : Placed → Result GroupWord TextFault
 group_word_of t =
     if is_text (codes "G") t.text then Ok group_word.Group
@@ -96,6 +99,7 @@ group_word_of t =
 unfoldable pub nothing_at : Stream → Result Stream TextFault
 nothing_at s = no_more s.tokens s.stop
 
+-- The group after `G`, or none after `end`, which no token may follow.
 abbrev pub group_then : Sizes → GroupWord → Stream → Result (Option GroupClaim × Stream) TextFault
 group_then sizes group_word.Group s = claim_at sizes s >>= λ k. Ok (Some k.0, k.1)
 group_then sizes group_word.End s = nothing_at s >>= λ rest. Ok (None, rest)

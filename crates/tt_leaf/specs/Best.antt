@@ -32,6 +32,7 @@ price_of p path c = kth_smallest (lectures p c) (least_excesses p path c)
 
 -- ---- claims
 
+-- The claim of room capacity for a course at a price; no claim without a price.
 abbrev pub at_price : ℕ → Option ℕ → List Claim
 at_price c None = []
 at_price c (Some u) = Capacity c u ∷ []
@@ -50,6 +51,7 @@ claims_with days p path =
     worth p path (capacity_claims p path (all_courses p)) ++ worth p path (map days (all_courses p))
     ++ worth p path (map Compact (all_curricula p)) ++ worth p path (map Stable (all_courses p))
 
+-- The claims of positive value, with `Days` for working days.
 abbrev pub best_claims : Problem → List Fact → List Claim
 best_claims p path = claims_with Days p path
 
@@ -57,8 +59,10 @@ best_claims p path = claims_with Days p path
 abbrev pub stacked_claims : Problem → List Fact → List Claim
 stacked_claims p path = claims_with Stacked p path
 
+-- The cost leaf of all claims of positive value, with `Days` for working days.
 abbrev pub best_leaf : Problem → List Fact → Leaf
 best_leaf p path = Cost (best_claims p path)
 
+-- The cost leaf of all claims of positive value, with `Stacked` for working days.
 abbrev pub stacked_leaf : Problem → List Fact → Leaf
 stacked_leaf p path = Cost (stacked_claims p path)

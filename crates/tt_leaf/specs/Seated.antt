@@ -15,5 +15,6 @@ is_nothing (Some n) = n == 0
 abbrev pub is_seated : Problem → List Fact → ℕ → Slot → Bool
 is_seated p path c s = is_nothing (least_excess p path c s)
 
+-- The number of periods that have a live cell of the course with seats for all its students.
 abbrev pub seated_periods : Problem → List Fact → ℕ → ℕ
 seated_periods p path c = count_by (is_seated p path c) (all_slots p)

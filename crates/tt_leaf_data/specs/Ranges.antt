@@ -8,6 +8,7 @@ use Rattle.tt_leaf_data.specs.declared.leaf.Claim.TheVariants.{Capacity, Days, C
 use Rattle.tt_leaf_data.specs.declared.leaf.Leaf.{Leaf}
 use Rattle.tt_leaf_data.specs.declared.leaf.Leaf.TheVariants.{Empty, Many, Clique, Slots, Cost}
 
+-- Each of the numbers is below the count.
 abbrev pub AreBelow : ℕ → List ℕ → Type 0
 AreBelow count ns = All (λ n. n < count) ns
 

@@ -16,6 +16,7 @@ use Rattle.tt_leaf_data.specs.declared.leaf.Claim.TheVariants.{Capacity, Days, C
 
 -- ---- targets: the kinds of cost, each with its course or curriculum
 
+-- A kind of cost of one course, or of one curriculum for compactness.
 pub data Target : Type 0 where
   RoomCapacity : ℕ → Target
   WorkingDays : ℕ → Target
@@ -29,6 +30,7 @@ part p t (WorkingDays c) = days_cost p t c
 part p t (Compactness q) = compactness_cost p t q
 part p t (Stability c) = stability_cost p t c
 
+-- The targets that a claim claims: one, or the room capacity of each course that it gives a price.
 abbrev pub targets_of : Claim → List Target
 targets_of (Capacity c u) = RoomCapacity c ∷ []
 targets_of (Days c) = WorkingDays c ∷ []
@@ -68,6 +70,7 @@ abbrev pub are_covered : Problem → List Fact → List (ℕ × ℕ) → List (�
 are_covered p path courses rooms =
     list_all (λ k. list_all (λ r. list_all (λ s. is_covered p path rooms k.0 k.1 r s) (all_slots p)) (all_rooms p)) courses
 
+-- If the claim lists prices, each cell of its courses is covered; all other claims are fair.
 abbrev pub is_fair : Problem → List Fact → Claim → Bool
 is_fair p path (Prices courses rooms) = are_covered p path courses rooms
 is_fair p path _ = true
@@ -88,6 +91,7 @@ live_days p path c = count_by (live_day p path c) (all_days p)
 abbrev pub pinned_days : Problem → List Fact → ℕ → ℕ
 pinned_days p path c = count_by (pinned_day p path c) (all_days p)
 
+-- The value of a claim on a path, in points of cost.
 abbrev pub value_of : Problem → List Fact → Claim → ℕ
 value_of p path (Capacity c u) =
     lectures p c * u - sum_by (discount p path c u) (all_slots p)
@@ -101,8 +105,10 @@ value_of p path (Prices courses rooms) =
 value_of p path (Stacked c) =
     5 * (min_days p c - min (live_days p path c) (pinned_days p path c + (lectures p c - pinned_periods p path (Course c))))
 
+-- The targets of all claims, in the order of the claims.
 abbrev pub claimed : List Claim → List Target
 claimed claims = flat_map targets_of claims
 
+-- The values of the claims on the path, added up.
 abbrev pub total_of : Problem → List Fact → List Claim → ℕ
 total_of p path claims = sum_by (value_of p path) claims

@@ -23,12 +23,14 @@ use Rattle.tt_leaf_rules.specs.declared.fault.RuleFault.TheVariants.{NotOnPath, 
 abbrev pub demand : Bool → RuleFault → Option RuleFault → Option RuleFault
 demand holds f rest = if holds then rest else Some f
 
+-- The first fault of a cost leaf with these claims, or none if it is right.
 abbrev pub fault_of_cost : Problem → List Fact → Bound → List Claim → Option RuleFault
 fault_of_cost p path Nothing claims = Some NoBound
 fault_of_cost p path (AtLeast b) claims =
     demand (claims_once claims) ClaimedTwice
     (demand (list_all (is_fair p path) claims) BadPrice (demand (nat_le b (total_of p path claims)) TooCheap None))
 
+-- The first fault of a leaf on its path, or none if it is right.
 abbrev pub fault_of : Problem → List Fact → Bound → Leaf → Option RuleFault
 fault_of p path b (Empty g) = demand (has_fact path g true) NotOnPath (demand (all_dead p path g) StillAlive None)
 fault_of p path b (Many c) = demand (nat_lt (lectures p c) (pinned_periods p path (Course c))) NotTooMany None

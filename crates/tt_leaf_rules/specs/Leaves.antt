@@ -20,6 +20,7 @@ use Rattle.tt_leaf_data.specs.declared.leaf.Leaf.TheVariants.{Empty, Many, Cliqu
 abbrev pub all_dead : Problem → List Fact → Pattern → Bool
 all_dead p path g = list_all (λ x. not (matches p g x) || is_dead p path x) (all_cells p)
 
+-- The number of lectures that these courses have together.
 abbrev pub all_lectures : Problem → List ℕ → ℕ
 all_lectures p cs = sum_by (lectures p) cs
 

@@ -22,6 +22,7 @@ place (WorkingDays c) = 4 * c + 1
 place (Compactness q) = 4 * q + 2
 place (Stability c) = 4 * c + 3
 
+-- The numbers of the targets that a claim claims.
 abbrev pub places_of : Claim → List ℕ
 places_of claim = map place (targets_of claim)
 

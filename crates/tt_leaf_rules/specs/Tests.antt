@@ -6,6 +6,7 @@ use Rattle.tt_instance_data.specs.Courses.{conflict}
 use Rattle.tt_leaf_rules.specs.Claims.{Target, RoomCapacity, WorkingDays, Compactness, Stability, claimed}
 use Rattle.tt_leaf_data.specs.declared.leaf.Claim.{Claim}
 
+-- The list has at least one course.
 abbrev pub has_member : List ℕ → Bool
 has_member [] = false
 has_member (c ∷ cs) = true
@@ -14,6 +15,7 @@ has_member (c ∷ cs) = true
 abbrev pub is_clique : Problem → List ℕ → Bool
 is_clique p cs = has_member cs && each_two (conflict p) cs
 
+-- Both targets are of the same kind and of the same course or curriculum.
 abbrev pub same_target : Target → Target → Bool
 same_target (RoomCapacity a) (RoomCapacity b) = a == b
 same_target (WorkingDays a) (WorkingDays b) = a == b

@@ -40,6 +40,7 @@ pub record IsDeepAt (p : Problem) (b : Bound) (tree : Tree) (i : ℕ) : Type 0 w
   pub deep : MAX_FACTS < length path
   pub before : All (Passes p b) (take i (on_paths [] tree))
 
+-- As the error reports, the nodes are no tree, or the first that does not pass has this number; being out of memory says nothing.
 abbrev pub Explains : Problem → Bound → List Node → NodesFault → Type 0
 Explains p b nodes NotATree = ¬ (IsPreorder nodes)
 Explains p b nodes (Rule i f) = (tree : Tree) × (preorder tree ≡ nodes) × FailsAt p b tree i f

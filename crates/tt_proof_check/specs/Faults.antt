@@ -6,6 +6,7 @@ use Rattle.tt_proof_read.specs.declared.fault.TextFault.TheVariants as text
 use Rattle.tt_proof_check.specs.declared.fault.CheckFault.{CheckFault}
 use Rattle.tt_proof_check.specs.declared.fault.CheckFault.TheVariants.{Text, OutOfMemory}
 
+-- The check error for an error of the text; being out of memory is reported as itself.
 abbrev pub fault_from_text : TextFault → CheckFault
 fault_from_text text.OutOfMemory = OutOfMemory
 fault_from_text f = Text f

@@ -8,6 +8,7 @@ use Rattle.tt_proof_read.specs.Trees.{with_fact}
 abbrev pub other_side : List Fact → Fact → List (List Fact)
 other_side before f = if f.holds then with_fact before f.pattern false ∷ [] else []
 
+-- The second children that are not read yet, of the splits that added these facts to the path before them, the deepest first.
 abbrev pub pending_after : List Fact → List Fact → List (List Fact)
 pending_after before [] = []
 pending_after before (f ∷ fs) = pending_after (before ++ f ∷ []) fs ++ other_side before f

@@ -39,6 +39,7 @@ pub record IsBroken (instance solution : List ℕ) (score : Score) : Type 0 wher
   pub breaks : BreaksARule instance solution
   pub score_is : IsScore breaks.problem breaks.table score
 
+-- The verdict is right: `Yes` with a cost and a lower bound, or `Breaks` with the score of a solution that breaks a hard rule.
 abbrev pub IsVerdict : List ℕ → List ℕ → Option (List ℕ) → Verdict → Type 0
 IsVerdict i s proof (Yes c b) = IsYes i s proof c b
 IsVerdict i s proof (Breaks score) = IsBroken i s score
@@ -105,14 +106,17 @@ AnswersBroken (Err f) = f ≡ fault.OutOfMemory
 
 -- -- how an error is reported: being out of memory is always the same error
 
+-- The error of `certify` for an error of the instance.
 abbrev pub fault_from_instance : InstanceFault → CertifyFault
 fault_from_instance instance.OutOfMemory = fault.OutOfMemory
 fault_from_instance f = fault.Instance f
 
+-- The error of `certify` for an error of the solution.
 abbrev pub fault_from_solution : SolutionFault → CertifyFault
 fault_from_solution solution.OutOfMemory = fault.OutOfMemory
 fault_from_solution f = fault.Solution f
 
+-- The error of `certify` for an error of the proof.
 abbrev pub fault_from_check : CheckFault → CertifyFault
 fault_from_check check.OutOfMemory = fault.OutOfMemory
 fault_from_check f = fault.Proof f

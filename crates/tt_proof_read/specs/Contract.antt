@@ -27,6 +27,7 @@ pub record IsReading {X Z : Type 0} (old new : State) (view : X → Stream → Z
   pub gives : is_some old.remaining ≡ true → Gives (λ x. view x (stream_at new.fed new.remaining)) result (reading (stream_at old.fed old.remaining))
   pub cut_short : AgreesWhenCut old.fed old.remaining new.fed new.remaining view result reading
 
+-- The state of a feed and of its source.
 abbrev pub state_of : {R : Type 0} → Ghosts R → Fed → R → State
 state_of members fed source = record { fed = fed; remaining = members.remaining source; failed = members.has_failed source }
 

@@ -17,9 +17,11 @@ is_environmental fault.OutOfMemory = true
 is_environmental (fault.Feed feed.Read) = true
 is_environmental _ = false
 
+-- The fault of a failed read.
 abbrev pub read_failed : TextFault
 read_failed = fault.Feed feed.Read
 
+-- Whether the fault is a failed read.
 abbrev pub is_failed_read : TextFault → Bool
 is_failed_read (fault.Feed feed.Read) = true
 is_failed_read _ = false

@@ -13,6 +13,7 @@ IsShortClaim (Capacity c u) = u ≤ MAX_PRICE
 IsShortClaim (Prices courses rooms) = All (λ k. k.1 ≤ MAX_PRICE) courses × All (λ k. k.1 ≤ MAX_PRICE) rooms
 IsShortClaim _ = ⊤
 
+-- The courses of a clique or of slots are distinct, and no price of a claim is above 1,000,000.
 abbrev pub IsShortLeaf : Leaf → Type 0
 IsShortLeaf (Clique cs) = are_distinct cs ≡ true
 IsShortLeaf (Slots cs) = are_distinct cs ≡ true
@@ -25,6 +26,7 @@ IsClaimIn v (Prices courses rooms) = v ≡ 2
 IsClaimIn v (Stacked c) = v ≡ 2
 IsClaimIn v _ = ⊤
 
+-- All claims of the leaf may occur in a file of this version.
 abbrev pub IsLeafIn : ℕ → Leaf → Type 0
 IsLeafIn v (Cost claims) = All (IsClaimIn v) claims
 IsLeafIn v _ = ⊤

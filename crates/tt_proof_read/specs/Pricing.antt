@@ -19,6 +19,7 @@ price_lists_of prices = (prices.courses.items, prices.rooms.items)
 abbrev pub seen_of : Tables → Seen
 seen_of tables = (tables.courses.numbers, tables.rooms.numbers)
 
+-- The courses and rooms seen so far, and another course or room.
 abbrev pub with_seen : Seen → Priced → Seen
 with_seen seen (Course c) = (seen.0 ++ c ∷ [], seen.1)
 with_seen seen (Room r) = (seen.0, seen.1 ++ r ∷ [])

@@ -43,6 +43,7 @@ abbrev pub ended_as : Result ℕ FeedFault → TextFault
 ended_as (Ok n) = fault.Ended n
 ended_as (Err f) = fault_from_feed f
 
+-- The first token and the rest of the stream, or a fault if there is no token.
 abbrev pub first_of : List Placed → Result ℕ FeedFault → Result (Placed × Stream) TextFault
 first_of [] stop = Err (ended_as stop)
 first_of (t ∷ ts) stop = Ok (t, record { tokens = ts; stop = stop })
@@ -70,6 +71,7 @@ numbered at (Ok n) = Ok n
 numbered at (Err number.NotANumber) = Err (fault.UnknownWord at)
 numbered at (Err number.TooLarge) = Err (fault.UnknownIndex at)
 
+-- The number if it is below the count, otherwise a fault.
 abbrev pub below : ℕ → ℕ → ℕ → Result ℕ TextFault
 below at count n = if nat_lt n count then Ok n else Err (fault.UnknownIndex at)
 
@@ -77,6 +79,7 @@ below at count n = if nat_lt n count then Ok n else Err (fault.UnknownIndex at)
 unfoldable pub numbered_below : ℕ → ℕ → List ℕ → Result ℕ TextFault
 numbered_below at count digits = numbered at (number_of MAX_INDEX digits) >>= below at count
 
+-- The number below the count that follows the letter in the bytes of a token, otherwise a fault.
 abbrev pub index_in : ℕ → ℕ → ℕ → List ℕ → Result ℕ TextFault
 index_in at letter count [] = Err (fault.UnknownWord at)
 index_in at letter count (b ∷ bs) = if b == letter then numbered_below at count bs else Err (fault.UnknownWord at)
@@ -97,6 +100,7 @@ course_at sizes s = one_at (index_of COURSE_LETTER sizes.courses) s
 unfoldable pub curriculum_at : Sizes → Stream → Result (ℕ × Stream) TextFault
 curriculum_at sizes s = one_at (index_of CURRICULUM_LETTER sizes.curricula) s
 
+-- The number, or a fault if the token is no number or the number is above its limit.
 abbrev pub priced_as : ℕ → Result ℕ NumberFault → Result ℕ TextFault
 priced_as at (Ok n) = Ok n
 priced_as at (Err e) = Err (fault.NotANumber at)
@@ -107,6 +111,7 @@ price_at s = one_at (λ t. priced_as t.at (number_of MAX_PRICE t.text)) s
 
 -- ---- patterns
 
+-- The course or curriculum that the bytes of a token name, otherwise a fault.
 abbrev pub who_in : ℕ → Sizes → List ℕ → Result Who TextFault
 who_in at sizes [] = Err (fault.UnknownWord at)
 who_in at sizes (b ∷ bs) =
@@ -121,6 +126,7 @@ who_at sizes s = one_at (λ t. who_in t.at sizes t.text) s
 unfoldable pub given_of : ℕ → ℕ → Placed → Result (Option ℕ) TextFault
 given_of letter count t = if is_text (codes "*") t.text then Ok None else (index_of letter count t >>= λ n. Ok (Some n))
 
+-- The number after its letter in the next token, or none for `*`.
 unfoldable pub given_at : ℕ → ℕ → Stream → Result (Option ℕ × Stream) TextFault
 given_at letter count s = one_at (given_of letter count) s
 
@@ -149,6 +155,7 @@ up_to_end add part (suc n) kept s = do
 
 -- ---- the courses of a clique or of slots
 
+-- The course in a token, other than those before it, or none if the token is `;`.
 abbrev pub listed_of : Sizes → List ℕ → Placed → Result (Option ℕ) TextFault
 listed_of sizes before t = if is_text (codes ";") t.text then Ok None else (index_of COURSE_LETTER sizes.courses t >>= new_number t.at before >>= λ c. Ok (Some c))
 
@@ -170,9 +177,11 @@ PriceLists = List (ℕ × ℕ) × List (ℕ × ℕ)
 abbrev pub Seen : Type 0
 Seen = List ℕ × List ℕ
 
+-- The courses and the rooms that these lists give a price.
 abbrev pub seen_in : PriceLists → Seen
 seen_in kept = (map (λ k. k.0) kept.0, map (λ k. k.0) kept.1)
 
+-- The course or room without a price that the bytes of a token name, otherwise a fault.
 abbrev pub priced_in : ℕ → Sizes → Seen → List ℕ → Result Priced TextFault
 priced_in at sizes seen [] = Err (fault.UnknownWord at)
 priced_in at sizes seen (b ∷ bs) =
@@ -183,6 +192,7 @@ priced_in at sizes seen (b ∷ bs) =
 abbrev pub priced_of : Sizes → Seen → Placed → Result (Option Priced) TextFault
 priced_of sizes seen t = if is_text (codes "/") t.text then Ok None else (priced_in t.at sizes seen t.text >>= λ x. Ok (Some x))
 
+-- A course or room and the price that follows it; none if there is no course or room.
 abbrev pub with_price : Option Priced → Stream → Result (Option (Priced × ℕ) × Stream) TextFault
 with_price None s = Ok (None, s)
 with_price (Some x) s = price_at s >>= λ u. Ok (Some (x, u.0), u.1)
@@ -198,10 +208,12 @@ pair_at sizes seen s = do
 abbrev pub next_pair_at : Sizes → PriceLists → Stream → Result (Option (Priced × ℕ) × Stream) TextFault
 next_pair_at sizes kept s = pair_at sizes (seen_in kept) s
 
+-- The lists of prices, with a price added for a course or a room.
 abbrev pub with_priced : PriceLists → Priced → ℕ → PriceLists
 with_priced kept (priced.Course c) u = (push kept.0 (c, u), kept.1)
 with_priced kept (priced.Room r) u = (kept.0, push kept.1 (r, u))
 
+-- The lists of prices, with a pair of a course or room and its price added.
 abbrev pub with_pair : PriceLists → Priced × ℕ → PriceLists
 with_pair kept x = with_priced kept x.0 x.1
 
@@ -235,6 +247,7 @@ claim_after_word sizes claim_word.Stable s = course_at sizes s >>= λ c. Ok (cla
 claim_after_word sizes claim_word.Prices s = prices_at sizes s >>= λ k. Ok (claim.Prices k.0.0 k.0.1, k.1)
 claim_after_word sizes claim_word.Stacked s = course_at sizes s >>= λ c. Ok (claim.Stacked c.0, c.1)
 
+-- The claim that begins with this word, or none if there is no word.
 abbrev pub claim_then : Sizes → Option ClaimWord → Stream → Result (Option Claim × Stream) TextFault
 claim_then sizes None s = Ok (None, s)
 claim_then sizes (Some w) s = claim_after_word sizes w s >>= λ c. Ok (Some c.0, c.1)
@@ -252,6 +265,7 @@ claims_at sizes version s = up_to_end push (λ _ rest. claim_at sizes version re
 
 -- ---- nodes
 
+-- The word in a token that begins a node: a split or one of the five kinds of leaves.
 abbrev pub node_word_of : Placed → Result NodeWord TextFault
 node_word_of t =
     if is_text (codes "S") t.text then Ok node_word.Split
@@ -283,6 +297,7 @@ node_at sizes version count s = do
 
 -- ---- the header
 
+-- The version in a token, 1 or 2.
 abbrev pub version_of : Placed → Result ℕ TextFault
 version_of t = if is_text (codes "1") t.text then Ok 1 else (if is_text (codes "2") t.text then Ok 2 else Err (fault.Expected word.One t.at))
 
@@ -290,6 +305,7 @@ version_of t = if is_text (codes "1") t.text then Ok 1 else (if is_text (codes "
 unfoldable pub version_at : Stream → Result (ℕ × Stream) TextFault
 version_at s = one_at version_of s
 
+-- The bound of at least this number, or a fault if the token is no number or the number is above its limit.
 abbrev pub bounded : ℕ → Result ℕ NumberFault → Result Bound TextFault
 bounded at (Ok n) = Ok (bound.AtLeast n)
 bounded at (Err e) = Err (fault.NotANumber at)
@@ -298,6 +314,7 @@ bounded at (Err e) = Err (fault.NotANumber at)
 unfoldable pub bound_of : Placed → Result Bound TextFault
 bound_of t = if is_text (codes "none") t.text then Ok bound.Nothing else bounded t.at (number_of MAX_POINTS t.text)
 
+-- The bound in the next token.
 unfoldable pub bound_at : Stream → Result (Bound × Stream) TextFault
 bound_at s = one_at bound_of s
 

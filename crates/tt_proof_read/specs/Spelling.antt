@@ -32,6 +32,7 @@ given_piece letter (Some n) = Index letter n
 abbrev pub course_piece : ℕ → Piece
 course_piece c = Index COURSE_LETTER c
 
+-- The number of a course or curriculum, after its letter.
 abbrev pub who_piece : Who → Piece
 who_piece (Course c) = course_piece c
 who_piece (Curriculum q) = Index CURRICULUM_LETTER q
@@ -49,6 +50,7 @@ pub data Price : Type 0 where
   OfCourse : ℕ → ℕ → Price
   OfRoom : ℕ → ℕ → Price
 
+-- A course or room, and then its price.
 abbrev pub price_pieces : Price → List Piece
 price_pieces (OfCourse c u) = course_piece c ∷ Number u ∷ []
 price_pieces (OfRoom r u) = Index ROOM_LETTER r ∷ Number u ∷ []
@@ -69,6 +71,7 @@ room_prices (OfRoom r u ∷ xs) = (r, u) ∷ room_prices xs
 abbrev pub by_kind : List Price → List (ℕ × ℕ) × List (ℕ × ℕ)
 by_kind prices = (course_prices prices, room_prices prices)
 
+-- The pieces spell the claim: its word and then its numbers; prices of courses and prices of rooms may be mixed.
 abbrev pub SpellsClaim : Claim → List Piece → Type 0
 SpellsClaim (Capacity c u) ps = ps ≡ Text (codes "C") ∷ course_piece c ∷ Number u ∷ []
 SpellsClaim (Days c) ps = ps ≡ Text (codes "D") ∷ course_piece c ∷ []
@@ -83,6 +86,7 @@ abbrev pub SpellsEach : {X : Type 0} → (X → List Piece → Type 0) → List 
 SpellsEach S [] ps = ps ≡ []
 SpellsEach S (x ∷ xs) ps = (first rest : List Piece) × S x first × SpellsEach S xs rest × (ps ≡ first ++ rest)
 
+-- The pieces spell the node: its word and then its pattern, its courses or its claims.
 abbrev pub SpellsNode : Node → List Piece → Type 0
 SpellsNode (node.Split g) ps = ps ≡ Text (codes "S") ∷ pattern_pieces g
 SpellsNode (node.Leaf (Empty g)) ps = ps ≡ Text (codes "E") ∷ pattern_pieces g
@@ -92,10 +96,12 @@ SpellsNode (node.Leaf (Slots cs)) ps = ps ≡ Text (codes "H") ∷ listed_pieces
 SpellsNode (node.Leaf (Cost claims)) ps =
     (body : List Piece) × SpellsEach SpellsClaim claims body × (ps ≡ Text (codes "B") ∷ (body ++ Text (codes ";") ∷ []))
 
+-- The number of a bound, or `none`.
 abbrev pub bound_piece : Bound → Piece
 bound_piece (AtLeast b) = Number b
 bound_piece Nothing = Text (codes "none")
 
+-- The token of a version: `1` for version 1, otherwise `2`.
 abbrev pub version_text : ℕ → List ℕ
 version_text v = if v == 1 then codes "1" else codes "2"
 
@@ -115,6 +121,7 @@ IsClaim p v (Stacked c) = (v ≡ 2) × (c < length p.courses)
 abbrev pub AreCourses : Problem → List ℕ → Type 0
 AreCourses p cs = AreBelow (length p.courses) cs × (are_distinct cs ≡ true)
 
+-- A file of this version may have the leaf: its numbers are in range and within the limits, and no list has a number twice.
 abbrev pub IsLeaf : Problem → ℕ → Leaf → Type 0
 IsLeaf p v (Empty g) = IsPattern p g
 IsLeaf p v (Many c) = c < length p.courses
@@ -122,10 +129,12 @@ IsLeaf p v (Clique cs) = AreCourses p cs
 IsLeaf p v (Slots cs) = AreCourses p cs
 IsLeaf p v (Cost claims) = All (IsClaim p v) claims
 
+-- A file of this version may have the node: a split with a pattern in the range of the instance, or a leaf of the version.
 abbrev pub IsNode : Problem → ℕ → Node → Type 0
 IsNode p v (node.Split g) = IsPattern p g
 IsNode p v (node.Leaf leaf) = IsLeaf p v leaf
 
+-- A bound in points is at most 1,000,000,000,000.
 abbrev pub IsBound : Bound → Type 0
 IsBound (AtLeast b) = b ≤ MAX_POINTS
 IsBound Nothing = ⊤

@@ -27,6 +27,7 @@ pub record AreGroupsOf (p : Problem) (remaining : Option (List ℕ)) (k : Groups
   pub claims : All (IsClaim p) k.claims
   pub right : AreRight p k.bound k.claims
 
+-- If the bytes are known, they spell the part, and its tree derives its bound or its claims of groups are right.
 abbrev pub IsPartOf : Problem → Option (List ℕ) → Part → Type 0
 IsPartOf p remaining (TreeProof k) = IsTreeOf p remaining k
 IsPartOf p remaining (GroupsFile k) = AreGroupsOf p remaining k

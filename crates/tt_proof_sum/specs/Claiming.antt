@@ -31,6 +31,7 @@ ExplainsClaimFault p a i k (groups.ClaimedElsewhere j e) = (j ≡ i) × (first_o
 ExplainsClaimFault p a i k (groups.Group j f) = (j ≡ i) × (first_owner a (group_places k.group) ≡ None) × IsRefusal p k f
 ExplainsClaimFault p a i k groups.TooCheap = ⊥
 
+-- The fault refuses the claim with number i and names the newest file; being out of memory says nothing about the claim.
 abbrev pub ExplainsClaim : Problem → State → ℕ → GroupClaim → SumFault → Type 0
 ExplainsClaim p a i k (fault.Groups n f) = (n ≡ a.proof) × ExplainsClaimFault p a i k f
 ExplainsClaim p a i k fault.OutOfMemory = ⊤

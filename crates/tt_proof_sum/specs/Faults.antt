@@ -48,6 +48,7 @@ abbrev pub points : Bound → ℕ
 points (AtLeast b) = b
 points Nothing = 0
 
+-- The points of the bounds of all parts, added up.
 abbrev pub all_points : List Part → ℕ
 all_points parts = sum_by (λ k. points (bound_of k)) parts
 
@@ -102,6 +103,7 @@ IsSumFault p files e = IsRefused p files e
 
 -- ---- memory, and reads that failed
 
+-- The fault for an error of the proof with this number; being out of memory is reported as itself.
 abbrev pub proof_fault_at : ℕ → CheckFault → SumFault
 proof_fault_at n check.OutOfMemory = OutOfMemory
 proof_fault_at n f = Proof n f

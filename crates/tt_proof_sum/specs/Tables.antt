@@ -18,6 +18,7 @@ pub record State : Type 0 where
   pub proof : ℕ
   pub clash : Option Clash
 
+-- The number of the file that owns a place, 0 for none.
 abbrev pub owner : State → ℕ → ℕ
 owner a k = slice_index_or a.owners k 0
 
@@ -41,6 +42,7 @@ pub record Claims (a : State) (xs : List (ℕ × ℕ)) (b : State) : Type 0 wher
   pub clash : b.clash ≡ option_or a.clash (first_clash a xs)
   pub owners : (k : ℕ) → k < PLACES → owner b k ≡ (if (owner a k == 0) && has_number (map (λ x. x.1) xs) k then a.proof else owner a k)
 
+-- The places, each with this node.
 abbrev pub at_node : ℕ → List ℕ → List (ℕ × ℕ)
 at_node n ks = map (λ k. (n, k)) ks
 

@@ -14,6 +14,7 @@ use Rattle.tt_proof_text.specs.declared.fault.WriteFault.{WriteFault}
 use Rattle.tt_proof_text.specs.declared.fault.WriteFault.TheVariants.{NotATree, OverLimit, NotInVersion, OutOfMemory}
 use Rattle.tt_proof_text.specs.Written.{proof_text}
 
+-- No price of the leaf's claims is above 1,000,000.
 abbrev pub HasShortClaims : Leaf → Type 0
 HasShortClaims (Cost claims) = All IsShortClaim claims
 HasShortClaims _ = ⊤

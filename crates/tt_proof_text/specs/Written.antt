@@ -17,6 +17,7 @@ use Rattle.tt_proof_read.specs.Spelling.{version_text, bound_piece, course_piece
 abbrev pub priced_pieces : ℕ → ℕ × ℕ → List Piece
 priced_pieces letter k = Index letter k.0 ∷ Number k.1 ∷ []
 
+-- The letter that begins a claim.
 abbrev pub claim_word : Claim → List ℕ
 claim_word (Capacity c u) = codes "C"
 claim_word (Days c) = codes "D"
@@ -34,9 +35,11 @@ claim_rest (Stable c) = course_piece c ∷ []
 claim_rest (Prices courses rooms) = flat_map (priced_pieces COURSE_LETTER) courses ++ flat_map (priced_pieces ROOM_LETTER) rooms ++ Text (codes "/") ∷ []
 claim_rest (Stacked c) = course_piece c ∷ []
 
+-- All pieces of a claim, its word first.
 abbrev pub claim_pieces : Claim → List Piece
 claim_pieces claim = Text (claim_word claim) ∷ claim_rest claim
 
+-- The letter that begins a node.
 abbrev pub node_word : Node → List ℕ
 node_word (Split g) = codes "S"
 node_word (Leaf (Empty g)) = codes "E"
@@ -58,12 +61,15 @@ node_rest (Leaf (Cost claims)) = flat_map claim_pieces claims ++ Text (codes ";"
 abbrev pub node_pieces : Node → List Piece
 node_pieces node = Text (node_word node) ∷ node_rest node
 
+-- The line of the header: `CTTP`, the version, `bound` and the bound.
 abbrev pub header_pieces : ℕ → Bound → List Piece
 header_pieces v b = fixed word.Cttp ∷ Text (version_text v) ∷ fixed word.Bound ∷ bound_piece b ∷ []
 
+-- The lines of a proof: the header, each node and `end`.
 abbrev pub proof_lines : ℕ → Bound → List Node → List (List Piece)
 proof_lines v b nodes = header_pieces v b ∷ (map node_pieces nodes ++ (fixed word.End ∷ []) ∷ [])
 
+-- The bytes of a proof, line by line.
 abbrev pub proof_text : ℕ → Bound → List Node → List ℕ
 proof_text v b nodes = lines_text (proof_lines v b nodes)
 

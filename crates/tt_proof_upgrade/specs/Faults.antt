@@ -17,6 +17,7 @@ use Rattle.tt_proof_text.specs.Within.{FitsFile}
 use Rattle.tt_proof_upgrade.specs.declared.fault.UpgradeFault.{UpgradeFault}
 use Rattle.tt_proof_upgrade.specs.declared.fault.UpgradeFault.TheVariants.{Proof, TooLarge, OutOfMemory}
 
+-- The fault of an upgrade for an error of the text; being out of memory is reported as itself.
 abbrev pub fault_from_text : TextFault → UpgradeFault
 fault_from_text text.OutOfMemory = OutOfMemory
 fault_from_text f = Proof (check.Text f)
