@@ -26,42 +26,51 @@ use Rattle.tt_app_answers.specs.declared.fault.AppFault.TheVariants as fault
 use Rattle.tt_proof_sum.specs.declared.fault.SumFault.{SumFault}
 use Rattle.tt_report_export.specs.Calendars.{Term}
 
+-- The fault of a call for a fault of the reader of instances.
 abbrev pub fault_from_instance : InstanceFault → AppFault
 fault_from_instance instance.OutOfMemory = fault.OutOfMemory
 fault_from_instance f = fault.Instance f
 
+-- The fault of a call for a fault of the reader of solutions.
 abbrev pub fault_from_solution : SolutionFault → AppFault
 fault_from_solution solution.OutOfMemory = fault.OutOfMemory
 fault_from_solution f = fault.Solution f
 
+-- The fault of a call for a fault of the check of a proof.
 abbrev pub fault_from_check : CheckFault → AppFault
 fault_from_check check.OutOfMemory = fault.OutOfMemory
 fault_from_check f = fault.Proof f
 
+-- The fault of a call for a fault of the writer of reports.
 abbrev pub fault_from_report : ReportFault → AppFault
 fault_from_report report.Write = fault.CannotWrite
 fault_from_report report.OutOfMemory = fault.OutOfMemory
 
+-- The fault of a call for a fault of the writer of pages.
 abbrev pub fault_from_page : PageFault → AppFault
 fault_from_page page.Write = fault.CannotWrite
 fault_from_page page.TooLarge = fault.PageTooLarge
 fault_from_page page.OutOfMemory = fault.OutOfMemory
 
+-- The fault of a call for a fault of the check of an instance, a solution and a proof.
 abbrev pub fault_from_certify : CertifyFault → AppFault
 fault_from_certify (certify.Instance f) = fault_from_instance f
 fault_from_certify (certify.Solution f) = fault_from_solution f
 fault_from_certify (certify.Proof f) = fault_from_check f
 fault_from_certify certify.OutOfMemory = fault.OutOfMemory
 
+-- The fault of a call for a fault of the upgrade of a proof to version 2.
 abbrev pub fault_from_upgrade : UpgradeFault → AppFault
 fault_from_upgrade (upgrade.Proof f) = fault_from_check f
 fault_from_upgrade upgrade.TooLarge = fault.ProofTooLarge
 fault_from_upgrade upgrade.OutOfMemory = fault.OutOfMemory
 
+-- The fault of a call for a fault of the completion of a timetable.
 abbrev pub fault_from_completion : CompleteFault → AppFault
 fault_from_completion completion.OutOfMemory = fault.OutOfMemory
 fault_from_completion f = fault.Complete f
 
+-- The fault of a call for a fault of the names of days and periods.
 abbrev pub fault_from_labels : LabelsFault → AppFault
 fault_from_labels labels.Days = fault.DayNames
 fault_from_labels labels.Periods = fault.PeriodNames
@@ -75,6 +84,7 @@ OutOfMemoryIsOneFault (fault.Proof f) = ¬ (f ≡ check.OutOfMemory) × OutOfMem
 OutOfMemoryIsOneFault (fault.Sum f) = ¬ (f ≡ sum.OutOfMemory) × OneFaultOfSum f
 OutOfMemoryIsOneFault _ = ⊤
 
+-- The fault of a call for a fault of a sum of proofs.
 abbrev pub fault_from_sum : SumFault → AppFault
 fault_from_sum sum.OutOfMemory = fault.OutOfMemory
 fault_from_sum f = fault.Sum f

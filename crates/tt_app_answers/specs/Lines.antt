@@ -27,6 +27,7 @@ abbrev pub best_cost : Problem → Option (List Cell) → List ℕ
 best_cost p None = codes "none"
 best_cost p (Some t) = decimal (cost p t)
 
+-- The number of a bound in decimal, or `none` if the bound is that no feasible timetable exists.
 abbrev pub bound_points : Bound → List ℕ
 bound_points (AtLeast b) = decimal b
 bound_points Nothing = codes "none"

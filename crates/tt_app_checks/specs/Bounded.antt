@@ -14,6 +14,7 @@ use Rattle.tt_app_answers.specs.declared.answer.Answer.{Answer}
 use Rattle.tt_app_answers.specs.declared.fault.AppFault.{AppFault}
 use Rattle.tt_app_answers.specs.declared.fault.AppFault.TheVariants as fault
 
+-- The answer is the line of this bound, with status 0 and without files.
 pub record IsBoundAnswer (a : Answer) (b : Bound) : Type 0 where
   pub text : a.out.items ≡ bound_line b
   pub status : a.status ≡ 0

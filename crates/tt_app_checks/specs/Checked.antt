@@ -12,19 +12,23 @@ use Rattle.tt_app_answers.specs.declared.fault.AppFault.TheVariants as fault
 
 -- ---- answers
 
+-- The answer has neither the text of a solution file nor that of a proof file.
 abbrev pub NoFiles : Answer → Type 0
 NoFiles a = (a.table ≡ None) × (a.proof ≡ None)
 
+-- The answer is the line `yes` with this cost and this bound, with status 0 and without files.
 pub record IsYesAnswer (a : Answer) (c b : ℕ) : Type 0 where
   pub text : a.out.items ≡ yes_line c b
   pub status : a.status ≡ 0
   pub no_files : NoFiles a
 
+-- The answer is the line `broken` with this hard count and this cost, with status 1 and without files.
 pub record IsBrokenAnswer (a : Answer) (h c : ℕ) : Type 0 where
   pub text : a.out.items ≡ broken_line h c
   pub status : a.status ≡ 1
   pub no_files : NoFiles a
 
+-- The answer is that of the verdict: `yes` with its cost and bound, or `broken` with the hard count and the cost of its score.
 abbrev pub IsAnswerOf : Verdict → Answer → Type 0
 IsAnswerOf (Yes c b) a = IsYesAnswer a c b
 IsAnswerOf (Breaks s) a =

@@ -60,12 +60,14 @@ pub record IsSumYes (instance solution : List ℕ) (gives : List (List ℕ) → 
   pub bounds : BoundsAll instance b
   pub within : b ≤ c
 
+-- The answer is `yes` with the cost of the solution and the bound that the proofs derive together.
 pub record IsYesOfSum (instance solution : List ℕ) (gives : List (List ℕ) → Type 0) (a : Answer) : Type 0 where
   pub cost : ℕ
   pub bound : ℕ
   pub is : IsSumYes instance solution gives cost bound
   pub answer : IsYesAnswer a cost bound
 
+-- The answer is `broken`, the solution breaks a hard rule, and the hard count and the cost are those of its score.
 pub record IsBrokenOfSum (instance solution : List ℕ) (a : Answer) : Type 0 where
   pub score : Score
   pub is : IsBroken instance solution score

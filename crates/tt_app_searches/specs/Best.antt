@@ -48,5 +48,6 @@ pub record IsNoneFound (instance : List ℕ) (a : BestAnswer) : Type 0 where
   pub text : a.out.items ≡ none_line bound
   pub status : a.status ≡ 1
 
+-- The answer of `best` has a timetable with a proved bound, or no timetable and a proved bound.
 abbrev pub IsBest : List ℕ → List ℕ → BestAnswer → Type 0
 IsBest i style a = IsBestFound i style a ⊎ IsNoneFound i a

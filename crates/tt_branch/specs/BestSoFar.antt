@@ -15,9 +15,11 @@ pub record IsCosted (p : Problem) (b : Best) : Type 0 where
   pub feasible : IsFeasible p b.table
   pub cost : b.cost ≡ cost p b.table
 
+-- The best timetable so far, if there is one, breaks no hard rule, and the cost stored is its cost.
 abbrev pub IsBestSoFar : Problem → Option Best → Type 0
 IsBestSoFar p best = IfSome best (IsCosted p)
 
+-- The best timetable so far without its cost, if there is one.
 abbrev pub table_of : Option Best → Option (List Cell)
 table_of best = option_map (λ b. b.table) best
 

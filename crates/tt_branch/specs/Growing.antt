@@ -47,10 +47,12 @@ pub record IsGrown (p : Problem) (best : Option (List Cell)) (links : List Link)
 
 -- ---- marks
 
+-- Whether a node with this mark was opened.
 abbrev pub was_opened : NodeState → Bool
 was_opened Unopened = false
 was_opened _ = true
 
+-- Whether a node with this mark is neither split nor closed.
 abbrev pub is_open : NodeState → Bool
 is_open (Opened g) = true
 is_open Unopened = true
@@ -83,8 +85,10 @@ node_at p links e = node_of p (path_at links e.link) e.mark
 abbrev pub worth_at : Problem → List Link → TreeNode → Option ℕ
 worth_at p links e = node_worth p (path_at links e.link) (node_at p links e)
 
+-- The nodes of the proof for nodes of the tree, in their order.
 abbrev pub nodes_of : Problem → List Link → List TreeNode → List Node
 nodes_of p links tree_nodes = map (node_at p links) tree_nodes
 
+-- The values of the nodes of the tree that are Cost leaves, in their order.
 abbrev pub worths_of : Problem → List Link → List TreeNode → List ℕ
 worths_of p links tree_nodes = filter_map (worth_at p links) tree_nodes

@@ -12,6 +12,7 @@ chain zero links at = []
 chain (suc n) links zero = []
 chain (suc n) links (suc i) = elim (slice_get links i) [ None ↦ [] | Some l ↦ chain n links l.parent ++ l.fact ∷ [] ]
 
+-- The facts of the node at a place, from the root on. At most as many links are followed as the number of the place.
 abbrev pub path_at : List Link → ℕ → List Fact
 path_at links at = chain at links at
 
@@ -19,6 +20,7 @@ path_at links at = chain at links at
 abbrev pub AreLinks : List Link → Type 0
 AreLinks links = (i : ℕ) (l : Link) → slice_get links i ≡ Some l → l.parent ≤ i
 
+-- The link to a parent at a place, with the yes-fact or the no-fact of a pattern.
 abbrev pub link_of : ℕ → Pattern → Bool → Link
 link_of at g holds = record { parent = at; fact = record { pattern = g; holds = holds } }
 

@@ -39,9 +39,11 @@ pub record IsSplitOn (p : Problem) (path : List Fact) (g : Pattern) : Type 0 whe
   pub unclosed : IsUnclosed p path
   pub aims : Aims p path g
 
+-- If the node is a split, its pattern is new on its path and aims at a free cell, and the node was not closed.
 abbrev pub SplitsWell : Problem → OnPath → Type 0
 SplitsWell p x = (g : Pattern) → x.node ≡ node.Split g → IsSplitOn p x.path g
 
+-- The node is a split, or a leaf in which no Clique or Slots repeats a course and no price is above 1,000,000.
 abbrev pub IsShortNode : Node → Type 0
 IsShortNode (node.Split g) = ⊤
 IsShortNode (node.Leaf leaf) = IsShortLeaf leaf
@@ -65,6 +67,7 @@ leaf_worth p path (Clique cs) = None
 leaf_worth p path (Slots cs) = None
 leaf_worth p path (Cost claims) = Some (total_of p path claims)
 
+-- The value of a node on its path, if it is a Cost leaf.
 abbrev pub node_worth : Problem → List Fact → Node → Option ℕ
 node_worth p path (node.Split g) = None
 node_worth p path (node.Leaf leaf) = leaf_worth p path leaf

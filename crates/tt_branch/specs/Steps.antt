@@ -27,11 +27,14 @@ lower (Some n) least = Some (least_with n least)
 
 -- ---- the cells of an instance, one number at a time
 
+-- The cells of a course in a room on a day, one for each period.
 abbrev pub cells_on : Problem → ℕ → ℕ → ℕ → List Cell
 cells_on p c r d = map (λ s. cell c r (slot d s)) (range_below p.periods)
 
+-- The cells of a course in a room, day by day.
 abbrev pub cells_in : Problem → ℕ → ℕ → List Cell
 cells_in p c r = flat_map (cells_on p c r) (all_days p)
 
+-- The cells of a course, room by room.
 abbrev pub cells_of : Problem → ℕ → List Cell
 cells_of p c = flat_map (cells_in p c) (all_rooms p)

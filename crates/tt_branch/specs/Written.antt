@@ -23,6 +23,8 @@ abbrev pub IsOnceNode : Node → Type 0
 IsOnceNode (node.Split g) = ⊤
 IsOnceNode (node.Leaf leaf) = IsClaimedOnce leaf
 
+-- The node can be written in a proof: its facts fit on a path, its numbers are in the range of the instance, no claim gives a course or a room
+-- two prices, and no target is claimed twice.
 pub record IsWritable (p : Problem) (links : List Link) (e : TreeNode) : Type 0 where
   pub reached : IsReached links e.link
   pub numbers : IsNodeOf p (node_at p links e)

@@ -6,6 +6,7 @@ use Rattle.std.specs.List.{take_while}
 abbrev pub is_line_feed : ℕ → Bool
 is_line_feed b = b == 10
 
+-- A byte that doesn't end a line.
 abbrev pub is_in_line : ℕ → Bool
 is_in_line b = not (is_line_feed b)
 

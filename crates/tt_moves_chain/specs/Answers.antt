@@ -12,6 +12,7 @@ use Rattle.tt_moves_chain.specs.Chains.{Kempe, linked, IsClosed, IsChain, IsOpen
 use Rattle.tt_moves_chain.specs.declared.kempe.ChainFault.{ChainFault}
 use Rattle.tt_moves_chain.specs.declared.kempe.ChainFault.TheVariants.{SamePeriod, Unavailable, OutOfMemory}
 
+-- Whether two periods of the week are the same.
 abbrev pub same_slot : Slot → Slot → Bool
 same_slot a b = (a.day == b.day) && (a.period == b.period)
 
@@ -30,6 +31,7 @@ pub record IsFirstShut (p : Problem) (t : List Cell) (a b : Slot) (members : Lis
   pub shut : is_shut p t a b i ≡ true
   pub first : (j : ℕ) → has_number members j ≡ true → is_shut p t a b j ≡ true → i ≤ j
 
+-- The day and the period are in the range of the instance.
 pub record IsPeriod (p : Problem) (a : Slot) : Type 0 where
   pub day : a.day < p.days
   pub period : a.period < p.periods

@@ -36,9 +36,11 @@ pub record IsChain (p : Problem) (t : List Cell) (a b : Slot) (entry : ℕ) (mem
 abbrev pub other : Slot → Slot → Cell → Slot
 other a b e = if is_at a e then b else a
 
+-- The entry in the other one of the two periods, with the same course and room.
 abbrev pub turned : Slot → Slot → Cell → Cell
 turned a b e = record { course = e.course; room = e.room; day = (other a b e).day; period = (other a b e).period }
 
+-- The entry in the other one of the two periods if it is a member, otherwise the entry itself.
 abbrev pub moved : Slot → Slot → Bool → Cell → Cell
 moved a b member e = if member then turned a b e else e
 
@@ -47,6 +49,7 @@ abbrev pub swapped_from : Slot → Slot → (ℕ → Bool) → ℕ → List Cell
 swapped_from a b m k [] = []
 swapped_from a b m k (x ∷ xs) = moved a b (m k) x ∷ swapped_from a b m (k + 1) xs
 
+-- The timetable with its members moved to their other periods.
 abbrev pub swapped : Slot → Slot → (ℕ → Bool) → List Cell → List Cell
 swapped a b m t = swapped_from a b m 0 t
 

@@ -5,9 +5,11 @@ use Rattle.tt_instance_data.specs.declared.cell.Slot.{Slot}
 use Rattle.tt_instance_data.specs.declared.cell.Cell.{Cell}
 use Rattle.tt_moves_chain.specs.Chains.{linked, IsClosed}
 
+-- Whether a place is marked; a place beyond the end of the list is not.
 abbrev pub marked : List Bool → ℕ → Bool
 marked fs i = slice_index_or fs i false
 
+-- The number of marked places.
 abbrev pub marks : List Bool → ℕ
 marks fs = count_by (λ b. b) fs
 

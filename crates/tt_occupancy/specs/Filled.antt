@@ -8,9 +8,11 @@ pub record Filled : Type 0 where
   pub problem : Problem
   pub entries : List Cell
 
+-- The entry for a place that a list doesn't have: all its numbers are 0.
 abbrev pub no_entry : Cell
 no_entry = record { course = 0; room = 0; day = 0; period = 0 }
 
+-- The entry at a place of a list; a place beyond its end has the entry whose numbers are all 0.
 abbrev pub entry_at : List Cell → ℕ → Cell
 entry_at t i = slice_index_or t i no_entry
 

@@ -13,6 +13,7 @@ use Rattle.tt_occupancy_tallies.specs.declared.week.Week.{Week}
 
 -- ---- tests of an entry by the row that counts it
 
+-- Whether there is a number, and it is k.
 abbrev pub is_number : Option ℕ → ℕ → Bool
 is_number None k = false
 is_number (Some i) k = i == k

@@ -36,10 +36,12 @@ course_numbers p t c = markup (
     ∷ Text (codes "</td>\n<td>") ∷ Number (entries_of t c) ∷ Text (codes "</td>\n<td>") ∷ Number (min_days p c)
     ∷ Text (codes "</td>\n<td>") ∷ Number (days_of p t c) ∷ Text (codes "</td>\n<td>") ∷ [])
 
+-- The beginning of a course's row, up to the cell of its teacher: the name of the course.
 unfoldable pub course_head : Problem → ℕ → List ℕ
 course_head p c = markup (
     Text (codes "<tr id=\"course") ∷ Number c ∷ Text (codes "\">\n<th scope=\"row\">") ∷ Text (shown (course_name p c)) ∷ Text (codes "</th>\n<td>") ∷ [])
 
+-- The row of a course: its name, teacher, numbers, rooms and marks.
 unfoldable pub course_row : Problem → List Cell → ℕ → List ℕ
 course_row p t c =
     course_head p c ++ week_link p Teacher (teacher_of p c) ++ course_numbers p t c
@@ -49,9 +51,11 @@ course_row p t c =
 unfoldable pub courses_head : List ℕ
 courses_head = codes "</small></h2></summary>\n<div class=\"list\">\n<table>\n<caption>Courses</caption>\n<thead>\n<tr>\n<th scope=\"col\">Course</th>\n<th scope=\"col\">Teacher</th>\n<th scope=\"col\">Students</th>\n<th scope=\"col\">Lectures</th>\n<th scope=\"col\">Placed</th>\n<th scope=\"col\">Least days</th>\n<th scope=\"col\">Days</th>\n<th scope=\"col\">Rooms</th>\n<th scope=\"col\">Marks</th>\n</tr>\n</thead>\n<tbody>\n"
 
+-- The head of the section of courses: their number, and the heads of the columns.
 unfoldable pub courses_head_text : ℕ → List ℕ
 courses_head_text n = markup (Text (codes "<details open id=\"courses\">\n<summary><h2>Courses <small>") ∷ Number n ∷ Text courses_head ∷ [])
 
+-- The section of courses: a row for each course, in the order of the instance.
 unfoldable pub courses_text : Problem → List Cell → List ℕ
 courses_text p t =
     courses_head_text (length p.courses)

@@ -7,6 +7,7 @@ use Rattle.tt_page.specs.Limits.{IsWithinLimit}
 use Rattle.tt_page.specs.declared.fault.PageFault.{PageFault}
 use Rattle.tt_page.specs.declared.fault.PageFault.TheVariants.{Write, TooLarge, OutOfMemory}
 
+-- The fault of a page for a fault of its text.
 abbrev pub fault_from_text : TextFault → PageFault
 fault_from_text text.TooLarge = TooLarge
 fault_from_text text.OutOfMemory = OutOfMemory

@@ -14,6 +14,7 @@ use Rattle.tt_page_plan.specs.Names.{name_text}
 unfoldable pub before_title : List ℕ
 before_title = codes "<!DOCTYPE html>\n<html lang=\"en\">\n<head>\n<meta charset=\"utf-8\">\n<meta name=\"viewport\" content=\"width=device-width, initial-scale=1\">\n<meta name=\"color-scheme\" content=\"light dark\">\n<title>Timetable"
 
+-- The head of a page, with the name of the instance in its title and with the style.
 unfoldable pub head_text : Problem → List ℕ → List ℕ
 head_text p style = before_title ++ name_text p ++ codes "</title>\n<style>\n" ++ style ++ codes "</style>\n</head>\n<body>\n"
 
@@ -21,6 +22,7 @@ head_text p style = before_title ++ name_text p ++ codes "</title>\n<style>\n" +
 unfoldable pub contents_text : List ℕ
 contents_text = codes "<a class=\"skip\" href=\"#rooms\">Skip to the weeks</a>\n<nav aria-label=\"Contents\">\n<ul>\n<li><a href=\"#summary\">Summary</a></li>\n<li><a href=\"#rooms\">Rooms</a></li>\n<li><a href=\"#teachers\">Teachers</a></li>\n<li><a href=\"#curricula\">Curricula</a></li>\n<li><a href=\"#daily\">Days</a></li>\n<li><a href=\"#courses\">Courses</a></li>\n</ul>\n</nav>\n<main>\n<header id=\"summary\">\n<h1>Timetable<b>"
 
+-- Whether the timetable is feasible, with its cost, and with its hard count if it is not.
 unfoldable pub verdict_text : ℕ → ℕ → List ℕ
 verdict_text h c =
     if h == 0
@@ -31,24 +33,30 @@ verdict_text h c =
 unfoldable pub best_text : List ℕ
 best_text = codes "<p class=\"proved\">proved best</p>\n"
 
+-- The line for a feasible timetable whose cost is not the bound: the bound, and the gap between the two.
 unfoldable pub gap_text : ℕ → ℕ → List ℕ
 gap_text b gap = markup (
     Text (codes "<p class=\"proved\">no timetable costs less than ") ∷ Number b ∷ Text (codes " (proved), gap ") ∷ Number gap ∷ Text (codes "</p>\n") ∷ [])
 
+-- The line for a timetable that is not feasible: the bound of all feasible timetables.
 unfoldable pub least_text : ℕ → List ℕ
 least_text b = markup (Text (codes "<p class=\"proved\">no feasible timetable costs less than ") ∷ Number b ∷ Text (codes " (proved)</p>\n") ∷ [])
 
+-- The line for a proof that no feasible timetable exists.
 unfoldable pub nothing_text : List ℕ
 nothing_text = codes "<p class=\"proved\">no feasible timetable exists (proved)</p>\n"
 
+-- The line for a proved bound of the cost, from the timetable's hard count, its cost and the bound.
 abbrev pub bound_text : ℕ → ℕ → ℕ → List ℕ
 bound_text h c b = if h == 0 then (if c == b then best_text else gap_text b (c - b)) else least_text b
 
+-- The line for a proved bound, or nothing if there is none, from the timetable's hard count and its cost.
 unfoldable pub proved_text : Option Bound → ℕ → ℕ → List ℕ
 proved_text None h c = []
 proved_text (Some Nothing) h c = nothing_text
 proved_text (Some (AtLeast b)) h c = bound_text h c b
 
+-- The sizes of the instance, and the number of entries of the timetable.
 unfoldable pub sizes_text : Problem → List Cell → List ℕ
 sizes_text p t = markup (
     Text (codes "<p class=\"size\">courses ") ∷ Number (length p.courses) ∷ Text (codes ", placed ") ∷ Number (length t)
@@ -56,6 +64,7 @@ sizes_text p t = markup (
     ∷ Text (codes ", curricula ") ∷ Number (length p.curricula) ∷ Text (codes ", days ") ∷ Number p.days
     ∷ Text (codes ", periods a day ") ∷ Number p.periods ∷ Text (codes "</p>\n</header>\n<div class=\"tables\">\n") ∷ [])
 
+-- The header of a page: the contents, the instance's name, the verdict, the proved bound and the sizes.
 unfoldable pub header_text : Problem → List Cell → Option Bound → List ℕ
 header_text p t proved =
     contents_text ++ name_text p ++ verdict_text (hard p t) (cost p t) ++ proved_text proved (hard p t) (cost p t) ++ sizes_text p t

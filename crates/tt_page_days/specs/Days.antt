@@ -20,23 +20,29 @@ use Rattle.tt_page_weeks.specs.Grids.{entries_at, paper_name}
 unfoldable pub room_cell : Problem → List Cell → Labelled → ℕ → ℕ → ℕ → List ℕ
 room_cell p t labels d r s = codes "<td>\n" ++ flat_map (lecture_text p t labels Room r) (entries_at p t Room r d s) ++ codes "</td>\n"
 
+-- The beginning of a room's row: a link to the room's week.
 unfoldable pub room_row_head : Problem → ℕ → List ℕ
 room_row_head p r = codes "<tr>\n<th scope=\"row\">" ++ week_link p Room r ++ codes "</th>\n"
 
+-- The row of a room in the table of a day: its cell for each period.
 unfoldable pub room_row : Problem → List Cell → Labelled → ℕ → ℕ → List ℕ
 room_row p t labels d r = room_row_head p r ++ flat_map (room_cell p t labels d r) (range_below p.periods) ++ codes "</tr>\n"
 
+-- The beginning of a day's grid, up to the name of the day.
 unfoldable pub day_grid_head : ℕ → List ℕ
 day_grid_head d = markup (
     Text (codes "<div class=\"grid day\" id=\"day") ∷ Number d ∷ Text (codes "\">\n<h3 id=\"day") ∷ Number d ∷ Text (codes "-name\"><b>") ∷ [])
 
+-- The beginning of a day's table, with the head of the column of rooms.
 unfoldable pub day_table_head : ℕ → List ℕ
 day_table_head d = markup (
     Text (codes "<table aria-labelledby=\"day") ∷ Number d ∷ Text (codes "-name\">\n<thead>\n<tr>\n<th scope=\"col\">Room</th>\n") ∷ [])
 
+-- The beginning of a day's grid: its heading, with the names of the day and of the instance, and the beginning of its table.
 unfoldable pub day_title : Problem → Labelled → ℕ → List ℕ
 day_title p labels d = day_grid_head d ++ day_text labels d ++ codes "</b>" ++ paper_name p ++ day_table_head d
 
+-- The head of a period's column.
 unfoldable pub period_head : Labelled → ℕ → List ℕ
 period_head labels s = codes "<th scope=\"col\">" ++ period_text labels s ++ codes "</th>\n"
 
@@ -48,6 +54,7 @@ day_grid p t labels d =
 
 -- ---- the section
 
+-- The beginning of the link to the grid of a day, in the section's index.
 unfoldable pub day_link_head : ℕ → List ℕ
 day_link_head d = markup (Text (codes "<li><a href=\"#day") ∷ Number d ∷ Text (codes "\">") ∷ [])
 
@@ -55,10 +62,12 @@ day_link_head d = markup (Text (codes "<li><a href=\"#day") ∷ Number d ∷ Tex
 unfoldable pub day_index_item : Labelled → ℕ → List ℕ
 day_index_item labels d = day_link_head d ++ day_text labels d ++ codes "</a></li>\n"
 
+-- The head of the section of days, with their number.
 unfoldable pub days_head : ℕ → List ℕ
 days_head n = markup (
     Text (codes "<details open id=\"daily\">\n<summary><h2>Days <small>") ∷ Number n ∷ Text (codes "</small></h2></summary>\n<ul class=\"index\">\n") ∷ [])
 
+-- The section of days: its index, and the grid of each day.
 unfoldable pub days_text : Problem → List Cell → Labelled → List ℕ
 days_text p t labels =
     days_head p.days ++ flat_map (day_index_item labels) (all_days p) ++ codes "</ul>\n<div class=\"grids\">\n"

@@ -21,9 +21,11 @@ use Rattle.tt_page_lists.specs.declared.rule.Rule.TheVariants as rule
 abbrev pub seats_cost : Problem → List Cell → ℕ → ℕ
 seats_cost p t c = sum_by (λ e. excess p e.course e.room) (filter (is_of c) t)
 
+-- The beginning of a lecture's line: how many of its students have no seat.
 unfoldable pub crowded_head : Problem → Cell → List ℕ
 crowded_head p e = markup (Text (codes "<li>") ∷ Number (excess p e.course e.room) ∷ Text (codes " ") ∷ [])
 
+-- The end of a lecture's line: how many seats its room has.
 unfoldable pub crowded_end : Problem → Cell → List ℕ
 crowded_end p e = markup (Text (codes ", ") ∷ Number (capacity p e.room) ∷ Text (codes " seats</li>\n") ∷ [])
 
@@ -33,12 +35,15 @@ crowded_line p labels e =
     if excess p e.course e.room == 0 then []
     else crowded_head p e ++ when_link labels Room e.room e ++ codes ", in " ++ week_link p Room e.room ++ crowded_end p e
 
+-- How many students a course has, and the beginning of the list of its lectures.
 unfoldable pub students_detail : Problem → ℕ → List ℕ
 students_detail p c = markup (Text (codes ", ") ∷ Number (students p c) ∷ Text (codes " students\n<ul>\n") ∷ [])
 
+-- The course with its teacher and its number of students, and a line for each lecture in which some student has no seat.
 unfoldable pub seats_detail : Problem → Labelled → ℕ → List Cell → List ℕ
 seats_detail p labels c es = course_and_teacher p c ++ students_detail p c ++ flat_map (crowded_line p labels) es ++ codes "</ul>\n"
 
+-- The item of a course in the list of room capacity, if some student has no seat in one of its lectures.
 unfoldable pub seats_item : Problem → List Cell → Labelled → ℕ → List ℕ
 seats_item p t labels c = item (seats_cost p t c) (seats_detail p labels c (filter (is_of c) t))
 
@@ -54,14 +59,17 @@ isolated_line p labels q e =
 unfoldable pub isolated_item : Problem → List Cell → Labelled → ℕ → Cell → List ℕ
 isolated_item p t labels q e = if in_curriculum p q e.course && is_isolated p t q e then isolated_line p labels q e else []
 
+-- The curriculum, and a line for each of its isolated lectures.
 unfoldable pub isolated_detail : Problem → List Cell → Labelled → ℕ → List ℕ
 isolated_detail p t labels q = week_link p Curriculum q ++ codes "\n<ul>\n" ++ flat_map (isolated_item p t labels q) t ++ codes "</ul>\n"
 
+-- The item of a curriculum in the list of compactness, if it has isolated lectures.
 unfoldable pub curriculum_item : Problem → List Cell → Labelled → ℕ → List ℕ
 curriculum_item p t labels q = item (compactness_cost p t q) (isolated_detail p t labels q)
 
 -- ---- all items of a list
 
+-- All items of the list of a rule, in the order of the courses, the curricula or the entries.
 unfoldable pub items_text : Problem → List Cell → Labelled → Rule → List ℕ
 items_text p t labels rule.Lectures = flat_map (course_item p t rule.Lectures) (all_courses p)
 items_text p t labels rule.WorkingDays = flat_map (course_item p t rule.WorkingDays) (all_courses p)

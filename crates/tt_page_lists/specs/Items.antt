@@ -20,6 +20,7 @@ use Rattle.tt_page_lists.specs.declared.rule.Rule.TheVariants as rule
 unfoldable pub item_head : ℕ → List ℕ
 item_head n = markup (Text (codes "<li style=\"order:-") ∷ Number n ∷ Text (codes "\"><b>") ∷ Number n ∷ Text (codes "</b> ") ∷ [])
 
+-- The end of an item.
 unfoldable pub item_end : List ℕ
 item_end = codes "</li>\n"
 
@@ -39,10 +40,12 @@ lectures_detail p t c = markup (
     Text (codes ", lectures ") ∷ Number (lectures p c) ∷ Text (codes ", placed ") ∷ Number (entries_of t c)
     ∷ Text (codes ", periods used ") ∷ Number (periods_of p t c) ∷ [])
 
+-- The number of days on which a course is taught, and the number of days that it needs.
 unfoldable pub days_detail : Problem → List Cell → ℕ → List ℕ
 days_detail p t c = markup (
     Text (codes ", on ") ∷ Number (days_of p t c) ∷ Text (codes " of ") ∷ Number (min_days p c) ∷ Text (codes " days") ∷ [])
 
+-- The number of rooms in which a course is taught, or 1 if it is taught in none.
 unfoldable pub rooms_detail : Problem → List Cell → ℕ → List ℕ
 rooms_detail p t c = markup (Text (codes ", in ") ∷ Number (stability_cost p t c + 1) ∷ Text (codes " rooms") ∷ [])
 
@@ -60,6 +63,7 @@ course_adds p t rule.WorkingDays c = days_cost p t c
 course_adds p t rule.RoomStability c = stability_cost p t c
 course_adds p t _ c = 0
 
+-- The item of a course in the list of a rule, if the course adds something to the count.
 unfoldable pub course_item : Problem → List Cell → Rule → ℕ → List ℕ
 course_item p t r c = item (course_adds p t r c) (course_and_teacher p c ++ course_detail p t r c)
 
@@ -73,11 +77,13 @@ entry_and_teacher p e = cell_link p Room e.room e ++ codes ", " ++ week_link p T
 unfoldable pub place_text : Problem → Labelled → Cell → List ℕ
 place_text p labels e = codes ", " ++ when_text labels e.day e.period ++ codes ", in " ++ week_link p Room e.room
 
+-- A lecture, as a link to its cell in the week of its teacher, then the teacher, the day and the period.
 unfoldable pub unavailable_detail : Problem → Labelled → Cell → List ℕ
 unavailable_detail p labels e =
     cell_link p Teacher (teacher_of p e.course) e ++ codes ", " ++ week_link p Teacher (teacher_of p e.course)
     ++ codes ", " ++ when_text labels e.day e.period
 
+-- The item of an entry, if its period is unavailable for its course. It adds 1.
 unfoldable pub unavailable_item : Problem → Labelled → Cell → List ℕ
 unavailable_item p labels e =
     if unavailable p e.course e.day e.period then item_head 1 ++ unavailable_detail p labels e ++ item_end else []
@@ -112,6 +118,7 @@ unfoldable pub odds_item : Problem → Labelled → Rule → Cell → List Cell 
 odds_item p labels r e [] = []
 odds_item p labels r e (x ∷ xs) = item_head (odds_count r (length xs + 1)) ++ pair_text p labels e x (length xs)
 
+-- The item of an entry, if some later entry breaks the rule together with it.
 unfoldable pub pairs_item : Problem → Labelled → Rule → Cell → List Cell → List ℕ
 pairs_item p labels r e later = odds_item p labels r e (filter (at_odds p r e) later)
 
@@ -120,6 +127,7 @@ unfoldable pub entry_item : Problem → Labelled → Rule → Cell → List Cell
 entry_item p labels rule.Availability e later = unavailable_item p labels e
 entry_item p labels r e later = pairs_item p labels r e later
 
+-- The items of all entries of a list, in its order.
 unfoldable pub entry_items : Problem → Labelled → Rule → List Cell → List ℕ
 entry_items p labels r [] = []
 entry_items p labels r (e ∷ es) = entry_item p labels r e es ++ entry_items p labels r es

@@ -39,6 +39,7 @@ rule_word rule.WorkingDays = codes "days"
 rule_word rule.Compactness = codes "compactness"
 rule_word rule.RoomStability = codes "stability"
 
+-- The name of a rule in tables and headings.
 abbrev pub rule_title : Rule → List ℕ
 rule_title rule.Lectures = codes "Lectures"
 rule_title rule.Conflicts = codes "Conflicts"
@@ -49,6 +50,7 @@ rule_title rule.WorkingDays = codes "Working days"
 rule_title rule.Compactness = codes "Compactness"
 rule_title rule.RoomStability = codes "Room stability"
 
+-- The explanation of a rule's count in the tables.
 abbrev pub rule_meaning : Rule → List ℕ
 rule_meaning rule.Lectures = codes "missing, surplus, or two of a course in one period"
 rule_meaning rule.Conflicts = codes "pairs of one teacher or curriculum in one period"

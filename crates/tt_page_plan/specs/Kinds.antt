@@ -20,6 +20,7 @@ name_of p Room r = (slice_index_or p.rooms r no_room).id
 name_of p Teacher k = slice_index_or (teachers p) k []
 name_of p Curriculum q = (slice_index_or p.curricula q no_curriculum).id
 
+-- The name of a course, by its number.
 abbrev pub course_name : Problem → ℕ → List ℕ
 course_name p c = (slice_index_or p.courses c no_course).id
 
@@ -57,6 +58,7 @@ section_of Room = codes "rooms"
 section_of Teacher = codes "teachers"
 section_of Curriculum = codes "curricula"
 
+-- The heading of a section.
 abbrev pub title_of : Kind → List ℕ
 title_of Room = codes "Rooms"
 title_of Teacher = codes "Teachers"

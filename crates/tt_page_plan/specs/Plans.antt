@@ -7,6 +7,8 @@ use Rattle.tt_page_plan.specs.Ordered.{AreOrders}
 use Rattle.tt_page_plan.specs.declared.plan.Plan.TheInside.{Inside}
 use Rattle.tt_table.specs.declared.table.TheConstants.{MAX_ENTRIES}
 
+-- The entries of the plan are in the instance's range and not too many. Its groups are those of the entries by period and by course, and
+-- its curricula and its orders are those of the instance.
 pub record IsPlan (s : Inside) : Type 0 where
   pub in_range : All (InRange s.instance.now) s.entries.now
   pub at_most : length s.entries.now ≤ MAX_ENTRIES

@@ -10,6 +10,7 @@ use Rattle.tt_page_text.specs.declared.fault.LabelsFault.TheVariants as fault
 
 -- ---- the names in a text
 
+-- The byte of a comma, which separates names.
 abbrev pub comma : ℕ
 comma = 44
 
@@ -47,6 +48,7 @@ no_labels = record { days = []; periods = [] }
 
 -- ---- what a page shows
 
+-- The name of a day as a page shows it, or the word "Day" and its number, counted from 1, if it has none.
 abbrev pub day_named : ℕ → Option (List ℕ) → List ℕ
 day_named d (Some name) = shown name
 day_named d None = markup (Text (codes "Day ") ∷ Number (d + 1) ∷ [])
@@ -55,6 +57,7 @@ day_named d None = markup (Text (codes "Day ") ∷ Number (d + 1) ∷ [])
 unfoldable pub day_text : Labelled → ℕ → List ℕ
 day_text labels d = day_named d (slice_get labels.days d)
 
+-- The name of a period as a page shows it, or its number, counted from 1, if it has none.
 abbrev pub period_named : ℕ → Option (List ℕ) → List ℕ
 period_named s (Some name) = shown name
 period_named s None = markup (Number (s + 1) ∷ [])
@@ -63,6 +66,7 @@ period_named s None = markup (Number (s + 1) ∷ [])
 unfoldable pub period_text : Labelled → ℕ → List ℕ
 period_text labels s = period_named s (slice_get labels.periods s)
 
+-- The name of a period as a page shows it, or the word "period" and its number, counted from 1, if it has none.
 abbrev pub period_behind : ℕ → Option (List ℕ) → List ℕ
 period_behind s (Some name) = shown name
 period_behind s None = markup (Text (codes "period ") ∷ Number (s + 1) ∷ [])

@@ -22,5 +22,6 @@ part_text (part.Number n) = decimal n
 part_text (part.Count n) = decimal n
 part_text (part.Name name) = shown name.now
 
+-- The texts of all parts, without anything between them.
 abbrev pub parts_text : List Part → List ℕ
 parts_text parts = flat_map part_text parts

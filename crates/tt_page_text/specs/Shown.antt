@@ -42,6 +42,7 @@ pub record IsPlain (piece : List ℕ) : Type 0 where
 abbrev pub IsHarmlessPiece : List ℕ → Type 0
 IsHarmlessPiece piece = IsPlain piece ⊎ (has_name references piece ≡ true)
 
+-- Each piece is a plain letter or one of the references.
 abbrev pub AreHarmless : List (List ℕ) → Type 0
 AreHarmless [] = Unit {0}
 AreHarmless (piece ∷ pieces) = IsHarmlessPiece piece × AreHarmless pieces

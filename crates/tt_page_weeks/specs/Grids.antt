@@ -30,9 +30,11 @@ own_courses p Curriculum q = filter (in_curriculum p q) (all_courses p)
 unfoldable pub barred_when : Labelled → ℕ → ℕ → List ℕ
 barred_when labels d s = codes "<div class=\"barred\"><span class=\"when\">" ++ when_text labels d s ++ codes "</span> "
 
+-- The end of the text for a course to which a period is unavailable: the name of the course.
 unfoldable pub barred_course : Problem → ℕ → List ℕ
 barred_course p c = markup (Text (codes "not ") ∷ Text (shown (course_name p c)) ∷ Text (codes "</div>\n") ∷ [])
 
+-- The text for a course, if the period is unavailable to it.
 unfoldable pub barred_text : Problem → Labelled → ℕ → ℕ → ℕ → List ℕ
 barred_text p labels d s c = if unavailable p c d s then barred_when labels d s ++ barred_course p c else []
 
@@ -40,9 +42,11 @@ barred_text p labels d s c = if unavailable p c d s then barred_when labels d s 
 abbrev pub entries_at : Problem → List Cell → Kind → ℕ → ℕ → ℕ → List Cell
 entries_at p t kind n d s = filter (belongs_to p kind n) (filter (is_at (slot d s)) t)
 
+-- The head of a cell of a week.
 unfoldable pub cell_head : Kind → ℕ → ℕ → ℕ → List ℕ
 cell_head kind n d s = markup (Text (codes "<td id=\"") ∷ Text (word_of kind) ∷ Number n ∷ Text (codes "-") ∷ Number d ∷ Text (codes "-") ∷ Number s ∷ Text (codes "\">\n") ∷ [])
 
+-- A cell of a week: those of the given courses to which its period is unavailable, and its lectures.
 unfoldable pub cell_text : Problem → List Cell → Labelled → Kind → ℕ → List ℕ → ℕ → ℕ → List ℕ
 cell_text p t labels kind n own s d =
     cell_head kind n d s ++ flat_map (barred_text p labels d s) own
@@ -50,9 +54,11 @@ cell_text p t labels kind n own s d =
 
 -- ---- a grid
 
+-- The head of the row of a period.
 unfoldable pub row_head : Labelled → ℕ → List ℕ
 row_head labels s = codes "<tr>\n<th scope=\"row\">" ++ period_text labels s ++ codes "</th>\n"
 
+-- The row of a period in a week: a cell for each day.
 unfoldable pub row_text : Problem → List Cell → Labelled → Kind → ℕ → List ℕ → ℕ → List ℕ
 row_text p t labels kind n own s =
     row_head labels s ++ flat_map (cell_text p t labels kind n own s) (all_days p) ++ codes "</tr>\n"
@@ -62,6 +68,7 @@ unfoldable pub seats_text : Problem → Kind → ℕ → List ℕ
 seats_text p Room r = markup (Text (codes " ") ∷ Number (capacity p r) ∷ Text (codes " seats") ∷ [])
 seats_text p _ n = []
 
+-- The beginning of a week's grid, with the name of the room, teacher or curriculum in its heading.
 unfoldable pub grid_head : Problem → Kind → ℕ → List ℕ
 grid_head p kind n = markup (
     Text (codes "<div class=\"grid\" id=\"") ∷ Text (word_of kind) ∷ Number n ∷ Text (codes "\">\n<h3 id=\"") ∷ Text (word_of kind) ∷ Number n
@@ -71,16 +78,20 @@ grid_head p kind n = markup (
 unfoldable pub paper_name : Problem → List ℕ
 paper_name p = codes "<span class=\"paper\">, timetable" ++ name_text p ++ codes "</span></h3>\n"
 
+-- The beginning of a week's table, with the head of the column of periods.
 unfoldable pub table_head : Kind → ℕ → List ℕ
 table_head kind n = markup (
     Text (codes "<table aria-labelledby=\"") ∷ Text (word_of kind) ∷ Number n ∷ Text (codes "-name\">\n<thead>\n<tr>\n<th scope=\"col\">Period</th>\n") ∷ [])
 
+-- The beginning of a week's grid: its heading, and the beginning of its table.
 unfoldable pub grid_title : Problem → Kind → ℕ → List ℕ
 grid_title p kind n = grid_head p kind n ++ seats_text p kind n ++ paper_name p ++ table_head kind n
 
+-- The head of a day's column.
 unfoldable pub day_head : Labelled → ℕ → List ℕ
 day_head labels d = codes "<th scope=\"col\">" ++ day_text labels d ++ codes "</th>\n"
 
+-- The grid of a week: a column for each day, and a row for each period of a day.
 unfoldable pub grid_text : Problem → List Cell → Labelled → Kind → ℕ → List ℕ
 grid_text p t labels kind n =
     grid_title p kind n ++ flat_map (day_head labels) (all_days p)
@@ -98,6 +109,7 @@ curriculum_of _ n = None
 unfoldable pub index_item : Problem → Kind → ℕ → List ℕ
 index_item p kind n = codes "<li class=\"week" ++ hue_class (curriculum_of kind n) ++ codes "\">" ++ week_link p kind n ++ codes "</li>\n"
 
+-- The head of the section of rooms, teachers or curricula, with their number.
 unfoldable pub section_head : Problem → Kind → List ℕ
 section_head p kind = markup (
     Text (codes "<details open id=\"") ∷ Text (section_of kind) ∷ Text (codes "\">\n<summary><h2>") ∷ Text (title_of kind)

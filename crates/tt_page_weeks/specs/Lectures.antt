@@ -31,6 +31,7 @@ unfoldable pub isolated_mark : Problem → List Cell → Kind → ℕ → Cell �
 isolated_mark p t Curriculum q e = mark (is_isolated p t q e) (codes " <mark>isolated</mark>")
 isolated_mark p t _ n e = []
 
+-- The marks of a lecture in a week: those of hard rules, then those of costs.
 unfoldable pub marks_text : Problem → List Cell → Kind → ℕ → Cell → List ℕ
 marks_text p t kind n e =
     mark (in_conflict p t e) (codes " <strong>conflict</strong>")
@@ -54,10 +55,12 @@ lecture_head p c = codes "<div class=\"lecture" ++ hue_class (first_curriculum p
 unfoldable pub lecture_when : Labelled → Cell → List ℕ
 lecture_when labels e = codes "\"><span class=\"when\">" ++ when_text labels e.day e.period ++ codes "</span> "
 
+-- The course of a lecture, as a link to its row.
 unfoldable pub lecture_course : Problem → ℕ → List ℕ
 lecture_course p c = markup (
     Text (codes "<a class=\"course\" href=\"#course") ∷ Number c ∷ Text (codes "\">") ∷ Text (shown (course_name p c)) ∷ Text (codes "</a> ") ∷ [])
 
+-- A lecture in a week: its colour, its day and period, its course, its room or teacher or both, and its marks.
 unfoldable pub lecture_text : Problem → List Cell → Labelled → Kind → ℕ → Cell → List ℕ
 lecture_text p t labels kind n e =
     lecture_head p e.course ++ lecture_when labels e ++ lecture_course p e.course ++ further_text p kind e ++ marks_text p t kind n e ++ codes "</div>\n"

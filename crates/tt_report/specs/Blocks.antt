@@ -19,6 +19,7 @@ IsBlock p (of.Room r) = r < length p.rooms
 IsBlock p (of.Teacher k) = k < length (teachers p)
 IsBlock p (of.Curriculum q) = q < length p.curricula
 
+-- The head line of a block: the name of its room, teacher or curriculum, after the word for it.
 abbrev pub head_of : Problem → Block → List Piece
 head_of p (of.Room r) = Text (codes "room") ∷ Text (slice_index_or p.rooms r no_room).id ∷ []
 head_of p (of.Teacher k) = Text (codes "teacher") ∷ Text (slice_index_or (teachers p) k []) ∷ []
@@ -46,11 +47,14 @@ next_texts ps = flat_map (λ p. 32 ∷ text_of p) ps
 abbrev pub entries_text : Problem → Block → List Cell → List ℕ
 entries_text p b es = flat_map (λ e. next_texts (shown_in p b e)) (filter (belongs_to p b) es)
 
+-- The line of a period in a block.
 abbrev pub slot_text : Problem → List Cell → Block → Slot → List ℕ
 slot_text p t b s = line_text (slot_line (shown_in p b) (belongs_to p b) t s)
 
+-- The lines of a day in a block, one for each period.
 abbrev pub day_text : Problem → List Cell → Block → ℕ → List ℕ
 day_text p t b d = flat_map (λ s. slot_text p t b (slot d s)) (range_below p.periods)
 
+-- The text of a block: its head line, and the lines of all days.
 abbrev pub block_text : Problem → List Cell → Block → List ℕ
 block_text p t b = line_text (head_of p b) ++ flat_map (day_text p t b) (all_days p)

@@ -11,9 +11,11 @@ use Rattle.tt_instance_data.specs.declared.cell.Slot.{Slot}
 use Rattle.tt_report.specs.declared.by.By.{By}
 use Rattle.tt_report.specs.declared.by.By.TheVariants.{Room, Teacher, Curriculum}
 
+-- The name of an entry's course.
 abbrev pub course_text : Problem → Cell → Piece
 course_text p e = Text (slice_index_or p.courses e.course no_course).id
 
+-- The name of an entry's room.
 abbrev pub room_text : Problem → Cell → Piece
 room_text p e = Text (slice_index_or p.rooms e.room no_room).id
 
@@ -21,9 +23,11 @@ room_text p e = Text (slice_index_or p.rooms e.room no_room).id
 abbrev pub slot_line : (Cell → List Piece) → (Cell → Bool) → List Cell → Slot → List Piece
 slot_line shown belongs t s = Number s.day ∷ Number s.period ∷ flat_map shown (filter (λ e. belongs e && is_at s e) t)
 
+-- The lines of a block: its head line, and a line for each period of the week.
 abbrev pub block : Problem → List Piece → (Cell → List Piece) → (Cell → Bool) → List Cell → List (List Piece)
 block p head shown belongs t = head ∷ map (slot_line shown belongs t) (all_slots p)
 
+-- The names of an entry's course and of its room.
 abbrev pub course_and_room : Problem → Cell → List Piece
 course_and_room p e = course_text p e ∷ room_text p e ∷ []
 
@@ -31,6 +35,7 @@ course_and_room p e = course_text p e ∷ room_text p e ∷ []
 abbrev pub is_taught_by : Problem → List ℕ → Cell → Bool
 is_taught_by p name e = is_same_text (Some name) (slice_get (course_teachers p) e.course)
 
+-- The lines of a report: a block for each room, for each teacher or for each curriculum.
 abbrev pub report_lines : Problem → List Cell → By → List (List Piece)
 report_lines p t Room =
     flat_map (λ r. block p (Text (codes "room") ∷ Text (slice_index_or p.rooms r no_room).id ∷ []) (λ e. course_text p e ∷ []) (is_in r) t) (all_rooms p)
@@ -39,5 +44,6 @@ report_lines p t Teacher =
 report_lines p t Curriculum =
     flat_map (λ q. block p (Text (codes "curriculum") ∷ Text (slice_index_or p.curricula q no_curriculum).id ∷ []) (course_and_room p) (λ e. in_curriculum p q e.course) t) (all_curricula p)
 
+-- The text of a report by rooms, by teachers or by curricula.
 abbrev pub report_text : Problem → List Cell → By → List ℕ
 report_text p t by = lines_text (report_lines p t by)

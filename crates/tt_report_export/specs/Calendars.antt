@@ -20,6 +20,7 @@ escaped byte =
     if byte == 92 || byte == 59 || byte == 44 then 92 ∷ byte ∷ []
     else (if nat_lt byte 32 then codes "?" else byte ∷ [])
 
+-- The text of a name in a calendar, with its bytes escaped.
 abbrev pub shown : List ℕ → List ℕ
 shown name = flat_map escaped name
 
@@ -35,9 +36,11 @@ clock minute = two_digits (minute / 60) ++ (two_digits (minute % 60) ++ codes "0
 abbrev pub moment : ℕ → ℕ → List ℕ
 moment date minute = decimal date ++ (codes "T" ++ clock minute)
 
+-- The date of an entry's day, or 0 if the term has none for it.
 abbrev pub date_of : Term → Cell → ℕ
 date_of term e = slice_index_or term.dates e.day 0
 
+-- The minute of the day at which an entry's period begins, or 0 if the term has none for it.
 abbrev pub begin_of : Term → Cell → ℕ
 begin_of term e = slice_index_or term.begins e.period 0
 
@@ -63,6 +66,7 @@ names p e =
     line (codes "SUMMARY:") (shown (course_name p e))
     ++ (line (codes "LOCATION:") (shown (room_name p e)) ++ line (codes "DESCRIPTION:") (shown (teacher_name p e)))
 
+-- The event of an entry: its identity, its times and its names.
 abbrev pub event : Problem → Term → Cell → List ℕ
 event p term e =
     codes "BEGIN:VEVENT\r\n" ++ (line (codes "UID:") (identity term e) ++ (times term e ++ (names p e ++ codes "END:VEVENT\r\n")))
