@@ -10,7 +10,7 @@ use Rattle.tt_leaf_data.specs.declared.leaf.Bound.TheVariants.{AtLeast, Nothing}
 use Rattle.tt_page_text.specs.Markup.{markup}
 use Rattle.tt_page_plan.specs.Names.{name_text}
 
--- The head, with the page's style.
+-- The head of a page up to its title.
 unfoldable pub before_title : List ℕ
 before_title = codes "<!DOCTYPE html>\n<html lang=\"en\">\n<head>\n<meta charset=\"utf-8\">\n<meta name=\"viewport\" content=\"width=device-width, initial-scale=1\">\n<meta name=\"color-scheme\" content=\"light dark\">\n<title>Timetable"
 
@@ -29,7 +29,7 @@ verdict_text h c =
     then markup (Text (codes "</b></h1>\n<p class=\"verdict\"><b>feasible</b> cost ") ∷ Number c ∷ Text (codes "</p>\n") ∷ [])
     else markup (Text (codes "</b></h1>\n<p class=\"verdict\"><strong>not feasible</strong> hard ") ∷ Number h ∷ Text (codes ", cost ") ∷ Number c ∷ Text (codes "</p>\n") ∷ [])
 
--- What a proved bound says about a timetable that breaks hard rules this often and has this cost.
+-- The line for a feasible timetable whose cost is the bound: it is proved best.
 unfoldable pub best_text : List ℕ
 best_text = codes "<p class=\"proved\">proved best</p>\n"
 

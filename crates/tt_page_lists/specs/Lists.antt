@@ -61,7 +61,7 @@ cost_table p t =
 
 -- ---- lists
 
--- The head of a list: a broken hard rule is `strong`, and a cost is `mark`.
+-- The head of the list of a hard rule, with its count.
 unfoldable pub broken_head : Rule → ℕ → List ℕ
 broken_head r n = markup (
     Text (codes "<details open class=\"broken\" id=\"") ∷ Text (rule_word r) ∷ Text (codes "\">\n<summary><h2>") ∷ Text (rule_title r)

@@ -2,7 +2,7 @@
 use Rattle.std.specs.Prelude.{◌+◌, Bool, ◌&&◌, ◌==◌}
 use Rattle.tt_instance_data.specs.declared.cell.Cell.{Cell}
 
--- On the same day, in the period immediately before or immediately after an entry's.
+-- Whether the second entry is on the day of the first, in the period immediately before that of the first.
 abbrev pub is_right_before : Cell → Cell → Bool
 is_right_before e x = (x.day == e.day) && (x.period + 1 == e.period)
 

@@ -26,7 +26,7 @@ own_courses p Room r = []
 own_courses p Teacher k = filter (λ c. teacher_of p c == k) (all_courses p)
 own_courses p Curriculum q = filter (in_curriculum p q) (all_courses p)
 
--- The text for a course to which a period is unavailable.
+-- The beginning of the text for a course to which a period is unavailable: the day and the period.
 unfoldable pub barred_when : Labelled → ℕ → ℕ → List ℕ
 barred_when labels d s = codes "<div class=\"barred\"><span class=\"when\">" ++ when_text labels d s ++ codes "</span> "
 
