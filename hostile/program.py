@@ -221,7 +221,9 @@ class Runs:
         return runs
 
     def check_role(self, outcome, where):
-        """A refusal after one failed call names the file of that call, or says that it can't write."""
+        """A refusal after one failed call names the file of that call, if it is known, or says that it can't write."""
+        if not outcome.counted.file:
+            return
         roles = {role for name, role in self.command.inputs() if name == outcome.counted.file}
         said = outcome.err.rsplit(b"refused: ", 1)[1].decode()
         named = said.rsplit(":", 1)[0] if ":" in said else ""
