@@ -3,7 +3,7 @@
 
     python3 hostile/run.py [PART ..]
 
-The parts, all of them but the last if none is named:
+The parts, all of them if none is named:
 
 calls    each public call that takes memory, with its first growth refused, then its second, until none is met
 memory   the program, each command the same way
@@ -11,8 +11,7 @@ disk     the program, each command with each call to the system failing in turn,
          write a page byte by byte, the first and the last 50 and some 50 between
 inputs   cut files, endless files, numbers at their limits, files that aren't there
 largest  the largest inputs that are taken, and what is one above a limit; prints times and peak memory
-slow     files that hold the program long for their size; fails if a row takes twice what is aimed at, as some still do, so this part runs
-         only if it is named
+slow     files that hold the program long for their size; fails if a row takes twice what is aimed at
 
 The others take some eight minutes, the largest inputs less than a third of that; the last line but one says how long it took. It needs what `rt ci`, or
 `./tt` and `rt all test`, have built. The last line is `N passed, M failed`; the status is 1 where something failed.
@@ -92,11 +91,10 @@ def run_slow(tally, refuser, folder):
 
 
 PARTS = {"calls": run_calls, "memory": run_memory, "disk": run_disk, "inputs": run_inputs, "largest": run_largest, "slow": run_slow}
-BY_NAME_ALONE = {"slow"}
 
 
 def main():
-    asked = sys.argv[1:] or [it for it in PARTS if it not in BY_NAME_ALONE]
+    asked = sys.argv[1:] or [*PARTS]
     if not set(asked) <= set(PARTS):
         sys.exit(__doc__)
     if not program.PROGRAM.exists():
