@@ -14,7 +14,7 @@ use Rattle.tt_instance_data.specs.declared.cell.Cell.{Cell}
 use Rattle.tt_facts_path.specs.Facts.{agrees, is_who, matches}
 use Rattle.tt_facts_path.specs.Nested.{has_place_of, courses_of}
 use Rattle.tt_facts_path.specs.declared.facts.Pattern.{Pattern}
-use Rattle.tt_facts_cell_set.specs.Tables.{is_placed}
+use Rattle.tt_facts_cells.specs.Tables.{is_placed}
 use Rattle.tt_facts_cells.specs.Slots.{is_allowed, Covers}
 use Rattle.tt_facts_cells.proofs.Losing.{placed_at}
 use Rattle.tt_facts_cells.proofs.Struck.{who-has}

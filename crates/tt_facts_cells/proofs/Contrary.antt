@@ -12,7 +12,7 @@ use Rattle.tt_facts_path.specs.Nested.{is_excluded}
 use Rattle.tt_facts_path.specs.declared.facts.Pattern.{Pattern}
 use Rattle.tt_facts_path.specs.declared.facts.Fact.{Fact}
 use Rattle.tt_facts_path.proofs.Same.{same_pattern-true}
-use Rattle.tt_facts_cell_set.specs.Tables.{Loses}
+use Rattle.tt_facts_cells.specs.Tables.{Loses}
 use Rattle.tt_facts_cells.specs.Shown.{is_free_of, AreListed, Adds}
 use Rattle.tt_facts_cells.proofs.Confined.{kills_all}
 use Rattle.tt_facts_cells.proofs.More.{is_barred-no}

@@ -1,3 +1,7 @@
+pub mod Grid
+pub mod Dropping
+pub mod Reading
+pub mod FirstTable
 pub mod Confined
 pub mod More
 pub mod Recomputed

@@ -14,7 +14,7 @@ use Rattle.tt_facts_path.specs.Facts.{agrees}
 use Rattle.tt_facts_path.specs.declared.facts.Pattern.{Pattern}
 use Rattle.tt_instance_links.specs.Links.{conflicts_of}
 use Rattle.tt_instance_links.proofs.Linked.{conflicts-has}
-use Rattle.tt_facts_cell_set.specs.Tables.{has_cell, is_open, is_placed}
+use Rattle.tt_facts_cells.specs.Tables.{has_cell, is_open, is_placed}
 use Rattle.tt_facts_cells.specs.Struck.{is_lost_to, loses_room}
 use Rattle.tt_facts_cells.specs.Shown.{is_struck}
 

@@ -24,7 +24,7 @@ use Rattle.tt_facts_path.specs.declared.facts.Pattern.{Pattern}
 use Rattle.tt_facts_path.specs.declared.facts.Fact.{Fact}
 use Rattle.tt_facts_cells.proofs.More.{is_barred-yes, is_barred-no, is_dead-yes}
 use Rattle.tt_facts_cells.proofs.Recomputed.{excludes-untouched, is_dead-no-more}
-use Rattle.tt_facts_cell_set.specs.Tables.{has_cell, Shows, Loses}
+use Rattle.tt_facts_cells.specs.Tables.{has_cell, Shows, Loses}
 use Rattle.tt_facts_cells.specs.Touching.{can_agree, can_share, can_touch}
 use Rattle.tt_facts_cells.specs.Shown.{is_free_of, yes_facts, AreListed, Settles, Renews, Adds}
 use Rattle.tt_facts_cells.proofs.Losing.{shows-less, shows-same}

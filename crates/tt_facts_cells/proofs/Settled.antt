@@ -15,7 +15,7 @@ use Rattle.tt_facts_path.specs.declared.facts.Pattern.{Pattern}
 use Rattle.tt_facts_path.specs.declared.facts.Fact.{Fact}
 use Rattle.tt_facts_cells.specs.Killing.{is_free, IsConfined}
 use Rattle.tt_facts_cells.proofs.Confined.{kills_there, kills_all, spares_all, spares_elsewhere}
-use Rattle.tt_facts_cell_set.specs.Tables.{IsTable, Shows, Loses}
+use Rattle.tt_facts_cells.specs.Tables.{IsTable, Shows, Loses}
 use Rattle.tt_facts_cells.specs.Struck.{is_left, loses_room}
 use Rattle.tt_facts_cells.specs.Slots.{is_allowed, is_left_in, Covers, IsNone, IsFirst}
 use Rattle.tt_facts_cells.specs.Shown.{is_free_of, is_struck, Settles}

@@ -23,7 +23,7 @@ use Rattle.tt_facts_path.specs.declared.facts.Who.TheVariants as Whose
 use Rattle.tt_facts_path.specs.declared.facts.Pattern.{Pattern}
 use Rattle.tt_facts_path.specs.declared.facts.Fact.{Fact}
 use Rattle.tt_facts_cells.specs.Killing.{is_free, kills_by, kills_at}
-use Rattle.tt_facts_cell_set.specs.Tables.{has_cell, Shows, is_open}
+use Rattle.tt_facts_cells.specs.Tables.{has_cell, Shows, is_open}
 use Rattle.tt_facts_cells.specs.Struck.{is_left_to, is_left, is_lost_to, loses_room}
 use Rattle.tt_facts_cells.specs.Shown.{is_free_of}
 

@@ -1,3 +1,7 @@
+pub mod Words
+pub mod Tables
+pub mod Rooms
+pub mod First
 pub mod Killing
 pub mod Struck
 pub mod Slots

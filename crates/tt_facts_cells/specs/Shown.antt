@@ -8,7 +8,7 @@ use Rattle.tt_facts_path.specs.Facts.{matches}
 use Rattle.tt_facts_path.specs.Live.{is_barred, is_live, excludes}
 use Rattle.tt_facts_path.specs.declared.facts.Fact.{Fact}
 use Rattle.tt_facts_path.specs.declared.facts.Pattern.{Pattern}
-use Rattle.tt_facts_cell_set.specs.Tables.{IsTable, Shows, Loses}
+use Rattle.tt_facts_cells.specs.Tables.{IsTable, Shows, Loses}
 use Rattle.tt_facts_cells.specs.Struck.{loses_room}
 
 -- The cell isn't barred on the path.

@@ -8,7 +8,7 @@ use Rattle.tt_instance_data.specs.Problem.{Problem}
 use Rattle.tt_instance_data.specs.Cells.{all_rooms}
 use Rattle.tt_instance_data.specs.Courses.{conflict}
 use Rattle.tt_facts_path.specs.declared.facts.Pattern.{Pattern}
-use Rattle.tt_facts_cell_set.specs.Tables.{is_open}
+use Rattle.tt_facts_cells.specs.Tables.{is_open}
 
 -- The course has a free room in the period that the pattern allows.
 abbrev pub is_left_to : Problem → List ℕ → Pattern → ℕ → ℕ → ℕ → Bool

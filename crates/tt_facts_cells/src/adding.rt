@@ -2,7 +2,7 @@
 
 ghost use Rattle.std.specs.Prelude.{◌≡◌, false, [], ◌∷◌, ◌++◌, OnOk, OnErr};
 ghost use Rattle.tt_instance_links.specs.Linked.{AreConflicts};
-ghost use Rattle.tt_facts_cell_set.specs.Tables.{IsTable};
+ghost use Rattle.tt_facts_cells.specs.Tables.{IsTable};
 ghost use Rattle.tt_facts_cells.specs.Shown.{Adds};
 
 use crate::again::settle_again;
@@ -12,7 +12,7 @@ use crate::settling::settle;
 use crate::watching::{NO_WATCH, Watches};
 use std::alloc::AllocError;
 use tt_bits::Trail;
-use tt_facts_cell_set::remove_all;
+use crate::removing::remove_all;
 use tt_facts_path::{Fact, Pattern};
 use tt_instance_data::Instance;
 use tt_instance_links::Conflicts;

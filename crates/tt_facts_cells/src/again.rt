@@ -2,7 +2,7 @@
 
 ghost use Rattle.std.specs.Prelude.{◌≡◌, OnOk};
 ghost use Rattle.tt_instance_links.specs.Linked.{AreConflicts};
-ghost use Rattle.tt_facts_cell_set.specs.Tables.{IsTable};
+ghost use Rattle.tt_facts_cells.specs.Tables.{IsTable};
 ghost use Rattle.tt_facts_cells.specs.Touching.{can_agree, can_share, can_touch};
 ghost use Rattle.tt_facts_cells.specs.Shown.{Renews};
 
@@ -10,7 +10,7 @@ use crate::settling::settle;
 use crate::watching::Watches;
 use std::alloc::AllocError;
 use tt_bits::Trail;
-use tt_facts_cell_set::is_cleared;
+use crate::removing::is_cleared;
 use tt_facts_path::{Pattern, Who};
 use tt_instance_data::Instance;
 use tt_instance_links::Conflicts;

@@ -3,13 +3,13 @@
 ghost use Rattle.std.specs.Prelude.{◌≡◌, ◌<◌, ◌==◌, ◌&&◌, Some, length, OnOk};
 ghost use Rattle.tt_facts_path.specs.Facts.{matches};
 ghost use Rattle.tt_facts_path.specs.Nested.{has_place_of};
-ghost use Rattle.tt_facts_cell_set.specs.Tables.{IsTable, Loses};
+ghost use Rattle.tt_facts_cells.specs.Tables.{IsTable, Loses};
 
 use crate::courses::courses_of;
 use crate::periods::{is_allowed, slots_of};
 use std::alloc::AllocError;
 use tt_bits::Trail;
-use tt_facts_cell_set::remove_rooms;
+use crate::removing::remove_rooms;
 use tt_facts_path::Pattern;
 use tt_instance_data::Instance;
 

@@ -3,13 +3,18 @@
 
 mod adding;
 mod again;
+mod asking;
 mod barring;
 mod cells;
 mod courses;
+mod first;
 mod killing;
 mod listing;
 mod order;
 mod periods;
+mod places;
+mod removing;
+mod rooms;
 mod settling;
 mod watching;
 

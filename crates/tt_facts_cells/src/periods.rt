@@ -2,12 +2,12 @@
 
 ghost use Rattle.std.specs.Prelude.{◌≡◌, ◌<◌, ◌≤◌, ◌*◌, length, MatchOption};
 ghost use Rattle.tt_facts_path.specs.Facts.{agrees};
-ghost use Rattle.tt_facts_cell_set.specs.Tables.{IsTable};
+ghost use Rattle.tt_facts_cells.specs.Tables.{IsTable};
 ghost use Rattle.tt_facts_cells.specs.Struck.{is_left_to, is_left};
 ghost use Rattle.tt_facts_cells.specs.Slots.{is_allowed, is_left_in, Covers, IsNone, IsFirst};
 
 use tt_bits::Trail;
-use tt_facts_cell_set::has_period;
+use crate::asking::has_period;
 use tt_facts_path::Pattern;
 use tt_instance_data::Instance;
 

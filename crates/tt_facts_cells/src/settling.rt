@@ -3,7 +3,7 @@
 ghost use Rattle.std.specs.Prelude.{◌≡◌, ◌<◌, ◌≤◌, ◌*◌, [], ◌∷◌, length, Some, OnOk};
 ghost use Rattle.tt_facts_path.specs.Nested.{courses_of};
 ghost use Rattle.tt_instance_links.specs.Linked.{AreConflicts};
-ghost use Rattle.tt_facts_cell_set.specs.Tables.{IsTable};
+ghost use Rattle.tt_facts_cells.specs.Tables.{IsTable};
 ghost use Rattle.tt_facts_cells.specs.Slots.{is_left_in, Covers, IsFirst};
 ghost use Rattle.tt_facts_cells.specs.Shown.{Settles};
 
@@ -13,7 +13,9 @@ use crate::periods::{first_left, is_left, slots_of};
 use crate::watching::{NO_WATCH, Watch, is_spread};
 use std::alloc::AllocError;
 use tt_bits::Trail;
-use tt_facts_cell_set::{Rooms, common_rooms, remove_all};
+use crate::asking::common_rooms;
+use crate::removing::remove_all;
+use crate::rooms::Rooms;
 use tt_facts_path::Pattern;
 use tt_instance_data::Instance;
 use tt_instance_links::Conflicts;

@@ -1,6 +1,6 @@
 use Rattle.std.proofs.Common.{◌≡◌, ◌&&◌}
 use Rattle.std.specs.Prelude.{nat_lt}
-use Rattle.tt_facts_cell_set.specs.Tables.{Loses}
+use Rattle.tt_facts_cells.specs.Tables.{Loses}
 use Rattle.tt_facts_cells.specs.Shown.{is_struck}
 use Rattle.tt_facts_cells.proofs.killing.kill.Given as goal
 

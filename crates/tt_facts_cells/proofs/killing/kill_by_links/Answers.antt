@@ -1,5 +1,5 @@
 use Rattle.std.proofs.Common.{◌≡◌, length, sym, ◌∙◌, subst, arith}
-use Rattle.tt_facts_cell_set.specs.Tables.{Loses}
+use Rattle.tt_facts_cells.specs.Tables.{Loses}
 use Rattle.tt_facts_cells.specs.Shown.{is_struck}
 use Rattle.tt_facts_cells.proofs.Linked.{list_of_one}
 use Rattle.tt_facts_cells.proofs.killing.kill_by_links.Goals as goal

@@ -3,8 +3,8 @@ use Rattle.std.specs.Prelude.{◌==◌}
 use Rattle.tt_lists.specs.Words.{has_number}
 use Rattle.tt_instance_links.specs.Links.{conflicts_of}
 use Rattle.tt_facts_path.specs.Facts.{agrees}
-use Rattle.tt_facts_cell_set.specs.Rooms.{has_room}
-use Rattle.tt_facts_cell_set.specs.Tables.{Loses, has_cell, is_placed}
+use Rattle.tt_facts_cells.specs.Rooms.{has_room}
+use Rattle.tt_facts_cells.specs.Tables.{Loses, has_cell, is_placed}
 use Rattle.tt_instance_data.specs.declared.cell.Cell.{Cell}
 use Rattle.tt_facts_cells.specs.Shown.{is_struck}
 use Rattle.tt_facts_cells.proofs.Losing.{loses-more}

@@ -1,5 +1,5 @@
 use Rattle.std.proofs.Common.{◌≡◌, false, true, sym, ◌∙◌, subst}
-use Rattle.tt_facts_cell_set.specs.Tables.{Loses}
+use Rattle.tt_facts_cells.specs.Tables.{Loses}
 use Rattle.tt_facts_cells.specs.Struck.{is_left}
 use Rattle.tt_facts_cells.specs.Shown.{is_struck}
 use Rattle.tt_facts_cells.proofs.Settled.{settles-none, settles-there}

@@ -1,5 +1,5 @@
 use Rattle.std.proofs.Common.{◌+◌, ◌*◌, ◌/◌, ◌%◌, ◌<◌, subst, arith}
-use Rattle.tt_facts_cell_set.specs.Tables.{Loses}
+use Rattle.tt_facts_cells.specs.Tables.{Loses}
 use Rattle.tt_facts_cells.specs.Slots.{is_left_in, IsNone, IsFirst}
 use Rattle.tt_facts_cells.specs.Shown.{is_struck}
 use Rattle.tt_facts_cells.proofs.Settled.{settles-several, settles-here}

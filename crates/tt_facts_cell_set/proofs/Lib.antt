@@ -1,4 +1,0 @@
-pub mod Grid
-pub mod Dropping
-pub mod Reading
-pub mod FirstTable

@@ -1,4 +1,0 @@
-pub mod Words
-pub mod Tables
-pub mod Rooms
-pub mod First
