@@ -23,7 +23,8 @@ pub fn push_both(
     ensures unchanged { cells.new.problem ≡ cells.old.problem }
     ensures halves { AreHalves cells.new pins.new }
 {
-    cells.push(fact)?;
+    let is_listed = pins.has(&fact.pattern, true);
+    cells.push(fact, is_listed)?;
     if !fact.holds {
         return Ok(());
     }

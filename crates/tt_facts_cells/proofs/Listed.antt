@@ -7,7 +7,7 @@ use Rattle.std.proofs.lemmas.List.Folds.{list_any-append}
 use Rattle.std.proofs.Math.Bool.{or-false}
 use Rattle.std.proofs.Math.Seq.{take-append_seam, take-length}
 use Rattle.tt_lists.proofs.Members.{any_member, member_from_any}
-use Rattle.tt_facts_path.specs.Facts.{same_pattern}
+use Rattle.tt_facts_path.specs.Facts.{same_answer, same_pattern, has_fact}
 use Rattle.tt_facts_path.specs.declared.facts.Pattern.{Pattern}
 use Rattle.tt_facts_path.specs.declared.facts.Fact.{Fact}
 use Rattle.tt_facts_path.proofs.Same.{same_pattern-true}
@@ -54,6 +54,33 @@ listed-more facts patterns f m a e = record {
       ∙ sym (list_any-append (λ h. h.holds && t h.pattern) facts (f ∷ []) ∙ ap (λ b. list_any (λ h. h.holds && t h.pattern) facts || b) (or-false (f.holds && t f.pattern)))
       ∙ list_any_yes t (facts ++ f ∷ []);
 }
+
+-- ---- the pattern of a fact
+
+-- a truth value is the same as true exactly if it is true
+same_answer-true : (b : Bool) → b ≡ same_answer b true
+same_answer-true true = refl
+same_answer-true false = refl
+
+-- the yes-facts with a pattern are the facts that are this yes-fact
+yes_fact-any : (facts : List Fact) (g : Pattern) → list_any (λ f. f.holds && same_pattern f.pattern g) facts ≡ has_fact facts g true
+yes_fact-any [] g = refl
+yes_fact-any (f ∷ fs) g =
+    ap (λ b. (b && same_pattern f.pattern g) || list_any (λ h. h.holds && same_pattern h.pattern g) fs) (same_answer-true f.holds)
+    ∙ ap (λ b. (same_answer f.holds true && same_pattern f.pattern g) || b) (yes_fact-any fs g)
+
+-- a pattern is listed exactly if its yes-fact is one of the facts
+pub listed-fact : (facts : List Fact) (patterns : List Pattern) (g : Pattern) → AreListed facts patterns → has_fact facts g true ≡ list_any (λ h. same_pattern h g) patterns
+listed-fact facts patterns g a =
+    sym (yes_fact-any facts g) ∙ list_any_yes (λ h. same_pattern h g) facts ∙ sym (a.same (λ h. same_pattern h g))
+
+-- the same for the facts before a no-fact
+pub listed-before : (facts : List Fact) (f : Fact) (patterns : List Pattern) (g : Pattern) → f.holds ≡ false → AreListed (facts ++ f ∷ []) patterns → has_fact facts g true ≡ list_any (λ h. same_pattern h g) patterns
+listed-before facts f patterns g denies a =
+    let t = λ (h : Fact). same_answer h.holds true && same_pattern h.pattern g in
+    let none : t f ≡ false = ap (λ b. same_answer b true && same_pattern f.pattern g) denies in
+    sym (list_any-append t facts (f ∷ []) ∙ ap (λ b. list_any t facts || b) (or-false (t f) ∙ none) ∙ or-false (list_any t facts))
+    ∙ listed-fact (facts ++ f ∷ []) patterns g a
 
 -- ---- with the firsts
 

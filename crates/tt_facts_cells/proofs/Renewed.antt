@@ -50,11 +50,11 @@ touching p f g x e h =
     let u = and_parts (is_who p g.who x.course && agrees g.room x.room && agrees g.day x.day) (agrees g.period x.period) h in
     let v = and_parts (is_who p g.who x.course && agrees g.room x.room) (agrees g.day x.day) u.0 in
     let w = and_parts (is_who p g.who x.course) (agrees g.room x.room) v.0 in
-    and_from (can_agree f.room g.room && can_agree f.day g.day && can_agree f.period g.period) (can_share p f.who g.who)
-    (and_from (can_agree f.room g.room && can_agree f.day g.day) (can_agree f.period g.period)
-    (and_from (can_agree f.room g.room) (can_agree f.day g.day) (agree f.room g.room x.room c.1 w.1) (agree f.day g.day x.day b.1 v.1))
-    (agree f.period g.period x.period a.1 u.1))
-    (share p f.who g.who x.course c.0 w.0)
+    and_from (can_share p f.who g.who && can_agree f.period g.period && can_agree f.day g.day) (can_agree f.room g.room)
+    (and_from (can_share p f.who g.who && can_agree f.period g.period) (can_agree f.day g.day)
+    (and_from (can_share p f.who g.who) (can_agree f.period g.period) (share p f.who g.who x.course c.0 w.0) (agree f.period g.period x.period a.1 u.1))
+    (agree f.day g.day x.day b.1 v.1))
+    (agree f.room g.room x.room c.1 w.1)
 
 -- ---- the patterns of the yes-facts
 

@@ -22,4 +22,4 @@ can_share p (Curriculum q) (Curriculum k) = true
 
 -- Some cell may match both patterns; whether two curricula share a course isn't checked.
 abbrev pub can_touch : Problem → Pattern → Pattern → Bool
-can_touch p f g = can_agree f.room g.room && can_agree f.day g.day && can_agree f.period g.period && can_share p f.who g.who
+can_touch p f g = can_share p f.who g.who && can_agree f.period g.period && can_agree f.day g.day && can_agree f.room g.room

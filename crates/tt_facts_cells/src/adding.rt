@@ -1,24 +1,25 @@
 //! Adding a fact.
 
 ghost use Rattle.std.specs.Prelude.{◌≡◌, false, [], ◌∷◌, ◌++◌, OnOk, OnErr};
+ghost use Rattle.std.specs.List.{list_any};
+ghost use Rattle.tt_facts_path.specs.Facts.{same_pattern};
 ghost use Rattle.tt_instance_links.specs.Linked.{AreConflicts};
 ghost use Rattle.tt_facts_cells.specs.Tables.{IsTable};
 ghost use Rattle.tt_facts_cells.specs.Shown.{Adds};
 
 use crate::again::settle_again;
 use crate::barring::remove_matched;
-use crate::listing::is_listed;
+use crate::removing::remove_all;
 use crate::settling::settle;
 use crate::watching::{NO_WATCH, Watches};
 use std::alloc::AllocError;
 use tt_bits::Trail;
-use crate::removing::remove_all;
 use tt_facts_path::{Fact, Pattern};
 use tt_instance_data::Instance;
 use tt_instance_links::Conflicts;
 
 /// Changes both tables for a no-fact, the last of the facts. `yes` has the patterns of the yes-facts; if one of them is the
-/// no-fact's, no cell is live.
+/// no-fact's, which `is_listed` says, no cell is live.
 fn deny(
     instance: &Instance<'_>,
     links: &Conflicts,
@@ -27,9 +28,11 @@ fn deny(
     yes: &[Pattern],
     watches: &mut Watches,
     fact: &Fact,
+    is_listed: bool,
 ) -> Result<(), AllocError>
     requires links { AreConflicts instance.now links.now }
     requires no { fact.now.holds ≡ false }
+    requires listed { is_listed ≡ list_any (λ g. same_pattern g fact.now.pattern) yes.now }
     requires free { IsTable instance.now free.old.words }
     requires live { IsTable instance.now live.old.words }
     ensures ok { OnOk result (Adds instance.now yes.now free.old.words live.old.words fact.now
@@ -38,7 +41,7 @@ fn deny(
     ensures same_live { live.new.earlier ≡ live.old.earlier }
 {
     remove_matched(instance, free, &fact.pattern)?;
-    if is_listed(yes, &fact.pattern) {
+    if is_listed {
         remove_all(instance, live)?;
         return Ok(());
     }
@@ -47,7 +50,7 @@ fn deny(
     Ok(())
 }
 
-/// Changes both tables for the last of the facts.
+/// Changes both tables for the last of the facts. For a no-fact, `is_listed` says whether its pattern is one of the yes-facts'.
 fn change(
     instance: &Instance<'_>,
     links: &Conflicts,
@@ -56,8 +59,10 @@ fn change(
     yes: &[Pattern],
     watches: &mut Watches,
     fact: &Fact,
+    is_listed: bool,
 ) -> Result<(), AllocError>
     requires links { AreConflicts instance.now links.now }
+    requires listed { fact.now.holds ≡ false → is_listed ≡ list_any (λ g. same_pattern g fact.now.pattern) yes.now }
     requires free { IsTable instance.now free.old.words }
     requires live { IsTable instance.now live.old.words }
     ensures ok { OnOk result (Adds instance.now yes.now free.old.words live.old.words fact.now
@@ -69,12 +74,13 @@ fn change(
         settle(instance, links, free, live, &fact.pattern, NO_WATCH)?;
         Ok(())
     } else {
-        deny(instance, links, free, live, yes, watches, fact)?;
+        deny(instance, links, free, live, yes, watches, fact, is_listed)?;
         Ok(())
     }
 }
 
-/// Marks both tables and changes them for the last of the facts.
+/// Marks both tables and changes them for the last of the facts. For a no-fact, `is_listed` says whether its pattern is one of the
+/// yes-facts'.
 pub fn add(
     instance: &Instance<'_>,
     links: &Conflicts,
@@ -83,8 +89,10 @@ pub fn add(
     yes: &[Pattern],
     watches: &mut Watches,
     fact: &Fact,
+    is_listed: bool,
 ) -> Result<(), AllocError>
     requires links { AreConflicts instance.now links.now }
+    requires listed { fact.now.holds ≡ false → is_listed ≡ list_any (λ g. same_pattern g fact.now.pattern) yes.now }
     requires free { IsTable instance.now free.old.words }
     requires live { IsTable instance.now live.old.words }
     ensures ok { OnOk result (Adds instance.now yes.now free.old.words live.old.words fact.now
@@ -99,7 +107,7 @@ pub fn add(
         free.undo();
         return Err(fault);
     }
-    if let Err(fault) = change(instance, links, free, live, yes, watches, fact) {
+    if let Err(fault) = change(instance, links, free, live, yes, watches, fact, is_listed) {
         free.undo();
         live.undo();
         return Err(fault);

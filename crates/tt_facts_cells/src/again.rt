@@ -6,11 +6,11 @@ ghost use Rattle.tt_facts_cells.specs.Tables.{IsTable};
 ghost use Rattle.tt_facts_cells.specs.Touching.{can_agree, can_share, can_touch};
 ghost use Rattle.tt_facts_cells.specs.Shown.{Renews};
 
+use crate::removing::is_cleared;
 use crate::settling::settle;
 use crate::watching::Watches;
 use std::alloc::AllocError;
 use tt_bits::Trail;
-use crate::removing::is_cleared;
 use tt_facts_path::{Pattern, Who};
 use tt_instance_data::Instance;
 use tt_instance_links::Conflicts;
@@ -43,10 +43,10 @@ fn can_share(instance: &Instance<'_>, first: Who, second: Who) -> bool
 fn can_touch(instance: &Instance<'_>, first: &Pattern, second: &Pattern) -> bool
     ensures { result ≡ can_touch instance.now first.now second.now }
 {
-    can_agree(first.room, second.room)
-        && can_agree(first.day, second.day)
+    can_share(instance, first.who, second.who)
         && can_agree(first.period, second.period)
-        && can_share(instance, first.who, second.who)
+        && can_agree(first.day, second.day)
+        && can_agree(first.room, second.room)
 }
 
 /// Removes the live cells that the yes-facts of these patterns exclude now, after a no-fact of this pattern.
@@ -67,13 +67,13 @@ pub fn settle_again(
 {
     let mut next = 0_usize;
     for older in yes {
-        if is_cleared(instance, live) {
-            return Ok(());
-        }
         let place = next;
         next = next.saturating_add(1);
         if !can_touch(instance, older, pattern) {
             continue;
+        }
+        if is_cleared(instance, live) {
+            return Ok(());
         }
         let watch = settle(instance, links, free, live, older, watches.at(place))?;
         watches.set(place, watch);

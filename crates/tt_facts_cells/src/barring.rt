@@ -7,9 +7,9 @@ ghost use Rattle.tt_facts_cells.specs.Tables.{IsTable, Loses};
 
 use crate::courses::courses_of;
 use crate::periods::{is_allowed, slots_of};
+use crate::removing::remove_rooms;
 use std::alloc::AllocError;
 use tt_bits::Trail;
-use crate::removing::remove_rooms;
 use tt_facts_path::Pattern;
 use tt_instance_data::Instance;
 

@@ -4,15 +4,15 @@ ghost use Rattle.std.specs.Prelude.{◌≡◌, ◌<◌, ◌≤◌, length};
 ghost use Rattle.tt_facts_path.specs.declared.path.TheConstants.{MAX_FACTS};
 
 use crate::adding::add;
+use crate::asking::{has_cell, has_period, periods_of};
+use crate::first::first_table;
 use crate::listing::{list_fact, unlist_fact};
 use crate::order::{Ranked, RoomOrder};
+use crate::places::cells_word;
 use crate::watching::Watches;
 use std::alloc::{AllocError, Global};
 use std::marker::Model;
 use tt_bits::{Trail, is_empty};
-use crate::asking::{has_cell, has_period, periods_of};
-use crate::first::first_table;
-use crate::places::cells_word;
 use tt_facts_path::{Cell, Fact, Pattern};
 use tt_instance_data::Instance;
 use tt_instance_links::Conflicts;
@@ -55,7 +55,7 @@ impl<'p, 'i> Model for Cells<'p, 'i> {
 }
 
 impl<'p, 'i> Cells<'p, 'i> {
-    ghost use Rattle.std.specs.Prelude.{ℕ, ◌+◌, ◌*◌, ◌&&◌, nat_lt, [], ◌∷◌, ◌++◌, slice_get, Some, OnOk, OnErr, IfOk, IfSome, MatchOption, false};
+    ghost use Rattle.std.specs.Prelude.{ℕ, ◌+◌, ◌*◌, ◌&&◌, nat_lt, [], ◌∷◌, ◌++◌, slice_get, Some, OnOk, OnErr, IfOk, IfSome, MatchOption, true, false};
     ghost use Rattle.tt_bits.specs.Bits.{has_bit};
     ghost use Rattle.tt_instance_data.specs.Cells.{InRange, slot, cell};
     ghost use Rattle.tt_facts_cells.specs.Order.{IsRoomiest};
@@ -112,16 +112,24 @@ impl<'p, 'i> Cells<'p, 'i> {
         self.facts[index as usize]
     }
 
-    /// Adds a fact after the others. Not inlined, like the call that lists the fact.
+    /// Adds a fact after the others. `is_listed` says whether the yes-fact of its pattern is one of them. Not inlined, like the call
+    /// that lists the fact.
     #[inline(never)]
-    pub fn push(&mut self, fact: Fact) -> Result<(), AllocError>
-        requires { length self.old.facts < MAX_FACTS }
+    pub fn push(&mut self, fact: Fact, is_listed: bool) -> Result<(), AllocError>
+        requires depth { length self.old.facts < MAX_FACTS }
+        requires listed { is_listed ≡ has_fact self.old.facts fact.pattern true }
         ensures ok { OnOk result (self.new.facts ≡ self.old.facts ++ fact ∷ []) }
         ensures err { OnErr result (self.new.facts ≡ self.old.facts) }
         ensures unchanged { self.new.problem ≡ self.old.problem }
     {
         self.watches.grow(self.yes.len().saturating_add(1))?;
-        list_fact(&mut self.facts, &mut self.firsts, &mut self.yes, fact)?;
+        list_fact(
+            &mut self.facts,
+            &mut self.firsts,
+            &mut self.yes,
+            fact,
+            is_listed,
+        )?;
         if let Err(fault) = add(
             self.instance,
             &self.links,
@@ -130,6 +138,7 @@ impl<'p, 'i> Cells<'p, 'i> {
             self.yes.as_slice(),
             &mut self.watches,
             &fact,
+            is_listed,
         ) {
             let _ = unlist_fact(&mut self.facts, &mut self.firsts, &mut self.yes);
             return Err(fault);

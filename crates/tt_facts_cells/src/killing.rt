@@ -11,11 +11,11 @@ ghost use Rattle.tt_facts_cells.specs.Tables.{is_open, is_placed, IsTable, Loses
 ghost use Rattle.tt_facts_cells.specs.Struck.{is_lost_to, loses_room};
 ghost use Rattle.tt_facts_cells.specs.Shown.{is_struck};
 
-use std::alloc::AllocError;
-use tt_bits::Trail;
 use crate::asking::{common_rooms, has_period};
 use crate::removing::{keep_rooms, remove_rooms};
 use crate::rooms::Rooms;
+use std::alloc::AllocError;
+use tt_bits::Trail;
 use tt_facts_path::Pattern;
 use tt_instance_data::Instance;
 use tt_instance_links::Conflicts;

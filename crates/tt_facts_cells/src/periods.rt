@@ -6,17 +6,10 @@ ghost use Rattle.tt_facts_cells.specs.Tables.{IsTable};
 ghost use Rattle.tt_facts_cells.specs.Struck.{is_left_to, is_left};
 ghost use Rattle.tt_facts_cells.specs.Slots.{is_allowed, is_left_in, Covers, IsNone, IsFirst};
 
-use tt_bits::Trail;
 use crate::asking::has_period;
-use tt_facts_path::Pattern;
+use tt_bits::Trail;
+use tt_facts_path::{Pattern, is_none_or_equal};
 use tt_instance_data::Instance;
-
-/// Returns whether a number agrees with the one given; if none is given, each number agrees.
-fn is_none_or_equal(given: Option<u32>, number: u32) -> bool
-    ensures { result ≡ agrees given number }
-{
-    given.is_none_or(|wanted| wanted == number)
-}
 
 /// Returns bounds of the numbers of the periods that a pattern allows.
 pub fn slots_of(instance: &Instance<'_>, pattern: &Pattern) -> (u32, u32)

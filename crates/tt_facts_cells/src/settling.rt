@@ -7,15 +7,15 @@ ghost use Rattle.tt_facts_cells.specs.Tables.{IsTable};
 ghost use Rattle.tt_facts_cells.specs.Slots.{is_left_in, Covers, IsFirst};
 ghost use Rattle.tt_facts_cells.specs.Shown.{Settles};
 
+use crate::asking::common_rooms;
 use crate::courses::courses_of;
 use crate::killing::{kill_by_links, kill_one};
 use crate::periods::{first_left, is_left, slots_of};
+use crate::removing::remove_all;
+use crate::rooms::Rooms;
 use crate::watching::{NO_WATCH, Watch, is_spread};
 use std::alloc::AllocError;
 use tt_bits::Trail;
-use crate::asking::common_rooms;
-use crate::removing::remove_all;
-use crate::rooms::Rooms;
 use tt_facts_path::Pattern;
 use tt_instance_data::Instance;
 use tt_instance_links::Conflicts;

@@ -14,7 +14,7 @@ ghost use Rattle.tt_leaf_rules.specs.declared.limit.TheConstants.{MAX_TARGET_VAL
 
 use crate::room_prices::RoomPrices;
 use crate::slots::{slot_at, slot_count};
-use tt_bits::{both, either, has_bit, is_empty, with_if};
+use tt_bits::{below, both, either, has_bit, is_empty, with_if};
 use tt_facts_path::Path;
 use tt_instance_data::{Instance, MAX_ROOMS, Slot};
 
@@ -137,7 +137,8 @@ pub fn are_covered<'i, P: Path<'i>>(path: &P, courses: &[(u32, u32)], rooms: &[(
 
 // -- the value of the prices
 
-/// Returns the rooms of a block in which one of the courses has a live cell in the period, as a set.
+/// Returns the rooms of a block in which one of the courses has a live cell in the period, as a set. Once each room has one, no further course is
+/// visited.
 fn open_block<'i, P: Path<'i>>(
     path: &P,
     courses: &[(u32, u32)],
@@ -152,8 +153,12 @@ fn open_block<'i, P: Path<'i>>(
     ensures { (n : ℕ) → n < 64 → has_bit result n ≡ (nat_lt (block * 64 + n) (length (P.problem path.now).rooms)
         && priced_live_in (P.problem path.now) (P.facts path.now) courses.now (block * 64 + n) (slot day period)) }
 {
+    let all = below(path.instance().rooms() - block * BLOCK);
     let mut open = 0;
     for (course, _) in courses {
+        if open == all {
+            return open;
+        }
         open = either(open, path.live_rooms(*course, day, period, block));
     }
     open

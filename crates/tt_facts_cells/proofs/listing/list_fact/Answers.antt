@@ -1,5 +1,4 @@
-use Rattle.std.proofs.Common.{ap, ◌∙◌}
-use Rattle.tt_facts_cells.specs.Listing.{is_new}
+use Rattle.std.proofs.Common.{not, ◌&&◌, ap, ◌∙◌}
 use Rattle.tt_facts_cells.proofs.Listed.{listing-pushed, same_listing, added-none, added-one}
 use Rattle.tt_facts_cells.proofs.listing.list_fact.Goals as goal
 
@@ -9,7 +8,7 @@ returns-then-not-is_new-clause-listing c =
     let yes = a.yes.now.items in
     let m = c.is_new-is_new.result in
     same_listing _ _ _ _ _ yes c.in_ok-push.ensures.items c.in_default.ensures.items (added-none yes a.fact m c.if-not-is_new.true)
-    (listing-pushed a.facts.now.items a.firsts.now.items yes a.fact m c.requires (c.is_new-is_new.ensures ∙ ap (λ l. is_new l a.fact) c.as_slice.ensures.value))
+    (listing-pushed a.facts.now.items a.firsts.now.items yes a.fact m c.requires.listing (c.is_new-is_new.ensures ∙ ap (λ b. a.fact.holds && not b) c.requires.listed))
 
 pub returns-clause-listing : goal.returns-clause-listing
 returns-clause-listing c =
@@ -17,4 +16,4 @@ returns-clause-listing c =
     let yes = a.yes.now.items in
     let m = c.is_new-is_new.result in
     same_listing _ _ _ _ _ _ c.in_ok-push.ensures.items c.in_default.ensures.items (c.in_default-push.ensures.items ∙ added-one yes a.fact m c.if-not-is_new.false)
-    (listing-pushed a.facts.now.items a.firsts.now.items yes a.fact m c.requires (c.is_new-is_new.ensures ∙ ap (λ l. is_new l a.fact) c.as_slice.ensures.value))
+    (listing-pushed a.facts.now.items a.firsts.now.items yes a.fact m c.requires.listing (c.is_new-is_new.ensures ∙ ap (λ b. a.fact.holds && not b) c.requires.listed))
