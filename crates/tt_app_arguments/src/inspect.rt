@@ -1,23 +1,24 @@
-//! The arguments of `inspect`.
+//! The command `inspect`.
 
-use crate::arguments::{Request, instance};
-use clap::{Arg, ArgAction, ArgMatches, Command};
-use std::alloc::{AllocError, Global};
+use crate::arguments::Request;
+use crate::description::{Argument, Description, Form};
+use crate::files::INSTANCE;
+use clap::ArgMatches;
 
-fn solution<'a>(alloc: Global) -> Arg<'a> {
-    Arg::new(alloc, "SOLUTION").action(ArgAction::Set).help(
-        "A timetable of it: what it breaks and costs is printed too",
-    )
-}
+const SOLUTION: Argument<'static> = Argument {
+    id: "SOLUTION",
+    form: Form::OptionalWord,
+    help: "A timetable of it: what it breaks and costs is printed too",
+    condition: None,
+};
 
-/// Returns the command `inspect`.
-pub fn inspect_command<'a>(alloc: Global) -> Result<Command<'a>, AllocError> {
-    Command::new(alloc, "inspect")
-        .about("Says what is in an instance, what can't be, and why a file is refused")
-        .after_help("Example: tt inspect week.ctt week.sol")
-        .arg(instance(alloc))?
-        .arg(solution(alloc))
-}
+/// The command `inspect`.
+pub const INSPECT: Description<'static> = Description {
+    name: "inspect",
+    about: "Says what is in an instance, what can't be, and why a file is refused",
+    example: "Example: tt inspect week.ctt week.sol",
+    arguments: &[INSTANCE, SOLUTION],
+};
 
 /// Returns the options given for `inspect`.
 pub fn inspect_request<'a>(found: &ArgMatches<'a>) -> Option<Request<'a>> {

@@ -1,9 +1,11 @@
-//! The arguments of `parts`.
+//! The command `parts`.
 
-use crate::arguments::{Request, instance, nodes_of, number, seed};
-use crate::showing::{showing_of, with_showing};
-use clap::{Arg, ArgAction, ArgMatches, Command};
-use std::alloc::{AllocError, Global};
+use crate::arguments::Request;
+use crate::description::{Argument, Description, Form, Range};
+use crate::files::INSTANCE;
+use crate::searches::{SEED, nodes_of};
+use crate::showing::{PROGRESS, QUIET, showing_of};
+use clap::ArgMatches;
 
 /// The maximum number of nodes that a search for parts may use.
 const MAX_PARTS_NODES: u64 = 1_000_000;
@@ -15,40 +17,45 @@ pub struct PartSearch {
     pub nodes: u32,
 }
 
-fn folder<'a>(alloc: Global) -> Arg<'a> {
-    Arg::new(alloc, "OUTDIR")
-        .required(true)
-        .action(ArgAction::Set)
-        .help(
-            "The folder of groups.proof and rooms.proof; it is made if it isn't there, and older files of these names are replaced",
-        )
-}
+const FOLDER: Argument<'static> = Argument {
+    id: "OUTDIR",
+    form: Form::Word,
+    help: "The folder of groups.proof and rooms.proof; it is made if it isn't there, and older files of these names are replaced",
+    condition: None,
+};
 
-fn nodes<'a>(alloc: Global) -> Arg<'a> {
-    number(alloc, "nodes", (1, MAX_PARTS_NODES), "100000").help(
-        "How long to search at most, 1 to 1000000; each stands for 50,000 relaxations",
-    )
-}
+const NODES: Argument<'static> = Argument {
+    id: "nodes",
+    form: Form::Number(Range {
+        least: 1,
+        most: MAX_PARTS_NODES,
+        default: "100000",
+    }),
+    help: "How long to search at most, 1 to 1000000; each stands for 50,000 relaxations",
+    condition: None,
+};
 
-fn guide<'a>(alloc: Global) -> Arg<'a> {
-    Arg::new(alloc, "solution")
-        .long("solution")
-        .action(ArgAction::Set)
-        .value_name("SOLUTION")
-        .help("A timetable that guides the search: no group is worth more than it costs there")
-}
+const GUIDE: Argument<'static> = Argument {
+    id: "solution",
+    form: Form::Value("SOLUTION"),
+    help: "A timetable that guides the search: no group is worth more than it costs there",
+    condition: None,
+};
 
-/// Returns the command `parts`.
-pub fn parts_command<'a>(alloc: Global) -> Result<Command<'a>, AllocError> {
-    let command = Command::new(alloc, "parts")
-        .about("Searches for proofs of lower bounds that add up, and writes them")
-        .after_help("Example: tt parts week.ctt proofs --solution week.sol --nodes 300000")
-        .arg(instance(alloc))?
-        .arg(folder(alloc))?
-        .arg(guide(alloc))?
-        .arg(seed(alloc))?
-        .arg(nodes(alloc))?;
-    with_showing(alloc, command)
+/// The command `parts`.
+pub const PARTS: Description<'static> = Description {
+    name: "parts",
+    about: "Searches for proofs of lower bounds that add up, and writes them",
+    example: "Example: tt parts week.ctt proofs --solution week.sol --nodes 300000",
+    arguments: &[INSTANCE, FOLDER, GUIDE, SEED, NODES, PROGRESS, QUIET],
+};
+
+/// Returns the search given for `parts`.
+fn part_search(found: &ArgMatches<'_>) -> Option<PartSearch> {
+    Some(PartSearch {
+        seed: found.get_one("seed")?,
+        nodes: nodes_of(found)?,
+    })
 }
 
 /// Returns the options given for `parts`.
@@ -57,10 +64,7 @@ pub fn parts_request<'a>(found: &ArgMatches<'a>) -> Option<Request<'a>> {
         instance: found.get_str("INSTANCE")?,
         folder: found.get_str("OUTDIR")?,
         solution: found.get_str("solution"),
-        search: PartSearch {
-            seed: found.get_one("seed")?,
-            nodes: nodes_of(found.get_one("nodes")?)?,
-        },
+        search: part_search(found)?,
         showing: showing_of(found),
     })
 }

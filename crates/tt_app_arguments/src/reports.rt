@@ -1,13 +1,10 @@
 //! The command `report`.
 
-use crate::arguments::{Request, instance, number, solution};
-use clap::builder::ValueParser;
-use clap::{Arg, ArgAction, ArgMatches, Command};
-use std::alloc::{AllocError, Global};
+use crate::arguments::Request;
+use crate::description::{Argument, Condition, Description, Form, Range};
+use crate::files::{INSTANCE, SOLUTION};
+use clap::ArgMatches;
 use tt_report::By;
-
-/// The kinds of blocks of a report.
-const KINDS: [&str; 3] = ["room", "teacher", "curriculum"];
 
 /// The maximum number of minutes of a period.
 const MAX_MINUTES: u64 = 1_440;
@@ -22,99 +19,76 @@ pub struct CalendarWish<'a> {
     pub minutes: u32,
 }
 
-fn by_option<'a>(alloc: Global) -> Result<Arg<'a>, AllocError> {
-    Arg::new(alloc, "by")
-        .long("by")
-        .action(ArgAction::Set)
-        .value_name("KIND")
-        .value_parser(ValueParser::Names(&KINDS))
-        .help("Whose weeks are shown")
-        .required_unless_present("csv")
-}
+/// The option of the kind of blocks of a report.
+const BY: Argument<'static> = Argument {
+    id: "by",
+    form: Form::Choice("KIND", &By::WORDS),
+    help: "Whose weeks are shown",
+    condition: Some(Condition::RequiredUnless("csv")),
+};
 
-/// Returns the option that prints a table instead of weeks.
-fn csv_option<'a>(alloc: Global) -> Result<Arg<'a>, AllocError> {
-    Arg::new(alloc, "csv")
-        .long("csv")
-        .action(ArgAction::SetTrue)
-        .help("Prints one line for each lecture, for a spreadsheet")
-        .conflicts_with("by")
-}
+/// The option that prints a table instead of weeks.
+const CSV: Argument<'static> = Argument {
+    id: "csv",
+    form: Form::Flag,
+    help: "Prints one line for each lecture, for a spreadsheet",
+    condition: Some(Condition::ConflictsWith("by")),
+};
 
-/// Returns the option that prints a calendar instead of weeks.
-fn ics_option<'a>(alloc: Global) -> Result<Arg<'a>, AllocError> {
-    Arg::new(alloc, "ics")
-        .long("ics")
-        .action(ArgAction::Set)
-        .value_name("NAME")
-        .help("Prints the week of the room, teacher or curriculum of this name as a calendar")
-        .requires_arg("by")?
-        .requires_arg("first-day")?
-        .requires_arg("times")
-}
+/// The option that prints a calendar instead of weeks.
+const ICS: Argument<'static> = Argument {
+    id: "ics",
+    form: Form::Value("NAME"),
+    help: "Prints the week of the room, teacher or curriculum of this name as a calendar",
+    condition: Some(Condition::Requires(&["by", "first-day", "times"])),
+};
 
-/// Returns an option of a calendar.
-fn calendar_option<'a>(
-    alloc: Global,
-    id: &'a str,
-    value: &'a str,
-    help: &'a str,
-) -> Result<Arg<'a>, AllocError> {
-    Arg::new(alloc, id)
-        .long(id)
-        .action(ArgAction::Set)
-        .value_name(value)
-        .help(help)
-        .requires_arg("ics")
-}
+const FIRST_DAY: Argument<'static> = Argument {
+    id: "first-day",
+    form: Form::Value("DATE"),
+    help: "The date of day 0 in the calendar, as 2027-02-01",
+    condition: Some(Condition::Requires(&["ics"])),
+};
 
-/// Adds the options of a calendar.
-fn with_calendar<'a>(alloc: Global, command: Command<'a>) -> Result<Command<'a>, AllocError> {
-    command
-        .arg(ics_option(alloc)?)?
-        .arg(calendar_option(
-            alloc,
-            "first-day",
-            "DATE",
-            "The date of day 0 in the calendar, as 2027-02-01",
-        )?)?
-        .arg(calendar_option(
-            alloc,
-            "times",
-            "TIMES",
-            "When the periods of a day begin in the calendar, as 8:00,9:00",
-        )?)?
-        .arg(number(alloc, "minutes", (1, MAX_MINUTES), "45").help(
-            "How long a period is in the calendar, 1 to 1440 minutes",
-        ))
-}
+const TIMES: Argument<'static> = Argument {
+    id: "times",
+    form: Form::Value("TIMES"),
+    help: "When the periods of a day begin in the calendar, as 8:00,9:00",
+    condition: Some(Condition::Requires(&["ics"])),
+};
 
-/// Returns the command `report` with its options.
-pub fn report_command<'a>(alloc: Global) -> Result<Command<'a>, AllocError> {
-    let command = Command::new(alloc, "report")
-        .about("Prints the week of each room, teacher or curriculum")
-        .after_help("Example: tt report week.ctt week.sol --by teacher")
-        .arg(instance(alloc))?
-        .arg(solution(alloc))?
-        .arg(by_option(alloc)?)?
-        .arg(csv_option(alloc)?)?;
-    with_calendar(alloc, command)
-}
+const MINUTES: Argument<'static> = Argument {
+    id: "minutes",
+    form: Form::Number(Range {
+        least: 1,
+        most: MAX_MINUTES,
+        default: "45",
+    }),
+    help: "How long a period is in the calendar, 1 to 1440 minutes",
+    condition: None,
+};
 
-fn by_of(word: &str) -> Option<By> {
-    match word {
-        "room" => Some(By::Room),
-        "teacher" => Some(By::Teacher),
-        "curriculum" => Some(By::Curriculum),
-        _ => None,
-    }
+/// The command `report`.
+pub const REPORT: Description<'static> = Description {
+    name: "report",
+    about: "Prints the week of each room, teacher or curriculum",
+    example: "Example: tt report week.ctt week.sol --by teacher",
+    arguments: &[INSTANCE, SOLUTION, BY, CSV, ICS, FIRST_DAY, TIMES, MINUTES],
+};
+
+/// Returns the kind of blocks that is given.
+fn by_of(found: &ArgMatches<'_>) -> Option<By> {
+    let word = found.get_str("by")?;
+    [By::Room, By::Teacher, By::Curriculum]
+        .into_iter()
+        .find(|by| by.word() == word)
 }
 
 /// Returns the options of a calendar, if one is wanted.
 fn calendar_wish<'a>(found: &ArgMatches<'a>, name: &'a str) -> Option<CalendarWish<'a>> {
     let minutes: u64 = found.get_one("minutes")?;
     Some(CalendarWish {
-        by: by_of(found.get_str("by")?)?,
+        by: by_of(found)?,
         name,
         first_day: found.get_str("first-day")?,
         times: found.get_str("times")?,
@@ -139,6 +113,6 @@ pub fn report_request<'a>(found: &ArgMatches<'a>) -> Option<Request<'a>> {
     Some(Request::Report {
         instance,
         solution,
-        by: by_of(found.get_str("by")?)?,
+        by: by_of(found)?,
     })
 }

@@ -1,7 +1,7 @@
 //! The options that control whether a command shows its progress.
 
-use clap::{Arg, ArgAction, ArgMatches, Command};
-use std::alloc::{AllocError, Global};
+use crate::description::{Argument, Form};
+use clap::ArgMatches;
 
 /// The condition under which a command shows its progress on standard error.
 #[derive(Clone, Copy, Debug, PartialEq, Eq)]
@@ -11,22 +11,21 @@ pub enum Showing {
     Never,
 }
 
-/// Adds the options that control when a command shows its progress.
-pub fn with_showing<'a>(alloc: Global, command: Command<'a>) -> Result<Command<'a>, AllocError> {
-    command
-        .arg(
-            Arg::new(alloc, "progress")
-                .long("progress")
-                .action(ArgAction::SetTrue)
-                .help("Shows how far the work is also where standard error is no terminal"),
-        )?
-        .arg(
-            Arg::new(alloc, "quiet")
-                .long("quiet")
-                .action(ArgAction::SetTrue)
-                .help("Never shows how far the work is"),
-        )
-}
+/// The option that shows the progress also if standard error is no terminal.
+pub const PROGRESS: Argument<'static> = Argument {
+    id: "progress",
+    form: Form::Flag,
+    help: "Shows how far the work is also where standard error is no terminal",
+    condition: None,
+};
+
+/// The option that never shows the progress.
+pub const QUIET: Argument<'static> = Argument {
+    id: "quiet",
+    form: Form::Flag,
+    help: "Never shows how far the work is",
+    condition: None,
+};
 
 /// Returns the choice that the options make; `--quiet` takes precedence.
 pub fn showing_of(found: &ArgMatches<'_>) -> Showing {

@@ -1,38 +1,44 @@
-//! The arguments of `sum`.
+//! The command `sum`.
 
-use crate::arguments::{Request, instance};
-use crate::showing::{showing_of, with_showing};
-use clap::{Arg, ArgAction, ArgMatches, Command};
+use crate::arguments::Request;
+use crate::description::{Argument, Description, Form};
+use crate::files::INSTANCE;
+use crate::showing::{PROGRESS, QUIET, showing_of};
+use clap::ArgMatches;
 use std::alloc::{AllocError, Global};
 
-fn solution_option<'a>(alloc: Global) -> Arg<'a> {
-    Arg::new(alloc, "solution")
-        .long("solution")
-        .action(ArgAction::Set)
-        .value_name("SOLUTION")
-        .help(
-            "A timetable that is checked too: it is reported what it costs, and whether that is the bound",
-        )
-}
+const SOLUTION: Argument<'static> = Argument {
+    id: "solution",
+    form: Form::Value("SOLUTION"),
+    help: "A timetable that is checked too: it is reported what it costs, and whether that is the bound",
+    condition: None,
+};
 
-fn proofs<'a>(alloc: Global) -> Arg<'a> {
-    Arg::new(alloc, "PROOF")
-        .action(ArgAction::Append)
-        .num_args(0..)
-        .help(
-            "Proofs of lower bounds, no two of which claim one target: tree proofs (CTTP, of either version) and files of groups (CTTG)",
-        )
-}
+const PROOFS: Argument<'static> = Argument {
+    id: "PROOF",
+    form: Form::Words,
+    help: "Proofs of lower bounds, no two of which claim one target: tree proofs (CTTP, of either version) and files of groups (CTTG)",
+    condition: None,
+};
 
-/// Returns the command `sum`.
-pub fn sum_command<'a>(alloc: Global) -> Result<Command<'a>, AllocError> {
-    let command = Command::new(alloc, "sum")
-        .about("Checks proofs of lower bounds that add up, and prints their sum")
-        .after_help("Example: tt sum week.ctt --solution week.sol groups.proof rooms.proof")
-        .arg(instance(alloc))?
-        .arg(solution_option(alloc))?
-        .arg(proofs(alloc))?;
-    with_showing(alloc, command)
+/// The command `sum`.
+pub const SUM: Description<'static> = Description {
+    name: "sum",
+    about: "Checks proofs of lower bounds that add up, and prints their sum",
+    example: "Example: tt sum week.ctt --solution week.sol groups.proof rooms.proof",
+    arguments: &[INSTANCE, SOLUTION, PROOFS, PROGRESS, QUIET],
+};
+
+/// Returns the words given for an argument.
+pub fn words_of<'a>(
+    alloc: Global,
+    found: &ArgMatches<'a>,
+    id: &str,
+) -> Result<Vec<&'a str>, AllocError> {
+    match found.get_strs(id) {
+        Some(words) => Vec::from_slice(alloc, words),
+        None => Ok(Vec::new(alloc)),
+    }
 }
 
 /// Returns the options given for `sum`.
@@ -43,14 +49,10 @@ pub fn sum_request<'a>(
     let Some(instance) = found.get_str("INSTANCE") else {
         return Ok(None);
     };
-    let proofs = match found.get_strs("PROOF") {
-        Some(proofs) => Vec::from_slice(alloc, proofs)?,
-        None => Vec::new(alloc),
-    };
     Ok(Some(Request::Sum {
         instance,
         solution: found.get_str("solution"),
-        proofs,
+        proofs: words_of(alloc, found, "PROOF")?,
         showing: showing_of(found),
     }))
 }

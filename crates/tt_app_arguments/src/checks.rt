@@ -1,0 +1,76 @@
+//! The commands that check files: `validate`, `check`, `bound` and `upgrade`.
+
+use crate::arguments::Request;
+use crate::description::Description;
+use crate::files::{INSTANCE, OUT, PROOF, SOLUTION};
+use crate::showing::{PROGRESS, QUIET, showing_of};
+use clap::ArgMatches;
+
+/// The command `validate`.
+pub const VALIDATE: Description<'static> = Description {
+    name: "validate",
+    about: "Prints the eight counts of a solution",
+    example: "Example: tt validate week.ctt week.sol",
+    arguments: &[INSTANCE, SOLUTION],
+};
+
+/// The command `check`.
+pub const CHECK: Description<'static> = Description {
+    name: "check",
+    about: "Checks a solution, and a proof of a lower bound",
+    example: "Example: tt check week.ctt week.sol week.proof",
+    arguments: &[INSTANCE, SOLUTION, PROOF, PROGRESS, QUIET],
+};
+
+/// The command `bound`.
+pub const BOUND: Description<'static> = Description {
+    name: "bound",
+    about: "Checks a proof of a lower bound, and prints the bound",
+    example: "Example: tt bound week.ctt week.proof",
+    arguments: &[INSTANCE, PROOF, PROGRESS, QUIET],
+};
+
+/// The command `upgrade`.
+pub const UPGRADE: Description<'static> = Description {
+    name: "upgrade",
+    about: "Checks a proof, and writes it in version 2",
+    example: "Example: tt upgrade week.ctt old.proof new.proof",
+    arguments: &[INSTANCE, PROOF, OUT, PROGRESS, QUIET],
+};
+
+/// Returns the options given for `validate`.
+pub fn validate_request<'a>(found: &ArgMatches<'a>) -> Option<Request<'a>> {
+    Some(Request::Validate {
+        instance: found.get_str("INSTANCE")?,
+        solution: found.get_str("SOLUTION")?,
+    })
+}
+
+/// Returns the options given for `check`.
+pub fn check_request<'a>(found: &ArgMatches<'a>) -> Option<Request<'a>> {
+    Some(Request::Check {
+        instance: found.get_str("INSTANCE")?,
+        solution: found.get_str("SOLUTION")?,
+        proof: found.get_str("PROOF")?,
+        showing: showing_of(found),
+    })
+}
+
+/// Returns the options given for `bound`.
+pub fn bound_request<'a>(found: &ArgMatches<'a>) -> Option<Request<'a>> {
+    Some(Request::Bound {
+        instance: found.get_str("INSTANCE")?,
+        proof: found.get_str("PROOF")?,
+        showing: showing_of(found),
+    })
+}
+
+/// Returns the options given for `upgrade`.
+pub fn upgrade_request<'a>(found: &ArgMatches<'a>) -> Option<Request<'a>> {
+    Some(Request::Upgrade {
+        instance: found.get_str("INSTANCE")?,
+        proof: found.get_str("PROOF")?,
+        out: found.get_str("OUT")?,
+        showing: showing_of(found),
+    })
+}

@@ -1,0 +1,35 @@
+//! The arguments of files that several commands have.
+
+use crate::description::{Argument, Form};
+
+/// The instance.
+pub const INSTANCE: Argument<'static> = Argument {
+    id: "INSTANCE",
+    form: Form::Word,
+    help: "What there is to plan: a .ctt file of the competition",
+    condition: None,
+};
+
+/// The solution.
+pub const SOLUTION: Argument<'static> = Argument {
+    id: "SOLUTION",
+    form: Form::Word,
+    help: "A timetable: lines of a course, a room, a day and a period",
+    condition: None,
+};
+
+/// A proof that is checked.
+pub const PROOF: Argument<'static> = Argument {
+    id: "PROOF",
+    form: Form::Word,
+    help: "A proof of a lower bound: a CTTP file, of either version",
+    condition: None,
+};
+
+/// The file that is written.
+pub const OUT: Argument<'static> = Argument {
+    id: "OUT",
+    form: Form::Word,
+    help: "The file that is written; an older one is replaced",
+    condition: None,
+};

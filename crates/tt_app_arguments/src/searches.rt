@@ -1,0 +1,170 @@
+//! The commands that search from one timetable or in one tree: `improve` and `solve`.
+
+use crate::arguments::Request;
+use crate::description::{Argument, Description, Form, Range};
+use crate::files::{INSTANCE, OUT, SOLUTION};
+use crate::showing::{PROGRESS, QUIET, showing_of};
+use clap::ArgMatches;
+
+/// The maximum number of steps of a search.
+const MAX_STEPS: u64 = 1_000_000;
+
+/// The maximum number of runs of a search.
+const MAX_RUNS: u64 = 1_000;
+
+/// A seed, the number of steps of each run of a search, the number of runs, whether the best timetable is saved on the way, and whether the
+/// lectures that the solution lacks are added first.
+#[derive(Clone, Copy, Debug)]
+pub struct Search {
+    pub seed: u64,
+    pub steps: u64,
+    pub runs: u64,
+    pub keeps: bool,
+    pub completes: bool,
+}
+
+/// The maximum number of nodes of a tree that a search opens.
+pub const MAX_SOLVE_NODES: u32 = 65_536;
+
+/// A seed, the maximum number of nodes of its tree that a search opens, 1 to MAX_SOLVE_NODES, and whether the best timetable is saved on the way.
+#[derive(Clone, Copy, Debug)]
+pub struct TreeSearch {
+    pub seed: u64,
+    pub nodes: u32,
+    pub keeps: bool,
+}
+
+/// The option of the seed for the drawn steps.
+pub const SEED: Argument<'static> = Argument {
+    id: "seed",
+    form: Form::Number(Range {
+        least: 0,
+        most: u64::MAX,
+        default: "1",
+    }),
+    help: "Begins the drawn steps: the same number gives the same answer, 0 to 2^64 - 1",
+    condition: None,
+};
+
+const STEPS: Argument<'static> = Argument {
+    id: "steps",
+    form: Form::Number(Range {
+        least: 0,
+        most: MAX_STEPS,
+        default: "10000",
+    }),
+    help: "How long to search, 0 to 1000000 steps",
+    condition: None,
+};
+
+const RUNS: Argument<'static> = Argument {
+    id: "runs",
+    form: Form::Number(Range {
+        least: 1,
+        most: MAX_RUNS,
+        default: "1",
+    }),
+    help: "How many searches to make, 1 to 1000, each from the best timetable so far, with the seed counted up",
+    condition: None,
+};
+
+const NODES: Argument<'static> = Argument {
+    id: "nodes",
+    form: Form::Number(Range {
+        least: 1,
+        most: MAX_SOLVE_NODES as u64,
+        default: "1000",
+    }),
+    help: "How many nodes of the tree to open at most, 1 to 65536",
+    condition: None,
+};
+
+/// The option that saves the best timetable while a search runs.
+const KEEP: Argument<'static> = Argument {
+    id: "keep",
+    form: Form::Flag,
+    help: "Writes the best timetable so far to OUT while the search goes on, once a second at most",
+    condition: None,
+};
+
+/// The option that completes a solution before a search.
+const COMPLETE: Argument<'static> = Argument {
+    id: "complete",
+    form: Form::Flag,
+    help: "Adds the lectures that the solution lacks first; it may be empty",
+    condition: None,
+};
+
+/// The proof that is written.
+const NEW_PROOF: Argument<'static> = Argument {
+    id: "PROOF",
+    form: Form::Word,
+    help: "The proof that is written, after OUT; an older one is replaced",
+    condition: None,
+};
+
+/// The command `improve`.
+pub const IMPROVE: Description<'static> = Description {
+    name: "improve",
+    about: "Searches from a solution, and writes a timetable that is no worse",
+    example: "Example: tt improve week.ctt week.sol better.sol --steps 100000",
+    arguments: &[
+        INSTANCE, SOLUTION, OUT, SEED, STEPS, RUNS, KEEP, COMPLETE, PROGRESS, QUIET,
+    ],
+};
+
+/// The command `solve`.
+pub const SOLVE: Description<'static> = Description {
+    name: "solve",
+    about: "Searches for a best timetable, and writes it with a proof of a lower bound",
+    example: "Example: tt solve week.ctt week.sol week.proof --nodes 5000",
+    arguments: &[INSTANCE, OUT, NEW_PROOF, SEED, NODES, KEEP, PROGRESS, QUIET],
+};
+
+/// Returns the search given for `improve`.
+fn search_of(found: &ArgMatches<'_>) -> Option<Search> {
+    Some(Search {
+        seed: found.get_one("seed")?,
+        steps: found.get_one("steps")?,
+        runs: found.get_one("runs")?,
+        keeps: found.get_flag("keep"),
+        completes: found.get_flag("complete"),
+    })
+}
+
+/// Returns the options given for `improve`.
+pub fn improve_request<'a>(found: &ArgMatches<'a>) -> Option<Request<'a>> {
+    Some(Request::Improve {
+        instance: found.get_str("INSTANCE")?,
+        solution: found.get_str("SOLUTION")?,
+        out: found.get_str("OUT")?,
+        search: search_of(found)?,
+        showing: showing_of(found),
+    })
+}
+
+/// Returns the number of nodes that is given, or `None` if it does not fit in 32 bits.
+pub fn nodes_of(found: &ArgMatches<'_>) -> Option<u32> {
+    let nodes: u64 = found.get_one("nodes")?;
+    u32::try_from(nodes).ok()
+}
+
+/// Returns the search given for `solve`.
+fn tree_search(found: &ArgMatches<'_>) -> Option<TreeSearch> {
+    Some(TreeSearch {
+        seed: found.get_one("seed")?,
+        nodes: nodes_of(found)?,
+        keeps: found.get_flag("keep"),
+    })
+}
+
+/// Returns the options given for `solve`.
+pub fn solve_request<'a>(found: &ArgMatches<'a>) -> Option<Request<'a>> {
+    Some(Request::Solve {
+        instance: found.get_str("INSTANCE")?,
+        out: found.get_str("OUT")?,
+        proof: found.get_str("PROOF")?,
+        tree: tree_search(found)?,
+        showing: showing_of(found),
+    })
+}
