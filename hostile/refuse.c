@@ -218,8 +218,7 @@ int fchmod(int file, unsigned mode) {
 
 int statx(int folder, const char *path, int how, unsigned mask, void *found) {
   REAL(looking *, "statx");
-  // A look at a file that is read may come before a write, to see that the two are apart: it isn't said which of them failed.
-  return fails_on("") ? -1 : real(folder, path, how, mask, found);
+  return fails_on(path) ? -1 : real(folder, path, how, mask, found);
 }
 
 long lseek(int file, long offset, int from) {

@@ -57,23 +57,8 @@ impl Output {
         }
     }
 
-    /// Finds the output that a path leads to, and refuses a file that is read too.
-    pub fn apart_from<R: Files + AllocGlobal>(
-        rt: &R,
-        path: &str,
-        inputs: &[&str],
-    ) -> Result<Output, OutputFault> {
-        let output = Output::find(rt, path)?;
-        for input in inputs {
-            if output.replaces(rt, input)? {
-                return Err(OutputFault::CannotWrite);
-            }
-        }
-        Ok(output)
-    }
-
-    /// Checks whether writing replaces the file that a path leads to.
-    fn replaces<R: Files>(&self, rt: &R, input: &str) -> Result<bool, OutputFault> {
+    /// Checks whether writing replaces the file that a path leads to. An error means that the system can't look at that path.
+    pub fn replaces<R: Files>(&self, rt: &R, input: &str) -> Result<bool, OutputFault> {
         match self {
             Output::Replaced { place, older } => match (older, find_id(rt, input)?) {
                 (Some(older), Some(read)) => Ok(*older == read),

@@ -1,16 +1,17 @@
 //! Files that are written to a folder.
 
+use crate::apart::find_apart;
 use std::alloc::AllocError;
 use std::fs;
 use std::rt::{Clock, Files};
-use tt_app_answers::AppFault;
+use tt_app_answers::{AppFault, Input};
 use tt_app_files::{Output, Ready, make_folder};
 
 /// A folder that is written to, and the files that are read before writing.
 #[derive(Clone, Copy)]
 pub struct Folder<'a> {
     pub path: &'a str,
-    pub inputs: &'a [&'a str],
+    pub inputs: &'a [(Input, &'a str)],
 }
 
 impl<'a> Folder<'a> {
@@ -18,7 +19,7 @@ impl<'a> Folder<'a> {
     pub fn find<R: Files + AllocGlobal>(self, rt: &R, name: &str) -> Result<Output, AppFault> {
         let folder = self.path;
         let path = format!(in rt.alloc(); "{folder}/{name}")?;
-        Ok(Output::apart_from(rt, path.as_str(), self.inputs)?)
+        find_apart(rt, path.as_str(), self.inputs)
     }
 
     /// Finds the output for a file, and tries it.

@@ -124,7 +124,7 @@ pub fn answer_best<R: Files + Clock + AllocGlobal, E: Write>(
     let (path, folder) = paths;
     let folder = Folder {
         path: folder,
-        inputs: &[path],
+        inputs: &[(Input::Instance, path)],
     };
     let instance = read_file(rt, path, Input::Instance)?;
     let is_made = folder.make(rt)?;

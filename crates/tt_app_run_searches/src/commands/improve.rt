@@ -5,8 +5,8 @@ use std::io::Write;
 use std::rt::{Clock, Files};
 use tt_app_answers::{Answer, AppFault, Input};
 use tt_app_arguments::{Search, Showing};
-use tt_app_files::{Output, Ready};
-use tt_app_run_files::{read_file, ticker_of, write_given};
+use tt_app_files::Ready;
+use tt_app_run_files::{find_apart, read_file, ticker_of, write_given};
 use tt_app_searches::{complete_and_improve, improve_in_runs};
 use tt_app_watch::{Keeper, Ticker};
 
@@ -58,7 +58,8 @@ pub fn answer_improve<R: Files + Clock + AllocGlobal, E: Write>(
     showing: Showing,
 ) -> Result<Answer, AppFault> {
     let (instance, solution, out) = paths;
-    let out = Output::apart_from(rt, out, &[instance, solution])?;
+    let inputs = [(Input::Instance, instance), (Input::Solution, solution)];
+    let out = find_apart(rt, out, &inputs)?;
     let instance = read_file(rt, instance, Input::Instance)?;
     let solution = read_file(rt, solution, Input::Solution)?;
     let mut out = out.prepare(rt)?;

@@ -1,6 +1,6 @@
 //! The files of `parts`.
 
-use std::alloc::AllocError;
+use std::alloc::{AllocError, Global};
 use std::io::Write;
 use std::rt::{Clock, Files};
 use tt_app_answers::{Answer, AppFault, Input};
@@ -107,6 +107,19 @@ fn write_found<R: Files + Clock + AllocGlobal, E: Write>(
     })
 }
 
+/// Returns the files that are read.
+fn inputs_of<'a>(
+    alloc: Global,
+    paths: PartsPaths<'a>,
+) -> Result<Vec<(Input, &'a str)>, AllocError> {
+    let mut inputs = Vec::new(alloc);
+    inputs.push((Input::Instance, paths.instance))?;
+    if let Some(solution) = paths.solution {
+        inputs.push((Input::Solution, solution))?;
+    }
+    Ok(inputs)
+}
+
 /// Returns the answer, once all proofs are in their files.
 pub fn answer_parts<R: Files + Clock + AllocGlobal, E: Write>(
     rt: &R,
@@ -115,10 +128,10 @@ pub fn answer_parts<R: Files + Clock + AllocGlobal, E: Write>(
     search: PartSearch,
     showing: Showing,
 ) -> Result<Answer, AppFault> {
-    let both = [paths.instance, paths.solution.unwrap_or(paths.instance)];
+    let inputs = inputs_of(rt.alloc(), paths)?;
     let folder = Folder {
         path: paths.folder,
-        inputs: &both,
+        inputs: &inputs,
     };
     let is_made = folder.make(rt)?;
     let answer = write_found(rt, err, folder, paths, search, showing);

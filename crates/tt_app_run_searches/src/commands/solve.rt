@@ -5,8 +5,8 @@ use std::io::Write;
 use std::rt::{Clock, Files};
 use tt_app_answers::{Answer, AppFault, Input};
 use tt_app_arguments::{MAX_SOLVE_NODES, Showing, TreeSearch};
-use tt_app_files::{Batch, Output, Ready};
-use tt_app_run_files::{read_file, ticker_of};
+use tt_app_files::{Batch, Ready};
+use tt_app_run_files::{find_apart, read_file, ticker_of};
 use tt_app_searches::solve_watched;
 use tt_app_watch::{Keeper, Ticker};
 
@@ -52,8 +52,9 @@ pub fn answer_solve<R: Files + Clock + AllocGlobal, E: Write>(
     showing: Showing,
 ) -> Result<Answer, AppFault> {
     let (instance, out, proof) = paths;
-    let out = Output::apart_from(rt, out, &[instance])?;
-    let proof = Output::apart_from(rt, proof, &[instance])?;
+    let inputs = [(Input::Instance, instance)];
+    let out = find_apart(rt, out, &inputs)?;
+    let proof = find_apart(rt, proof, &inputs)?;
     if out.is_same(rt, &proof)? {
         return Err(AppFault::CannotWrite);
     }

@@ -7,7 +7,7 @@ use std::rt::{Clock, Files};
 use tt_app_answers::{AppFault, Input};
 use tt_app_arguments::{NamesWish, Showing};
 use tt_app_files::{Batch, Draft, Output, Place, Ready, finish};
-use tt_app_run_files::{Shown, clear, proof_files, read_file, ticker_of};
+use tt_app_run_files::{Shown, clear, find_apart, proof_files, read_file, ticker_of};
 use tt_app_texts::{PageNames, page, proved_page};
 use tt_page::STYLE;
 use tt_text::{Sink, Writing};
@@ -116,10 +116,19 @@ fn write_shown<R: Files + Clock + AllocGlobal, E: Write>(
 
 /// Finds the output of a page; refuses a file that is read.
 fn find_output<R: Files + AllocGlobal>(rt: &R, files: PageFiles<'_>) -> Result<Output, AppFault> {
-    let mut inputs = Vec::from_slice(rt.alloc(), files.proofs)?;
-    inputs.push(files.instance).map_err(AllocError::from)?;
-    inputs.push(files.solution).map_err(AllocError::from)?;
-    Ok(Output::apart_from(rt, files.out, &inputs)?)
+    let mut inputs = Vec::new(rt.alloc());
+    for proof in files.proofs {
+        inputs
+            .push((Input::Proof, *proof))
+            .map_err(AllocError::from)?;
+    }
+    inputs
+        .push((Input::Instance, files.instance))
+        .map_err(AllocError::from)?;
+    inputs
+        .push((Input::Solution, files.solution))
+        .map_err(AllocError::from)?;
+    find_apart(rt, files.out, &inputs)
 }
 
 /// Writes a page to its file, and returns the status.
