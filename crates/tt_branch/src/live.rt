@@ -8,7 +8,7 @@ ghost use Rattle.tt_branch.specs.Steps.{cells_on, cells_in, cells_of};
 
 use std::alloc::{AllocError, Global};
 use tt_facts_path::{Cell, Path};
-use tt_table::{PushFault, Timetable};
+use tt_table::Timetable;
 
 /// Adds a cell if it is live.
 fn push_if_live<'i, P: Path<'i>>(
@@ -90,18 +90,6 @@ fn live_cells<'i, P: Path<'i>>(alloc: Global, path: &P) -> Result<Vec<Cell>, All
     Ok(cells)
 }
 
-/// Adds an entry to a timetable that isn't full.
-fn push_entry(table: &mut Timetable, entry: Cell) -> Result<(), AllocError>
-    requires { length table.old < MAX_ENTRIES }
-    ensures { OnOk result (table.new ≡ table.old ++ entry ∷ []) }
-{
-    match table.push(entry) {
-        Ok(()) => Ok(()),
-        Err(PushFault::OutOfMemory) => Err(AllocError),
-        Err(PushFault::Full) => unreachable!(),
-    }
-}
-
 /// Creates a timetable of entries.
 fn table_with(alloc: Global, entries: &[Cell]) -> Result<Timetable, AllocError>
     requires { length entries.now ≤ MAX_ENTRIES }
@@ -109,7 +97,7 @@ fn table_with(alloc: Global, entries: &[Cell]) -> Result<Timetable, AllocError>
 {
     let mut table = Timetable::new(alloc);
     for entry in entries {
-        push_entry(&mut table, *entry)?;
+        table.push_below_limit(*entry)?;
     }
     Ok(table)
 }

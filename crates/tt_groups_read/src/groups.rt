@@ -8,12 +8,12 @@ ghost use Rattle.tt_groups_read.specs.Reading.{group_word_of, claim_at, nothing_
 ghost use Rattle.tt_groups_read.specs.Readers.{IsClaimAt};
 
 use crate::claim::GroupClaim;
-use crate::fields::{read_points, token};
+use crate::fields::read_points;
 use crate::format::{COURSES_END, CURRICULA_END};
 use crate::lists::{ListForm, read_list};
 use std::alloc::Global;
 use tt_groups::Group;
-use tt_proof_read::{COURSE_LETTER, CURRICULUM_LETTER, Sizes, TextFault};
+use tt_proof_read::{COURSE_LETTER, CURRICULUM_LETTER, Sizes, TextFault, token};
 use tt_text::{Feed, Source};
 
 /// A token between groups.

@@ -5,8 +5,8 @@ ghost use Rattle.tt_proof_read.specs.Contract.{ReadsAs};
 ghost use Rattle.tt_proof_read.specs.declared.format.TheConstants.{MAX_POINTS};
 ghost use Rattle.tt_groups_read.specs.Reading.{bound_at, opening_at};
 
-use crate::fields::{read_points, read_word, token};
-use tt_proof_read::{TextFault, Word};
+use crate::fields::read_points;
+use tt_proof_read::{TextFault, Word, read_word, token};
 use tt_text::{Feed, Source};
 
 /// The beginning of a file.

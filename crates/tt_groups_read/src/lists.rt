@@ -8,9 +8,8 @@ ghost use Rattle.tt_proof_read.specs.Contract.{ReadsAs};
 ghost use Rattle.tt_proof_read.specs.Faults.{ReportsNoFailedRead, Gives};
 ghost use Rattle.tt_groups_read.specs.Reading.{listed_of, listed_at, list_at};
 
-use crate::fields::{index, token};
 use std::alloc::Global;
-use tt_proof_read::TextFault;
+use tt_proof_read::{TextFault, index, token};
 use tt_text::{Feed, Source};
 
 /// The notation of the numbers of a list.

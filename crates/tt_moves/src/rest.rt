@@ -1,7 +1,7 @@
 //! A timetable without an entry, read without writing.
 
 ghost use Rattle.std.specs.Prelude.{◌≡◌, ◌+◌, ◌-◌, ◌<◌, ◌≤◌, ◌==◌, ◌&&◌, true, cond, List, ◌∷◌, length, remove};
-ghost use Rattle.tt_instance_data.specs.Cells.{InRange, slot, slot_of, is_at, is_in};
+ghost use Rattle.tt_instance_data.specs.Cells.{InRange, slot_of, is_at, is_in};
 ghost use Rattle.tt_instance_data.specs.Courses.{in_curriculum, conflict};
 ghost use Rattle.tt_instance_data.specs.declared.cell.Cell.{Cell};
 ghost use Rattle.tt_table.specs.declared.table.TheConstants.{MAX_ENTRIES};
@@ -13,7 +13,8 @@ ghost use Rattle.tt_moves.specs.Rests.{IsRest, rest_without};
 ghost use Rattle.tt_moves.specs.Rounds.{OtherIsHandled};
 ghost use Rattle.tt_instance_data.specs.declared.limit.TheConstants.{MAX_SLOTS};
 
-use tt_instance_data::Instance;
+use tt_instance_data::{Instance, Slot};
+use tt_moves_chain::is_in_period;
 use tt_occupancy::{Occupied, one_if};
 use tt_table::Entry;
 
@@ -29,25 +30,29 @@ pub struct WithoutEntry<'b, 'a, 'i> {
     pub gone: Entry,
 }
 
-/// Checks whether an entry is in a period.
-pub fn is_in_period(entry: Entry, day: u32, period: u32) -> bool
-    ensures { result ≡ is_at (slot day period) entry }
+/// Checks whether an entry is in the period of another entry.
+fn is_in_period_of(entry: Entry, place: Entry) -> bool
+    ensures { result ≡ is_at (slot_of place) entry }
 {
-    entry.day == day && entry.period == period
+    let slot = Slot {
+        day: place.day,
+        period: place.period,
+    };
+    is_in_period(slot, &entry)
 }
 
 /// Checks whether an entry is in the room and the period of another entry.
 fn is_in_place_of(entry: Entry, place: Entry) -> bool
     ensures { result ≡ (is_in place.room entry && is_at (slot_of place) entry) }
 {
-    entry.room == place.room && is_in_period(entry, place.day, place.period)
+    entry.room == place.room && is_in_period_of(entry, place)
 }
 
 /// Checks whether an entry is in the period of another entry, and their courses conflict.
 fn is_in_conflict(instance: &Instance<'_>, entry: Entry, place: Entry) -> bool
     ensures { result ≡ (conflict instance.now place.course entry.course && is_at (slot_of place) entry) }
 {
-    instance.conflict(place.course, entry.course) && is_in_period(entry, place.day, place.period)
+    instance.conflict(place.course, entry.course) && is_in_period_of(entry, place)
 }
 
 /// Returns a count over the rest, from the count over the timetable.
@@ -105,11 +110,12 @@ impl WithoutEntry<'_, '_, '_> {
         if period >= self.occupied.instance().periods() {
             return 0;
         }
+        let slot = Slot { day, period };
         adjusted(
             self.occupied.of_curriculum(curriculum, day, period),
-            other && is_in_period(self.to, day, period),
-            other && is_in_period(self.from, day, period),
-            is_in_period(self.gone, day, period),
+            other && is_in_period(slot, &self.to),
+            other && is_in_period(slot, &self.from),
+            is_in_period(slot, &self.gone),
         )
     }
 
@@ -123,7 +129,7 @@ impl WithoutEntry<'_, '_, '_> {
         let count = self
             .occupied
             .of_course(entry.course, entry.day, entry.period);
-        count > one_if(is_in_period(self.gone, entry.day, entry.period))
+        count > one_if(is_in_period_of(self.gone, entry))
     }
 
     /// Checks whether an entry of the course left out would share a room with another entry.

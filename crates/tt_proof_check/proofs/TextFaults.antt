@@ -32,16 +32,8 @@ memory_text f = text_cases f OutOfMemoryIsNoTextFault tt (λ n. n)
 
 -- only a failed read is reported as one
 pub read_reported : (f : TextFault) → fault_from_text f ≡ reported.Text read_failed → f ≡ read_failed
-read_reported (text.Ended at) e = cc
-read_reported (text.Expected w at) e = cc
-read_reported (text.UnknownWord at) e = cc
-read_reported (text.NotANumber at) e = cc
-read_reported (text.UnknownIndex at) e = cc
-read_reported (text.RepeatedIndex at) e = cc
-read_reported (text.TrailingToken at) e = cc
-read_reported (text.TooManyNodes at) e = cc
-read_reported (text.Feed f) e = cc
 read_reported text.OutOfMemory e = cc
+read_reported f e = cc
 
 -- an error made from a text error that is reported as a failed read: the text error is a failed read
 pub err_read : {A : Type 0} (r : Result A CheckFault) (f : TextFault) → IsErrAnd r (λ e. e ≡ fault_from_text f) → r ≡ Err (reported.Text read_failed) → f ≡ read_failed

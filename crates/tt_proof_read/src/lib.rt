@@ -21,6 +21,7 @@ mod tree;
 
 pub use fault::{TextFault, Word};
 pub use faulty::faulty_beginnings_spell_none;
+pub use fields::{index, read_word, token};
 pub use format::{
     COURSE_LETTER, CURRICULUM_LETTER, DAY_LETTER, MAX_POINTS, MAX_PRICE, MAX_PROOF_NODES,
     PERIOD_LETTER, ROOM_LETTER,

@@ -44,16 +44,8 @@ fault_of_node p b nodes OutOfMemory u is t = subst (IsNodesFault p b nodes) (sym
 
 -- only a failed read is reported as one
 pub read_reported : (f : TextFault) → fault_from_text f ≡ read_failed → f ≡ text.Feed feed.Read
-read_reported (text.Ended at) e = cc
-read_reported (text.Expected w at) e = cc
-read_reported (text.UnknownWord at) e = cc
-read_reported (text.NotANumber at) e = cc
-read_reported (text.UnknownIndex at) e = cc
-read_reported (text.RepeatedIndex at) e = cc
-read_reported (text.TrailingToken at) e = cc
-read_reported (text.TooManyNodes at) e = cc
-read_reported (text.Feed f) e = cc
 read_reported text.OutOfMemory e = cc
+read_reported f e = cc
 
 -- a fault made from a fault of the text is a failed read exactly if that fault is one
 pub text_read : (f : TextFault) → is_failed_read (fault_from_text f) ≡ read.is_failed_read f

@@ -4,7 +4,7 @@ use Rattle.tt_text.specs.Pieces.{Text, Number}
 use Rattle.tt_instance_data.specs.declared.cell.Cell.{Cell}
 use Rattle.tt_instance_data.proofs.Examples.{at, mini}
 use Rattle.tt_report.specs.Reports.{report_lines}
-use Rattle.tt_report.specs.declared.by.By.TheVariants.{Room, Teacher, Curriculum}
+use Rattle.tt_table.specs.declared.kind.Kind.TheVariants.{Room, Teacher, Curriculum}
 
 abbrev table : List Cell
 table = at 0 0 0 0 ∷ at 1 0 0 1 ∷ []

@@ -20,7 +20,7 @@ use Rattle.tt_report.specs.Blocks.{head_of, shown_in, belongs_to, next_texts, en
 use Rattle.tt_report.specs.Reports.{course_text, room_text, course_and_room, is_taught_by, slot_line, block, report_text}
 use Rattle.tt_report.specs.declared.blocks.Block.{Block}
 use Rattle.tt_report.specs.declared.blocks.Block.TheVariants as of
-use Rattle.tt_report.specs.declared.by.By.TheVariants.{Room, Teacher, Curriculum}
+use Rattle.tt_table.specs.declared.kind.Kind.TheVariants.{Room, Teacher, Curriculum}
 
 -- another number
 pub texts_more : {Y : Type 0} (f : ℕ → List Y) (i : ℕ) → flat_map f (range_below (i + 1)) ≡ flat_map f (range_below i) ++ f i

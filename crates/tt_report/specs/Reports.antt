@@ -8,8 +8,8 @@ use Rattle.tt_instance_data.specs.Cells.{all_rooms, all_curricula, all_slots, is
 use Rattle.tt_instance_data.specs.Courses.{no_course, no_room, no_curriculum, course_teachers, teachers, in_curriculum}
 use Rattle.tt_instance_data.specs.declared.cell.Cell.{Cell}
 use Rattle.tt_instance_data.specs.declared.cell.Slot.{Slot}
-use Rattle.tt_report.specs.declared.by.By.{By}
-use Rattle.tt_report.specs.declared.by.By.TheVariants.{Room, Teacher, Curriculum}
+use Rattle.tt_table.specs.declared.kind.Kind.{Kind as By}
+use Rattle.tt_table.specs.declared.kind.Kind.TheVariants.{Room, Teacher, Curriculum}
 
 -- The name of an entry's course.
 abbrev pub course_text : Problem → Cell → Piece

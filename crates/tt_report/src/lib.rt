@@ -2,13 +2,9 @@
 #![tactic(auto)]
 
 mod blocks;
-mod by;
 mod fault;
 mod reports;
 
-pub use by::By;
 pub use fault::ReportFault;
 pub use reports::report;
-
-#[cfg(test)]
-mod tests;
+pub use tt_table::Kind as By;

@@ -18,11 +18,10 @@ ghost use Rattle.tt_report.specs.declared.blocks.Block.TheVariants as of;
 ghost use Rattle.tt_report.specs.declared.fault.ReportFault.TheVariants as fault;
 
 use crate::blocks::Block;
-use crate::by::By;
 use crate::fault::ReportFault;
 use std::alloc::Global;
 use tt_instance_data::Instance;
-use tt_table::{Group, GroupBy, Groups, Timetable};
+use tt_table::{Group, Groups, Kind as By, Timetable};
 use tt_text::Sink;
 use tt_text_output::Output;
 
@@ -147,7 +146,7 @@ fn put_report<W: Sink>(out: &mut Output<'_, W>, instance: &Instance<'_>, table: 
     requires { IsTimetable instance.now table.now }
     ensures { Puts W.contents W.has_failed out.old out.new (report_text instance.now table.now by) }
 {
-    let by_period = Groups::new(table.entries(), GroupBy::Period(instance.periods()));
+    let by_period = Groups::by_period(instance, table.entries());
     match by {
         By::Room => put_rooms(out, instance, &by_period),
         By::Teacher => put_teachers(out, instance, &by_period),

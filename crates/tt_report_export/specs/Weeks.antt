@@ -4,8 +4,8 @@ use Rattle.tt_text.specs.Texts.{is_text}
 use Rattle.tt_instance_data.specs.Problem.{Problem}
 use Rattle.tt_instance_data.specs.Courses.{room_ids, curriculum_ids, teachers, in_curriculum}
 use Rattle.tt_instance_data.specs.declared.cell.Cell.{Cell}
-use Rattle.tt_report.specs.declared.by.By.{By}
-use Rattle.tt_report.specs.declared.by.By.TheVariants.{Room, Teacher, Curriculum}
+use Rattle.tt_table.specs.declared.kind.Kind.{Kind as By}
+use Rattle.tt_table.specs.declared.kind.Kind.TheVariants.{Room, Teacher, Curriculum}
 use Rattle.tt_report_export.specs.Names.{teacher_name}
 use Rattle.tt_report_export.specs.declared.week.Week.{Week}
 use Rattle.tt_report_export.specs.declared.week.Week.TheVariants.{OfRoom, OfTeacher, OfCurriculum}

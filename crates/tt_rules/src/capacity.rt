@@ -12,7 +12,7 @@ use tt_instance_data::Instance;
 use tt_table::Entry;
 
 /// Counts the students of an entry's course for whom its room has no seat.
-fn without_seat(instance: &Instance<'_>, entry: &Entry) -> u64
+pub fn without_seat(instance: &Instance<'_>, entry: &Entry) -> u64
     requires { InRange instance.now entry.now }
     ensures value { result ≡ excess instance.now entry.now.course entry.now.room }
     ensures at_most { result ≤ MAX_SEATS }
@@ -23,7 +23,7 @@ fn without_seat(instance: &Instance<'_>, entry: &Entry) -> u64
 
 /// Counts the students without a seat, in all entries.
 #[tactic(auto, using(std::proofs::lemmas::List::Sums::sum_by_more))]
-pub fn cost(instance: &Instance<'_>, entries: &[Entry]) -> u64
+pub fn students_without_seat(instance: &Instance<'_>, entries: &[Entry]) -> u64
     requires in_range { All (InRange instance.now) entries.now }
     requires at_most { length entries.now ≤ MAX_ENTRIES }
     ensures cost { result ≡ capacity_count instance.now entries.now }

@@ -3,7 +3,7 @@
 ghost use Rattle.std.specs.Prelude.{◌≡◌, ◌≤◌, count_by, All};
 ghost use Rattle.std.specs.List.{list_any};
 ghost use Rattle.tt_instance_data.specs.Cells.{InRange, all_slots, all_days, all_rooms, is_at, is_on, is_in};
-ghost use Rattle.tt_instance_data.specs.declared.limit.TheConstants.{MAX_ROOMS};
+ghost use Rattle.tt_instance_data.specs.declared.limit.TheConstants.{MAX_DAYS, MAX_ROOMS, MAX_SLOTS};
 
 use crate::marks::Marks;
 use crate::slots;
@@ -14,7 +14,8 @@ use tt_table::Group;
 #[tactic(auto, using(crate::proofs::Marking::marks_first))]
 pub fn periods(instance: &Instance<'_>, group: Group<'_>) -> u64
     requires { All (InRange instance.now) group }
-    ensures { result ≡ count_by (λ s. list_any (is_at s) group.entry) (all_slots instance.now) }
+    ensures count { result ≡ count_by (λ s. list_any (is_at s) group.entry) (all_slots instance.now) }
+    ensures at_most { result ≤ MAX_SLOTS }
 {
     let mut marks = Marks::none();
     for entry in group {
@@ -27,7 +28,8 @@ pub fn periods(instance: &Instance<'_>, group: Group<'_>) -> u64
 #[tactic(auto, using(crate::proofs::Marking::marks_first, crate::proofs::Marking::marks_counted))]
 pub fn days(instance: &Instance<'_>, group: Group<'_>) -> u64
     requires { All (InRange instance.now) group }
-    ensures { result ≡ count_by (λ d. list_any (is_on d) group.entry) (all_days instance.now) }
+    ensures count { result ≡ count_by (λ d. list_any (is_on d) group.entry) (all_days instance.now) }
+    ensures at_most { result ≤ MAX_DAYS }
 {
     let days = instance.days();
     let mut marks = Marks::none();

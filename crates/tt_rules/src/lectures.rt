@@ -3,6 +3,7 @@
 ghost use Rattle.std.specs.Prelude.{◌≡◌, ◌<◌, ◌≤◌, ◌*◌, length, All};
 ghost use Rattle.tt_instance_data.specs.Cells.{InRange};
 ghost use Rattle.tt_rules.specs.Hard.{entries_of, periods_of, lectures_off, lectures_count};
+ghost use Rattle.tt_instance_data.specs.declared.limit.TheConstants.{MAX_SLOTS};
 ghost use Rattle.tt_table.specs.declared.groups.GroupBy.TheVariants as by;
 ghost use Rattle.tt_table.specs.declared.table.TheConstants.{MAX_ENTRIES};
 ghost use Rattle.tt_rules.specs.declared.limit.TheConstants.{MAX_COUNT};
@@ -12,7 +13,7 @@ use tt_instance_data::{Instance, MAX_COURSES};
 use tt_table::Groups;
 
 /// Counts the entries of a course.
-fn entries_of(by_course: &Groups<'_>, course: u32) -> u64
+pub fn entries_of(by_course: &Groups<'_>, course: u32) -> u64
     requires by { by_course.now.by ≡ by.Course }
     requires course { course < MAX_COURSES }
     requires at_most { length by_course.now.entries ≤ MAX_ENTRIES }
@@ -23,17 +24,18 @@ fn entries_of(by_course: &Groups<'_>, course: u32) -> u64
 }
 
 /// Counts the periods in which the course is taught.
-fn periods_of(instance: &Instance<'_>, by_course: &Groups<'_>, course: u32) -> u64
+pub fn periods_of(instance: &Instance<'_>, by_course: &Groups<'_>, course: u32) -> u64
     requires by { by_course.now.by ≡ by.Course }
     requires course { course < MAX_COURSES }
     requires in_range { All (InRange instance.now) by_course.now.entries }
-    ensures { result ≡ periods_of instance.now by_course.now.entries course }
+    ensures count { result ≡ periods_of instance.now by_course.now.entries course }
+    ensures at_most { result ≤ MAX_SLOTS }
 {
     distinct::periods(instance, by_course.of_course(course))
 }
 
 /// Returns how far a course is from its number of lectures, plus its entries that share a period with an earlier one.
-fn lectures_off(instance: &Instance<'_>, by_course: &Groups<'_>, course: u32) -> u64
+pub fn lectures_off(instance: &Instance<'_>, by_course: &Groups<'_>, course: u32) -> u64
     requires by { by_course.now.by ≡ by.Course }
     requires course { course < length instance.now.courses }
     requires in_range { All (InRange instance.now) by_course.now.entries }

@@ -1,4 +1,4 @@
-//! The validator: the score of a timetable.
+//! The validator: the score of a timetable, and what a course or an entry adds to it.
 #![tactic(auto)]
 
 mod availability;
@@ -16,6 +16,10 @@ mod slots;
 mod stability;
 mod working_days;
 
+pub use capacity::{students_without_seat, without_seat};
 pub use counts::Score;
+pub use lectures::{entries_of, lectures_off, periods_of};
 pub use limit::{DAY_PRICE, ISOLATED_PRICE};
 pub use scoring::score;
+pub use stability::other_rooms;
+pub use working_days::days_of;

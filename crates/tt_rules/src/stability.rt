@@ -26,12 +26,12 @@ fn rooms_of(instance: &Instance<'_>, by_course: &Groups<'_>, course: u32) -> u64
     distinct::rooms(instance, by_course.of_course(course))
 }
 
-/// Returns the cost of a course.
-fn cost_of(instance: &Instance<'_>, by_course: &Groups<'_>, course: u32) -> u64
+/// Counts the rooms of a course besides its first.
+pub fn other_rooms(instance: &Instance<'_>, by_course: &Groups<'_>, course: u32) -> u64
     requires by { by_course.now.by ≡ by.Course }
     requires course { course < GROUPS }
     requires in_range { All (InRange instance.now) by_course.now.entries }
-    ensures cost { result ≡ stability_cost instance.now by_course.now.entries course }
+    ensures rooms { result ≡ stability_cost instance.now by_course.now.entries course }
     ensures at_most { result ≤ MAX_ROOMS }
 {
     rooms_of(instance, by_course, course).saturating_sub(1)
@@ -47,7 +47,7 @@ pub fn cost(instance: &Instance<'_>, by_course: &Groups<'_>) -> u64
 {
     let mut total: u64 = 0;
     for course in 0..instance.courses() {
-        total += cost_of(instance, by_course, course);
+        total += other_rooms(instance, by_course, course);
     }
     total
 }

@@ -4,7 +4,7 @@ ghost use Rattle.std.specs.Prelude.{◌≡◌, ◌<◌, ◌≤◌, ◌*◌, leng
 ghost use Rattle.tt_instance_data.specs.Cells.{InRange};
 ghost use Rattle.tt_rules.specs.Soft.{days_of, days_cost, days_count};
 ghost use Rattle.tt_table.specs.declared.groups.GroupBy.TheVariants as by;
-ghost use Rattle.tt_instance_data.specs.declared.limit.TheConstants.{MAX_MIN_DAYS};
+ghost use Rattle.tt_instance_data.specs.declared.limit.TheConstants.{MAX_DAYS, MAX_MIN_DAYS};
 ghost use Rattle.tt_rules.specs.declared.limit.TheConstants.{MAX_COUNT};
 
 use crate::distinct;
@@ -13,11 +13,12 @@ use tt_instance_data::{Instance, MAX_COURSES};
 use tt_table::Groups;
 
 /// Counts the days on which the course is taught.
-fn days_of(instance: &Instance<'_>, by_course: &Groups<'_>, course: u32) -> u64
+pub fn days_of(instance: &Instance<'_>, by_course: &Groups<'_>, course: u32) -> u64
     requires by { by_course.now.by ≡ by.Course }
     requires course { course < MAX_COURSES }
     requires in_range { All (InRange instance.now) by_course.now.entries }
-    ensures { result ≡ days_of instance.now by_course.now.entries course }
+    ensures count { result ≡ days_of instance.now by_course.now.entries course }
+    ensures at_most { result ≤ MAX_DAYS }
 {
     distinct::days(instance, by_course.of_course(course))
 }

@@ -1,6 +1,6 @@
 //! Adds the lectures of a course.
 
-ghost use Rattle.std.specs.Prelude.{◌≡◌, ◌+◌, ◌<◌, ◌≤◌, ◌++◌, ◌∷◌, [], length, OnOk};
+ghost use Rattle.std.specs.Prelude.{◌+◌, ◌<◌, ◌≤◌, length, OnOk};
 ghost use Rattle.tt_table.specs.declared.table.TheConstants.{MAX_ENTRIES};
 ghost use Rattle.tt_search_construct.specs.Filled.{HasMore};
 ghost use Rattle.tt_search_complete.specs.Progress.{Begins};
@@ -8,19 +8,7 @@ ghost use Rattle.tt_search_complete.specs.Progress.{Begins};
 use crate::taken_places::TakenPlaces;
 use std::alloc::AllocError;
 use tt_instance_data::Instance;
-use tt_table::{Entry, PushFault, Timetable};
-
-/// Adds an entry to a timetable that has room for it.
-fn push(table: &mut Timetable, entry: Entry) -> Result<(), AllocError>
-    requires { length table.old < MAX_ENTRIES }
-    ensures { OnOk result (table.new ≡ table.old ++ entry ∷ []) }
-{
-    match table.push(entry) {
-        Ok(()) => Ok(()),
-        Err(PushFault::OutOfMemory) => Err(AllocError),
-        Err(PushFault::Full) => unreachable!(),
-    }
-}
+use tt_table::Timetable;
 
 /// Adds lectures of a course at the places that suit it best, in turn.
 pub fn add_lectures(
@@ -42,7 +30,7 @@ pub fn add_lectures(
     places.turn_to(instance, table.entries(), course);
     for _ in 0..count {
         let entry = places.best_entry(instance, course);
-        push(table, entry)?;
+        table.push_below_limit(entry)?;
         places.take(entry);
         places.add_conflict(entry);
     }

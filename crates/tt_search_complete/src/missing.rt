@@ -4,24 +4,14 @@ ghost use Rattle.std.specs.Prelude.{◌≡◌, ◌+◌, ◌-◌, ◌<◌, ◌≤
 ghost use Rattle.tt_instance_data.specs.Courses.{lectures};
 ghost use Rattle.tt_rules.specs.Hard.{entries_of};
 ghost use Rattle.tt_table.specs.Table.{IsTimetable};
-ghost use Rattle.tt_instance_data.specs.declared.limit.TheConstants.{MAX_COURSES};
 ghost use Rattle.tt_table.specs.declared.groups.GroupBy.TheVariants as by;
 ghost use Rattle.tt_table.specs.declared.table.TheConstants.{MAX_ENTRIES};
 ghost use Rattle.tt_search_complete.specs.Progress.{AreMissing};
 
 use std::alloc::{AllocError, Global};
 use tt_instance_data::{Instance, MAX_COURSES};
-use tt_table::{GroupBy, Groups, Timetable};
-
-/// Returns the number of entries of a course.
-fn count_entries(by_course: &Groups<'_>, course: u32) -> u64
-    requires by { by_course.now.by ≡ by.Course }
-    requires course { course < MAX_COURSES }
-    requires at_most { length by_course.now.entries ≤ MAX_ENTRIES }
-    ensures { result ≡ entries_of by_course.now.entries course }
-{
-    by_course.of_course(course).len()
-}
+use tt_rules::entries_of;
+use tt_table::{Groups, Timetable};
 
 /// Returns the number of lectures that a course lacks.
 fn missing_of(instance: &Instance<'_>, by_course: &Groups<'_>, course: u32) -> u32
@@ -32,7 +22,7 @@ fn missing_of(instance: &Instance<'_>, by_course: &Groups<'_>, course: u32) -> u
 {
     // Brings the instance's limits into the proof.
     prove!(instance.courses() <= MAX_COURSES);
-    let placed = count_entries(by_course, course);
+    let placed = entries_of(by_course, course);
     u64::from(instance.lectures(course)).saturating_sub(placed) as u32
 }
 
@@ -62,9 +52,7 @@ pub fn count_missing(
     requires { IsTimetable instance.now table.now }
     ensures { IfOk result (λ missing. AreMissing instance.now table.now (length instance.now.courses) missing.items) }
 {
-    // Brings the instance's limits into the proof.
-    prove!(instance.courses() <= MAX_COURSES);
-    let by_course = Groups::new(table.entries(), GroupBy::Course);
+    let by_course = Groups::by_course(instance, table.entries());
     let mut missing = Vec::new(alloc);
     for course in 0..instance.courses() {
         push_missing(&mut missing, instance, &by_course, course)?;

@@ -1,9 +1,8 @@
 //! The timetable of a plan.
 
-ghost use Rattle.std.specs.Prelude.{◌≡◌, ◌<◌, ◌≤◌, ◌+◌, ◌∷◌, ◌++◌, [], length, IfOk, OnOk};
+ghost use Rattle.std.specs.Prelude.{◌≡◌, ◌<◌, ◌≤◌, ◌+◌, length, IfOk, OnOk};
 ghost use Rattle.tt_instance_data.specs.Cells.{InRange};
 ghost use Rattle.tt_instance_data.specs.Courses.{lectures};
-ghost use Rattle.tt_table.specs.declared.table.TheConstants.{MAX_ENTRIES};
 ghost use Rattle.tt_search_construct.specs.Constructed.{IsConstructed};
 ghost use Rattle.tt_search_construct.specs.Filled.{HasMore};
 ghost use Rattle.tt_instance_data.specs.declared.limit.TheConstants.{MAX_LECTURES};
@@ -11,7 +10,7 @@ ghost use Rattle.tt_instance_data.specs.declared.limit.TheConstants.{MAX_LECTURE
 use crate::place::Place;
 use std::alloc::{AllocError, Global};
 use tt_instance_data::Instance;
-use tt_table::{Entry, PushFault, Timetable};
+use tt_table::{Entry, Timetable};
 
 /// Returns the entry of a course at a place, or in the first room and period if the instance has no such place.
 fn entry_at(instance: &Instance<'_>, course: u32, place: Option<&Place>) -> Entry
@@ -40,18 +39,6 @@ fn entry_at(instance: &Instance<'_>, course: u32, place: Option<&Place>) -> Entr
     }
 }
 
-/// Adds an entry if there is room for it.
-fn push(table: &mut Timetable, entry: Entry) -> Result<(), AllocError>
-    requires { length table.old < MAX_ENTRIES }
-    ensures { OnOk result (table.new ≡ table.old ++ entry ∷ []) }
-{
-    match table.push(entry) {
-        Ok(()) => Ok(()),
-        Err(PushFault::OutOfMemory) => Err(AllocError),
-        Err(PushFault::Full) => unreachable!(),
-    }
-}
-
 /// Adds the lectures of a course.
 fn add_course(
     instance: &Instance<'_>,
@@ -66,7 +53,7 @@ fn add_course(
 {
     for _ in 0..instance.lectures(course) {
         let place = places.get(table.len());
-        push(table, entry_at(instance, course, place))?;
+        table.push_below_limit(entry_at(instance, course, place))?;
     }
     Ok(())
 }

@@ -7,7 +7,7 @@ ghost use Rattle.tt_table.specs.Groups.{group_of, in_group, first_at, IsLinked, 
 
 use crate::table::MAX_ENTRIES;
 use std::marker::Model;
-use tt_instance_data::{Cell as Entry, Instance};
+use tt_instance_data::{Cell as Entry, Instance, MAX_COURSES, MAX_ROOMS};
 
 /// At least the number of courses, of rooms, and of periods of the week.
 pub const GROUPS: usize = 2048;
@@ -90,6 +90,37 @@ impl<'t> Groups<'t> {
     {
         let links = link(entries, by);
         Groups { entries, by, links }
+    }
+
+    /// Groups the entries by course.
+    pub fn by_course(instance: &Instance<'_>, entries: &'t [Entry]) -> Groups<'t>
+        requires in_range { All (InRange instance.now) entries.now }
+        requires at_most { length entries.now ≤ MAX_ENTRIES }
+        ensures { result ≡ record { by = by.Course; entries = entries.now } }
+    {
+        // Brings the instance's limits into the proof.
+        prove!(instance.courses() <= MAX_COURSES);
+        Groups::new(entries, GroupBy::Course)
+    }
+
+    /// Groups the entries by room.
+    pub fn by_room(instance: &Instance<'_>, entries: &'t [Entry]) -> Groups<'t>
+        requires in_range { All (InRange instance.now) entries.now }
+        requires at_most { length entries.now ≤ MAX_ENTRIES }
+        ensures { result ≡ record { by = by.Room; entries = entries.now } }
+    {
+        // Brings the instance's limits into the proof.
+        prove!(instance.rooms() <= MAX_ROOMS);
+        Groups::new(entries, GroupBy::Room)
+    }
+
+    /// Groups the entries by period of the week.
+    pub fn by_period(instance: &Instance<'_>, entries: &'t [Entry]) -> Groups<'t>
+        requires in_range { All (InRange instance.now) entries.now }
+        requires at_most { length entries.now ≤ MAX_ENTRIES }
+        ensures { result ≡ record { by = by.Period instance.now.periods; entries = entries.now } }
+    {
+        Groups::new(entries, GroupBy::Period(instance.periods()))
     }
 
     /// Returns the entries of a course, if entries are grouped by course.

@@ -105,6 +105,16 @@ impl Timetable {
         Ok(())
     }
 
+    /// Adds an entry at the end of a timetable that is below the limit.
+    pub fn push_below_limit(&mut self, entry: Entry) -> Result<(), AllocError>
+        requires { length self.old < MAX_ENTRIES }
+        ensures ok { OnOk result (self.new ≡ self.old ++ entry ∷ []) }
+        ensures err { OnErr result (self.new ≡ self.old) }
+    {
+        self.entries.push(entry)?;
+        Ok(())
+    }
+
     /// Replaces the entry at a place.
     pub fn set(&mut self, index: u32, entry: Entry)
         requires { index < length self.old }

@@ -4,6 +4,3 @@
 mod output;
 
 pub use output::{BUFFER_BYTES, Output};
-
-#[cfg(test)]
-mod tests;

@@ -11,5 +11,5 @@ periods-requires c =
 
 pub returns : goal.returns
 returns c =
-    c.periods.ensures ∙ ap (λ group. count_by (λ x. list_any (is_at x) group) (all_slots c.args.instance.now)) c.in_room.ensures.group
+    c.periods.ensures.count ∙ ap (λ group. count_by (λ x. list_any (is_at x) group) (all_slots c.args.instance.now)) c.in_room.ensures.group
     ∙ distinct_filtered (is_in c.args.room) is_at c.args.by_room.now.entries (all_slots c.args.instance.now)

@@ -9,7 +9,7 @@ pub days-requires : goal.days-requires
 days-requires c =
     subst (All (InRange c.args.instance.now)) (sym c.of_course.ensures.group) (All-filter (is_of c.args.course) (InRange c.args.instance.now) c.args.by_course.now.entries c.requires.in_range)
 
-pub returns : goal.returns
-returns c =
-    c.days.ensures ∙ ap (λ group. count_by (λ x. list_any (is_on x) group) (all_days c.args.instance.now)) c.of_course.ensures.group
+pub returns-clause-count : goal.returns-clause-count
+returns-clause-count c =
+    c.days.ensures.count ∙ ap (λ group. count_by (λ x. list_any (is_on x) group) (all_days c.args.instance.now)) c.of_course.ensures.group
     ∙ distinct_filtered (is_of c.args.course) is_on c.args.by_course.now.entries (all_days c.args.instance.now)
