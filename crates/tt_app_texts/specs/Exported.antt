@@ -3,7 +3,7 @@ use Rattle.std.specs.Prelude.{◌≡◌, ℕ, List, None, Some, Err, ⊤, slice_
 use Rattle.tt_instance_data.specs.Problem.{Problem}
 use Rattle.tt_instance.specs.Reading.{instance_of}
 use Rattle.tt_instance_data.specs.declared.cell.Cell.{Cell}
-use Rattle.tt_report.specs.declared.by.By.{By}
+use Rattle.tt_table.specs.declared.kind.Kind.{Kind as By}
 use Rattle.tt_report_export.specs.Tables.{table_text}
 use Rattle.tt_report_export.specs.Calendars.{Term, calendar_text}
 use Rattle.tt_report_export.specs.Weeks.{IsWeekOf, names_by}

@@ -6,7 +6,7 @@ use Rattle.tt_instance.specs.Reading.{instance_of}
 use Rattle.tt_instance_data.specs.declared.cell.Cell.{Cell}
 use Rattle.tt_report.specs.Reports.{report_text}
 use Rattle.tt_text.specs.Sinks.{TakesPart}
-use Rattle.tt_report.specs.declared.by.By.{By}
+use Rattle.tt_table.specs.declared.kind.Kind.{Kind as By}
 use Rattle.tt_table.specs.Spelling.{SpellsBoth}
 use Rattle.tt_proof_check.specs.Verdicts.{FailsSolution}
 use Rattle.tt_app_answers.specs.declared.fault.AppFault.{AppFault}

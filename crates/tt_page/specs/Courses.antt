@@ -12,7 +12,7 @@ use Rattle.tt_page_text.specs.Markup.{markup, counted}
 use Rattle.tt_page_plan.specs.Kinds.{course_name, teacher_of}
 use Rattle.tt_page_plan.specs.Counts.{is_taught_in}
 use Rattle.tt_page_plan.specs.Links.{week_link}
-use Rattle.tt_page_plan.specs.declared.kind.Kind.TheVariants.{Room, Teacher}
+use Rattle.tt_table.specs.declared.kind.Kind.TheVariants.{Room, Teacher}
 
 -- A room, if the course is taught in it.
 unfoldable pub room_text : Problem → List Cell → ℕ → ℕ → List ℕ

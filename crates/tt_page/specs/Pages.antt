@@ -9,7 +9,7 @@ use Rattle.tt_page_lists.specs.Lists.{hard_table, cost_table, lists_text}
 use Rattle.tt_page_weeks.specs.Grids.{section_text}
 use Rattle.tt_page_days.specs.Days.{days_text}
 use Rattle.tt_page.specs.Courses.{courses_text}
-use Rattle.tt_page_plan.specs.declared.kind.Kind.TheVariants.{Room, Teacher, Curriculum}
+use Rattle.tt_table.specs.declared.kind.Kind.TheVariants.{Room, Teacher, Curriculum}
 
 -- The counts of the timetable, and a list for each count above 0.
 unfoldable pub counts_text : Problem → List Cell → Labelled → Option Bound → List ℕ

@@ -1,11 +1,10 @@
 //! Why a page was not written.
 
 ghost use Rattle.std.specs.Prelude.{◌≡◌};
-ghost use Rattle.tt_page.specs.Faults.{fault_from_text};
 ghost use Rattle.tt_page.specs.declared.fault.PageFault.TheVariants as fault;
 
+use std::alloc::AllocError;
 use thiserror::Error;
-use tt_page_text::TextFault;
 use tt_text::WriteFailed;
 
 /// Why a page was not written completely.
@@ -21,14 +20,11 @@ pub enum PageFault {
     OutOfMemory,
 }
 
-impl From<TextFault> for PageFault {
-    ghost from_gives = { λ f e. e ≡ fault_from_text f };
+impl From<AllocError> for PageFault {
+    ghost from_gives = { λ _ e. e ≡ fault.OutOfMemory };
 
-    fn from(fault: TextFault) -> PageFault {
-        match fault {
-            TextFault::TooLarge => PageFault::TooLarge,
-            TextFault::OutOfMemory => PageFault::OutOfMemory,
-        }
+    fn from(_e: AllocError) -> PageFault {
+        PageFault::OutOfMemory
     }
 }
 

@@ -1,13 +1,14 @@
 //! The head of a page, and its header.
 
+ghost use Rattle.std.specs.Prelude.{◌≡◌};
 ghost use Rattle.tt_rules.specs.Score.{IsScore};
-ghost use Rattle.tt_page_text.specs.Puts.{Puts};
+ghost use Rattle.tt_page_text.specs.Puts.{put_text};
 ghost use Rattle.tt_page.specs.Heading.{head_text, contents_text, verdict_text, best_text, gap_text, least_text, nothing_text, bound_text, proved_text, sizes_text, header_text, legend_text};
 
 use tt_instance_data::Instance;
 use tt_leaf_data::Bound;
 use tt_page_plan::{Plan, put_name};
-use tt_page_text::{PageText, Part, TextFault, put, put_token};
+use tt_page_text::{PageText, Part, put, put_token};
 use tt_rules::Score;
 
 /// The text before the title.
@@ -15,15 +16,15 @@ const BEFORE_TITLE: &str =
     "<!DOCTYPE html>\n<html lang=\"en\">\n<head>\n<meta charset=\"utf-8\">\n<meta name=\"viewport\" content=\"width=device-width, initial-scale=1\">\n<meta name=\"color-scheme\" content=\"light dark\">\n<title>Timetable";
 
 /// Appends the head, with the page's style.
-#[tactic(auto, unfolding(crate::specs::Heading::before_title, crate::specs::Heading::head_text))]
-pub fn put_head(out: &mut PageText, instance: &Instance<'_>, style: &str) -> Result<(), TextFault>
-    ensures { Puts result out.old out.new (head_text instance.now style.now) }
+#[tactic(auto, using(tt_page_text::proofs::Growing::puts), unfolding(crate::specs::Heading::before_title, crate::specs::Heading::head_text))]
+pub fn put_head(out: &mut PageText, instance: &Instance<'_>, style: &str)
+    ensures { out.new ≡ put_text out.old (head_text instance.now style.now) }
 {
-    put_token(out, BEFORE_TITLE.as_bytes())?;
-    put_name(out, instance)?;
-    put_token(out, b"</title>\n<style>\n")?;
-    put_token(out, style.as_bytes())?;
-    put_token(out, b"</style>\n</head>\n<body>\n")
+    put_token(out, BEFORE_TITLE.as_bytes());
+    put_name(out, instance);
+    put_token(out, b"</title>\n<style>\n");
+    put_token(out, style.as_bytes());
+    put_token(out, b"</style>\n</head>\n<body>\n");
 }
 
 /// A link past the counts, and the links to the parts of the page.
@@ -31,16 +32,16 @@ const CONTENTS: &str =
     "<a class=\"skip\" href=\"#rooms\">Skip to the weeks</a>\n<nav aria-label=\"Contents\">\n<ul>\n<li><a href=\"#summary\">Summary</a></li>\n<li><a href=\"#rooms\">Rooms</a></li>\n<li><a href=\"#teachers\">Teachers</a></li>\n<li><a href=\"#curricula\">Curricula</a></li>\n<li><a href=\"#daily\">Days</a></li>\n<li><a href=\"#courses\">Courses</a></li>\n</ul>\n</nav>\n<main>\n<header id=\"summary\">\n<h1>Timetable<b>";
 
 #[tactic(auto, unfolding(crate::specs::Heading::contents_text))]
-fn put_contents(out: &mut PageText) -> Result<(), TextFault>
-    ensures { Puts result out.old out.new contents_text }
+fn put_contents(out: &mut PageText)
+    ensures { out.new ≡ put_text out.old contents_text }
 {
-    put_token(out, CONTENTS.as_bytes())
+    put_token(out, CONTENTS.as_bytes());
 }
 
 /// Appends whether the timetable is feasible, and its cost.
-#[tactic(auto, unfolding(crate::specs::Heading::verdict_text))]
-fn put_verdict(out: &mut PageText, hard: u64, cost: u64) -> Result<(), TextFault>
-    ensures { Puts result out.old out.new (verdict_text hard cost) }
+#[tactic(auto, using(tt_page_text::proofs::Growing::puts), unfolding(crate::specs::Heading::verdict_text))]
+fn put_verdict(out: &mut PageText, hard: u64, cost: u64)
+    ensures { out.new ≡ put_text out.old (verdict_text hard cost) }
 {
     if hard == 0 {
         return put(
@@ -61,12 +62,12 @@ fn put_verdict(out: &mut PageText, hard: u64, cost: u64) -> Result<(), TextFault
             Part::Count(cost),
             Part::Text("</p>\n"),
         ],
-    )
+    );
 }
 
 #[tactic(auto, unfolding(crate::specs::Heading::gap_text))]
-fn put_gap(out: &mut PageText, bound: u64, gap: u64) -> Result<(), TextFault>
-    ensures { Puts result out.old out.new (gap_text bound gap) }
+fn put_gap(out: &mut PageText, bound: u64, gap: u64)
+    ensures { out.new ≡ put_text out.old (gap_text bound gap) }
 {
     put(
         out,
@@ -77,12 +78,12 @@ fn put_gap(out: &mut PageText, bound: u64, gap: u64) -> Result<(), TextFault>
             Part::Count(gap),
             Part::Text("</p>\n"),
         ],
-    )
+    );
 }
 
 #[tactic(auto, unfolding(crate::specs::Heading::least_text))]
-fn put_least(out: &mut PageText, bound: u64) -> Result<(), TextFault>
-    ensures { Puts result out.old out.new (least_text bound) }
+fn put_least(out: &mut PageText, bound: u64)
+    ensures { out.new ≡ put_text out.old (least_text bound) }
 {
     put(
         out,
@@ -91,35 +92,30 @@ fn put_least(out: &mut PageText, bound: u64) -> Result<(), TextFault>
             Part::Count(bound),
             Part::Text(" (proved)</p>\n"),
         ],
-    )
+    );
 }
 
 /// Appends what a proved bound on costs says about the timetable.
 #[tactic(auto, unfolding(crate::specs::Heading::best_text))]
-fn put_bound(out: &mut PageText, hard: u64, cost: u64, bound: u64) -> Result<(), TextFault>
-    ensures { Puts result out.old out.new (bound_text hard cost bound) }
+fn put_bound(out: &mut PageText, hard: u64, cost: u64, bound: u64)
+    ensures { out.new ≡ put_text out.old (bound_text hard cost bound) }
 {
     if hard != 0 {
-        put_least(out, bound)
+        put_least(out, bound);
     } else if cost == bound {
-        put_token(out, b"<p class=\"proved\">proved best</p>\n")
+        put_token(out, b"<p class=\"proved\">proved best</p>\n");
     } else {
-        put_gap(out, bound, cost.saturating_sub(bound))
+        put_gap(out, bound, cost.saturating_sub(bound));
     }
 }
 
 /// Appends what was proved about the timetable.
-#[tactic(auto, unfolding(crate::specs::Heading::proved_text, crate::specs::Heading::nothing_text))]
-fn put_proved(
-    out: &mut PageText,
-    proved: Option<Bound>,
-    hard: u64,
-    cost: u64,
-) -> Result<(), TextFault>
-    ensures { Puts result out.old out.new (proved_text proved hard cost) }
+#[tactic(auto, using(tt_page_text::proofs::Growing::puts), unfolding(crate::specs::Heading::proved_text, crate::specs::Heading::nothing_text))]
+fn put_proved(out: &mut PageText, proved: Option<Bound>, hard: u64, cost: u64)
+    ensures { out.new ≡ put_text out.old (proved_text proved hard cost) }
 {
     match proved {
-        None => Ok(()),
+        None => {}
         Some(Bound::Nothing) => put_token(
             out,
             b"<p class=\"proved\">no feasible timetable exists (proved)</p>\n",
@@ -130,8 +126,8 @@ fn put_proved(
 
 /// Appends the numbers of all things.
 #[tactic(auto, unfolding(crate::specs::Heading::sizes_text))]
-fn put_sizes(out: &mut PageText, plan: &Plan<'_, '_>) -> Result<(), TextFault>
-    ensures { Puts result out.old out.new (sizes_text plan.now.problem plan.now.table) }
+fn put_sizes(out: &mut PageText, plan: &Plan<'_, '_>)
+    ensures { out.new ≡ put_text out.old (sizes_text plan.now.problem plan.now.table) }
 {
     let instance = plan.instance();
     let courses = instance.courses();
@@ -160,27 +156,22 @@ fn put_sizes(out: &mut PageText, plan: &Plan<'_, '_>) -> Result<(), TextFault>
             Part::Number(periods),
             Part::Text("</p>\n</header>\n<div class=\"tables\">\n"),
         ],
-    )
+    );
 }
 
 /// Appends the header: name, verdict, what was proved, and sizes.
-#[tactic(auto, unfolding(crate::specs::Heading::header_text))]
-pub fn put_header(
-    out: &mut PageText,
-    plan: &Plan<'_, '_>,
-    proved: Option<Bound>,
-    score: &Score,
-) -> Result<(), TextFault>
+#[tactic(auto, using(tt_page_text::proofs::Growing::puts), unfolding(crate::specs::Heading::header_text))]
+pub fn put_header(out: &mut PageText, plan: &Plan<'_, '_>, proved: Option<Bound>, score: &Score)
     requires { IsScore plan.now.problem plan.now.table score.now }
-    ensures { Puts result out.old out.new (header_text plan.now.problem plan.now.table proved) }
+    ensures { out.new ≡ put_text out.old (header_text plan.now.problem plan.now.table proved) }
 {
     let hard = score.hard();
     let cost = score.cost();
-    put_contents(out)?;
-    put_name(out, plan.instance())?;
-    put_verdict(out, hard, cost)?;
-    put_proved(out, proved, hard, cost)?;
-    put_sizes(out, plan)
+    put_contents(out);
+    put_name(out, plan.instance());
+    put_verdict(out, hard, cost);
+    put_proved(out, proved, hard, cost);
+    put_sizes(out, plan);
 }
 
 /// The legend: the marks in the grids, the rules that are not shown, and how the files count.
@@ -189,8 +180,8 @@ const LEGEND: &str =
 
 /// Appends the legend.
 #[tactic(auto, unfolding(crate::specs::Heading::legend_text))]
-pub fn put_legend(out: &mut PageText) -> Result<(), TextFault>
-    ensures { Puts result out.old out.new legend_text }
+pub fn put_legend(out: &mut PageText)
+    ensures { out.new ≡ put_text out.old legend_text }
 {
-    put_token(out, LEGEND.as_bytes())
+    put_token(out, LEGEND.as_bytes());
 }

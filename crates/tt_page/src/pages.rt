@@ -1,12 +1,13 @@
 //! The text of a page, and its output.
 
-ghost use Rattle.std.specs.Prelude.{◌≡◌, Err, true, if◌then◌else◌, OnOk, IfOk, MatchResult};
+ghost use Rattle.std.specs.Prelude.{◌≡◌, ◌≤◌, Err, true, is_ok, if◌then◌else◌, length, OnOk, OnErr, IfOk, MatchResult};
 ghost use Rattle.std.specs.Io.KnownBytes.{Appends};
 ghost use Rattle.tt_table.specs.Table.{IsTimetable};
 ghost use Rattle.tt_rules.specs.Score.{IsScore};
 ghost use Rattle.tt_text.specs.Failures.{is_err_and};
 ghost use Rattle.tt_text.specs.Sinks.{TakesPart};
-ghost use Rattle.tt_page_text.specs.Puts.{IsTooLarge, Puts};
+ghost use Rattle.tt_page_text.specs.Puts.{IsTooLarge, put_text, too_many, window};
+ghost use Rattle.tt_page_text.specs.declared.page_text.TheConstants.{MAX_PAGE_BYTES, PAGE_PIECE_BYTES};
 ghost use Rattle.tt_page_text.specs.declared.fault.TextFault.TheVariants as text_fault;
 ghost use Rattle.tt_page.specs.Faults.{ExplainsSize, is_failed_write};
 ghost use Rattle.tt_page.specs.Limits.{IsWithinLimit};
@@ -21,46 +22,46 @@ use tt_instance_data::Instance;
 use tt_leaf_data::Bound;
 use tt_page_days::put_days;
 use tt_page_lists::{put_cost_table, put_hard_table, put_lists};
-use tt_page_plan::{Kind, Plan};
-use tt_page_text::{Labels, PageText, TextFault, put_token};
+use tt_page_plan::Plan;
+use tt_page_text::{Labels, PAGE_PIECE_BYTES, PageText, TextFault, put_token};
 use tt_page_weeks::put_section;
 use tt_rules::{Score, score};
-use tt_table::Timetable;
-use tt_text::{Sink, write_all};
+use tt_table::{Kind, Timetable};
+use tt_text::{Sink, WriteFailed, write_all};
 
 /// Appends the counts of the timetable, and the places where they arise.
-#[tactic(auto, unfolding(crate::specs::Pages::counts_text))]
+#[tactic(auto, using(tt_page_text::proofs::Growing::puts), unfolding(crate::specs::Pages::counts_text))]
 fn put_counts(
     out: &mut PageText,
     plan: &Plan<'_, '_>,
     labels: &Labels,
     proved: Option<Bound>,
     score: &Score,
-) -> Result<(), TextFault>
+)
     requires { IsScore plan.now.problem plan.now.table score.now }
-    ensures { Puts result out.old out.new (counts_text plan.now.problem plan.now.table labels.now proved) }
+    ensures { out.new ≡ put_text out.old (counts_text plan.now.problem plan.now.table labels.now proved) }
 {
-    put_header(out, plan, proved, score)?;
-    put_hard_table(out, plan, score)?;
-    put_cost_table(out, plan, score)?;
-    put_legend(out)?;
-    put_lists(out, plan, labels, score)
+    put_header(out, plan, proved, score);
+    put_hard_table(out, plan, score);
+    put_cost_table(out, plan, score);
+    put_legend(out);
+    put_lists(out, plan, labels, score);
 }
 
 /// Appends the weeks, the days, and the courses.
-#[tactic(auto, unfolding(crate::specs::Pages::weeks_text))]
-fn put_weeks(out: &mut PageText, plan: &Plan<'_, '_>, labels: &Labels) -> Result<(), TextFault>
-    ensures { Puts result out.old out.new (weeks_text plan.now.problem plan.now.table labels.now) }
+#[tactic(auto, using(tt_page_text::proofs::Growing::puts), unfolding(crate::specs::Pages::weeks_text))]
+fn put_weeks(out: &mut PageText, plan: &Plan<'_, '_>, labels: &Labels)
+    ensures { out.new ≡ put_text out.old (weeks_text plan.now.problem plan.now.table labels.now) }
 {
-    put_section(out, plan, labels, Kind::Room)?;
-    put_section(out, plan, labels, Kind::Teacher)?;
-    put_section(out, plan, labels, Kind::Curriculum)?;
-    put_days(out, plan, labels)?;
-    put_courses(out, plan)
+    put_section(out, plan, labels, Kind::Room);
+    put_section(out, plan, labels, Kind::Teacher);
+    put_section(out, plan, labels, Kind::Curriculum);
+    put_days(out, plan, labels);
+    put_courses(out, plan);
 }
 
 /// Appends the text of a page.
-#[tactic(auto, unfolding(crate::specs::Pages::page_text))]
+#[tactic(auto, using(tt_page_text::proofs::Growing::puts), unfolding(crate::specs::Pages::page_text))]
 fn put_page(
     out: &mut PageText,
     plan: &Plan<'_, '_>,
@@ -68,14 +69,14 @@ fn put_page(
     proved: Option<Bound>,
     score: &Score,
     style: &str,
-) -> Result<(), TextFault>
+)
     requires { IsScore plan.now.problem plan.now.table score.now }
-    ensures { Puts result out.old out.new (page_text plan.now.problem plan.now.table labels.now proved style.now) }
+    ensures { out.new ≡ put_text out.old (page_text plan.now.problem plan.now.table labels.now proved style.now) }
 {
-    put_head(out, plan.instance(), style)?;
-    put_counts(out, plan, labels, proved, score)?;
-    put_weeks(out, plan, labels)?;
-    put_token(out, b"</main>\n</body>\n</html>\n")
+    put_head(out, plan.instance(), style);
+    put_counts(out, plan, labels, proved, score);
+    put_weeks(out, plan, labels);
+    put_token(out, b"</main>\n</body>\n</html>\n");
 }
 
 /// Returns the text of a page, unless it is too large.
@@ -95,13 +96,52 @@ pub fn text_of(
 {
     let plan = Plan::new(alloc, instance, table)?;
     let score = score(instance, table);
-    let mut out = PageText::new(alloc);
-    put_page(&mut out, &plan, labels, proved, &score, style)?;
-    Ok(out.into_bytes())
+    let mut first = PageText::new(alloc, PAGE_PIECE_BYTES)?;
+    put_page(&mut first, &plan, labels, proved, &score, style);
+    let Some(total) = first.total() else {
+        return Err(TextFault::TooLarge);
+    };
+    if total <= PAGE_PIECE_BYTES {
+        return Ok(first.into_bytes());
+    }
+    let mut whole = PageText::new(alloc, total)?;
+    put_page(&mut whole, &plan, labels, proved, &score, style);
+    Ok(whole.into_bytes())
+}
+
+/// Writes the text of a page, piece by piece. The first piece is in the window; for each other one the page is made again up to its end.
+fn write_pieces<W: Sink>(
+    out: &mut PageText,
+    plan: &Plan<'_, '_>,
+    labels: &Labels,
+    proved: Option<Bound>,
+    score: &Score,
+    style: &str,
+    total: usize,
+    sink: &mut W,
+) -> Result<(), WriteFailed>
+    requires score { IsScore plan.now.problem plan.now.table score.now }
+    requires first { out.old ≡ put_text (window 0 PAGE_PIECE_BYTES too_many) (page_text plan.now.problem plan.now.table labels.now proved style.now) }
+    requires total { total ≡ length (page_text plan.now.problem plan.now.table labels.now proved style.now) }
+    requires within { total ≤ MAX_PAGE_BYTES }
+    ensures written { OnOk result (Appends (W.contents sink.old) (W.contents sink.new) (page_text plan.now.problem plan.now.table labels.now proved style.now)) }
+    ensures part { OnErr result (TakesPart (W.contents sink.old) (W.contents sink.new) (page_text plan.now.problem plan.now.table labels.now proved style.now)) }
+    ensures failed { W.has_failed sink.new ≡ (if is_ok result then W.has_failed sink.old else true) }
+{
+    let mut from = 0;
+    'pieces: loop {
+        write_all(sink, out.bytes())?;
+        from += out.bytes().len();
+        if from >= total {
+            return Ok(());
+        }
+        out.restart(from, from + PAGE_PIECE_BYTES);
+        put_page(out, plan, labels, proved, score, style);
+    }
 }
 
 /// Writes the page of a timetable's week, with names of days and periods, and a style (`STYLE` is the program's). If a bound is proved, the
-/// header says so: the caller has to have checked its proof. The text is made before its first byte is written.
+/// header says so: the caller has to have checked its proof. All bytes are counted before the first is written.
 pub fn page<W: Sink>(
     alloc: Global,
     instance: &Instance<'_>,
@@ -124,7 +164,13 @@ pub fn page<W: Sink>(
     // If memory ran out, nothing was written.
     ensures unwritten { result ≡ Err fault.OutOfMemory → sink.new ≡ sink.old }
 {
-    let text = text_of(alloc, instance, table, labels, proved, style)?;
-    write_all(sink, &text)?;
+    let plan = Plan::new(alloc, instance, table)?;
+    let score = score(instance, table);
+    let mut out = PageText::new(alloc, PAGE_PIECE_BYTES)?;
+    put_page(&mut out, &plan, labels, proved, &score, style);
+    let Some(total) = out.total() else {
+        return Err(PageFault::TooLarge);
+    };
+    write_pieces(&mut out, &plan, labels, proved, &score, style, total, sink)?;
     Ok(())
 }

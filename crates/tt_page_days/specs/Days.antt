@@ -10,7 +10,7 @@ use Rattle.tt_page_text.specs.Labelled.{Labelled}
 use Rattle.tt_page_text.specs.Labels.{day_text, period_text}
 use Rattle.tt_page_plan.specs.Orders.{numbers_of}
 use Rattle.tt_page_plan.specs.Links.{week_link}
-use Rattle.tt_page_plan.specs.declared.kind.Kind.TheVariants.{Room}
+use Rattle.tt_table.specs.declared.kind.Kind.TheVariants.{Room}
 use Rattle.tt_page_weeks.specs.Lectures.{lecture_text}
 use Rattle.tt_page_weeks.specs.Grids.{entries_at, paper_name}
 

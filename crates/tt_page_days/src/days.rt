@@ -1,17 +1,18 @@
 //! The days of a page: a table for each, with a row for each room and a column for each period.
 
-ghost use Rattle.std.specs.Prelude.{◌<◌, length, flat_map, All};
+ghost use Rattle.std.specs.Prelude.{◌≡◌, ◌<◌, length, flat_map, All};
 ghost use Rattle.tt_lists.specs.Words.{range_below};
-ghost use Rattle.tt_page_text.specs.Puts.{Puts};
+ghost use Rattle.tt_page_text.specs.Puts.{put_text};
 ghost use Rattle.tt_page_days.specs.Days.{room_cell, room_row_head, room_row, day_grid_head, day_table_head, day_title, period_head, day_grid, day_link_head, day_index_item, days_head, days_text};
 
 use tt_instance_data::Instance;
-use tt_page_plan::{Kind, Plan, put_week_link};
-use tt_page_text::{Labels, PageText, Part, TextFault, put, put_day, put_period, put_token};
+use tt_page_plan::{Plan, put_week_link};
+use tt_page_text::{Labels, PageText, Part, put, put_day, put_period, put_token};
 use tt_page_weeks::{put_lectures, put_paper_name};
+use tt_table::Kind;
 
 /// Appends the lectures in a room in a period of a day.
-#[tactic(auto, unfolding(crate::specs::Days::room_cell))]
+#[tactic(auto, using(tt_page_text::proofs::Growing::puts), unfolding(crate::specs::Days::room_cell))]
 fn put_room_cell(
     out: &mut PageText,
     plan: &Plan<'_, '_>,
@@ -19,88 +20,64 @@ fn put_room_cell(
     day: u32,
     room: u32,
     period: u32,
-) -> Result<(), TextFault>
+)
     requires day { day < plan.now.problem.days }
     requires period { period < plan.now.problem.periods }
-    ensures { Puts result out.old out.new (room_cell plan.now.problem plan.now.table labels.now day room period) }
+    ensures { out.new ≡ put_text out.old (room_cell plan.now.problem plan.now.table labels.now day room period) }
 {
-    put_token(out, b"<td>\n")?;
+    put_token(out, b"<td>\n");
     let entries = plan.in_period(day, period);
-    put_lectures(out, plan, labels, Kind::Room, room, entries)?;
-    put_token(out, b"</td>\n")
+    put_lectures(out, plan, labels, Kind::Room, room, entries);
+    put_token(out, b"</td>\n");
 }
 
-#[tactic(auto, using(tt_page_text::proofs::Growing::text_further, tt_page_text::proofs::Growing::text_within))]
-fn put_room_cells(
-    out: &mut PageText,
-    plan: &Plan<'_, '_>,
-    labels: &Labels,
-    day: u32,
-    room: u32,
-) -> Result<(), TextFault>
+#[tactic(auto, using(tt_page_text::proofs::Growing::puts))]
+fn put_room_cells(out: &mut PageText, plan: &Plan<'_, '_>, labels: &Labels, day: u32, room: u32)
     requires day { day < plan.now.problem.days }
-    ensures { Puts result out.old out.new (flat_map (room_cell plan.now.problem plan.now.table labels.now day room) (range_below plan.now.problem.periods)) }
+    ensures { out.new ≡ put_text out.old (flat_map (room_cell plan.now.problem plan.now.table labels.now day room) (range_below plan.now.problem.periods)) }
 {
     for period in 0..plan.instance().periods() {
-        put_room_cell(out, plan, labels, day, room, period)?;
+        put_room_cell(out, plan, labels, day, room, period);
     }
-    Ok(())
 }
 
-#[tactic(auto, unfolding(crate::specs::Days::room_row_head))]
-fn put_room_row_head(
-    out: &mut PageText,
-    instance: &Instance<'_>,
-    room: u32,
-) -> Result<(), TextFault>
+#[tactic(auto, using(tt_page_text::proofs::Growing::puts), unfolding(crate::specs::Days::room_row_head))]
+fn put_room_row_head(out: &mut PageText, instance: &Instance<'_>, room: u32)
     requires { room < length instance.now.rooms }
-    ensures { Puts result out.old out.new (room_row_head instance.now room) }
+    ensures { out.new ≡ put_text out.old (room_row_head instance.now room) }
 {
-    put_token(out, b"<tr>\n<th scope=\"row\">")?;
-    put_week_link(out, instance, Kind::Room, room)?;
-    put_token(out, b"</th>\n")
+    put_token(out, b"<tr>\n<th scope=\"row\">");
+    put_week_link(out, instance, Kind::Room, room);
+    put_token(out, b"</th>\n");
 }
 
 /// Appends the row of a room.
-#[tactic(auto, unfolding(crate::specs::Days::room_row))]
-fn put_room_row(
-    out: &mut PageText,
-    plan: &Plan<'_, '_>,
-    labels: &Labels,
-    day: u32,
-    room: u32,
-) -> Result<(), TextFault>
+#[tactic(auto, using(tt_page_text::proofs::Growing::puts), unfolding(crate::specs::Days::room_row))]
+fn put_room_row(out: &mut PageText, plan: &Plan<'_, '_>, labels: &Labels, day: u32, room: u32)
     requires day { day < plan.now.problem.days }
     requires room { room < length plan.now.problem.rooms }
-    ensures { Puts result out.old out.new (room_row plan.now.problem plan.now.table labels.now day room) }
+    ensures { out.new ≡ put_text out.old (room_row plan.now.problem plan.now.table labels.now day room) }
 {
-    put_room_row_head(out, plan.instance(), room)?;
-    put_room_cells(out, plan, labels, day, room)?;
-    put_token(out, b"</tr>\n")
+    put_room_row_head(out, plan.instance(), room);
+    put_room_cells(out, plan, labels, day, room);
+    put_token(out, b"</tr>\n");
 }
 
 /// Appends the rows of some rooms.
-#[tactic(auto, using(tt_page_text::proofs::Growing::taken_further, tt_page_text::proofs::Growing::taken_within))]
-fn put_room_rows(
-    out: &mut PageText,
-    plan: &Plan<'_, '_>,
-    labels: &Labels,
-    day: u32,
-    rooms: &[u32],
-) -> Result<(), TextFault>
+#[tactic(auto, using(tt_page_text::proofs::Growing::puts))]
+fn put_room_rows(out: &mut PageText, plan: &Plan<'_, '_>, labels: &Labels, day: u32, rooms: &[u32])
     requires day { day < plan.now.problem.days }
     requires rooms { All (λ r. r < length plan.now.problem.rooms) rooms.now }
-    ensures { Puts result out.old out.new (flat_map (room_row plan.now.problem plan.now.table labels.now day) rooms.now) }
+    ensures { out.new ≡ put_text out.old (flat_map (room_row plan.now.problem plan.now.table labels.now day) rooms.now) }
 {
     for room in rooms {
-        put_room_row(out, plan, labels, day, *room)?;
+        put_room_row(out, plan, labels, day, *room);
     }
-    Ok(())
 }
 
 #[tactic(auto, unfolding(crate::specs::Days::day_grid_head))]
-fn put_day_grid_head(out: &mut PageText, day: u32) -> Result<(), TextFault>
-    ensures { Puts result out.old out.new (day_grid_head day) }
+fn put_day_grid_head(out: &mut PageText, day: u32)
+    ensures { out.new ≡ put_text out.old (day_grid_head day) }
 {
     put(
         out,
@@ -111,12 +88,12 @@ fn put_day_grid_head(out: &mut PageText, day: u32) -> Result<(), TextFault>
             Part::Number(day),
             Part::Text("-name\"><b>"),
         ],
-    )
+    );
 }
 
 #[tactic(auto, unfolding(crate::specs::Days::day_table_head))]
-fn put_day_table_head(out: &mut PageText, day: u32) -> Result<(), TextFault>
-    ensures { Puts result out.old out.new (day_table_head day) }
+fn put_day_table_head(out: &mut PageText, day: u32)
+    ensures { out.new ≡ put_text out.old (day_table_head day) }
 {
     put(
         out,
@@ -125,81 +102,65 @@ fn put_day_table_head(out: &mut PageText, day: u32) -> Result<(), TextFault>
             Part::Number(day),
             Part::Text("-name\">\n<thead>\n<tr>\n<th scope=\"col\">Room</th>\n"),
         ],
-    )
+    );
 }
 
 /// Appends the heading of a day, and the beginning of its table.
-#[tactic(auto, unfolding(crate::specs::Days::day_title))]
-fn put_day_title(
-    out: &mut PageText,
-    instance: &Instance<'_>,
-    labels: &Labels,
-    day: u32,
-) -> Result<(), TextFault>
-    ensures { Puts result out.old out.new (day_title instance.now labels.now day) }
+#[tactic(auto, using(tt_page_text::proofs::Growing::puts), unfolding(crate::specs::Days::day_title))]
+fn put_day_title(out: &mut PageText, instance: &Instance<'_>, labels: &Labels, day: u32)
+    ensures { out.new ≡ put_text out.old (day_title instance.now labels.now day) }
 {
-    put_day_grid_head(out, day)?;
-    put_day(out, labels, day)?;
-    put_token(out, b"</b>")?;
-    put_paper_name(out, instance)?;
-    put_day_table_head(out, day)
+    put_day_grid_head(out, day);
+    put_day(out, labels, day);
+    put_token(out, b"</b>");
+    put_paper_name(out, instance);
+    put_day_table_head(out, day);
 }
 
-#[tactic(auto, unfolding(crate::specs::Days::period_head))]
-fn put_period_head(out: &mut PageText, labels: &Labels, period: u32) -> Result<(), TextFault>
-    ensures { Puts result out.old out.new (period_head labels.now period) }
+#[tactic(auto, using(tt_page_text::proofs::Growing::puts), unfolding(crate::specs::Days::period_head))]
+fn put_period_head(out: &mut PageText, labels: &Labels, period: u32)
+    ensures { out.new ≡ put_text out.old (period_head labels.now period) }
 {
-    put_token(out, b"<th scope=\"col\">")?;
-    put_period(out, labels, period)?;
-    put_token(out, b"</th>\n")
+    put_token(out, b"<th scope=\"col\">");
+    put_period(out, labels, period);
+    put_token(out, b"</th>\n");
 }
 
-#[tactic(auto, using(tt_page_text::proofs::Growing::text_further, tt_page_text::proofs::Growing::text_within))]
-fn put_period_heads(
-    out: &mut PageText,
-    instance: &Instance<'_>,
-    labels: &Labels,
-) -> Result<(), TextFault>
-    ensures { Puts result out.old out.new (flat_map (period_head labels.now) (range_below instance.now.periods)) }
+#[tactic(auto, using(tt_page_text::proofs::Growing::puts))]
+fn put_period_heads(out: &mut PageText, instance: &Instance<'_>, labels: &Labels)
+    ensures { out.new ≡ put_text out.old (flat_map (period_head labels.now) (range_below instance.now.periods)) }
 {
     for period in 0..instance.periods() {
-        put_period_head(out, labels, period)?;
+        put_period_head(out, labels, period);
     }
-    Ok(())
 }
 
 /// Appends the table of a day.
-#[tactic(auto, unfolding(crate::specs::Days::day_grid))]
-fn put_day_grid(
-    out: &mut PageText,
-    plan: &Plan<'_, '_>,
-    labels: &Labels,
-    day: u32,
-) -> Result<(), TextFault>
+#[tactic(auto, using(tt_page_text::proofs::Growing::puts), unfolding(crate::specs::Days::day_grid))]
+fn put_day_grid(out: &mut PageText, plan: &Plan<'_, '_>, labels: &Labels, day: u32)
     requires { day < plan.now.problem.days }
-    ensures { Puts result out.old out.new (day_grid plan.now.problem plan.now.table labels.now day) }
+    ensures { out.new ≡ put_text out.old (day_grid plan.now.problem plan.now.table labels.now day) }
 {
     let rooms = plan.in_order(Kind::Room);
-    put_day_title(out, plan.instance(), labels, day)?;
-    put_period_heads(out, plan.instance(), labels)?;
-    put_token(out, b"</tr>\n</thead>\n<tbody>\n")?;
-    put_room_rows(out, plan, labels, day, rooms)?;
-    put_token(out, b"</tbody>\n</table>\n</div>\n")
+    put_day_title(out, plan.instance(), labels, day);
+    put_period_heads(out, plan.instance(), labels);
+    put_token(out, b"</tr>\n</thead>\n<tbody>\n");
+    put_room_rows(out, plan, labels, day, rooms);
+    put_token(out, b"</tbody>\n</table>\n</div>\n");
 }
 
-#[tactic(auto, using(tt_page_text::proofs::Growing::text_further, tt_page_text::proofs::Growing::text_within))]
-fn put_day_grids(out: &mut PageText, plan: &Plan<'_, '_>, labels: &Labels) -> Result<(), TextFault>
-    ensures { Puts result out.old out.new (flat_map (day_grid plan.now.problem plan.now.table labels.now) (range_below plan.now.problem.days)) }
+#[tactic(auto, using(tt_page_text::proofs::Growing::puts))]
+fn put_day_grids(out: &mut PageText, plan: &Plan<'_, '_>, labels: &Labels)
+    ensures { out.new ≡ put_text out.old (flat_map (day_grid plan.now.problem plan.now.table labels.now) (range_below plan.now.problem.days)) }
 {
     for day in 0..plan.instance().days() {
-        put_day_grid(out, plan, labels, day)?;
+        put_day_grid(out, plan, labels, day);
     }
-    Ok(())
 }
 
 #[tactic(auto, unfolding(crate::specs::Days::day_link_head))]
-fn put_day_link_head(out: &mut PageText, day: u32) -> Result<(), TextFault>
-    ensures { Puts result out.old out.new (day_link_head day) }
+fn put_day_link_head(out: &mut PageText, day: u32)
+    ensures { out.new ≡ put_text out.old (day_link_head day) }
 {
     put(
         out,
@@ -208,36 +169,31 @@ fn put_day_link_head(out: &mut PageText, day: u32) -> Result<(), TextFault>
             Part::Number(day),
             Part::Text("\">"),
         ],
-    )
+    );
 }
 
-#[tactic(auto, unfolding(crate::specs::Days::day_index_item))]
-fn put_day_index_item(out: &mut PageText, labels: &Labels, day: u32) -> Result<(), TextFault>
-    ensures { Puts result out.old out.new (day_index_item labels.now day) }
+#[tactic(auto, using(tt_page_text::proofs::Growing::puts), unfolding(crate::specs::Days::day_index_item))]
+fn put_day_index_item(out: &mut PageText, labels: &Labels, day: u32)
+    ensures { out.new ≡ put_text out.old (day_index_item labels.now day) }
 {
-    put_day_link_head(out, day)?;
-    put_day(out, labels, day)?;
-    put_token(out, b"</a></li>\n")
+    put_day_link_head(out, day);
+    put_day(out, labels, day);
+    put_token(out, b"</a></li>\n");
 }
 
 /// Appends the links to the days.
-#[tactic(auto, using(tt_page_text::proofs::Growing::text_further, tt_page_text::proofs::Growing::text_within))]
-fn put_day_index(
-    out: &mut PageText,
-    instance: &Instance<'_>,
-    labels: &Labels,
-) -> Result<(), TextFault>
-    ensures { Puts result out.old out.new (flat_map (day_index_item labels.now) (range_below instance.now.days)) }
+#[tactic(auto, using(tt_page_text::proofs::Growing::puts))]
+fn put_day_index(out: &mut PageText, instance: &Instance<'_>, labels: &Labels)
+    ensures { out.new ≡ put_text out.old (flat_map (day_index_item labels.now) (range_below instance.now.days)) }
 {
     for day in 0..instance.days() {
-        put_day_index_item(out, labels, day)?;
+        put_day_index_item(out, labels, day);
     }
-    Ok(())
 }
 
 #[tactic(auto, unfolding(crate::specs::Days::days_head))]
-fn put_days_head(out: &mut PageText, days: u32) -> Result<(), TextFault>
-    ensures { Puts result out.old out.new (days_head days) }
+fn put_days_head(out: &mut PageText, days: u32)
+    ensures { out.new ≡ put_text out.old (days_head days) }
 {
     put(
         out,
@@ -246,17 +202,17 @@ fn put_days_head(out: &mut PageText, days: u32) -> Result<(), TextFault>
             Part::Number(days),
             Part::Text("</small></h2></summary>\n<ul class=\"index\">\n"),
         ],
-    )
+    );
 }
 
 /// Appends the section of all days.
-#[tactic(auto, unfolding(crate::specs::Days::days_text))]
-pub fn put_days(out: &mut PageText, plan: &Plan<'_, '_>, labels: &Labels) -> Result<(), TextFault>
-    ensures { Puts result out.old out.new (days_text plan.now.problem plan.now.table labels.now) }
+#[tactic(auto, using(tt_page_text::proofs::Growing::puts), unfolding(crate::specs::Days::days_text))]
+pub fn put_days(out: &mut PageText, plan: &Plan<'_, '_>, labels: &Labels)
+    ensures { out.new ≡ put_text out.old (days_text plan.now.problem plan.now.table labels.now) }
 {
-    put_days_head(out, plan.instance().days())?;
-    put_day_index(out, plan.instance(), labels)?;
-    put_token(out, b"</ul>\n<div class=\"grids\">\n")?;
-    put_day_grids(out, plan, labels)?;
-    put_token(out, b"</div>\n</details>\n")
+    put_days_head(out, plan.instance().days());
+    put_day_index(out, plan.instance(), labels);
+    put_token(out, b"</ul>\n<div class=\"grids\">\n");
+    put_day_grids(out, plan, labels);
+    put_token(out, b"</div>\n</details>\n");
 }

@@ -1,5 +1,5 @@
 -- The items of the lists, except those in groups. Each begins with the number that it adds to its count, and its place in the list is by that number.
-use Rattle.std.specs.Prelude.{ℕ, ◌+◌, ◌==◌, Bool, ◌&&◌, List, [], ◌∷◌, ◌++◌, length, filter, codes, if◌then◌else◌}
+use Rattle.std.specs.Prelude.{ℕ, ◌+◌, ◌-◌, ◌==◌, Bool, ◌&&◌, List, [], ◌∷◌, ◌++◌, length, filter, codes, Option, Some, None, if◌then◌else◌}
 use Rattle.tt_text.specs.Pieces.{Text, Number}
 use Rattle.tt_instance_data.specs.Problem.{Problem}
 use Rattle.tt_instance_data.specs.Cells.{slot_of, is_at}
@@ -12,7 +12,7 @@ use Rattle.tt_page_text.specs.Labelled.{Labelled}
 use Rattle.tt_page_text.specs.Labels.{when_text}
 use Rattle.tt_page_plan.specs.Kinds.{teacher_of}
 use Rattle.tt_page_plan.specs.Links.{course_link, week_link, cell_link}
-use Rattle.tt_page_plan.specs.declared.kind.Kind.TheVariants.{Room, Teacher}
+use Rattle.tt_table.specs.declared.kind.Kind.TheVariants.{Room, Teacher}
 use Rattle.tt_page_lists.specs.declared.rule.Rule.{Rule}
 use Rattle.tt_page_lists.specs.declared.rule.Rule.TheVariants as rule
 
@@ -117,6 +117,11 @@ pair_text p labels e x more =
 unfoldable pub odds_item : Problem → Labelled → Rule → Cell → List Cell → List ℕ
 odds_item p labels r e [] = []
 odds_item p labels r e (x ∷ xs) = item_head (odds_count r (length xs + 1)) ++ pair_text p labels e x (length xs)
+
+-- The same in the form that the program uses: from the first of these later ones, and how many they are.
+unfoldable pub odds_text : Problem → Labelled → Rule → Cell → Option Cell → ℕ → List ℕ
+odds_text p labels r e None n = []
+odds_text p labels r e (Some x) n = item_head (odds_count r n) ++ pair_text p labels e x (n - 1)
 
 -- The item of an entry, if some later entry breaks the rule together with it.
 unfoldable pub pairs_item : Problem → Labelled → Rule → Cell → List Cell → List ℕ

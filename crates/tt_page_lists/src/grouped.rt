@@ -1,54 +1,31 @@
 //! The items that are groups: the lectures of a course without seats, and the isolated lectures of a curriculum.
 
-ghost use Rattle.std.specs.Prelude.{◌≡◌, ◌<◌, ◌≤◌, ◌&&◌, length, filter, flat_map, sum_by, count_by, All, IfOk};
+ghost use Rattle.std.specs.Prelude.{◌≡◌, ◌<◌, ◌≤◌, ◌&&◌, length, flat_map, sum_by, count_by, All};
 ghost use Rattle.tt_lists.specs.Words.{range_below};
-ghost use Rattle.tt_instance_data.specs.Cells.{InRange, is_of};
+ghost use Rattle.tt_instance_data.specs.Cells.{InRange};
 ghost use Rattle.tt_instance_data.specs.Courses.{excess, in_curriculum};
 ghost use Rattle.tt_rules.specs.Soft.{is_isolated};
 ghost use Rattle.tt_table.specs.declared.table.TheConstants.{MAX_ENTRIES};
-ghost use Rattle.tt_page_text.specs.Puts.{Puts};
+ghost use Rattle.tt_page_text.specs.Puts.{put_text};
 ghost use Rattle.tt_page_lists.specs.Grouped.{crowded_head, crowded_end, crowded_line, students_detail, seats_detail, seats_item, isolated_line, isolated_item, isolated_detail, curriculum_item, items_text};
 
 use crate::items::{
     put_course_and_teacher, put_course_items, put_entry_items, put_item_end, put_item_head,
 };
 use crate::rule::Rule;
-use std::alloc::{AllocError, Global};
 use tt_instance_data::Instance;
-use tt_page_plan::{Kind, Plan, is_isolated, put_week_link, put_when_link, without_seat};
-use tt_page_text::{Labels, PageText, Part, TextFault, put, put_token};
-use tt_table::{Entry, Group};
+use tt_page_plan::{Plan, is_isolated, put_week_link, put_when_link};
+use tt_page_text::{Labels, PageText, Part, put, put_token};
+use tt_rules::without_seat;
+use tt_table::{Entry, Group, Kind};
 
 // ---- lectures of a course with students without a seat
 
-/// Returns some entries.
-fn collect(alloc: Global, entries: Group<'_>) -> Result<Vec<Entry>, AllocError>
-    ensures { IfOk result (λ found. found.items ≡ entries.entry) }
-{
-    let mut found = Vec::new(alloc);
-    for entry in entries {
-        found.push(*entry)?;
-    }
-    Ok(found)
-}
-
-/// Returns the entries of a course.
-fn entries_of(plan: &Plan<'_, '_>, alloc: Global, course: u32) -> Result<Vec<Entry>, AllocError>
-    requires { course < length plan.now.problem.courses }
-    ensures entries { IfOk result (λ found. found.items ≡ filter (is_of course) plan.now.table) }
-    ensures in_range { IfOk result (λ found. All (InRange plan.now.problem) found.items) }
-    ensures at_most { IfOk result (λ found. length found.items ≤ MAX_ENTRIES) }
-{
-    let entries = plan.of_course(course);
-    collect(alloc, entries)
-}
-
 /// Counts the students without a seat, in all of some entries.
-#[tactic(auto, using(std::proofs::lemmas::List::Sums::sum_by_more))]
-fn seats_of(instance: &Instance<'_>, entries: &[Entry]) -> u64
-    requires in_range { All (InRange instance.now) entries.now }
-    requires at_most { length entries.now ≤ MAX_ENTRIES }
-    ensures { result ≡ sum_by (λ e. excess instance.now e.course e.room) entries.now }
+fn seats_of(instance: &Instance<'_>, entries: Group<'_>) -> u64
+    requires in_range { All (InRange instance.now) entries }
+    requires at_most { length entries ≤ MAX_ENTRIES }
+    ensures { result ≡ sum_by (λ e. excess instance.now e.course e.room) entries.entry }
 {
     let mut total: u64 = 0;
     for entry in entries {
@@ -58,29 +35,21 @@ fn seats_of(instance: &Instance<'_>, entries: &[Entry]) -> u64
 }
 
 #[tactic(auto, unfolding(crate::specs::Grouped::crowded_head))]
-fn put_crowded_head(
-    out: &mut PageText,
-    instance: &Instance<'_>,
-    entry: &Entry,
-) -> Result<(), TextFault>
+fn put_crowded_head(out: &mut PageText, instance: &Instance<'_>, entry: &Entry)
     requires { InRange instance.now entry.now }
-    ensures { Puts result out.old out.new (crowded_head instance.now entry.now) }
+    ensures { out.new ≡ put_text out.old (crowded_head instance.now entry.now) }
 {
     let lacking = without_seat(instance, entry);
     put(
         out,
         &[Part::Text("<li>"), Part::Count(lacking), Part::Text(" ")],
-    )
+    );
 }
 
 #[tactic(auto, unfolding(crate::specs::Grouped::crowded_end))]
-fn put_crowded_end(
-    out: &mut PageText,
-    instance: &Instance<'_>,
-    entry: &Entry,
-) -> Result<(), TextFault>
+fn put_crowded_end(out: &mut PageText, instance: &Instance<'_>, entry: &Entry)
     requires { InRange instance.now entry.now }
-    ensures { Puts result out.old out.new (crowded_end instance.now entry.now) }
+    ensures { out.new ≡ put_text out.old (crowded_end instance.now entry.now) }
 {
     let seats = instance.capacity(entry.room);
     put(
@@ -90,54 +59,45 @@ fn put_crowded_end(
             Part::Number(seats),
             Part::Text(" seats</li>\n"),
         ],
-    )
+    );
 }
 
 /// Appends a lecture if some student has no seat: how many, when, and in which room.
-#[tactic(auto, unfolding(crate::specs::Grouped::crowded_line))]
-fn put_crowded_line(
-    out: &mut PageText,
-    instance: &Instance<'_>,
-    labels: &Labels,
-    entry: &Entry,
-) -> Result<(), TextFault>
+#[tactic(auto, using(tt_page_text::proofs::Growing::puts), unfolding(crate::specs::Grouped::crowded_line))]
+fn put_crowded_line(out: &mut PageText, instance: &Instance<'_>, labels: &Labels, entry: &Entry)
     requires { InRange instance.now entry.now }
-    ensures { Puts result out.old out.new (crowded_line instance.now labels.now entry.now) }
+    ensures { out.new ≡ put_text out.old (crowded_line instance.now labels.now entry.now) }
 {
     if without_seat(instance, entry) == 0 {
-        return Ok(());
+        return;
     }
-    put_crowded_head(out, instance, entry)?;
-    put_when_link(out, labels, Kind::Room, entry.room, entry)?;
-    put_token(out, b", in ")?;
-    put_week_link(out, instance, Kind::Room, entry.room)?;
-    put_crowded_end(out, instance, entry)
+    put_crowded_head(out, instance, entry);
+    put_when_link(out, labels, Kind::Room, entry.room, entry);
+    put_token(out, b", in ");
+    put_week_link(out, instance, Kind::Room, entry.room);
+    put_crowded_end(out, instance, entry);
 }
 
-#[tactic(auto, using(tt_page_text::proofs::Growing::taken_further, tt_page_text::proofs::Growing::taken_within))]
+/// Appends those of some entries in which some student has no seat.
+#[tactic(auto, using(tt_page_text::proofs::Growing::puts))]
 fn put_crowded_lines(
     out: &mut PageText,
     instance: &Instance<'_>,
     labels: &Labels,
-    entries: &[Entry],
-) -> Result<(), TextFault>
-    requires { All (InRange instance.now) entries.now }
-    ensures { Puts result out.old out.new (flat_map (crowded_line instance.now labels.now) entries.now) }
+    entries: Group<'_>,
+)
+    requires { All (InRange instance.now) entries }
+    ensures { out.new ≡ put_text out.old (flat_map (crowded_line instance.now labels.now) entries.entry) }
 {
     for entry in entries {
-        put_crowded_line(out, instance, labels, entry)?;
+        put_crowded_line(out, instance, labels, entry);
     }
-    Ok(())
 }
 
 #[tactic(auto, unfolding(crate::specs::Grouped::students_detail))]
-fn put_students_detail(
-    out: &mut PageText,
-    instance: &Instance<'_>,
-    course: u32,
-) -> Result<(), TextFault>
+fn put_students_detail(out: &mut PageText, instance: &Instance<'_>, course: u32)
     requires { course < length instance.now.courses }
-    ensures { Puts result out.old out.new (students_detail instance.now course) }
+    ensures { out.new ≡ put_text out.old (students_detail instance.now course) }
 {
     let students = instance.students(course);
     put(
@@ -147,62 +107,51 @@ fn put_students_detail(
             Part::Number(students),
             Part::Text(" students\n<ul>\n"),
         ],
-    )
+    );
 }
 
 /// Appends a course and its lectures without seats.
-#[tactic(auto, unfolding(crate::specs::Grouped::seats_detail))]
+#[tactic(auto, using(tt_page_text::proofs::Growing::puts), unfolding(crate::specs::Grouped::seats_detail))]
 fn put_seats_detail(
     out: &mut PageText,
     instance: &Instance<'_>,
     labels: &Labels,
     course: u32,
-    entries: &[Entry],
-) -> Result<(), TextFault>
+    entries: Group<'_>,
+)
     requires course { course < length instance.now.courses }
-    requires in_range { All (InRange instance.now) entries.now }
-    ensures { Puts result out.old out.new (seats_detail instance.now labels.now course entries.now) }
+    requires in_range { All (InRange instance.now) entries }
+    ensures { out.new ≡ put_text out.old (seats_detail instance.now labels.now course entries.entry) }
 {
-    put_course_and_teacher(out, instance, course)?;
-    put_students_detail(out, instance, course)?;
-    put_crowded_lines(out, instance, labels, entries)?;
-    put_token(out, b"</ul>\n")
+    put_course_and_teacher(out, instance, course);
+    put_students_detail(out, instance, course);
+    put_crowded_lines(out, instance, labels, entries);
+    put_token(out, b"</ul>\n");
 }
 
 /// Appends the item of a course.
-#[tactic(auto, unfolding(crate::specs::Grouped::seats_item))]
-fn put_seats_item(
-    out: &mut PageText,
-    plan: &Plan<'_, '_>,
-    labels: &Labels,
-    course: u32,
-) -> Result<(), TextFault>
+#[tactic(auto, using(tt_page_text::proofs::Growing::puts), unfolding(crate::specs::Grouped::seats_item))]
+fn put_seats_item(out: &mut PageText, plan: &Plan<'_, '_>, labels: &Labels, course: u32)
     requires { course < length plan.now.problem.courses }
-    ensures { Puts result out.old out.new (seats_item plan.now.problem plan.now.table labels.now course) }
+    ensures { out.new ≡ put_text out.old (seats_item plan.now.problem plan.now.table labels.now course) }
 {
     let instance = plan.instance();
-    let entries = entries_of(plan, out.allocator(), course)?;
-    let adds = seats_of(instance, &entries);
+    let adds = seats_of(instance, plan.of_course(course));
     if adds == 0 {
-        return Ok(());
+        return;
     }
-    put_item_head(out, adds)?;
-    put_seats_detail(out, instance, labels, course, &entries)?;
-    put_item_end(out)
+    put_item_head(out, adds);
+    put_seats_detail(out, instance, labels, course, plan.of_course(course));
+    put_item_end(out);
 }
 
-#[tactic(auto, using(tt_page_text::proofs::Growing::text_further, tt_page_text::proofs::Growing::text_within))]
-fn put_seats_items(
-    out: &mut PageText,
-    plan: &Plan<'_, '_>,
-    labels: &Labels,
-) -> Result<(), TextFault>
-    ensures { Puts result out.old out.new (flat_map (seats_item plan.now.problem plan.now.table labels.now) (range_below (length plan.now.problem.courses))) }
+#[tactic(auto, using(tt_page_text::proofs::Growing::puts))]
+fn put_seats_items(out: &mut PageText, plan: &Plan<'_, '_>, labels: &Labels)
+    ensures { out.new ≡ put_text out.old (flat_map (seats_item plan.now.problem plan.now.table labels.now) (range_below (length plan.now.problem.courses))) }
 {
     for course in 0..plan.instance().courses() {
-        put_seats_item(out, plan, labels, course)?;
+        put_seats_item(out, plan, labels, course);
     }
-    Ok(())
 }
 
 // ---- isolated lectures of a curriculum
@@ -231,130 +180,108 @@ fn isolated_count(plan: &Plan<'_, '_>, curriculum: u32) -> u64
 }
 
 /// Appends a lecture: when, its course and teacher, and its room.
-#[tactic(auto, unfolding(crate::specs::Grouped::isolated_line))]
+#[tactic(auto, using(tt_page_text::proofs::Growing::puts), unfolding(crate::specs::Grouped::isolated_line))]
 fn put_isolated_line(
     out: &mut PageText,
     instance: &Instance<'_>,
     labels: &Labels,
     curriculum: u32,
     entry: &Entry,
-) -> Result<(), TextFault>
+)
     requires { InRange instance.now entry.now }
-    ensures { Puts result out.old out.new (isolated_line instance.now labels.now curriculum entry.now) }
+    ensures { out.new ≡ put_text out.old (isolated_line instance.now labels.now curriculum entry.now) }
 {
-    put_token(out, b"<li>")?;
-    put_when_link(out, labels, Kind::Curriculum, curriculum, entry)?;
-    put_token(out, b", ")?;
-    put_course_and_teacher(out, instance, entry.course)?;
-    put_token(out, b", in ")?;
-    put_week_link(out, instance, Kind::Room, entry.room)?;
-    put_token(out, b"</li>\n")
+    put_token(out, b"<li>");
+    put_when_link(out, labels, Kind::Curriculum, curriculum, entry);
+    put_token(out, b", ");
+    put_course_and_teacher(out, instance, entry.course);
+    put_token(out, b", in ");
+    put_week_link(out, instance, Kind::Room, entry.room);
+    put_token(out, b"</li>\n");
 }
 
 /// Appends an entry if it is an isolated one of the curriculum.
-#[tactic(auto, unfolding(crate::specs::Grouped::isolated_item))]
+#[tactic(auto, using(tt_page_text::proofs::Growing::puts), unfolding(crate::specs::Grouped::isolated_item))]
 fn put_isolated_item(
     out: &mut PageText,
     plan: &Plan<'_, '_>,
     labels: &Labels,
     curriculum: u32,
     entry: &Entry,
-) -> Result<(), TextFault>
+)
     requires { InRange plan.now.problem entry.now }
-    ensures { Puts result out.old out.new (isolated_item plan.now.problem plan.now.table labels.now curriculum entry.now) }
+    ensures { out.new ≡ put_text out.old (isolated_item plan.now.problem plan.now.table labels.now curriculum entry.now) }
 {
     if !is_isolated_in(plan, curriculum, entry) {
-        return Ok(());
+        return;
     }
-    put_isolated_line(out, plan.instance(), labels, curriculum, entry)
+    put_isolated_line(out, plan.instance(), labels, curriculum, entry);
 }
 
-#[tactic(auto, using(tt_page_text::proofs::Growing::taken_further, tt_page_text::proofs::Growing::taken_within))]
-fn put_isolated_items(
-    out: &mut PageText,
-    plan: &Plan<'_, '_>,
-    labels: &Labels,
-    curriculum: u32,
-) -> Result<(), TextFault>
-    ensures { Puts result out.old out.new (flat_map (isolated_item plan.now.problem plan.now.table labels.now curriculum) plan.now.table) }
+#[tactic(auto, using(tt_page_text::proofs::Growing::puts))]
+fn put_isolated_items(out: &mut PageText, plan: &Plan<'_, '_>, labels: &Labels, curriculum: u32)
+    ensures { out.new ≡ put_text out.old (flat_map (isolated_item plan.now.problem plan.now.table labels.now curriculum) plan.now.table) }
 {
     for entry in plan.entries() {
-        put_isolated_item(out, plan, labels, curriculum, entry)?;
+        put_isolated_item(out, plan, labels, curriculum, entry);
     }
-    Ok(())
 }
 
 /// Appends a curriculum and its isolated lectures.
-#[tactic(auto, unfolding(crate::specs::Grouped::isolated_detail))]
-fn put_isolated_detail(
-    out: &mut PageText,
-    plan: &Plan<'_, '_>,
-    labels: &Labels,
-    curriculum: u32,
-) -> Result<(), TextFault>
+#[tactic(auto, using(tt_page_text::proofs::Growing::puts), unfolding(crate::specs::Grouped::isolated_detail))]
+fn put_isolated_detail(out: &mut PageText, plan: &Plan<'_, '_>, labels: &Labels, curriculum: u32)
     requires { curriculum < length plan.now.problem.curricula }
-    ensures { Puts result out.old out.new (isolated_detail plan.now.problem plan.now.table labels.now curriculum) }
+    ensures { out.new ≡ put_text out.old (isolated_detail plan.now.problem plan.now.table labels.now curriculum) }
 {
-    put_week_link(out, plan.instance(), Kind::Curriculum, curriculum)?;
-    put_token(out, b"\n<ul>\n")?;
-    put_isolated_items(out, plan, labels, curriculum)?;
-    put_token(out, b"</ul>\n")
+    put_week_link(out, plan.instance(), Kind::Curriculum, curriculum);
+    put_token(out, b"\n<ul>\n");
+    put_isolated_items(out, plan, labels, curriculum);
+    put_token(out, b"</ul>\n");
 }
 
 /// Appends the item of a curriculum.
-#[tactic(auto, unfolding(crate::specs::Grouped::curriculum_item))]
-fn put_curriculum_item(
-    out: &mut PageText,
-    plan: &Plan<'_, '_>,
-    labels: &Labels,
-    curriculum: u32,
-) -> Result<(), TextFault>
+#[tactic(auto, using(tt_page_text::proofs::Growing::puts), unfolding(crate::specs::Grouped::curriculum_item))]
+fn put_curriculum_item(out: &mut PageText, plan: &Plan<'_, '_>, labels: &Labels, curriculum: u32)
     requires { curriculum < length plan.now.problem.curricula }
-    ensures { Puts result out.old out.new (curriculum_item plan.now.problem plan.now.table labels.now curriculum) }
+    ensures { out.new ≡ put_text out.old (curriculum_item plan.now.problem plan.now.table labels.now curriculum) }
 {
     let adds = 2 * isolated_count(plan, curriculum);
     if adds == 0 {
-        return Ok(());
+        return;
     }
-    put_item_head(out, adds)?;
-    put_isolated_detail(out, plan, labels, curriculum)?;
-    put_item_end(out)
+    put_item_head(out, adds);
+    put_isolated_detail(out, plan, labels, curriculum);
+    put_item_end(out);
 }
 
-#[tactic(auto, using(tt_page_text::proofs::Growing::text_further, tt_page_text::proofs::Growing::text_within))]
-fn put_curriculum_items(
-    out: &mut PageText,
-    plan: &Plan<'_, '_>,
-    labels: &Labels,
-) -> Result<(), TextFault>
-    ensures { Puts result out.old out.new (flat_map (curriculum_item plan.now.problem plan.now.table labels.now) (range_below (length plan.now.problem.curricula))) }
+/// Appends the items of all curricula, until the text is full.
+#[tactic(auto, using(tt_page_text::proofs::Growing::puts))]
+fn put_curriculum_items(out: &mut PageText, plan: &Plan<'_, '_>, labels: &Labels)
+    ensures { out.new ≡ put_text out.old (flat_map (curriculum_item plan.now.problem plan.now.table labels.now) (range_below (length plan.now.problem.curricula))) }
 {
     for curriculum in 0..plan.instance().curricula() {
-        put_curriculum_item(out, plan, labels, curriculum)?;
+        if out.is_full() {
+            return;
+        }
+        put_curriculum_item(out, plan, labels, curriculum);
     }
-    Ok(())
 }
 
 // ---- all items of a list
 
 /// Appends all items of a list.
 #[tactic(auto, unfolding(crate::specs::Grouped::items_text))]
-pub fn put_items(
-    out: &mut PageText,
-    plan: &Plan<'_, '_>,
-    labels: &Labels,
-    rule: Rule,
-) -> Result<(), TextFault>
-    ensures { Puts result out.old out.new (items_text plan.now.problem plan.now.table labels.now rule) }
+pub fn put_items(out: &mut PageText, plan: &Plan<'_, '_>, labels: &Labels, rule: Rule)
+    ensures { out.new ≡ put_text out.old (items_text plan.now.problem plan.now.table labels.now rule) }
 {
     match rule {
         Rule::Lectures | Rule::WorkingDays | Rule::RoomStability => {
-            put_course_items(out, plan, rule)
+            put_course_items(out, plan, rule);
         }
         Rule::RoomCapacity => put_seats_items(out, plan, labels),
         Rule::Compactness => put_curriculum_items(out, plan, labels),
         Rule::Conflicts | Rule::RoomOccupancy | Rule::Availability => {
-            put_entry_items(out, plan, labels, rule)
+            put_entry_items(out, plan, labels, rule);
         }
     }
 }

@@ -2,13 +2,13 @@
 
 ghost use Rattle.std.specs.Prelude.{◌≡◌};
 ghost use Rattle.tt_rules.specs.Score.{IsScore};
-ghost use Rattle.tt_page_text.specs.Puts.{Puts};
+ghost use Rattle.tt_page_text.specs.Puts.{put_text};
 ghost use Rattle.tt_page_lists.specs.Lists.{row_begin, count_row, total_row, rule_row, hard_table, cost_table, list_head, broken_head, costs_head, list_text, lists_text};
 
 use crate::grouped::put_items;
 use crate::rule::Rule;
 use tt_page_plan::Plan;
-use tt_page_text::{Labels, PageText, Part, TextFault, put, put_token};
+use tt_page_text::{Labels, PageText, Part, put, put_token};
 use tt_rules::Score;
 
 /// Returns the beginning of a row: a row of a count of 0 has a class of its own.
@@ -24,13 +24,8 @@ fn row_begin(count: u64) -> &'static str
 
 /// Appends a row of a table of counts.
 #[tactic(auto, unfolding(crate::specs::Lists::count_row))]
-fn put_count_row<'x>(
-    out: &mut PageText,
-    title: &'x str,
-    count: u64,
-    meaning: &'x str,
-) -> Result<(), TextFault>
-    ensures { Puts result out.old out.new (count_row title.now count meaning.now) }
+fn put_count_row<'x>(out: &mut PageText, title: &'x str, count: u64, meaning: &'x str)
+    ensures { out.new ≡ put_text out.old (count_row title.now count meaning.now) }
 {
     put(
         out,
@@ -43,18 +38,13 @@ fn put_count_row<'x>(
             Part::Text(meaning),
             Part::Text("</td></tr>\n"),
         ],
-    )
+    );
 }
 
 /// Appends the row of a total.
 #[tactic(auto, unfolding(crate::specs::Lists::total_row))]
-fn put_total_row<'x>(
-    out: &mut PageText,
-    title: &'x str,
-    count: u64,
-    meaning: &'x str,
-) -> Result<(), TextFault>
-    ensures { Puts result out.old out.new (total_row title.now count meaning.now) }
+fn put_total_row<'x>(out: &mut PageText, title: &'x str, count: u64, meaning: &'x str)
+    ensures { out.new ≡ put_text out.old (total_row title.now count meaning.now) }
 {
     put(
         out,
@@ -67,84 +57,71 @@ fn put_total_row<'x>(
             Part::Text(meaning),
             Part::Text("</td></tr>\n"),
         ],
-    )
+    );
 }
 
 #[tactic(auto, unfolding(crate::specs::Lists::rule_row))]
-fn put_rule_row(
-    out: &mut PageText,
-    plan: &Plan<'_, '_>,
-    score: &Score,
-    rule: Rule,
-) -> Result<(), TextFault>
+fn put_rule_row(out: &mut PageText, plan: &Plan<'_, '_>, score: &Score, rule: Rule)
     requires { IsScore plan.now.problem plan.now.table score.now }
-    ensures { Puts result out.old out.new (rule_row plan.now.problem plan.now.table rule) }
+    ensures { out.new ≡ put_text out.old (rule_row plan.now.problem plan.now.table rule) }
 {
     let count = rule.count(plan, score);
-    put_count_row(out, rule.title(), count, rule.meaning())
+    put_count_row(out, rule.title(), count, rule.meaning());
 }
 
 /// Appends the table of the hard rules.
-#[tactic(auto, unfolding(crate::specs::Lists::hard_head, crate::specs::Lists::hard_table, crate::specs::Lists::table_foot, crate::specs::Lists::table_end))]
-pub fn put_hard_table(
-    out: &mut PageText,
-    plan: &Plan<'_, '_>,
-    score: &Score,
-) -> Result<(), TextFault>
+#[tactic(auto, using(tt_page_text::proofs::Growing::puts), unfolding(crate::specs::Lists::hard_head, crate::specs::Lists::hard_table, crate::specs::Lists::table_foot, crate::specs::Lists::table_end))]
+pub fn put_hard_table(out: &mut PageText, plan: &Plan<'_, '_>, score: &Score)
     requires { IsScore plan.now.problem plan.now.table score.now }
-    ensures { Puts result out.old out.new (hard_table plan.now.problem plan.now.table) }
+    ensures { out.new ≡ put_text out.old (hard_table plan.now.problem plan.now.table) }
 {
     put_token(
         out,
         b"<table class=\"counts\" id=\"hard\">\n<caption>Hard rules</caption>\n<tbody>\n",
-    )?;
-    put_rule_row(out, plan, score, Rule::Lectures)?;
-    put_rule_row(out, plan, score, Rule::Conflicts)?;
-    put_rule_row(out, plan, score, Rule::Availability)?;
-    put_rule_row(out, plan, score, Rule::RoomOccupancy)?;
-    put_token(out, b"</tbody>\n<tfoot>\n")?;
-    put_total_row(out, "Hard", score.hard(), "0 in a feasible timetable")?;
-    put_token(out, b"</tfoot>\n</table>\n")
+    );
+    put_rule_row(out, plan, score, Rule::Lectures);
+    put_rule_row(out, plan, score, Rule::Conflicts);
+    put_rule_row(out, plan, score, Rule::Availability);
+    put_rule_row(out, plan, score, Rule::RoomOccupancy);
+    put_token(out, b"</tbody>\n<tfoot>\n");
+    put_total_row(out, "Hard", score.hard(), "0 in a feasible timetable");
+    put_token(out, b"</tfoot>\n</table>\n");
 }
 
 /// Appends the table of the costs.
-#[tactic(auto, unfolding(crate::specs::Lists::cost_head, crate::specs::Lists::cost_table, crate::specs::Lists::table_foot, crate::specs::Lists::table_end))]
-pub fn put_cost_table(
-    out: &mut PageText,
-    plan: &Plan<'_, '_>,
-    score: &Score,
-) -> Result<(), TextFault>
+#[tactic(auto, using(tt_page_text::proofs::Growing::puts), unfolding(crate::specs::Lists::cost_head, crate::specs::Lists::cost_table, crate::specs::Lists::table_foot, crate::specs::Lists::table_end))]
+pub fn put_cost_table(out: &mut PageText, plan: &Plan<'_, '_>, score: &Score)
     requires { IsScore plan.now.problem plan.now.table score.now }
-    ensures { Puts result out.old out.new (cost_table plan.now.problem plan.now.table) }
+    ensures { out.new ≡ put_text out.old (cost_table plan.now.problem plan.now.table) }
 {
     put_token(
         out,
         b"<table class=\"counts\" id=\"cost\">\n<caption>Costs</caption>\n<tbody>\n",
-    )?;
-    put_rule_row(out, plan, score, Rule::RoomCapacity)?;
-    put_rule_row(out, plan, score, Rule::WorkingDays)?;
-    put_rule_row(out, plan, score, Rule::Compactness)?;
-    put_rule_row(out, plan, score, Rule::RoomStability)?;
-    put_token(out, b"</tbody>\n<tfoot>\n")?;
-    put_total_row(out, "Cost", score.cost(), "less is better")?;
-    put_token(out, b"</tfoot>\n</table>\n")
+    );
+    put_rule_row(out, plan, score, Rule::RoomCapacity);
+    put_rule_row(out, plan, score, Rule::WorkingDays);
+    put_rule_row(out, plan, score, Rule::Compactness);
+    put_rule_row(out, plan, score, Rule::RoomStability);
+    put_token(out, b"</tbody>\n<tfoot>\n");
+    put_total_row(out, "Cost", score.cost(), "less is better");
+    put_token(out, b"</tfoot>\n</table>\n");
 }
 
 /// Appends the beginning of a list.
 #[tactic(auto, unfolding(crate::specs::Lists::list_head))]
-fn put_list_head(out: &mut PageText, rule: Rule, count: u64) -> Result<(), TextFault>
-    ensures { Puts result out.old out.new (list_head rule count) }
+fn put_list_head(out: &mut PageText, rule: Rule, count: u64)
+    ensures { out.new ≡ put_text out.old (list_head rule count) }
 {
     if rule.is_hard() {
-        put_broken_head(out, rule, count)
+        put_broken_head(out, rule, count);
     } else {
-        put_costs_head(out, rule, count)
+        put_costs_head(out, rule, count);
     }
 }
 
 #[tactic(auto, unfolding(crate::specs::Lists::broken_head))]
-fn put_broken_head(out: &mut PageText, rule: Rule, count: u64) -> Result<(), TextFault>
-    ensures { Puts result out.old out.new (broken_head rule count) }
+fn put_broken_head(out: &mut PageText, rule: Rule, count: u64)
+    ensures { out.new ≡ put_text out.old (broken_head rule count) }
 {
     put(
         out,
@@ -157,12 +134,12 @@ fn put_broken_head(out: &mut PageText, rule: Rule, count: u64) -> Result<(), Tex
             Part::Count(count),
             Part::Text("</strong></h2></summary>\n<ul>\n"),
         ],
-    )
+    );
 }
 
 #[tactic(auto, unfolding(crate::specs::Lists::costs_head))]
-fn put_costs_head(out: &mut PageText, rule: Rule, count: u64) -> Result<(), TextFault>
-    ensures { Puts result out.old out.new (costs_head rule count) }
+fn put_costs_head(out: &mut PageText, rule: Rule, count: u64)
+    ensures { out.new ≡ put_text out.old (costs_head rule count) }
 {
     put(
         out,
@@ -175,47 +152,36 @@ fn put_costs_head(out: &mut PageText, rule: Rule, count: u64) -> Result<(), Text
             Part::Count(count),
             Part::Text("</mark></h2></summary>\n<ul>\n"),
         ],
-    )
+    );
 }
 
 /// Appends a list if its count is above 0.
-#[tactic(auto, unfolding(crate::specs::Lists::list_text))]
-fn put_list(
-    out: &mut PageText,
-    plan: &Plan<'_, '_>,
-    labels: &Labels,
-    score: &Score,
-    rule: Rule,
-) -> Result<(), TextFault>
+#[tactic(auto, using(tt_page_text::proofs::Growing::puts), unfolding(crate::specs::Lists::list_text))]
+fn put_list(out: &mut PageText, plan: &Plan<'_, '_>, labels: &Labels, score: &Score, rule: Rule)
     requires { IsScore plan.now.problem plan.now.table score.now }
-    ensures { Puts result out.old out.new (list_text plan.now.problem plan.now.table labels.now rule) }
+    ensures { out.new ≡ put_text out.old (list_text plan.now.problem plan.now.table labels.now rule) }
 {
     let count = rule.count(plan, score);
     if count == 0 {
-        return Ok(());
+        return;
     }
-    put_list_head(out, rule, count)?;
-    put_items(out, plan, labels, rule)?;
-    put_token(out, b"</ul>\n</details>\n")
+    put_list_head(out, rule, count);
+    put_items(out, plan, labels, rule);
+    put_token(out, b"</ul>\n</details>\n");
 }
 
 /// Appends the lists of all counts above 0.
-#[tactic(auto, unfolding(crate::specs::Lists::lists_text))]
-pub fn put_lists(
-    out: &mut PageText,
-    plan: &Plan<'_, '_>,
-    labels: &Labels,
-    score: &Score,
-) -> Result<(), TextFault>
+#[tactic(auto, using(tt_page_text::proofs::Growing::puts), unfolding(crate::specs::Lists::lists_text))]
+pub fn put_lists(out: &mut PageText, plan: &Plan<'_, '_>, labels: &Labels, score: &Score)
     requires { IsScore plan.now.problem plan.now.table score.now }
-    ensures { Puts result out.old out.new (lists_text plan.now.problem plan.now.table labels.now) }
+    ensures { out.new ≡ put_text out.old (lists_text plan.now.problem plan.now.table labels.now) }
 {
-    put_list(out, plan, labels, score, Rule::Lectures)?;
-    put_list(out, plan, labels, score, Rule::Conflicts)?;
-    put_list(out, plan, labels, score, Rule::Availability)?;
-    put_list(out, plan, labels, score, Rule::RoomOccupancy)?;
-    put_list(out, plan, labels, score, Rule::RoomCapacity)?;
-    put_list(out, plan, labels, score, Rule::WorkingDays)?;
-    put_list(out, plan, labels, score, Rule::Compactness)?;
-    put_list(out, plan, labels, score, Rule::RoomStability)
+    put_list(out, plan, labels, score, Rule::Lectures);
+    put_list(out, plan, labels, score, Rule::Conflicts);
+    put_list(out, plan, labels, score, Rule::Availability);
+    put_list(out, plan, labels, score, Rule::RoomOccupancy);
+    put_list(out, plan, labels, score, Rule::RoomCapacity);
+    put_list(out, plan, labels, score, Rule::WorkingDays);
+    put_list(out, plan, labels, score, Rule::Compactness);
+    put_list(out, plan, labels, score, Rule::RoomStability);
 }

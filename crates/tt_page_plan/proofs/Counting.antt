@@ -1,16 +1,11 @@
 -- Counts and tests over the entries that pass another test.
 use Rattle.std.proofs.Common.{◌≡◌, Bool, true, false, ◌&&◌, cond, List, [], ◌∷◌, refl, ap, ◌∙◌}
-use Rattle.std.specs.Prelude.{filter, count_by, sum_by}
+use Rattle.std.specs.Prelude.{filter, count_by}
 use Rattle.std.specs.List.{list_any}
 use Rattle.std.proofs.Math.Bool.{and_comm}
-use Rattle.tt_lists.specs.Words.{range_below}
 use Rattle.tt_lists.proofs.Sums.{one_if, sum_by-same}
 use Rattle.tt_lists.proofs.Filters.{list_any-of_filter, count_by-of_filter}
 use Rattle.tt_lists.proofs.Tested.{list_any-same}
-use Rattle.tt_instance_data.specs.Problem.{Problem}
-use Rattle.tt_instance_data.specs.Cells.{all_slots, all_days, slot}
-use Rattle.tt_instance_data.specs.declared.cell.Slot.{Slot}
-use Rattle.tt_instance_data.proofs.Places.{slots_summed}
 
 module _ {X : Type 0} where
   pub count-turned : (p q : X → Bool) (xs : List X) → count_by (λ x. p x && q x) xs ≡ count_by (λ x. q x && p x) xs
@@ -30,10 +25,6 @@ module _ {X : Type 0} where
       step true true e = ap (λ c. cond c (x ∷ filter p (filter q xs)) (filter p (filter q xs))) e
       step true false e = ap (λ c. cond c (x ∷ filter p (filter q xs)) (filter p (filter q xs))) e
       step false b e = refl
-
--- the periods of the week, day by day
-pub slots_by_day : (p : Problem) (q : Slot → Bool) → count_by q (all_slots p) ≡ sum_by (λ d. count_by (λ s. q (slot d s)) (range_below p.periods)) (all_days p)
-slots_by_day p q = slots_summed p (λ s. one_if (q s))
 
 module _ {X : Type 0} (p q : X → Bool) (xs group : List X) (is : group ≡ filter p xs) where
   pub any_in_group : list_any q group ≡ list_any (λ x. p x && q x) xs

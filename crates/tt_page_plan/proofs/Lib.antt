@@ -4,3 +4,4 @@ pub mod First
 pub mod InOrder
 pub mod Later
 pub mod Neighbours
+pub mod Passing

@@ -1,24 +1,12 @@
--- The kinds of weeks that a page shows: those of all rooms, of all teachers and of all curricula.
-use Rattle.std.specs.Prelude.{ℕ, ◌==◌, Bool, List, [], length, codes, slice_index_or, unwrap_or, Option, find}
+-- The weeks that a page shows: those of all rooms, of all teachers and of all curricula.
+use Rattle.std.specs.Prelude.{ℕ, ◌==◌, Bool, List, [], filter, codes, slice_index_or, unwrap_or, Option, find}
 use Rattle.tt_text.specs.Texts.{index_of_name}
 use Rattle.tt_instance_data.specs.Problem.{Problem}
-use Rattle.tt_instance_data.specs.Cells.{is_in, all_curricula}
-use Rattle.tt_instance_data.specs.Courses.{no_course, no_room, no_curriculum, teachers, in_curriculum}
+use Rattle.tt_instance_data.specs.Cells.{is_in, all_courses, all_curricula}
+use Rattle.tt_instance_data.specs.Courses.{no_course, teachers, in_curriculum}
 use Rattle.tt_instance_data.specs.declared.cell.Cell.{Cell}
-use Rattle.tt_page_plan.specs.declared.kind.Kind.{Kind}
-use Rattle.tt_page_plan.specs.declared.kind.Kind.TheVariants.{Room, Teacher, Curriculum}
-
--- The number of weeks of a kind.
-abbrev pub count_of : Problem → Kind → ℕ
-count_of p Room = length p.rooms
-count_of p Teacher = length (teachers p)
-count_of p Curriculum = length p.curricula
-
--- The name of the room, teacher or curriculum of a week, by number.
-abbrev pub name_of : Problem → Kind → ℕ → List ℕ
-name_of p Room r = (slice_index_or p.rooms r no_room).id
-name_of p Teacher k = slice_index_or (teachers p) k []
-name_of p Curriculum q = (slice_index_or p.curricula q no_curriculum).id
+use Rattle.tt_table.specs.declared.kind.Kind.{Kind}
+use Rattle.tt_table.specs.declared.kind.Kind.TheVariants.{Room, Teacher, Curriculum}
 
 -- The name of a course, by its number.
 abbrev pub course_name : Problem → ℕ → List ℕ
@@ -38,13 +26,13 @@ belongs_to p Room r e = is_in r e
 belongs_to p Teacher k e = teacher_of p e.course == k
 belongs_to p Curriculum q e = in_curriculum p q e.course
 
--- ---- words
+-- The courses whose unavailable periods a week shows: those of a teacher, and those of a curriculum.
+abbrev pub own_courses : Problem → Kind → ℕ → List ℕ
+own_courses p Room r = []
+own_courses p Teacher k = filter (λ c. teacher_of p c == k) (all_courses p)
+own_courses p Curriculum q = filter (in_curriculum p q) (all_courses p)
 
--- The word in links.
-abbrev pub word_of : Kind → List ℕ
-word_of Room = codes "room"
-word_of Teacher = codes "teacher"
-word_of Curriculum = codes "curriculum"
+-- ---- words
 
 -- The word in captions.
 abbrev pub caption_of : Kind → List ℕ

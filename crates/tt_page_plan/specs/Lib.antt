@@ -1,9 +1,11 @@
 pub mod Counts
 pub mod Kinds
 pub mod Links
+pub mod Membership
 pub mod Names
 pub mod Ordered
 pub mod Orders
+pub mod OwnCourses
 pub mod Planned
 pub mod Plans
 pub mod Sides

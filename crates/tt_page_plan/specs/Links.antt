@@ -7,8 +7,9 @@ use Rattle.tt_page_text.specs.Shown.{shown}
 use Rattle.tt_page_text.specs.Markup.{markup}
 use Rattle.tt_page_text.specs.Labelled.{Labelled}
 use Rattle.tt_page_text.specs.Labels.{when_text}
-use Rattle.tt_page_plan.specs.Kinds.{name_of, course_name, word_of}
-use Rattle.tt_page_plan.specs.declared.kind.Kind.{Kind}
+use Rattle.tt_table.specs.Kinds.{name_of, word_of}
+use Rattle.tt_page_plan.specs.Kinds.{course_name}
+use Rattle.tt_table.specs.declared.kind.Kind.{Kind}
 
 -- The link to the row of a course.
 unfoldable pub course_link : Problem → ℕ → List ℕ

@@ -2,8 +2,8 @@
 use Rattle.std.specs.Prelude.{◌≡◌, ℕ, List}
 use Rattle.tt_instance_data.specs.Problem.{Problem}
 use Rattle.tt_page_plan.specs.Orders.{numbers_of}
-use Rattle.tt_page_plan.specs.declared.kind.Kind.{Kind}
-use Rattle.tt_page_plan.specs.declared.kind.Kind.TheVariants.{Room, Teacher, Curriculum}
+use Rattle.tt_table.specs.declared.kind.Kind.{Kind}
+use Rattle.tt_table.specs.declared.kind.Kind.TheVariants.{Room, Teacher, Curriculum}
 use Rattle.tt_page_plan.specs.declared.order.Orders.{Orders}
 
 -- The list for a kind of week: the numbers of the rooms, of the teachers or of the curricula.

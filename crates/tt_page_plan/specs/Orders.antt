@@ -5,8 +5,8 @@ use Rattle.std.specs.Cmp.Lexicographic.{slice_cmp}
 use Rattle.std.specs.declared.cmp.Ordering.{Ordering}
 use Rattle.tt_lists.specs.Words.{range_below}
 use Rattle.tt_instance_data.specs.Problem.{Problem}
-use Rattle.tt_page_plan.specs.Kinds.{count_of, name_of}
-use Rattle.tt_page_plan.specs.declared.kind.Kind.{Kind}
+use Rattle.tt_table.specs.Kinds.{count_of, name_of}
+use Rattle.tt_table.specs.declared.kind.Kind.{Kind}
 
 -- The order of two numbers: that of their names, byte by byte, where a name comes before those that begin with it. Numbers of one name are compared themselves.
 abbrev pub by_name : (ℕ → List ℕ) → ℕ → ℕ → Ordering

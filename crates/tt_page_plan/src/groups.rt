@@ -1,8 +1,8 @@
-//! Tests and counts of some entries.
+//! Tests of some entries.
 
 ghost use Rattle.std.specs.Prelude.{◌≡◌};
 ghost use Rattle.std.specs.List.{list_any};
-ghost use Rattle.tt_instance_data.specs.Cells.{is_in, is_on, is_at, slot};
+ghost use Rattle.tt_instance_data.specs.Cells.{is_in};
 ghost use Rattle.tt_instance_data.specs.Courses.{in_curriculum};
 
 use tt_instance_data::Instance;
@@ -13,20 +13,6 @@ pub fn has_attended(instance: &Instance<'_>, mut group: Group<'_>, curriculum: u
     ensures { result ≡ list_any (λ x. in_curriculum instance.now curriculum x.course) group.entry }
 {
     group.any(|entry| instance.in_curriculum(curriculum, entry.course))
-}
-
-/// Returns whether some entry is on a day.
-pub fn has_entry_on(mut group: Group<'_>, day: u32) -> bool
-    ensures { result ≡ list_any (is_on day) group.entry }
-{
-    group.any(|entry| entry.day == day)
-}
-
-/// Returns whether some entry is in a period.
-pub fn has_entry_at(mut group: Group<'_>, day: u32, period: u32) -> bool
-    ensures { result ≡ list_any (is_at (slot day period)) group.entry }
-{
-    group.any(|entry| entry.day == day && entry.period == period)
 }
 
 /// Returns whether some entry is in a room.

@@ -1,26 +1,23 @@
 //! Links to the parts of a page.
 
-ghost use Rattle.std.specs.Prelude.{◌<◌, length};
+ghost use Rattle.std.specs.Prelude.{◌≡◌, ◌<◌, length};
 ghost use Rattle.tt_instance_data.specs.Cells.{InRange};
-ghost use Rattle.tt_page_text.specs.Puts.{Puts};
-ghost use Rattle.tt_page_plan.specs.Kinds.{count_of, teacher_of};
-ghost use Rattle.tt_page_plan.specs.declared.kind.Kind.TheVariants as kinds;
+ghost use Rattle.tt_page_text.specs.Puts.{put_text};
+ghost use Rattle.tt_table.specs.Kinds.{count_of};
+ghost use Rattle.tt_page_plan.specs.Kinds.{teacher_of};
+ghost use Rattle.tt_table.specs.declared.kind.Kind.TheVariants as kinds;
 ghost use Rattle.tt_page_plan.specs.Links.{course_link, week_link, cell_link, cell_anchor, when_link};
 
-use crate::kind::{Kind, course_name, teacher_of};
+use crate::week::{course_name, teacher_of};
 use tt_instance_data::Instance;
-use tt_page_text::{Labels, PageText, Part, TextFault, put, put_token, put_when};
-use tt_table::Entry;
+use tt_page_text::{Labels, PageText, Part, put, put_token, put_when};
+use tt_table::{Entry, Kind};
 
 /// Appends a link to the row of a course.
 #[tactic(auto, unfolding(crate::specs::Links::course_link))]
-pub fn put_course_link(
-    out: &mut PageText,
-    instance: &Instance<'_>,
-    course: u32,
-) -> Result<(), TextFault>
+pub fn put_course_link(out: &mut PageText, instance: &Instance<'_>, course: u32)
     requires { course < length instance.now.courses }
-    ensures { Puts result out.old out.new (course_link instance.now course) }
+    ensures { out.new ≡ put_text out.old (course_link instance.now course) }
 {
     let name = course_name(instance, course);
     put(
@@ -32,19 +29,14 @@ pub fn put_course_link(
             Part::Name(name),
             Part::Text("</a>"),
         ],
-    )
+    );
 }
 
 /// Appends a link to a week.
 #[tactic(auto, unfolding(crate::specs::Links::week_link))]
-pub fn put_week_link(
-    out: &mut PageText,
-    instance: &Instance<'_>,
-    kind: Kind,
-    number: u32,
-) -> Result<(), TextFault>
+pub fn put_week_link(out: &mut PageText, instance: &Instance<'_>, kind: Kind, number: u32)
     requires { number < count_of instance.now kind }
-    ensures { Puts result out.old out.new (week_link instance.now kind number) }
+    ensures { out.new ≡ put_text out.old (week_link instance.now kind number) }
 {
     let name = kind.name(instance, number);
     put(
@@ -57,7 +49,7 @@ pub fn put_week_link(
             Part::Name(name),
             Part::Text("</a>"),
         ],
-    )
+    );
 }
 
 /// Appends a link from an entry to its cell in a week.
@@ -68,9 +60,9 @@ pub fn put_cell_link(
     kind: Kind,
     number: u32,
     entry: &Entry,
-) -> Result<(), TextFault>
+)
     requires { InRange instance.now entry.now }
-    ensures { Puts result out.old out.new (cell_link instance.now kind number entry.now) }
+    ensures { out.new ≡ put_text out.old (cell_link instance.now kind number entry.now) }
 {
     let name = course_name(instance, entry.course);
     put(
@@ -87,31 +79,22 @@ pub fn put_cell_link(
             Part::Name(name),
             Part::Text("</a>"),
         ],
-    )
+    );
 }
 
 /// Appends the name of a course's teacher, as a link to the teacher's week.
-pub fn put_teacher_link(
-    out: &mut PageText,
-    instance: &Instance<'_>,
-    course: u32,
-) -> Result<(), TextFault>
+pub fn put_teacher_link(out: &mut PageText, instance: &Instance<'_>, course: u32)
     requires { course < length instance.now.courses }
-    ensures { Puts result out.old out.new (week_link instance.now kinds.Teacher (teacher_of instance.now course)) }
+    ensures { out.new ≡ put_text out.old (week_link instance.now kinds.Teacher (teacher_of instance.now course)) }
 {
     let teacher = teacher_of(instance, course);
-    put_week_link(out, instance, Kind::Teacher, teacher)
+    put_week_link(out, instance, Kind::Teacher, teacher);
 }
 
 /// Appends the beginning of a link from an entry to its cell in a week.
 #[tactic(auto, unfolding(crate::specs::Links::cell_anchor))]
-fn put_cell_anchor(
-    out: &mut PageText,
-    kind: Kind,
-    number: u32,
-    entry: &Entry,
-) -> Result<(), TextFault>
-    ensures { Puts result out.old out.new (cell_anchor kind number entry.now) }
+fn put_cell_anchor(out: &mut PageText, kind: Kind, number: u32, entry: &Entry)
+    ensures { out.new ≡ put_text out.old (cell_anchor kind number entry.now) }
 {
     put(
         out,
@@ -125,21 +108,15 @@ fn put_cell_anchor(
             Part::Number(entry.period),
             Part::Text("\">"),
         ],
-    )
+    );
 }
 
 /// Appends a link from the day and the period of an entry to its cell in a week.
-#[tactic(auto, unfolding(crate::specs::Links::when_link))]
-pub fn put_when_link(
-    out: &mut PageText,
-    labels: &Labels,
-    kind: Kind,
-    number: u32,
-    entry: &Entry,
-) -> Result<(), TextFault>
-    ensures { Puts result out.old out.new (when_link labels.now kind number entry.now) }
+#[tactic(auto, using(tt_page_text::proofs::Growing::puts), unfolding(crate::specs::Links::when_link))]
+pub fn put_when_link(out: &mut PageText, labels: &Labels, kind: Kind, number: u32, entry: &Entry)
+    ensures { out.new ≡ put_text out.old (when_link labels.now kind number entry.now) }
 {
-    put_cell_anchor(out, kind, number, entry)?;
-    put_when(out, labels, entry.day, entry.period)?;
-    put_token(out, b"</a>")
+    put_cell_anchor(out, kind, number, entry);
+    put_when(out, labels, entry.day, entry.period);
+    put_token(out, b"</a>");
 }

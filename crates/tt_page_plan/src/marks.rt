@@ -1,10 +1,9 @@
-//! What is wrong with a lecture: no seats, an unavailable period, an isolated place.
+//! What is wrong with a lecture: an unavailable period, an isolated place.
 
-ghost use Rattle.std.specs.Prelude.{◌≡◌, ◌<◌, ◌≤◌, ◌&&◌};
+ghost use Rattle.std.specs.Prelude.{◌≡◌, ◌<◌, ◌&&◌};
 ghost use Rattle.std.specs.List.{list_any};
 ghost use Rattle.tt_instance_data.specs.Cells.{InRange, is_at, slot};
-ghost use Rattle.tt_instance_data.specs.Courses.{in_curriculum, unavailable, excess};
-ghost use Rattle.tt_instance_data.specs.declared.limit.TheConstants.{MAX_SEATS};
+ghost use Rattle.tt_instance_data.specs.Courses.{in_curriculum, unavailable};
 ghost use Rattle.tt_rules.specs.Soft.{is_isolated};
 ghost use Rattle.tt_page_plan.specs.Sides.{is_right_before, is_right_after};
 
@@ -64,14 +63,4 @@ pub fn is_isolated(plan: &Plan<'_, '_>, curriculum: u32, entry: &Entry) -> bool
     let before = is_taught_before(plan, curriculum, entry);
     let after = is_taught_after(plan, curriculum, entry);
     !before && !after
-}
-
-/// Returns the number of students of its course for whom its room has no seat.
-pub fn without_seat(instance: &Instance<'_>, entry: &Entry) -> u64
-    requires { InRange instance.now entry.now }
-    ensures value { result ≡ excess instance.now entry.now.course entry.now.room }
-    ensures at_most { result ≤ MAX_SEATS }
-{
-    let seats = instance.capacity(entry.room);
-    u64::from(instance.students(entry.course).saturating_sub(seats))
 }

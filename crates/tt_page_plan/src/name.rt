@@ -1,27 +1,27 @@
 //! The name of an instance.
 
-ghost use Rattle.tt_page_text.specs.Puts.{Puts};
+ghost use Rattle.std.specs.Prelude.{◌≡◌};
+ghost use Rattle.tt_page_text.specs.Puts.{put_text};
 ghost use Rattle.tt_page_plan.specs.Names.{name_text, next_shown};
 
 use tt_instance_data::Instance;
-use tt_page_text::{PageText, TextFault, put_shown, put_token};
+use tt_page_text::{PageText, put_shown, put_token};
 
 /// Appends a space and a token of the name.
-#[tactic(auto, unfolding(crate::specs::Names::next_shown))]
-fn put_next_shown(out: &mut PageText, token: &[u8]) -> Result<(), TextFault>
-    ensures { Puts result out.old out.new (next_shown token.now) }
+#[tactic(auto, using(tt_page_text::proofs::Growing::puts), unfolding(crate::specs::Names::next_shown))]
+fn put_next_shown(out: &mut PageText, token: &[u8])
+    ensures { out.new ≡ put_text out.old (next_shown token.now) }
 {
-    put_token(out, b" ")?;
-    put_shown(out, token)
+    put_token(out, b" ");
+    put_shown(out, token);
 }
 
 /// Appends the name of the instance, each of its tokens after a space.
-#[tactic(auto, using(tt_page_text::proofs::Growing::taken_further, tt_page_text::proofs::Growing::taken_within), unfolding(crate::specs::Names::name_text))]
-pub fn put_name(out: &mut PageText, instance: &Instance<'_>) -> Result<(), TextFault>
-    ensures { Puts result out.old out.new (name_text instance.now) }
+#[tactic(auto, using(tt_page_text::proofs::Growing::puts), unfolding(crate::specs::Names::name_text))]
+pub fn put_name(out: &mut PageText, instance: &Instance<'_>)
+    ensures { out.new ≡ put_text out.old (name_text instance.now) }
 {
     for index in 0..instance.name_len() {
-        put_next_shown(out, instance.name_token(index))?;
+        put_next_shown(out, instance.name_token(index));
     }
-    Ok(())
 }

@@ -1,23 +1,25 @@
-//! A timetable of an instance, its entries by period and by course, the curricula of each course, and the order of names.
+//! A timetable of an instance, its entries by period and by course, the curricula of each course, the courses of each week, and the order of names.
 
 ghost use Rattle.std.specs.Prelude.{◌≡◌, ◌+◌, ◌<◌, ◌≤◌, length, filter, drop, All, Some, slice_get, IfOk, IfSome};
 ghost use Rattle.tt_instance_data.specs.Cells.{InRange, is_of, is_at, slot, slot_of};
+ghost use Rattle.tt_instance_data.specs.declared.limit.TheConstants.{MAX_COURSES};
 ghost use Rattle.tt_table.specs.Table.{IsTimetable};
 ghost use Rattle.tt_table.specs.declared.table.TheConstants.{MAX_ENTRIES};
 ghost use Rattle.tt_table.specs.declared.groups.GroupBy.TheVariants as by;
 ghost use Rattle.tt_page_plan.specs.Planned.{Planned};
-ghost use Rattle.tt_page_plan.specs.Kinds.{count_of, first_curriculum};
+ghost use Rattle.tt_table.specs.Kinds.{count_of};
+ghost use Rattle.tt_page_plan.specs.Kinds.{first_curriculum, own_courses};
 ghost use Rattle.tt_page_plan.specs.Orders.{numbers_of};
 
-use crate::kind::Kind;
+use crate::members::Members;
 use crate::order::Orders;
 use std::alloc::{AllocError, Global};
 use std::marker::Model;
-use tt_instance_data::{Instance, MAX_COURSES};
+use tt_instance_data::Instance;
 use tt_instance_links::Curricula;
-use tt_table::{Entry, Group, GroupBy, Groups, Timetable};
+use tt_table::{Entry, Group, Groups, Kind, Timetable};
 
-/// A timetable of an instance, its entries by period and by course, the curricula of each course, and the order of names.
+/// A timetable of an instance, its entries by period and by course, the curricula of each course, the courses of each week, and the order of names.
 #[derive(Drop)]
 pub struct Plan<'w, 'i> {
     instance: &'w Instance<'i>,
@@ -26,6 +28,7 @@ pub struct Plan<'w, 'i> {
     by_course: Groups<'w>,
     curricula: Curricula,
     orders: Orders,
+    members: Members,
 }
 
 impl<'w, 'i> Model for Plan<'w, 'i> {
@@ -40,26 +43,6 @@ impl<'w, 'i> Model for Plan<'w, 'i> {
     ghost invariant = { IsPlan };
 }
 
-/// Groups the entries by the period of the week.
-fn by_period<'t>(instance: &Instance<'_>, entries: &'t [Entry]) -> Groups<'t>
-    requires in_range { All (InRange instance.now) entries.now }
-    requires at_most { length entries.now ≤ MAX_ENTRIES }
-    ensures { result ≡ record { by = by.Period instance.now.periods; entries = entries.now } }
-{
-    Groups::new(entries, GroupBy::Period(instance.periods()))
-}
-
-/// Groups the entries by course.
-fn by_course<'t>(instance: &Instance<'_>, entries: &'t [Entry]) -> Groups<'t>
-    requires in_range { All (InRange instance.now) entries.now }
-    requires at_most { length entries.now ≤ MAX_ENTRIES }
-    ensures { result ≡ record { by = by.Course; entries = entries.now } }
-{
-    // Brings the instance's limits into the proof.
-    prove!(instance.courses() <= MAX_COURSES);
-    Groups::new(entries, GroupBy::Course)
-}
-
 impl<'w, 'i> Plan<'w, 'i> {
     /// Returns the plan of a timetable, whose entries are all in the instance's range.
     pub fn new(
@@ -72,9 +55,10 @@ impl<'w, 'i> Plan<'w, 'i> {
     {
         let curricula = Curricula::new(alloc, instance)?;
         let orders = Orders::new(alloc, instance)?;
+        let members = Members::new(alloc, instance)?;
         let entries = table.entries();
-        let by_period = by_period(instance, entries);
-        let by_course = by_course(instance, entries);
+        let by_period = Groups::by_period(instance, entries);
+        let by_course = Groups::by_course(instance, entries);
         Ok(Plan {
             instance,
             entries,
@@ -82,6 +66,7 @@ impl<'w, 'i> Plan<'w, 'i> {
             by_course,
             curricula,
             orders,
+            members,
         })
     }
 
@@ -112,6 +97,19 @@ impl<'w, 'i> Plan<'w, 'i> {
         self.by_period.in_period(self.instance, day, period)
     }
 
+    /// Returns all entries, grouped by course.
+    pub fn by_course(&self) -> &Groups<'w>
+        ensures by { result.now.by ≡ by.Course }
+        ensures entries { result.now.entries ≡ self.now.table }
+        ensures in_range { All (InRange self.now.problem) result.now.entries }
+        ensures at_most { length result.now.entries ≤ MAX_ENTRIES }
+        ensures courses { length self.now.problem.courses ≤ MAX_COURSES }
+    {
+        // Brings the instance's limits into the proof.
+        let _courses = self.instance.courses();
+        &self.by_course
+    }
+
     /// Returns the entries of a course.
     pub fn of_course(&self, course: u32) -> Group<'_>
         requires { course < length self.now.problem.courses }
@@ -138,6 +136,15 @@ impl<'w, 'i> Plan<'w, 'i> {
         ensures below { All (λ n. n < count_of self.now.problem kind) result.now }
     {
         self.orders.of(kind)
+    }
+
+    /// Returns the courses whose unavailable periods a week shows.
+    pub fn own_courses(&self, kind: Kind, number: u32) -> &[u32]
+        requires { number < count_of self.now.problem kind }
+        ensures value { result.now ≡ own_courses self.now.problem kind number }
+        ensures there { All (λ c. c < length self.now.problem.courses) result.now }
+    {
+        self.members.of(kind, number)
     }
 
     /// Returns the later entries of an entry's period.

@@ -1,23 +1,30 @@
--- Examples of texts that are appended.
-use Rattle.std.proofs.Common.{Ok, Err, refl}
-use Rattle.std.specs.Prelude.{Result, codes}
-use Rattle.tt_page_text.specs.Puts.{Puts}
-use Rattle.tt_page_text.specs.declared.fault.TextFault.{TextFault}
-use Rattle.tt_page_text.specs.declared.fault.TextFault.TheVariants as fault
+-- Examples of texts that are put.
+use Rattle.std.proofs.Common.{◌≡◌, Some, None, refl}
+use Rattle.std.specs.Prelude.{codes}
+use Rattle.tt_page_text.specs.Puts.{put_text, too_many, total_of, window}
+use Rattle.tt_page_text.specs.Windowed.{PageState}
 
-abbrev done : Result (Unit {0}) TextFault
-done = Ok tt
+-- the window has the third byte and the fourth
+abbrev at_two : PageState
+at_two = window 2 2 too_many
 
-abbrev out_of_memory : Result (Unit {0}) TextFault
-out_of_memory = Err fault.OutOfMemory
+before : (put_text at_two (codes "a")).bytes ≡ codes ""
+unfolding put_text
+before = refl
 
--- the text is appended
-behind : Puts done (codes "<td>") (codes "<td>a</td>") (codes "a</td>")
-behind = refl
+across : (put_text (put_text at_two (codes "ab")) (codes "cde")).bytes ≡ codes "cd"
+unfolding put_text
+across = refl
 
-nothing : Puts done (codes "<td>") (codes "<td>") (codes "")
-nothing = refl
+counted : total_of (put_text at_two (codes "abcde")) ≡ Some 5
+unfolding put_text
+counted = refl
 
--- if memory runs out, nothing is said
-no_memory : Puts out_of_memory (codes "<td>") (codes "<") (codes "a")
-no_memory = λ is. cc
+-- a text is too large if no byte was left
+too_large : total_of (window 2 2 0) ≡ None
+too_large = refl
+
+-- only as many bytes are taken as are left
+cut : (put_text (window 2 2 3) (codes "abcde")).bytes ≡ codes "c"
+unfolding put_text
+cut = refl

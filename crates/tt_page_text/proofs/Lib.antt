@@ -1,4 +1,5 @@
 mod Examples
+pub mod Chunks
 pub mod Growing
 pub mod Harmless
-pub mod Stopping
+pub mod Windows

@@ -4,3 +4,4 @@ pub mod Markup
 pub mod Naming
 pub mod Puts
 pub mod Shown
+pub mod Windowed

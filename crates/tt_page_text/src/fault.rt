@@ -1,4 +1,4 @@
-//! Why a text was not put, and why names of days and periods were not taken.
+//! Why the text of a page was not made, and why names of days and periods were not taken.
 
 ghost use Rattle.std.specs.Prelude.{◌≡◌};
 ghost use Rattle.tt_page_text.specs.declared.fault.LabelsFault.TheVariants as fault;
@@ -7,7 +7,7 @@ ghost use Rattle.tt_page_text.specs.declared.fault.TextFault.TheVariants as text
 use std::alloc::{AllocError, AllocFailed};
 use thiserror::Error;
 
-/// Why a text was not put.
+/// Why the text of a page was not made.
 #[derive(Clone, Copy, Debug, PartialEq, Eq, Error)]
 pub enum TextFault {
     /// The page would have more than 67,108,864 bytes.
@@ -21,14 +21,6 @@ impl From<AllocError> for TextFault {
     ghost from_gives = { λ _ e. e ≡ text_fault.OutOfMemory };
 
     fn from(_e: AllocError) -> TextFault {
-        TextFault::OutOfMemory
-    }
-}
-
-impl<T: Drop> From<AllocFailed<T>> for TextFault {
-    ghost from_gives = { λ _ e. e ≡ text_fault.OutOfMemory };
-
-    fn from(_e: AllocFailed<T>) -> TextFault {
         TextFault::OutOfMemory
     }
 }

@@ -4,9 +4,9 @@ ghost use Rattle.std.specs.Prelude.{◌≡◌, IfOk};
 ghost use Rattle.std.specs.Option.{option_copied};
 ghost use Rattle.tt_page_text.specs.Labels.{names_from, names_in, names_of, labels_of, no_labels, day_text, period_text, behind_text, when_text, Gives};
 ghost use Rattle.tt_page_text.specs.Naming.{names_seen};
-ghost use Rattle.tt_page_text.specs.Puts.{Puts};
+ghost use Rattle.tt_page_text.specs.Puts.{put_text};
 
-use crate::fault::{LabelsFault, TextFault};
+use crate::fault::LabelsFault;
 use crate::page_text::{PageText, put_token};
 use crate::part::{Part, put};
 use crate::shown::put_shown;
@@ -99,8 +99,8 @@ impl Labels {
 
 /// Appends the name of a day, or its number from 1.
 #[tactic(auto, unfolding(crate::specs::Labels::day_text))]
-pub fn put_day(out: &mut PageText, labels: &Labels, day: u32) -> Result<(), TextFault>
-    ensures { Puts result out.old out.new (day_text labels.now day) }
+pub fn put_day(out: &mut PageText, labels: &Labels, day: u32)
+    ensures { out.new ≡ put_text out.old (day_text labels.now day) }
 {
     match labels.days.get(day as usize) {
         Some(name) => put_shown(out, name.as_slice()),
@@ -110,8 +110,8 @@ pub fn put_day(out: &mut PageText, labels: &Labels, day: u32) -> Result<(), Text
 
 /// Appends the name of a period, or its number from 1.
 #[tactic(auto, unfolding(crate::specs::Labels::period_text))]
-pub fn put_period(out: &mut PageText, labels: &Labels, period: u32) -> Result<(), TextFault>
-    ensures { Puts result out.old out.new (period_text labels.now period) }
+pub fn put_period(out: &mut PageText, labels: &Labels, period: u32)
+    ensures { out.new ≡ put_text out.old (period_text labels.now period) }
 {
     match labels.periods.get(period as usize) {
         Some(name) => put_shown(out, name.as_slice()),
@@ -121,8 +121,8 @@ pub fn put_period(out: &mut PageText, labels: &Labels, period: u32) -> Result<()
 
 /// Appends the name of a period, or the word "period" and its number from 1.
 #[tactic(auto, unfolding(crate::specs::Labels::behind_text))]
-fn put_behind(out: &mut PageText, labels: &Labels, period: u32) -> Result<(), TextFault>
-    ensures { Puts result out.old out.new (behind_text labels.now period) }
+fn put_behind(out: &mut PageText, labels: &Labels, period: u32)
+    ensures { out.new ≡ put_text out.old (behind_text labels.now period) }
 {
     match labels.periods.get(period as usize) {
         Some(name) => put_shown(out, name.as_slice()),
@@ -134,11 +134,11 @@ fn put_behind(out: &mut PageText, labels: &Labels, period: u32) -> Result<(), Te
 }
 
 /// Appends a day and a period of it.
-#[tactic(auto, unfolding(crate::specs::Labels::when_text))]
-pub fn put_when(out: &mut PageText, labels: &Labels, day: u32, period: u32) -> Result<(), TextFault>
-    ensures { Puts result out.old out.new (when_text labels.now day period) }
+#[tactic(auto, using(crate::proofs::Growing::puts), unfolding(crate::specs::Labels::when_text))]
+pub fn put_when(out: &mut PageText, labels: &Labels, day: u32, period: u32)
+    ensures { out.new ≡ put_text out.old (when_text labels.now day period) }
 {
-    put_day(out, labels, day)?;
-    put_token(out, b", ")?;
-    put_behind(out, labels, period)
+    put_day(out, labels, day);
+    put_token(out, b", ");
+    put_behind(out, labels, period);
 }

@@ -9,6 +9,6 @@ mod shown;
 
 pub use fault::{LabelsFault, TextFault};
 pub use labels::{Labels, put_day, put_period, put_when};
-pub use page_text::{MAX_PAGE_BYTES, PageText, put_number, put_token};
+pub use page_text::{MAX_PAGE_BYTES, PAGE_PIECE_BYTES, PageText, put_number, put_token};
 pub use part::{Part, put, put_counted};
 pub use shown::put_shown;

@@ -1,9 +1,9 @@
 //! Pieces of a page, in turn.
 
+ghost use Rattle.std.specs.Prelude.{◌≡◌};
 ghost use Rattle.tt_page_text.specs.Markup.{part_text, parts_text, counted};
-ghost use Rattle.tt_page_text.specs.Puts.{Puts};
+ghost use Rattle.tt_page_text.specs.Puts.{put_text};
 
-use crate::fault::TextFault;
 use crate::page_text::{PageText, put_number, put_token};
 use crate::shown::put_shown;
 
@@ -18,8 +18,8 @@ pub enum Part<'a> {
     Name(&'a [u8]),
 }
 
-fn put_part(out: &mut PageText, part: Part<'_>) -> Result<(), TextFault>
-    ensures { Puts result out.old out.new (part_text part.entry) }
+fn put_part(out: &mut PageText, part: Part<'_>)
+    ensures { out.new ≡ put_text out.old (part_text part.entry) }
 {
     match part {
         Part::Text(text) => put_token(out, text.as_bytes()),
@@ -30,30 +30,25 @@ fn put_part(out: &mut PageText, part: Part<'_>) -> Result<(), TextFault>
 }
 
 /// Appends pieces.
-#[tactic(auto, using(crate::proofs::Growing::taken_further, crate::proofs::Growing::taken_within))]
-pub fn put(out: &mut PageText, parts: &[Part<'_>]) -> Result<(), TextFault>
-    ensures { Puts result out.old out.new (parts_text parts.now) }
+#[tactic(auto, using(crate::proofs::Growing::puts))]
+pub fn put(out: &mut PageText, parts: &[Part<'_>])
+    ensures { out.new ≡ put_text out.old (parts_text parts.now) }
 {
     for part in parts {
-        put_part(out, *part)?;
+        put_part(out, *part);
     }
-    Ok(())
 }
 
 /// Appends a number between two texts, unless it is 0.
-pub fn put_counted<'x>(
-    out: &mut PageText,
-    before: &'x str,
-    number: u64,
-    behind: &'x str,
-) -> Result<(), TextFault>
-    ensures { Puts result out.old out.new (counted before.now number behind.now) }
+#[tactic(auto, using(crate::proofs::Growing::puts))]
+pub fn put_counted<'x>(out: &mut PageText, before: &'x str, number: u64, behind: &'x str)
+    ensures { out.new ≡ put_text out.old (counted before.now number behind.now) }
 {
     if number == 0 {
-        return Ok(());
+        return;
     }
     put(
         out,
         &[Part::Text(before), Part::Count(number), Part::Text(behind)],
-    )
+    );
 }

@@ -1,30 +1,25 @@
 -- The grids of a page: one for each room, teacher and curriculum, with a column for each day and a row for each period of a day.
-use Rattle.std.specs.Prelude.{ℕ, ◌==◌, List, [], ◌∷◌, ◌++◌, filter, flat_map, codes, Option, Some, None, if◌then◌else◌}
+use Rattle.std.specs.Prelude.{ℕ, List, [], ◌∷◌, ◌++◌, filter, flat_map, codes, Option, Some, None, if◌then◌else◌}
 use Rattle.tt_lists.specs.Words.{range_below}
 use Rattle.tt_text.specs.Pieces.{Text, Number}
 use Rattle.tt_instance_data.specs.Problem.{Problem}
-use Rattle.tt_instance_data.specs.Cells.{all_courses, all_days, slot, is_at}
-use Rattle.tt_instance_data.specs.Courses.{capacity, unavailable, in_curriculum}
+use Rattle.tt_instance_data.specs.Cells.{all_days, slot, is_at}
+use Rattle.tt_instance_data.specs.Courses.{capacity, unavailable}
 use Rattle.tt_instance_data.specs.declared.cell.Cell.{Cell}
 use Rattle.tt_page_text.specs.Shown.{shown}
 use Rattle.tt_page_text.specs.Markup.{markup}
 use Rattle.tt_page_text.specs.Labelled.{Labelled}
 use Rattle.tt_page_text.specs.Labels.{day_text, period_text, when_text}
 use Rattle.tt_page_plan.specs.Names.{name_text}
-use Rattle.tt_page_plan.specs.Kinds.{count_of, name_of, course_name, teacher_of, belongs_to, word_of, caption_of, section_of, title_of}
+use Rattle.tt_table.specs.Kinds.{count_of, name_of, word_of}
+use Rattle.tt_page_plan.specs.Kinds.{course_name, belongs_to, own_courses, caption_of, section_of, title_of}
 use Rattle.tt_page_plan.specs.Orders.{numbers_of}
 use Rattle.tt_page_plan.specs.Links.{week_link}
 use Rattle.tt_page_weeks.specs.Lectures.{hue_class, lecture_text}
-use Rattle.tt_page_plan.specs.declared.kind.Kind.{Kind}
-use Rattle.tt_page_plan.specs.declared.kind.Kind.TheVariants.{Room, Teacher, Curriculum}
+use Rattle.tt_table.specs.declared.kind.Kind.{Kind}
+use Rattle.tt_table.specs.declared.kind.Kind.TheVariants.{Room, Teacher, Curriculum}
 
 -- ---- cells
-
--- The courses whose unavailable periods a week shows: those of a teacher, and those of a curriculum.
-abbrev pub own_courses : Problem → Kind → ℕ → List ℕ
-own_courses p Room r = []
-own_courses p Teacher k = filter (λ c. teacher_of p c == k) (all_courses p)
-own_courses p Curriculum q = filter (in_curriculum p q) (all_courses p)
 
 -- The beginning of the text for a course to which a period is unavailable: the day and the period.
 unfoldable pub barred_when : Labelled → ℕ → ℕ → List ℕ

@@ -13,8 +13,8 @@ use Rattle.tt_page_plan.specs.Kinds.{course_name, teacher_of, first_curriculum}
 use Rattle.tt_page_plan.specs.Links.{week_link}
 use Rattle.tt_page_weeks.specs.Marks.{in_conflict, room_taken, repeated, in_other_room}
 use Rattle.tt_page_weeks.specs.declared.hues.TheConstants.{HUES}
-use Rattle.tt_page_plan.specs.declared.kind.Kind.{Kind}
-use Rattle.tt_page_plan.specs.declared.kind.Kind.TheVariants.{Room, Teacher, Curriculum}
+use Rattle.tt_table.specs.declared.kind.Kind.{Kind}
+use Rattle.tt_table.specs.declared.kind.Kind.TheVariants.{Room, Teacher, Curriculum}
 
 -- The part of a lecture that its week doesn't determine: a room's week shows teachers, a teacher's shows rooms, a curriculum's both.
 unfoldable pub further_text : Problem → Kind → Cell → List ℕ

@@ -1,105 +1,47 @@
 //! The grids of a page: one for each room, teacher and curriculum.
 
-ghost use Rattle.std.specs.Prelude.{◌≡◌, ◌<◌, ◌==◌, length, filter, flat_map, All, IfOk};
+ghost use Rattle.std.specs.Prelude.{◌≡◌, ◌<◌, length, filter, flat_map, All};
 ghost use Rattle.tt_lists.specs.Words.{range_below};
-ghost use Rattle.tt_instance_data.specs.Cells.{InRange, all_courses};
-ghost use Rattle.tt_instance_data.specs.Courses.{in_curriculum};
-ghost use Rattle.tt_page_text.specs.Puts.{Puts};
-ghost use Rattle.tt_page_plan.specs.Kinds.{count_of, belongs_to, teacher_of};
+ghost use Rattle.tt_instance_data.specs.Cells.{InRange};
+ghost use Rattle.tt_page_text.specs.Puts.{put_text};
+ghost use Rattle.tt_table.specs.Kinds.{count_of};
+ghost use Rattle.tt_page_plan.specs.Kinds.{belongs_to};
 ghost use Rattle.tt_page_weeks.specs.Lectures.{lecture_text};
-ghost use Rattle.tt_page_weeks.specs.Grids.{own_courses, barred_when, barred_course, barred_text, cell_head, cell_text, row_head, row_text, seats_text, grid_head, paper_name, table_head, grid_title, day_head, grid_text, curriculum_of, index_item, section_head, section_text};
+ghost use Rattle.tt_page_weeks.specs.Grids.{barred_when, barred_course, barred_text, cell_head, cell_text, row_head, row_text, seats_text, grid_head, paper_name, table_head, grid_title, day_head, grid_text, curriculum_of, index_item, section_head, section_text};
 
 use crate::hues::put_hue;
 use crate::lectures::put_lecture;
-use std::alloc::{AllocError, Global};
 use tt_instance_data::Instance;
-use tt_page_plan::{Kind, Plan, course_name, put_name, put_week_link, teacher_of};
-use tt_page_text::{
-    Labels, PageText, Part, TextFault, put, put_day, put_period, put_token, put_when,
+use tt_page_plan::{
+    Plan, caption_of, course_name, is_in_week, put_name, put_week_link, section_of, title_of,
 };
-use tt_table::Group;
-
-/// Returns the courses of a teacher.
-fn courses_of(alloc: Global, instance: &Instance<'_>, teacher: u32) -> Result<Vec<u32>, AllocError>
-    ensures { IfOk result (λ own. own.items ≡ filter (λ c. teacher_of instance.now c == teacher) (all_courses instance.now)) }
-{
-    let mut own = Vec::new(alloc);
-    for course in 0..instance.courses() {
-        if teacher_of(instance, course) != teacher {
-            continue;
-        }
-        own.push(course)?;
-    }
-    Ok(own)
-}
-
-/// Returns the courses of a curriculum.
-fn members_of(
-    alloc: Global,
-    instance: &Instance<'_>,
-    curriculum: u32,
-) -> Result<Vec<u32>, AllocError>
-    ensures { IfOk result (λ own. own.items ≡ filter (in_curriculum instance.now curriculum) (all_courses instance.now)) }
-{
-    let mut own = Vec::new(alloc);
-    for course in 0..instance.courses() {
-        if !instance.in_curriculum(curriculum, course) {
-            continue;
-        }
-        own.push(course)?;
-    }
-    Ok(own)
-}
-
-/// Returns the courses whose unavailable periods a week shows.
-fn own_courses(
-    alloc: Global,
-    instance: &Instance<'_>,
-    kind: Kind,
-    number: u32,
-) -> Result<Vec<u32>, AllocError>
-    ensures { IfOk result (λ own. own.items ≡ own_courses instance.now kind number) }
-{
-    match kind {
-        Kind::Room => Ok(Vec::new(alloc)),
-        Kind::Teacher => courses_of(alloc, instance, number),
-        Kind::Curriculum => members_of(alloc, instance, number),
-    }
-}
+use tt_page_text::{Labels, PageText, Part, put, put_day, put_period, put_token, put_when};
+use tt_table::{Group, Kind};
 
 /// Appends the beginning of the text for a course to which a period is unavailable.
-#[tactic(auto, unfolding(crate::specs::Grids::barred_when))]
-fn put_barred_when(
-    out: &mut PageText,
-    labels: &Labels,
-    day: u32,
-    period: u32,
-) -> Result<(), TextFault>
-    ensures { Puts result out.old out.new (barred_when labels.now day period) }
+#[tactic(auto, using(tt_page_text::proofs::Growing::puts), unfolding(crate::specs::Grids::barred_when))]
+fn put_barred_when(out: &mut PageText, labels: &Labels, day: u32, period: u32)
+    ensures { out.new ≡ put_text out.old (barred_when labels.now day period) }
 {
-    put_token(out, b"<div class=\"barred\"><span class=\"when\">")?;
-    put_when(out, labels, day, period)?;
-    put_token(out, b"</span> ")
+    put_token(out, b"<div class=\"barred\"><span class=\"when\">");
+    put_when(out, labels, day, period);
+    put_token(out, b"</span> ");
 }
 
 #[tactic(auto, unfolding(crate::specs::Grids::barred_course))]
-fn put_barred_course(
-    out: &mut PageText,
-    instance: &Instance<'_>,
-    course: u32,
-) -> Result<(), TextFault>
+fn put_barred_course(out: &mut PageText, instance: &Instance<'_>, course: u32)
     requires { course < length instance.now.courses }
-    ensures { Puts result out.old out.new (barred_course instance.now course) }
+    ensures { out.new ≡ put_text out.old (barred_course instance.now course) }
 {
     let name = course_name(instance, course);
     put(
         out,
         &[Part::Text("not "), Part::Name(name), Part::Text("</div>\n")],
-    )
+    );
 }
 
 /// Appends the text for a course to which a period is unavailable.
-#[tactic(auto, unfolding(crate::specs::Grids::barred_text))]
+#[tactic(auto, using(tt_page_text::proofs::Growing::puts), unfolding(crate::specs::Grids::barred_text))]
 fn put_barred(
     out: &mut PageText,
     instance: &Instance<'_>,
@@ -107,19 +49,19 @@ fn put_barred(
     day: u32,
     period: u32,
     course: u32,
-) -> Result<(), TextFault>
+)
     requires { course < length instance.now.courses }
-    ensures { Puts result out.old out.new (barred_text instance.now labels.now day period course) }
+    ensures { out.new ≡ put_text out.old (barred_text instance.now labels.now day period course) }
 {
     if !instance.unavailable(course, day, period) {
-        return Ok(());
+        return;
     }
-    put_barred_when(out, labels, day, period)?;
-    put_barred_course(out, instance, course)
+    put_barred_when(out, labels, day, period);
+    put_barred_course(out, instance, course);
 }
 
 /// Appends the texts for those of some courses to which a period is unavailable.
-#[tactic(auto, using(tt_page_text::proofs::Growing::taken_further, tt_page_text::proofs::Growing::taken_within))]
+#[tactic(auto, using(tt_page_text::proofs::Growing::puts))]
 fn put_all_barred(
     out: &mut PageText,
     instance: &Instance<'_>,
@@ -127,17 +69,17 @@ fn put_all_barred(
     courses: &[u32],
     day: u32,
     period: u32,
-) -> Result<(), TextFault>
+)
     requires { All (λ c. c < length instance.now.courses) courses.now }
-    ensures { Puts result out.old out.new (flat_map (barred_text instance.now labels.now day period) courses.now) }
+    ensures { out.new ≡ put_text out.old (flat_map (barred_text instance.now labels.now day period) courses.now) }
 {
     for course in courses {
-        put_barred(out, instance, labels, day, period, *course)?;
+        put_barred(out, instance, labels, day, period, *course);
     }
-    Ok(())
 }
 
 /// Appends the lectures of those of some entries that belong to a week.
+#[tactic(auto, using(tt_page_text::proofs::Growing::puts))]
 pub fn put_lectures(
     out: &mut PageText,
     plan: &Plan<'_, '_>,
@@ -145,28 +87,21 @@ pub fn put_lectures(
     kind: Kind,
     number: u32,
     entries: Group<'_>,
-) -> Result<(), TextFault>
+)
     requires { All (InRange plan.now.problem) entries }
-    ensures { Puts result out.old out.new (flat_map (lecture_text plan.now.problem plan.now.table labels.now kind number) (filter (belongs_to plan.now.problem kind number) entries.entry)) }
+    ensures { out.new ≡ put_text out.old (flat_map (lecture_text plan.now.problem plan.now.table labels.now kind number) (filter (belongs_to plan.now.problem kind number) entries.entry)) }
 {
     for entry in entries {
-        if kind.has(plan.instance(), number, entry) {
-            put_lecture(out, plan, labels, kind, number, entry)?;
+        if is_in_week(plan.instance(), kind, number, entry) {
+            put_lecture(out, plan, labels, kind, number, entry);
         }
     }
-    Ok(())
 }
 
 /// Appends the beginning of a cell.
 #[tactic(auto, unfolding(crate::specs::Grids::cell_head))]
-fn put_cell_head(
-    out: &mut PageText,
-    kind: Kind,
-    number: u32,
-    day: u32,
-    period: u32,
-) -> Result<(), TextFault>
-    ensures { Puts result out.old out.new (cell_head kind number day period) }
+fn put_cell_head(out: &mut PageText, kind: Kind, number: u32, day: u32, period: u32)
+    ensures { out.new ≡ put_text out.old (cell_head kind number day period) }
 {
     put(
         out,
@@ -180,11 +115,11 @@ fn put_cell_head(
             Part::Number(period),
             Part::Text("\">\n"),
         ],
-    )
+    );
 }
 
 /// Appends a cell: a period of a day.
-#[tactic(auto, unfolding(crate::specs::Grids::cell_text))]
+#[tactic(auto, using(tt_page_text::proofs::Growing::puts), unfolding(crate::specs::Grids::cell_text))]
 fn put_cell(
     out: &mut PageText,
     plan: &Plan<'_, '_>,
@@ -194,21 +129,21 @@ fn put_cell(
     own: &[u32],
     period: u32,
     day: u32,
-) -> Result<(), TextFault>
+)
     requires own { All (λ c. c < length plan.now.problem.courses) own.now }
     requires period { period < plan.now.problem.periods }
     requires day { day < plan.now.problem.days }
-    ensures { Puts result out.old out.new (cell_text plan.now.problem plan.now.table labels.now kind number own.now period day) }
+    ensures { out.new ≡ put_text out.old (cell_text plan.now.problem plan.now.table labels.now kind number own.now period day) }
 {
-    put_cell_head(out, kind, number, day, period)?;
-    put_all_barred(out, plan.instance(), labels, own, day, period)?;
+    put_cell_head(out, kind, number, day, period);
+    put_all_barred(out, plan.instance(), labels, own, day, period);
     let entries = plan.in_period(day, period);
-    put_lectures(out, plan, labels, kind, number, entries)?;
-    put_token(out, b"</td>\n")
+    put_lectures(out, plan, labels, kind, number, entries);
+    put_token(out, b"</td>\n");
 }
 
 /// Appends the cells of a period.
-#[tactic(auto, using(tt_page_text::proofs::Growing::text_further, tt_page_text::proofs::Growing::text_within))]
+#[tactic(auto, using(tt_page_text::proofs::Growing::puts))]
 fn put_cells(
     out: &mut PageText,
     plan: &Plan<'_, '_>,
@@ -217,29 +152,28 @@ fn put_cells(
     number: u32,
     own: &[u32],
     period: u32,
-) -> Result<(), TextFault>
+)
     requires own { All (λ c. c < length plan.now.problem.courses) own.now }
     requires period { period < plan.now.problem.periods }
-    ensures { Puts result out.old out.new (flat_map (cell_text plan.now.problem plan.now.table labels.now kind number own.now period) (range_below plan.now.problem.days)) }
+    ensures { out.new ≡ put_text out.old (flat_map (cell_text plan.now.problem plan.now.table labels.now kind number own.now period) (range_below plan.now.problem.days)) }
 {
     for day in 0..plan.instance().days() {
-        put_cell(out, plan, labels, kind, number, own, period, day)?;
+        put_cell(out, plan, labels, kind, number, own, period, day);
     }
-    Ok(())
 }
 
 /// Appends the beginning of a row: its period.
-#[tactic(auto, unfolding(crate::specs::Grids::row_head))]
-fn put_row_head(out: &mut PageText, labels: &Labels, period: u32) -> Result<(), TextFault>
-    ensures { Puts result out.old out.new (row_head labels.now period) }
+#[tactic(auto, using(tt_page_text::proofs::Growing::puts), unfolding(crate::specs::Grids::row_head))]
+fn put_row_head(out: &mut PageText, labels: &Labels, period: u32)
+    ensures { out.new ≡ put_text out.old (row_head labels.now period) }
 {
-    put_token(out, b"<tr>\n<th scope=\"row\">")?;
-    put_period(out, labels, period)?;
-    put_token(out, b"</th>\n")
+    put_token(out, b"<tr>\n<th scope=\"row\">");
+    put_period(out, labels, period);
+    put_token(out, b"</th>\n");
 }
 
 /// Appends a row: a period of each day.
-#[tactic(auto, unfolding(crate::specs::Grids::row_text))]
+#[tactic(auto, using(tt_page_text::proofs::Growing::puts), unfolding(crate::specs::Grids::row_text))]
 fn put_row(
     out: &mut PageText,
     plan: &Plan<'_, '_>,
@@ -248,18 +182,18 @@ fn put_row(
     number: u32,
     own: &[u32],
     period: u32,
-) -> Result<(), TextFault>
+)
     requires own { All (λ c. c < length plan.now.problem.courses) own.now }
     requires period { period < plan.now.problem.periods }
-    ensures { Puts result out.old out.new (row_text plan.now.problem plan.now.table labels.now kind number own.now period) }
+    ensures { out.new ≡ put_text out.old (row_text plan.now.problem plan.now.table labels.now kind number own.now period) }
 {
-    put_row_head(out, labels, period)?;
-    put_cells(out, plan, labels, kind, number, own, period)?;
-    put_token(out, b"</tr>\n")
+    put_row_head(out, labels, period);
+    put_cells(out, plan, labels, kind, number, own, period);
+    put_token(out, b"</tr>\n");
 }
 
 /// Appends the rows of a grid.
-#[tactic(auto, using(tt_page_text::proofs::Growing::text_further, tt_page_text::proofs::Growing::text_within))]
+#[tactic(auto, using(tt_page_text::proofs::Growing::puts))]
 fn put_rows(
     out: &mut PageText,
     plan: &Plan<'_, '_>,
@@ -267,26 +201,20 @@ fn put_rows(
     kind: Kind,
     number: u32,
     own: &[u32],
-) -> Result<(), TextFault>
+)
     requires { All (λ c. c < length plan.now.problem.courses) own.now }
-    ensures { Puts result out.old out.new (flat_map (row_text plan.now.problem plan.now.table labels.now kind number own.now) (range_below plan.now.problem.periods)) }
+    ensures { out.new ≡ put_text out.old (flat_map (row_text plan.now.problem plan.now.table labels.now kind number own.now) (range_below plan.now.problem.periods)) }
 {
     for period in 0..plan.instance().periods() {
-        put_row(out, plan, labels, kind, number, own, period)?;
+        put_row(out, plan, labels, kind, number, own, period);
     }
-    Ok(())
 }
 
 /// Appends the beginning of a grid, with its room, teacher or curriculum.
 #[tactic(auto, unfolding(crate::specs::Grids::grid_head))]
-fn put_grid_head(
-    out: &mut PageText,
-    instance: &Instance<'_>,
-    kind: Kind,
-    number: u32,
-) -> Result<(), TextFault>
+fn put_grid_head(out: &mut PageText, instance: &Instance<'_>, kind: Kind, number: u32)
     requires { number < count_of instance.now kind }
-    ensures { Puts result out.old out.new (grid_head instance.now kind number) }
+    ensures { out.new ≡ put_text out.old (grid_head instance.now kind number) }
 {
     let name = kind.name(instance, number);
     let word = kind.word();
@@ -300,24 +228,19 @@ fn put_grid_head(
             Part::Text(word),
             Part::Number(number),
             Part::Text("-name\">"),
-            Part::Text(kind.caption()),
+            Part::Text(caption_of(kind)),
             Part::Text(" <b>"),
             Part::Name(name),
             Part::Text("</b>"),
         ],
-    )
+    );
 }
 
 /// Appends the seats of a room, in its heading.
-#[tactic(auto, unfolding(crate::specs::Grids::seats_text))]
-fn put_seats(
-    out: &mut PageText,
-    instance: &Instance<'_>,
-    kind: Kind,
-    number: u32,
-) -> Result<(), TextFault>
+#[tactic(auto, using(tt_page_text::proofs::Growing::puts), unfolding(crate::specs::Grids::seats_text))]
+fn put_seats(out: &mut PageText, instance: &Instance<'_>, kind: Kind, number: u32)
     requires { number < count_of instance.now kind }
-    ensures { Puts result out.old out.new (seats_text instance.now kind number) }
+    ensures { out.new ≡ put_text out.old (seats_text instance.now kind number) }
 {
     match kind {
         Kind::Room => {
@@ -325,25 +248,25 @@ fn put_seats(
             put(
                 out,
                 &[Part::Text(" "), Part::Number(seats), Part::Text(" seats")],
-            )
+            );
         }
-        Kind::Teacher | Kind::Curriculum => Ok(()),
+        Kind::Teacher | Kind::Curriculum => {}
     }
 }
 
 /// Appends the end of a heading: the name of the instance, for the sheets of paper.
-#[tactic(auto, unfolding(crate::specs::Grids::paper_name))]
-pub fn put_paper_name(out: &mut PageText, instance: &Instance<'_>) -> Result<(), TextFault>
-    ensures { Puts result out.old out.new (paper_name instance.now) }
+#[tactic(auto, using(tt_page_text::proofs::Growing::puts), unfolding(crate::specs::Grids::paper_name))]
+pub fn put_paper_name(out: &mut PageText, instance: &Instance<'_>)
+    ensures { out.new ≡ put_text out.old (paper_name instance.now) }
 {
-    put_token(out, b"<span class=\"paper\">, timetable")?;
-    put_name(out, instance)?;
-    put_token(out, b"</span></h3>\n")
+    put_token(out, b"<span class=\"paper\">, timetable");
+    put_name(out, instance);
+    put_token(out, b"</span></h3>\n");
 }
 
 #[tactic(auto, unfolding(crate::specs::Grids::table_head))]
-fn put_table_head(out: &mut PageText, kind: Kind, number: u32) -> Result<(), TextFault>
-    ensures { Puts result out.old out.new (table_head kind number) }
+fn put_table_head(out: &mut PageText, kind: Kind, number: u32)
+    ensures { out.new ≡ put_text out.old (table_head kind number) }
 {
     put(
         out,
@@ -353,87 +276,67 @@ fn put_table_head(out: &mut PageText, kind: Kind, number: u32) -> Result<(), Tex
             Part::Number(number),
             Part::Text("-name\">\n<thead>\n<tr>\n<th scope=\"col\">Period</th>\n"),
         ],
-    )
+    );
 }
 
 /// Appends the heading of a grid, and the beginning of its table.
-#[tactic(auto, unfolding(crate::specs::Grids::grid_title))]
-fn put_grid_title(
-    out: &mut PageText,
-    instance: &Instance<'_>,
-    kind: Kind,
-    number: u32,
-) -> Result<(), TextFault>
+#[tactic(auto, using(tt_page_text::proofs::Growing::puts), unfolding(crate::specs::Grids::grid_title))]
+fn put_grid_title(out: &mut PageText, instance: &Instance<'_>, kind: Kind, number: u32)
     requires { number < count_of instance.now kind }
-    ensures { Puts result out.old out.new (grid_title instance.now kind number) }
+    ensures { out.new ≡ put_text out.old (grid_title instance.now kind number) }
 {
-    put_grid_head(out, instance, kind, number)?;
-    put_seats(out, instance, kind, number)?;
-    put_paper_name(out, instance)?;
-    put_table_head(out, kind, number)
+    put_grid_head(out, instance, kind, number);
+    put_seats(out, instance, kind, number);
+    put_paper_name(out, instance);
+    put_table_head(out, kind, number);
 }
 
 /// Appends the heads of the columns.
-#[tactic(auto, using(tt_page_text::proofs::Growing::text_further, tt_page_text::proofs::Growing::text_within), unfolding(crate::specs::Grids::day_head))]
-fn put_day_heads(
-    out: &mut PageText,
-    instance: &Instance<'_>,
-    labels: &Labels,
-) -> Result<(), TextFault>
-    ensures { Puts result out.old out.new (flat_map (day_head labels.now) (range_below instance.now.days)) }
+#[tactic(auto, using(tt_page_text::proofs::Growing::puts), unfolding(crate::specs::Grids::day_head))]
+fn put_day_heads(out: &mut PageText, instance: &Instance<'_>, labels: &Labels)
+    ensures { out.new ≡ put_text out.old (flat_map (day_head labels.now) (range_below instance.now.days)) }
 {
     for day in 0..instance.days() {
-        put_day_head(out, labels, day)?;
+        put_day_head(out, labels, day);
     }
-    Ok(())
 }
 
-#[tactic(auto, unfolding(crate::specs::Grids::day_head))]
-fn put_day_head(out: &mut PageText, labels: &Labels, day: u32) -> Result<(), TextFault>
-    ensures { Puts result out.old out.new (day_head labels.now day) }
+#[tactic(auto, using(tt_page_text::proofs::Growing::puts), unfolding(crate::specs::Grids::day_head))]
+fn put_day_head(out: &mut PageText, labels: &Labels, day: u32)
+    ensures { out.new ≡ put_text out.old (day_head labels.now day) }
 {
-    put_token(out, b"<th scope=\"col\">")?;
-    put_day(out, labels, day)?;
-    put_token(out, b"</th>\n")
+    put_token(out, b"<th scope=\"col\">");
+    put_day(out, labels, day);
+    put_token(out, b"</th>\n");
 }
 
 /// Appends the grid of a room, teacher or curriculum.
-#[tactic(auto, unfolding(crate::specs::Grids::grid_text))]
-fn put_grid(
-    out: &mut PageText,
-    plan: &Plan<'_, '_>,
-    labels: &Labels,
-    kind: Kind,
-    number: u32,
-) -> Result<(), TextFault>
+#[tactic(auto, using(tt_page_text::proofs::Growing::puts), unfolding(crate::specs::Grids::grid_text))]
+fn put_grid(out: &mut PageText, plan: &Plan<'_, '_>, labels: &Labels, kind: Kind, number: u32)
     requires { number < count_of plan.now.problem kind }
-    ensures { Puts result out.old out.new (grid_text plan.now.problem plan.now.table labels.now kind number) }
+    ensures { out.new ≡ put_text out.old (grid_text plan.now.problem plan.now.table labels.now kind number) }
 {
     let instance = plan.instance();
-    let own = own_courses(out.allocator(), instance, kind, number)?;
-    put_grid_title(out, instance, kind, number)?;
-    put_day_heads(out, instance, labels)?;
-    put_token(out, b"</tr>\n</thead>\n<tbody>\n")?;
-    put_rows(out, plan, labels, kind, number, &own)?;
-    put_token(out, b"</tbody>\n</table>\n</div>\n")
+    let own = plan.own_courses(kind, number);
+    put_grid_title(out, instance, kind, number);
+    put_day_heads(out, instance, labels);
+    put_token(out, b"</tr>\n</thead>\n<tbody>\n");
+    put_rows(out, plan, labels, kind, number, own);
+    put_token(out, b"</tbody>\n</table>\n</div>\n");
 }
 
-/// Appends the grids of a section.
-#[tactic(auto, using(tt_page_text::proofs::Growing::taken_further, tt_page_text::proofs::Growing::taken_within))]
-fn put_grids(
-    out: &mut PageText,
-    plan: &Plan<'_, '_>,
-    labels: &Labels,
-    kind: Kind,
-    numbers: &[u32],
-) -> Result<(), TextFault>
+/// Appends the grids of a section, until the text is full.
+#[tactic(auto, using(tt_page_text::proofs::Growing::puts))]
+fn put_grids(out: &mut PageText, plan: &Plan<'_, '_>, labels: &Labels, kind: Kind, numbers: &[u32])
     requires { All (λ n. n < count_of plan.now.problem kind) numbers.now }
-    ensures { Puts result out.old out.new (flat_map (grid_text plan.now.problem plan.now.table labels.now kind) numbers.now) }
+    ensures { out.new ≡ put_text out.old (flat_map (grid_text plan.now.problem plan.now.table labels.now kind) numbers.now) }
 {
     for number in numbers {
-        put_grid(out, plan, labels, kind, *number)?;
+        if out.is_full() {
+            return;
+        }
+        put_grid(out, plan, labels, kind, *number);
     }
-    Ok(())
 }
 
 /// Returns the curriculum of a week, if it is the week of one.
@@ -446,77 +349,57 @@ fn curriculum_of(kind: Kind, number: u32) -> Option<u32>
     }
 }
 
-#[tactic(auto, unfolding(crate::specs::Grids::index_item))]
-fn put_index_item(
-    out: &mut PageText,
-    instance: &Instance<'_>,
-    kind: Kind,
-    number: u32,
-) -> Result<(), TextFault>
+#[tactic(auto, using(tt_page_text::proofs::Growing::puts), unfolding(crate::specs::Grids::index_item))]
+fn put_index_item(out: &mut PageText, instance: &Instance<'_>, kind: Kind, number: u32)
     requires { number < count_of instance.now kind }
-    ensures { Puts result out.old out.new (index_item instance.now kind number) }
+    ensures { out.new ≡ put_text out.old (index_item instance.now kind number) }
 {
-    put_token(out, b"<li class=\"week")?;
-    put_hue(out, curriculum_of(kind, number))?;
-    put_token(out, b"\">")?;
-    put_week_link(out, instance, kind, number)?;
-    put_token(out, b"</li>\n")
+    put_token(out, b"<li class=\"week");
+    put_hue(out, curriculum_of(kind, number));
+    put_token(out, b"\">");
+    put_week_link(out, instance, kind, number);
+    put_token(out, b"</li>\n");
 }
 
 /// Appends the links to the grids of a section.
-#[tactic(auto, using(tt_page_text::proofs::Growing::taken_further, tt_page_text::proofs::Growing::taken_within))]
-fn put_index(
-    out: &mut PageText,
-    instance: &Instance<'_>,
-    kind: Kind,
-    numbers: &[u32],
-) -> Result<(), TextFault>
+#[tactic(auto, using(tt_page_text::proofs::Growing::puts))]
+fn put_index(out: &mut PageText, instance: &Instance<'_>, kind: Kind, numbers: &[u32])
     requires { All (λ n. n < count_of instance.now kind) numbers.now }
-    ensures { Puts result out.old out.new (flat_map (index_item instance.now kind) numbers.now) }
+    ensures { out.new ≡ put_text out.old (flat_map (index_item instance.now kind) numbers.now) }
 {
     for number in numbers {
-        put_index_item(out, instance, kind, *number)?;
+        put_index_item(out, instance, kind, *number);
     }
-    Ok(())
 }
 
 #[tactic(auto, unfolding(crate::specs::Grids::section_head))]
-fn put_section_head(
-    out: &mut PageText,
-    instance: &Instance<'_>,
-    kind: Kind,
-) -> Result<(), TextFault>
-    ensures { Puts result out.old out.new (section_head instance.now kind) }
+fn put_section_head(out: &mut PageText, instance: &Instance<'_>, kind: Kind)
+    ensures { out.new ≡ put_text out.old (section_head instance.now kind) }
 {
     let count = kind.count(instance);
     put(
         out,
         &[
             Part::Text("<details open id=\""),
-            Part::Text(kind.section()),
+            Part::Text(section_of(kind)),
             Part::Text("\">\n<summary><h2>"),
-            Part::Text(kind.title()),
+            Part::Text(title_of(kind)),
             Part::Text(" <small>"),
             Part::Number(count),
             Part::Text("</small></h2></summary>\n<ul class=\"index\">\n"),
         ],
-    )
+    );
 }
 
 /// Appends the section of all rooms, teachers or curricula, in the order of their names.
-#[tactic(auto, unfolding(crate::specs::Grids::section_text))]
-pub fn put_section(
-    out: &mut PageText,
-    plan: &Plan<'_, '_>,
-    labels: &Labels,
-    kind: Kind,
-) -> Result<(), TextFault>
-    ensures { Puts result out.old out.new (section_text plan.now.problem plan.now.table labels.now kind) }
+#[tactic(auto, using(tt_page_text::proofs::Growing::puts), unfolding(crate::specs::Grids::section_text))]
+pub fn put_section(out: &mut PageText, plan: &Plan<'_, '_>, labels: &Labels, kind: Kind)
+    ensures { out.new ≡ put_text out.old (section_text plan.now.problem plan.now.table labels.now kind) }
 {
     let numbers = plan.in_order(kind);
-    put_section_head(out, plan.instance(), kind)?;
-    put_index(out, plan.instance(), kind, numbers)?;
-    put_token(out, b"</ul>\n<div class=\"grids\">\n")?;
-    put_grids(out, plan, labels, kind, numbers)?;
-    put_token(out, b"</div>\n</details>\n")
+    put_section_head(out, plan.instance(), kind);
+    put_index(out, plan.instance(), kind, numbers);
+    put_token(out, b"</ul>\n<div class=\"grids\">\n");
+    put_grids(out, plan, labels, kind, numbers);
+    put_token(out, b"</div>\n</details>\n");
 }

@@ -1,8 +1,9 @@
-use Rattle.std.proofs.Common.{◌≡◌, ◌++◌}
+use Rattle.std.proofs.Common.{◌≡◌}
 use Rattle.std.specs.Prelude.{flat_map}
 use Rattle.tt_lists.specs.Words.{range_below}
+use Rattle.tt_page_text.specs.Puts.{put_text}
 use Rattle.tt_page_days.specs.Days.{room_cell}
 use Rattle.tt_page_days.proofs.days.put_room_cells.Given as goal
 
 abbrev pub invariant-loop-period : goal.invariant-loop-period
-invariant-loop-period l = l.out ≡ l.initial.out ++ flat_map (room_cell l.plan.problem l.plan.table l.labels l.day l.room) (range_below l.period)
+invariant-loop-period l = l.out ≡ put_text l.initial.out (flat_map (room_cell l.plan.problem l.plan.table l.labels l.day l.room) (range_below l.period))

@@ -1,10 +1,9 @@
-use Rattle.std.proofs.Common.{◌≡◌, ◌+◌, ◌<◌, ◌≤◌, List, ◌++◌, drop, get_or, length, subst, arith}
+use Rattle.std.proofs.Common.{◌≡◌, ◌+◌, ◌<◌, ◌≤◌, List, drop, get_or, length, subst, arith}
 use Rattle.tt_instance_data.specs.declared.cell.Cell.{Cell}
 use Rattle.tt_table.specs.Groups.{nobody}
-use Rattle.tt_page_text.specs.Puts.{IsTooLarge}
-use Rattle.tt_page_text.proofs.Stopping.{stopped}
+use Rattle.tt_page_text.specs.Puts.{put_text}
 use Rattle.tt_page_lists.specs.Items.{entry_item}
-use Rattle.tt_page_lists.proofs.Pairs.{item_further, item_too_large, items_done}
+use Rattle.tt_page_lists.proofs.Pairs.{item_further, items_done}
 use Rattle.tt_page_lists.proofs.items.put_entry_items.Goals as goal
 
 pub loop-index-preserved : goal.loop-index-preserved
@@ -13,21 +12,11 @@ loop-index-preserved c =
     let t = c.args.plan.now.table in
     let i = c.loop-index.index in
     let within : i < length t = subst (λ (es : List Cell). i < length es) c.entries-entry-items.ensures.value c.loop-index-test.true in
-    let put = subst (λ (es : List Cell). c.put_entry_item.new.out ≡ c.loop-index.out ++ entry_item p c.args.labels.now c.args.rule (get_or es i nobody) (drop (i + 1) t)) c.entries-entry-items.ensures.value c.in_ok-put_entry_item.ensures in
-    item_further p c.args.labels.now c.args.rule t i nobody _ c.loop-index.out c.put_entry_item.new.out within c.loop-index.invariant put
+    let put = subst (λ (es : List Cell). c.put_entry_item.new.out ≡ put_text c.loop-index.out (entry_item p c.args.labels.now c.args.rule (get_or es i nobody) (drop (i + 1) t))) c.entries-entry-items.ensures.value c.put_entry_item.ensures in
+    item_further p c.args.labels.now c.args.rule t i nobody _ c.loop-index.out c.put_entry_item.new.out within put c.loop-index.invariant
 
 pub returns : goal.returns
 returns c =
     let p = c.args.plan.now.problem in
     let t = c.args.plan.now.table in
-    items_done p c.args.labels.now c.args.rule t c.loop-index.index c.args.out.now c.loop-index.out (subst (λ (es : List Cell). length es ≤ c.loop-index.index) c.entries-entry-items.ensures.value (omega (arith, c.loop-index-test.false))) c.loop-index.invariant
-
-pub returns-in_err-put_entry_item : goal.returns-in_err-put_entry_item
-returns-in_err-put_entry_item c =
-    let p = c.args.plan.now.problem in
-    let t = c.args.plan.now.table in
-    let i = c.loop-index.index in
-    let within : i < length t = subst (λ (es : List Cell). i < length es) c.entries-entry-items.ensures.value c.loop-index-test.true in
-    let here = λ (es : List Cell). IsTooLarge (c.loop-index.out ++ entry_item p c.args.labels.now c.args.rule (get_or es i nobody) (drop (i + 1) t)) in
-    stopped c.from_residual.result c.in_err-put_entry_item.field-0.0 c.args.out.now c.put_entry_item.new.out _ c.from_residual.ensures.1
-    (λ is. item_too_large p c.args.labels.now c.args.rule t i nobody _ c.loop-index.out within c.loop-index.invariant (subst here c.entries-entry-items.ensures.value (c.in_err-put_entry_item.ensures is)))
+    items_done p c.args.labels.now c.args.rule t c.loop-index.index _ c.loop-index.out (subst (λ (es : List Cell). length es ≤ c.loop-index.index) c.entries-entry-items.ensures.value (omega (arith, c.loop-index-test.false))) c.loop-index.invariant

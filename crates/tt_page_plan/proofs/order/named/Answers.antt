@@ -1,4 +1,4 @@
-use Rattle.tt_page_plan.specs.Kinds.{name_of}
+use Rattle.tt_table.specs.Kinds.{name_of}
 use Rattle.tt_page_plan.proofs.InOrder.{named_more}
 use Rattle.tt_page_plan.proofs.order.named.Goals as goal
 

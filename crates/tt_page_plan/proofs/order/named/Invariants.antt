@@ -1,6 +1,6 @@
 use Rattle.std.proofs.Common.{◌≡◌, All, map}
 use Rattle.tt_lists.specs.Words.{range_below}
-use Rattle.tt_page_plan.specs.Kinds.{name_of}
+use Rattle.tt_table.specs.Kinds.{name_of}
 use Rattle.tt_page_plan.proofs.order.named.Given as goal
 
 abbrev pub invariant-loop-number : goal.invariant-loop-number

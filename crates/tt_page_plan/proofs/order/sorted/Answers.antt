@@ -1,6 +1,6 @@
 use Rattle.std.proofs.Common.{◌≡◌, map, ap, ◌∙◌}
 use Rattle.std.proofs.lemmas.Result.{IfOk-weaker}
-use Rattle.tt_page_plan.specs.Kinds.{count_of, name_of}
+use Rattle.tt_table.specs.Kinds.{count_of, name_of}
 use Rattle.tt_page_plan.specs.Orders.{numbers_of}
 use Rattle.tt_page_plan.proofs.InOrder.{sorted_in_order}
 use Rattle.tt_page_plan.proofs.order.sorted.Goals as goal

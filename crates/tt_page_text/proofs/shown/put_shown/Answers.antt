@@ -1,21 +1,37 @@
-use Rattle.std.proofs.Common.{subst}
-use Rattle.std.specs.Prelude.{Result, Ok, Err, OnOk}
+use Rattle.std.proofs.Common.{◌≡◌, ◌<◌, length, rules, subst, ap, ◌∙◌}
 use Rattle.std.specs.Str.{IsUtf8}
-use Rattle.std.specs.Str.Lossy.{utf8_lossy}
-use Rattle.std.proofs.lemmas.Str.{IsUtf8-string_bytes}
+use Rattle.std.specs.Str.Chunks.{utf8_chunks_rest}
+use Rattle.std.proofs.lemmas.Str.{utf8_lossy_chunk, utf8_lossy_last_chunk}
+use Rattle.tt_page_text.specs.Puts.{put_text}
+use Rattle.tt_page_text.proofs.Chunks.{letters_text, chunk_put, last_chunk_put, chunks_put, shown_letters}
 use Rattle.tt_page_text.proofs.Harmless.{shown_harmless, shown_utf8}
 use Rattle.tt_page_text.proofs.shown.put_shown.Goals as goal
 
-if_ok : {T E P : Type 0} (r : Result T E) → P → OnOk r P
-if_ok (Ok v) p = p
-if_ok (Err e) p = tt
+pub loop-chunk-preserved-then-not-is_empty : goal.loop-chunk-preserved-then-not-is_empty
+loop-chunk-preserved-then-not-is_empty c =
+    let steps = c.in-Some.ensures.steps in
+    let valid = c.in-Some.chunk.valid.now in
+    let some : 0 < length c.in-Some.chunk.invalid.now = search rules in
+    let is = utf8_lossy_chunk _ _ _ _ steps.0 steps.3.0 steps.3.1 some in
+    chunk_put _ c.loop-chunk.out c.put_letters.new.out c.put_letter.new.out (utf8_chunks_rest c.loop-chunk.chunk-iterator) valid (utf8_chunks_rest c.next.new.self)
+    (subst IsUtf8 c.valid.ensures c.valid.utf8) is (rw c.valid.ensures at c.put_letters.ensures) c.put_letter.ensures c.loop-chunk.invariant
+
+pub loop-chunk-preserved : goal.loop-chunk-preserved
+loop-chunk-preserved c =
+    let steps = c.in-Some.ensures.steps in
+    let valid = c.in-Some.chunk.valid.now in
+    let none : length c.in-Some.chunk.invalid.now ≡ 0 = search rules in
+    let is = utf8_lossy_last_chunk _ _ _ _ steps.0 steps.3.0 none (steps.2 none) in
+    last_chunk_put _ c.loop-chunk.out c.put_letters.new.out (utf8_chunks_rest c.loop-chunk.chunk-iterator) valid (utf8_chunks_rest c.next.new.self)
+    (subst IsUtf8 c.valid.ensures c.valid.utf8) is (rw c.valid.ensures at c.put_letters.ensures) c.loop-chunk.invariant
+
+pub returns-clause-puts : goal.returns-clause-puts
+returns-clause-puts c =
+    chunks_put _ c.loop-chunk.out (utf8_chunks_rest c.loop-chunk.chunk-iterator) c.in-None.ensures.steps.0 c.loop-chunk.invariant
+    ∙ ap (put_text c.args.out.now) (shown_letters c.args.name.now)
 
 pub returns-clause-harmless : goal.returns-clause-harmless
-returns-clause-harmless c =
-    let utf8 : IsUtf8 (utf8_lossy c.args.name.now) = subst IsUtf8 c.in_ok-text.ensures.lossy (IsUtf8-string_bytes c.in_ok-text.text) in
-    if_ok c.put_letters.result (shown_harmless c.args.name.now utf8)
+returns-clause-harmless c = shown_harmless c.args.name.now
 
 pub returns-clause-utf8 : goal.returns-clause-utf8
-returns-clause-utf8 c =
-    let utf8 : IsUtf8 (utf8_lossy c.args.name.now) = subst IsUtf8 c.in_ok-text.ensures.lossy (IsUtf8-string_bytes c.in_ok-text.text) in
-    if_ok c.put_letters.result (shown_utf8 c.args.name.now utf8)
+returns-clause-utf8 c = shown_utf8 c.args.name.now

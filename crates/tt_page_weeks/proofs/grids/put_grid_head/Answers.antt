@@ -3,4 +3,4 @@ use Rattle.tt_page_weeks.proofs.grids.put_grid_head.Goals as goal
 
 pub returns : goal.returns
 unfolding grid_head
-returns c = rw (← c.name-name.ensures, ← c.word-word.ensures, ← c.caption.ensures) c.put.ensures
+returns c = rw (← c.name-name.ensures, ← c.word-word.ensures, ← c.caption_of.ensures) c.put.ensures

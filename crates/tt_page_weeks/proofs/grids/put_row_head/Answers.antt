@@ -1,16 +1,17 @@
-use Rattle.std.proofs.Common.{◌≡◌, ◌++◌}
+use Rattle.std.proofs.Common.{◌≡◌}
 use Rattle.std.specs.Prelude.{codes}
 use Rattle.tt_page_weeks.specs.Grids.{row_head}
-use Rattle.tt_page_text.proofs.Growing.{then_more, then_puts}
+use Rattle.tt_page_text.proofs.Growing.{then_put}
+use Rattle.tt_page_text.specs.Puts.{put_text}
 use Rattle.tt_page_weeks.proofs.grids.put_row_head.Goals as goal
 
 -- the head was written
-head_put : (c : goal.After-put_token-2) → c.put_token.new.out ≡ c.args.out.now ++ codes "<tr>\n<th scope=\"row\">"
-head_put c = c.in_ok-put_token.ensures.puts
+head_put : (c : goal.After-put_token-2) → c.put_token.new.out ≡ put_text c.args.out.now (codes "<tr>\n<th scope=\"row\">")
+head_put c = c.put_token.ensures
 
 pub returns : goal.returns
 unfolding row_head
 returns c =
     let first = c.args.out.now in
     let middle = c.put_period.new.out in
-    then_puts c.put_token-2.result first middle _ _ _ (then_more first c.put_token.new.out middle (codes "<tr>\n<th scope=\"row\">") _ (head_put c) c.in_ok-put_period.ensures) c.put_token-2.ensures.puts
+    then_put first middle _ _ _ (then_put first c.put_token.new.out middle (codes "<tr>\n<th scope=\"row\">") _ (head_put c) c.put_period.ensures) c.put_token-2.ensures

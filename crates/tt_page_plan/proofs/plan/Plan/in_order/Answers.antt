@@ -1,5 +1,5 @@
 use Rattle.std.proofs.Common.{◌<◌, All, subst, sym, ◌∙◌}
-use Rattle.tt_page_plan.specs.Kinds.{count_of, name_of}
+use Rattle.tt_table.specs.Kinds.{count_of, name_of}
 use Rattle.tt_page_plan.specs.Planned.{Planned}
 use Rattle.tt_page_plan.proofs.InOrder.{in_order-below}
 use Rattle.tt_page_plan.proofs.plan.Plan.in_order.Goals as goal

@@ -1,8 +1,0 @@
-use Rattle.std.proofs.Common.{◌∙◌}
-use Rattle.tt_instance_data.specs.Cells.{is_of, is_on}
-use Rattle.tt_page_plan.proofs.Counting.{any_in_group}
-use Rattle.tt_page_plan.proofs.counts.is_taught_on.Goals as goal
-
-pub returns : goal.returns
-returns c =
-    c.has_entry_on.ensures ∙ any_in_group (is_of c.args.course) (is_on c.args.day) c.args.plan.now.table c.of_course-entries.result c.of_course-entries.ensures.group
