@@ -334,11 +334,11 @@ fn the_command_page(rt: HostRuntime) -> Result<(), Fail> {
 
 #[test]
 fn the_call_put_shown(rt: HostRuntime) -> Result<(), Fail> {
-    let mut text = PageText::new(rt.alloc());
     println!(rt; "{MARK}")?;
-    let put = put_shown(&mut text, b"a<b");
+    let text = PageText::new(rt.alloc(), 100);
     println!(rt; "{MARK}")?;
-    put?;
+    let mut text = text?;
+    put_shown(&mut text, b"a<b");
     assert_eq!(rt; text.into_bytes().as_slice(), b"a&lt;b".as_slice());
     Ok(())
 }

@@ -2,6 +2,8 @@
 #![tactic(auto)]
 
 #[cfg(test)]
+mod buffers;
+#[cfg(test)]
 mod exports;
 #[cfg(test)]
 mod inspecting;
@@ -9,3 +11,5 @@ mod inspecting;
 mod pages;
 #[cfg(test)]
 mod reports;
+#[cfg(test)]
+mod writers;

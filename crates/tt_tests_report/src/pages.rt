@@ -1,6 +1,6 @@
 //! The pages that `page` writes.
 
-use crate::reports::Narrow;
+use crate::writers::StoppingOnce;
 use std::alloc::Global;
 use std::test::Fail;
 use tt_app::{AppFault, PageNames, page};
@@ -115,8 +115,8 @@ fn unavailable_periods(rt: HostRuntime) -> Result<(), Fail> {
 
 /// Returns the text that is shown for a name.
 fn shown(alloc: Global, name: &[u8]) -> Result<String, Fail> {
-    let mut out = PageText::new(alloc);
-    put_shown(&mut out, name)?;
+    let mut out = PageText::new(alloc, 1000)?;
+    put_shown(&mut out, name);
     Ok(String::from_utf8(out.into_bytes())?)
 }
 
@@ -167,9 +167,9 @@ fn pages_that_are_not_written(rt: HostRuntime) -> Result<(), Fail> {
 #[test]
 fn writes_that_stop(rt: HostRuntime) -> Result<(), Fail> {
     let whole = page_of(rt.alloc(), MINI, MINI_SOLUTION)?;
-    for stops_at in [1usize, 2, 1000, 9000] {
-        let mut narrow = Narrow::new(rt.alloc(), stops_at);
-        let mut sink = Writing::new(&mut narrow);
+    for stops_at in [0usize, 1, 999, 8999] {
+        let mut writer = StoppingOnce::new(rt.alloc(), 1, stops_at, None);
+        let mut sink = Writing::new(&mut writer);
         let answer = page(
             rt.alloc(),
             MINI.as_bytes(),
@@ -180,8 +180,8 @@ fn writes_that_stop(rt: HostRuntime) -> Result<(), Fail> {
         );
         assert_eq!(rt; answer, Err(AppFault::CannotWrite));
         assert!(rt; sink.failed());
-        assert!(rt; whole.as_bytes().starts_with(narrow.bytes()));
-        assert_eq!(rt; narrow.bytes().len(), stops_at - 1);
+        assert!(rt; whole.as_bytes().starts_with(writer.bytes()));
+        assert_eq!(rt; writer.bytes().len(), stops_at);
     }
     Ok(())
 }

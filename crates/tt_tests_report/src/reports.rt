@@ -1,8 +1,8 @@
 //! The output of `report`.
 
+use crate::writers::StoppingOnce;
 use std::alloc::Global;
-use std::io;
-use std::io::{Error, ErrorKind, Write};
+use std::io::ErrorKind;
 use std::test::Fail;
 use tt_app::{AppFault, report};
 use tt_report::By;
@@ -53,110 +53,18 @@ fn kinds_that_are_none(rt: HostRuntime) -> Result<(), Fail> {
     Ok(())
 }
 
-/// A writer that takes one byte in each write, and none in the write `stops_at`, counted from 1, which fails or returns 0.
-#[derive(Drop)]
-pub struct Narrow {
-    bytes: Vec<u8>,
-    stops_in: usize,
-    fails: bool,
-}
-
-impl Narrow {
-    /// Returns a writer that has taken nothing, and will return 0 in the write `stops_at`.
-    pub fn new(alloc: Global, stops_at: usize) -> Self {
-        Narrow {
-            bytes: Vec::new(alloc),
-            stops_in: stops_at,
-            fails: false,
-        }
-    }
-
-    /// Returns a writer that has taken nothing, and will fail.
-    pub fn failing(alloc: Global, stops_at: usize) -> Self {
-        Narrow {
-            bytes: Vec::new(alloc),
-            stops_in: stops_at,
-            fails: true,
-        }
-    }
-
-    /// Returns the bytes that were taken.
-    pub fn bytes(&self) -> &[u8] {
-        &self.bytes
-    }
-}
-
-impl Write for Narrow {
-    fn write(&mut self, bytes: &[u8]) -> io::Result<usize> {
-        self.stops_in = self.stops_in.saturating_sub(1);
-        if self.stops_in == 0 && self.fails {
-            return Err(Error::from(ErrorKind::BrokenPipe));
-        }
-        if self.stops_in == 0 {
-            return Ok(0);
-        }
-        match bytes.first() {
-            Some(byte) => {
-                self.bytes.push(*byte)?;
-                Ok(1)
-            }
-            None => Ok(0),
-        }
-    }
-
-    fn flush(&mut self) -> io::Result<()> {
-        Ok(())
-    }
-}
-
-/// A writer whose first write is interrupted.
-#[derive(Drop)]
-struct Interrupted {
-    bytes: Vec<u8>,
-    begun: bool,
-}
-
-impl Write for Interrupted {
-    fn write(&mut self, bytes: &[u8]) -> io::Result<usize> {
-        if !self.begun {
-            self.begun = true;
-            return Err(Error::from(ErrorKind::Interrupted));
-        }
-        self.bytes.extend_from_slice(bytes)?;
-        Ok(bytes.len())
-    }
-
-    fn flush(&mut self) -> io::Result<()> {
-        Ok(())
-    }
-}
-
-#[test]
-fn an_interrupted_write_has_failed(rt: HostRuntime) {
-    let mut interrupted = Interrupted {
-        bytes: Vec::new(rt.alloc()),
-        begun: false,
-    };
-    let mut sink = Writing::new(&mut interrupted);
-    let answer = report(
-        rt.alloc(),
-        MINI.as_bytes(),
-        SOLUTION.as_bytes(),
-        By::Room,
-        &mut sink,
-    );
-    assert_eq!(rt; answer, Err(AppFault::CannotWrite));
-    assert!(rt; sink.failed());
-    assert!(rt; interrupted.bytes.is_empty());
-}
-
-/// Returns the result of `report` over a writer, and whether the sink had failed by then.
-fn reported_to(alloc: Global, narrow: &mut Narrow) -> (Result<u8, AppFault>, bool) {
-    let mut sink = Writing::new(narrow);
+/// Returns the result of `report` by rooms over a writer, and whether the sink had failed by then.
+pub fn reported_to(
+    alloc: Global,
+    instance: &str,
+    solution: &str,
+    writer: &mut StoppingOnce,
+) -> (Result<u8, AppFault>, bool) {
+    let mut sink = Writing::new(writer);
     let answer = report(
         alloc,
-        MINI.as_bytes(),
-        SOLUTION.as_bytes(),
+        instance.as_bytes(),
+        solution.as_bytes(),
         By::Room,
         &mut sink,
     );
@@ -164,21 +72,29 @@ fn reported_to(alloc: Global, narrow: &mut Narrow) -> (Result<u8, AppFault>, boo
 }
 
 #[test]
+fn an_interrupted_write_has_failed(rt: HostRuntime) {
+    let mut writer = StoppingOnce::new(rt.alloc(), usize::MAX, 0, Some(ErrorKind::Interrupted));
+    let answer = reported_to(rt.alloc(), MINI, SOLUTION, &mut writer);
+    assert_eq!(rt; answer, (Err(AppFault::CannotWrite), true));
+    assert!(rt; writer.bytes().is_empty());
+}
+
+#[test]
 fn writes_that_take_nothing(rt: HostRuntime) {
-    for stops_at in 1..=BY_ROOM.len() {
-        let mut narrow = Narrow::new(rt.alloc(), stops_at);
-        let answer = reported_to(rt.alloc(), &mut narrow);
+    for stops_at in 0..BY_ROOM.len() {
+        let mut writer = StoppingOnce::new(rt.alloc(), 1, stops_at, None);
+        let answer = reported_to(rt.alloc(), MINI, SOLUTION, &mut writer);
         assert_eq!(rt; answer, (Err(AppFault::CannotWrite), true));
-        assert_eq!(rt; narrow.bytes(), &BY_ROOM.as_bytes()[..stops_at - 1]);
+        assert_eq!(rt; writer.bytes(), &BY_ROOM.as_bytes()[..stops_at]);
     }
 }
 
 #[test]
 fn writes_that_fail(rt: HostRuntime) {
-    for stops_at in 1..=BY_ROOM.len() {
-        let mut narrow = Narrow::failing(rt.alloc(), stops_at);
-        let answer = reported_to(rt.alloc(), &mut narrow);
+    for stops_at in 0..BY_ROOM.len() {
+        let mut writer = StoppingOnce::failing(rt.alloc(), 1, stops_at);
+        let answer = reported_to(rt.alloc(), MINI, SOLUTION, &mut writer);
         assert_eq!(rt; answer, (Err(AppFault::CannotWrite), true));
-        assert_eq!(rt; narrow.bytes(), &BY_ROOM.as_bytes()[..stops_at - 1]);
+        assert_eq!(rt; writer.bytes(), &BY_ROOM.as_bytes()[..stops_at]);
     }
 }
