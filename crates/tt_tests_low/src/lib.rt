@@ -10,4 +10,6 @@ mod sources;
 #[cfg(test)]
 mod tables;
 #[cfg(test)]
+mod texts;
+#[cfg(test)]
 mod writing;
