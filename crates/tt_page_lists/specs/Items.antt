@@ -118,7 +118,8 @@ unfoldable pub odds_item : Problem → Labelled → Rule → Cell → List Cell 
 odds_item p labels r e [] = []
 odds_item p labels r e (x ∷ xs) = item_head (odds_count r (length xs + 1)) ++ pair_text p labels e x (length xs)
 
--- The same in the form that the program uses: from the first of these later ones, and how many they are.
+-- The item of an entry, from the first of the later ones that break the rule together with it, and how many they are: the form that the
+-- program uses.
 unfoldable pub odds_text : Problem → Labelled → Rule → Cell → Option Cell → ℕ → List ℕ
 odds_text p labels r e None n = []
 odds_text p labels r e (Some x) n = item_head (odds_count r n) ++ pair_text p labels e x (n - 1)
