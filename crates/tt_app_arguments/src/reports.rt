@@ -79,9 +79,12 @@ pub const REPORT: Description<'static> = Description {
 /// Returns the kind of blocks that is given.
 fn by_of(found: &ArgMatches<'_>) -> Option<By> {
     let word = found.get_str("by")?;
-    [By::Room, By::Teacher, By::Curriculum]
-        .into_iter()
-        .find(|by| by.word() == word)
+    for by in [By::Room, By::Teacher, By::Curriculum] {
+        if by.word() == word {
+            return Some(by);
+        }
+    }
+    None
 }
 
 /// Returns the options of a calendar, if one is wanted.
