@@ -5,7 +5,7 @@ that took longest.
 
     python3 bench/gate.py [LOG]
 
-runs `rt ci` at the top of the repository, so that nothing is taken from an earlier run (`--anew`, if the toolchain stores what was proved),
+runs `./gate` at the top of the repository, so that nothing is taken from an earlier run (`--anew`, if the toolchain stores what was proved),
 writes its output to LOG (gate.log by default), and prints the table at the end; until then LOG.table has the table so far, rewritten every
 minute, so that a run that is cut off is not lost. The status is the gate's. The gate prints no times itself, so the prover's processes are
 looked at twice a second: a process that lives shorter than that is left out.
@@ -122,9 +122,9 @@ def line(name, steps, minute):
 
 
 def words_of_gate():
-    """`rt ci`, and `--anew` if the toolchain stores what was proved."""
+    """`./gate`, and `--anew` if the toolchain stores what was proved."""
     usage = subprocess.run(["rt", "help"], capture_output=True, text=True).stdout
-    return ["rt", "ci", "--anew"] if "--anew" in usage else ["rt", "ci"]
+    return ["./gate", "--anew"] if "--anew" in usage else ["./gate"]
 
 
 def edit_name(crate, number):
