@@ -5,7 +5,7 @@ use std::io::{ErrorKind, Write};
 use std::process::ExitCode;
 use std::rt::Env;
 use std::{env, io};
-use tt_app::AppFault;
+use tt_app_answers::AppFault;
 
 /// Returns the words of the command line, without the program's own name.
 fn words<R: Env + AllocGlobal>(rt: &R) -> io::Result<Vec<String>> {

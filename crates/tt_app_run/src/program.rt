@@ -5,13 +5,11 @@ use std::io::Write;
 use std::rt::{Clock, Files};
 use tt_app_answers::{Answer, AppFault};
 use tt_app_arguments::{Request, parse_arguments};
-use tt_app_run_checks::{
-    answer_bound, answer_check, answer_stored, answer_sum, answer_upgrade, answer_validate,
+use tt_app_run_answers::{
+    PageFiles, answer_bound, answer_calendar, answer_check, answer_inspect, answer_stored,
+    answer_sum, answer_table, answer_upgrade, answer_validate, page_to, report_to,
 };
 use tt_app_run_searches::{PartsPaths, answer_best, answer_improve, answer_parts, answer_solve};
-use tt_app_run_texts::{
-    PageFiles, answer_calendar, answer_inspect, answer_table, page_to, report_to,
-};
 
 /// Prints a refusal, and returns its status.
 fn print_refusal<E: Write>(fault: AppFault, err: &mut E) -> u8 {

@@ -1,12 +1,14 @@
 //! Shows the progress of a command.
 
+use crate::counted::Counted;
+use crate::terminal::is_terminal;
+use crate::ticker::Ticker;
 use std::cell::RefCell;
 use std::fs;
 use std::fs::OpenFile;
 use std::io::Write;
 use std::rt::{Clock, Files};
 use tt_app_arguments::Showing;
-use tt_app_watch::{Counted, Ticker, is_terminal};
 
 /// The line that shows how much of proofs has been read.
 pub type Shown<'s, R, E> = RefCell<Ticker<'s, R, E>>;

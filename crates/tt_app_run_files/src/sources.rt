@@ -1,10 +1,10 @@
 //! Files of proofs; at most one is open at a time.
 
+use crate::counted::Counted;
 use crate::showing::{Shown, open_counted};
 use std::alloc::AllocError;
 use std::io::{Read, Write};
 use std::rt::{Clock, Files};
-use tt_app_watch::Counted;
 use tt_text::{ReadFailed, Source};
 use tt_text_peek::Peeked;
 

@@ -13,7 +13,8 @@ use tt_parts::{Effort, Parts, add_up, find_parts_watched};
 use tt_proof_read::Node;
 use tt_proof_text::{WriteFault, write_proof};
 use tt_rules::score;
-use tt_search::{Watch, construct, improve_watched};
+use tt_search::{construct, improve_watched};
+use tt_search_watch::Watch;
 use tt_table::{Entry, Timetable};
 
 /// The number of steps that each round makes for a better timetable.

@@ -14,7 +14,8 @@ use std::alloc::{AllocError, Global};
 use tt_instance_data::Instance;
 use tt_leaf_data::Bound;
 use tt_rules::score;
-use tt_search::{Watch, construct, descend, improve_watched};
+use tt_search::{construct, descend, improve_watched};
+use tt_search_watch::Watch;
 use tt_table::Timetable;
 
 /// The steps of a turn of the improvement after the descent: the minimum, the maximum, and the steps for each entry in each cell of a room. A turn

@@ -22,7 +22,7 @@ use tt_instance_data::Instance;
 use tt_leaf_data::Bound;
 use tt_proof_check::{NodesFault, check_nodes};
 use tt_proof_read::Node;
-use tt_search::{Unwatched, Watch};
+use tt_search_watch::{Unwatched, Watch};
 use tt_table::Timetable;
 
 /// The result of a search.

@@ -9,7 +9,7 @@ use std::alloc::{AllocError, Global};
 use tt_instance_data::Instance;
 use tt_leaf_data::Bound;
 use tt_parts_groups::{find_groups, write_groups};
-use tt_search::{Unwatched, Watch};
+use tt_search_watch::{Unwatched, Watch};
 use tt_table::Entry;
 
 /// The number of relaxations that the search for groups may do for each node allowed.

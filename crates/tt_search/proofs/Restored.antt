@@ -5,7 +5,7 @@ use Rattle.tt_instance_data.specs.declared.cell.Cell.{Cell}
 use Rattle.tt_moves_descend.proofs.Descents.{courses-stepped}
 use Rattle.tt_moves.specs.Steps.{no_entry, entry_at, stepped}
 use Rattle.tt_moves.specs.declared.step.Step.TheVariants.{Move}
-use Rattle.tt_search.specs.Improved.{courses_of}
+use Rattle.tt_search_walk.specs.Improved.{courses_of}
 
 -- lists with the same courses have the same length
 pub length_same : (t u : List Cell) → courses_of t ≡ courses_of u → length t ≡ length u

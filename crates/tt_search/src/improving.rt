@@ -3,24 +3,21 @@
 ghost use Rattle.std.specs.Prelude.{◌≡◌, ◌<◌, ◌≤◌, ◌-◌, ◌/◌, List, length, IfOk, OnOk};
 ghost use Rattle.tt_instance_data.specs.declared.cell.Cell.{Cell};
 ghost use Rattle.tt_table.specs.Table.{IsTimetable};
-ghost use Rattle.tt_search.specs.Improved.{IsNoWorse, LeadsWithin, IsDescended};
-ghost use Rattle.tt_search.specs.Pairs.{IsBest};
+ghost use Rattle.tt_search_walk.specs.Improved.{IsNoWorse, LeadsWithin, IsDescended};
+ghost use Rattle.tt_search_walk.specs.Pairs.{IsBest};
 
-use crate::best::Best;
-use crate::cooling::{Cooling, samples};
-use crate::phases::{Phase, phases};
 use crate::planning::walk_by_plans;
 use crate::restoring::restore;
-use crate::schedule::Schedule;
-use crate::settled::is_settled;
-use crate::walking::{Walker, walk};
-use crate::watch::{Span, Unwatched, Watch};
 use rand_pcg::Pcg32;
 use std::alloc::{AllocError, Global};
 use tt_instance_data::Instance;
 use tt_moves_descend::descend_in;
 use tt_occupancy::Occupied;
 use tt_search_replan::{Replanner, can_replan};
+use tt_search_walk::{
+    Best, Cooling, Phase, Schedule, Span, Walker, is_settled, phases_for, samples, walk,
+};
+use tt_search_watch::{Unwatched, Watch};
 use tt_table::Timetable;
 
 /// Walks from the best timetable, and then returns to the best one so far. No memory is allocated.
@@ -78,7 +75,7 @@ fn walk_phases<W: Watch>(
     ensures within { result ≤ draws }
     ensures reached { LeadsWithin occupied.old.problem occupied.old.entries result occupied.new.entries }
 {
-    let phases = phases(is_settled);
+    let phases = phases_for(is_settled);
     let samples = samples(draws);
     let mut made = 0;
     for phase in phases {

@@ -2,17 +2,15 @@
 
 ghost use Rattle.std.specs.Prelude.{◌≡◌, ◌<◌, ◌≤◌, ◌+◌, ℕ, List, length};
 ghost use Rattle.tt_instance_data.specs.declared.cell.Cell.{Cell};
-ghost use Rattle.tt_search.specs.Improved.{courses_of, LeadsWithin};
-ghost use Rattle.tt_search.specs.Pairs.{IsBest};
+ghost use Rattle.tt_search_walk.specs.Improved.{courses_of, LeadsWithin};
+ghost use Rattle.tt_search_walk.specs.Pairs.{IsBest};
 
-use crate::best::Best;
-use crate::sampling::entry_to_move;
-use crate::schedule::Schedule;
-use crate::watch::{Span, Watch};
 use rand_pcg::Pcg32;
 use tt_moves::{Step, apply, can_step};
 use tt_occupancy::Occupied;
 use tt_search_replan::Replanner;
+use tt_search_walk::{Best, Schedule, Span, entry_to_move};
+use tt_search_watch::Watch;
 
 /// The number of plans between two reports to the watch.
 const PLANS_BETWEEN: u64 = 32;

@@ -2,13 +2,13 @@
 
 ghost use Rattle.std.specs.Prelude.{◌-◌, ◌/◌, IfOk};
 ghost use Rattle.tt_table.specs.Table.{IsTimetable};
-ghost use Rattle.tt_search.specs.Improved.{IsNoWorse};
+ghost use Rattle.tt_search_walk.specs.Improved.{IsNoWorse};
 ghost use Rattle.tt_search.specs.Runs.{Runs};
 
 use crate::improving::improve_watched;
-use crate::watch::Watch;
 use std::alloc::{AllocError, Global};
 use tt_instance_data::Instance;
+use tt_search_watch::Watch;
 use tt_table::Timetable;
 
 /// Improves a timetable in this many runs, each from the result of the run before, with the seed increased by 1 each time.

@@ -6,7 +6,7 @@ use tt_groups_read::GroupReader;
 use tt_instance::read_instance;
 use tt_instance_data::Instance;
 use tt_parts_groups::{find_groups, write_groups};
-use tt_search::Unwatched;
+use tt_search_watch::Unwatched;
 use tt_table::Entry;
 use tt_text::Pieces;
 

@@ -6,9 +6,8 @@ use std::rt::{Clock, Files};
 use tt_app_answers::{Answer, AppFault, Input};
 use tt_app_arguments::{BestSearch, Showing};
 use tt_app_files::{Batch, Ready};
-use tt_app_run_files::{Folder, read_file, ticker_of};
+use tt_app_run_files::{Folder, Keeper, Ticker, read_file, ticker_of};
 use tt_app_searches::{BestAnswer, Rounds, best_watched};
-use tt_app_watch::{Keeper, Ticker};
 use tt_page::STYLE;
 
 /// The name of the best timetable's file.

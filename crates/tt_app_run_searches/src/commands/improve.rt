@@ -6,9 +6,8 @@ use std::rt::{Clock, Files};
 use tt_app_answers::{Answer, AppFault, Input};
 use tt_app_arguments::{Search, Showing};
 use tt_app_files::Ready;
-use tt_app_run_files::{find_apart, read_file, ticker_of, write_given};
+use tt_app_run_files::{Keeper, Ticker, find_apart, read_file, ticker_of, write_given};
 use tt_app_searches::{complete_and_improve, improve_in_runs};
-use tt_app_watch::{Keeper, Ticker};
 
 /// Improves a timetable, shows the progress on standard error, and saves timetables on the way if the options ask for it.
 fn improve_shown<'k, R: Files + Clock + AllocGlobal, E: Write>(

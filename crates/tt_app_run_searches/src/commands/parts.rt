@@ -6,9 +6,8 @@ use std::rt::{Clock, Files};
 use tt_app_answers::{Answer, AppFault, Input};
 use tt_app_arguments::{PartSearch, Showing};
 use tt_app_files::{Batch, Ready};
-use tt_app_run_files::{Folder, read_file, ticker_of};
+use tt_app_run_files::{Folder, Ticker, read_file, ticker_of};
 use tt_app_searches::{PartsAnswer, guided_parts_watched, parts_watched};
-use tt_app_watch::Ticker;
 use tt_parts::Effort;
 
 /// The name of the file of groups.

@@ -6,9 +6,8 @@ use std::rt::{Clock, Files};
 use tt_app_answers::{Answer, AppFault, Input};
 use tt_app_arguments::{MAX_SOLVE_NODES, Showing, TreeSearch};
 use tt_app_files::{Batch, Ready};
-use tt_app_run_files::{find_apart, read_file, ticker_of};
+use tt_app_run_files::{Keeper, Ticker, find_apart, read_file, ticker_of};
 use tt_app_searches::solve_watched;
-use tt_app_watch::{Keeper, Ticker};
 
 /// Searches for a best timetable, shows the progress on standard error, and saves timetables on the way if the options ask for it.
 fn solve_shown<'k, R: Files + Clock + AllocGlobal, E: Write>(

@@ -26,7 +26,7 @@ use tt_leaf_data::Bound;
 use tt_page_text::{Labels, TextFault};
 use tt_parts::Parts;
 use tt_rules::score;
-use tt_search::Watch;
+use tt_search_watch::Watch;
 use tt_table::{Timetable, write_solution};
 use tt_text::{put_line_end, put_number, put_token};
 

@@ -15,8 +15,8 @@ use tt_app_answers::{Answer, AppFault};
 use tt_instance::read_instance;
 use tt_instance_data::Instance;
 use tt_rules::score;
-use tt_search::{Unwatched, Watch};
 use tt_search_complete::complete;
+use tt_search_watch::{Unwatched, Watch};
 use tt_table::{Timetable, read_solution, write_solution};
 use tt_text::{put_line_end, put_number, put_token};
 

@@ -17,7 +17,7 @@ use tt_instance::read_instance;
 use tt_instance_data::Instance;
 use tt_leaf_data::Bound;
 use tt_parts::{Effort, Parts, find_parts_watched};
-use tt_search::{Unwatched, Watch};
+use tt_search_watch::{Unwatched, Watch};
 use tt_table::{Entry, read_solution};
 use tt_text::{put_line_end, put_number, put_token};
 

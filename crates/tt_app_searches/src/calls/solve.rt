@@ -21,7 +21,7 @@ use tt_leaf_data::Bound;
 use tt_proof_read::Node;
 use tt_proof_text::{WriteFault, write_proof};
 use tt_rules::score;
-use tt_search::{Unwatched, Watch};
+use tt_search_watch::{Unwatched, Watch};
 use tt_table::{Timetable, write_solution};
 use tt_text::{put_line_end, put_number, put_token};
 

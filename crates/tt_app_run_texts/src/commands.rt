@@ -1,7 +1,0 @@
-//! The commands, one file each.
-
-pub mod calendar;
-pub mod inspect;
-pub mod page;
-pub mod report;
-pub mod table;

@@ -1,0 +1,3 @@
+pub mod Improved
+pub mod Pairs
+pub mod Settled
