@@ -4,17 +4,63 @@ ghost use Rattle.std.specs.Prelude.{◌<◌, length};
 
 use crate::counts::{Counts, open_periods};
 use crate::lists::{put_courses_without_curriculum, put_small_curricula, put_small_rooms};
-use crate::shown::{Counted, Name};
+use crate::shown::{Counted, Name, Noun};
 use crate::summary::{most_seats, periods_of_week, places};
 use std::alloc::AllocError;
+use std::fmt;
 use tt_instance_data::Instance;
 
 /// Courses no two of which can have lectures at the same time, and why.
 #[derive(Clone, Copy)]
 struct Group<'a> {
-    kind: &'a str,
+    kind: Noun,
     name: Name<'a>,
     courses: &'a [u32],
+}
+
+/// The periods that a group can use, fewer than its lectures.
+#[derive(Clone, Copy)]
+enum TooFew {
+    /// All periods of the week.
+    Week(u64),
+    /// The periods in which one of the courses can have a lecture.
+    Open(u64),
+}
+
+impl fmt::Display for TooFew {
+    fn fmt<W: fmt::Write>(&self, f: &mut fmt::Formatter<W>) -> fmt::Result {
+        match *self {
+            TooFew::Week(periods) => {
+                let week = Counted(periods, Noun::Period);
+                write!(f, "the week has {week}")
+            }
+            TooFew::Open(periods) => {
+                let open = Counted(periods, Noun::Period);
+                write!(f, "its courses can meet in {open}")
+            }
+        }
+    }
+}
+
+/// Returns the periods that courses can use, if these are fewer than their lectures.
+fn too_few(
+    instance: &Instance<'_>,
+    counts: &Counts,
+    courses: &[u32],
+    lectures: u64,
+) -> Option<TooFew> {
+    let week = periods_of_week(instance);
+    if lectures > week {
+        return Some(TooFew::Week(week));
+    }
+    if lectures <= counts.most_open(courses) {
+        return None;
+    }
+    let open = open_periods(instance, courses);
+    if lectures <= open {
+        return None;
+    }
+    Some(TooFew::Open(open))
 }
 
 /// Appends the line of a group with more lectures than periods; returns whether it has more.
@@ -24,34 +70,14 @@ fn put_group(
     counts: &Counts,
     group: Group<'_>,
 ) -> Result<bool, AllocError> {
-    let Group {
-        kind,
-        name,
-        courses,
-    } = group;
-    let lectures = counts.lectures_of(courses);
-    let found = Counted::new(lectures, "lecture", "lectures");
-    let week = periods_of_week(instance);
-    if lectures > week {
-        let week = Counted::new(week, "period", "periods");
-        writeln!(
-            text,
-            "can't be: {kind} {name} has {found}, the week has {week}"
-        )?;
-        return Ok(true);
-    }
-    if lectures <= counts.most_open(courses) {
+    let lectures = counts.lectures_of(group.courses);
+    let Some(periods) = too_few(instance, counts, group.courses, lectures) else {
         return Ok(false);
-    }
-    let open = open_periods(instance, courses);
-    if lectures <= open {
-        return Ok(false);
-    }
-    let open = Counted::new(open, "period", "periods");
-    writeln!(
-        text,
-        "can't be: {kind} {name} has {found}, its courses can meet in {open}"
-    )?;
+    };
+    let kind = group.kind;
+    let name = group.name;
+    let found = Counted(lectures, Noun::Lecture);
+    writeln!(text, "can't be: {kind} {name} has {found}, {periods}")?;
     Ok(true)
 }
 
@@ -64,7 +90,7 @@ fn put_curricula(
     let mut some = false;
     for curriculum in 0..instance.curricula() {
         let group = Group {
-            kind: "curriculum",
+            kind: Noun::Curriculum,
             name: Name {
                 bytes: instance.curriculum_id(curriculum),
             },
@@ -84,7 +110,7 @@ fn put_teachers(
     let mut some = false;
     for teacher in 0..instance.teachers() {
         let group = Group {
-            kind: "teacher",
+            kind: Noun::Teacher,
             name: Name {
                 bytes: instance.teacher_name(teacher),
             },
@@ -106,8 +132,8 @@ fn put_places(
     if lectures <= places {
         return Ok(false);
     }
-    let lectures = Counted::new(lectures, "lecture", "lectures");
-    let places = Counted::new(places, "place", "places");
+    let lectures = Counted(lectures, Noun::Lecture);
+    let places = Counted(places, Noun::Place);
     writeln!(
         text,
         "can't be: there are {lectures}, the rooms have {places} in the week"
@@ -132,13 +158,69 @@ fn put_open(
     let name = Name {
         bytes: instance.course_id(course),
     };
-    let lectures = Counted::new(lectures, "lecture", "lectures");
-    let open = Counted::new(open, "period", "periods");
+    let lectures = Counted(lectures, Noun::Lecture);
+    let open = Counted(open, Noun::Period);
     writeln!(
         text,
         "can't be: course {name} has {lectures} and can meet in {open}"
     )?;
     Ok(true)
+}
+
+/// The most days that a course can have, fewer than it asks for.
+#[derive(Clone, Copy)]
+enum MostDays {
+    /// A day for each of its lectures.
+    Lectures(u32),
+    /// The days of the week.
+    Week(u32),
+}
+
+impl fmt::Display for MostDays {
+    fn fmt<W: fmt::Write>(&self, f: &mut fmt::Formatter<W>) -> fmt::Result {
+        match *self {
+            MostDays::Lectures(lectures) => {
+                let lectures = Counted(u64::from(lectures), Noun::Lecture);
+                write!(f, " and has {lectures}")
+            }
+            MostDays::Week(days) => write!(f, ", the week has {days}"),
+        }
+    }
+}
+
+/// Appends the line of a course that lacks days, if it lacks any.
+fn put_lacking(
+    text: &mut String,
+    name: Name<'_>,
+    wanted: u32,
+    lacking: u32,
+    most: MostDays,
+) -> Result<(), AllocError> {
+    if lacking == 0 {
+        return Ok(());
+    }
+    let cost = u64::from(lacking).saturating_mul(5);
+    let wanted = Counted(u64::from(wanted), Noun::Day);
+    writeln!(
+        text,
+        "costs {cost} at least: course {name} wants {wanted}{most}"
+    )
+}
+
+/// Appends the line of a course with more students than any room has seats.
+fn put_crowded(
+    text: &mut String,
+    name: Name<'_>,
+    cost: u64,
+    students: u32,
+    seats: u32,
+) -> Result<(), AllocError> {
+    let students = Counted(u64::from(students), Noun::Student);
+    let seats = Counted(u64::from(seats), Noun::Seat);
+    writeln!(
+        text,
+        "costs {cost} at least: course {name} has {students}, the largest room {seats}"
+    )
 }
 
 /// Appends a line if a course asks for more days than it can have.
@@ -148,26 +230,18 @@ fn put_days(text: &mut String, instance: &Instance<'_>, course: u32) -> Result<(
     let wanted = instance.min_days(course);
     let lectures = instance.lectures(course);
     let days = instance.days();
-    let most = lectures.min(days);
-    if wanted <= most {
-        return Ok(());
+    if lectures < days {
+        let name = Name {
+            bytes: instance.course_id(course),
+        };
+        let lacking = wanted.saturating_sub(lectures);
+        return put_lacking(text, name, wanted, lacking, MostDays::Lectures(lectures));
     }
     let name = Name {
         bytes: instance.course_id(course),
     };
-    let cost = u64::from(wanted.saturating_sub(most)).saturating_mul(5);
-    let wanted = Counted::new(u64::from(wanted), "day", "days");
-    if lectures < days {
-        let lectures = Counted::new(u64::from(lectures), "lecture", "lectures");
-        return writeln!(
-            text,
-            "costs {cost} at least: course {name} wants {wanted} and has {lectures}"
-        );
-    }
-    writeln!(
-        text,
-        "costs {cost} at least: course {name} wants {wanted}, the week has {days}"
-    )
+    let lacking = wanted.saturating_sub(days);
+    put_lacking(text, name, wanted, lacking, MostDays::Week(days))
 }
 
 /// Appends a line if a course has more students than any room has seats.
@@ -191,12 +265,7 @@ fn put_students(
     let name = Name {
         bytes: instance.course_id(course),
     };
-    let students = Counted::new(u64::from(students), "student", "students");
-    let seats = Counted::new(u64::from(seats), "seat", "seats");
-    writeln!(
-        text,
-        "costs {cost} at least: course {name} has {students}, the largest room {seats}"
-    )
+    put_crowded(text, name, cost, students, seats)
 }
 
 /// Appends the lines about each course; returns whether one of the courses is impossible.

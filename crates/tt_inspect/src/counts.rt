@@ -33,10 +33,17 @@ pub fn open_periods(instance: &Instance<'_>, courses: &[u32]) -> u64 {
 }
 
 /// Returns the number at a place; 0 if the place is out of range.
-fn at(counts: &[u64], course: u32) -> u64 {
+pub fn at(counts: &[u64], course: u32) -> u64 {
     match counts.get(course as usize) {
         Some(count) => *count,
         None => 0,
+    }
+}
+
+/// Adds one to the number at a place; nothing if the place is out of range.
+pub fn add_one(counts: &mut [u64], course: u32) {
+    if let Some(count) = counts.get_mut(course as usize) {
+        *count = count.saturating_add(1);
     }
 }
 
@@ -59,9 +66,7 @@ fn curricula_by_course(alloc: Global, instance: &Instance<'_>) -> Result<Vec<u64
     let mut curricula = vec![in alloc; 0u64; instance.courses() as usize]?;
     for curriculum in 0..instance.curricula() {
         for course in instance.members(curriculum) {
-            if let Some(count) = curricula.get_mut(*course as usize) {
-                *count = count.saturating_add(1);
-            }
+            add_one(&mut curricula, *course);
         }
     }
     Ok(curricula)

@@ -3,10 +3,10 @@
 use crate::faulty_place::{encoding_fault, put_place, word_at};
 use crate::place::place_of;
 use crate::rows::line_named;
-use crate::shown::Counted;
-use crate::survey::{Survey, look_at, missing_word};
+use crate::shown::{Counted, Noun};
+use crate::survey::{OddLine, Survey, look_at, missing_word};
 use std::alloc::{AllocError, Global};
-use tt_instance::InstanceFault;
+use tt_instance::{InstanceFault, Word};
 
 /// Returns the offset of a fault; `None` for being out of memory.
 fn offset_of(fault: InstanceFault) -> Option<usize> {
@@ -56,37 +56,48 @@ fn usual_reason(fault: InstanceFault) -> &'static str {
     }
 }
 
-/// Appends the likely reason that the lines of the file show; returns whether they show one.
+/// Appends the line of a part with another number of lines than the header says.
+fn put_miscounted(
+    text: &mut String,
+    (count, part): (Word, Word),
+    said: u64,
+    lines: u64,
+) -> Result<bool, AllocError> {
+    let lines = Counted(lines, Noun::LineThatFollows);
+    writeln!(
+        text,
+        "likely: the header says {count} {said}, and {lines} {part}"
+    )?;
+    Ok(true)
+}
+
+/// Appends the line of a line with too few or too many words.
+fn put_odd(text: &mut String, odd: OddLine) -> Result<bool, AllocError> {
+    let number = odd.number;
+    let words = Counted(odd.words as u64, Noun::Word);
+    let right = odd.section.line_words();
+    writeln!(
+        text,
+        "likely: line {number} has {words}; {right}; no name has a space"
+    )?;
+    Ok(true)
+}
+
+/// Appends the likely reason that the words and the lines of the file show; returns whether they show one.
 fn put_seen(text: &mut String, bytes: &[u8], seen: &Survey) -> Result<bool, AllocError> {
-    if let Some(reason) = encoding_fault(bytes) {
-        writeln!(text, "likely: {reason}")?;
-        return Ok(true);
-    }
     if let Some(word) = missing_word(bytes) {
         writeln!(text, "likely: the word {word} is missing")?;
         return Ok(true);
     }
     if let Some((section, said, lines)) = seen.miscounted()
-        && let Some((count, part)) = section.words()
+        && let Some(words) = section.words()
     {
-        let lines = Counted::new(lines, "line follows", "lines follow");
-        writeln!(
-            text,
-            "likely: the header says {count} {said}, and {lines} {part}"
-        )?;
-        return Ok(true);
+        return put_miscounted(text, words, said, lines);
     }
-    if let Some(odd) = seen.odd {
-        let number = odd.number;
-        let words = Counted::new(odd.words as u64, "word", "words");
-        let right = odd.section.line_words();
-        writeln!(
-            text,
-            "likely: line {number} has {words}; {right}; no name has a space"
-        )?;
-        return Ok(true);
+    match seen.odd {
+        Some(odd) => put_odd(text, odd),
+        None => Ok(false),
     }
-    Ok(false)
 }
 
 /// Appends the line of the name that is used again.
@@ -113,6 +124,9 @@ fn put_reason(
     fault: InstanceFault,
     offset: usize,
 ) -> Result<(), AllocError> {
+    if let Some(reason) = encoding_fault(bytes) {
+        return writeln!(text, "likely: {reason}");
+    }
     let seen = look_at(bytes, place_of(bytes, offset).line);
     if put_seen(text, bytes, &seen)? {
         return Ok(());

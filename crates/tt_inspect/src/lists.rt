@@ -1,8 +1,9 @@
 //! Names that should be checked, a line for each kind.
 
 use crate::counts::Counts;
-use crate::shown::{Counted, Name};
+use crate::shown::{Counted, Name, Noun};
 use std::alloc::AllocError;
+use std::fmt;
 use tt_instance_data::Instance;
 
 /// The maximum number of names of a line.
@@ -20,6 +21,48 @@ fn put_names(text: &mut String, names: &[Name<'_>]) -> Result<(), AllocError> {
     text.push_str("\n")
 }
 
+/// What should be checked of the things that a line lists.
+#[derive(Clone, Copy)]
+enum Concern {
+    /// Courses that are in no curriculum.
+    NoCurriculum,
+    /// Curricula that have fewer than two courses.
+    FewCourses,
+    /// Rooms that seat no course.
+    FewSeats,
+}
+
+impl Concern {
+    /// Returns what the line lists.
+    fn noun(self) -> Noun {
+        match self {
+            Concern::NoCurriculum => Noun::CourseThatIs,
+            Concern::FewCourses => Noun::CurriculumThatHas,
+            Concern::FewSeats => Noun::RoomThatIs,
+        }
+    }
+}
+
+impl fmt::Display for Concern {
+    fn fmt<W: fmt::Write>(&self, f: &mut fmt::Formatter<W>) -> fmt::Result {
+        f.write_str(match self {
+            Concern::NoCurriculum => "in no curriculum",
+            Concern::FewCourses => "fewer than two courses",
+            Concern::FewSeats => "too small for every course",
+        })
+    }
+}
+
+/// Appends a line of names, if there are any.
+fn put_concern(text: &mut String, concern: Concern, names: &[Name<'_>]) -> Result<(), AllocError> {
+    if names.is_empty() {
+        return Ok(());
+    }
+    let found = Counted(names.len() as u64, concern.noun());
+    write!(text, "look at: {found} {concern}:")?;
+    put_names(text, names)
+}
+
 /// Appends a line of the courses that are in no curriculum, if there are any.
 pub fn put_courses_without_curriculum(
     text: &mut String,
@@ -34,12 +77,7 @@ pub fn put_courses_without_curriculum(
             })?;
         }
     }
-    if names.is_empty() {
-        return Ok(());
-    }
-    let found = Counted::new(names.len() as u64, "course is", "courses are");
-    write!(text, "look at: {found} in no curriculum:")?;
-    put_names(text, &names)
+    put_concern(text, Concern::NoCurriculum, &names)
 }
 
 /// Appends a line of the curricula that have fewer than two courses, if there are any.
@@ -52,12 +90,7 @@ pub fn put_small_curricula(text: &mut String, instance: &Instance<'_>) -> Result
             })?;
         }
     }
-    if names.is_empty() {
-        return Ok(());
-    }
-    let found = Counted::new(names.len() as u64, "curriculum has", "curricula have");
-    write!(text, "look at: {found} fewer than two courses:")?;
-    put_names(text, &names)
+    put_concern(text, Concern::FewCourses, &names)
 }
 
 /// Returns the number of students of the smallest course; `None` if there is no course.
@@ -86,10 +119,5 @@ pub fn put_small_rooms(text: &mut String, instance: &Instance<'_>) -> Result<(),
             })?;
         }
     }
-    if names.is_empty() {
-        return Ok(());
-    }
-    let found = Counted::new(names.len() as u64, "room is", "rooms are");
-    write!(text, "look at: {found} too small for every course:")?;
-    put_names(text, &names)
+    put_concern(text, Concern::FewSeats, &names)
 }

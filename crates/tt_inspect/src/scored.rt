@@ -1,17 +1,39 @@
 //! The rules that a solution breaks and its costs, in words.
 
-use crate::shown::{Counted, Name};
-use std::alloc::AllocError;
+use crate::counts::{add_one, at};
+use crate::shown::{Counted, Name, Noun};
+use std::alloc::{AllocError, Global};
+use std::fmt;
 use tt_instance_data::Instance;
 use tt_rules::Score;
 use tt_table::Timetable;
 
+/// A hard rule.
+#[derive(Clone, Copy)]
+enum Rule {
+    Lectures,
+    Conflicts,
+    Availability,
+    RoomOccupancy,
+}
+
+impl fmt::Display for Rule {
+    fn fmt<W: fmt::Write>(&self, f: &mut fmt::Formatter<W>) -> fmt::Result {
+        f.write_str(match self {
+            Rule::Lectures => "each course has its lectures, in periods of their own (lectures)",
+            Rule::Conflicts => "no teacher and no curriculum is in two places at once (conflicts)",
+            Rule::Availability => "no course meets where it can't (availability)",
+            Rule::RoomOccupancy => "a room holds one lecture at a time (room_occupancy)",
+        })
+    }
+}
+
 /// Appends a line that says how often a hard rule is broken, if it is.
-fn put_broken(text: &mut String, count: u64, rule: &str) -> Result<(), AllocError> {
+fn put_broken(text: &mut String, count: u64, rule: Rule) -> Result<(), AllocError> {
     if count == 0 {
         return Ok(());
     }
-    let times = Counted::new(count, "time", "times");
+    let times = Counted(count, Noun::Time);
     writeln!(text, "broken {times}: {rule}")
 }
 
@@ -20,26 +42,10 @@ fn put_hard(text: &mut String, score: &Score) -> Result<(), AllocError> {
     if score.feasible() {
         return writeln!(text, "no hard rule is broken");
     }
-    put_broken(
-        text,
-        score.lectures,
-        "each course has its lectures, in periods of their own (lectures)",
-    )?;
-    put_broken(
-        text,
-        score.conflicts,
-        "no teacher and no curriculum is in two places at once (conflicts)",
-    )?;
-    put_broken(
-        text,
-        score.availability,
-        "no course meets where it can't (availability)",
-    )?;
-    put_broken(
-        text,
-        score.room_occupancy,
-        "a room holds one lecture at a time (room_occupancy)",
-    )
+    put_broken(text, score.lectures, Rule::Lectures)?;
+    put_broken(text, score.conflicts, Rule::Conflicts)?;
+    put_broken(text, score.availability, Rule::Availability)?;
+    put_broken(text, score.room_occupancy, Rule::RoomOccupancy)
 }
 
 /// Appends the line of the cost and its four parts.
@@ -55,28 +61,46 @@ fn put_cost(text: &mut String, score: &Score) -> Result<(), AllocError> {
     )
 }
 
+/// Counts the entries of each course.
+fn entries_by_course(
+    alloc: Global,
+    courses: u32,
+    table: &Timetable,
+) -> Result<Vec<u64>, AllocError> {
+    let mut placed = vec![in alloc; 0u64; courses as usize]?;
+    for entry in table.entries() {
+        add_one(&mut placed, entry.course);
+    }
+    Ok(placed)
+}
+
+/// Appends a line if a course has another number of entries than of lectures.
+fn put_entries(
+    text: &mut String,
+    name: Name<'_>,
+    found: u64,
+    lectures: u64,
+) -> Result<(), AllocError> {
+    if found == lectures {
+        return Ok(());
+    }
+    let lectures = Counted(lectures, Noun::Lecture);
+    writeln!(text, "course {name}: {found} of {lectures}")
+}
+
 /// Appends a line for each course whose number of entries differs from its number of lectures.
 fn put_missing(
     text: &mut String,
     instance: &Instance<'_>,
     table: &Timetable,
 ) -> Result<(), AllocError> {
-    let mut placed = vec![in *text.allocator(); 0u32; instance.courses() as usize]?;
-    for entry in table.entries() {
-        if let Some(count) = placed.get_mut(entry.course as usize) {
-            *count = count.saturating_add(1);
-        }
-    }
+    let placed = entries_by_course(*text.allocator(), instance.courses(), table)?;
     for course in 0..instance.courses() {
-        let lectures = instance.lectures(course);
-        let found = placed.get(course as usize).copied().unwrap_or(0);
-        if found != lectures {
-            let name = Name {
-                bytes: instance.course_id(course),
-            };
-            let lectures = Counted::new(u64::from(lectures), "lecture", "lectures");
-            writeln!(text, "course {name}: {found} of {lectures}")?;
-        }
+        let name = Name {
+            bytes: instance.course_id(course),
+        };
+        let lectures = u64::from(instance.lectures(course));
+        put_entries(text, name, at(&placed, course), lectures)?;
     }
     Ok(())
 }
@@ -88,7 +112,7 @@ pub fn put_score(
     table: &Timetable,
     score: &Score,
 ) -> Result<(), AllocError> {
-    let placed = Counted::new(table.len() as u64, "lecture", "lectures");
+    let placed = Counted(table.len() as u64, Noun::Lecture);
     writeln!(text, "the solution has {placed}")?;
     put_hard(text, score)?;
     put_cost(text, score)?;

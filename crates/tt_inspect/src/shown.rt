@@ -42,25 +42,97 @@ impl<'a> fmt::Display for Name<'a> {
     }
 }
 
-/// A number of things, in words.
+/// A thing that is counted, with its verb where a text needs one.
 #[derive(Clone, Copy)]
-pub struct Counted<'a> {
-    pub count: u64,
-    pub one: &'a str,
-    pub many: &'a str,
+pub enum Noun {
+    Course,
+    CourseThatIs,
+    Curriculum,
+    CurriculumThatHas,
+    Day,
+    Lecture,
+    LectureThatHas,
+    LineThatFollows,
+    Pair,
+    Period,
+    Place,
+    Room,
+    RoomThatIs,
+    Seat,
+    Student,
+    Teacher,
+    Time,
+    Word,
 }
 
-impl<'a> Counted<'a> {
-    /// Creates a number with the word for one thing and the word for several.
-    pub fn new(count: u64, one: &'a str, many: &'a str) -> Self {
-        Counted { count, one, many }
+impl Noun {
+    /// Returns the words for one thing.
+    fn one(self) -> &'static str {
+        match self {
+            Noun::Course => "course",
+            Noun::CourseThatIs => "course is",
+            Noun::Curriculum => "curriculum",
+            Noun::CurriculumThatHas => "curriculum has",
+            Noun::Day => "day",
+            Noun::Lecture => "lecture",
+            Noun::LectureThatHas => "lecture has",
+            Noun::LineThatFollows => "line follows",
+            Noun::Pair => "pair",
+            Noun::Period => "period",
+            Noun::Place => "place",
+            Noun::Room => "room",
+            Noun::RoomThatIs => "room is",
+            Noun::Seat => "seat",
+            Noun::Student => "student",
+            Noun::Teacher => "teacher",
+            Noun::Time => "time",
+            Noun::Word => "word",
+        }
+    }
+
+    /// Returns the words for several things.
+    fn many(self) -> &'static str {
+        match self {
+            Noun::Course => "courses",
+            Noun::CourseThatIs => "courses are",
+            Noun::Curriculum => "curricula",
+            Noun::CurriculumThatHas => "curricula have",
+            Noun::Day => "days",
+            Noun::Lecture => "lectures",
+            Noun::LectureThatHas => "lectures have",
+            Noun::LineThatFollows => "lines follow",
+            Noun::Pair => "pairs",
+            Noun::Period => "periods",
+            Noun::Place => "places",
+            Noun::Room => "rooms",
+            Noun::RoomThatIs => "rooms are",
+            Noun::Seat => "seats",
+            Noun::Student => "students",
+            Noun::Teacher => "teachers",
+            Noun::Time => "times",
+            Noun::Word => "words",
+        }
     }
 }
 
-impl<'a> fmt::Display for Counted<'a> {
+impl fmt::Display for Noun {
     fn fmt<W: fmt::Write>(&self, f: &mut fmt::Formatter<W>) -> fmt::Result {
-        let count = self.count;
-        let word = if count == 1 { self.one } else { self.many };
+        f.write_str(self.one())
+    }
+}
+
+/// A number of things, in words.
+#[derive(Clone, Copy)]
+pub struct Counted(pub u64, pub Noun);
+
+impl fmt::Display for Counted {
+    fn fmt<W: fmt::Write>(&self, f: &mut fmt::Formatter<W>) -> fmt::Result {
+        let count = self.0;
+        let word = if count == 1 {
+            self.1.one()
+        } else {
+            self.1.many()
+        };
         write!(f, "{count} {word}")
     }
 }

@@ -3,7 +3,7 @@
 use crate::faulty_place::{encoding_fault, put_place};
 use crate::place::place_of;
 use crate::rows::Row;
-use crate::shown::Counted;
+use crate::shown::{Counted, Noun};
 use std::alloc::{AllocError, Global};
 use tt_instance::Word;
 use tt_table::SolutionFault;
@@ -83,7 +83,7 @@ fn put_reason(
         );
     }
     if let Some((number, words)) = odd_line(bytes, place_of(bytes, offset).line) {
-        let words = Counted::new(words as u64, "word", "words");
+        let words = Counted(words as u64, Noun::Word);
         return writeln!(
             text,
             "likely: line {number} has {words}; a lecture has 4: course, room, day, period; no name has a space"

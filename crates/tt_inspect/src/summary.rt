@@ -1,7 +1,7 @@
 //! The contents of an instance.
 
 use crate::counts::Counts;
-use crate::shown::Counted;
+use crate::shown::{Counted, Noun};
 use std::alloc::AllocError;
 use tt_instance_data::Instance;
 
@@ -29,11 +29,11 @@ fn put_content(
     instance: &Instance<'_>,
     lectures: u64,
 ) -> Result<(), AllocError> {
-    let courses = Counted::new(u64::from(instance.courses()), "course", "courses");
-    let lectures = Counted::new(lectures, "lecture", "lectures");
-    let teachers = Counted::new(u64::from(instance.teachers()), "teacher", "teachers");
-    let rooms = Counted::new(u64::from(instance.rooms()), "room", "rooms");
-    let curricula = Counted::new(u64::from(instance.curricula()), "curriculum", "curricula");
+    let courses = Counted(u64::from(instance.courses()), Noun::Course);
+    let lectures = Counted(lectures, Noun::Lecture);
+    let teachers = Counted(u64::from(instance.teachers()), Noun::Teacher);
+    let rooms = Counted(u64::from(instance.rooms()), Noun::Room);
+    let curricula = Counted(u64::from(instance.curricula()), Noun::Curriculum);
     writeln!(
         text,
         "{courses} with {lectures}, {teachers}, {rooms}, {curricula}"
@@ -44,9 +44,9 @@ fn put_content(
 fn put_week(text: &mut String, instance: &Instance<'_>, lectures: u64) -> Result<(), AllocError> {
     let places = places(instance);
     let full = percent(lectures, places);
-    let days = Counted::new(u64::from(instance.days()), "day", "days");
-    let periods = Counted::new(u64::from(instance.periods()), "period", "periods");
-    let places = Counted::new(places, "place", "places");
+    let days = Counted(u64::from(instance.days()), Noun::Day);
+    let periods = Counted(u64::from(instance.periods()), Noun::Period);
+    let places = Counted(places, Noun::Place);
     writeln!(
         text,
         "{days} of {periods}, {places} in all rooms, {full} percent full"
@@ -72,7 +72,7 @@ fn put_conflicts(text: &mut String, instance: &Instance<'_>) -> Result<(), Alloc
     let all = courses.saturating_mul(courses.saturating_sub(1)) / 2;
     let found = conflicting_pairs(instance);
     let share = percent(found, all);
-    let pairs = Counted::new(all, "pair", "pairs");
+    let pairs = Counted(all, Noun::Pair);
     writeln!(
         text,
         "{found} of {pairs} of courses can't meet at the same time, {share} percent"
@@ -112,25 +112,32 @@ fn most_students(instance: &Instance<'_>) -> u32 {
     most
 }
 
+/// Appends the seats of the largest room and the students of the largest course.
+fn put_largest(text: &mut String, seats: u32, students: u32) -> Result<(), AllocError> {
+    let seats = Counted(u64::from(seats), Noun::Seat);
+    let students = Counted(u64::from(students), Noun::Student);
+    write!(
+        text,
+        "the largest room has {seats}, the largest course {students}"
+    )
+}
+
+/// Ends the line of seats and students with the number of lectures that have no room that is large enough.
+fn put_above(text: &mut String, above: u64) -> Result<(), AllocError> {
+    if above == 0 {
+        return text.push_str("\n");
+    }
+    let above = Counted(above, Noun::LectureThatHas);
+    writeln!(text, "; {above} no room that is large enough")
+}
+
 /// Appends the line of seats and students.
 fn put_seats(text: &mut String, instance: &Instance<'_>) -> Result<(), AllocError> {
     let Some(seats) = most_seats(instance) else {
         return writeln!(text, "there is no room");
     };
-    let above = lectures_above(instance, seats);
-    let students = Counted::new(u64::from(most_students(instance)), "student", "students");
-    let seats = Counted::new(u64::from(seats), "seat", "seats");
-    if above == 0 {
-        return writeln!(
-            text,
-            "the largest room has {seats}, the largest course {students}"
-        );
-    }
-    let above = Counted::new(above, "lecture has", "lectures have");
-    writeln!(
-        text,
-        "the largest room has {seats}, the largest course {students}; {above} no room that is large enough"
-    )
+    put_largest(text, seats, most_students(instance))?;
+    put_above(text, lectures_above(instance, seats))
 }
 
 /// Appends the contents of an instance: its parts, how full its week is, its conflicts and its seats.
