@@ -3,7 +3,7 @@
 ghost use Rattle.std.specs.Prelude.{◌<◌, length};
 
 use crate::counts::{Counts, open_periods};
-use crate::lists::{put_courses_without_curriculum, put_small_curricula, put_small_rooms};
+use crate::lists::put_concerns;
 use crate::shown::{Counted, Name, Noun};
 use crate::summary::{most_seats, periods_of_week, places};
 use std::alloc::AllocError;
@@ -167,60 +167,22 @@ fn put_open(
     Ok(true)
 }
 
-/// The most days that a course can have, fewer than it asks for.
+/// The lectures of a course, and the days of the week: the course can have no more days than either.
 #[derive(Clone, Copy)]
-enum MostDays {
-    /// A day for each of its lectures.
-    Lectures(u32),
-    /// The days of the week.
-    Week(u32),
+struct MostDays {
+    lectures: u32,
+    days: u32,
 }
 
 impl fmt::Display for MostDays {
     fn fmt<W: fmt::Write>(&self, f: &mut fmt::Formatter<W>) -> fmt::Result {
-        match *self {
-            MostDays::Lectures(lectures) => {
-                let lectures = Counted(u64::from(lectures), Noun::Lecture);
-                write!(f, " and has {lectures}")
-            }
-            MostDays::Week(days) => write!(f, ", the week has {days}"),
+        let MostDays { lectures, days } = *self;
+        if lectures < days {
+            let lectures = Counted(u64::from(lectures), Noun::Lecture);
+            return write!(f, " and has {lectures}");
         }
+        write!(f, ", the week has {days}")
     }
-}
-
-/// Appends the line of a course that lacks days, if it lacks any.
-fn put_lacking(
-    text: &mut String,
-    name: Name<'_>,
-    wanted: u32,
-    lacking: u32,
-    most: MostDays,
-) -> Result<(), AllocError> {
-    if lacking == 0 {
-        return Ok(());
-    }
-    let cost = u64::from(lacking).saturating_mul(5);
-    let wanted = Counted(u64::from(wanted), Noun::Day);
-    writeln!(
-        text,
-        "costs {cost} at least: course {name} wants {wanted}{most}"
-    )
-}
-
-/// Appends the line of a course with more students than any room has seats.
-fn put_crowded(
-    text: &mut String,
-    name: Name<'_>,
-    cost: u64,
-    students: u32,
-    seats: u32,
-) -> Result<(), AllocError> {
-    let students = Counted(u64::from(students), Noun::Student);
-    let seats = Counted(u64::from(seats), Noun::Seat);
-    writeln!(
-        text,
-        "costs {cost} at least: course {name} has {students}, the largest room {seats}"
-    )
 }
 
 /// Appends a line if a course asks for more days than it can have.
@@ -230,18 +192,20 @@ fn put_days(text: &mut String, instance: &Instance<'_>, course: u32) -> Result<(
     let wanted = instance.min_days(course);
     let lectures = instance.lectures(course);
     let days = instance.days();
-    if lectures < days {
-        let name = Name {
-            bytes: instance.course_id(course),
-        };
-        let lacking = wanted.saturating_sub(lectures);
-        return put_lacking(text, name, wanted, lacking, MostDays::Lectures(lectures));
+    let lacking = wanted.saturating_sub(lectures.min(days));
+    if lacking == 0 {
+        return Ok(());
     }
     let name = Name {
         bytes: instance.course_id(course),
     };
-    let lacking = wanted.saturating_sub(days);
-    put_lacking(text, name, wanted, lacking, MostDays::Week(days))
+    let cost = u64::from(lacking).saturating_mul(5);
+    let wanted = Counted(u64::from(wanted), Noun::Day);
+    let most = MostDays { lectures, days };
+    writeln!(
+        text,
+        "costs {cost} at least: course {name} wants {wanted}{most}"
+    )
 }
 
 /// Appends a line if a course has more students than any room has seats.
@@ -265,7 +229,12 @@ fn put_students(
     let name = Name {
         bytes: instance.course_id(course),
     };
-    put_crowded(text, name, cost, students, seats)
+    let students = Counted(u64::from(students), Noun::Student);
+    let seats = Counted(u64::from(seats), Noun::Seat);
+    writeln!(
+        text,
+        "costs {cost} at least: course {name} has {students}, the largest room {seats}"
+    )
 }
 
 /// Appends the lines about each course; returns whether one of the courses is impossible.
@@ -295,9 +264,7 @@ pub fn put_advice(
     some |= put_curricula(text, instance, counts)?;
     some |= put_teachers(text, instance, counts)?;
     some |= put_courses(text, instance, counts)?;
-    put_courses_without_curriculum(text, instance, counts)?;
-    put_small_curricula(text, instance)?;
-    put_small_rooms(text, instance)?;
+    put_concerns(text, instance, counts)?;
     if text.len() == before {
         text.push_str("nothing to look at\n")?;
     }

@@ -3,6 +3,7 @@
 use crate::place::place_of;
 use crate::shown::Shown;
 use std::alloc::AllocError;
+use std::fmt;
 
 /// The maximum number of bytes of a line that are shown, and the maximum of these before the mark.
 const MAX_SHOWN: usize = 120;
@@ -33,6 +34,21 @@ fn shown_part(bytes: &[u8], offset: usize) -> Excerpt<'_> {
     }
 }
 
+/// A mark after some spaces.
+#[derive(Clone, Copy)]
+struct Mark {
+    spaces: usize,
+}
+
+impl fmt::Display for Mark {
+    fn fmt<W: fmt::Write>(&self, f: &mut fmt::Formatter<W>) -> fmt::Result {
+        for _ in 0..self.spaces {
+            f.write_char(' ')?;
+        }
+        f.write_char('^')
+    }
+}
+
 /// Appends the line of an offset, with a mark below the offset; nothing if the line is empty.
 pub fn put_excerpt(text: &mut String, bytes: &[u8], offset: usize) -> Result<(), AllocError> {
     let excerpt = shown_part(bytes, offset);
@@ -42,10 +58,8 @@ pub fn put_excerpt(text: &mut String, bytes: &[u8], offset: usize) -> Result<(),
     let line = Shown {
         bytes: excerpt.line,
     };
-    writeln!(text, "  {line}")?;
-    text.push_str("  ")?;
-    for _ in 0..excerpt.before {
-        text.push(' ')?;
-    }
-    text.push_str("^\n")
+    let mark = Mark {
+        spaces: excerpt.before,
+    };
+    writeln!(text, "  {line}\n  {mark}")
 }

@@ -1,35 +1,47 @@
 //! The place of a fault, the word found there and what was expected.
 
 use crate::excerpt::put_excerpt;
-use crate::place::place_of;
+use crate::place::{Place, place_of};
+use crate::reason::Reason;
 use crate::shown::Name;
 use std::alloc::AllocError;
+use std::fmt;
 use tt_text::Tokens;
 
-/// Appends the line and the column of a fault, the word found there, what was expected, and the line.
+/// The word found at a fault; `None` at the end of the file.
+#[derive(Clone, Copy)]
+struct Found<'a> {
+    word: Option<&'a [u8]>,
+}
+
+impl<'a> fmt::Display for Found<'a> {
+    fn fmt<W: fmt::Write>(&self, f: &mut fmt::Formatter<W>) -> fmt::Result {
+        let Some(bytes) = self.word else {
+            return f.write_str("the file ends there");
+        };
+        let word = Name { bytes };
+        write!(f, "{word} is there")
+    }
+}
+
+/// Appends the line and the column of a fault, the word found there, what was expected, the line, and the likely reason.
 pub fn put_place(
     text: &mut String,
     bytes: &[u8],
     offset: usize,
     expected: &str,
+    reason: Reason,
 ) -> Result<(), AllocError> {
-    let place = place_of(bytes, offset);
-    let line = place.line;
-    let column = place.column;
-    match word_at(bytes, offset) {
-        Some(word) => {
-            let word = Name { bytes: word };
-            writeln!(
-                text,
-                "line {line}, column {column}: {word} is there, {expected} was expected"
-            )?;
-        }
-        None => writeln!(
-            text,
-            "line {line}, column {column}: the file ends there, {expected} was expected"
-        )?,
-    }
-    put_excerpt(text, bytes, offset)
+    let Place { line, column } = place_of(bytes, offset);
+    let found = Found {
+        word: word_at(bytes, offset),
+    };
+    writeln!(
+        text,
+        "line {line}, column {column}: {found}, {expected} was expected"
+    )?;
+    put_excerpt(text, bytes, offset)?;
+    writeln!(text, "likely: {reason}")
 }
 
 /// Returns the word at an offset; `None` at the end.
@@ -41,11 +53,11 @@ pub fn word_at(bytes: &[u8], offset: usize) -> Option<&[u8]> {
 
 /// Returns, in words, which beginning of the file no text of this format can have.
 pub fn encoding_fault(bytes: &[u8]) -> Option<&'static str> {
-    match bytes {
-        [0xEF, 0xBB, 0xBF, ..] => {
-            Some("the file begins with a byte order mark; save it as UTF-8 without one")
-        }
-        [0xFF, 0xFE, ..] | [0xFE, 0xFF, ..] => Some("the file is in UTF-16; save it as UTF-8"),
-        _ => None,
+    if bytes.starts_with(b"\xEF\xBB\xBF") {
+        return Some("the file begins with a byte order mark; save it as UTF-8 without one");
     }
+    if bytes.starts_with(b"\xFF\xFE") || bytes.starts_with(b"\xFE\xFF") {
+        return Some("the file is in UTF-16; save it as UTF-8");
+    }
+    None
 }

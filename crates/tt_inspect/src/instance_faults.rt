@@ -2,11 +2,11 @@
 
 use crate::faulty_place::{encoding_fault, put_place, word_at};
 use crate::place::place_of;
+use crate::reason::Reason;
 use crate::rows::line_named;
-use crate::shown::{Counted, Noun};
-use crate::survey::{OddLine, Survey, look_at, missing_word};
+use crate::survey::{Survey, look_at, missing_word};
 use std::alloc::{AllocError, Global};
-use tt_instance::{InstanceFault, Word};
+use tt_instance::InstanceFault;
 
 /// Returns the offset of a fault; `None` for being out of memory.
 fn offset_of(fault: InstanceFault) -> Option<usize> {
@@ -56,86 +56,35 @@ fn usual_reason(fault: InstanceFault) -> &'static str {
     }
 }
 
-/// Appends the line of a part with another number of lines than the header says.
-fn put_miscounted(
-    text: &mut String,
-    (count, part): (Word, Word),
-    said: u64,
-    lines: u64,
-) -> Result<bool, AllocError> {
-    let lines = Counted(lines, Noun::LineThatFollows);
-    writeln!(
-        text,
-        "likely: the header says {count} {said}, and {lines} {part}"
-    )?;
-    Ok(true)
+/// Returns the line of the first use of the name at an offset.
+fn earlier_line(bytes: &[u8], seen: &Survey, offset: usize) -> Option<usize> {
+    let name = word_at(bytes, offset)?;
+    line_named(bytes, seen.section, name)
 }
 
-/// Appends the line of a line with too few or too many words.
-fn put_odd(text: &mut String, odd: OddLine) -> Result<bool, AllocError> {
-    let number = odd.number;
-    let words = Counted(odd.words as u64, Noun::Word);
-    let right = odd.section.line_words();
-    writeln!(
-        text,
-        "likely: line {number} has {words}; {right}; no name has a space"
-    )?;
-    Ok(true)
-}
-
-/// Appends the likely reason that the words and the lines of the file show; returns whether they show one.
-fn put_seen(text: &mut String, bytes: &[u8], seen: &Survey) -> Result<bool, AllocError> {
+/// Returns the likely reason for a fault.
+fn reason(bytes: &[u8], fault: InstanceFault, offset: usize) -> Reason {
+    if let Some(encoding) = encoding_fault(bytes) {
+        return Reason::Plain(encoding);
+    }
     if let Some(word) = missing_word(bytes) {
-        writeln!(text, "likely: the word {word} is missing")?;
-        return Ok(true);
-    }
-    if let Some((section, said, lines)) = seen.miscounted()
-        && let Some(words) = section.words()
-    {
-        return put_miscounted(text, words, said, lines);
-    }
-    match seen.odd {
-        Some(odd) => put_odd(text, odd),
-        None => Ok(false),
-    }
-}
-
-/// Appends the line of the name that is used again.
-fn put_earlier(
-    text: &mut String,
-    bytes: &[u8],
-    seen: &Survey,
-    offset: usize,
-) -> Result<bool, AllocError> {
-    let Some(name) = word_at(bytes, offset) else {
-        return Ok(false);
-    };
-    let Some(line) = line_named(bytes, seen.section, name) else {
-        return Ok(false);
-    };
-    writeln!(text, "likely: the name is used twice, first in line {line}")?;
-    Ok(true)
-}
-
-/// Appends the likely reason for a fault.
-fn put_reason(
-    text: &mut String,
-    bytes: &[u8],
-    fault: InstanceFault,
-    offset: usize,
-) -> Result<(), AllocError> {
-    if let Some(reason) = encoding_fault(bytes) {
-        return writeln!(text, "likely: {reason}");
+        return Reason::Missing(word);
     }
     let seen = look_at(bytes, place_of(bytes, offset).line);
-    if put_seen(text, bytes, &seen)? {
-        return Ok(());
+    if let Some((section, said, lines)) = seen.miscounted()
+        && let Some((count, part)) = section.words()
+    {
+        return Reason::Miscounted(count, said, lines, part);
     }
-    if matches!(fault, InstanceFault::Repeated(_)) && put_earlier(text, bytes, &seen, offset)? {
-        return Ok(());
+    if let Some(odd) = seen.odd {
+        return Reason::Odd(odd.number, odd.words, odd.section.line_words());
     }
-    let usual = usual_reason(fault);
-    writeln!(text, "likely: {usual}")
+    if matches!(fault, InstanceFault::Repeated(_))
+        && let Some(line) = earlier_line(bytes, &seen, offset)
+    {
+        return Reason::Earlier(line);
+    }
+    Reason::Plain(usual_reason(fault))
 }
 
 /// Explains why bytes are not an instance: the fault as each command prints it, its line and column, the word found there, what was expected,
@@ -148,8 +97,8 @@ pub fn explain_instance(
     let mut text = String::new(alloc);
     writeln!(text, "instance: {fault}")?;
     if let Some(offset) = offset_of(fault) {
-        put_place(&mut text, bytes, offset, expected(fault))?;
-        put_reason(&mut text, bytes, fault, offset)?;
+        let reason = reason(bytes, fault, offset);
+        put_place(&mut text, bytes, offset, expected(fault), reason)?;
     }
     Ok(text)
 }

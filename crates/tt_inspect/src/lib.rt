@@ -9,6 +9,7 @@ mod inspected;
 mod instance_faults;
 mod lists;
 mod place;
+mod reason;
 mod rows;
 mod scored;
 mod shown;

@@ -4,7 +4,7 @@ use tt_instance::Word;
 use tt_text::{NumberFault, Token, Tokens, number};
 
 /// A part of an instance's file.
-#[derive(Clone, Copy, Debug, PartialEq, Eq)]
+#[derive(Clone, Copy, PartialEq, Eq)]
 pub enum Section {
     Head,
     Courses,

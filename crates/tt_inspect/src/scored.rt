@@ -42,10 +42,15 @@ fn put_hard(text: &mut String, score: &Score) -> Result<(), AllocError> {
     if score.feasible() {
         return writeln!(text, "no hard rule is broken");
     }
-    put_broken(text, score.lectures, Rule::Lectures)?;
-    put_broken(text, score.conflicts, Rule::Conflicts)?;
-    put_broken(text, score.availability, Rule::Availability)?;
-    put_broken(text, score.room_occupancy, Rule::RoomOccupancy)
+    for (count, rule) in [
+        (score.lectures, Rule::Lectures),
+        (score.conflicts, Rule::Conflicts),
+        (score.availability, Rule::Availability),
+        (score.room_occupancy, Rule::RoomOccupancy),
+    ] {
+        put_broken(text, count, rule)?;
+    }
+    Ok(())
 }
 
 /// Appends the line of the cost and its four parts.

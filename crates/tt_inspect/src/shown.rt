@@ -66,58 +66,34 @@ pub enum Noun {
 }
 
 impl Noun {
-    /// Returns the words for one thing.
-    fn one(self) -> &'static str {
+    /// Returns the words for one thing, and those for several.
+    fn words(self) -> (&'static str, &'static str) {
         match self {
-            Noun::Course => "course",
-            Noun::CourseThatIs => "course is",
-            Noun::Curriculum => "curriculum",
-            Noun::CurriculumThatHas => "curriculum has",
-            Noun::Day => "day",
-            Noun::Lecture => "lecture",
-            Noun::LectureThatHas => "lecture has",
-            Noun::LineThatFollows => "line follows",
-            Noun::Pair => "pair",
-            Noun::Period => "period",
-            Noun::Place => "place",
-            Noun::Room => "room",
-            Noun::RoomThatIs => "room is",
-            Noun::Seat => "seat",
-            Noun::Student => "student",
-            Noun::Teacher => "teacher",
-            Noun::Time => "time",
-            Noun::Word => "word",
-        }
-    }
-
-    /// Returns the words for several things.
-    fn many(self) -> &'static str {
-        match self {
-            Noun::Course => "courses",
-            Noun::CourseThatIs => "courses are",
-            Noun::Curriculum => "curricula",
-            Noun::CurriculumThatHas => "curricula have",
-            Noun::Day => "days",
-            Noun::Lecture => "lectures",
-            Noun::LectureThatHas => "lectures have",
-            Noun::LineThatFollows => "lines follow",
-            Noun::Pair => "pairs",
-            Noun::Period => "periods",
-            Noun::Place => "places",
-            Noun::Room => "rooms",
-            Noun::RoomThatIs => "rooms are",
-            Noun::Seat => "seats",
-            Noun::Student => "students",
-            Noun::Teacher => "teachers",
-            Noun::Time => "times",
-            Noun::Word => "words",
+            Noun::Course => ("course", "courses"),
+            Noun::CourseThatIs => ("course is", "courses are"),
+            Noun::Curriculum => ("curriculum", "curricula"),
+            Noun::CurriculumThatHas => ("curriculum has", "curricula have"),
+            Noun::Day => ("day", "days"),
+            Noun::Lecture => ("lecture", "lectures"),
+            Noun::LectureThatHas => ("lecture has", "lectures have"),
+            Noun::LineThatFollows => ("line follows", "lines follow"),
+            Noun::Pair => ("pair", "pairs"),
+            Noun::Period => ("period", "periods"),
+            Noun::Place => ("place", "places"),
+            Noun::Room => ("room", "rooms"),
+            Noun::RoomThatIs => ("room is", "rooms are"),
+            Noun::Seat => ("seat", "seats"),
+            Noun::Student => ("student", "students"),
+            Noun::Teacher => ("teacher", "teachers"),
+            Noun::Time => ("time", "times"),
+            Noun::Word => ("word", "words"),
         }
     }
 }
 
 impl fmt::Display for Noun {
     fn fmt<W: fmt::Write>(&self, f: &mut fmt::Formatter<W>) -> fmt::Result {
-        f.write_str(self.one())
+        f.write_str(self.words().0)
     }
 }
 
@@ -128,11 +104,8 @@ pub struct Counted(pub u64, pub Noun);
 impl fmt::Display for Counted {
     fn fmt<W: fmt::Write>(&self, f: &mut fmt::Formatter<W>) -> fmt::Result {
         let count = self.0;
-        let word = if count == 1 {
-            self.1.one()
-        } else {
-            self.1.many()
-        };
+        let (one, many) = self.1.words();
+        let word = if count == 1 { one } else { many };
         write!(f, "{count} {word}")
     }
 }

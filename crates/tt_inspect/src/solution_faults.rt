@@ -2,8 +2,8 @@
 
 use crate::faulty_place::{encoding_fault, put_place};
 use crate::place::place_of;
+use crate::reason::Reason;
 use crate::rows::Row;
-use crate::shown::{Counted, Noun};
 use std::alloc::{AllocError, Global};
 use tt_instance::Word;
 use tt_table::SolutionFault;
@@ -66,31 +66,18 @@ fn odd_line(bytes: &[u8], asked: usize) -> Option<(usize, usize)> {
     None
 }
 
-/// Appends the likely reason for a fault.
-fn put_reason(
-    text: &mut String,
-    bytes: &[u8],
-    fault: SolutionFault,
-    offset: usize,
-) -> Result<(), AllocError> {
-    if let Some(reason) = encoding_fault(bytes) {
-        return writeln!(text, "likely: {reason}");
+/// Returns the likely reason for a fault.
+fn reason(bytes: &[u8], fault: SolutionFault, offset: usize) -> Reason {
+    if let Some(encoding) = encoding_fault(bytes) {
+        return Reason::Plain(encoding);
     }
     if Row::of(bytes).has_first_word(Word::Name.text()) {
-        return writeln!(
-            text,
-            "likely: this is an instance; the solution comes after it"
-        );
+        return Reason::Plain("this is an instance; the solution comes after it");
     }
     if let Some((number, words)) = odd_line(bytes, place_of(bytes, offset).line) {
-        let words = Counted(words as u64, Noun::Word);
-        return writeln!(
-            text,
-            "likely: line {number} has {words}; a lecture has 4: course, room, day, period; no name has a space"
-        );
+        return Reason::Odd(number, words, "a lecture has 4: course, room, day, period");
     }
-    let usual = usual_reason(fault);
-    writeln!(text, "likely: {usual}")
+    Reason::Plain(usual_reason(fault))
 }
 
 /// Explains why bytes are not a solution of an instance, in the form of `explain_instance`.
@@ -102,8 +89,8 @@ pub fn explain_solution(
     let mut text = String::new(alloc);
     writeln!(text, "solution: {fault}")?;
     if let Some(offset) = offset_of(fault) {
-        put_place(&mut text, bytes, offset, expected(fault))?;
-        put_reason(&mut text, bytes, fault, offset)?;
+        let reason = reason(bytes, fault, offset);
+        put_place(&mut text, bytes, offset, expected(fault), reason)?;
     }
     Ok(text)
 }

@@ -3,6 +3,7 @@
 use crate::counts::Counts;
 use crate::shown::{Counted, Noun};
 use std::alloc::AllocError;
+use std::fmt;
 use tt_instance_data::Instance;
 
 /// Returns a part of a whole in percent, rounded down.
@@ -112,23 +113,18 @@ fn most_students(instance: &Instance<'_>) -> u32 {
     most
 }
 
-/// Appends the seats of the largest room and the students of the largest course.
-fn put_largest(text: &mut String, seats: u32, students: u32) -> Result<(), AllocError> {
-    let seats = Counted(u64::from(seats), Noun::Seat);
-    let students = Counted(u64::from(students), Noun::Student);
-    write!(
-        text,
-        "the largest room has {seats}, the largest course {students}"
-    )
-}
+/// The number of lectures that have no room that is large enough: the end of a line, empty if there are none.
+#[derive(Clone, Copy)]
+struct Above(u64);
 
-/// Ends the line of seats and students with the number of lectures that have no room that is large enough.
-fn put_above(text: &mut String, above: u64) -> Result<(), AllocError> {
-    if above == 0 {
-        return text.push_str("\n");
+impl fmt::Display for Above {
+    fn fmt<W: fmt::Write>(&self, f: &mut fmt::Formatter<W>) -> fmt::Result {
+        if self.0 == 0 {
+            return Ok(());
+        }
+        let above = Counted(self.0, Noun::LectureThatHas);
+        write!(f, "; {above} no room that is large enough")
     }
-    let above = Counted(above, Noun::LectureThatHas);
-    writeln!(text, "; {above} no room that is large enough")
 }
 
 /// Appends the line of seats and students.
@@ -136,8 +132,13 @@ fn put_seats(text: &mut String, instance: &Instance<'_>) -> Result<(), AllocErro
     let Some(seats) = most_seats(instance) else {
         return writeln!(text, "there is no room");
     };
-    put_largest(text, seats, most_students(instance))?;
-    put_above(text, lectures_above(instance, seats))
+    let above = Above(lectures_above(instance, seats));
+    let seats = Counted(u64::from(seats), Noun::Seat);
+    let students = Counted(u64::from(most_students(instance)), Noun::Student);
+    writeln!(
+        text,
+        "the largest room has {seats}, the largest course {students}{above}"
+    )
 }
 
 /// Appends the contents of an instance: its parts, how full its week is, its conflicts and its seats.
