@@ -63,31 +63,29 @@ fn too_few(
     Some(TooFew::Open(open))
 }
 
-/// Appends the line of a group with more lectures than periods; returns whether it has more.
+/// Appends the line of a group, if it has more lectures than periods.
 fn put_group(
     text: &mut String,
     instance: &Instance<'_>,
     counts: &Counts,
     group: Group<'_>,
-) -> Result<bool, AllocError> {
+) -> Result<(), AllocError> {
     let lectures = counts.lectures_of(group.courses);
     let Some(periods) = too_few(instance, counts, group.courses, lectures) else {
-        return Ok(false);
+        return Ok(());
     };
     let kind = group.kind;
     let name = group.name;
     let found = Counted(lectures, Noun::Lecture);
-    writeln!(text, "can't be: {kind} {name} has {found}, {periods}")?;
-    Ok(true)
+    writeln!(text, "can't be: {kind} {name} has {found}, {periods}")
 }
 
-/// Appends a line for each curriculum with more lectures than periods; returns whether one has more.
-fn put_curricula(
+/// Appends a line for each curriculum and each teacher with more lectures than periods.
+fn put_groups(
     text: &mut String,
     instance: &Instance<'_>,
     counts: &Counts,
-) -> Result<bool, AllocError> {
-    let mut some = false;
+) -> Result<(), AllocError> {
     for curriculum in 0..instance.curricula() {
         let group = Group {
             kind: Noun::Curriculum,
@@ -96,18 +94,8 @@ fn put_curricula(
             },
             courses: instance.members(curriculum),
         };
-        some |= put_group(text, instance, counts, group)?;
+        put_group(text, instance, counts, group)?;
     }
-    Ok(some)
-}
-
-/// Appends a line for each teacher with more lectures than periods; returns whether one has more.
-fn put_teachers(
-    text: &mut String,
-    instance: &Instance<'_>,
-    counts: &Counts,
-) -> Result<bool, AllocError> {
-    let mut some = false;
     for teacher in 0..instance.teachers() {
         let group = Group {
             kind: Noun::Teacher,
@@ -116,29 +104,28 @@ fn put_teachers(
             },
             courses: counts.taught_by(teacher),
         };
-        some |= put_group(text, instance, counts, group)?;
+        put_group(text, instance, counts, group)?;
     }
-    Ok(some)
+    Ok(())
 }
 
-/// Appends a line if the instance has more lectures than places; returns whether it has more.
+/// Appends a line if the instance has more lectures than places.
 fn put_places(
     text: &mut String,
     instance: &Instance<'_>,
     counts: &Counts,
-) -> Result<bool, AllocError> {
+) -> Result<(), AllocError> {
     let lectures = counts.lectures();
     let places = places(instance);
     if lectures <= places {
-        return Ok(false);
+        return Ok(());
     }
     let lectures = Counted(lectures, Noun::Lecture);
     let places = Counted(places, Noun::Place);
     writeln!(
         text,
         "can't be: there are {lectures}, the rooms have {places} in the week"
-    )?;
-    Ok(true)
+    )
 }
 
 /// Appends a line if a course has more lectures than periods in which it can have one; returns whether it has more.
@@ -260,13 +247,14 @@ pub fn put_advice(
     counts: &Counts,
 ) -> Result<bool, AllocError> {
     let before = text.len();
-    let mut some = put_places(text, instance, counts)?;
-    some |= put_curricula(text, instance, counts)?;
-    some |= put_teachers(text, instance, counts)?;
-    some |= put_courses(text, instance, counts)?;
+    put_places(text, instance, counts)?;
+    put_groups(text, instance, counts)?;
+    // Each line so far says that something is impossible.
+    let some = text.len() > before;
+    let course = put_courses(text, instance, counts)?;
     put_concerns(text, instance, counts)?;
     if text.len() == before {
         text.push_str("nothing to look at\n")?;
     }
-    Ok(some)
+    Ok(some || course)
 }

@@ -3,15 +3,21 @@
 use std::alloc::{AllocError, Global};
 use tt_instance_data::Instance;
 
+/// Counts of a course.
+#[derive(Clone, Copy)]
+struct CourseCounts {
+    lectures: u64,
+    /// The number of periods of the week in which the course can have a lecture.
+    open: u64,
+    /// The number of curricula of the course.
+    curricula: u64,
+}
+
 /// Counts of each course, and the courses of each teacher.
 #[derive(Drop)]
 pub struct Counts {
-    /// The lectures of each course.
-    lectures: Vec<u64>,
-    /// The number of periods of the week in which each course can have a lecture.
-    open: Vec<u64>,
-    /// The number of curricula of each course.
-    curricula: Vec<u64>,
+    /// The counts of each course.
+    courses: Vec<CourseCounts>,
     /// The courses of each teacher.
     taught: Vec<Vec<u32>>,
 }
@@ -32,21 +38,6 @@ pub fn open_periods(instance: &Instance<'_>, courses: &[u32]) -> u64 {
     open
 }
 
-/// Returns the number at a place; 0 if the place is out of range.
-pub fn at(counts: &[u64], course: u32) -> u64 {
-    match counts.get(course as usize) {
-        Some(count) => *count,
-        None => 0,
-    }
-}
-
-/// Adds one to the number at a place; nothing if the place is out of range.
-pub fn add_one(counts: &mut [u64], course: u32) {
-    if let Some(count) = counts.get_mut(course as usize) {
-        *count = count.saturating_add(1);
-    }
-}
-
 /// Returns the courses of each teacher.
 fn courses_by_teacher(alloc: Global, instance: &Instance<'_>) -> Result<Vec<Vec<u32>>, AllocError> {
     let mut taught: Vec<Vec<u32>> = Vec::new(alloc);
@@ -62,38 +53,51 @@ fn courses_by_teacher(alloc: Global, instance: &Instance<'_>) -> Result<Vec<Vec<
 }
 
 /// Counts the curricula of each course.
-fn curricula_by_course(alloc: Global, instance: &Instance<'_>) -> Result<Vec<u64>, AllocError> {
-    let mut curricula = vec![in alloc; 0u64; instance.courses() as usize]?;
+fn count_curricula(courses: &mut [CourseCounts], instance: &Instance<'_>) {
     for curriculum in 0..instance.curricula() {
         for course in instance.members(curriculum) {
-            add_one(&mut curricula, *course);
+            if let Some(counts) = courses.get_mut(*course as usize) {
+                counts.curricula = counts.curricula.saturating_add(1);
+            }
         }
     }
-    Ok(curricula)
 }
 
 impl Counts {
     /// Computes the counts of an instance.
     pub fn of(alloc: Global, instance: &Instance<'_>) -> Result<Counts, AllocError> {
-        let mut lectures = Vec::new(alloc);
-        let mut open = Vec::new(alloc);
+        let mut courses = Vec::new(alloc);
         for course in 0..instance.courses() {
-            lectures.push(u64::from(instance.lectures(course)))?;
-            open.push(open_periods(instance, &[course]))?;
+            courses.push(CourseCounts {
+                lectures: u64::from(instance.lectures(course)),
+                open: open_periods(instance, &[course]),
+                curricula: 0,
+            })?;
         }
+        count_curricula(&mut courses, instance);
         Ok(Counts {
-            lectures,
-            open,
-            curricula: curricula_by_course(alloc, instance)?,
+            courses,
             taught: courses_by_teacher(alloc, instance)?,
         })
+    }
+
+    /// Returns the counts of a course; zeros if the course is out of range.
+    fn at(&self, course: u32) -> CourseCounts {
+        match self.courses.get(course as usize) {
+            Some(counts) => *counts,
+            None => CourseCounts {
+                lectures: 0,
+                open: 0,
+                curricula: 0,
+            },
+        }
     }
 
     /// Counts the lectures of courses.
     pub fn lectures_of(&self, courses: &[u32]) -> u64 {
         let mut lectures: u64 = 0;
         for course in courses {
-            lectures = lectures.saturating_add(at(&self.lectures, *course));
+            lectures = lectures.saturating_add(self.at(*course).lectures);
         }
         lectures
     }
@@ -101,29 +105,29 @@ impl Counts {
     /// Counts the lectures of all courses.
     pub fn lectures(&self) -> u64 {
         let mut lectures: u64 = 0;
-        for count in &self.lectures {
-            lectures = lectures.saturating_add(*count);
+        for counts in &self.courses {
+            lectures = lectures.saturating_add(counts.lectures);
         }
         lectures
     }
 
     /// Returns the number of periods of the week in which a course can have a lecture.
     pub fn open(&self, course: u32) -> u64 {
-        at(&self.open, course)
+        self.at(course).open
     }
 
     /// Returns the maximum, over some courses, of the number of periods in which a course can have a lecture.
     pub fn most_open(&self, courses: &[u32]) -> u64 {
         let mut most: u64 = 0;
         for course in courses {
-            most = most.max(at(&self.open, *course));
+            most = most.max(self.at(*course).open);
         }
         most
     }
 
     /// Returns whether a course is in a curriculum.
     pub fn is_in_a_curriculum(&self, course: u32) -> bool {
-        at(&self.curricula, course) > 0
+        self.at(course).curricula > 0
     }
 
     /// Returns the courses of a teacher.

@@ -1,6 +1,6 @@
 //! A line of a text, and a mark below it.
 
-use crate::place::place_of;
+use crate::place::{is_line_feed, place_of};
 use crate::shown::Shown;
 use std::alloc::AllocError;
 use std::fmt;
@@ -23,7 +23,7 @@ fn shown_part(bytes: &[u8], offset: usize) -> Excerpt<'_> {
     let column = place_of(bytes, at).column;
     let before = column.saturating_sub(1).min(MAX_BEFORE);
     let rest = &bytes[at.saturating_sub(before)..];
-    let end = match rest.iter().position(|byte| *byte == b'\n') {
+    let end = match rest.iter().position(is_line_feed) {
         Some(end) => end.min(rest.len()),
         None => rest.len(),
     };

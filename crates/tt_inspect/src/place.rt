@@ -11,6 +11,11 @@ pub struct Place {
     pub column: usize,
 }
 
+/// Returns whether a byte ends a line.
+pub fn is_line_feed(byte: &u8) -> bool {
+    *byte == b'\n'
+}
+
 /// Returns how many bytes follow the last line feed.
 fn last_line_len(bytes: &[u8]) -> usize
     ensures { result ≡ length (take_while is_in_line (reverse bytes.now)) }

@@ -1,5 +1,6 @@
 //! The lines of an instance's file as a person reads them: a course, a room, a curriculum or an unavailability a line.
 
+use crate::place::is_line_feed;
 use tt_instance::Word;
 use tt_text::{NumberFault, Token, Tokens, number};
 
@@ -136,7 +137,7 @@ impl<'a> Row<'a> {
 pub fn line_named(bytes: &[u8], section: Section, name: &[u8]) -> Option<usize> {
     let mut here = Section::Head;
     let mut number: usize = 0;
-    for line in bytes.split(|byte| *byte == b'\n') {
+    for line in bytes.split(is_line_feed) {
         number = number.saturating_add(1);
         let row = Row::of(line);
         if let Some(begun) = row.begun() {

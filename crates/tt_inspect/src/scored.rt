@@ -1,6 +1,5 @@
 //! The rules that a solution breaks and its costs, in words.
 
-use crate::counts::{add_one, at};
 use crate::shown::{Counted, Name, Noun};
 use std::alloc::{AllocError, Global};
 use std::fmt;
@@ -74,7 +73,9 @@ fn entries_by_course(
 ) -> Result<Vec<u64>, AllocError> {
     let mut placed = vec![in alloc; 0u64; courses as usize]?;
     for entry in table.entries() {
-        add_one(&mut placed, entry.course);
+        if let Some(count) = placed.get_mut(entry.course as usize) {
+            *count = count.saturating_add(1);
+        }
     }
     Ok(placed)
 }
@@ -105,7 +106,8 @@ fn put_missing(
             bytes: instance.course_id(course),
         };
         let lectures = u64::from(instance.lectures(course));
-        put_entries(text, name, at(&placed, course), lectures)?;
+        let found = placed.get(course as usize).copied().unwrap_or(0);
+        put_entries(text, name, found, lectures)?;
     }
     Ok(())
 }

@@ -1,7 +1,7 @@
 //! Why bytes are not a solution, in words.
 
 use crate::faulty_place::{encoding_fault, put_place};
-use crate::place::place_of;
+use crate::place::{is_line_feed, place_of};
 use crate::reason::Reason;
 use crate::rows::Row;
 use std::alloc::{AllocError, Global};
@@ -53,7 +53,7 @@ fn usual_reason(fault: SolutionFault) -> &'static str {
 /// Returns the first line up to this one that has words, but not four, and how many it has.
 fn odd_line(bytes: &[u8], asked: usize) -> Option<(usize, usize)> {
     let mut number: usize = 0;
-    for line in bytes.split(|byte| *byte == b'\n') {
+    for line in bytes.split(is_line_feed) {
         number = number.saturating_add(1);
         if number > asked {
             return None;

@@ -1,5 +1,6 @@
 //! What can be found in an instance's file without reading it as an instance: the words of its header, and the lines of its parts.
 
+use crate::place::is_line_feed;
 use crate::rows::{Row, SECTIONS, Section};
 use tt_instance::Word;
 use tt_text::Tokens;
@@ -102,7 +103,7 @@ pub fn look_at(bytes: &[u8], asked: usize) -> Survey {
     };
     let mut here = Section::Head;
     let mut number: usize = 0;
-    for line in bytes.split(|byte| *byte == b'\n') {
+    for line in bytes.split(is_line_feed) {
         number = number.saturating_add(1);
         let row = Row::of(line);
         if let Some(begun) = row.begun() {
