@@ -138,7 +138,7 @@ fn put_open(
     requires { course < length instance.now.courses }
 {
     let lectures = u64::from(instance.lectures(course));
-    let open = counts.open(course);
+    let open = counts.of_course(course).open;
     if lectures <= open {
         return Ok(false);
     }

@@ -5,12 +5,12 @@ use tt_instance_data::Instance;
 
 /// Counts of a course.
 #[derive(Clone, Copy)]
-struct CourseCounts {
-    lectures: u64,
+pub struct CourseCounts {
+    pub lectures: u64,
     /// The number of periods of the week in which the course can have a lecture.
-    open: u64,
+    pub open: u64,
     /// The number of curricula of the course.
-    curricula: u64,
+    pub curricula: u64,
 }
 
 /// Counts of each course, and the courses of each teacher.
@@ -82,7 +82,7 @@ impl Counts {
     }
 
     /// Returns the counts of a course; zeros if the course is out of range.
-    fn at(&self, course: u32) -> CourseCounts {
+    pub fn of_course(&self, course: u32) -> CourseCounts {
         match self.courses.get(course as usize) {
             Some(counts) => *counts,
             None => CourseCounts {
@@ -97,7 +97,7 @@ impl Counts {
     pub fn lectures_of(&self, courses: &[u32]) -> u64 {
         let mut lectures: u64 = 0;
         for course in courses {
-            lectures = lectures.saturating_add(self.at(*course).lectures);
+            lectures = lectures.saturating_add(self.of_course(*course).lectures);
         }
         lectures
     }
@@ -111,23 +111,13 @@ impl Counts {
         lectures
     }
 
-    /// Returns the number of periods of the week in which a course can have a lecture.
-    pub fn open(&self, course: u32) -> u64 {
-        self.at(course).open
-    }
-
     /// Returns the maximum, over some courses, of the number of periods in which a course can have a lecture.
     pub fn most_open(&self, courses: &[u32]) -> u64 {
         let mut most: u64 = 0;
         for course in courses {
-            most = most.max(self.at(*course).open);
+            most = most.max(self.of_course(*course).open);
         }
         most
-    }
-
-    /// Returns whether a course is in a curriculum.
-    pub fn is_in_a_curriculum(&self, course: u32) -> bool {
-        self.at(course).curricula > 0
     }
 
     /// Returns the courses of a teacher.

@@ -48,7 +48,7 @@ impl Concern {
     ) -> Option<Name<'a>> {
         let bytes = match self {
             Concern::NoCurriculum => {
-                if index >= instance.courses() || counts.is_in_a_curriculum(index) {
+                if index >= instance.courses() || counts.of_course(index).curricula > 0 {
                     return None;
                 }
                 instance.course_id(index)

@@ -70,10 +70,7 @@ impl<'a> Row<'a> {
         let mut tokens = Tokens::new(line);
         let first = tokens.next();
         let second = tokens.next();
-        let mut words: usize = usize::from(first.is_some());
-        if second.is_some() {
-            words = 2;
-        }
+        let mut words = usize::from(first.is_some()).saturating_add(usize::from(second.is_some()));
         while tokens.next().is_some() {
             words = words.saturating_add(1);
         }

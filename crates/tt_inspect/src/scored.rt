@@ -1,7 +1,7 @@
 //! The rules that a solution breaks and its costs, in words.
 
 use crate::shown::{Counted, Name, Noun};
-use std::alloc::{AllocError, Global};
+use std::alloc::AllocError;
 use std::fmt;
 use tt_instance_data::Instance;
 use tt_rules::Score;
@@ -65,21 +65,6 @@ fn put_cost(text: &mut String, score: &Score) -> Result<(), AllocError> {
     )
 }
 
-/// Counts the entries of each course.
-fn entries_by_course(
-    alloc: Global,
-    courses: u32,
-    table: &Timetable,
-) -> Result<Vec<u64>, AllocError> {
-    let mut placed = vec![in alloc; 0u64; courses as usize]?;
-    for entry in table.entries() {
-        if let Some(count) = placed.get_mut(entry.course as usize) {
-            *count = count.saturating_add(1);
-        }
-    }
-    Ok(placed)
-}
-
 /// Appends a line if a course has another number of entries than of lectures.
 fn put_entries(
     text: &mut String,
@@ -100,7 +85,12 @@ fn put_missing(
     instance: &Instance<'_>,
     table: &Timetable,
 ) -> Result<(), AllocError> {
-    let placed = entries_by_course(*text.allocator(), instance.courses(), table)?;
+    let mut placed = vec![in *text.allocator(); 0u64; instance.courses() as usize]?;
+    for entry in table.entries() {
+        if let Some(count) = placed.get_mut(entry.course as usize) {
+            *count = count.saturating_add(1);
+        }
+    }
     for course in 0..instance.courses() {
         let name = Name {
             bytes: instance.course_id(course),

@@ -65,28 +65,34 @@ pub enum Noun {
     Word,
 }
 
+/// The words for one thing and those for several, in the order of the nouns.
+const WORDS: [(&str, &str); 18] = [
+    ("course", "courses"),
+    ("course is", "courses are"),
+    ("curriculum", "curricula"),
+    ("curriculum has", "curricula have"),
+    ("day", "days"),
+    ("lecture", "lectures"),
+    ("lecture has", "lectures have"),
+    ("line follows", "lines follow"),
+    ("pair", "pairs"),
+    ("period", "periods"),
+    ("place", "places"),
+    ("room", "rooms"),
+    ("room is", "rooms are"),
+    ("seat", "seats"),
+    ("student", "students"),
+    ("teacher", "teachers"),
+    ("time", "times"),
+    ("word", "words"),
+];
+
 impl Noun {
     /// Returns the words for one thing, and those for several.
     fn words(self) -> (&'static str, &'static str) {
-        match self {
-            Noun::Course => ("course", "courses"),
-            Noun::CourseThatIs => ("course is", "courses are"),
-            Noun::Curriculum => ("curriculum", "curricula"),
-            Noun::CurriculumThatHas => ("curriculum has", "curricula have"),
-            Noun::Day => ("day", "days"),
-            Noun::Lecture => ("lecture", "lectures"),
-            Noun::LectureThatHas => ("lecture has", "lectures have"),
-            Noun::LineThatFollows => ("line follows", "lines follow"),
-            Noun::Pair => ("pair", "pairs"),
-            Noun::Period => ("period", "periods"),
-            Noun::Place => ("place", "places"),
-            Noun::Room => ("room", "rooms"),
-            Noun::RoomThatIs => ("room is", "rooms are"),
-            Noun::Seat => ("seat", "seats"),
-            Noun::Student => ("student", "students"),
-            Noun::Teacher => ("teacher", "teachers"),
-            Noun::Time => ("time", "times"),
-            Noun::Word => ("word", "words"),
+        match WORDS.get(self as usize) {
+            Some(words) => *words,
+            None => ("", ""),
         }
     }
 }
