@@ -1,5 +1,5 @@
 -- The leaf of the claims of positive value.
-use Rattle.std.specs.Prelude.{ℕ, min, nat_lt, nat_le, ◌&&◌, Bool, List, [], ◌∷◌, ◌++◌, length, map, flat_map, filter, Option, Some, None, count_by}
+use Rattle.std.specs.Prelude.{ℕ, min, nat_lt, nat_le, ◌&&◌, Bool, true, false, List, [], ◌∷◌, ◌++◌, length, map, flat_map, filter, Option, Some, None, count_by}
 use Rattle.std.specs.List.{find, filter_map}
 use Rattle.tt_instance_data.specs.Problem.{Problem}
 use Rattle.tt_instance_data.specs.Cells.{all_courses, all_curricula, all_slots}
@@ -50,6 +50,11 @@ abbrev pub claims_with : (ℕ → Claim) → Problem → List Fact → List Clai
 claims_with days p path =
     worth p path (capacity_claims p path (all_courses p)) ++ worth p path (map days (all_courses p))
     ++ worth p path (map Compact (all_curricula p)) ++ worth p path (map Stable (all_courses p))
+
+-- The claims on working days: `Stacked` or `Days`.
+abbrev pub days_of : Bool → ℕ → Claim
+days_of true = Stacked
+days_of false = Days
 
 -- The claims of positive value, with `Days` for working days.
 abbrev pub best_claims : Problem → List Fact → List Claim

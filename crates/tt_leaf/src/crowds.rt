@@ -10,7 +10,7 @@ use std::alloc::{AllocError, Global};
 use tt_facts_path::Path;
 use tt_instance_data::Instance;
 use tt_leaf_data::Claim;
-use tt_leaf_rules::claim_value;
+use tt_leaf_rules::{claim_value, slot_count};
 
 /// The maximum number of cells of an instance in which groups are searched for.
 const MOST_CELLS: u64 = 8192;
@@ -188,8 +188,7 @@ fn worths_alone<'i, P: Path<'i>>(alloc: Global, path: &P) -> Result<Vec<u64>, Al
 fn is_small(instance: &Instance<'_>) -> bool {
     u64::from(instance.courses())
         .saturating_mul(u64::from(instance.rooms()))
-        .saturating_mul(u64::from(instance.days()))
-        .saturating_mul(u64::from(instance.periods()))
+        .saturating_mul(u64::from(slot_count(instance)))
         <= MOST_CELLS
 }
 

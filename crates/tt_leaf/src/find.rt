@@ -16,7 +16,7 @@ use crate::best::{best_claims, stacked_claims};
 use crate::overfull::overfull_leaf;
 use crate::priced::priced_claims;
 use std::alloc::{AllocError, Global};
-use tt_facts_path::Path;
+use tt_facts_path::{Fact, Path};
 use tt_leaf_data::{Bound, CourseList, Leaf};
 use tt_leaf_rules::holds;
 
@@ -28,6 +28,19 @@ fn is_right<'i, P: Path<'i>>(path: &P, leaf: &Leaf, bound: Bound) -> bool
     holds(path, leaf, bound).is_ok()
 }
 
+/// Returns the Empty leaf of a yes-fact if it is right.
+fn right_empty<'i, P: Path<'i>>(path: &P, fact: Fact, bound: Bound) -> Option<Leaf>
+    requires { IsPattern (P.problem path.now) fact.pattern }
+    ensures closes { IfSome result (Closes (P.problem path.now) (P.facts path.now) bound) }
+    ensures none { IsNone result → fact.holds ≡ true → ¬ IsRight (P.problem path.now) (P.facts path.now) bound (Empty fact.pattern) }
+{
+    if fact.holds {
+        if_right(path, Leaf::Empty(fact.pattern), bound)
+    } else {
+        None
+    }
+}
+
 /// Returns an Empty leaf of a yes-fact that is right, if one exists.
 fn find_empty<'i, P: Path<'i>>(path: &P, bound: Bound) -> Option<Leaf>
     requires { ArePatterns (P.problem path.now) (P.facts path.now) }
@@ -35,12 +48,8 @@ fn find_empty<'i, P: Path<'i>>(path: &P, bound: Bound) -> Option<Leaf>
     ensures none { IsNone result → All (λ f. f.holds ≡ true → ¬ IsRight (P.problem path.now) (P.facts path.now) bound (Empty f.pattern)) (P.facts path.now) }
 {
     for index in 0..path.depth() {
-        let fact = path.fact(index);
-        if fact.holds {
-            let leaf = Leaf::Empty(fact.pattern);
-            if is_right(path, &leaf, bound) {
-                return Some(leaf);
-            }
+        if let Some(leaf) = right_empty(path, path.fact(index), bound) {
+            return Some(leaf);
         }
     }
     None
@@ -52,8 +61,7 @@ fn find_many<'i, P: Path<'i>>(path: &P, bound: Bound) -> Option<Leaf>
     ensures none { IsNone result → (c : ℕ) → c < length (P.problem path.now).courses → ¬ IsRight (P.problem path.now) (P.facts path.now) bound (Many c) }
 {
     for course in 0..path.instance().courses() {
-        let leaf = Leaf::Many(course);
-        if is_right(path, &leaf, bound) {
+        if let Some(leaf) = if_right(path, Leaf::Many(course), bound) {
             return Some(leaf);
         }
     }
@@ -79,8 +87,7 @@ fn find_clique<'i, P: Path<'i>>(
     ensures none { IfOk result (λ found. IsNone found → (c : ℕ) → c < length (P.problem path.now).courses → ¬ IsRight (P.problem path.now) (P.facts path.now) bound (Clique (c ∷ []))) }
 {
     for course in 0..path.instance().courses() {
-        let leaf = clique_of(alloc, course)?;
-        if is_right(path, &leaf, bound) {
+        if let Some(leaf) = if_right(path, clique_of(alloc, course)?, bound) {
             return Ok(Some(leaf));
         }
     }

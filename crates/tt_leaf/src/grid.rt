@@ -103,7 +103,12 @@ impl Grid {
 
     /// Returns whether a course has a live cell in a room.
     pub fn is_open(&self, course: usize, room: usize) -> bool {
-        (0..self.words).any(|word| self.word(course, room, word) != 0)
+        for word in 0..self.words {
+            if self.word(course, room, word) != 0 {
+                return true;
+            }
+        }
+        false
     }
 
     fn word_of_any(&self, members: &[bool], room: usize, word: usize) -> u64 {

@@ -122,7 +122,10 @@ fn course_price(instance: &Instance<'_>, grid: &Grid, rooms: &[u32], course: u32
                 .students(course)
                 .saturating_sub(instance.capacity(room));
             let covered = excess.saturating_add(number_at(rooms, room as usize));
-            least = Some(least.map_or(covered, |price| price.min(covered)));
+            least = Some(match least {
+                Some(price) => price.min(covered),
+                None => covered,
+            });
         }
     }
     least.unwrap_or(0)

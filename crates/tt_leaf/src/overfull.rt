@@ -84,15 +84,22 @@ fn count_lectures(instance: &Instance<'_>, courses: &[u32]) -> u64
     lectures
 }
 
+/// Returns whether a period is available to at least one of some courses.
+fn is_available(instance: &Instance<'_>, courses: &[u32], day: u32, period: u32) -> bool {
+    for course in courses {
+        if !instance.unavailable(*course, day, period) {
+            return true;
+        }
+    }
+    false
+}
+
 /// Counts the periods that are available to at least one of some courses.
 fn count_periods(instance: &Instance<'_>, courses: &[u32]) -> u64 {
     let mut open: u64 = 0;
     for day in 0..instance.days() {
         for period in 0..instance.periods() {
-            if courses
-                .iter()
-                .any(|course| !instance.unavailable(*course, day, period))
-            {
+            if is_available(instance, courses, day, period) {
                 open = open.saturating_add(1);
             }
         }

@@ -4,9 +4,9 @@ ghost use Rattle.std.specs.Prelude.{◌+◌, ◌<◌, ◌≤◌, length, All, If
 ghost use Rattle.tt_leaf_data.specs.Ranges.{ArePrices};
 ghost use Rattle.tt_leaf.specs.Found.{IsAnswer, IsFitClaim};
 
+use crate::best::{push_capacity_of, push_compact, push_if_worth};
 use crate::crowds::{Crowd, find_crowds};
 use crate::group_prices::Pricing;
-use crate::prices::{has_seats, price_of};
 use std::alloc::{AllocError, Global};
 use tt_facts_path::Path;
 use tt_leaf_data::{Claim, ClaimList, Leaf, PriceList};
@@ -14,18 +14,6 @@ use tt_leaf_rules::claim_value;
 
 /// The maximum price that may appear in a proof.
 const MOST_PRICE: u32 = 1_000_000;
-
-/// Adds a claim if its value is positive.
-fn add<'i, P: Path<'i>>(path: &P, claims: &mut Vec<Claim>, claim: Claim) -> Result<(), AllocError>
-    requires fit { IsFitClaim (P.problem path.now) claim }
-    requires all { All (IsFitClaim (P.problem path.now)) claims.old.items }
-    ensures { OnOk result (All (IsFitClaim (P.problem path.now)) claims.new.items) }
-{
-    if claim_value(path, &claim) > 0 {
-        claims.push(claim)?;
-    }
-    Ok(())
-}
 
 /// Adds the price of the next number, if it has one.
 fn push_price(list: &mut Vec<(u32, u32)>, number: u32, price: u32) -> Result<(), AllocError>
@@ -66,7 +54,8 @@ fn add_prices<'i, P: Path<'i>>(
     let instance = path.instance();
     let courses = list_prices(alloc, instance.courses(), pricing.courses.as_slice())?;
     let rooms = list_prices(alloc, instance.rooms(), pricing.rooms.as_slice())?;
-    add(path, claims, Claim::Prices { courses, rooms })
+    push_if_worth(path, claims, Claim::Prices { courses, rooms })?;
+    Ok(())
 }
 
 fn add_crowds<'i, P: Path<'i>>(
@@ -84,25 +73,6 @@ fn add_crowds<'i, P: Path<'i>>(
     Ok(())
 }
 
-fn add_capacity<'i, P: Path<'i>>(
-    alloc: Global,
-    path: &P,
-    claims: &mut Vec<Claim>,
-    course: u32,
-) -> Result<(), AllocError>
-    requires course { course < length (P.problem path.now).courses }
-    requires all { All (IsFitClaim (P.problem path.now)) claims.old.items }
-    ensures { OnOk result (All (IsFitClaim (P.problem path.now)) claims.new.items) }
-{
-    if has_seats(path, course) {
-        return Ok(());
-    }
-    if let Some(price) = price_of(alloc, path, course)? {
-        add(path, claims, Claim::Capacity { course, price })?;
-    }
-    Ok(())
-}
-
 /// Adds claims of the seats of the courses that are in no group.
 fn add_capacities<'i, P: Path<'i>>(
     alloc: Global,
@@ -115,7 +85,7 @@ fn add_capacities<'i, P: Path<'i>>(
 {
     for course in 0..path.instance().courses() {
         if crowd.is_alone(course) {
-            add_capacity(alloc, path, claims, course)?;
+            push_capacity_of(alloc, path, claims, course)?;
         }
     }
     Ok(())
@@ -138,18 +108,8 @@ fn add_of_courses<'i, P: Path<'i>>(path: &P, claims: &mut Vec<Claim>) -> Result<
     ensures { OnOk result (All (IsFitClaim (P.problem path.now)) claims.new.items) }
 {
     for course in 0..path.instance().courses() {
-        add(path, claims, days_claim(path, course))?;
-        add(path, claims, Claim::Stable(course))?;
-    }
-    Ok(())
-}
-
-fn add_of_curricula<'i, P: Path<'i>>(path: &P, claims: &mut Vec<Claim>) -> Result<(), AllocError>
-    requires { All (IsFitClaim (P.problem path.now)) claims.old.items }
-    ensures { OnOk result (All (IsFitClaim (P.problem path.now)) claims.new.items) }
-{
-    for curriculum in 0..path.instance().curricula() {
-        add(path, claims, Claim::Compact(curriculum))?;
+        push_if_worth(path, claims, days_claim(path, course))?;
+        push_if_worth(path, claims, Claim::Stable(course))?;
     }
     Ok(())
 }
@@ -167,6 +127,6 @@ pub fn priced_claims<'i, P: Path<'i>>(alloc: Global, path: &P) -> Result<Option<
     add_crowds(alloc, path, &mut claims, crowd.pricings.as_slice())?;
     add_capacities(alloc, path, &mut claims, &crowd)?;
     add_of_courses(path, &mut claims)?;
-    add_of_curricula(path, &mut claims)?;
+    push_compact(path, &mut claims)?;
     Ok(Some(Leaf::Cost(ClaimList::new(claims))))
 }

@@ -19,6 +19,14 @@ pub struct Rivals {
     cells: u64,
 }
 
+/// Returns whether a number of seats is more than this many.
+fn is_more(number: u32, seats: Option<u32>) -> bool {
+    match seats {
+        Some(most) => most < number,
+        None => true,
+    }
+}
+
 /// Returns the rooms with more seats than this many.
 fn larger_rooms(
     alloc: Global,
@@ -27,7 +35,7 @@ fn larger_rooms(
 ) -> Result<Vec<usize>, AllocError> {
     let mut rooms = Vec::new(alloc);
     for room in 0..instance.rooms() {
-        if seats.is_none_or(|most| most < instance.capacity(room)) {
+        if is_more(instance.capacity(room), seats) {
             rooms.push(room as usize)?;
         }
     }
@@ -45,8 +53,7 @@ fn lectures(instance: &Instance<'_>, course: usize) -> u64 {
 
 /// Returns whether some room that doesn't count has too few seats for a course.
 fn is_large(instance: &Instance<'_>, course: usize, seats: Option<u32>) -> bool {
-    course < instance.courses() as usize
-        && seats.is_none_or(|most| most < instance.students(course as u32))
+    course < instance.courses() as usize && is_more(instance.students(course as u32), seats)
 }
 
 impl Rivals {

@@ -1,13 +1,4 @@
-use Rattle.std.proofs.Common.{rules, sym, subst}
-use Rattle.tt_instance_data.specs.Limits.{IsInstance}
-use Rattle.tt_leaf.specs.Found.{IsAnswer}
-use Rattle.tt_leaf.proofs.Answering.{best_answer}
 use Rattle.tt_leaf.proofs.best.best_claims.Goals as goal
 
 pub returns-clause-leaf : goal.returns-clause-leaf
-returns-clause-leaf g c = search rules
-
-pub returns-clause-answer : goal.returns-clause-answer
-returns-clause-answer g c =
-    let p = g.P.Path.problem c.args.path.now in
-    subst (IsAnswer p) (sym (returns-clause-leaf g c)) (best_answer p (g.P.Path.facts c.args.path.now) (subst IsInstance c.instance.ensures c.days.ensures.instance))
+returns-clause-leaf g c = c.leaf_of.ensures.leaf

@@ -3,8 +3,8 @@ use Rattle.std.proofs.lemmas.List.{append-nil}
 use Rattle.tt_leaf.proofs.Seated.{no_claim}
 use Rattle.tt_leaf.proofs.best.push_capacity_of.Goals as goal
 
-pub returns-then-has_seats : goal.returns-then-has_seats
-returns-then-has_seats g c =
+pub returns-then-has_seats-clause-worth : goal.returns-then-has_seats-clause-worth
+returns-then-has_seats-clause-worth g c =
     let p = g.P.Path.problem c.args.path.now in
     let facts = g.P.Path.facts c.args.path.now in
     let old = c.args.claims.now.items in

@@ -1,8 +1,12 @@
-use Rattle.tt_leaf_data.specs.declared.leaf.Claim.TheVariants.{Days}
+use Rattle.std.proofs.Common.{[], ◌∷◌, ◌++◌, ap, ◌∙◌}
+use Rattle.tt_leaf.specs.Best.{worth, days_of}
 use Rattle.tt_lists.proofs.Growing.{pushed_more}
 use Rattle.tt_leaf.proofs.Steps.{worth_more}
 use Rattle.tt_leaf.proofs.best.push_days.Goals as goal
 
 pub loop-course-preserved : goal.loop-course-preserved
 loop-course-preserved g c =
-    pushed_more _ _ _ c.in_ok-push_if_worth.ensures c.loop-course.invariant (worth_more (g.P.Path.problem c.args.path.now) (g.P.Path.facts c.args.path.now) (λ n. Days n) c.loop-course.course)
+    let p = g.P.Path.problem c.args.path.now in
+    let facts = g.P.Path.facts c.args.path.now in
+    let pushed = c.in_ok-push_if_worth.ensures.worth ∙ ap (λ k. c.loop-course.claims.items ++ worth p facts (k ∷ [])) c.days_claim.ensures.value in
+    pushed_more _ _ _ pushed c.loop-course.invariant (worth_more p facts (days_of c.args.stacked) c.loop-course.course)

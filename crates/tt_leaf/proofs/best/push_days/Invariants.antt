@@ -1,6 +1,5 @@
 use Rattle.std.proofs.Common.{◌≡◌, ◌++◌, map}
-use Rattle.tt_leaf.specs.Best.{worth}
-use Rattle.tt_leaf_data.specs.declared.leaf.Claim.TheVariants.{Days}
+use Rattle.tt_leaf.specs.Best.{worth, days_of}
 use Rattle.tt_lists.specs.Words.{range_below}
 use Rattle.tt_leaf.proofs.best.push_days.Given as goal
 
@@ -8,4 +7,4 @@ abbrev pub invariant-loop-course : goal.invariant-loop-course
 invariant-loop-course g l =
     let p = g.P.Path.problem l.path in
     let facts = g.P.Path.facts l.path in
-    l.claims.items ≡ l.fn.claims.items ++ worth p facts (map Days (range_below l.course))
+    l.claims.items ≡ l.fn.claims.items ++ worth p facts (map (days_of l.stacked) (range_below l.course))
