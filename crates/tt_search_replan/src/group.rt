@@ -1,6 +1,7 @@
 //! The courses whose lectures are planned again.
 
 use crate::drawing::{at_most, one_of};
+use crate::reading::{curricula_of, members_of};
 use rand_pcg::Pcg32;
 use tt_instance_data::Instance;
 use tt_occupancy::Occupied;
@@ -101,7 +102,12 @@ impl Group {
     }
 
     fn has(&self, course: u32) -> bool {
-        self.members().iter().any(|member| member.course == course)
+        for member in self.members() {
+            if member.course == course {
+                return true;
+            }
+        }
+        false
     }
 
     /// Adds a course, if the number of states with it is within the limit.
@@ -131,16 +137,9 @@ impl Group {
 
     /// Returns a random course of a curriculum of a member.
     fn neighbour(&self, occupied: &Occupied<'_, '_>, rng: &mut Pcg32) -> Option<u32> {
-        let instance = occupied.instance();
         let member = one_of(rng, self.members())?;
-        if member.course >= instance.courses() {
-            return None;
-        }
-        let curriculum = one_of(rng, occupied.curricula_of(member.course))?;
-        if curriculum >= instance.curricula() {
-            return None;
-        }
-        one_of(rng, instance.members(curriculum))
+        let curriculum = one_of(rng, curricula_of(occupied, member.course))?;
+        one_of(rng, members_of(occupied, curriculum))
     }
 
     /// Returns a group of a course and others that share curricula.

@@ -1,6 +1,7 @@
 //! Plans the lectures of a few courses again, at least cost while all others remain. Nothing is proved about the cost of a plan.
 #![tactic(auto)]
 
+mod board;
 mod drawing;
 mod folding;
 mod group;
@@ -9,8 +10,10 @@ mod links;
 mod placing;
 mod present;
 mod prices;
+mod reading;
 mod replanner;
 mod rooms;
+mod searching;
 mod seats;
 mod spelling;
 mod week;

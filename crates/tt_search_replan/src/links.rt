@@ -1,6 +1,7 @@
 //! The relation of each course to those of the group.
 
 use crate::group::Group;
+use crate::reading::{course_count, curricula_of, is_conflict, members_of};
 use std::alloc::{AllocError, Global};
 use tt_occupancy::Occupied;
 
@@ -60,19 +61,24 @@ impl Links {
         self.known = 0;
     }
 
-    /// Gives a curriculum a bit, which is then set for each of its courses.
-    fn know(&mut self, occupied: &Occupied<'_, '_>, curriculum: u32) {
-        let instance = occupied.instance();
-        let Some(is_known) = self.is_known.get_mut(curriculum as usize) else {
-            return;
-        };
-        if *is_known || curriculum >= instance.curricula() {
-            return;
+    /// Returns a bit for a curriculum that has none yet.
+    fn next_bit(&mut self, curriculum: u32) -> Option<u128> {
+        let is_known = self.is_known.get_mut(curriculum as usize)?;
+        if *is_known {
+            return None;
         }
         *is_known = true;
         let bit = 1u128.checked_shl(self.known).unwrap_or(0);
         self.known = self.known.saturating_add(1);
-        for course in instance.members(curriculum) {
+        Some(bit)
+    }
+
+    /// Gives a curriculum a bit, which is then set for each of its courses.
+    fn know(&mut self, occupied: &Occupied<'_, '_>, curriculum: u32) {
+        let Some(bit) = self.next_bit(curriculum) else {
+            return;
+        };
+        for course in members_of(occupied, curriculum) {
             if let Some(link) = self.links.get_mut(*course as usize) {
                 link.curricula |= bit;
             }
@@ -81,9 +87,8 @@ impl Links {
 
     /// Marks the courses that conflict with a member.
     fn exclude(&mut self, occupied: &Occupied<'_, '_>, course: u32, set: u8) {
-        let instance = occupied.instance();
-        for other in 0..instance.courses() {
-            if instance.conflict(course, other)
+        for other in 0..course_count(occupied) {
+            if is_conflict(occupied, course, other)
                 && let Some(link) = self.links.get_mut(other as usize)
             {
                 link.excluded |= set;
@@ -95,10 +100,7 @@ impl Links {
     }
 
     fn add(&mut self, occupied: &Occupied<'_, '_>, course: u32, set: u8) {
-        if course >= occupied.instance().courses() {
-            return;
-        }
-        for curriculum in occupied.curricula_of(course) {
+        for curriculum in curricula_of(occupied, course) {
             self.know(occupied, *curriculum);
         }
         self.exclude(occupied, course, set);

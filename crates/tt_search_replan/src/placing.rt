@@ -1,6 +1,7 @@
 //! The steps to a plan.
 
 use crate::prices::Prices;
+use crate::reading::entry_at;
 use crate::rooms::Rooms;
 use crate::seats::cheapest_seat;
 use crate::week::{Own, Week};
@@ -65,9 +66,7 @@ impl Plan {
     }
 
     fn has(&self, slot: usize, member: u8) -> bool {
-        self.members
-            .get(slot)
-            .is_some_and(|members| members & member != 0)
+        self.members.get(slot).copied().unwrap_or(0) & member != 0
     }
 
     fn push(&mut self, step: Step) {
@@ -80,13 +79,12 @@ impl Plan {
     /// Moves an entry to a room of a period.
     fn push_move(&mut self, rooms: &Rooms, week: &mut Week, entry: u32, slot: usize, rank: u32) {
         week.seat(slot, rank, entry);
-        let day = slot.checked_div(week.periods).unwrap_or(0);
-        let period = slot.checked_rem(week.periods).unwrap_or(0);
+        let (day, period) = week.day_and_period(slot);
         self.push(Step::Move {
             entry,
             room: rooms.room(rank),
-            day: u32::try_from(day).unwrap_or(u32::MAX),
-            period: u32::try_from(period).unwrap_or(u32::MAX),
+            day,
+            period,
         });
     }
 
@@ -112,15 +110,9 @@ impl Plan {
         own: Own,
         slot: usize,
     ) {
-        let Some(course) = occupied
-            .table()
-            .entries()
-            .get(own.entry as usize)
-            .map(|entry| entry.course)
-        else {
-            return;
-        };
-        if let Some(seat) = cheapest_seat(occupied, rooms, week, course, slot) {
+        if let Some(entry) = entry_at(occupied, own.entry)
+            && let Some(seat) = cheapest_seat(occupied, rooms, week, entry.course, slot)
+        {
             self.paid = self.paid.saturating_add(seat.cost);
             if let Some(evicted) = seat.evicted {
                 self.push_move(rooms, week, evicted.entry, slot, evicted.rank);
@@ -131,10 +123,9 @@ impl Plan {
 
     /// Leaves the lectures that remain in their periods in their rooms.
     fn keep_staying(&self, week: &mut Week) {
-        for number in 0..week.own().len() {
-            if let Some(own) = week.own().get(number).copied()
-                && self.has(own.slot, own.member)
-            {
+        for number in 0..week.own_count() {
+            let own = week.own(number);
+            if self.has(own.slot, own.member) {
                 week.seat(own.slot, own.rank, own.entry);
             }
         }
@@ -150,9 +141,9 @@ impl Plan {
     ) {
         self.clear();
         self.keep_staying(week);
-        for number in 0..week.own().len() {
-            if let Some(own) = week.own().get(number).copied()
-                && !self.has(own.slot, own.member)
+        for number in 0..week.own_count() {
+            let own = week.own(number);
+            if !self.has(own.slot, own.member)
                 && let Some(slot) = self.take_slot(week, own.member)
             {
                 let price = prices.get(slot, own.member.trailing_zeros() as usize).plain;

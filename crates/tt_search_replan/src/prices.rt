@@ -49,6 +49,12 @@ impl Prices {
             .unwrap_or(Price::NONE)
     }
 
+    fn put(&mut self, slot: usize, member: usize, price: Price) {
+        if let Some(place) = self.prices.get_mut(index(slot, member)) {
+            *place = price;
+        }
+    }
+
     /// Finds the prices, each with a noise of its own.
     pub fn find(
         &mut self,
@@ -63,11 +69,10 @@ impl Prices {
             for (number, member) in group.members().iter().enumerate() {
                 if week.slot(slot).open & member.set != 0
                     && let Some(seat) = cheapest_seat(occupied, rooms, week, member.course, slot)
-                    && let Some(price) = self.prices.get_mut(index(slot, number))
                 {
                     let plain = seat.cost.min(DEAREST);
                     let noisy = plain.wrapping_add(at_most(rng, noise));
-                    *price = Price { plain, noisy };
+                    self.put(slot, number, Price { plain, noisy });
                 }
             }
         }

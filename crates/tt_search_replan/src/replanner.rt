@@ -1,15 +1,11 @@
 //! The search for a plan.
 
-use crate::folding::Folder;
+use crate::board::Board;
 use crate::group::{Group, MOST_MEMBERS};
-use crate::letters::Alphabet;
-use crate::links::Links;
 use crate::placing::Plan;
-use crate::present::present_cost;
-use crate::prices::Prices;
+use crate::reading::{course_count, sizes_of};
 use crate::rooms::{MOST_ROOMS, Rooms};
-use crate::spelling::Speller;
-use crate::week::Week;
+use crate::searching::Search;
 use rand_pcg::Pcg32;
 use std::alloc::{AllocError, Global};
 use tt_instance_data::Instance;
@@ -24,12 +20,8 @@ const MOST_PERIODS: u32 = 15;
 pub struct Replanner {
     rooms: Rooms,
     group: Group,
-    links: Links,
-    week: Week,
-    prices: Prices,
-    alphabet: Alphabet,
-    speller: Speller,
-    folder: Folder,
+    board: Board,
+    search: Search,
     plan: Plan,
 }
 
@@ -42,23 +34,19 @@ impl Replanner {
     /// Returns a replanner without a plan. No later call allocates memory.
     pub fn new(alloc: Global, occupied: &Occupied<'_, '_>) -> Result<Replanner, AllocError> {
         let instance = occupied.instance();
-        let week = Week::new(alloc, occupied)?;
+        let sizes = sizes_of(instance);
         Ok(Replanner {
-            rooms: Rooms::new(alloc, instance)?,
+            rooms: Rooms::new(alloc, instance, sizes)?,
             group: Group::EMPTY,
-            links: Links::new(alloc, instance.courses(), instance.curricula())?,
-            prices: Prices::new(alloc, week.len())?,
-            alphabet: Alphabet::EMPTY,
-            speller: Speller::new(alloc, week.periods)?,
-            folder: Folder::new(alloc, week.days)?,
-            plan: Plan::new(alloc, week.len())?,
-            week,
+            board: Board::new(alloc, sizes)?,
+            search: Search::new(alloc, sizes)?,
+            plan: Plan::new(alloc, sizes.slots)?,
         })
     }
 
     /// Begins with a timetable.
     pub fn begin(&mut self, occupied: &Occupied<'_, '_>, rng: &mut Pcg32) {
-        for course in 0..occupied.instance().courses() {
+        for course in 0..course_count(occupied) {
             self.rooms.choose_home(occupied, rng, course, 0);
         }
     }
@@ -68,66 +56,29 @@ impl Replanner {
         self.plan.steps()
     }
 
-    /// Reads the timetable without the group, and prices its lectures.
-    fn lift(&mut self, occupied: &Occupied<'_, '_>, rng: &mut Pcg32, noise: u32) -> bool {
-        if !self.links.set(occupied, &self.group) {
-            return false;
-        }
-        self.group.number();
-        self.week
-            .read(occupied, &self.rooms, &self.links, &self.group);
-        self.prices
-            .find(occupied, &self.rooms, &self.week, &self.group, rng, noise);
-        self.alphabet.find(&self.links, &self.group);
-        true
-    }
-
-    /// Finds the possible vectors of each day within the limit, and returns a lower bound of the cost of all days.
-    fn find_days(&mut self, limit: u32) -> Option<u32> {
-        let mut least: u32 = 0;
-        for day in 0..self.week.days {
-            let first = day.wrapping_mul(self.week.periods);
-            let limit = limit.saturating_sub(least);
-            if !self.speller.find(
-                &self.week,
-                &self.prices,
-                &self.group,
-                &self.alphabet,
-                first,
-                limit,
-            ) || !self.folder.take(&mut self.speller, day)
-            {
-                return None;
-            }
-            least = least.saturating_add(self.folder.least(day));
-        }
-        Some(least)
-    }
-
-    /// Writes the plan that ends in a state.
-    fn write_plan(&mut self, state: u32) {
-        let mut state = state;
-        for day in (0..self.week.days).rev() {
-            let (spelled, before) = self.folder.trace(day, state);
-            let first = day.wrapping_mul(self.week.periods);
-            self.plan.write_day(first, self.week.periods, spelled);
-            state = before;
-        }
-    }
-
     /// Plans the group. Returns whether its tables were large enough.
     fn plan_group(&mut self, occupied: &Occupied<'_, '_>, rng: &mut Pcg32, noise: u32) -> bool {
-        if !self.lift(occupied, rng, noise) {
+        self.group.number();
+        if !self
+            .board
+            .read(occupied, &self.rooms, &self.group, rng, noise)
+        {
             return false;
         }
-        let limit = present_cost(&self.links, &self.week, &self.prices, &self.group);
-        let Some(least) = self.find_days(limit) else {
+        let limit = self.board.present_cost(&self.group);
+        let Some(least) = self.search.find_days(&self.board, &self.group, limit) else {
             return false;
         };
-        if let Some(state) = self.folder.fold(&self.group, self.week.days, limit, least) {
-            self.write_plan(state);
-            self.plan
-                .find_steps(occupied, &self.rooms, &mut self.week, &self.prices);
+        if self
+            .search
+            .write_plan(&self.board, &self.group, limit, least, &mut self.plan)
+        {
+            self.plan.find_steps(
+                occupied,
+                &self.rooms,
+                &mut self.board.week,
+                &self.board.prices,
+            );
         }
         true
     }

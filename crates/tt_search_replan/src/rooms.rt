@@ -1,8 +1,7 @@
 //! The rooms, and the cost of a course in each.
 
-ghost use Rattle.std.specs.Prelude.{◌<◌, length};
-
 use crate::drawing::at_most;
+use crate::reading::Sizes;
 use rand_pcg::Pcg32;
 use std::alloc::{AllocError, Global};
 use tt_instance_data::Instance;
@@ -20,21 +19,32 @@ const MOVING: u32 = 500;
 /// The maximum number of missing seats; more than this count as this many.
 const MOST_MISSING: u32 = 1_000;
 
+/// A room.
+#[derive(Clone, Copy)]
+struct Place {
+    room: u32,
+    seats: u32,
+}
+
+/// What a course wants of its rooms.
+#[derive(Clone, Copy)]
+struct Want {
+    students: u32,
+    /// The ranks that are large enough.
+    fitting: u64,
+    /// The preferred rank.
+    home: u32,
+}
+
 /// The rooms, the largest first: a place in this order is a rank. Sets of ranks are words.
 #[derive(Drop)]
 pub struct Rooms {
-    /// The seats of each rank.
-    seats: Vec<u32>,
     /// The room of each rank.
-    rooms: Vec<u32>,
+    places: Vec<Place>,
     /// The rank of each room.
     ranks: Vec<u32>,
-    /// The students of each course.
-    students: Vec<u32>,
-    /// The ranks that are large enough for each course.
-    fitting: Vec<u64>,
-    /// The preferred rank of each course.
-    homes: Vec<u32>,
+    /// The wants of each course.
+    wants: Vec<Want>,
 }
 
 /// A rank and the cost of a course in it.
@@ -44,30 +54,51 @@ pub struct Rank {
     pub rank: u32,
 }
 
-/// Returns the number of rooms that come before a room.
-fn rank_of(instance: &Instance<'_>, room: u32) -> u32
-    requires { room < length instance.now.rooms }
-{
-    let seats = instance.capacity(room);
-    let mut rank: u32 = 0;
-    for other in 0..instance.rooms() {
-        let others = instance.capacity(other);
-        if others > seats || (others == seats && other < room) {
-            rank = rank.saturating_add(1);
+impl Place {
+    const NONE: Place = Place { room: 0, seats: 0 };
+
+    /// Returns a room of an instance, and the number of rooms that come before it.
+    fn of(instance: &Instance<'_>, room: u32) -> (Place, u32) {
+        let mut rank: u32 = 0;
+        if room >= instance.rooms() {
+            return (Place::NONE, rank);
         }
+        let seats = instance.capacity(room);
+        for other in 0..instance.rooms() {
+            let others = instance.capacity(other);
+            if others > seats || (others == seats && other < room) {
+                rank = rank.saturating_add(1);
+            }
+        }
+        (Place { room, seats }, rank)
     }
-    rank
 }
 
-/// Returns the number of rooms that are large enough for a course.
-fn fitting_of(instance: &Instance<'_>, students: u32) -> u32 {
-    let mut count: u32 = 0;
-    for room in 0..instance.rooms() {
-        if instance.capacity(room) >= students {
-            count = count.saturating_add(1);
+impl Want {
+    const NONE: Want = Want {
+        students: 0,
+        fitting: 0,
+        home: 0,
+    };
+
+    /// Returns what a course wants, with no preferred rank yet.
+    fn of(instance: &Instance<'_>, course: u32) -> Want {
+        if course >= instance.courses() {
+            return Want::NONE;
+        }
+        let students = instance.students(course);
+        let mut count: u32 = 0;
+        for room in 0..instance.rooms() {
+            if instance.capacity(room) >= students {
+                count = count.saturating_add(1);
+            }
+        }
+        Want {
+            students,
+            fitting: set_of(count.min(MOST_ROOMS)).wrapping_sub(1),
+            home: 0,
         }
     }
-    count
 }
 
 /// Returns the set of one rank; the empty set if the rank is too high.
@@ -75,85 +106,102 @@ pub fn set_of(rank: u32) -> u64 {
     1u64.checked_shl(rank).unwrap_or(0)
 }
 
-fn at(numbers: &[u32], index: u32) -> u32 {
-    numbers.get(index as usize).copied().unwrap_or(0)
-}
-
-fn put(numbers: &mut Vec<u32>, index: u32, number: u32) {
-    if let Some(place) = numbers.get_mut(index as usize) {
-        *place = number;
-    }
-}
-
 impl Rooms {
-    /// Returns the rooms of an instance, without the data of its courses.
-    fn empty(alloc: Global, instance: &Instance<'_>) -> Result<Rooms, AllocError> {
-        let (courses, rooms) = (instance.courses() as usize, instance.rooms() as usize);
+    /// Returns room for the data of an instance of these sizes. Fails if memory runs out.
+    fn empty(alloc: Global, sizes: Sizes) -> Result<Rooms, AllocError> {
+        let rooms = sizes.rooms as usize;
         Ok(Rooms {
-            seats: vec![in alloc; 0u32; rooms]?,
-            rooms: vec![in alloc; 0u32; rooms]?,
+            places: vec![in alloc; Place::NONE; rooms]?,
             ranks: vec![in alloc; 0u32; rooms]?,
-            students: vec![in alloc; 0u32; courses]?,
-            fitting: vec![in alloc; 0u64; courses]?,
-            homes: vec![in alloc; 0u32; courses]?,
+            wants: vec![in alloc; Want::NONE; sizes.courses as usize]?,
         })
     }
 
-    fn rank_rooms(&mut self, instance: &Instance<'_>) {
-        for room in 0..instance.rooms() {
-            let rank = rank_of(instance, room);
-            put(&mut self.ranks, room, rank);
-            put(&mut self.rooms, rank, room);
-            put(&mut self.seats, rank, instance.capacity(room));
-        }
-    }
-
-    fn fit_courses(&mut self, instance: &Instance<'_>) {
-        for course in 0..instance.courses() {
-            let students = instance.students(course);
-            put(&mut self.students, course, students);
-            let count = fitting_of(instance, students).min(MOST_ROOMS);
-            if let Some(fitting) = self.fitting.get_mut(course as usize) {
-                *fitting = set_of(count).wrapping_sub(1);
+    fn rank_rooms(&mut self, instance: &Instance<'_>, rooms: u32) {
+        for room in 0..rooms {
+            let (place, rank) = Place::of(instance, room);
+            if let Some(ranked) = self.places.get_mut(rank as usize) {
+                *ranked = place;
+            }
+            if let Some(rank_of_room) = self.ranks.get_mut(room as usize) {
+                *rank_of_room = rank;
             }
         }
     }
 
-    /// Returns the rooms of an instance.
-    pub fn new(alloc: Global, instance: &Instance<'_>) -> Result<Rooms, AllocError> {
-        let mut rooms = Rooms::empty(alloc, instance)?;
-        rooms.rank_rooms(instance);
-        rooms.fit_courses(instance);
+    fn fit_courses(&mut self, instance: &Instance<'_>, courses: u32) {
+        for course in 0..courses {
+            if let Some(want) = self.wants.get_mut(course as usize) {
+                *want = Want::of(instance, course);
+            }
+        }
+    }
+
+    /// Returns the rooms of an instance. Fails if memory runs out.
+    pub fn new(alloc: Global, instance: &Instance<'_>, sizes: Sizes) -> Result<Rooms, AllocError> {
+        let mut rooms = Rooms::empty(alloc, sizes)?;
+        rooms.rank_rooms(instance, sizes.rooms);
+        rooms.fit_courses(instance, sizes.courses);
         Ok(rooms)
     }
 
     /// Returns the number of rooms.
     pub fn count(&self) -> u32 {
-        u32::try_from(self.rooms.len()).unwrap_or(u32::MAX)
+        u32::try_from(self.places.len()).unwrap_or(u32::MAX)
+    }
+
+    fn place(&self, rank: u32) -> Place {
+        self.places
+            .get(rank as usize)
+            .copied()
+            .unwrap_or(Place::NONE)
+    }
+
+    fn want(&self, course: u32) -> Want {
+        self.wants
+            .get(course as usize)
+            .copied()
+            .unwrap_or(Want::NONE)
     }
 
     /// The rank of a room by its seats.
     pub fn rank(&self, room: u32) -> u32 {
-        at(&self.ranks, room)
+        self.ranks.get(room as usize).copied().unwrap_or(0)
     }
 
     /// The room of a rank.
     pub fn room(&self, rank: u32) -> u32 {
-        at(&self.rooms, rank)
+        self.place(rank).room
     }
 
     /// Returns the number of seats that a course misses in a rank.
     fn missing(&self, course: u32, rank: u32) -> u32 {
-        let missing = at(&self.students, course).saturating_sub(at(&self.seats, rank));
+        let missing = self
+            .want(course)
+            .students
+            .saturating_sub(self.place(rank).seats);
         missing.min(MOST_MISSING)
     }
 
     /// Returns the cost of a lecture of a course in a rank.
     pub fn cost(&self, course: u32, rank: u32) -> u32 {
-        let away = u32::from(rank != at(&self.homes, course));
+        let away = u32::from(rank != self.want(course).home);
         self.missing(course, rank)
             .wrapping_add(away)
             .wrapping_mul(POINT)
+    }
+
+    /// Returns the cost of a course's lectures if a room is its home.
+    fn cost_of_home(&self, occupied: &Occupied<'_, '_>, course: u32, room: u32) -> u32 {
+        let instance = occupied.instance();
+        if course >= instance.courses() || room >= instance.rooms() {
+            return u32::MAX;
+        }
+        let lectures = instance.lectures(course);
+        let there = occupied.course_in_room(course, room);
+        let elsewhere = lectures.saturating_sub(there).wrapping_mul(MOVING);
+        let missing = self.missing(course, self.rank(room)).wrapping_mul(lectures);
+        missing.saturating_mul(POINT).saturating_add(elsewhere)
     }
 
     /// Chooses the preferred rank of a course: one where it fits, and preferably one with more of its lectures; noise may change the choice.
@@ -164,39 +212,32 @@ impl Rooms {
         course: u32,
         noise: u32,
     ) {
-        let instance = occupied.instance();
-        if course >= instance.courses() {
-            return;
-        }
-        let lectures = instance.lectures(course);
         let (mut home, mut least) = (0, u32::MAX);
-        for room in 0..instance.rooms() {
-            let rank = self.rank(room);
-            let there = occupied.course_in_room(course, room);
-            let elsewhere = lectures.saturating_sub(there).wrapping_mul(MOVING);
-            let missing = self.missing(course, rank).wrapping_mul(lectures);
-            let cost = missing
-                .saturating_mul(POINT)
-                .saturating_add(elsewhere)
+        for room in 0..self.count() {
+            let cost = self
+                .cost_of_home(occupied, course, room)
                 .saturating_add(at_most(rng, noise));
             if cost < least {
                 least = cost;
-                home = rank;
+                home = self.rank(room);
             }
         }
-        put(&mut self.homes, course, home);
+        if let Some(want) = self.wants.get_mut(course as usize) {
+            want.home = home;
+        }
     }
 
     /// Returns the free rank with the lowest cost for a course; among equal ones, the smallest room. Some rank is free.
     pub fn cheapest(&self, course: u32, free: u64) -> Rank {
-        let home = at(&self.homes, course);
+        let want = self.want(course);
+        let home = want.home;
         if free & set_of(home) != 0 && self.missing(course, home) == 0 {
             return Rank {
                 cost: 0,
                 rank: home,
             };
         }
-        let fitting = self.fitting.get(course as usize).copied().unwrap_or(0) & free;
+        let fitting = want.fitting & free;
         let rank = if fitting == 0 {
             free.trailing_zeros()
         } else {

@@ -1,5 +1,6 @@
 //! Rooms for another lecture in a period.
 
+use crate::reading::entry_at;
 use crate::rooms::{MOST_ROOMS, Rooms, set_of};
 use crate::week::Week;
 use tt_occupancy::Occupied;
@@ -28,8 +29,8 @@ fn taken_seat(
     slot: usize,
     rank: u32,
 ) -> Option<Seat> {
-    let entry = week.entry_in(slot, rank)?;
-    let other = occupied.table().entries().get(entry as usize)?.course;
+    let entry = week.entry_in(slot, rank);
+    let other = entry_at(occupied, entry)?.course;
     let there = rooms.cheapest(other, week.slot(slot).free);
     let cost = rooms
         .cost(course, rank)

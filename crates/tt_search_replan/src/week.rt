@@ -2,9 +2,9 @@
 
 use crate::group::Group;
 use crate::links::Links;
+use crate::reading::{Sizes, entry_at, entry_count};
 use crate::rooms::{Rooms, set_of};
 use std::alloc::{AllocError, Global};
-use tt_instance_data::Instance;
 use tt_occupancy::Occupied;
 use tt_table::Entry;
 
@@ -60,7 +60,7 @@ impl Own {
 pub struct Week {
     pub days: usize,
     pub periods: usize,
-    rooms: usize,
+    rooms: u32,
     slots: Vec<Slot>,
     /// The entry in each room of each period.
     entries: Vec<u32>,
@@ -69,7 +69,8 @@ pub struct Week {
 }
 
 /// Returns the members that are not barred in a period, as a set.
-fn open_to(instance: &Instance<'_>, group: &Group, day: u32, period: u32) -> u8 {
+fn open_to(occupied: &Occupied<'_, '_>, group: &Group, day: u32, period: u32) -> u8 {
+    let instance = occupied.instance();
     let mut open = 0;
     for member in group.members() {
         if !instance.unavailable(member.course, day, period) {
@@ -80,17 +81,15 @@ fn open_to(instance: &Instance<'_>, group: &Group, day: u32, period: u32) -> u8 
 }
 
 impl Week {
-    /// Reads the slots, rooms and courses of a timetable. Fails if memory runs out.
-    pub fn new(alloc: Global, occupied: &Occupied<'_, '_>) -> Result<Week, AllocError> {
-        let instance = occupied.instance();
-        let (days, periods) = (instance.days() as usize, instance.periods() as usize);
-        let rooms = instance.rooms() as usize;
+    /// Makes room for a week of these sizes. Fails if memory runs out.
+    pub fn new(alloc: Global, sizes: Sizes) -> Result<Week, AllocError> {
+        let cells = sizes.slots.saturating_mul(sizes.rooms as usize);
         Ok(Week {
-            days,
-            periods,
-            rooms,
-            slots: vec![in alloc; Slot::NONE; days * periods]?,
-            entries: vec![in alloc; NOBODY; rooms * days * periods]?,
+            days: sizes.days,
+            periods: sizes.periods,
+            rooms: sizes.rooms,
+            slots: vec![in alloc; Slot::NONE; sizes.slots]?,
+            entries: vec![in alloc; NOBODY; cells]?,
             own: vec![in alloc; Own::NONE; MOST_OWN]?,
             own_count: 0,
         })
@@ -106,9 +105,24 @@ impl Week {
         self.slots.get(slot).copied().unwrap_or(Slot::NONE)
     }
 
-    /// Returns the lectures of the group in their present places.
-    pub fn own(&self) -> &[Own] {
-        self.own.get(..self.own_count).unwrap_or(&[])
+    /// Returns the number of lectures of the group.
+    pub fn own_count(&self) -> usize {
+        self.own_count
+    }
+
+    /// Returns a lecture of the group in its present place.
+    pub fn own(&self, number: usize) -> Own {
+        self.own.get(number).copied().unwrap_or(Own::NONE)
+    }
+
+    /// Returns the day and the period of a slot.
+    pub fn day_and_period(&self, slot: usize) -> (u32, u32) {
+        let day = slot.checked_div(self.periods).unwrap_or(0);
+        let period = slot.checked_rem(self.periods).unwrap_or(0);
+        (
+            u32::try_from(day).unwrap_or(u32::MAX),
+            u32::try_from(period).unwrap_or(u32::MAX),
+        )
     }
 
     /// The number of a slot: day times periods of a day, plus period.
@@ -119,15 +133,16 @@ impl Week {
     }
 
     fn cell(&self, slot: usize, rank: u32) -> usize {
-        slot.wrapping_mul(self.rooms).wrapping_add(rank as usize)
+        slot.wrapping_mul(self.rooms as usize)
+            .wrapping_add(rank as usize)
     }
 
-    /// Returns the entry in a room of a period, if one is known.
-    pub fn entry_in(&self, slot: usize, rank: u32) -> Option<u32> {
+    /// Returns the entry in a room of a period, or a number that no entry has.
+    pub fn entry_in(&self, slot: usize, rank: u32) -> u32 {
         self.entries
             .get(self.cell(slot, rank))
             .copied()
-            .filter(|entry| *entry != NOBODY)
+            .unwrap_or(NOBODY)
     }
 
     /// Puts an entry in a room of a period.
@@ -142,20 +157,18 @@ impl Week {
     }
 
     /// Empties all periods, and opens them to the members that are not barred in them.
-    fn clear(&mut self, instance: &Instance<'_>, group: &Group) {
-        let free = set_of(instance.rooms()).wrapping_sub(1);
+    fn clear(&mut self, occupied: &Occupied<'_, '_>, group: &Group) {
+        let free = set_of(self.rooms).wrapping_sub(1);
         self.entries.fill(NOBODY);
         self.own_count = 0;
-        for day in 0..instance.days() {
-            for period in 0..instance.periods() {
-                let number = self.number_of(day, period);
-                if let Some(slot) = self.slots.get_mut(number) {
-                    *slot = Slot {
-                        free,
-                        open: open_to(instance, group, day, period),
-                        ..Slot::NONE
-                    };
-                }
+        for number in 0..self.slots.len() {
+            let (day, period) = self.day_and_period(number);
+            if let Some(slot) = self.slots.get_mut(number) {
+                *slot = Slot {
+                    free,
+                    open: open_to(occupied, group, day, period),
+                    ..Slot::NONE
+                };
             }
         }
     }
@@ -198,10 +211,10 @@ impl Week {
         links: &Links,
         group: &Group,
     ) {
-        self.clear(occupied.instance(), group);
-        for number in 0..occupied.table().len() {
-            if let Some(entry) = occupied.table().entries().get(number).copied() {
-                self.add(rooms, links, number as u32, entry);
+        self.clear(occupied, group);
+        for number in 0..entry_count(occupied) {
+            if let Some(entry) = entry_at(occupied, number) {
+                self.add(rooms, links, number, entry);
             }
         }
     }

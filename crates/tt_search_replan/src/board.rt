@@ -1,0 +1,54 @@
+//! A timetable without the lectures of a group, and what they cost.
+
+use crate::group::Group;
+use crate::links::Links;
+use crate::present::present_cost;
+use crate::prices::Prices;
+use crate::reading::Sizes;
+use crate::rooms::Rooms;
+use crate::week::Week;
+use rand_pcg::Pcg32;
+use std::alloc::{AllocError, Global};
+use tt_occupancy::Occupied;
+
+/// The week without the lectures of a group, the links of all courses to it, and its prices.
+#[derive(Drop)]
+pub struct Board {
+    pub links: Links,
+    pub week: Week,
+    pub prices: Prices,
+}
+
+impl Board {
+    /// Makes room for a week of these sizes. Fails if memory runs out.
+    pub fn new(alloc: Global, sizes: Sizes) -> Result<Board, AllocError> {
+        Ok(Board {
+            links: Links::new(alloc, sizes.courses, sizes.curricula)?,
+            week: Week::new(alloc, sizes)?,
+            prices: Prices::new(alloc, sizes.slots)?,
+        })
+    }
+
+    /// Reads the timetable without a group, and prices its lectures. Returns whether the tables were large enough.
+    pub fn read(
+        &mut self,
+        occupied: &Occupied<'_, '_>,
+        rooms: &Rooms,
+        group: &Group,
+        rng: &mut Pcg32,
+        noise: u32,
+    ) -> bool {
+        if !self.links.set(occupied, group) {
+            return false;
+        }
+        self.week.read(occupied, rooms, &self.links, group);
+        self.prices
+            .find(occupied, rooms, &self.week, group, rng, noise);
+        true
+    }
+
+    /// Returns the cost of the present plan of a group.
+    pub fn present_cost(&self, group: &Group) -> u32 {
+        present_cost(&self.links, &self.week, &self.prices, group)
+    }
+}
