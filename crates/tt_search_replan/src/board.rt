@@ -9,20 +9,23 @@ use crate::rooms::Rooms;
 use crate::week::Week;
 use rand_pcg::Pcg32;
 use std::alloc::{AllocError, Global};
+use tt_instance_data::Instance;
 use tt_occupancy::Occupied;
 
-/// The week without the lectures of a group, the links of all courses to it, and its prices.
+/// The rooms, the week without the lectures of a group, the links of all courses to it, and its prices.
 #[derive(Drop)]
 pub struct Board {
+    pub rooms: Rooms,
     pub links: Links,
     pub week: Week,
     pub prices: Prices,
 }
 
 impl Board {
-    /// Makes room for a week of these sizes. Fails if memory runs out.
-    pub fn new(alloc: Global, sizes: Sizes) -> Result<Board, AllocError> {
+    /// Reads the rooms and the courses of an instance of these sizes, and makes room for its week. Fails if memory runs out.
+    pub fn new(alloc: Global, instance: &Instance<'_>, sizes: Sizes) -> Result<Board, AllocError> {
         Ok(Board {
+            rooms: Rooms::new(alloc, instance, sizes)?,
             links: Links::new(alloc, sizes.courses, sizes.curricula)?,
             week: Week::new(alloc, sizes)?,
             prices: Prices::new(alloc, sizes.slots)?,
@@ -33,7 +36,6 @@ impl Board {
     pub fn read(
         &mut self,
         occupied: &Occupied<'_, '_>,
-        rooms: &Rooms,
         group: &Group,
         rng: &mut Pcg32,
         noise: u32,
@@ -41,9 +43,9 @@ impl Board {
         if !self.links.set(occupied, group) {
             return false;
         }
-        self.week.read(occupied, rooms, &self.links, group);
+        self.week.read(occupied, &self.rooms, &self.links, group);
         self.prices
-            .find(occupied, rooms, &self.week, group, rng, noise);
+            .find(occupied, &self.rooms, &self.week, group, rng, noise);
         true
     }
 

@@ -1,6 +1,7 @@
 //! The cheapest week of a group, from the lectures that each day can have.
 
 use crate::group::{Group, MOST_STATES};
+use crate::places::{put, put_next};
 use crate::rooms::POINT;
 use crate::spelling::{DEAR, Speller, Vector, left_after};
 use std::alloc::{AllocError, Global};
@@ -131,16 +132,10 @@ impl Folder {
             let Some(vector) = speller.take(number) else {
                 break;
             };
-            let Some(place) = self.vectors.get_mut(end) else {
-                continue;
-            };
-            *place = vector;
-            end = end.saturating_add(1);
+            end = put_next(&mut self.vectors, end, vector);
         }
         sort_between(&mut self.vectors, begin, end);
-        if let Some(place) = self.begins.get_mut(day.saturating_add(1)) {
-            *place = end;
-        }
+        put(&mut self.begins, day.saturating_add(1), end);
         begin < end && end < MOST_VECTORS
     }
 
@@ -150,11 +145,9 @@ impl Folder {
     }
 
     fn reach(&mut self, days: usize, number: u32, state: State) {
-        let index = first_state(days).wrapping_add(number as usize);
-        if let Some(place) = self.states.get_mut(index)
-            && state.cost < place.cost
-        {
-            *place = state;
+        if state.cost < self.state(days, number).cost {
+            let index = first_state(days).wrapping_add(number as usize);
+            put(&mut self.states, index, state);
         }
     }
 
@@ -192,9 +185,7 @@ impl Folder {
         for day in 0..days.saturating_add(1) {
             for number in 0..group.states {
                 let index = first_state(day).wrapping_add(number as usize);
-                if let Some(place) = self.states.get_mut(index) {
-                    *place = State::NONE;
-                }
+                put(&mut self.states, index, State::NONE);
             }
         }
         let start = State {

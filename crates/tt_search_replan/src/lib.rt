@@ -7,6 +7,7 @@ mod folding;
 mod group;
 mod letters;
 mod links;
+mod places;
 mod placing;
 mod present;
 mod prices;

@@ -1,6 +1,7 @@
 //! The relation of each course to those of the group.
 
 use crate::group::Group;
+use crate::places::put;
 use crate::reading::{course_count, curricula_of, is_conflict, members_of};
 use std::alloc::{AllocError, Global};
 use tt_occupancy::Occupied;
@@ -63,11 +64,11 @@ impl Links {
 
     /// Returns a bit for a curriculum that has none yet.
     fn next_bit(&mut self, curriculum: u32) -> Option<u128> {
-        let is_known = self.is_known.get_mut(curriculum as usize)?;
-        if *is_known {
+        let index = curriculum as usize;
+        if self.is_known.get(index).copied().unwrap_or(true) {
             return None;
         }
-        *is_known = true;
+        put(&mut self.is_known, index, true);
         let bit = 1u128.checked_shl(self.known).unwrap_or(0);
         self.known = self.known.saturating_add(1);
         Some(bit)
@@ -79,23 +80,20 @@ impl Links {
             return;
         };
         for course in members_of(occupied, curriculum) {
-            if let Some(link) = self.links.get_mut(*course as usize) {
-                link.curricula |= bit;
-            }
+            let mut link = self.get(*course);
+            link.curricula |= bit;
+            put(&mut self.links, *course as usize, link);
         }
     }
 
     /// Marks the courses that conflict with a member.
     fn exclude(&mut self, occupied: &Occupied<'_, '_>, course: u32, set: u8) {
         for other in 0..course_count(occupied) {
-            if is_conflict(occupied, course, other)
-                && let Some(link) = self.links.get_mut(other as usize)
-            {
+            if is_conflict(occupied, course, other) {
+                let mut link = self.get(other);
                 link.excluded |= set;
+                put(&mut self.links, other as usize, link);
             }
-        }
-        if let Some(link) = self.links.get_mut(course as usize) {
-            link.member = set;
         }
     }
 
@@ -104,6 +102,9 @@ impl Links {
             self.know(occupied, *curriculum);
         }
         self.exclude(occupied, course, set);
+        let mut link = self.get(course);
+        link.member = set;
+        put(&mut self.links, course as usize, link);
     }
 
     /// Links all courses to a group. Returns whether the number of its curricula is within the limit.

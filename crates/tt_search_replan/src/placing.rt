@@ -1,5 +1,6 @@
 //! The steps to a plan.
 
+use crate::places::{put, put_next};
 use crate::prices::Prices;
 use crate::reading::entry_at;
 use crate::rooms::Rooms;
@@ -58,22 +59,22 @@ impl Plan {
     pub fn write_day(&mut self, first: usize, periods: usize, spelled: u64) {
         let mut rest = spelled;
         for period in (0..periods).rev() {
-            if let Some(place) = self.members.get_mut(first.wrapping_add(period)) {
-                *place = (rest & 15) as u8;
-            }
+            let members = (rest & 15) as u8;
+            put(&mut self.members, first.wrapping_add(period), members);
             rest >>= 4;
         }
     }
 
+    fn members_in(&self, slot: usize) -> u8 {
+        self.members.get(slot).copied().unwrap_or(0)
+    }
+
     fn has(&self, slot: usize, member: u8) -> bool {
-        self.members.get(slot).copied().unwrap_or(0) & member != 0
+        self.members_in(slot) & member != 0
     }
 
     fn push(&mut self, step: Step) {
-        if let Some(place) = self.steps.get_mut(self.count) {
-            *place = step;
-            self.count = self.count.saturating_add(1);
-        }
+        self.count = put_next(&mut self.steps, self.count, step);
     }
 
     /// Moves an entry to a room of a period.
@@ -92,9 +93,8 @@ impl Plan {
     fn take_slot(&mut self, week: &Week, member: u8) -> Option<usize> {
         for slot in 0..week.len() {
             if self.has(slot, member) && week.slot(slot).present & member == 0 {
-                if let Some(members) = self.members.get_mut(slot) {
-                    *members &= !member;
-                }
+                let others = self.members_in(slot) & !member;
+                put(&mut self.members, slot, others);
                 return Some(slot);
             }
         }

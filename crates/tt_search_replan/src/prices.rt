@@ -2,6 +2,7 @@
 
 use crate::drawing::at_most;
 use crate::group::{Group, MOST_MEMBERS};
+use crate::places::put;
 use crate::rooms::{POINT, Rooms};
 use crate::seats::cheapest_seat;
 use crate::week::Week;
@@ -49,12 +50,6 @@ impl Prices {
             .unwrap_or(Price::NONE)
     }
 
-    fn put(&mut self, slot: usize, member: usize, price: Price) {
-        if let Some(place) = self.prices.get_mut(index(slot, member)) {
-            *place = price;
-        }
-    }
-
     /// Finds the prices, each with a noise of its own.
     pub fn find(
         &mut self,
@@ -72,7 +67,11 @@ impl Prices {
                 {
                     let plain = seat.cost.min(DEAREST);
                     let noisy = plain.wrapping_add(at_most(rng, noise));
-                    self.put(slot, number, Price { plain, noisy });
+                    put(
+                        &mut self.prices,
+                        index(slot, number),
+                        Price { plain, noisy },
+                    );
                 }
             }
         }

@@ -51,6 +51,15 @@ pub fn members_of<'o>(occupied: &'o Occupied<'_, '_>, curriculum: u32) -> &'o [u
     instance.members(curriculum)
 }
 
+/// Returns the number of entries of a course in a room.
+pub fn course_in_room(occupied: &Occupied<'_, '_>, course: u32, room: u32) -> u32 {
+    let instance = occupied.instance();
+    if course >= instance.courses() || room >= instance.rooms() {
+        return 0;
+    }
+    occupied.course_in_room(course, room)
+}
+
 /// Returns whether two courses conflict.
 pub fn is_conflict(occupied: &Occupied<'_, '_>, first: u32, second: u32) -> bool {
     occupied.instance().conflict(first, second)

@@ -2,9 +2,8 @@
 
 use crate::board::Board;
 use crate::group::{Group, MOST_MEMBERS};
-use crate::placing::Plan;
 use crate::reading::{course_count, sizes_of};
-use crate::rooms::{MOST_ROOMS, Rooms};
+use crate::rooms::MOST_ROOMS;
 use crate::searching::Search;
 use rand_pcg::Pcg32;
 use std::alloc::{AllocError, Global};
@@ -18,11 +17,9 @@ const MOST_PERIODS: u32 = 15;
 /// Plans the lectures of a few courses again.
 #[derive(Drop)]
 pub struct Replanner {
-    rooms: Rooms,
     group: Group,
     board: Board,
     search: Search,
-    plan: Plan,
 }
 
 /// Checks whether an instance is small enough for plans.
@@ -36,51 +33,29 @@ impl Replanner {
         let instance = occupied.instance();
         let sizes = sizes_of(instance);
         Ok(Replanner {
-            rooms: Rooms::new(alloc, instance, sizes)?,
             group: Group::EMPTY,
-            board: Board::new(alloc, sizes)?,
+            board: Board::new(alloc, instance, sizes)?,
             search: Search::new(alloc, sizes)?,
-            plan: Plan::new(alloc, sizes.slots)?,
         })
     }
 
     /// Begins with a timetable.
     pub fn begin(&mut self, occupied: &Occupied<'_, '_>, rng: &mut Pcg32) {
         for course in 0..course_count(occupied) {
-            self.rooms.choose_home(occupied, rng, course, 0);
+            self.board.rooms.choose_home(occupied, rng, course, 0);
         }
     }
 
     /// Returns the steps to the plan; none if it is the present plan.
     pub fn steps(&self) -> &[Step] {
-        self.plan.steps()
+        self.search.plan.steps()
     }
 
     /// Plans the group. Returns whether its tables were large enough.
     fn plan_group(&mut self, occupied: &Occupied<'_, '_>, rng: &mut Pcg32, noise: u32) -> bool {
         self.group.number();
-        if !self
-            .board
-            .read(occupied, &self.rooms, &self.group, rng, noise)
-        {
-            return false;
-        }
-        let limit = self.board.present_cost(&self.group);
-        let Some(least) = self.search.find_days(&self.board, &self.group, limit) else {
-            return false;
-        };
-        if self
-            .search
-            .write_plan(&self.board, &self.group, limit, least, &mut self.plan)
-        {
-            self.plan.find_steps(
-                occupied,
-                &self.rooms,
-                &mut self.board.week,
-                &self.board.prices,
-            );
-        }
-        true
+        self.board.read(occupied, &self.group, rng, noise)
+            && self.search.plan(occupied, &mut self.board, &self.group)
     }
 
     /// Plans a course and some that share curricula with it again. Prices have a noise of at most `noise` thousandths of a
@@ -92,10 +67,12 @@ impl Replanner {
         course: u32,
         noise: u32,
     ) {
-        self.plan.clear();
+        self.search.plan.clear();
         self.group = Group::choose(occupied, rng, course);
         for member in self.group.members() {
-            self.rooms.choose_home(occupied, rng, member.course, noise);
+            self.board
+                .rooms
+                .choose_home(occupied, rng, member.course, noise);
         }
         for _ in 0..MOST_MEMBERS {
             if self.group.is_empty() || self.plan_group(occupied, rng, noise) {

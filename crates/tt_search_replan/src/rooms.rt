@@ -1,7 +1,8 @@
 //! The rooms, and the cost of a course in each.
 
 use crate::drawing::at_most;
-use crate::reading::Sizes;
+use crate::places::put;
+use crate::reading::{Sizes, course_in_room};
 use rand_pcg::Pcg32;
 use std::alloc::{AllocError, Global};
 use tt_instance_data::Instance;
@@ -29,6 +30,7 @@ struct Place {
 /// What a course wants of its rooms.
 #[derive(Clone, Copy)]
 struct Want {
+    lectures: u32,
     students: u32,
     /// The ranks that are large enough.
     fitting: u64,
@@ -76,6 +78,7 @@ impl Place {
 
 impl Want {
     const NONE: Want = Want {
+        lectures: 0,
         students: 0,
         fitting: 0,
         home: 0,
@@ -94,6 +97,7 @@ impl Want {
             }
         }
         Want {
+            lectures: instance.lectures(course),
             students,
             fitting: set_of(count.min(MOST_ROOMS)).wrapping_sub(1),
             home: 0,
@@ -120,20 +124,14 @@ impl Rooms {
     fn rank_rooms(&mut self, instance: &Instance<'_>, rooms: u32) {
         for room in 0..rooms {
             let (place, rank) = Place::of(instance, room);
-            if let Some(ranked) = self.places.get_mut(rank as usize) {
-                *ranked = place;
-            }
-            if let Some(rank_of_room) = self.ranks.get_mut(room as usize) {
-                *rank_of_room = rank;
-            }
+            put(&mut self.places, rank as usize, place);
+            put(&mut self.ranks, room as usize, rank);
         }
     }
 
     fn fit_courses(&mut self, instance: &Instance<'_>, courses: u32) {
         for course in 0..courses {
-            if let Some(want) = self.wants.get_mut(course as usize) {
-                *want = Want::of(instance, course);
-            }
+            put(&mut self.wants, course as usize, Want::of(instance, course));
         }
     }
 
@@ -193,12 +191,8 @@ impl Rooms {
 
     /// Returns the cost of a course's lectures if a room is its home.
     fn cost_of_home(&self, occupied: &Occupied<'_, '_>, course: u32, room: u32) -> u32 {
-        let instance = occupied.instance();
-        if course >= instance.courses() || room >= instance.rooms() {
-            return u32::MAX;
-        }
-        let lectures = instance.lectures(course);
-        let there = occupied.course_in_room(course, room);
+        let lectures = self.want(course).lectures;
+        let there = course_in_room(occupied, course, room);
         let elsewhere = lectures.saturating_sub(there).wrapping_mul(MOVING);
         let missing = self.missing(course, self.rank(room)).wrapping_mul(lectures);
         missing.saturating_mul(POINT).saturating_add(elsewhere)
@@ -222,9 +216,9 @@ impl Rooms {
                 home = self.rank(room);
             }
         }
-        if let Some(want) = self.wants.get_mut(course as usize) {
-            want.home = home;
-        }
+        let mut want = self.want(course);
+        want.home = home;
+        put(&mut self.wants, course as usize, want);
     }
 
     /// Returns the free rank with the lowest cost for a course; among equal ones, the smallest room. Some rank is free.

@@ -8,13 +8,15 @@ use crate::placing::Plan;
 use crate::reading::Sizes;
 use crate::spelling::Speller;
 use std::alloc::{AllocError, Global};
+use tt_occupancy::Occupied;
 
-/// The search for the cheapest week of a group.
+/// The search for the cheapest week of a group, and the plan that it found.
 #[derive(Drop)]
 pub struct Search {
     alphabet: Alphabet,
     speller: Speller,
     folder: Folder,
+    pub plan: Plan,
 }
 
 impl Search {
@@ -24,6 +26,7 @@ impl Search {
             alphabet: Alphabet::EMPTY,
             speller: Speller::new(alloc, sizes.periods)?,
             folder: Folder::new(alloc, sizes.days)?,
+            plan: Plan::new(alloc, sizes.slots)?,
         })
     }
 
@@ -41,7 +44,7 @@ impl Search {
     }
 
     /// Finds the possible vectors of each day within the limit, and returns a lower bound of the cost of all days.
-    pub fn find_days(&mut self, board: &Board, group: &Group, limit: u32) -> Option<u32> {
+    fn find_days(&mut self, board: &Board, group: &Group, limit: u32) -> Option<u32> {
         self.alphabet.find(&board.links, group);
         let mut least: u32 = 0;
         for day in 0..board.week.days {
@@ -53,15 +56,8 @@ impl Search {
         Some(least)
     }
 
-    /// Writes the cheapest week to a plan, if it costs no more than the limit. Returns whether it does.
-    pub fn write_plan(
-        &mut self,
-        board: &Board,
-        group: &Group,
-        limit: u32,
-        least: u32,
-        plan: &mut Plan,
-    ) -> bool {
+    /// Writes the cheapest week to the plan, if it costs no more than the limit. Returns whether it does.
+    fn write_plan(&mut self, board: &Board, group: &Group, limit: u32, least: u32) -> bool {
         let days = board.week.days;
         let Some(last) = self.folder.fold(group, days, limit, least) else {
             return false;
@@ -70,8 +66,21 @@ impl Search {
         for day in (0..days).rev() {
             let (spelled, before) = self.folder.trace(day, state);
             let first = day.wrapping_mul(board.week.periods);
-            plan.write_day(first, board.week.periods, spelled);
+            self.plan.write_day(first, board.week.periods, spelled);
             state = before;
+        }
+        true
+    }
+
+    /// Plans a group whose lectures are not on the board. Returns whether the tables were large enough.
+    pub fn plan(&mut self, occupied: &Occupied<'_, '_>, board: &mut Board, group: &Group) -> bool {
+        let limit = board.present_cost(group);
+        let Some(least) = self.find_days(board, group, limit) else {
+            return false;
+        };
+        if self.write_plan(board, group, limit, least) {
+            self.plan
+                .find_steps(occupied, &board.rooms, &mut board.week, &board.prices);
         }
         true
     }

@@ -2,6 +2,7 @@
 
 use crate::group::{Group, MOST_STATES};
 use crate::letters::{Alphabet, Letter, MOST_LETTERS, priced};
+use crate::places::{put, put_next};
 use crate::prices::Prices;
 use crate::rooms::POINT;
 use crate::week::Week;
@@ -132,15 +133,15 @@ impl Speller {
         })
     }
 
+    fn count(&self, period: usize) -> usize {
+        self.counts.get(period).copied().unwrap_or(0)
+    }
+
     fn push(&mut self, period: usize, letter: Letter) {
-        let Some(count) = self.counts.get_mut(period) else {
-            return;
-        };
-        let index = period.wrapping_mul(MOST_LETTERS).wrapping_add(*count);
-        *count = count.saturating_add(1);
-        if let Some(place) = self.letters.get_mut(index) {
-            *place = letter;
-        }
+        let count = self.count(period);
+        let index = period.wrapping_mul(MOST_LETTERS).wrapping_add(count);
+        put(&mut self.counts, period, count.saturating_add(1));
+        put(&mut self.letters, index, letter);
     }
 
     /// Finds the sets of members for each period of a day. Returns whether their number is within the limit.
@@ -161,10 +162,17 @@ impl Speller {
                     self.push(period, letter);
                 }
             }
-            let count = self.counts.get(period).copied().unwrap_or(0);
-            sequences = sequences.saturating_mul(count);
+            sequences = sequences.saturating_mul(self.count(period));
         }
         sequences <= MOST_SEQUENCES
+    }
+
+    /// Returns the cheapest day so far of a state.
+    fn best(&self, state: u32) -> Vector {
+        self.cheapest
+            .get(state as usize)
+            .copied()
+            .unwrap_or(Vector::NONE)
     }
 
     /// Stores a whole day, if it is the cheapest of its state.
@@ -173,17 +181,17 @@ impl Speller {
         let cost = vector
             .cost
             .wrapping_add(isolation(front.before, front.last, 0));
-        let Some(best) = self.cheapest.get_mut(vector.index as usize) else {
-            return;
-        };
-        if cost > limit || cost >= best.cost {
+        let best = self.best(vector.index).cost;
+        if cost > limit || cost >= best {
             return;
         }
-        let is_new = best.cost == DEAR;
-        *best = Vector { cost, ..vector };
-        if is_new && let Some(place) = self.found.get_mut(self.found_count) {
-            *place = vector.index;
-            self.found_count = self.found_count.saturating_add(1);
+        put(
+            &mut self.cheapest,
+            vector.index as usize,
+            Vector { cost, ..vector },
+        );
+        if best == DEAR {
+            self.found_count = put_next(&mut self.found, self.found_count, vector.index);
         }
     }
 
@@ -194,7 +202,7 @@ impl Speller {
             return;
         }
         let first = period.wrapping_mul(MOST_LETTERS);
-        let count = self.counts.get(period).copied().unwrap_or(0);
+        let count = self.count(period);
         for number in first..first.saturating_add(count) {
             if let Some(letter) = self.letters.get(number).copied()
                 && let Some(front) = front.with(letter, limit)
@@ -228,9 +236,8 @@ impl Speller {
             return None;
         }
         let state = self.found.get(number).copied()?;
-        let place = self.cheapest.get_mut(state as usize)?;
-        let vector = *place;
-        *place = Vector::NONE;
+        let vector = self.best(state);
+        put(&mut self.cheapest, state as usize, Vector::NONE);
         Some(vector)
     }
 }

@@ -2,6 +2,7 @@
 
 use crate::group::Group;
 use crate::links::Links;
+use crate::places::{put, put_next};
 use crate::reading::{Sizes, entry_at, entry_count};
 use crate::rooms::{Rooms, set_of};
 use std::alloc::{AllocError, Global};
@@ -148,12 +149,10 @@ impl Week {
     /// Puts an entry in a room of a period.
     pub fn seat(&mut self, slot: usize, rank: u32, entry: u32) {
         let cell = self.cell(slot, rank);
-        if let Some(place) = self.entries.get_mut(cell) {
-            *place = entry;
-        }
-        if let Some(slot) = self.slots.get_mut(slot) {
-            slot.free &= !set_of(rank);
-        }
+        put(&mut self.entries, cell, entry);
+        let mut place = self.slot(slot);
+        place.free &= !set_of(rank);
+        put(&mut self.slots, slot, place);
     }
 
     /// Empties all periods, and opens them to the members that are not barred in them.
@@ -163,24 +162,20 @@ impl Week {
         self.own_count = 0;
         for number in 0..self.slots.len() {
             let (day, period) = self.day_and_period(number);
-            if let Some(slot) = self.slots.get_mut(number) {
-                *slot = Slot {
-                    free,
-                    open: open_to(occupied, group, day, period),
-                    ..Slot::NONE
-                };
-            }
+            let slot = Slot {
+                free,
+                open: open_to(occupied, group, day, period),
+                ..Slot::NONE
+            };
+            put(&mut self.slots, number, slot);
         }
     }
 
     fn add_own(&mut self, own: Own) {
-        if let Some(place) = self.own.get_mut(self.own_count) {
-            *place = own;
-            self.own_count = self.own_count.saturating_add(1);
-        }
-        if let Some(slot) = self.slots.get_mut(own.slot) {
-            slot.present |= own.member;
-        }
+        self.own_count = put_next(&mut self.own, self.own_count, own);
+        let mut place = self.slot(own.slot);
+        place.present |= own.member;
+        put(&mut self.slots, own.slot, place);
     }
 
     fn add(&mut self, rooms: &Rooms, links: &Links, number: u32, entry: Entry) {
@@ -197,10 +192,10 @@ impl Week {
             return;
         }
         self.seat(slot, rank, number);
-        if let Some(place) = self.slots.get_mut(slot) {
-            place.fixed |= link.curricula;
-            place.open &= !link.excluded;
-        }
+        let mut place = self.slot(slot);
+        place.fixed |= link.curricula;
+        place.open &= !link.excluded;
+        put(&mut self.slots, slot, place);
     }
 
     /// Reads a timetable without the lectures of the group.
