@@ -25,10 +25,10 @@ impl Board {
     /// Reads the rooms and the courses of an instance of these sizes, and makes room for its week. Fails if memory runs out.
     pub fn new(alloc: Global, instance: &Instance<'_>, sizes: Sizes) -> Result<Board, AllocError> {
         Ok(Board {
-            rooms: Rooms::new(alloc, instance, sizes)?,
+            prices: Prices::new(alloc, sizes.slots)?,
             links: Links::new(alloc, sizes.courses, sizes.curricula)?,
             week: Week::new(alloc, sizes)?,
-            prices: Prices::new(alloc, sizes.slots)?,
+            rooms: Rooms::new(alloc, instance, sizes)?,
         })
     }
 

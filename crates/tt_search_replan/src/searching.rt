@@ -24,9 +24,9 @@ impl Search {
     pub fn new(alloc: Global, sizes: Sizes) -> Result<Search, AllocError> {
         Ok(Search {
             alphabet: Alphabet::EMPTY,
-            speller: Speller::new(alloc, sizes.periods)?,
-            folder: Folder::new(alloc, sizes.days)?,
             plan: Plan::new(alloc, sizes.slots)?,
+            folder: Folder::new(alloc, sizes.days)?,
+            speller: Speller::new(alloc, sizes.periods)?,
         })
     }
 
