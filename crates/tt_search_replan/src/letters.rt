@@ -1,9 +1,6 @@
 //! Sets of members that can be taught in one period.
 
-use crate::group::{Group, MOST_MEMBERS};
-use crate::links::Links;
-use crate::prices::Prices;
-use crate::week::{Slot, Week};
+use tt_search_group::{Group, Links, MOST_MEMBERS, Prices, Slot, Week};
 
 /// The maximum number of sets of members.
 pub const MOST_LETTERS: usize = 1 << MOST_MEMBERS;

@@ -1,14 +1,9 @@
 //! The steps to a plan.
 
-use crate::places::{put, put_next};
-use crate::prices::Prices;
-use crate::reading::entry_at;
-use crate::rooms::Rooms;
-use crate::seats::cheapest_seat;
-use crate::week::{Own, Week};
 use std::alloc::{AllocError, Global};
 use tt_moves::Step;
 use tt_occupancy::Occupied;
+use tt_search_group::{Own, Prices, Rooms, Week, cheapest_seat, entry_at, put, put_next};
 
 /// The maximum number of steps that lead to a plan.
 const MOST_STEPS: usize = 512;

@@ -1,11 +1,8 @@
 //! The cost of the present plan of a group.
 
 use crate::folding::crowding_cost;
-use crate::group::{Group, Member};
-use crate::links::Links;
-use crate::prices::Prices;
 use crate::spelling::isolation;
-use crate::week::Week;
+use tt_search_group::{Group, Links, Member, Prices, Week};
 
 /// Returns the group's curricula that are taught in a period, as a set.
 fn taught(links: &Links, week: &Week, group: &Group, slot: usize) -> u128 {

@@ -1,12 +1,8 @@
 //! The possible lectures of a day, and their costs.
 
-use crate::group::{Group, MOST_STATES};
 use crate::letters::{Alphabet, Letter, MOST_LETTERS, priced};
-use crate::places::{put, put_next};
-use crate::prices::Prices;
-use crate::rooms::POINT;
-use crate::week::Week;
 use std::alloc::{AllocError, Global};
+use tt_search_group::{Group, MOST_STATES, POINT, Prices, Week, put, put_next};
 
 /// The maximum number of sequences of sets of a day.
 const MOST_SEQUENCES: usize = 50_000;
