@@ -44,12 +44,12 @@ impl Free {
         mark(&mut self.courses, &draft.courses, true);
     }
 
-    /// Whether the curriculum is still free: no group has taken it.
+    /// Checks whether no group has taken a curriculum.
     pub fn has_curriculum(&self, curriculum: u32) -> bool {
         is_marked(&self.curricula, curriculum)
     }
 
-    /// Whether the course is still free: no group has taken it.
+    /// Checks whether no group has taken a course.
     pub fn has_course(&self, course: u32) -> bool {
         is_marked(&self.courses, course)
     }

@@ -96,7 +96,7 @@ impl Group {
         1u8.wrapping_shl(self.len)
     }
 
-    /// Whether no course is in the group.
+    /// Checks whether no course is in the group.
     pub fn is_empty(&self) -> bool {
         self.len == 0
     }

@@ -162,12 +162,12 @@ impl Rooms {
             .unwrap_or(Want::NONE)
     }
 
-    /// The rank of a room by its seats.
+    /// Returns the rank of a room.
     pub fn rank(&self, room: u32) -> u32 {
         self.ranks.get(room as usize).copied().unwrap_or(0)
     }
 
-    /// The room of a rank.
+    /// Returns the room of a rank.
     pub fn room(&self, rank: u32) -> u32 {
         self.place(rank).room
     }

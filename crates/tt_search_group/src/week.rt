@@ -101,7 +101,7 @@ impl Week {
         self.slots.len()
     }
 
-    /// The day and period of a slot by its number.
+    /// Returns the period with this number.
     pub fn slot(&self, slot: usize) -> Slot {
         self.slots.get(slot).copied().unwrap_or(Slot::NONE)
     }
@@ -116,7 +116,7 @@ impl Week {
         self.own.get(number).copied().unwrap_or(Own::NONE)
     }
 
-    /// Returns the day and the period of a slot.
+    /// Returns the day of the period with this number, and its number on that day.
     pub fn day_and_period(&self, slot: usize) -> (u32, u32) {
         let day = slot.checked_div(self.periods).unwrap_or(0);
         let period = slot.checked_rem(self.periods).unwrap_or(0);
@@ -126,7 +126,7 @@ impl Week {
         )
     }
 
-    /// The number of a slot: day times periods of a day, plus period.
+    /// Returns the number of a period of a day.
     pub fn number_of(&self, day: u32, period: u32) -> usize {
         (day as usize)
             .wrapping_mul(self.periods)
