@@ -17,6 +17,10 @@ SPACES = b" " * 65_536
 SPLIT = b"S c0 * d0 p0\n"
 LEAF = b"B ;\n"
 NOTHING = b"CTTP 1 bound 0 B ; end"
+ONE_PERIOD = (
+    b"Name: Full Courses: 1 Rooms: 1 Days: 1 Periods_per_day: 1 Curricula: 256 Constraints: 0 "
+    b"COURSES: c0 t0 1 1 1 ROOMS: R0 1 CURRICULA: %s UNAVAILABILITY_CONSTRAINTS: END."
+)
 
 
 @dataclass
@@ -369,6 +373,10 @@ def progress(desk):
     assert desk.told(words)[2] == b"" and desk.told(f"{words} --progress --quiet")[2] == b""
     shown = desk.told(f"{words} --progress")[2]
     assert re.match(rb"\rimprove: [\d,]+ of 100,000 steps, cost \d+, \d+ s\x1b\[K", shown) and shown.endswith(b"\r\x1b[K")
+    # A page of some 20 MB, in pieces.
+    desk.put(instance=ONE_PERIOD % b"".join(b"q%d 1 c0\n" % it for it in range(256)), solution=b"c0 R0 0 0\n" * 256)
+    shown = desk.told("page instance solution out --progress")[2]
+    assert re.match(rb"\rpage: [\d,]+ bytes written, \d+ s\x1b\[K", shown) and shown.endswith(b"\r\x1b[K")
 
 
 def a_closed_output(desk):

@@ -227,8 +227,6 @@ class Runs:
         roles = {role for name, role in self.command.inputs() if name == outcome.counted.file}
         said = outcome.err.rsplit(b"refused: ", 1)[1].decode()
         named = said.rsplit(":", 1)[0] if ":" in said else ""
-        # A proof at which the system can't look is named without its number.
-        roles |= {"proof" for role in roles if role.startswith("proof ")}
         assert named in roles or (not named and not roles), f"names {named or 'an output'}, and {outcome.counted.file} failed, {where}"
 
     def check_outcome(self, refusal, outcome, files):

@@ -13,6 +13,7 @@ mod showing;
 mod sources;
 mod terminal;
 mod ticker;
+mod written;
 
 pub use apart::find_apart;
 pub use disk::{MAX_FILE_BYTES, read_file};
@@ -22,3 +23,4 @@ pub use outputs::write_given;
 pub use showing::{Shown, clear, open_counted, ticker_of};
 pub use sources::{ProofFile, proof_files};
 pub use ticker::Ticker;
+pub use written::Written;

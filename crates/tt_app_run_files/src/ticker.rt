@@ -141,6 +141,19 @@ impl<'r, R: Clock, E: Write> Ticker<'r, R, E> {
         };
     }
 
+    /// Shows how many bytes of a page have been written.
+    pub fn show_written(&mut self, bytes: u64) {
+        let Some(seconds) = self.due() else {
+            return;
+        };
+        let (command, bytes) = (self.command, Grouped(bytes));
+        self.is_shown = true;
+        let _ = write!(
+            self.err,
+            "{LINE_START}{command}: {bytes} bytes written, {seconds} s{LINE_END}"
+        );
+    }
+
     /// Clears the line.
     pub fn clear(&mut self) {
         if self.is_shown {
