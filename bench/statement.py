@@ -6,8 +6,8 @@
 
 follows names through the `use` lines, from the clauses of a public function (all of them, or those that are named; without arguments the headline:
 clauses exactly and bounds of tt_proof_check's certify). Definitions are counted with their comments; structs and enums of src/ count with
-theirs. Names of the standard library end the search. Without arguments it also says whether docs/STATEMENT.md, which has the headline's definitions
-one after the other, each after those that it uses, is current (status 1 if it isn't); with --write it writes that file.
+theirs. Names of the standard library end the search. Without arguments it also says whether docs/STATEMENT.md, which has each of the headline's
+definitions after those that it uses, is current (status 1 if it isn't); with --write it writes that file.
 """
 import difflib
 import os
@@ -34,7 +34,7 @@ WORDS = {
     "codes": "`codes \"text\"`: the bytes of the text",
     "count_by": "`count_by p xs`: how many elements pass the test",
     "filter": "`filter p xs`: those that pass, in order",
-    "flat_map": "`flat_map f xs`: the lists of all elements, one after the other",
+    "flat_map": "`flat_map f xs`: the lists of all elements, joined in order",
     "fold": "`fold f a xs`: f taken from the left, from a on",
     "length": "`length xs`",
     "list_all": "`list_all p xs`: whether each element passes the test",
