@@ -51,8 +51,6 @@ text_refusal b nodes (fault.Proof f) h = absurd h
 text_refusal b nodes (fault.Sum f) h = absurd h
 text_refusal b nodes fault.ProofTooLarge h = inr refl
 text_refusal b nodes fault.OutOfMemory h = inl refl
-text_refusal b nodes (fault.CannotRead f) h = absurd h
-text_refusal b nodes (fault.TooLong f) h = absurd h
 text_refusal b nodes fault.CannotWrite h = absurd h
 text_refusal b nodes fault.PageTooLarge h = absurd h
 text_refusal b nodes fault.UnknownName h = absurd h
@@ -90,8 +88,6 @@ text_refused i limit p best b proof nodes finished (fault.Instance f) spells fou
 text_refused i limit p best b proof nodes finished (fault.Solution f) spells found is h = absurd h
 text_refused i limit p best b proof nodes finished (fault.Proof f) spells found is h = absurd h
 text_refused i limit p best b proof nodes finished (fault.Sum f) spells found is h = absurd h
-text_refused i limit p best b proof nodes finished (fault.CannotRead f) spells found is h = absurd h
-text_refused i limit p best b proof nodes finished (fault.TooLong f) spells found is h = absurd h
 text_refused i limit p best b proof nodes finished fault.CannotWrite spells found is h = absurd h
 text_refused i limit p best b proof nodes finished fault.PageTooLarge spells found is h = absurd h
 text_refused i limit p best b proof nodes finished fault.UnknownName spells found is h = absurd h
