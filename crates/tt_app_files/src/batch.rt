@@ -212,6 +212,26 @@ impl Batch {
         }
     }
 
+    /// Adds a text that can't be written. After an error none of the batch's files are left.
+    pub fn with_failed<R: Files>(
+        self,
+        rt: &R,
+        label: Label,
+        fault: OutputFault,
+        bytes: &[u8],
+    ) -> Result<Batch, AllocError> {
+        match Vec::from_slice(self.alloc, bytes) {
+            Ok(text) => {
+                let content = Content::Failed(fault, text);
+                self.with(rt, Part { label, content })
+            }
+            Err(fault) => {
+                undo_all(rt, &self.parts);
+                Err(fault)
+            }
+        }
+    }
+
     /// Adds a whole new file. After an error none of the batch's files are left.
     pub fn with_draft<R: Files>(
         self,
@@ -267,7 +287,8 @@ impl Batch {
             mut parts,
             mut retired,
         } = self;
-        let Ok(printed) = Vec::with_capacity(alloc, parts.len()) else {
+        // One more than the parts need, so that a line can be added to the texts without an allocation.
+        let Ok(printed) = Vec::with_capacity(alloc, parts.len().saturating_add(1)) else {
             undo_all(rt, &parts);
             return Err(WriteFault::OutOfMemory);
         };

@@ -191,11 +191,16 @@ impl Output {
         self,
         rt: &R,
     ) -> Result<Ready<R::File>, OutputFault> {
+        if let Output::Replaced { place, .. } = &self {
+            Draft::try_folder(rt, place)?;
+        }
+        self.open(rt)
+    }
+
+    /// Opens a device or a pipe; a file is opened when it is written.
+    pub fn open<R: Files>(self, rt: &R) -> Result<Ready<R::File>, OutputFault> {
         match self {
-            Output::Replaced { place, file: _ } => {
-                Draft::try_folder(rt, &place)?;
-                Ok(Ready::Place(place))
-            }
+            Output::Replaced { place, file: _ } => Ok(Ready::Place(place)),
             Output::Opened {
                 path,
                 manner,
