@@ -4,7 +4,7 @@ use crate::draft::Draft;
 use crate::fault::{OutputFault, Role};
 use crate::output::Ready;
 use crate::parts::{
-    Content, Part, forget_older, move_part, sync_part, undo_all, whereabouts_of, written,
+    Content, Part, forget_older, move_part, sync_part, undo, undo_all, whereabouts_of, written,
 };
 use crate::rescue::{Label, Rescued, Unwritten, WriteFault};
 use crate::retired::Retired;
@@ -132,7 +132,7 @@ fn blamed(
     Ok((label, fault))
 }
 
-/// Restores the older files, and adds where the results are to a list.
+/// Restores the older files, and adds where the results are to a list. A page is none: it can be made again, and is removed.
 fn rescue<R: Files>(
     rt: &R,
     mut rescued: Vec<Rescued>,
@@ -140,6 +140,10 @@ fn rescue<R: Files>(
 ) -> Result<Vec<Rescued>, AllocError> {
     let is_free = !takes_standard_output(&parts);
     for part in parts {
+        if part.label.role == Role::Page {
+            undo(rt, &part);
+            continue;
+        }
         let Part { label, content } = part;
         let role = label.role;
         if let Some(whereabouts) = whereabouts_of(rt, content, is_free) {

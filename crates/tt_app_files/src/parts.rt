@@ -58,7 +58,7 @@ pub fn written<R: Files + Clock + AllocGlobal>(
 }
 
 /// Removes the new file of a text; an older file at its place is restored.
-fn undo<R: Files>(rt: &R, part: &Part) {
+pub fn undo<R: Files>(rt: &R, part: &Part) {
     match &part.content {
         Content::Drafted(draft) => draft.remove(rt),
         Content::Moved(draft, older) => {
