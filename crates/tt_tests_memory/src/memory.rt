@@ -15,6 +15,7 @@ use tt_proof_check::{NodesFault, Verdict, certify, check_nodes, check_proof};
 use tt_proof_read::Node;
 use tt_proof_upgrade::parse_proof;
 use tt_report::By;
+use tt_search_watch::Unwatched;
 use tt_tests_samples::{GAP, GAP_PROOF, MARK, MINI, MINI_SOLUTION};
 use tt_text::{Pieces, Writing};
 
@@ -209,14 +210,14 @@ fn the_call_upgrade(rt: HostRuntime) -> Result<(), Fail> {
 fn the_call_solve_that_finishes(rt: HostRuntime) -> Result<(), Fail> {
     let instance = read_instance(rt.alloc(), GAP.as_bytes())?;
     println!(rt; "{MARK}")?;
-    let outcome = tt_branch::solve(rt.alloc(), &instance, 100, 1);
+    let outcome = tt_branch::solve(rt.alloc(), &instance, 100, 1, &mut Unwatched);
     println!(rt; "{MARK}")?;
     let outcome = outcome?;
     assert_eq!(rt;
         (outcome.bound, outcome.finished),
         (Bound::AtLeast(5), true)
     );
-    assert!(rt; outcome.best.is_some() && outcome.proof.is_some());
+    assert!(rt; outcome.best.is_some() && !outcome.proof.is_empty());
     Ok(())
 }
 
@@ -224,7 +225,7 @@ fn the_call_solve_that_finishes(rt: HostRuntime) -> Result<(), Fail> {
 fn the_call_solve_of_one_node(rt: HostRuntime) -> Result<(), Fail> {
     let instance = read_instance(rt.alloc(), GAP.as_bytes())?;
     println!(rt; "{MARK}")?;
-    let outcome = tt_branch::solve(rt.alloc(), &instance, 1, 1);
+    let outcome = tt_branch::solve(rt.alloc(), &instance, 1, 1, &mut Unwatched);
     println!(rt; "{MARK}")?;
     let outcome = outcome?;
     assert_eq!(rt;
