@@ -6,3 +6,4 @@ mod rooms;
 mod together;
 
 pub use finding::{Effort, Parts, add_up, find_parts};
+pub use together::copy_texts;

@@ -6,6 +6,7 @@ use tt_instance::read_instance;
 use tt_leaf_data::Bound;
 use tt_parts::{Effort, find_parts};
 use tt_proof_sum::sum_proofs;
+use tt_search_watch::Unwatched;
 use tt_tests_samples::{GAP, MINI, WIDE};
 use tt_text::Pieces;
 use tt_text_peek::Peeked;
@@ -22,7 +23,8 @@ const CHAIN: &str =
 
 fn found(alloc: Global, text: &str, nodes: u32) -> Result<(Bound, Vec<Vec<u8>>), Fail> {
     let instance = read_instance(alloc, text.as_bytes())?;
-    let parts = find_parts(alloc, &instance, Effort { nodes, seed: 1 })?;
+    let effort = Effort { nodes, seed: 1 };
+    let parts = find_parts(alloc, &instance, effort, &[], &mut Unwatched)?;
     Ok((parts.bound, parts.proofs))
 }
 
