@@ -104,7 +104,8 @@ fn put_all<R: Files + Clock + AllocGlobal>(
 /// Adds the texts for the standard streams to a list.
 fn add_printed(mut printed: Vec<Printed>, parts: Vec<Part>) -> Result<Vec<Printed>, AllocError> {
     for part in parts {
-        if let Content::Standard(stream, text) = part.content {
+        let Part { label: _, content } = part;
+        if let Content::Standard(stream, text) = content {
             printed.push(Printed { stream, text })?;
         }
     }

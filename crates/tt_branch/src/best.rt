@@ -14,7 +14,7 @@ use std::alloc::{AllocError, Global};
 use tt_instance_data::Instance;
 use tt_leaf_data::Bound;
 use tt_rules::score;
-use tt_search::{construct, descend, improve_watched};
+use tt_search::{construct, descend, improve};
 use tt_search_watch::Watch;
 use tt_table::Timetable;
 
@@ -108,7 +108,7 @@ fn is_cheaper(instance: &Instance<'_>, one: &Timetable, other: &Timetable) -> bo
     first.hard() < second.hard() || (first.hard() == second.hard() && first.cost() < second.cost())
 }
 
-/// Improves a timetable in turns, each from the start, until one reaches the goal; returns the best of all.
+/// Improves a timetable in turns, each from the start, until one reaches the goal or the search is to end; returns the best of all.
 fn improve_to<W: Watch>(
     alloc: Global,
     instance: &Instance<'_>,
@@ -125,11 +125,11 @@ fn improve_to<W: Watch>(
     let start = table.copy()?;
     let mut best = table;
     for turn in 0..turns {
-        if is_at_goal(instance, &best, goal) {
+        if watch.is_over() || is_at_goal(instance, &best, goal) {
             break;
         }
         let turn_seed = seed.wrapping_add(u64::from(turn));
-        let found = improve_watched(
+        let found = improve(
             alloc,
             instance,
             start.copy()?,
@@ -145,7 +145,8 @@ fn improve_to<W: Watch>(
 }
 
 /// Returns the timetable that a search begins with: the result of a descent from a constructed one, improved in this many turns
-/// or until it costs at most a goal, if it breaks no hard rule. The same seed gives the same timetable.
+/// or until it costs at most a goal or the search is to end, if it breaks no hard rule. The same seed gives the same timetable, unless the watch
+/// ends the search.
 pub fn first_best<W: Watch>(
     alloc: Global,
     instance: &Instance<'_>,

@@ -2,6 +2,8 @@
 #![tactic(auto)]
 
 mod best;
+mod copying;
+mod keeping;
 mod laws;
 mod limit;
 mod links;
@@ -17,4 +19,4 @@ mod watching;
 
 pub use laws::pinned_paths_leave_one_timetable;
 pub use limit::{FIRST_STEPS, MAX_OPENED};
-pub use solving::{Outcome, solve, solve_watched};
+pub use solving::{Outcome, solve};

@@ -9,6 +9,7 @@ ghost use Rattle.tt_branch.specs.Proofs.{node_worth};
 ghost use Rattle.tt_branch.specs.Steps.{lower};
 ghost use Rattle.tt_branch.specs.Written.{IsReached, IsWritable, IsOnceNode};
 
+use crate::copying::copy_leaf;
 use crate::links::Link;
 use crate::tree_node::{NodeState, TreeNode};
 use crate::visit::go_to;
@@ -31,19 +32,18 @@ fn node_for<'i, P: Path<'i>>(
     alloc: Global,
     path: &mut P,
     links: &[Link],
-    tree_node: TreeNode,
+    tree_node: &TreeNode,
 ) -> Result<Node, AllocError>
     requires links { AreLinks links.now }
-    requires reached { IsReached links.now tree_node.link }
-    ensures node { IfOk result (λ n. n ≡ node_at (P.problem path.old) links.now tree_node) }
+    requires reached { IsReached links.now tree_node.now.link }
+    ensures node { IfOk result (λ n. n ≡ node_at (P.problem path.old) links.now tree_node.now) }
     ensures unchanged { P.problem path.new ≡ P.problem path.old }
 {
-    let TreeNode { mark, link, .. } = tree_node;
-    match mark {
-        NodeState::Split(pattern) => Ok(Node::Split(pattern)),
-        NodeState::Closed(leaf) => Ok(Node::Leaf(leaf)),
+    match &tree_node.mark {
+        NodeState::Split(pattern) => Ok(Node::Split(*pattern)),
+        NodeState::Closed(leaf) => Ok(Node::Leaf(copy_leaf(alloc, leaf)?)),
         NodeState::Opened(_) | NodeState::Unopened => {
-            go_to(alloc, path, links, link)?;
+            go_to(alloc, path, links, tree_node.link)?;
             Ok(Node::Leaf(best_claims(alloc, path)?))
         }
     }
@@ -91,23 +91,24 @@ pub fn write_nodes<'i, P: Path<'i>>(
     alloc: Global,
     path: &mut P,
     links: &[Link],
-    tree_nodes: Vec<TreeNode>,
+    tree_nodes: &[TreeNode],
     valued: bool,
 ) -> Result<Written, AllocError>
     requires links { AreLinks links.now }
-    requires each { All (IsWritable (P.problem path.old) links.now) tree_nodes.items }
-    ensures nodes { IfOk result (λ w. w.nodes.items ≡ nodes_of (P.problem path.old) links.now tree_nodes.items) }
-    ensures least { IfOk result (λ w. valued ≡ true → w.least ≡ least (worths_of (P.problem path.old) links.now tree_nodes.items)) }
+    requires each { All (IsWritable (P.problem path.old) links.now) tree_nodes.now }
+    ensures nodes { IfOk result (λ w. w.nodes.items ≡ nodes_of (P.problem path.old) links.now tree_nodes.now) }
+    ensures least { IfOk result (λ w. valued ≡ true → w.least ≡ least (worths_of (P.problem path.old) links.now tree_nodes.now)) }
     ensures unchanged { P.problem path.new ≡ P.problem path.old }
 {
-    let mut tree_nodes = tree_nodes;
     let mut nodes = Vec::new(alloc);
     let mut least = None;
-    while let Some(tree_node) = tree_nodes.pop() {
-        let link = tree_node.link;
+    let mut left = tree_nodes.len();
+    while left > 0 {
+        left -= 1;
+        let tree_node = &tree_nodes[left];
         let node = node_for(alloc, path, links, tree_node)?;
         if valued {
-            least = lower(worth_of(alloc, path, links, link, &node)?, least);
+            least = lower(worth_of(alloc, path, links, tree_node.link, &node)?, least);
         }
         nodes.push(node)?;
     }

@@ -1,11 +1,12 @@
 //! The rounds of a search: each opens one node.
 
-ghost use Rattle.std.specs.Prelude.{◌≡◌, ◌<◌, ◌≤◌, ◌+◌, ◌*◌, length, true, IfOk, OnOk, IfSome, IsNone};
+ghost use Rattle.std.specs.Prelude.{◌≡◌, ◌<◌, ◌≤◌, ◌+◌, ◌*◌, ◌⊎◌, length, true, IfOk, OnOk, IfSome, IsNone};
 ghost use Rattle.tt_branch.specs.Growing.{IsOpenAt, is_open, opened_in};
 ghost use Rattle.tt_branch.specs.BestSoFar.{Advances};
 ghost use Rattle.tt_branch.specs.State.{IsUnderWay, MakesWait, EndsAt};
 ghost use Rattle.tt_branch.specs.declared.limit.TheConstants.{MAX_OPENED, MAX_TREE};
 
+use crate::keeping::give_if_asked;
 use crate::search::{Search, next_open, split};
 use crate::tree_node::NodeState;
 use crate::visit::open_at;
@@ -49,14 +50,23 @@ fn open_next<'i, P: Path<'i>>(
     open_at(alloc, path, search, next)
 }
 
-/// Opens nodes until none is open, or this many were opened, including the root; returns whether none is open.
+/// The end of the rounds of a search.
+#[derive(Clone, Copy)]
+pub struct Ending {
+    /// The number of nodes that were opened, including the root; the limit if no node is open.
+    pub opened: u32,
+    /// Whether no node is open.
+    pub finished: bool,
+}
+
+/// Opens nodes until none is open, this many were opened, including the root, or the watch ends the search.
 pub fn grow<'i, P: Path<'i>, W: Watch>(
     alloc: Global,
     path: &mut P,
     search: &mut Search,
     limit: u32,
     watch: &mut W,
-) -> Result<bool, AllocError>
+) -> Result<Ending, AllocError>
     requires under_way { IsUnderWay (P.problem path.old) search.old }
     requires root { opened_in search.old.tree_nodes.items ≡ 1 }
     requires alone { length search.old.tree_nodes.items ≡ 1 }
@@ -64,15 +74,30 @@ pub fn grow<'i, P: Path<'i>, W: Watch>(
     requires at_most { limit ≤ MAX_OPENED }
     ensures under_way { OnOk result (IsUnderWay (P.problem path.old) search.new) }
     ensures better { OnOk result (Advances (P.problem path.old) search.old.best search.new.best) }
-    ensures ends { IfOk result (EndsAt limit search.new.tree_nodes.items) }
+    ensures ends { IfOk result (λ e. EndsAt e.opened search.new.tree_nodes.items e.finished) }
+    ensures within { IfOk result (λ e. e.opened ≤ limit) }
+    ensures all { IfOk result (λ e. (e.opened ≡ limit) ⊎ W.has_ended watch.new) }
     ensures unchanged { P.problem path.new ≡ P.problem path.old }
 {
-    for _opened in 1..limit {
+    for opened in 1..limit {
         let Some(place) = next_open(search.tree_nodes.as_slice()) else {
-            return Ok(true);
+            return Ok(Ending {
+                opened: limit,
+                finished: true,
+            });
         };
-        show(watch, search, place, _opened, limit);
+        show(watch, search, place, opened, limit);
+        if watch.is_over() {
+            return Ok(Ending {
+                opened,
+                finished: false,
+            });
+        }
+        give_if_asked(alloc, path, search, place, watch)?;
         open_next(alloc, path, search, place)?;
     }
-    Ok(next_open(search.tree_nodes.as_slice()).is_none())
+    Ok(Ending {
+        opened: limit,
+        finished: next_open(search.tree_nodes.as_slice()).is_none(),
+    })
 }

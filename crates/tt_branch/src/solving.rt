@@ -1,18 +1,16 @@
 //! The search for a best timetable and a proof of a lower bound.
 
-ghost use Rattle.std.specs.Prelude.{◌≡◌, ◌≤◌, All, IfOk, OnOk, option_map};
+ghost use Rattle.std.specs.Prelude.{◌≡◌, ◌≤◌, IfOk};
 ghost use Rattle.tt_instance_data.specs.Problem.{Problem};
-ghost use Rattle.tt_proof_check.specs.Derives.{HoldsOfAll, Proves};
-ghost use Rattle.tt_proof_check.specs.Nodes.{IsNodeOf};
 ghost use Rattle.tt_branch.specs.BestSoFar.{IsBestSoFar, table_of};
-ghost use Rattle.tt_branch.specs.Outcomes.{IsOutcome, BeginsWell, final_bound};
+ghost use Rattle.tt_branch.specs.Outcomes.{IsOutcome, IsOutcomeUntil, BeginsWell, final_bound};
 ghost use Rattle.tt_branch.specs.Proofs.{shown_bound};
 ghost use Rattle.tt_branch.specs.State.{IsUnderWay, EndsAt};
 ghost use Rattle.tt_branch.specs.declared.limit.TheConstants.{MAX_OPENED};
 
 use crate::best::{Best, bound_of, first_best, turns_for};
 use crate::nodes::{Written, write_nodes};
-use crate::rounds::grow;
+use crate::rounds::{Ending, grow};
 use crate::search::Search;
 use crate::visit::{best_worth, open_at};
 use std::alloc::{AllocError, Global};
@@ -20,9 +18,9 @@ use tt_facts::TrailPath;
 use tt_facts_path::Path;
 use tt_instance_data::Instance;
 use tt_leaf_data::Bound;
-use tt_proof_check::{NodesFault, check_nodes};
+use tt_proof_check::derived_bounds_hold;
 use tt_proof_read::Node;
-use tt_search_watch::{Unwatched, Watch};
+use tt_search_watch::Watch;
 use tt_table::Timetable;
 
 /// The result of a search.
@@ -33,7 +31,7 @@ pub struct Outcome {
     /// The bound that the proof shows for every timetable that breaks no hard rule.
     pub bound: Bound,
     /// The nodes of the proof, in preorder.
-    pub proof: Option<Vec<Node>>,
+    pub proof: Vec<Node>,
     /// Whether each node is closed, so that the best timetable is optimal.
     pub finished: bool,
 }
@@ -49,40 +47,22 @@ fn shown(best: &Option<Best>, least: Option<u64>, finished: bool) -> Bound
     Bound::AtLeast(least.unwrap_or(0))
 }
 
-/// Passes a proof of a bound through the checker, which can only run out of memory.
-fn prove_bound<'i, P: Path<'i>>(
-    alloc: Global,
-    path: &P,
-    bound: Bound,
-    nodes: &[Node],
-) -> Result<(), AllocError>
-    requires numbers { All (IsNodeOf (P.problem path.now)) nodes.now }
-    requires proves { Proves (P.problem path.now) bound nodes.now }
-    ensures { OnOk result (HoldsOfAll (P.problem path.now) bound) }
-{
-    match check_nodes(alloc, path.instance(), bound, nodes) {
-        Ok(()) => Ok(()),
-        Err(NodesFault::OutOfMemory) => Err(AllocError),
-        Err(_) => unreachable!(),
-    }
-}
-
 /// Returns the outcome of a search that has ended.
 fn conclude<'i, P: Path<'i>>(
     alloc: Global,
     path: &mut P,
     search: Search,
-    limit: u32,
-    finished: bool,
+    ending: Ending,
 ) -> Result<Outcome, AllocError>
     requires under_way { IsUnderWay (P.problem path.old) search }
     requires begun { BeginsWell (P.problem path.old) (table_of search.best) }
-    requires ends { EndsAt limit search.tree_nodes.items finished }
-    requires at_most { limit ≤ MAX_OPENED }
-    ensures { IfOk result (λ o. IsOutcome (P.problem path.old) limit o.best o.bound (option_map (λ v. v.items) o.proof) o.finished) }
+    requires ends { EndsAt ending.opened search.tree_nodes.items ending.finished }
+    requires at_most { ending.opened ≤ MAX_OPENED }
+    ensures { IfOk result (λ o. IsOutcome (P.problem path.old) ending.opened o.best o.bound o.proof.items o.finished) }
 {
-    // Brings the instance's limits into the proof.
+    // Brings the instance's limits, and what a proof means, into the proof.
     prove!(path.instance().days() <= 64);
+    derived_bounds_hold();
     let Search {
         tree_nodes,
         links,
@@ -92,16 +72,14 @@ fn conclude<'i, P: Path<'i>>(
         alloc,
         path,
         links.as_slice(),
-        tree_nodes,
-        !finished,
+        tree_nodes.as_slice(),
+        !ending.finished,
     )?;
-    let bound = shown(&best, least, finished);
-    prove_bound(alloc, path, bound, nodes.as_slice())?;
     Ok(Outcome {
+        bound: shown(&best, least, ending.finished),
         best: table_in(best),
-        bound,
-        proof: Some(nodes),
-        finished,
+        proof: nodes,
+        finished: ending.finished,
     })
 }
 
@@ -126,16 +104,19 @@ fn solve_over<'i, P: Path<'i>, W: Watch>(
     requires begun { BeginsWell (P.problem path.old) (table_of best) }
     requires positive { 1 ≤ limit }
     requires at_most { limit ≤ MAX_OPENED }
-    ensures { IfOk result (λ o. IsOutcome (P.problem path.old) limit o.best o.bound (option_map (λ v. v.items) o.proof) o.finished) }
+    ensures { IfOk result (λ o. IsOutcomeUntil (P.problem path.old) limit (W.has_ended watch.new) o.best o.bound o.proof.items o.finished) }
 {
     let mut search = Search::new(alloc, best)?;
     open_at(alloc, path, &mut search, 0)?;
-    let finished = grow(alloc, path, &mut search, limit, watch)?;
-    conclude(alloc, path, search, limit, finished)
+    let ending = grow(alloc, path, &mut search, limit, watch)?;
+    conclude(alloc, path, search, ending)
 }
 
-/// Searches for a best timetable like `solve`, and reports the search to a watch.
-pub fn solve_watched<W: Watch>(
+/// Searches for a best timetable by a tree. Returns the best timetable that it found and a proof of a lower bound, of at most `nodes` nodes
+/// if each is closed, and of fewer than twice as many otherwise; if each is closed, the cost and the bound are equal, or no timetable exists
+/// that breaks no hard rule. If the watch ends the search, the result is that of a search of fewer nodes. It makes no promise about which nodes
+/// are opened.
+pub fn solve<W: Watch>(
     alloc: Global,
     instance: &Instance<'_>,
     nodes: u32,
@@ -144,26 +125,10 @@ pub fn solve_watched<W: Watch>(
 ) -> Result<Outcome, AllocError>
     requires positive { 1 ≤ nodes }
     requires at_most { nodes ≤ MAX_OPENED }
-    ensures { IfOk result (λ o. IsOutcome instance.now nodes o.best o.bound (option_map (λ v. v.items) o.proof) o.finished) }
+    ensures { IfOk result (λ o. IsOutcomeUntil instance.now nodes (W.has_ended watch.new) o.best o.bound o.proof.items o.finished) }
 {
     let mut path = TrailPath::new(alloc, instance)?;
     let goal = best_worth(alloc, &path)?;
     let best = first_best(alloc, instance, seed, goal, turns_for(nodes), watch)?;
     solve_over(alloc, &mut path, best, nodes, watch)
-}
-
-/// Searches for a best timetable by a tree. Returns the best timetable that it found and a proof of a lower bound, of at most `nodes` nodes
-/// if each is closed, and of fewer than twice as many otherwise; if each is closed, the cost and the bound are equal, or no timetable exists
-/// that breaks no hard rule. It makes no promise about which nodes are opened.
-pub fn solve(
-    alloc: Global,
-    instance: &Instance<'_>,
-    nodes: u32,
-    seed: u64,
-) -> Result<Outcome, AllocError>
-    requires positive { 1 ≤ nodes }
-    requires at_most { nodes ≤ MAX_OPENED }
-    ensures { IfOk result (λ o. IsOutcome instance.now nodes o.best o.bound (option_map (λ v. v.items) o.proof) o.finished) }
-{
-    solve_watched(alloc, instance, nodes, seed, &mut Unwatched)
 }

@@ -17,7 +17,7 @@ use tt_search_replan::{Replanner, can_replan};
 use tt_search_walk::{
     Best, Cooling, Phase, Schedule, Span, Walker, is_settled, phases_for, samples, walk,
 };
-use tt_search_watch::{Unwatched, Watch};
+use tt_search_watch::Watch;
 use tt_table::Timetable;
 
 /// Walks from the best timetable, and then returns to the best one so far. No memory is allocated.
@@ -53,8 +53,8 @@ fn can_plan(occupied: &Occupied<'_, '_>) -> bool {
     occupied.score().feasible() && can_replan(occupied.instance())
 }
 
-/// Walks in phases, each from the best timetable so far, and then returns to the best one. Only the first phase is walked if
-/// plans can be made. Returns the number of draws made. No memory is allocated.
+/// Walks in phases, each from the best timetable so far, and then returns to the best one. Only the first phase is walked if plans can be
+/// made, and none begins once the search is to end. Returns the number of draws that the phases walked were given. No memory is allocated.
 fn walk_phases<W: Watch>(
     occupied: &mut Occupied<'_, '_>,
     best: &mut Best,
@@ -79,7 +79,7 @@ fn walk_phases<W: Watch>(
     let samples = samples(draws);
     let mut made = 0;
     for phase in phases {
-        if made > 0 && can_plan(occupied) {
+        if watch.is_over() || (made > 0 && can_plan(occupied)) {
             break;
         }
         let next = phase.draws(draws, made);
@@ -168,8 +168,11 @@ fn walk_to_best<W: Watch>(
     Ok(())
 }
 
-/// Improves a timetable as `improve` does, and shows the search to a watch.
-pub fn improve_watched<W: Watch>(
+/// Searches for a better timetable with the same courses, from a seed and a number of steps: half of them are drawn, and make a walk
+/// near the best timetable so far; the others descend from the best one. If the watch ends the search, fewer are drawn. The same seed gives
+/// the same result on every machine, unless the watch ends the search. The table is consumed even if memory runs out. It is not proved that
+/// the result is mostly better.
+pub fn improve<W: Watch>(
     alloc: Global,
     instance: &Instance<'_>,
     table: Timetable,
@@ -188,21 +191,4 @@ pub fn improve_watched<W: Watch>(
     walk_to_best(alloc, &mut occupied, seed, draws, steps, watch)?;
     descend_in(&mut occupied, steps - draws);
     Ok(occupied.into_timetable())
-}
-
-/// Searches for a better timetable with the same courses, from a seed and a number of steps: half of them are drawn, and make a walk
-/// near the best timetable so far; the others descend from the best one. The same seed gives the same result on every machine.
-/// The table is consumed even if memory runs out. It is not proved that the result is mostly better.
-pub fn improve(
-    alloc: Global,
-    instance: &Instance<'_>,
-    table: Timetable,
-    seed: u64,
-    steps: u64,
-) -> Result<Timetable, AllocError>
-    requires { IsTimetable instance.now table }
-    ensures no_worse { IfOk result (IsNoWorse instance.now table) }
-    ensures descended { IfOk result (IsDescended instance.now table (steps / 2) (steps - steps / 2)) }
-{
-    improve_watched(alloc, instance, table, seed, steps, &mut Unwatched)
 }

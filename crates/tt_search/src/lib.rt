@@ -6,8 +6,8 @@ mod planning;
 mod restoring;
 mod runs;
 
-pub use improving::{improve, improve_watched};
-pub use runs::improve_in_runs;
+pub use improving::improve;
+pub use runs::{Search, improve_in_runs};
 pub use tt_moves_descend::{Descent, descend};
 pub use tt_search_construct::construct;
 pub use tt_search_watch::{Pair, Progress, Unit, Unwatched, Watch};

@@ -12,7 +12,7 @@ use tt_search_replan::Replanner;
 use tt_search_walk::{Best, Schedule, Span, entry_to_move};
 use tt_search_watch::Watch;
 
-/// The number of plans between two reports to the watch.
+/// The number of plans between two reports to the watch, and between two questions whether the search is to end.
 const PLANS_BETWEEN: u64 = 32;
 
 /// Makes a step if it can be made.
@@ -65,7 +65,8 @@ fn make_plan(
     count
 }
 
-/// Makes plans, and stores the best timetable on the way. Each of their steps is a draw. No memory is allocated.
+/// Makes plans until there are enough or the search is to end, and stores the best timetable on the way. Each of their steps is a draw. No
+/// memory is allocated.
 pub fn walk_by_plans<W: Watch>(
     occupied: &mut Occupied<'_, '_>,
     best: &mut Best,
@@ -87,6 +88,9 @@ pub fn walk_by_plans<W: Watch>(
 {
     let mut made: u64 = 0;
     for plan in 0..schedule.plans {
+        if plan % PLANS_BETWEEN == 0 && watch.is_over() {
+            break;
+        }
         let noise = schedule.noise(plan, made);
         let steps = make_plan(occupied, replanner, rng, noise, schedule.draws - made);
         made += steps;

@@ -1,9 +1,9 @@
-//! Reports of a walk to the watch of its search.
+//! Reports of a walk to the watch of its search, and its end.
 
 use crate::best::Best;
 use tt_search_watch::{Progress, Unit, Watch};
 
-/// The number of steps between two reports to the watch.
+/// The number of steps between two reports to the watch, and between two questions whether the search is to end.
 const STEPS_BETWEEN: u64 = 256;
 
 /// The position of a walk among the steps of a search.
@@ -21,6 +21,11 @@ impl Span {
         if made % STEPS_BETWEEN == 0 {
             self.tell(watch, made, best);
         }
+    }
+
+    /// Asks the watch of a walk that has made this many steps whether the search is to end, at intervals.
+    pub fn is_over<W: Watch>(self, watch: &mut W, made: u64) -> bool {
+        made % STEPS_BETWEEN == 0 && watch.is_over()
     }
 
     /// Reports a walk that has made this many steps.

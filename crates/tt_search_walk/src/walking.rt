@@ -67,7 +67,7 @@ fn try_draw(occupied: &mut Occupied<'_, '_>, walker: &mut Walker, cooling: &mut 
     }
 }
 
-/// Makes drawn steps, and stores the best timetable on the way. No memory is allocated.
+/// Makes drawn steps until there are enough or the search is to end, and stores the best timetable on the way. No memory is allocated.
 pub fn walk<W: Watch>(
     occupied: &mut Occupied<'_, '_>,
     best: &mut Best,
@@ -89,6 +89,9 @@ pub fn walk<W: Watch>(
 {
     let mut cooling = cooling;
     for made in 0..draws {
+        if span.is_over(watch, made) {
+            break;
+        }
         try_draw(occupied, walker, &mut cooling);
         best.keep(occupied);
         span.show(watch, made, best);

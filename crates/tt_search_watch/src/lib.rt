@@ -1,4 +1,4 @@
-//! What a search shows of itself while it runs.
+//! What a search shows of itself while it runs, and how it is ended.
 #![tactic(auto)]
 
 mod pair;

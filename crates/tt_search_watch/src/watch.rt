@@ -27,7 +27,7 @@ pub struct Progress {
 
 /// Watches a search, and may end it. Nothing is promised about what it is shown.
 pub trait Watch {
-    ghost use Rattle.std.specs.Prelude.{IsTrue, ⊥};
+    ghost use Rattle.std.specs.Prelude.{IsTrue};
 
     /// What holds of a watch that has ended its search.
     ghost has_ended: { Self → Type 0 } = { λ _. ⊥ };

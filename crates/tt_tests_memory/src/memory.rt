@@ -3,7 +3,10 @@
 
 use std::alloc::{AllocError, Global};
 use std::test::Fail;
-use tt_app::{Answer, PageNames, check, improve, page, report, solve, upgrade, validate};
+use tt_app::{
+    Answer, ImproveSearch, PageNames, TreeEffort, check, improve, page, report, solve, upgrade,
+    validate,
+};
 use tt_facts::TrailPath;
 use tt_facts_path::{Pattern, PlainPath, Who};
 use tt_instance::read_instance;
@@ -15,6 +18,7 @@ use tt_proof_check::{NodesFault, Verdict, certify, check_nodes, check_proof};
 use tt_proof_read::Node;
 use tt_proof_upgrade::parse_proof;
 use tt_report::By;
+use tt_search_watch::Unwatched;
 use tt_tests_samples::{GAP, GAP_PROOF, MARK, MINI, MINI_SOLUTION};
 use tt_text::{Pieces, Writing};
 
@@ -209,14 +213,14 @@ fn the_call_upgrade(rt: HostRuntime) -> Result<(), Fail> {
 fn the_call_solve_that_finishes(rt: HostRuntime) -> Result<(), Fail> {
     let instance = read_instance(rt.alloc(), GAP.as_bytes())?;
     println!(rt; "{MARK}")?;
-    let outcome = tt_branch::solve(rt.alloc(), &instance, 100, 1);
+    let outcome = tt_branch::solve(rt.alloc(), &instance, 100, 1, &mut Unwatched);
     println!(rt; "{MARK}")?;
     let outcome = outcome?;
     assert_eq!(rt;
         (outcome.bound, outcome.finished),
         (Bound::AtLeast(5), true)
     );
-    assert!(rt; outcome.best.is_some() && outcome.proof.is_some());
+    assert!(rt; outcome.best.is_some() && !outcome.proof.is_empty());
     Ok(())
 }
 
@@ -224,7 +228,7 @@ fn the_call_solve_that_finishes(rt: HostRuntime) -> Result<(), Fail> {
 fn the_call_solve_of_one_node(rt: HostRuntime) -> Result<(), Fail> {
     let instance = read_instance(rt.alloc(), GAP.as_bytes())?;
     println!(rt; "{MARK}")?;
-    let outcome = tt_branch::solve(rt.alloc(), &instance, 1, 1);
+    let outcome = tt_branch::solve(rt.alloc(), &instance, 1, 1, &mut Unwatched);
     println!(rt; "{MARK}")?;
     let outcome = outcome?;
     assert_eq!(rt;
@@ -285,13 +289,19 @@ fn the_command_upgrade(rt: HostRuntime) -> Result<(), Fail> {
 
 #[test]
 fn the_command_improve(rt: HostRuntime) -> Result<(), Fail> {
+    let search = ImproveSearch {
+        seed: 1,
+        steps: 100,
+        runs: 1,
+        completes: false,
+    };
     println!(rt; "{MARK}")?;
     let answer = improve(
         rt.alloc(),
         MINI.as_bytes(),
         MINI_SOLUTION.as_bytes(),
-        1,
-        100,
+        search,
+        &mut Unwatched,
     );
     println!(rt; "{MARK}")?;
     assert_eq!(rt; text_of(&answer?), b"hard 0 cost 1\n".as_slice());
@@ -300,8 +310,12 @@ fn the_command_improve(rt: HostRuntime) -> Result<(), Fail> {
 
 #[test]
 fn the_command_solve(rt: HostRuntime) -> Result<(), Fail> {
+    let tree = TreeEffort {
+        seed: 1,
+        nodes: 100,
+    };
     println!(rt; "{MARK}")?;
-    let answer = solve(rt.alloc(), GAP.as_bytes(), 1, 100);
+    let answer = solve(rt.alloc(), GAP.as_bytes(), tree, &mut Unwatched);
     println!(rt; "{MARK}")?;
     assert_eq!(rt; text_of(&answer?), b"cost 5 bound 5 finished\n".as_slice());
     Ok(())

@@ -8,7 +8,7 @@ use tt_instance::read_instance;
 use tt_moves::{Chain, ChainFault, chain};
 use tt_occupancy::{Occupied, Refused};
 use tt_rules::score;
-use tt_search::{construct, descend, improve};
+use tt_search::{Unwatched, construct, descend, improve};
 use tt_table::{Entry, read_solution};
 use tt_tests_samples::{MARK, MINI, MINI_SOLUTION};
 
@@ -106,7 +106,7 @@ fn the_call_improve(rt: HostRuntime) -> Result<(), Fail> {
     let table = read_solution(rt.alloc(), &instance, MINI_SOLUTION.as_bytes())?;
     let copy = table.copy()?;
     println!(rt; "{MARK}")?;
-    let better = improve(rt.alloc(), &instance, table, 1, 100);
+    let better = improve(rt.alloc(), &instance, table, 1, 100, &mut Unwatched);
     println!(rt; "{MARK}")?;
     assert_eq!(rt; copy.entries(), ENTRIES.as_slice());
     assert_eq!(rt; score(&instance, &better?).cost(), 1);

@@ -4,7 +4,7 @@ use std::alloc::Global;
 use std::test::Fail;
 use tt_instance::read_instance;
 use tt_rules::score;
-use tt_search::{construct, descend, improve};
+use tt_search::{Unwatched, construct, descend, improve};
 use tt_table::{Timetable, read_solution, write_solution};
 use tt_tests_samples::{FLAT, FLAT_SOLUTION, MINI, MINI_SOLUTION, WIDE, edited};
 
@@ -76,7 +76,7 @@ fn descents(rt: HostRuntime) -> Result<(), Fail> {
 fn improved_text(alloc: Global, seed: u64) -> Result<Vec<u8>, Fail> {
     let instance = read_instance(alloc, MINI.as_bytes())?;
     let table = read_solution(alloc, &instance, MINI_SOLUTION.as_bytes())?;
-    let better = improve(alloc, &instance, table, seed, 50)?;
+    let better = improve(alloc, &instance, table, seed, 50, &mut Unwatched)?;
     Ok(write_solution(alloc, &instance, &better)?)
 }
 
