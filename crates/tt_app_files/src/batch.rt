@@ -47,10 +47,7 @@ fn find_failed(parts: &[Part]) -> Option<Failure> {
 /// Checks whether a text is for standard output.
 fn takes_standard_output(parts: &[Part]) -> bool {
     parts.iter().any(|part| {
-        matches!(
-            part.content,
-            Content::Standard(StandardStream::Output, _)
-        )
+        matches!(part.content, Content::Standard(StandardStream::Output, _))
     })
 }
 

@@ -4,9 +4,7 @@ use crate::draft::Draft;
 use crate::fault::OutputFault;
 use crate::identity::{FileId, find_id, is_absent};
 use crate::place::{Place, Rights, Target, follow_links};
-use crate::standard::{
-    STANDARD, StandardStream, find_stream, is_standard_input, path_of_input,
-};
+use crate::standard::{STANDARD, StandardStream, find_stream, is_standard_input, path_of_input};
 use std::fs;
 use std::fs::{Metadata, OpenOptions};
 use std::os::unix::fs::MetadataExt;
@@ -27,7 +25,10 @@ pub enum Manner {
 #[derive(Debug, Drop)]
 pub enum Output {
     /// A regular file, or no file yet: replaced by a new file.
-    Replaced { place: Place, file: Option<FileId> },
+    Replaced {
+        place: Place,
+        file: Option<FileId>,
+    },
     /// A device, a pipe or a file that some process has open: opened and written.
     Opened {
         path: String,
@@ -172,7 +173,8 @@ impl Output {
             (
                 Output::Replaced { place, .. },
                 Output::Replaced {
-                    place: other_place, ..
+                    place: other_place,
+                    ..
                 },
             ) => place.is_same(rt, other_place),
             (

@@ -6,10 +6,9 @@ use crate::output::Ready;
 use crate::rescue::{Label, Whereabouts};
 use crate::standard::StandardStream;
 use std::alloc::AllocError;
-use std::fs;
 use std::io::Write;
-use std::mem;
 use std::rt::{Clock, Files};
+use std::{fs, mem};
 
 /// How far a text is on its way to its output.
 #[derive(Debug, Drop)]

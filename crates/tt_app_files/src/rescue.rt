@@ -2,8 +2,7 @@
 
 use crate::fault::{OutputFault, Role};
 use std::alloc::{AllocError, AllocFailed, Global};
-use std::fmt;
-use std::io;
+use std::{fmt, io};
 use thiserror::Error;
 
 /// An output by its role, and the path that was given for it.

@@ -26,15 +26,15 @@ fn print_rescued<O: Write>(rescued: &mut [Rescued], out: &mut O) {
 }
 
 /// Prints a refusal, after the results that are in no file, and returns its status.
-fn print_refusal<O: Write, E: Write>(
-    mut fault: CommandFault,
-    out: &mut O,
-    err: &mut E,
-) -> u8 {
-    if let CommandFault::Write(WriteFault::Unwritten(Unwritten {
-        rescued: Some(rescued),
-        ..
-    })) = &mut fault
+fn print_refusal<O: Write, E: Write>(mut fault: CommandFault, out: &mut O, err: &mut E) -> u8 {
+    if let CommandFault::Write(
+        WriteFault::Unwritten(
+            Unwritten {
+                rescued: Some(rescued),
+                ..
+            },
+        ),
+    ) = &mut fault
     {
         print_rescued(rescued, out);
     }
@@ -77,9 +77,7 @@ fn reply_to<R: World, O: Write, E: Write>(
         Request::Solve(request) => answer_solve(rt, err, *request),
         Request::Parts(request) => answer_parts(rt, err, *request),
         Request::Best(request) => answer_best(rt, err, *request),
-        Request::Report(request) => {
-            Ok(Reply::silent(rt.alloc(), report_to(rt, *request, out)?))
-        }
+        Request::Report(request) => { Ok(Reply::silent(rt.alloc(), report_to(rt, *request, out)?)) }
         Request::Table(files) => answer_table(rt, *files),
         Request::Calendar(request) => answer_calendar(rt, *request),
     }

@@ -37,7 +37,10 @@ pub enum ReadFault {
         reason: io::Error,
     },
     #[error("{input}: too long: {path}")]
-    TooLong { input: Input, path: String },
+    TooLong {
+        input: Input,
+        path: String,
+    },
     #[error("{0}: cannot read: -: standard input is read already")]
     ReadTwice(Input),
 }

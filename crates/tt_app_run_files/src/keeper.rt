@@ -65,9 +65,7 @@ impl<'k, F> KeptTable<'k, F> {
     /// Checks whether a timetable is better than the one that is kept, and is to be kept.
     fn is_wanted(&self, pair: Pair) -> bool {
         let is_better = self.kept.is_none_or(|kept| pair.is_below(kept));
-        is_better
-            && !(self.is_strict && pair.hard > 0)
-            && matches!(self.out.ready, Ready::Place(_))
+        is_better && !(self.is_strict && pair.hard > 0) && matches!(self.out.ready, Ready::Place(_))
     }
 
     /// Writes a timetable to its file.

@@ -1,10 +1,9 @@
 //! Files that are open for reading.
 
 use crate::world::World;
-use std::fs;
 use std::fs::OpenFile;
-use std::io;
 use std::io::{Error, Read};
+use std::{fs, io};
 use tt_app_files::STANDARD;
 
 /// A file that is open for reading, or standard input.

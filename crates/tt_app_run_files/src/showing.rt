@@ -15,8 +15,13 @@ use tt_app_arguments::Showing;
 pub type Shown<'s, R, E> = RefCell<Ticker<'s, R, E>>;
 
 /// A proof that is open, or standard input, which shows how much of it has been read.
-pub type OpenProof<'c, 't, R, E> =
-    Counted<'c, 't, Opened<<R as Files>::File, <R as Input>::Reader>, R, E>;
+pub type OpenProof<'c, 't, R, E> = Counted<
+    'c,
+    't,
+    Opened<<R as Files>::File, <R as Input>::Reader>,
+    R,
+    E,
+>;
 
 /// Returns the line that shows the progress of a command, switched on if it is to be shown.
 pub fn ticker_of<'s, R: Files + Clock + AllocGlobal, E: Write>(

@@ -227,7 +227,14 @@ impl<'r, R: Clock, E: Write> Ticker<'r, R, E> {
         let Some(seconds) = self.due() else {
             return;
         };
-        let (command, read) = (self.command, Read { number, bytes, size });
+        let (command, read) = (
+            self.command,
+            Read {
+                number,
+                bytes,
+                size,
+            },
+        );
         self.is_shown = true;
         let _ = write!(
             self.err,

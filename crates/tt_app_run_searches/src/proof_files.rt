@@ -39,9 +39,7 @@ impl<'a> ProofFolder<'a> {
         proofs: &[Vec<u8>],
     ) -> Result<Batch, AllocError> {
         for proof in proofs {
-            batch = self
-                .folder
-                .write(rt, batch, self.file_of(proof), proof)?;
+            batch = self.folder.write(rt, batch, self.file_of(proof), proof)?;
         }
         for file in [GROUPS, self.tree] {
             if !proofs.iter().any(|proof| self.file_of(proof) == file) {

@@ -95,9 +95,14 @@ fn files_that_cannot_be_written(rt: HostRuntime) -> Result<(), Fail> {
         memory.put("a.ctt", GAP)?;
         memory.put("found/page.html", "older")?;
         let outcome = best_of(rt.alloc(), &memory)?;
-        let wanted = format!(in rt.alloc(); "refused: cannot write: output solution: found/best.sol: {why}")?;
+        let wanted = format!(in rt.alloc();
+            "refused: cannot write: output solution: found/best.sol: {why}"
+        )?;
         assert_eq!(rt; outcome.err.as_str(), wanted.as_str());
-        assert_eq!(rt; (outcome.status, outcome.out.contains("CTTP 2")), (2, lines));
+        assert_eq!(rt;
+            (outcome.status, outcome.out.contains("CTTP 2")),
+            (2, lines)
+        );
         let kept = memory.text("found/page.html")?;
         assert!(rt; kept.is_some_and(|text| text.as_str() == "older"));
         assert_eq!(rt; memory.count(), files);

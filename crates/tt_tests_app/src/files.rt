@@ -39,12 +39,42 @@ fn wide_files(fails_at: [u64; 3]) -> [StoredFile<'static>; 3] {
 fn failed_reads(rt: HostRuntime) -> Result<(), Fail> {
     for (fails_at, status, out, err) in [
         ([0, 0, 0], 0, "yes cost 5 bound 5 optimal\n", ""),
-        ([1, 1, 1], 2, "", "refused: instance: cannot read: a.ctt: other error\n"),
-        ([2, 0, 0], 2, "", "refused: instance: cannot read: a.ctt: other error\n"),
-        ([0, 1, 1], 2, "", "refused: solution: cannot read: a.sol: other error\n"),
-        ([0, 2, 0], 2, "", "refused: solution: cannot read: a.sol: other error\n"),
-        ([0, 0, 1], 2, "", "refused: proof: Read: a.proof: other error\n"),
-        ([0, 0, 2], 2, "", "refused: proof: Read: a.proof: other error\n"),
+        (
+            [1, 1, 1],
+            2,
+            "",
+            "refused: instance: cannot read: a.ctt: other error\n",
+        ),
+        (
+            [2, 0, 0],
+            2,
+            "",
+            "refused: instance: cannot read: a.ctt: other error\n",
+        ),
+        (
+            [0, 1, 1],
+            2,
+            "",
+            "refused: solution: cannot read: a.sol: other error\n",
+        ),
+        (
+            [0, 2, 0],
+            2,
+            "",
+            "refused: solution: cannot read: a.sol: other error\n",
+        ),
+        (
+            [0, 0, 1],
+            2,
+            "",
+            "refused: proof: Read: a.proof: other error\n",
+        ),
+        (
+            [0, 0, 2],
+            2,
+            "",
+            "refused: proof: Read: a.proof: other error\n",
+        ),
     ] {
         let outcome = run_with(rt.alloc(), &WORDS, &wide_files(fails_at))?;
         assert_eq!(rt; outcome.answer(), (status, out, err), "at {fails_at:?}");
@@ -105,9 +135,21 @@ fn refusal_of(alloc: Global, words: &[&str]) -> Result<String, Fail> {
 #[test]
 fn missing_files_of_proofs(rt: HostRuntime) -> Result<(), Fail> {
     for (instance, proof, err) in [
-        ("none", "none", "refused: instance: cannot read: none: entity not found\n"),
-        ("a.ctt", "none", "refused: proof: cannot read: none: entity not found\n"),
-        ("bad", "none", "refused: proof: cannot read: none: entity not found\n"),
+        (
+            "none",
+            "none",
+            "refused: instance: cannot read: none: entity not found\n",
+        ),
+        (
+            "a.ctt",
+            "none",
+            "refused: proof: cannot read: none: entity not found\n",
+        ),
+        (
+            "bad",
+            "none",
+            "refused: proof: cannot read: none: entity not found\n",
+        ),
         (
             "bad",
             "bad",
@@ -239,7 +281,11 @@ fn standard_output_is_written_before_the_line(rt: HostRuntime) -> Result<(), Fai
     let outcome = run_on(rt.alloc(), &["solve", "a.ctt", "-", "a.proof"], &memory)?;
     assert_eq!(rt; (outcome.status, outcome.err.as_str()), (0, ""));
     assert_eq!(rt; outcome.out.lines().count(), 3);
-    assert!(rt; outcome.out.ends_with("\ncost 5 bound 5 finished\n"), "{}", outcome.out);
+    assert!(rt;
+        outcome.out.ends_with("\ncost 5 bound 5 finished\n"),
+        "{}",
+        outcome.out
+    );
     assert_eq!(rt; memory.count(), 2);
     Ok(())
 }
@@ -270,13 +316,19 @@ fn the_longest_files(rt: HostRuntime) -> Result<(), Fail> {
         StoredFile::new("a.sol", &long),
     ];
     let outcome = run_with(rt.alloc(), &words, &files)?;
-    assert_eq!(rt; outcome.answer(), (2, "", "refused: instance: too long: a.ctt\n"));
+    assert_eq!(rt;
+        outcome.answer(),
+        (2, "", "refused: instance: too long: a.ctt\n")
+    );
     let files = [
         StoredFile::new("a.ctt", WIDE.as_bytes()),
         StoredFile::new("a.sol", &long),
     ];
     let outcome = run_with(rt.alloc(), &words, &files)?;
-    assert_eq!(rt; outcome.answer(), (2, "", "refused: solution: too long: a.sol\n"));
+    assert_eq!(rt;
+        outcome.answer(),
+        (2, "", "refused: solution: too long: a.sol\n")
+    );
     Ok(())
 }
 
@@ -343,7 +395,8 @@ fn closed_outputs(rt: HostRuntime) -> Result<(), Fail> {
     assert_eq!(rt; run(&runtime, &words, &mut Closed, &mut err), 2);
     words.push(String::from_str(rt.alloc(), "--help")?)?;
     assert_eq!(rt; run(&runtime, &words, &mut Closed, &mut err), 2);
-    let refused = b"refused: cannot write: standard output: broken pipe\nrefused: cannot write: standard output: broken pipe\n";
+    let refused =
+        b"refused: cannot write: standard output: broken pipe\nrefused: cannot write: standard output: broken pipe\n";
     assert_eq!(rt; err.as_slice(), refused.as_slice());
     assert_eq!(rt; run(&runtime, &words, &mut Closed, &mut Closed), 2);
     Ok(())

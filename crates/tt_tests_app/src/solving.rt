@@ -112,7 +112,10 @@ fn searches_that_are_refused(rt: HostRuntime) -> Result<(), Fail> {
         let refused = "refused: cannot write: output solution: a.sol: ";
         assert!(rt; outcome.err.starts_with(refused), "{}", outcome.err);
         assert_eq!(rt; outcome.status, 2);
-        assert_eq!(rt; outcome.out.contains("CTTP 1 bound 5"), refusal == Refusal::Writes);
+        assert_eq!(rt;
+            outcome.out.contains("CTTP 1 bound 5"),
+            refusal == Refusal::Writes
+        );
         assert_eq!(rt; memory.text("a.proof")?, None);
     }
     Ok(())

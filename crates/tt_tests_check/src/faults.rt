@@ -3,7 +3,7 @@
 use std::alloc::{AllocError, Global};
 use std::fmt::Display;
 use std::test::Fail;
-use tt_app::{AppFault};
+use tt_app::AppFault;
 use tt_instance::{InstanceFault, Word};
 use tt_leaf_rules::RuleFault;
 use tt_proof_check::{CertifyFault, CheckFault, NodesFault};

@@ -306,9 +306,7 @@ impl<'s> Input for &'s MemoryFiles {
 
     fn reader(&self) -> OpenMemoryInput {
         OpenMemoryInput {
-            rest: self
-                .copied(STANDARD_INPUT)
-                .unwrap_or(Vec::new(self.alloc)),
+            rest: self.copied(STANDARD_INPUT).unwrap_or(Vec::new(self.alloc)),
         }
     }
 }

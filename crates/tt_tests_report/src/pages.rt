@@ -154,7 +154,11 @@ fn pages_that_are_not_written(rt: HostRuntime) -> Result<(), Fail> {
     for refusal in [Refusal::NewFiles, Refusal::Writes, Refusal::Renames] {
         let memory = filled(rt.alloc(), MINI, MINI_SOLUTION, refusal)?;
         let outcome = paged(rt.alloc(), &memory)?;
-        assert_eq!(rt; (outcome.status, outcome.out.as_str()), (2, ""), "{refusal:?}");
+        assert_eq!(rt;
+            (outcome.status, outcome.out.as_str()),
+            (2, ""),
+            "{refusal:?}"
+        );
         let refused = "refused: cannot write: output page: ";
         assert!(rt; outcome.err.starts_with(refused), "{refusal:?}");
         assert_eq!(rt; memory.count(), 2, "{refusal:?}");

@@ -6,12 +6,10 @@ use std::cell::{Cell, RefCell};
 use std::io::{Error, ErrorKind, Write};
 use tt_app_answers::AppFault;
 use tt_app_arguments::PageRequest;
-use tt_app_files::{
-    Batch, Draft, Label, OutputFault, Place, Ready, Role, StandardStream, finish,
-};
+use tt_app_files::{Batch, Draft, Label, OutputFault, Place, Ready, Role, StandardStream, finish};
 use tt_app_run_files::{
-    CommandFault, Input, Inputs, LastUnread, Prepared, Reply, Shown, Target, World, Written,
-    clear, fault_over, proof_files, ticker_of,
+    CommandFault, Input, Inputs, LastUnread, Prepared, Reply, Shown, Target, World, Written, clear,
+    fault_over, proof_files, ticker_of,
 };
 use tt_app_texts::{PageNames, page, proved_page};
 use tt_page::STYLE;
