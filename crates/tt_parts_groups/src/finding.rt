@@ -141,19 +141,16 @@ impl<'s, 'i, W: Watch> Finder<'s, 'i, W> {
     /// Shows the progress to the watch, and gives it the proofs if it asks for them.
     fn show(&mut self) -> Result<(), AllocError> {
         let bound = self.value().saturating_add(self.known_points());
-        let work = &mut self.values.work;
-        work.watch.see(
-            Progress {
-                unit: Unit::Steps,
-                done: self.effort.saturating_sub(work.left()),
-                limit: self.effort,
-                best: None,
-                bound: Some(bound),
-                tried: None,
-            },
-            &[],
-        );
-        if work.watch.is_asking(bound) {
+        let progress = Progress {
+            unit: Unit::Steps,
+            done: self.effort.saturating_sub(self.values.work.left()),
+            limit: self.effort,
+            best: None,
+            bound: Some(bound),
+            tried: None,
+        };
+        self.values.work.watch.see(progress, &[]);
+        if self.values.work.watch.is_asking(bound) {
             self.give()?;
         }
         Ok(())
