@@ -38,8 +38,6 @@ pub struct GroupSearch<'a> {
     pub seed: u64,
     /// The entries of a known timetable, which bounds the cost of each group, or none.
     pub guide: &'a [Entry],
-    /// A proof whose bound adds up with the values of the groups.
-    pub known: Option<KnownProof<'a>>,
 }
 
 /// The search: the groups so far, and the targets that none of them has.
@@ -232,11 +230,12 @@ impl<'s, 'i, W: Watch> Finder<'s, 'i, W> {
 }
 
 /// Searches for groups, no two of which have a curriculum or a course in common. The same seed gives the same groups, unless the watch ends the
-/// search.
+/// search. The bound of a proof that is known adds up with the values of the groups; the watch may take this proof with those of the groups.
 pub fn find_groups<W: Watch>(
     alloc: Global,
     instance: &Instance<'_>,
     search: GroupSearch<'_>,
+    known: Option<KnownProof<'_>>,
     watch: &mut W,
 ) -> Result<Vec<GroupClaim>, AllocError> {
     let guide = Guide::new(alloc, instance, search.guide)?;
@@ -247,7 +246,7 @@ pub fn find_groups<W: Watch>(
         drafts: Vec::new(alloc),
         rng: Pcg32::seed_from_u64(search.seed),
         effort: search.effort,
-        known: search.known,
+        known,
     };
     finder.go()?;
     claims_of(alloc, instance, &finder.drafts)
