@@ -200,6 +200,10 @@ open_any q [] k e at o = cc
 open_any q (x ∷ xs) zero e at o = let same : x ≡ e = cc in or_left (q x) (list_any q xs) (ap q same ∙ o)
 open_any q (x ∷ xs) (suc k) e at o = or_right (q x) (list_any q xs) (open_any q xs k e at o)
 
+-- the end of the rounds at an open node, before the limit
+pub ends_early : (opened : ℕ) (tree_nodes : List TreeNode) (place : ℕ) → IsOpenAt tree_nodes place → opened_in tree_nodes ≡ opened → length tree_nodes + 1 ≤ 2 * opened → EndsAt opened tree_nodes false
+ends_early opened tree_nodes place some e h = ends_open opened tree_nodes (open_any (λ x. is_open x.mark) tree_nodes place some.0 some.1 some.2) e h
+
 -- the end of the rounds, by the next open node
 pub ends_by : (limit : ℕ) (tree_nodes : List TreeNode) (o : Option ℕ) (r : Bool) → is_some o ≡ not r → IfSome o (IsOpenAt tree_nodes) → (IsNone o → list_any (λ e. is_open e.mark) tree_nodes ≡ false) → opened_in tree_nodes ≡ limit → length tree_nodes + 1 ≤ 2 * limit → EndsAt limit tree_nodes r
 ends_by limit tree_nodes None true d some none e h = ends_closed limit limit tree_nodes e (omega arith) (none refl)
