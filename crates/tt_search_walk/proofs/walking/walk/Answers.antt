@@ -40,5 +40,5 @@ loop-made-preserved g c =
           (c.keep.ensures.best t (courses ∙ begun) (subst (λ (q : Problem). IsBest q t l.best) (sym same) (l.invariant.best t begun good)));
     }
 
-pub returns-clause-reached : goal.returns-clause-reached
-returns-clause-reached g c = λ start. leads_more c.args.draws (c.loop-made.invariant.reached start) (omega arith)
+pub returns-then-is_over-clause-reached : goal.returns-then-is_over-clause-reached
+returns-then-is_over-clause-reached g c = λ start. leads_more c.args.draws (c.loop-made.invariant.reached start) (omega arith)
