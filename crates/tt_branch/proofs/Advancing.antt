@@ -4,13 +4,12 @@ use Rattle.std.proofs.Common.{not, get_or}
 use Rattle.std.specs.Prelude.{slice_get, slice_set, IfSome, IsNone}
 use Rattle.std.specs.Option.{is_some}
 use Rattle.tt_facts_path.specs.declared.facts.Fact.{Fact}
-use Rattle.std.specs.List.{AllZip, AllByRecursion, list_any}
+use Rattle.std.specs.List.{AllByRecursion, list_any}
 use Rattle.std.proofs.lemmas.List.Sums.{sum_by-append, count_by-le-length}
 use Rattle.std.proofs.lemmas.Bool.{or_parts, or_left, or_right}
 use Rattle.std.proofs.lemmas.Option.{get_or_from_slice_get}
 use Rattle.tt_lists.proofs.Sums.{one_if, count_by-cons}
 use Rattle.tt_lists.proofs.Zipped.{zip_and, zip_cut, zip_other}
-use Rattle.tt_lists.proofs.Tested.{each_at}
 use Rattle.tt_lists.proofs.Cuts.{cut_at, set_cut, get_next, get_after}
 use Rattle.tt_instance_data.specs.Problem.{Problem}
 use Rattle.tt_instance_data.specs.declared.cell.Cell.{Cell}

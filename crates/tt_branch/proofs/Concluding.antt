@@ -14,7 +14,7 @@ use Rattle.tt_rules.specs.Score.{IsFeasible}
 use Rattle.tt_facts_path.specs.Live.{least, least_with}
 use Rattle.tt_facts_path.specs.declared.facts.Fact.{Fact}
 use Rattle.tt_facts_path.proofs.Least.{least_with-le}
-use Rattle.tt_leaf_rules.specs.Claims.{is_fair, total_of}
+use Rattle.tt_leaf_rules.specs.Claims.{total_of}
 use Rattle.tt_leaf_rules.specs.Leaves.{IsRight}
 use Rattle.tt_leaf_rules.specs.Outcomes.{IsClaimedOnce}
 use Rattle.tt_leaf_rules.proofs.Rightness.{targets_once}
@@ -23,8 +23,6 @@ use Rattle.tt_leaf_data.specs.declared.leaf.Bound.TheVariants.{AtLeast, Nothing}
 use Rattle.tt_leaf_data.specs.declared.leaf.Claim.TheVariants.{Days}
 use Rattle.tt_leaf_data.specs.declared.leaf.Leaf.{Leaf}
 use Rattle.tt_leaf_data.specs.declared.leaf.Leaf.TheVariants.{Empty, Many, Clique, Slots, Cost}
-use Rattle.std.specs.Prelude.{nat_le}
-use Rattle.std.specs.List.{list_all}
 use Rattle.tt_proof_read.specs.Spelling.{IsBound}
 use Rattle.tt_proof_read.specs.Trees.{preorder, OnPath, on_paths}
 use Rattle.tt_proof_read.specs.declared.node.Node.{Node}

@@ -1,9 +1,9 @@
-use Rattle.std.proofs.Common.{◌≡◌, ◌+◌, ◌-◌, ◌<◌, length, refl, sym, ap, ◌∙◌, subst, arith}
+use Rattle.std.proofs.Common.{◌-◌, refl, sym, ap, ◌∙◌, subst, arith}
 use Rattle.tt_instance_data.specs.Problem.{Problem}
 use Rattle.tt_proof_check.specs.Nodes.{IsNodeOf}
 use Rattle.tt_branch.specs.Growing.{node_at}
-use Rattle.tt_branch.specs.Written.{IsOnceNode, IsReached}
-use Rattle.tt_branch.proofs.Taking.{writable_here, taken_more}
+use Rattle.tt_branch.specs.Written.{IsOnceNode}
+use Rattle.tt_branch.proofs.Taking.{writable_here}
 use Rattle.tt_branch.proofs.nodes.write_nodes.Goals as goal
 
 pub node_for-requires : goal.node_for-requires

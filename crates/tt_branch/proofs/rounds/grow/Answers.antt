@@ -1,4 +1,4 @@
-use Rattle.std.proofs.Common.{◌≡◌, false, List, rules, sym, subst, ◌∙◌, arith, inr}
+use Rattle.std.proofs.Common.{◌≡◌, false, List, refl, rules, sym, subst, ◌∙◌, arith}
 use Rattle.std.specs.Prelude.{IfSome, IsNone}
 use Rattle.std.specs.List.{list_any}
 use Rattle.tt_instance_data.specs.Problem.{Problem}
@@ -32,7 +32,7 @@ loop-opened-preserved g c =
     let p = g.P.Path.problem c.args.path.now in
     let i = c.loop-opened.invariant in
     let e = c.in_ok-open_next.ensures in
-    let same = c.in_ok-give_if_asked.ensures ∙ i.same in
+    let same = c.in_ok-give_if_asked.ensures.unchanged ∙ i.same in
     let new = c.open_next.new.search in
     record {
       same = e.unchanged ∙ same;

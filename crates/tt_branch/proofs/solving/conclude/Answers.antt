@@ -44,6 +44,6 @@ returns g c =
     let shown = c.shown-bound.ensures p c.requires.under_way.kept in
     let done = concluded p ok s c.requires.under_way e.opened c.requires.at_most nodes is e.finished lowest c.requires.begun c.requires.ends
     (λ f. c.in_ok-nodes.ensures.least (not_from_false e.finished f) ∙ ap (λ (l : List Link). least (worths_of p l c.as_slice-2.result.now)) links
-        ∙ ap (λ (es : List TreeNode). least (worths_of p s.links.items es)) items) in
+    ∙ ap (λ (es : List TreeNode). least (worths_of p s.links.items es)) items) in
     subst (λ (t : Option (List Cell)). IsOutcome p e.opened t c.shown-bound.result nodes e.finished) (sym c.table_in.ensures)
     (subst (λ (b : Bound). IsOutcome p e.opened (table_of s.best) b nodes e.finished) (sym shown) done)
