@@ -8,6 +8,7 @@ pub use Rattle.tt_app_checks.specs.Rewritten
 pub use Rattle.tt_app_checks.specs.Summed
 pub use Rattle.tt_app_checks.specs.Validated
 pub use Rattle.tt_app_searches.specs.Best
+pub use Rattle.tt_app_searches.specs.Given
 pub use Rattle.tt_app_searches.specs.Improved
 pub use Rattle.tt_app_searches.specs.Parted
 pub use Rattle.tt_app_searches.specs.Solved

@@ -4,7 +4,7 @@
 pub use tt_app_answers::{Answer, AppFault, Input};
 pub use tt_app_checks::{bound, check, check_sum, sum, upgrade, validate};
 pub use tt_app_searches::{
-    BestAnswer, PartsAnswer, Rounds, best_watched, complete_and_improve, guided_parts_watched,
-    improve, improve_in_runs, parts, parts_watched, solve, solve_watched,
+    BestAnswer, BestSearch, Effort, ImproveSearch, PartsAnswer, TreeEffort, WatchBest, best,
+    improve, parts, solve,
 };
 pub use tt_app_texts::{PageNames, WeekTimes, calendar, inspect, page, proved_page, report, table};

@@ -1,2 +1,4 @@
 pub mod Best
+pub mod Given
+pub mod Improving
 pub mod Searching

@@ -1,6 +1,6 @@
 -- The answer of `solve`, from the results of its steps.
-use Rattle.std.proofs.Common.{◌≡◌, ℕ, Bool, List, Option, Some, All, refl, subst, inl, inr}
-use Rattle.std.specs.Prelude.{IfSome, ◌⊎◌}
+use Rattle.std.proofs.Common.{◌≡◌, ℕ, List, Option, Some, All, refl, inr}
+use Rattle.std.specs.Prelude.{IfSome}
 use Rattle.tt_instance_data.specs.Problem.{Problem}
 use Rattle.tt_instance.specs.Reading.{instance_of, Fails}
 use Rattle.tt_instance_data.specs.Spelling.{Spells}
@@ -16,10 +16,8 @@ use Rattle.tt_proof_read.specs.Trees.{IsPreorder}
 use Rattle.tt_proof_text.specs.Within.{IsNodeIn, Refuses, Writes}
 use Rattle.tt_proof_text.specs.declared.fault.WriteFault.TheVariants as write
 use Rattle.tt_proof_upgrade.proofs.Written.{node_in_two}
-use Rattle.tt_branch.specs.Outcomes.{IsOutcome}
-use Rattle.tt_app_searches.specs.Solved.{IsProofFile, IsOverLong, IsTextRefusal, IsSolveRefusal}
+use Rattle.tt_app_searches.specs.Solved.{IsProofFile, IsOverLong}
 use Rattle.tt_app_answers.specs.FaultMaps.{fault_from_instance}
-use Rattle.tt_app_answers.specs.declared.fault.AppFault.{AppFault}
 use Rattle.tt_app_answers.specs.declared.fault.AppFault.TheVariants as fault
 
 -- the best timetable is a timetable of the instance
@@ -43,24 +41,6 @@ in_second b nodes h = h.2 (λ k x e. node_in_two _)
 pub over_long : (v : ℕ) (b : Bound) (nodes : List Node) → Refuses v b nodes write.OverLimit → IsOverLong b nodes
 over_long v b nodes h = record { version = v; large = h.1 }
 
--- the text is refused only for these two reasons
-pub text_refusal : (b : Bound) (nodes : List Node) (f : AppFault) → IsTextRefusal b nodes f → (f ≡ fault.OutOfMemory) ⊎ (f ≡ fault.ProofTooLarge)
-text_refusal b nodes (fault.Instance f) h = absurd h
-text_refusal b nodes (fault.Solution f) h = absurd h
-text_refusal b nodes (fault.Proof f) h = absurd h
-text_refusal b nodes (fault.Sum f) h = absurd h
-text_refusal b nodes fault.ProofTooLarge h = inr refl
-text_refusal b nodes fault.OutOfMemory h = inl refl
-text_refusal b nodes (fault.CannotRead f) h = absurd h
-text_refusal b nodes (fault.TooLong f) h = absurd h
-text_refusal b nodes fault.CannotWrite h = absurd h
-text_refusal b nodes fault.PageTooLarge h = absurd h
-text_refusal b nodes fault.UnknownName h = absurd h
-text_refusal b nodes fault.DayNames h = absurd h
-text_refusal b nodes fault.PeriodNames h = absurd h
-text_refusal b nodes (fault.Term f) h = absurd h
-text_refusal b nodes (fault.Complete f) h = absurd h
-
 -- if the bytes spell an instance, reading it is refused only for being out of memory
 pub read_memory : (i : List ℕ) (p : Problem) (f : InstanceFault) → Spells i p → Fails f (instance_of i) → fault_from_instance f ≡ fault.OutOfMemory
 read_memory i p instance.OutOfMemory spells h = refl
@@ -71,31 +51,3 @@ read_memory i p (instance.OverLimit n) spells h = let e = is_read i p spells in 
 read_memory i p (instance.Repeated n) spells h = let e = is_read i p spells in absurd cc
 read_memory i p (instance.UnknownCourse n) spells h = let e = is_read i p spells in absurd cc
 read_memory i p (instance.OutOfRange n) spells h = let e = is_read i p spells in absurd cc
-
--- the refusal of the proof's text is a refusal of the search
-pub text_refused : (i : List ℕ) (limit : ℕ) (p : Problem) (best : Option (List Cell)) (b : Bound) (proof : Option (List Node)) (nodes : List Node) (finished : Bool) (f : AppFault) → Spells i p
-    → IsOutcome p limit best b proof finished → proof ≡ Some nodes → IsTextRefusal b nodes f → IsSolveRefusal i limit f
-text_refused i limit p best b proof nodes finished fault.OutOfMemory spells found is h = tt
-text_refused i limit p best b proof nodes finished fault.ProofTooLarge spells found is h = record {
-  problem = p;
-  spelled = spells;
-  best = best;
-  bound = b;
-  nodes = nodes;
-  finished = finished;
-  outcome = subst (λ (o : Option (List Node)). IsOutcome p limit best b o finished) is found;
-  large = h;
-}
-text_refused i limit p best b proof nodes finished (fault.Instance f) spells found is h = absurd h
-text_refused i limit p best b proof nodes finished (fault.Solution f) spells found is h = absurd h
-text_refused i limit p best b proof nodes finished (fault.Proof f) spells found is h = absurd h
-text_refused i limit p best b proof nodes finished (fault.Sum f) spells found is h = absurd h
-text_refused i limit p best b proof nodes finished (fault.CannotRead f) spells found is h = absurd h
-text_refused i limit p best b proof nodes finished (fault.TooLong f) spells found is h = absurd h
-text_refused i limit p best b proof nodes finished fault.CannotWrite spells found is h = absurd h
-text_refused i limit p best b proof nodes finished fault.PageTooLarge spells found is h = absurd h
-text_refused i limit p best b proof nodes finished fault.UnknownName spells found is h = absurd h
-text_refused i limit p best b proof nodes finished fault.DayNames spells found is h = absurd h
-text_refused i limit p best b proof nodes finished fault.PeriodNames spells found is h = absurd h
-text_refused i limit p best b proof nodes finished (fault.Term f) spells found is h = absurd h
-text_refused i limit p best b proof nodes finished (fault.Complete f) spells found is h = absurd h

@@ -1,5 +1,5 @@
 -- The answer of `best` for the bytes of an instance.
-use Rattle.std.specs.Prelude.{◌≡◌, ◌≤◌, ◌⊎◌, ℕ, List, Vec, Option, Some, None, IsSomeAnd}
+use Rattle.std.specs.Prelude.{◌≡◌, ◌≤◌, ◌⊎◌, ℕ, List, Vec, Option, Some, None, IsSomeAnd, IfSome}
 use Rattle.tt_instance_data.specs.Problem.{Problem}
 use Rattle.tt_instance_data.specs.Spelling.{Spells}
 use Rattle.tt_leaf_data.specs.declared.leaf.Bound.{Bound}
@@ -9,7 +9,7 @@ use Rattle.tt_page.specs.Pages.{page_text}
 use Rattle.tt_page_text.specs.Labels.{no_labels}
 use Rattle.tt_page_text.specs.Puts.{IsTooLarge}
 use Rattle.tt_proof_check.specs.Derives.{HoldsOfAll}
-use Rattle.tt_proof_check.specs.Headline.{BoundsAll}
+use Rattle.tt_proof_check.specs.Headline.{BoundsAll, Solves}
 use Rattle.tt_proof_sum.specs.Sums.{IsSum}
 use Rattle.tt_parts.specs.Found.{texts_of}
 use Rattle.tt_app_answers.specs.Lines.{best_line, none_line}
@@ -51,3 +51,12 @@ pub record IsNoneFound (instance : List ℕ) (a : BestAnswer) : Type 0 where
 -- The answer of `best` has a timetable with a proved bound, or no timetable and a proved bound.
 abbrev pub IsBest : List ℕ → List ℕ → BestAnswer → Type 0
 IsBest i style a = IsBestFound i style a ⊎ IsNoneFound i a
+
+-- The answer has a timetable with a proved bound that costs at most this much.
+pub record CostsAtMost (instance style : List ℕ) (most : ℕ) (a : BestAnswer) : Type 0 where
+  pub found : IsBestFound instance style a
+  pub within : found.cost ≤ most
+
+-- If a solution is given that breaks no hard rule of the instance, the answer has a timetable that costs no more.
+abbrev pub CostsNoMore : List ℕ → Option (List ℕ) → List ℕ → BestAnswer → Type 0
+CostsNoMore instance given style a = IfSome given (λ solution. (c : ℕ) → Solves instance solution c → CostsAtMost instance style c a)

@@ -1,4 +1,5 @@
 pub mod Best
+pub mod Given
 pub mod Improved
 pub mod Parted
 pub mod Solved

@@ -1,7 +1,6 @@
 -- The answer of `parts` for the bytes of an instance.
-use Rattle.std.specs.Prelude.{◌≡◌, ℕ, List, Err, length, ⊤}
+use Rattle.std.specs.Prelude.{◌≡◌, ℕ, List, length}
 use Rattle.tt_instance_data.specs.Problem.{Problem}
-use Rattle.tt_instance.specs.Reading.{instance_of}
 use Rattle.tt_instance_data.specs.Spelling.{Spells}
 use Rattle.tt_leaf_data.specs.declared.leaf.Bound.{Bound}
 use Rattle.tt_proof_check.specs.Derives.{HoldsOfAll}
@@ -9,8 +8,6 @@ use Rattle.tt_proof_sum.specs.Sums.{IsSum}
 use Rattle.tt_parts.specs.Found.{texts_of}
 use Rattle.tt_app_answers.specs.Lines.{parts_line}
 use Rattle.tt_app_searches.specs.declared.calls.parts.PartsAnswer.{PartsAnswer}
-use Rattle.tt_app_answers.specs.declared.fault.AppFault.{AppFault}
-use Rattle.tt_app_answers.specs.declared.fault.AppFault.TheVariants as fault
 
 -- Each proof spells a right proof, no two of them claim the same target, and the line has the sum, which holds for every feasible timetable.
 pub record IsParted (instance : List ℕ) (a : PartsAnswer) : Type 0 where
@@ -20,9 +17,3 @@ pub record IsParted (instance : List ℕ) (a : PartsAnswer) : Type 0 where
   pub sum : IsSum problem (texts_of a.proofs.items) bound
   pub holds : HoldsOfAll problem bound
   pub text : a.out.items ≡ parts_line bound (length a.proofs.items)
-
--- a refusal reports the instance's error
-abbrev pub IsPartsRefusal : List ℕ → AppFault → Type 0
-IsPartsRefusal i (fault.Instance f) = instance_of i ≡ Err f
-IsPartsRefusal i fault.OutOfMemory = ⊤
-IsPartsRefusal i _ = ⊥

@@ -9,7 +9,7 @@ use Rattle.tt_leaf_data.specs.declared.leaf.Bound.{Bound}
 use Rattle.tt_proof_read.specs.declared.node.Node.{Node}
 use Rattle.tt_proof_text.specs.Within.{FitsFile, IsNodeIn}
 use Rattle.tt_proof_text.specs.Written.{proof_text}
-use Rattle.tt_branch.specs.Outcomes.{IsOutcome}
+use Rattle.tt_branch.specs.Outcomes.{IsOutcomeUntil}
 use Rattle.tt_app_answers.specs.Lines.{solve_line}
 use Rattle.tt_app_answers.specs.declared.answer.Answer.{Answer}
 use Rattle.tt_app_answers.specs.declared.fault.AppFault.{AppFault}
@@ -30,12 +30,6 @@ pub record IsOverLong (b : Bound) (nodes : List Node) : Type 0 where
   pub version : ℕ
   pub large : ¬ FitsFile version b nodes
 
--- The text of the proof is not written if it is too long or memory runs out.
-abbrev pub IsTextRefusal : Bound → List Node → AppFault → Type 0
-IsTextRefusal b nodes fault.ProofTooLarge = IsOverLong b nodes
-IsTextRefusal b nodes fault.OutOfMemory = ⊤
-IsTextRefusal b nodes _ = ⊥
-
 -- the line of a search, its status, and its files: the file of the best timetable, if there is one, and the file of the proof
 pub record IsSearchAnswer (p : Problem) (best : Option (List Cell)) (b : Bound) (nodes : List Node) (finished : Bool) (a : Answer) : Type 0 where
   pub text : a.out.items ≡ solve_line p best b finished
@@ -43,31 +37,32 @@ pub record IsSearchAnswer (p : Problem) (best : Option (List Cell)) (b : Bound) 
   pub table : option_map (λ v. v.items) a.table ≡ option_map (solution_text p) best
   pub proof : IsSomeAnd a.proof (λ v. IsProofFile b nodes v.items)
 
--- the answer is that of a search on the spelled instance
-pub record IsSolved (instance : List ℕ) (limit : ℕ) (a : Answer) : Type 0 where
+-- The answer is that of a search on the spelled instance that opens at most this many nodes; it opens all of them, unless each is closed before
+-- or the search was ended.
+pub record IsSolved (instance : List ℕ) (limit : ℕ) (ended : Type 0) (a : Answer) : Type 0 where
   pub problem : Problem
   pub spelled : Spells instance problem
   pub best : Option (List Cell)
   pub bound : Bound
   pub nodes : List Node
   pub finished : Bool
-  pub outcome : IsOutcome problem limit best bound (Some nodes) finished
+  pub outcome : IsOutcomeUntil problem limit ended best bound nodes finished
   pub answer : IsSearchAnswer problem best bound nodes finished a
 
 -- the proof of such a search is larger than a file may be
-pub record IsTooLarge (instance : List ℕ) (limit : ℕ) : Type 0 where
+pub record IsTooLarge (instance : List ℕ) (limit : ℕ) (ended : Type 0) : Type 0 where
   pub problem : Problem
   pub spelled : Spells instance problem
   pub best : Option (List Cell)
   pub bound : Bound
   pub nodes : List Node
   pub finished : Bool
-  pub outcome : IsOutcome problem limit best bound (Some nodes) finished
+  pub outcome : IsOutcomeUntil problem limit ended best bound nodes finished
   pub large : IsOverLong bound nodes
 
 -- a refusal reports the instance's error, or that the proof is too large
-abbrev pub IsSolveRefusal : List ℕ → ℕ → AppFault → Type 0
-IsSolveRefusal i limit (fault.Instance f) = instance_of i ≡ Err f
-IsSolveRefusal i limit fault.ProofTooLarge = IsTooLarge i limit
-IsSolveRefusal i limit fault.OutOfMemory = ⊤
-IsSolveRefusal i limit _ = ⊥
+abbrev pub IsSolveRefusal : List ℕ → ℕ → Type 0 → AppFault → Type 0
+IsSolveRefusal i limit ended (fault.Instance f) = instance_of i ≡ Err f
+IsSolveRefusal i limit ended fault.ProofTooLarge = IsTooLarge i limit ended
+IsSolveRefusal i limit ended fault.OutOfMemory = ⊤
+IsSolveRefusal i limit ended _ = ⊥

@@ -3,8 +3,8 @@
 
 mod calls;
 
-pub use calls::best::{BestAnswer, best_watched};
-pub use calls::improve::{complete_and_improve, improve, improve_in_runs};
-pub use calls::parts::{PartsAnswer, guided_parts_watched, parts, parts_watched};
-pub use calls::solve::{solve, solve_watched};
-pub use tt_best::Rounds;
+pub use calls::best::{BestAnswer, BestSearch, WatchBest, best};
+pub use calls::improve::{ImproveSearch, improve};
+pub use calls::parts::{PartsAnswer, parts};
+pub use calls::solve::{TreeEffort, solve};
+pub use tt_parts::Effort;

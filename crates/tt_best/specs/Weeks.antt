@@ -1,11 +1,22 @@
 -- The result of a search for a best timetable.
+use Rattle.std.specs.Prelude.{List, Option, IfSome}
 use Rattle.tt_instance_data.specs.Problem.{Problem}
+use Rattle.tt_instance_data.specs.declared.cell.Cell.{Cell}
 use Rattle.tt_table.specs.Table.{IsTimetable}
+use Rattle.tt_moves.specs.Changes.{IsBelow}
 use Rattle.tt_parts.specs.Found.{AreFound}
-use Rattle.tt_best.specs.declared.searching.Week.{Week}
+use Rattle.tt_best.specs.declared.week.Week.{Week}
 
 -- The entries are a timetable of the instance. Each proof spells a part that is right, no target is claimed by two of them, and their sum holds for
 -- every feasible timetable.
 pub record IsWeek (p : Problem) (w : Week) : Type 0 where
   pub table : IsTimetable p w.table
   pub parts : AreFound p w.parts
+
+-- The first timetable's hard count and cost are not below the second's: it breaks more hard rules, or as many and costs at least as much.
+abbrev pub IsNoHigher : Problem → List Cell → List Cell → Type 0
+IsNoHigher p t u = IsBelow p t u → ⊥
+
+-- If a timetable is given, the other one is no worse: it breaks fewer hard rules, or as many and costs at most as much.
+abbrev pub IsNoWorseThan : Problem → Option (List Cell) → List Cell → Type 0
+IsNoWorseThan p given t = IfSome given (λ g. IsNoHigher p g t)

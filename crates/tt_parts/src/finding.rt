@@ -1,6 +1,7 @@
 //! Searching for proofs over disjoint targets.
 
 ghost use Rattle.std.specs.Prelude.{IfOk, IfSome};
+ghost use Rattle.tt_instance_data.specs.Problem.{Problem};
 ghost use Rattle.tt_parts.specs.Found.{AreFound};
 
 use crate::rooms::find_rooms;
@@ -8,8 +9,8 @@ use crate::together::sum_of;
 use std::alloc::{AllocError, Global};
 use tt_instance_data::Instance;
 use tt_leaf_data::Bound;
-use tt_parts_groups::{find_groups, write_groups};
-use tt_search_watch::{Unwatched, Watch};
+use tt_parts_groups::{GroupSearch, KnownProof, find_groups, write_all};
+use tt_search_watch::Watch;
 use tt_table::Entry;
 
 /// The number of relaxations that the search for groups may do for each node allowed.
@@ -30,6 +31,18 @@ pub struct Parts {
     pub bound: Bound,
 }
 
+impl Parts {
+    /// Returns no proofs, whose bound is 0.
+    pub fn none(alloc: Global) -> Parts
+        ensures { (p : Problem) → AreFound p result }
+    {
+        Parts {
+            proofs: Vec::new(alloc),
+            bound: Bound::AtLeast(0),
+        }
+    }
+}
+
 /// Returns proofs with the sum of their bounds, if each is right and no two claim the same target.
 pub fn add_up(
     alloc: Global,
@@ -44,22 +57,6 @@ pub fn add_up(
     Ok(Some(Parts { proofs, bound }))
 }
 
-/// Returns the text of the groups that were found, if any were.
-fn groups_text<W: Watch>(
-    alloc: Global,
-    instance: &Instance<'_>,
-    effort: Effort,
-    guide: &[Entry],
-    watch: &mut W,
-) -> Result<Option<Vec<u8>>, AllocError> {
-    let relaxations = u64::from(effort.nodes).saturating_mul(RELAXATIONS_OF_NODE);
-    let claims = find_groups(alloc, instance, relaxations, effort.seed, guide, watch)?;
-    if claims.is_empty() {
-        return Ok(None);
-    }
-    Ok(Some(write_groups(alloc, claims.as_slice())?))
-}
-
 /// Returns the texts of all proofs.
 fn find_texts<W: Watch>(
     alloc: Global,
@@ -68,46 +65,37 @@ fn find_texts<W: Watch>(
     guide: &[Entry],
     watch: &mut W,
 ) -> Result<Vec<Vec<u8>>, AllocError> {
-    let mut texts = Vec::new(alloc);
-    if let Some(groups) = groups_text(alloc, instance, effort, guide, watch)? {
-        texts.push(groups)?;
-    }
-    if let Some(rooms) = find_rooms(alloc, instance)? {
-        texts.push(rooms)?;
-    }
-    Ok(texts)
+    let rooms = find_rooms(alloc, instance)?;
+    let known = rooms.as_ref().map(|rooms| KnownProof {
+        text: &rooms.text,
+        points: rooms.points,
+    });
+    let search = GroupSearch {
+        effort: u64::from(effort.nodes).saturating_mul(RELAXATIONS_OF_NODE),
+        seed: effort.seed,
+        guide,
+        known,
+    };
+    let claims = find_groups(alloc, instance, search, watch)?;
+    write_all(alloc, &claims, known)
 }
 
-/// Searches for proofs like `find_parts`. The entries are those of a known timetable, or none: a group is not tried if its value would have to
-/// be above its cost in that timetable. The watch sees the search.
-pub fn find_parts_watched<W: Watch>(
+/// Searches for proofs that claim distinct targets: claims about groups, and one tree of a leaf about the seats of rooms. The entries are those
+/// of a known timetable, or none: a group is not tried if its value would have to be above its cost in that timetable. The watch may end the
+/// search, and take proofs on the way. It makes no promise about how much it finds and how long it takes.
+pub fn find_parts<W: Watch>(
     alloc: Global,
     instance: &Instance<'_>,
     effort: Effort,
     guide: &[Entry],
     watch: &mut W,
 ) -> Result<Parts, AllocError>
-    ensures { IfOk result (AreFound instance.now) }
-{
-    let proofs = find_texts(alloc, instance, effort, guide, watch)?;
-    if let Some(parts) = add_up(alloc, instance, proofs)? {
-        return Ok(parts);
-    }
-    Ok(Parts {
-        proofs: Vec::new(alloc),
-        bound: Bound::AtLeast(0),
-    })
-}
-
-/// Searches for proofs that claim distinct targets: claims about groups, and one tree of a leaf about the seats of rooms. It makes no promise
-/// about how much it finds and how long it takes.
-pub fn find_parts(
-    alloc: Global,
-    instance: &Instance<'_>,
-    effort: Effort,
-) -> Result<Parts, AllocError>
     // Each proof is a right file of its kind, no target is claimed by two, and the bound is the sum, which holds for every feasible timetable.
     ensures { IfOk result (AreFound instance.now) }
 {
-    find_parts_watched(alloc, instance, effort, &[], &mut Unwatched)
+    let proofs = find_texts(alloc, instance, effort, guide, watch)?;
+    match add_up(alloc, instance, proofs)? {
+        Some(parts) => Ok(parts),
+        None => Ok(Parts::none(alloc)),
+    }
 }

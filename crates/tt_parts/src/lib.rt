@@ -5,4 +5,5 @@ mod finding;
 mod rooms;
 mod together;
 
-pub use finding::{Effort, Parts, add_up, find_parts, find_parts_watched};
+pub use finding::{Effort, Parts, add_up, find_parts};
+pub use together::copy_texts;

@@ -44,20 +44,31 @@ fn seats_of<'i, P: Path<'i>>(
     Ok(seats)
 }
 
-/// Returns the text of a proof of one leaf, which prices the seats that the rooms lack; `None` if its value would be 0.
-pub fn find_rooms(alloc: Global, instance: &Instance<'_>) -> Result<Option<Vec<u8>>, AllocError> {
+/// The text of a proof about the seats that the rooms lack, and its bound in cost points.
+#[derive(Drop)]
+pub struct RoomsProof {
+    pub text: Vec<u8>,
+    pub points: u64,
+}
+
+/// Returns a proof of one leaf, which prices the seats that the rooms lack; `None` if its value would be 0.
+pub fn find_rooms(
+    alloc: Global,
+    instance: &Instance<'_>,
+) -> Result<Option<RoomsProof>, AllocError> {
     let path = TrailPath::new(alloc, instance)?;
     let Leaf::Cost(claims) = best_claims(alloc, &path)? else {
         return Ok(None);
     };
     let seats = seats_of(alloc, &path, claims.into_vec())?;
-    if seats.points == 0 {
+    let points = seats.points;
+    if points == 0 {
         return Ok(None);
     }
-    let bound = Bound::AtLeast(seats.points);
+    let bound = Bound::AtLeast(points);
     let leaf = Node::Leaf(Leaf::Cost(ClaimList::new(seats.list)));
     match write_proof(alloc, VERSION, bound, &[leaf]) {
-        Ok(text) => Ok(Some(text)),
+        Ok(text) => Ok(Some(RoomsProof { text, points })),
         Err(WriteFault::OutOfMemory) => Err(AllocError),
         Err(_) => Ok(None),
     }

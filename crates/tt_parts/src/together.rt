@@ -1,6 +1,6 @@
 //! Checking proofs together.
 
-ghost use Rattle.std.specs.Prelude.{IfOk, IfSome};
+ghost use Rattle.std.specs.Prelude.{◌≡◌, IfOk, IfSome};
 ghost use Rattle.tt_proof_check.specs.Derives.{HoldsOfAll};
 ghost use Rattle.tt_proof_sum.specs.Sums.{IsSum};
 ghost use Rattle.tt_parts.specs.Found.{texts_of};
@@ -14,6 +14,17 @@ use tt_text_peek::Peeked;
 
 /// The number of bytes of a proof that are read at once.
 const PIECE: usize = 4_096;
+
+/// Returns copies of texts.
+pub fn copy_texts(alloc: Global, texts: &[Vec<u8>]) -> Result<Vec<Vec<u8>>, AllocError>
+    ensures { IfOk result (λ copies. texts_of copies.items ≡ texts_of texts.now) }
+{
+    let mut copies = Vec::new(alloc);
+    for text in texts {
+        copies.push(Vec::from_slice(alloc, text)?)?;
+    }
+    Ok(copies)
+}
 
 /// Returns the sum of the bounds of proofs, if each is right and no two claim the same target.
 pub fn sum_of(

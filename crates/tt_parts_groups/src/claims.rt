@@ -20,17 +20,19 @@ fn are_below(numbers: &[u32], count: u32) -> bool
 fn claim_of(
     alloc: Global,
     instance: &Instance<'_>,
-    draft: Draft,
+    draft: &Draft,
     work: &mut Work,
 ) -> Result<Option<GroupClaim>, AllocError> {
     let value = draft.value;
-    if !are_below(&draft.curricula, instance.curricula()) {
+    let curricula = Vec::from_slice(alloc, &draft.curricula)?;
+    if !are_below(&curricula, instance.curricula()) {
         return Ok(None);
     }
-    if !are_below(&draft.courses, instance.courses()) {
+    let courses = Vec::from_slice(alloc, &draft.courses)?;
+    if !are_below(&courses, instance.courses()) {
         return Ok(None);
     }
-    let group = Group::new(draft.curricula, draft.courses);
+    let group = Group::new(curricula, courses);
     match check_group(alloc, instance, &group, value, work) {
         Ok(()) => Ok(Some(GroupClaim { value, group })),
         Err(GroupFault::OutOfMemory) => Err(AllocError),
@@ -42,7 +44,7 @@ fn claim_of(
 pub fn claims_of(
     alloc: Global,
     instance: &Instance<'_>,
-    drafts: Vec<Draft>,
+    drafts: &[Draft],
 ) -> Result<Vec<GroupClaim>, AllocError> {
     let mut claims = Vec::new(alloc);
     let mut work = Work::new();

@@ -7,10 +7,11 @@ use crate::order::shuffle;
 use rand_pcg::Pcg32;
 use std::alloc::AllocError;
 use tt_parts_least::courses_of;
+use tt_search_watch::Watch;
 
 /// Removes the courses without which a draft has the same value.
-fn leave_courses(
-    values: &mut GroupValues<'_, '_>,
+fn leave_courses<W: Watch>(
+    values: &mut GroupValues<'_, '_, W>,
     draft: &mut Draft,
     rng: &mut Pcg32,
 ) -> Result<(), AllocError> {
@@ -26,8 +27,8 @@ fn leave_courses(
 }
 
 /// Removes the curricula without which a draft has the same value.
-fn leave_curricula(
-    values: &mut GroupValues<'_, '_>,
+fn leave_curricula<W: Watch>(
+    values: &mut GroupValues<'_, '_, W>,
     draft: &mut Draft,
     rng: &mut Pcg32,
 ) -> Result<(), AllocError> {
@@ -43,7 +44,10 @@ fn leave_curricula(
 }
 
 /// Updates the data of a draft after some of its targets were removed.
-fn recount(values: &GroupValues<'_, '_>, draft: &mut Draft) -> Result<(), AllocError> {
+fn recount<W: Watch>(
+    values: &GroupValues<'_, '_, W>,
+    draft: &mut Draft,
+) -> Result<(), AllocError> {
     let (alloc, instance) = (values.alloc, values.instance);
     draft.concerned = courses_of(alloc, instance, &draft.curricula, &draft.courses)?;
     if let Some(states) = values.states_of(&draft.curricula, &draft.courses)? {
@@ -53,8 +57,8 @@ fn recount(values: &GroupValues<'_, '_>, draft: &mut Draft) -> Result<(), AllocE
 }
 
 /// Removes the courses without which a draft has the same value, and takes its other targets.
-pub fn reduce_courses(
-    values: &mut GroupValues<'_, '_>,
+pub fn reduce_courses<W: Watch>(
+    values: &mut GroupValues<'_, '_, W>,
     free: &mut Free,
     draft: &mut Draft,
     rng: &mut Pcg32,
@@ -67,8 +71,8 @@ pub fn reduce_courses(
 }
 
 /// Removes all targets without which a draft has the same value, and takes the others.
-pub fn reduce(
-    values: &mut GroupValues<'_, '_>,
+pub fn reduce<W: Watch>(
+    values: &mut GroupValues<'_, '_, W>,
     free: &mut Free,
     draft: &mut Draft,
     rng: &mut Pcg32,
@@ -78,7 +82,7 @@ pub fn reduce(
         leave_courses(values, draft, rng)?;
         leave_curricula(values, draft, rng)?;
         recount(values, draft)?;
-        draft.is_core = values.work > 0;
+        draft.is_core = !values.work.is_used_up();
     }
     free.take(draft);
     Ok(())

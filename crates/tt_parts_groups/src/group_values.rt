@@ -5,21 +5,34 @@ use crate::guide::Guide;
 use std::alloc::{AllocError, Global};
 use std::collections::HashMap;
 use tt_instance_data::Instance;
-use tt_parts_least::{Aim, Layout, Least, courses_of, least_cost};
+use tt_parts_least::{Aim, Allowance, Layout, Least, courses_of, least_cost};
+use tt_search_watch::Watch;
 
 /// The maximum amount of work for one group at once.
 const GROUP_WORK: u64 = 2_147_483_648;
 
 /// Computes the values of groups, within the work that is left.
-#[derive(Drop)]
-pub struct GroupValues<'s, 'i> {
+pub struct GroupValues<'s, 'i, W: Watch> {
     pub alloc: Global,
     pub instance: &'s Instance<'i>,
     pub guide: Guide,
     /// The maximum number of states of a group.
     pub states: u32,
-    pub work: u64,
+    pub work: Allowance<'s, W>,
     known: HashMap<u64, Option<Least>>,
+}
+
+impl<'s, 'i, W: Watch> Drop for GroupValues<'s, 'i, W> {
+    fn drop(self) {
+        let GroupValues {
+            alloc: _,
+            instance: _,
+            guide: _,
+            states: _,
+            work: _,
+            known: _,
+        } = self;
+    }
 }
 
 /// Returns a word for a number, spread over all its bits.
@@ -42,14 +55,14 @@ fn word_of(curricula: &[u32], courses: &[u32]) -> u64 {
     word
 }
 
-impl<'s, 'i> GroupValues<'s, 'i> {
+impl<'s, 'i, W: Watch> GroupValues<'s, 'i, W> {
     /// Returns group values, none of which is known.
     pub fn new(
         alloc: Global,
         instance: &'s Instance<'i>,
         guide: Guide,
-        work: u64,
-    ) -> GroupValues<'s, 'i> {
+        work: Allowance<'s, W>,
+    ) -> GroupValues<'s, 'i, W> {
         GroupValues {
             alloc,
             instance,
@@ -93,18 +106,19 @@ impl<'s, 'i> GroupValues<'s, 'i> {
         if most <= enough {
             return Ok(Some(most));
         }
+        if self.work.is_ended() {
+            return Ok(None);
+        }
+        self.work.begin_group(GROUP_WORK);
         let aim = Aim { enough, most };
-        let given = self.work.min(GROUP_WORK);
-        let mut left = given;
         let least = least_cost(
             self.alloc,
             self.instance,
             curricula,
             courses,
             aim,
-            &mut left,
+            &mut self.work,
         )?;
-        self.work = self.work.saturating_sub(given.saturating_sub(left));
         self.known.insert(word, least)?;
         Ok(least.map(|least| least.cost))
     }

@@ -6,11 +6,12 @@ use crate::group_values::GroupValues;
 use std::alloc::{AllocError, Global};
 use tt_instance_data::Instance;
 use tt_parts_least::{courses_of, lectures_of, members_of};
+use tt_search_watch::Watch;
 
 /// The maximum number of curricula of a group.
 const CURRICULA: usize = 64;
 
-/// The smallest minimum number of days of a course whose days are a target.
+/// The smallest minimum number of days of a course whose days can cost anything.
 const DAYS: u32 = 2;
 
 /// The distance of a curriculum that adds nothing and shares nothing.
@@ -91,12 +92,14 @@ fn slack_of(instance: &Instance<'_>, course: u32) -> u32 {
 
 /// Checks whether the days of a course can cost anything.
 fn has_days(instance: &Instance<'_>, course: u32) -> bool {
-    course < instance.courses() && instance.min_days(course) > 1 && instance.lectures(course) > 0
+    course < instance.courses()
+        && DAYS <= instance.min_days(course)
+        && instance.lectures(course) > 0
 }
 
 /// Returns the free courses among some whose days can cost anything, those with the least slack first.
-fn free_days(
-    values: &GroupValues<'_, '_>,
+fn free_days<W: Watch>(
+    values: &GroupValues<'_, '_, W>,
     free: &Free,
     courses: &[u32],
 ) -> Result<Vec<u32>, AllocError> {
@@ -112,8 +115,8 @@ fn free_days(
 }
 
 /// Returns the curricula of a group around a seed, as many as the states allow.
-fn grown_curricula(
-    values: &GroupValues<'_, '_>,
+fn grown_curricula<W: Watch>(
+    values: &GroupValues<'_, '_, W>,
     free: &Free,
     seed: u32,
     among: &[u32],
@@ -142,8 +145,8 @@ fn grown_curricula(
 }
 
 /// Returns a draft of these curricula with the days of its own courses and as many free ones as the states allow.
-pub fn with_days(
-    values: &mut GroupValues<'_, '_>,
+pub fn with_days<W: Watch>(
+    values: &mut GroupValues<'_, '_, W>,
     free: &Free,
     curricula: &[u32],
     own: &[u32],
@@ -156,7 +159,7 @@ pub fn with_days(
         if let Some(draft) = values.draft(curricula, all, enough)? {
             return Ok(Some(draft));
         }
-        if values.work == 0 {
+        if values.work.is_used_up() {
             break;
         }
         let _ = days.pop();
@@ -175,8 +178,8 @@ fn rarest(instance: &Instance<'_>, courses: &[u32], curricula: &[u32]) -> Option
 }
 
 /// Returns a draft grown from a seed. If it is too much work, the rarest courses are left out.
-pub fn grow(
-    values: &mut GroupValues<'_, '_>,
+pub fn grow<W: Watch>(
+    values: &mut GroupValues<'_, '_, W>,
     free: &Free,
     seed: u32,
     among: &[u32],

@@ -14,5 +14,5 @@ mod order;
 mod packing;
 mod writing;
 
-pub use finding::find_groups;
-pub use writing::write_groups;
+pub use finding::{GroupSearch, find_groups};
+pub use writing::{KnownProof, write_all, write_groups};

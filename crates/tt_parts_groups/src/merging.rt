@@ -9,6 +9,7 @@ use crate::group_values::GroupValues;
 use crate::growing::with_days;
 use rand_pcg::Pcg32;
 use std::alloc::{AllocError, Global};
+use tt_search_watch::Watch;
 
 /// Two drafts by their indices, and their merger, if it has a higher value. The pair of a draft with itself takes free days.
 #[derive(Drop)]
@@ -61,8 +62,8 @@ pub fn pairs_of(alloc: Global, drafts: &[Draft]) -> Result<Vec<Pair>, AllocError
 }
 
 /// Computes the merger of two drafts.
-fn try_pair(
-    values: &mut GroupValues<'_, '_>,
+fn try_pair<W: Watch>(
+    values: &mut GroupValues<'_, '_, W>,
     free: &Free,
     drafts: &[Draft],
     pair: &mut Pair,
@@ -130,15 +131,18 @@ fn renew(
     Ok(())
 }
 
-/// Merges the best pair of drafts. Returns `false` if no pair gains anything.
-pub fn merge_best(
-    values: &mut GroupValues<'_, '_>,
+/// Merges the best pair of drafts among those that are tried before the search is ended. Returns `false` if no pair gains anything.
+pub fn merge_best<W: Watch>(
+    values: &mut GroupValues<'_, '_, W>,
     free: &mut Free,
     drafts: &mut Vec<Draft>,
     pairs: &mut Vec<Pair>,
     rng: &mut Pcg32,
 ) -> Result<bool, AllocError> {
     for pair in pairs.iter_mut() {
+        if values.work.is_ended() {
+            break;
+        }
         if !pair.is_tried {
             try_pair(values, free, drafts, pair)?;
         }

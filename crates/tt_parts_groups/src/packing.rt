@@ -9,6 +9,7 @@ use crate::group_values::GroupValues;
 use crate::growing::grow;
 use rand_pcg::Pcg32;
 use std::alloc::{AllocError, Global};
+use tt_search_watch::Watch;
 
 /// A curriculum that a group can grow from, and the group once it has grown.
 #[derive(Drop)]
@@ -35,14 +36,17 @@ fn best_of(seeds: &[Seed]) -> Option<usize>
     found
 }
 
-/// Grows a group from each seed that has none.
-fn grow_all(
-    values: &mut GroupValues<'_, '_>,
+/// Grows a group from each seed that has none, until the search is ended.
+fn grow_all<W: Watch>(
+    values: &mut GroupValues<'_, '_, W>,
     free: &Free,
     seeds: &mut [Seed],
 ) -> Result<(), AllocError> {
     let among = free.curricula(values.alloc)?;
     for seed in seeds {
+        if values.work.is_ended() {
+            break;
+        }
         if !seed.is_grown {
             seed.grown = grow(values, free, seed.curriculum, &among)?;
             seed.is_grown = true;
@@ -81,8 +85,8 @@ pub fn seeds_of(alloc: Global, free: &Free) -> Result<Vec<Seed>, AllocError> {
 
 /// Returns the group of free targets with the highest value among those that have grown, without the targets that it doesn't need. Returns
 /// `None` if no value is above 0.
-pub fn pack_best(
-    values: &mut GroupValues<'_, '_>,
+pub fn pack_best<W: Watch>(
+    values: &mut GroupValues<'_, '_, W>,
     free: &mut Free,
     seeds: &mut Vec<Seed>,
     rng: &mut Pcg32,

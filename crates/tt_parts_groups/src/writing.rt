@@ -4,8 +4,15 @@ use std::alloc::{AllocError, Global};
 use tt_groups_read::GroupClaim;
 use tt_text::{put_line_end, put_next_number, put_next_token, put_number, put_token};
 
+/// The text of a proof, and its bound in cost points.
+#[derive(Clone, Copy)]
+pub struct KnownProof<'a> {
+    pub text: &'a [u8],
+    pub points: u64,
+}
+
 /// Returns the sum of the values.
-fn bound_of(claims: &[GroupClaim]) -> u64 {
+pub fn bound_of(claims: &[GroupClaim]) -> u64 {
     let mut bound: u64 = 0;
     for claim in claims {
         bound = bound.saturating_add(claim.value);
@@ -47,4 +54,20 @@ pub fn write_groups(alloc: Global, claims: &[GroupClaim]) -> Result<Vec<u8>, All
     put_token(&mut out, b"end")?;
     put_line_end(&mut out)?;
     Ok(out)
+}
+
+/// Returns the texts of proofs: a CTTG file with these claims, if there are any, and then the known proof.
+pub fn write_all(
+    alloc: Global,
+    claims: &[GroupClaim],
+    known: Option<KnownProof<'_>>,
+) -> Result<Vec<Vec<u8>>, AllocError> {
+    let mut texts = Vec::new(alloc);
+    if !claims.is_empty() {
+        texts.push(write_groups(alloc, claims)?)?;
+    }
+    if let Some(proof) = known {
+        texts.push(Vec::from_slice(alloc, proof.text)?)?;
+    }
+    Ok(texts)
 }

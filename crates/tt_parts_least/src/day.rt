@@ -1,8 +1,10 @@
 //! A lower bound of a day's cost, by its lectures.
 
+use crate::allowance::Allowance;
 use crate::layout::{LECTURE_PRICE, Layout};
 use crate::sets::Set;
 use std::alloc::{AllocError, Global};
+use tt_search_watch::Watch;
 
 /// The cost of a single period, in cost points.
 const SINGLE_PRICE: u32 = 2;
@@ -103,21 +105,20 @@ impl Table {
         Ok(())
     }
 
-    /// Enters all days that begin like a morning. The work that is left goes down with each set that is tried; returns `false` if none is left.
-    fn enter_days(
+    /// Enters all days that begin like a morning. Each set that is tried uses up some of the work; returns `false` if it is used up.
+    fn enter_days<W: Watch>(
         &mut self,
         layout: &Layout,
         limit: u32,
         periods: &[Vec<Set>],
         morning: &Morning,
-        work: &mut u64,
+        work: &mut Allowance<'_, W>,
     ) -> Result<bool, AllocError> {
         let Some((sets, later)) = periods.split_first() else {
             self.enter(limit, morning)?;
             return Ok(true);
         };
-        *work = work.saturating_sub(sets.len() as u64);
-        if *work == 0 {
+        if !work.spend(sets.len() as u64) {
             return Ok(false);
         }
         for set in sets {
@@ -131,12 +132,12 @@ impl Table {
     }
 
     /// Returns the table of a day whose periods can have these sets, or `None` if the work is used up.
-    pub fn new(
+    pub fn new<W: Watch>(
         alloc: Global,
         layout: &Layout,
         limit: u32,
         periods: &[Vec<Set>],
-        work: &mut u64,
+        work: &mut Allowance<'_, W>,
     ) -> Result<Option<Table>, AllocError> {
         let mut table = Table {
             vectors: Vec::new(alloc),

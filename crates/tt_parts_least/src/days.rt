@@ -1,10 +1,12 @@
 //! The tables of all days of a week.
 
+use crate::allowance::Allowance;
 use crate::day::Table;
 use crate::layout::Layout;
 use crate::sets::Set;
 use std::alloc::{AllocError, Global};
 use tt_instance_data::Instance;
+use tt_search_watch::Watch;
 
 /// Tables, and the number of the table that each day has.
 #[derive(Drop)]
@@ -50,13 +52,13 @@ fn sets_in(alloc: Global, open: &[u32], sets: &[Set]) -> Result<Vec<Vec<Set>>, A
 
 /// Returns the tables of all days, with the days that cost less than a limit; days with the same availability share a table. Returns `None`
 /// if the work is used up.
-pub fn days_of(
+pub fn days_of<W: Watch>(
     alloc: Global,
     instance: &Instance<'_>,
     layout: &Layout,
     sets: &[Set],
     limit: u32,
-    work: &mut u64,
+    work: &mut Allowance<'_, W>,
 ) -> Result<Option<Days>, AllocError> {
     let mut days = Days {
         tables: Vec::new(alloc),

@@ -1,9 +1,11 @@
 //! The fold of the days into a week.
 
+use crate::allowance::Allowance;
 use crate::day::{NONE, Table, Vector};
 use crate::days::Days;
 use crate::layout::{LECTURE_PRICE, Layout};
 use std::alloc::{AllocError, Global};
+use tt_search_watch::Watch;
 
 /// The maximum number of digits of further lectures.
 const DIGITS: usize = 16;
@@ -197,17 +199,16 @@ impl Fold<'_> {
     }
 
     /// Reaches the states that a day leads to. Returns `false` if the work is used up.
-    fn pass(
+    fn pass<W: Watch>(
         &self,
         vectors: &[Vector],
         front: &Front,
         next: &mut Front,
-        work: &mut u64,
+        work: &mut Allowance<'_, W>,
     ) -> Result<bool, AllocError> {
         for state in &front.states {
             let tried = self.extend(vectors, state, front.paid_at(state), next)?;
-            *work = work.saturating_sub(tried as u64);
-            if *work == 0 {
+            if !work.spend(tried as u64) {
                 return Ok(false);
             }
         }
@@ -238,7 +239,11 @@ impl Fold<'_> {
 
     /// Returns the lowest cost of a week beyond the base cost, among the weeks that the fold visits, if it is below the limit; else the limit.
     /// Returns `None` if the work is used up.
-    pub fn run(&self, alloc: Global, work: &mut u64) -> Result<Option<u32>, AllocError> {
+    pub fn run<W: Watch>(
+        &self,
+        alloc: Global,
+        work: &mut Allowance<'_, W>,
+    ) -> Result<Option<u32>, AllocError> {
         let mut front = Front::empty(alloc, self.layout)?;
         let mut next = Front::empty(alloc, self.layout)?;
         let start = State {

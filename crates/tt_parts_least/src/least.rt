@@ -1,11 +1,13 @@
 //! The lowest cost of a group.
 
+use crate::allowance::Allowance;
 use crate::days::{Days, days_of};
 use crate::fold::{Fold, Width};
 use crate::layout::Layout;
 use crate::sets::{Set, sets_of};
 use std::alloc::{AllocError, Global};
 use tt_instance_data::Instance;
+use tt_search_watch::Watch;
 
 /// The maximum distance of a group's value above its base cost.
 const VALUE: u32 = 127;
@@ -45,7 +47,12 @@ struct Ready<'s, 'i> {
 
 impl Ready<'_, '_> {
     /// Returns the lowest cost that a narrow fold finds below the limit; else the limit.
-    fn narrow(&self, days: &Days, limit: u32, work: &mut u64) -> Result<Option<u32>, AllocError> {
+    fn narrow<W: Watch>(
+        &self,
+        days: &Days,
+        limit: u32,
+        work: &mut Allowance<'_, W>,
+    ) -> Result<Option<u32>, AllocError> {
         for states in WIDTHS {
             let fold = Fold {
                 layout: self.layout,
@@ -65,7 +72,11 @@ impl Ready<'_, '_> {
     }
 
     /// Returns the lowest cost beyond the base cost, if it is below the limit; else the limit. A cost that is enough may be too high.
-    fn least(&self, limit: u32, work: &mut u64) -> Result<Option<u32>, AllocError> {
+    fn least<W: Watch>(
+        &self,
+        limit: u32,
+        work: &mut Allowance<'_, W>,
+    ) -> Result<Option<u32>, AllocError> {
         let days = days_of(
             self.alloc,
             self.instance,
@@ -97,15 +108,15 @@ fn beyond(points: u64, base: u64) -> u32 {
     (beyond % 256) as u32
 }
 
-/// Returns the lowest cost of a group. The work that is left goes down with each step: a set that is tried in a period of a day, or a day that
-/// is tried from a state of the week. Returns `None` if the group is too large, or the work is used up.
-pub fn least_cost(
+/// Returns the lowest cost of a group. Each step uses up some of the work: a set that is tried in a period of a day, or a day that is tried from
+/// a state of the week. Returns `None` if the group is too large, or the work is used up.
+pub fn least_cost<W: Watch>(
     alloc: Global,
     instance: &Instance<'_>,
     curricula: &[u32],
     courses: &[u32],
     aim: Aim,
-    work: &mut u64,
+    work: &mut Allowance<'_, W>,
 ) -> Result<Option<Least>, AllocError> {
     let Some(layout) = Layout::new(alloc, instance, curricula, courses)? else {
         return Ok(None);

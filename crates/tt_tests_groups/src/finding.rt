@@ -5,7 +5,7 @@ use std::test::Fail;
 use tt_groups_read::GroupReader;
 use tt_instance::read_instance;
 use tt_instance_data::Instance;
-use tt_parts_groups::{find_groups, write_groups};
+use tt_parts_groups::{GroupSearch, find_groups, write_groups};
 use tt_search_watch::Unwatched;
 use tt_table::Entry;
 use tt_text::Pieces;
@@ -30,7 +30,13 @@ fn found(
     effort: u64,
     guide: &[Entry],
 ) -> Result<Vec<u8>, Fail> {
-    let claims = find_groups(alloc, instance, effort, 1, guide, &mut Unwatched)?;
+    let search = GroupSearch {
+        effort,
+        seed: 1,
+        guide,
+        known: None,
+    };
+    let claims = find_groups(alloc, instance, search, &mut Unwatched)?;
     Ok(write_groups(alloc, claims.as_slice())?)
 }
 

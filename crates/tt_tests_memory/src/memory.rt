@@ -3,7 +3,10 @@
 
 use std::alloc::{AllocError, Global};
 use std::test::Fail;
-use tt_app::{Answer, PageNames, check, improve, page, report, solve, upgrade, validate};
+use tt_app::{
+    Answer, ImproveSearch, PageNames, TreeEffort, check, improve, page, report, solve, upgrade,
+    validate,
+};
 use tt_facts::TrailPath;
 use tt_facts_path::{Pattern, PlainPath, Who};
 use tt_instance::read_instance;
@@ -286,13 +289,19 @@ fn the_command_upgrade(rt: HostRuntime) -> Result<(), Fail> {
 
 #[test]
 fn the_command_improve(rt: HostRuntime) -> Result<(), Fail> {
+    let search = ImproveSearch {
+        seed: 1,
+        steps: 100,
+        runs: 1,
+        completes: false,
+    };
     println!(rt; "{MARK}")?;
     let answer = improve(
         rt.alloc(),
         MINI.as_bytes(),
         MINI_SOLUTION.as_bytes(),
-        1,
-        100,
+        search,
+        &mut Unwatched,
     );
     println!(rt; "{MARK}")?;
     assert_eq!(rt; text_of(&answer?), b"hard 0 cost 1\n".as_slice());
@@ -301,8 +310,12 @@ fn the_command_improve(rt: HostRuntime) -> Result<(), Fail> {
 
 #[test]
 fn the_command_solve(rt: HostRuntime) -> Result<(), Fail> {
+    let tree = TreeEffort {
+        seed: 1,
+        nodes: 100,
+    };
     println!(rt; "{MARK}")?;
-    let answer = solve(rt.alloc(), GAP.as_bytes(), 1, 100);
+    let answer = solve(rt.alloc(), GAP.as_bytes(), tree, &mut Unwatched);
     println!(rt; "{MARK}")?;
     assert_eq!(rt; text_of(&answer?), b"cost 5 bound 5 finished\n".as_slice());
     Ok(())

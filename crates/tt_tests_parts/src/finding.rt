@@ -4,8 +4,10 @@ use std::alloc::Global;
 use std::test::Fail;
 use tt_instance::read_instance;
 use tt_leaf_data::Bound;
-use tt_parts::{Effort, find_parts};
+use tt_parts::{Effort, add_up, copy_texts, find_parts};
 use tt_proof_sum::sum_proofs;
+use tt_search_watch::{Progress, Unwatched, Watch};
+use tt_table::Entry;
 use tt_tests_samples::{GAP, MINI, WIDE};
 use tt_text::Pieces;
 use tt_text_peek::Peeked;
@@ -22,7 +24,8 @@ const CHAIN: &str =
 
 fn found(alloc: Global, text: &str, nodes: u32) -> Result<(Bound, Vec<Vec<u8>>), Fail> {
     let instance = read_instance(alloc, text.as_bytes())?;
-    let parts = find_parts(alloc, &instance, Effort { nodes, seed: 1 })?;
+    let effort = Effort { nodes, seed: 1 };
+    let parts = find_parts(alloc, &instance, effort, &[], &mut Unwatched)?;
     Ok((parts.bound, parts.proofs))
 }
 
@@ -79,5 +82,82 @@ fn the_texts_add_up(rt: HostRuntime) -> Result<(), Fail> {
         sum_proofs(rt.alloc(), &instance, sources.as_mut_slice()),
         Ok(sum)
     );
+    Ok(())
+}
+
+/// Ends its search after some questions, and takes all proofs.
+#[derive(Drop)]
+struct Taking {
+    alloc: Global,
+    /// The number of questions, whether the search is over, that are still answered by no.
+    patience: u64,
+    taken: Vec<(u64, Vec<Vec<u8>>)>,
+}
+
+impl Watch for Taking {
+    ghost use Rattle.std.specs.Prelude.{⊤};
+
+    ghost has_ended = { λ _. ⊤ };
+
+    fn see(&mut self, _progress: Progress, _best: &[Entry]) {}
+
+    fn is_over(&mut self) -> bool {
+        let is_over = self.patience == 0;
+        self.patience = self.patience.saturating_sub(1);
+        is_over
+    }
+
+    fn is_asking(&mut self, _bound: u64) -> bool {
+        true
+    }
+
+    fn take(&mut self, bound: u64, proofs: &[Vec<u8>]) {
+        if let Ok(texts) = copy_texts(self.alloc, proofs) {
+            let _ = self.taken.push((bound, texts));
+        }
+    }
+}
+
+#[test]
+fn proofs_on_the_way(rt: HostRuntime) -> Result<(), Fail> {
+    let effort = Effort {
+        nodes: 2_000,
+        seed: 1,
+    };
+    for (text, bound) in [(PAIR, 8), (GAP, 5)] {
+        let instance = read_instance(rt.alloc(), text.as_bytes())?;
+        let mut watch = Taking {
+            alloc: rt.alloc(),
+            patience: u64::MAX,
+            taken: Vec::new(rt.alloc()),
+        };
+        find_parts(rt.alloc(), &instance, effort, &[], &mut watch)?;
+        let mut last = 0;
+        for (points, texts) in watch.taken {
+            let parts = add_up(rt.alloc(), &instance, texts)?;
+            assert!(rt; parts.is_some_and(|parts| parts.bound == Bound::AtLeast(points)));
+            last = points;
+        }
+        assert_eq!(rt; last, bound);
+    }
+    Ok(())
+}
+
+#[test]
+fn searches_that_are_ended(rt: HostRuntime) -> Result<(), Fail> {
+    let effort = Effort {
+        nodes: 2_000,
+        seed: 1,
+    };
+    let instance = read_instance(rt.alloc(), PAIR.as_bytes())?;
+    for (patience, bound) in [(0, 0), (1_000, 8)] {
+        let mut watch = Taking {
+            alloc: rt.alloc(),
+            patience,
+            taken: Vec::new(rt.alloc()),
+        };
+        let parts = find_parts(rt.alloc(), &instance, effort, &[], &mut watch)?;
+        assert_eq!(rt; parts.bound, Bound::AtLeast(bound), "{patience}");
+    }
     Ok(())
 }

@@ -6,6 +6,7 @@ use tt_instance::read_instance;
 use tt_leaf_data::Bound;
 use tt_parts::{Effort, find_parts};
 use tt_proof_sum::sum_proofs;
+use tt_search_watch::Unwatched;
 use tt_tests_samples::{GAP, GAP_PROOF, MARK};
 use tt_text::Pieces;
 use tt_text_peek::Peeked;
@@ -45,15 +46,12 @@ fn the_call_sum_proofs_of_groups(rt: HostRuntime) -> Result<(), Fail> {
 #[test]
 fn the_call_find_parts(rt: HostRuntime) -> Result<(), Fail> {
     let instance = read_instance(rt.alloc(), GAP.as_bytes())?;
+    let effort = Effort {
+        nodes: 100,
+        seed: 1,
+    };
     println!(rt; "{MARK}")?;
-    let parts = find_parts(
-        rt.alloc(),
-        &instance,
-        Effort {
-            nodes: 100,
-            seed: 1,
-        },
-    );
+    let parts = find_parts(rt.alloc(), &instance, effort, &[], &mut Unwatched);
     println!(rt; "{MARK}")?;
     assert!(rt; parts?.bound == Bound::AtLeast(5));
     Ok(())

@@ -1,13 +1,12 @@
 //! The call `improve`.
 
-ghost use Rattle.std.specs.Prelude.{◌≡◌, List, IfOk, IfErr, MatchResult, ⊤};
+ghost use Rattle.std.specs.Prelude.{◌≡◌, List, false, IfOk, IfErr, MatchResult, ⊤};
 ghost use Rattle.tt_instance_data.specs.Problem.{Problem};
 ghost use Rattle.tt_instance_data.specs.declared.cell.Cell.{Cell};
 ghost use Rattle.tt_table.specs.Table.{IsTimetable};
 ghost use Rattle.tt_table.specs.Spelling.{SpellsBoth};
 ghost use Rattle.tt_app_answers.specs.Lines.{pair_line};
-ghost use Rattle.tt_app_searches.specs.Improved.{IsImproved, IsImprovedInRuns, IsCompletedAndImproved, IsCompletionRefusal, IsTableAnswer};
-ghost use Rattle.tt_app_answers.specs.Refusals.{IsFileRefusal};
+ghost use Rattle.tt_app_searches.specs.Improved.{IsImproved, IsImproveRefusal, IsTableAnswer, StartsFrom, FailsToStart};
 ghost use Rattle.tt_app_answers.specs.declared.fault.AppFault.TheVariants as fault;
 
 use std::alloc::{AllocError, Global};
@@ -15,10 +14,23 @@ use tt_app_answers::{Answer, AppFault};
 use tt_instance::read_instance;
 use tt_instance_data::Instance;
 use tt_rules::score;
-use tt_search_complete::complete;
-use tt_search_watch::{Unwatched, Watch};
+use tt_search::{Search, improve_in_runs};
+use tt_search_complete::{CompleteFault, complete};
+use tt_search_watch::Watch;
 use tt_table::{Timetable, read_solution, write_solution};
 use tt_text::{put_line_end, put_number, put_token};
+
+/// A search for a better timetable.
+#[derive(Clone, Copy, Debug, PartialEq, Eq)]
+pub struct ImproveSearch {
+    pub seed: u64,
+    /// The number of steps of each run.
+    pub steps: u64,
+    /// The maximum number of runs, each from the best timetable so far.
+    pub runs: u64,
+    /// Whether the lectures that the solution lacks are added first.
+    pub completes: bool,
+}
 
 /// Returns the line of a timetable's hard count and cost.
 fn pair_line(alloc: Global, hard: u64, cost: u64) -> Result<Vec<u8>, AllocError>
@@ -50,67 +62,53 @@ fn table_answer(
     })
 }
 
-/// Searches from a solution in `runs` runs, each from the best timetable so far and with `steps` steps, and shows the search to a watch.
-/// Returns a timetable that is no worse; the status is 1 if it breaks a hard rule.
-pub fn improve_in_runs<W: Watch>(
+/// Returns the timetable from which a search starts: the completed one if it is to be completed.
+fn start_of(
     alloc: Global,
-    instance: &[u8],
-    solution: &[u8],
-    seed: u64,
-    steps: u64,
-    runs: u64,
-    watch: &mut W,
-) -> Result<Answer, AppFault>
-    ensures found { IfOk result (IsImprovedInRuns instance.now solution.now steps runs) }
-    // A refusal reports the first error.
-    ensures fault { IfErr result (IsFileRefusal instance.now solution.now) }
-    // If both files are spelled, there is an answer, unless memory runs out.
-    ensures only { (p : Problem) (t : List Cell) → SpellsBoth instance.now solution.now p t →
-        MatchResult result (λ _. ⊤) (λ f. f ≡ fault.OutOfMemory) }
+    instance: &Instance<'_>,
+    table: Timetable,
+    completes: bool,
+) -> Result<Timetable, CompleteFault>
+    requires { IsTimetable instance.now table }
+    ensures timetable { IfOk result (IsTimetable instance.now) }
+    ensures start { IfOk result (StartsFrom completes instance.now table) }
+    ensures fault { IfErr result (FailsToStart completes instance.now table) }
 {
-    let instance = read_instance(alloc, instance)?;
-    let table = read_solution(alloc, &instance, solution)?;
-    let better = tt_search::improve_in_runs(alloc, &instance, table, seed, steps, runs, watch)?;
-    Ok(table_answer(alloc, &instance, &better)?)
+    if completes {
+        complete(alloc, instance, table)
+    } else {
+        Ok(table)
+    }
 }
 
-/// Searches from a solution with `steps` steps, and returns a timetable that is no worse; the status is 1 if it breaks a hard rule.
-pub fn improve(
+/// Searches from a solution in `runs` runs, each from the best timetable so far and with `steps` steps; the watch may end the search. Adds the
+/// lectures that the solution lacks first, if the search completes it. Returns a timetable that is no worse than the one it starts from; the
+/// status is 1 if it breaks a hard rule.
+pub fn improve<W: Watch>(
     alloc: Global,
     instance: &[u8],
     solution: &[u8],
-    seed: u64,
-    steps: u64,
-) -> Result<Answer, AppFault>
-    // The timetable is no worse, and the course of each entry is preserved.
-    ensures found { IfOk result (IsImproved instance.now solution.now steps) }
-    // A refusal reports the first error.
-    ensures fault { IfErr result (IsFileRefusal instance.now solution.now) }
-    // If both files are spelled, there is an answer, unless memory runs out.
-    ensures only { (p : Problem) (t : List Cell) → SpellsBoth instance.now solution.now p t →
-        MatchResult result (λ _. ⊤) (λ f. f ≡ fault.OutOfMemory) }
-{
-    improve_in_runs(alloc, instance, solution, seed, steps, 1, &mut Unwatched)
-}
-
-/// Adds the lectures that a solution lacks, and searches from the result as `improve_in_runs` does; the status is 1 if the timetable breaks a
-/// hard rule.
-pub fn complete_and_improve<W: Watch>(
-    alloc: Global,
-    instance: &[u8],
-    solution: &[u8],
-    seed: u64,
-    steps: u64,
-    runs: u64,
+    search: ImproveSearch,
     watch: &mut W,
 ) -> Result<Answer, AppFault>
-    ensures found { IfOk result (IsCompletedAndImproved instance.now solution.now steps runs) }
+    // The timetable is no worse than the one from which the search starts, and the course of each entry is preserved. All runs are made, unless
+    // the watch has ended the search.
+    ensures found { IfOk result (IsImproved instance.now solution.now search (W.has_ended watch.new)) }
     // A refusal reports the first error: that of a file, then that the timetable can't be completed.
-    ensures fault { IfErr result (IsCompletionRefusal instance.now solution.now) }
+    ensures fault { IfErr result (IsImproveRefusal search.completes instance.now solution.now) }
+    // If both files are spelled and nothing is to be completed, there is an answer, unless memory runs out.
+    ensures only { (p : Problem) (t : List Cell) → search.completes ≡ false → SpellsBoth instance.now solution.now p t →
+        MatchResult result (λ _. ⊤) (λ f. f ≡ fault.OutOfMemory) }
 {
+    let ImproveSearch {
+        seed,
+        steps,
+        runs,
+        completes,
+    } = search;
     let instance = read_instance(alloc, instance)?;
     let table = read_solution(alloc, &instance, solution)?;
-    let completed = complete(alloc, &instance, table)?;
-    let better = tt_search::improve_in_runs(alloc, &instance, completed, seed, steps, runs, watch)?;
+    let start = start_of(alloc, &instance, table, completes)?;
+    let better = improve_in_runs(alloc, &instance, start, Search { seed, steps }, runs, watch)?;
     Ok(table_answer(alloc, &instance, &better)?)
 }

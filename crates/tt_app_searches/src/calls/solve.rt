@@ -1,6 +1,6 @@
 //! The call `solve`.
 
-ghost use Rattle.std.specs.Prelude.{◌≡◌, ◌≤◌, ◌⊎◌, ◌++◌, ◌∷◌, [], Some, IfSome, IfOk, IfErr, OnOk, MatchResult, option_map, is_some, ⊤, if◌then◌else◌, codes};
+ghost use Rattle.std.specs.Prelude.{◌≡◌, ◌≤◌, ◌⊎◌, ◌++◌, ◌∷◌, [], Some, IfSome, IfOk, IfErr, OnOk, MatchResult, MatchOption, option_map, is_some, ⊤, if◌then◌else◌, codes};
 ghost use Rattle.tt_instance_data.specs.Problem.{Problem};
 ghost use Rattle.tt_instance_data.specs.Spelling.{Spells};
 ghost use Rattle.tt_table.specs.Spelling.{solution_text};
@@ -9,7 +9,7 @@ ghost use Rattle.tt_proof_read.specs.Trees.{IsPreorder};
 ghost use Rattle.tt_proof_text.specs.Within.{Writes};
 ghost use Rattle.tt_branch.specs.declared.limit.TheConstants.{MAX_OPENED};
 ghost use Rattle.tt_app_answers.specs.Lines.{best_cost, bound_points, solve_line};
-ghost use Rattle.tt_app_searches.specs.Solved.{IsProofFile, IsSolved, IsTextRefusal, IsSolveRefusal};
+ghost use Rattle.tt_app_searches.specs.Solved.{IsProofFile, IsOverLong, IsSolved, IsSolveRefusal};
 ghost use Rattle.tt_app_answers.specs.declared.fault.AppFault.TheVariants as fault;
 
 use std::alloc::{AllocError, Global};
@@ -21,9 +21,16 @@ use tt_leaf_data::Bound;
 use tt_proof_read::Node;
 use tt_proof_text::{WriteFault, write_proof};
 use tt_rules::score;
-use tt_search_watch::{Unwatched, Watch};
+use tt_search_watch::Watch;
 use tt_table::{Timetable, write_solution};
 use tt_text::{put_line_end, put_number, put_token};
+
+/// The seed of a search by a tree, and the maximum number of nodes that it opens.
+#[derive(Clone, Copy, Debug, PartialEq, Eq)]
+pub struct TreeEffort {
+    pub seed: u64,
+    pub nodes: u32,
+}
 
 fn put_cost(
     out: &mut Vec<u8>,
@@ -95,32 +102,34 @@ fn best_text(
     }
 }
 
-/// Writes a tree in version 2, which has all claims.
-fn second_text(alloc: Global, bound: Bound, nodes: &[Node]) -> Result<Vec<u8>, AppFault>
+/// Writes a tree in version 2, which has all claims; `None` if its text is too long.
+fn second_text(
+    alloc: Global,
+    bound: Bound,
+    nodes: &[Node],
+) -> Result<Option<Vec<u8>>, AllocError>
     requires { IsPreorder nodes.now }
-    ensures text { IfOk result (λ v. Writes 2 bound nodes.now v.items) }
-    ensures fault { IfErr result (IsTextRefusal bound nodes.now) }
+    ensures { IfOk result (λ text. MatchOption text (IsOverLong bound nodes.now) (λ v. Writes 2 bound nodes.now v.items)) }
 {
     match write_proof(alloc, 2, bound, nodes) {
-        Ok(text) => Ok(text),
-        Err(WriteFault::OverLimit) => Err(AppFault::ProofTooLarge),
-        Err(WriteFault::OutOfMemory) => Err(AppFault::OutOfMemory),
+        Ok(text) => Ok(Some(text)),
+        Err(WriteFault::OverLimit) => Ok(None),
+        Err(WriteFault::OutOfMemory) => Err(AllocError),
         Err(WriteFault::NotATree) => unreachable!(),
         Err(WriteFault::NotInVersion) => unreachable!(),
     }
 }
 
-/// Writes a tree in the least version that has its claims.
-fn least_text(alloc: Global, bound: Bound, nodes: &[Node]) -> Result<Vec<u8>, AppFault>
+/// Writes a tree in the least version that has its claims; `None` if its text is too long.
+fn least_text(alloc: Global, bound: Bound, nodes: &[Node]) -> Result<Option<Vec<u8>>, AllocError>
     requires { IsPreorder nodes.now }
-    ensures file { IfOk result (λ v. IsProofFile bound nodes.now v.items) }
-    ensures fault { IfErr result (IsTextRefusal bound nodes.now) }
+    ensures { IfOk result (λ text. MatchOption text (IsOverLong bound nodes.now) (λ v. IsProofFile bound nodes.now v.items)) }
 {
     match write_proof(alloc, 1, bound, nodes) {
-        Ok(text) => Ok(text),
+        Ok(text) => Ok(Some(text)),
         Err(WriteFault::NotInVersion) => second_text(alloc, bound, nodes),
-        Err(WriteFault::OverLimit) => Err(AppFault::ProofTooLarge),
-        Err(WriteFault::OutOfMemory) => Err(AppFault::OutOfMemory),
+        Err(WriteFault::OverLimit) => Ok(None),
+        Err(WriteFault::OutOfMemory) => Err(AllocError),
         Err(WriteFault::NotATree) => unreachable!(),
     }
 }
@@ -148,50 +157,36 @@ fn search_answer(
     })
 }
 
-/// Searches for a best timetable as `solve` does, and shows the search to a watch.
-pub fn solve_watched<W: Watch>(
+/// Searches for a best timetable by a tree, and returns it with a proof of a lower bound, of at most as many nodes as it opens if each is closed,
+/// and of fewer than twice as many if not; the status is 1 if it found no timetable. The watch may end the search. Nothing is promised about
+/// which nodes are opened.
+pub fn solve<W: Watch>(
     alloc: Global,
     instance: &[u8],
-    seed: u64,
-    nodes: u32,
+    tree: TreeEffort,
     watch: &mut W,
 ) -> Result<Answer, AppFault>
-    requires positive { 1 ≤ nodes }
-    requires at_most { nodes ≤ MAX_OPENED }
-    // The timetable in the answer is feasible, and the proof derives its bound.
-    ensures found { IfOk result (IsSolved instance.now nodes) }
+    requires positive { 1 ≤ tree.nodes }
+    requires at_most { tree.nodes ≤ MAX_OPENED }
+    // The timetable in the answer is feasible, and the proof derives its bound. Unless the watch has ended the search, all nodes are opened, or
+    // each is closed.
+    ensures found { IfOk result (IsSolved instance.now tree.nodes (W.has_ended watch.new)) }
     // A refusal reports the first error.
-    ensures fault { IfErr result (IsSolveRefusal instance.now nodes) }
+    ensures fault { IfErr result (IsSolveRefusal instance.now tree.nodes (W.has_ended watch.new)) }
     // If the bytes spell an instance, there is an answer, unless memory runs out or the proof grows too large.
     ensures only { (p : Problem) → Spells instance.now p →
         MatchResult result (λ _. ⊤) (λ f. (f ≡ fault.OutOfMemory) ⊎ (f ≡ fault.ProofTooLarge)) }
 {
+    let TreeEffort { seed, nodes } = tree;
     let instance = read_instance(alloc, instance)?;
     let Outcome {
         best,
         bound,
         proof,
         finished,
-    } = tt_branch::solve_watched(alloc, &instance, nodes, seed, watch)?;
-    let Some(nodes) = proof else {
-        unreachable!();
+    } = tt_branch::solve(alloc, &instance, nodes, seed, watch)?;
+    let Some(text) = least_text(alloc, bound, &proof)? else {
+        return Err(AppFault::ProofTooLarge);
     };
-    let text = least_text(alloc, bound, &nodes)?;
     Ok(search_answer(alloc, &instance, &best, bound, finished, text)?)
-}
-
-/// Searches for a best timetable by a tree, and returns it with a proof of a lower bound, of at most `nodes` nodes if each is closed, and of
-/// fewer than twice as many if not; the status is 1 if it found no timetable. Nothing is promised about which nodes are opened.
-pub fn solve(alloc: Global, instance: &[u8], seed: u64, nodes: u32) -> Result<Answer, AppFault>
-    requires positive { 1 ≤ nodes }
-    requires at_most { nodes ≤ MAX_OPENED }
-    // The timetable in the answer is feasible, and the proof derives its bound.
-    ensures found { IfOk result (IsSolved instance.now nodes) }
-    // A refusal reports the first error.
-    ensures fault { IfErr result (IsSolveRefusal instance.now nodes) }
-    // If the bytes spell an instance, there is an answer, unless memory runs out or the proof grows too large.
-    ensures only { (p : Problem) → Spells instance.now p →
-        MatchResult result (λ _. ⊤) (λ f. (f ≡ fault.OutOfMemory) ⊎ (f ≡ fault.ProofTooLarge)) }
-{
-    solve_watched(alloc, instance, seed, nodes, &mut Unwatched)
 }

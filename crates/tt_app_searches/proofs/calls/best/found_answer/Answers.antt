@@ -1,4 +1,5 @@
-use Rattle.std.proofs.Common.{refl}
+use Rattle.std.proofs.Common.{ℕ, List, refl, sym, subst, arith}
+use Rattle.tt_proof_sum.specs.Sums.{IsSum}
 use Rattle.tt_parts.specs.Found.{texts_of}
 use Rattle.tt_app_searches.proofs.Best.{whole}
 use Rattle.tt_app_searches.proofs.calls.best.found_answer.Goals as goal
@@ -7,19 +8,25 @@ pub returns : goal.returns
 returns c =
     λ i spells.
     let a = c.args in
+    let parts = a.parts.now in
     let solution = c.in_ok-write_solution in
     let page = c.in_ok-page_of in
-    let is = whole i solution.field-0.items a.instance.now a.table.now (texts_of a.parts.proofs.items) page.field-0 a.style.now a.parts.bound a.cost
-    c.in-AtLeast.points spells solution.ensures.again c.requires.feasible c.requires.cost c.requires.parts.sum c.requires.parts.holds c.in-AtLeast.is page.ensures in
+    let copies = c.in_ok-copy_texts in
+    let sum = subst (λ (files : List (List ℕ)). IsSum a.instance.now files parts.bound) (sym copies.ensures) c.requires.parts.sum in
+    let is = whole i solution.field-0.items a.instance.now a.table.now (texts_of copies.field-0.items) page.field-0 a.style.now parts.bound a.cost
+    c.in-AtLeast.points spells solution.ensures.again c.requires.feasible c.requires.cost sum c.requires.parts.holds c.in-AtLeast.is page.ensures in
     record {
-      solution = solution.field-0.items;
-      cost = a.cost;
-      bound = c.in-AtLeast.points;
-      certified = is.certified;
-      bounds = is.bounds;
-      within = is.within;
-      file = refl;
-      page = is.shown;
-      text = c.in_ok-found_line.ensures;
-      status = refl;
+      found = record {
+        solution = solution.field-0.items;
+        cost = a.cost;
+        bound = c.in-AtLeast.points;
+        certified = is.certified;
+        bounds = is.bounds;
+        within = is.within;
+        file = refl;
+        page = is.shown;
+        text = c.in_ok-found_line.ensures;
+        status = refl;
+      };
+      within = omega arith;
     }

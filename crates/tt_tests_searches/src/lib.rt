@@ -1,0 +1,9 @@
+//! Tests of the calls that search: their watches, and what they start from.
+#![tactic(auto)]
+
+#[cfg(test)]
+mod best;
+#[cfg(test)]
+mod counting;
+#[cfg(test)]
+mod ended;
